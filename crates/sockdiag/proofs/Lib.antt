@@ -1,0 +1,10 @@
+pub mod Congruence
+pub mod Numbers
+pub mod TableLaws
+pub mod RowReads
+pub mod FormatLaws
+pub mod UnixRequestLaws
+pub mod AnswerLemmas
+pub mod LinesLemmas
+pub mod RunLemmas
+pub mod SameAnswer
