@@ -14,7 +14,7 @@ printf '' | "$top/sockdiag" # builds it where it isn't built
 measure() {
     awk -v n="$1" 'BEGIN { for (i = 0; i < n; i++) printf "unixreq 010000000204000034120000%02x000000ffffffffffffffff\n", i % 64 }' > "$work/in"
     python3 - "$program" "$work/in" "$1" <<'PY'
-import resource, subprocess, sys, time
+import subprocess, sys, time
 
 program, path, count = sys.argv[1], sys.argv[2], int(sys.argv[3])
 best = None
@@ -24,7 +24,16 @@ for _ in range(3):
         subprocess.run([program], stdin=given, stdout=subprocess.DEVNULL, check=True)
         taken = time.perf_counter() - start
     best = taken if best is None else min(best, taken)
-peak = resource.getrusage(resource.RUSAGE_CHILDREN).ru_maxrss
+
+# The peak is read while the program waits for more.
+given = open(path, "rb").read()
+run = subprocess.Popen([program], stdin=subprocess.PIPE, stdout=subprocess.DEVNULL)
+run.stdin.write(given)
+run.stdin.flush()
+time.sleep(0.2)
+peak = next(line.split()[1] for line in open(f"/proc/{run.pid}/status") if line.startswith("VmHWM"))
+run.stdin.close()
+run.wait()
 print(f"{count} lines: {best / count * 1e9:.0f} ns a line, peak memory {peak} KiB")
 PY
 }
