@@ -1,10 +1,4 @@
-pub mod Congruence
-pub mod Numbers
-pub mod TableLaws
-pub mod RowReads
-pub mod FormatLaws
-pub mod UnixRequestLaws
 pub mod AnswerLemmas
 pub mod LinesLemmas
 pub mod RunLemmas
-pub mod SameAnswer
+pub mod Telling

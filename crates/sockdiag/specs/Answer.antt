@@ -1,14 +1,17 @@
 -- The answer to a line: a name, one space and a hex field, or anything else.
-use Rattle.std.specs.Prelude.{◌≡◌, ◌∷◌, ℕ, ◌+◌, ◌==◌, Bool, List, [], ◌++◌, take, drop, codes, decimal, Option, Some, None, Result, Ok, Err}
+use Rattle.std.specs.Prelude.{◌≡◌, ◌∷◌, ℕ, ◌+◌, ◌==◌, Bool, List, [], ◌++◌, take, drop, codes, Option, Some, None}
 use Rattle.std.specs.List.{find, position}
 use Rattle.std.specs.Str.{bytes_eq}
-use Rattle.sockdiag.specs.Faults.{number_of}
-use Rattle.sockdiag.specs.Format.{read, bytes}
-use Rattle.sockdiag.specs.HexField.{IsHexField, field_bytes, field_of}
-use Rattle.sockdiag.specs.UnixRequest.{unix_request}
-use Rattle.sockdiag.specs.declared.fault.DecodeError.{DecodeError}
+use Rattle.sock_diag_records.specs.UnixRequest.{unix_request}
+use Rattle.sock_diag_records.specs.UnixRequestLaws.{unix_request_laws}
+use Rattle.sock_diag_records.specs.InetRequest.{inet_request}
+use Rattle.sock_diag_records.specs.InetRequestLaws.{inet_request_laws}
+use Rattle.sock_diag_records.specs.SocketId.{socket_id}
+use Rattle.sock_diag_records.specs.SocketIdLaws.{socket_id_laws}
+use Rattle.sockdiag.specs.HexField.{IsHexField, field_bytes}
+use Rattle.sockdiag.specs.Told.{Subject, TellsOf, record_subject, told}
 use Rattle.sockdiag.specs.declared.answers.Name.{Name}
-use Rattle.sockdiag.specs.declared.answers.Name.TheVariants.{UnixRequest}
+use Rattle.sockdiag.specs.declared.answers.Name.TheVariants.{UnixRequest, InetRequest, SocketId4, SocketId6}
 
 -- a space
 abbrev pub is_space : ℕ → Bool
@@ -21,10 +24,13 @@ bad_line = codes "bad line"
 -- how each name is spelled
 abbrev pub word_of : Name → List ℕ
 word_of UnixRequest = codes "unixreq"
+word_of InetRequest = codes "inetreq"
+word_of SocketId4 = codes "sockid4"
+word_of SocketId6 = codes "sockid6"
 
 -- all names
 abbrev pub names : List Name
-names = UnixRequest ∷ []
+names = UnixRequest ∷ InetRequest ∷ SocketId4 ∷ SocketId6 ∷ []
 
 -- the name that a word is
 abbrev pub name_of : List ℕ → Option Name
@@ -36,22 +42,20 @@ pub record IsRequest (line : List ℕ) (name : Name) (bytes : List ℕ) : Type 0
   pub spelled : line ≡ word_of name ++ 32 ∷ field
   pub stands_for : IsHexField field bytes
 
--- `ok` and the bytes
-abbrev pub accepted : List ℕ → List ℕ
-accepted written = codes "ok " ++ field_of written
+-- what the bytes of each name are read as; the socket identities under AF_INET, 2, and AF_INET6, 10
+abbrev pub subject_of : Name → Subject
+subject_of UnixRequest = record_subject unix_request _ _ unix_request_laws tt
+subject_of InetRequest = record_subject inet_request _ _ inet_request_laws tt
+subject_of SocketId4 = record_subject socket_id _ _ socket_id_laws 2
+subject_of SocketId6 = record_subject socket_id _ _ socket_id_laws 10
 
--- `refused` and the fault's number
-abbrev pub refused : DecodeError → List ℕ
-refused fault = codes "refused " ++ decimal (number_of fault)
+-- the text answers the bytes of a name
+abbrev pub IsAnswer : Name → List ℕ → List ℕ → Type 0
+IsAnswer name field text = TellsOf (subject_of name) field text
 
--- what is told of a reader's answer, where a value is written so
-abbrev pub told : {Value : Type 0} → (Value → List ℕ) → Result Value DecodeError → List ℕ
-told written (Ok value) = accepted (written value)
-told written (Err fault) = refused fault
-
--- the answer to a name and the bytes of its field
+-- the one answer to a name and the bytes of its field
 abbrev pub answer_to : Name → List ℕ → List ℕ
-answer_to UnixRequest field = told (bytes unix_request) (read unix_request tt field)
+answer_to name field = told (subject_of name) field
 
 -- the answer to what stands before and after the first space, where they are a name and a hex field
 abbrev pub answer_under : Option Name → Option (List ℕ) → List ℕ

@@ -1,10 +1,6 @@
-pub mod Bytes
-pub mod Faults
-pub mod Table
-pub mod Format
-pub mod Laws
-pub mod UnixRequest
 pub mod Lines
 pub mod HexField
+pub mod ByteLaws
+pub mod Told
 pub mod Answer
 pub mod Run

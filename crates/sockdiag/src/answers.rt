@@ -1,23 +1,28 @@
 //! The answer to one line.
 
 ghost use Rattle.sockdiag.specs.declared.answers.Name.{Name};
-ghost use Rattle.std.specs.Prelude.{ℕ, List, Option, Result, ◌≡◌, ◌↔◌, ◌<◌, ◌++◌, length, IsOk, IfSome, IfOk, OnOk, option_map};
+ghost use Rattle.std.specs.Prelude.{ℕ, List, Option, ◌≡◌, ◌↔◌, ◌<◌, ◌++◌, length, IfSome, IfOk, OnOk, option_map};
 ghost use Rattle.std.specs.List.{position};
-ghost use Rattle.sockdiag.specs.Format.{AreIdle, read};
 ghost use Rattle.sockdiag.specs.HexField.{field_bytes, field_of};
-ghost use Rattle.sockdiag.specs.UnixRequest.{unix_request};
-ghost use Rattle.sockdiag.specs.Answer.{IsRequest, accepted, answer_of, answer_to, bad_line, is_space, name_of, refused};
+ghost use Rattle.sockdiag.specs.Answer.{IsAnswer, IsRequest, answer_of, bad_line, is_space, name_of, subject_of};
+ghost use Rattle.sockdiag.specs.Told.{IsAccepted, Tells, accepted, refused};
 
-use crate::codec::{Emitable, Parseable};
-use crate::fault::DecodeError;
-use crate::unix::UnixRequest;
 use hex::FromHexError;
+use netlink_core::{CanonError, DecodeError, Wire, canonical};
+use sock_diag_records::constants::{AF_INET, AF_INET6};
+use sock_diag_records::inet::{InetRequest, SocketId};
+use sock_diag_records::unix::UnixRequest;
 use std::alloc::{AllocError, Global};
 
 /// The name at the front of a line, which says what the bytes are.
 #[derive(Clone, Copy, Debug, PartialEq, Eq)]
 pub(crate) enum Name {
     UnixRequest,
+    InetRequest,
+    /// A socket's identity with IPv4 addresses.
+    SocketId4,
+    /// A socket's identity with IPv6 addresses.
+    SocketId6,
 }
 
 const BAD_LINE: &[u8] = b"bad line";
@@ -26,17 +31,18 @@ const BAD_LINE: &[u8] = b"bad line";
 /// number of the first fault, or `bad line`.
 pub fn answer(alloc: Global, line: &[u8]) -> Result<Vec<u8>, AllocError>
     ensures asked { IfOk result (λ text. (name : Name) (bytes : List ℕ) → IsRequest line.now name bytes
-        → text.items ≡ answer_to name bytes) }
+        → IsAnswer name bytes text.items) }
     ensures other { IfOk result (λ text.
         ((name : Name) (bytes : List ℕ) → IsRequest line.now name bytes → ⊥) → text.items ≡ bad_line) }
     // One function of the line gives both.
     ensures value { IfOk result (λ text. text.items ≡ answer_of line.now) }
 
-    // Two requests that are accepted have one answer exactly where they differ in idle details alone.
-    ensures same { IfOk result (λ text. (other bytes bytes' : List ℕ)
-        → IsRequest line.now Name.UnixRequest bytes → IsRequest other Name.UnixRequest bytes'
-        → IsOk (read unix_request tt bytes) → IsOk (read unix_request tt bytes')
-        → ((text.items ≡ answer_of other) ↔ AreIdle unix_request tt bytes bytes')) }
+    // Two fields of one name whose values can be written have one answer exactly where they differ in idle
+    // details alone.
+    ensures same { IfOk result (λ text. (name : Name) (other bytes bytes' : List ℕ)
+        → IsRequest line.now name bytes → IsRequest other name bytes'
+        → IsAccepted (subject_of name) bytes → IsAccepted (subject_of name) bytes'
+        → ((text.items ≡ answer_of other) ↔ (subject_of name).idle (subject_of name).param bytes bytes')) }
 {
     answer_by_parts(alloc, line)
 }
@@ -58,25 +64,38 @@ fn answer_by_parts(alloc: Global, line: &[u8]) -> Result<Vec<u8>, AllocError>
 
 /// The answer to a name and the bytes of its field.
 fn answer_bytes(alloc: Global, name: Name, bytes: &[u8]) -> Result<Vec<u8>, AllocError>
-    ensures { IfOk result (λ text. text.items ≡ answer_to name bytes.now) }
+    ensures { IfOk result (λ text. IsAnswer name bytes.now text.items) }
 {
     match name {
-        Name::UnixRequest => match UnixRequest::parse(alloc, bytes) {
-            Ok(request) => accept(alloc, &request),
-            Err(fault) => refuse(alloc, &fault),
-        },
+        Name::UnixRequest => answer_as::<UnixRequest>(alloc, bytes, ()),
+        Name::InetRequest => answer_as::<InetRequest>(alloc, bytes, ()),
+        Name::SocketId4 => answer_as::<SocketId>(alloc, bytes, AF_INET),
+        Name::SocketId6 => answer_as::<SocketId>(alloc, bytes, AF_INET6),
     }
 }
 
-/// `ok` and the bytes of a value.
-fn accept<T: Emitable>(alloc: Global, value: &T) -> Result<Vec<u8>, AllocError>
-    requires { T.writable value.now }
-    ensures { IfOk result (λ text. text.items ≡ accepted (T.bytes value.now)) }
+/// `ok` and the canonical form, `unwritable`, or `refused` and the number of the fault.
+fn answer_as<T: Wire + Drop>(
+    alloc: Global,
+    bytes: &[u8],
+    param: T::Param,
+) -> Result<Vec<u8>, AllocError>
+    ensures { IfOk result (λ text. Tells (T.reads bytes.now param) (T.refuses bytes.now param) T.fits T.written text.items) }
 {
-    let mut bytes = vec![in alloc; 0; value.buffer_len()]?;
-    value.emit(&mut bytes);
+    match canonical::<T>(alloc, bytes, param) {
+        Ok(written) => accept(alloc, written.as_slice()),
+        Err(CanonError::Refused(fault)) => refuse(alloc, &fault),
+        Err(CanonError::Unwritable) => Vec::from_slice(alloc, b"unwritable"),
+        Err(CanonError::Memory) => Err(AllocError),
+    }
+}
+
+/// `ok` and the hex field of some bytes.
+fn accept(alloc: Global, written: &[u8]) -> Result<Vec<u8>, AllocError>
+    ensures { IfOk result (λ text. text.items ≡ accepted written.now) }
+{
     let mut text = Vec::from_slice(alloc, b"ok ")?;
-    push_field(alloc, &mut text, bytes.as_slice())?;
+    push_field(alloc, &mut text, written)?;
     Ok(text)
 }
 
@@ -100,6 +119,9 @@ fn find_name(word: &[u8]) -> Option<Name>
 {
     match word {
         b"unixreq" => Some(Name::UnixRequest),
+        b"inetreq" => Some(Name::InetRequest),
+        b"sockid4" => Some(Name::SocketId4),
+        b"sockid6" => Some(Name::SocketId6),
         _ => None,
     }
 }

@@ -3,13 +3,9 @@
 #![tactic(auto)]
 
 mod answers;
-mod codec;
-mod fault;
-mod rows;
 mod stream;
 #[cfg(test)]
 mod tests;
-mod unix;
 
 pub use answers::answer;
 use std::process::ExitCode;

@@ -1,17 +1,15 @@
 ghost use Rattle.std.specs.Prelude.{Some};
 
 use crate::answers::answer;
-use crate::codec::{Emitable, Parseable};
-use crate::fault::{DecodeError, RecordName};
 use crate::stream::{RunError, run};
-use crate::unix::{ShowFlags, StateFlags, UnixRequest, UnixRequestBuffer};
-use bitflags::Flags;
 use std::alloc::Global;
 use std::cell::Cell;
 use std::io;
 use std::io::{ErrorKind, Read, Write};
 use std::process::Abort;
 use std::test::Fail;
+
+mod rows;
 
 const INPUT: &str = "unixreq 01000000020400003412000004000000ffffffffffffffff\n\
 unixreq 0709ffffffffffff34120000ffffffffffffffffffffffffaabbcc\n\
@@ -20,11 +18,6 @@ unixreq 01000000020400003412000004000000ffffffffffffff\n";
 const OUTPUT: &str = "ok 01000000020400003412000004000000ffffffffffffffff\n\
 ok 0100000002040000341200003f000000ffffffffffffffff\n\
 refused 2\n";
-
-/// A request for the peers of sockets in all states, with inode 0x1234.
-const REQUEST: [u8; 24] = [
-    1, 0, 0, 0, 2, 4, 0, 0, 0x34, 0x12, 0, 0, 4, 0, 0, 0, 255, 255, 255, 255, 255, 255, 255, 255,
-];
 
 /// The first lines of a text, so many of them.
 fn first_lines(text: &[u8], count: usize) -> &[u8] {
@@ -245,33 +238,37 @@ fn answers_before_it_reads_on(rt: HostRuntime) {
 }
 
 #[test]
-fn answers_lines(rt: HostRuntime) -> Result<(), Fail> {
-    for (line, want) in [
-        ("unixreq -", "refused 2"),
-        ("unixreq ", "bad line"),
-        (
-            "unixreq 01000000020400003412000004000000FFFFFFFFFFFFFFFF",
-            "ok 01000000020400003412000004000000ffffffffffffffff",
-        ),
-        (
-            "unixreq 01000000020400003412000004000000ffffffffffffffff\r",
-            "bad line",
-        ),
-        ("unixreq 0", "bad line"),
-        ("unixreq  01", "bad line"),
-        ("unixreq", "bad line"),
-        (" unixreq 00", "bad line"),
-        ("unixreq 00 ", "bad line"),
-        ("unixreq --", "bad line"),
-        ("UNIXREQ 00", "bad line"),
-        ("unix 00", "bad line"),
-        ("nosuch 00", "bad line"),
-        ("", "bad line"),
+fn answers_odd_lines(rt: HostRuntime) -> Result<(), Fail> {
+    for line in [
+        "unixreq 01000000020400003412000004000000ffffffffffffffff\r",
+        " unixreq 00",
+        "unixreq 00 ",
+        "unixreq --",
+        "UNIXREQ 00",
+        "sockid 00",
     ] {
         let text = answer(rt.alloc(), line.as_bytes())?;
+        assert_eq!(rt; text.as_slice(), &b"bad line"[..], "{line}");
+    }
+    Ok(())
+}
+
+fn answers_each(rt: &impl Abort, alloc: Global, rows: &[(&str, &str)]) -> Result<(), Fail> {
+    for (line, want) in rows {
+        let text = answer(alloc, line.as_bytes())?;
         assert_eq!(rt; text.as_slice(), want.as_bytes(), "{line}");
     }
     Ok(())
+}
+
+#[test]
+fn answers_lines_of_any_form(rt: HostRuntime) -> Result<(), Fail> {
+    answers_each(&rt, rt.alloc(), &rows::FORMS)
+}
+
+#[test]
+fn answers_requests_and_identities(rt: HostRuntime) -> Result<(), Fail> {
+    answers_each(&rt, rt.alloc(), &rows::REQUESTS)
 }
 
 #[test]
@@ -299,100 +296,6 @@ fn tells_why_a_run_failed(rt: HostRuntime) -> Result<(), Fail> {
         assert_eq!(rt; text.as_str(), want);
     }
     Ok(())
-}
-
-#[test]
-fn tells_faults(rt: HostRuntime) -> Result<(), Fail> {
-    let fault = DecodeError::BufferTooSmall {
-        which: RecordName::UnixRequest,
-        got: 23,
-        need: 24,
-    };
-    let text = format!(in rt.alloc(); "{fault}")?;
-    assert_eq!(rt;
-        text.as_str(),
-        "UnixRequest: buffer of 23 bytes, at least 24 needed"
-    );
-    let text = format!(in rt.alloc(); "{}", DecodeError::Memory)?;
-    assert_eq!(rt; text.as_str(), "out of memory");
-    Ok(())
-}
-
-#[test]
-fn reads_a_request(rt: HostRuntime) -> Result<(), Fail> {
-    let request = UnixRequest::parse(rt.alloc(), &REQUEST)?;
-    assert!(rt; request.state_flags == StateFlags::all());
-    assert_eq!(rt; request.inode, 0x1234);
-    assert!(rt; request.show_flags == ShowFlags::PEER);
-    assert_eq!(rt; request.cookie, [255; 8]);
-    assert_eq!(rt;
-        UnixRequest::parse(rt.alloc(), &REQUEST[..23]),
-        Err(DecodeError::BufferTooSmall {
-            which: RecordName::UnixRequest,
-            got: 23,
-            need: 24
-        })
-    );
-    assert_eq!(rt;
-        UnixRequest::parse(rt.alloc(), &[]),
-        Err(DecodeError::BufferTooSmall {
-            which: RecordName::UnixRequest,
-            got: 0,
-            need: 24
-        })
-    );
-    Ok(())
-}
-
-#[test]
-fn writes_a_request(rt: HostRuntime) {
-    let request = UnixRequest {
-        state_flags: StateFlags::LISTEN,
-        inode: 0x0403_0201,
-        show_flags: ShowFlags::NAME.union(ShowFlags::MEMINFO),
-        cookie: [1, 2, 3, 4, 5, 6, 7, 8],
-    };
-    let written = [
-        1, 0, 0, 0, 0, 4, 0, 0, 1, 2, 3, 4, 0x21, 0, 0, 0, 1, 2, 3, 4, 5, 6, 7, 8,
-    ];
-    let mut buffer = [0xee; 26];
-    request.emit(&mut buffer);
-    assert_eq!(rt; &buffer[..24], written.as_slice());
-    assert_eq!(rt; &buffer[24..], [0xee, 0xee].as_slice());
-    assert_eq!(rt; UnixRequestBuffer::from(&request).to_bytes(), written);
-}
-
-#[test]
-fn keeps_all_bytes_in_a_buffer(rt: HostRuntime) -> Result<(), Fail> {
-    let bytes = [7u8; 27];
-    let buffer = UnixRequestBuffer::read_prefix(&bytes).ok_or("too short")?;
-    assert_eq!(rt; buffer.to_bytes(), [7; 24]);
-    assert!(rt; UnixRequestBuffer::read_prefix(&bytes[..23]).is_none());
-    Ok(())
-}
-
-#[test]
-fn has_sets_of_flags(rt: HostRuntime) {
-    assert_eq!(rt; StateFlags::empty().bits(), 0);
-    assert_eq!(rt; StateFlags::all().bits(), 0x402);
-    assert_eq!(rt; ShowFlags::all().bits(), 0x3f);
-    assert!(rt; StateFlags::from_bits(0x403).is_none());
-    assert_eq!(rt; StateFlags::from_bits_truncate(0x403).bits(), 0x402);
-    assert_eq!(rt; StateFlags::from_bits_retain(0x403).bits(), 0x403);
-    assert!(rt; StateFlags::from_bits_retain(0x403).is_all());
-    assert!(rt; ShowFlags::empty().is_empty());
-    assert!(rt; ShowFlags::all().contains(ShowFlags::VFS));
-    assert!(rt; !ShowFlags::ICONS.intersects(ShowFlags::RQLEN));
-    let mut flags = ShowFlags::NAME.symmetric_difference(ShowFlags::all());
-    assert_eq!(rt; flags.bits(), 0x3e);
-    flags.insert(ShowFlags::NAME);
-    flags.remove(ShowFlags::PEER);
-    flags.toggle(ShowFlags::MEMINFO);
-    flags.set(ShowFlags::ICONS, false);
-    assert_eq!(rt; flags.bits(), 0x13);
-    assert_eq!(rt; flags.complement().bits(), 0x2c);
-    assert_eq!(rt; ShowFlags::all().difference(ShowFlags::VFS).bits(), 0x3d);
-    assert_eq!(rt; ShowFlags::all().intersection(ShowFlags::VFS).bits(), 2);
 }
 
 #[test]

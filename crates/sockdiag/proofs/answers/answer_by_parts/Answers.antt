@@ -1,10 +1,12 @@
-use Rattle.std.proofs.Common.{◌≡◌, ◌+◌, ℕ, List, take, drop, Some, ap, sym, ◌∙◌, refl}
+use Rattle.std.proofs.Common.{◌≡◌, ◌+◌, ℕ, List, take, drop, Some, sym, ◌∙◌, refl}
 use Rattle.std.specs.List.{position}
 use Rattle.std.proofs.lemmas.List.{take_rest}
 use Rattle.std.proofs.lemmas.Result.{IfOk-weaker}
-use Rattle.sockdiag.specs.Answer.{answer_of, answer_to, is_space, name_of}
+use Rattle.sockdiag.specs.Answer.{answer_of, answer_to, is_space, name_of, subject_of}
 use Rattle.sockdiag.specs.HexField.{field_bytes}
 use Rattle.sockdiag.specs.declared.answers.Name.{Name}
+use Rattle.sockdiag.proofs.AnswerLemmas.{IsHexField-from_bytes}
+use Rattle.sockdiag.proofs.Telling.{IsBytes-field, one_text, told-tells}
 use Rattle.sockdiag.proofs.answers.answer_by_parts.Goals as goal
 
 -- a line with a space, a name before it and a field after it
@@ -21,4 +23,6 @@ returns c =
     let bytes = c.in-Some-2.bytes.items in
     let field = rw (c.in-Some-2.is, take_rest line (space + 1)) at c.in_ok-bytes.ensures in
     let meant : answer_of line ≡ answer_to name bytes = asked line space name bytes c.in-Some.ensures.place c.in-Some-find_name.ensures field in
-    IfOk-weaker c.answer_bytes.result _ _ (λ text e. e ∙ ap (answer_to name) c.as_slice.ensures.value ∙ sym meant) c.answer_bytes.ensures
+    let typed = IsBytes-field (drop (space + 1) line) bytes (IsHexField-from_bytes (drop (space + 1) line) bytes (sym field)) in
+    let S = subject_of name in
+    IfOk-weaker c.answer_bytes.result _ _ (λ text told. one_text S bytes text.items (answer_to name bytes) typed (rw c.as_slice.ensures.value at told) (told-tells S bytes typed) ∙ sym meant) c.answer_bytes.ensures

@@ -1,0 +1,15 @@
+pub mod Numbers
+pub mod TableLaws
+pub mod FormatLaws
+pub mod RowReads
+pub mod Congruence
+pub mod Front
+pub mod Walking
+pub mod Cutting
+pub mod Stated
+pub mod Writing
+pub mod RowLaws
+pub mod Texts
+pub mod Prefixes
+pub mod Replies
+pub mod ReplyWriting

@@ -1,0 +1,168 @@
+-- The laws of a reply, from those of its header and its family.
+use Rattle.std.proofs.Common.{Ok, Err, ◌≡◌, ◌∙◌, ◌↔◌, ◌⊎◌, inl, inr, ℕ, List, [], ◌∷◌, refl, ap, sym, subst}
+use Rattle.std.specs.Prelude.{map}
+use Rattle.std.specs.List.{AllByRecursion, AllZip, flat_map}
+use Rattle.std.proofs.lemmas.List.{drop_at}
+use Rattle.netlink_core.specs.declared.fault.DecodeError.{DecodeError}
+use Rattle.netlink_core.specs.declared.fault.DecodeError.TheVariants.{Memory}
+use Rattle.netlink_core.specs.Bytes.{IsBytes}
+use Rattle.netlink_core.specs.Attribute.{Attribute, IsTypedAttribute, FitsWords, HasFittingValue, AttributesMean, written}
+use Rattle.netlink_core.specs.Family.{Family, FamilyLaws, says, AreIdleAttributes}
+use Rattle.netlink_core.specs.Reply.{Reply, ReplyLaws, ValueOf, attribute_part, MeansReply, RefusesReply, AreIdleReplies, IsTypedReply, IsNormalReply, reply_bytes, ReplyFits, RepliesKeepLaws}
+use Rattle.netlink_core.specs.ByteLaws.{IsBytes-append}
+use Rattle.netlink_core.specs.FrontLaws.{value_or_reason}
+use Rattle.netlink_core.specs.FamilyLaws.{family_named, family_gives_normal, family_same_value}
+use Rattle.netlink_core.proofs.TableLaws.{AreBytes-drop}
+use Rattle.netlink_core.proofs.Cutting.{all_written_typed, cut_typed, means_or_fault, means_or_fault_apart, one_fault, one_cut, written_values_are_read}
+
+-- ---- from attributes to lists of them
+
+module _ (F : Family) (laws : FamilyLaws F) where
+  abbrev Say : List Attribute → List F.Value → Type 0
+  Say xs vs = AllZip (λ a v. says F a ≡ Ok v) xs vs
+
+  lists_same_value : (xs ys : List Attribute) (vs ws : List F.Value) → AllByRecursion IsTypedAttribute xs → AllByRecursion IsTypedAttribute ys → Say xs vs → Say ys ws → ((vs ≡ ws) ↔ AllZip (AreIdleAttributes F) xs ys)
+  lists_same_value [] [] [] [] s t h k = (λ _. tt, λ _. refl)
+  lists_same_value [] (y ∷ ys) [] (w ∷ ws) s t h k = (λ e. cc, λ n. absurd n)
+  lists_same_value (x ∷ xs) [] (v ∷ vs) [] s t h k = (λ e. cc, λ n. absurd n)
+  lists_same_value (x ∷ xs) (y ∷ ys) (v ∷ vs) (w ∷ ws) s t h k =
+      let first = family_same_value F laws x y v w s.0 t.0 h.0 k.0 in
+      let later = lists_same_value xs ys vs ws s.1 t.1 h.1 k.1 in (
+        λ e. let heads : v ≡ w = cc in let tails : vs ≡ ws = cc in (first.0 heads, later.0 tails),
+        λ n. let heads = first.1 n.0 in let tails = later.1 n.1 in λ i. heads i ∷ tails i,
+      )
+  lists_same_value [] ys (v ∷ vs) ws s t h k = absurd h
+  lists_same_value (x ∷ xs) ys [] ws s t h k = absurd h
+  lists_same_value [] [] [] (w ∷ ws) s t h k = absurd k
+  lists_same_value [] (y ∷ ys) [] [] s t h k = absurd k
+  lists_same_value (x ∷ xs) [] (v ∷ vs) (w ∷ ws) s t h k = absurd k
+  lists_same_value (x ∷ xs) (y ∷ ys) (v ∷ vs) [] s t h k = absurd k
+
+  list_gives_normal : (xs : List Attribute) (vs : List F.Value) → AllByRecursion IsTypedAttribute xs → Say xs vs → AllByRecursion F.is_typed vs × AllByRecursion F.is_normal vs
+  list_gives_normal [] [] s h = (tt, tt)
+  list_gives_normal [] (v ∷ vs) s h = absurd h
+  list_gives_normal (x ∷ xs) [] s h = absurd h
+  list_gives_normal (x ∷ xs) (v ∷ vs) s h =
+      let first = family_gives_normal F laws x v s.0 h.0 in
+      let later = list_gives_normal xs vs s.1 h.1 in
+      ((first.0, later.0), (first.1, later.1))
+
+  list_writes_typed : (vs : List F.Value) → AllByRecursion F.is_typed vs → AllByRecursion IsTypedAttribute (map F.attribute_of vs)
+  list_writes_typed [] t = tt
+  list_writes_typed (v ∷ vs) t = (laws.writes_typed v t.0, list_writes_typed vs t.1)
+
+  list_fits_words : (vs : List F.Value) → AllByRecursion F.is_typed vs → AllByRecursion HasFittingValue (map F.attribute_of vs) → AllByRecursion FitsWords (map F.attribute_of vs)
+  list_fits_words [] t f = tt
+  list_fits_words (v ∷ vs) t f = (record { type_word = (laws.writes_typed v t.0).type_word; value = f.0 }, list_fits_words vs t.1 f.1)
+
+  list_reads_back : (vs : List F.Value) → AllByRecursion F.is_typed vs → AllByRecursion F.is_normal vs → Say (map F.attribute_of vs) vs
+  list_reads_back [] t n = tt
+  list_reads_back (v ∷ vs) t n = (laws.reads_back v t.0 n.0, list_reads_back vs t.1 n.1)
+
+-- ---- replies
+
+module _ (R : Reply) (laws : ReplyLaws R) where
+  -- bytes have a value or a fault
+  reply_answered : (b : List ℕ) → IsBytes b → ((v : ValueOf R) × MeansReply R b v) ⊎ ((e : DecodeError) × RefusesReply R b e)
+  reply_answered b typed =
+      elim (value_or_reason (R.header.reads b)) [
+        | inr refused ↦ inr (refused.0, inl refused.1)
+        | inl header ↦ elim (means_or_fault (says R.family) (attribute_part R b) (AreBytes-drop R.size b typed)) [
+          | inl nlas ↦ inl (record { header = header.0; nlas = nlas.0 }, record { header = header.1; nlas = nlas.1 })
+          | inr fault ↦ inr (fault.0, inr (header.0, header.1, fault.1))
+        ]
+      ]
+
+  -- never both
+  reply_one_answer : (b : List ℕ) (v : ValueOf R) (e : DecodeError) → MeansReply R b v → RefusesReply R b e → ⊥
+  reply_one_answer b v e h k =
+      elim k [
+        | inl refused ↦ let no : Ok v.header ≡ Err e = sym h.header ∙ refused in cc
+        | inr later ↦ means_or_fault_apart (says R.family) (attribute_part R b) v.nlas e h.nlas later.2
+      ]
+
+  -- one fault at most
+  reply_one_fault : (b : List ℕ) (e f : DecodeError) → RefusesReply R b e → RefusesReply R b f → e ≡ f
+  reply_one_fault b e f h k =
+      elim h [
+        | inl refused ↦ elim k [
+          | inl also ↦ cc (refused, also)
+          | inr later ↦ let no : Err e ≡ Ok later.0 = sym refused ∙ later.1 in absurd cc
+        ]
+        | inr later ↦ elim k [
+          | inl refused ↦ let no : Err f ≡ Ok later.0 = sym refused ∙ later.1 in absurd cc
+          | inr also ↦ one_fault (says R.family) (attribute_part R b) e f later.2 also.2
+        ]
+      ]
+
+  reply_named_fault : (b : List ℕ) → RefusesReply R b Memory → ⊥
+  reply_named_fault b h =
+      elim h [
+        | inl refused ↦ laws.header.named b refused
+        | inr later ↦ elim later.2.fault [
+          | inl framing ↦ framing
+          | inr refused ↦ family_named R.family laws.family refused.0 refused.2
+        ]
+      ]
+
+  -- two strings have equal values exactly where they are idle
+  reply_same_value : (b c : List ℕ) (v w : ValueOf R) → IsBytes b → IsBytes c → MeansReply R b v → MeansReply R c w → ((v ≡ w) ↔ AreIdleReplies R b c)
+  reply_same_value b c v w b-typed c-typed h k =
+      let headers = laws.header.same_value b c v.header w.header b-typed c-typed h.header k.header in
+      let left-typed = cut_typed (attribute_part R b) h.nlas.0 (AreBytes-drop R.size b b-typed) h.nlas.1 in
+      let right-typed = cut_typed (attribute_part R c) k.nlas.0 (AreBytes-drop R.size c c-typed) k.nlas.1 in
+      let lists = lists_same_value R.family laws.family h.nlas.0 k.nlas.0 v.nlas w.nlas left-typed right-typed h.nlas.2 k.nlas.2 in (
+        λ e. record {
+          headers = headers.0 (ap (λ (u : ValueOf R). u.header) e);
+          left = h.nlas.0;
+          right = k.nlas.0;
+          left_cut = h.nlas.1;
+          right_cut = k.nlas.1;
+          each = lists.0 (ap (λ (u : ValueOf R). u.nlas) e);
+        },
+        λ idle.
+            let lefts = one_cut (attribute_part R b) idle.left h.nlas.0 idle.left_cut h.nlas.1 in
+            let rights = one_cut (attribute_part R c) idle.right k.nlas.0 idle.right_cut k.nlas.1 in
+            let half : AllZip (AreIdleAttributes R.family) h.nlas.0 idle.right = subst (λ (xs : List Attribute). AllZip (AreIdleAttributes R.family) xs idle.right) lefts idle.each in
+            let each : AllZip (AreIdleAttributes R.family) h.nlas.0 k.nlas.0 = subst (λ (ys : List Attribute). AllZip (AreIdleAttributes R.family) h.nlas.0 ys) rights half in
+            let same-header : v.header ≡ w.header = headers.1 idle.headers in
+            let same-nlas : v.nlas ≡ w.nlas = lists.1 each in
+            λ i. record { header = same-header i; nlas = same-nlas i },
+      )
+
+  -- what is read is typed and in normal form
+  reply_gives_normal : (b : List ℕ) (v : ValueOf R) → IsBytes b → MeansReply R b v → IsTypedReply R v × IsNormalReply R v
+  reply_gives_normal b v typed h =
+      let header = laws.header.gives_normal b v.header typed h.header in
+      let nlas = list_gives_normal R.family laws.family h.nlas.0 v.nlas (cut_typed (attribute_part R b) h.nlas.0 (AreBytes-drop R.size b typed) h.nlas.1) h.nlas.2 in
+      ((header.0, nlas.0), (header.1, nlas.1))
+
+  -- a typed value is written as bytes
+  reply_written_bytes : (v : ValueOf R) → IsTypedReply R v → IsBytes (reply_bytes R v)
+  reply_written_bytes v typed =
+      IsBytes-append (R.header.bytes v.header) (flat_map written (map R.family.attribute_of v.nlas)) (laws.header.bytes_typed v.header typed.0)
+      (all_written_typed (map R.family.attribute_of v.nlas) (list_writes_typed R.family laws.family v.nlas typed.1))
+
+  -- a writable value in normal form reads back as itself
+  reply_reads_back : (v : ValueOf R) → IsTypedReply R v → IsNormalReply R v → ReplyFits R v → MeansReply R (reply_bytes R v) v
+  reply_reads_back v typed normal fits =
+      let nlas : List ℕ = flat_map written (map R.family.attribute_of v.nlas) in
+      let behind : attribute_part R (reply_bytes R v) ≡ nlas = drop_at (R.header.bytes v.header) nlas R.size (laws.in_front.bytes_long v.header typed.0) in
+      record {
+        header = laws.in_front.reads_in_front v.header nlas typed.0 normal.0;
+        nlas = subst (λ (part : List ℕ). AttributesMean (says R.family) part v.nlas) (sym behind)
+            (written_values_are_read (says R.family) (map R.family.attribute_of v.nlas) v.nlas (list_fits_words R.family laws.family v.nlas typed.1 fits.0) (list_reads_back R.family laws.family v.nlas typed.1 normal.1));
+      }
+
+  -- the laws together
+  pub replies_keep_laws : RepliesKeepLaws R
+  replies_keep_laws = record {
+    answered = λ b p typed tp. reply_answered b typed;
+    one_answer = λ b p v e h k. reply_one_answer b v e h k;
+    one_fault = λ b p e f h k. reply_one_fault b e f h k;
+    named_fault = λ b p h. reply_named_fault b h;
+    same_value = λ b c p v w b-typed c-typed tp h k. reply_same_value b c v w b-typed c-typed h k;
+    reads_normal = λ b p v typed tp h. reply_gives_normal b v typed h;
+    written_bytes = reply_written_bytes;
+    reads_back = λ p v tp typed normal fits. reply_reads_back v typed normal fits;
+  }

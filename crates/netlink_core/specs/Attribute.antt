@@ -1,0 +1,99 @@
+-- Attributes in bytes: into which attributes a string is cut, and at which fault the cutting stops.
+use Rattle.std.specs.Prelude.{◌≡◌, ◌≢◌, ℕ, ◌+◌, ◌-◌, ◌%◌, ◌^◌, ◌<◌, ◌≤◌, ◌⊎◌, List, [], ◌∷◌, ◌++◌, length, replicate, bit_and, Result, Ok, Err, IsOk}
+use Rattle.byteorder.specs.Endian.{little_bytes, little_number}
+use Rattle.std.specs.List.{AllByRecursion, AllZip, flat_map}
+use Rattle.netlink_core.specs.Bytes.{IsBytes}
+use Rattle.netlink_core.specs.declared.fault.DecodeError.{DecodeError}
+use Rattle.netlink_core.specs.declared.fault.DecodeError.TheVariants.{AttributeHeaderCut, AttributeLengthUnder4, AttributeLengthPast}
+
+-- an attribute without where it lies: its type word, and the bytes of its value
+pub record Attribute : Type 0 where
+  pub type_word : ℕ
+  pub value : List ℕ
+
+-- the type word without its two flag bits
+abbrev pub kind_of : Attribute → ℕ
+kind_of a = bit_and a.type_word 0x3fff
+
+-- a type word of 16 bits, and a value of bytes
+pub record IsTypedAttribute (a : Attribute) : Type 0 where
+  pub type_word : a.type_word < 2 ^ 16
+  pub value : IsBytes a.value
+
+-- a type word of 16 bits, and a value whose length word is one of 16 bits
+pub record FitsWords (a : Attribute) : Type 0 where
+  pub type_word : a.type_word < 2 ^ 16
+  pub value : length a.value ≤ 65531
+
+-- the number from 0 to 3 that brings a length to a multiple of four
+abbrev pub fill : ℕ → ℕ
+fill n = (4 - n % 4) % 4
+
+-- the length word, the type word and the value
+abbrev pub unpadded : Attribute → List ℕ
+unpadded a = little_bytes 2 (4 + length a.value) ++ little_bytes 2 a.type_word ++ a.value
+
+-- the same, and zeros up to a multiple of four
+abbrev pub written : Attribute → List ℕ
+written a = unpadded a ++ replicate (fill (length a.value)) 0
+
+-- a length word of 16 bits says how long it is
+abbrev pub HasFittingValue : Attribute → Type 0
+HasFittingValue a = length a.value ≤ 65531
+
+-- each has such a length word, and all their bytes are at most this many
+abbrev pub AreWritable : List Attribute → ℕ → Type 0
+AreWritable attributes limit = AllByRecursion HasFittingValue attributes × (length (flat_map written attributes) ≤ limit)
+
+-- the bytes begin with the attribute
+abbrev pub HeadIs : List ℕ → Attribute → Type 0
+HeadIs bytes a = (tail : List ℕ) × (bytes ≡ unpadded a ++ tail) × FitsWords a
+
+-- The bytes are the attribute, its padding and the rest. Where nothing follows, the padding may be short.
+pub record StartsWith (bytes : List ℕ) (a : Attribute) (rest : List ℕ) : Type 0 where
+  pub padding : List ℕ
+  pub parts : bytes ≡ unpadded a ++ (padding ++ rest)
+  pub fits : FitsWords a
+  pub filled : (length padding ≡ fill (length a.value)) ⊎ ((length padding < fill (length a.value)) × (rest ≡ []))
+
+-- the bytes are cut into these attributes
+abbrev pub Cut : List ℕ → List Attribute → Type 0
+Cut bytes [] = bytes ≡ []
+Cut bytes (a ∷ later) = (rest : List ℕ) × StartsWith bytes a rest × Cut rest later
+
+-- the same, with all padding there
+abbrev pub CutInFull : List ℕ → List Attribute → Type 0
+CutInFull bytes [] = bytes ≡ []
+CutInFull bytes (a ∷ later) = (padding rest : List ℕ) × (bytes ≡ unpadded a ++ (padding ++ rest)) × FitsWords a × (length padding ≡ fill (length a.value)) × CutInFull rest later
+
+-- the number in the first two bytes
+abbrev pub first_word : List ℕ → ℕ
+first_word bytes = little_number 2 bytes
+
+-- No attribute stands at the front of the bytes, and why. Of several faults it is the first.
+abbrev pub IsFramingFault : List ℕ → DecodeError → Type 0
+IsFramingFault bytes (AttributeHeaderCut left) = (left ≡ length bytes) × (length bytes < 4)
+IsFramingFault bytes (AttributeLengthUnder4 word) = (word ≡ first_word bytes) × (4 ≤ length bytes) × (word < 4)
+IsFramingFault bytes (AttributeLengthPast word left) = (word ≡ first_word bytes) × (left ≡ length bytes) × (4 ≤ length bytes) × (4 ≤ word) × (length bytes < word)
+IsFramingFault bytes _ = ⊥
+
+-- What a reader makes of each attribute: a value, or the reason that it is refused.
+module _ {A : Type 0} (reads : Attribute → Result A DecodeError) where
+  -- the bytes are cut into attributes, and these are what is read from them, in order
+  abbrev pub AttributesMean : List ℕ → List A → Type 0
+  AttributesMean bytes values = (attributes : List Attribute) × Cut bytes attributes × AllZip (λ a value. reads a ≡ Ok value) attributes values
+
+  -- the first fault that applies at the front of the bytes
+  abbrev pub FaultAtFront : List ℕ → DecodeError → Type 0
+  FaultAtFront bytes e = IsFramingFault bytes e ⊎ ((a : Attribute) × HeadIs bytes a × (reads a ≡ Err e))
+
+  -- Attributes that can be read come first, with all their padding. Then bytes are left, and there the fault is.
+  pub record AttributeFault (bytes : List ℕ) (e : DecodeError) : Type 0 where
+    pub before : List ℕ
+    pub after : List ℕ
+    pub attributes : List Attribute
+    pub parts : bytes ≡ before ++ after
+    pub cut : CutInFull before attributes
+    pub good : AllByRecursion (λ a. IsOk (reads a)) attributes
+    pub left : after ≢ []
+    pub fault : FaultAtFront after e

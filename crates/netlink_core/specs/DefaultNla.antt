@@ -1,0 +1,7 @@
+-- What contracts see of an attribute of any kind.
+use Rattle.netlink_core.specs.declared.nla.DefaultNla.{DefaultNla}
+use Rattle.netlink_core.specs.Attribute.{Attribute}
+
+-- the type word and the bytes that are kept
+abbrev pub kept_attribute : DefaultNla → Attribute
+kept_attribute nla = record { type_word = nla.kind; value = nla.value.items }

@@ -1,0 +1,35 @@
+-- The faults by number.
+use Rattle.std.specs.Prelude.{ℕ, Some, None, Result, Ok, Err}
+use Rattle.netlink_core.specs.declared.fault.DecodeError.{DecodeError}
+use Rattle.netlink_core.specs.declared.fault.DecodeError.TheVariants.{Memory, BufferTooSmall, UnsupportedFamily, MessageTooShort, UnknownFamily, UnknownMessageType, AttributeHeaderCut, AttributeLengthUnder4, AttributeLengthPast, WrongLength, NotMultipleOfFour, NotUtf8, NameEmpty, NameInnerZero, NameWithoutEnd, EnvelopeCut, EnvelopeLengthUnder16, EnvelopeLengthPast}
+
+-- the number of a fault
+abbrev pub number_of : DecodeError → ℕ
+number_of Memory = 1
+number_of (BufferTooSmall which got need) = 2
+number_of (UnsupportedFamily family) = 3
+number_of (MessageTooShort got) = 4
+number_of (UnknownFamily family) = 5
+number_of (UnknownMessageType message_type) = 6
+number_of (AttributeHeaderCut left) = 7
+number_of (AttributeLengthUnder4 len) = 8
+number_of (AttributeLengthPast len left) = 9
+number_of (WrongLength kind got need) = 10
+number_of (NotMultipleOfFour got) = 11
+number_of NotUtf8 = 12
+number_of NameEmpty = 13
+number_of (NameInnerZero index) = 14
+number_of NameWithoutEnd = 15
+number_of (EnvelopeCut got) = 16
+number_of (EnvelopeLengthUnder16 len) = 17
+number_of (EnvelopeLengthPast len got) = 18
+
+-- the fault with the kind filled in where a wrong length told none
+abbrev pub of_kind : ℕ → DecodeError → DecodeError
+of_kind k (WrongLength None got need) = WrongLength (Some k) got need
+of_kind k other = other
+
+-- an answer whose fault tells the kind
+abbrev pub under_kind : {A : Type 0} → ℕ → Result A DecodeError → Result A DecodeError
+under_kind k (Ok value) = Ok value
+under_kind k (Err fault) = Err (of_kind k fault)

@@ -1,0 +1,152 @@
+-- The attribute at the front of a string, or the fault there.
+use Rattle.std.proofs.Common.{Result, Ok, Err, Option, Some, None, ◌≡◌, ◌∙◌, ◌⊎◌, inl, inr, ℕ, ◌+◌, ◌-◌, ◌*◌, ◌/◌, ◌%◌, ◌^◌, ◌<◌, ◌≤◌, cond, ltb, List, [], ◌∷◌, ◌++◌, length, take, drop, replicate, refl, sym, ap, subst, arith}
+use Rattle.std.proofs.lemmas.List.{take-append-drop, length-take, length-append, take_all}
+use Rattle.std.proofs.lemmas.Bool.{cases_lt, lt-ltb, le-ltb}
+use Rattle.byteorder.specs.Endian.{little_bytes, little_number}
+use Rattle.netlink_core.specs.declared.fault.DecodeError.{DecodeError}
+use Rattle.netlink_core.specs.declared.fault.DecodeError.TheVariants.{AttributeHeaderCut, AttributeLengthUnder4, AttributeLengthPast}
+use Rattle.netlink_core.specs.Bytes.{IsBytes}
+use Rattle.netlink_core.specs.Attribute.{Attribute, IsTypedAttribute, FitsWords, fill, unpadded, written, HeadIs, first_word, IsFramingFault, FaultAtFront}
+use Rattle.netlink_core.specs.ByteLaws.{IsBytes-append, IsBytes-left, IsBytes-right, IsBytes-number, IsBytes-zeros}
+
+-- ---- the attribute at the front
+
+-- what stands between the header and the length word's end is the value
+pub head_is : (bytes : List ℕ) (word type_word : ℕ) → IsBytes bytes → word ≡ little_number 2 bytes → type_word ≡ little_number 2 (take (length bytes - 2) (drop 2 bytes))
+    → 4 ≤ word → word ≤ length bytes → HeadIs bytes (record { type_word = type_word; value = take (word - 4) (drop 4 bytes) })
+head_is [] word type_word fits word-is type-is low high = absurd (omega arith)
+head_is (_ ∷ []) word type_word fits word-is type-is low high = absurd (omega arith)
+head_is (_ ∷ _ ∷ []) word type_word fits word-is type-is low high = absurd (omega arith)
+head_is (_ ∷ _ ∷ _ ∷ []) word type_word fits word-is type-is low high = absurd (omega arith)
+head_is (a ∷ b ∷ c ∷ d ∷ tail) word type_word fits word-is type-given low high =
+    let whole : take (length (a ∷ b ∷ c ∷ d ∷ tail) - 2) (c ∷ d ∷ tail) ≡ c ∷ d ∷ tail = take_all _ (c ∷ d ∷ tail) (omega arith) in
+    let number : type_word ≡ c + 256 * (d + 256 * 0) = rw whole at type-given in
+    let len : length (take (word - 4) tail) ≡ word - 4 = omega (arith, length-take (word - 4) tail) in
+    let a-fits : a < 256 = fits 0 in
+    let b-fits : b < 256 = fits 1 in
+    let c-fits : c < 256 = fits 2 in
+    let d-fits : d < 256 = fits 3 in
+    let a-is : a ≡ (4 + length (take (word - 4) tail)) % 256 = omega arith in
+    let b-is : b ≡ (4 + length (take (word - 4) tail)) / 256 % 256 = omega arith in
+    let c-is : c ≡ type_word % 256 = omega arith in
+    let d-is : d ≡ type_word / 256 % 256 = omega arith in
+    let tail-is : tail ≡ take (word - 4) tail ++ drop (word - 4) tail = sym (take-append-drop (word - 4) tail) in
+    (drop (word - 4) tail, cc, record { type_word = omega arith; value = omega arith })
+
+-- two lists with fronts of one length are equal in both parts
+pub same_parts : (xs ys s t : List ℕ) → length xs ≡ length ys → xs ++ s ≡ ys ++ t → (xs ≡ ys) × (s ≡ t)
+same_parts [] [] s t len e = (refl, e)
+same_parts [] (y ∷ ys) s t len e = absurd (omega arith)
+same_parts (x ∷ xs) [] s t len e = absurd (omega arith)
+same_parts (x ∷ xs) (y ∷ ys) s t len e =
+    let rest = same_parts xs ys s t (omega arith) cc in
+    (cc, rest.1)
+
+-- the head is fixed by the bytes, and so is what follows
+pub one_head : (a b : Attribute) (s t : List ℕ) → FitsWords a → FitsWords b → unpadded a ++ s ≡ unpadded b ++ t → (a ≡ b) × (s ≡ t)
+one_head a b s t a-fits b-fits e =
+    let low : (4 + length a.value) % 256 ≡ (4 + length b.value) % 256 = cc in
+    let high : (4 + length a.value) / 256 % 256 ≡ (4 + length b.value) / 256 % 256 = cc in
+    let type-low : a.type_word % 256 ≡ b.type_word % 256 = cc in
+    let type-high : a.type_word / 256 % 256 ≡ b.type_word / 256 % 256 = cc in
+    let type-fits : (a.type_word < 2 ^ 16) × (b.type_word < 2 ^ 16) = (a-fits.type_word, b-fits.type_word) in
+    let fits : (length a.value ≤ 65531) × (length b.value ≤ 65531) = (a-fits.value, b-fits.value) in
+    let types : a.type_word ≡ b.type_word = omega arith in
+    let len : length a.value ≡ length b.value = omega arith in
+    let values = same_parts a.value b.value s t len cc in
+    (λ i. record { type_word = types i; value = values.0 i }, values.1)
+
+-- the attribute at the front of bytes is typed
+pub head_typed : (b : List ℕ) (a : Attribute) → IsBytes b → HeadIs b a → IsTypedAttribute a
+head_typed b a typed h =
+    let whole : IsBytes (unpadded a) = IsBytes-left (unpadded a) h.0 (subst IsBytes h.1 typed) in
+    let behind : IsBytes (little_bytes 2 a.type_word ++ a.value) = IsBytes-right (little_bytes 2 (4 + length a.value)) (little_bytes 2 a.type_word ++ a.value) whole in
+    record { type_word = h.2.type_word; value = IsBytes-right (little_bytes 2 a.type_word) a.value behind }
+
+-- one attribute stands at the front
+pub one_attribute : (b : List ℕ) (x y : Attribute) → HeadIs b x → HeadIs b y → x ≡ y
+one_attribute b x y h k = (one_head x y h.0 k.0 h.2 k.2 (sym h.1 ∙ k.1)).0
+
+-- a written attribute is bytes
+pub written_typed : (a : Attribute) → IsTypedAttribute a → IsBytes (written a)
+written_typed a typed =
+    IsBytes-append (unpadded a) (replicate (fill (length a.value)) 0)
+    (IsBytes-append (little_bytes 2 (4 + length a.value)) (little_bytes 2 a.type_word ++ a.value) (IsBytes-number 0 2 (4 + length a.value))
+    (IsBytes-append (little_bytes 2 a.type_word) a.value (IsBytes-number 0 2 a.type_word) typed.value))
+    (IsBytes-zeros (fill (length a.value)))
+
+-- ---- an attribute or a fault
+
+-- the length word of an attribute at the front
+pub word_is : (bytes : List ℕ) (a : Attribute) → HeadIs bytes a → (first_word bytes ≡ 4 + length a.value) × (4 + length a.value ≤ length bytes)
+word_is bytes a head =
+    let fits : length a.value ≤ 65531 = head.2.value in
+    let len : length bytes ≡ 4 + length a.value + length head.0 = ap length head.1 ∙ simp length-append (omega arith) in
+    (ap first_word head.1 ∙ omega arith, omega arith)
+
+-- not both an attribute and a fault
+pub head_or_fault_apart : (bytes : List ℕ) (a : Attribute) (e : DecodeError) → HeadIs bytes a → IsFramingFault bytes e → ⊥
+head_or_fault_apart bytes a (AttributeHeaderCut left) head f = omega (arith, word_is bytes a head)
+head_or_fault_apart bytes a (AttributeLengthUnder4 word) head f = omega (arith, word_is bytes a head)
+head_or_fault_apart bytes a (AttributeLengthPast word left) head f = omega (arith, word_is bytes a head)
+head_or_fault_apart bytes a _ head f = f
+
+-- an attribute or a fault stands there
+pub head_or_fault : (bytes : List ℕ) → IsBytes bytes → ((a : Attribute) × HeadIs bytes a) ⊎ ((e : DecodeError) × IsFramingFault bytes e)
+head_or_fault bytes fits =
+    elim (cases_lt (length bytes) 4) [
+      | inl short ↦ inr (AttributeHeaderCut (length bytes), (refl, short))
+      | inr some ↦ elim (cases_lt (first_word bytes) 4) [
+        | inl under ↦ inr (AttributeLengthUnder4 (first_word bytes), (refl, some, under))
+        | inr low ↦ elim (cases_lt (length bytes) (first_word bytes)) [
+          | inl past ↦ inr (AttributeLengthPast (first_word bytes) (length bytes), (refl, refl, some, low, past))
+          | inr high ↦ inl (_, head_is bytes (first_word bytes) (little_number 2 (take (length bytes - 2) (drop 2 bytes))) fits refl refl low high)
+        ]
+      ]
+    ]
+
+-- an answer is a value or a fault
+pub value_or_reason : {A : Type 0} (read : Result A DecodeError) → ((value : A) × (read ≡ Ok value)) ⊎ ((e : DecodeError) × (read ≡ Err e))
+value_or_reason (Ok value) = inl (value, refl)
+value_or_reason (Err e) = inr (e, refl)
+
+-- the fault at the front, if there is one
+first_fault : List ℕ → Option DecodeError
+first_fault bytes =
+    cond (ltb (length bytes) 4) (Some (AttributeHeaderCut (length bytes)))
+    (cond (ltb (first_word bytes) 4) (Some (AttributeLengthUnder4 (first_word bytes)))
+    (cond (ltb (length bytes) (first_word bytes)) (Some (AttributeLengthPast (first_word bytes) (length bytes))) None))
+
+framing_is_first : (bytes : List ℕ) (e : DecodeError) → IsFramingFault bytes e → first_fault bytes ≡ Some e
+unfolding first_fault
+framing_is_first bytes (AttributeHeaderCut left) f = rw (lt-ltb (length bytes) 4 f.1, ← f.0) refl
+framing_is_first bytes (AttributeLengthUnder4 word) f =
+    let under : first_word bytes < 4 = omega (arith, f.0, f.2) in
+    rw (le-ltb (length bytes) 4 f.1, lt-ltb (first_word bytes) 4 under, ← f.0) refl
+framing_is_first bytes (AttributeLengthPast word left) f =
+    let low : 4 ≤ first_word bytes = omega (arith, f.0, f.3) in
+    let past : length bytes < first_word bytes = omega (arith, f.0, f.4) in
+    rw (le-ltb (length bytes) 4 f.2, le-ltb (first_word bytes) 4 low, lt-ltb (length bytes) (first_word bytes) past, ← f.0, ← f.1) refl
+framing_is_first bytes _ f = absurd f
+
+-- one fault at most, of the framing and of all
+pub one_framing_fault : (bytes : List ℕ) (e f : DecodeError) → IsFramingFault bytes e → IsFramingFault bytes f → e ≡ f
+one_framing_fault bytes e f h k =
+    let same : Some e ≡ Some f = sym (framing_is_first bytes e h) ∙ framing_is_first bytes f k in
+    cc
+
+module _ {A : Type 0} (reads : Attribute → Result A DecodeError) where
+  pub one_fault_at_front : (bytes : List ℕ) (e f : DecodeError) → FaultAtFront reads bytes e → FaultAtFront reads bytes f → e ≡ f
+  one_fault_at_front bytes e f h k =
+      elim h [
+        | inl framing ↦ elim k [
+          | inl also ↦ one_framing_fault bytes e f framing also
+          | inr refused ↦ absurd (head_or_fault_apart bytes refused.0 e refused.1 framing)
+        ]
+        | inr refused ↦ elim k [
+          | inl framing ↦ absurd (head_or_fault_apart bytes refused.0 f refused.1 framing)
+          | inr also ↦
+              let same = one_head also.0 refused.0 also.1.0 refused.1.0 also.1.2 refused.1.2 (sym also.1.1 ∙ refused.1.1) in
+              (let other : reads refused.0 ≡ Err f = subst (λ (x : Attribute). reads x ≡ Err f) same.0 also.2 in cc (refused.2, other))
+        ]
+      ]

@@ -1,0 +1,81 @@
+-- An attribute of a family, read at the front of a string, keeps the laws. Proved once, for every family.
+use Rattle.std.proofs.Common.{Ok, Err, ◌≡◌, ◌∙◌, ◌↔◌, ◌⊎◌, inl, inr, List, ℕ, length, replicate, refl, sym, subst}
+use Rattle.netlink_core.specs.declared.fault.DecodeError.{DecodeError}
+use Rattle.netlink_core.specs.declared.fault.DecodeError.TheVariants.{Memory}
+use Rattle.netlink_core.specs.Bytes.{IsBytes}
+use Rattle.netlink_core.specs.Attribute.{Attribute, HasFittingValue, fill, written}
+use Rattle.netlink_core.specs.Family.{Family, FamilyLaws, says, AreIdleAttributes}
+use Rattle.netlink_core.specs.AnyKind.{any_kind}
+use Rattle.netlink_core.specs.Heads.{MeansHead, RefusesHead, AreIdleHeads, HeadsKeepLaws}
+use Rattle.netlink_core.specs.FrontLaws.{value_or_reason, head_or_fault, head_or_fault_apart, head_typed, one_attribute, one_fault_at_front, written_typed}
+use Rattle.netlink_core.specs.FamilyLaws.{family_named, family_gives_normal, family_same_value}
+
+module _ (F : Family) (laws : FamilyLaws F) where
+  head_answered : (b : List ℕ) → IsBytes b → ((v : F.Value) × MeansHead F b v) ⊎ ((e : DecodeError) × RefusesHead F b e)
+  head_answered b typed =
+      elim (head_or_fault b typed) [
+        | inr framing ↦ inr (framing.0, inl framing.1)
+        | inl head ↦ elim (value_or_reason (says F head.0)) [
+          | inl said ↦ inl (said.0, (head.0, head.1, said.1))
+          | inr refused ↦ inr (refused.0, inr (head.0, head.1, refused.1))
+        ]
+      ]
+
+  head_one_answer : (b : List ℕ) (v : F.Value) (e : DecodeError) → MeansHead F b v → RefusesHead F b e → ⊥
+  head_one_answer b v e h k =
+      elim k [
+        | inl framing ↦ head_or_fault_apart b h.0 e h.1 framing
+        | inr refused ↦
+            let also : says F h.0 ≡ Err e = subst (λ (a : Attribute). says F a ≡ Err e) (one_attribute b refused.0 h.0 refused.1 h.1) refused.2 in
+            let clash : Ok v ≡ Err e = sym h.2 ∙ also in
+            cc
+      ]
+
+  head_one_fault : (b : List ℕ) (e f : DecodeError) → RefusesHead F b e → RefusesHead F b f → e ≡ f
+  head_one_fault b e f h k = one_fault_at_front (says F) b e f h k
+
+  head_named_fault : (b : List ℕ) → RefusesHead F b Memory → ⊥
+  head_named_fault b h = elim h [ inl framing ↦ framing | inr refused ↦ family_named F laws refused.0 refused.2 ]
+
+  head_same_value : (b c : List ℕ) (v w : F.Value) → IsBytes b → IsBytes c → MeansHead F b v → MeansHead F c w → ((v ≡ w) ↔ AreIdleHeads F b c)
+  head_same_value b c v w b-typed c-typed h k =
+      let same = family_same_value F laws h.0 k.0 v w (head_typed b h.0 b-typed h.1) (head_typed c k.0 c-typed k.1) h.2 k.2 in (
+        λ e. (h.0, k.0, h.1, k.1, same.0 e),
+        λ idle.
+            let half : AreIdleAttributes F h.0 idle.1 = subst (λ (a : Attribute). AreIdleAttributes F a idle.1) (one_attribute b idle.0 h.0 idle.2 h.1) idle.4 in
+            same.1 (subst (λ (a : Attribute). AreIdleAttributes F h.0 a) (one_attribute c idle.1 k.0 idle.3 k.1) half),
+      )
+
+  head_gives_normal : (b : List ℕ) (v : F.Value) → IsBytes b → MeansHead F b v → F.is_typed v × F.is_normal v
+  head_gives_normal b v typed h = family_gives_normal F laws h.0 v (head_typed b h.0 typed h.1) h.2
+
+  head_written_bytes : (v : F.Value) → F.is_typed v → IsBytes (written (F.attribute_of v))
+  head_written_bytes v typed = written_typed (F.attribute_of v) (laws.writes_typed v typed)
+
+  head_reads_back : (v : F.Value) → F.is_typed v → F.is_normal v → HasFittingValue (F.attribute_of v) → MeansHead F (written (F.attribute_of v)) v
+  head_reads_back v typed normal fits =
+      let a : Attribute = F.attribute_of v in
+      (a, (replicate (fill (length a.value)) 0, refl, record { type_word = (laws.writes_typed v typed).type_word; value = fits }), laws.reads_back v typed normal)
+
+  -- the laws together
+  pub heads_keep_laws : HeadsKeepLaws F
+  heads_keep_laws = record {
+    answered = λ b p typed tp. head_answered b typed;
+    one_answer = λ b p v e h k. head_one_answer b v e h k;
+    one_fault = λ b p e f h k. head_one_fault b e f h k;
+    named_fault = λ b p h. head_named_fault b h;
+    same_value = λ b c p v w b-typed c-typed tp h k. head_same_value b c v w b-typed c-typed h k;
+    reads_normal = λ b p v typed tp h. head_gives_normal b v typed h;
+    written_bytes = head_written_bytes;
+    reads_back = λ p v tp typed normal fits. head_reads_back v typed normal fits;
+  }
+
+-- the family in which no kind is known
+pub any_kind_laws : FamilyLaws any_kind
+any_kind_laws = record {
+  kinds = tt;
+  other_stays = λ word value. refl;
+  other_normal = λ a typed unknown. (typed, tt);
+  writes_typed = λ a typed. typed;
+  reads_back = λ a typed normal. refl;
+}

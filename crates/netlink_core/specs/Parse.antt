@@ -1,0 +1,20 @@
+-- Numbers and texts that fill their bytes.
+use Rattle.std.specs.Prelude.{ℕ, zero, ◌==◌, if◌then◌else◌, List, [], ◌∷◌, length, None, Result, Ok, Err}
+use Rattle.std.specs.Str.{is_utf8}
+use Rattle.byteorder.specs.Endian.{little_number}
+use Rattle.netlink_core.specs.declared.fault.DecodeError.{DecodeError}
+use Rattle.netlink_core.specs.declared.fault.DecodeError.TheVariants.{WrongLength, NotUtf8}
+
+-- the number in exactly so many bytes, the low byte first
+abbrev pub exact_number : ℕ → List ℕ → Result ℕ DecodeError
+exact_number width bytes = if length bytes == width then Ok (little_number width bytes) else Err (WrongLength None (length bytes) width)
+
+-- the bytes without a zero at their end, of which at most one is taken off
+abbrev pub without_end_zero : List ℕ → List ℕ
+without_end_zero [] = []
+without_end_zero (zero ∷ []) = []
+without_end_zero (byte ∷ bytes) = byte ∷ without_end_zero bytes
+
+-- the text in the bytes: what is left without a zero at their end, where that is UTF-8
+abbrev pub text_in : List ℕ → Result (List ℕ) DecodeError
+text_in bytes = if is_utf8 (without_end_zero bytes) then Ok (without_end_zero bytes) else Err NotUtf8

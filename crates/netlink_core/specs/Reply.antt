@@ -1,0 +1,71 @@
+-- Replies: a header, and then attributes of one family.
+use Rattle.std.specs.Prelude.{◌≡◌, ℕ, ◌≤◌, ◌⊎◌, List, ◌++◌, length, drop, map, Ok, Err, ⊤}
+use Rattle.std.specs.List.{AllByRecursion, AllZip, flat_map}
+use Rattle.netlink_core.specs.declared.fault.DecodeError.{DecodeError}
+use Rattle.netlink_core.specs.Attribute.{Attribute, HasFittingValue, Cut, AttributesMean, AttributeFault, written}
+use Rattle.netlink_core.specs.Prefix.{Prefix, PrefixLaws, StandsInFront}
+use Rattle.netlink_core.specs.Family.{Family, FamilyLaws, says, AreIdleAttributes}
+use Rattle.netlink_core.specs.Laws.{KeepsLaws}
+
+-- a header, the number of its bytes, and the family of the attributes behind it
+pub record Reply : Type 1 where
+  pub header : Prefix
+  pub size : ℕ
+  pub family : Family
+
+-- what is shown of them
+pub record ReplyLaws (R : Reply) : Type 0 where
+  pub header : PrefixLaws R.header
+  pub in_front : StandsInFront R.header R.size
+  pub family : FamilyLaws R.family
+
+-- a reply without where it lies in memory
+pub record ReplyValue (H V : Type 0) : Type 0 where
+  pub header : H
+  pub nlas : List V
+
+-- the values of the header and of the attributes
+abbrev pub ValueOf : Reply → Type 0
+ValueOf R = ReplyValue R.header.Value R.family.Value
+
+-- the bytes behind the header
+abbrev pub attribute_part : Reply → List ℕ → List ℕ
+attribute_part R b = drop R.size b
+
+-- the header's value, and one value for each attribute behind it
+pub record MeansReply (R : Reply) (b : List ℕ) (v : ValueOf R) : Type 0 where
+  pub header : R.header.reads b ≡ Ok v.header
+  pub nlas : AttributesMean (says R.family) (attribute_part R b) v.nlas
+
+-- the header's fault, or behind a header that can be read the first fault of the attributes
+abbrev pub RefusesReply : Reply → List ℕ → DecodeError → Type 0
+RefusesReply R b e = (R.header.reads b ≡ Err e) ⊎ ((h : R.header.Value) × (R.header.reads b ≡ Ok h) × AttributeFault (says R.family) (attribute_part R b) e)
+
+-- The headers are idle, both attribute parts are cut into lists of one length, and the attributes at each place are idle.
+pub record AreIdleReplies (R : Reply) (b c : List ℕ) : Type 0 where
+  pub headers : R.header.idle b c
+  pub left : List Attribute
+  pub right : List Attribute
+  pub left_cut : Cut (attribute_part R b) left
+  pub right_cut : Cut (attribute_part R c) right
+  pub each : AllZip (AreIdleAttributes R.family) left right
+
+-- each part is typed
+abbrev pub IsTypedReply : (R : Reply) → ValueOf R → Type 0
+IsTypedReply R v = R.header.is_typed v.header × AllByRecursion R.family.is_typed v.nlas
+
+-- each part is in normal form
+abbrev pub IsNormalReply : (R : Reply) → ValueOf R → Type 0
+IsNormalReply R v = R.header.is_normal v.header × AllByRecursion R.family.is_normal v.nlas
+
+-- the header's bytes, and then those of each attribute
+abbrev pub reply_bytes : (R : Reply) → ValueOf R → List ℕ
+reply_bytes R v = R.header.bytes v.header ++ flat_map written (map R.family.attribute_of v.nlas)
+
+-- each value and the whole fit their lengths
+abbrev pub ReplyFits : (R : Reply) → ValueOf R → Type 0
+ReplyFits R v = AllByRecursion HasFittingValue (map R.family.attribute_of v.nlas) × (length (reply_bytes R v) ≤ 4294967295)
+
+-- a reply keeps the laws: its reader, its bytes, its idle relation and its normal form
+abbrev pub RepliesKeepLaws : Reply → Type 0
+RepliesKeepLaws R = KeepsLaws {Param = Unit {0}} (λ p. ⊤) (IsTypedReply R) (λ b p v. MeansReply R b v) (λ b p e. RefusesReply R b e) (λ p b c. AreIdleReplies R b c) (λ p v. IsNormalReply R v) (reply_bytes R) (ReplyFits R)

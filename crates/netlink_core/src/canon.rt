@@ -1,0 +1,78 @@
+//! One string for all strings that differ in idle details alone.
+
+ghost use Rattle.std.specs.Prelude.{◌≡◌, ◌≢◌, ◌↔◌, ℕ, List, IfOk, IfErr};
+ghost use Rattle.netlink_core.specs.Bytes.{IsBytes};
+ghost use Rattle.netlink_core.specs.Canonical.{GivesUp, from_fault};
+ghost use Rattle.netlink_core.specs.declared.canon.CanonError.TheVariants.{Memory};
+
+use crate::{DecodeError, Emitable, Wire};
+use std::alloc::{AllocError, Global};
+
+/// Why a string has no canonical form in hand.
+#[derive(Clone, Debug, Drop, PartialEq, Eq)]
+pub enum CanonError {
+    /// The reader refused it.
+    Refused(DecodeError),
+    /// Its value can't be written.
+    Unwritable,
+    /// Memory ran out.
+    Memory,
+}
+
+impl From<DecodeError> for CanonError {
+    ghost from_gives = { λ fault e. e ≡ from_fault fault };
+
+    fn from(fault: DecodeError) -> CanonError {
+        match fault {
+            DecodeError::Memory => CanonError::Memory,
+            named => CanonError::Refused(named),
+        }
+    }
+}
+
+impl From<AllocError> for CanonError {
+    ghost from_gives = { λ _ e. e ≡ Memory };
+
+    fn from(_e: AllocError) -> CanonError {
+        CanonError::Memory
+    }
+}
+
+/// The written bytes of the value that is read from the bytes: one string for all strings that differ from these in
+/// idle details alone.
+///
+/// It is refused with the reader's first fault, and `Unwritable` where a length of the value that was read has no room.
+pub fn canonical<T: Wire + Drop>(
+    alloc: Global,
+    bytes: &[u8],
+    param: T::Param,
+) -> Result<Vec<u8>, CanonError>
+    // The string is accepted, its value is writable, and these are the value's bytes.
+    ensures written { IfOk result (λ c.
+        (v : T.Seen) × T.reads bytes.now param v × T.fits v × (c.items ≡ T.written v)) }
+    // A string with a writable value is written alike exactly where the two are idle.
+    ensures same { IfOk result (λ c.
+        (d : List ℕ) (w : T.Seen) → IsBytes d → T.reads d param w → T.fits w
+        → ((T.written w ≡ c.items) ↔ T.idle param bytes.now d)) }
+    // The canonical form is accepted, and is its own.
+    ensures again { IfOk result (λ c.
+        IsBytes c.items × ((w : T.Seen) × T.reads c.items param w × T.fits w × (T.written w ≡ c.items))) }
+    // The first fault, which is named; or the string is accepted and its value can't be written; or memory ran out.
+    ensures err { IfErr result (GivesUp (T.reads bytes.now param) (T.refuses bytes.now param) T.fits) }
+{
+    let value = T::read(alloc, bytes, param)?;
+    if !value.is_writable() {
+        return Err(CanonError::Unwritable);
+    }
+    Ok(written(alloc, &value)?)
+}
+
+// The bytes of a value.
+fn written<T: Emitable>(alloc: Global, value: &T) -> Result<Vec<u8>, AllocError>
+    requires { T.writable value.now }
+    ensures { IfOk result (λ bytes. bytes.items ≡ T.bytes value.now) }
+{
+    let mut bytes = vec![in alloc; 0; value.buffer_len()]?;
+    value.emit(&mut bytes);
+    Ok(bytes)
+}

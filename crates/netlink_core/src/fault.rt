@@ -1,0 +1,206 @@
+//! Why bytes were refused. Lengths and places are in bytes.
+
+ghost use Rattle.std.specs.Prelude.{◌≡◌};
+ghost use Rattle.netlink_core.specs.Faults.{number_of, of_kind};
+ghost use Rattle.netlink_core.specs.declared.fault.DecodeError.TheVariants.{Memory};
+
+use std::alloc::{AllocError, AllocFailed};
+use std::fmt;
+use thiserror::Error;
+
+/// The records that have a least length, by their names in sock_diag(7) and the kernel's headers.
+#[derive(Clone, Copy, Debug, PartialEq, Eq)]
+pub enum RecordName {
+    /// `inet_diag_sockid`, 48 bytes.
+    SocketId,
+    /// `inet_diag_req_v2`, 56 bytes.
+    InetRequest,
+    /// `inet_diag_msg`, 72 bytes.
+    InetResponseHeader,
+    /// `unix_diag_req`, 24 bytes.
+    UnixRequest,
+    /// `unix_diag_msg`, 16 bytes.
+    UnixResponseHeader,
+    /// The value of `INET_DIAG_MEMINFO`, 16 bytes.
+    LegacyMemInfo,
+    /// The value of `INET_DIAG_SKMEMINFO`.
+    MemInfo,
+    /// The value of `INET_DIAG_INFO`, 232 bytes.
+    TcpInfo,
+    /// The value of `UNIX_DIAG_VFS`, 8 bytes.
+    Vfs,
+    /// The value of `UNIX_DIAG_MEMINFO`, 36 bytes.
+    UnixMemInfo,
+}
+
+impl fmt::Display for RecordName {
+    fn fmt<W: fmt::Write>(&self, f: &mut fmt::Formatter<W>) -> fmt::Result {
+        f.write_str(match self {
+            RecordName::SocketId => "SocketId",
+            RecordName::InetRequest => "InetRequest",
+            RecordName::InetResponseHeader => "InetResponseHeader",
+            RecordName::UnixRequest => "UnixRequest",
+            RecordName::UnixResponseHeader => "UnixResponseHeader",
+            RecordName::LegacyMemInfo => "LegacyMemInfo",
+            RecordName::MemInfo => "MemInfo",
+            RecordName::TcpInfo => "TcpInfo",
+            RecordName::Vfs => "Vfs",
+            RecordName::UnixMemInfo => "UnixMemInfo",
+        })
+    }
+}
+
+/// Why a reader refused its bytes, or that memory ran out. The variants are numbered from 1, in this order.
+#[derive(Clone, Debug, Drop, PartialEq, Eq, Error)]
+pub enum DecodeError {
+    /// Memory ran out.
+    #[error("out of memory")]
+    Memory,
+    /// A record was given fewer bytes than it has.
+    #[error("{which}: buffer of {got} bytes, at least {need} needed")]
+    BufferTooSmall {
+        which: RecordName,
+        got: usize,
+        need: usize,
+    },
+    /// The family of an internet socket is neither `AF_INET` nor `AF_INET6`.
+    #[error("unsupported address family {family}: expected AF_INET (2) or AF_INET6 (10)")]
+    UnsupportedFamily {
+        family: u8,
+    },
+    /// A message has not even the byte of its family and the one behind it.
+    #[error("invalid buffer: length is {got} but packets are at least 2 bytes")]
+    MessageTooShort {
+        got: usize,
+    },
+    /// The first byte of a message is no family whose replies are read.
+    #[error("unknown address family {family}")]
+    UnknownFamily {
+        family: u8,
+    },
+    /// A message has another type than `SOCK_DIAG_BY_FAMILY`.
+    #[error("unknown message type {message_type}")]
+    UnknownMessageType {
+        message_type: u16,
+    },
+    /// So many bytes are left where an attribute would begin, and they are fewer than its header's 4.
+    #[error("attribute header cut: {left} bytes left")]
+    AttributeHeaderCut {
+        left: usize,
+    },
+    /// An attribute's length word is under the 4 bytes of its header.
+    #[error("attribute length {length} is under 4")]
+    AttributeLengthUnder4 {
+        length: u16,
+    },
+    /// An attribute's length word is past the bytes from its first byte to the end.
+    #[error("attribute length {length} is past the {left} bytes left")]
+    AttributeLengthPast {
+        length: u16,
+        left: usize,
+    },
+    /// A value has another length than its kind. The kind is missing where the value was read by itself.
+    #[error("value of {got} bytes, {need} needed")]
+    WrongLength {
+        kind: Option<u16>,
+        got: usize,
+        need: usize,
+    },
+    /// A list of 32-bit numbers has a part of one at its end.
+    #[error("value of {got} bytes is no multiple of 4")]
+    NotMultipleOfFour {
+        got: usize,
+    },
+    /// A text is not UTF-8.
+    #[error("text is not UTF-8")]
+    NotUtf8,
+    /// A socket's name has no bytes.
+    #[error("name is empty")]
+    NameEmpty,
+    /// A path name holds a zero before its last byte, the first of them at this place.
+    #[error("pathname holds a zero at {index}")]
+    NameInnerZero {
+        index: usize,
+    },
+    /// A path name holds no zero.
+    #[error("pathname is not null-terminated")]
+    NameWithoutEnd,
+    /// A message has fewer bytes than the 16 of its netlink header.
+    #[error("message header cut: {got} bytes")]
+    EnvelopeCut {
+        got: usize,
+    },
+    /// A message's length word is under the 16 bytes of its netlink header.
+    #[error("message length {length} is under 16")]
+    EnvelopeLengthUnder16 {
+        length: u32,
+    },
+    /// A message's length word is past the bytes given.
+    #[error("message length {length} is past the {got} bytes given")]
+    EnvelopeLengthPast {
+        length: u32,
+        got: usize,
+    },
+}
+
+impl DecodeError {
+    /// The fault's number, from 1 to 18.
+    pub fn number(&self) -> u8
+        ensures { result ≡ number_of self.now }
+    {
+        match self {
+            DecodeError::Memory => 1,
+            DecodeError::BufferTooSmall { .. } => 2,
+            DecodeError::UnsupportedFamily { .. } => 3,
+            DecodeError::MessageTooShort { .. } => 4,
+            DecodeError::UnknownFamily { .. } => 5,
+            DecodeError::UnknownMessageType { .. } => 6,
+            DecodeError::AttributeHeaderCut { .. } => 7,
+            DecodeError::AttributeLengthUnder4 { .. } => 8,
+            DecodeError::AttributeLengthPast { .. } => 9,
+            DecodeError::WrongLength { .. } => 10,
+            DecodeError::NotMultipleOfFour { .. } => 11,
+            DecodeError::NotUtf8 => 12,
+            DecodeError::NameEmpty => 13,
+            DecodeError::NameInnerZero { .. } => 14,
+            DecodeError::NameWithoutEnd => 15,
+            DecodeError::EnvelopeCut { .. } => 16,
+            DecodeError::EnvelopeLengthUnder16 { .. } => 17,
+            DecodeError::EnvelopeLengthPast { .. } => 18,
+        }
+    }
+
+    /// The same fault. A `WrongLength` that told no kind tells this one.
+    pub fn with_kind(self, kind: u16) -> Self
+        ensures { result ≡ of_kind kind self }
+    {
+        match self {
+            DecodeError::WrongLength {
+                kind: None,
+                got,
+                need,
+            } => DecodeError::WrongLength {
+                kind: Some(kind),
+                got,
+                need,
+            },
+            other => other,
+        }
+    }
+}
+
+impl From<AllocError> for DecodeError {
+    ghost from_gives = { λ _ e. e ≡ Memory };
+
+    fn from(_e: AllocError) -> DecodeError {
+        DecodeError::Memory
+    }
+}
+
+impl<T: Drop> From<AllocFailed<T>> for DecodeError {
+    ghost from_gives = { λ _ e. e ≡ Memory };
+
+    fn from(_e: AllocFailed<T>) -> DecodeError {
+        DecodeError::Memory
+    }
+}

@@ -1,0 +1,22 @@
+//! What every netlink message crate stands on: faults, the framing of attributes, and readers joined with writers by laws.
+#![tactic(auto)]
+
+mod attribute;
+mod canon;
+mod codec;
+mod fault;
+pub mod laws;
+mod nla;
+mod parse;
+mod wire;
+
+pub use crate::attribute::{NlaBuffer, NlasIterator};
+pub use crate::canon::{CanonError, canonical};
+pub use crate::codec::{Emitable, Parseable, ParseableParametrized, Readable};
+pub use crate::fault::{DecodeError, RecordName};
+pub use crate::nla::{DefaultNla, Nla, emit_nla, emit_nlas, nla_len, nlas_len, nlas_writable};
+pub use crate::parse::{emit_u32, parse_string, parse_u8, parse_u32};
+pub use crate::wire::Wire;
+
+#[cfg(test)]
+mod tests;

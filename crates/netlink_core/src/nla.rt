@@ -1,0 +1,254 @@
+//! Attributes that are written, and the attribute of any kind.
+
+ghost use Rattle.std.specs.Prelude.{◌≡◌, ◌≤◌, ◌↔◌, ◌++◌, ⊤, length, drop, map, true, refl, IsTrue, IfOk};
+ghost use Rattle.std.specs.List.{flat_map};
+ghost use Rattle.netlink_core.specs.Attribute.{Attribute, HasFittingValue, AreWritable, written};
+ghost use Rattle.netlink_core.specs.Heads.{MeansHead, RefusesHead, AreIdleHeads};
+ghost use Rattle.netlink_core.specs.AnyKind.{any_kind};
+ghost use Rattle.netlink_core.specs.HeadLaws.{heads_keep_laws, any_kind_laws};
+
+use crate::attribute::{HEADER, MAX_VALUE, NlaBuffer, padded};
+use crate::codec::{Emitable, Parseable, Readable};
+use crate::fault::DecodeError;
+use crate::wire::Wire;
+use byteorder::{ByteOrder, LittleEndian};
+use std::alloc::{AllocError, Global};
+
+/// A value that can be written as an attribute.
+pub trait Nla {
+    // The attribute that is written.
+    ghost attribute: { Self → Attribute };
+
+    /// Whether the value has at most 65,531 bytes, so that its length word can count them.
+    fn value_fits(&self) -> bool
+        ensures { IsTrue result ↔ HasFittingValue (attribute self.now) };
+
+    /// How many bytes the value has, without header and padding.
+    fn value_len(&self) -> usize
+        requires { HasFittingValue (attribute self.now) }
+        ensures { result ≡ length (attribute self.now).value };
+
+    /// The type word that is written.
+    fn kind(&self) -> u16
+        ensures { result ≡ (attribute self.now).type_word };
+
+    /// Writes the value at the front of the buffer, and leaves the rest.
+    fn emit_value(&self, buffer: &mut [u8])
+        requires fits { HasFittingValue (attribute self.now) }
+        requires room { length (attribute self.now).value ≤ length buffer.old }
+        ensures { buffer.new ≡ (attribute self.now).value
+            ++ drop (length (attribute self.now).value) buffer.old };
+}
+
+/// How many bytes the attribute has, with header and padding.
+pub fn nla_len<T: Nla>(nla: &T) -> usize
+    requires { HasFittingValue (T.attribute nla.now) }
+    ensures { result ≡ length (written (T.attribute nla.now)) }
+{
+    padded(HEADER + nla.value_len())
+}
+
+/// Writes the attribute at the front of the buffer, with zeros as its padding, and leaves the rest.
+pub fn emit_nla<T: Nla>(nla: &T, buffer: &mut [u8])
+    requires fits { HasFittingValue (T.attribute nla.now) }
+    requires room { length (written (T.attribute nla.now)) ≤ length buffer.old }
+    ensures { buffer.new ≡ written (T.attribute nla.now)
+        ++ drop (length (written (T.attribute nla.now))) buffer.old }
+{
+    let len = nla.value_len();
+    let end = HEADER + len;
+    let (header, rest) = buffer.split_at_mut(HEADER);
+    let (value, rest) = rest.split_at_mut(len);
+    let (padding, _) = rest.split_at_mut(padded(end) - end);
+    LittleEndian::write_u16(header, end as u16);
+    LittleEndian::write_u16(&mut header[2..], nla.kind());
+    nla.emit_value(value);
+    padding.fill(0);
+}
+
+/// Whether each value fits, and all of the attributes together have at most 4,294,967,295 bytes.
+pub fn nlas_writable<T: Nla>(nlas: &[T]) -> bool
+    ensures { IsTrue result ↔ AreWritable (map T.attribute nlas.now) 4294967295 }
+{
+    let mut room = u32::MAX as usize;
+    for nla in nlas {
+        if !nla.value_fits() {
+            return false;
+        }
+        let len = nla_len(nla);
+        if len > room {
+            return false;
+        }
+        room -= len;
+    }
+    true
+}
+
+/// How many bytes the attributes have, one after the other.
+pub fn nlas_len<T: Nla>(nlas: &[T]) -> usize
+    requires { AreWritable (map T.attribute nlas.now) 4294967295 }
+    ensures { result ≡ length (flat_map written (map T.attribute nlas.now)) }
+{
+    let mut len = 0;
+    for nla in nlas {
+        len += nla_len(nla);
+    }
+    len
+}
+
+/// Writes the attributes one after the other at the front of the buffer, and leaves the rest.
+pub fn emit_nlas<T: Nla>(nlas: &[T], buffer: &mut [u8])
+    requires fits { AreWritable (map T.attribute nlas.now) 4294967295 }
+    requires room { length (flat_map written (map T.attribute nlas.now)) ≤ length buffer.old }
+    ensures { buffer.new ≡ flat_map written (map T.attribute nlas.now)
+        ++ drop (length (flat_map written (map T.attribute nlas.now))) buffer.old }
+{
+    let mut at = 0;
+    for nla in nlas {
+        let end = at + nla_len(nla);
+        emit_nla(nla, &mut buffer[at..end]);
+        at = end;
+    }
+}
+
+/// An attribute of any kind: its whole type word, with the two flag bits, and its value's bytes.
+#[derive(Debug, Drop, PartialEq, Eq)]
+pub struct DefaultNla {
+    kind: u16,
+    value: Vec<u8>,
+}
+
+impl DefaultNla {
+    ghost use Rattle.netlink_core.specs.DefaultNla.{kept_attribute};
+
+    /// The attribute with this type word and value.
+    pub fn new(kind: u16, value: Vec<u8>) -> DefaultNla
+        ensures { kept_attribute result ≡ record { type_word = kind; value = value.items } }
+    {
+        DefaultNla { kind, value }
+    }
+
+    /// The whole type word, with its two flag bits.
+    pub fn kind(&self) -> u16
+        ensures { result ≡ (kept_attribute self.now).type_word }
+    {
+        self.kind
+    }
+
+    /// The value's bytes.
+    pub fn value(&self) -> &[u8]
+        ensures { result.now ≡ (kept_attribute self.now).value }
+    {
+        self.value.as_slice()
+    }
+
+    /// An equal attribute. It fails only for want of memory.
+    pub fn clone(&self, alloc: Global) -> Result<Self, AllocError>
+        ensures { IfOk result (λ copy. kept_attribute copy ≡ kept_attribute self.now) }
+    {
+        Ok(DefaultNla {
+            kind: self.kind,
+            value: Vec::from_slice(alloc, &self.value)?,
+        })
+    }
+}
+
+impl Readable for DefaultNla {
+    const TAKES_MEMORY: bool = true;
+
+    ghost TAKES_MEMORY = { true };
+}
+
+impl<'a> Parseable<NlaBuffer<'a>> for DefaultNla {
+    ghost use Rattle.netlink_core.specs.DefaultNla.{kept_attribute};
+    ghost use Rattle.netlink_core.specs.Walk.{attribute_of};
+
+    ghost parses = { λ nla v. kept_attribute v ≡ attribute_of nla };
+
+    ghost parse_refuses = { λ _ _. ⊥ };
+
+    fn parse(alloc: Global, buf: NlaBuffer<'a>) -> Result<Self, DecodeError> {
+        Ok(DefaultNla {
+            kind: buf.type_word(),
+            value: Vec::from_slice(alloc, buf.value())?,
+        })
+    }
+}
+
+impl Nla for DefaultNla {
+    ghost use Rattle.netlink_core.specs.DefaultNla.{kept_attribute};
+
+    ghost attribute = { kept_attribute };
+
+    fn value_fits(&self) -> bool {
+        self.value.len() <= MAX_VALUE
+    }
+
+    fn value_len(&self) -> usize {
+        self.value.len()
+    }
+
+    fn kind(&self) -> u16 {
+        self.kind
+    }
+
+    fn emit_value(&self, buffer: &mut [u8]) {
+        buffer[..self.value.len()].copy_from_slice(&self.value);
+    }
+}
+
+impl Emitable for DefaultNla {
+    ghost use Rattle.netlink_core.specs.DefaultNla.{kept_attribute};
+
+    ghost bytes = { λ v. written (kept_attribute v) };
+
+    ghost writable = { λ v. HasFittingValue (kept_attribute v) };
+
+    fn is_writable(&self) -> bool {
+        self.value_fits()
+    }
+
+    fn buffer_len(&self) -> usize {
+        nla_len(self)
+    }
+
+    fn emit(&self, buffer: &mut [u8]) {
+        emit_nla(self, buffer);
+    }
+}
+
+impl Wire for DefaultNla {
+    ghost use Rattle.netlink_core.specs.DefaultNla.{kept_attribute};
+
+    type Param = ();
+
+    ghost Seen = { Attribute };
+
+    ghost seen = { kept_attribute };
+
+    ghost is_typed = { any_kind.is_typed };
+
+    ghost is_param = { λ _. ⊤ };
+
+    ghost reads = { λ b _ a. MeansHead any_kind b a };
+
+    ghost refuses = { λ b _ e. RefusesHead any_kind b e };
+
+    ghost idle = { λ _ b c. AreIdleHeads any_kind b c };
+
+    ghost is_normal = { λ _ a. any_kind.is_normal a };
+
+    ghost written = { λ a. written (any_kind.attribute_of a) };
+
+    ghost fits = { λ a. HasFittingValue (any_kind.attribute_of a) };
+
+    fn read(alloc: Global, bytes: &[u8], _param: ()) -> Result<Self, DecodeError> {
+        DefaultNla::parse(alloc, NlaBuffer::new_checked(bytes)?)
+    }
+
+    ghost written_is = { λ v. refl };
+
+    ghost fits_is = { λ v. (λ h. h, λ h. h) };
+
+    ghost laws = { heads_keep_laws any_kind any_kind_laws };
+}

@@ -1,0 +1,75 @@
+//! Numbers and texts that fill their bytes.
+
+ghost use Rattle.std.specs.Prelude.{◌≡◌, ◌≢◌, ◌≤◌, ◌++◌, length, drop, string_bytes, IsOk, IfOk, IfErr};
+ghost use Rattle.byteorder.specs.Endian.{little_bytes};
+ghost use Rattle.netlink_core.specs.declared.fault.DecodeError.TheVariants.{Memory};
+ghost use Rattle.netlink_core.specs.Parse.{exact_number, without_end_zero, text_in};
+
+use crate::fault::DecodeError;
+use byteorder::{ByteOrder, LittleEndian};
+use std::alloc::Global;
+use std::str;
+
+/// The number in exactly one byte. Any other length is `WrongLength` with no kind.
+pub fn parse_u8(payload: &[u8]) -> Result<u8, DecodeError>
+    ensures { result ≡ exact_number 1 payload.now }
+{
+    match payload {
+        [byte] => Ok(*byte),
+        _ => Err(wrong_length(payload, 1)),
+    }
+}
+
+/// The number in exactly four bytes, the low byte first. Any other length is `WrongLength` with no kind.
+pub fn parse_u32(payload: &[u8]) -> Result<u32, DecodeError>
+    ensures { result ≡ exact_number 4 payload.now }
+{
+    if payload.len() != 4 {
+        return Err(wrong_length(payload, 4));
+    }
+    Ok(LittleEndian::read_u32(payload))
+}
+
+// The fault of a value that is not that long.
+fn wrong_length(payload: &[u8], need: usize) -> DecodeError
+    ensures { result ≡ DecodeError.WrongLength None (length payload.now) need }
+{
+    DecodeError::WrongLength {
+        kind: None,
+        got: payload.len(),
+        need,
+    }
+}
+
+/// The text in the bytes, without the one zero that may stand at their end.
+///
+/// What is not UTF-8 is `NotUtf8`, before any memory is taken.
+#[tactic(auto, using(crate::proofs::Texts::text_there, crate::proofs::Texts::no_text))]
+pub fn parse_string(alloc: Global, payload: &[u8]) -> Result<String, DecodeError>
+    ensures value { IfOk result (λ text. text_in payload.now ≡ Ok (string_bytes text)) }
+    ensures fault { IfErr result (λ e. e ≢ Memory → text_in payload.now ≡ Err e) }
+    ensures memory { IfErr result (λ e. e ≡ Memory → IsOk (text_in payload.now)) }
+{
+    match str::from_utf8(text_bytes(payload)) {
+        Ok(text) => Ok(String::from_str(alloc, text)?),
+        Err(_) => Err(DecodeError::NotUtf8),
+    }
+}
+
+// The bytes without the zero at their end.
+fn text_bytes(payload: &[u8]) -> &[u8]
+    ensures { result.now ≡ without_end_zero payload.now }
+{
+    match payload.split_last() {
+        Some((last, text)) => { if *last == 0 { text } else { payload } }
+        None => payload,
+    }
+}
+
+/// Writes the number into the first four bytes, the low byte first, and leaves the rest.
+pub fn emit_u32(buffer: &mut [u8], value: u32)
+    requires { 4 ≤ length buffer.old }
+    ensures { buffer.new ≡ little_bytes 4 value ++ drop 4 buffer.old }
+{
+    LittleEndian::write_u32(buffer, value);
+}

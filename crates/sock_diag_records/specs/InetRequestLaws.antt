@@ -1,0 +1,83 @@
+-- The request for IPv4 or IPv6 sockets keeps the laws.
+use Rattle.std.proofs.Common.{◌≡◌, ◌∙◌, ℕ, List, [], ◌∷◌, ◌++◌, length, drop, slice_index, true, Result, Ok, refl, sym, ap, arith, append-nil}
+use Rattle.netlink_core.specs.Table.{Row, is_table, values_of, bytes_of}
+use Rattle.netlink_core.specs.Format.{bytes, IsSound}
+use Rattle.netlink_core.specs.Laws.{RecordLaws}
+use Rattle.netlink_core.proofs.FormatLaws.{keeps_laws, long_enough, at_least_ok, at_least_named, table_length}
+use Rattle.netlink_core.proofs.Congruence.{◌⊛◌}
+use Rattle.netlink_core.proofs.RowReads.{moved, values-moved}
+use Rattle.netlink_core.specs.declared.fault.DecodeError.{DecodeError}
+use Rattle.netlink_core.specs.declared.fault.RecordName.TheVariants as name
+use Rattle.byteorder.specs.Endian.{little_bytes}
+use Rattle.sock_diag_records.specs.declared.inet.request.InetRequest.{InetRequest}
+use Rattle.sock_diag_records.specs.declared.inet.socket_id.SocketId.{SocketId}
+use Rattle.sock_diag_records.specs.SocketId.{Kind, ipv4, ipv6, Kinds, kinds_of, kind_of, kinds_of_family, socket_id, socket_id_rows, socket_id_values, socket_id_of}
+use Rattle.sock_diag_records.specs.SocketIdLaws.{pair, live_is, kept_is, shaped_is, socket_id_back, kinds_are, kinds_named, socket_id_next, length-bytes}
+use Rattle.sock_diag_records.specs.InetRequest.{inet_request_rows, inet_request, IsShaped, IsNormal}
+
+tables_are : (s d : Kind) → is_table 0 (inet_request_rows (pair s d)) 56 ≡ true
+tables_are ipv4 ipv4 = refl
+tables_are ipv4 ipv6 = refl
+tables_are ipv6 ipv4 = refl
+tables_are ipv6 ipv6 = refl
+
+abbrev with_values : List ℕ → List ℕ → List ℕ
+with_values front socket = front ++ socket
+
+abbrev with_identity : InetRequest → SocketId → InetRequest
+with_identity value socket = record value { socket_id = socket }
+
+abbrev told_kinds : Kinds → Result Kinds DecodeError
+told_kinds kinds = Ok kinds
+
+pub inet_request_sound : IsSound inet_request IsShaped IsNormal
+unfolding inet_request
+inet_request_sound = record {
+  tables = λ kinds. tables_are kinds.source kinds.destination;
+  lives = λ kinds. ap (λ (bits : List ℕ). 255 ∷ 255 ∷ 255 ∷ 0 ∷ 0xfe ∷ 0x0f ∷ 0 ∷ 0 ∷ bits) (live_is 8 kinds.source kinds.destination);
+  long = λ param kinds left e. (at_least_ok name.InetRequest 56 left (kinds_of_family (slice_index left 0)) kinds e).0;
+  named = λ param left e. at_least_named name.InetRequest 56 left (kinds_of_family (slice_index left 0)) (kinds_named (slice_index left 0)) e;
+  kept = λ kinds left h. ap (with_values (slice_index left 0 ∷ slice_index left 1 ∷ slice_index left 2 ∷ slice_index (values_of (inet_request_rows kinds) left) 3 ∷ [])) (kept_is 8 kinds.source kinds.destination left);
+  tagged = λ kinds left. kinds_are kinds.source kinds.destination (drop 4 (values_of (inet_request_rows kinds) left));
+  shaped = λ kinds left h. shaped_is 8 kinds.source kinds.destination left;
+  normal = λ param kinds left h e d. record {
+    same_kind = (at_least_ok name.InetRequest 56 left (kinds_of_family (slice_index left 0)) kinds e).1 ∙ ap told_kinds (sym (kinds_are kinds.source kinds.destination (drop 4 (values_of (inet_request_rows kinds) left))));
+    flags = d;
+  };
+  defined = λ param value t n. n.flags;
+  back = λ param value t n. ap (with_identity value) (ap (socket_id_of (kinds_of value.socket_id)) (sym (append-nil (socket_id_values value.socket_id))) ∙ socket_id_back value.socket_id [] t.shaped);
+  told = λ param value t n.
+      let size = table_length (inet_request_rows (kinds_of value.socket_id)) 56 (inet_request.values value) (tables_are (kind_of value.socket_id.source_address) (kind_of value.socket_id.destination_address)) t.fit in
+      long_enough name.InetRequest 56 (bytes inet_request value) (kinds_of_family value.family) (omega arith) ∙ n.same_kind;
+}
+
+pub inet_request_laws : RecordLaws inet_request IsShaped IsNormal
+inet_request_laws = keeps_laws inet_request IsShaped IsNormal inet_request_sound
+
+-- ---- the identity inside the request
+
+rows_moved : (s d : Kind) → socket_id_rows 8 (pair s d) ≡ moved 8 (socket_id_rows 0 (pair s d))
+rows_moved ipv4 ipv4 = refl
+rows_moved ipv4 ipv6 = refl
+rows_moved ipv6 ipv4 = refl
+rows_moved ipv6 ipv6 = refl
+
+pub values-inside : (kinds : Kinds) (left : List ℕ) → values_of (socket_id_rows 0 kinds) (drop 8 left) ≡ values_of (socket_id_rows 8 kinds) left
+values-inside kinds left = sym (values-moved 8 (socket_id_rows 0 kinds) left) ∙ sym (ap (λ (rows : List Row). values_of rows left) (rows_moved kinds.source kinds.destination))
+
+pub identity_read : (kinds : Kinds) (left : List ℕ) → socket_id_of kinds (drop 4 (values_of (inet_request_rows kinds) left)) ≡ socket_id_of kinds (values_of (socket_id_rows 0 kinds) (drop 8 left))
+identity_read kinds left = ap (socket_id_of kinds) (sym (values-inside kinds left))
+
+-- the bytes of the request in pieces
+pub request_pieces : (value : InetRequest) → bytes inet_request value ≡ (value.family ∷ value.protocol ∷ value.extensions.0 ∷ 0 ∷ []) ++ (little_bytes 4 value.states.0 ++ bytes socket_id value.socket_id)
+unfolding inet_request
+request_pieces value =
+    let front = value.family ∷ value.protocol ∷ value.extensions.0 ∷ 0 ∷ [] in
+    ap (λ (b : List ℕ). value.family ∷ value.protocol ∷ value.extensions.0 ∷ 0 ∷ (little_bytes 4 value.states.0 ++ b))
+    (sym (ap bytes_of (append-nil (socket_id_rows 8 (kinds_of value.socket_id))) ⊛ append-nil (socket_id_values value.socket_id)) ∙ socket_id_next 8 value.socket_id [] [] ∙ append-nil (bytes socket_id value.socket_id))
+
+length_after : (a b c d : ℕ) (rest : List ℕ) → length rest ≡ 48 → length ((a ∷ b ∷ c ∷ 0 ∷ []) ++ (little_bytes 4 d ++ rest)) ≡ 56
+length_after a b c d rest e = omega arith
+
+pub request_length : (value : InetRequest) → length (bytes inet_request value) ≡ 56
+request_length value = let identity = length-bytes value.socket_id in ap length (request_pieces value) ∙ length_after value.family value.protocol value.extensions.0 value.states.0 (bytes socket_id value.socket_id) identity

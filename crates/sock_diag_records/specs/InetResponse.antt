@@ -1,0 +1,215 @@
+-- The header of a reply about an IPv4 or IPv6 socket: 72 bytes. The byte at 2 tells the timer, and with it
+-- whether the byte at 3 and the word at 52 are read.
+use Rattle.std.specs.Prelude.{◌≡◌, ℕ, ◌+◌, ◌*◌, ◌/◌, ◌%◌, ◌^◌, ◌<◌, ◌==◌, if◌then◌else◌, List, [], ◌∷◌, ◌++◌, drop, replicate, slice_index, Option, Some, None, Result, Ok, Err}
+use Rattle.std.specs.Duration.{as_nanos}
+use Rattle.std.specs.declared.time.Duration.{Duration}
+use Rattle.netlink_core.specs.Table.{Row, byte, number, unread, numbers, little_endian}
+use Rattle.netlink_core.specs.Format.{Format, at_least}
+use Rattle.sock_diag_records.specs.declared.inet.response.Timer.{Timer}
+use Rattle.sock_diag_records.specs.declared.inet.response.Timer.TheVariants.{Retransmit, KeepAlive, TimeWait, Probe}
+use Rattle.sock_diag_records.specs.declared.inet.response.InetResponseHeader.{InetResponseHeader}
+use Rattle.netlink_core.specs.declared.fault.DecodeError.{DecodeError}
+use Rattle.netlink_core.specs.declared.fault.RecordName.TheVariants as name
+use Rattle.sock_diag_records.specs.SocketId as identity
+use Rattle.sock_diag_records.specs.SocketId.{Kinds, kinds_of, kinds_of_family, count_of, socket_id_rows, socket_id_live, socket_id_values, socket_id_of}
+
+-- ---- durations
+
+-- so many milliseconds
+abbrev pub duration : ℕ → Duration
+duration milliseconds = record { secs = milliseconds / 1_000; nanos = milliseconds % 1_000 * 1_000_000 }
+
+-- the whole milliseconds of a duration, in 32 bits
+abbrev pub milliseconds : Duration → ℕ
+milliseconds time = as_nanos time / 1_000_000 % 2 ^ 32
+
+-- whole milliseconds, of which there are fewer than 2 ^ 32
+abbrev pub IsWholeMilliseconds : Duration → Type 0
+IsWholeMilliseconds time = (n : ℕ) × (n < 2 ^ 32) × (as_nanos time ≡ n * 1_000_000)
+
+-- ---- the timer
+
+-- the classes of the timer byte: 1, 2, 3, 4, and all others
+pub data Class : Type 0 where
+  retransmits : Class
+  keeps_alive : Class
+  waits : Class
+  probes : Class
+  none : Class
+
+-- the class of a byte
+abbrev pub class_of_byte : ℕ → Class
+class_of_byte timer = if timer == 1 then retransmits else if timer == 2 then keeps_alive else if timer == 3 then waits else if timer == 4 then probes else none
+
+-- what is written for a class
+abbrev pub byte_of_class : Class → ℕ
+byte_of_class retransmits = 1
+byte_of_class keeps_alive = 2
+byte_of_class waits = 3
+byte_of_class probes = 4
+byte_of_class none = 0
+
+-- the class of a timer
+abbrev pub class_of : Option Timer → Class
+class_of (Some (Retransmit expires count)) = retransmits
+class_of (Some (KeepAlive expires)) = keeps_alive
+class_of (Some TimeWait) = waits
+class_of (Some (Probe expires)) = probes
+class_of None = none
+
+-- the byte at 3 is read under 1 alone
+abbrev pub retransmits_row : Class → Row
+retransmits_row retransmits = byte 3
+retransmits_row keeps_alive = unread 3 (0 ∷ [])
+retransmits_row waits = unread 3 (0 ∷ [])
+retransmits_row probes = unread 3 (0 ∷ [])
+retransmits_row none = unread 3 (0 ∷ [])
+
+-- the word at 52 is read under 1, 2 and 4
+abbrev pub expires_row : Class → Row
+expires_row retransmits = number 52 4 little_endian
+expires_row keeps_alive = number 52 4 little_endian
+expires_row waits = unread 52 (replicate 4 0)
+expires_row probes = number 52 4 little_endian
+expires_row none = unread 52 (replicate 4 0)
+
+-- what a timer keeps for the byte at 3
+abbrev pub retransmits_values : Option Timer → List ℕ
+retransmits_values (Some (Retransmit expires count)) = count ∷ []
+retransmits_values (Some (KeepAlive expires)) = []
+retransmits_values (Some TimeWait) = []
+retransmits_values (Some (Probe expires)) = []
+retransmits_values None = []
+
+-- what a timer keeps for the word at 52
+abbrev pub expires_values : Option Timer → List ℕ
+expires_values (Some (Retransmit expires count)) = milliseconds expires ∷ []
+expires_values (Some (KeepAlive expires)) = milliseconds expires ∷ []
+expires_values (Some TimeWait) = []
+expires_values (Some (Probe expires)) = milliseconds expires ∷ []
+expires_values None = []
+
+-- how many values these rows have
+abbrev pub retransmits_count : Class → ℕ
+retransmits_count retransmits = 1
+retransmits_count keeps_alive = 0
+retransmits_count waits = 0
+retransmits_count probes = 0
+retransmits_count none = 0
+
+abbrev pub expires_count : Class → ℕ
+expires_count retransmits = 1
+expires_count keeps_alive = 1
+expires_count waits = 0
+expires_count probes = 1
+expires_count none = 0
+
+-- the timer of a class, with the byte at 3 and the word at 52
+abbrev pub timer_of : Class → ℕ → ℕ → Option Timer
+timer_of retransmits count expires = Some (Retransmit (duration expires) count)
+timer_of keeps_alive count expires = Some (KeepAlive (duration expires))
+timer_of waits count expires = Some TimeWait
+timer_of probes count expires = Some (Probe (duration expires))
+timer_of none count expires = None
+
+-- a timer's time is whole milliseconds
+abbrev pub IsWholeTimer : Option Timer → Type 0
+IsWholeTimer (Some (Retransmit expires count)) = IsWholeMilliseconds expires
+IsWholeTimer (Some (KeepAlive expires)) = IsWholeMilliseconds expires
+IsWholeTimer (Some TimeWait) = Unit {0}
+IsWholeTimer (Some (Probe expires)) = IsWholeMilliseconds expires
+IsWholeTimer None = Unit {0}
+
+-- ---- the record
+
+-- what chooses the rows: the kinds of the addresses, and the class of the timer
+pub record Tag : Type 0 where
+  pub kinds : Kinds
+  pub class : Class
+
+-- the bytes at 0 and 1, the timer, the identity at 4 and the words at 56, 60, 64 and 68
+abbrev pub header_rows : Tag → List Row
+header_rows tag =
+    byte 0 ∷ byte 1 ∷ unread 2 (byte_of_class tag.class ∷ []) ∷ retransmits_row tag.class
+    ∷ (socket_id_rows 4 tag.kinds ++ expires_row tag.class ∷ numbers 56 4 little_endian 4)
+
+-- the byte at 3 is live under 1 alone
+abbrev pub retransmits_live : Class → ℕ
+retransmits_live retransmits = 255
+retransmits_live keeps_alive = 0
+retransmits_live waits = 0
+retransmits_live probes = 0
+retransmits_live none = 0
+
+-- the bytes of the word at 52 are live under 1, 2 and 4
+abbrev pub expires_live : Class → ℕ
+expires_live retransmits = 255
+expires_live keeps_alive = 255
+expires_live waits = 0
+expires_live probes = 255
+expires_live none = 0
+
+-- the places 0..2 and 56..72 are live, and those of the identity; the byte at 2 is compared by its class
+abbrev pub header_live : Tag → List ℕ
+header_live tag =
+    255 ∷ 255 ∷ 0 ∷ retransmits_live tag.class
+    ∷ (socket_id_live tag.kinds.source tag.kinds.destination ++ (replicate 4 (expires_live tag.class) ++ replicate 16 255))
+
+-- the values in the rows
+abbrev pub header_values : InetResponseHeader → List ℕ
+header_values value =
+    value.family ∷ value.state
+    ∷ (retransmits_values value.timer
+    ++ (socket_id_values value.socket_id
+    ++ (expires_values value.timer ++ value.recv_queue ∷ value.send_queue ∷ value.uid ∷ value.inode ∷ [])))
+
+-- how many values a socket's identity has
+abbrev pub socket_id_count : Kinds → ℕ
+socket_id_count kinds = 2 + count_of kinds.source + count_of kinds.destination + 9
+
+-- the header with these values
+abbrev pub header_of : Tag → List ℕ → InetResponseHeader
+header_of tag values =
+    let socket = drop (retransmits_count tag.class) (drop 2 values) in
+    let behind = drop (socket_id_count tag.kinds) socket in
+    let last = drop (expires_count tag.class) behind in
+    record {
+      family = slice_index values 0;
+      state = slice_index values 1;
+      timer = timer_of tag.class (slice_index values 2) (slice_index behind 0);
+      socket_id = socket_id_of tag.kinds socket;
+      recv_queue = slice_index last 0;
+      send_queue = slice_index last 1;
+      uid = slice_index last 2;
+      inode = slice_index last 3;
+    }
+
+-- by which rows a header is written
+abbrev pub tag_of : InetResponseHeader → Tag
+tag_of value = record { kinds = kinds_of value.socket_id; class = class_of value.timer }
+
+-- the class beside what the family tells, or the family's fault
+abbrev pub with_class : Class → Result Kinds DecodeError → Result Tag DecodeError
+with_class class (Ok kinds) = Ok record { kinds = kinds; class = class }
+with_class class (Err fault) = Err fault
+
+-- 72 bytes. A string is refused where it is too short, and else where its family is another, in this order
+unfoldable pub inet_response_header : Format (Unit {0}) Tag InetResponseHeader
+inet_response_header = record {
+  size = λ tag. 72;
+  table = header_rows;
+  live = header_live;
+  tag_at = λ param left. at_least name.InetResponseHeader 72 left (with_class (class_of_byte (slice_index left 2)) (kinds_of_family (slice_index left 0)));
+  tag_of = tag_of;
+  values = header_values;
+  value = header_of;
+}
+
+-- each array is as long as its type tells
+abbrev pub IsShaped : InetResponseHeader → Type 0
+IsShaped value = identity.IsShaped value.socket_id
+
+-- the addresses are of the family's kind, and the timer's duration is whole milliseconds of 32 bits
+pub record IsNormal (param : Unit {0}) (value : InetResponseHeader) : Type 0 where
+  pub same_kind : kinds_of_family value.family ≡ Ok (kinds_of value.socket_id)
+  pub whole : IsWholeTimer value.timer

@@ -1,0 +1,296 @@
+-- The format of the header of a reply is sound.
+use Rattle.std.proofs.Common.{◌≡◌, ℕ, ◌*◌, ◌/◌, ◌%◌, ◌^◌, ◌<◌, List, [], ◌∷◌, ◌++◌, length, drop, replicate, slice_index, Option, Some, None, Result, Ok, Err, refl, sym, ap, ap₂, ◌∙◌, subst, IsTrue, arith}
+use Rattle.std.proofs.lemmas.List.{drop_at, length-append}
+use Rattle.std.specs.Duration.{as_nanos}
+use Rattle.std.specs.List.{flat_map}
+use Rattle.byteorder.specs.Endian.{little_bytes}
+use Rattle.std.specs.declared.time.Duration.{Duration}
+use Rattle.netlink_core.specs.Table.{Row, byte, is_table, live_bits, values_of, bytes_of, number, unread, numbers, little_endian}
+use Rattle.netlink_core.specs.Bytes.{IsBytes}
+use Rattle.netlink_core.specs.Laws.{RecordLaws}
+use Rattle.netlink_core.specs.Format.{IsSound, bytes}
+use Rattle.netlink_core.proofs.FormatLaws.{keeps_laws, long_enough, at_least_ok, at_least_named, table_length}
+use Rattle.netlink_core.proofs.Numbers.{number-fits}
+use Rattle.netlink_core.proofs.TableLaws.{AreBytes-drop, has_no_flags, defined_without_flags}
+use Rattle.netlink_core.proofs.Congruence.{◌⊛◌}
+use Rattle.sock_diag_records.specs.declared.inet.response.Timer.{Timer}
+use Rattle.sock_diag_records.specs.declared.inet.response.Timer.TheVariants.{Retransmit, KeepAlive, TimeWait, Probe}
+use Rattle.sock_diag_records.specs.declared.inet.response.InetResponseHeader.{InetResponseHeader}
+use Rattle.sock_diag_records.specs.declared.inet.socket_id.SocketId.{SocketId}
+use Rattle.netlink_core.specs.declared.fault.DecodeError.{DecodeError}
+use Rattle.netlink_core.specs.declared.fault.DecodeError.TheVariants.{Memory}
+use Rattle.netlink_core.specs.declared.fault.RecordName.TheVariants as name
+use Rattle.sock_diag_records.specs.SocketId.{Kind, ipv4, ipv6, Kinds, kinds_of, kinds_of_family, socket_id_rows, socket_id_values, socket_id_of, socket_id, kind_of}
+use Rattle.sock_diag_records.specs.SocketId as identity
+use Rattle.sock_diag_records.specs.InetResponse.{duration, milliseconds, IsWholeMilliseconds, Class, retransmits, keeps_alive, waits, probes, none, class_of_byte, byte_of_class, class_of, retransmits_row, expires_row, retransmits_live, expires_live, retransmits_values, expires_values, retransmits_count, expires_count, timer_of, IsWholeTimer, Tag, header_rows, header_live, header_values, header_of, socket_id_count, tag_of, with_class, inet_response_header, IsShaped, IsNormal}
+use Rattle.sock_diag_records.specs.TablesInARow.{is_table-append, live_bits-append, values_of-append, has_no_flags-append}
+use Rattle.sock_diag_records.specs.SocketIdLaws.{pair, live_is, kept_is, shaped_is, no_flags, read_before, length-values, socket_id_back, socket_id_next, kinds_are, kinds_named, length-socket_id, length-bytes}
+
+-- ---- durations
+
+pub milliseconds-duration : (n : ℕ) → n < 2 ^ 32 → milliseconds (duration n) ≡ n
+milliseconds-duration n h = omega arith
+
+-- a duration of whole milliseconds is the one of that number
+pub duration_is : (time : Duration) (n : ℕ) → as_nanos time ≡ n * 1_000_000 → time ≡ duration n
+duration_is time n e =
+    let secs : time.secs ≡ n / 1_000 = omega arith in
+    let nanos : time.nanos ≡ n % 1_000 * 1_000_000 = omega arith in
+    ap₂ (λ (s n : ℕ). let d : Duration = record { secs = s; nanos = n } in d) secs nanos
+
+pub duration-milliseconds : (time : Duration) → IsWholeMilliseconds time → duration (milliseconds time) ≡ time
+duration-milliseconds time whole =
+    let same : milliseconds time ≡ whole.0 = let below = whole.1 in let is = whole.2 in omega arith in
+    ap duration same ∙ sym (duration_is time whole.0 whole.2)
+
+-- ---- the rows before the identity, and those behind it
+
+abbrev before : Class → List Row
+before class = byte 0 ∷ byte 1 ∷ unread 2 (byte_of_class class ∷ []) ∷ retransmits_row class ∷ []
+
+abbrev behind : Class → List Row
+behind class = expires_row class ∷ numbers 56 4 little_endian 4
+
+-- what holds of each class: where the rows stand, what is live, and that no row is one of flags
+of_class : (class : Class) → IsTrue (is_table 0 (before class) 4) × IsTrue (is_table 52 (behind class) 72)
+    × (255 ∷ 255 ∷ 0 ∷ retransmits_live class ∷ [] ≡ live_bits (before class)) × (replicate 4 (expires_live class) ++ replicate 16 255 ≡ live_bits (behind class))
+    × IsTrue (has_no_flags (before class)) × IsTrue (has_no_flags (behind class))
+of_class retransmits = (refl, refl, refl, refl, refl, refl)
+of_class keeps_alive = (refl, refl, refl, refl, refl, refl)
+of_class waits = (refl, refl, refl, refl, refl, refl)
+of_class probes = (refl, refl, refl, refl, refl, refl)
+of_class none = (refl, refl, refl, refl, refl, refl)
+
+identity_is_table : (s d : Kind) → IsTrue (is_table 4 (socket_id_rows 4 (pair s d)) 52)
+identity_is_table ipv4 ipv4 = refl
+identity_is_table ipv4 ipv6 = refl
+identity_is_table ipv6 ipv4 = refl
+identity_is_table ipv6 ipv6 = refl
+
+tables_are : (t : Tag) → IsTrue (is_table 0 (header_rows t) 72)
+tables_are t =
+    is_table-append 0 (before t.class) 4 (socket_id_rows 4 t.kinds ++ behind t.class) 72 (of_class t.class).0
+    (is_table-append 4 (socket_id_rows 4 t.kinds) 52 (behind t.class) 72 (identity_is_table t.kinds.source t.kinds.destination) (of_class t.class).1)
+
+abbrev in_a_row : List ℕ → List ℕ → List ℕ → List ℕ
+in_a_row xs ys zs = xs ++ (ys ++ zs)
+
+lives_are : (t : Tag) → header_live t ≡ live_bits (header_rows t)
+lives_are t =
+    (ap in_a_row (of_class t.class).2 ⊛ live_is 4 t.kinds.source t.kinds.destination ⊛ (of_class t.class).3)
+    ∙ sym (live_bits-append (before t.class) (socket_id_rows 4 t.kinds ++ behind t.class) ∙ ap (λ (bits : List ℕ). live_bits (before t.class) ++ bits) (live_bits-append (socket_id_rows 4 t.kinds) (behind t.class)))
+
+no_flags_are : (t : Tag) → IsTrue (has_no_flags (header_rows t))
+no_flags_are t =
+    has_no_flags-append (before t.class) (socket_id_rows 4 t.kinds ++ behind t.class) (of_class t.class).4
+    (has_no_flags-append (socket_id_rows 4 t.kinds) (behind t.class) (no_flags 4 t.kinds.source t.kinds.destination) (of_class t.class).5)
+
+-- ---- what is read
+
+-- the number of the word at 52
+abbrev expires_at : List ℕ → ℕ
+expires_at left = slice_index (values_of (numbers 52 4 little_endian 1) left) 0
+
+expires-lt : (left : List ℕ) → IsBytes left → expires_at left < 2 ^ 32
+expires-lt left h = number-fits little_endian 4 (drop 52 left) (AreBytes-drop 52 left h)
+
+-- a header of its fields, the last four in a list
+abbrev pub header_with : ℕ → ℕ → Option Timer → SocketId → List ℕ → InetResponseHeader
+header_with family state timer socket last = record {
+  family = family;
+  state = state;
+  timer = timer;
+  socket_id = socket;
+  recv_queue = slice_index last 0;
+  send_queue = slice_index last 1;
+  uid = slice_index last 2;
+  inode = slice_index last 3;
+}
+
+-- a header of its fields, the word at 52 and the last four in a list
+abbrev pub header_read : Class → ℕ → ℕ → ℕ → SocketId → List ℕ → InetResponseHeader
+header_read class family state count socket words = header_with family state (timer_of class count (slice_index words 0)) socket (drop 1 words)
+
+-- what each class reads: the values behind the count, the timer, the last four words, and the count alone
+read_of_class : (class : Class) (rows : List Row) (left : List ℕ) → (drop (retransmits_count class) (values_of (retransmits_row class ∷ rows) left) ≡ values_of rows left)
+    × (timer_of class (slice_index (values_of (retransmits_row class ∷ rows) left) 0) (slice_index (values_of (behind class) left) 0) ≡ timer_of class (slice_index left 3) (expires_at left))
+    × (drop (expires_count class) (values_of (behind class) left) ≡ values_of (numbers 56 4 little_endian 4) left)
+    × (retransmits_values (timer_of class (slice_index left 3) (expires_at left)) ≡ values_of (retransmits_row class ∷ []) left)
+read_of_class retransmits rows left = (refl, refl, refl, refl)
+read_of_class keeps_alive rows left = (refl, refl, refl, refl)
+read_of_class waits rows left = (refl, refl, refl, refl)
+read_of_class probes rows left = (refl, refl, refl, refl)
+read_of_class none rows left = (refl, refl, refl, refl)
+
+pub header_is : (t : Tag) (left : List ℕ) → header_of t (values_of (header_rows t) left) ≡ header_read t.class (slice_index left 0) (slice_index left 1) (slice_index left 3) (socket_id_of t.kinds (values_of (socket_id_rows 4 t.kinds) left)) (values_of (numbers 52 4 little_endian 5) left)
+header_is t left =
+    let rest = socket_id_rows 4 t.kinds ++ behind t.class in
+    let own = values_of (socket_id_rows 4 t.kinds) left in
+    let last = values_of (behind t.class) left in
+    let front = slice_index (values_of (retransmits_row t.class ∷ (socket_id_rows 4 t.kinds ++ behind t.class)) left) 0 in
+    let socket = (read_of_class t.class rest left).0 ∙ values_of-append (socket_id_rows 4 t.kinds) (behind t.class) left in
+    let others = ap (drop (socket_id_count t.kinds)) socket ∙ drop_at own last (socket_id_count t.kinds) (length-values 4 t.kinds.source t.kinds.destination left) in
+    ap (header_with (slice_index left 0) (slice_index left 1)) (ap (λ (values : List ℕ). timer_of t.class front (slice_index values 0)) others ∙ (read_of_class t.class rest left).1)
+    ⊛ (ap (socket_id_of t.kinds) socket ∙ read_before 4 t.kinds.source t.kinds.destination left last)
+    ⊛ (ap (drop (expires_count t.class)) others ∙ (read_of_class t.class rest left).2)
+
+expires_is : (left : List ℕ) → IsBytes left → milliseconds (duration (expires_at left)) ∷ values_of (numbers 56 4 little_endian 4) left ≡ values_of (numbers 52 4 little_endian 5) left
+expires_is left h = ap (λ (expires : ℕ). expires ∷ values_of (numbers 56 4 little_endian 4) left) (milliseconds-duration (expires_at left) (expires-lt left h))
+
+expires_kept : (class : Class) (left : List ℕ) → IsBytes left → expires_values (timer_of class (slice_index left 3) (expires_at left)) ++ values_of (numbers 56 4 little_endian 4) left ≡ values_of (behind class) left
+expires_kept retransmits left h = expires_is left h
+expires_kept keeps_alive left h = expires_is left h
+expires_kept waits left h = refl
+expires_kept probes left h = expires_is left h
+expires_kept none left h = refl
+
+-- the values behind the first two
+abbrev with_two : List ℕ → List ℕ → List ℕ → List ℕ → List ℕ
+with_two left count socket last = slice_index left 0 ∷ slice_index left 1 ∷ (count ++ (socket ++ last))
+
+values_are : (t : Tag) (left : List ℕ) → values_of (header_rows t) left ≡ with_two left (values_of (retransmits_row t.class ∷ []) left) (values_of (socket_id_rows 4 t.kinds) left) (values_of (behind t.class) left)
+values_are t left = ap (λ (values : List ℕ). slice_index left 0 ∷ slice_index left 1 ∷ values)
+    (values_of-append (retransmits_row t.class ∷ []) (socket_id_rows 4 t.kinds ++ behind t.class) left
+    ∙ ap (λ (values : List ℕ). values_of (retransmits_row t.class ∷ []) left ++ values) (values_of-append (socket_id_rows 4 t.kinds) (behind t.class) left))
+
+kept_are : (t : Tag) (left : List ℕ) → IsBytes left → header_values (header_of t (values_of (header_rows t) left)) ≡ values_of (header_rows t) left
+kept_are t left h =
+    ap header_values (header_is t left)
+    ∙ (ap (with_two left) (read_of_class t.class [] left).3 ⊛ kept_is 4 t.kinds.source t.kinds.destination left ⊛ expires_kept t.class left h)
+    ∙ sym (values_are t left)
+
+class_is : (c : Class) (count expires : ℕ) → class_of (timer_of c count expires) ≡ c
+class_is retransmits count expires = refl
+class_is keeps_alive count expires = refl
+class_is waits count expires = refl
+class_is probes count expires = refl
+class_is none count expires = refl
+
+whole_is : (c : Class) (count expires : ℕ) → expires < 2 ^ 32 → IsWholeTimer (timer_of c count expires)
+whole_is retransmits count expires h = (expires, h, omega arith)
+whole_is keeps_alive count expires h = (expires, h, omega arith)
+whole_is waits count expires h = tt
+whole_is probes count expires h = (expires, h, omega arith)
+whole_is none count expires h = tt
+
+whole_read : (t : Tag) (left : List ℕ) → IsBytes left → IsWholeTimer (header_of t (values_of (header_rows t) left)).timer
+whole_read t left h = subst (λ (value : InetResponseHeader). IsWholeTimer value.timer) (sym (header_is t left)) (whole_is t.class (slice_index left 3) (expires_at left) (expires-lt left h))
+
+shaped_read : (t : Tag) (left : List ℕ) → identity.IsShaped (header_of t (values_of (header_rows t) left)).socket_id
+shaped_read t left = subst (λ (value : InetResponseHeader). identity.IsShaped value.socket_id) (sym (header_is t left)) (shaped_is 4 t.kinds.source t.kinds.destination left)
+
+-- what the tag tells
+told_parts : (class : Class) (kinds : Result Kinds DecodeError) (told : Tag) → with_class class kinds ≡ Ok told → (kinds ≡ Ok told.kinds) × (class ≡ told.class)
+told_parts class (Ok kinds) told e =
+    let same : record { kinds = kinds; class = class } ≡ told = cc in
+    (ap (λ (t : Tag). let r : Result Kinds DecodeError = Ok t.kinds in r) same, ap (λ (t : Tag). t.class) same)
+told_parts class (Err fault) told e = cc
+
+class_told : (c : Class) → class_of_byte (byte_of_class c) ≡ c
+class_told retransmits = refl
+class_told keeps_alive = refl
+class_told waits = refl
+class_told probes = refl
+class_told none = refl
+
+-- ---- a header is that of its values
+
+timer_back : (timer : Option Timer) (before after : List ℕ) → IsWholeTimer timer → timer_of (class_of timer) (slice_index (retransmits_values timer ++ before) 0) (slice_index (expires_values timer ++ after) 0) ≡ timer
+timer_back (Some (Retransmit expires n)) before after h = ap (λ (t : Duration). let r : Option Timer = Some (Retransmit t n) in r) (duration-milliseconds expires h)
+timer_back (Some (KeepAlive expires)) before after h = ap (λ (t : Duration). let r : Option Timer = Some (KeepAlive t) in r) (duration-milliseconds expires h)
+timer_back (Some TimeWait) before after h = refl
+timer_back (Some (Probe expires)) before after h = ap (λ (t : Duration). let r : Option Timer = Some (Probe t) in r) (duration-milliseconds expires h)
+timer_back None before after h = refl
+
+drop_retransmits : (timer : Option Timer) (rest : List ℕ) → drop (retransmits_count (class_of timer)) (retransmits_values timer ++ rest) ≡ rest
+drop_retransmits (Some (Retransmit expires n)) rest = refl
+drop_retransmits (Some (KeepAlive expires)) rest = refl
+drop_retransmits (Some TimeWait) rest = refl
+drop_retransmits (Some (Probe expires)) rest = refl
+drop_retransmits None rest = refl
+
+drop_expires : (timer : Option Timer) (rest : List ℕ) → drop (expires_count (class_of timer)) (expires_values timer ++ rest) ≡ rest
+drop_expires (Some (Retransmit expires n)) rest = refl
+drop_expires (Some (KeepAlive expires)) rest = refl
+drop_expires (Some TimeWait) rest = refl
+drop_expires (Some (Probe expires)) rest = refl
+drop_expires None rest = refl
+
+header_back : (value : InetResponseHeader) → identity.IsShaped value.socket_id → IsWholeTimer value.timer → header_of (tag_of value) (header_values value) ≡ value
+header_back value shaped whole =
+    let last : List ℕ = value.recv_queue ∷ value.send_queue ∷ value.uid ∷ value.inode ∷ [] in
+    let class = class_of value.timer in
+    let behind : List ℕ = expires_values value.timer ++ last in
+    let rest : List ℕ = socket_id_values value.socket_id ++ behind in
+    let socket_is = drop_retransmits value.timer rest in
+    let behind_is = ap (drop (socket_id_count (kinds_of value.socket_id))) socket_is ∙ drop_at (socket_id_values value.socket_id) behind (socket_id_count (kinds_of value.socket_id)) (length-socket_id value.socket_id) in
+    ap (header_with value.family value.state) (ap (λ (b : List ℕ). timer_of (class_of value.timer) (slice_index (retransmits_values value.timer ++ rest) 0) (slice_index b 0)) behind_is ∙ timer_back value.timer rest last whole)
+    ⊛ (ap (socket_id_of (kinds_of value.socket_id)) socket_is ∙ socket_id_back value.socket_id behind shaped)
+    ⊛ (ap (drop (expires_count (class_of value.timer))) behind_is ∙ drop_expires value.timer last)
+
+abbrev the_tag : Kinds → Class → Tag
+the_tag kinds class = record { kinds = kinds; class = class }
+
+-- a header has the tag under which it was read
+tag_read : (t : Tag) (values : List ℕ) → tag_of (header_of t values) ≡ t
+tag_read t values =
+    let socket = drop (retransmits_count t.class) (drop 2 values) in
+    ap the_tag (kinds_are t.kinds.source t.kinds.destination socket)
+    ⊛ class_is t.class (slice_index values 2) (slice_index (drop (socket_id_count t.kinds) socket) 0)
+
+class_named : (class : Class) (kinds : Result Kinds DecodeError) → (kinds ≡ Err Memory → ⊥) → with_class class kinds ≡ Err Memory → ⊥
+class_named class (Ok kinds) named e = cc
+class_named class (Err fault) named e = let same : fault ≡ Memory = cc in named (ap (λ (f : DecodeError). let r : Result Kinds DecodeError = Err f in r) same)
+
+pub header_sound : IsSound inet_response_header IsShaped IsNormal
+unfolding inet_response_header
+header_sound = record {
+  tables = tables_are;
+  lives = lives_are;
+  long = λ param t left e. (at_least_ok name.InetResponseHeader 72 left (with_class (class_of_byte (slice_index left 2)) (kinds_of_family (slice_index left 0))) t e).0;
+  named = λ param left e. at_least_named name.InetResponseHeader 72 left (with_class (class_of_byte (slice_index left 2)) (kinds_of_family (slice_index left 0))) (class_named (class_of_byte (slice_index left 2)) (kinds_of_family (slice_index left 0)) (kinds_named (slice_index left 0))) e;
+  kept = kept_are;
+  tagged = λ t left. tag_read t (values_of (header_rows t) left);
+  shaped = λ t left h. shaped_read t left;
+  normal = λ param t left h e d.
+      let told = (at_least_ok name.InetResponseHeader 72 left (with_class (class_of_byte (slice_index left 2)) (kinds_of_family (slice_index left 0))) t e).1 in
+      let parts = told_parts (class_of_byte (slice_index left 2)) (kinds_of_family (slice_index left 0)) t told in
+      record {
+        same_kind = parts.0 ∙ ap (λ (u : Tag). let r : Result Kinds DecodeError = Ok u.kinds in r) (sym (tag_read t (values_of (header_rows t) left)));
+        whole = whole_read t left h;
+      };
+  defined = λ param value t n. defined_without_flags (header_rows (tag_of value)) (header_values value) (no_flags_are (tag_of value));
+  back = λ param value t n. header_back value t.shaped n.whole;
+  told = λ param value t n.
+      let size = table_length (header_rows (tag_of value)) 72 (header_values value) (tables_are (tag_of value)) t.fit in
+      long_enough name.InetResponseHeader 72 (bytes inet_response_header value) (with_class (class_of_byte (byte_of_class (class_of value.timer))) (kinds_of_family value.family)) (omega arith)
+      ∙ (ap with_class (class_told (class_of value.timer)) ⊛ n.same_kind);
+}
+
+pub inet_response_header_laws : RecordLaws inet_response_header IsShaped IsNormal
+inet_response_header_laws = keeps_laws inet_response_header IsShaped IsNormal header_sound
+
+-- ---- the reader and the writer
+
+-- the bytes of a header, in three pieces
+abbrev last_words : InetResponseHeader → List ℕ
+last_words value = value.recv_queue ∷ value.send_queue ∷ value.uid ∷ value.inode ∷ []
+
+pieces : (value : InetResponseHeader) (timer : Option Timer) → bytes_of (header_rows (the_tag (kinds_of value.socket_id) (class_of timer))) (value.family ∷ value.state ∷ (retransmits_values timer ++ (socket_id_values value.socket_id ++ (expires_values timer ++ last_words value))))
+    ≡ (value.family ∷ value.state ∷ byte_of_class (class_of timer) ∷ slice_index (retransmits_values timer) 0 ∷ []) ++ (bytes socket_id value.socket_id ++ flat_map (little_bytes 4) (slice_index (expires_values timer) 0 ∷ last_words value))
+pieces value (Some (Retransmit expires n)) = ap (λ (b : List ℕ). value.family ∷ value.state ∷ 1 ∷ n ∷ b) (socket_id_next 4 value.socket_id (number 52 4 little_endian ∷ numbers 56 4 little_endian 4) (milliseconds expires ∷ last_words value))
+pieces value (Some (KeepAlive expires)) = ap (λ (b : List ℕ). value.family ∷ value.state ∷ 2 ∷ 0 ∷ b) (socket_id_next 4 value.socket_id (number 52 4 little_endian ∷ numbers 56 4 little_endian 4) (milliseconds expires ∷ last_words value))
+pieces value (Some TimeWait) = ap (λ (b : List ℕ). value.family ∷ value.state ∷ 3 ∷ 0 ∷ b) (socket_id_next 4 value.socket_id (unread 52 (replicate 4 0) ∷ numbers 56 4 little_endian 4) (last_words value))
+pieces value (Some (Probe expires)) = ap (λ (b : List ℕ). value.family ∷ value.state ∷ 4 ∷ 0 ∷ b) (socket_id_next 4 value.socket_id (number 52 4 little_endian ∷ numbers 56 4 little_endian 4) (milliseconds expires ∷ last_words value))
+pieces value None = ap (λ (b : List ℕ). value.family ∷ value.state ∷ 0 ∷ 0 ∷ b) (socket_id_next 4 value.socket_id (unread 52 (replicate 4 0) ∷ numbers 56 4 little_endian 4) (last_words value))
+
+pub header_pieces : (value : InetResponseHeader) → bytes inet_response_header value
+    ≡ (value.family ∷ value.state ∷ byte_of_class (class_of value.timer) ∷ slice_index (retransmits_values value.timer) 0 ∷ []) ++ (bytes socket_id value.socket_id ++ flat_map (little_bytes 4) (slice_index (expires_values value.timer) 0 ∷ value.recv_queue ∷ value.send_queue ∷ value.uid ∷ value.inode ∷ []))
+unfolding inet_response_header
+header_pieces value = pieces value value.timer
+
+length_after : (a b c d : ℕ) (words identity : List ℕ) → length identity ≡ 48 → length words ≡ 20 → length ((a ∷ b ∷ c ∷ d ∷ []) ++ (identity ++ words)) ≡ 72
+length_after a b c d words identity e h = simp length-append (omega arith)
+
+pub header_length : (value : InetResponseHeader) → length (bytes inet_response_header value) ≡ 72
+header_length value = ap length (header_pieces value) ∙ length_after value.family value.state (byte_of_class (class_of value.timer)) (slice_index (retransmits_values value.timer) 0) (flat_map (little_bytes 4) (slice_index (expires_values value.timer) 0 ∷ value.recv_queue ∷ value.send_queue ∷ value.uid ∷ value.inode ∷ [])) (bytes socket_id value.socket_id) (length-bytes value.socket_id) refl

@@ -1,0 +1,12 @@
+pub mod Constants
+pub mod UnixRequest
+pub mod UnixRequestLaws
+pub mod SocketId
+pub mod TablesInARow
+pub mod SocketIdLaws
+pub mod UnixResponseHeader
+pub mod UnixResponseHeaderLaws
+pub mod InetRequest
+pub mod InetRequestLaws
+pub mod InetResponse
+pub mod InetResponseLaws

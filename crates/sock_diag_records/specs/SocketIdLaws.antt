@@ -1,0 +1,204 @@
+-- The format of a socket's identity is sound.
+use Rattle.std.proofs.Common.{◌≡◌, ℕ, ◌+◌, List, [], ◌∷◌, ◌++◌, length, drop, Bool, true, false, Result, Ok, Err, if◌then◌else◌, refl, sym, ap, ◌∙◌, arith}
+use Rattle.std.proofs.lemmas.List.{drop_at, append_assoc, length-append}
+use Rattle.std.specs.Prelude.{◌==◌}
+use Rattle.std.specs.List.{flat_map}
+use Rattle.std.proofs.Common.{IsTrue, append-nil}
+use Rattle.byteorder.specs.Endian.{big_bytes, little_bytes}
+use Rattle.netlink_core.proofs.RowReads.{moved, values-moved, first_all}
+use Rattle.std.specs.declared.net.ip_addr.IpAddr.{IpAddr}
+use Rattle.std.specs.declared.net.ip_addr.IpAddr.TheVariants.{V4, V6}
+use Rattle.netlink_core.specs.Table.{Row, number, bytes_at, little_endian, bytes_of, is_table, live_bits, values_of, first}
+use Rattle.netlink_core.specs.Laws.{RecordLaws}
+use Rattle.netlink_core.specs.declared.fault.DecodeError.TheVariants.{Memory, UnsupportedFamily}
+use Rattle.netlink_core.specs.declared.fault.RecordName.TheVariants as name
+use Rattle.netlink_core.specs.Format.{IsSound, bytes}
+use Rattle.netlink_core.proofs.FormatLaws.{keeps_laws, long_enough, at_least_ok, at_least_named}
+use Rattle.netlink_core.proofs.TableLaws.{has_no_flags, defined_without_flags}
+use Rattle.netlink_core.proofs.Congruence.{◌⊛◌}
+use Rattle.sock_diag_records.specs.declared.inet.socket_id.SocketId.{SocketId}
+use Rattle.netlink_core.specs.declared.fault.DecodeError.{DecodeError}
+use Rattle.sock_diag_records.specs.SocketId.{Kind, ipv4, ipv6, both, Kinds, kinds_of_family, kind_of, kinds_of, count_of, address_values, address_of, address_rows, address_bytes, socket_id_rows, socket_id_live, socket_id_values, socket_id_with, socket_id_of, socket_id, IsAddress, IsShaped, IsNormal}
+
+-- an address is that of its values, and the values behind it are left
+length-address : (address : IpAddr) → length (address_values address) ≡ count_of (kind_of address)
+length-address (V4 ip) = refl
+length-address (V6 ip) = refl
+
+address_back : (address : IpAddr) (rest : List ℕ) → IsAddress address → address_of (kind_of address) (address_values address ++ rest) ≡ address
+address_back (V4 ip) rest h = ap (λ (o : List ℕ). let a : IpAddr = V4 record { octets = o } in a) (first_all 4 ip.octets h)
+address_back (V6 ip) rest h = ap (λ (s : List ℕ). let a : IpAddr = V6 record { segments = s } in a) (first_all 8 ip.segments h)
+
+-- an identity is that of its values, whatever follows them
+pub socket_id_back : (value : SocketId) (rest : List ℕ) → IsShaped value → socket_id_of (kinds_of value) (socket_id_values value ++ rest) ≡ value
+socket_id_back value rest shaped =
+    let last : List ℕ = value.interface_id ∷ first 8 value.cookie in
+    let others : List ℕ = address_values value.destination_address ++ last in
+    let left_source = append_assoc (address_values value.source_address) others rest in
+    let left_destination = append_assoc (address_values value.destination_address) last rest in
+    let behind_source = ap (drop (count_of (kind_of value.source_address))) left_source ∙ drop_at (address_values value.source_address) (others ++ rest) (count_of (kind_of value.source_address)) (length-address value.source_address) ∙ left_destination in
+    let behind_destination = ap (drop (count_of (kind_of value.destination_address))) behind_source ∙ drop_at (address_values value.destination_address) (last ++ rest) (count_of (kind_of value.destination_address)) (length-address value.destination_address) in
+    (ap (socket_id_with value.source_port value.destination_port) (ap (address_of (kind_of value.source_address)) left_source ∙ address_back value.source_address (others ++ rest) shaped.source)
+    ⊛ (ap (address_of (kind_of value.destination_address)) behind_source ∙ address_back value.destination_address (last ++ rest) shaped.destination)
+    ⊛ behind_destination)
+    ∙ ap (λ (cookie : List ℕ). let v : SocketId = record value { cookie = cookie } in v) (first_all 8 value.cookie shaped.cookie)
+
+pub length-socket_id : (value : SocketId) → length (socket_id_values value) ≡ 2 + count_of (kind_of value.source_address) + count_of (kind_of value.destination_address) + 9
+length-socket_id value =
+    let source = length-address value.source_address in
+    let destination = length-address value.destination_address in
+    simp length-append (omega arith)
+
+-- ---- for each of the four pairs of kinds
+
+abbrev pub pair : Kind → Kind → Kinds
+pair s d = record { source = s; destination = d }
+
+tables_are : (s d : Kind) → is_table 0 (socket_id_rows 0 (pair s d)) 48 ≡ true
+tables_are ipv4 ipv4 = refl
+tables_are ipv4 ipv6 = refl
+tables_are ipv6 ipv4 = refl
+tables_are ipv6 ipv6 = refl
+
+-- the rows stand at some place
+pub live_is : (place : ℕ) (s d : Kind) → socket_id_live s d ≡ live_bits (socket_id_rows place (pair s d))
+live_is place ipv4 ipv4 = refl
+live_is place ipv4 ipv6 = refl
+live_is place ipv6 ipv4 = refl
+live_is place ipv6 ipv6 = refl
+
+pub kept_is : (place : ℕ) (s d : Kind) (left : List ℕ) → socket_id_values (socket_id_of (pair s d) (values_of (socket_id_rows place (pair s d)) left)) ≡ values_of (socket_id_rows place (pair s d)) left
+kept_is place ipv4 ipv4 left = refl
+kept_is place ipv4 ipv6 left = refl
+kept_is place ipv6 ipv4 left = refl
+kept_is place ipv6 ipv6 left = refl
+
+pub kinds_are : (s d : Kind) (values : List ℕ) → kinds_of (socket_id_of (pair s d) values) ≡ pair s d
+kinds_are ipv4 ipv4 values = refl
+kinds_are ipv4 ipv6 values = refl
+kinds_are ipv6 ipv4 values = refl
+kinds_are ipv6 ipv6 values = refl
+
+pub shaped_is : (place : ℕ) (s d : Kind) (left : List ℕ) → IsShaped (socket_id_of (pair s d) (values_of (socket_id_rows place (pair s d)) left))
+shaped_is place ipv4 ipv4 left = record { source = refl; destination = refl; cookie = refl }
+shaped_is place ipv4 ipv6 left = record { source = refl; destination = refl; cookie = refl }
+shaped_is place ipv6 ipv4 left = record { source = refl; destination = refl; cookie = refl }
+shaped_is place ipv6 ipv6 left = record { source = refl; destination = refl; cookie = refl }
+
+-- no row is one of flags
+pub no_flags : (place : ℕ) (s d : Kind) → IsTrue (has_no_flags (socket_id_rows place (pair s d)))
+no_flags place ipv4 ipv4 = refl
+no_flags place ipv4 ipv6 = refl
+no_flags place ipv6 ipv4 = refl
+no_flags place ipv6 ipv6 = refl
+
+-- the identity is read from its own values, whatever follows them
+pub read_before : (place : ℕ) (s d : Kind) (left rest : List ℕ) → socket_id_of (pair s d) (values_of (socket_id_rows place (pair s d)) left ++ rest) ≡ socket_id_of (pair s d) (values_of (socket_id_rows place (pair s d)) left)
+read_before place ipv4 ipv4 left rest = refl
+read_before place ipv4 ipv6 left rest = refl
+read_before place ipv6 ipv4 left rest = refl
+read_before place ipv6 ipv6 left rest = refl
+
+pub length-values : (place : ℕ) (s d : Kind) (left : List ℕ) → length (values_of (socket_id_rows place (pair s d)) left) ≡ 2 + count_of s + count_of d + 9
+length-values place ipv4 ipv4 left = refl
+length-values place ipv4 ipv6 left = refl
+length-values place ipv6 ipv4 left = refl
+length-values place ipv6 ipv6 left = refl
+
+-- ---- the bytes of the rows in a row
+
+bytes-address : (place : ℕ) (address : IpAddr) (rows : List Row) (others : List ℕ) → bytes_of (address_rows place (kind_of address) ++ rows) (address_values address ++ others) ≡ address_bytes address ++ bytes_of rows others
+bytes-address place (V4 ip) rows others = refl
+bytes-address place (V6 ip) rows others = refl
+
+-- an address before what follows it
+address_next : (place : ℕ) (address : IpAddr) (behind rows : List Row) (left others : List ℕ) → bytes_of ((address_rows place (kind_of address) ++ behind) ++ rows) ((address_values address ++ left) ++ others) ≡ address_bytes address ++ bytes_of (behind ++ rows) (left ++ others)
+address_next place address behind rows left others =
+    (ap bytes_of (append_assoc (address_rows place (kind_of address)) behind rows) ⊛ append_assoc (address_values address) left others)
+    ∙ bytes-address place address (behind ++ rows) (left ++ others)
+
+-- the pieces of the record
+abbrev pub socket_id_pieces : SocketId → List ℕ → List ℕ
+socket_id_pieces value rest =
+    flat_map (big_bytes 2) (value.source_port ∷ value.destination_port ∷ [])
+    ++ (address_bytes value.source_address ++ (address_bytes value.destination_address ++ (little_bytes 4 value.interface_id ++ (first 8 value.cookie ++ rest))))
+
+-- the record as it stands at a place, before other rows
+bytes-socket_id : (place : ℕ) (value : SocketId) (rows : List Row) (others : List ℕ) → bytes_of (socket_id_rows place (kinds_of value) ++ rows) (socket_id_values value ++ others) ≡ socket_id_pieces value (bytes_of rows others)
+bytes-socket_id place value rows others =
+    let last : List Row = number (place + 36) 4 little_endian ∷ bytes_at (place + 40) 8 in
+    let left : List ℕ = value.interface_id ∷ first 8 value.cookie in
+    let destination = address_next (place + 20) value.destination_address last rows left others in
+    let source = address_next (place + 4) value.source_address (address_rows (place + 20) (kind_of value.destination_address) ++ last) rows (address_values value.destination_address ++ left) others in
+    ap (λ (b : List ℕ). flat_map (big_bytes 2) (value.source_port ∷ value.destination_port ∷ []) ++ b)
+    (source ∙ ap (λ (b : List ℕ). address_bytes value.source_address ++ b) destination)
+
+-- the bytes of the record by itself
+pub bytes-alone : (value : SocketId) → bytes socket_id value ≡ socket_id_pieces value []
+unfolding socket_id
+bytes-alone value =
+    sym (ap bytes_of (append-nil (socket_id_rows 0 (kinds_of value))) ⊛ append-nil (socket_id_values value))
+    ∙ bytes-socket_id 0 value [] []
+
+join_pieces : (p a b i k rest : List ℕ) → p ++ (a ++ (b ++ (i ++ (k ++ rest)))) ≡ (p ++ (a ++ (b ++ (i ++ (k ++ []))))) ++ rest
+join_pieces p a b i k rest = simp (append_assoc, append-nil)
+
+pub socket_id_next : (place : ℕ) (value : SocketId) (rows : List Row) (others : List ℕ) → bytes_of (socket_id_rows place (kinds_of value) ++ rows) (socket_id_values value ++ others) ≡ bytes socket_id value ++ bytes_of rows others
+socket_id_next place value rows others =
+    bytes-socket_id place value rows others
+    ∙ join_pieces (flat_map (big_bytes 2) (value.source_port ∷ value.destination_port ∷ [])) (address_bytes value.source_address) (address_bytes value.destination_address) (little_bytes 4 value.interface_id) (first 8 value.cookie) (bytes_of rows others)
+    ∙ ap (λ (b : List ℕ). b ++ bytes_of rows others) (sym (bytes-alone value))
+
+length-address_bytes : (address : IpAddr) → length (address_bytes address) ≡ 16
+length-address_bytes (V4 ip) = refl
+length-address_bytes (V6 ip) = refl
+
+pub length-bytes : (value : SocketId) → length (bytes socket_id value) ≡ 48
+length-bytes value =
+    let source = length-address_bytes value.source_address in
+    let destination = length-address_bytes value.destination_address in
+    ap length (bytes-alone value) ∙ simp length-append (omega arith)
+
+-- ---- the format is sound
+
+-- the family alone tells the kinds
+not_memory : (first second : Bool) (one other : Kinds) (family : ℕ) → (if first then Ok one else if second then Ok other else Err (UnsupportedFamily family)) ≡ Err Memory → ⊥
+not_memory true second one other family h = cc
+not_memory false true one other family h = cc
+not_memory false false one other family h = cc
+
+pub kinds_named : (family : ℕ) → kinds_of_family family ≡ Err Memory → ⊥
+kinds_named family h = not_memory (family == 2) (family == 10) (both ipv4) (both ipv6) family h
+
+pub socket_id_sound : IsSound socket_id IsShaped IsNormal
+unfolding socket_id
+socket_id_sound = record {
+  tables = λ kinds. tables_are kinds.source kinds.destination;
+  lives = λ kinds. live_is 0 kinds.source kinds.destination;
+  long = λ family kinds left e. (at_least_ok name.SocketId 48 left (kinds_of_family family) kinds e).0;
+  named = λ family left e. at_least_named name.SocketId 48 left (kinds_of_family family) (kinds_named family) e;
+  kept = λ kinds left h. kept_is 0 kinds.source kinds.destination left;
+  tagged = λ kinds left. kinds_are kinds.source kinds.destination (values_of (socket_id_rows 0 kinds) left);
+  shaped = λ kinds left h. shaped_is 0 kinds.source kinds.destination left;
+  normal = λ family kinds left h e d.
+      (at_least_ok name.SocketId 48 left (kinds_of_family family) kinds e).1
+      ∙ ap (λ (k : Kinds). let r : Result Kinds DecodeError = Ok k in r) (sym (kinds_are kinds.source kinds.destination (values_of (socket_id_rows 0 kinds) left)));
+  defined = λ family value t n. defined_without_flags (socket_id_rows 0 (kinds_of value)) (socket_id_values value) (no_flags 0 (kind_of value.source_address) (kind_of value.destination_address));
+  back = λ family value t n. ap (socket_id_of (kinds_of value)) (sym (append-nil (socket_id_values value))) ∙ socket_id_back value [] t.shaped;
+  told = λ family value t n. long_enough name.SocketId 48 (bytes socket_id value) (kinds_of_family family) (let long = length-bytes value in omega arith) ∙ n;
+}
+
+pub socket_id_laws : RecordLaws socket_id IsShaped IsNormal
+socket_id_laws = keeps_laws socket_id IsShaped IsNormal socket_id_sound
+
+-- ---- the record inside another
+
+rows_moved : (s d : Kind) → socket_id_rows 4 (pair s d) ≡ moved 4 (socket_id_rows 0 (pair s d))
+rows_moved ipv4 ipv4 = refl
+rows_moved ipv4 ipv6 = refl
+rows_moved ipv6 ipv4 = refl
+rows_moved ipv6 ipv6 = refl
+
+-- what is read four places on
+pub values-inside : (kinds : Kinds) (left : List ℕ) → values_of (socket_id_rows 0 kinds) (drop 4 left) ≡ values_of (socket_id_rows 4 kinds) left
+values-inside kinds left = sym (values-moved 4 (socket_id_rows 0 kinds) left) ∙ sym (ap (λ (rows : List Row). values_of rows left) (rows_moved kinds.source kinds.destination))

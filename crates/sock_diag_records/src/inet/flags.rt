@@ -1,0 +1,126 @@
+//! What a request for IPv4 or IPv6 sockets asks for.
+
+ghost use Rattle.std.specs.Prelude.{⊤, [], ◌∷◌, codes};
+
+use bitflags::{Flag, Flags, bitflag_items};
+
+/// Which states are asked for, `idiag_states` of sock_diag(7): a set of eleven bits, each that of the number of its
+/// state.
+#[derive(Clone, Debug, Drop, PartialEq, Eq)]
+pub struct StateFlags(u32);
+
+bitflag_items! {
+    impl StateFlags: u32 {
+        /// The state `TCP_ESTABLISHED`.
+        const ESTABLISHED = 0x2;
+        /// The state `TCP_SYN_SENT`.
+        const SYN_SENT = 0x4;
+        /// The state `TCP_SYN_RECV`.
+        const SYN_RECV = 0x8;
+        /// The state `TCP_FIN_WAIT1`.
+        const FIN_WAIT1 = 0x10;
+        /// The state `TCP_FIN_WAIT2`.
+        const FIN_WAIT2 = 0x20;
+        /// The state `TCP_TIME_WAIT`.
+        const TIME_WAIT = 0x40;
+        /// The state `TCP_CLOSE`.
+        const CLOSE = 0x80;
+        /// The state `TCP_CLOSE_WAIT`.
+        const CLOSE_WAIT = 0x100;
+        /// The state `TCP_LAST_ACK`.
+        const LAST_ACK = 0x200;
+        /// The state `TCP_LISTEN`.
+        const LISTEN = 0x400;
+        /// The state `TCP_CLOSING`.
+        const CLOSING = 0x800;
+    }
+}
+
+impl Flags for StateFlags {
+    type Bits = u32;
+
+    ghost exact = { ⊤ };
+
+    ghost table = { (codes "ESTABLISHED", 0x2)
+        ∷ (codes "SYN_SENT", 0x4)
+        ∷ (codes "SYN_RECV", 0x8)
+        ∷ (codes "FIN_WAIT1", 0x10)
+        ∷ (codes "FIN_WAIT2", 0x20)
+        ∷ (codes "TIME_WAIT", 0x40)
+        ∷ (codes "CLOSE", 0x80)
+        ∷ (codes "CLOSE_WAIT", 0x100)
+        ∷ (codes "LAST_ACK", 0x200)
+        ∷ (codes "LISTEN", 0x400)
+        ∷ (codes "CLOSING", 0x800)
+        ∷ [] };
+
+    ghost set_of = { λ flags. flags.0 };
+
+    fn flags<'a>() -> &'a [Flag<StateFlags>] {
+        StateFlags::FLAGS
+    }
+
+    fn bits(&self) -> u32 {
+        self.0
+    }
+
+    fn from_bits_retain(bits: u32) -> StateFlags {
+        StateFlags(bits)
+    }
+}
+
+/// Which attributes the replies shall have, `idiag_ext` of sock_diag(7): a set of eight bits, each one below the kind
+/// of its attribute.
+#[derive(Clone, Debug, Drop, PartialEq, Eq)]
+pub struct ExtensionFlags(u8);
+
+bitflag_items! {
+    impl ExtensionFlags: u8 {
+        /// The attribute `INET_DIAG_MEMINFO`.
+        const MEMINFO = 0x1;
+        /// The attribute `INET_DIAG_INFO`.
+        const INFO = 0x2;
+        /// The attribute `INET_DIAG_VEGASINFO`.
+        const VEGASINFO = 0x4;
+        /// The attribute `INET_DIAG_CONG`.
+        const CONG = 0x8;
+        /// The attribute `INET_DIAG_TOS`.
+        const TOS = 0x10;
+        /// The attribute `INET_DIAG_TCLASS`.
+        const TCLASS = 0x20;
+        /// The attribute `INET_DIAG_SKMEMINFO`.
+        const SKMEMINFO = 0x40;
+        /// The attribute `INET_DIAG_SHUTDOWN`.
+        const SHUTDOWN = 0x80;
+    }
+}
+
+impl Flags for ExtensionFlags {
+    type Bits = u8;
+
+    ghost exact = { ⊤ };
+
+    ghost table = { (codes "MEMINFO", 0x1)
+        ∷ (codes "INFO", 0x2)
+        ∷ (codes "VEGASINFO", 0x4)
+        ∷ (codes "CONG", 0x8)
+        ∷ (codes "TOS", 0x10)
+        ∷ (codes "TCLASS", 0x20)
+        ∷ (codes "SKMEMINFO", 0x40)
+        ∷ (codes "SHUTDOWN", 0x80)
+        ∷ [] };
+
+    ghost set_of = { λ flags. flags.0 };
+
+    fn flags<'a>() -> &'a [Flag<ExtensionFlags>] {
+        ExtensionFlags::FLAGS
+    }
+
+    fn bits(&self) -> u8 {
+        self.0
+    }
+
+    fn from_bits_retain(bits: u8) -> ExtensionFlags {
+        ExtensionFlags(bits)
+    }
+}

@@ -1,0 +1,8 @@
+//! The fixed records and the constants of sock_diag(7).
+#![tactic(auto)]
+
+pub mod constants;
+pub mod inet;
+#[cfg(test)]
+mod tests;
+pub mod unix;

@@ -1,0 +1,93 @@
+//! What a request for UNIX sockets asks for.
+
+ghost use Rattle.std.specs.Prelude.{⊤, [], ◌∷◌, codes};
+
+use bitflags::{Flag, Flags, bitflag_items};
+
+/// Which states are asked for, `udiag_states` of sock_diag(7): a set of two bits, each that of the number of its
+/// state.
+#[derive(Clone, Debug, Drop, PartialEq, Eq)]
+pub struct StateFlags(u32);
+
+bitflag_items! {
+    impl StateFlags: u32 {
+        /// The state `TCP_ESTABLISHED`.
+        const ESTABLISHED = 0x2;
+        /// The state `TCP_LISTEN`.
+        const LISTEN = 0x400;
+    }
+}
+
+impl Flags for StateFlags {
+    type Bits = u32;
+
+    ghost exact = { ⊤ };
+
+    ghost table = { (codes "ESTABLISHED", 0x2)
+        ∷ (codes "LISTEN", 0x400)
+        ∷ [] };
+
+    ghost set_of = { λ flags. flags.0 };
+
+    fn flags<'a>() -> &'a [Flag<StateFlags>] {
+        StateFlags::FLAGS
+    }
+
+    fn bits(&self) -> u32 {
+        self.0
+    }
+
+    fn from_bits_retain(bits: u32) -> StateFlags {
+        StateFlags(bits)
+    }
+}
+
+/// Which attributes the replies shall have, `udiag_show` of sock_diag(7): a set of six bits, each that of the kind of
+/// its attribute.
+#[derive(Clone, Debug, Drop, PartialEq, Eq)]
+pub struct ShowFlags(u32);
+
+bitflag_items! {
+    impl ShowFlags: u32 {
+        /// The attribute `UNIX_DIAG_NAME`, as `UDIAG_SHOW_NAME`.
+        const NAME = 0x1;
+        /// The attribute `UNIX_DIAG_VFS`, as `UDIAG_SHOW_VFS`.
+        const VFS = 0x2;
+        /// The attribute `UNIX_DIAG_PEER`, as `UDIAG_SHOW_PEER`.
+        const PEER = 0x4;
+        /// The attribute `UNIX_DIAG_ICONS`, as `UDIAG_SHOW_ICONS`.
+        const ICONS = 0x8;
+        /// The attribute `UNIX_DIAG_RQLEN`, as `UDIAG_SHOW_RQLEN`.
+        const RQLEN = 0x10;
+        /// The attribute `UNIX_DIAG_MEMINFO`, as `UDIAG_SHOW_MEMINFO`.
+        const MEMINFO = 0x20;
+    }
+}
+
+impl Flags for ShowFlags {
+    type Bits = u32;
+
+    ghost exact = { ⊤ };
+
+    ghost table = { (codes "NAME", 0x1)
+        ∷ (codes "VFS", 0x2)
+        ∷ (codes "PEER", 0x4)
+        ∷ (codes "ICONS", 0x8)
+        ∷ (codes "RQLEN", 0x10)
+        ∷ (codes "MEMINFO", 0x20)
+        ∷ [] };
+
+    ghost set_of = { λ flags. flags.0 };
+
+    fn flags<'a>() -> &'a [Flag<ShowFlags>] {
+        ShowFlags::FLAGS
+    }
+
+    fn bits(&self) -> u32 {
+        self.0
+    }
+
+    fn from_bits_retain(bits: u32) -> ShowFlags {
+        ShowFlags(bits)
+    }
+}

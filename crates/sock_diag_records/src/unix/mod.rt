@@ -1,0 +1,10 @@
+//! Records for UNIX sockets.
+
+mod flags;
+pub mod nlas;
+mod request;
+mod response;
+
+pub use flags::{ShowFlags, StateFlags};
+pub use request::{UnixRequest, UnixRequestBuffer};
+pub use response::{UnixResponseBuffer, UnixResponseHeader};

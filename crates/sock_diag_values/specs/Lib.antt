@@ -1,0 +1,10 @@
+pub mod Vfs
+pub mod VfsLaws
+pub mod UnixMemInfo
+pub mod UnixMemInfoLaws
+pub mod LegacyMemInfo
+pub mod LegacyMemInfoLaws
+pub mod MemInfo
+pub mod MemInfoLaws
+pub mod TcpInfo
+pub mod TcpInfoLaws

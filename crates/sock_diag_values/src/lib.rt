@@ -1,0 +1,8 @@
+//! The fixed records that attributes of sock_diag(7) carry as their values.
+#![tactic(auto)]
+
+pub mod inet;
+pub mod rows;
+#[cfg(test)]
+mod tests;
+pub mod unix;

@@ -1,0 +1,55 @@
+//! The rows of a record's table, read from its bytes and written to them. The records of this crate and of
+//! `sock_diag_records` are made of them.
+
+ghost use Rattle.std.specs.Prelude.{◌≡◌, ◌≤◌, ◌+◌, ◌*◌, ◌++◌, length, drop};
+ghost use Rattle.netlink_core.specs.Table.{bytes_at, numbers, little_endian, big_endian, values_of};
+
+use byteorder::{BigEndian, ByteOrder, LittleEndian};
+
+/// The `N` bytes from the place on.
+pub fn array_at<const N: usize>(bytes: &[u8], place: usize) -> [u8; N]
+    requires { place + N ≤ length bytes.now }
+    ensures { result ≡ values_of (bytes_at place N) bytes.now }
+{
+    let mut row = [0; N];
+    row.copy_from_slice(&bytes[place..place + N]);
+    row
+}
+
+/// The `N` numbers of 32 bits from the place on, low byte first.
+pub fn words_at<const N: usize>(bytes: &[u8], place: usize) -> [u32; N]
+    requires { place + 4 * N ≤ length bytes.now }
+    ensures { result ≡ values_of (numbers place 4 little_endian N) bytes.now }
+{
+    let mut row = [0; N];
+    LittleEndian::read_u32_into(&bytes[place..place + 4 * N], &mut row);
+    row
+}
+
+/// The `N` numbers of 64 bits from the place on, low byte first.
+pub fn long_words_at<const N: usize>(bytes: &[u8], place: usize) -> [u64; N]
+    requires { place + 8 * N ≤ length bytes.now }
+    ensures { result ≡ values_of (numbers place 8 little_endian N) bytes.now }
+{
+    let mut row = [0; N];
+    LittleEndian::read_u64_into(&bytes[place..place + 8 * N], &mut row);
+    row
+}
+
+/// The `N` numbers of 16 bits from the place on, high byte first.
+pub fn big_shorts_at<const N: usize>(bytes: &[u8], place: usize) -> [u16; N]
+    requires { place + 2 * N ≤ length bytes.now }
+    ensures { result ≡ values_of (numbers place 2 big_endian N) bytes.now }
+{
+    let mut row = [0; N];
+    BigEndian::read_u16_into(&bytes[place..place + 2 * N], &mut row);
+    row
+}
+
+/// Writes the bytes at the front of the buffer, and leaves what stands behind them.
+pub fn write_front(bytes: &[u8], buffer: &mut [u8])
+    requires { length bytes.now ≤ length buffer.old }
+    ensures { buffer.new ≡ bytes.now ++ drop (length bytes.now) buffer.old }
+{
+    buffer[..bytes.len()].copy_from_slice(bytes);
+}

@@ -1,0 +1,7 @@
+//! Records that tell of UNIX sockets.
+
+mod mem_info;
+mod vfs;
+
+pub use mem_info::{MemInfo, MemInfoBuffer};
+pub use vfs::{Vfs, VfsBuffer};
