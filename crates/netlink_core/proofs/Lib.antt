@@ -13,3 +13,6 @@ pub mod Texts
 pub mod Prefixes
 pub mod Replies
 pub mod ReplyWriting
+pub mod Headers
+pub mod Framing
+pub mod Idle

@@ -24,7 +24,6 @@ module _ {Param Tag Value : Type 0} (format : Format Param Tag Value) (param : P
   -- a value's bytes tell its tag and its values also where others follow
   reads_in_front : ((tag : Tag) (left rest : List ℕ) → format.tag_at param left ≡ Ok tag → format.tag_at param (left ++ rest) ≡ Ok tag) → (v : Value) (rest : List ℕ) → IsTyped format IsShaped v → IsNormal param v → read format param (bytes format v ++ rest) ≡ Ok v
   reads_in_front goes_on v rest typed normal =
-      let tag : Tag = format.tag_of v in
       let same : values_of (format.table (format.tag_of v)) (bytes format v ++ rest) ≡ format.values v = values-bytes_of 0 (format.table (format.tag_of v)) (format.size (format.tag_of v)) (format.values v) (bytes format v ++ rest) rest (table_from_test 0 (format.table (format.tag_of v)) (format.size (format.tag_of v)) (sound.tables (format.tag_of v))) typed.fit (sound.defined param v typed normal) refl in
       accepts format param (bytes format v ++ rest) (format.tag_of v) (goes_on (format.tag_of v) (bytes format v) rest (sound.told param v typed normal))
       ∙ ap (λ (vs : List ℕ). answered (format.value (format.tag_of v) vs)) same

@@ -97,7 +97,7 @@ module _ (F : Family) (k : ℕ) (P : Prefix) (laws : PrefixLaws P) (made : P.Val
 
 module _ (F : Family) (k : ℕ) {A : Type 0} (reads : List ℕ → Result A DecodeError) (bytes : A → List ℕ) (made : A → F.Value) where
   -- a value of which each byte tells keeps the laws of a kind
-  pub exact_kind_laws : bit_and k 0x3fff ≡ k → ((x : List ℕ) → reads x ≡ Err Memory → ⊥) → ((x : List ℕ) (u : A) → reads x ≡ Ok u → x ≡ bytes u) → ((u w : A) → made u ≡ made w → u ≡ w)
+  pub exact_kind_laws : bit_and k 0x3fff ≡ k → ((x : List ℕ) → reads x ≡ Err Memory → ⊥) → ((x : List ℕ) (u : A) → IsBytes x → reads x ≡ Ok u → x ≡ bytes u) → ((u w : A) → made u ≡ made w → u ≡ w)
       → ((u : A) → (F.attribute_of (made u)).type_word ≡ k) → ((x : List ℕ) (u : A) → IsBytes x → reads x ≡ Ok u → F.is_typed (made u) × F.is_normal (made u)) → KindLaws F (exact_kind k reads made)
   exact_kind_laws plain named exact one writes typed = record {
     plain = plain;
@@ -105,7 +105,7 @@ module _ (F : Family) (k : ℕ) {A : Type 0} (reads : List ℕ → Result A Deco
     same_value = λ x y v w x-typed y-typed h g.
         let left = said_value made (reads x) v h in
         let right = said_value made (reads y) w g in (
-          λ e. exact x left.0 left.1 ∙ ap bytes (one left.0 right.0 (left.2 ∙ e ∙ sym right.2)) ∙ sym (exact y right.0 right.1),
+          λ e. exact x left.0 x-typed left.1 ∙ ap bytes (one left.0 right.0 (left.2 ∙ e ∙ sym right.2)) ∙ sym (exact y right.0 y-typed right.1),
           λ e. let also : said_as made (reads x) ≡ Ok w = ap (λ (b : List ℕ). said_as made (reads b)) e ∙ g in cc,
         );
     own_kind = λ x v h. let read = said_value made (reads x) v h in ap (λ (u : F.Value). (F.attribute_of u).type_word) (sym read.2) ∙ writes read.0;

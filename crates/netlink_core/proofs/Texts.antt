@@ -1,9 +1,8 @@
 -- Texts in bytes, and the zero at their end.
-use Rattle.std.proofs.Common.{◌≡◌, ◌≢◌, ℕ, zero, suc, Bool, true, false, List, [], ◌∷◌, ◌++◌, Result, Ok, Err, refl, ap, ◌∙◌}
+use Rattle.std.proofs.Common.{◌≡◌, ◌≢◌, ℕ, zero, suc, Bool, true, false, List, [], ◌∷◌, ◌++◌, Ok, Err, refl, ap, ◌∙◌}
 use Rattle.std.specs.Prelude.{IsUtf8}
 use Rattle.std.specs.Str.{is_utf8}
 use Rattle.std.proofs.lemmas.Str.{IsUtf8-from_is_utf8, is_utf8-from_IsUtf8}
-use Rattle.netlink_core.specs.declared.fault.DecodeError.{DecodeError}
 use Rattle.netlink_core.specs.declared.fault.DecodeError.TheVariants.{NotUtf8}
 use Rattle.netlink_core.specs.Parse.{without_end_zero, text_in}
 
@@ -28,7 +27,6 @@ other_end (byte ∷ next ∷ text) last other = in_front byte next (text ++ last
 -- UTF-8 is a text
 pub text_there : (bytes text : List ℕ) → text ≡ without_end_zero bytes → IsUtf8 (without_end_zero bytes) → text_in bytes ≡ Ok text
 text_there bytes text same valid =
-    let answer : Result (List ℕ) DecodeError = Ok (without_end_zero bytes) in
     rw (is_utf8-from_IsUtf8 (without_end_zero bytes) valid, same) refl
 
 -- other bytes are none

@@ -19,3 +19,6 @@ pub mod Parse
 pub mod FrontLaws
 pub mod FamilyLaws
 pub mod HeadLaws
+pub mod Header
+pub mod Envelope
+pub mod Seen

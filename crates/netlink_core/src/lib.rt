@@ -5,7 +5,9 @@ mod attribute;
 mod canon;
 mod codec;
 mod fault;
+mod header;
 pub mod laws;
+mod message;
 mod nla;
 mod parse;
 mod wire;
@@ -14,6 +16,11 @@ pub use crate::attribute::{NlaBuffer, NlasIterator};
 pub use crate::canon::{CanonError, canonical};
 pub use crate::codec::{Emitable, Parseable, ParseableParametrized, Readable};
 pub use crate::fault::{DecodeError, RecordName};
+pub use crate::header::NetlinkHeader;
+pub use crate::message::{
+    NLM_F_DUMP, NLM_F_REQUEST, NLMSG_DONE, NLMSG_ERROR, NLMSG_NOOP, NLMSG_OVERRUN,
+    NetlinkDeserializable, NetlinkMessage, NetlinkPayload, NetlinkSerializable,
+};
 pub use crate::nla::{DefaultNla, Nla, emit_nla, emit_nlas, nla_len, nlas_len, nlas_writable};
 pub use crate::parse::{emit_u32, parse_string, parse_u8, parse_u32};
 pub use crate::wire::Wire;

@@ -61,7 +61,7 @@ fn text_bytes(payload: &[u8]) -> &[u8]
     ensures { result.now ≡ without_end_zero payload.now }
 {
     match payload.split_last() {
-        Some((last, text)) => { if *last == 0 { text } else { payload } }
+        Some((last, text)) => if *last == 0 { text } else { payload },
         None => payload,
     }
 }

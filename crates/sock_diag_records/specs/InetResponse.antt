@@ -89,7 +89,7 @@ expires_values (Some TimeWait) = []
 expires_values (Some (Probe expires)) = milliseconds expires ∷ []
 expires_values None = []
 
--- how many values these rows have
+-- how many values the byte at 3 has
 abbrev pub retransmits_count : Class → ℕ
 retransmits_count retransmits = 1
 retransmits_count keeps_alive = 0
@@ -97,6 +97,7 @@ retransmits_count waits = 0
 retransmits_count probes = 0
 retransmits_count none = 0
 
+-- how many values the word at 52 has
 abbrev pub expires_count : Class → ℕ
 expires_count retransmits = 1
 expires_count keeps_alive = 1

@@ -1,4 +1,5 @@
 pub mod Constants
+pub mod Flags
 pub mod UnixRequest
 pub mod UnixRequestLaws
 pub mod SocketId

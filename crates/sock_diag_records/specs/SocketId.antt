@@ -30,11 +30,12 @@ both kind = record { source = kind; destination = kind }
 abbrev pub kinds_of_family : ℕ → Result Kinds DecodeError
 kinds_of_family family = if family == 2 then Ok (both ipv4) else if family == 10 then Ok (both ipv6) else Err (UnsupportedFamily family)
 
--- of which kind an address is, and the two of an identity
+-- of which kind an address is
 abbrev pub kind_of : IpAddr → Kind
 kind_of (V4 ip) = ipv4
 kind_of (V6 ip) = ipv6
 
+-- of which kinds the addresses of an identity are
 abbrev pub kinds_of : SocketId → Kinds
 kinds_of value = record { source = kind_of value.source_address; destination = kind_of value.destination_address }
 
@@ -75,7 +76,8 @@ socket_id_rows place kinds =
     ++ (address_rows (place + 20) kinds.destination
     ++ (number (place + 36) 4 little_endian ∷ bytes_at (place + 40) 8)))
 
--- under family 2 the places 0..8, 20..24, 36..48 are live, under family 10 all are
+-- under family 2 the places 0..8, 20..24, 36..48 are live, under family 10 all are; two kinds at once are written, and
+-- never read
 abbrev pub socket_id_live : Kind → Kind → List ℕ
 socket_id_live ipv4 ipv4 = all_bits_of 0 ((0, 8) ∷ (20, 24) ∷ (36, 48) ∷ []) 48
 socket_id_live ipv6 ipv6 = all_bits_of 0 ((0, 48) ∷ []) 48

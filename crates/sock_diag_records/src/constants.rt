@@ -227,10 +227,10 @@ pub const IPPROTO_MH: u8 = 135;
 /// No attribute.
 pub const INET_DIAG_NONE: u16 = 0;
 
-/// The memory, as older kernels tell it.
+/// The memory, as older kernels tell it: `LegacyMemInfo`.
 pub const INET_DIAG_MEMINFO: u16 = 1;
 
-/// The TCP connection.
+/// The TCP connection: `TcpInfo`.
 pub const INET_DIAG_INFO: u16 = 2;
 
 /// What TCP Vegas measures.
@@ -245,10 +245,10 @@ pub const INET_DIAG_TOS: u16 = 5;
 /// The traffic class of IPv6.
 pub const INET_DIAG_TCLASS: u16 = 6;
 
-/// The memory.
+/// The memory: `MemInfo` of `inet::nlas`.
 pub const INET_DIAG_SKMEMINFO: u16 = 7;
 
-/// Which directions are shut down, as `SHUT_..`.
+/// Which directions are shut down, shutdown(2).
 pub const INET_DIAG_SHUTDOWN: u16 = 8;
 
 /// What DCTCP measures.
@@ -341,7 +341,7 @@ pub const UDIAG_SHOW_MEMINFO: u32 = 32;
 /// The name that the socket is bound to.
 pub const UNIX_DIAG_NAME: u16 = 0;
 
-/// The file that the socket is bound to.
+/// The file that the socket is bound to: `Vfs`.
 pub const UNIX_DIAG_VFS: u16 = 1;
 
 /// The inode of the peer.
@@ -353,10 +353,10 @@ pub const UNIX_DIAG_ICONS: u16 = 3;
 /// The lengths of the queues.
 pub const UNIX_DIAG_RQLEN: u16 = 4;
 
-/// The memory.
+/// The memory: `MemInfo` of `unix::nlas`.
 pub const UNIX_DIAG_MEMINFO: u16 = 5;
 
-/// Which directions are shut down, as `SHUT_..`.
+/// Which directions are shut down, shutdown(2).
 pub const UNIX_DIAG_SHUTDOWN: u16 = 6;
 
 // ---- types of sockets
@@ -384,7 +384,7 @@ pub const SOCK_PACKET: u8 = 10;
 /// Nothing is amiss.
 pub const TCP_CA_OPEN: u8 = 0;
 
-/// Segments came twice or out of order.
+/// Segments were acknowledged twice or out of order.
 pub const TCP_CA_DISORDER: u8 = 1;
 
 /// The congestion window is made smaller.
@@ -427,10 +427,10 @@ pub const TCPI_OPT_WSCALE: u8 = 4;
 /// Congestion is told by marks.
 pub const TCPI_OPT_ECN: u8 = 8;
 
-/// A marked packet came.
+/// A packet came that takes part in marking.
 pub const TCPI_OPT_ECN_SEEN: u8 = 16;
 
-/// Data came or went with the request to connect.
+/// Data that went with the request to connect was acknowledged.
 pub const TCPI_OPT_SYN_DATA: u8 = 32;
 
 // ---- which directions of a socket are shut down

@@ -1,6 +1,8 @@
 //! What a request for IPv4 or IPv6 sockets asks for.
 
-ghost use Rattle.std.specs.Prelude.{⊤, [], ◌∷◌, codes};
+ghost use Rattle.std.specs.Prelude.{⊤, ◌≡◌};
+ghost use Rattle.bitflags.specs.Sets.{known_bits};
+ghost use Rattle.sock_diag_records.specs.Flags.{inet_states, inet_extensions};
 
 use bitflags::{Flag, Flags, bitflag_items};
 
@@ -41,18 +43,7 @@ impl Flags for StateFlags {
 
     ghost exact = { ⊤ };
 
-    ghost table = { (codes "ESTABLISHED", 0x2)
-        ∷ (codes "SYN_SENT", 0x4)
-        ∷ (codes "SYN_RECV", 0x8)
-        ∷ (codes "FIN_WAIT1", 0x10)
-        ∷ (codes "FIN_WAIT2", 0x20)
-        ∷ (codes "TIME_WAIT", 0x40)
-        ∷ (codes "CLOSE", 0x80)
-        ∷ (codes "CLOSE_WAIT", 0x100)
-        ∷ (codes "LAST_ACK", 0x200)
-        ∷ (codes "LISTEN", 0x400)
-        ∷ (codes "CLOSING", 0x800)
-        ∷ [] };
+    ghost table = { inet_states };
 
     ghost set_of = { λ flags. flags.0 };
 
@@ -100,15 +91,7 @@ impl Flags for ExtensionFlags {
 
     ghost exact = { ⊤ };
 
-    ghost table = { (codes "MEMINFO", 0x1)
-        ∷ (codes "INFO", 0x2)
-        ∷ (codes "VEGASINFO", 0x4)
-        ∷ (codes "CONG", 0x8)
-        ∷ (codes "TOS", 0x10)
-        ∷ (codes "TCLASS", 0x20)
-        ∷ (codes "SKMEMINFO", 0x40)
-        ∷ (codes "SHUTDOWN", 0x80)
-        ∷ [] };
+    ghost table = { inet_extensions };
 
     ghost set_of = { λ flags. flags.0 };
 
@@ -124,3 +107,10 @@ impl Flags for ExtensionFlags {
         ExtensionFlags(bits)
     }
 }
+
+/// The defined bits of the flags of a request are these numbers. It is for proofs, and does nothing.
+#[tactic(auto, unfolding(bitflags::proofs::OnLiterals::bitflags_on_literals))]
+pub fn flags_have_their_bits()
+    ensures states { known_bits inet_states ≡ 0xffe }
+    ensures extensions { known_bits inet_extensions ≡ 0xff }
+{}

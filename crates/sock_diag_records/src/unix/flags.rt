@@ -1,6 +1,8 @@
 //! What a request for UNIX sockets asks for.
 
-ghost use Rattle.std.specs.Prelude.{⊤, [], ◌∷◌, codes};
+ghost use Rattle.std.specs.Prelude.{⊤, ◌≡◌};
+ghost use Rattle.bitflags.specs.Sets.{known_bits};
+ghost use Rattle.sock_diag_records.specs.Flags.{unix_states, unix_shown};
 
 use bitflags::{Flag, Flags, bitflag_items};
 
@@ -23,9 +25,7 @@ impl Flags for StateFlags {
 
     ghost exact = { ⊤ };
 
-    ghost table = { (codes "ESTABLISHED", 0x2)
-        ∷ (codes "LISTEN", 0x400)
-        ∷ [] };
+    ghost table = { unix_states };
 
     ghost set_of = { λ flags. flags.0 };
 
@@ -69,13 +69,7 @@ impl Flags for ShowFlags {
 
     ghost exact = { ⊤ };
 
-    ghost table = { (codes "NAME", 0x1)
-        ∷ (codes "VFS", 0x2)
-        ∷ (codes "PEER", 0x4)
-        ∷ (codes "ICONS", 0x8)
-        ∷ (codes "RQLEN", 0x10)
-        ∷ (codes "MEMINFO", 0x20)
-        ∷ [] };
+    ghost table = { unix_shown };
 
     ghost set_of = { λ flags. flags.0 };
 
@@ -91,3 +85,10 @@ impl Flags for ShowFlags {
         ShowFlags(bits)
     }
 }
+
+/// The defined bits of the flags of a request are these numbers. It is for proofs, and does nothing.
+#[tactic(auto, unfolding(bitflags::proofs::OnLiterals::bitflags_on_literals))]
+pub fn flags_have_their_bits()
+    ensures states { known_bits unix_states ≡ 0x402 }
+    ensures shown { known_bits unix_shown ≡ 0x3f }
+{}

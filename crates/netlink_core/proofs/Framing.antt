@@ -1,0 +1,159 @@
+-- A message at the front of bytes: one of it, or one fault.
+use Rattle.std.proofs.Common.{cond, ltb, ◌≡◌, ◌∙◌, ℕ, ◌-◌, ◌^◌, ◌<◌, ◌≤◌, ◌⊎◌, inl, inr, List, [], ◌++◌, length, take, drop, refl, sym, ap, subst, arith}
+use Rattle.std.specs.Prelude.{Option, Some, None}
+use Rattle.std.proofs.lemmas.Bool.{cases_eq, lt-ltb, le-ltb}
+use Rattle.std.proofs.lemmas.List.{take-append-drop, take_at, length-take, length-drop, length-append}
+use Rattle.byteorder.specs.Numbers.{little_number-reads_back}
+use Rattle.netlink_core.specs.declared.fault.DecodeError.{DecodeError}
+use Rattle.netlink_core.specs.declared.fault.DecodeError.TheVariants.{Memory, EnvelopeCut, EnvelopeLengthUnder16, EnvelopeLengthPast}
+use Rattle.netlink_core.specs.declared.header.NetlinkHeader.{NetlinkHeader}
+use Rattle.netlink_core.specs.Bytes.{IsBytes}
+use Rattle.netlink_core.specs.Header.{HasHeader, IsEnvelopeFault, header_bytes, length_word}
+use Rattle.netlink_core.specs.Envelope.{Payload, done_with, error_with, no_payload, overrun_with, inner, Envelope, IsFramed, IsInnerType, PayloadIs, EnvelopeIs, EnvelopeFault, type_word, payload_at}
+use Rattle.netlink_core.proofs.TableLaws.{AreBytes-drop}
+use Rattle.netlink_core.proofs.Headers.{AreBytes-take, header_or_fault, one_header}
+
+-- the payload that a header frames
+pub framed : (bytes : List ℕ) (h : NetlinkHeader) → HasHeader bytes h → IsFramed bytes h (take (h.length - 16) (drop 16 bytes))
+framed bytes h head =
+    let tail-is : drop 16 bytes ≡ head.tail = ap (drop 16) head.parts in
+    record {
+      rest = drop (h.length - 16) (drop 16 bytes);
+      parts = head.parts ∙ ap (λ (t : List ℕ). header_bytes h ++ t) (sym tail-is ∙ sym (take-append-drop (h.length - 16) (drop 16 bytes)));
+      typed = head.typed;
+      size = let low = head.low in let high = head.high in omega (arith, length-take (h.length - 16) (drop 16 bytes), length-drop 16 bytes);
+    }
+
+-- a fault of the inner message is one of the whole message
+pub fault_within : (refuses : List ℕ → ℕ → DecodeError → Type 0) (bytes : List ℕ) (h : NetlinkHeader) (e : DecodeError) → HasHeader bytes h
+    → IsInnerType h.message_type × refuses (take (h.length - 16) (drop 16 bytes)) h.message_type e → EnvelopeFault refuses bytes e
+fault_within refuses bytes h e head fault = inr (h, take (h.length - 16) (drop 16 bytes), framed bytes h head, fault.0, fault.1)
+
+-- ---- what stands in a framed message
+
+pub framed_length : (b x : List ℕ) (h : NetlinkHeader) → IsFramed b h x → length_word b ≡ h.length
+framed_length b x h f = ap length_word f.parts ∙ little_number-reads_back 4 h.length [] f.typed.length
+
+pub framed_type : (b x : List ℕ) (h : NetlinkHeader) → IsFramed b h x → type_word b ≡ h.message_type
+framed_type b x h f = ap type_word f.parts ∙ little_number-reads_back 2 h.message_type [] f.typed.message_type
+
+pub framed_payload : (b x : List ℕ) (h : NetlinkHeader) → IsFramed b h x → payload_at b ≡ x
+framed_payload b x h f =
+    let size : length_word b - 16 ≡ length x = omega (arith, framed_length b x h f, f.size) in
+    ap (λ (n : ℕ). take n (drop 16 b)) size ∙ ap (λ (l : List ℕ). take (length x) (drop 16 l)) f.parts ∙ take_at x f.rest (length x) refl
+
+pub framed_front : (b x : List ℕ) (h : NetlinkHeader) → IsFramed b h x → take 16 b ≡ header_bytes h
+framed_front b x h f = ap (take 16) f.parts
+
+pub framed_header : (b x y : List ℕ) (h k : NetlinkHeader) → IsFramed b h x → IsFramed b k y → h ≡ k
+framed_header b x y h k f g = one_header h k f.typed g.typed (sym (framed_front b x h f) ∙ framed_front b y k g)
+
+pub payload_typed : (b : List ℕ) → IsBytes b → IsBytes (payload_at b)
+payload_typed b tb = AreBytes-take (length_word b - 16) (drop 16 b) (AreBytes-drop 16 b tb)
+
+-- ---- one message or one fault
+
+length-framed : (b x : List ℕ) (h : NetlinkHeader) → IsFramed b h x → h.length ≤ length b
+length-framed b x h f = omega (arith, f.size, ap length f.parts ∙ length-append (header_bytes h) (x ++ f.rest), length-append x f.rest)
+
+-- a framed message has no fault of framing
+no_fault_where_framed : (b x : List ℕ) (h : NetlinkHeader) (e : DecodeError) → IsFramed b h x → IsEnvelopeFault b e → ⊥
+no_fault_where_framed b x h (EnvelopeCut got) f k = omega (arith, f.size, length-framed b x h f, k.1)
+no_fault_where_framed b x h (EnvelopeLengthUnder16 word) f k = omega (arith, f.size, framed_length b x h f, k.0, k.2)
+no_fault_where_framed b x h (EnvelopeLengthPast word got) f k = omega (arith, length-framed b x h f, framed_length b x h f, k.0, k.4)
+no_fault_where_framed b x h _ f k = k
+
+-- the first fault of framing, computed
+first_fault : List ℕ → Option DecodeError
+first_fault b = cond (ltb (length b) 16) (Some (EnvelopeCut (length b)))
+    (cond (ltb (length_word b) 16) (Some (EnvelopeLengthUnder16 (length_word b)))
+    (cond (ltb (length b) (length_word b)) (Some (EnvelopeLengthPast (length_word b) (length b))) None))
+
+fault_is_first : (b : List ℕ) (e : DecodeError) → IsEnvelopeFault b e → first_fault b ≡ Some e
+unfolding first_fault
+fault_is_first b (EnvelopeCut got) f = rw (lt-ltb (length b) 16 f.1, ← f.0) refl
+fault_is_first b (EnvelopeLengthUnder16 word) f =
+    let under : length_word b < 16 = omega (arith, f.0, f.2) in
+    rw (le-ltb (length b) 16 f.1, lt-ltb (length_word b) 16 under, ← f.0) refl
+fault_is_first b (EnvelopeLengthPast word got) f =
+    let low : 16 ≤ length_word b = omega (arith, f.0, f.3) in
+    let past : length b < length_word b = omega (arith, f.0, f.4) in
+    rw (le-ltb (length b) 16 f.2, le-ltb (length_word b) 16 low, lt-ltb (length b) (length_word b) past, ← f.0, ← f.1) refl
+fault_is_first b _ f = absurd f
+
+-- a framing has one fault at most
+one_framing_fault : (b : List ℕ) (e f : DecodeError) → IsEnvelopeFault b e → IsEnvelopeFault b f → e ≡ f
+one_framing_fault b e f h k =
+    let same : Some e ≡ Some f = sym (fault_is_first b e h) ∙ fault_is_first b f k in
+    cc
+
+-- the type of a payload that is no inner message
+of_kept_type : {A : Type 0} (reads : List ℕ → ℕ → A → Type 0) (x : List ℕ) (t : ℕ) → IsInnerType t ⊎ ((p : Payload A) × PayloadIs reads x t p)
+of_kept_type reads x t = elim (cases_eq t 1) [
+  | inl one ↦ inr (no_payload, one)
+  | inr not_one ↦ elim (cases_eq t 2) [
+    | inl two ↦ inr (error_with x, (two, refl))
+    | inr not_two ↦ elim (cases_eq t 3) [
+      | inl three ↦ inr (done_with x, (three, refl))
+      | inr not_three ↦ elim (cases_eq t 4) [
+        | inl four ↦ inr (overrun_with x, (four, refl))
+        | inr not_four ↦ elim (cases_eq t 0) [ inl none ↦ inl (inl none) | inr not_none ↦ inl (inr (omega arith)) ]
+      ]
+    ]
+  ]
+]
+
+-- Bytes have one message or one fault, where payloads of inner messages have one of them or one fault.
+module _ {A : Type 0} (reads : List ℕ → ℕ → A → Type 0) (refuses : List ℕ → ℕ → DecodeError → Type 0) where
+  pub envelope_or_fault : (b : List ℕ) → IsBytes b → ((x : List ℕ) (t : ℕ) → IsBytes x → t < 2 ^ 16 → ((m : A) × reads x t m) ⊎ ((e : DecodeError) × refuses x t e))
+      → ((v : Envelope A) × EnvelopeIs reads b v) ⊎ ((e : DecodeError) × EnvelopeFault refuses b e)
+  envelope_or_fault b tb law = elim (header_or_fault b tb) [
+    | inr fault ↦ inr (fault.0, inl fault.1)
+    | inl found ↦
+        let h : NetlinkHeader = found.0 in
+        let x : List ℕ = take (h.length - 16) (drop 16 b) in
+        let frame = framed b h found.1 in
+        elim (of_kept_type reads x h.message_type) [
+          | inr kept ↦ inl (record { header = h; payload = kept.0 }, (x, frame, kept.1))
+          | inl kind ↦ elim (law x h.message_type (AreBytes-take (h.length - 16) (drop 16 b) (AreBytes-drop 16 b tb)) frame.typed.message_type) [
+            | inl answer ↦ inl (record { header = h; payload = inner answer.0 }, (x, frame, (kind, answer.1)))
+            | inr fault ↦ inr (fault.0, inr (h, x, frame, kind, fault.1))
+          ]
+        ]
+  ]
+
+  -- a payload of an inner message's type is one
+  inner_payload : (x : List ℕ) (t : ℕ) (p : Payload A) → IsInnerType t → PayloadIs reads x t p → (m : A) × reads x t m
+  inner_payload x t no_payload (inl kind) r = absurd (omega (arith, kind, r))
+  inner_payload x t no_payload (inr kind) r = absurd (omega (arith, kind, r))
+  inner_payload x t (error_with given) (inl kind) r = absurd (omega (arith, kind, r.0))
+  inner_payload x t (error_with given) (inr kind) r = absurd (omega (arith, kind, r.0))
+  inner_payload x t (done_with given) (inl kind) r = absurd (omega (arith, kind, r.0))
+  inner_payload x t (done_with given) (inr kind) r = absurd (omega (arith, kind, r.0))
+  inner_payload x t (overrun_with given) (inl kind) r = absurd (omega (arith, kind, r.0))
+  inner_payload x t (overrun_with given) (inr kind) r = absurd (omega (arith, kind, r.0))
+  inner_payload x t (inner m) kind r = (m, r.1)
+
+  pub envelope_or_fault_apart : (b : List ℕ) (v : Envelope A) (e : DecodeError) → ((x : List ℕ) (t : ℕ) (m : A) → reads x t m → refuses x t e → ⊥)
+      → EnvelopeIs reads b v → EnvelopeFault refuses b e → ⊥
+  envelope_or_fault_apart b v e law r (inl fault) = no_fault_where_framed b r.0 v.header e r.1 fault
+  envelope_or_fault_apart b v e law r (inr (h, x, frame, kind, fault)) =
+      let header : h ≡ v.header = framed_header b x r.0 h v.header frame r.1 in
+      let payload : r.0 ≡ x = sym (framed_payload b r.0 v.header r.1) ∙ framed_payload b x h frame in
+      let read : PayloadIs reads x h.message_type v.payload = subst (λ (y : List ℕ). PayloadIs reads y h.message_type v.payload) payload (subst (λ (k : NetlinkHeader). PayloadIs reads r.0 k.message_type v.payload) (sym header) r.2) in
+      let answer = inner_payload x h.message_type v.payload kind read in
+      law x h.message_type answer.0 answer.1 fault
+
+pub one_envelope_fault : (refuses : List ℕ → ℕ → DecodeError → Type 0) (b : List ℕ) (e f : DecodeError) → ((x : List ℕ) (t : ℕ) → refuses x t e → refuses x t f → e ≡ f)
+    → EnvelopeFault refuses b e → EnvelopeFault refuses b f → e ≡ f
+one_envelope_fault refuses b e f law (inl fault) (inl other) = one_framing_fault b e f fault other
+one_envelope_fault refuses b e f law (inl fault) (inr (h, x, frame, kind, other)) = absurd (no_fault_where_framed b x h e frame fault)
+one_envelope_fault refuses b e f law (inr (h, x, frame, kind, fault)) (inl other) = absurd (no_fault_where_framed b x h f frame other)
+one_envelope_fault refuses b e f law (inr (h, x, frame, kind, fault)) (inr (k, y, also, _, other)) =
+    let header : k ≡ h = framed_header b y x k h also frame in
+    let payload : y ≡ x = sym (framed_payload b y k also) ∙ framed_payload b x h frame in
+    law x h.message_type fault (subst (λ (z : List ℕ). refuses z h.message_type f) payload (subst (λ (l : NetlinkHeader). refuses y l.message_type f) header other))
+
+pub envelope_fault_named : (refuses : List ℕ → ℕ → DecodeError → Type 0) (b : List ℕ) → ((x : List ℕ) (t : ℕ) → refuses x t Memory → ⊥) → EnvelopeFault refuses b Memory → ⊥
+envelope_fault_named refuses b law (inl fault) = fault
+envelope_fault_named refuses b law (inr (h, x, frame, kind, fault)) = law x h.message_type fault

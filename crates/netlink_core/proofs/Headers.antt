@@ -1,0 +1,97 @@
+-- A header fixes its bytes, and its bytes fix it.
+use Rattle.std.proofs.Common.{◌≡◌, ℕ, ◌+◌, ◌-◌, ◌^◌, ◌<◌, ◌≤◌, ◌⊎◌, inl, inr, List, [], ◌++◌, length, take, drop, refl, sym, ap, subst, ◌∙◌, arith}
+use Rattle.std.proofs.lemmas.List.{take-append-drop, take_all, drop-drop, length-drop, append-nil}
+use Rattle.byteorder.specs.Endian.{little_bytes, little_number}
+use Rattle.byteorder.specs.Numbers.{little_number-reads_back, length-bytes_low_first}
+use Rattle.netlink_core.specs.declared.header.NetlinkHeader.{NetlinkHeader}
+use Rattle.netlink_core.specs.Bytes.{IsBytes}
+use Rattle.netlink_core.specs.Table.{little_endian}
+use Rattle.netlink_core.specs.ByteLaws.{IsBytes-number, IsBytes-left}
+use Rattle.netlink_core.specs.Header.{IsTypedHeader, HasHeader, IsEnvelopeFault, header_bytes, length_word}
+use Rattle.netlink_core.specs.declared.fault.DecodeError.{DecodeError}
+use Rattle.netlink_core.specs.declared.fault.DecodeError.TheVariants.{EnvelopeCut, EnvelopeLengthUnder16, EnvelopeLengthPast}
+use Rattle.std.proofs.lemmas.Bool.{cases_lt}
+use Rattle.netlink_core.proofs.Numbers.{number-same, number-fits}
+use Rattle.netlink_core.proofs.TableLaws.{AreBytes-drop}
+
+pub AreBytes-take : (n : ℕ) (bytes : List ℕ) → IsBytes bytes → IsBytes (take n bytes)
+AreBytes-take n bytes fits = IsBytes-left (take n bytes) (drop n bytes) (subst IsBytes (sym (take-append-drop n bytes)) fits)
+
+-- bytes are those of the number in front, and the rest
+number_front : (n x : ℕ) (bytes : List ℕ) → IsBytes bytes → n ≤ length bytes → x ≡ little_number n bytes → bytes ≡ little_bytes n x ++ drop n bytes
+number_front n x bytes fits long is =
+    let own = little_bytes n x in
+    let size : length own ≡ n = length-bytes_low_first 0 n x in
+    let below : x < 256 ^ n = subst (λ (k : ℕ). k < 256 ^ n) (sym is) (number-fits little_endian n bytes fits) in
+    let back : little_number n own ≡ x = subst (λ (b : List ℕ). little_number n b ≡ x) (append-nil own) (little_number-reads_back n x [] below) in
+    let same : take n bytes ≡ take n own = number-same little_endian n bytes own fits (IsBytes-number 0 n x) long (omega (arith, size)) (sym is ∙ sym back) in
+    sym (take-append-drop n bytes) ∙ ap (λ (front : List ℕ). front ++ drop n bytes) (same ∙ take_all n own (omega (arith, size)))
+
+-- the same, of a number behind m bytes, read from the slice that begins there
+behind : (m : ℕ) (bytes : List ℕ) → take (length bytes - m) (drop m bytes) ≡ drop m bytes
+behind m bytes = take_all (length bytes - m) (drop m bytes) (omega (arith, length-drop m bytes))
+
+number_behind : (m n x : ℕ) (bytes : List ℕ) → IsBytes bytes → m + n ≤ length bytes → x ≡ little_number n (take (length bytes - m) (drop m bytes)) → drop m bytes ≡ little_bytes n x ++ drop (m + n) bytes
+number_behind m n x bytes fits long is =
+    number_front n x (drop m bytes) (AreBytes-drop m bytes fits) (omega (arith, length-drop m bytes)) (is ∙ ap (little_number n) (behind m bytes))
+    ∙ ap (λ (rest : List ℕ). little_bytes n x ++ rest) (drop-drop n m bytes ∙ ap (λ (k : ℕ). drop k bytes) (omega arith))
+
+fits_behind : (m n x : ℕ) (bytes : List ℕ) → IsBytes bytes → x ≡ little_number n (take (length bytes - m) (drop m bytes)) → x < 256 ^ n
+fits_behind m n x bytes fits is = subst (λ (k : ℕ). k < 256 ^ n) (sym (is ∙ ap (little_number n) (behind m bytes))) (number-fits little_endian n (drop m bytes) (AreBytes-drop m bytes fits))
+
+-- what is read from the five places is the header
+pub header_read : (bytes : List ℕ) (h : NetlinkHeader) → IsBytes bytes → 16 ≤ length bytes → h.length ≡ length_word bytes
+    → h.message_type ≡ little_number 2 (take (length bytes - 4) (drop 4 bytes)) → h.flags ≡ little_number 2 (take (length bytes - 6) (drop 6 bytes))
+    → h.sequence_number ≡ little_number 4 (take (length bytes - 8) (drop 8 bytes)) → h.port_number ≡ little_number 4 (take (length bytes - 12) (drop 12 bytes))
+    → 16 ≤ h.length → h.length ≤ length bytes → HasHeader bytes h
+header_read bytes h fits long length-is type-is flags-is sequence-is port-is low high =
+    let of_length = number_front 4 h.length bytes fits (omega arith) length-is in
+    let of_type = number_behind 4 2 h.message_type bytes fits (omega arith) type-is in
+    let of_flags = number_behind 6 2 h.flags bytes fits (omega arith) flags-is in
+    let of_sequence = number_behind 8 4 h.sequence_number bytes fits (omega arith) sequence-is in
+    let of_port = number_behind 12 4 h.port_number bytes fits (omega arith) port-is in
+    record {
+      tail = drop 16 bytes;
+      parts = of_length ∙ ap (λ (t : List ℕ). little_bytes 4 h.length ++ t) (of_type ∙ ap (λ (t : List ℕ). little_bytes 2 h.message_type ++ t) (of_flags ∙ ap (λ (t : List ℕ). little_bytes 2 h.flags ++ t) (of_sequence ∙ ap (λ (t : List ℕ). little_bytes 4 h.sequence_number ++ t) of_port)));
+      typed = record {
+        length = subst (λ (k : ℕ). k < 2 ^ 32) (sym length-is) (number-fits little_endian 4 bytes fits);
+        message_type = fits_behind 4 2 h.message_type bytes fits type-is;
+        flags = fits_behind 6 2 h.flags bytes fits flags-is;
+        sequence_number = fits_behind 8 4 h.sequence_number bytes fits sequence-is;
+        port_number = fits_behind 12 4 h.port_number bytes fits port-is;
+      };
+      low = low;
+      high = high;
+    }
+
+-- a header stands at the front, or a fault tells why not
+pub header_or_fault : (bytes : List ℕ) → IsBytes bytes → ((h : NetlinkHeader) × HasHeader bytes h) ⊎ ((e : DecodeError) × IsEnvelopeFault bytes e)
+header_or_fault bytes fits = elim (cases_lt (length bytes) 16) [
+  | inl cut ↦ inr (EnvelopeCut (length bytes), (refl, cut))
+  | inr long ↦ elim (cases_lt (length_word bytes) 16) [
+    | inl under ↦ inr (EnvelopeLengthUnder16 (length_word bytes), (refl, long, under))
+    | inr low ↦ elim (cases_lt (length bytes) (length_word bytes)) [
+      | inl past ↦ inr (EnvelopeLengthPast (length_word bytes) (length bytes), (refl, refl, long, low, past))
+      | inr high ↦ inl (
+        record {
+          length = length_word bytes;
+          message_type = little_number 2 (take (length bytes - 4) (drop 4 bytes));
+          flags = little_number 2 (take (length bytes - 6) (drop 6 bytes));
+          sequence_number = little_number 4 (take (length bytes - 8) (drop 8 bytes));
+          port_number = little_number 4 (take (length bytes - 12) (drop 12 bytes));
+        },
+        header_read bytes _ fits long refl refl refl refl refl low high,
+      )
+    ]
+  ]
+]
+
+-- a header is known by its bytes
+pub one_header : (h k : NetlinkHeader) → IsTypedHeader h → IsTypedHeader k → header_bytes h ≡ header_bytes k → h ≡ k
+one_header h k th tk e =
+    let lengths : h.length ≡ k.length = sym (little_number-reads_back 4 h.length [] th.length) ∙ ap (little_number 4) e ∙ little_number-reads_back 4 k.length [] tk.length in
+    let types : h.message_type ≡ k.message_type = sym (little_number-reads_back 2 h.message_type [] th.message_type) ∙ ap (λ (l : List ℕ). little_number 2 (drop 4 l)) e ∙ little_number-reads_back 2 k.message_type [] tk.message_type in
+    let flags : h.flags ≡ k.flags = sym (little_number-reads_back 2 h.flags [] th.flags) ∙ ap (λ (l : List ℕ). little_number 2 (drop 6 l)) e ∙ little_number-reads_back 2 k.flags [] tk.flags in
+    let sequences : h.sequence_number ≡ k.sequence_number = sym (little_number-reads_back 4 h.sequence_number [] th.sequence_number) ∙ ap (λ (l : List ℕ). little_number 4 (drop 8 l)) e ∙ little_number-reads_back 4 k.sequence_number [] tk.sequence_number in
+    let ports : h.port_number ≡ k.port_number = sym (little_number-reads_back 4 h.port_number [] th.port_number) ∙ ap (λ (l : List ℕ). little_number 4 (drop 12 l)) e ∙ little_number-reads_back 4 k.port_number [] tk.port_number in
+    λ z. record { length = lengths z; message_type = types z; flags = flags z; sequence_number = sequences z; port_number = ports z }

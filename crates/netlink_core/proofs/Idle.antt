@@ -1,0 +1,106 @@
+-- Messages are equal exactly where their bytes are idle, and read back as themselves exactly where they are in normal form.
+use Rattle.std.proofs.Common.{◌≡◌, ◌↔◌, ◌∙◌, ℕ, ◌<◌, ◌^◌, inl, inr, List, [], ◌++◌, refl, sym, ap, subst, arith}
+use Rattle.std.proofs.lemmas.List.{append-nil}
+use Rattle.netlink_core.specs.declared.header.NetlinkHeader.{NetlinkHeader}
+use Rattle.netlink_core.specs.Header.{IsTypedHeader, header_bytes}
+use Rattle.netlink_core.specs.Envelope.{Payload, done_with, error_with, no_payload, overrun_with, inner, Envelope, IsInnerType, IsFramed, PayloadIs, EnvelopeIs, payload_bytes, payload_type, envelope_bytes, OfInner, IsFinalized, IsNormalEnvelope, type_word, payload_at, IdlePayloads, IdleEnvelopes}
+use Rattle.netlink_core.proofs.Headers.{one_header}
+use Rattle.netlink_core.proofs.Framing.{framed_type, framed_payload, framed_front}
+
+module _ {A : Type 0} (reads : List ℕ → ℕ → A → Type 0) where
+  payload_kind : (x : List ℕ) (t : ℕ) (p : Payload A) → PayloadIs reads x t p → payload_type (λ _. t) p ≡ t
+  payload_kind x t no_payload h = sym h
+  payload_kind x t (error_with g) h = sym h.0
+  payload_kind x t (done_with g) h = sym h.0
+  payload_kind x t (overrun_with g) h = sym h.0
+  payload_kind x t (inner m) h = refl
+
+  -- payloads of one type are equal exactly where they are idle
+  payloads_idle : (idle : ℕ → List ℕ → List ℕ → Type 0) (t : ℕ) (x y : List ℕ) → ((v w : A) → reads x t v → reads y t w → ((v ≡ w) ↔ idle t x y))
+      → (p q : Payload A) → PayloadIs reads x t p → PayloadIs reads y t q → ((p ≡ q) ↔ IdlePayloads idle t x y)
+  payloads_idle idle t x y law no_payload no_payload h k = (λ e. inl h, λ i. refl)
+  payloads_idle idle t x y law (error_with g) (error_with f) h k = (
+    λ e. let same : g ≡ f = cc in inr (inl (omega (arith, h.0), omega (arith, h.0), sym h.1 ∙ same ∙ k.1)),
+    λ i. elim i [ inl one ↦ absurd (omega (arith, h.0, one)) | inr r ↦ elim r [ inl s ↦ ap error_with (h.1 ∙ s.2 ∙ sym k.1) | inr n ↦ elim n.0 [ inl z ↦ absurd (omega (arith, h.0, z)) | inr z ↦ absurd (omega (arith, h.0, z)) ] ] ],
+  )
+  payloads_idle idle t x y law (done_with g) (done_with f) h k = (
+    λ e. let same : g ≡ f = cc in inr (inl (omega (arith, h.0), omega (arith, h.0), sym h.1 ∙ same ∙ k.1)),
+    λ i. elim i [ inl one ↦ absurd (omega (arith, h.0, one)) | inr r ↦ elim r [ inl s ↦ ap done_with (h.1 ∙ s.2 ∙ sym k.1) | inr n ↦ elim n.0 [ inl z ↦ absurd (omega (arith, h.0, z)) | inr z ↦ absurd (omega (arith, h.0, z)) ] ] ],
+  )
+  payloads_idle idle t x y law (overrun_with g) (overrun_with f) h k = (
+    λ e. let same : g ≡ f = cc in inr (inl (omega (arith, h.0), omega (arith, h.0), sym h.1 ∙ same ∙ k.1)),
+    λ i. elim i [ inl one ↦ absurd (omega (arith, h.0, one)) | inr r ↦ elim r [ inl s ↦ ap overrun_with (h.1 ∙ s.2 ∙ sym k.1) | inr n ↦ elim n.0 [ inl z ↦ absurd (omega (arith, h.0, z)) | inr z ↦ absurd (omega (arith, h.0, z)) ] ] ],
+  )
+  payloads_idle idle t x y law (inner v) (inner w) h k = (
+    λ e. let same : v ≡ w = cc in inr (inr (h.0, (law v w h.1 k.1).0 same)),
+    λ i. elim i [
+      | inl one ↦ elim h.0 [ inl z ↦ absurd (omega (arith, one, z)) | inr z ↦ absurd (omega (arith, one, z)) ]
+      | inr r ↦ elim r [ inl s ↦ elim h.0 [ inl z ↦ absurd (omega (arith, s.0, z)) | inr z ↦ absurd (omega (arith, s.1, z)) ] | inr n ↦ ap inner ((law v w h.1 k.1).1 n.1) ]
+    ],
+  )
+  payloads_idle idle t x y law (inner v) no_payload h k = elim h.0 [ inl z ↦ absurd (omega (arith, k, z)) | inr z ↦ absurd (omega (arith, k, z)) ]
+  payloads_idle idle t x y law (inner v) (error_with f) h k = elim h.0 [ inl z ↦ absurd (omega (arith, k.0, z)) | inr z ↦ absurd (omega (arith, k.0, z)) ]
+  payloads_idle idle t x y law (inner v) (done_with f) h k = elim h.0 [ inl z ↦ absurd (omega (arith, k.0, z)) | inr z ↦ absurd (omega (arith, k.0, z)) ]
+  payloads_idle idle t x y law (inner v) (overrun_with f) h k = elim h.0 [ inl z ↦ absurd (omega (arith, k.0, z)) | inr z ↦ absurd (omega (arith, k.0, z)) ]
+  payloads_idle idle t x y law no_payload (inner w) h k = elim k.0 [ inl z ↦ absurd (omega (arith, h, z)) | inr z ↦ absurd (omega (arith, h, z)) ]
+  payloads_idle idle t x y law (error_with g) (inner w) h k = elim k.0 [ inl z ↦ absurd (omega (arith, h.0, z)) | inr z ↦ absurd (omega (arith, h.0, z)) ]
+  payloads_idle idle t x y law (done_with g) (inner w) h k = elim k.0 [ inl z ↦ absurd (omega (arith, h.0, z)) | inr z ↦ absurd (omega (arith, h.0, z)) ]
+  payloads_idle idle t x y law (overrun_with g) (inner w) h k = elim k.0 [ inl z ↦ absurd (omega (arith, h.0, z)) | inr z ↦ absurd (omega (arith, h.0, z)) ]
+  payloads_idle idle t x y law p q h k = absurd (omega (arith, payload_kind x t p h, payload_kind y t q k))
+
+  -- messages are equal exactly where their strings are idle
+  pub equal_where_idle : (idle : ℕ → List ℕ → List ℕ → Type 0) (b c : List ℕ)
+      → ((t : ℕ) (x y : List ℕ) (v w : A) → t < 2 ^ 16 → x ≡ payload_at b → y ≡ payload_at c → reads x t v → reads y t w → ((v ≡ w) ↔ idle t x y))
+      → (v w : Envelope A) → EnvelopeIs reads b v → EnvelopeIs reads c w → ((v ≡ w) ↔ IdleEnvelopes idle b c)
+  equal_where_idle idle b c law v w r s =
+      let xb = framed_payload b r.0 v.header r.1 in
+      let yc = framed_payload c s.0 w.header s.1 in
+      let tb = framed_type b r.0 v.header r.1 in
+      let tc = framed_type c s.0 w.header s.1 in
+      let read-b : PayloadIs reads (payload_at b) (type_word b) v.payload = subst (λ (t : ℕ). PayloadIs reads (payload_at b) t v.payload) (sym tb) (subst (λ (x : List ℕ). PayloadIs reads x v.header.message_type v.payload) (sym xb) r.2) in
+      let read-c : (type_word b ≡ type_word c) → PayloadIs reads (payload_at c) (type_word b) w.payload = λ same. subst (λ (t : ℕ). PayloadIs reads (payload_at c) t w.payload) (sym tc ∙ sym same) (subst (λ (x : List ℕ). PayloadIs reads x w.header.message_type w.payload) (sym yc) s.2) in
+      let fits : type_word b < 2 ^ 16 = let f = r.1.typed.message_type in omega (arith, tb) in
+      let fronts = framed_front b r.0 v.header r.1 in
+      let others = framed_front c s.0 w.header s.1 in (
+        λ e.
+            let types : type_word b ≡ type_word c = tb ∙ ap (λ (m : Envelope A). m.header.message_type) e ∙ sym tc in
+            let payloads = payloads_idle idle (type_word b) (payload_at b) (payload_at c) (λ x y. law (type_word b) _ _ x y fits refl refl) v.payload w.payload read-b (read-c types) in
+            (fronts ∙ ap (λ (m : Envelope A). header_bytes m.header) e ∙ sym others, payloads.0 (ap (λ (m : Envelope A). m.payload) e)),
+        λ i.
+            let headers : v.header ≡ w.header = one_header v.header w.header r.1.typed s.1.typed (sym fronts ∙ i.0 ∙ others) in
+            let types : type_word b ≡ type_word c = tb ∙ ap (λ (h : NetlinkHeader). h.message_type) headers ∙ sym tc in
+            let payloads = payloads_idle idle (type_word b) (payload_at b) (payload_at c) (λ x y. law (type_word b) _ _ x y fits refl refl) v.payload w.payload read-b (read-c types) in
+            let same : v.payload ≡ w.payload = payloads.1 i.1 in
+            λ z. record { header = headers z; payload = same z },
+      )
+
+  -- the bytes of a finalized message are framed by its own header
+  pub finalized_frame : (written : A → List ℕ) (type_of : A → ℕ) (v : Envelope A) → IsTypedHeader v.header → IsFinalized written type_of v → IsFramed (envelope_bytes written v) v.header (payload_bytes written v.payload)
+  finalized_frame written type_of v typed done = record { rest = []; parts = ap (λ (l : List ℕ). header_bytes v.header ++ l) (sym (append-nil (payload_bytes written v.payload))); typed = typed; size = done.0 }
+
+  payload_itself : (written : A → List ℕ) (type_of : A → ℕ) (t : ℕ) (normal : ℕ → A → Type 0) (p : Payload A) → t ≡ payload_type type_of p → OfInner (λ m. reads (written m) t m ↔ normal t m) p
+      → (PayloadIs reads (payload_bytes written p) t p ↔ OfInner (λ m. IsInnerType t × normal t m) p)
+  payload_itself written type_of t normal no_payload e law = (λ _. tt, λ _. e)
+  payload_itself written type_of t normal (error_with g) e law = (λ _. tt, λ _. (e, refl))
+  payload_itself written type_of t normal (done_with g) e law = (λ _. tt, λ _. (e, refl))
+  payload_itself written type_of t normal (overrun_with g) e law = (λ _. tt, λ _. (e, refl))
+  payload_itself written type_of t normal (inner m) e law = (λ r. (r.0, law.0 r.1), λ n. (n.0, law.1 n.1))
+
+  -- the bytes of a finalized message read back as it exactly where it is in normal form
+  pub reads_back_exactly : (written : A → List ℕ) (type_of : A → ℕ) (normal : ℕ → A → Type 0) (v : Envelope A) → IsTypedHeader v.header → IsFinalized written type_of v
+      → OfInner (λ m. reads (written m) v.header.message_type m ↔ normal v.header.message_type m) v.payload
+      → (EnvelopeIs reads (envelope_bytes written v) v ↔ IsNormalEnvelope normal v)
+  reads_back_exactly written type_of normal v typed done law =
+      let frame = finalized_frame written type_of v typed done in
+      let itself = payload_itself written type_of v.header.message_type normal v.payload done.1 law in (
+        λ r. itself.0 (subst (λ (x : List ℕ). PayloadIs reads x v.header.message_type v.payload) (sym (framed_payload (envelope_bytes written v) r.0 v.header r.1) ∙ framed_payload (envelope_bytes written v) (payload_bytes written v.payload) v.header frame) r.2),
+        λ n. (payload_bytes written v.payload, frame, itself.1 n),
+      )
+
+-- what holds of typed inner messages that fit holds of the payload's
+pub inner_law : {A : Type 0} (typed fits law : A → Type 0) → ((m : A) → typed m → fits m → law m) → (p : Payload A) → OfInner typed p → OfInner fits p → OfInner law p
+inner_law typed fits law all (inner m) t f = all m t f
+inner_law typed fits law all no_payload t f = tt
+inner_law typed fits law all (error_with g) t f = tt
+inner_law typed fits law all (done_with g) t f = tt
+inner_law typed fits law all (overrun_with g) t f = tt

@@ -1,0 +1,12 @@
+use Rattle.std.proofs.Common.{sym, subst}
+use Rattle.netlink_core.specs.Bytes.{IsBytes}
+use Rattle.netlink_core.proofs.Framing.{payload_typed}
+use Rattle.netlink_core.proofs.Idle.{equal_where_idle}
+use Rattle.netlink_core.proofs.laws.equal_messages_where_idle.Goals as goal
+
+pub returns : goal.returns
+returns g c = λ params b d v w tb td r s.
+    let laws = g.met.I.Wire.laws in
+    equal_where_idle g.I.Wire.reads g.I.Wire.idle b d
+    (λ t x y m n fits ex ey. laws.same_value x y t m n (subst IsBytes (sym ex) (payload_typed b tb)) (subst IsBytes (sym ey) (payload_typed d td)) (params t fits))
+    v w r s

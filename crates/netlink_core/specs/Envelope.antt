@@ -1,0 +1,118 @@
+-- A message: its header, and its payload by its type.
+use Rattle.std.specs.Prelude.{◌≡◌, ℕ, ◌+◌, ◌-◌, ◌≤◌, ◌⊎◌, List, [], ◌++◌, length, take, drop, ⊤}
+use Rattle.byteorder.specs.Endian.{little_number}
+use Rattle.netlink_core.specs.declared.fault.DecodeError.{DecodeError}
+use Rattle.netlink_core.specs.declared.header.NetlinkHeader.{NetlinkHeader}
+use Rattle.netlink_core.specs.Header.{IsTypedHeader, header_bytes, length_word, IsEnvelopeFault}
+
+-- what a message carries, without where it lies in memory
+pub data Payload (A : Type 0) : Type 0 where
+  done_with : List ℕ → Payload A
+  error_with : List ℕ → Payload A
+  no_payload : Payload A
+  overrun_with : List ℕ → Payload A
+  inner : A → Payload A
+
+-- a header and what the message carries
+pub record Envelope (A : Type 0) : Type 0 where
+  pub header : NetlinkHeader
+  pub payload : Payload A
+
+-- the types whose payload the inner message's reader reads
+abbrev pub IsInnerType : ℕ → Type 0
+IsInnerType t = (t ≡ 0) ⊎ (5 ≤ t)
+
+-- The header stands at the front, its length counts itself and the payload, and what follows is unread.
+pub record IsFramed (bytes : List ℕ) (h : NetlinkHeader) (payload : List ℕ) : Type 0 where
+  pub rest : List ℕ
+  pub parts : bytes ≡ header_bytes h ++ (payload ++ rest)
+  pub typed : IsTypedHeader h
+  pub size : h.length ≡ 16 + length payload
+
+-- What belongs to bytes, where this is what belongs to those of an inner message under a type.
+module _ {A : Type 0} (reads : List ℕ → ℕ → A → Type 0) where
+  -- the payload that belongs to its bytes under the message's type
+  abbrev pub PayloadIs : List ℕ → ℕ → Payload A → Type 0
+  PayloadIs bytes t no_payload = t ≡ 1
+  PayloadIs bytes t (error_with given) = (t ≡ 2) × (given ≡ bytes)
+  PayloadIs bytes t (done_with given) = (t ≡ 3) × (given ≡ bytes)
+  PayloadIs bytes t (overrun_with given) = (t ≡ 4) × (given ≡ bytes)
+  PayloadIs bytes t (inner value) = IsInnerType t × reads bytes t value
+
+  -- the bytes begin with the message
+  abbrev pub EnvelopeIs : List ℕ → Envelope A → Type 0
+  EnvelopeIs bytes e = (payload : List ℕ) × IsFramed bytes e.header payload × PayloadIs payload e.header.message_type e.payload
+
+-- the first fault: no message is framed, or the framed one has an inner message that is refused
+abbrev pub EnvelopeFault : (List ℕ → ℕ → DecodeError → Type 0) → List ℕ → DecodeError → Type 0
+EnvelopeFault refuses bytes e =
+    IsEnvelopeFault bytes e
+    ⊎ ((h : NetlinkHeader) × (payload : List ℕ) × IsFramed bytes h payload × IsInnerType h.message_type × refuses payload h.message_type e)
+
+-- ---- what is written
+
+-- the bytes of a payload, by those of an inner message
+abbrev pub payload_bytes : {A : Type 0} → (A → List ℕ) → Payload A → List ℕ
+payload_bytes bytes (done_with given) = given
+payload_bytes bytes (error_with given) = given
+payload_bytes bytes no_payload = []
+payload_bytes bytes (overrun_with given) = given
+payload_bytes bytes (inner value) = bytes value
+
+-- the type of a payload's message, by that of an inner message
+abbrev pub payload_type : {A : Type 0} → (A → ℕ) → Payload A → ℕ
+payload_type type_of no_payload = 1
+payload_type type_of (error_with given) = 2
+payload_type type_of (done_with given) = 3
+payload_type type_of (overrun_with given) = 4
+payload_type type_of (inner value) = type_of value
+
+-- the header as it stands, then the payload
+abbrev pub envelope_bytes : {A : Type 0} → (A → List ℕ) → Envelope A → List ℕ
+envelope_bytes bytes e = header_bytes e.header ++ payload_bytes bytes e.payload
+
+-- an inner message, if there is one, is so
+abbrev pub OfInner : {A : Type 0} → (A → Type 0) → Payload A → Type 0
+OfInner is (inner value) = is value
+OfInner is _ = ⊤
+
+-- an inner message is writable, and a length word of 32 bits counts the whole message
+abbrev pub EnvelopeFits : {A : Type 0} → (A → List ℕ) → (A → Type 0) → Envelope A → Type 0
+EnvelopeFits bytes fits e = OfInner fits e.payload × (16 + length (payload_bytes bytes e.payload) ≤ 4294967295)
+
+-- the header with the message's own length and type, and else as it was
+abbrev pub finalized : {A : Type 0} → (A → List ℕ) → (A → ℕ) → Envelope A → NetlinkHeader
+finalized bytes type_of e = record e.header {
+  length = 16 + length (payload_bytes bytes e.payload);
+  message_type = payload_type type_of e.payload;
+}
+
+-- the header has the message's own length and type
+abbrev pub IsFinalized : {A : Type 0} → (A → List ℕ) → (A → ℕ) → Envelope A → Type 0
+IsFinalized bytes type_of e = (e.header.length ≡ 16 + length (payload_bytes bytes e.payload)) × (e.header.message_type ≡ payload_type type_of e.payload)
+
+-- ---- equal messages, and messages that read back
+
+-- the number where a header has its type
+abbrev pub type_word : List ℕ → ℕ
+type_word bytes = little_number 2 (drop 4 bytes)
+
+-- the payload that the length word counts
+abbrev pub payload_at : List ℕ → List ℕ
+payload_at bytes = take (length_word bytes - 16) (drop 16 bytes)
+
+-- by the type: any payloads of nothing, equal ones that are kept as bytes, and idle ones of inner messages
+abbrev pub IdlePayloads : (ℕ → List ℕ → List ℕ → Type 0) → ℕ → List ℕ → List ℕ → Type 0
+IdlePayloads idle t x y = (t ≡ 1) ⊎ (((2 ≤ t) × (t ≤ 4) × (x ≡ y)) ⊎ (IsInnerType t × idle t x y))
+
+-- equal first sixteen bytes, and payloads that are idle by type
+abbrev pub IdleEnvelopes : (ℕ → List ℕ → List ℕ → Type 0) → List ℕ → List ℕ → Type 0
+IdleEnvelopes idle b c = (take 16 b ≡ take 16 c) × IdlePayloads idle (type_word b) (payload_at b) (payload_at c)
+
+-- each field of the header is within its type, and an inner message is typed
+abbrev pub IsTypedEnvelope : {A : Type 0} → (A → Type 0) → Envelope A → Type 0
+IsTypedEnvelope typed e = IsTypedHeader e.header × OfInner typed e.payload
+
+-- an inner message is in normal form, under a type of inner messages
+abbrev pub IsNormalEnvelope : {A : Type 0} → (ℕ → A → Type 0) → Envelope A → Type 0
+IsNormalEnvelope normal e = OfInner (λ m. IsInnerType e.header.message_type × normal e.header.message_type m) e.payload

@@ -1,0 +1,37 @@
+-- The netlink header at the front of a message, and why none stands there.
+use Rattle.std.specs.Prelude.{◌≡◌, ℕ, ◌^◌, ◌<◌, ◌≤◌, List, ◌++◌, length}
+use Rattle.byteorder.specs.Endian.{little_bytes, little_number}
+use Rattle.netlink_core.specs.declared.fault.DecodeError.{DecodeError}
+use Rattle.netlink_core.specs.declared.fault.DecodeError.TheVariants.{EnvelopeCut, EnvelopeLengthUnder16, EnvelopeLengthPast}
+use Rattle.netlink_core.specs.declared.header.NetlinkHeader.{NetlinkHeader}
+
+-- each field is within its type
+pub record IsTypedHeader (h : NetlinkHeader) : Type 0 where
+  pub length : h.length < 2 ^ 32
+  pub message_type : h.message_type < 2 ^ 16
+  pub flags : h.flags < 2 ^ 16
+  pub sequence_number : h.sequence_number < 2 ^ 32
+  pub port_number : h.port_number < 2 ^ 32
+
+-- the five fields in 4, 2, 2, 4 and 4 bytes
+abbrev pub header_bytes : NetlinkHeader → List ℕ
+header_bytes h = little_bytes 4 h.length ++ little_bytes 2 h.message_type ++ little_bytes 2 h.flags ++ little_bytes 4 h.sequence_number ++ little_bytes 4 h.port_number
+
+-- the bytes begin with the header, and are at least as many as its length says, which counts the header
+pub record HasHeader (bytes : List ℕ) (h : NetlinkHeader) : Type 0 where
+  pub tail : List ℕ
+  pub parts : bytes ≡ header_bytes h ++ tail
+  pub typed : IsTypedHeader h
+  pub low : 16 ≤ h.length
+  pub high : h.length ≤ length bytes
+
+-- the number in the first four bytes
+abbrev pub length_word : List ℕ → ℕ
+length_word bytes = little_number 4 bytes
+
+-- No message stands at the front of the bytes, and why. Of several faults it is the first.
+abbrev pub IsEnvelopeFault : List ℕ → DecodeError → Type 0
+IsEnvelopeFault bytes (EnvelopeCut got) = (got ≡ length bytes) × (length bytes < 16)
+IsEnvelopeFault bytes (EnvelopeLengthUnder16 word) = (word ≡ length_word bytes) × (16 ≤ length bytes) × (word < 16)
+IsEnvelopeFault bytes (EnvelopeLengthPast word got) = (word ≡ length_word bytes) × (got ≡ length bytes) × (16 ≤ length bytes) × (16 ≤ word) × (length bytes < word)
+IsEnvelopeFault bytes _ = ⊥

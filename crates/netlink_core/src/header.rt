@@ -1,0 +1,79 @@
+//! The header of a netlink message.
+
+ghost use Rattle.std.specs.Prelude.{◌≡◌, ◌≤◌, ◌++◌, length, drop, MatchResult};
+ghost use Rattle.netlink_core.specs.Header.{HasHeader, IsEnvelopeFault, header_bytes};
+
+use crate::fault::DecodeError;
+use byteorder::{ByteOrder, LittleEndian};
+
+/// The bytes of a header.
+pub(crate) const HEADER: usize = 16;
+
+/// The header of a netlink message, `nlmsghdr` in netlink(7): 16 bytes, each number with its low byte first.
+///
+/// A default header has zeros.
+#[derive(Clone, Debug, Default, Drop, PartialEq, Eq)]
+pub struct NetlinkHeader {
+    /// How many bytes the message has, with these 16. At place 0, 4 bytes.
+    pub length: u32,
+    /// What the payload is: one of the `NLMSG_` types, or a type of the protocol. At place 4, 2 bytes.
+    pub message_type: u16,
+    /// The `NLM_F_` flags. At place 6, 2 bytes.
+    pub flags: u16,
+    /// The sender's number for the message, which a reply repeats. At place 8, 4 bytes.
+    pub sequence_number: u32,
+    /// The port of the sender, 0 for the kernel. At place 12, 4 bytes.
+    pub port_number: u32,
+}
+
+impl NetlinkHeader {
+    /// The header at the front of the bytes, which hold the whole message. What follows the header is not looked at,
+    /// and no memory is taken.
+    ///
+    /// Refused are fewer than 16 bytes as `EnvelopeCut`, then a length under 16 as `EnvelopeLengthUnder16`, then one
+    /// past the bytes as `EnvelopeLengthPast`.
+    pub fn from_prefix(bytes: &[u8]) -> Result<Self, DecodeError>
+        ensures { MatchResult result (HasHeader bytes.now) (IsEnvelopeFault bytes.now) }
+    {
+        let got = bytes.len();
+        if got < HEADER {
+            return Err(DecodeError::EnvelopeCut { got });
+        }
+        let length = LittleEndian::read_u32(bytes);
+        if (length as usize) < HEADER {
+            return Err(DecodeError::EnvelopeLengthUnder16 { length });
+        }
+        if length as usize > got {
+            return Err(DecodeError::EnvelopeLengthPast { length, got });
+        }
+        Ok(NetlinkHeader {
+            length,
+            message_type: LittleEndian::read_u16(&bytes[4..]),
+            flags: LittleEndian::read_u16(&bytes[6..]),
+            sequence_number: LittleEndian::read_u32(&bytes[8..]),
+            port_number: LittleEndian::read_u32(&bytes[12..]),
+        })
+    }
+
+    // Writes the five fields at the front of the buffer, and leaves the rest.
+    pub(crate) fn write(&self, buffer: &mut [u8])
+        requires { 16 ≤ length buffer.old }
+        ensures { buffer.new ≡ header_bytes self.now ++ drop 16 buffer.old }
+    {
+        buffer[..HEADER].copy_from_slice(&self.to_bytes());
+    }
+
+    // The five fields.
+    fn to_bytes(&self) -> [u8; 16]
+        ensures value { result ≡ header_bytes self.now }
+        ensures size { length result ≡ 16 }
+    {
+        let mut bytes = [0; 16];
+        let (length, rest) = bytes.split_at_mut(4);
+        let (kind, numbers) = rest.split_at_mut(4);
+        LittleEndian::write_u32_into(&[self.length], length);
+        LittleEndian::write_u16_into(&[self.message_type, self.flags], kind);
+        LittleEndian::write_u32_into(&[self.sequence_number, self.port_number], numbers);
+        bytes
+    }
+}

@@ -1,0 +1,267 @@
+//! Netlink messages: a header, and what it frames.
+
+ghost use Rattle.std.specs.Prelude.{◌≡◌, ◌≢◌, ◌≤◌, ◌<◌, ◌^◌, ◌++◌, ◌↔◌, ◌⊎◌, ℕ, List, length, drop, IfOk, IfErr, IsTrue};
+ghost use Rattle.netlink_core.specs.Bytes.{IsBytes};
+ghost use Rattle.netlink_core.specs.declared.fault.DecodeError.{DecodeError as Fault};
+ghost use Rattle.netlink_core.specs.declared.fault.DecodeError.TheVariants.{Memory};
+ghost use Rattle.netlink_core.specs.Envelope.{type_word, PayloadIs, EnvelopeIs, EnvelopeFault, IsInnerType, payload_bytes, payload_type, envelope_bytes, OfInner, EnvelopeFits, finalized};
+ghost use Rattle.netlink_core.specs.Seen.{payload_of, envelope_of, itself};
+
+use crate::fault::DecodeError;
+use crate::header::{HEADER, NetlinkHeader};
+use std::alloc::Global;
+
+/// The type of a message that says nothing, `NLMSG_NOOP` in netlink(7).
+pub const NLMSG_NOOP: u16 = 1;
+
+/// The type of a message that tells an error, or acknowledges a request.
+pub const NLMSG_ERROR: u16 = 2;
+
+/// The type of the message that ends a dump.
+pub const NLMSG_DONE: u16 = 3;
+
+/// The type of a message that tells that data was lost.
+pub const NLMSG_OVERRUN: u16 = 4;
+
+/// The flag of a header that each request has.
+pub const NLM_F_REQUEST: u16 = 1;
+
+/// The flags of a header that ask for all entries of a table.
+pub const NLM_F_DUMP: u16 = 0x300;
+
+/// The most bytes that a message has, which its length word counts.
+const LONGEST: usize = 4_294_967_295;
+
+/// A message of a protocol that is written behind a netlink header.
+pub trait NetlinkSerializable {
+    // The bytes that stand for the message.
+    ghost bytes: { Self → List ℕ };
+
+    // The messages that have room for their lengths.
+    ghost writable: { Self → Type 0 };
+
+    // The type that the header is to tell.
+    ghost type_written: { Self → ℕ };
+
+    /// Whether the message can be written.
+    fn is_writable(&self) -> bool
+        ensures { IsTrue result ↔ writable self.now };
+
+    /// The message's type.
+    fn message_type(&self) -> u16
+        ensures { result ≡ type_written self.now };
+
+    /// How many bytes `serialize` writes.
+    fn buffer_len(&self) -> usize
+        requires { writable self.now }
+        ensures { result ≡ length (bytes self.now) };
+
+    /// Writes the message at the front of the buffer, and leaves the rest.
+    fn serialize(&self, buffer: &mut [u8])
+        requires writable { writable self.now }
+        requires room { length (bytes self.now) ≤ length buffer.old }
+        ensures { buffer.new ≡ bytes self.now ++ drop (length (bytes self.now)) buffer.old };
+}
+
+/// A message of a protocol that is read from a payload under the type that the netlink header tells.
+pub trait NetlinkDeserializable: Sized {
+    // What is compared of a message: each field, and lists by their elements.
+    ghost Seen: { Type 0 };
+
+    ghost seen: { Self → Seen };
+
+    // The message belongs to the payload under the type.
+    ghost reads: { List ℕ → ℕ → Seen → Type 0 };
+
+    // The fault is the payload's first under the type.
+    ghost refuses: { List ℕ → ℕ → Fault → Type 0 };
+
+    /// Reads a message under the header's type, or tells the first fault. No other field of the header is looked at.
+    fn deserialize(
+        alloc: Global,
+        header: &NetlinkHeader,
+        payload: &[u8],
+    ) -> Result<Self, DecodeError>
+        ensures value { IfOk result (λ m. reads payload.now header.now.message_type (seen m)) }
+        ensures fault { IfErr result (λ e. e ≢ Memory → refuses payload.now header.now.message_type e) };
+
+    // A payload has a message or a fault.
+    ghost answered: { (b : List ℕ) (t : ℕ) → IsBytes b → t < 2 ^ 16 → ((m : Seen) × reads b t m) ⊎ ((e : Fault) × refuses b t e) };
+}
+
+/// What a message carries, by its type.
+#[derive(Debug, Drop, PartialEq, Eq)]
+pub enum NetlinkPayload<I> {
+    /// A dump ends. The bytes are kept as they came.
+    Done(Vec<u8>),
+    /// A request failed, or is acknowledged. The bytes are kept as they came.
+    Error(Vec<u8>),
+    /// Nothing.
+    Noop,
+    /// Data was lost. The bytes are kept as they came.
+    Overrun(Vec<u8>),
+    /// A message of the protocol.
+    InnerMessage(I),
+}
+
+impl<I: NetlinkSerializable> NetlinkPayload<I> {
+    /// The type that the message's header is to tell: `NLMSG_DONE`, `NLMSG_ERROR`, `NLMSG_NOOP`, `NLMSG_OVERRUN`, or
+    /// that of the inner message.
+    pub fn message_type(&self) -> u16
+        ensures { result ≡ payload_type I.type_written (payload_of itself self.now) }
+    {
+        match self {
+            NetlinkPayload::Done(_) => NLMSG_DONE,
+            NetlinkPayload::Error(_) => NLMSG_ERROR,
+            NetlinkPayload::Noop => NLMSG_NOOP,
+            NetlinkPayload::Overrun(_) => NLMSG_OVERRUN,
+            NetlinkPayload::InnerMessage(message) => message.message_type(),
+        }
+    }
+
+    // Whether an inner message, if there is one, can be written.
+    fn is_writable(&self) -> bool
+        ensures { IsTrue result ↔ OfInner I.writable (payload_of itself self.now) }
+    {
+        match self {
+            NetlinkPayload::InnerMessage(message) => message.is_writable(),
+            _ => true,
+        }
+    }
+
+    // How many bytes the payload is written as.
+    fn buffer_len(&self) -> usize
+        requires { OfInner I.writable (payload_of itself self.now) }
+        ensures { result ≡ length (payload_bytes I.bytes (payload_of itself self.now)) }
+    {
+        match self {
+            NetlinkPayload::Done(bytes)
+            | NetlinkPayload::Error(bytes)
+            | NetlinkPayload::Overrun(bytes) => bytes.len(),
+            NetlinkPayload::Noop => 0,
+            NetlinkPayload::InnerMessage(message) => message.buffer_len(),
+        }
+    }
+
+    // Writes the payload at the front of the buffer, and leaves the rest.
+    fn serialize(&self, buffer: &mut [u8])
+        requires writable { OfInner I.writable (payload_of itself self.now) }
+        requires room { length (payload_bytes I.bytes (payload_of itself self.now)) ≤ length buffer.old }
+        ensures { buffer.new ≡ payload_bytes I.bytes (payload_of itself self.now)
+            ++ drop (length (payload_bytes I.bytes (payload_of itself self.now))) buffer.old }
+    {
+        match self {
+            NetlinkPayload::Done(bytes)
+            | NetlinkPayload::Error(bytes)
+            | NetlinkPayload::Overrun(bytes) => buffer[..bytes.len()].copy_from_slice(bytes),
+            NetlinkPayload::Noop => {}
+            NetlinkPayload::InnerMessage(message) => message.serialize(buffer),
+        }
+    }
+}
+
+impl<I: NetlinkDeserializable> NetlinkPayload<I> {
+    // The payload under the header's type. A payload of nothing takes no memory.
+    fn read(alloc: Global, header: &NetlinkHeader, bytes: &[u8]) -> Result<Self, DecodeError>
+        ensures value { IfOk result (λ p. PayloadIs I.reads bytes.now header.now.message_type (payload_of I.seen p)) }
+        ensures fault { IfErr result (λ e. e ≢ Memory
+            → IsInnerType header.now.message_type × I.refuses bytes.now header.now.message_type e) }
+        ensures memory { IfErr result (λ e. header.now.message_type ≢ 1) }
+    {
+        Ok(match header.message_type {
+            NLMSG_NOOP => NetlinkPayload::Noop,
+            NLMSG_ERROR => NetlinkPayload::Error(Vec::from_slice(alloc, bytes)?),
+            NLMSG_DONE => NetlinkPayload::Done(Vec::from_slice(alloc, bytes)?),
+            NLMSG_OVERRUN => NetlinkPayload::Overrun(Vec::from_slice(alloc, bytes)?),
+            _ => NetlinkPayload::InnerMessage(I::deserialize(alloc, header, bytes)?),
+        })
+    }
+}
+
+/// A netlink message: a header and a payload.
+#[derive(Debug, Drop, PartialEq, Eq)]
+pub struct NetlinkMessage<I> {
+    /// The header, whose length and type are those that were read or given until `finalize` sets them.
+    pub header: NetlinkHeader,
+    /// What the message carries.
+    pub payload: NetlinkPayload<I>,
+}
+
+impl<I> NetlinkMessage<I> {
+    /// The message with this header, as it stands, and this payload.
+    pub fn new(header: NetlinkHeader, payload: NetlinkPayload<I>) -> Self
+        ensures header { result.header ≡ header }
+        ensures payload { result.payload ≡ payload }
+    {
+        NetlinkMessage { header, payload }
+    }
+
+    /// The header and the payload.
+    pub fn into_parts(self) -> (NetlinkHeader, NetlinkPayload<I>)
+        ensures header { result.0 ≡ self.header }
+        ensures payload { result.1 ≡ self.payload }
+    {
+        let NetlinkMessage { header, payload } = self;
+        (header, payload)
+    }
+}
+
+impl<I: NetlinkDeserializable> NetlinkMessage<I> {
+    /// Reads the message at the front of the bytes. What follows its length is unread.
+    ///
+    /// Refused are fewer than 16 bytes as `EnvelopeCut`, then a length under 16 as `EnvelopeLengthUnder16`, then one
+    /// past the bytes as `EnvelopeLengthPast`, then what the inner message's reader refuses. A message of type
+    /// `NLMSG_NOOP` takes no memory, and its payload is dropped.
+    pub fn deserialize(alloc: Global, bytes: &[u8]) -> Result<Self, DecodeError>
+        ensures value { IfOk result (λ m. EnvelopeIs I.reads bytes.now (envelope_of I.seen m)) }
+        ensures fault { IfErr result (λ e. e ≢ Memory → EnvelopeFault I.refuses bytes.now e) }
+        ensures memory { IfErr result (λ e. e ≡ Memory → type_word bytes.now ≢ 1) }
+    {
+        let header = NetlinkHeader::from_prefix(bytes)?;
+        let payload = NetlinkPayload::read(alloc, &header, &bytes[HEADER..header.length as usize])?;
+        Ok(NetlinkMessage { header, payload })
+    }
+}
+
+impl<I: NetlinkSerializable> NetlinkMessage<I> {
+    /// Sets the header's length to that of the message, and its type to the payload's.
+    pub fn finalize(&mut self)
+        requires { EnvelopeFits I.bytes I.writable (envelope_of itself self.old) }
+        ensures header { self.new.header ≡ finalized I.bytes I.type_written (envelope_of itself self.old) }
+        ensures payload { self.new.payload ≡ self.old.payload }
+    {
+        self.header.length = self.buffer_len() as u32;
+        self.header.message_type = self.payload.message_type();
+    }
+
+    /// Whether the message can be written: its inner message can be, and the whole has at most 4,294,967,295 bytes,
+    /// the header's 16 among them.
+    pub fn is_writable(&self) -> bool
+        ensures { IsTrue result ↔ EnvelopeFits I.bytes I.writable (envelope_of itself self.now) }
+    {
+        self.payload.is_writable() && self.payload.buffer_len() <= LONGEST - HEADER
+    }
+
+    /// How many bytes `serialize` writes.
+    pub fn buffer_len(&self) -> usize
+        requires { EnvelopeFits I.bytes I.writable (envelope_of itself self.now) }
+        ensures { result ≡ length (envelope_bytes I.bytes (envelope_of itself self.now)) }
+    {
+        HEADER + self.payload.buffer_len()
+    }
+
+    /// Writes the header as it stands and then the payload, and leaves the rest of the buffer.
+    pub fn serialize(&self, buffer: &mut [u8])
+        requires writable { EnvelopeFits I.bytes I.writable (envelope_of itself self.now) }
+        requires room { length (envelope_bytes I.bytes (envelope_of itself self.now)) ≤ length buffer.old }
+        ensures { buffer.new ≡ envelope_bytes I.bytes (envelope_of itself self.now)
+            ++ drop (length (envelope_bytes I.bytes (envelope_of itself self.now))) buffer.old }
+    {
+        let (header, rest) = buffer.split_at_mut(HEADER);
+        self.header.write(header);
+        self.payload.serialize(rest);
+    }
+}
+
+#[cfg(test)]
+mod tests;
