@@ -14,7 +14,7 @@ use Rattle.hex.specs.declared.error.FromHexError.{FromHexError}
 use Rattle.sockdiag.specs.Answer.{IsRequest, answer_at, answer_of, answer_to, answer_under, bad_line, is_space, name_of, names, word_of}
 use Rattle.sockdiag.specs.HexField.{IsHexField, field_bytes}
 use Rattle.sockdiag.specs.declared.answers.Name.{Name}
-use Rattle.sockdiag.specs.declared.answers.Name.TheVariants.{UnixRequest, InetRequest, SocketId4, SocketId6}
+use Rattle.sockdiag.specs.declared.answers.Name.TheVariants.{UnixRequest, UnixResponse, InetRequest, InetResponse, SocketId4, SocketId6, Message, NetlinkMessage}
 
 -- ---- fields
 
@@ -54,9 +54,13 @@ IsHexField-from_bytes (c ∷ rest) bytes h =
 
 name_of-word : (name : Name) → name_of (word_of name) ≡ Some name
 name_of-word UnixRequest = refl
+name_of-word UnixResponse = refl
 name_of-word InetRequest = refl
+name_of-word InetResponse = refl
 name_of-word SocketId4 = refl
 name_of-word SocketId6 = refl
+name_of-word Message = refl
+name_of-word NetlinkMessage = refl
 
 -- what a search finds passes its test
 find-passes : (p : Name → Bool) (xs : List Name) (x : Name) → find p xs ≡ Some x → p x ≡ true
@@ -76,15 +80,23 @@ word_of-name word name h = (bytes_eq-Decides word (word_of name)).0 (find-passes
 -- the first space of a line stands behind its name
 word_place : (name : Name) (field : List ℕ) → position_or_len is_space (word_of name ++ 32 ∷ field) ≡ length (word_of name)
 word_place UnixRequest field = refl
+word_place UnixResponse field = refl
 word_place InetRequest field = refl
+word_place InetResponse field = refl
 word_place SocketId4 field = refl
 word_place SocketId6 field = refl
+word_place Message field = refl
+word_place NetlinkMessage field = refl
 
 word_left : (name : Name) (field : List ℕ) → drop (length (word_of name) + 1) (word_of name ++ 32 ∷ field) ≡ field
 word_left UnixRequest field = refl
+word_left UnixResponse field = refl
 word_left InetRequest field = refl
+word_left InetResponse field = refl
 word_left SocketId4 field = refl
 word_left SocketId6 field = refl
+word_left Message field = refl
+word_left NetlinkMessage field = refl
 
 -- ---- lines
 

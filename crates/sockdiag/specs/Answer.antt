@@ -8,10 +8,15 @@ use Rattle.sock_diag_records.specs.InetRequest.{inet_request}
 use Rattle.sock_diag_records.specs.InetRequestLaws.{inet_request_laws}
 use Rattle.sock_diag_records.specs.SocketId.{socket_id}
 use Rattle.sock_diag_records.specs.SocketIdLaws.{socket_id_laws}
+use Rattle.netlink_packet_sock_diag.specs.UnixReply.{unix_reply}
+use Rattle.netlink_packet_sock_diag.specs.UnixReplyLaws.{unix_reply_laws}
+use Rattle.netlink_packet_sock_diag.specs.InetReply.{inet_reply}
+use Rattle.netlink_packet_sock_diag.specs.InetReplyLaws.{inet_reply_laws}
 use Rattle.sockdiag.specs.HexField.{IsHexField, field_bytes}
-use Rattle.sockdiag.specs.Told.{Subject, TellsOf, record_subject, told}
+use Rattle.sockdiag.specs.Told.{Subject, TellsOf, told}
+use Rattle.sockdiag.specs.Subjects.{record_subject, reply_subject, message_subject, envelope_subject}
 use Rattle.sockdiag.specs.declared.answers.Name.{Name}
-use Rattle.sockdiag.specs.declared.answers.Name.TheVariants.{UnixRequest, InetRequest, SocketId4, SocketId6}
+use Rattle.sockdiag.specs.declared.answers.Name.TheVariants.{UnixRequest, UnixResponse, InetRequest, InetResponse, SocketId4, SocketId6, Message, NetlinkMessage}
 
 -- a space
 abbrev pub is_space : ℕ → Bool
@@ -24,13 +29,17 @@ bad_line = codes "bad line"
 -- how each name is spelled
 abbrev pub word_of : Name → List ℕ
 word_of UnixRequest = codes "unixreq"
+word_of UnixResponse = codes "unix"
 word_of InetRequest = codes "inetreq"
+word_of InetResponse = codes "inet"
 word_of SocketId4 = codes "sockid4"
 word_of SocketId6 = codes "sockid6"
+word_of Message = codes "message"
+word_of NetlinkMessage = codes "netlink"
 
 -- all names
 abbrev pub names : List Name
-names = UnixRequest ∷ InetRequest ∷ SocketId4 ∷ SocketId6 ∷ []
+names = UnixRequest ∷ UnixResponse ∷ InetRequest ∷ InetResponse ∷ SocketId4 ∷ SocketId6 ∷ Message ∷ NetlinkMessage ∷ []
 
 -- the name that a word is
 abbrev pub name_of : List ℕ → Option Name
@@ -45,9 +54,13 @@ pub record IsRequest (line : List ℕ) (name : Name) (bytes : List ℕ) : Type 0
 -- what the bytes of each name are read as; the socket identities under AF_INET, 2, and AF_INET6, 10
 abbrev pub subject_of : Name → Subject
 subject_of UnixRequest = record_subject unix_request _ _ unix_request_laws tt
+subject_of UnixResponse = reply_subject unix_reply unix_reply_laws
 subject_of InetRequest = record_subject inet_request _ _ inet_request_laws tt
+subject_of InetResponse = reply_subject inet_reply inet_reply_laws
 subject_of SocketId4 = record_subject socket_id _ _ socket_id_laws 2
 subject_of SocketId6 = record_subject socket_id _ _ socket_id_laws 10
+subject_of Message = message_subject
+subject_of NetlinkMessage = envelope_subject
 
 -- the text answers the bytes of a name
 abbrev pub IsAnswer : Name → List ℕ → List ℕ → Type 0

@@ -1,34 +1,49 @@
 //! The answer to one line.
 
 ghost use Rattle.sockdiag.specs.declared.answers.Name.{Name};
-ghost use Rattle.std.specs.Prelude.{ℕ, List, Option, ◌≡◌, ◌↔◌, ◌<◌, ◌++◌, length, IfSome, IfOk, OnOk, option_map};
+ghost use Rattle.std.specs.Prelude.{[], ◌∷◌, ℕ, List, Option, decimal, ◌≡◌, ◌≢◌, ◌↔◌, ◌<◌, ◌++◌, length, IfSome, IfOk, OnOk, option_map};
 ghost use Rattle.std.specs.List.{position};
 ghost use Rattle.sockdiag.specs.HexField.{field_bytes, field_of};
 ghost use Rattle.sockdiag.specs.Answer.{IsAnswer, IsRequest, answer_of, bad_line, is_space, name_of, subject_of};
-ghost use Rattle.sockdiag.specs.Told.{IsAccepted, Tells, accepted, refused};
+ghost use Rattle.netlink_core.specs.Seen.{envelope_of};
+ghost use Rattle.netlink_core.specs.declared.fault.DecodeError.TheVariants.{Memory};
+ghost use Rattle.netlink_packet_sock_diag.specs.SeenMessage.{seen_message};
+ghost use Rattle.sockdiag.specs.EnvelopeLine.{ShowsEnvelope};
+ghost use Rattle.sockdiag.specs.Subjects.{envelope_subject};
+ghost use Rattle.sockdiag.specs.Told.{IsAccepted, Tells, TellsOf, accepted, refused};
 
 use hex::FromHexError;
-use netlink_core::{CanonError, DecodeError, Wire, canonical};
-use sock_diag_records::constants::{AF_INET, AF_INET6};
-use sock_diag_records::inet::{InetRequest, SocketId};
-use sock_diag_records::unix::UnixRequest;
+use netlink_core::{CanonError, DecodeError, NetlinkMessage, Wire, canonical};
+use netlink_packet_sock_diag::SockDiagMessage;
+use netlink_packet_sock_diag::constants::{AF_INET, AF_INET6, SOCK_DIAG_BY_FAMILY};
+use netlink_packet_sock_diag::inet::{InetRequest, InetResponse, SocketId};
+use netlink_packet_sock_diag::unix::{UnixRequest, UnixResponse};
 use std::alloc::{AllocError, Global};
 
 /// The name at the front of a line, which says what the bytes are.
 #[derive(Clone, Copy, Debug, PartialEq, Eq)]
 pub(crate) enum Name {
     UnixRequest,
+    UnixResponse,
     InetRequest,
+    InetResponse,
     /// A socket's identity with IPv4 addresses.
     SocketId4,
     /// A socket's identity with IPv6 addresses.
     SocketId6,
+    /// A message of sock_diag(7) without its netlink header.
+    Message,
+    /// The same with its netlink header.
+    NetlinkMessage,
 }
 
 const BAD_LINE: &[u8] = b"bad line";
 
-/// The answer to a line, without its line feed: `ok` and the bytes written back, `refused` and the
-/// number of the first fault, or `bad line`.
+/// The number of bytes of a netlink header.
+const HEADER: usize = 16;
+
+/// The answer to a line, without its line feed: `ok` and the bytes written back, `unwritable`, `refused`
+/// and the number of the first fault, or `bad line`.
 pub fn answer(alloc: Global, line: &[u8]) -> Result<Vec<u8>, AllocError>
     ensures asked { IfOk result (λ text. (name : Name) (bytes : List ℕ) → IsRequest line.now name bytes
         → IsAnswer name bytes text.items) }
@@ -42,7 +57,7 @@ pub fn answer(alloc: Global, line: &[u8]) -> Result<Vec<u8>, AllocError>
     ensures same { IfOk result (λ text. (name : Name) (other bytes bytes' : List ℕ)
         → IsRequest line.now name bytes → IsRequest other name bytes'
         → IsAccepted (subject_of name) bytes → IsAccepted (subject_of name) bytes'
-        → ((text.items ≡ answer_of other) ↔ (subject_of name).idle (subject_of name).param bytes bytes')) }
+        → ((text.items ≡ answer_of other) ↔ (subject_of name).idle bytes bytes')) }
 {
     answer_by_parts(alloc, line)
 }
@@ -68,9 +83,13 @@ fn answer_bytes(alloc: Global, name: Name, bytes: &[u8]) -> Result<Vec<u8>, Allo
 {
     match name {
         Name::UnixRequest => answer_as::<UnixRequest>(alloc, bytes, ()),
+        Name::UnixResponse => answer_as::<UnixResponse>(alloc, bytes, ()),
         Name::InetRequest => answer_as::<InetRequest>(alloc, bytes, ()),
+        Name::InetResponse => answer_as::<InetResponse>(alloc, bytes, ()),
         Name::SocketId4 => answer_as::<SocketId>(alloc, bytes, AF_INET),
         Name::SocketId6 => answer_as::<SocketId>(alloc, bytes, AF_INET6),
+        Name::Message => answer_as::<SockDiagMessage>(alloc, bytes, SOCK_DIAG_BY_FAMILY),
+        Name::NetlinkMessage => answer_netlink_message(alloc, bytes),
     }
 }
 
@@ -80,7 +99,8 @@ fn answer_as<T: Wire + Drop>(
     bytes: &[u8],
     param: T::Param,
 ) -> Result<Vec<u8>, AllocError>
-    ensures { IfOk result (λ text. Tells (T.reads bytes.now param) (T.refuses bytes.now param) T.fits T.written text.items) }
+    ensures { IfOk result (λ text. Tells (T.reads bytes.now param) (T.refuses bytes.now param) T.fits
+        (λ v. field_of (T.written v)) text.items) }
 {
     match canonical::<T>(alloc, bytes, param) {
         Ok(written) => accept(alloc, written.as_slice()),
@@ -90,20 +110,63 @@ fn answer_as<T: Wire + Drop>(
     }
 }
 
+/// `ok` and what is shown of a netlink message, `unwritable`, or `refused` and the number of the fault.
+fn answer_netlink_message(alloc: Global, bytes: &[u8]) -> Result<Vec<u8>, AllocError>
+    ensures { IfOk result (λ text. TellsOf envelope_subject bytes.now text.items) }
+{
+    match NetlinkMessage::<SockDiagMessage>::deserialize(alloc, bytes) {
+        Ok(message) => show_netlink_message(alloc, &message),
+        Err(fault) => refuse(alloc, &fault),
+    }
+}
+
+/// `ok`, the five fields of the header and the payload as it is written back, or `unwritable`.
+fn show_netlink_message(
+    alloc: Global,
+    message: &NetlinkMessage<SockDiagMessage>,
+) -> Result<Vec<u8>, AllocError>
+    ensures { IfOk result (λ text. ShowsEnvelope (envelope_of seen_message message.now) text.items) }
+{
+    if !message.is_writable() {
+        return Vec::from_slice(alloc, b"unwritable");
+    }
+    let mut bytes = vec![in alloc; 0; message.buffer_len()]?;
+    message.serialize(&mut bytes);
+    let header = &message.header;
+    let mut text = Vec::from_slice(alloc, b"ok ")?;
+    push_number(alloc, &mut text, header.length)?;
+    push_number(alloc, &mut text, header.message_type.into())?;
+    push_number(alloc, &mut text, header.flags.into())?;
+    push_number(alloc, &mut text, header.sequence_number)?;
+    push_number(alloc, &mut text, header.port_number)?;
+    push_field(alloc, &mut text, &bytes[HEADER..])?;
+    Ok(text)
+}
+
+/// Adds a number in decimal and a space to the text.
+fn push_number(alloc: Global, text: &mut Vec<u8>, number: u32) -> Result<(), AllocError>
+    ensures { OnOk result (text.new.items ≡ text.old.items ++ (decimal number ++ 32 ∷ [])) }
+{
+    text.extend_from_slice(format!(in alloc; "{number} ")?.as_bytes())
+}
+
 /// `ok` and the hex field of some bytes.
 fn accept(alloc: Global, written: &[u8]) -> Result<Vec<u8>, AllocError>
-    ensures { IfOk result (λ text. text.items ≡ accepted written.now) }
+    ensures { IfOk result (λ text. text.items ≡ accepted (field_of written.now)) }
 {
     let mut text = Vec::from_slice(alloc, b"ok ")?;
     push_field(alloc, &mut text, written)?;
     Ok(text)
 }
 
-/// `refused` and the number of a fault.
+/// `refused` and the number of a fault. Want of memory is none, and is handed on.
 fn refuse(alloc: Global, fault: &DecodeError) -> Result<Vec<u8>, AllocError>
-    ensures { IfOk result (λ text. text.items ≡ refused fault.now) }
+    ensures { IfOk result (λ text. (fault.now ≢ Memory) × (text.items ≡ refused fault.now)) }
 {
-    Ok(format!(in alloc; "refused {}", fault.number())?.into_bytes())
+    match fault {
+        DecodeError::Memory => Err(AllocError),
+        named => Ok(format!(in alloc; "refused {}", named.number())?.into_bytes()),
+    }
 }
 
 /// The place of the first space.
@@ -119,9 +182,13 @@ fn find_name(word: &[u8]) -> Option<Name>
 {
     match word {
         b"unixreq" => Some(Name::UnixRequest),
+        b"unix" => Some(Name::UnixResponse),
+        b"inet" => Some(Name::InetResponse),
         b"inetreq" => Some(Name::InetRequest),
         b"sockid4" => Some(Name::SocketId4),
         b"sockid6" => Some(Name::SocketId6),
+        b"message" => Some(Name::Message),
+        b"netlink" => Some(Name::NetlinkMessage),
         _ => None,
     }
 }

@@ -2,7 +2,7 @@ ghost use Rattle.std.specs.Prelude.{Some};
 
 use crate::answers::answer;
 use crate::stream::{RunError, run};
-use std::alloc::Global;
+use std::alloc::{AllocError, Global};
 use std::cell::Cell;
 use std::io;
 use std::io::{ErrorKind, Read, Write};
@@ -269,6 +269,59 @@ fn answers_lines_of_any_form(rt: HostRuntime) -> Result<(), Fail> {
 #[test]
 fn answers_requests_and_identities(rt: HostRuntime) -> Result<(), Fail> {
     answers_each(&rt, rt.alloc(), &rows::REQUESTS)
+}
+
+#[test]
+fn answers_replies(rt: HostRuntime) -> Result<(), Fail> {
+    answers_each(&rt, rt.alloc(), &rows::UNIX_REPLIES)?;
+    answers_each(&rt, rt.alloc(), &rows::INET_REPLIES)
+}
+
+#[test]
+fn answers_messages(rt: HostRuntime) -> Result<(), Fail> {
+    answers_each(&rt, rt.alloc(), &rows::MESSAGES)
+}
+
+/// The header of a reply about a TCP connection over IPv4.
+const HEADER: &str =
+    "02010200eb1401bbc0a8b23c000000000000000000000000acd91783000000000000000000000000000000005203000000000000806000000000000000000000e8030000a8da2900";
+
+/// A word, a reply with a congestion algorithm of that many letters `a`, and what follows them.
+fn long_reply(
+    alloc: Global,
+    word: &str,
+    letters: usize,
+    back: &str,
+) -> Result<Vec<u8>, AllocError> {
+    let mut text = Vec::new(alloc);
+    text.extend_from_slice(word.as_bytes())?;
+    text.extend_from_slice(HEADER.as_bytes())?;
+    text.extend_from_slice(b"ffff0400")?;
+    for _ in 0..letters {
+        text.extend_from_slice(b"61")?;
+    }
+    text.extend_from_slice(back.as_bytes())?;
+    Ok(text)
+}
+
+/// A congestion algorithm of 65,531 bytes has no room for its end zero, one of 65,530 bytes has.
+#[test]
+fn answers_texts_at_the_limit(rt: HostRuntime) -> Result<(), Fail> {
+    let alloc = rt.alloc();
+    let line = long_reply(alloc, "inet ", 65531, "")?;
+    assert_eq!(rt;
+        answer(alloc, line.as_slice())?.as_slice(),
+        &b"unwritable"[..]
+    );
+    for (back, written) in [
+        ("00", "0000"),
+        ("00000500080000000000", "00000500080000000000"),
+    ] {
+        let line = long_reply(alloc, "inet ", 65530, back)?;
+        let want = long_reply(alloc, "ok ", 65530, written)?;
+        assert!(rt; answer(alloc, line.as_slice())?.as_slice() == want.as_slice());
+    }
+    Ok(())
 }
 
 #[test]

@@ -2,7 +2,8 @@ use Rattle.std.proofs.Common.{ℕ, List, sym, ◌∙◌, subst}
 use Rattle.std.proofs.lemmas.Result.{IfOk-weaker}
 use Rattle.sockdiag.specs.Answer.{IsAnswer, subject_of}
 use Rattle.sockdiag.proofs.AnswerLemmas.{answer_of-asked, answer_of-other}
-use Rattle.sockdiag.proofs.Telling.{IsBytes-field, told-tells, told_alike}
+use Rattle.sockdiag.specs.FieldLaws.{IsBytes-field}
+use Rattle.sockdiag.proofs.Telling.{told-tells, told_alike}
 use Rattle.sockdiag.proofs.answers.answer.Goals as goal
 
 pub returns-clause-asked : goal.returns-clause-asked

@@ -6,7 +6,8 @@ use Rattle.sockdiag.specs.Answer.{answer_of, answer_to, is_space, name_of, subje
 use Rattle.sockdiag.specs.HexField.{field_bytes}
 use Rattle.sockdiag.specs.declared.answers.Name.{Name}
 use Rattle.sockdiag.proofs.AnswerLemmas.{IsHexField-from_bytes}
-use Rattle.sockdiag.proofs.Telling.{IsBytes-field, one_text, told-tells}
+use Rattle.sockdiag.specs.FieldLaws.{IsBytes-field}
+use Rattle.sockdiag.proofs.Telling.{one_text, told-tells}
 use Rattle.sockdiag.proofs.answers.answer_by_parts.Goals as goal
 
 -- a line with a space, a name before it and a field after it

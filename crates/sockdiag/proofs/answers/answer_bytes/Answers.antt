@@ -11,3 +11,15 @@ returns-in-SocketId4 c = rw c.in-SocketId4.is c.answer_as-in-SocketId4.ensures
 
 pub returns-in-SocketId6 : goal.returns-in-SocketId6
 returns-in-SocketId6 c = rw c.in-SocketId6.is c.answer_as-in-SocketId6.ensures
+
+pub returns-in-UnixResponse : goal.returns-in-UnixResponse
+returns-in-UnixResponse c = rw c.in-UnixResponse.is c.answer_as-in-UnixResponse.ensures
+
+pub returns-in-InetResponse : goal.returns-in-InetResponse
+returns-in-InetResponse c = rw c.in-InetResponse.is c.answer_as-in-InetResponse.ensures
+
+pub returns-in-Message : goal.returns-in-Message
+returns-in-Message c = rw c.in-Message.is c.answer_as-in-Message.ensures
+
+pub returns-in-NetlinkMessage : goal.returns-in-NetlinkMessage
+returns-in-NetlinkMessage c = rw c.in-NetlinkMessage.is c.answer_netlink_message.ensures

@@ -1,0 +1,41 @@
+-- Laws of netlink messages that carry messages of sock_diag(7).
+use Rattle.std.proofs.Common.{◌≡◌, ◌↔◌, ◌⊎◌, inl, inr, ℕ, List, [], ◌∷◌, refl, sym, subst, arith}
+use Rattle.std.specs.Prelude.{IsTrue, count_by}
+use Rattle.netlink_core.specs.declared.fault.DecodeError.TheVariants.{UnknownMessageType}
+use Rattle.netlink_core.specs.declared.header.NetlinkHeader.{NetlinkHeader}
+use Rattle.netlink_core.specs.Header.{IsTypedHeader}
+use Rattle.netlink_core.specs.Envelope.{Payload, done_with, error_with, no_payload, overrun_with, inner, Envelope, IsInnerType, EnvelopeFault, EnvelopeFits, OfInner, envelope_bytes, finalized, payload_type, IsNormalEnvelope}
+use Rattle.netlink_core.proofs.Idle.{finalized_frame}
+use Rattle.netlink_packet_sock_diag.specs.Message.{Message, inet_request_with, inet_response_with, unix_request_with, unix_response_with, MessageIs, MessageFault, MessageFits, IsNormalMessage, message_bytes, is_inet_request, is_inet_response, is_unix_request, is_unix_response}
+use Rattle.netlink_packet_sock_diag.specs.MessageLaws.{length-message_bytes}
+
+pub one_kind : (m : Message) → count_by (λ is. is m) (is_inet_request ∷ is_inet_response ∷ is_unix_request ∷ is_unix_response ∷ []) ≡ 1
+one_kind (inet_request_with v) = refl
+one_kind (inet_response_with v) = refl
+one_kind (unix_request_with v) = refl
+one_kind (unix_response_with v) = refl
+
+pub read_is_reply : (b : List ℕ) (t : ℕ) (m : Message) → MessageIs b t m → IsTrue (is_inet_response m) ⊎ IsTrue (is_unix_response m)
+read_is_reply b t (inet_request_with v) r = absurd r
+read_is_reply b t (inet_response_with v) r = inl refl
+read_is_reply b t (unix_request_with v) r = absurd r
+read_is_reply b t (unix_response_with v) r = inr refl
+
+-- the message stands framed under the type 21, which no message is read under
+pub destroy_is_refused : (h : NetlinkHeader) (m : Message) → IsTypedHeader h → EnvelopeFits message_bytes MessageFits (record { header = h; payload = inner m })
+    → EnvelopeFault MessageFault (envelope_bytes message_bytes (record { header = finalized message_bytes (λ _. 21) (record { header = h; payload = inner m }); payload = inner m })) (UnknownMessageType 21)
+destroy_is_refused h m typed fits =
+    let own = finalized message_bytes (λ _. 21) (record { header = h; payload = inner m }) in
+    let own-typed : IsTypedHeader own = record { length = let whole = fits.1 in omega arith; message_type = omega arith; flags = typed.flags; sequence_number = typed.sequence_number; port_number = typed.port_number } in
+    inr (own, message_bytes m, finalized_frame MessageIs message_bytes (λ _. 21) (record { header = own; payload = inner m }) own-typed (refl, refl), inr (omega arith), inl (refl, length-message_bytes m, λ is. omega (arith, is)))
+
+-- the type of a finalized inner message is 20, a type of inner messages
+normal_payload : (t : ℕ) (p : Payload Message) → t ≡ payload_type (λ _. 20) p → (OfInner (λ m. IsInnerType t × IsNormalMessage t m) p ↔ OfInner (IsNormalMessage 20) p)
+normal_payload t no_payload e = (λ n. n, λ n. n)
+normal_payload t (done_with given) e = (λ n. n, λ n. n)
+normal_payload t (error_with given) e = (λ n. n, λ n. n)
+normal_payload t (overrun_with given) e = (λ n. n, λ n. n)
+normal_payload t (inner m) e = (λ n. subst (λ (k : ℕ). IsNormalMessage k m) e n.1, λ n. (inr (omega (arith, e)), subst (λ (k : ℕ). IsNormalMessage k m) (sym e) n))
+
+pub normal_envelope : (v : Envelope Message) → v.header.message_type ≡ payload_type (λ _. 20) v.payload → (IsNormalEnvelope IsNormalMessage v ↔ OfInner (IsNormalMessage 20) v.payload)
+normal_envelope v e = normal_payload v.header.message_type v.payload e

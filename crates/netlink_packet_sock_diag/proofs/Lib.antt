@@ -1,0 +1,4 @@
+pub mod UnixContents
+pub mod Lengths
+pub mod ReplyBytes
+pub mod Envelopes

@@ -1,0 +1,12 @@
+pub mod Framed
+pub mod FramedLaws
+pub mod UnixReply
+pub mod UnixReplyLaws
+pub mod SeenUnixReply
+pub mod UnixGetters
+pub mod InetReply
+pub mod InetReplyLaws
+pub mod SeenInetReply
+pub mod Message
+pub mod MessageLaws
+pub mod SeenMessage

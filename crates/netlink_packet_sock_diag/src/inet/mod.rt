@@ -1,0 +1,11 @@
+//! Requests and replies about IPv4 and IPv6 sockets.
+
+mod family;
+pub mod nlas;
+mod response;
+
+pub use response::InetResponse;
+pub use sock_diag_records::inet::{
+    ExtensionFlags, InetRequest, InetRequestBuffer, InetResponseBuffer, InetResponseHeader,
+    SocketId, SocketIdBuffer, StateFlags, Timer,
+};

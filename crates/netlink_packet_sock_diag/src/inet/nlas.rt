@@ -1,0 +1,5 @@
+//! The attributes of a reply about an IPv4 or IPv6 socket, and what they carry.
+
+pub use sock_diag_attributes::inet::nlas::{
+    LegacyMemInfo, LegacyMemInfoBuffer, MemInfo, MemInfoBuffer, Nla, TcpInfo, TcpInfoBuffer,
+};

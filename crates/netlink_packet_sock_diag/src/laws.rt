@@ -1,0 +1,79 @@
+//! Laws of replies and messages. The functions do nothing: their contracts are the laws.
+
+ghost use Rattle.std.specs.Prelude.{◌≡◌, ◌↔◌, ◌⊎◌, ◌%◌, ℕ, List, [], ◌∷◌, length, count_by, IsTrue};
+ghost use Rattle.netlink_core.specs.Bytes.{IsBytes};
+ghost use Rattle.netlink_core.specs.declared.fault.DecodeError.{DecodeError};
+ghost use Rattle.netlink_core.specs.declared.fault.DecodeError.TheVariants.{Memory, UnknownMessageType};
+ghost use Rattle.netlink_core.specs.declared.header.NetlinkHeader.{NetlinkHeader};
+ghost use Rattle.netlink_core.specs.Header.{IsTypedHeader};
+ghost use Rattle.netlink_core.specs.Envelope.{Envelope, inner, EnvelopeIs, EnvelopeFault, EnvelopeFits, OfInner, envelope_bytes, finalized, IdleEnvelopes, IsTypedEnvelope, IsFinalized};
+ghost use Rattle.netlink_core.specs.Reply.{IsTypedReply, reply_bytes};
+ghost use Rattle.netlink_packet_sock_diag.specs.UnixReply.{UnixReply, unix_reply};
+ghost use Rattle.netlink_packet_sock_diag.specs.InetReply.{InetReply, inet_reply};
+ghost use Rattle.netlink_packet_sock_diag.specs.Message.{Message, MessageIs, MessageFault, MessageFits, IdleMessages, IsTypedMessage, IsNormalMessage, message_bytes, is_inet_request, is_inet_response, is_unix_request, is_unix_response};
+
+use crate::message::SockDiagMessage;
+use netlink_core::laws;
+
+/// The number of bytes that a reply is written as, `buffer_len`, is a multiple of 4, for both families.
+pub fn reply_lengths_are_multiples_of_four()
+    ensures unix { (v : UnixReply) → IsTypedReply unix_reply v → length (reply_bytes unix_reply v) % 4 ≡ 0 }
+    ensures inet { (v : InetReply) → IsTypedReply inet_reply v → length (reply_bytes inet_reply v) % 4 ≡ 0 }
+{}
+
+/// Exactly one of the four tests is true of a message.
+pub fn one_kind()
+    ensures { (m : Message) → count_by (λ is. is m) (is_inet_request ∷ is_inet_response ∷ is_unix_request ∷ is_unix_response ∷ []) ≡ 1 }
+{}
+
+/// A message that was read is a reply.
+pub fn read_messages_are_replies()
+    ensures { (b : List ℕ) (t : ℕ) (m : Message) → MessageIs b t m
+        → IsTrue (is_inet_response m) ⊎ IsTrue (is_unix_response m) }
+{}
+
+/// A finalized request to close sockets is refused by its own reader: it is written under the type 21, and messages
+/// are read under 20 alone.
+pub fn finalized_destroy_is_refused()
+    ensures { (h : NetlinkHeader) (m : Message) → IsTypedHeader h
+        → EnvelopeFits message_bytes MessageFits (record { header = h; payload = inner m })
+        → EnvelopeFault MessageFault
+        (envelope_bytes message_bytes (record {
+          header = finalized message_bytes (λ _. 21) (record { header = h; payload = inner m });
+          payload = inner m;
+        }))
+        (UnknownMessageType 21) }
+{}
+
+/// Bytes have one netlink message of sock_diag(7) at their front or one fault, which has a name.
+pub fn one_message_or_fault()
+    ensures answered { (b : List ℕ) → IsBytes b
+        → ((v : Envelope Message) × EnvelopeIs MessageIs b v) ⊎ ((e : DecodeError) × EnvelopeFault MessageFault b e) }
+    ensures one_value { (b : List ℕ) (v w : Envelope Message) → IsBytes b
+        → EnvelopeIs MessageIs b v → EnvelopeIs MessageIs b w → v ≡ w }
+    ensures one_answer { (b : List ℕ) (v : Envelope Message) (e : DecodeError)
+        → EnvelopeIs MessageIs b v → EnvelopeFault MessageFault b e → ⊥ }
+    ensures one_fault { (b : List ℕ) (e f : DecodeError)
+        → EnvelopeFault MessageFault b e → EnvelopeFault MessageFault b f → e ≡ f }
+    ensures named_fault { (b : List ℕ) → EnvelopeFault MessageFault b Memory → ⊥ }
+{
+    laws::one_message_or_fault::<SockDiagMessage>();
+}
+
+/// Two accepted strings give equal netlink messages exactly where they are idle.
+pub fn equal_messages_where_idle()
+    ensures { (b c : List ℕ) (v w : Envelope Message) → IsBytes b → IsBytes c
+        → EnvelopeIs MessageIs b v → EnvelopeIs MessageIs c w → ((v ≡ w) ↔ IdleEnvelopes IdleMessages b c) }
+{
+    laws::equal_messages_where_idle::<SockDiagMessage>();
+}
+
+/// The bytes of a writable netlink message whose header has its own length and type, as `finalize` sets them, read back
+/// as itself exactly where it carries nothing or bytes that are kept, or a message in normal form under the type 20.
+pub fn finalized_message_reads_back()
+    ensures { (v : Envelope Message) → IsTypedEnvelope IsTypedMessage v → EnvelopeFits message_bytes MessageFits v
+        → IsFinalized message_bytes (λ _. 20) v
+        → (EnvelopeIs MessageIs (envelope_bytes message_bytes v) v ↔ OfInner (IsNormalMessage 20) v.payload) }
+{
+    laws::finalized_message_reads_back::<SockDiagMessage>();
+}

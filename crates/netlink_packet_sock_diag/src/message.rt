@@ -1,0 +1,352 @@
+//! The messages of sock_diag(7): requests and replies, and the request to close sockets.
+
+ghost use Rattle.std.specs.Prelude.{◌≡◌, ◌≢◌, ◌<◌, ◌^◌, true, refl, IfOk, IfErr};
+ghost use Rattle.netlink_core.specs.declared.fault.DecodeError.TheVariants.{Memory};
+ghost use Rattle.netlink_core.specs.declared.message.NetlinkPayload.TheVariants.{InnerMessage};
+ghost use Rattle.netlink_packet_sock_diag.specs.Message.{Message, MessageIs, MessageFault, IdleMessages, IsTypedMessage, IsNormalMessage, MessageFits, message_bytes, is_inet_request, is_inet_response, is_unix_request, is_unix_response};
+ghost use Rattle.netlink_packet_sock_diag.specs.MessageLaws.{message_laws, message_answered};
+
+use crate::constants::{AF_INET, AF_INET6, AF_UNIX, SOCK_DESTROY, SOCK_DIAG_BY_FAMILY};
+use crate::inet::{InetRequest, InetResponse};
+use crate::unix::{UnixRequest, UnixResponse};
+use netlink_core::{
+    DecodeError, Emitable, NetlinkDeserializable, NetlinkHeader, NetlinkPayload,
+    NetlinkSerializable, Parseable, ParseableParametrized, Readable, Wire,
+};
+use std::alloc::{AllocError, Global};
+
+/// A message of sock_diag(7). Replies alone are read; requests are only written.
+#[derive(Debug, Drop, PartialEq, Eq)]
+pub enum SockDiagMessage {
+    /// Asks for IPv4 or IPv6 sockets.
+    InetRequest(InetRequest),
+    /// Tells one IPv4 or IPv6 socket.
+    InetResponse(Box<InetResponse>),
+    /// Asks for UNIX sockets.
+    UnixRequest(UnixRequest),
+    /// Tells one UNIX socket.
+    UnixResponse(Box<UnixResponse>),
+}
+
+impl SockDiagMessage {
+    ghost use Rattle.netlink_packet_sock_diag.specs.SeenMessage.{seen_message};
+
+    /// Whether the message asks for IPv4 or IPv6 sockets.
+    pub fn is_inet_request(&self) -> bool
+        ensures { result ≡ is_inet_request (seen_message self.now) }
+    {
+        matches!(self, SockDiagMessage::InetRequest(_))
+    }
+
+    /// Whether the message tells an IPv4 or IPv6 socket.
+    pub fn is_inet_response(&self) -> bool
+        ensures { result ≡ is_inet_response (seen_message self.now) }
+    {
+        matches!(self, SockDiagMessage::InetResponse(_))
+    }
+
+    /// Whether the message asks for UNIX sockets.
+    pub fn is_unix_request(&self) -> bool
+        ensures { result ≡ is_unix_request (seen_message self.now) }
+    {
+        matches!(self, SockDiagMessage::UnixRequest(_))
+    }
+
+    /// Whether the message tells a UNIX socket.
+    pub fn is_unix_response(&self) -> bool
+        ensures { result ≡ is_unix_response (seen_message self.now) }
+    {
+        matches!(self, SockDiagMessage::UnixResponse(_))
+    }
+
+    /// The type under which the message is written and read: `SOCK_DIAG_BY_FAMILY`, 20.
+    pub fn message_type(&self) -> u16
+        ensures { result ≡ 20 }
+    {
+        SOCK_DIAG_BY_FAMILY
+    }
+
+    /// An equal message. It fails only for want of memory.
+    pub fn clone(&self, alloc: Global) -> Result<Self, AllocError>
+        ensures { IfOk result (λ copy. seen_message copy ≡ seen_message self.now) }
+    {
+        Ok(match self {
+            SockDiagMessage::InetRequest(request) => {
+                SockDiagMessage::InetRequest(request.clone()?)
+            }
+            SockDiagMessage::InetResponse(reply) => {
+                SockDiagMessage::InetResponse(Box::new(alloc, InetResponse::clone(reply, alloc)?)?)
+            }
+            SockDiagMessage::UnixRequest(request) => {
+                SockDiagMessage::UnixRequest(request.clone()?)
+            }
+            SockDiagMessage::UnixResponse(reply) => {
+                SockDiagMessage::UnixResponse(Box::new(alloc, UnixResponse::clone(reply, alloc)?)?)
+            }
+        })
+    }
+
+    // The message in the bytes under the type, or the first fault.
+    fn read_under(
+        alloc: Global,
+        payload: &[u8],
+        message_type: u16,
+    ) -> Result<SockDiagMessage, DecodeError>
+        ensures value { IfOk result (λ m. MessageIs payload.now message_type (seen_message m)) }
+        ensures fault { IfErr result (λ e. e ≢ Memory → MessageFault payload.now message_type e) }
+    {
+        if payload.len() < 2 {
+            return Err(DecodeError::MessageTooShort { got: payload.len() });
+        }
+        if message_type != SOCK_DIAG_BY_FAMILY {
+            return Err(DecodeError::UnknownMessageType { message_type });
+        }
+        match payload[0] {
+            AF_UNIX => {
+                let reply = UnixResponse::parse(alloc, payload)?;
+                Ok(SockDiagMessage::UnixResponse(Box::new(alloc, reply)?))
+            }
+            AF_INET | AF_INET6 => {
+                let reply = InetResponse::parse(alloc, payload)?;
+                Ok(SockDiagMessage::InetResponse(Box::new(alloc, reply)?))
+            }
+            family => Err(DecodeError::UnknownFamily { family }),
+        }
+    }
+}
+
+impl Readable for SockDiagMessage {
+    const TAKES_MEMORY: bool = true;
+
+    ghost TAKES_MEMORY = { true };
+}
+
+impl<'a> ParseableParametrized<&'a [u8], u16> for SockDiagMessage {
+    ghost use Rattle.netlink_packet_sock_diag.specs.SeenMessage.{seen_message};
+
+    ghost parses = { λ b t v. MessageIs b.now t (seen_message v) };
+
+    ghost parse_refuses = { λ b t e. MessageFault b.now t e };
+
+    /// Reads a reply under a message type. Fewer than 2 bytes are `MessageTooShort`; then a type but
+    /// `SOCK_DIAG_BY_FAMILY` is `UnknownMessageType`; then a first byte but `AF_UNIX`, `AF_INET` and `AF_INET6` is
+    /// `UnknownFamily`; then the reader of that family's replies decides.
+    fn parse_with_param(
+        alloc: Global,
+        payload: &'a [u8],
+        message_type: u16,
+    ) -> Result<Self, DecodeError> {
+        SockDiagMessage::read_under(alloc, payload, message_type)
+    }
+}
+
+impl Emitable for SockDiagMessage {
+    ghost use Rattle.netlink_packet_sock_diag.specs.SeenMessage.{seen_message};
+
+    ghost bytes = { λ v. message_bytes (seen_message v) };
+
+    ghost writable = { λ v. MessageFits (seen_message v) };
+
+    fn is_writable(&self) -> bool {
+        match self {
+            SockDiagMessage::InetResponse(reply) => reply.is_writable(),
+            SockDiagMessage::UnixResponse(reply) => reply.is_writable(),
+            SockDiagMessage::InetRequest(_) | SockDiagMessage::UnixRequest(_) => true,
+        }
+    }
+
+    fn buffer_len(&self) -> usize {
+        match self {
+            SockDiagMessage::InetRequest(request) => request.buffer_len(),
+            SockDiagMessage::InetResponse(reply) => reply.buffer_len(),
+            SockDiagMessage::UnixRequest(request) => request.buffer_len(),
+            SockDiagMessage::UnixResponse(reply) => reply.buffer_len(),
+        }
+    }
+
+    fn emit(&self, buffer: &mut [u8]) {
+        match self {
+            SockDiagMessage::InetRequest(request) => request.emit(buffer),
+            SockDiagMessage::InetResponse(reply) => reply.emit(buffer),
+            SockDiagMessage::UnixRequest(request) => request.emit(buffer),
+            SockDiagMessage::UnixResponse(reply) => reply.emit(buffer),
+        }
+    }
+}
+
+impl Wire for SockDiagMessage {
+    ghost use Rattle.netlink_packet_sock_diag.specs.SeenMessage.{seen_message};
+
+    type Param = u16;
+
+    ghost Seen = { Message };
+
+    ghost seen = { seen_message };
+
+    ghost is_typed = { IsTypedMessage };
+
+    ghost is_param = { λ t. t < 2 ^ 16 };
+
+    ghost reads = { MessageIs };
+
+    ghost refuses = { MessageFault };
+
+    ghost idle = { IdleMessages };
+
+    ghost is_normal = { IsNormalMessage };
+
+    ghost written = { message_bytes };
+
+    ghost fits = { MessageFits };
+
+    fn read(alloc: Global, bytes: &[u8], param: u16) -> Result<Self, DecodeError> {
+        SockDiagMessage::read_under(alloc, bytes, param)
+    }
+
+    ghost written_is = { λ v. refl };
+
+    ghost fits_is = { λ v. (λ h. h, λ h. h) };
+
+    ghost laws = { message_laws };
+}
+
+impl NetlinkSerializable for SockDiagMessage {
+    ghost use Rattle.netlink_packet_sock_diag.specs.SeenMessage.{seen_message};
+
+    ghost bytes = { λ v. message_bytes (seen_message v) };
+
+    ghost writable = { λ v. MessageFits (seen_message v) };
+
+    ghost type_written = { λ _. 20 };
+
+    fn is_writable(&self) -> bool {
+        Emitable::is_writable(self)
+    }
+
+    fn message_type(&self) -> u16 {
+        SOCK_DIAG_BY_FAMILY
+    }
+
+    fn buffer_len(&self) -> usize {
+        Emitable::buffer_len(self)
+    }
+
+    fn serialize(&self, buffer: &mut [u8]) {
+        self.emit(buffer);
+    }
+}
+
+impl NetlinkDeserializable for SockDiagMessage {
+    ghost use Rattle.netlink_packet_sock_diag.specs.SeenMessage.{seen_message};
+
+    ghost Seen = { Message };
+
+    ghost seen = { seen_message };
+
+    ghost reads = { MessageIs };
+
+    ghost refuses = { MessageFault };
+
+    fn deserialize(
+        alloc: Global,
+        header: &NetlinkHeader,
+        payload: &[u8],
+    ) -> Result<Self, DecodeError> {
+        SockDiagMessage::read_under(alloc, payload, header.message_type)
+    }
+
+    ghost answered = { λ b t typed _. message_answered b t typed };
+}
+
+impl From<SockDiagMessage> for NetlinkPayload<SockDiagMessage> {
+    ghost from_gives = { λ message payload. payload ≡ InnerMessage message };
+
+    fn from(message: SockDiagMessage) -> Self {
+        NetlinkPayload::InnerMessage(message)
+    }
+}
+
+/// The request to close the sockets that a message tells: the message's bytes under the type `SOCK_DESTROY`, 21.
+///
+/// It is read as a message is, so under `SOCK_DIAG_BY_FAMILY` alone, and what was written under its own type is
+/// refused.
+#[derive(Debug, Drop, PartialEq, Eq)]
+pub struct SockDiagDestroy(SockDiagMessage);
+
+impl SockDiagDestroy {
+    ghost use Rattle.netlink_packet_sock_diag.specs.SeenMessage.{seen_message, seen_destroy};
+
+    /// The request to close what the message tells.
+    pub fn new(message: SockDiagMessage) -> Self
+        ensures { seen_destroy result ≡ seen_message message }
+    {
+        SockDiagDestroy(message)
+    }
+
+    /// An equal request. It fails only for want of memory.
+    pub fn clone(&self, alloc: Global) -> Result<Self, AllocError>
+        ensures { IfOk result (λ copy. seen_destroy copy ≡ seen_destroy self.now) }
+    {
+        Ok(SockDiagDestroy(self.0.clone(alloc)?))
+    }
+}
+
+impl NetlinkSerializable for SockDiagDestroy {
+    ghost use Rattle.netlink_packet_sock_diag.specs.SeenMessage.{seen_destroy};
+
+    ghost bytes = { λ v. message_bytes (seen_destroy v) };
+
+    ghost writable = { λ v. MessageFits (seen_destroy v) };
+
+    ghost type_written = { λ _. 21 };
+
+    fn is_writable(&self) -> bool {
+        Emitable::is_writable(&self.0)
+    }
+
+    fn message_type(&self) -> u16 {
+        SOCK_DESTROY
+    }
+
+    fn buffer_len(&self) -> usize {
+        Emitable::buffer_len(&self.0)
+    }
+
+    fn serialize(&self, buffer: &mut [u8]) {
+        self.0.emit(buffer);
+    }
+}
+
+impl NetlinkDeserializable for SockDiagDestroy {
+    ghost use Rattle.netlink_packet_sock_diag.specs.SeenMessage.{seen_destroy};
+
+    ghost Seen = { Message };
+
+    ghost seen = { seen_destroy };
+
+    ghost reads = { MessageIs };
+
+    ghost refuses = { MessageFault };
+
+    fn deserialize(
+        alloc: Global,
+        header: &NetlinkHeader,
+        payload: &[u8],
+    ) -> Result<Self, DecodeError> {
+        let message = SockDiagMessage::read_under(alloc, payload, header.message_type)?;
+        Ok(SockDiagDestroy(message))
+    }
+
+    ghost answered = { λ b t typed _. message_answered b t typed };
+}
+
+impl From<SockDiagDestroy> for NetlinkPayload<SockDiagDestroy> {
+    ghost from_gives = { λ destroy payload. payload ≡ InnerMessage destroy };
+
+    fn from(destroy: SockDiagDestroy) -> Self {
+        NetlinkPayload::InnerMessage(destroy)
+    }
+}
+
+#[cfg(test)]
+mod tests;

@@ -1,0 +1,201 @@
+//! What the attributes of a reply about a UNIX socket tell.
+
+ghost use Rattle.std.specs.Prelude.{◌≡◌, map, None, IsSome, option_map, option_copied};
+ghost use Rattle.sock_diag_attributes.specs.SeenName.{seen_name};
+ghost use Rattle.sock_diag_attributes.specs.SeenUnix.{seen_nla};
+ghost use Rattle.netlink_packet_sock_diag.specs.UnixGetters.{first_of, name_in, peer_in, pending_in, queue_in, memory_in, shutdown_in, first_number, second_number};
+
+use crate::unix::UnixResponse;
+use crate::unix::nlas::{MemInfo, Nla, UnixDiagName};
+use sock_diag_records::constants::TCP_LISTEN;
+
+impl UnixResponse {
+    ghost use Rattle.netlink_packet_sock_diag.specs.SeenUnixReply.{seen_response};
+
+    /// The inode of the socket's peer, where an attribute tells it: the content of the first `Peer`.
+    pub fn peer(&self) -> Option<u32>
+        ensures { result ≡ first_of peer_in (seen_response self.now).nlas }
+    {
+        first_peer(self.nlas.as_slice())
+    }
+
+    /// The socket's name, where an attribute tells it: the content of the first `Name`.
+    pub fn name(&self) -> Option<&UnixDiagName>
+        ensures { option_map seen_name (option_copied result) ≡ first_of name_in (seen_response self.now).nlas }
+    {
+        first_name(self.nlas.as_slice())
+    }
+
+    /// The inodes of the connections that wait to be accepted: the content of the first `PendingConnections`.
+    pub fn pending_connections(&self) -> Option<&[u32]>
+        ensures { option_copied result ≡ first_of pending_in (seen_response self.now).nlas }
+    {
+        first_pending(self.nlas.as_slice())
+    }
+
+    /// Which directions are shut down: the content of the first `Shutdown`.
+    pub fn shutdown_state(&self) -> Option<u8>
+        ensures { result ≡ first_of shutdown_in (seen_response self.now).nlas }
+    {
+        first_shutdown(self.nlas.as_slice())
+    }
+}
+
+impl UnixResponse {
+    ghost use Rattle.netlink_packet_sock_diag.specs.SeenUnixReply.{seen_response};
+    ghost use Rattle.netlink_packet_sock_diag.specs.UnixGetters.{listening_queue_of, other_queue_of};
+
+    /// How many connections wait to be accepted, of a listening socket (state `TCP_LISTEN`): the first number of the
+    /// first `ReceiveQueueLength`.
+    ///
+    /// Where this is told, [`receive_queue_size`](Self::receive_queue_size) and
+    /// [`send_queue_size`](Self::send_queue_size) are not.
+    pub fn number_of_pending_connection(&self) -> Option<u32>
+        ensures value { result ≡ first_number (listening_queue_of (seen_response self.now)) }
+        ensures alone { IsSome result → (first_number (other_queue_of (seen_response self.now)) ≡ None)
+            × (second_number (other_queue_of (seen_response self.now)) ≡ None) }
+    {
+        let (waiting, _) = self.listening_queue()?;
+        Some(waiting)
+    }
+
+    /// How many connections may wait to be accepted, of a listening socket: the second number of the first
+    /// `ReceiveQueueLength`.
+    pub fn max_number_of_pending_connection(&self) -> Option<u32>
+        ensures { result ≡ second_number (listening_queue_of (seen_response self.now)) }
+    {
+        let (_, limit) = self.listening_queue()?;
+        Some(limit)
+    }
+
+    /// How many bytes wait to be read, of a socket that does not listen: the first number of the first
+    /// `ReceiveQueueLength`.
+    pub fn receive_queue_size(&self) -> Option<u32>
+        ensures { result ≡ first_number (other_queue_of (seen_response self.now)) }
+    {
+        let (received, _) = self.other_queue()?;
+        Some(received)
+    }
+
+    /// How many bytes were sent and are not yet read, of a socket that does not listen: the second number of the first
+    /// `ReceiveQueueLength`.
+    pub fn send_queue_size(&self) -> Option<u32>
+        ensures { result ≡ second_number (other_queue_of (seen_response self.now)) }
+    {
+        let (_, sent) = self.other_queue()?;
+        Some(sent)
+    }
+
+    // The lengths of the queues of a listening socket.
+    fn listening_queue(&self) -> Option<(u32, u32)>
+        ensures { result ≡ listening_queue_of (seen_response self.now) }
+    {
+        if self.header.state == TCP_LISTEN {
+            first_queue(self.nlas.as_slice())
+        } else {
+            None
+        }
+    }
+
+    // The lengths of the queues of a socket that does not listen.
+    fn other_queue(&self) -> Option<(u32, u32)>
+        ensures { result ≡ other_queue_of (seen_response self.now) }
+    {
+        if self.header.state == TCP_LISTEN {
+            None
+        } else {
+            first_queue(self.nlas.as_slice())
+        }
+    }
+}
+
+impl UnixResponse {
+    ghost use Rattle.netlink_packet_sock_diag.specs.SeenUnixReply.{seen_response};
+
+    /// The most bytes that a datagram may have: a field of the first `MemInfo`.
+    pub fn max_datagram_size(&self) -> Option<u32>
+        ensures { result ≡ option_map (λ info. info.max_datagram_size) (first_of memory_in (seen_response self.now).nlas) }
+    {
+        Some(first_memory(self.nlas.as_slice())?.max_datagram_size)
+    }
+
+    /// How many bytes of memory are taken by what was sent and is not yet read: the field `alloc` of the first
+    /// `MemInfo`.
+    pub fn memory_used_for_outgoing_data(&self) -> Option<u32>
+        ensures { result ≡ option_map (λ info. info.alloc) (first_of memory_in (seen_response self.now).nlas) }
+    {
+        Some(first_memory(self.nlas.as_slice())?.alloc)
+    }
+}
+
+// The content of the first `Peer`.
+fn first_peer(nlas: &[Nla]) -> Option<u32>
+    ensures { result ≡ first_of peer_in (map seen_nla nlas.now) }
+{
+    for nla in nlas {
+        if let Nla::Peer(inode) = nla {
+            return Some(*inode);
+        }
+    }
+    None
+}
+
+// The content of the first `Name`.
+fn first_name(nlas: &[Nla]) -> Option<&UnixDiagName>
+    ensures { option_map seen_name (option_copied result) ≡ first_of name_in (map seen_nla nlas.now) }
+{
+    for nla in nlas {
+        if let Nla::Name(name) = nla {
+            return Some(name);
+        }
+    }
+    None
+}
+
+// The content of the first `PendingConnections`.
+fn first_pending(nlas: &[Nla]) -> Option<&[u32]>
+    ensures { option_copied result ≡ first_of pending_in (map seen_nla nlas.now) }
+{
+    for nla in nlas {
+        if let Nla::PendingConnections(inodes) = nla {
+            return Some(inodes.as_slice());
+        }
+    }
+    None
+}
+
+// The content of the first `Shutdown`.
+fn first_shutdown(nlas: &[Nla]) -> Option<u8>
+    ensures { result ≡ first_of shutdown_in (map seen_nla nlas.now) }
+{
+    for nla in nlas {
+        if let Nla::Shutdown(state) = nla {
+            return Some(*state);
+        }
+    }
+    None
+}
+
+// The content of the first `ReceiveQueueLength`.
+fn first_queue(nlas: &[Nla]) -> Option<(u32, u32)>
+    ensures { result ≡ first_of queue_in (map seen_nla nlas.now) }
+{
+    for nla in nlas {
+        if let Nla::ReceiveQueueLength(first, second) = nla {
+            return Some((*first, *second));
+        }
+    }
+    None
+}
+
+// The content of the first `MemInfo`.
+fn first_memory(nlas: &[Nla]) -> Option<MemInfo>
+    ensures { result ≡ first_of memory_in (map seen_nla nlas.now) }
+{
+    for nla in nlas {
+        if let Nla::MemInfo(info) = nla {
+            return Some(*info);
+        }
+    }
+    None
+}

@@ -1,0 +1,11 @@
+//! Requests and replies about UNIX sockets.
+
+mod family;
+mod getters;
+pub mod nlas;
+mod response;
+
+pub use response::UnixResponse;
+pub use sock_diag_records::unix::{
+    ShowFlags, StateFlags, UnixRequest, UnixRequestBuffer, UnixResponseBuffer, UnixResponseHeader,
+};

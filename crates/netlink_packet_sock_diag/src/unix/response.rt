@@ -1,0 +1,122 @@
+//! The reply about one UNIX socket.
+
+ghost use Rattle.std.specs.Prelude.{◌≡◌, IfOk, map, true, refl, ⊤};
+ghost use Rattle.netlink_core.specs.Reply.{ValueOf, MeansReply, RefusesReply, AreIdleReplies, IsTypedReply, IsNormalReply, reply_bytes, ReplyFits};
+ghost use Rattle.netlink_core.proofs.Replies.{replies_keep_laws};
+ghost use Rattle.netlink_packet_sock_diag.specs.Framed.{framed, FramedFits};
+ghost use Rattle.netlink_packet_sock_diag.specs.FramedLaws.{framed_is, framed_fits};
+ghost use Rattle.netlink_packet_sock_diag.specs.UnixReply.{unix_reply};
+ghost use Rattle.netlink_packet_sock_diag.specs.UnixReplyLaws.{unix_reply_laws};
+
+use crate::reply::{copy_nlas, emit_reply, parse_nlas, reply_is_writable, reply_len};
+use crate::unix::UnixResponseHeader;
+use crate::unix::nlas::Nla;
+use netlink_core::{DecodeError, Emitable, Parseable, Readable, Wire};
+use smallvec::SmallVec;
+use std::alloc::{AllocError, Global};
+
+/// The number of bytes of the header.
+const LENGTH: usize = 16;
+
+/// The reply about one UNIX socket: the header, and the attributes that were asked for, in the order that they came.
+#[derive(Debug, Drop, PartialEq, Eq)]
+pub struct UnixResponse {
+    /// The header, which tells the socket.
+    pub header: UnixResponseHeader,
+    /// The attributes. Up to eight stand in the value itself.
+    pub nlas: SmallVec<Nla, 8>,
+}
+
+impl UnixResponse {
+    ghost use Rattle.netlink_packet_sock_diag.specs.SeenUnixReply.{seen_response};
+
+    /// An equal reply. It fails only for want of memory.
+    pub fn clone(&self, alloc: Global) -> Result<Self, AllocError>
+        ensures { IfOk result (λ copy. seen_response copy ≡ seen_response self.now) }
+    {
+        let nlas = copy_nlas(alloc, self.nlas.as_slice())?;
+        Ok(UnixResponse {
+            header: self.header.clone()?,
+            nlas,
+        })
+    }
+}
+
+impl Readable for UnixResponse {
+    const TAKES_MEMORY: bool = true;
+
+    ghost TAKES_MEMORY = { true };
+}
+
+impl<'a> Parseable<&'a [u8]> for UnixResponse {
+    ghost use Rattle.netlink_packet_sock_diag.specs.SeenUnixReply.{seen_response};
+
+    ghost parses = { λ b v. MeansReply unix_reply b.now (seen_response v) };
+
+    ghost parse_refuses = { λ b e. RefusesReply unix_reply b.now e };
+
+    /// Reads the header, and then the attributes up to the end of the bytes. Fewer than 16 bytes are `BufferTooSmall`;
+    /// after that the first fault of the attributes counts.
+    fn parse(alloc: Global, payload: &'a [u8]) -> Result<Self, DecodeError> {
+        let header = UnixResponseHeader::parse(alloc, payload)?;
+        let nlas = parse_nlas(alloc, &payload[LENGTH..])?;
+        Ok(UnixResponse { header, nlas })
+    }
+}
+
+impl Emitable for UnixResponse {
+    ghost use Rattle.netlink_packet_sock_diag.specs.SeenUnixReply.{header_bytes, attributes_of};
+
+    ghost bytes = { λ v. framed (header_bytes v) (attributes_of v) };
+
+    ghost writable = { λ v. FramedFits (header_bytes v) (attributes_of v) };
+
+    fn is_writable(&self) -> bool {
+        reply_is_writable(&self.header, self.nlas.as_slice())
+    }
+
+    fn buffer_len(&self) -> usize {
+        reply_len(&self.header, self.nlas.as_slice())
+    }
+
+    fn emit(&self, buffer: &mut [u8]) {
+        emit_reply(&self.header, self.nlas.as_slice(), buffer);
+    }
+}
+
+impl Wire for UnixResponse {
+    ghost use Rattle.sock_diag_attributes.specs.SeenUnix.{seen_nla};
+    ghost use Rattle.netlink_packet_sock_diag.specs.SeenUnixReply.{seen_response};
+
+    type Param = ();
+
+    ghost Seen = { ValueOf unix_reply };
+
+    ghost seen = { seen_response };
+
+    ghost is_typed = { λ v. IsTypedReply unix_reply v };
+
+    ghost is_param = { λ _. ⊤ };
+
+    ghost reads = { λ b _ v. MeansReply unix_reply b v };
+
+    ghost refuses = { λ b _ e. RefusesReply unix_reply b e };
+
+    ghost idle = { λ _ b c. AreIdleReplies unix_reply b c };
+
+    ghost is_normal = { λ _ v. IsNormalReply unix_reply v };
+
+    ghost written = { λ v. reply_bytes unix_reply v };
+
+    ghost fits = { λ v. ReplyFits unix_reply v };
+
+    fn read(alloc: Global, bytes: &[u8], _param: ()) -> Result<Self, DecodeError> {
+        UnixResponse::parse(alloc, bytes)
+    }
+
+    ghost written_is = { λ v. framed_is unix_reply seen_nla v.header v.nlas.items };
+
+    ghost fits_is = { λ v. framed_fits unix_reply seen_nla v.header v.nlas.items };
+
+    ghost laws = { replies_keep_laws unix_reply unix_reply_laws };
+}

@@ -1,0 +1,25 @@
+-- A byte that says yes or no, as the value of an attribute.
+use Rattle.std.specs.Prelude.{◌≡◌, ℕ, ◌==◌, ◌↔◌, not, if◌then◌else◌, List, [], ◌∷◌, length, slice_index, Some, Bool, true, false, Result, Ok, Err, ⊤}
+use Rattle.netlink_core.specs.Prefix.{Prefix}
+use Rattle.netlink_core.specs.declared.fault.DecodeError.{DecodeError}
+use Rattle.netlink_core.specs.declared.fault.DecodeError.TheVariants.{WrongLength}
+
+-- exactly one byte, which says yes where it is not zero
+abbrev pub read_flag : ℕ → List ℕ → Result Bool DecodeError
+read_flag k value = if length value == 1 then Ok (not (slice_index value 0 == 0)) else Err (WrongLength (Some k) (length value) 1)
+
+-- yes is written as 1, and no as 0
+abbrev pub flag_byte : Bool → ℕ
+flag_byte true = 1
+flag_byte false = 0
+
+-- a flag of the kind k; two bytes are idle where both are zero or both are not
+abbrev pub flag_value : ℕ → Prefix
+flag_value k = record {
+  Value = Bool;
+  reads = read_flag k;
+  bytes = λ flag. flag_byte flag ∷ [];
+  idle = λ left right. (slice_index left 0 ≡ 0) ↔ (slice_index right 0 ≡ 0);
+  is_typed = λ flag. ⊤;
+  is_normal = λ flag. ⊤;
+}

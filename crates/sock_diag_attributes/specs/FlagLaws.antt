@@ -1,0 +1,44 @@
+-- The laws of a byte that says yes or no.
+use Rattle.std.proofs.Common.{Ok, ◌≡◌, ◌∙◌, ◌↔◌, inl, inr, ℕ, ◌<◌, [], ◌∷◌, Bool, true, false, length, slice_index, refl, sym, arith}
+use Rattle.std.specs.Prelude.{not, ◌==◌}
+use Rattle.std.proofs.lemmas.Bool.{cases_eq, eq-eqb, ne_eqb}
+use Rattle.netlink_core.specs.ByteLaws.{IsBytes-cons, IsBytes-nil}
+use Rattle.netlink_core.specs.Prefix.{PrefixLaws}
+use Rattle.netlink_core.specs.declared.fault.DecodeError.TheVariants.{Memory}
+use Rattle.sock_diag_attributes.specs.Choices.{if_equal, if_equal_err}
+use Rattle.sock_diag_attributes.specs.Flag.{read_flag, flag_byte, flag_value}
+
+-- two numbers say the same exactly where both are zero or both are not
+says_same : (m n : ℕ) → (not (m == 0) ≡ not (n == 0)) ↔ ((m ≡ 0) ↔ (n ≡ 0))
+says_same m n =
+    elim (cases_eq m 0) [
+      | inl first ↦ elim (cases_eq n 0) [
+        | inl second ↦ (λ e. (λ _. second, λ _. first), λ h. rw (eq-eqb m 0 first, eq-eqb n 0 second) refl)
+        | inr second ↦ (λ e. absurd (let no = rw (eq-eqb m 0 first, ne_eqb n 0 second) at e in cc), λ h. absurd (second (h.0 first)))
+      ]
+      | inr first ↦ elim (cases_eq n 0) [
+        | inl second ↦ (λ e. absurd (let no = rw (ne_eqb m 0 first, eq-eqb n 0 second) at e in cc), λ h. absurd (first (h.1 second)))
+        | inr second ↦ (λ e. (λ z. absurd (first z), λ z. absurd (second z)), λ h. rw (ne_eqb m 0 first, ne_eqb n 0 second) refl)
+      ]
+    ]
+
+pub flag_laws : (k : ℕ) → PrefixLaws (flag_value k)
+flag_laws k = record {
+  named = λ b h. let no = if_equal_err (length b) 1 _ _ Memory h in cc;
+  same_value = λ b c v w b-typed c-typed h g.
+      let left = (if_equal (length b) 1 _ v _ h).1 in
+      let right = (if_equal (length c) 1 _ w _ g).1 in
+      let same = says_same (slice_index b 0) (slice_index c 0) in
+      (λ e. same.0 (left ∙ e ∙ sym right), λ idle. sym left ∙ same.1 idle ∙ right);
+  gives_normal = λ b v typed h. (tt, tt);
+  bytes_typed = λ v typed. IsBytes-cons (flag_byte v) [] (small v) IsBytes-nil;
+  reads_back = λ v typed normal. back v;
+}
+  where
+    small : (v : Bool) → flag_byte v < 256
+    small true = omega arith
+    small false = omega arith
+
+    back : (v : Bool) → read_flag k (flag_byte v ∷ []) ≡ Ok v
+    back true = refl
+    back false = refl

@@ -1,0 +1,16 @@
+pub mod Name
+pub mod NameLaws
+pub mod SeenName
+pub mod Choices
+pub mod Numbers
+pub mod NumberLaws
+pub mod UnixAttributes
+pub mod UnixAttributeLaws
+pub mod SeenUnix
+pub mod Text
+pub mod TextLaws
+pub mod Flag
+pub mod FlagLaws
+pub mod InetAttributes
+pub mod InetAttributeLaws
+pub mod SeenInet

@@ -1,0 +1,139 @@
+-- The laws of the name of a UNIX socket.
+use Rattle.std.proofs.Common.{Ok, Err, ◌≡◌, ◌≢◌, ◌∙◌, ℕ, zero, suc, ◌+◌, ◌<◌, ◌≤◌, List, [], ◌∷◌, ◌++◌, length, take, drop, get_or, refl, ap, sym, subst, arith}
+use Rattle.std.proofs.lemmas.List.{length-drop, length-take-le}
+use Rattle.std.proofs.lemmas.List.Elements.{All-head, All-tail, All-nil, All-cons}
+use Rattle.netlink_core.specs.Bytes.{IsBytes}
+use Rattle.netlink_core.specs.declared.fault.DecodeError.TheVariants.{Memory, NameInnerZero, NameWithoutEnd}
+use Rattle.netlink_core.specs.ByteLaws.{IsBytes-left, IsBytes-append, IsBytes-cons, IsBytes-nil}
+use Rattle.netlink_core.specs.FrontLaws.{value_or_reason}
+use Rattle.sock_diag_attributes.specs.Name.{SocketName, pathname, abstract, HasNoZero, name_bytes, IsNormalName, IsTypedName, before_zero, from_zero, path_before, read_name, NamesKeepLaws}
+
+pub name_named : (x : List ℕ) → read_name x ≡ Err Memory → ⊥
+name_named [] h = cc
+name_named (zero ∷ address) h = cc
+name_named (suc n ∷ bytes) h = later (suc n ∷ before_zero bytes) (from_zero bytes) h
+  where
+    later : (path rest : List ℕ) → path_before path rest ≡ Err Memory → ⊥
+    later path [] h = cc
+    later path (z ∷ []) h = cc
+    later path (z ∷ y ∷ more) h = cc
+
+-- a string is its parts before and from the first zero
+parts : (x : List ℕ) → x ≡ before_zero x ++ from_zero x
+parts [] = refl
+parts (zero ∷ xs) = refl
+parts (suc n ∷ xs) = ap (λ (ys : List ℕ). suc n ∷ ys) (parts xs)
+
+before_has_none : (x : List ℕ) → HasNoZero (before_zero x)
+before_has_none [] = All-nil (λ b. b ≢ 0)
+before_has_none (zero ∷ xs) = All-nil (λ b. b ≢ 0)
+before_has_none (suc n ∷ xs) = All-cons (λ b. b ≢ 0) (suc n) (before_zero xs) (λ e. cc) (before_has_none xs)
+
+from_is_zero : (x : List ℕ) (z : ℕ) (more : List ℕ) → from_zero x ≡ z ∷ more → z ≡ 0
+from_is_zero [] z more e = absurd cc
+from_is_zero (zero ∷ xs) z more e = cc
+from_is_zero (suc n ∷ xs) z more e = from_is_zero xs z more e
+
+-- a name that was read is written as its string, and is in normal form
+pub name_exact : (x : List ℕ) (u : SocketName) → read_name x ≡ Ok u → (x ≡ name_bytes u) × IsNormalName u
+name_exact [] u h = absurd cc
+name_exact (zero ∷ address) (abstract other) h = let same : address ≡ other = cc in (ap (λ (ys : List ℕ). 0 ∷ ys) same, tt)
+name_exact (zero ∷ address) (pathname other) h = absurd cc
+name_exact (suc n ∷ xs) u h = path_is (from_zero xs) refl h
+  where
+    path_is : (rest : List ℕ) → from_zero xs ≡ rest → path_before (suc n ∷ before_zero xs) rest ≡ Ok u → (suc n ∷ xs ≡ name_bytes u) × IsNormalName u
+    path_is [] e k = absurd cc
+    path_is (z ∷ y ∷ more) e k = absurd cc
+    path_is (z ∷ []) e k =
+        let end : z ≡ 0 = from_is_zero xs z [] e in
+        let whole : suc n ∷ xs ≡ (suc n ∷ before_zero xs) ++ 0 ∷ [] = ap (λ (ys : List ℕ). suc n ∷ ys) (parts xs ∙ ap (λ (ys : List ℕ). before_zero xs ++ ys) (e ∙ ap (λ (b : ℕ). b ∷ []) end)) in
+        let good : IsNormalName (pathname (suc n ∷ before_zero xs)) = (before_has_none (suc n ∷ xs), λ none. cc) in
+        let same : pathname (suc n ∷ before_zero xs) ≡ u = cc in
+        subst (λ (v : SocketName). (suc n ∷ xs ≡ name_bytes v) × IsNormalName v) same (whole, good)
+
+-- the parts of a path with its end zero
+path_parts : (path : List ℕ) → HasNoZero path → (before_zero (path ++ 0 ∷ []) ≡ path) × (from_zero (path ++ 0 ∷ []) ≡ 0 ∷ [])
+path_parts [] none = (refl, refl)
+path_parts (zero ∷ xs) none = absurd (All-head (λ b. b ≢ 0) zero xs none refl)
+path_parts (suc n ∷ xs) none = let later = path_parts xs (All-tail (λ b. b ≢ 0) (suc n) xs none) in (ap (λ (ys : List ℕ). suc n ∷ ys) later.0, later.1)
+
+pub name_reads_back : (u : SocketName) → IsNormalName u → read_name (name_bytes u) ≡ Ok u
+name_reads_back (abstract address) good = refl
+name_reads_back (pathname []) good = absurd (good.1 refl)
+name_reads_back (pathname (zero ∷ xs)) good = absurd (All-head (λ b. b ≢ 0) zero xs good.0 refl)
+name_reads_back (pathname (suc n ∷ xs)) good =
+    let later = path_parts xs (All-tail (λ b. b ≢ 0) (suc n) xs good.0) in
+    rw (later.0, later.1) refl
+
+-- of a string of bytes the name is one of bytes
+pub name_typed : (u : SocketName) → IsBytes (name_bytes u) → IsTypedName u
+name_typed (pathname path) typed = IsBytes-left path (0 ∷ []) typed
+name_typed (abstract address) typed = λ i. typed (suc i)
+
+pub name_bytes_typed : (u : SocketName) → IsTypedName u → IsBytes (name_bytes u)
+name_bytes_typed (pathname path) typed = IsBytes-append path (0 ∷ []) typed (IsBytes-cons 0 [] (omega arith) IsBytes-nil)
+name_bytes_typed (abstract address) typed = IsBytes-cons 0 address (omega arith) typed
+
+-- ---- by places
+
+-- a zero behind bytes that are none
+zero_at : (bytes : List ℕ) (i : ℕ) → i < length bytes → get_or bytes i 0 ≡ 0 → HasNoZero (take i bytes) → (before_zero bytes ≡ take i bytes) × (from_zero bytes ≡ drop i bytes)
+zero_at [] i lt here none = absurd (omega arith)
+zero_at (zero ∷ xs) zero lt here none = (refl, refl)
+zero_at (zero ∷ xs) (suc i) lt here none = absurd (All-head (λ b. b ≢ 0) zero (take i xs) none refl)
+zero_at (suc n ∷ xs) zero lt here none = absurd (omega (arith, here))
+zero_at (suc n ∷ xs) (suc i) lt here none =
+    let later = zero_at xs i (omega arith) here (All-tail (λ b. b ≢ 0) (suc n) (take i xs) none) in
+    (ap (λ (ys : List ℕ). suc n ∷ ys) later.0, later.1)
+
+no_zero : (bytes : List ℕ) → HasNoZero bytes → from_zero bytes ≡ []
+no_zero [] none = refl
+no_zero (zero ∷ xs) none = absurd (All-head (λ b. b ≢ 0) zero xs none refl)
+no_zero (suc n ∷ xs) none = no_zero xs (All-tail (λ b. b ≢ 0) (suc n) xs none)
+
+path_long : (path rest : List ℕ) → 2 ≤ length rest → path_before path rest ≡ Err (NameInnerZero (length path))
+path_long path [] h = absurd (omega arith)
+path_long path (z ∷ []) h = absurd (omega arith)
+path_long path (z ∷ y ∷ more) h = refl
+
+path_one : (path rest : List ℕ) → length rest ≡ 1 → path_before path rest ≡ Ok (pathname path)
+path_one path [] h = absurd (omega arith)
+path_one path (z ∷ []) h = refl
+path_one path (z ∷ y ∷ more) h = absurd (omega arith)
+
+not_abstract : (bytes : List ℕ) → get_or bytes 0 0 ≢ 0 → read_name bytes ≡ path_before (before_zero bytes) (from_zero bytes)
+not_abstract [] first = absurd (first refl)
+not_abstract (zero ∷ xs) first = absurd (first refl)
+not_abstract (suc n ∷ xs) first = refl
+
+pub reads_inner_zero : (bytes : List ℕ) (i : ℕ) → get_or bytes 0 0 ≢ 0 → i + 1 < length bytes → get_or bytes i 0 ≡ 0 → HasNoZero (take i bytes) → read_name bytes ≡ Err (NameInnerZero i)
+reads_inner_zero bytes i first lt here none =
+    let at = zero_at bytes i (omega arith) here none in
+    not_abstract bytes first ∙ rw (at.0, at.1) (path_long (take i bytes) (drop i bytes) (omega (arith, length-drop i bytes))) ∙ ap (λ (n : ℕ). Err (NameInnerZero n)) (length-take-le i bytes (omega arith))
+
+pub reads_path : (bytes : List ℕ) (i : ℕ) → get_or bytes 0 0 ≢ 0 → i < length bytes → length bytes ≤ i + 1 → get_or bytes i 0 ≡ 0 → HasNoZero (take i bytes) → read_name bytes ≡ Ok (pathname (take i bytes))
+reads_path bytes i first lt last here none =
+    let at = zero_at bytes i lt here none in
+    not_abstract bytes first ∙ rw (at.0, at.1) (path_one (take i bytes) (drop i bytes) (omega (arith, length-drop i bytes)))
+
+pub reads_no_end : (bytes : List ℕ) → get_or bytes 0 0 ≢ 0 → HasNoZero bytes → read_name bytes ≡ Err NameWithoutEnd
+reads_no_end bytes first none = not_abstract bytes first ∙ ap (path_before (before_zero bytes)) (no_zero bytes none)
+
+-- a name keeps the laws: its reader, its bytes, equal strings alone being idle, and its normal form
+pub name_keeps_laws : NamesKeepLaws
+name_keeps_laws = record {
+  answered = λ b p typed tp. value_or_reason (read_name b);
+  one_answer = λ b p v e h k. cc (h, k);
+  one_fault = λ b p e f h k. cc (h, k);
+  named_fault = λ b p h. name_named b h;
+  same_value = λ b c p v w b-typed c-typed tp h k. (
+    λ e. (name_exact b v h).0 ∙ ap name_bytes e ∙ sym (name_exact c w k).0,
+    λ e. same_value b v w h (ap read_name e ∙ k),
+  );
+  reads_normal = λ b p v typed tp h. let exact = name_exact b v h in (name_typed v (subst IsBytes exact.0 typed), exact.1);
+  written_bytes = name_bytes_typed;
+  reads_back = λ p v tp typed normal fits. name_reads_back v normal;
+}
+  where
+    same_value : (b : List ℕ) (v w : SocketName) → read_name b ≡ Ok v → read_name b ≡ Ok w → v ≡ w
+    same_value b v w h k = cc

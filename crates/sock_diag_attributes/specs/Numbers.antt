@@ -1,0 +1,26 @@
+-- Numbers that fill the value of an attribute, the low byte of each first.
+use Rattle.std.specs.Prelude.{ℕ, ◌%◌, ◌==◌, if◌then◌else◌, List, [], ◌∷◌, ◌++◌, length, drop, flat_map, Some, Result, Ok, Err}
+use Rattle.byteorder.specs.Endian.{little_number, little_bytes}
+use Rattle.netlink_core.specs.declared.fault.DecodeError.{DecodeError}
+use Rattle.netlink_core.specs.declared.fault.DecodeError.TheVariants.{WrongLength, NotMultipleOfFour}
+
+-- the two numbers in exactly eight bytes, as the value of an attribute of kind k
+abbrev pub two_numbers : ℕ → List ℕ → Result (ℕ × ℕ) DecodeError
+two_numbers k value = if length value == 8 then Ok (little_number 4 value, little_number 4 (drop 4 value)) else Err (WrongLength (Some k) (length value) 8)
+
+-- two numbers are written in four bytes each
+abbrev pub bytes_of_two : ℕ × ℕ → List ℕ
+bytes_of_two numbers = little_bytes 4 numbers.0 ++ little_bytes 4 numbers.1
+
+-- the numbers in four bytes each, one after the other
+abbrev pub numbers_in : List ℕ → List ℕ
+numbers_in (a ∷ b ∷ c ∷ d ∷ rest) = little_number 4 (a ∷ b ∷ c ∷ d ∷ []) ∷ numbers_in rest
+numbers_in bytes = []
+
+-- the numbers in a string whose length is a multiple of four
+abbrev pub read_numbers : List ℕ → Result (List ℕ) DecodeError
+read_numbers value = if length value % 4 == 0 then Ok (numbers_in value) else Err (NotMultipleOfFour (length value))
+
+-- numbers are written in four bytes each, one after the other
+abbrev pub bytes_of_numbers : List ℕ → List ℕ
+bytes_of_numbers numbers = flat_map (little_bytes 4) numbers

@@ -1,0 +1,9 @@
+-- What contracts see of the name of a UNIX socket.
+use Rattle.sock_diag_attributes.specs.Name.{SocketName, pathname, abstract}
+use Rattle.sock_diag_attributes.specs.declared.unix.name.UnixDiagName.{UnixDiagName}
+use Rattle.sock_diag_attributes.specs.declared.unix.name.UnixDiagName.TheVariants.{Pathname, Abstract}
+
+-- the same name, with its bytes alone
+abbrev pub seen_name : UnixDiagName → SocketName
+seen_name (Pathname path) = pathname path.items
+seen_name (Abstract address) = abstract address.items

@@ -1,0 +1,3 @@
+//! Attributes of replies about IPv4 and IPv6 sockets.
+
+pub mod nlas;

@@ -1,0 +1,11 @@
+//! The attributes of replies of sock_diag(7).
+#![tactic(auto)]
+
+pub mod inet;
+mod numbers;
+#[cfg(test)]
+mod tests;
+pub mod unix;
+
+/// The most bytes that the value of an attribute has, so that its length word can count them.
+pub(crate) const MAX_VALUE: usize = 65531;

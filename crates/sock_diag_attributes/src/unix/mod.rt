@@ -1,0 +1,4 @@
+//! Attributes of replies about UNIX sockets.
+
+mod name;
+pub mod nlas;

@@ -1,0 +1,226 @@
+//! The attributes of a reply about a UNIX socket, and what they carry.
+
+ghost use Rattle.std.specs.Prelude.{◌≡◌, Ok, Err, IfOk, true, refl, ⊤};
+ghost use Rattle.netlink_core.specs.Attribute.{HasFittingValue, written};
+ghost use Rattle.netlink_core.specs.Family.{says};
+ghost use Rattle.netlink_core.specs.Walk.{attribute_of};
+ghost use Rattle.netlink_core.specs.Heads.{MeansHead, RefusesHead, AreIdleHeads};
+ghost use Rattle.netlink_core.specs.HeadLaws.{heads_keep_laws};
+
+use crate::MAX_VALUE;
+use crate::numbers::{
+    emit_numbers, emit_u32_pair, exact_u8, exact_u32, exact_u32_pair, parse_numbers,
+};
+pub use crate::unix::name::UnixDiagName;
+use netlink_core::{
+    DecodeError, DefaultNla, Emitable, Nla as NlaTrait, NlaBuffer, Parseable, Readable, Wire,
+    emit_nla, emit_u32, nla_len,
+};
+use sock_diag_records::constants::{
+    UNIX_DIAG_ICONS, UNIX_DIAG_MEMINFO, UNIX_DIAG_NAME, UNIX_DIAG_PEER, UNIX_DIAG_RQLEN,
+    UNIX_DIAG_SHUTDOWN, UNIX_DIAG_VFS,
+};
+pub use sock_diag_records::unix::nlas::{MemInfo, MemInfoBuffer, Vfs, VfsBuffer};
+use std::alloc::{AllocError, Global};
+use std::default::MadeWith;
+
+/// One attribute of a reply about a UNIX socket.
+#[derive(Debug, Drop, PartialEq, Eq)]
+pub enum Nla {
+    /// The name that the socket is bound to, `UNIX_DIAG_NAME`.
+    Name(UnixDiagName),
+    /// The file that the socket is bound to, `UNIX_DIAG_VFS`.
+    Vfs(Vfs),
+    /// The inode of the peer, `UNIX_DIAG_PEER`.
+    Peer(u32),
+    /// The inodes of the sockets that wait to be accepted, `UNIX_DIAG_ICONS`.
+    PendingConnections(Vec<u32>),
+    /// The lengths of the queues, `UNIX_DIAG_RQLEN`. Of a listening socket, how many connections wait to be accepted,
+    /// and how many may wait; of another, how many bytes wait to be read, and how many that were sent are not yet read.
+    ReceiveQueueLength(u32, u32),
+    /// The memory of the socket, `UNIX_DIAG_MEMINFO`.
+    MemInfo(MemInfo),
+    /// Which directions are shut down, `UNIX_DIAG_SHUTDOWN`, as the kernel tells them.
+    Shutdown(u8),
+    /// An attribute of another kind, with its whole type word.
+    Other(DefaultNla),
+}
+
+// What stands in the places of a small vector that are not used. It takes no memory.
+impl MadeWith<Global> for Nla {
+    fn made_with(_alloc: Global) -> Self {
+        Nla::Peer(0)
+    }
+}
+
+impl Nla {
+    ghost use Rattle.sock_diag_attributes.specs.SeenUnix.{seen_nla};
+
+    /// An equal attribute. It fails only for want of memory.
+    pub fn clone(&self, alloc: Global) -> Result<Self, AllocError>
+        ensures { IfOk result (λ copy. seen_nla copy ≡ seen_nla self.now) }
+    {
+        Ok(match self {
+            Nla::Name(name) => Nla::Name(name.clone(alloc)?),
+            Nla::Vfs(vfs) => Nla::Vfs(vfs.clone()?),
+            Nla::Peer(inode) => Nla::Peer(*inode),
+            Nla::PendingConnections(inodes) => {
+                Nla::PendingConnections(Vec::from_slice(alloc, inodes)?)
+            }
+            Nla::ReceiveQueueLength(first, second) => Nla::ReceiveQueueLength(*first, *second),
+            Nla::MemInfo(info) => Nla::MemInfo(*info),
+            Nla::Shutdown(state) => Nla::Shutdown(*state),
+            Nla::Other(nla) => Nla::Other(nla.clone(alloc)?),
+        })
+    }
+}
+
+impl Readable for Nla {
+    const TAKES_MEMORY: bool = true;
+
+    ghost TAKES_MEMORY = { true };
+}
+
+impl<'a> Parseable<NlaBuffer<'a>> for Nla {
+    ghost use Rattle.sock_diag_attributes.specs.UnixAttributes.{unix};
+    ghost use Rattle.sock_diag_attributes.specs.SeenUnix.{seen_nla};
+
+    ghost parses = { λ nla v. says unix (attribute_of nla) ≡ Ok (seen_nla v) };
+
+    ghost parse_refuses = { λ nla e. says unix (attribute_of nla) ≡ Err e };
+
+    /// Reads the value by the attribute's kind, whatever its flag bits. An attribute of a kind that is not known here
+    /// is kept as it is.
+    fn parse(alloc: Global, buf: NlaBuffer<'a>) -> Result<Self, DecodeError> {
+        let value = buf.value();
+        Ok(match buf.kind() {
+            UNIX_DIAG_NAME => Nla::Name(UnixDiagName::parse(alloc, value)?),
+            UNIX_DIAG_VFS => Nla::Vfs(Vfs::parse(value)?),
+            UNIX_DIAG_PEER => Nla::Peer(exact_u32(UNIX_DIAG_PEER, value)?),
+            UNIX_DIAG_ICONS => Nla::PendingConnections(parse_numbers(alloc, value)?),
+            UNIX_DIAG_RQLEN => {
+                let (first, second) = exact_u32_pair(UNIX_DIAG_RQLEN, value)?;
+                Nla::ReceiveQueueLength(first, second)
+            }
+            UNIX_DIAG_MEMINFO => Nla::MemInfo(MemInfo::parse(value)?),
+            UNIX_DIAG_SHUTDOWN => Nla::Shutdown(exact_u8(UNIX_DIAG_SHUTDOWN, value)?),
+            _ => Nla::Other(DefaultNla::parse(alloc, buf)?),
+        })
+    }
+}
+
+impl NlaTrait for Nla {
+    ghost use Rattle.sock_diag_attributes.specs.UnixAttributes.{unix_attribute};
+    ghost use Rattle.sock_diag_attributes.specs.SeenUnix.{seen_nla};
+
+    ghost attribute = { λ v. unix_attribute (seen_nla v) };
+
+    #[tactic(auto, using(crate::specs::NumberLaws::length_numbers))]
+    fn value_fits(&self) -> bool {
+        match self {
+            Nla::Name(name) => name.content_len() < MAX_VALUE,
+            Nla::PendingConnections(inodes) => inodes.len() <= MAX_VALUE / 4,
+            Nla::Other(nla) => nla.value_fits(),
+            _ => true,
+        }
+    }
+
+    #[tactic(auto, using(crate::specs::NumberLaws::length_numbers))]
+    fn value_len(&self) -> usize {
+        match self {
+            Nla::Name(name) => name.content_len() + 1,
+            Nla::Vfs(vfs) => vfs.buffer_len(),
+            Nla::Peer(_) => 4,
+            Nla::PendingConnections(inodes) => 4 * inodes.len(),
+            Nla::ReceiveQueueLength(..) => 8,
+            Nla::MemInfo(info) => info.buffer_len(),
+            Nla::Shutdown(_) => 1,
+            Nla::Other(nla) => nla.value_len(),
+        }
+    }
+
+    fn kind(&self) -> u16 {
+        match self {
+            Nla::Name(_) => UNIX_DIAG_NAME,
+            Nla::Vfs(_) => UNIX_DIAG_VFS,
+            Nla::Peer(_) => UNIX_DIAG_PEER,
+            Nla::PendingConnections(_) => UNIX_DIAG_ICONS,
+            Nla::ReceiveQueueLength(..) => UNIX_DIAG_RQLEN,
+            Nla::MemInfo(_) => UNIX_DIAG_MEMINFO,
+            Nla::Shutdown(_) => UNIX_DIAG_SHUTDOWN,
+            Nla::Other(nla) => nla.kind(),
+        }
+    }
+
+    fn emit_value(&self, buffer: &mut [u8]) {
+        match self {
+            Nla::Name(name) => name.emit(buffer),
+            Nla::Vfs(vfs) => vfs.emit(buffer),
+            Nla::Peer(inode) => emit_u32(buffer, *inode),
+            Nla::PendingConnections(inodes) => emit_numbers(inodes, buffer),
+            Nla::ReceiveQueueLength(first, second) => emit_u32_pair(*first, *second, buffer),
+            Nla::MemInfo(info) => info.emit(buffer),
+            Nla::Shutdown(state) => buffer[0] = *state,
+            Nla::Other(nla) => nla.emit_value(buffer),
+        }
+    }
+}
+
+impl Emitable for Nla {
+    ghost use Rattle.sock_diag_attributes.specs.UnixAttributes.{unix_attribute};
+    ghost use Rattle.sock_diag_attributes.specs.SeenUnix.{seen_nla};
+
+    ghost bytes = { λ v. written (unix_attribute (seen_nla v)) };
+
+    ghost writable = { λ v. HasFittingValue (unix_attribute (seen_nla v)) };
+
+    fn is_writable(&self) -> bool {
+        self.value_fits()
+    }
+
+    fn buffer_len(&self) -> usize {
+        nla_len(self)
+    }
+
+    fn emit(&self, buffer: &mut [u8]) {
+        emit_nla(self, buffer);
+    }
+}
+
+impl Wire for Nla {
+    ghost use Rattle.sock_diag_attributes.specs.UnixAttributes.{unix, unix_attribute};
+    ghost use Rattle.sock_diag_attributes.specs.UnixAttributeLaws.{unix_laws};
+    ghost use Rattle.sock_diag_attributes.specs.SeenUnix.{seen_nla};
+
+    type Param = ();
+
+    ghost Seen = { unix.Value };
+
+    ghost seen = { seen_nla };
+
+    ghost is_typed = { unix.is_typed };
+
+    ghost is_param = { λ _. ⊤ };
+
+    ghost reads = { λ b _ v. MeansHead unix b v };
+
+    ghost refuses = { λ b _ e. RefusesHead unix b e };
+
+    ghost idle = { λ _ b c. AreIdleHeads unix b c };
+
+    ghost is_normal = { λ _ v. unix.is_normal v };
+
+    ghost written = { λ v. written (unix_attribute v) };
+
+    ghost fits = { λ v. HasFittingValue (unix_attribute v) };
+
+    fn read(alloc: Global, bytes: &[u8], _param: ()) -> Result<Self, DecodeError> {
+        Nla::parse(alloc, NlaBuffer::new_checked(bytes)?)
+    }
+
+    ghost written_is = { λ _. refl };
+
+    ghost fits_is = { λ _. (λ h. h, λ h. h) };
+
+    ghost laws = { heads_keep_laws unix unix_laws };
+}

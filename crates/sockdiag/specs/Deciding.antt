@@ -1,0 +1,48 @@
+-- Whether a reply or a message can be written is decided.
+use Rattle.std.proofs.Common.{◌⊎◌, inl, inr, ℕ, ◌+◌, ◌≤◌, List, [], ◌∷◌, length, map, arith}
+use Rattle.std.specs.List.{AllByRecursion}
+use Rattle.std.proofs.lemmas.Bool.{cases_lt}
+use Rattle.netlink_core.specs.Attribute.{Attribute, HasFittingValue}
+use Rattle.netlink_core.specs.Reply.{Reply, ReplyFits, ValueOf, reply_bytes}
+use Rattle.netlink_core.specs.Envelope.{Payload, done_with, error_with, no_payload, overrun_with, inner, Envelope, EnvelopeFits, OfInner, payload_bytes}
+use Rattle.netlink_packet_sock_diag.specs.InetReply.{inet_reply}
+use Rattle.netlink_packet_sock_diag.specs.UnixReply.{unix_reply}
+use Rattle.netlink_packet_sock_diag.specs.Message.{Message, inet_request_with, inet_response_with, unix_request_with, unix_response_with, MessageFits, message_bytes}
+
+at_most : (m n : ℕ) → (m ≤ n) ⊎ ¬ (m ≤ n)
+at_most m n = elim (cases_lt n m) [
+  | inl above ↦ inr (λ below. absurd (omega arith))
+  | inr below ↦ inl below
+]
+
+all_fit : (attributes : List Attribute) → AllByRecursion HasFittingValue attributes ⊎ ¬ AllByRecursion HasFittingValue attributes
+all_fit [] = inl tt
+all_fit (a ∷ later) = elim (at_most (length a.value) 65531) [
+  | inl fits ↦ elim (all_fit later) [ inl others ↦ inl (fits, others) | inr unfit ↦ inr (λ h. unfit h.1) ]
+  | inr unfit ↦ inr (λ h. unfit h.0)
+]
+
+pub reply_fits_or_not : (R : Reply) (value : ValueOf R) → ReplyFits R value ⊎ ¬ ReplyFits R value
+reply_fits_or_not R value = elim (all_fit (map R.family.attribute_of value.nlas)) [
+  | inl fits ↦ elim (at_most (length (reply_bytes R value)) 4294967295) [ inl room ↦ inl (fits, room) | inr full ↦ inr (λ h. full h.1) ]
+  | inr unfit ↦ inr (λ h. unfit h.0)
+]
+
+pub message_fits_or_not : (value : Message) → MessageFits value ⊎ ¬ MessageFits value
+message_fits_or_not (inet_request_with request) = inl tt
+message_fits_or_not (inet_response_with reply) = reply_fits_or_not inet_reply reply
+message_fits_or_not (unix_request_with request) = inl tt
+message_fits_or_not (unix_response_with reply) = reply_fits_or_not unix_reply reply
+
+inner_fits_or_not : (payload : Payload Message) → OfInner MessageFits payload ⊎ ¬ OfInner MessageFits payload
+inner_fits_or_not (inner message) = message_fits_or_not message
+inner_fits_or_not (done_with given) = inl tt
+inner_fits_or_not (error_with given) = inl tt
+inner_fits_or_not no_payload = inl tt
+inner_fits_or_not (overrun_with given) = inl tt
+
+pub envelope_fits_or_not : (value : Envelope Message) → EnvelopeFits message_bytes MessageFits value ⊎ ¬ EnvelopeFits message_bytes MessageFits value
+envelope_fits_or_not value = elim (inner_fits_or_not value.payload) [
+  | inl fits ↦ elim (at_most (16 + length (payload_bytes message_bytes value.payload)) 4294967295) [ inl room ↦ inl (fits, room) | inr full ↦ inr (λ h. full h.1) ]
+  | inr unfit ↦ inr (λ h. unfit h.0)
+]

@@ -1,0 +1,21 @@
+-- What is shown of a netlink message: the five fields of its header in decimal, and its payload's bytes as a hex field.
+use Rattle.std.specs.Prelude.{◌≡◌, ◌⊎◌, ℕ, List, ◌∷◌, ◌++◌, decimal}
+use Rattle.netlink_core.specs.Envelope.{Envelope, EnvelopeFits, payload_bytes}
+use Rattle.netlink_packet_sock_diag.specs.Message.{Message, MessageFits, message_bytes}
+use Rattle.sockdiag.specs.HexField.{field_of}
+use Rattle.sockdiag.specs.Told.{accepted, unwritable}
+
+-- a number and a space, and what follows
+abbrev pub word : ℕ → List ℕ → List ℕ
+word n rest = decimal n ++ 32 ∷ rest
+
+-- length, type, flags, sequence number and port number as they were read, and the payload as it is written
+abbrev pub shown_envelope : Envelope Message → List ℕ
+shown_envelope e =
+    word e.header.length (word e.header.message_type (word e.header.flags (word e.header.sequence_number (word e.header.port_number (field_of (payload_bytes message_bytes e.payload))))))
+
+-- the text shows the message, or says that it can't be written
+abbrev pub ShowsEnvelope : Envelope Message → List ℕ → Type 0
+ShowsEnvelope e text =
+    (EnvelopeFits message_bytes MessageFits e × (text ≡ accepted (shown_envelope e)))
+    ⊎ (¬ EnvelopeFits message_bytes MessageFits e × (text ≡ unwritable))
