@@ -12,7 +12,6 @@ pub mod RowLaws
 pub mod Texts
 pub mod Prefixes
 pub mod Replies
-pub mod ReplyWriting
 pub mod Headers
 pub mod Framing
 pub mod Idle

@@ -37,7 +37,7 @@ unpadded a = little_bytes 2 (4 + length a.value) ++ little_bytes 2 a.type_word +
 abbrev pub written : Attribute → List ℕ
 written a = unpadded a ++ replicate (fill (length a.value)) 0
 
--- a length word of 16 bits says how long it is
+-- the value has at most 65,531 bytes, so that a word of 16 bits counts it and the header
 abbrev pub HasFittingValue : Attribute → Type 0
 HasFittingValue a = length a.value ≤ 65531
 

@@ -6,7 +6,7 @@ use Rattle.netlink_core.specs.declared.fault.DecodeError.{DecodeError}
 use Rattle.netlink_core.specs.declared.fault.DecodeError.TheVariants.{Memory, BufferTooSmall}
 use Rattle.netlink_core.specs.declared.fault.RecordName.{RecordName}
 
--- all bits of each byte at these places, which are in order, and none of the others
+-- from a place up to a size: 255 at each place of the ranges, whose ends are not counted, and 0 elsewhere
 abbrev pub all_bits_of : ℕ → List (ℕ × ℕ) → ℕ → List ℕ
 all_bits_of from [] size = replicate (size - from) 0
 all_bits_of from ((start, end) ∷ ranges) size = replicate (start - from) 0 ++ replicate (end - start) 255 ++ all_bits_of end ranges size

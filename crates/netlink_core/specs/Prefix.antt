@@ -1,4 +1,5 @@
--- Records at the front of a string, as replies and attributes take them.
+-- Parts of a string that are read on their own, as replies and attributes take them: a record at its front, or a text
+-- or a flag that is all of it.
 use Rattle.std.specs.Prelude.{◌≡◌, ℕ, ◌↔◌, List, ◌++◌, length, Result, Ok, Err}
 use Rattle.netlink_core.specs.declared.fault.DecodeError.{DecodeError}
 use Rattle.netlink_core.specs.declared.fault.DecodeError.TheVariants.{Memory}

@@ -58,13 +58,21 @@ IsTypedReply R v = R.header.is_typed v.header × AllByRecursion R.family.is_type
 abbrev pub IsNormalReply : (R : Reply) → ValueOf R → Type 0
 IsNormalReply R v = R.header.is_normal v.header × AllByRecursion R.family.is_normal v.nlas
 
+-- bytes of a header, and then those of each attribute in order
+abbrev pub framed : List ℕ → List Attribute → List ℕ
+framed header attributes = header ++ flat_map written attributes
+
+-- each attribute's value has at most 65,531 bytes, and the whole at most 4,294,967,295
+abbrev pub FramedFits : List ℕ → List Attribute → Type 0
+FramedFits header attributes = AllByRecursion HasFittingValue attributes × (length (framed header attributes) ≤ 4294967295)
+
 -- the header's bytes, and then those of each attribute
 abbrev pub reply_bytes : (R : Reply) → ValueOf R → List ℕ
-reply_bytes R v = R.header.bytes v.header ++ flat_map written (map R.family.attribute_of v.nlas)
+reply_bytes R v = framed (R.header.bytes v.header) (map R.family.attribute_of v.nlas)
 
 -- each value and the whole fit their lengths
 abbrev pub ReplyFits : (R : Reply) → ValueOf R → Type 0
-ReplyFits R v = AllByRecursion HasFittingValue (map R.family.attribute_of v.nlas) × (length (reply_bytes R v) ≤ 4294967295)
+ReplyFits R v = FramedFits (R.header.bytes v.header) (map R.family.attribute_of v.nlas)
 
 -- a reply keeps the laws: its reader, its bytes, its idle relation and its normal form
 abbrev pub RepliesKeepLaws : Reply → Type 0

@@ -19,7 +19,8 @@ number_kind k width made = record {
   idle = λ x y. x ≡ y;
 }
 
--- a record, and whatever follows it
+-- a value that is read and compared as that part says: a record and whatever follows it, or a text or a flag that is
+-- all of the value
 abbrev pub record_kind : {V : Type 0} → ℕ → (P : Prefix) → (P.Value → V) → Kind V
 record_kind k P made = record {
   number = k;

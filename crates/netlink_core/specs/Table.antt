@@ -78,7 +78,7 @@ masked [] bytes = []
 masked (mask ∷ masks) [] = []
 masked (mask ∷ masks) (one ∷ bytes) = bit_and one mask ∷ masked masks bytes
 
--- the first so many of a list, as many in any case: those of an array of that length
+-- the first so many numbers of a list, with zeros where it has fewer
 abbrev pub first : ℕ → List ℕ → List ℕ
 first zero xs = []
 first (suc n) xs = slice_index xs 0 ∷ first n (drop 1 xs)

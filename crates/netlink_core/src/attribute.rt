@@ -9,7 +9,7 @@ ghost use Rattle.netlink_core.specs.Attribute.{HeadIs, IsFramingFault, fill, kin
 use crate::fault::DecodeError;
 use byteorder::{ByteOrder, LittleEndian};
 
-/// The bytes of the two words in front of a value.
+/// How many bytes the two words in front of a value have.
 pub(crate) const HEADER: usize = 4;
 
 /// The most bytes that a value has: its length word counts the header too.

@@ -6,7 +6,7 @@ ghost use Rattle.netlink_core.specs.Header.{HasHeader, IsEnvelopeFault, header_b
 use crate::fault::DecodeError;
 use byteorder::{ByteOrder, LittleEndian};
 
-/// The bytes of a header.
+/// How many bytes a header has.
 pub(crate) const HEADER: usize = 16;
 
 /// The header of a netlink message, `nlmsghdr` in netlink(7): 16 bytes, each number with its low byte first.

@@ -14,7 +14,8 @@ use crate::message::{
 };
 use crate::wire::Wire;
 
-/// The cutting of a string into attributes is the one whose two endings are told apart.
+/// A string is cut into attributes exactly as stated: after each, either its padding is whole and the rest is cut on,
+/// or its padding is short and nothing follows.
 pub fn cut_is_as_stated()
     ensures { (bytes : List ℕ) (xs : List Attribute) → Cut bytes xs ↔ StatedCut bytes xs }
 {}

@@ -31,10 +31,10 @@ pub trait Wire: Readable + Emitable + Sized {
     // The fault is the string's first.
     ghost refuses: { List ℕ → Self.Param → Fault → Type 0 };
 
-    // The strings differ at most in details that no reader looks at.
+    // The strings differ at most in idle details: bytes or bits that change nothing of the value.
     ghost idle: { Self.Param → List ℕ → List ℕ → Type 0 };
 
-    // The typed values that a reader can give.
+    // The values in normal form: those of them that are typed and can be written read back as themselves.
     ghost is_normal: { Self.Param → Seen → Type 0 };
 
     // What the value is written as, and whether its lengths have room.

@@ -5,7 +5,7 @@ use Rattle.sock_diag_attributes.specs.SeenInet as inet_nla
 use Rattle.sock_diag_attributes.specs.SeenUnix as unix_nla
 use Rattle.netlink_packet_sock_diag.specs.declared.inet.response.InetResponse.{InetResponse}
 use Rattle.netlink_packet_sock_diag.specs.declared.unix.response.UnixResponse.{UnixResponse}
-use Rattle.netlink_packet_sock_diag.specs.Framed.{framed, FramedFits}
+use Rattle.netlink_core.specs.Reply.{framed, FramedFits}
 use Rattle.netlink_packet_sock_diag.specs.FramedLaws.{framed_is, framed_fits}
 use Rattle.netlink_packet_sock_diag.specs.InetReply.{inet_reply}
 use Rattle.netlink_packet_sock_diag.specs.UnixReply.{unix_reply}

@@ -2,7 +2,7 @@
 use Rattle.std.proofs.Common.{◌≡◌, ◌↔◌, List, map, ap, sym, subst}
 use Rattle.netlink_core.specs.Reply.{Reply, reply_bytes, ReplyFits}
 use Rattle.std.proofs.lemmas.Simd.{map-map}
-use Rattle.netlink_packet_sock_diag.specs.Framed.{framed, FramedFits}
+use Rattle.netlink_core.specs.Reply.{framed, FramedFits}
 
 module _ (R : Reply) {N : Type 0} (seen : N → R.family.Value) (h : R.header.Value) (nlas : List N) where
   -- its bytes

@@ -1,11 +1,15 @@
-//! Laws of replies and messages. The functions do nothing: their contracts are the laws.
+//! Laws of replies and of messages. The functions do nothing: their contracts are the laws.
 
-ghost use Rattle.std.specs.Prelude.{◌≡◌, ◌↔◌, ◌⊎◌, ◌%◌, ℕ, List, [], ◌∷◌, length, count_by, IsTrue};
+ghost use Rattle.std.specs.Prelude.{◌≡◌, ◌%◌, ◌↔◌, ◌⊎◌, ℕ, List, [], ◌∷◌, length, count_by, IsTrue};
 ghost use Rattle.netlink_core.specs.Bytes.{IsBytes};
 ghost use Rattle.netlink_core.specs.declared.fault.DecodeError.{DecodeError};
 ghost use Rattle.netlink_core.specs.declared.fault.DecodeError.TheVariants.{Memory, UnknownMessageType};
 ghost use Rattle.netlink_core.specs.declared.header.NetlinkHeader.{NetlinkHeader};
+ghost use Rattle.netlink_core.specs.declared.message.NetlinkMessage.{NetlinkMessage};
 ghost use Rattle.netlink_core.specs.Header.{IsTypedHeader};
+ghost use Rattle.netlink_core.specs.Seen.{envelope_of, itself};
+ghost use Rattle.netlink_packet_sock_diag.specs.declared.message.SockDiagMessage.{SockDiagMessage};
+ghost use Rattle.netlink_packet_sock_diag.specs.SeenMessage.{seen_message};
 ghost use Rattle.netlink_core.specs.Envelope.{Envelope, inner, EnvelopeIs, EnvelopeFault, EnvelopeFits, OfInner, envelope_bytes, finalized, IdleEnvelopes, IsTypedEnvelope, IsFinalized};
 ghost use Rattle.netlink_core.specs.Reply.{IsTypedReply, reply_bytes};
 ghost use Rattle.netlink_packet_sock_diag.specs.UnixReply.{UnixReply, unix_reply};
@@ -77,3 +81,13 @@ pub fn finalized_message_reads_back()
 {
     laws::finalized_message_reads_back::<SockDiagMessage>();
 }
+
+/// A netlink message of sock_diag(7) is written as what is seen of it, and is writable where that has room for its
+/// lengths.
+pub fn messages_are_written_as_seen()
+    ensures bytes { (m : NetlinkMessage SockDiagMessage)
+        → envelope_bytes (λ v. message_bytes (seen_message v)) (envelope_of itself m) ≡ envelope_bytes message_bytes (envelope_of seen_message m) }
+    ensures fits { (m : NetlinkMessage SockDiagMessage)
+        → (EnvelopeFits (λ v. message_bytes (seen_message v)) (λ v. MessageFits (seen_message v)) (envelope_of itself m)
+        ↔ EnvelopeFits message_bytes MessageFits (envelope_of seen_message m)) }
+{}

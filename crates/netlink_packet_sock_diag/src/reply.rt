@@ -1,11 +1,11 @@
 //! How replies of every family are read and written: a header, and then attributes.
 
-ghost use Rattle.std.specs.Prelude.{◌≡◌, ◌≢◌, ◌≤◌, ◌++◌, ◌↔◌, ℕ, length, drop, map, Ok, Err, Result, IfOk, IfErr, IsTrue};
+ghost use Rattle.std.specs.Prelude.{◌≡◌, ◌≢◌, ◌≤◌, ◌++◌, ◌↔◌, ℕ, length, drop, map, [], Ok, Err, Result, OnOk, IfOk, IfErr, IsTrue};
 ghost use Rattle.netlink_core.specs.declared.fault.DecodeError.{DecodeError as Fault};
 ghost use Rattle.netlink_core.specs.declared.fault.DecodeError.TheVariants.{Memory};
 ghost use Rattle.netlink_core.specs.Attribute.{Attribute, AttributesMean, AttributeFault};
 ghost use Rattle.netlink_core.specs.Walk.{attribute_of};
-ghost use Rattle.netlink_packet_sock_diag.specs.Framed.{framed, FramedFits};
+ghost use Rattle.netlink_core.specs.Reply.{framed, FramedFits};
 
 use netlink_core::{
     DecodeError, Emitable, Nla, NlaBuffer, NlasIterator, emit_nlas, nlas_len, nlas_writable,
@@ -33,21 +33,24 @@ pub(crate) trait FamilyNla: Nla + Sized {
         ensures { IfOk result (λ copy. seen copy ≡ seen self.now) };
 }
 
-/// Reads the attributes, in order, or tells the first fault.
+/// Reads the attributes, in order, into the empty list, or tells the first fault.
 #[tactic(auto, using(netlink_core::proofs::Walking::walking, std::proofs::lemmas::List::map_push))]
 pub(crate) fn parse_nlas<T: FamilyNla + MadeWith<Global> + Drop>(
     alloc: Global,
     bytes: &[u8],
-) -> Result<SmallVec<T, 8>, DecodeError>
-    ensures value { IfOk result (λ list. AttributesMean T.says bytes.now (map T.seen list.items)) }
+    nlas: &mut SmallVec<T, 8>,
+) -> Result<(), DecodeError>
+    requires { nlas.old.items ≡ [] }
+    ensures value { OnOk result (AttributesMean T.says bytes.now (map T.seen nlas.new.items)) }
     ensures fault { IfErr result (λ e. e ≢ Memory → AttributeFault T.says bytes.now e) }
 {
-    let mut nlas = SmallVec::new(alloc);
+    // They are counted first, so that at most one request for memory is made and none is moved.
+    nlas.reserve_exact(NlasIterator::new(bytes).count())?;
     for item in NlasIterator::new(bytes) {
         let nla = T::read_nla(alloc, item?)?;
         nlas.push(nla)?;
     }
-    Ok(nlas)
+    Ok(())
 }
 
 /// Equal attributes, in the same order.

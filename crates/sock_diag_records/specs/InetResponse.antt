@@ -206,7 +206,8 @@ inet_response_header = record {
   value = header_of;
 }
 
--- each array is as long as its type tells
+-- each array of the identity is as long as its type tells; nothing is asked of the timer's duration, and one with 10^9 nanoseconds or more is never whole
+-- milliseconds
 abbrev pub IsShaped : InetResponseHeader → Type 0
 IsShaped value = identity.IsShaped value.socket_id
 

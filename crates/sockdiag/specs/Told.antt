@@ -58,10 +58,12 @@ IsAccepted S field = (value : S.Value) × S.reads field value × S.fits value
 
 -- ---- the one text that tells of bytes, by the laws
 
+-- what is told of a value
 abbrev pub told_value : (S : Subject) (value : S.Value) → S.fits value ⊎ ¬ S.fits value → List ℕ
 told_value S value (inl fits) = accepted (S.shown value)
 told_value S value (inr unfit) = unwritable
 
+-- what is told of a value or a fault
 abbrev pub told_answer : (S : Subject) (field : List ℕ) → ((value : S.Value) × S.reads field value) ⊎ ((fault : DecodeError) × S.refuses field fault) → List ℕ
 told_answer S field (inl (value, reads)) = told_value S value (S.laws.fits_or_not value)
 told_answer S field (inr (fault, refuses)) = refused fault

@@ -37,13 +37,14 @@ pub(crate) enum Name {
     NetlinkMessage,
 }
 
+/// The answer to a line of another form.
 const BAD_LINE: &[u8] = b"bad line";
 
 /// The number of bytes of a netlink header.
 const HEADER: usize = 16;
 
-/// The answer to a line, without its line feed: `ok` and the bytes written back, `unwritable`, `refused`
-/// and the number of the first fault, or `bad line`.
+/// The answer to a line, without its line feed: `ok` and the bytes written back (for `netlink` behind the
+/// five fields of the header), `unwritable`, `refused` and the number of the first fault, or `bad line`.
 pub fn answer(alloc: Global, line: &[u8]) -> Result<Vec<u8>, AllocError>
     ensures asked { IfOk result (λ text. (name : Name) (bytes : List ℕ) → IsRequest line.now name bytes
         → IsAnswer name bytes text.items) }
@@ -61,6 +62,17 @@ pub fn answer(alloc: Global, line: &[u8]) -> Result<Vec<u8>, AllocError>
 {
     answer_by_parts(alloc, line)
 }
+
+/// What `answer_of` is of a line: the one text that answers its name and bytes, or `bad line`. It does
+/// nothing: its contract is the law.
+pub fn answers_are_as_stated()
+    ensures asked { (line : List ℕ) (name : Name) (bytes : List ℕ) → IsRequest line name bytes
+        → IsAnswer name bytes (answer_of line) }
+    ensures only { (line : List ℕ) (name : Name) (bytes text : List ℕ) → IsRequest line name bytes
+        → IsAnswer name bytes text → text ≡ answer_of line }
+    ensures other { (line : List ℕ) → ((name : Name) (bytes : List ℕ) → IsRequest line name bytes → ⊥)
+        → answer_of line ≡ bad_line }
+{}
 
 fn answer_by_parts(alloc: Global, line: &[u8]) -> Result<Vec<u8>, AllocError>
     ensures { IfOk result (λ text. text.items ≡ answer_of line.now) }

@@ -21,6 +21,7 @@ pub enum RunError {
     /// A write or the last flush failed, or a write took no bytes.
     #[error("writing failed")]
     Write,
+    /// Memory ran out.
     #[error("out of memory")]
     Memory,
 }
@@ -41,6 +42,7 @@ impl<T: Drop> From<AllocFailed<T>> for RunError {
     }
 }
 
+/// How many bytes a read asks for.
 const CHUNK: usize = 8192;
 
 /// What a reader and a writer told when a run began.
@@ -59,13 +61,13 @@ impl Start for Brand {
 /// Writes the answer line of each line of `input`, and flushes. Before each read, the answers to
 /// all whole lines that were read stand on `output`. No call that failed is made again.
 pub fn run<R: Read, W: Write>(alloc: Global, input: &mut R, output: &mut W) -> Result<(), RunError>
-    // All is read, and to what the reader told stand the answer lines of all lines.
+    // All is read, and the answers to all lines that the reader told at the start are written.
     ensures ended { OnOk result (IsAtEnd (R.remaining input.new)) }
     ensures complete { OnOk result (IfSome (R.remaining input.old) (λ text. (whole : List (List ℕ)) (rest : List ℕ)
         → Splits text whole rest
         → Appends (W.contents output.old) (W.contents output.new) (answer_lines (with_rest whole rest)))) }
 
-    // What stands there by how the run ends.
+    // What was read and written, for each way to end.
     ensures answered { Answers (R.remaining input.old) (R.remaining input.new)
         (W.contents output.old) (W.contents output.new) result }
 {

@@ -77,8 +77,8 @@ impl UnixResponse {
         Some(received)
     }
 
-    /// How many bytes were sent and are not yet read, of a socket that does not listen: the second number of the first
-    /// `ReceiveQueueLength`.
+    /// How many bytes of memory are taken by what was sent and is not yet read, of a socket that does not listen: the
+    /// second number of the first `ReceiveQueueLength`.
     pub fn send_queue_size(&self) -> Option<u32>
         ensures { result ≡ second_number (other_queue_of (seen_response self.now)) }
     {
@@ -112,7 +112,7 @@ impl UnixResponse {
 impl UnixResponse {
     ghost use Rattle.netlink_packet_sock_diag.specs.SeenUnixReply.{seen_response};
 
-    /// The most bytes that a datagram may have: a field of the first `MemInfo`.
+    /// The size of the send buffer, which bounds a datagram: the field `max_datagram_size` of the first `MemInfo`.
     pub fn max_datagram_size(&self) -> Option<u32>
         ensures { result ≡ option_map (λ info. info.max_datagram_size) (first_of memory_in (seen_response self.now).nlas) }
     {

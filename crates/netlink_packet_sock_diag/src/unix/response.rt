@@ -3,7 +3,7 @@
 ghost use Rattle.std.specs.Prelude.{◌≡◌, IfOk, map, true, refl, ⊤};
 ghost use Rattle.netlink_core.specs.Reply.{ValueOf, MeansReply, RefusesReply, AreIdleReplies, IsTypedReply, IsNormalReply, reply_bytes, ReplyFits};
 ghost use Rattle.netlink_core.proofs.Replies.{replies_keep_laws};
-ghost use Rattle.netlink_packet_sock_diag.specs.Framed.{framed, FramedFits};
+ghost use Rattle.netlink_core.specs.Reply.{framed, FramedFits};
 ghost use Rattle.netlink_packet_sock_diag.specs.FramedLaws.{framed_is, framed_fits};
 ghost use Rattle.netlink_packet_sock_diag.specs.UnixReply.{unix_reply};
 ghost use Rattle.netlink_packet_sock_diag.specs.UnixReplyLaws.{unix_reply_laws};
@@ -59,7 +59,8 @@ impl<'a> Parseable<&'a [u8]> for UnixResponse {
     /// after that the first fault of the attributes counts.
     fn parse(alloc: Global, payload: &'a [u8]) -> Result<Self, DecodeError> {
         let header = UnixResponseHeader::parse(alloc, payload)?;
-        let nlas = parse_nlas(alloc, &payload[LENGTH..])?;
+        let mut nlas = SmallVec::new(alloc);
+        parse_nlas(alloc, &payload[LENGTH..], &mut nlas)?;
         Ok(UnixResponse { header, nlas })
     }
 }

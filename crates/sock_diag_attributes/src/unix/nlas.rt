@@ -36,7 +36,8 @@ pub enum Nla {
     /// The inodes of the sockets that wait to be accepted, `UNIX_DIAG_ICONS`.
     PendingConnections(Vec<u32>),
     /// The lengths of the queues, `UNIX_DIAG_RQLEN`. Of a listening socket, how many connections wait to be accepted,
-    /// and how many may wait; of another, how many bytes wait to be read, and how many that were sent are not yet read.
+    /// and how many may wait; of another, how many bytes wait to be read, and how many bytes of
+    /// memory are taken by what was sent and is not yet read.
     ReceiveQueueLength(u32, u32),
     /// The memory of the socket, `UNIX_DIAG_MEMINFO`.
     MemInfo(MemInfo),

@@ -20,7 +20,8 @@ const LENGTH: usize = 72;
 
 /// The timer that runs for a TCP socket, `idiag_timer` of sock_diag(7), with the time until it ends.
 ///
-/// The time is read as so many milliseconds. It is written in whole milliseconds, modulo 2 to the power of 32.
+/// The time is read as so many milliseconds. It is written in whole milliseconds, modulo 2 to the power of 32. The
+/// number of retransmits that sock_diag(7) tells under 2 and 4 too is not kept.
 #[derive(Clone, Debug, Drop, PartialEq, Eq)]
 pub enum Timer {
     /// 1: a segment will be sent again. With how often it was, `idiag_retrans`.

@@ -7,7 +7,7 @@ ghost use Rattle.sock_diag_records.specs.Flags.{unix_states, unix_shown};
 use bitflags::{Flag, Flags, bitflag_items};
 
 /// Which states are asked for, `udiag_states` of sock_diag(7): a set of two bits, each that of the number of its
-/// state.
+/// state. A reader drops all others.
 #[derive(Clone, Debug, Drop, PartialEq, Eq)]
 pub struct StateFlags(u32);
 

@@ -7,13 +7,13 @@ use Rattle.sock_diag_attributes.specs.UnixAttributes.{unix}
 use Rattle.sock_diag_attributes.specs.SeenUnix.{seen_nla}
 use Rattle.netlink_packet_sock_diag.proofs.unix.response.UnixResponseParseableRefSliceU8.parse.Goals as goal
 
-pub returns-in_err-nlas-clause-fault : goal.returns-in_err-nlas-clause-fault
-returns-in_err-nlas-clause-fault c =
-    let p = err_from_is_err_and c.from_residual-in_err-nlas.result c.from_residual-in_err-nlas.ensures.1 in
+pub returns-in_err-parse_nlas-clause-fault : goal.returns-in_err-parse_nlas-clause-fault
+returns-in_err-parse_nlas-clause-fault c =
+    let p = err_from_is_err_and c.from_residual-in_err-parse_nlas.result c.from_residual-in_err-parse_nlas.ensures.1 in
     let part = take_rest c.args.payload.now 16 in
-    rw (p.1, p.2) (λ named. inr (c.in_ok-header.header, c.in_ok-header.ensures.value, subst (λ (b : List ℕ). AttributeFault (says unix) b c.in_err-nlas.field-0.0) part (c.in_err-nlas.ensures.fault named)))
+    rw (p.1, p.2) (λ named. inr (c.in_ok-header.header, c.in_ok-header.ensures.value, subst (λ (b : List ℕ). AttributeFault (says unix) b c.in_err-parse_nlas.field-0.0) part (c.in_err-parse_nlas.ensures.fault named)))
 
 pub returns-clause-value : goal.returns-clause-value
 returns-clause-value c =
     let part = take_rest c.args.payload.now 16 in
-    record { header = c.in_ok-header.ensures.value; nlas = subst (λ (b : List ℕ). AttributesMean (says unix) b (map seen_nla c.in_ok-nlas.nlas.items)) part c.in_ok-nlas.ensures.value }
+    record { header = c.in_ok-header.ensures.value; nlas = subst (λ (b : List ℕ). AttributesMean (says unix) b (map seen_nla c.parse_nlas.new.nlas.items)) part c.in_ok-parse_nlas.ensures.value }
