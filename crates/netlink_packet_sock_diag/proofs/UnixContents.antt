@@ -36,22 +36,27 @@ pub no_peer : (nla : Nla) → ((n : ℕ) → nla ≡ Peer n → ⊥) → peer_in
 no_peer (Peer n) other = absurd (other n refl)
 no_peer nla other = refl
 
+-- nor has it a name
 pub no_name : (nla : Nla) → ((n : UnixDiagName) → nla ≡ Name n → ⊥) → name_in (seen_nla nla) ≡ None
 no_name (Name n) other = absurd (other n refl)
 no_name nla other = refl
 
+-- nor pending connections
 pub no_pending : (nla : Nla) → ((ns : Vec ℕ Global) → nla ≡ PendingConnections ns → ⊥) → pending_in (seen_nla nla) ≡ None
 no_pending (PendingConnections ns) other = absurd (other ns refl)
 no_pending nla other = refl
 
+-- nor directions that are shut down
 pub no_shutdown : (nla : Nla) → ((n : ℕ) → nla ≡ Shutdown n → ⊥) → shutdown_in (seen_nla nla) ≡ None
 no_shutdown (Shutdown n) other = absurd (other n refl)
 no_shutdown nla other = refl
 
+-- nor lengths of queues
 pub no_queue : (nla : Nla) → ((m n : ℕ) → nla ≡ ReceiveQueueLength m n → ⊥) → queue_in (seen_nla nla) ≡ None
 no_queue (ReceiveQueueLength m n) other = absurd (other m n refl)
 no_queue nla other = refl
 
+-- nor memory
 pub no_memory : (nla : Nla) → ((m : Memory) → nla ≡ MemInfo m → ⊥) → memory_in (seen_nla nla) ≡ None
 no_memory (MemInfo m) other = absurd (other m refl)
 no_memory nla other = refl

@@ -30,6 +30,7 @@ goes_on tag left rest e =
     ∙ ap (λ (n : ℕ). with_class (class_of_byte n) (kinds_of_family (slice_index left 0))) timer
     ∙ parts.1
 
+-- every header has 72 bytes
 one_size : (tag : Tag) → inet_response_header.size tag ≡ 72
 unfolding inet_response_header
 one_size tag = refl
@@ -41,6 +42,7 @@ header_enough b h e =
     let long = header_sound.long tt tag.tag b tag.told in
     omega (arith, long, one_size tag.tag)
 
+-- the laws of header and attributes
 pub inet_reply_laws : ReplyLaws inet_reply
 inet_reply_laws = record {
   header = prefix_laws inet_response_header tt IsShaped IsNormal inet_response_header_laws;

@@ -16,5 +16,6 @@ seen_response response = record { header = response.header; nlas = map seen_nla 
 abbrev pub header_bytes : InetResponse → List ℕ
 header_bytes response = bytes inet_response_header response.header
 
+-- the attributes as they are written
 abbrev pub attributes_of : InetResponse → List Attribute
 attributes_of response = map (λ nla. inet_attribute (seen_nla nla)) response.nlas.items

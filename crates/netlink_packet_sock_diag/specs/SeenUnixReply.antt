@@ -16,5 +16,6 @@ seen_response response = record { header = response.header; nlas = map seen_nla 
 abbrev pub header_bytes : UnixResponse → List ℕ
 header_bytes response = bytes unix_response_header response.header
 
+-- the attributes as they are written
 abbrev pub attributes_of : UnixResponse → List Attribute
 attributes_of response = map (λ nla. unix_attribute (seen_nla nla)) response.nlas.items

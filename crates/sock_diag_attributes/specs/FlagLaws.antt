@@ -22,6 +22,7 @@ says_same m n =
       ]
     ]
 
+-- a flag keeps the laws
 pub flag_laws : (k : ℕ) → PrefixLaws (flag_value k)
 flag_laws k = record {
   named = λ b h. let no = if_equal_err (length b) 1 _ _ Memory h in cc;

@@ -19,6 +19,7 @@ use Rattle.sock_diag_attributes.specs.Flag.{flag_value}
 use Rattle.sock_diag_attributes.specs.FlagLaws.{flag_laws}
 use Rattle.sock_diag_attributes.specs.InetAttributes.{InetValue, legacy_mem_info, tcp_info, congestion, tos, tc, mem_info, shutdown, protocol, v6_only, mark, class_id, other, legacy_mem_info_record, tcp_info_record, mem_info_record, inet, inet_attribute, inet_kinds, IsTypedInet, IsNormalInet}
 
+-- the laws of the three records
 legacy_mem_info_record_laws : PrefixLaws legacy_mem_info_record
 legacy_mem_info_record_laws = prefix_laws legacy_memory.legacy_mem_info tt legacy_memory.IsShaped legacy_memory.IsNormal legacy_mem_info_laws
 
@@ -28,6 +29,7 @@ tcp_info_record_laws = prefix_laws connection.tcp_info tt connection.IsShaped co
 mem_info_record_laws : PrefixLaws mem_info_record
 mem_info_record_laws = prefix_laws memory.mem_info tt memory.IsShaped memory.IsNormal mem_info_laws
 
+-- a typed value is written as a typed attribute
 writes_typed : (v : InetValue) → IsTypedInet v → IsTypedAttribute (inet_attribute v)
 writes_typed (legacy_mem_info m) t = record { type_word = omega arith; value = legacy_mem_info_record_laws.bytes_typed m t }
 writes_typed (tcp_info i) t = record { type_word = omega arith; value = tcp_info_record_laws.bytes_typed i t }
@@ -42,6 +44,7 @@ writes_typed (mark n) t = record { type_word = omega arith; value = IsBytes-numb
 writes_typed (class_id n) t = record { type_word = omega arith; value = IsBytes-number 0 4 n }
 writes_typed (other a) t = t
 
+-- a value in normal form is said by its own attribute
 reads_back : (v : InetValue) → IsTypedInet v → IsNormalInet v → says inet (inet_attribute v) ≡ Ok v
 reads_back (legacy_mem_info m) t n = record_reads_back inet 1 legacy_mem_info_record legacy_mem_info_record_laws legacy_mem_info m t tt
 reads_back (tcp_info i) t n = record_reads_back inet 2 tcp_info_record tcp_info_record_laws tcp_info i t tt
@@ -56,6 +59,7 @@ reads_back (mark m) t n = number_reads_back inet 15 4 mark m t
 reads_back (class_id m) t n = number_reads_back inet 17 4 class_id m t
 reads_back (other a) t n = unknown_says inet_kinds a (Ok (other a)) n
 
+-- the laws of the family
 pub inet_laws : FamilyLaws inet
 inet_laws = record {
   kinds = (

@@ -8,6 +8,7 @@ use Rattle.netlink_core.specs.ByteLaws.{IsBytes-left, IsBytes-append, IsBytes-co
 use Rattle.netlink_core.specs.FrontLaws.{value_or_reason}
 use Rattle.sock_diag_attributes.specs.Name.{SocketName, pathname, abstract, HasNoZero, name_bytes, IsNormalName, IsTypedName, before_zero, from_zero, path_before, read_name, NamesKeepLaws}
 
+-- no fault of a name is want of memory
 pub name_named : (x : List ℕ) → read_name x ≡ Err Memory → ⊥
 name_named [] h = cc
 name_named (zero ∷ address) h = cc
@@ -24,11 +25,13 @@ parts [] = refl
 parts (zero ∷ xs) = refl
 parts (suc n ∷ xs) = ap (λ (ys : List ℕ). suc n ∷ ys) (parts xs)
 
+-- no zero stands before the first one
 before_has_none : (x : List ℕ) → HasNoZero (before_zero x)
 before_has_none [] = All-nil (λ b. b ≢ 0)
 before_has_none (zero ∷ xs) = All-nil (λ b. b ≢ 0)
 before_has_none (suc n ∷ xs) = All-cons (λ b. b ≢ 0) (suc n) (before_zero xs) (λ e. cc) (before_has_none xs)
 
+-- and there it stands
 from_is_zero : (x : List ℕ) (z : ℕ) (more : List ℕ) → from_zero x ≡ z ∷ more → z ≡ 0
 from_is_zero [] z more e = absurd cc
 from_is_zero (zero ∷ xs) z more e = cc
@@ -57,6 +60,7 @@ path_parts [] none = (refl, refl)
 path_parts (zero ∷ xs) none = absurd (All-head (λ b. b ≢ 0) zero xs none refl)
 path_parts (suc n ∷ xs) none = let later = path_parts xs (All-tail (λ b. b ≢ 0) (suc n) xs none) in (ap (λ (ys : List ℕ). suc n ∷ ys) later.0, later.1)
 
+-- a name in normal form reads back
 pub name_reads_back : (u : SocketName) → IsNormalName u → read_name (name_bytes u) ≡ Ok u
 name_reads_back (abstract address) good = refl
 name_reads_back (pathname []) good = absurd (good.1 refl)
@@ -70,6 +74,7 @@ pub name_typed : (u : SocketName) → IsBytes (name_bytes u) → IsTypedName u
 name_typed (pathname path) typed = IsBytes-left path (0 ∷ []) typed
 name_typed (abstract address) typed = λ i. typed (suc i)
 
+-- and the bytes of a typed name are bytes
 pub name_bytes_typed : (u : SocketName) → IsTypedName u → IsBytes (name_bytes u)
 name_bytes_typed (pathname path) typed = IsBytes-append path (0 ∷ []) typed (IsBytes-cons 0 [] (omega arith) IsBytes-nil)
 name_bytes_typed (abstract address) typed = IsBytes-cons 0 address (omega arith) typed
@@ -86,26 +91,31 @@ zero_at (suc n ∷ xs) (suc i) lt here none =
     let later = zero_at xs i (omega arith) here (All-tail (λ b. b ≢ 0) (suc n) (take i xs) none) in
     (ap (λ (ys : List ℕ). suc n ∷ ys) later.0, later.1)
 
+-- bytes with no zero
 no_zero : (bytes : List ℕ) → HasNoZero bytes → from_zero bytes ≡ []
 no_zero [] none = refl
 no_zero (zero ∷ xs) none = absurd (All-head (λ b. b ≢ 0) zero xs none refl)
 no_zero (suc n ∷ xs) none = no_zero xs (All-tail (λ b. b ≢ 0) (suc n) xs none)
 
+-- bytes behind the first zero
 path_long : (path rest : List ℕ) → 2 ≤ length rest → path_before path rest ≡ Err (NameInnerZero (length path))
 path_long path [] h = absurd (omega arith)
 path_long path (z ∷ []) h = absurd (omega arith)
 path_long path (z ∷ y ∷ more) h = refl
 
+-- none behind it
 path_one : (path rest : List ℕ) → length rest ≡ 1 → path_before path rest ≡ Ok (pathname path)
 path_one path [] h = absurd (omega arith)
 path_one path (z ∷ []) h = refl
 path_one path (z ∷ y ∷ more) h = absurd (omega arith)
 
+-- a name whose first byte is not zero is a path
 not_abstract : (bytes : List ℕ) → get_or bytes 0 0 ≢ 0 → read_name bytes ≡ path_before (before_zero bytes) (from_zero bytes)
 not_abstract [] first = absurd (first refl)
 not_abstract (zero ∷ xs) first = absurd (first refl)
 not_abstract (suc n ∷ xs) first = refl
 
+-- the three answers to such a name: a zero with bytes behind it, one at the end, and none
 pub reads_inner_zero : (bytes : List ℕ) (i : ℕ) → get_or bytes 0 0 ≢ 0 → i + 1 < length bytes → get_or bytes i 0 ≡ 0 → HasNoZero (take i bytes) → read_name bytes ≡ Err (NameInnerZero i)
 reads_inner_zero bytes i first lt here none =
     let at = zero_at bytes i (omega arith) here none in

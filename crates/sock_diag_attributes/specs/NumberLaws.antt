@@ -24,9 +24,11 @@ number_exact width x typed long =
 
 -- ---- two numbers
 
+-- no fault of two numbers is want of memory
 pub two_named : (k : ℕ) (x : List ℕ) → two_numbers k x ≡ Err Memory → ⊥
 two_named k x h = let no = if_equal_err (length x) 8 _ _ Memory h in cc
 
+-- two numbers that were read fit their bytes, and these are all
 pub two_exact : (k : ℕ) (x : List ℕ) (u : ℕ × ℕ) → IsBytes x → two_numbers k x ≡ Ok u → (x ≡ bytes_of_two u) × (u.0 < 2 ^ 32) × (u.1 < 2 ^ 32)
 two_exact k x u typed h =
     let read = if_equal (length x) 8 _ u _ h in
@@ -38,20 +40,24 @@ two_exact k x u typed h =
     let exact : x ≡ bytes_of_two (little_number 4 x, little_number 4 (drop 4 x)) = sym (take-append-drop 4 x) ∙ ap (λ (s : List ℕ). s ++ drop 4 x) first ∙ ap (λ (s : List ℕ). little_bytes 4 (little_number 4 x) ++ s) second in
     subst (λ (v : ℕ × ℕ). (x ≡ bytes_of_two v) × (v.0 < 2 ^ 32) × (v.1 < 2 ^ 32)) read.1 (exact, little_from-lt 0 4 x typed, little_from-lt 0 4 (drop 4 x) behind)
 
+-- two numbers read back
 pub two_read_back : (k : ℕ) (u : ℕ × ℕ) → u.0 < 2 ^ 32 → u.1 < 2 ^ 32 → two_numbers k (bytes_of_two u) ≡ Ok u
 two_read_back k u first second =
     let left : little_number 4 (bytes_of_two u) ≡ u.0 = little_number-reads_back 4 u.0 (little_bytes 4 u.1) first in
     let right : little_number 4 (drop 4 (bytes_of_two u)) ≡ u.1 = number_back 4 u.1 second in
     λ i. Ok (left i, right i)
 
+-- their bytes are bytes
 pub two_typed : (u : ℕ × ℕ) → IsBytes (bytes_of_two u)
 two_typed u = IsBytes-append (little_bytes 4 u.0) (little_bytes 4 u.1) (IsBytes-number 0 4 u.0) (IsBytes-number 0 4 u.1)
 
 -- ---- many numbers
 
+-- no fault of numbers is want of memory
 pub numbers_named : (x : List ℕ) → read_numbers x ≡ Err Memory → ⊥
 numbers_named x h = let no = if_equal_err (length x % 4) 0 _ _ Memory h in cc
 
+-- bytes whose number is a multiple of four are numbers
 whole : (x : List ℕ) → IsBytes x → length x % 4 ≡ 0 → (x ≡ bytes_of_numbers (numbers_in x)) × AllByRecursion (λ n. n < 2 ^ 32) (numbers_in x)
 whole [] typed four = (refl, tt)
 whole (a ∷ []) typed four = absurd (omega (arith, four))
@@ -64,15 +70,18 @@ whole (a ∷ b ∷ c ∷ d ∷ rest) typed four =
     let later = whole rest (IsBytes-right word rest typed) (omega (arith, four)) in
     (ap (λ (s : List ℕ). s ++ rest) here ∙ ap (λ (s : List ℕ). little_bytes 4 (little_number 4 word) ++ s) later.0, (little_from-lt 0 4 word front, later.1))
 
+-- numbers that were read fit their bytes, and these are all
 pub numbers_exact : (x : List ℕ) (u : List ℕ) → IsBytes x → read_numbers x ≡ Ok u → (x ≡ bytes_of_numbers u) × AllByRecursion (λ n. n < 2 ^ 32) u
 numbers_exact x u typed h =
     let read = if_equal (length x % 4) 0 _ u _ h in
     subst (λ (v : List ℕ). (x ≡ bytes_of_numbers v) × AllByRecursion (λ n. n < 2 ^ 32) v) read.1 (whole x typed read.0)
 
+-- four bytes each
 pub length_numbers : (u : List ℕ) → length (bytes_of_numbers u) ≡ 4 * length u
 length_numbers [] = refl
 length_numbers (n ∷ u) = omega (arith, length_numbers u)
 
+-- the numbers in the bytes of numbers
 back : (u : List ℕ) → AllByRecursion (λ n. n < 2 ^ 32) u → numbers_in (bytes_of_numbers u) ≡ u
 back [] fit = refl
 back (n ∷ u) fit =
@@ -80,9 +89,11 @@ back (n ∷ u) fit =
     let later : numbers_in (bytes_of_numbers u) ≡ u = back u fit.1 in
     λ i. first i ∷ later i
 
+-- numbers read back
 pub numbers_read_back : (u : List ℕ) → AllByRecursion (λ n. n < 2 ^ 32) u → read_numbers (bytes_of_numbers u) ≡ Ok u
 numbers_read_back u fit = rw (eq-eqb (length (bytes_of_numbers u) % 4) 0 (omega (arith, length_numbers u)), back u fit) refl
 
+-- their bytes are bytes
 pub numbers_typed : (u : List ℕ) → IsBytes (bytes_of_numbers u)
 numbers_typed [] = IsBytes-nil
 numbers_typed (n ∷ u) = IsBytes-append (little_bytes 4 n) (bytes_of_numbers u) (IsBytes-number 0 4 n) (numbers_typed u)
@@ -102,5 +113,6 @@ places (a ∷ b ∷ c ∷ d ∷ rest) (n ∷ u) long each =
     let later : numbers_in rest ≡ u = places rest u (omega (arith, long)) (λ k l. each (suc k) (omega (arith, l)) ∙ ap (λ (m : ℕ). little_number 4 (drop m x)) (next k)) in
     λ i. first i ∷ later i
 
+-- and so numbers are read
 pub read_in_places : (x u : List ℕ) → length x ≡ 4 * length u → IsRead little_number 4 x u → read_numbers x ≡ Ok u
 read_in_places x u long each = rw (eq-eqb (length x % 4) 0 (omega (arith, long)), places x u long each) refl

@@ -18,6 +18,7 @@ use Rattle.sock_diag_attributes.specs.Text.{text_bytes, EndsInZero, AreIdleTexts
 record End (value : List ℕ) : Type 0 where
   told : EndsInZero value ⊎ (¬ (EndsInZero value) × (without_end_zero value ≡ value))
 
+-- one of the two holds
 end_of : (value : List ℕ) → End value
 end_of [] = record { told = inr (λ ends. omega (arith, ap length ends.1, length-append ends.0 (0 ∷ [])), refl) }
 end_of (zero ∷ []) = record { told = inl ([], refl) }
@@ -75,6 +76,7 @@ text_is b v h =
       | false ↦ λ e k. absurd cc
     ] refl h
 
+-- no fault of a text is want of memory
 text_named : (b : List ℕ) → text_in b ≡ Err Memory → ⊥
 text_named b h =
     elim (is_utf8 (without_end_zero b)) as (λ t. (if t then Ok (without_end_zero b) else Err NotUtf8) ≡ Err Memory → ⊥) [
@@ -82,6 +84,7 @@ text_named b h =
       | false ↦ λ k. cc
     ] h
 
+-- what is kept of bytes is bytes
 kept_typed : (b : List ℕ) → IsBytes b → IsBytes (without_end_zero b)
 kept_typed b typed =
     elim (end_of b).told [

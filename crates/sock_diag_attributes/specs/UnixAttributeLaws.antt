@@ -19,12 +19,14 @@ use Rattle.sock_diag_attributes.specs.Numbers.{two_numbers, bytes_of_two, read_n
 use Rattle.sock_diag_attributes.specs.NumberLaws.{two_named, two_exact, two_read_back, two_typed, numbers_named, numbers_exact, numbers_read_back, numbers_typed}
 use Rattle.sock_diag_attributes.specs.UnixAttributes.{UnixValue, name, vfs, peer, pending_connections, receive_queue_length, mem_info, shutdown, other, vfs_record, mem_info_record, unix, unix_attribute, unix_kinds, IsTypedUnix, IsNormalUnix}
 
+-- the laws of the two records
 vfs_record_laws : PrefixLaws vfs_record
 vfs_record_laws = prefix_laws files.vfs tt files.IsShaped files.IsNormal vfs_laws
 
 mem_info_record_laws : PrefixLaws mem_info_record
 mem_info_record_laws = prefix_laws memory.unix_mem_info tt memory.IsShaped memory.IsNormal unix_mem_info_laws
 
+-- a typed value is written as a typed attribute
 writes_typed : (v : UnixValue) → IsTypedUnix v → IsTypedAttribute (unix_attribute v)
 writes_typed (name n) t = record { type_word = omega arith; value = name_bytes_typed n t }
 writes_typed (vfs v) t = record { type_word = omega arith; value = vfs_record_laws.bytes_typed v t }
@@ -35,6 +37,7 @@ writes_typed (mem_info m) t = record { type_word = omega arith; value = mem_info
 writes_typed (shutdown n) t = record { type_word = omega arith; value = IsBytes-number 0 1 n }
 writes_typed (other a) t = t
 
+-- a value in normal form is said by its own attribute
 reads_back : (v : UnixValue) → IsTypedUnix v → IsNormalUnix v → says unix (unix_attribute v) ≡ Ok v
 reads_back (name u) t n = ap (said_as name) (name_reads_back u n)
 reads_back (vfs v) t n = record_reads_back unix 1 vfs_record vfs_record_laws vfs v t tt
@@ -45,6 +48,7 @@ reads_back (mem_info m) t n = record_reads_back unix 5 mem_info_record mem_info_
 reads_back (shutdown m) t n = number_reads_back unix 6 1 shutdown m t
 reads_back (other a) t n = unknown_says unix_kinds a (Ok (other a)) n
 
+-- the laws of the family
 pub unix_laws : FamilyLaws unix
 unix_laws = record {
   kinds = (

@@ -16,7 +16,8 @@ sound_by_flags = plain_sound _ _ _ _ _ _ _ refl refl (λ left. refl) (λ left. r
 no_flags : (value : UnixResponseHeader) → HasDefinedFlags unix_response_header value
 no_flags value = defined_without_flags (unix_response_header.table tt) (unix_response_header.values value) refl
 
-unix_response_header_sound : IsSound unix_response_header IsShaped IsNormal
+-- the format is sound
+pub unix_response_header_sound : IsSound unix_response_header IsShaped IsNormal
 unix_response_header_sound =
     let sound = sound_by_flags in
     record {
