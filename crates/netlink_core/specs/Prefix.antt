@@ -35,6 +35,7 @@ pub record StandsInFront (P : Prefix) (size : ℕ) : Type 0 where
 
 -- a record that is given as a format, under one parameter
 module _ {Param Tag Value : Type 0} (format : Format Param Tag Value) (param : Param) (IsShaped : Value → Type 0) (IsNormal : Param → Value → Type 0) where
+  -- the part that the format reads and writes
   abbrev pub prefix_of : Prefix
   prefix_of = record {
     Value = Value;

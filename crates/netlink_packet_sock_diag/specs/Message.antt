@@ -20,25 +20,28 @@ pub data Message : Type 0 where
   unix_request_with : UnixRequest → Message
   unix_response_with : UnixReply → Message
 
--- which of the four a message is
+-- the message is a request for IPv4 or IPv6 sockets
 abbrev pub is_inet_request : Message → Bool
 is_inet_request (inet_request_with v) = true
 is_inet_request (inet_response_with v) = false
 is_inet_request (unix_request_with v) = false
 is_inet_request (unix_response_with v) = false
 
+-- the message is a reply about an IPv4 or IPv6 socket
 abbrev pub is_inet_response : Message → Bool
 is_inet_response (inet_request_with v) = false
 is_inet_response (inet_response_with v) = true
 is_inet_response (unix_request_with v) = false
 is_inet_response (unix_response_with v) = false
 
+-- the message is a request for UNIX sockets
 abbrev pub is_unix_request : Message → Bool
 is_unix_request (inet_request_with v) = false
 is_unix_request (inet_response_with v) = false
 is_unix_request (unix_request_with v) = true
 is_unix_request (unix_response_with v) = false
 
+-- the message is a reply about a UNIX socket
 abbrev pub is_unix_response : Message → Bool
 is_unix_response (inet_request_with v) = false
 is_unix_response (inet_response_with v) = false
