@@ -31,28 +31,35 @@ fault_within refuses bytes h e head fault = inr (h, take (h.length - 16) (drop 1
 
 -- ---- what stands in a framed message
 
+-- the length word is the header's
 pub framed_length : (b x : List ℕ) (h : NetlinkHeader) → IsFramed b h x → length_word b ≡ h.length
 framed_length b x h f = ap length_word f.parts ∙ little_number-reads_back 4 h.length [] f.typed.length
 
+-- the type is the header's
 pub framed_type : (b x : List ℕ) (h : NetlinkHeader) → IsFramed b h x → type_word b ≡ h.message_type
 framed_type b x h f = ap type_word f.parts ∙ little_number-reads_back 2 h.message_type [] f.typed.message_type
 
+-- the payload stands where the length word says
 pub framed_payload : (b x : List ℕ) (h : NetlinkHeader) → IsFramed b h x → payload_at b ≡ x
 framed_payload b x h f =
     let size : length_word b - 16 ≡ length x = omega (arith, framed_length b x h f, f.size) in
     ap (λ (n : ℕ). take n (drop 16 b)) size ∙ ap (λ (l : List ℕ). take (length x) (drop 16 l)) f.parts ∙ take_at x f.rest (length x) refl
 
+-- the first sixteen bytes are the header's
 pub framed_front : (b x : List ℕ) (h : NetlinkHeader) → IsFramed b h x → take 16 b ≡ header_bytes h
 framed_front b x h f = ap (take 16) f.parts
 
+-- bytes frame one header
 pub framed_header : (b x y : List ℕ) (h k : NetlinkHeader) → IsFramed b h x → IsFramed b k y → h ≡ k
 framed_header b x y h k f g = one_header h k f.typed g.typed (sym (framed_front b x h f) ∙ framed_front b y k g)
 
+-- a payload of bytes is bytes
 pub payload_typed : (b : List ℕ) → IsBytes b → IsBytes (payload_at b)
 payload_typed b tb = AreBytes-take (length_word b - 16) (drop 16 b) (AreBytes-drop 16 b tb)
 
 -- ---- one message or one fault
 
+-- the length is within the bytes
 length-framed : (b x : List ℕ) (h : NetlinkHeader) → IsFramed b h x → h.length ≤ length b
 length-framed b x h f = omega (arith, f.size, ap length f.parts ∙ length-append (header_bytes h) (x ++ f.rest), length-append x f.rest)
 
@@ -69,6 +76,7 @@ first_fault b = cond (ltb (length b) 16) (Some (EnvelopeCut (length b)))
     (cond (ltb (length_word b) 16) (Some (EnvelopeLengthUnder16 (length_word b)))
     (cond (ltb (length b) (length_word b)) (Some (EnvelopeLengthPast (length_word b) (length b))) None))
 
+-- a fault of framing is the first
 fault_is_first : (b : List ℕ) (e : DecodeError) → IsEnvelopeFault b e → first_fault b ≡ Some e
 unfolding first_fault
 fault_is_first b (EnvelopeCut got) f = rw (lt-ltb (length b) 16 f.1, ← f.0) refl
@@ -105,6 +113,7 @@ of_kept_type reads x t = elim (cases_eq t 1) [
 
 -- Bytes have one message or one fault, where payloads of inner messages have one of them or one fault.
 module _ {A : Type 0} (reads : List ℕ → ℕ → A → Type 0) (refuses : List ℕ → ℕ → DecodeError → Type 0) where
+  -- a message or a fault
   pub envelope_or_fault : (b : List ℕ) → IsBytes b → ((x : List ℕ) (t : ℕ) → IsBytes x → t < 2 ^ 16 → ((m : A) × reads x t m) ⊎ ((e : DecodeError) × refuses x t e))
       → ((v : Envelope A) × EnvelopeIs reads b v) ⊎ ((e : DecodeError) × EnvelopeFault refuses b e)
   envelope_or_fault b tb law = elim (header_or_fault b tb) [
@@ -134,6 +143,7 @@ module _ {A : Type 0} (reads : List ℕ → ℕ → A → Type 0) (refuses : Lis
   inner_payload x t (overrun_with given) (inr kind) r = absurd (omega (arith, kind, r.0))
   inner_payload x t (inner m) kind r = (m, r.1)
 
+  -- not both
   pub envelope_or_fault_apart : (b : List ℕ) (v : Envelope A) (e : DecodeError) → ((x : List ℕ) (t : ℕ) (m : A) → reads x t m → refuses x t e → ⊥)
       → EnvelopeIs reads b v → EnvelopeFault refuses b e → ⊥
   envelope_or_fault_apart b v e law r (inl fault) = no_fault_where_framed b r.0 v.header e r.1 fault
@@ -144,6 +154,7 @@ module _ {A : Type 0} (reads : List ℕ → ℕ → A → Type 0) (refuses : Lis
       let answer = inner_payload x h.message_type v.payload kind read in
       law x h.message_type answer.0 answer.1 fault
 
+-- one fault at most
 pub one_envelope_fault : (refuses : List ℕ → ℕ → DecodeError → Type 0) (b : List ℕ) (e f : DecodeError) → ((x : List ℕ) (t : ℕ) → refuses x t e → refuses x t f → e ≡ f)
     → EnvelopeFault refuses b e → EnvelopeFault refuses b f → e ≡ f
 one_envelope_fault refuses b e f law (inl fault) (inl other) = one_framing_fault b e f fault other
@@ -154,6 +165,7 @@ one_envelope_fault refuses b e f law (inr (h, x, frame, kind, fault)) (inr (k, y
     let payload : y ≡ x = sym (framed_payload b y k also) ∙ framed_payload b x h frame in
     law x h.message_type fault (subst (λ (z : List ℕ). refuses z h.message_type f) payload (subst (λ (l : NetlinkHeader). refuses y l.message_type f) header other))
 
+-- no fault is want of memory
 pub envelope_fault_named : (refuses : List ℕ → ℕ → DecodeError → Type 0) (b : List ℕ) → ((x : List ℕ) (t : ℕ) → refuses x t Memory → ⊥) → EnvelopeFault refuses b Memory → ⊥
 envelope_fault_named refuses b law (inl fault) = fault
 envelope_fault_named refuses b law (inr (h, x, frame, kind, fault)) = law x h.message_type fault

@@ -14,6 +14,7 @@ use Rattle.std.proofs.lemmas.Bool.{cases_lt}
 use Rattle.netlink_core.proofs.Numbers.{number-same, number-fits}
 use Rattle.netlink_core.proofs.TableLaws.{AreBytes-drop}
 
+-- the first bytes of bytes are bytes
 pub AreBytes-take : (n : ℕ) (bytes : List ℕ) → IsBytes bytes → IsBytes (take n bytes)
 AreBytes-take n bytes fits = IsBytes-left (take n bytes) (drop n bytes) (subst IsBytes (sym (take-append-drop n bytes)) fits)
 
@@ -27,15 +28,17 @@ number_front n x bytes fits long is =
     let same : take n bytes ≡ take n own = number-same little_endian n bytes own fits (IsBytes-number 0 n x) long (omega (arith, size)) (sym is ∙ sym back) in
     sym (take-append-drop n bytes) ∙ ap (λ (front : List ℕ). front ++ drop n bytes) (same ∙ take_all n own (omega (arith, size)))
 
--- the same, of a number behind m bytes, read from the slice that begins there
+-- the slice from m on has all the bytes behind m
 behind : (m : ℕ) (bytes : List ℕ) → take (length bytes - m) (drop m bytes) ≡ drop m bytes
 behind m bytes = take_all (length bytes - m) (drop m bytes) (omega (arith, length-drop m bytes))
 
+-- bytes behind m others are those of the number there, and the rest
 number_behind : (m n x : ℕ) (bytes : List ℕ) → IsBytes bytes → m + n ≤ length bytes → x ≡ little_number n (take (length bytes - m) (drop m bytes)) → drop m bytes ≡ little_bytes n x ++ drop (m + n) bytes
 number_behind m n x bytes fits long is =
     number_front n x (drop m bytes) (AreBytes-drop m bytes fits) (omega (arith, length-drop m bytes)) (is ∙ ap (little_number n) (behind m bytes))
     ∙ ap (λ (rest : List ℕ). little_bytes n x ++ rest) (drop-drop n m bytes ∙ ap (λ (k : ℕ). drop k bytes) (omega arith))
 
+-- the number there fits its width
 fits_behind : (m n x : ℕ) (bytes : List ℕ) → IsBytes bytes → x ≡ little_number n (take (length bytes - m) (drop m bytes)) → x < 256 ^ n
 fits_behind m n x bytes fits is = subst (λ (k : ℕ). k < 256 ^ n) (sym (is ∙ ap (little_number n) (behind m bytes))) (number-fits little_endian n (drop m bytes) (AreBytes-drop m bytes fits))
 

@@ -8,6 +8,7 @@ use Rattle.netlink_core.proofs.Headers.{one_header}
 use Rattle.netlink_core.proofs.Framing.{framed_type, framed_payload, framed_front}
 
 module _ {A : Type 0} (reads : List ℕ → ℕ → A → Type 0) where
+  -- the type that a payload belongs under
   payload_kind : (x : List ℕ) (t : ℕ) (p : Payload A) → PayloadIs reads x t p → payload_type (λ _. t) p ≡ t
   payload_kind x t no_payload h = sym h
   payload_kind x t (error_with g) h = sym h.0
@@ -78,6 +79,7 @@ module _ {A : Type 0} (reads : List ℕ → ℕ → A → Type 0) where
   pub finalized_frame : (written : A → List ℕ) (type_of : A → ℕ) (v : Envelope A) → IsTypedHeader v.header → IsFinalized written type_of v → IsFramed (envelope_bytes written v) v.header (payload_bytes written v.payload)
   finalized_frame written type_of v typed done = record { rest = []; parts = ap (λ (l : List ℕ). header_bytes v.header ++ l) (sym (append-nil (payload_bytes written v.payload))); typed = typed; size = done.0 }
 
+  -- the bytes of a payload read back as it exactly where it is in normal form
   payload_itself : (written : A → List ℕ) (type_of : A → ℕ) (t : ℕ) (normal : ℕ → A → Type 0) (p : Payload A) → t ≡ payload_type type_of p → OfInner (λ m. reads (written m) t m ↔ normal t m) p
       → (PayloadIs reads (payload_bytes written p) t p ↔ OfInner (λ m. IsInnerType t × normal t m) p)
   payload_itself written type_of t normal no_payload e law = (λ _. tt, λ _. e)

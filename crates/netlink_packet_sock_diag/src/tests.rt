@@ -305,6 +305,22 @@ fn nine_attributes(rt: HostRuntime) -> Result<(), Fail> {
     written(&rt, rt.alloc(), &bytes, &bytes)
 }
 
+// A list that grew and one that stands in the value are equal where their attributes are.
+#[test]
+fn equal_lists_of_two_kinds(rt: HostRuntime) -> Result<(), Fail> {
+    let alloc = rt.alloc();
+    let attribute = [5, 0, 6, 0, 0, 0, 0, 0];
+    let eight = attribute.repeat(alloc, 8)?;
+    let nine = attribute.repeat(alloc, 9)?;
+    let in_place = reply_of(alloc, &LISTENING, eight.as_slice())?;
+    let mut grown = reply_of(alloc, &LISTENING, nine.as_slice())?;
+    assert!(rt; grown != in_place);
+    let last = grown.nlas.pop();
+    assert!(rt; last == Some(Nla::Shutdown(0)));
+    assert!(rt; grown == in_place);
+    Ok(())
+}
+
 #[test]
 fn writes_into_a_longer_buffer(rt: HostRuntime) -> Result<(), Fail> {
     let reply = UnixResponse::parse(rt.alloc(), LISTENING_REPLY.as_slice())?;
