@@ -1,9 +1,9 @@
 //! The messages of sock_diag(7): requests and replies, and the request to close sockets.
 
-ghost use Rattle.std.specs.Prelude.{◌≡◌, ◌≢◌, ◌<◌, ◌^◌, true, refl, IfOk, IfErr};
+ghost use Rattle.std.specs.Prelude.{◌≡◌, ◌≢◌, ◌⊎◌, ◌<◌, ◌^◌, true, refl, IfOk, IfErr, IsTrue};
 ghost use Rattle.netlink_core.specs.declared.fault.DecodeError.TheVariants.{Memory};
 ghost use Rattle.netlink_core.specs.declared.message.NetlinkPayload.TheVariants.{InnerMessage};
-ghost use Rattle.netlink_packet_sock_diag.specs.Message.{Message, MessageIs, MessageFault, IdleMessages, IsTypedMessage, IsNormalMessage, MessageFits, message_bytes, is_inet_request, is_inet_response, is_unix_request, is_unix_response};
+ghost use Rattle.netlink_packet_sock_diag.specs.Message.{Message, IsInet, IsUnix, MessageIs, MessageFault, IdleMessages, IsTypedMessage, IsNormalMessage, MessageFits, message_bytes, is_inet_request, is_inet_response, is_unix_request, is_unix_response};
 ghost use Rattle.netlink_packet_sock_diag.specs.MessageLaws.{message_laws, message_answered};
 
 use crate::constants::{AF_INET, AF_INET6, AF_UNIX, SOCK_DESTROY, SOCK_DIAG_BY_FAMILY};
@@ -94,6 +94,8 @@ impl SockDiagMessage {
     ) -> Result<SockDiagMessage, DecodeError>
         ensures value { IfOk result (λ m. MessageIs payload.now message_type (seen_message m)) }
         ensures fault { IfErr result (λ e. e ≢ Memory → MessageFault payload.now message_type e) }
+        // Memory is wanted only where there is a reply to read.
+        ensures memory { IfErr result (λ e. e ≡ Memory → IsUnix payload.now message_type ⊎ IsInet payload.now message_type) }
     {
         if payload.len() < 2 {
             return Err(DecodeError::MessageTooShort { got: payload.len() });
@@ -135,7 +137,14 @@ impl<'a> ParseableParametrized<&'a [u8], u16> for SockDiagMessage {
         alloc: Global,
         payload: &'a [u8],
         message_type: u16,
-    ) -> Result<Self, DecodeError> {
+    ) -> Result<Self, DecodeError>
+        ensures value { IfOk result (λ v. MessageIs payload.entry.now message_type (seen_message v)) }
+        ensures fault { IfErr result (λ e. e ≢ Memory → MessageFault payload.entry.now message_type e) }
+        ensures memory { IfErr result (λ e. e ≡ Memory → IsTrue true) }
+        // Memory is wanted only where there is a reply to read.
+        ensures reply { IfErr result (λ e. e ≡ Memory
+            → IsUnix payload.entry.now message_type ⊎ IsInet payload.entry.now message_type) }
+    {
         SockDiagMessage::read_under(alloc, payload, message_type)
     }
 }

@@ -1,6 +1,6 @@
 //! Numbers that fill the value of an attribute.
 
-ghost use Rattle.std.specs.Prelude.{◌≡◌, ◌≢◌, ◌≤◌, ◌++◌, length, drop, IfOk, IfErr, Ok, Err};
+ghost use Rattle.std.specs.Prelude.{◌≡◌, ◌≢◌, ◌≤◌, ◌++◌, length, drop, IsOk, IfOk, IfErr, Ok, Err};
 ghost use Rattle.netlink_core.specs.declared.fault.DecodeError.TheVariants.{Memory};
 ghost use Rattle.netlink_core.specs.Faults.{under_kind};
 ghost use Rattle.netlink_core.specs.Parse.{exact_number};
@@ -54,6 +54,7 @@ pub(crate) fn exact_u32_pair(kind: u16, value: &[u8]) -> Result<(u32, u32), Deco
 pub(crate) fn parse_numbers(alloc: Global, value: &[u8]) -> Result<Vec<u32>, DecodeError>
     ensures value { IfOk result (λ numbers. read_numbers value.now ≡ Ok numbers.items) }
     ensures fault { IfErr result (λ e. e ≢ Memory → read_numbers value.now ≡ Err e) }
+    ensures memory { IfErr result (λ e. e ≡ Memory → IsOk (read_numbers value.now)) }
 {
     if value.len() % 4 != 0 {
         return Err(DecodeError::NotMultipleOfFour { got: value.len() });

@@ -2,6 +2,9 @@
 //! one answer line for each of them.
 #![tactic(auto)]
 
+ghost use Rattle.std.specs.Prelude.{◌≡◌, ◌↔◌, IsOk, IsErr};
+ghost use Rattle.std.specs.Process.{exit_status};
+
 mod answers;
 mod stream;
 #[cfg(test)]
@@ -12,12 +15,21 @@ use std::process::ExitCode;
 pub use stream::{RunError, run};
 
 fn main(rt: HostRuntime) -> ExitCode {
-    match run(rt.alloc(), &mut rt.stdin(), &mut rt.stdout()) {
+    let outcome = run(rt.alloc(), &mut rt.stdin(), &mut rt.stdout());
+    if let Err(error) = &outcome {
+        // Where standard error is closed too, the exit status alone tells of the failure.
+        let _ = eprintln!(rt; "sockdiag: {error}");
+    }
+    exit_code(&outcome)
+}
+
+/// Status 0 where the run came to the end of its input, and 1 where it failed.
+fn exit_code(outcome: &Result<(), RunError>) -> ExitCode
+    ensures ended { (exit_status result ≡ 0) ↔ IsOk outcome.now }
+    ensures failed { (exit_status result ≡ 1) ↔ IsErr outcome.now }
+{
+    match outcome {
         Ok(()) => ExitCode::SUCCESS,
-        Err(error) => {
-            // Where standard error is closed too, the exit status alone tells of the failure.
-            let _ = eprintln!(rt; "sockdiag: {error}");
-            ExitCode::FAILURE
-        }
+        Err(_) => ExitCode::FAILURE,
     }
 }
