@@ -1,5 +1,5 @@
 -- Bytes are cut in one way at most, and either mean something or have a fault.
-use Rattle.std.proofs.Common.{Result, Ok, Err, ◌≡◌, ◌≢◌, ℕ, zero, suc, ◌+◌, ◌≤◌, min, ◌⊎◌, inl, inr, List, [], ◌∷◌, ◌++◌, length, drop, refl, sym, ap, subst, ◌∙◌, append_assoc, arith}
+use Rattle.std.proofs.Common.{Result, Ok, Err, ◌≡◌, ◌≢◌, ℕ, zero, suc, ◌+◌, ◌≤◌, ◌⊎◌, inl, inr, List, [], ◌∷◌, ◌++◌, length, drop, refl, sym, ap, subst, ◌∙◌, append_assoc, arith}
 use Rattle.std.specs.Prelude.{replicate, IsOk}
 use Rattle.std.proofs.lemmas.List.{length-append, length-replicate, length-drop, get_or-drop}
 use Rattle.std.specs.List.{AllZip, AllByRecursion, flat_map}
@@ -142,7 +142,7 @@ module _ {A : Type 0} (reads : Attribute → Result A DecodeError) where
         | inr f ↦ inr (f.0, fault_here reads all f.0 some (inl f.1))
         | inl h ↦
             let a : Attribute = h.0 in
-            let end : ℕ = min (4 + length a.value + fill (4 + length a.value)) (length all) in
+            let end : ℕ = 4 + length a.value + fill (4 + length a.value) in
             let rest : List ℕ = drop end all in
             let start : StartsWith all a rest = starts_with all rest a end h.1 refl refl in
             let word = word_is all a h.1 in

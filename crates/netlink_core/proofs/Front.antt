@@ -1,6 +1,6 @@
 -- What follows an attribute at the front of bytes.
-use Rattle.std.proofs.Common.{◌≡◌, ℕ, ◌+◌, ◌-◌, min, List, ◌++◌, length, take, drop, inl, inr, sym, ap, ◌∙◌, arith}
-use Rattle.std.proofs.lemmas.List.{take-append-drop, length-take, length-append, drop_all}
+use Rattle.std.proofs.Common.{◌≡◌, ℕ, ◌+◌, ◌-◌, List, ◌++◌, length, take, drop, inl, inr, sym, ap, ◌∙◌, arith}
+use Rattle.std.proofs.lemmas.List.{take-append-drop, length-take, drop_all}
 use Rattle.std.proofs.lemmas.Bool.{cases_lt}
 use Rattle.std.proofs.Math.Seq.{drop-append-add}
 use Rattle.netlink_core.specs.Attribute.{Attribute, HeadIs, StartsWith, fill, unpadded}
@@ -9,11 +9,10 @@ length-unpadded : (a : Attribute) → length (unpadded a) ≡ 4 + length a.value
 length-unpadded a = omega arith
 
 -- behind the head come the padding and the rest, as much of either as there is
-pub starts_with : (bytes rest : List ℕ) (a : Attribute) (end : ℕ) → HeadIs bytes a → end ≡ min (4 + length a.value + fill (4 + length a.value)) (length bytes) → rest ≡ drop end bytes → StartsWith bytes a rest
+pub starts_with : (bytes rest : List ℕ) (a : Attribute) (end : ℕ) → HeadIs bytes a → end ≡ 4 + length a.value + fill (4 + length a.value) → rest ≡ drop end bytes → StartsWith bytes a rest
 starts_with bytes rest a end head end-is rest-is =
     let tail : List ℕ = head.0 in
     let n : ℕ = end - (4 + length a.value) in
-    let len : length bytes ≡ 4 + length a.value + length tail = ap length head.1 ∙ length-append (unpadded a) tail ∙ ap (λ (k : ℕ). k + length tail) (length-unpadded a) in
     let end-at : end ≡ length (unpadded a) + n = omega (arith, length-unpadded a) in
     let rest-at : rest ≡ drop n tail = rest-is ∙ ap (drop end) head.1 ∙ ap (λ (k : ℕ). drop k (unpadded a ++ tail)) end-at ∙ drop-append-add (unpadded a) tail n in
     let tail-is : tail ≡ take n tail ++ rest = rw rest-at (sym (take-append-drop n tail)) in

@@ -15,3 +15,6 @@ pub mod Replies
 pub mod Headers
 pub mod Framing
 pub mod Idle
+pub mod Equality
+pub mod SaidTests
+mod WholeWalk

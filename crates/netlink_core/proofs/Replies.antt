@@ -7,21 +7,22 @@ use Rattle.netlink_core.specs.declared.fault.DecodeError.{DecodeError}
 use Rattle.netlink_core.specs.declared.fault.DecodeError.TheVariants.{Memory}
 use Rattle.netlink_core.specs.Bytes.{IsBytes}
 use Rattle.netlink_core.specs.Attribute.{Attribute, IsTypedAttribute, FitsWords, HasFittingValue, AttributesMean, written}
-use Rattle.netlink_core.specs.Family.{Family, FamilyLaws, says, AreIdleAttributes}
-use Rattle.netlink_core.specs.Reply.{Reply, ReplyLaws, ValueOf, attribute_part, MeansReply, RefusesReply, AreIdleReplies, IsTypedReply, IsNormalReply, reply_bytes, ReplyFits, RepliesKeepLaws}
+use Rattle.netlink_core.specs.Family.{Family, FamilyLaws, Said, says, attribute_said, IsTypedSaid, IsNormalSaid, AreIdleAttributes}
+use Rattle.netlink_core.specs.Reply.{Reply, ReplyLaws, ValueOf, attribute_part, MeansReply, RefusesReply, AreIdleReplies, IsTypedReply, IsNormalReply, reply_bytes, ReplyFits, reply_codec}
+use Rattle.netlink_core.specs.Codec.{KeepsLaws}
 use Rattle.netlink_core.specs.ByteLaws.{IsBytes-append}
 use Rattle.netlink_core.specs.FrontLaws.{value_or_reason}
-use Rattle.netlink_core.specs.FamilyLaws.{family_named, family_gives_normal, family_same_value}
+use Rattle.netlink_core.specs.FamilyLaws.{family_named, family_gives_normal, family_same_value, writes_typed, reads_back}
 use Rattle.netlink_core.proofs.TableLaws.{AreBytes-drop}
 use Rattle.netlink_core.proofs.Cutting.{all_written_typed, cut_typed, means_or_fault, means_or_fault_apart, one_fault, one_cut, written_values_are_read}
 
 -- ---- from attributes to lists of them
 
 module _ (F : Family) (laws : FamilyLaws F) where
-  abbrev Say : List Attribute → List F.Value → Type 0
+  abbrev Say : List Attribute → List (Said F) → Type 0
   Say xs vs = AllZip (λ a v. says F a ≡ Ok v) xs vs
 
-  lists_same_value : (xs ys : List Attribute) (vs ws : List F.Value) → AllByRecursion IsTypedAttribute xs → AllByRecursion IsTypedAttribute ys → Say xs vs → Say ys ws → ((vs ≡ ws) ↔ AllZip (AreIdleAttributes F) xs ys)
+  lists_same_value : (xs ys : List Attribute) (vs ws : List (Said F)) → AllByRecursion IsTypedAttribute xs → AllByRecursion IsTypedAttribute ys → Say xs vs → Say ys ws → ((vs ≡ ws) ↔ AllZip (AreIdleAttributes F) xs ys)
   lists_same_value [] [] [] [] s t h k = (λ _. tt, λ _. refl)
   lists_same_value [] (y ∷ ys) [] (w ∷ ws) s t h k = (λ e. cc, λ n. absurd n)
   lists_same_value (x ∷ xs) [] (v ∷ vs) [] s t h k = (λ e. cc, λ n. absurd n)
@@ -38,7 +39,7 @@ module _ (F : Family) (laws : FamilyLaws F) where
   lists_same_value (x ∷ xs) [] (v ∷ vs) (w ∷ ws) s t h k = absurd k
   lists_same_value (x ∷ xs) (y ∷ ys) (v ∷ vs) [] s t h k = absurd k
 
-  list_gives_normal : (xs : List Attribute) (vs : List F.Value) → AllByRecursion IsTypedAttribute xs → Say xs vs → AllByRecursion F.is_typed vs × AllByRecursion F.is_normal vs
+  list_gives_normal : (xs : List Attribute) (vs : List (Said F)) → AllByRecursion IsTypedAttribute xs → Say xs vs → AllByRecursion (IsTypedSaid F) vs × AllByRecursion (IsNormalSaid F) vs
   list_gives_normal [] [] s h = (tt, tt)
   list_gives_normal [] (v ∷ vs) s h = absurd h
   list_gives_normal (x ∷ xs) [] s h = absurd h
@@ -47,17 +48,17 @@ module _ (F : Family) (laws : FamilyLaws F) where
       let later = list_gives_normal xs vs s.1 h.1 in
       ((first.0, later.0), (first.1, later.1))
 
-  list_writes_typed : (vs : List F.Value) → AllByRecursion F.is_typed vs → AllByRecursion IsTypedAttribute (map F.attribute_of vs)
+  list_writes_typed : (vs : List (Said F)) → AllByRecursion (IsTypedSaid F) vs → AllByRecursion IsTypedAttribute (map (attribute_said F) vs)
   list_writes_typed [] t = tt
-  list_writes_typed (v ∷ vs) t = (laws.writes_typed v t.0, list_writes_typed vs t.1)
+  list_writes_typed (v ∷ vs) t = (writes_typed F laws v t.0, list_writes_typed vs t.1)
 
-  list_fits_words : (vs : List F.Value) → AllByRecursion F.is_typed vs → AllByRecursion HasFittingValue (map F.attribute_of vs) → AllByRecursion FitsWords (map F.attribute_of vs)
+  list_fits_words : (vs : List (Said F)) → AllByRecursion (IsTypedSaid F) vs → AllByRecursion HasFittingValue (map (attribute_said F) vs) → AllByRecursion FitsWords (map (attribute_said F) vs)
   list_fits_words [] t f = tt
-  list_fits_words (v ∷ vs) t f = (record { type_word = (laws.writes_typed v t.0).type_word; value = f.0 }, list_fits_words vs t.1 f.1)
+  list_fits_words (v ∷ vs) t f = (record { type_word = (writes_typed F laws v t.0).type_word; value = f.0 }, list_fits_words vs t.1 f.1)
 
-  list_reads_back : (vs : List F.Value) → AllByRecursion F.is_typed vs → AllByRecursion F.is_normal vs → Say (map F.attribute_of vs) vs
+  list_reads_back : (vs : List (Said F)) → AllByRecursion (IsTypedSaid F) vs → AllByRecursion (IsNormalSaid F) vs → Say (map (attribute_said F) vs) vs
   list_reads_back [] t n = tt
-  list_reads_back (v ∷ vs) t n = (laws.reads_back v t.0 n.0, list_reads_back vs t.1 n.1)
+  list_reads_back (v ∷ vs) t n = (reads_back F laws v t.0 n.0, list_reads_back vs t.1 n.1)
 
 -- ---- replies
 
@@ -140,22 +141,22 @@ module _ (R : Reply) (laws : ReplyLaws R) where
   -- a typed value is written as bytes
   reply_written_bytes : (v : ValueOf R) → IsTypedReply R v → IsBytes (reply_bytes R v)
   reply_written_bytes v typed =
-      IsBytes-append (R.header.bytes v.header) (flat_map written (map R.family.attribute_of v.nlas)) (laws.header.bytes_typed v.header typed.0)
-      (all_written_typed (map R.family.attribute_of v.nlas) (list_writes_typed R.family laws.family v.nlas typed.1))
+      IsBytes-append (R.header.bytes v.header) (flat_map written (map (attribute_said R.family) v.nlas)) (laws.header.bytes_typed v.header typed.0)
+      (all_written_typed (map (attribute_said R.family) v.nlas) (list_writes_typed R.family laws.family v.nlas typed.1))
 
   -- a writable value in normal form reads back as itself
   reply_reads_back : (v : ValueOf R) → IsTypedReply R v → IsNormalReply R v → ReplyFits R v → MeansReply R (reply_bytes R v) v
   reply_reads_back v typed normal fits =
-      let nlas : List ℕ = flat_map written (map R.family.attribute_of v.nlas) in
+      let nlas : List ℕ = flat_map written (map (attribute_said R.family) v.nlas) in
       let behind : attribute_part R (reply_bytes R v) ≡ nlas = drop_at (R.header.bytes v.header) nlas R.size (laws.in_front.bytes_long v.header typed.0) in
       record {
         header = laws.in_front.reads_in_front v.header nlas typed.0 normal.0;
         nlas = subst (λ (part : List ℕ). AttributesMean (says R.family) part v.nlas) (sym behind)
-            (written_values_are_read (says R.family) (map R.family.attribute_of v.nlas) v.nlas (list_fits_words R.family laws.family v.nlas typed.1 fits.0) (list_reads_back R.family laws.family v.nlas typed.1 normal.1));
+            (written_values_are_read (says R.family) (map (attribute_said R.family) v.nlas) v.nlas (list_fits_words R.family laws.family v.nlas typed.1 fits.0) (list_reads_back R.family laws.family v.nlas typed.1 normal.1));
       }
 
   -- the laws together
-  pub replies_keep_laws : RepliesKeepLaws R
+  pub replies_keep_laws : KeepsLaws (reply_codec R)
   replies_keep_laws = record {
     answered = λ b p typed tp. reply_answered b typed;
     one_answer = λ b p v e h k. reply_one_answer b v e h k;

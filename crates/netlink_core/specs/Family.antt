@@ -1,74 +1,110 @@
--- Families of attributes: what each kind says, which values say the same, and what is written.
-use Rattle.std.specs.Prelude.{◌≡◌, ◌≢◌, ℕ, ◌⊎◌, ◌↔◌, ◌==◌, if◌then◌else◌, List, [], ◌∷◌, bit_and, Result, Ok, Err}
+-- Families of attributes: a list of kinds, and what follows from it: what each attribute says, which say the same,
+-- and what is written.
+use Rattle.std.specs.Prelude.{◌≡◌, ◌≢◌, ℕ, ◌⊎◌, ◌==◌, if◌then◌else◌, Bool, true, false, List, [], ◌∷◌, bit_and, Option, Some, None, Result, Ok, Err, ⊤}
+use Rattle.std.proofs.Common.{inl, inr}
 use Rattle.netlink_core.specs.declared.fault.DecodeError.{DecodeError}
-use Rattle.netlink_core.specs.declared.fault.DecodeError.TheVariants.{Memory}
-use Rattle.netlink_core.specs.Bytes.{IsBytes}
 use Rattle.netlink_core.specs.Attribute.{Attribute, IsTypedAttribute, kind_of}
+use Rattle.netlink_core.specs.Prefix.{Prefix, PrefixLaws}
 
--- One kind: what its values say or why they are refused, and which of them differ in idle details alone.
-pub record Kind (V : Type 0) : Type 1 where
+-- one kind: its number, how its values are read and written, and whether they are kept without memory
+pub record Kind : Type 1 where
   pub number : ℕ
-  pub reads : List ℕ → Result V DecodeError
-  pub idle : List ℕ → List ℕ → Type 0
+  pub value : Prefix
+  pub is_spare : Type 0
 
--- A family: its kinds, what an attribute of another kind says, the attribute that a value is written as, and which
--- values are typed and in normal form.
-pub record Family : Type 1 where
-  pub Value : Type 0
-  pub kinds : List (Kind Value)
-  pub other : ℕ → List ℕ → Value
-  pub attribute_of : Value → Attribute
-  pub is_typed : Value → Type 0
-  pub is_normal : Value → Type 0
+abbrev pub Family : Type 1
+Family = List Kind
 
-module _ {V : Type 0} where
-  -- what the kind with this number says, or what is said where there is none
-  abbrev pub said_by : List (Kind V) → ℕ → List ℕ → Result V DecodeError → Result V DecodeError
-  said_by [] k value otherwise = otherwise
-  said_by (row ∷ rows) k value otherwise = if k == row.number then row.reads value else said_by rows k value otherwise
+-- what an attribute says: a value of one of the kinds, or else the attribute itself
+abbrev pub Said : Family → Type 0
+Said [] = Attribute
+Said (row ∷ rows) = row.value.Value ⊎ Said rows
 
-  -- one of the kinds has this number
-  abbrev pub IsKnown : List (Kind V) → ℕ → Type 0
-  IsKnown [] k = ⊥
-  IsKnown (row ∷ rows) k = (k ≡ row.number) ⊎ IsKnown rows k
-
-  -- the values are idle under the kind with this number
-  abbrev pub AreIdleUnder : List (Kind V) → ℕ → List ℕ → List ℕ → Type 0
-  AreIdleUnder [] k left right = ⊥
-  AreIdleUnder (row ∷ rows) k left right = ((k ≡ row.number) × row.idle left right) ⊎ ((k ≢ row.number) × AreIdleUnder rows k left right)
+-- what was read, said as something else
+abbrev pub said_as : {A B : Type 0} → (A → B) → Result A DecodeError → Result B DecodeError
+said_as made (Ok x) = Ok (made x)
+said_as made (Err e) = Err e
 
 -- what an attribute says, or why it is refused
-abbrev pub says : (F : Family) → Attribute → Result F.Value DecodeError
-says F a = said_by F.kinds (kind_of a) a.value (Ok (F.other a.type_word a.value))
+abbrev pub says : (F : Family) → Attribute → Result (Said F) DecodeError
+says [] a = Ok a
+says (row ∷ rows) a = if kind_of a == row.number then said_as inl (row.value.reads a.value) else said_as inr (says rows a)
 
--- Of known kinds: the same kind, and values that are idle under it. Of unknown kinds: equal type words and values.
+-- the attribute that is written: the kind without flag bits and the value's bytes, or else the attribute itself
+abbrev pub attribute_said : (F : Family) → Said F → Attribute
+attribute_said [] a = a
+attribute_said (row ∷ rows) (inl x) = record { type_word = row.number; value = row.value.bytes x }
+attribute_said (row ∷ rows) (inr v) = attribute_said rows v
+
+-- of one kind, and idle under it; or of none of the kinds, and equal
 abbrev pub AreIdleAttributes : Family → Attribute → Attribute → Type 0
-AreIdleAttributes F a b =
-    ((kind_of a ≡ kind_of b) × AreIdleUnder F.kinds (kind_of a) a.value b.value)
-    ⊎ ((IsKnown F.kinds (kind_of a) → ⊥) × (a.type_word ≡ b.type_word) × (a.value ≡ b.value))
+AreIdleAttributes [] a b = a ≡ b
+AreIdleAttributes (row ∷ rows) a b =
+    ((kind_of a ≡ row.number) × (kind_of b ≡ row.number) × row.value.idle a.value b.value)
+    ⊎ ((kind_of a ≢ row.number) × (kind_of b ≢ row.number) × AreIdleAttributes rows a b)
 
--- What a family proves of each of its kinds.
-pub record KindLaws (F : Family) (row : Kind F.Value) : Type 0 where
-  -- its number has no flag bit, and no fault of a value is want of memory
+-- what is said is typed
+abbrev pub IsTypedSaid : (F : Family) → Said F → Type 0
+IsTypedSaid [] a = IsTypedAttribute a
+IsTypedSaid (row ∷ rows) (inl x) = row.value.is_typed x
+IsTypedSaid (row ∷ rows) (inr v) = IsTypedSaid rows v
+
+-- it is in normal form: so is a value of a kind, and what is not of a kind has another number
+abbrev pub IsNormalSaid : (F : Family) → Said F → Type 0
+IsNormalSaid [] a = ⊤
+IsNormalSaid (row ∷ rows) (inl x) = row.value.is_normal x
+IsNormalSaid (row ∷ rows) (inr v) = (kind_of (attribute_said rows v) ≢ row.number) × IsNormalSaid rows v
+
+-- it is kept without memory: a value of a kind whose values are
+abbrev pub IsSpareSaid : (F : Family) → Said F → Type 0
+IsSpareSaid [] a = ⊥
+IsSpareSaid (row ∷ rows) (inl x) = row.is_spare
+IsSpareSaid (row ∷ rows) (inr v) = IsSpareSaid rows v
+
+-- ---- by the number of a kind
+
+abbrev pub either : Bool → Type 0 → Type 0 → Type 0
+either true A B = A
+either false A B = B
+
+-- the values of the kind with that number, or attributes where there is none
+abbrev pub ValueAt : Family → ℕ → Type 0
+ValueAt [] k = Attribute
+ValueAt (row ∷ rows) k = either (row.number == k) row.value.Value (ValueAt rows k)
+
+abbrev pub put : {A B C : Type 0} → (t : Bool) → (B → C) → either t A B → A ⊎ C
+put true later x = inl x
+put false later x = inr (later x)
+
+-- a value of the kind with that number, as it is said
+abbrev pub said : (F : Family) → (k : ℕ) → ValueAt F k → Said F
+said [] k a = a
+said (row ∷ rows) k x = put (row.number == k) (said rows k) x
+
+-- an attribute of no kind, as it is said
+abbrev pub other : (F : Family) → Attribute → Said F
+other [] a = a
+other (row ∷ rows) a = inr (other rows a)
+
+abbrev pub got : {A B C : Type 0} → (t : Bool) → (C → Option B) → A ⊎ C → Option (either t A B)
+got true later (inl x) = Some x
+got true later (inr v) = None
+got false later (inl x) = None
+got false later (inr v) = later v
+
+-- the value of the kind with that number, where one is said
+abbrev pub content : (F : Family) → (k : ℕ) → Said F → Option (ValueAt F k)
+content [] k a = None
+content (row ∷ rows) k v = got (row.number == k) (content rows k) v
+
+-- ---- what is shown
+
+-- of a kind: its number has no flag bit, and its values keep the laws
+pub record KindLaws (row : Kind) : Type 0 where
   pub plain : bit_and row.number 0x3fff ≡ row.number
-  pub named : (x : List ℕ) → row.reads x ≡ Err Memory → ⊥
-  -- two values say the same exactly where they are idle
-  pub same_value : (x y : List ℕ) (v w : F.Value) → IsBytes x → IsBytes y → row.reads x ≡ Ok v → row.reads y ≡ Ok w → ((v ≡ w) ↔ row.idle x y)
-  -- what was read is written under the same kind, and is typed and in normal form
-  pub own_kind : (x : List ℕ) (v : F.Value) → row.reads x ≡ Ok v → (F.attribute_of v).type_word ≡ row.number
-  pub gives_normal : (x : List ℕ) (v : F.Value) → IsBytes x → row.reads x ≡ Ok v → F.is_typed v × F.is_normal v
+  pub value : PrefixLaws row.value
 
--- the same of each kind in a list
-abbrev pub EachKind : (F : Family) → List (Kind F.Value) → Type 0
-EachKind F [] = Unit {0}
-EachKind F (row ∷ rows) = KindLaws F row × EachKind F rows
-
--- What a family proves of its values.
-pub record FamilyLaws (F : Family) : Type 0 where
-  pub kinds : EachKind F F.kinds
-  -- an attribute of an unknown kind is written as it stood, and says something typed and in normal form
-  pub other_stays : (word : ℕ) (value : List ℕ) → F.attribute_of (F.other word value) ≡ record { type_word = word; value = value }
-  pub other_normal : (a : Attribute) → IsTypedAttribute a → (IsKnown F.kinds (kind_of a) → ⊥) → F.is_typed (F.other a.type_word a.value) × F.is_normal (F.other a.type_word a.value)
-  -- a typed value is written as a typed attribute, and one in normal form reads back as itself
-  pub writes_typed : (v : F.Value) → F.is_typed v → IsTypedAttribute (F.attribute_of v)
-  pub reads_back : (v : F.Value) → F.is_typed v → F.is_normal v → says F (F.attribute_of v) ≡ Ok v
+-- of a family: the same of each kind
+abbrev pub FamilyLaws : Family → Type 0
+FamilyLaws [] = Unit {0}
+FamilyLaws (row ∷ rows) = KindLaws row × FamilyLaws rows

@@ -4,14 +4,15 @@ use Rattle.netlink_core.specs.declared.fault.DecodeError.{DecodeError}
 use Rattle.netlink_core.specs.declared.fault.DecodeError.TheVariants.{Memory}
 use Rattle.netlink_core.specs.Bytes.{IsBytes}
 use Rattle.netlink_core.specs.Attribute.{Attribute, HasFittingValue, fill, written}
-use Rattle.netlink_core.specs.Family.{Family, FamilyLaws, says, AreIdleAttributes}
+use Rattle.netlink_core.specs.Family.{Family, FamilyLaws, Said, says, attribute_said, IsTypedSaid, IsNormalSaid, AreIdleAttributes}
 use Rattle.netlink_core.specs.AnyKind.{any_kind}
-use Rattle.netlink_core.specs.Heads.{MeansHead, RefusesHead, AreIdleHeads, HeadsKeepLaws}
+use Rattle.netlink_core.specs.Heads.{MeansHead, RefusesHead, AreIdleHeads, head_codec}
+use Rattle.netlink_core.specs.Codec.{KeepsLaws}
 use Rattle.netlink_core.specs.FrontLaws.{value_or_reason, head_or_fault, head_or_fault_apart, head_typed, one_attribute, one_fault_at_front, written_typed}
-use Rattle.netlink_core.specs.FamilyLaws.{family_named, family_gives_normal, family_same_value}
+use Rattle.netlink_core.specs.FamilyLaws.{family_named, family_gives_normal, family_same_value, writes_typed, reads_back}
 
 module _ (F : Family) (laws : FamilyLaws F) where
-  head_answered : (b : List ℕ) → IsBytes b → ((v : F.Value) × MeansHead F b v) ⊎ ((e : DecodeError) × RefusesHead F b e)
+  head_answered : (b : List ℕ) → IsBytes b → ((v : Said F) × MeansHead F b v) ⊎ ((e : DecodeError) × RefusesHead F b e)
   head_answered b typed =
       elim (head_or_fault b typed) [
         | inr framing ↦ inr (framing.0, inl framing.1)
@@ -21,7 +22,7 @@ module _ (F : Family) (laws : FamilyLaws F) where
         ]
       ]
 
-  head_one_answer : (b : List ℕ) (v : F.Value) (e : DecodeError) → MeansHead F b v → RefusesHead F b e → ⊥
+  head_one_answer : (b : List ℕ) (v : Said F) (e : DecodeError) → MeansHead F b v → RefusesHead F b e → ⊥
   head_one_answer b v e h k =
       elim k [
         | inl framing ↦ head_or_fault_apart b h.0 e h.1 framing
@@ -37,7 +38,7 @@ module _ (F : Family) (laws : FamilyLaws F) where
   head_named_fault : (b : List ℕ) → RefusesHead F b Memory → ⊥
   head_named_fault b h = elim h [ inl framing ↦ framing | inr refused ↦ family_named F laws refused.0 refused.2 ]
 
-  head_same_value : (b c : List ℕ) (v w : F.Value) → IsBytes b → IsBytes c → MeansHead F b v → MeansHead F c w → ((v ≡ w) ↔ AreIdleHeads F b c)
+  head_same_value : (b c : List ℕ) (v w : Said F) → IsBytes b → IsBytes c → MeansHead F b v → MeansHead F c w → ((v ≡ w) ↔ AreIdleHeads F b c)
   head_same_value b c v w b-typed c-typed h k =
       let same = family_same_value F laws h.0 k.0 v w (head_typed b h.0 b-typed h.1) (head_typed c k.0 c-typed k.1) h.2 k.2 in (
         λ e. (h.0, k.0, h.1, k.1, same.0 e),
@@ -46,19 +47,19 @@ module _ (F : Family) (laws : FamilyLaws F) where
             same.1 (subst (λ (a : Attribute). AreIdleAttributes F h.0 a) (one_attribute c idle.1 k.0 idle.3 k.1) half),
       )
 
-  head_gives_normal : (b : List ℕ) (v : F.Value) → IsBytes b → MeansHead F b v → F.is_typed v × F.is_normal v
+  head_gives_normal : (b : List ℕ) (v : Said F) → IsBytes b → MeansHead F b v → IsTypedSaid F v × IsNormalSaid F v
   head_gives_normal b v typed h = family_gives_normal F laws h.0 v (head_typed b h.0 typed h.1) h.2
 
-  head_written_bytes : (v : F.Value) → F.is_typed v → IsBytes (written (F.attribute_of v))
-  head_written_bytes v typed = written_typed (F.attribute_of v) (laws.writes_typed v typed)
+  head_written_bytes : (v : Said F) → IsTypedSaid F v → IsBytes (written (attribute_said F v))
+  head_written_bytes v typed = written_typed (attribute_said F v) (writes_typed F laws v typed)
 
-  head_reads_back : (v : F.Value) → F.is_typed v → F.is_normal v → HasFittingValue (F.attribute_of v) → MeansHead F (written (F.attribute_of v)) v
+  head_reads_back : (v : Said F) → IsTypedSaid F v → IsNormalSaid F v → HasFittingValue (attribute_said F v) → MeansHead F (written (attribute_said F v)) v
   head_reads_back v typed normal fits =
-      let a : Attribute = F.attribute_of v in
-      (a, (replicate (fill (length a.value)) 0, refl, record { type_word = (laws.writes_typed v typed).type_word; value = fits }), laws.reads_back v typed normal)
+      let a : Attribute = attribute_said F v in
+      (a, (replicate (fill (length a.value)) 0, refl, record { type_word = (writes_typed F laws v typed).type_word; value = fits }), reads_back F laws v typed normal)
 
   -- the laws together
-  pub heads_keep_laws : HeadsKeepLaws F
+  pub heads_keep_laws : KeepsLaws (head_codec F)
   heads_keep_laws = record {
     answered = λ b p typed tp. head_answered b typed;
     one_answer = λ b p v e h k. head_one_answer b v e h k;
@@ -72,10 +73,4 @@ module _ (F : Family) (laws : FamilyLaws F) where
 
 -- the family in which no kind is known
 pub any_kind_laws : FamilyLaws any_kind
-any_kind_laws = record {
-  kinds = tt;
-  other_stays = λ word value. refl;
-  other_normal = λ a typed unknown. (typed, tt);
-  writes_typed = λ a typed. typed;
-  reads_back = λ a typed normal. refl;
-}
+any_kind_laws = tt

@@ -2,12 +2,13 @@ pub mod Bytes
 pub mod ByteLaws
 pub mod Table
 pub mod Format
-pub mod Laws
+pub mod Codec
 pub mod Faults
 pub mod Canonical
 pub mod Attribute
 pub mod StatedCut
 pub mod Walk
+pub mod CutOff
 pub mod Family
 pub mod Prefix
 pub mod Rows
@@ -22,3 +23,5 @@ pub mod HeadLaws
 pub mod Header
 pub mod Envelope
 pub mod Seen
+pub mod Spare
+pub mod Kept

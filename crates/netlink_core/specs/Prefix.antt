@@ -4,7 +4,7 @@ use Rattle.std.specs.Prelude.{◌≡◌, ℕ, ◌↔◌, List, ◌++◌, length,
 use Rattle.netlink_core.specs.declared.fault.DecodeError.{DecodeError}
 use Rattle.netlink_core.specs.declared.fault.DecodeError.TheVariants.{Memory}
 use Rattle.netlink_core.specs.Bytes.{IsBytes}
-use Rattle.netlink_core.specs.Format.{Format, read, bytes, AreIdle, IsTyped}
+use Rattle.netlink_core.specs.Format.{Format, read, bytes, AreIdle, IsTyped, IsNormal}
 
 -- What the front of a string says or why it is refused, what a value is written as, which strings differ in idle
 -- details alone, and which values are typed and in normal form.
@@ -33,15 +33,13 @@ pub record StandsInFront (P : Prefix) (size : ℕ) : Type 0 where
   pub bytes_long : (v : P.Value) → P.is_typed v → length (P.bytes v) ≡ size
   pub reads_in_front : (v : P.Value) (rest : List ℕ) → P.is_typed v → P.is_normal v → P.reads (P.bytes v ++ rest) ≡ Ok v
 
--- a record that is given as a format, under one parameter
-module _ {Param Tag Value : Type 0} (format : Format Param Tag Value) (param : Param) (IsShaped : Value → Type 0) (IsNormal : Param → Value → Type 0) where
-  -- the part that the format reads and writes
-  abbrev pub prefix_of : Prefix
-  prefix_of = record {
-    Value = Value;
-    reads = λ b. read format param b;
-    bytes = bytes format;
-    idle = AreIdle format param;
-    is_typed = IsTyped format IsShaped;
-    is_normal = IsNormal param;
-  }
+-- the part that a format reads and writes under a parameter
+abbrev pub prefix_of : {Param Tag Value : Type 0} → Format Param Tag Value → Param → Prefix
+prefix_of {Param} {Tag} {Value} format param = record {
+  Value = Value;
+  reads = λ b. read format param b;
+  bytes = bytes format;
+  idle = AreIdle format param;
+  is_typed = IsTyped format;
+  is_normal = IsNormal format param;
+}

@@ -4,8 +4,8 @@ use Rattle.std.specs.List.{AllByRecursion, AllZip, flat_map}
 use Rattle.netlink_core.specs.declared.fault.DecodeError.{DecodeError}
 use Rattle.netlink_core.specs.Attribute.{Attribute, HasFittingValue, Cut, AttributesMean, AttributeFault, written}
 use Rattle.netlink_core.specs.Prefix.{Prefix, PrefixLaws, StandsInFront}
-use Rattle.netlink_core.specs.Family.{Family, FamilyLaws, says, AreIdleAttributes}
-use Rattle.netlink_core.specs.Laws.{KeepsLaws}
+use Rattle.netlink_core.specs.Family.{Family, FamilyLaws, Said, says, attribute_said, IsTypedSaid, IsNormalSaid, IsSpareSaid, AreIdleAttributes}
+use Rattle.netlink_core.specs.Codec.{Codec}
 
 -- a header, the number of its bytes, and the family of the attributes behind it
 pub record Reply : Type 1 where
@@ -26,7 +26,7 @@ pub record ReplyValue (H V : Type 0) : Type 0 where
 
 -- the values of the header and of the attributes
 abbrev pub ValueOf : Reply → Type 0
-ValueOf R = ReplyValue R.header.Value R.family.Value
+ValueOf R = ReplyValue R.header.Value (Said R.family)
 
 -- the bytes behind the header
 abbrev pub attribute_part : Reply → List ℕ → List ℕ
@@ -52,11 +52,15 @@ pub record AreIdleReplies (R : Reply) (b c : List ℕ) : Type 0 where
 
 -- each part is typed
 abbrev pub IsTypedReply : (R : Reply) → ValueOf R → Type 0
-IsTypedReply R v = R.header.is_typed v.header × AllByRecursion R.family.is_typed v.nlas
+IsTypedReply R v = R.header.is_typed v.header × AllByRecursion (IsTypedSaid R.family) v.nlas
 
 -- each part is in normal form
 abbrev pub IsNormalReply : (R : Reply) → ValueOf R → Type 0
-IsNormalReply R v = R.header.is_normal v.header × AllByRecursion R.family.is_normal v.nlas
+IsNormalReply R v = R.header.is_normal v.header × AllByRecursion (IsNormalSaid R.family) v.nlas
+
+-- at most eight attributes, each of them kept without memory
+abbrev pub IsSpareReply : (R : Reply) → ValueOf R → Type 0
+IsSpareReply R v = (length v.nlas ≤ 8) × AllByRecursion (IsSpareSaid R.family) v.nlas
 
 -- bytes of a header, and then those of each attribute in order
 abbrev pub framed : List ℕ → List Attribute → List ℕ
@@ -68,12 +72,23 @@ FramedFits header attributes = AllByRecursion HasFittingValue attributes × (len
 
 -- the header's bytes, and then those of each attribute
 abbrev pub reply_bytes : (R : Reply) → ValueOf R → List ℕ
-reply_bytes R v = framed (R.header.bytes v.header) (map R.family.attribute_of v.nlas)
+reply_bytes R v = framed (R.header.bytes v.header) (map (attribute_said R.family) v.nlas)
 
 -- each value and the whole fit their lengths
 abbrev pub ReplyFits : (R : Reply) → ValueOf R → Type 0
-ReplyFits R v = FramedFits (R.header.bytes v.header) (map R.family.attribute_of v.nlas)
+ReplyFits R v = FramedFits (R.header.bytes v.header) (map (attribute_said R.family) v.nlas)
 
--- a reply keeps the laws: its reader, its bytes, its idle relation and its normal form
-abbrev pub RepliesKeepLaws : Reply → Type 0
-RepliesKeepLaws R = KeepsLaws {Param = Unit {0}} (λ p. ⊤) (IsTypedReply R) (λ b p v. MeansReply R b v) (λ b p e. RefusesReply R b e) (λ p b c. AreIdleReplies R b c) (λ p v. IsNormalReply R v) (reply_bytes R) (ReplyFits R)
+-- a reply
+abbrev pub reply_codec : Reply → Codec (Unit {0})
+reply_codec R = record {
+  Value = ValueOf R;
+  is_param = λ p. ⊤;
+  is_typed = IsTypedReply R;
+  reads = λ b p v. MeansReply R b v;
+  refuses = λ b p e. RefusesReply R b e;
+  is_spare = IsSpareReply R;
+  idle = λ p b c. AreIdleReplies R b c;
+  is_normal = λ p v. IsNormalReply R v;
+  written = reply_bytes R;
+  fits = ReplyFits R;
+}

@@ -4,10 +4,6 @@ use Rattle.netlink_core.specs.declared.message.NetlinkPayload.TheVariants.{Done,
 use Rattle.netlink_core.specs.declared.message.NetlinkMessage.{NetlinkMessage}
 use Rattle.netlink_core.specs.Envelope.{Payload, done_with, error_with, no_payload, overrun_with, inner, Envelope}
 
--- an inner message as it is
-abbrev pub itself : {A : Type 0} → A → A
-itself a = a
-
 -- what a message carries, by what is seen of an inner message
 abbrev pub payload_of : {I A : Type 0} → (I → A) → NetlinkPayload I → Payload A
 payload_of seen (Done bytes) = done_with bytes.items

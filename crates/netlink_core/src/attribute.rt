@@ -111,7 +111,9 @@ impl<'a> NlaBuffer<'a> {
 /// a fault it gives nothing more.
 #[derive(Clone, Drop)]
 pub struct NlasIterator<'a> {
-    rest: &'a [u8],
+    bytes: &'a [u8],
+    // Where the next attribute stands. A place at the end of the bytes or behind it says that none is left.
+    at: usize,
 }
 
 impl<'a> NlasIterator<'a> {
@@ -121,7 +123,7 @@ impl<'a> NlasIterator<'a> {
     pub fn new(bytes: &'a [u8]) -> NlasIterator<'a>
         ensures { bytes_left result ≡ bytes.entry.now }
     {
-        NlasIterator { rest: bytes }
+        NlasIterator { bytes, at: 0 }
     }
 }
 
@@ -135,17 +137,16 @@ impl<'a> Iterator for NlasIterator<'a> {
     ghost remaining = { attributes_left };
 
     fn next(&mut self) -> Option<Result<NlaBuffer<'a>, DecodeError>> {
-        if self.rest.is_empty() {
+        if self.at >= self.bytes.len() {
             return None;
         }
-        match NlaBuffer::new_checked(self.rest) {
+        match NlaBuffer::new_checked(&self.bytes[self.at..]) {
             Ok(nla) => {
-                let end = padded(nla.length() as usize);
-                self.rest = &self.rest[end.min(self.rest.len())..];
+                self.at += padded(nla.length() as usize);
                 Some(Ok(nla))
             }
             Err(fault) => {
-                self.rest = &[];
+                self.at = self.bytes.len();
                 Some(Err(fault))
             }
         }

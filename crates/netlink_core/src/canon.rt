@@ -49,22 +49,29 @@ pub fn canonical<T: Wire + Drop>(
 ) -> Result<Vec<u8>, CanonError>
     // The string is accepted, its value is writable, and these are the value's bytes.
     ensures written { IfOk result (λ c.
-        (v : T.Seen) × T.reads bytes.now param v × T.fits v × (c.items ≡ T.written v)) }
+        (v : T.codec.Value) × T.codec.reads bytes.now param v × T.codec.fits v × (c.items ≡ T.codec.written v)) }
     // A string with a writable value is written alike exactly where the two are idle.
     ensures same { IfOk result (λ c.
-        (d : List ℕ) (w : T.Seen) → IsBytes d → T.reads d param w → T.fits w
-        → ((T.written w ≡ c.items) ↔ T.idle param bytes.now d)) }
+        (d : List ℕ) (w : T.codec.Value) → IsBytes d → T.codec.reads d param w → T.codec.fits w
+        → ((T.codec.written w ≡ c.items) ↔ T.codec.idle param bytes.now d)) }
     // The canonical form is accepted, and is its own.
     ensures again { IfOk result (λ c.
-        IsBytes c.items × ((w : T.Seen) × T.reads c.items param w × T.fits w × (T.written w ≡ c.items))) }
+        IsBytes c.items × ((w : T.codec.Value) × T.codec.reads c.items param w × T.codec.fits w × (T.codec.written w ≡ c.items))) }
     // The first fault, which is named; or the string is accepted and its value can't be written; or memory ran out.
-    ensures err { IfErr result (GivesUp (T.reads bytes.now param) (T.refuses bytes.now param) T.fits) }
+    ensures err { IfErr result (GivesUp (T.codec.reads bytes.now param) (T.codec.refuses bytes.now param) T.codec.fits) }
 {
-    let value = T::read(alloc, bytes, param)?;
-    if !value.is_writable() {
-        return Err(CanonError::Unwritable);
+    // The value stays where it was read to: a large one takes longer to move than to write.
+    let read = T::read(alloc, bytes, param);
+    if let Ok(value) = &read {
+        if !value.is_writable() {
+            return Err(CanonError::Unwritable);
+        }
+        return Ok(written(alloc, value)?);
     }
-    Ok(written(alloc, &value)?)
+    match read {
+        Ok(_) => unreachable!(),
+        Err(fault) => Err(CanonError::from(fault)),
+    }
 }
 
 // The bytes of a value.

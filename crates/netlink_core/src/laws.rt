@@ -1,18 +1,30 @@
 //! Laws of the framing of attributes and of messages. The functions do nothing: their contracts are the laws.
 
-ghost use Rattle.std.specs.Prelude.{◌≡◌, ◌↔◌, ◌⊎◌, ◌<◌, ◌^◌, ℕ, List};
+ghost use Rattle.std.specs.Prelude.{◌≡◌, ◌↔◌, ◌⊎◌, ◌<◌, ◌^◌, ℕ, List, [], map, Some, Ok, Err, IsTrue, IfOk, IsOk};
+ghost use Rattle.std.specs.Iterator.{Drains, YieldsThen};
 ghost use Rattle.std.specs.List.{AllByRecursion, flat_map};
 ghost use Rattle.netlink_core.specs.Attribute.{Attribute, FitsWords, Cut, CutInFull, written};
 ghost use Rattle.netlink_core.specs.StatedCut.{StatedCut};
 ghost use Rattle.netlink_core.specs.Bytes.{IsBytes};
+ghost use Rattle.netlink_core.specs.CutOff.{CutOff};
+ghost use Rattle.netlink_core.specs.Walk.{attribute_of, bytes_left, GivesAttribute};
+ghost use Rattle.netlink_core.specs.Seen.{envelope_of};
+ghost use Rattle.netlink_core.specs.declared.attribute.NlaBuffer.{NlaBuffer};
+ghost use Rattle.netlink_core.specs.declared.attribute.NlasIterator.{NlasIterator};
 ghost use Rattle.netlink_core.specs.declared.fault.DecodeError.{DecodeError};
 ghost use Rattle.netlink_core.specs.declared.fault.DecodeError.TheVariants.{Memory};
 ghost use Rattle.netlink_core.specs.Envelope.{Envelope, EnvelopeIs, EnvelopeFault, EnvelopeFits, envelope_bytes, IdleEnvelopes, IsTypedEnvelope, IsFinalized, IsNormalEnvelope};
 
+use crate::attribute::{NlaBuffer, NlasIterator};
+use crate::canon::CanonError;
+use crate::exact::Exact;
+use crate::fault::DecodeError as Fault;
+use crate::header::NetlinkHeader;
 use crate::message::{
-    NLM_F_DUMP, NLM_F_REQUEST, NLMSG_DONE, NLMSG_ERROR, NLMSG_NOOP, NLMSG_OVERRUN,
+    NLM_F_DUMP, NLM_F_REQUEST, NLMSG_DONE, NLMSG_ERROR, NLMSG_NOOP, NLMSG_OVERRUN, NetlinkMessage,
 };
-use crate::wire::Wire;
+use crate::wire::Coded;
+use std::alloc::AllocError;
 
 /// A string is cut into attributes exactly as stated: after each, either its padding is whole and the rest is cut on,
 /// or its padding is short and nothing follows.
@@ -31,31 +43,116 @@ pub fn written_attributes_are_cut()
         → CutInFull (flat_map written xs) xs × Cut (flat_map written xs) xs }
 {}
 
+/// A walk that ends without a fault gave the attributes into which the bytes are cut, and one that ends with a fault
+/// those that stand in front of it.
+pub fn whole_walk_is_the_cut()
+    ensures ended { (walk : NlasIterator) (given : List NlaBuffer) → Drains GivesAttribute walk (map (λ (b : NlaBuffer). Ok b) given)
+        → Cut (bytes_left walk) (map attribute_of given) }
+    ensures fault { (walk last : NlasIterator) (given : List NlaBuffer) (e : DecodeError)
+        → YieldsThen GivesAttribute walk (map (λ (b : NlaBuffer). Ok b) given) (Some (Err e)) last
+        → CutOff (bytes_left walk) (map attribute_of given) e × (bytes_left last ≡ []) }
+{}
+
+/// `==` says whether two values are the same.
+pub fn equal_where_same<T: Exact>(v: &T, w: &T) -> bool
+    ensures { IsTrue result ↔ (v.now ≡ w.now) }
+{
+    v == w
+}
+
+/// `==` says whether two faults are the same.
+pub fn equal_faults(v: &Fault, w: &Fault) -> bool
+    ensures { IsTrue result ↔ (v.now ≡ w.now) }
+{
+    v == w
+}
+
+/// `==` says whether two errors of `canonical` are the same.
+pub fn equal_errors(v: &CanonError, w: &CanonError) -> bool
+    ensures { IsTrue result ↔ (v.now ≡ w.now) }
+{
+    v == w
+}
+
+/// A copy is the same fault.
+pub fn copied_fault(v: &Fault) -> Result<Fault, AllocError>
+    ensures ok { IsOk result }
+    ensures same { IfOk result (λ copy. copy ≡ v.now) }
+{
+    v.clone()
+}
+
+/// A copy is the same error of `canonical`.
+pub fn copied_error(v: &CanonError) -> Result<CanonError, AllocError>
+    ensures ok { IsOk result }
+    ensures same { IfOk result (λ copy. copy ≡ v.now) }
+{
+    v.clone()
+}
+
+/// A copy is the same value.
+pub fn copies_are_the_same<T: Exact>(v: &T) -> Result<T, AllocError>
+    ensures ok { IsOk result }
+    ensures same { IfOk result (λ copy. copy ≡ v.now) }
+{
+    v.clone()
+}
+
+/// `==` says whether two messages have the same header and carry the same.
+pub fn equal_messages<I: Coded>(v: &NetlinkMessage<I>, w: &NetlinkMessage<I>) -> bool
+    ensures { IsTrue result ↔ (envelope_of I.seen v.now ≡ envelope_of I.seen w.now) }
+{
+    v == w
+}
+
+/// The copy of an attribute in place shows the same attribute.
+pub fn copied_buffer<'a>(buffer: &NlaBuffer<'a>) -> Result<NlaBuffer<'a>, AllocError>
+    ensures ok { IsOk result }
+    ensures same { IfOk result (λ copy. attribute_of copy ≡ attribute_of buffer.now) }
+{
+    buffer.clone()
+}
+
+/// The copy of a walk has the same bytes left.
+pub fn copied_walk<'a>(walk: &NlasIterator<'a>) -> Result<NlasIterator<'a>, AllocError>
+    ensures ok { IsOk result }
+    ensures same { IfOk result (λ copy. bytes_left copy ≡ bytes_left walk.now) }
+{
+    walk.clone()
+}
+
+/// A default header has zeros.
+pub fn default_header() -> NetlinkHeader
+    ensures { result ≡ record { length = 0; message_type = 0; flags = 0; sequence_number = 0; port_number = 0 } }
+{
+    NetlinkHeader::default()
+}
+
 /// Bytes have one message at their front or one fault, which has a name.
-pub fn one_message_or_fault<I: Wire<Param = u16>>()
-    ensures answered { ((t : ℕ) → t < 2 ^ 16 → I.is_param t) → (b : List ℕ) → IsBytes b
-        → ((v : Envelope I.Seen) × EnvelopeIs I.reads b v) ⊎ ((e : DecodeError) × EnvelopeFault I.refuses b e) }
-    ensures one_value { ((t : ℕ) → t < 2 ^ 16 → I.is_param t) → (b : List ℕ) (v w : Envelope I.Seen) → IsBytes b
-        → EnvelopeIs I.reads b v → EnvelopeIs I.reads b w → v ≡ w }
-    ensures one_answer { (b : List ℕ) (v : Envelope I.Seen) (e : DecodeError)
-        → EnvelopeIs I.reads b v → EnvelopeFault I.refuses b e → ⊥ }
+pub fn one_message_or_fault<I: Coded<Param = u16>>()
+    ensures answered { ((t : ℕ) → t < 2 ^ 16 → I.codec.is_param t) → (b : List ℕ) → IsBytes b
+        → ((v : Envelope I.codec.Value) × EnvelopeIs I.codec.reads b v) ⊎ ((e : DecodeError) × EnvelopeFault I.codec.refuses b e) }
+    ensures one_value { ((t : ℕ) → t < 2 ^ 16 → I.codec.is_param t) → (b : List ℕ) (v w : Envelope I.codec.Value) → IsBytes b
+        → EnvelopeIs I.codec.reads b v → EnvelopeIs I.codec.reads b w → v ≡ w }
+    ensures one_answer { (b : List ℕ) (v : Envelope I.codec.Value) (e : DecodeError)
+        → EnvelopeIs I.codec.reads b v → EnvelopeFault I.codec.refuses b e → ⊥ }
     ensures one_fault { (b : List ℕ) (e f : DecodeError)
-        → EnvelopeFault I.refuses b e → EnvelopeFault I.refuses b f → e ≡ f }
-    ensures named_fault { (b : List ℕ) → EnvelopeFault I.refuses b Memory → ⊥ }
+        → EnvelopeFault I.codec.refuses b e → EnvelopeFault I.codec.refuses b f → e ≡ f }
+    ensures named_fault { (b : List ℕ) → EnvelopeFault I.codec.refuses b Memory → ⊥ }
 {}
 
 /// Two accepted strings give equal messages exactly where they are idle.
-pub fn equal_messages_where_idle<I: Wire<Param = u16>>()
-    ensures { ((t : ℕ) → t < 2 ^ 16 → I.is_param t) → (b c : List ℕ) (v w : Envelope I.Seen) → IsBytes b → IsBytes c
-        → EnvelopeIs I.reads b v → EnvelopeIs I.reads c w → ((v ≡ w) ↔ IdleEnvelopes I.idle b c) }
+pub fn equal_messages_where_idle<I: Coded<Param = u16>>()
+    ensures { ((t : ℕ) → t < 2 ^ 16 → I.codec.is_param t) → (b c : List ℕ) (v w : Envelope I.codec.Value) → IsBytes b → IsBytes c
+        → EnvelopeIs I.codec.reads b v → EnvelopeIs I.codec.reads c w → ((v ≡ w) ↔ IdleEnvelopes I.codec.idle b c) }
 {}
 
 /// The bytes of a writable message whose header has its own length and type, as `finalize` sets them, read back as
 /// itself exactly where it is in normal form.
-pub fn finalized_message_reads_back<I: Wire<Param = u16>>()
-    ensures { ((t : ℕ) → t < 2 ^ 16 → I.is_param t) → (type_of : I.Seen → ℕ) (v : Envelope I.Seen)
-        → IsTypedEnvelope I.is_typed v → EnvelopeFits I.written I.fits v → IsFinalized I.written type_of v
-        → (EnvelopeIs I.reads (envelope_bytes I.written v) v ↔ IsNormalEnvelope I.is_normal v) }
+pub fn finalized_message_reads_back<I: Coded<Param = u16>>()
+    ensures { ((t : ℕ) → t < 2 ^ 16 → I.codec.is_param t) → (type_of : I.codec.Value → ℕ) (v : Envelope I.codec.Value)
+        → IsTypedEnvelope I.codec.is_typed v → EnvelopeFits I.codec.written I.codec.fits v → IsFinalized I.codec.written type_of v
+        → (EnvelopeIs I.codec.reads (envelope_bytes I.codec.written v) v ↔ IsNormalEnvelope I.codec.is_normal v) }
 {}
 
 /// The types and flags of messages have the numbers of netlink(7).

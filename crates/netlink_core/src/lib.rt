@@ -4,17 +4,20 @@
 mod attribute;
 mod canon;
 mod codec;
+mod exact;
 mod fault;
 mod header;
 pub mod laws;
 mod message;
 mod nla;
 mod parse;
+mod record;
 mod wire;
 
 pub use crate::attribute::{NlaBuffer, NlasIterator};
 pub use crate::canon::{CanonError, canonical};
 pub use crate::codec::{Emitable, Parseable, ParseableParametrized, Readable};
+pub use crate::exact::Exact;
 pub use crate::fault::{DecodeError, RecordName};
 pub use crate::header::NetlinkHeader;
 pub use crate::message::{
@@ -23,7 +26,8 @@ pub use crate::message::{
 };
 pub use crate::nla::{DefaultNla, Nla, emit_nla, emit_nlas, nla_len, nlas_len, nlas_writable};
 pub use crate::parse::{emit_u32, parse_string, parse_u8, parse_u32};
-pub use crate::wire::Wire;
+pub use crate::record::{Fills, Record, RecordBuffer, read_record};
+pub use crate::wire::{Coded, Wire};
 
 #[cfg(test)]
 mod tests;

@@ -4,11 +4,12 @@ ghost use Rattle.std.specs.Prelude.{◌≡◌, ◌≢◌, ◌≤◌, ◌<◌, �
 ghost use Rattle.netlink_core.specs.Bytes.{IsBytes};
 ghost use Rattle.netlink_core.specs.declared.fault.DecodeError.{DecodeError as Fault};
 ghost use Rattle.netlink_core.specs.declared.fault.DecodeError.TheVariants.{Memory};
-ghost use Rattle.netlink_core.specs.Envelope.{type_word, PayloadIs, EnvelopeIs, EnvelopeFault, IsInnerType, payload_bytes, payload_type, envelope_bytes, OfInner, EnvelopeFits, finalized};
-ghost use Rattle.netlink_core.specs.Seen.{payload_of, envelope_of, itself};
+ghost use Rattle.netlink_core.specs.Envelope.{type_word, Payload, Envelope, PayloadIs, EnvelopeIs, EnvelopeFault, IsInnerType, payload_bytes, payload_type, envelope_bytes, OfInner, EnvelopeFits, finalized};
+ghost use Rattle.netlink_core.specs.Seen.{payload_of, envelope_of};
 
 use crate::fault::DecodeError;
 use crate::header::{HEADER, NetlinkHeader};
+use crate::wire::Coded;
 use std::alloc::Global;
 
 /// The type of a message that says nothing, `NLMSG_NOOP` in netlink(7).
@@ -33,60 +34,42 @@ pub const NLM_F_DUMP: u16 = 0x300;
 const LONGEST: usize = 4_294_967_295;
 
 /// A message of a protocol that is written behind a netlink header.
-pub trait NetlinkSerializable {
-    // The bytes that stand for the message.
-    ghost bytes: { Self → List ℕ };
-
-    // The messages that have room for their lengths.
-    ghost writable: { Self → Type 0 };
-
-    // The type that the header is to tell.
-    ghost type_written: { Self → ℕ };
-
+pub trait NetlinkSerializable: Coded<Param = u16> {
     /// Whether the message can be written.
     fn is_writable(&self) -> bool
-        ensures { IsTrue result ↔ writable self.now };
+        ensures { IsTrue result ↔ Self.codec.fits (Self.seen self.now) };
 
     /// The message's type.
     fn message_type(&self) -> u16
-        ensures { result ≡ type_written self.now };
+        ensures { result ≡ Self.type_written (Self.seen self.now) };
 
     /// How many bytes `serialize` writes.
     fn buffer_len(&self) -> usize
-        requires { writable self.now }
-        ensures { result ≡ length (bytes self.now) };
+        requires { Self.codec.fits (Self.seen self.now) }
+        ensures { result ≡ length (Self.codec.written (Self.seen self.now)) };
 
     /// Writes the message at the front of the buffer, and leaves the rest.
     fn serialize(&self, buffer: &mut [u8])
-        requires writable { writable self.now }
-        requires room { length (bytes self.now) ≤ length buffer.old }
-        ensures { buffer.new ≡ bytes self.now ++ drop (length (bytes self.now)) buffer.old };
+        requires writable { Self.codec.fits (Self.seen self.now) }
+        requires room { length (Self.codec.written (Self.seen self.now)) ≤ length buffer.old }
+        ensures { buffer.new ≡ Self.codec.written (Self.seen self.now) ++ drop (length (Self.codec.written (Self.seen self.now))) buffer.old };
 }
 
 /// A message of a protocol that is read from a payload under the type that the netlink header tells.
-pub trait NetlinkDeserializable: Sized {
-    // What is compared of a message: each field, and lists by their elements.
-    ghost Seen: { Type 0 };
-
-    ghost seen: { Self → Seen };
-
-    // The message belongs to the payload under the type.
-    ghost reads: { List ℕ → ℕ → Seen → Type 0 };
-
-    // The fault is the payload's first under the type.
-    ghost refuses: { List ℕ → ℕ → Fault → Type 0 };
-
+pub trait NetlinkDeserializable: Coded<Param = u16> {
     /// Reads a message under the header's type, or tells the first fault. No other field of the header is looked at.
     fn deserialize(
         alloc: Global,
         header: &NetlinkHeader,
         payload: &[u8],
     ) -> Result<Self, DecodeError>
-        ensures value { IfOk result (λ m. reads payload.now header.now.message_type (seen m)) }
-        ensures fault { IfErr result (λ e. e ≢ Memory → refuses payload.now header.now.message_type e) };
+        ensures value { IfOk result (λ m. Self.codec.reads payload.now header.now.message_type (Self.seen m)) }
+        ensures fault { IfErr result (λ e. e ≢ Memory → Self.codec.refuses payload.now header.now.message_type e) }
+        // Memory is wanted only for a payload that has a message.
+        ensures wanted { IfErr result (λ e. e ≡ Memory → (m : Self.codec.Value) × Self.codec.reads payload.now header.now.message_type m) };
 
-    // A payload has a message or a fault.
-    ghost answered: { (b : List ℕ) (t : ℕ) → IsBytes b → t < 2 ^ 16 → ((m : Seen) × reads b t m) ⊎ ((e : Fault) × refuses b t e) };
+    // A payload is read under each type.
+    ghost each_type: { (t : ℕ) → t < 2 ^ 16 → Self.codec.is_param t };
 }
 
 /// What a message carries, by its type.
@@ -108,7 +91,7 @@ impl<I: NetlinkSerializable> NetlinkPayload<I> {
     /// The type that the message's header is to tell: `NLMSG_DONE`, `NLMSG_ERROR`, `NLMSG_NOOP`, `NLMSG_OVERRUN`, or
     /// that of the inner message.
     pub fn message_type(&self) -> u16
-        ensures { result ≡ payload_type I.type_written (payload_of itself self.now) }
+        ensures { result ≡ payload_type I.type_written (payload_of I.seen self.now) }
     {
         match self {
             NetlinkPayload::Done(_) => NLMSG_DONE,
@@ -121,7 +104,7 @@ impl<I: NetlinkSerializable> NetlinkPayload<I> {
 
     // Whether an inner message, if there is one, can be written.
     fn is_writable(&self) -> bool
-        ensures { IsTrue result ↔ OfInner I.writable (payload_of itself self.now) }
+        ensures { IsTrue result ↔ OfInner I.codec.fits (payload_of I.seen self.now) }
     {
         match self {
             NetlinkPayload::InnerMessage(message) => message.is_writable(),
@@ -131,8 +114,8 @@ impl<I: NetlinkSerializable> NetlinkPayload<I> {
 
     // How many bytes the payload is written as.
     fn buffer_len(&self) -> usize
-        requires { OfInner I.writable (payload_of itself self.now) }
-        ensures { result ≡ length (payload_bytes I.bytes (payload_of itself self.now)) }
+        requires { OfInner I.codec.fits (payload_of I.seen self.now) }
+        ensures { result ≡ length (payload_bytes I.codec.written (payload_of I.seen self.now)) }
     {
         match self {
             NetlinkPayload::Done(bytes)
@@ -145,10 +128,10 @@ impl<I: NetlinkSerializable> NetlinkPayload<I> {
 
     // Writes the payload at the front of the buffer, and leaves the rest.
     fn serialize(&self, buffer: &mut [u8])
-        requires writable { OfInner I.writable (payload_of itself self.now) }
-        requires room { length (payload_bytes I.bytes (payload_of itself self.now)) ≤ length buffer.old }
-        ensures { buffer.new ≡ payload_bytes I.bytes (payload_of itself self.now)
-            ++ drop (length (payload_bytes I.bytes (payload_of itself self.now))) buffer.old }
+        requires writable { OfInner I.codec.fits (payload_of I.seen self.now) }
+        requires room { length (payload_bytes I.codec.written (payload_of I.seen self.now)) ≤ length buffer.old }
+        ensures { buffer.new ≡ payload_bytes I.codec.written (payload_of I.seen self.now)
+            ++ drop (length (payload_bytes I.codec.written (payload_of I.seen self.now))) buffer.old }
     {
         match self {
             NetlinkPayload::Done(bytes)
@@ -163,10 +146,11 @@ impl<I: NetlinkSerializable> NetlinkPayload<I> {
 impl<I: NetlinkDeserializable> NetlinkPayload<I> {
     // The payload under the header's type. A payload of nothing takes no memory.
     fn read(alloc: Global, header: &NetlinkHeader, bytes: &[u8]) -> Result<Self, DecodeError>
-        ensures value { IfOk result (λ p. PayloadIs I.reads bytes.now header.now.message_type (payload_of I.seen p)) }
+        ensures value { IfOk result (λ p. PayloadIs I.codec.reads bytes.now header.now.message_type (payload_of I.seen p)) }
         ensures fault { IfErr result (λ e. e ≢ Memory
-            → IsInnerType header.now.message_type × I.refuses bytes.now header.now.message_type e) }
+            → IsInnerType header.now.message_type × I.codec.refuses bytes.now header.now.message_type e) }
         ensures memory { IfErr result (λ e. header.now.message_type ≢ 1) }
+        ensures wanted { IfErr result (λ e. e ≡ Memory → (p : Payload I.codec.Value) × PayloadIs I.codec.reads bytes.now header.now.message_type p) }
     {
         Ok(match header.message_type {
             NLMSG_NOOP => NetlinkPayload::Noop,
@@ -213,9 +197,11 @@ impl<I: NetlinkDeserializable> NetlinkMessage<I> {
     /// past the bytes as `EnvelopeLengthPast`, then what the inner message's reader refuses. A message of type
     /// `NLMSG_NOOP` takes no memory, and its payload is dropped.
     pub fn deserialize(alloc: Global, bytes: &[u8]) -> Result<Self, DecodeError>
-        ensures value { IfOk result (λ m. EnvelopeIs I.reads bytes.now (envelope_of I.seen m)) }
-        ensures fault { IfErr result (λ e. e ≢ Memory → EnvelopeFault I.refuses bytes.now e) }
+        ensures value { IfOk result (λ m. EnvelopeIs I.codec.reads bytes.now (envelope_of I.seen m)) }
+        ensures fault { IfErr result (λ e. e ≢ Memory → EnvelopeFault I.codec.refuses bytes.now e) }
         ensures memory { IfErr result (λ e. e ≡ Memory → type_word bytes.now ≢ 1) }
+        // Memory is wanted only for bytes that have a message.
+        ensures wanted { IfErr result (λ e. e ≡ Memory → (m : Envelope I.codec.Value) × EnvelopeIs I.codec.reads bytes.now m) }
     {
         let header = NetlinkHeader::from_prefix(bytes)?;
         let payload = NetlinkPayload::read(alloc, &header, &bytes[HEADER..header.length as usize])?;
@@ -226,8 +212,8 @@ impl<I: NetlinkDeserializable> NetlinkMessage<I> {
 impl<I: NetlinkSerializable> NetlinkMessage<I> {
     /// Sets the header's length to that of the message, and its type to the payload's.
     pub fn finalize(&mut self)
-        requires { EnvelopeFits I.bytes I.writable (envelope_of itself self.old) }
-        ensures header { self.new.header ≡ finalized I.bytes I.type_written (envelope_of itself self.old) }
+        requires { EnvelopeFits I.codec.written I.codec.fits (envelope_of I.seen self.old) }
+        ensures header { self.new.header ≡ finalized I.codec.written I.type_written (envelope_of I.seen self.old) }
         ensures payload { self.new.payload ≡ self.old.payload }
     {
         self.header.length = self.buffer_len() as u32;
@@ -237,25 +223,25 @@ impl<I: NetlinkSerializable> NetlinkMessage<I> {
     /// Whether the message can be written: its inner message can be, and the whole has at most 4,294,967,295 bytes,
     /// the header's 16 among them.
     pub fn is_writable(&self) -> bool
-        ensures { IsTrue result ↔ EnvelopeFits I.bytes I.writable (envelope_of itself self.now) }
+        ensures { IsTrue result ↔ EnvelopeFits I.codec.written I.codec.fits (envelope_of I.seen self.now) }
     {
         self.payload.is_writable() && self.payload.buffer_len() <= LONGEST - HEADER
     }
 
     /// How many bytes `serialize` writes.
     pub fn buffer_len(&self) -> usize
-        requires { EnvelopeFits I.bytes I.writable (envelope_of itself self.now) }
-        ensures { result ≡ length (envelope_bytes I.bytes (envelope_of itself self.now)) }
+        requires { EnvelopeFits I.codec.written I.codec.fits (envelope_of I.seen self.now) }
+        ensures { result ≡ length (envelope_bytes I.codec.written (envelope_of I.seen self.now)) }
     {
         HEADER + self.payload.buffer_len()
     }
 
     /// Writes the header as it stands and then the payload, and leaves the rest of the buffer.
     pub fn serialize(&self, buffer: &mut [u8])
-        requires writable { EnvelopeFits I.bytes I.writable (envelope_of itself self.now) }
-        requires room { length (envelope_bytes I.bytes (envelope_of itself self.now)) ≤ length buffer.old }
-        ensures { buffer.new ≡ envelope_bytes I.bytes (envelope_of itself self.now)
-            ++ drop (length (envelope_bytes I.bytes (envelope_of itself self.now))) buffer.old }
+        requires writable { EnvelopeFits I.codec.written I.codec.fits (envelope_of I.seen self.now) }
+        requires room { length (envelope_bytes I.codec.written (envelope_of I.seen self.now)) ≤ length buffer.old }
+        ensures { buffer.new ≡ envelope_bytes I.codec.written (envelope_of I.seen self.now)
+            ++ drop (length (envelope_bytes I.codec.written (envelope_of I.seen self.now))) buffer.old }
     {
         let (header, rest) = buffer.split_at_mut(HEADER);
         self.header.write(header);

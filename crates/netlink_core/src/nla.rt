@@ -1,16 +1,17 @@
 //! Attributes that are written, and the attribute of any kind.
 
-ghost use Rattle.std.specs.Prelude.{◌≡◌, ◌≤◌, ◌↔◌, ◌++◌, ⊤, length, drop, map, true, refl, IsTrue, IfOk};
+ghost use Rattle.std.specs.Prelude.{◌≡◌, ◌≤◌, ◌<◌, ◌↔◌, replicate, ◌++◌, ⊤, length, drop, map, true, refl, IsTrue, IfOk};
 ghost use Rattle.std.specs.List.{flat_map};
-ghost use Rattle.netlink_core.specs.Attribute.{Attribute, HasFittingValue, AreWritable, written};
-ghost use Rattle.netlink_core.specs.Heads.{MeansHead, RefusesHead, AreIdleHeads};
+ghost use Rattle.std.proofs.Common.{rules};
+ghost use Rattle.netlink_core.specs.Attribute.{Attribute, IsTypedAttribute, HasFittingValue, AreWritable, written};
+ghost use Rattle.netlink_core.specs.Heads.{head_codec};
 ghost use Rattle.netlink_core.specs.AnyKind.{any_kind};
 ghost use Rattle.netlink_core.specs.HeadLaws.{heads_keep_laws, any_kind_laws};
 
 use crate::attribute::{HEADER, MAX_VALUE, NlaBuffer, padded};
 use crate::codec::{Emitable, Parseable, Readable};
 use crate::fault::DecodeError;
-use crate::wire::Wire;
+use crate::wire::{Coded, Wire};
 use byteorder::{ByteOrder, LittleEndian};
 use std::alloc::{AllocError, Global};
 
@@ -63,7 +64,25 @@ pub fn emit_nla<T: Nla>(nla: &T, buffer: &mut [u8])
     LittleEndian::write_u16(header, end as u16);
     LittleEndian::write_u16(&mut header[2..], nla.kind());
     nla.emit_value(value);
-    padding.fill(0);
+    zero_padding(padding);
+}
+
+// Sets a padding to zeros, byte by byte: a call would take longer.
+#[inline(always)]
+fn zero_padding(padding: &mut [u8])
+    requires { length padding.old < 4 }
+    ensures { padding.new ≡ replicate (length padding.old) 0 }
+{
+    let len = padding.len();
+    if len > 0 {
+        padding[0] = 0;
+    }
+    if len > 1 {
+        padding[1] = 0;
+    }
+    if len > 2 {
+        padding[2] = 0;
+    }
 }
 
 /// Whether each value fits, and all of the attributes together have at most 4,294,967,295 bytes.
@@ -163,9 +182,15 @@ impl<'a> Parseable<NlaBuffer<'a>> for DefaultNla {
     ghost use Rattle.netlink_core.specs.DefaultNla.{kept_attribute};
     ghost use Rattle.netlink_core.specs.Walk.{attribute_of};
 
-    ghost parses = { λ nla v. kept_attribute v ≡ attribute_of nla };
+    ghost Seen = { Attribute };
+
+    ghost seen = { kept_attribute };
+
+    ghost parses = { λ nla a. a ≡ attribute_of nla };
 
     ghost parse_refuses = { λ _ _. ⊥ };
+
+    ghost is_spare = { λ _. ⊥ };
 
     fn parse(alloc: Global, buf: NlaBuffer<'a>) -> Result<Self, DecodeError> {
         Ok(DefaultNla {
@@ -217,31 +242,23 @@ impl Emitable for DefaultNla {
     }
 }
 
-impl Wire for DefaultNla {
+impl Coded for DefaultNla {
     ghost use Rattle.netlink_core.specs.DefaultNla.{kept_attribute};
 
     type Param = ();
 
-    ghost Seen = { Attribute };
+    ghost codec = { head_codec any_kind };
 
     ghost seen = { kept_attribute };
 
-    ghost is_typed = { any_kind.is_typed };
+    ghost type_written = { λ _. 0 };
 
-    ghost is_param = { λ _. ⊤ };
+    ghost eq_is_seen = { Prim.search rules };
 
-    ghost reads = { λ b _ a. MeansHead any_kind b a };
+    ghost laws = { heads_keep_laws any_kind any_kind_laws };
+}
 
-    ghost refuses = { λ b _ e. RefusesHead any_kind b e };
-
-    ghost idle = { λ _ b c. AreIdleHeads any_kind b c };
-
-    ghost is_normal = { λ _ a. any_kind.is_normal a };
-
-    ghost written = { λ a. written (any_kind.attribute_of a) };
-
-    ghost fits = { λ a. HasFittingValue (any_kind.attribute_of a) };
-
+impl Wire for DefaultNla {
     fn read(alloc: Global, bytes: &[u8], _param: ()) -> Result<Self, DecodeError> {
         DefaultNla::parse(alloc, NlaBuffer::new_checked(bytes)?)
     }
@@ -249,6 +266,4 @@ impl Wire for DefaultNla {
     ghost written_is = { λ v. refl };
 
     ghost fits_is = { λ v. (λ h. h, λ h. h) };
-
-    ghost laws = { heads_keep_laws any_kind any_kind_laws };
 }

@@ -1,11 +1,11 @@
-ghost use Rattle.std.specs.Prelude.{◌≡◌, ◌<◌, ◌≤◌, ℕ, List, length, refl};
-ghost use Rattle.std.proofs.Common.{inl, inr};
-ghost use Rattle.std.proofs.lemmas.Bool.{cases_eq};
-ghost use Rattle.netlink_core.specs.declared.fault.DecodeError.TheVariants.{UnknownMessageType};
+ghost use Rattle.std.specs.Prelude.{◌<◌, length};
+ghost use Rattle.std.proofs.Common.{rules};
+ghost use Rattle.netlink_core.specs.Kept.{kept_codec, kept_laws};
 
 use crate::{
-    DecodeError, NLM_F_DUMP, NLM_F_REQUEST, NLMSG_DONE, NLMSG_ERROR, NLMSG_NOOP, NLMSG_OVERRUN,
-    NetlinkDeserializable, NetlinkHeader, NetlinkMessage, NetlinkPayload, NetlinkSerializable,
+    Coded, DecodeError, NLM_F_DUMP, NLM_F_REQUEST, NLMSG_DONE, NLMSG_ERROR, NLMSG_NOOP,
+    NLMSG_OVERRUN, NetlinkDeserializable, NetlinkHeader, NetlinkMessage, NetlinkPayload,
+    NetlinkSerializable,
 };
 use std::alloc::Global;
 use std::process::Abort;
@@ -17,13 +17,21 @@ struct Kept(Vec<u8>);
 
 const KEPT: u16 = 20;
 
+impl Coded for Kept {
+    type Param = u16;
+
+    ghost codec = { kept_codec };
+
+    ghost seen = { λ v. v.0.items };
+
+    ghost type_written = { λ _. 20 };
+
+    ghost eq_is_seen = { Prim.search rules };
+
+    ghost laws = { kept_laws };
+}
+
 impl NetlinkSerializable for Kept {
-    ghost bytes = { λ v. v.0.items };
-
-    ghost writable = { λ v. length v.0.items ≤ 8 };
-
-    ghost type_written = { λ v. 20 };
-
     fn is_writable(&self) -> bool {
         self.0.len() <= 8
     }
@@ -42,14 +50,6 @@ impl NetlinkSerializable for Kept {
 }
 
 impl NetlinkDeserializable for Kept {
-    ghost Seen = { List ℕ };
-
-    ghost seen = { λ v. v.0.items };
-
-    ghost reads = { λ b t v. (t ≡ 20) × (v ≡ b) };
-
-    ghost refuses = { λ b t e. (e ≡ UnknownMessageType t) × ¬ (t ≡ 20) };
-
     fn deserialize(
         alloc: Global,
         header: &NetlinkHeader,
@@ -63,7 +63,7 @@ impl NetlinkDeserializable for Kept {
         Ok(Kept(Vec::from_slice(alloc, payload)?))
     }
 
-    ghost answered = { λ b t _ _. elim (cases_eq t 20) [ inl is ↦ inl (b, (is, refl)) | inr other ↦ inr (UnknownMessageType t, (refl, other)) ] };
+    ghost each_type = { λ t fits. fits };
 }
 
 /// A message of 18 bytes whose header has a number of its own in each field, and behind it two bytes more.

@@ -14,6 +14,6 @@ loop-nla-preserved g c =
     record {
       fits = grind (arith, common_steps);
       len = grind (arith, common_steps);
-      done = one_more g.T.Nla.attribute c.args.nlas.now c.nla-item.result c.loop-nla.nla-index c.loop-nla.buffer c.emit_nla.new.buffer _ c.loop-nla.at end c.loop-nla-test.true c.nla-item.is c.emit_nla.ensures end-is in_buffer c.loop-nla.invariant.done;
-      left = behind_one_more g.T.Nla.attribute c.nla-item.result c.loop-nla.buffer c.args.buffer.now c.emit_nla.new.buffer c.loop-nla.at end c.emit_nla.ensures end-is in_buffer c.loop-nla.invariant.left;
+      done = one_more (g.T.Nla.attribute c.nla-item.result) _ _ c.loop-nla.buffer c.emit_nla.new.buffer _ c.loop-nla.at end next c.emit_nla.ensures end-is in_buffer c.loop-nla.invariant.done;
+      left = behind_one_more (g.T.Nla.attribute c.nla-item.result) c.loop-nla.buffer c.args.buffer.now c.emit_nla.new.buffer c.loop-nla.at end c.emit_nla.ensures end-is in_buffer c.loop-nla.invariant.left;
     }

@@ -1,0 +1,46 @@
+-- A whole walk gives the cut, or all of it in front of the first framing fault.
+use Rattle.std.proofs.Common.{Result, Ok, Err, Some, ◌≡◌, ℕ, inl, inr, List, [], ◌∷◌, ◌++◌, refl, sym, ap, ◌∙◌, append_assoc, subst}
+use Rattle.std.specs.Prelude.{map}
+use Rattle.std.specs.Iterator.{Drains, YieldsThen}
+use Rattle.netlink_core.specs.declared.fault.DecodeError.{DecodeError}
+use Rattle.netlink_core.specs.declared.attribute.NlaBuffer.{NlaBuffer}
+use Rattle.netlink_core.specs.declared.attribute.NlasIterator.{NlasIterator}
+use Rattle.netlink_core.specs.Attribute.{Cut, unpadded}
+use Rattle.netlink_core.specs.CutOff.{CutOff}
+use Rattle.netlink_core.specs.Walk.{attribute_of, bytes_left, GivesAttribute}
+
+-- items that are attributes
+abbrev pub found : List NlaBuffer → List (Result NlaBuffer DecodeError)
+found given = map (λ (b : NlaBuffer). Ok b) given
+
+both_empty : (xs ys : List ℕ) → xs ++ ys ≡ [] → ys ≡ []
+both_empty [] ys e = e
+both_empty (x ∷ xs) ys e = absurd cc
+
+pub whole_walk : (walk : NlasIterator) (given : List NlaBuffer) → Drains GivesAttribute walk (found given) → Cut (bytes_left walk) (map attribute_of given)
+whole_walk walk [] h = subst (λ (w : NlasIterator). bytes_left w ≡ []) (sym h.1.1) h.1.2.0
+whole_walk walk (g ∷ given) h = (bytes_left h.1.1.0, h.1.1.1, whole_walk h.1.1.0 given (h.0, (h.1.0, h.1.1.2, h.1.2)))
+
+pub cut_off_walk : (walk last : NlasIterator) (given : List NlaBuffer) (e : DecodeError) → YieldsThen GivesAttribute walk (found given) (Some (Err e)) last
+    → CutOff (bytes_left walk) (map attribute_of given) e × (bytes_left last ≡ [])
+cut_off_walk walk last [] e h =
+    let at : GivesAttribute walk (Some (Err e)) last = subst (λ (w : NlasIterator). GivesAttribute w (Some (Err e)) last) (sym h.1) h.2 in
+    (record { before = []; after = bytes_left walk; parts = refl; cut = refl; left = at.0; fault = at.1 }, at.2)
+cut_off_walk walk last (g ∷ given) e h =
+    let later = cut_off_walk h.1.0 last given e (h.0, h.1.2, h.2) in
+    let s = h.1.1 in
+    let f = later.0 in
+    elim s.filled [
+      | inl full ↦ (
+        record {
+          before = unpadded (attribute_of g) ++ (s.padding ++ f.before);
+          after = f.after;
+          parts = s.parts ∙ ap (λ (t : List ℕ). unpadded (attribute_of g) ++ (s.padding ++ t)) f.parts ∙ simp append_assoc;
+          cut = (s.padding, f.before, refl, s.fits, full, f.cut);
+          left = f.left;
+          fault = f.fault;
+        },
+        later.1,
+      )
+      | inr short ↦ absurd (f.left (both_empty f.before f.after (sym f.parts ∙ short.1)))
+    ]
