@@ -1,15 +1,14 @@
 -- The memory of a socket, as older kernels tell it: 16 bytes, four words of 32 bits, low byte first.
-use Rattle.std.specs.Prelude.{[], ◌∷◌, slice_index}
+use Rattle.std.specs.Prelude.{⊤, [], ◌∷◌, slice_index}
 use Rattle.netlink_core.specs.Table.{numbers, little_endian}
-use Rattle.netlink_core.specs.Format.{Format, plain, all_bits_of}
+use Rattle.netlink_core.specs.Format.{Format, plain}
 use Rattle.netlink_core.specs.declared.fault.RecordName.TheVariants as name
 use Rattle.sock_diag_values.specs.declared.inet.legacy_mem_info.LegacyMemInfo.{LegacyMemInfo}
 
--- the words at 0, 4, 8 and 12; the places 0..16 are live
+-- the words at 0, 4, 8 and 12
 abbrev pub legacy_mem_info : Format (Unit {0}) (Unit {0}) LegacyMemInfo
 legacy_mem_info = plain name.LegacyMemInfo 16
     (numbers 0 4 little_endian 4)
-    (all_bits_of 0 ((0, 16) ∷ []) 16)
     (λ value.
     value.receive_queue ∷ value.bottom_send_queue ∷ value.cache ∷
     value.send_queue ∷
@@ -20,11 +19,4 @@ legacy_mem_info = plain name.LegacyMemInfo 16
       cache = slice_index words 2;
       send_queue = slice_index words 3;
     })
-
--- a value has no texts or arrays whose length its type tells
-abbrev pub IsShaped : LegacyMemInfo → Type 0
-IsShaped value = Unit {0}
-
--- each typed value is in normal form
-abbrev pub IsNormal : Unit {0} → LegacyMemInfo → Type 0
-IsNormal param value = Unit {0}
+    (λ value. ⊤)

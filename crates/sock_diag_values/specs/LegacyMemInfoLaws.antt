@@ -1,8 +1,8 @@
--- The record of a socket's memory, as older kernels tell it, keeps the laws.
+-- The record of a socket's memory, as older kernels tell it, is sound.
 use Rattle.std.proofs.Common.{refl}
-use Rattle.netlink_core.specs.Laws.{RecordLaws}
-use Rattle.netlink_core.proofs.FormatLaws.{keeps_laws, plain_sound}
-use Rattle.sock_diag_values.specs.LegacyMemInfo.{legacy_mem_info, IsShaped, IsNormal}
+use Rattle.netlink_core.specs.Format.{IsSound}
+use Rattle.netlink_core.proofs.FormatLaws.{plain_sound}
+use Rattle.sock_diag_values.specs.LegacyMemInfo.{legacy_mem_info}
 
-pub legacy_mem_info_laws : RecordLaws legacy_mem_info IsShaped IsNormal
-legacy_mem_info_laws = keeps_laws legacy_mem_info IsShaped IsNormal (plain_sound _ _ _ _ _ _ _ refl refl (λ left. refl) (λ left. tt) (λ value shaped. refl))
+pub legacy_mem_info_sound : IsSound legacy_mem_info
+legacy_mem_info_sound = plain_sound refl (λ value. refl) (λ left. refl) (λ left. tt) (λ value shaped. refl)

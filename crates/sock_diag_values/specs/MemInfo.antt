@@ -1,36 +1,76 @@
--- The memory of a socket: 36 bytes, nine words of 32 bits, low byte first.
-use Rattle.std.specs.Prelude.{[], ◌∷◌, slice_index}
+-- The memory of a socket: seven, eight or nine words of 32 bits, low byte first. Kernels added the last two in turn.
+use Rattle.std.specs.Prelude.{⊤, ℕ, ◌*◌, List, [], ◌∷◌, Option, Some, None, Ok, nat_lt, if◌then◌else◌, length, slice_index, slice_get, unwrap_or, IfSome, IsSome}
 use Rattle.netlink_core.specs.Table.{numbers, little_endian}
-use Rattle.netlink_core.specs.Format.{Format, plain, all_bits_of}
+use Rattle.netlink_core.specs.Format.{Format}
 use Rattle.netlink_core.specs.declared.fault.RecordName.TheVariants as name
 use Rattle.sock_diag_values.specs.declared.inet.mem_info.MemInfo.{MemInfo}
+use Rattle.sock_diag_values.specs.declared.inet.mem_info.MemInfoBytes.{MemInfoBytes}
+use Rattle.sock_diag_values.specs.declared.inet.mem_info.MemInfoBytes.TheVariants.{Seven, Eight, Nine}
+use Rattle.sock_diag_values.specs.declared.inet.mem_info.MemInfoBuffer.{MemInfoBuffer}
 
--- the words at 0, 4, .. 32; the places 0..36 are live
-abbrev pub mem_info : Format (Unit {0}) (Unit {0}) MemInfo
-mem_info = plain name.MemInfo 36
-    (numbers 0 4 little_endian 9)
-    (all_bits_of 0 ((0, 36) ∷ []) 36)
-    (λ value.
+-- how many words there are
+pub data Words : Type 0 where
+  seven : Words
+  eight : Words
+  nine : Words
+
+abbrev pub count_of : Words → ℕ
+count_of seven = 7
+count_of eight = 8
+count_of nine = 9
+
+-- those that so many bytes have whole, 28 or more: nine at most
+abbrev pub words_in : ℕ → Words
+words_in bytes = if nat_lt bytes 32 then seven else if nat_lt bytes 36 then eight else nine
+
+-- those by which a backlog and drops are written, and the last of them; in front of drops an absent backlog is 0
+abbrev pub words_of : Option ℕ → Option ℕ → Words
+words_of backlog (Some drops) = nine
+words_of (Some backlog) None = eight
+words_of None None = seven
+
+abbrev pub last_words : Option ℕ → Option ℕ → List ℕ
+last_words backlog (Some drops) = unwrap_or backlog 0 ∷ drops ∷ []
+last_words (Some backlog) None = backlog ∷ []
+last_words None None = []
+
+-- the first seven words in front of others
+abbrev pub words_before : MemInfo → List ℕ → List ℕ
+words_before value others =
     value.receive_queue ∷ value.receive_queue_max ∷ value.bottom_send_queues ∷
-    value.send_queue_max ∷ value.cache ∷ value.send_queue ∷
-    value.options ∷ value.backlog_queue_length ∷ value.drops ∷
-    [])
-    (λ words. record {
-      receive_queue = slice_index words 0;
-      receive_queue_max = slice_index words 1;
-      bottom_send_queues = slice_index words 2;
-      send_queue_max = slice_index words 3;
-      cache = slice_index words 4;
-      send_queue = slice_index words 5;
-      options = slice_index words 6;
-      backlog_queue_length = slice_index words 7;
-      drops = slice_index words 8;
-    })
+    value.send_queue_max ∷ value.cache ∷ value.send_queue ∷ value.options ∷
+    others
 
--- a value has no texts or arrays whose length its type tells
-abbrev pub IsShaped : MemInfo → Type 0
-IsShaped value = Unit {0}
+-- the words at 0, 4, .. as many as there are; in normal form drops come behind a backlog
+abbrev pub mem_info : Format (Unit {0}) Words MemInfo
+mem_info = record {
+  name = name.MemInfo;
+  least = 28;
+  size = λ words. 4 * count_of words;
+  tag_at = λ param left. Ok (words_in (length left));
+  tag_of = λ value. words_of value.backlog_queue_length value.drops;
+  table = λ words. numbers 0 4 little_endian (count_of words);
+  values = λ value. words_before value (last_words value.backlog_queue_length value.drops);
+  value = λ words values. record {
+    receive_queue = slice_index values 0;
+    receive_queue_max = slice_index values 1;
+    bottom_send_queues = slice_index values 2;
+    send_queue_max = slice_index values 3;
+    cache = slice_index values 4;
+    send_queue = slice_index values 5;
+    options = slice_index values 6;
+    backlog_queue_length = slice_get values 7;
+    drops = slice_get values 8;
+  };
+  is_shaped = λ value. ⊤;
+  is_own = λ param value. IfSome value.drops (λ drops. IsSome value.backlog_queue_length);
+}
 
--- each typed value is in normal form
-abbrev pub IsNormal : Unit {0} → MemInfo → Type 0
-IsNormal param value = Unit {0}
+-- the bytes that a buffer holds
+abbrev pub held_bytes : MemInfoBytes → List ℕ
+held_bytes (Seven bytes) = bytes
+held_bytes (Eight bytes) = bytes
+held_bytes (Nine bytes) = bytes
+
+abbrev pub buffer_bytes : MemInfoBuffer → List ℕ
+buffer_bytes buffer = held_bytes buffer.bytes

@@ -1,7 +1,7 @@
 -- The record of a TCP connection: 232 bytes, in eleven rows of numbers, low byte first.
-use Rattle.std.specs.Prelude.{ℕ, List, [], ◌∷◌, ◌++◌, slice_index}
+use Rattle.std.specs.Prelude.{⊤, ℕ, List, [], ◌∷◌, ◌++◌, slice_index}
 use Rattle.netlink_core.specs.Table.{Row, bytes_at, numbers, little_endian}
-use Rattle.netlink_core.specs.Format.{Format, plain, all_bits_of}
+use Rattle.netlink_core.specs.Format.{Format, plain}
 use Rattle.sock_diag_values.specs.declared.inet.tcp_info.TcpInfo.{TcpInfo}
 use Rattle.netlink_core.specs.declared.fault.RecordName.TheVariants as name
 
@@ -94,14 +94,6 @@ tcp_info_of values = record {
   snd_wnd = slice_index values 53;
 }
 
--- the places 0..232 are live
+-- 232 bytes
 unfoldable pub tcp_info : Format (Unit {0}) (Unit {0}) TcpInfo
-tcp_info = plain name.TcpInfo 232 tcp_info_rows (all_bits_of 0 ((0, 232) ∷ []) 232) tcp_info_values tcp_info_of
-
--- a value has no texts or arrays whose length its type tells
-abbrev pub IsShaped : TcpInfo → Type 0
-IsShaped value = Unit {0}
-
--- each typed value is in normal form
-abbrev pub IsNormal : Unit {0} → TcpInfo → Type 0
-IsNormal param value = Unit {0}
+tcp_info = plain name.TcpInfo 232 tcp_info_rows tcp_info_values tcp_info_of (λ value. ⊤)

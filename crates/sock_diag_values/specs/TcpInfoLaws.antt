@@ -1,9 +1,13 @@
--- The record of a TCP connection keeps the laws.
+-- The record of a TCP connection is sound.
 use Rattle.std.proofs.Common.{refl}
-use Rattle.netlink_core.specs.Laws.{RecordLaws}
-use Rattle.netlink_core.proofs.FormatLaws.{keeps_laws, plain_sound}
-use Rattle.sock_diag_values.specs.TcpInfo.{tcp_info, IsShaped, IsNormal}
+use Rattle.netlink_core.specs.Format.{IsFixed, IsSound}
+use Rattle.netlink_core.proofs.FormatLaws.{plain_sound}
+use Rattle.sock_diag_values.specs.TcpInfo.{tcp_info}
 
-pub tcp_info_laws : RecordLaws tcp_info IsShaped IsNormal
+pub tcp_info_sound : IsSound tcp_info
 unfolding tcp_info
-tcp_info_laws = keeps_laws tcp_info IsShaped IsNormal (plain_sound _ _ _ _ _ _ _ refl refl (λ left. refl) (λ left. tt) (λ value shaped. refl))
+tcp_info_sound = plain_sound refl (λ value. refl) (λ left. refl) (λ left. tt) (λ value shaped. refl)
+
+pub tcp_info_long : IsFixed tcp_info 232
+unfolding tcp_info
+tcp_info_long = (refl, λ tag. refl)

@@ -1,8 +1,8 @@
--- The record of a UNIX socket's memory keeps the laws.
+-- The record of a UNIX socket's memory is sound.
 use Rattle.std.proofs.Common.{refl}
-use Rattle.netlink_core.specs.Laws.{RecordLaws}
-use Rattle.netlink_core.proofs.FormatLaws.{keeps_laws, plain_sound}
-use Rattle.sock_diag_values.specs.UnixMemInfo.{unix_mem_info, IsShaped, IsNormal}
+use Rattle.netlink_core.specs.Format.{IsSound}
+use Rattle.netlink_core.proofs.FormatLaws.{plain_sound}
+use Rattle.sock_diag_values.specs.UnixMemInfo.{unix_mem_info}
 
-pub unix_mem_info_laws : RecordLaws unix_mem_info IsShaped IsNormal
-unix_mem_info_laws = keeps_laws unix_mem_info IsShaped IsNormal (plain_sound _ _ _ _ _ _ _ refl refl (λ left. refl) (λ left. tt) (λ value shaped. refl))
+pub unix_mem_info_sound : IsSound unix_mem_info
+unix_mem_info_sound = plain_sound refl (λ value. refl) (λ left. refl) (λ left. tt) (λ value shaped. refl)

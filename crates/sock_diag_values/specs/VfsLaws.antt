@@ -1,8 +1,8 @@
--- The record of a UNIX socket's file keeps the laws.
+-- The record of a UNIX socket's file is sound.
 use Rattle.std.proofs.Common.{refl}
-use Rattle.netlink_core.specs.Laws.{RecordLaws}
-use Rattle.netlink_core.proofs.FormatLaws.{keeps_laws, plain_sound}
-use Rattle.sock_diag_values.specs.Vfs.{vfs, IsShaped, IsNormal}
+use Rattle.netlink_core.specs.Format.{IsSound}
+use Rattle.netlink_core.proofs.FormatLaws.{plain_sound}
+use Rattle.sock_diag_values.specs.Vfs.{vfs}
 
-pub vfs_laws : RecordLaws vfs IsShaped IsNormal
-vfs_laws = keeps_laws vfs IsShaped IsNormal (plain_sound _ _ _ _ _ _ _ refl refl (λ left. refl) (λ left. tt) (λ value shaped. refl))
+pub vfs_sound : IsSound vfs
+vfs_sound = plain_sound refl (λ value. refl) (λ left. refl) (λ left. tt) (λ value shaped. refl)

@@ -1,7 +1,7 @@
 //! The rows of a record's table, read from its bytes and written to them. The records of this crate and of
 //! `sock_diag_records` are made of them.
 
-ghost use Rattle.std.specs.Prelude.{◌≡◌, ◌≤◌, ◌+◌, ◌*◌, ◌++◌, length, drop};
+ghost use Rattle.std.specs.Prelude.{◌≡◌, ◌≤◌, ◌+◌, ◌*◌, length};
 ghost use Rattle.netlink_core.specs.Table.{bytes_at, numbers, little_endian, big_endian, values_of};
 
 use byteorder::{BigEndian, ByteOrder, LittleEndian};
@@ -44,12 +44,4 @@ pub fn big_shorts_at<const N: usize>(bytes: &[u8], place: usize) -> [u16; N]
     let mut row = [0; N];
     BigEndian::read_u16_into(&bytes[place..place + 2 * N], &mut row);
     row
-}
-
-/// Writes the bytes at the front of the buffer, and leaves what stands behind them.
-pub fn write_front(bytes: &[u8], buffer: &mut [u8])
-    requires { length bytes.now ≤ length buffer.old }
-    ensures { buffer.new ≡ bytes.now ++ drop (length bytes.now) buffer.old }
-{
-    buffer[..bytes.len()].copy_from_slice(bytes);
 }

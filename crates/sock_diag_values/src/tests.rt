@@ -59,10 +59,48 @@ fn memory_of_a_socket(rt: HostRuntime) -> Result<(), Fail> {
     assert_eq!(rt; memory.cache, 0x1312_1110);
     assert_eq!(rt; memory.send_queue, 0x1716_1514);
     assert_eq!(rt; memory.options, 0x1b1a_1918);
-    assert_eq!(rt; memory.backlog_queue_length, 0x1f1e_1d1c);
-    assert_eq!(rt; memory.drops, 0x2322_2120);
+    assert_eq!(rt; memory.backlog_queue_length, Some(0x1f1e_1d1c));
+    assert_eq!(rt; memory.drops, Some(0x2322_2120));
     let raw = inet::MemInfoBuffer::from(&memory);
-    assert_eq!(rt; raw.to_bytes().as_slice(), &bytes[..36]);
+    assert_eq!(rt; Some(raw.to_bytes().as_slice()), bytes.get(..36));
+    Ok(())
+}
+
+#[test]
+fn memory_of_seven_and_eight_words(rt: HostRuntime) -> Result<(), Fail> {
+    let bytes = places();
+    for (got, size) in [(28, 28), (31, 28), (32, 32), (35, 32), (36, 36), (40, 36)] {
+        let memory = inet::MemInfo::parse(&bytes[..got])?;
+        assert_eq!(rt; memory.options, 0x1b1a_1918);
+        let backlog = (size > 28).then_some(0x1f1e_1d1c);
+        assert_eq!(rt; memory.backlog_queue_length, backlog);
+        assert_eq!(rt; memory.drops, (size > 32).then_some(0x2322_2120));
+        let mut written = [0xff; 41];
+        memory.emit(&mut written);
+        assert_eq!(rt; &written[..size], &bytes[..size]);
+        assert_eq!(rt; written[size], 0xff);
+        let given = bytes.get(..got).ok_or("short")?;
+        let raw = inet::MemInfoBuffer::read_prefix(given).ok_or("short")?;
+        assert_eq!(rt; raw.to_bytes().as_slice(), &bytes[..size]);
+        assert_eq!(rt; inet::MemInfoBuffer::from(&memory), raw);
+    }
+    assert_eq!(rt; inet::MemInfoBuffer::read_prefix(&[0; 27]).is_none(), true);
+    Ok(())
+}
+
+#[test]
+fn drops_without_backlog(rt: HostRuntime) -> Result<(), Fail> {
+    let mut memory = inet::MemInfo::parse(&places())?;
+    memory.backlog_queue_length = None;
+    let mut wanted = places();
+    for byte in wanted.iter_mut().skip(28).take(4) {
+        *byte = 0;
+    }
+    let raw = inet::MemInfoBuffer::from(&memory);
+    assert_eq!(rt; Some(raw.to_bytes().as_slice()), wanted.get(..36));
+    let again = inet::MemInfo::parse(raw.to_bytes().as_slice())?;
+    assert_eq!(rt; again.backlog_queue_length, Some(0));
+    assert_eq!(rt; again.drops, Some(0x2322_2120));
     Ok(())
 }
 
@@ -106,7 +144,7 @@ fn connection_as_it_is_written(rt: HostRuntime) -> Result<(), Fail> {
     let connection = TcpInfo::parse(&bytes)?;
     let mut written = [0xff; 233];
     connection.emit(&mut written);
-    assert_eq!(rt; &written[..232], bytes.as_slice());
+    assert_eq!(rt; written.get(..232), Some(bytes.as_slice()));
     assert_eq!(rt; written[232], 0xff);
     Ok(())
 }
@@ -130,8 +168,8 @@ fn records_that_are_too_short(rt: HostRuntime) -> Result<(), Fail> {
     assert_eq!(rt; unix::MemInfo::parse(&[0; 35]), Err(fault));
     let fault = too_small(RecordName::LegacyMemInfo, 15, 16);
     assert_eq!(rt; LegacyMemInfo::parse(&[0; 15]), Err(fault));
-    let fault = too_small(RecordName::MemInfo, 35, 36);
-    assert_eq!(rt; inet::MemInfo::parse(&[0; 35]), Err(fault));
+    let fault = too_small(RecordName::MemInfo, 27, 28);
+    assert_eq!(rt; inet::MemInfo::parse(&[0; 27]), Err(fault));
     let fault = too_small(RecordName::TcpInfo, 231, 232);
     assert_eq!(rt; TcpInfo::parse(&[0; 231]), Err(fault));
     assert_eq!(rt; VfsBuffer::read_prefix(&[0; 7]).is_none(), true);

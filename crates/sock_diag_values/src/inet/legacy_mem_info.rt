@@ -1,18 +1,15 @@
 //! What INET_DIAG_MEMINFO tells: the memory of a socket, as older kernels tell it.
 
-ghost use Rattle.std.specs.Prelude.{◌≡◌, ◌≤◌, ℕ, List, length, take, SomeIff, false, ⊤, refl};
-ghost use Rattle.netlink_core.specs.Format.{Reads, Refuses, read, bytes, AreIdle, IsTyped};
-ghost use Rattle.sock_diag_values.specs.LegacyMemInfo.{legacy_mem_info, IsShaped, IsNormal};
-ghost use Rattle.sock_diag_values.specs.LegacyMemInfoLaws.{legacy_mem_info_laws};
+ghost use Rattle.std.specs.Prelude.{◌≡◌, refl};
+ghost use Rattle.std.proofs.Common.{rules};
+ghost use Rattle.netlink_core.specs.Format.{read};
+ghost use Rattle.netlink_core.proofs.FormatLaws.{keeps_laws};
+ghost use Rattle.sock_diag_values.specs.LegacyMemInfo.{legacy_mem_info};
+ghost use Rattle.sock_diag_values.specs.LegacyMemInfoLaws.{legacy_mem_info_sound};
 
-use crate::rows::{words_at, write_front};
+use crate::rows::words_at;
 use byteorder::{ByteOrder, LittleEndian};
-use netlink_core::{DecodeError, Emitable, Readable, RecordName, Wire};
-use std::alloc::Global;
-use std::marker::Model;
-
-/// The number of bytes of the record.
-const LENGTH: usize = 16;
+use netlink_core::{DecodeError, Exact, Fills, Record, RecordBuffer, RecordName, read_record};
 
 /// The memory of a socket, as the attribute `INET_DIAG_MEMINFO` tells it: `struct inet_diag_meminfo` of
 /// sock_diag(7). It is 16 bytes, each word a `u32`, low byte first. Newer kernels tell of memory by
@@ -30,67 +27,30 @@ pub struct LegacyMemInfo {
 }
 
 /// The bytes of a [`LegacyMemInfo`], each one that was read, in the order that they came.
-#[derive(Clone, Debug, Drop, PartialEq, Eq)]
-pub struct LegacyMemInfoBuffer {
-    bytes: [u8; LENGTH],
+pub type LegacyMemInfoBuffer = RecordBuffer<LegacyMemInfo, 16>;
+
+impl Exact for LegacyMemInfo {
+    ghost equal = { Prim.search rules };
+
+    ghost copied = { Prim.search rules };
+
+    ghost unfailing = { Prim.search rules };
 }
 
-impl Model for LegacyMemInfoBuffer {
-    ghost Value = { List ℕ };
+impl Record for LegacyMemInfo {
+    type Told = ();
 
-    ghost view = { λ buffer. buffer.bytes };
+    ghost format = { legacy_mem_info };
 
-    ghost inverse = { λ bytes. record { bytes = bytes } };
-}
-
-impl LegacyMemInfoBuffer {
-    /// The first 16 bytes, where there are as many.
-    pub fn read_prefix(payload: &[u8]) -> Option<Self>
-        ensures { SomeIff result (LENGTH ≤ length payload.now) (take LENGTH payload.now) }
-    {
-        let bytes = *payload.first_chunk()?;
-        Some(LegacyMemInfoBuffer { bytes })
+    fn name_and_least() -> (RecordName, usize) {
+        (RecordName::LegacyMemInfo, 16)
     }
 
-    /// The 16 bytes.
-    pub fn to_bytes(&self) -> [u8; LENGTH]
-        ensures { result ≡ self.now }
-    {
-        self.bytes
+    fn size(&self) -> usize {
+        16
     }
-}
 
-impl From<&LegacyMemInfo> for LegacyMemInfoBuffer {
-    ghost from_gives = { λ value buffer. buffer ≡ bytes legacy_mem_info value.now };
-
-    fn from(value: &LegacyMemInfo) -> Self {
-        let mut bytes = [0; LENGTH];
-        LittleEndian::write_u32_into(
-            &[
-                value.receive_queue,
-                value.bottom_send_queue,
-                value.cache,
-                value.send_queue,
-            ],
-            &mut bytes,
-        );
-        LegacyMemInfoBuffer { bytes }
-    }
-}
-
-impl LegacyMemInfo {
-    /// Reads the first 16 bytes. What follows them is ignored, and fewer are
-    /// [`DecodeError::BufferTooSmall`].
-    pub fn parse(payload: &[u8]) -> Result<Self, DecodeError>
-        ensures { result ≡ read legacy_mem_info tt payload.now }
-    {
-        if payload.len() < LENGTH {
-            return Err(DecodeError::BufferTooSmall {
-                which: RecordName::LegacyMemInfo,
-                got: payload.len(),
-                need: LENGTH,
-            });
-        }
+    fn from_row(payload: &[u8], _told: ()) -> Result<Self, DecodeError> {
         let [receive_queue, bottom_send_queue, cache, send_queue] = words_at::<4>(payload, 0);
         Ok(LegacyMemInfo {
             receive_queue,
@@ -99,64 +59,34 @@ impl LegacyMemInfo {
             send_queue,
         })
     }
-}
 
-impl Readable for LegacyMemInfo {
-    const TAKES_MEMORY: bool = false;
-
-    ghost TAKES_MEMORY = { false };
-}
-
-impl Emitable for LegacyMemInfo {
-    ghost bytes = { bytes legacy_mem_info };
-
-    ghost writable = { λ _. ⊤ };
-
-    fn is_writable(&self) -> bool {
-        true
+    fn write_row(&self, row: &mut [u8]) {
+        LittleEndian::write_u32_into(
+            &[
+                self.receive_queue,
+                self.bottom_send_queue,
+                self.cache,
+                self.send_queue,
+            ],
+            row,
+        );
     }
 
-    fn buffer_len(&self) -> usize {
-        LENGTH
-    }
+    ghost sound = { legacy_mem_info_sound };
 
-    fn emit(&self, buffer: &mut [u8]) {
-        write_front(&LegacyMemInfoBuffer::from(self).to_bytes(), buffer);
-    }
+    ghost laws = { keeps_laws legacy_mem_info legacy_mem_info_sound };
 }
 
-impl Wire for LegacyMemInfo {
-    type Param = ();
+impl Fills<16> for LegacyMemInfo {
+    ghost fills = { (refl, λ _. refl) };
+}
 
-    ghost use Rattle.sock_diag_values.specs.declared.inet.legacy_mem_info.LegacyMemInfo.{LegacyMemInfo};
-
-    ghost Seen = { LegacyMemInfo };
-
-    ghost seen = { λ value. value };
-
-    ghost is_typed = { IsTyped legacy_mem_info IsShaped };
-
-    ghost is_param = { λ _. ⊤ };
-
-    ghost reads = { Reads legacy_mem_info };
-
-    ghost refuses = { Refuses legacy_mem_info };
-
-    ghost idle = { AreIdle legacy_mem_info };
-
-    ghost is_normal = { IsNormal };
-
-    ghost written = { bytes legacy_mem_info };
-
-    ghost fits = { λ _. ⊤ };
-
-    ghost written_is = { λ _. refl };
-
-    ghost fits_is = { λ _. (λ h. h, λ h. h) };
-
-    ghost laws = { legacy_mem_info_laws };
-
-    fn read(_alloc: Global, bytes: &[u8], _param: ()) -> Result<Self, DecodeError> {
-        LegacyMemInfo::parse(bytes)
+impl LegacyMemInfo {
+    /// Reads the first 16 bytes. What follows them is ignored, and fewer are
+    /// [`DecodeError::BufferTooSmall`].
+    pub fn parse(payload: &[u8]) -> Result<Self, DecodeError>
+        ensures { result ≡ read legacy_mem_info tt payload.now }
+    {
+        read_record(payload, ())
     }
 }

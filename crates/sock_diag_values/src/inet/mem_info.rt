@@ -1,21 +1,21 @@
 //! What INET_DIAG_SKMEMINFO tells: the memory of a socket.
 
-ghost use Rattle.std.specs.Prelude.{◌≡◌, ◌≤◌, ℕ, List, length, take, SomeIff, false, ⊤, refl};
-ghost use Rattle.netlink_core.specs.Format.{Reads, Refuses, read, bytes, AreIdle, IsTyped};
-ghost use Rattle.sock_diag_values.specs.MemInfo.{mem_info, IsShaped, IsNormal};
-ghost use Rattle.sock_diag_values.specs.MemInfoLaws.{mem_info_laws};
+ghost use Rattle.std.specs.Prelude.{◌≡◌, ◌≤◌, ◌+◌, ◌↔◌, ◌<◌, ◌^◌, length, take, drop, SomeIff, IfSome, IsSome};
+ghost use Rattle.std.proofs.Common.{rules};
+ghost use Rattle.netlink_core.specs.Format.{read, bytes};
+ghost use Rattle.netlink_core.proofs.FormatLaws.{keeps_laws};
+ghost use Rattle.sock_diag_values.specs.MemInfo.{Words, words_in, mem_info, held_bytes, buffer_bytes};
+ghost use Rattle.sock_diag_values.specs.MemInfoLaws.{mem_info_sound};
+ghost use Rattle.sock_diag_values.specs.MemInfoEqual.{buffer_equal, bytes_equal, mem_info_equal};
+ghost use Rattle.byteorder.specs.Endian.{little_number};
 
-use crate::rows::{words_at, write_front};
+use crate::rows::words_at;
 use byteorder::{ByteOrder, LittleEndian};
-use netlink_core::{DecodeError, Emitable, Readable, RecordName, Wire};
-use std::alloc::Global;
-use std::marker::Model;
-
-/// The number of bytes of the record.
-const LENGTH: usize = 36;
+use netlink_core::{DecodeError, Exact, Record, RecordName, read_record};
 
 /// The memory of a socket, as the attribute `INET_DIAG_SKMEMINFO` tells it: the nine words `SK_MEMINFO_..` of
-/// `linux/sock_diag.h`. It is 36 bytes, each word a `u32`, low byte first.
+/// `linux/sock_diag.h`. It is 36 bytes, each word a `u32`, low byte first. Older kernels tell seven words, 28 bytes, or
+/// eight, 32 bytes.
 #[derive(Clone, Debug, Drop, PartialEq, Eq)]
 pub struct MemInfo {
     /// The memory that the receive queue takes now, `SK_MEMINFO_RMEM_ALLOC`, at 0, in bytes.
@@ -34,78 +34,72 @@ pub struct MemInfo {
     /// The memory of the socket's options, `SK_MEMINFO_OPTMEM`, at 24, in bytes.
     pub options: u32,
     /// The memory of packets that wait while the socket is locked, `SK_MEMINFO_BACKLOG`, at 28, in bytes.
-    pub backlog_queue_length: u32,
-    /// How many packets were dropped, `SK_MEMINFO_DROPS`, at 32.
-    pub drops: u32,
+    pub backlog_queue_length: Option<u32>,
+    /// How many packets were dropped, `SK_MEMINFO_DROPS`, at 32. It is written behind a backlog, 0 where that is absent.
+    pub drops: Option<u32>,
 }
 
 /// The bytes of a [`MemInfo`], each one that was read, in the order that they came.
 #[derive(Clone, Debug, Drop, PartialEq, Eq)]
 pub struct MemInfoBuffer {
-    bytes: [u8; LENGTH],
+    bytes: MemInfoBytes,
 }
 
-impl Model for MemInfoBuffer {
-    ghost Value = { List ℕ };
-
-    ghost view = { λ buffer. buffer.bytes };
-
-    ghost inverse = { λ bytes. record { bytes = bytes } };
+/// The bytes of seven, eight or nine words.
+#[derive(Clone, Copy, Debug, PartialEq, Eq)]
+pub enum MemInfoBytes {
+    /// Neither backlog nor drops.
+    Seven([u8; 28]),
+    /// No drops.
+    Eight([u8; 32]),
+    /// All words.
+    Nine([u8; 36]),
 }
 
-impl MemInfoBuffer {
-    /// The first 36 bytes, where there are as many.
-    pub fn read_prefix(payload: &[u8]) -> Option<Self>
-        ensures { SomeIff result (LENGTH ≤ length payload.now) (take LENGTH payload.now) }
-    {
-        let bytes = *payload.first_chunk()?;
-        Some(MemInfoBuffer { bytes })
+impl Exact for MemInfo {
+    ghost equal = { mem_info_equal };
+
+    ghost copied = { Prim.search rules };
+
+    ghost unfailing = { Prim.search rules };
+}
+
+impl Exact for MemInfoBytes {
+    ghost equal = { bytes_equal };
+
+    ghost copied = { Prim.search rules };
+
+    ghost unfailing = { Prim.search rules };
+}
+
+impl Exact for MemInfoBuffer {
+    ghost equal = { buffer_equal };
+
+    ghost copied = { Prim.search rules };
+
+    ghost unfailing = { Prim.search rules };
+}
+
+impl Record for MemInfo {
+    type Told = ();
+
+    ghost Tag = { Words };
+
+    ghost format = { mem_info };
+
+    fn name_and_least() -> (RecordName, usize) {
+        (RecordName::MemInfo, 28)
     }
 
-    /// The 36 bytes.
-    pub fn to_bytes(&self) -> [u8; LENGTH]
-        ensures { result ≡ self.now }
-    {
-        self.bytes
-    }
-}
-
-impl From<&MemInfo> for MemInfoBuffer {
-    ghost from_gives = { λ value buffer. buffer ≡ bytes mem_info value.now };
-
-    fn from(value: &MemInfo) -> Self {
-        let mut bytes = [0; LENGTH];
-        LittleEndian::write_u32_into(
-            &[
-                value.receive_queue,
-                value.receive_queue_max,
-                value.bottom_send_queues,
-                value.send_queue_max,
-                value.cache,
-                value.send_queue,
-                value.options,
-                value.backlog_queue_length,
-                value.drops,
-            ],
-            &mut bytes,
-        );
-        MemInfoBuffer { bytes }
-    }
-}
-
-impl MemInfo {
-    /// Reads the first 36 bytes. What follows them is ignored, and fewer are
-    /// [`DecodeError::BufferTooSmall`].
-    pub fn parse(payload: &[u8]) -> Result<Self, DecodeError>
-        ensures { result ≡ read mem_info tt payload.now }
-    {
-        if payload.len() < LENGTH {
-            return Err(DecodeError::BufferTooSmall {
-                which: RecordName::MemInfo,
-                got: payload.len(),
-                need: LENGTH,
-            });
+    fn size(&self) -> usize {
+        match (self.backlog_queue_length, self.drops) {
+            (_, Some(_)) => 36,
+            (Some(_), None) => 32,
+            (None, None) => 28,
         }
+    }
+
+    fn from_row(payload: &[u8], _told: ()) -> Result<Self, DecodeError> {
         let [
             receive_queue,
             receive_queue_max,
@@ -114,9 +108,7 @@ impl MemInfo {
             cache,
             send_queue,
             options,
-            backlog_queue_length,
-            drops,
-        ] = words_at::<9>(payload, 0);
+        ] = words_at::<7>(payload, 0);
         Ok(MemInfo {
             receive_queue,
             receive_queue_max,
@@ -125,68 +117,105 @@ impl MemInfo {
             cache,
             send_queue,
             options,
-            backlog_queue_length,
-            drops,
+            backlog_queue_length: word_at(payload, 28),
+            drops: word_at(payload, 32),
         })
     }
+
+    fn write_row(&self, row: &mut [u8]) {
+        let words = [
+            self.receive_queue,
+            self.receive_queue_max,
+            self.bottom_send_queues,
+            self.send_queue_max,
+            self.cache,
+            self.send_queue,
+            self.options,
+            self.backlog_queue_length.unwrap_or(0),
+            self.drops.unwrap_or(0),
+        ];
+        LittleEndian::write_u32_into(&words[..self.size() / 4], row);
+    }
+
+    ghost sound = { mem_info_sound };
+
+    ghost laws = { keeps_laws mem_info mem_info_sound };
 }
 
-impl Readable for MemInfo {
-    const TAKES_MEMORY: bool = false;
-
-    ghost TAKES_MEMORY = { false };
-}
-
-impl Emitable for MemInfo {
-    ghost bytes = { bytes mem_info };
-
-    ghost writable = { λ _. ⊤ };
-
-    fn is_writable(&self) -> bool {
-        true
-    }
-
-    fn buffer_len(&self) -> usize {
-        LENGTH
-    }
-
-    fn emit(&self, buffer: &mut [u8]) {
-        write_front(&MemInfoBuffer::from(self).to_bytes(), buffer);
+impl MemInfo {
+    /// Reads the first 36 bytes, or the first 32 or 28 where there are no more. What follows them is ignored, and fewer
+    /// are [`DecodeError::BufferTooSmall`].
+    pub fn parse(payload: &[u8]) -> Result<Self, DecodeError>
+        ensures { result ≡ read mem_info tt payload.now }
+    {
+        read_record(payload, ())
     }
 }
 
-impl Wire for MemInfo {
-    type Param = ();
-
-    ghost use Rattle.sock_diag_values.specs.declared.inet.mem_info.MemInfo.{MemInfo};
-
-    ghost Seen = { MemInfo };
-
-    ghost seen = { λ value. value };
-
-    ghost is_typed = { IsTyped mem_info IsShaped };
-
-    ghost is_param = { λ _. ⊤ };
-
-    ghost reads = { Reads mem_info };
-
-    ghost refuses = { Refuses mem_info };
-
-    ghost idle = { AreIdle mem_info };
-
-    ghost is_normal = { IsNormal };
-
-    ghost written = { bytes mem_info };
-
-    ghost fits = { λ _. ⊤ };
-
-    ghost written_is = { λ _. refl };
-
-    ghost fits_is = { λ _. (λ h. h, λ h. h) };
-
-    ghost laws = { mem_info_laws };
-
-    fn read(_alloc: Global, bytes: &[u8], _param: ()) -> Result<Self, DecodeError> {
-        MemInfo::parse(bytes)
+impl MemInfoBuffer {
+    /// The first 36 bytes, or the first 32 or 28 where there are no more.
+    pub fn read_prefix(payload: &[u8]) -> Option<Self>
+        ensures enough { IsSome result ↔ 28 ≤ length payload.now }
+        ensures bytes { IfSome result (λ buffer. buffer_bytes buffer ≡ take (mem_info.size (words_in (length payload.now))) payload.now) }
+    {
+        let bytes = if let Some(bytes) = payload.first_chunk() {
+            MemInfoBytes::Nine(*bytes)
+        } else if let Some(bytes) = payload.first_chunk() {
+            MemInfoBytes::Eight(*bytes)
+        } else {
+            MemInfoBytes::Seven(*payload.first_chunk()?)
+        };
+        Some(MemInfoBuffer { bytes })
     }
+
+    /// The bytes.
+    pub fn to_bytes(&self) -> MemInfoBytes
+        ensures { held_bytes result ≡ buffer_bytes self.now }
+    {
+        self.bytes
+    }
+}
+
+impl From<&MemInfo> for MemInfoBuffer {
+    ghost from_gives = { λ value buffer. buffer_bytes buffer ≡ bytes mem_info value.now };
+
+    fn from(value: &MemInfo) -> Self {
+        let bytes = match (value.backlog_queue_length, value.drops) {
+            (_, Some(_)) => MemInfoBytes::Nine(row_of(value)),
+            (Some(_), None) => MemInfoBytes::Eight(row_of(value)),
+            (None, None) => MemInfoBytes::Seven(row_of(value)),
+        };
+        MemInfoBuffer { bytes }
+    }
+}
+
+impl MemInfoBytes {
+    /// The bytes.
+    pub fn as_slice(&self) -> &[u8]
+        ensures { result.now ≡ held_bytes self.now }
+    {
+        match self {
+            MemInfoBytes::Seven(bytes) => bytes,
+            MemInfoBytes::Eight(bytes) => bytes,
+            MemInfoBytes::Nine(bytes) => bytes,
+        }
+    }
+}
+
+// The word at the place, where the bytes have it whole.
+fn word_at(payload: &[u8], place: usize) -> Option<u32>
+    requires { place + 4 < 2 ^ 64 }
+    ensures { SomeIff result (place + 4 ≤ length payload.now) (little_number 4 (drop place payload.now)) }
+{
+    Some(LittleEndian::read_u32(payload.get(place..place + 4)?))
+}
+
+// The bytes of a value that has so many.
+fn row_of<const N: usize>(value: &MemInfo) -> [u8; N]
+    requires { mem_info.size (mem_info.tag_of value.now) ≡ N }
+    ensures { result ≡ bytes mem_info value.now }
+{
+    let mut row = [0; N];
+    value.write_row(&mut row);
+    row
 }

@@ -5,5 +5,5 @@ mod mem_info;
 mod tcp_info;
 
 pub use legacy_mem_info::{LegacyMemInfo, LegacyMemInfoBuffer};
-pub use mem_info::{MemInfo, MemInfoBuffer};
+pub use mem_info::{MemInfo, MemInfoBuffer, MemInfoBytes};
 pub use tcp_info::{TcpInfo, TcpInfoBuffer};

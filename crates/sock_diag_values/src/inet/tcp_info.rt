@@ -1,19 +1,17 @@
 //! What INET_DIAG_INFO tells: a TCP connection.
 
-ghost use Rattle.std.specs.Prelude.{◌≡◌, ◌≤◌, ℕ, List, [], ◌∷◌, length, take, SomeIff, false, ⊤, refl};
+ghost use Rattle.std.specs.Prelude.{◌≡◌, ◌≤◌, [], ◌∷◌, length, refl};
+ghost use Rattle.std.proofs.Common.{rules};
 ghost use Rattle.netlink_core.specs.Table.{bytes_at, numbers, little_endian, values_of, bytes_of};
-ghost use Rattle.netlink_core.specs.Format.{Reads, Refuses, read, bytes, AreIdle, IsTyped};
-ghost use Rattle.sock_diag_values.specs.TcpInfo.{tcp_info, IsShaped, IsNormal};
-ghost use Rattle.sock_diag_values.specs.TcpInfoLaws.{tcp_info_laws};
+ghost use Rattle.netlink_core.specs.Format.{read};
+ghost use Rattle.netlink_core.proofs.FormatLaws.{keeps_laws};
+ghost use Rattle.sock_diag_values.specs.TcpInfo.{tcp_info};
+ghost use Rattle.sock_diag_values.specs.TcpInfoEqual.{tcp_info_equal, unfailing};
+ghost use Rattle.sock_diag_values.specs.TcpInfoLaws.{tcp_info_sound};
 
-use crate::rows::{array_at, long_words_at, words_at, write_front};
+use crate::rows::{array_at, long_words_at, words_at};
 use byteorder::{ByteOrder, LittleEndian};
-use netlink_core::{DecodeError, Emitable, Readable, RecordName, Wire};
-use std::alloc::Global;
-use std::marker::Model;
-
-/// The number of bytes of the record.
-const LENGTH: usize = 232;
+use netlink_core::{DecodeError, Exact, Fills, Record, RecordBuffer, RecordName, read_record};
 
 /// A TCP connection, as the attribute `INET_DIAG_INFO` tells it: `struct tcp_info` of `linux/tcp.h`, 232 bytes,
 /// numbers of 8, 32 and 64 bits, low byte first.
@@ -140,167 +138,33 @@ pub struct TcpInfo {
 }
 
 /// The bytes of a [`TcpInfo`], in the order that they came.
-#[derive(Clone, Debug, Drop, PartialEq, Eq)]
-pub struct TcpInfoBuffer {
-    bytes: [u8; LENGTH],
+pub type TcpInfoBuffer = RecordBuffer<TcpInfo, 232>;
+
+impl Exact for TcpInfo {
+    ghost equal = { tcp_info_equal };
+
+    ghost copied = { Prim.search rules };
+
+    ghost unfailing = { λ _. unfailing 53 };
 }
 
-impl Model for TcpInfoBuffer {
-    ghost Value = { List ℕ };
+impl Record for TcpInfo {
+    type Told = ();
 
-    ghost view = { λ buffer. buffer.bytes };
+    ghost format = { tcp_info };
 
-    ghost inverse = { λ bytes. record { bytes = bytes } };
-}
-
-impl TcpInfoBuffer {
-    /// The first 232 bytes, where there are as many.
-    pub fn read_prefix(payload: &[u8]) -> Option<Self>
-        ensures { SomeIff result (LENGTH ≤ length payload.now) (take LENGTH payload.now) }
-    {
-        let bytes = *payload.first_chunk()?;
-        Some(TcpInfoBuffer { bytes })
+    #[tactic(auto, unfolding(crate::specs::TcpInfo::tcp_info))]
+    fn name_and_least() -> (RecordName, usize) {
+        (RecordName::TcpInfo, 232)
     }
 
-    /// The 232 bytes.
-    pub fn to_bytes(&self) -> [u8; LENGTH]
-        ensures { result ≡ self.now }
-    {
-        self.bytes
+    #[tactic(auto, unfolding(crate::specs::TcpInfo::tcp_info))]
+    fn size(&self) -> usize {
+        232
     }
-}
 
-impl From<&TcpInfo> for TcpInfoBuffer {
-    ghost from_gives = { λ value buffer. buffer ≡ bytes tcp_info value.now };
-
-    fn from(value: &TcpInfo) -> Self {
-        let mut bytes = [0; LENGTH];
-        let (states, rest) = bytes.split_at_mut(8);
-        let (counts, rest) = rest.split_at_mut(36);
-        let (ages, rest) = rest.split_at_mut(16);
-        let (metrics, rest) = rest.split_at_mut(32);
-        let (receiver, rest) = rest.split_at_mut(12);
-        let (rates, rest) = rest.split_at_mut(32);
-        let (segments, rest) = rest.split_at_mut(24);
-        let (limits, rest) = rest.split_at_mut(32);
-        let (deliveries, rest) = rest.split_at_mut(8);
-        let (totals, reorderings) = rest.split_at_mut(16);
-        value.write_states(states);
-        value.write_counts(counts);
-        value.write_ages(ages);
-        value.write_metrics(metrics);
-        value.write_receiver(receiver);
-        value.write_rates(rates);
-        value.write_segments(segments);
-        value.write_limits(limits);
-        value.write_deliveries(deliveries);
-        value.write_totals(totals);
-        value.write_reorderings(reorderings);
-        TcpInfoBuffer { bytes }
-    }
-}
-
-// The numbers of the row at 0.
-fn read_states(payload: &[u8]) -> [u8; 8]
-    requires { 8 ≤ length payload.now }
-    ensures { result ≡ values_of (bytes_at 0 8) payload.now }
-{
-    array_at(payload, 0)
-}
-
-// The numbers of the row at 8.
-fn read_counts(payload: &[u8]) -> [u32; 9]
-    requires { 44 ≤ length payload.now }
-    ensures { result ≡ values_of (numbers 8 4 little_endian 9) payload.now }
-{
-    words_at(payload, 8)
-}
-
-// The numbers of the row at 44.
-fn read_ages(payload: &[u8]) -> [u32; 4]
-    requires { 60 ≤ length payload.now }
-    ensures { result ≡ values_of (numbers 44 4 little_endian 4) payload.now }
-{
-    words_at(payload, 44)
-}
-
-// The numbers of the row at 60.
-fn read_metrics(payload: &[u8]) -> [u32; 8]
-    requires { 92 ≤ length payload.now }
-    ensures { result ≡ values_of (numbers 60 4 little_endian 8) payload.now }
-{
-    words_at(payload, 60)
-}
-
-// The numbers of the row at 92.
-fn read_receiver(payload: &[u8]) -> [u32; 3]
-    requires { 104 ≤ length payload.now }
-    ensures { result ≡ values_of (numbers 92 4 little_endian 3) payload.now }
-{
-    words_at(payload, 92)
-}
-
-// The numbers of the row at 104.
-fn read_rates(payload: &[u8]) -> [u64; 4]
-    requires { 136 ≤ length payload.now }
-    ensures { result ≡ values_of (numbers 104 8 little_endian 4) payload.now }
-{
-    long_words_at(payload, 104)
-}
-
-// The numbers of the row at 136.
-fn read_segments(payload: &[u8]) -> [u32; 6]
-    requires { 160 ≤ length payload.now }
-    ensures { result ≡ values_of (numbers 136 4 little_endian 6) payload.now }
-{
-    words_at(payload, 136)
-}
-
-// The numbers of the row at 160.
-fn read_limits(payload: &[u8]) -> [u64; 4]
-    requires { 192 ≤ length payload.now }
-    ensures { result ≡ values_of (numbers 160 8 little_endian 4) payload.now }
-{
-    long_words_at(payload, 160)
-}
-
-// The numbers of the row at 192.
-fn read_deliveries(payload: &[u8]) -> [u32; 2]
-    requires { 200 ≤ length payload.now }
-    ensures { result ≡ values_of (numbers 192 4 little_endian 2) payload.now }
-{
-    words_at(payload, 192)
-}
-
-// The numbers of the row at 200.
-fn read_totals(payload: &[u8]) -> [u64; 2]
-    requires { 216 ≤ length payload.now }
-    ensures { result ≡ values_of (numbers 200 8 little_endian 2) payload.now }
-{
-    long_words_at(payload, 200)
-}
-
-// The numbers of the row at 216.
-fn read_reorderings(payload: &[u8]) -> [u32; 4]
-    requires { 232 ≤ length payload.now }
-    ensures { result ≡ values_of (numbers 216 4 little_endian 4) payload.now }
-{
-    words_at(payload, 216)
-}
-
-impl TcpInfo {
-    /// Reads the first 232 bytes. What follows them is ignored, and fewer are
-    /// [`DecodeError::BufferTooSmall`].
-    pub fn parse(payload: &[u8]) -> Result<Self, DecodeError>
-        ensures { result ≡ read tcp_info tt payload.now }
-    {
-        if payload.len() < LENGTH {
-            return Err(DecodeError::BufferTooSmall {
-                which: RecordName::TcpInfo,
-                got: payload.len(),
-                need: LENGTH,
-            });
-        }
+    #[tactic(auto, unfolding(crate::specs::TcpInfo::tcp_info))]
+    fn from_row(payload: &[u8], _told: ()) -> Result<Self, DecodeError> {
         let [
             state,
             ca_state,
@@ -403,6 +267,140 @@ impl TcpInfo {
             rcv_ooopack,
             snd_wnd,
         })
+    }
+
+    #[tactic(auto, unfolding(crate::specs::TcpInfo::tcp_info))]
+    fn write_row(&self, row: &mut [u8]) {
+        let (states, rest) = row.split_at_mut(8);
+        let (counts, rest) = rest.split_at_mut(36);
+        let (ages, rest) = rest.split_at_mut(16);
+        let (metrics, rest) = rest.split_at_mut(32);
+        let (receiver, rest) = rest.split_at_mut(12);
+        let (rates, rest) = rest.split_at_mut(32);
+        let (segments, rest) = rest.split_at_mut(24);
+        let (limits, rest) = rest.split_at_mut(32);
+        let (deliveries, rest) = rest.split_at_mut(8);
+        let (totals, reorderings) = rest.split_at_mut(16);
+        self.write_states(states);
+        self.write_counts(counts);
+        self.write_ages(ages);
+        self.write_metrics(metrics);
+        self.write_receiver(receiver);
+        self.write_rates(rates);
+        self.write_segments(segments);
+        self.write_limits(limits);
+        self.write_deliveries(deliveries);
+        self.write_totals(totals);
+        self.write_reorderings(reorderings);
+    }
+
+    ghost sound = { tcp_info_sound };
+
+    ghost laws = { keeps_laws tcp_info tcp_info_sound };
+}
+
+impl Fills<232> for TcpInfo {
+    ghost use Rattle.sock_diag_values.specs.TcpInfoLaws.{tcp_info_long};
+
+    ghost fills = { tcp_info_long };
+}
+
+// The numbers of the row at 0.
+fn read_states(payload: &[u8]) -> [u8; 8]
+    requires { 8 ≤ length payload.now }
+    ensures { result ≡ values_of (bytes_at 0 8) payload.now }
+{
+    array_at(payload, 0)
+}
+
+// The numbers of the row at 8.
+fn read_counts(payload: &[u8]) -> [u32; 9]
+    requires { 44 ≤ length payload.now }
+    ensures { result ≡ values_of (numbers 8 4 little_endian 9) payload.now }
+{
+    words_at(payload, 8)
+}
+
+// The numbers of the row at 44.
+fn read_ages(payload: &[u8]) -> [u32; 4]
+    requires { 60 ≤ length payload.now }
+    ensures { result ≡ values_of (numbers 44 4 little_endian 4) payload.now }
+{
+    words_at(payload, 44)
+}
+
+// The numbers of the row at 60.
+fn read_metrics(payload: &[u8]) -> [u32; 8]
+    requires { 92 ≤ length payload.now }
+    ensures { result ≡ values_of (numbers 60 4 little_endian 8) payload.now }
+{
+    words_at(payload, 60)
+}
+
+// The numbers of the row at 92.
+fn read_receiver(payload: &[u8]) -> [u32; 3]
+    requires { 104 ≤ length payload.now }
+    ensures { result ≡ values_of (numbers 92 4 little_endian 3) payload.now }
+{
+    words_at(payload, 92)
+}
+
+// The numbers of the row at 104.
+fn read_rates(payload: &[u8]) -> [u64; 4]
+    requires { 136 ≤ length payload.now }
+    ensures { result ≡ values_of (numbers 104 8 little_endian 4) payload.now }
+{
+    long_words_at(payload, 104)
+}
+
+// The numbers of the row at 136.
+fn read_segments(payload: &[u8]) -> [u32; 6]
+    requires { 160 ≤ length payload.now }
+    ensures { result ≡ values_of (numbers 136 4 little_endian 6) payload.now }
+{
+    words_at(payload, 136)
+}
+
+// The numbers of the row at 160.
+fn read_limits(payload: &[u8]) -> [u64; 4]
+    requires { 192 ≤ length payload.now }
+    ensures { result ≡ values_of (numbers 160 8 little_endian 4) payload.now }
+{
+    long_words_at(payload, 160)
+}
+
+// The numbers of the row at 192.
+fn read_deliveries(payload: &[u8]) -> [u32; 2]
+    requires { 200 ≤ length payload.now }
+    ensures { result ≡ values_of (numbers 192 4 little_endian 2) payload.now }
+{
+    words_at(payload, 192)
+}
+
+// The numbers of the row at 200.
+fn read_totals(payload: &[u8]) -> [u64; 2]
+    requires { 216 ≤ length payload.now }
+    ensures { result ≡ values_of (numbers 200 8 little_endian 2) payload.now }
+{
+    long_words_at(payload, 200)
+}
+
+// The numbers of the row at 216.
+fn read_reorderings(payload: &[u8]) -> [u32; 4]
+    requires { 232 ≤ length payload.now }
+    ensures { result ≡ values_of (numbers 216 4 little_endian 4) payload.now }
+{
+    words_at(payload, 216)
+}
+
+impl TcpInfo {
+    /// Reads the first 232 bytes. What follows them is ignored, and fewer are
+    /// [`DecodeError::BufferTooSmall`].
+    #[inline(always)]
+    pub fn parse(payload: &[u8]) -> Result<Self, DecodeError>
+        ensures { result ≡ read tcp_info tt payload.now }
+    {
+        read_record(payload, ())
     }
 
     // Writes the row at 0.
@@ -567,66 +565,5 @@ impl TcpInfo {
             ],
             row,
         );
-    }
-}
-
-impl Readable for TcpInfo {
-    const TAKES_MEMORY: bool = false;
-
-    ghost TAKES_MEMORY = { false };
-}
-
-impl Emitable for TcpInfo {
-    ghost bytes = { bytes tcp_info };
-
-    ghost writable = { λ _. ⊤ };
-
-    fn is_writable(&self) -> bool {
-        true
-    }
-
-    #[tactic(auto, unfolding(crate::specs::TcpInfo::tcp_info))]
-    fn buffer_len(&self) -> usize {
-        LENGTH
-    }
-
-    fn emit(&self, buffer: &mut [u8]) {
-        write_front(&TcpInfoBuffer::from(self).to_bytes(), buffer);
-    }
-}
-
-impl Wire for TcpInfo {
-    type Param = ();
-
-    ghost use Rattle.sock_diag_values.specs.declared.inet.tcp_info.TcpInfo.{TcpInfo};
-
-    ghost Seen = { TcpInfo };
-
-    ghost seen = { λ value. value };
-
-    ghost is_typed = { IsTyped tcp_info IsShaped };
-
-    ghost is_param = { λ _. ⊤ };
-
-    ghost reads = { Reads tcp_info };
-
-    ghost refuses = { Refuses tcp_info };
-
-    ghost idle = { AreIdle tcp_info };
-
-    ghost is_normal = { IsNormal };
-
-    ghost written = { bytes tcp_info };
-
-    ghost fits = { λ _. ⊤ };
-
-    ghost written_is = { λ _. refl };
-
-    ghost fits_is = { λ _. (λ h. h, λ h. h) };
-
-    ghost laws = { tcp_info_laws };
-
-    fn read(_alloc: Global, bytes: &[u8], _param: ()) -> Result<Self, DecodeError> {
-        TcpInfo::parse(bytes)
     }
 }

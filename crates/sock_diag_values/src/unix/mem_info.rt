@@ -1,18 +1,15 @@
 //! What UNIX_DIAG_MEMINFO tells: the memory of a UNIX socket.
 
-ghost use Rattle.std.specs.Prelude.{◌≡◌, ◌≤◌, ℕ, List, length, take, SomeIff, false, ⊤, refl};
-ghost use Rattle.netlink_core.specs.Format.{Reads, Refuses, read, bytes, AreIdle, IsTyped};
-ghost use Rattle.sock_diag_values.specs.UnixMemInfo.{unix_mem_info, IsShaped, IsNormal};
-ghost use Rattle.sock_diag_values.specs.UnixMemInfoLaws.{unix_mem_info_laws};
+ghost use Rattle.std.specs.Prelude.{◌≡◌, refl};
+ghost use Rattle.std.proofs.Common.{rules};
+ghost use Rattle.netlink_core.specs.Format.{read};
+ghost use Rattle.netlink_core.proofs.FormatLaws.{keeps_laws};
+ghost use Rattle.sock_diag_values.specs.UnixMemInfo.{unix_mem_info};
+ghost use Rattle.sock_diag_values.specs.UnixMemInfoLaws.{unix_mem_info_sound};
 
-use crate::rows::{words_at, write_front};
+use crate::rows::words_at;
 use byteorder::{ByteOrder, LittleEndian};
-use netlink_core::{DecodeError, Emitable, Readable, RecordName, Wire};
-use std::alloc::Global;
-use std::marker::Model;
-
-/// The number of bytes of the record.
-const LENGTH: usize = 36;
+use netlink_core::{DecodeError, Exact, Fills, Record, RecordBuffer, RecordName, read_record};
 
 /// The memory of a UNIX socket, as the attribute `UNIX_DIAG_MEMINFO` tells it: the nine words `SK_MEMINFO_..` of
 /// `linux/sock_diag.h`, 36 bytes, each a `u32`, low byte first.
@@ -30,55 +27,60 @@ pub struct MemInfo {
 }
 
 /// The bytes of a [`MemInfo`], each one that was read, in the words that no reader looks at too.
-#[derive(Clone, Debug, Drop, PartialEq, Eq)]
-pub struct MemInfoBuffer {
-    bytes: [u8; LENGTH],
+pub type MemInfoBuffer = RecordBuffer<MemInfo, 36>;
+
+impl Exact for MemInfo {
+    ghost equal = { Prim.search rules };
+
+    ghost copied = { Prim.search rules };
+
+    ghost unfailing = { Prim.search rules };
 }
 
-impl Model for MemInfoBuffer {
-    ghost Value = { List ℕ };
+impl Record for MemInfo {
+    type Told = ();
 
-    ghost view = { λ buffer. buffer.bytes };
+    ghost format = { unix_mem_info };
 
-    ghost inverse = { λ bytes. record { bytes = bytes } };
-}
-
-impl MemInfoBuffer {
-    /// The first 36 bytes, where there are as many.
-    pub fn read_prefix(payload: &[u8]) -> Option<Self>
-        ensures { SomeIff result (LENGTH ≤ length payload.now) (take LENGTH payload.now) }
-    {
-        let bytes = *payload.first_chunk()?;
-        Some(MemInfoBuffer { bytes })
+    fn name_and_least() -> (RecordName, usize) {
+        (RecordName::UnixMemInfo, 36)
     }
 
-    /// The 36 bytes.
-    pub fn to_bytes(&self) -> [u8; LENGTH]
-        ensures { result ≡ self.now }
-    {
-        self.bytes
+    fn size(&self) -> usize {
+        36
     }
-}
 
-impl From<&MemInfo> for MemInfoBuffer {
-    ghost from_gives = { λ value buffer. buffer ≡ bytes unix_mem_info value.now };
+    fn from_row(payload: &[u8], _told: ()) -> Result<Self, DecodeError> {
+        let [_, so_rcvbuf, _, max_datagram_size, _, alloc, _, _, _] = words_at::<9>(payload, 0);
+        Ok(MemInfo {
+            so_rcvbuf,
+            max_datagram_size,
+            alloc,
+        })
+    }
 
-    fn from(value: &MemInfo) -> Self {
-        let mut bytes = [0; LENGTH];
+    fn write_row(&self, row: &mut [u8]) {
         let words = [
             0,
-            value.so_rcvbuf,
+            self.so_rcvbuf,
             0,
-            value.max_datagram_size,
+            self.max_datagram_size,
             0,
-            value.alloc,
+            self.alloc,
             0,
             0,
             0,
         ];
-        LittleEndian::write_u32_into(&words, &mut bytes);
-        MemInfoBuffer { bytes }
+        LittleEndian::write_u32_into(&words, row);
     }
+
+    ghost sound = { unix_mem_info_sound };
+
+    ghost laws = { keeps_laws unix_mem_info unix_mem_info_sound };
+}
+
+impl Fills<36> for MemInfo {
+    ghost fills = { (refl, λ _. refl) };
 }
 
 impl MemInfo {
@@ -87,78 +89,6 @@ impl MemInfo {
     pub fn parse(payload: &[u8]) -> Result<Self, DecodeError>
         ensures { result ≡ read unix_mem_info tt payload.now }
     {
-        if payload.len() < LENGTH {
-            return Err(DecodeError::BufferTooSmall {
-                which: RecordName::UnixMemInfo,
-                got: payload.len(),
-                need: LENGTH,
-            });
-        }
-        let [_, so_rcvbuf, _, max_datagram_size, _, alloc, _, _, _] = words_at::<9>(payload, 0);
-        Ok(MemInfo {
-            so_rcvbuf,
-            max_datagram_size,
-            alloc,
-        })
-    }
-}
-
-impl Readable for MemInfo {
-    const TAKES_MEMORY: bool = false;
-
-    ghost TAKES_MEMORY = { false };
-}
-
-impl Emitable for MemInfo {
-    ghost bytes = { bytes unix_mem_info };
-
-    ghost writable = { λ _. ⊤ };
-
-    fn is_writable(&self) -> bool {
-        true
-    }
-
-    fn buffer_len(&self) -> usize {
-        LENGTH
-    }
-
-    fn emit(&self, buffer: &mut [u8]) {
-        write_front(&MemInfoBuffer::from(self).to_bytes(), buffer);
-    }
-}
-
-impl Wire for MemInfo {
-    type Param = ();
-
-    ghost use Rattle.sock_diag_values.specs.declared.unix.mem_info.MemInfo.{MemInfo};
-
-    ghost Seen = { MemInfo };
-
-    ghost seen = { λ value. value };
-
-    ghost is_typed = { IsTyped unix_mem_info IsShaped };
-
-    ghost is_param = { λ _. ⊤ };
-
-    ghost reads = { Reads unix_mem_info };
-
-    ghost refuses = { Refuses unix_mem_info };
-
-    ghost idle = { AreIdle unix_mem_info };
-
-    ghost is_normal = { IsNormal };
-
-    ghost written = { bytes unix_mem_info };
-
-    ghost fits = { λ _. ⊤ };
-
-    ghost written_is = { λ _. refl };
-
-    ghost fits_is = { λ _. (λ h. h, λ h. h) };
-
-    ghost laws = { unix_mem_info_laws };
-
-    fn read(_alloc: Global, bytes: &[u8], _param: ()) -> Result<Self, DecodeError> {
-        MemInfo::parse(bytes)
+        read_record(payload, ())
     }
 }

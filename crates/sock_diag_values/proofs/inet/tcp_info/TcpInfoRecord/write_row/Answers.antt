@@ -1,7 +1,7 @@
 use Rattle.std.proofs.Common.{ℕ, List, ◌++◌, ap}
 use Rattle.netlink_core.proofs.Congruence.{◌⊛◌}
 use Rattle.sock_diag_values.specs.TcpInfo.{tcp_info}
-use Rattle.sock_diag_values.proofs.inet.tcp_info.TcpInfoBufferFromRefTcpInfo.from.Goals as goal
+use Rattle.sock_diag_values.proofs.inet.tcp_info.TcpInfoRecord.write_row.Goals as goal
 
 -- the bytes of these rows, one after the other
 abbrev in_a_row : (states counts ages metrics receiver rates segments limits deliveries totals reorderings : List ℕ) → List ℕ

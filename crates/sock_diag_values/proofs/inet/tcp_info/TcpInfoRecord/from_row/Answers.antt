@@ -1,12 +1,9 @@
-use Rattle.std.proofs.Common.{ℕ, List, length, slice_index, sym, ap, ◌∙◌, Result, Ok}
-use Rattle.netlink_core.proofs.FormatLaws.{accepts, faults, long_enough, too_short}
+use Rattle.std.proofs.Common.{ℕ, List, slice_index, ap, Result, Ok}
 use Rattle.netlink_core.proofs.Congruence.{◌⊛◌}
 use Rattle.sock_diag_values.specs.TcpInfo.{tcp_info}
 use Rattle.sock_diag_values.specs.declared.inet.tcp_info.TcpInfo.{TcpInfo}
 use Rattle.netlink_core.specs.declared.fault.DecodeError.{DecodeError}
-use Rattle.netlink_core.specs.declared.fault.DecodeError.TheVariants.{BufferTooSmall}
-use Rattle.netlink_core.specs.declared.fault.RecordName.TheVariants as name
-use Rattle.sock_diag_values.proofs.inet.tcp_info.TcpInfo.parse.Goals as goal
+use Rattle.sock_diag_values.proofs.inet.tcp_info.TcpInfoRecord.from_row.Goals as goal
 
 -- the value with the numbers of these rows
 abbrev from_rows : (states counts ages metrics receiver rates segments limits deliveries totals reorderings : List ℕ) → Result TcpInfo DecodeError
@@ -67,10 +64,6 @@ from_rows states counts ages metrics receiver rates segments limits deliveries t
   snd_wnd = slice_index reorderings 3;
 }
 
-pub returns-then-payload-lt-LENGTH : goal.returns-then-payload-lt-LENGTH
-unfolding tcp_info
-returns-then-payload-lt-LENGTH c = sym (faults tcp_info tt c.args.payload.now (BufferTooSmall name.TcpInfo (length c.args.payload.now) 232) (too_short name.TcpInfo 232 c.args.payload.now (Ok tt) c.if-payload-lt-LENGTH.true))
-
 pub returns : goal.returns
 unfolding tcp_info
 returns c =
@@ -85,4 +78,3 @@ returns c =
     ⊛ c.read_deliveries.ensures
     ⊛ c.read_totals.ensures
     ⊛ c.read_reorderings.ensures)
-    ∙ sym (accepts tcp_info tt c.args.payload.now tt (long_enough name.TcpInfo 232 c.args.payload.now (Ok tt) c.if-payload-lt-LENGTH.false))
