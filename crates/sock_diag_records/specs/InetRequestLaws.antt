@@ -1,19 +1,16 @@
 -- The request for IPv4 or IPv6 sockets keeps the laws.
 use Rattle.std.proofs.Common.{◌≡◌, ◌∙◌, ℕ, List, [], ◌∷◌, ◌++◌, length, drop, slice_index, true, Result, Ok, refl, sym, ap, arith, append-nil}
 use Rattle.netlink_core.specs.Table.{Row, is_table, values_of, bytes_of}
-use Rattle.netlink_core.specs.Format.{bytes, IsSound}
-use Rattle.netlink_core.specs.Laws.{RecordLaws}
-use Rattle.netlink_core.proofs.FormatLaws.{keeps_laws, long_enough, at_least_ok, at_least_named, table_length}
+use Rattle.netlink_core.specs.Format.{bytes, IsFixed, IsSound}
 use Rattle.netlink_core.proofs.Congruence.{◌⊛◌}
 use Rattle.netlink_core.proofs.RowReads.{moved, values-moved}
 use Rattle.netlink_core.specs.declared.fault.DecodeError.{DecodeError}
-use Rattle.netlink_core.specs.declared.fault.RecordName.TheVariants as name
 use Rattle.byteorder.specs.Endian.{little_bytes}
 use Rattle.sock_diag_records.specs.declared.inet.request.InetRequest.{InetRequest}
 use Rattle.sock_diag_records.specs.declared.inet.socket_id.SocketId.{SocketId}
-use Rattle.sock_diag_records.specs.SocketId.{Kind, ipv4, ipv6, Kinds, kinds_of, kind_of, kinds_of_family, socket_id, socket_id_rows, socket_id_values, socket_id_of}
-use Rattle.sock_diag_records.specs.SocketIdLaws.{pair, live_is, kept_is, shaped_is, socket_id_back, kinds_are, kinds_named, socket_id_next, length-bytes}
-use Rattle.sock_diag_records.specs.InetRequest.{inet_request_rows, inet_request, IsShaped, IsNormal}
+use Rattle.sock_diag_records.specs.SocketId.{Kind, ipv4, ipv6, Kinds, kinds_of, socket_id, socket_id_rows, socket_id_values, socket_id_of}
+use Rattle.sock_diag_records.specs.SocketIdLaws.{pair, kept_is, shaped_is, socket_id_back, kinds_are, kinds_named, socket_id_next, length-bytes}
+use Rattle.sock_diag_records.specs.InetRequest.{inet_request_rows, inet_request}
 
 tables_are : (s d : Kind) → is_table 0 (inet_request_rows (pair s d)) 56 ≡ true
 tables_are ipv4 ipv4 = refl
@@ -29,30 +26,6 @@ with_identity value socket = record value { socket_id = socket }
 
 abbrev told_kinds : Kinds → Result Kinds DecodeError
 told_kinds kinds = Ok kinds
-
-pub inet_request_sound : IsSound inet_request IsShaped IsNormal
-unfolding inet_request
-inet_request_sound = record {
-  tables = λ kinds. tables_are kinds.source kinds.destination;
-  lives = λ kinds. ap (λ (bits : List ℕ). 255 ∷ 255 ∷ 255 ∷ 0 ∷ 0xfe ∷ 0x0f ∷ 0 ∷ 0 ∷ bits) (live_is 8 kinds.source kinds.destination);
-  long = λ param kinds left e. (at_least_ok name.InetRequest 56 left (kinds_of_family (slice_index left 0)) kinds e).0;
-  named = λ param left e. at_least_named name.InetRequest 56 left (kinds_of_family (slice_index left 0)) (kinds_named (slice_index left 0)) e;
-  kept = λ kinds left h. ap (with_values (slice_index left 0 ∷ slice_index left 1 ∷ slice_index left 2 ∷ slice_index (values_of (inet_request_rows kinds) left) 3 ∷ [])) (kept_is 8 kinds.source kinds.destination left);
-  tagged = λ kinds left. kinds_are kinds.source kinds.destination (drop 4 (values_of (inet_request_rows kinds) left));
-  shaped = λ kinds left h. shaped_is 8 kinds.source kinds.destination left;
-  normal = λ param kinds left h e d. record {
-    same_kind = (at_least_ok name.InetRequest 56 left (kinds_of_family (slice_index left 0)) kinds e).1 ∙ ap told_kinds (sym (kinds_are kinds.source kinds.destination (drop 4 (values_of (inet_request_rows kinds) left))));
-    flags = d;
-  };
-  defined = λ param value t n. n.flags;
-  back = λ param value t n. ap (with_identity value) (ap (socket_id_of (kinds_of value.socket_id)) (sym (append-nil (socket_id_values value.socket_id))) ∙ socket_id_back value.socket_id [] t.shaped);
-  told = λ param value t n.
-      let size = table_length (inet_request_rows (kinds_of value.socket_id)) 56 (inet_request.values value) (tables_are (kind_of value.socket_id.source_address) (kind_of value.socket_id.destination_address)) t.fit in
-      long_enough name.InetRequest 56 (bytes inet_request value) (kinds_of_family value.family) (omega arith) ∙ n.same_kind;
-}
-
-pub inet_request_laws : RecordLaws inet_request IsShaped IsNormal
-inet_request_laws = keeps_laws inet_request IsShaped IsNormal inet_request_sound
 
 -- ---- the identity inside the request
 
@@ -81,3 +54,23 @@ length_after a b c d rest e = omega arith
 
 pub request_length : (value : InetRequest) → length (bytes inet_request value) ≡ 56
 request_length value = let identity = length-bytes value.socket_id in ap length (request_pieces value) ∙ length_after value.family value.protocol value.extensions.0 value.states.0 (bytes socket_id value.socket_id) identity
+
+pub inet_request_sound : IsSound inet_request
+unfolding inet_request
+inet_request_sound = record {
+  tables = λ kinds. tables_are kinds.source kinds.destination;
+  enough = λ kinds. omega arith;
+  room = λ param kinds left enough e. enough;
+  long = request_length;
+  named = λ param left e. kinds_named (slice_index left 0) e;
+  kept = λ kinds left h. ap (with_values (slice_index left 0 ∷ slice_index left 1 ∷ slice_index left 2 ∷ slice_index (values_of (inet_request_rows kinds) left) 3 ∷ [])) (kept_is 8 kinds.source kinds.destination left);
+  tagged = λ kinds left. kinds_are kinds.source kinds.destination (drop 4 (values_of (inet_request_rows kinds) left));
+  shaped = λ kinds left h. shaped_is 8 kinds.source kinds.destination left;
+  owned = λ param kinds left h e. e ∙ ap told_kinds (sym (kinds_are kinds.source kinds.destination (drop 4 (values_of (inet_request_rows kinds) left))));
+  back = λ param value t n. ap (with_identity value) (ap (socket_id_of (kinds_of value.socket_id)) (sym (append-nil (socket_id_values value.socket_id))) ∙ socket_id_back value.socket_id [] t.shaped);
+  told = λ param value t n. n.own;
+}
+
+pub inet_request_size : IsFixed inet_request 56
+unfolding inet_request
+inet_request_size = (refl, λ kinds. refl)

@@ -4,14 +4,14 @@ use Rattle.std.specs.Prelude.{◌≡◌, ℕ, ◌+◌, ◌*◌, ◌/◌, ◌%◌
 use Rattle.std.specs.Duration.{as_nanos}
 use Rattle.std.specs.declared.time.Duration.{Duration}
 use Rattle.netlink_core.specs.Table.{Row, byte, number, unread, numbers, little_endian}
-use Rattle.netlink_core.specs.Format.{Format, at_least}
+use Rattle.netlink_core.specs.Format.{Format}
 use Rattle.sock_diag_records.specs.declared.inet.response.Timer.{Timer}
 use Rattle.sock_diag_records.specs.declared.inet.response.Timer.TheVariants.{Retransmit, KeepAlive, TimeWait, Probe}
 use Rattle.sock_diag_records.specs.declared.inet.response.InetResponseHeader.{InetResponseHeader}
 use Rattle.netlink_core.specs.declared.fault.DecodeError.{DecodeError}
 use Rattle.netlink_core.specs.declared.fault.RecordName.TheVariants as name
 use Rattle.sock_diag_records.specs.SocketId as identity
-use Rattle.sock_diag_records.specs.SocketId.{Kinds, kinds_of, kinds_of_family, count_of, socket_id_rows, socket_id_live, socket_id_values, socket_id_of}
+use Rattle.sock_diag_records.specs.SocketId.{Kinds, kinds_of, kinds_of_family, count_of, socket_id_rows, socket_id_values, socket_id_of}
 
 -- ---- durations
 
@@ -134,28 +134,6 @@ header_rows tag =
     byte 0 ∷ byte 1 ∷ unread 2 (byte_of_class tag.class ∷ []) ∷ retransmits_row tag.class
     ∷ (socket_id_rows 4 tag.kinds ++ expires_row tag.class ∷ numbers 56 4 little_endian 4)
 
--- the byte at 3 is live under 1 alone
-abbrev pub retransmits_live : Class → ℕ
-retransmits_live retransmits = 255
-retransmits_live keeps_alive = 0
-retransmits_live waits = 0
-retransmits_live probes = 0
-retransmits_live none = 0
-
--- the bytes of the word at 52 are live under 1, 2 and 4
-abbrev pub expires_live : Class → ℕ
-expires_live retransmits = 255
-expires_live keeps_alive = 255
-expires_live waits = 0
-expires_live probes = 255
-expires_live none = 0
-
--- the places 0..2 and 56..72 are live, and those of the identity; the byte at 2 is compared by its class
-abbrev pub header_live : Tag → List ℕ
-header_live tag =
-    255 ∷ 255 ∷ 0 ∷ retransmits_live tag.class
-    ∷ (socket_id_live tag.kinds.source tag.kinds.destination ++ (replicate 4 (expires_live tag.class) ++ replicate 16 255))
-
 -- the values in the rows
 abbrev pub header_values : InetResponseHeader → List ℕ
 header_values value =
@@ -194,24 +172,23 @@ abbrev pub with_class : Class → Result Kinds DecodeError → Result Tag Decode
 with_class class (Ok kinds) = Ok record { kinds = kinds; class = class }
 with_class class (Err fault) = Err fault
 
--- 72 bytes. A string is refused where it is too short, and else where its family is another, in this order
-unfoldable pub inet_response_header : Format (Unit {0}) Tag InetResponseHeader
-inet_response_header = record {
-  size = λ tag. 72;
-  table = header_rows;
-  live = header_live;
-  tag_at = λ param left. at_least name.InetResponseHeader 72 left (with_class (class_of_byte (slice_index left 2)) (kinds_of_family (slice_index left 0)));
-  tag_of = tag_of;
-  values = header_values;
-  value = header_of;
-}
-
--- each array of the identity is as long as its type tells; nothing is asked of the timer's duration, and one with 10^9 nanoseconds or more is never whole
--- milliseconds
-abbrev pub IsShaped : InetResponseHeader → Type 0
-IsShaped value = identity.IsShaped value.socket_id
-
 -- the addresses are of the family's kind, and the timer's duration is whole milliseconds of 32 bits
-pub record IsNormal (param : Unit {0}) (value : InetResponseHeader) : Type 0 where
+pub record IsOwn (value : InetResponseHeader) : Type 0 where
   pub same_kind : kinds_of_family value.family ≡ Ok (kinds_of value.socket_id)
   pub whole : IsWholeTimer value.timer
+
+-- 72 bytes. A string of as many is refused where its family is another. Nothing is asked of the timer's duration, and
+-- one with 10^9 nanoseconds or more is never whole milliseconds
+unfoldable pub inet_response_header : Format (Unit {0}) Tag InetResponseHeader
+inet_response_header = record {
+  name = name.InetResponseHeader;
+  least = 72;
+  size = λ tag. 72;
+  tag_at = λ param left. with_class (class_of_byte (slice_index left 2)) (kinds_of_family (slice_index left 0));
+  tag_of = tag_of;
+  table = header_rows;
+  values = header_values;
+  value = header_of;
+  is_shaped = λ value. identity.IsShaped value.socket_id;
+  is_own = λ param value. IsOwn value;
+}

@@ -5,13 +5,11 @@ use Rattle.std.specs.Duration.{as_nanos}
 use Rattle.std.specs.List.{flat_map}
 use Rattle.byteorder.specs.Endian.{little_bytes}
 use Rattle.std.specs.declared.time.Duration.{Duration}
-use Rattle.netlink_core.specs.Table.{Row, byte, is_table, live_bits, values_of, bytes_of, number, unread, numbers, little_endian}
+use Rattle.netlink_core.specs.Table.{Row, byte, is_table, values_of, bytes_of, number, unread, numbers, little_endian}
 use Rattle.netlink_core.specs.Bytes.{IsBytes}
-use Rattle.netlink_core.specs.Laws.{RecordLaws}
-use Rattle.netlink_core.specs.Format.{IsSound, bytes}
-use Rattle.netlink_core.proofs.FormatLaws.{keeps_laws, long_enough, at_least_ok, at_least_named, table_length}
+use Rattle.netlink_core.specs.Format.{IsFixed, IsSound, bytes}
 use Rattle.netlink_core.proofs.Numbers.{number-fits}
-use Rattle.netlink_core.proofs.TableLaws.{AreBytes-drop, has_no_flags, defined_without_flags}
+use Rattle.netlink_core.proofs.TableLaws.{AreBytes-drop}
 use Rattle.netlink_core.proofs.Congruence.{◌⊛◌}
 use Rattle.sock_diag_records.specs.declared.inet.response.Timer.{Timer}
 use Rattle.sock_diag_records.specs.declared.inet.response.Timer.TheVariants.{Retransmit, KeepAlive, TimeWait, Probe}
@@ -19,12 +17,11 @@ use Rattle.sock_diag_records.specs.declared.inet.response.InetResponseHeader.{In
 use Rattle.sock_diag_records.specs.declared.inet.socket_id.SocketId.{SocketId}
 use Rattle.netlink_core.specs.declared.fault.DecodeError.{DecodeError}
 use Rattle.netlink_core.specs.declared.fault.DecodeError.TheVariants.{Memory}
-use Rattle.netlink_core.specs.declared.fault.RecordName.TheVariants as name
 use Rattle.sock_diag_records.specs.SocketId.{Kind, ipv4, ipv6, Kinds, kinds_of, kinds_of_family, socket_id_rows, socket_id_values, socket_id_of, socket_id, kind_of}
 use Rattle.sock_diag_records.specs.SocketId as identity
-use Rattle.sock_diag_records.specs.InetResponse.{duration, milliseconds, IsWholeMilliseconds, Class, retransmits, keeps_alive, waits, probes, none, class_of_byte, byte_of_class, class_of, retransmits_row, expires_row, retransmits_live, expires_live, retransmits_values, expires_values, retransmits_count, expires_count, timer_of, IsWholeTimer, Tag, header_rows, header_live, header_values, header_of, socket_id_count, tag_of, with_class, inet_response_header, IsShaped, IsNormal}
-use Rattle.sock_diag_records.specs.TablesInARow.{is_table-append, live_bits-append, values_of-append, has_no_flags-append}
-use Rattle.sock_diag_records.specs.SocketIdLaws.{pair, live_is, kept_is, shaped_is, no_flags, read_before, length-values, socket_id_back, socket_id_next, kinds_are, kinds_named, length-socket_id, length-bytes}
+use Rattle.sock_diag_records.specs.InetResponse.{duration, milliseconds, IsWholeMilliseconds, Class, retransmits, keeps_alive, waits, probes, none, class_of_byte, byte_of_class, class_of, retransmits_row, expires_row, retransmits_values, expires_values, retransmits_count, expires_count, timer_of, IsWholeTimer, Tag, header_rows, header_values, header_of, socket_id_count, tag_of, with_class, inet_response_header}
+use Rattle.sock_diag_records.specs.TablesInARow.{is_table-append, values_of-append}
+use Rattle.sock_diag_records.specs.SocketIdLaws.{pair, kept_is, shaped_is, read_before, length-values, socket_id_back, socket_id_next, kinds_are, kinds_named, length-socket_id, length-bytes}
 
 -- ---- durations
 
@@ -51,15 +48,13 @@ before class = byte 0 ∷ byte 1 ∷ unread 2 (byte_of_class class ∷ []) ∷ r
 abbrev behind : Class → List Row
 behind class = expires_row class ∷ numbers 56 4 little_endian 4
 
--- what holds of each class: where the rows stand, what is live, and that no row is one of flags
+-- where the rows of each class stand
 of_class : (class : Class) → IsTrue (is_table 0 (before class) 4) × IsTrue (is_table 52 (behind class) 72)
-    × (255 ∷ 255 ∷ 0 ∷ retransmits_live class ∷ [] ≡ live_bits (before class)) × (replicate 4 (expires_live class) ++ replicate 16 255 ≡ live_bits (behind class))
-    × IsTrue (has_no_flags (before class)) × IsTrue (has_no_flags (behind class))
-of_class retransmits = (refl, refl, refl, refl, refl, refl)
-of_class keeps_alive = (refl, refl, refl, refl, refl, refl)
-of_class waits = (refl, refl, refl, refl, refl, refl)
-of_class probes = (refl, refl, refl, refl, refl, refl)
-of_class none = (refl, refl, refl, refl, refl, refl)
+of_class retransmits = (refl, refl)
+of_class keeps_alive = (refl, refl)
+of_class waits = (refl, refl)
+of_class probes = (refl, refl)
+of_class none = (refl, refl)
 
 identity_is_table : (s d : Kind) → IsTrue (is_table 4 (socket_id_rows 4 (pair s d)) 52)
 identity_is_table ipv4 ipv4 = refl
@@ -71,19 +66,6 @@ tables_are : (t : Tag) → IsTrue (is_table 0 (header_rows t) 72)
 tables_are t =
     is_table-append 0 (before t.class) 4 (socket_id_rows 4 t.kinds ++ behind t.class) 72 (of_class t.class).0
     (is_table-append 4 (socket_id_rows 4 t.kinds) 52 (behind t.class) 72 (identity_is_table t.kinds.source t.kinds.destination) (of_class t.class).1)
-
-abbrev in_a_row : List ℕ → List ℕ → List ℕ → List ℕ
-in_a_row xs ys zs = xs ++ (ys ++ zs)
-
-lives_are : (t : Tag) → header_live t ≡ live_bits (header_rows t)
-lives_are t =
-    (ap in_a_row (of_class t.class).2 ⊛ live_is 4 t.kinds.source t.kinds.destination ⊛ (of_class t.class).3)
-    ∙ sym (live_bits-append (before t.class) (socket_id_rows 4 t.kinds ++ behind t.class) ∙ ap (λ (bits : List ℕ). live_bits (before t.class) ++ bits) (live_bits-append (socket_id_rows 4 t.kinds) (behind t.class)))
-
-no_flags_are : (t : Tag) → IsTrue (has_no_flags (header_rows t))
-no_flags_are t =
-    has_no_flags-append (before t.class) (socket_id_rows 4 t.kinds ++ behind t.class) (of_class t.class).4
-    (has_no_flags-append (socket_id_rows 4 t.kinds) (behind t.class) (no_flags 4 t.kinds.source t.kinds.destination) (of_class t.class).5)
 
 -- ---- what is read
 
@@ -242,34 +224,6 @@ class_named : (class : Class) (kinds : Result Kinds DecodeError) → (kinds ≡ 
 class_named class (Ok kinds) named e = cc
 class_named class (Err fault) named e = let same : fault ≡ Memory = cc in named (ap (λ (f : DecodeError). let r : Result Kinds DecodeError = Err f in r) same)
 
-pub header_sound : IsSound inet_response_header IsShaped IsNormal
-unfolding inet_response_header
-header_sound = record {
-  tables = tables_are;
-  lives = lives_are;
-  long = λ param t left e. (at_least_ok name.InetResponseHeader 72 left (with_class (class_of_byte (slice_index left 2)) (kinds_of_family (slice_index left 0))) t e).0;
-  named = λ param left e. at_least_named name.InetResponseHeader 72 left (with_class (class_of_byte (slice_index left 2)) (kinds_of_family (slice_index left 0))) (class_named (class_of_byte (slice_index left 2)) (kinds_of_family (slice_index left 0)) (kinds_named (slice_index left 0))) e;
-  kept = kept_are;
-  tagged = λ t left. tag_read t (values_of (header_rows t) left);
-  shaped = λ t left h. shaped_read t left;
-  normal = λ param t left h e d.
-      let told = (at_least_ok name.InetResponseHeader 72 left (with_class (class_of_byte (slice_index left 2)) (kinds_of_family (slice_index left 0))) t e).1 in
-      let parts = told_parts (class_of_byte (slice_index left 2)) (kinds_of_family (slice_index left 0)) t told in
-      record {
-        same_kind = parts.0 ∙ ap (λ (u : Tag). let r : Result Kinds DecodeError = Ok u.kinds in r) (sym (tag_read t (values_of (header_rows t) left)));
-        whole = whole_read t left h;
-      };
-  defined = λ param value t n. defined_without_flags (header_rows (tag_of value)) (header_values value) (no_flags_are (tag_of value));
-  back = λ param value t n. header_back value t.shaped n.whole;
-  told = λ param value t n.
-      let size = table_length (header_rows (tag_of value)) 72 (header_values value) (tables_are (tag_of value)) t.fit in
-      long_enough name.InetResponseHeader 72 (bytes inet_response_header value) (with_class (class_of_byte (byte_of_class (class_of value.timer))) (kinds_of_family value.family)) (omega arith)
-      ∙ (ap with_class (class_told (class_of value.timer)) ⊛ n.same_kind);
-}
-
-pub inet_response_header_laws : RecordLaws inet_response_header IsShaped IsNormal
-inet_response_header_laws = keeps_laws inet_response_header IsShaped IsNormal header_sound
-
 -- ---- the reader and the writer
 
 -- the bytes of a header, in three pieces
@@ -294,3 +248,28 @@ length_after a b c d words identity e h = simp length-append (omega arith)
 
 pub header_length : (value : InetResponseHeader) → length (bytes inet_response_header value) ≡ 72
 header_length value = ap length (header_pieces value) ∙ length_after value.family value.state (byte_of_class (class_of value.timer)) (slice_index (retransmits_values value.timer) 0) (flat_map (little_bytes 4) (slice_index (expires_values value.timer) 0 ∷ value.recv_queue ∷ value.send_queue ∷ value.uid ∷ value.inode ∷ [])) (bytes socket_id value.socket_id) (length-bytes value.socket_id) refl
+
+pub header_sound : IsSound inet_response_header
+unfolding inet_response_header
+header_sound = record {
+  tables = tables_are;
+  enough = λ t. omega arith;
+  room = λ param t left enough e. enough;
+  long = header_length;
+  named = λ param left e. class_named (class_of_byte (slice_index left 2)) (kinds_of_family (slice_index left 0)) (kinds_named (slice_index left 0)) e;
+  kept = kept_are;
+  tagged = λ t left. tag_read t (values_of (header_rows t) left);
+  shaped = λ t left h. shaped_read t left;
+  owned = λ param t left h e.
+      let parts = told_parts (class_of_byte (slice_index left 2)) (kinds_of_family (slice_index left 0)) t e in
+      record {
+        same_kind = parts.0 ∙ ap (λ (u : Tag). let r : Result Kinds DecodeError = Ok u.kinds in r) (sym (tag_read t (values_of (header_rows t) left)));
+        whole = whole_read t left h;
+      };
+  back = λ param value t n. header_back value t.shaped n.own.whole;
+  told = λ param value t n. ap with_class (class_told (class_of value.timer)) ⊛ n.own.same_kind;
+}
+
+pub header_size : IsFixed inet_response_header 72
+unfolding inet_response_header
+header_size = (refl, λ tag. refl)

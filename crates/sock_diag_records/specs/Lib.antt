@@ -11,3 +11,4 @@ pub mod InetRequest
 pub mod InetRequestLaws
 pub mod InetResponse
 pub mod InetResponseLaws
+pub mod EqualRecords

@@ -6,7 +6,7 @@ use Rattle.byteorder.specs.Endian.{big_bytes}
 use Rattle.std.specs.declared.net.ip_addr.IpAddr.{IpAddr}
 use Rattle.std.specs.declared.net.ip_addr.IpAddr.TheVariants.{V4, V6}
 use Rattle.netlink_core.specs.Table.{Row, number, unread, bytes_at, numbers, little_endian, big_endian, first}
-use Rattle.netlink_core.specs.Format.{Format, at_least, all_bits_of}
+use Rattle.netlink_core.specs.Format.{Format}
 use Rattle.sock_diag_records.specs.declared.inet.socket_id.SocketId.{SocketId}
 use Rattle.netlink_core.specs.declared.fault.DecodeError.{DecodeError}
 use Rattle.netlink_core.specs.declared.fault.DecodeError.TheVariants.{UnsupportedFamily}
@@ -76,14 +76,6 @@ socket_id_rows place kinds =
     ++ (address_rows (place + 20) kinds.destination
     ++ (number (place + 36) 4 little_endian ∷ bytes_at (place + 40) 8)))
 
--- under family 2 the places 0..8, 20..24, 36..48 are live, under family 10 all are; two kinds at once are written, and
--- never read
-abbrev pub socket_id_live : Kind → Kind → List ℕ
-socket_id_live ipv4 ipv4 = all_bits_of 0 ((0, 8) ∷ (20, 24) ∷ (36, 48) ∷ []) 48
-socket_id_live ipv6 ipv6 = all_bits_of 0 ((0, 48) ∷ []) 48
-socket_id_live ipv4 ipv6 = all_bits_of 0 ((0, 8) ∷ (20, 48) ∷ []) 48
-socket_id_live ipv6 ipv4 = all_bits_of 0 ((0, 24) ∷ (36, 48) ∷ []) 48
-
 -- the values in the rows
 abbrev pub socket_id_values : SocketId → List ℕ
 socket_id_values value =
@@ -124,18 +116,6 @@ zeros kind = record {
   cookie = replicate 8 0;
 }
 
--- 48 bytes. A string is refused where it is too short, and else where the family is another, in this order
-unfoldable pub socket_id : Format ℕ Kinds SocketId
-socket_id = record {
-  size = λ kinds. 48;
-  table = λ kinds. socket_id_rows 0 kinds;
-  live = λ kinds. socket_id_live kinds.source kinds.destination;
-  tag_at = λ family left. at_least name.SocketId 48 left (kinds_of_family family);
-  tag_of = kinds_of;
-  values = socket_id_values;
-  value = socket_id_of;
-}
-
 -- four octets or eight segments, and eight bytes of cookie
 abbrev pub IsAddress : IpAddr → Type 0
 IsAddress (V4 ip) = length ip.octets ≡ 4
@@ -147,6 +127,17 @@ pub record IsShaped (value : SocketId) : Type 0 where
   pub destination : IsAddress value.destination_address
   pub cookie : length value.cookie ≡ 8
 
--- the family is 2 or 10, and both addresses are of its kind
-abbrev pub IsNormal : ℕ → SocketId → Type 0
-IsNormal family value = kinds_of_family family ≡ Ok (kinds_of value)
+-- 48 bytes. A string of as many is refused where the family is another; in normal form the addresses are of its kind
+unfoldable pub socket_id : Format ℕ Kinds SocketId
+socket_id = record {
+  name = name.SocketId;
+  least = 48;
+  size = λ kinds. 48;
+  tag_at = λ family left. kinds_of_family family;
+  tag_of = kinds_of;
+  table = socket_id_rows 0;
+  values = socket_id_values;
+  value = socket_id_of;
+  is_shaped = IsShaped;
+  is_own = λ family value. kinds_of_family family ≡ Ok (kinds_of value);
+}

@@ -3,22 +3,18 @@ use Rattle.std.proofs.Common.{◌≡◌, ℕ, ◌+◌, List, [], ◌∷◌, ◌+
 use Rattle.std.proofs.lemmas.List.{drop_at, append_assoc, length-append}
 use Rattle.std.specs.Prelude.{◌==◌}
 use Rattle.std.specs.List.{flat_map}
-use Rattle.std.proofs.Common.{IsTrue, append-nil}
+use Rattle.std.proofs.Common.{append-nil}
 use Rattle.byteorder.specs.Endian.{big_bytes, little_bytes}
 use Rattle.netlink_core.proofs.RowReads.{moved, values-moved, first_all}
 use Rattle.std.specs.declared.net.ip_addr.IpAddr.{IpAddr}
 use Rattle.std.specs.declared.net.ip_addr.IpAddr.TheVariants.{V4, V6}
-use Rattle.netlink_core.specs.Table.{Row, number, bytes_at, little_endian, bytes_of, is_table, live_bits, values_of, first}
-use Rattle.netlink_core.specs.Laws.{RecordLaws}
+use Rattle.netlink_core.specs.Table.{Row, number, bytes_at, little_endian, bytes_of, is_table, values_of, first}
 use Rattle.netlink_core.specs.declared.fault.DecodeError.TheVariants.{Memory, UnsupportedFamily}
-use Rattle.netlink_core.specs.declared.fault.RecordName.TheVariants as name
-use Rattle.netlink_core.specs.Format.{IsSound, bytes}
-use Rattle.netlink_core.proofs.FormatLaws.{keeps_laws, long_enough, at_least_ok, at_least_named}
-use Rattle.netlink_core.proofs.TableLaws.{has_no_flags, defined_without_flags}
+use Rattle.netlink_core.specs.Format.{IsFixed, IsSound, bytes}
 use Rattle.netlink_core.proofs.Congruence.{◌⊛◌}
 use Rattle.sock_diag_records.specs.declared.inet.socket_id.SocketId.{SocketId}
 use Rattle.netlink_core.specs.declared.fault.DecodeError.{DecodeError}
-use Rattle.sock_diag_records.specs.SocketId.{Kind, ipv4, ipv6, both, Kinds, kinds_of_family, kind_of, kinds_of, count_of, address_values, address_of, address_rows, address_bytes, socket_id_rows, socket_id_live, socket_id_values, socket_id_with, socket_id_of, socket_id, IsAddress, IsShaped, IsNormal}
+use Rattle.sock_diag_records.specs.SocketId.{Kind, ipv4, ipv6, both, Kinds, kinds_of_family, kind_of, kinds_of, count_of, address_values, address_of, address_rows, address_bytes, socket_id_rows, socket_id_values, socket_id_with, socket_id_of, socket_id, IsAddress, IsShaped}
 
 -- an address is that of its values, and the values behind it are left
 length-address : (address : IpAddr) → length (address_values address) ≡ count_of (kind_of address)
@@ -61,12 +57,6 @@ tables_are ipv6 ipv4 = refl
 tables_are ipv6 ipv6 = refl
 
 -- the rows stand at some place
-pub live_is : (place : ℕ) (s d : Kind) → socket_id_live s d ≡ live_bits (socket_id_rows place (pair s d))
-live_is place ipv4 ipv4 = refl
-live_is place ipv4 ipv6 = refl
-live_is place ipv6 ipv4 = refl
-live_is place ipv6 ipv6 = refl
-
 pub kept_is : (place : ℕ) (s d : Kind) (left : List ℕ) → socket_id_values (socket_id_of (pair s d) (values_of (socket_id_rows place (pair s d)) left)) ≡ values_of (socket_id_rows place (pair s d)) left
 kept_is place ipv4 ipv4 left = refl
 kept_is place ipv4 ipv6 left = refl
@@ -84,13 +74,6 @@ shaped_is place ipv4 ipv4 left = record { source = refl; destination = refl; coo
 shaped_is place ipv4 ipv6 left = record { source = refl; destination = refl; cookie = refl }
 shaped_is place ipv6 ipv4 left = record { source = refl; destination = refl; cookie = refl }
 shaped_is place ipv6 ipv6 left = record { source = refl; destination = refl; cookie = refl }
-
--- no row is one of flags
-pub no_flags : (place : ℕ) (s d : Kind) → IsTrue (has_no_flags (socket_id_rows place (pair s d)))
-no_flags place ipv4 ipv4 = refl
-no_flags place ipv4 ipv6 = refl
-no_flags place ipv6 ipv4 = refl
-no_flags place ipv6 ipv6 = refl
 
 -- the identity is read from its own values, whatever follows them
 pub read_before : (place : ℕ) (s d : Kind) (left rest : List ℕ) → socket_id_of (pair s d) (values_of (socket_id_rows place (pair s d)) left ++ rest) ≡ socket_id_of (pair s d) (values_of (socket_id_rows place (pair s d)) left)
@@ -170,26 +153,25 @@ not_memory false false one other family h = cc
 pub kinds_named : (family : ℕ) → kinds_of_family family ≡ Err Memory → ⊥
 kinds_named family h = not_memory (family == 2) (family == 10) (both ipv4) (both ipv6) family h
 
-pub socket_id_sound : IsSound socket_id IsShaped IsNormal
+pub socket_id_sound : IsSound socket_id
 unfolding socket_id
 socket_id_sound = record {
   tables = λ kinds. tables_are kinds.source kinds.destination;
-  lives = λ kinds. live_is 0 kinds.source kinds.destination;
-  long = λ family kinds left e. (at_least_ok name.SocketId 48 left (kinds_of_family family) kinds e).0;
-  named = λ family left e. at_least_named name.SocketId 48 left (kinds_of_family family) (kinds_named family) e;
+  enough = λ kinds. omega arith;
+  room = λ family kinds left enough e. enough;
+  long = length-bytes;
+  named = λ family left e. kinds_named family e;
   kept = λ kinds left h. kept_is 0 kinds.source kinds.destination left;
   tagged = λ kinds left. kinds_are kinds.source kinds.destination (values_of (socket_id_rows 0 kinds) left);
   shaped = λ kinds left h. shaped_is 0 kinds.source kinds.destination left;
-  normal = λ family kinds left h e d.
-      (at_least_ok name.SocketId 48 left (kinds_of_family family) kinds e).1
-      ∙ ap (λ (k : Kinds). let r : Result Kinds DecodeError = Ok k in r) (sym (kinds_are kinds.source kinds.destination (values_of (socket_id_rows 0 kinds) left)));
-  defined = λ family value t n. defined_without_flags (socket_id_rows 0 (kinds_of value)) (socket_id_values value) (no_flags 0 (kind_of value.source_address) (kind_of value.destination_address));
+  owned = λ family kinds left h e. e ∙ ap (λ (k : Kinds). let r : Result Kinds DecodeError = Ok k in r) (sym (kinds_are kinds.source kinds.destination (values_of (socket_id_rows 0 kinds) left)));
   back = λ family value t n. ap (socket_id_of (kinds_of value)) (sym (append-nil (socket_id_values value))) ∙ socket_id_back value [] t.shaped;
-  told = λ family value t n. long_enough name.SocketId 48 (bytes socket_id value) (kinds_of_family family) (let long = length-bytes value in omega arith) ∙ n;
+  told = λ family value t n. n.own;
 }
 
-pub socket_id_laws : RecordLaws socket_id IsShaped IsNormal
-socket_id_laws = keeps_laws socket_id IsShaped IsNormal socket_id_sound
+pub socket_id_size : IsFixed socket_id 48
+unfolding socket_id
+socket_id_size = (refl, λ kinds. refl)
 
 -- ---- the record inside another
 

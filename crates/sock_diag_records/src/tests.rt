@@ -12,6 +12,9 @@ use std::net::{IpAddr, Ipv4Addr};
 use std::test::Fail;
 use std::time::Duration;
 
+mod hostile;
+mod odd_values;
+
 // A reply about a socket with a timer that keeps it alive.
 const HEADER: [u8; 72] = [
     2, 1, 2, 0, 0xeb, 0x14, 1, 0xbb, 0xc0, 0xa8, 0xb2, 0x3c, 0, 0, 0, 0, 0, 0, 0, 0, 0, 0, 0, 0,

@@ -1,10 +1,12 @@
 //! What a request for IPv4 or IPv6 sockets asks for.
 
+ghost use Rattle.std.proofs.Common.{rules};
 ghost use Rattle.std.specs.Prelude.{⊤, ◌≡◌};
 ghost use Rattle.bitflags.specs.Sets.{known_bits};
 ghost use Rattle.sock_diag_records.specs.Flags.{inet_states, inet_extensions};
 
 use bitflags::{Flag, Flags, bitflag_items};
+use netlink_core::Exact;
 
 /// Which states are asked for, `idiag_states` of sock_diag(7): a set of eleven bits, each that of the number of its
 /// state.
@@ -36,6 +38,14 @@ bitflag_items! {
         /// The state `TCP_CLOSING`.
         const CLOSING = 0x800;
     }
+}
+
+impl Exact for StateFlags {
+    ghost equal = { Prim.search rules };
+
+    ghost copied = { Prim.search rules };
+
+    ghost unfailing = { Prim.search rules };
 }
 
 impl Flags for StateFlags {
@@ -86,6 +96,14 @@ bitflag_items! {
     }
 }
 
+impl Exact for ExtensionFlags {
+    ghost equal = { Prim.search rules };
+
+    ghost copied = { Prim.search rules };
+
+    ghost unfailing = { Prim.search rules };
+}
+
 impl Flags for ExtensionFlags {
     type Bits = u8;
 
@@ -113,4 +131,31 @@ impl Flags for ExtensionFlags {
 pub fn flags_have_their_bits()
     ensures states { known_bits inet_states ≡ 0xffe }
     ensures extensions { known_bits inet_extensions ≡ 0xff }
+{}
+
+/// Each constant of [`StateFlags`] is its number.
+pub fn state_flags_have_their_numbers()
+    ensures established { StateFlags.ESTABLISHED.0 ≡ 0x2 }
+    ensures syn_sent { StateFlags.SYN_SENT.0 ≡ 0x4 }
+    ensures syn_recv { StateFlags.SYN_RECV.0 ≡ 0x8 }
+    ensures fin_wait1 { StateFlags.FIN_WAIT1.0 ≡ 0x10 }
+    ensures fin_wait2 { StateFlags.FIN_WAIT2.0 ≡ 0x20 }
+    ensures time_wait { StateFlags.TIME_WAIT.0 ≡ 0x40 }
+    ensures close { StateFlags.CLOSE.0 ≡ 0x80 }
+    ensures close_wait { StateFlags.CLOSE_WAIT.0 ≡ 0x100 }
+    ensures last_ack { StateFlags.LAST_ACK.0 ≡ 0x200 }
+    ensures listen { StateFlags.LISTEN.0 ≡ 0x400 }
+    ensures closing { StateFlags.CLOSING.0 ≡ 0x800 }
+{}
+
+/// Each constant of [`ExtensionFlags`] is its number.
+pub fn extension_flags_have_their_numbers()
+    ensures meminfo { ExtensionFlags.MEMINFO.0 ≡ 0x1 }
+    ensures info { ExtensionFlags.INFO.0 ≡ 0x2 }
+    ensures vegasinfo { ExtensionFlags.VEGASINFO.0 ≡ 0x4 }
+    ensures cong { ExtensionFlags.CONG.0 ≡ 0x8 }
+    ensures tos { ExtensionFlags.TOS.0 ≡ 0x10 }
+    ensures tclass { ExtensionFlags.TCLASS.0 ≡ 0x20 }
+    ensures skmeminfo { ExtensionFlags.SKMEMINFO.0 ≡ 0x40 }
+    ensures shutdown { ExtensionFlags.SHUTDOWN.0 ≡ 0x80 }
 {}

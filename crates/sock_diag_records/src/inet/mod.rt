@@ -1,12 +1,16 @@
 //! Records for IPv4 and IPv6 sockets.
 
+mod exact;
 mod flags;
 pub mod nlas;
 mod request;
 mod response;
 mod socket_id;
 
-pub use flags::{ExtensionFlags, StateFlags, flags_have_their_bits};
+pub use flags::{
+    ExtensionFlags, StateFlags, extension_flags_have_their_numbers, flags_have_their_bits,
+    state_flags_have_their_numbers,
+};
 pub use request::{InetRequest, InetRequestBuffer};
 pub use response::{InetResponseBuffer, InetResponseHeader, Timer};
 pub use socket_id::{SocketId, SocketIdBuffer};

@@ -1,5 +1,6 @@
 //! The records that attributes of IPv4 and IPv6 sockets carry.
 
 pub use sock_diag_values::inet::{
-    LegacyMemInfo, LegacyMemInfoBuffer, MemInfo, MemInfoBuffer, TcpInfo, TcpInfoBuffer,
+    LegacyMemInfo, LegacyMemInfoBuffer, MemInfo, MemInfoBuffer, MemInfoBytes, TcpInfo,
+    TcpInfoBuffer,
 };

@@ -1,22 +1,18 @@
 //! The header of a reply about an IPv4 or IPv6 socket.
 
-ghost use Rattle.std.specs.Prelude.{◌≡◌, ◌≤◌, ℕ, List, length, take, slice_index, SomeIff, false, ⊤, refl};
-ghost use Rattle.netlink_core.specs.Format.{Reads, Refuses, bytes, AreIdle, IsTyped};
-ghost use Rattle.sock_diag_records.specs.InetResponse.{inet_response_header, IsShaped, IsNormal, class_of_byte, class_of, byte_of_class, timer_of, milliseconds, retransmits_values, expires_values};
-ghost use Rattle.sock_diag_records.specs.InetResponseLaws.{inet_response_header_laws};
+ghost use Rattle.std.proofs.Common.{rules};
+ghost use Rattle.std.specs.Prelude.{◌≡◌, ◌≢◌, slice_index, IfErr};
+ghost use Rattle.netlink_core.specs.declared.fault.DecodeError.TheVariants.{Memory};
+ghost use Rattle.netlink_core.specs.Format.{read};
+ghost use Rattle.netlink_core.proofs.FormatLaws.{keeps_laws};
+ghost use Rattle.sock_diag_records.specs.InetResponse.{inet_response_header, Tag, class_of_byte, class_of, byte_of_class, timer_of, milliseconds, retransmits_values, expires_values};
+ghost use Rattle.sock_diag_records.specs.InetResponseLaws.{header_sound, header_size};
 
-use super::{SocketId, SocketIdBuffer};
+use super::SocketId;
 use byteorder::{ByteOrder, LittleEndian};
-use netlink_core::{
-    DecodeError, Emitable, Parseable, ParseableParametrized, Readable, RecordName, Wire,
-};
-use sock_diag_values::rows::{words_at, write_front};
-use std::alloc::Global;
-use std::marker::Model;
+use netlink_core::{DecodeError, Exact, Fills, Record, RecordBuffer, RecordName, read_record};
+use sock_diag_values::rows::words_at;
 use std::time::Duration;
-
-/// The number of bytes of the record.
-const LENGTH: usize = 72;
 
 /// The timer that runs for a TCP socket, `idiag_timer` of sock_diag(7), with the time until it ends.
 ///
@@ -59,81 +55,40 @@ pub struct InetResponseHeader {
 }
 
 /// The bytes of an [`InetResponseHeader`], in the order that they came, those too that no reader looks at.
-#[derive(Clone, Debug, Drop, PartialEq, Eq)]
-pub struct InetResponseBuffer {
-    bytes: [u8; LENGTH],
+pub type InetResponseBuffer = RecordBuffer<InetResponseHeader, 72>;
+
+impl Exact for Timer {
+    ghost equal = { Prim.search rules };
+
+    ghost copied = { Prim.search rules };
+
+    ghost unfailing = { Prim.search rules };
 }
 
-impl Model for InetResponseBuffer {
-    ghost Value = { List ℕ };
+impl Record for InetResponseHeader {
+    type Told = ();
 
-    ghost view = { λ buffer. buffer.bytes };
+    ghost Tag = { Tag };
 
-    ghost inverse = { λ bytes. record { bytes = bytes } };
-}
+    ghost format = { inet_response_header };
 
-impl InetResponseBuffer {
-    /// The first 72 bytes, where there are as many.
-    pub fn read_prefix(payload: &[u8]) -> Option<Self>
-        ensures { SomeIff result (LENGTH ≤ length payload.now) (take LENGTH payload.now) }
-    {
-        let bytes = *payload.first_chunk()?;
-        Some(InetResponseBuffer { bytes })
+    #[tactic(auto, unfolding(crate::specs::InetResponse::inet_response_header))]
+    fn name_and_least() -> (RecordName, usize) {
+        (RecordName::InetResponseHeader, 72)
     }
 
-    /// The 72 bytes.
-    pub fn to_bytes(&self) -> [u8; LENGTH]
-        ensures { result ≡ self.now }
-    {
-        self.bytes
+    #[tactic(auto, unfolding(crate::specs::InetResponse::inet_response_header))]
+    fn size(&self) -> usize {
+        72
     }
-}
-
-impl From<&InetResponseHeader> for InetResponseBuffer {
-    ghost from_gives = { λ value buffer. buffer ≡ bytes inet_response_header value.now };
-
-    fn from(value: &InetResponseHeader) -> Self {
-        let (timer, retransmits, expires) = timer_words(&value.timer);
-        let mut bytes = [0; LENGTH];
-        let (start, rest) = bytes.split_at_mut(4);
-        let (socket_id, rest) = rest.split_at_mut(48);
-        start.copy_from_slice(&[value.family, value.state, timer, retransmits]);
-        socket_id.copy_from_slice(&SocketIdBuffer::from(&value.socket_id).to_bytes());
-        let words = [
-            expires,
-            value.recv_queue,
-            value.send_queue,
-            value.uid,
-            value.inode,
-        ];
-        LittleEndian::write_u32_into(&words, rest);
-        InetResponseBuffer { bytes }
-    }
-}
-
-impl Readable for InetResponseHeader {
-    const TAKES_MEMORY: bool = false;
-
-    ghost TAKES_MEMORY = { false };
-}
-
-impl<'a> Parseable<&'a [u8]> for InetResponseHeader {
-    ghost parses = { λ payload value. Reads inet_response_header payload.now tt value };
-
-    ghost parse_refuses = { λ payload fault. Refuses inet_response_header payload.now tt fault };
 
     /// Reads the first 72 bytes. What follows them is ignored. Fewer are [`DecodeError::BufferTooSmall`]; then a
     /// family but AF_INET and AF_INET6 is [`DecodeError::UnsupportedFamily`].
-    fn parse(alloc: Global, payload: &'a [u8]) -> Result<Self, DecodeError> {
-        if payload.len() < LENGTH {
-            return Err(DecodeError::BufferTooSmall {
-                which: RecordName::InetResponseHeader,
-                got: payload.len(),
-                need: LENGTH,
-            });
-        }
+    #[tactic(auto, unfolding(crate::specs::InetResponse::inet_response_header, crate::specs::SocketId::socket_id))]
+    #[inline(always)]
+    fn from_row(payload: &[u8], _told: ()) -> Result<Self, DecodeError> {
         let family = payload[0];
-        let socket_id = SocketId::parse_with_param(alloc, &payload[4..], family)?;
+        let socket_id = SocketId::from_row(&payload[4..], family)?;
         let [expires, recv_queue, send_queue, uid, inode] = words_at::<5>(payload, 52);
         Ok(InetResponseHeader {
             family,
@@ -146,59 +101,43 @@ impl<'a> Parseable<&'a [u8]> for InetResponseHeader {
             inode,
         })
     }
+
+    #[tactic(auto, unfolding(crate::specs::InetResponse::inet_response_header, crate::specs::SocketId::socket_id))]
+    fn write_row(&self, row: &mut [u8]) {
+        let (timer, retransmits, expires) = timer_words(&self.timer);
+        let (start, rest) = row.split_at_mut(4);
+        let (socket_id, rest) = rest.split_at_mut(48);
+        start.copy_from_slice(&[self.family, self.state, timer, retransmits]);
+        self.socket_id.write_row(socket_id);
+        let words = [
+            expires,
+            self.recv_queue,
+            self.send_queue,
+            self.uid,
+            self.inode,
+        ];
+        LittleEndian::write_u32_into(&words, rest);
+    }
+
+    ghost sound = { header_sound };
+
+    ghost laws = { keeps_laws inet_response_header header_sound };
 }
 
-impl Emitable for InetResponseHeader {
-    ghost bytes = { bytes inet_response_header };
-
-    ghost writable = { λ _. ⊤ };
-
-    fn is_writable(&self) -> bool {
-        true
-    }
-
-    fn buffer_len(&self) -> usize {
-        LENGTH
-    }
-
-    fn emit(&self, buffer: &mut [u8]) {
-        write_front(&InetResponseBuffer::from(self).to_bytes(), buffer);
-    }
+impl Fills<72> for InetResponseHeader {
+    ghost fills = { header_size };
 }
 
-impl Wire for InetResponseHeader {
-    type Param = ();
-
-    ghost use Rattle.sock_diag_records.specs.declared.inet.response.InetResponseHeader.{InetResponseHeader};
-
-    ghost Seen = { InetResponseHeader };
-
-    ghost seen = { λ value. value };
-
-    ghost is_typed = { IsTyped inet_response_header IsShaped };
-
-    ghost is_param = { λ _. ⊤ };
-
-    ghost reads = { Reads inet_response_header };
-
-    ghost refuses = { Refuses inet_response_header };
-
-    ghost idle = { AreIdle inet_response_header };
-
-    ghost is_normal = { IsNormal };
-
-    ghost written = { bytes inet_response_header };
-
-    ghost fits = { λ _. ⊤ };
-
-    ghost written_is = { λ _. refl };
-
-    ghost fits_is = { λ _. (λ h. h, λ h. h) };
-
-    ghost laws = { inet_response_header_laws };
-
-    fn read(alloc: Global, bytes: &[u8], _param: ()) -> Result<Self, DecodeError> {
-        InetResponseHeader::parse(alloc, bytes)
+impl InetResponseHeader {
+    /// Reads the first 72 bytes, and takes no memory. What follows them is ignored. Fewer are
+    /// [`DecodeError::BufferTooSmall`]; then a family but AF_INET and AF_INET6 is
+    /// [`DecodeError::UnsupportedFamily`].
+    #[inline(always)]
+    pub fn from_prefix(payload: &[u8]) -> Result<Self, DecodeError>
+        ensures value { result ≡ read inet_response_header tt payload.now }
+        ensures named { IfErr result (λ fault. fault ≢ Memory) }
+    {
+        read_record(payload, ())
     }
 }
 

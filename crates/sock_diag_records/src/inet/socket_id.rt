@@ -1,22 +1,20 @@
 //! The identity of a socket.
 
-ghost use Rattle.std.specs.Prelude.{◌≡◌, ◌≤◌, ◌+◌, ℕ, List, length, take, SomeIff, false, ⊤, refl};
+ghost use Rattle.std.proofs.Common.{rules};
+ghost use Rattle.std.specs.Prelude.{◌≡◌, ◌≢◌, ◌≤◌, ◌+◌, length, IfErr};
 ghost use Rattle.std.specs.Net.Addr.{ipv4_octets, ipv6_segments};
 ghost use Rattle.netlink_core.specs.Table.{bytes_at, numbers, big_endian, values_of};
-ghost use Rattle.netlink_core.specs.Format.{Reads, Refuses, bytes, AreIdle, IsTyped};
-ghost use Rattle.sock_diag_records.specs.SocketId.{socket_id, IsShaped, IsNormal, ipv4, ipv6, zeros, address_bytes};
-ghost use Rattle.sock_diag_records.specs.SocketIdLaws.{socket_id_laws};
+ghost use Rattle.netlink_core.specs.declared.fault.DecodeError.TheVariants.{Memory};
+ghost use Rattle.netlink_core.specs.Format.{read};
+ghost use Rattle.netlink_core.proofs.FormatLaws.{keeps_laws};
+ghost use Rattle.sock_diag_records.specs.SocketId.{socket_id, Kinds, ipv4, ipv6, zeros, address_bytes};
+ghost use Rattle.sock_diag_records.specs.SocketIdLaws.{socket_id_sound, socket_id_size};
 
 use crate::constants::{AF_INET, AF_INET6};
 use byteorder::{BigEndian, ByteOrder, LittleEndian};
-use netlink_core::{DecodeError, Emitable, ParseableParametrized, Readable, RecordName, Wire};
-use sock_diag_values::rows::{array_at, big_shorts_at, words_at, write_front};
-use std::alloc::Global;
-use std::marker::Model;
+use netlink_core::{DecodeError, Exact, Fills, Record, RecordBuffer, RecordName, read_record};
+use sock_diag_values::rows::{array_at, big_shorts_at, words_at};
 use std::net::{IpAddr, Ipv4Addr, Ipv6Addr};
-
-/// The number of bytes of the record.
-const LENGTH: usize = 48;
 
 /// The identity of an IPv4 or IPv6 socket: `struct inet_diag_sockid` of sock_diag(7), 48 bytes.
 ///
@@ -70,53 +68,7 @@ impl SocketId {
 }
 
 /// The bytes of a [`SocketId`], in the order that they came, those too that no reader looks at.
-#[derive(Clone, Debug, Drop, PartialEq, Eq)]
-pub struct SocketIdBuffer {
-    bytes: [u8; LENGTH],
-}
-
-impl Model for SocketIdBuffer {
-    ghost Value = { List ℕ };
-
-    ghost view = { λ buffer. buffer.bytes };
-
-    ghost inverse = { λ bytes. record { bytes = bytes } };
-}
-
-impl SocketIdBuffer {
-    /// The first 48 bytes, where there are as many.
-    pub fn read_prefix(payload: &[u8]) -> Option<Self>
-        ensures { SomeIff result (LENGTH ≤ length payload.now) (take LENGTH payload.now) }
-    {
-        let bytes = *payload.first_chunk()?;
-        Some(SocketIdBuffer { bytes })
-    }
-
-    /// The 48 bytes.
-    pub fn to_bytes(&self) -> [u8; LENGTH]
-        ensures { result ≡ self.now }
-    {
-        self.bytes
-    }
-}
-
-impl From<&SocketId> for SocketIdBuffer {
-    ghost from_gives = { λ value buffer. buffer ≡ bytes socket_id value.now };
-
-    fn from(value: &SocketId) -> Self {
-        let mut bytes = [0; LENGTH];
-        let (ports, rest) = bytes.split_at_mut(4);
-        let (source, rest) = rest.split_at_mut(16);
-        let (destination, rest) = rest.split_at_mut(16);
-        let (interface, cookie) = rest.split_at_mut(4);
-        BigEndian::write_u16_into(&[value.source_port, value.destination_port], ports);
-        write_address(value.source_address, source);
-        write_address(value.destination_address, destination);
-        LittleEndian::write_u32_into(&[value.interface_id], interface);
-        cookie.copy_from_slice(&value.cookie);
-        SocketIdBuffer { bytes }
-    }
-}
+pub type SocketIdBuffer = RecordBuffer<SocketId, 48>;
 
 // The IPv4 address at a place.
 fn ipv4_at(bytes: &[u8], place: usize) -> Ipv4Addr
@@ -153,32 +105,37 @@ fn write_address(address: IpAddr, row: &mut [u8])
     }
 }
 
-impl Readable for SocketId {
-    const TAKES_MEMORY: bool = false;
+impl Exact for SocketId {
+    ghost equal = { Prim.search rules };
 
-    ghost TAKES_MEMORY = { false };
+    ghost copied = { Prim.search rules };
+
+    ghost unfailing = { Prim.search rules depth 12 };
 }
 
-impl<'a> ParseableParametrized<&'a [u8], u8> for SocketId {
-    ghost parses = { λ payload family value. Reads socket_id payload.now family value };
+impl Record for SocketId {
+    type Told = u8;
 
-    ghost parse_refuses = { λ payload family fault. Refuses socket_id payload.now family fault };
+    ghost Tag = { Kinds };
+
+    ghost format = { socket_id };
+
+    #[tactic(auto, unfolding(crate::specs::SocketId::socket_id))]
+    fn name_and_least() -> (RecordName, usize) {
+        (RecordName::SocketId, 48)
+    }
+
+    #[tactic(auto, unfolding(crate::specs::SocketId::socket_id))]
+    fn size(&self) -> usize {
+        48
+    }
 
     /// Reads the first 48 bytes under the family. What follows them is ignored. Fewer are
     /// [`DecodeError::BufferTooSmall`]; then a family but AF_INET and AF_INET6 is
     /// [`DecodeError::UnsupportedFamily`].
-    fn parse_with_param(
-        _alloc: Global,
-        payload: &'a [u8],
-        family: u8,
-    ) -> Result<Self, DecodeError> {
-        if payload.len() < LENGTH {
-            return Err(DecodeError::BufferTooSmall {
-                which: RecordName::SocketId,
-                got: payload.len(),
-                need: LENGTH,
-            });
-        }
+    #[tactic(auto, unfolding(crate::specs::SocketId::socket_id))]
+    #[inline(always)]
+    fn from_row(payload: &[u8], family: u8) -> Result<Self, DecodeError> {
         let (source_address, destination_address) = match family {
             AF_INET => (
                 IpAddr::V4(ipv4_at(payload, 4)),
@@ -201,58 +158,38 @@ impl<'a> ParseableParametrized<&'a [u8], u8> for SocketId {
             cookie: array_at(payload, 40),
         })
     }
+
+    #[tactic(auto, unfolding(crate::specs::SocketId::socket_id))]
+    fn write_row(&self, row: &mut [u8]) {
+        let (ports, rest) = row.split_at_mut(4);
+        let (source, rest) = rest.split_at_mut(16);
+        let (destination, rest) = rest.split_at_mut(16);
+        let (interface, cookie) = rest.split_at_mut(4);
+        BigEndian::write_u16_into(&[self.source_port, self.destination_port], ports);
+        write_address(self.source_address, source);
+        write_address(self.destination_address, destination);
+        LittleEndian::write_u32_into(&[self.interface_id], interface);
+        cookie.copy_from_slice(&self.cookie);
+    }
+
+    ghost sound = { socket_id_sound };
+
+    ghost laws = { keeps_laws socket_id socket_id_sound };
 }
 
-impl Emitable for SocketId {
-    ghost bytes = { bytes socket_id };
-
-    ghost writable = { λ _. ⊤ };
-
-    fn is_writable(&self) -> bool {
-        true
-    }
-
-    fn buffer_len(&self) -> usize {
-        LENGTH
-    }
-
-    fn emit(&self, buffer: &mut [u8]) {
-        write_front(&SocketIdBuffer::from(self).to_bytes(), buffer);
+impl SocketId {
+    /// Reads the first 48 bytes under the family, and takes no memory. What follows them is ignored. Fewer are
+    /// [`DecodeError::BufferTooSmall`]; then a family but AF_INET and AF_INET6 is
+    /// [`DecodeError::UnsupportedFamily`].
+    #[inline(always)]
+    pub fn from_prefix(payload: &[u8], family: u8) -> Result<Self, DecodeError>
+        ensures value { result ≡ read socket_id family payload.now }
+        ensures named { IfErr result (λ fault. fault ≢ Memory) }
+    {
+        read_record(payload, family)
     }
 }
 
-impl Wire for SocketId {
-    type Param = u8;
-
-    ghost use Rattle.sock_diag_records.specs.declared.inet.socket_id.SocketId.{SocketId};
-
-    ghost Seen = { SocketId };
-
-    ghost seen = { λ value. value };
-
-    ghost is_typed = { IsTyped socket_id IsShaped };
-
-    ghost is_param = { λ _. ⊤ };
-
-    ghost reads = { Reads socket_id };
-
-    ghost refuses = { Refuses socket_id };
-
-    ghost idle = { AreIdle socket_id };
-
-    ghost is_normal = { IsNormal };
-
-    ghost written = { bytes socket_id };
-
-    ghost fits = { λ _. ⊤ };
-
-    ghost written_is = { λ _. refl };
-
-    ghost fits_is = { λ _. (λ h. h, λ h. h) };
-
-    ghost laws = { socket_id_laws };
-
-    fn read(alloc: Global, bytes: &[u8], family: u8) -> Result<Self, DecodeError> {
-        SocketId::parse_with_param(alloc, bytes, family)
-    }
+impl Fills<48> for SocketId {
+    ghost fills = { socket_id_size };
 }

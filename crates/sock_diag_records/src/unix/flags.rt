@@ -1,10 +1,12 @@
 //! What a request for UNIX sockets asks for.
 
+ghost use Rattle.std.proofs.Common.{rules};
 ghost use Rattle.std.specs.Prelude.{⊤, ◌≡◌};
 ghost use Rattle.bitflags.specs.Sets.{known_bits};
 ghost use Rattle.sock_diag_records.specs.Flags.{unix_states, unix_shown};
 
 use bitflags::{Flag, Flags, bitflag_items};
+use netlink_core::Exact;
 
 /// Which states are asked for, `udiag_states` of sock_diag(7): a set of two bits, each that of the number of its
 /// state. A reader drops all others.
@@ -18,6 +20,14 @@ bitflag_items! {
         /// The state `TCP_LISTEN`.
         const LISTEN = 0x400;
     }
+}
+
+impl Exact for StateFlags {
+    ghost equal = { Prim.search rules };
+
+    ghost copied = { Prim.search rules };
+
+    ghost unfailing = { Prim.search rules };
 }
 
 impl Flags for StateFlags {
@@ -64,6 +74,14 @@ bitflag_items! {
     }
 }
 
+impl Exact for ShowFlags {
+    ghost equal = { Prim.search rules };
+
+    ghost copied = { Prim.search rules };
+
+    ghost unfailing = { Prim.search rules };
+}
+
 impl Flags for ShowFlags {
     type Bits = u32;
 
@@ -91,4 +109,20 @@ impl Flags for ShowFlags {
 pub fn flags_have_their_bits()
     ensures states { known_bits unix_states ≡ 0x402 }
     ensures shown { known_bits unix_shown ≡ 0x3f }
+{}
+
+/// Each constant of [`StateFlags`] is its number.
+pub fn state_flags_have_their_numbers()
+    ensures established { StateFlags.ESTABLISHED.0 ≡ 0x2 }
+    ensures listen { StateFlags.LISTEN.0 ≡ 0x400 }
+{}
+
+/// Each constant of [`ShowFlags`] is its number.
+pub fn show_flags_have_their_numbers()
+    ensures name { ShowFlags.NAME.0 ≡ 0x1 }
+    ensures vfs { ShowFlags.VFS.0 ≡ 0x2 }
+    ensures peer { ShowFlags.PEER.0 ≡ 0x4 }
+    ensures icons { ShowFlags.ICONS.0 ≡ 0x8 }
+    ensures rqlen { ShowFlags.RQLEN.0 ≡ 0x10 }
+    ensures meminfo { ShowFlags.MEMINFO.0 ≡ 0x20 }
 {}

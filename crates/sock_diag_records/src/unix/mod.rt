@@ -5,6 +5,9 @@ pub mod nlas;
 mod request;
 mod response;
 
-pub use flags::{ShowFlags, StateFlags, flags_have_their_bits};
+pub use flags::{
+    ShowFlags, StateFlags, flags_have_their_bits, show_flags_have_their_numbers,
+    state_flags_have_their_numbers,
+};
 pub use request::{UnixRequest, UnixRequestBuffer};
 pub use response::{UnixResponseBuffer, UnixResponseHeader};
