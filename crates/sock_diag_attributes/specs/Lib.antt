@@ -4,6 +4,7 @@ pub mod SeenName
 pub mod Choices
 pub mod Numbers
 pub mod NumberLaws
+pub mod SeenNumbers
 pub mod UnixAttributes
 pub mod UnixAttributeLaws
 pub mod SeenUnix
@@ -14,3 +15,5 @@ pub mod FlagLaws
 pub mod InetAttributes
 pub mod InetAttributeLaws
 pub mod SeenInet
+pub mod EqualUnix
+pub mod EqualInet

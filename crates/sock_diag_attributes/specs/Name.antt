@@ -1,7 +1,9 @@
 -- The name of a UNIX socket, and its bytes.
 use Rattle.std.specs.Prelude.{◌≡◌, ◌≢◌, ℕ, zero, suc, List, [], ◌∷◌, ◌++◌, length, ◌≤◌, All, Result, Ok, Err, ⊤}
 use Rattle.netlink_core.specs.Bytes.{IsBytes}
-use Rattle.netlink_core.specs.Laws.{KeepsLaws}
+use Rattle.netlink_core.specs.Codec.{Codec}
+use Rattle.netlink_core.specs.Prefix.{Prefix}
+use Rattle.netlink_core.specs.Rows.{exact_value}
 use Rattle.netlink_core.specs.declared.fault.DecodeError.{DecodeError}
 use Rattle.netlink_core.specs.declared.fault.DecodeError.TheVariants.{NameEmpty, NameInnerZero, NameWithoutEnd}
 
@@ -53,6 +55,21 @@ read_name [] = Err NameEmpty
 read_name (zero ∷ address) = Ok (abstract address)
 read_name (suc n ∷ bytes) = path_before (suc n ∷ before_zero bytes) (from_zero bytes)
 
--- a name keeps the laws: its reader, its bytes, equal strings alone being idle, and its normal form
-abbrev pub NamesKeepLaws : Type 0
-NamesKeepLaws = KeepsLaws {Param = Unit {0}} (λ p. ⊤) IsTypedName (λ b p v. read_name b ≡ Ok v) (λ b p e. read_name b ≡ Err e) (λ p b c. b ≡ c) (λ p v. IsNormalName v) name_bytes (λ v. length (name_bytes v) ≤ 4294967295)
+-- a name as the value of an attribute
+abbrev pub name_value : Prefix
+name_value = exact_value read_name name_bytes IsTypedName IsNormalName
+
+-- a name by itself: equal strings alone are idle
+abbrev pub name_codec : Codec (Unit {0})
+name_codec = record {
+  Value = SocketName;
+  is_param = λ p. ⊤;
+  is_typed = IsTypedName;
+  reads = λ b p v. read_name b ≡ Ok v;
+  refuses = λ b p e. read_name b ≡ Err e;
+  is_spare = λ v. ⊥;
+  idle = λ p b c. b ≡ c;
+  is_normal = λ p v. IsNormalName v;
+  written = name_bytes;
+  fits = λ v. length (name_bytes v) ≤ 4294967295;
+}

@@ -1,12 +1,17 @@
 -- The laws of the name of a UNIX socket.
+use Rattle.netlink_core.specs.Codec.{KeepsLaws}
+use Rattle.netlink_core.specs.Prefix.{PrefixLaws}
+use Rattle.netlink_core.proofs.RowLaws.{exact_laws}
+use Rattle.sock_diag_attributes.specs.Name.{name_value}
 use Rattle.std.proofs.Common.{Ok, Err, ◌≡◌, ◌≢◌, ◌∙◌, ℕ, zero, suc, ◌+◌, ◌<◌, ◌≤◌, List, [], ◌∷◌, ◌++◌, length, take, drop, get_or, refl, ap, sym, subst, arith}
-use Rattle.std.proofs.lemmas.List.{length-drop, length-take-le}
-use Rattle.std.proofs.lemmas.List.Elements.{All-head, All-tail, All-nil, All-cons}
+use Rattle.std.proofs.lemmas.List.{length-drop, length-append, length-take-le, take-append-le}
+use Rattle.std.proofs.Math.ListN.{get_or-append}
+use Rattle.std.proofs.lemmas.List.Elements.{All-head, All-tail, All-nil, All-cons, All-append}
 use Rattle.netlink_core.specs.Bytes.{IsBytes}
 use Rattle.netlink_core.specs.declared.fault.DecodeError.TheVariants.{Memory, NameInnerZero, NameWithoutEnd}
 use Rattle.netlink_core.specs.ByteLaws.{IsBytes-left, IsBytes-append, IsBytes-cons, IsBytes-nil}
 use Rattle.netlink_core.specs.FrontLaws.{value_or_reason}
-use Rattle.sock_diag_attributes.specs.Name.{SocketName, pathname, abstract, HasNoZero, name_bytes, IsNormalName, IsTypedName, before_zero, from_zero, path_before, read_name, NamesKeepLaws}
+use Rattle.sock_diag_attributes.specs.Name.{SocketName, pathname, abstract, HasNoZero, name_bytes, IsNormalName, IsTypedName, before_zero, from_zero, path_before, read_name, name_codec}
 
 -- no fault of a name is want of memory
 pub name_named : (x : List ℕ) → read_name x ≡ Err Memory → ⊥
@@ -103,34 +108,34 @@ path_long path [] h = absurd (omega arith)
 path_long path (z ∷ []) h = absurd (omega arith)
 path_long path (z ∷ y ∷ more) h = refl
 
--- none behind it
-path_one : (path rest : List ℕ) → length rest ≡ 1 → path_before path rest ≡ Ok (pathname path)
-path_one path [] h = absurd (omega arith)
-path_one path (z ∷ []) h = refl
-path_one path (z ∷ y ∷ more) h = absurd (omega arith)
-
 -- a name whose first byte is not zero is a path
 not_abstract : (bytes : List ℕ) → get_or bytes 0 0 ≢ 0 → read_name bytes ≡ path_before (before_zero bytes) (from_zero bytes)
 not_abstract [] first = absurd (first refl)
 not_abstract (zero ∷ xs) first = absurd (first refl)
 not_abstract (suc n ∷ xs) first = refl
 
--- the three answers to such a name: a zero with bytes behind it, one at the end, and none
-pub reads_inner_zero : (bytes : List ℕ) (i : ℕ) → get_or bytes 0 0 ≢ 0 → i + 1 < length bytes → get_or bytes i 0 ≡ 0 → HasNoZero (take i bytes) → read_name bytes ≡ Err (NameInnerZero i)
-reads_inner_zero bytes i first lt here none =
-    let at = zero_at bytes i (omega arith) here none in
+-- The three answers to such a name, by its last byte and what stands in front of it: a zero there, none and a zero in
+-- the last place, and none at all.
+pub reads_inner_zero : (bytes path : List ℕ) (last i : ℕ) → bytes ≡ path ++ last ∷ [] → get_or bytes 0 0 ≢ 0 → i < length path → get_or path i 0 ≡ 0 → HasNoZero (take i path) → read_name bytes ≡ Err (NameInnerZero i)
+reads_inner_zero bytes path last i parts first lt here none =
+    let long : length bytes ≡ length path + 1 = ap length parts ∙ length-append path (last ∷ []) in
+    let front : take i bytes ≡ take i path = ap (take i) parts ∙ take-append-le i path (last ∷ []) (omega arith) in
+    let zero_here : get_or bytes i 0 ≡ 0 = ap (λ (b : List ℕ). get_or b i 0) parts ∙ get_or-append path (last ∷ []) 0 i lt ∙ here in
+    let at = zero_at bytes i (omega arith) zero_here (subst HasNoZero (sym front) none) in
     not_abstract bytes first ∙ rw (at.0, at.1) (path_long (take i bytes) (drop i bytes) (omega (arith, length-drop i bytes))) ∙ ap (λ (n : ℕ). Err (NameInnerZero n)) (length-take-le i bytes (omega arith))
 
-pub reads_path : (bytes : List ℕ) (i : ℕ) → get_or bytes 0 0 ≢ 0 → i < length bytes → length bytes ≤ i + 1 → get_or bytes i 0 ≡ 0 → HasNoZero (take i bytes) → read_name bytes ≡ Ok (pathname (take i bytes))
-reads_path bytes i first lt last here none =
-    let at = zero_at bytes i lt here none in
-    not_abstract bytes first ∙ rw (at.0, at.1) (path_one (take i bytes) (drop i bytes) (omega (arith, length-drop i bytes)))
+pub reads_path : (bytes path : List ℕ) → bytes ≡ path ++ 0 ∷ [] → get_or bytes 0 0 ≢ 0 → HasNoZero path → read_name bytes ≡ Ok (pathname path)
+reads_path bytes path parts first none =
+    let both = path_parts path none in
+    not_abstract bytes first ∙ ap (λ (b : List ℕ). path_before (before_zero b) (from_zero b)) parts ∙ rw (both.0, both.1) refl
 
-pub reads_no_end : (bytes : List ℕ) → get_or bytes 0 0 ≢ 0 → HasNoZero bytes → read_name bytes ≡ Err NameWithoutEnd
-reads_no_end bytes first none = not_abstract bytes first ∙ ap (path_before (before_zero bytes)) (no_zero bytes none)
+pub reads_no_end : (bytes path : List ℕ) (last : ℕ) → bytes ≡ path ++ last ∷ [] → get_or bytes 0 0 ≢ 0 → last ≢ 0 → HasNoZero path → read_name bytes ≡ Err NameWithoutEnd
+reads_no_end bytes path last parts first some none =
+    let all : HasNoZero bytes = subst HasNoZero (sym parts) (All-append (λ b. b ≢ 0) path (last ∷ []) none (All-cons (λ b. b ≢ 0) last [] some (All-nil (λ b. b ≢ 0)))) in
+    not_abstract bytes first ∙ ap (path_before (before_zero bytes)) (no_zero bytes all)
 
 -- a name keeps the laws: its reader, its bytes, equal strings alone being idle, and its normal form
-pub name_keeps_laws : NamesKeepLaws
+pub name_keeps_laws : KeepsLaws name_codec
 name_keeps_laws = record {
   answered = λ b p typed tp. value_or_reason (read_name b);
   one_answer = λ b p v e h k. cc (h, k);
@@ -147,3 +152,10 @@ name_keeps_laws = record {
   where
     same_value : (b : List ℕ) (v w : SocketName) → read_name b ≡ Ok v → read_name b ≡ Ok w → v ≡ w
     same_value b v w h k = cc
+
+-- and as the value of an attribute
+pub name_laws : PrefixLaws name_value
+name_laws = exact_laws read_name name_bytes IsTypedName IsNormalName name_named
+    (λ x u typed h. let exact = name_exact x u h in (exact.0, name_typed u (subst IsBytes exact.0 typed), exact.1))
+    name_bytes_typed
+    (λ u typed normal. name_reads_back u normal)

@@ -1,16 +1,19 @@
 -- The laws of numbers that fill the value of an attribute.
-use Rattle.std.proofs.Common.{Ok, Err, ◌≡◌, ◌∙◌, ℕ, suc, ◌*◌, ◌%◌, ◌<◌, ◌^◌, List, [], ◌∷◌, ◌++◌, length, take, drop, refl, ap, sym, subst, arith}
+use Rattle.std.proofs.Common.{Some, None, Ok, Err, ◌≡◌, ◌≢◌, ◌∙◌, ℕ, zero, suc, ◌+◌, ◌*◌, ◌/◌, ◌%◌, ◌≤◌, ◌<◌, ◌^◌, List, [], ◌∷◌, ◌++◌, length, take, drop, refl, ap, sym, subst, arith}
 use Rattle.std.specs.List.{AllByRecursion}
-use Rattle.std.proofs.lemmas.Bool.{eq-eqb}
+use Rattle.std.specs.List.{slice_get}
+use Rattle.std.proofs.lemmas.Bool.{eq-eqb, ne_eqb}
 use Rattle.std.proofs.lemmas.List.{append-nil, take-append-drop, length-take-le, length-drop}
 use Rattle.byteorder.specs.Endian.{little_number, little_bytes, IsRead}
 use Rattle.byteorder.specs.Numbers.{little_from-lt, little_from-take, little_number-reads_back, length-bytes_low_first}
-use Rattle.netlink_core.specs.declared.fault.DecodeError.TheVariants.{Memory}
+use Rattle.netlink_core.specs.declared.fault.DecodeError.TheVariants.{Memory, NotMultipleOfFour}
 use Rattle.netlink_core.specs.Bytes.{IsBytes}
 use Rattle.netlink_core.specs.ByteLaws.{IsBytes-append, IsBytes-left, IsBytes-nil, IsBytes-number, IsBytes-right}
-use Rattle.netlink_core.proofs.RowLaws.{same_bytes}
+use Rattle.netlink_core.proofs.RowLaws.{same_bytes, exact_laws}
+use Rattle.netlink_core.specs.Prefix.{PrefixLaws}
+use Rattle.std.specs.Prelude.{⊤}
 use Rattle.sock_diag_attributes.specs.Choices.{if_equal, if_equal_err}
-use Rattle.sock_diag_attributes.specs.Numbers.{two_numbers, bytes_of_two, numbers_in, read_numbers, bytes_of_numbers}
+use Rattle.sock_diag_attributes.specs.Numbers.{two_numbers, bytes_of_two, numbers_in, read_numbers, bytes_of_numbers, two_value, numbers_value}
 
 -- the number of a number's bytes
 number_back : (width n : ℕ) → n < 256 ^ width → little_number width (little_bytes width n) ≡ n
@@ -99,7 +102,7 @@ numbers_typed [] = IsBytes-nil
 numbers_typed (n ∷ u) = IsBytes-append (little_bytes 4 n) (bytes_of_numbers u) (IsBytes-number 0 4 n) (numbers_typed u)
 
 -- numbers that were read place by place
-places : (x u : List ℕ) → length x ≡ 4 * length u → IsRead little_number 4 x u → numbers_in x ≡ u
+pub places : (x u : List ℕ) → length x ≡ 4 * length u → IsRead little_number 4 x u → numbers_in x ≡ u
 places [] [] long each = refl
 places [] (n ∷ u) long each = absurd (omega (arith, long))
 places (a ∷ []) u long each = absurd (omega (arith, long))
@@ -116,3 +119,75 @@ places (a ∷ b ∷ c ∷ d ∷ rest) (n ∷ u) long each =
 -- and so numbers are read
 pub read_in_places : (x u : List ℕ) → length x ≡ 4 * length u → IsRead little_number 4 x u → read_numbers x ≡ Ok u
 read_in_places x u long each = rw (eq-eqb (length x % 4) 0 (omega (arith, long)), places x u long each) refl
+
+-- both keep the laws of the value of an attribute
+pub two_laws : (k : ℕ) → PrefixLaws (two_value k)
+two_laws k = exact_laws (two_numbers k) bytes_of_two (λ ns. (ns.0 < 2 ^ 32) × (ns.1 < 2 ^ 32)) (λ ns. ⊤) (two_named k)
+    (λ x u typed h. let exact = two_exact k x u typed h in (exact.0, (exact.1, exact.2), tt))
+    (λ u fits. two_typed u)
+    (λ u fits normal. two_read_back k u fits.0 fits.1)
+
+pub numbers_laws : PrefixLaws numbers_value
+numbers_laws = exact_laws read_numbers bytes_of_numbers (AllByRecursion (λ n. n < 2 ^ 32)) (λ ns. ⊤) numbers_named
+    (λ x u typed h. let exact = numbers_exact x u typed h in (exact.0, exact.1, tt))
+    (λ u fits. numbers_typed u)
+    (λ u fits normal. numbers_read_back u fits)
+
+-- ---- numbers in place
+
+-- a whole number of words is read, and no other
+pub reads_whole : (x : List ℕ) → length x % 4 ≡ 0 → read_numbers x ≡ Ok (numbers_in x)
+reads_whole x four = rw (eq-eqb (length x % 4) 0 four) refl
+
+pub reads_cut : (x : List ℕ) → length x % 4 ≢ 0 → read_numbers x ≡ Err (NotMultipleOfFour (length x))
+reads_cut x other = rw (ne_eqb (length x % 4) 0 other) refl
+
+-- how many there are
+pub how_many : (x : List ℕ) → length (numbers_in x) ≡ length x / 4
+how_many [] = refl
+how_many (a ∷ []) = refl
+how_many (a ∷ b ∷ []) = refl
+how_many (a ∷ b ∷ c ∷ []) = refl
+how_many (a ∷ b ∷ c ∷ d ∷ rest) = omega (arith, how_many rest)
+
+-- the one at a place, and none past the last
+pub number_at : (x : List ℕ) (i : ℕ) → 4 * i + 4 ≤ length x → slice_get (numbers_in x) i ≡ Some (little_number 4 (drop (4 * i) x))
+number_at [] i long = absurd (omega arith)
+number_at (a ∷ []) i long = absurd (omega arith)
+number_at (a ∷ b ∷ []) i long = absurd (omega arith)
+number_at (a ∷ b ∷ c ∷ []) i long = absurd (omega arith)
+number_at (a ∷ b ∷ c ∷ d ∷ rest) zero long = refl
+number_at (a ∷ b ∷ c ∷ d ∷ rest) (suc i) long =
+    let next : 4 * suc i ≡ suc (suc (suc (suc (4 * i)))) = omega arith in
+    number_at rest i (omega arith) ∙ ap (λ (m : ℕ). Some (little_number 4 (drop m (a ∷ b ∷ c ∷ d ∷ rest)))) (sym next)
+
+pub no_number_at : (x : List ℕ) (i : ℕ) → length x / 4 ≤ i → slice_get (numbers_in x) i ≡ None
+no_number_at [] i past = refl
+no_number_at (a ∷ []) i past = refl
+no_number_at (a ∷ b ∷ []) i past = refl
+no_number_at (a ∷ b ∷ c ∷ []) i past = refl
+no_number_at (a ∷ b ∷ c ∷ d ∷ rest) zero past = absurd (omega arith)
+no_number_at (a ∷ b ∷ c ∷ d ∷ rest) (suc i) past = no_number_at rest i (omega arith)
+
+-- the first of them, and those behind it
+pub numbers_in_none : (x : List ℕ) → length x < 4 → numbers_in x ≡ []
+numbers_in_none [] short = refl
+numbers_in_none (a ∷ []) short = refl
+numbers_in_none (a ∷ b ∷ []) short = refl
+numbers_in_none (a ∷ b ∷ c ∷ []) short = refl
+numbers_in_none (a ∷ b ∷ c ∷ d ∷ rest) short = absurd (omega (arith, short))
+
+pub numbers_in_first : (x : List ℕ) → 4 ≤ length x → numbers_in x ≡ little_number 4 x ∷ numbers_in (drop 4 x)
+numbers_in_first [] long = absurd (omega (arith, long))
+numbers_in_first (a ∷ []) long = absurd (omega (arith, long))
+numbers_in_first (a ∷ b ∷ []) long = absurd (omega (arith, long))
+numbers_in_first (a ∷ b ∷ c ∷ []) long = absurd (omega (arith, long))
+numbers_in_first (a ∷ b ∷ c ∷ d ∷ rest) long = refl
+
+-- numbers are written as the bytes in which they stand
+pub numbers_are_bytes : (x : List ℕ) → IsBytes x → length x % 4 ≡ 0 → x ≡ bytes_of_numbers (numbers_in x)
+numbers_are_bytes x typed four = (whole x typed four).0
+
+-- equal numbers stand in equal bytes
+pub numbers_in_same : (x y : List ℕ) → IsBytes x → IsBytes y → length x % 4 ≡ 0 → length y % 4 ≡ 0 → numbers_in x ≡ numbers_in y → x ≡ y
+numbers_in_same x y tx ty wx wy e = numbers_are_bytes x tx wx ∙ ap bytes_of_numbers e ∙ sym (numbers_are_bytes y ty wy)

@@ -1,5 +1,8 @@
 -- Numbers that fill the value of an attribute, the low byte of each first.
-use Rattle.std.specs.Prelude.{ℕ, ◌%◌, ◌==◌, if◌then◌else◌, List, [], ◌∷◌, ◌++◌, length, drop, flat_map, Some, Result, Ok, Err}
+use Rattle.std.specs.List.{AllByRecursion}
+use Rattle.netlink_core.specs.Prefix.{Prefix}
+use Rattle.netlink_core.specs.Rows.{exact_value}
+use Rattle.std.specs.Prelude.{⊤, ◌<◌, ◌^◌, ℕ, ◌%◌, ◌==◌, if◌then◌else◌, List, [], ◌∷◌, ◌++◌, length, drop, flat_map, Some, Result, Ok, Err}
 use Rattle.byteorder.specs.Endian.{little_number, little_bytes}
 use Rattle.netlink_core.specs.declared.fault.DecodeError.{DecodeError}
 use Rattle.netlink_core.specs.declared.fault.DecodeError.TheVariants.{WrongLength, NotMultipleOfFour}
@@ -24,3 +27,11 @@ read_numbers value = if length value % 4 == 0 then Ok (numbers_in value) else Er
 -- numbers are written in four bytes each, one after the other
 abbrev pub bytes_of_numbers : List ℕ → List ℕ
 bytes_of_numbers numbers = flat_map (little_bytes 4) numbers
+
+-- two numbers as the value of an attribute of kind k
+abbrev pub two_value : ℕ → Prefix
+two_value k = exact_value (two_numbers k) bytes_of_two (λ ns. (ns.0 < 2 ^ 32) × (ns.1 < 2 ^ 32)) (λ ns. ⊤)
+
+-- numbers as the value of an attribute
+abbrev pub numbers_value : Prefix
+numbers_value = exact_value read_numbers bytes_of_numbers (AllByRecursion (λ n. n < 2 ^ 32)) (λ ns. ⊤)

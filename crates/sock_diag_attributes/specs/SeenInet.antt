@@ -3,19 +3,37 @@ use Rattle.std.specs.Prelude.{string_bytes}
 use Rattle.netlink_core.specs.DefaultNla.{kept_attribute}
 use Rattle.sock_diag_attributes.specs.declared.inet.nlas.Nla.{Nla}
 use Rattle.sock_diag_attributes.specs.declared.inet.nlas.Nla.TheVariants.{LegacyMemInfo, TcpInfo, Congestion, Tos, Tc, MemInfo, Shutdown, Protocol, SkV6Only, Mark, ClassId, Other}
-use Rattle.sock_diag_attributes.specs.InetAttributes.{InetValue, legacy_mem_info, tcp_info, congestion, tos, tc, mem_info, shutdown, protocol, v6_only, mark, class_id, other}
+use Rattle.sock_diag_attributes.specs.declared.inet.nlas.NlaView.{NlaView}
+use Rattle.sock_diag_attributes.specs.declared.inet.nlas.NlaView.TheVariants as view
+use Rattle.netlink_core.specs.Family.{Said, said, other}
+use Rattle.sock_diag_attributes.specs.InetAttributes.{inet}
 
 -- the same value; lists and texts by their elements, records as they are
-abbrev pub seen_nla : Nla → InetValue
-seen_nla (LegacyMemInfo m) = legacy_mem_info m
-seen_nla (TcpInfo t) = tcp_info t
-seen_nla (Congestion text) = congestion (string_bytes text)
-seen_nla (Tos n) = tos n
-seen_nla (Tc n) = tc n
-seen_nla (MemInfo m) = mem_info m
-seen_nla (Shutdown n) = shutdown n
-seen_nla (Protocol n) = protocol n
-seen_nla (SkV6Only flag) = v6_only flag
-seen_nla (Mark n) = mark n
-seen_nla (ClassId n) = class_id n
-seen_nla (Other nla) = other (kept_attribute nla)
+abbrev pub seen_nla : Nla → Said inet
+seen_nla (LegacyMemInfo m) = said inet 1 m
+seen_nla (TcpInfo t) = said inet 2 t
+seen_nla (Congestion text) = said inet 4 (string_bytes text)
+seen_nla (Tos n) = said inet 5 n
+seen_nla (Tc n) = said inet 6 n
+seen_nla (MemInfo m) = said inet 7 m
+seen_nla (Shutdown n) = said inet 8 n
+seen_nla (Protocol n) = said inet 10 n
+seen_nla (SkV6Only flag) = said inet 11 flag
+seen_nla (Mark n) = said inet 15 n
+seen_nla (ClassId n) = said inet 17 n
+seen_nla (Other nla) = other inet (kept_attribute nla)
+
+-- the same of one that is read in place
+abbrev pub viewed_nla : NlaView → Said inet
+viewed_nla (view.LegacyMemInfo m) = said inet 1 m
+viewed_nla (view.TcpInfo t) = said inet 2 t
+viewed_nla (view.Congestion text) = said inet 4 text.now
+viewed_nla (view.Tos n) = said inet 5 n
+viewed_nla (view.Tc n) = said inet 6 n
+viewed_nla (view.MemInfo m) = said inet 7 m
+viewed_nla (view.Shutdown n) = said inet 8 n
+viewed_nla (view.Protocol n) = said inet 10 n
+viewed_nla (view.SkV6Only flag) = said inet 11 flag
+viewed_nla (view.Mark n) = said inet 15 n
+viewed_nla (view.ClassId n) = said inet 17 n
+viewed_nla (view.Other word value) = other inet (record { type_word = word; value = value.now })

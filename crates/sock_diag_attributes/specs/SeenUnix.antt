@@ -2,16 +2,31 @@
 use Rattle.netlink_core.specs.DefaultNla.{kept_attribute}
 use Rattle.sock_diag_attributes.specs.declared.unix.nlas.Nla.{Nla}
 use Rattle.sock_diag_attributes.specs.declared.unix.nlas.Nla.TheVariants.{Name, Vfs, Peer, PendingConnections, ReceiveQueueLength, MemInfo, Shutdown, Other}
-use Rattle.sock_diag_attributes.specs.SeenName.{seen_name}
-use Rattle.sock_diag_attributes.specs.UnixAttributes.{UnixValue, name, vfs, peer, pending_connections, receive_queue_length, mem_info, shutdown, other}
+use Rattle.sock_diag_attributes.specs.declared.unix.nlas.NlaView.{NlaView}
+use Rattle.sock_diag_attributes.specs.declared.unix.nlas.NlaView.TheVariants as view
+use Rattle.sock_diag_attributes.specs.SeenName.{seen_name, viewed_name}
+use Rattle.sock_diag_attributes.specs.SeenNumbers.{viewed_numbers}
+use Rattle.netlink_core.specs.Family.{Said, said, other}
+use Rattle.sock_diag_attributes.specs.UnixAttributes.{unix}
 
 -- the same value; lists and texts by their elements, records as they are
-abbrev pub seen_nla : Nla → UnixValue
-seen_nla (Name n) = name (seen_name n)
-seen_nla (Vfs v) = vfs v
-seen_nla (Peer n) = peer n
-seen_nla (PendingConnections ns) = pending_connections ns.items
-seen_nla (ReceiveQueueLength first second) = receive_queue_length (first, second)
-seen_nla (MemInfo m) = mem_info m
-seen_nla (Shutdown n) = shutdown n
-seen_nla (Other nla) = other (kept_attribute nla)
+abbrev pub seen_nla : Nla → Said unix
+seen_nla (Name n) = said unix 0 (seen_name n)
+seen_nla (Vfs v) = said unix 1 v
+seen_nla (Peer n) = said unix 2 n
+seen_nla (PendingConnections ns) = said unix 3 ns.items
+seen_nla (ReceiveQueueLength first second) = said unix 4 (first, second)
+seen_nla (MemInfo m) = said unix 5 m
+seen_nla (Shutdown n) = said unix 6 n
+seen_nla (Other nla) = other unix (kept_attribute nla)
+
+-- the same of one that is read in place
+abbrev pub viewed_nla : NlaView → Said unix
+viewed_nla (view.Name n) = said unix 0 (viewed_name n)
+viewed_nla (view.Vfs v) = said unix 1 v
+viewed_nla (view.Peer n) = said unix 2 n
+viewed_nla (view.PendingConnections ns) = said unix 3 (viewed_numbers ns)
+viewed_nla (view.ReceiveQueueLength first second) = said unix 4 (first, second)
+viewed_nla (view.MemInfo m) = said unix 5 m
+viewed_nla (view.Shutdown n) = said unix 6 n
+viewed_nla (view.Other word value) = other unix (record { type_word = word; value = value.now })

@@ -2,9 +2,11 @@
 #![tactic(auto)]
 
 pub mod inet;
+pub mod laws;
 mod numbers;
 #[cfg(test)]
 mod tests;
+mod text;
 pub mod unix;
 
 /// The most bytes that the value of an attribute has, so that its length word can count them.

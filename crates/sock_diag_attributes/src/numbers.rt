@@ -1,7 +1,8 @@
 //! Numbers that fill the value of an attribute.
 
-ghost use Rattle.std.specs.Prelude.{◌≡◌, ◌≢◌, ◌≤◌, ◌++◌, length, drop, IsOk, IfOk, IfErr, Ok, Err};
-ghost use Rattle.netlink_core.specs.declared.fault.DecodeError.TheVariants.{Memory};
+ghost use Rattle.std.specs.Prelude.{◌≡◌, ◌≤◌, ◌↔◌, ◌++◌, ◌%◌, [], length, drop, slice_get, IsTrue, IfOk, MatchResult, Ok, Err};
+ghost use Rattle.std.specs.Iterator.{YieldsFirst, item_count};
+ghost use Rattle.netlink_core.specs.Bytes.{IsBytes};
 ghost use Rattle.netlink_core.specs.Faults.{under_kind};
 ghost use Rattle.netlink_core.specs.Parse.{exact_number};
 ghost use Rattle.sock_diag_attributes.specs.Flag.{read_flag};
@@ -9,7 +10,7 @@ ghost use Rattle.sock_diag_attributes.specs.Numbers.{two_numbers, bytes_of_two, 
 
 use byteorder::{ByteOrder, LittleEndian};
 use netlink_core::{DecodeError, parse_u8, parse_u32};
-use std::alloc::Global;
+use std::alloc::{AllocError, Global};
 
 /// The number in exactly one byte. Any other length is `WrongLength` with the kind.
 pub(crate) fn exact_u8(kind: u16, value: &[u8]) -> Result<u8, DecodeError>
@@ -50,18 +51,111 @@ pub(crate) fn exact_u32_pair(kind: u16, value: &[u8]) -> Result<(u32, u32), Deco
     ))
 }
 
-/// The numbers in four bytes each. A length that is no multiple of four is `NotMultipleOfFour`.
-pub(crate) fn parse_numbers(alloc: Global, value: &[u8]) -> Result<Vec<u32>, DecodeError>
-    ensures value { IfOk result (λ numbers. read_numbers value.now ≡ Ok numbers.items) }
-    ensures fault { IfErr result (λ e. e ≢ Memory → read_numbers value.now ≡ Err e) }
-    ensures memory { IfErr result (λ e. e ≡ Memory → IsOk (read_numbers value.now)) }
-{
-    if value.len() % 4 != 0 {
-        return Err(DecodeError::NotMultipleOfFour { got: value.len() });
+/// Numbers of four bytes each, the low byte first, one after the other, read in place.
+#[derive(Clone, Copy, Debug, PartialEq, Eq)]
+pub struct NumbersView<'a> {
+    bytes: &'a [u8],
+    ghost whole: { length bytes.now % 4 ≡ 0 },
+    ghost typed: { IsBytes bytes.now },
+}
+
+impl<'a> NumbersView<'a> {
+    ghost use Rattle.sock_diag_attributes.specs.SeenNumbers.{viewed_numbers, numbers_left};
+
+    /// The numbers in the bytes. A length that is no multiple of four is `NotMultipleOfFour`.
+    #[tactic(auto, using(crate::specs::NumberLaws::reads_whole, crate::specs::NumberLaws::reads_cut))]
+    pub(crate) fn parse(bytes: &'a [u8]) -> Result<NumbersView<'a>, DecodeError>
+        ensures { MatchResult result
+            (λ numbers. read_numbers bytes.entry.now ≡ Ok (viewed_numbers numbers))
+            (λ e. read_numbers bytes.entry.now ≡ Err e) }
+    {
+        if bytes.len() % 4 != 0 {
+            return Err(DecodeError::NotMultipleOfFour { got: bytes.len() });
+        }
+        Ok(NumbersView { bytes })
     }
-    let mut numbers = vec![in alloc; 0; value.len() / 4]?;
-    LittleEndian::read_u32_into(value, &mut numbers);
-    Ok(numbers)
+
+    /// How many numbers there are.
+    #[tactic(auto, using(crate::specs::NumberLaws::how_many))]
+    pub fn len(&self) -> usize
+        ensures { result ≡ length (viewed_numbers self.now) }
+    {
+        self.bytes.len() / 4
+    }
+
+    /// The number at this place, the first one at 0.
+    #[tactic(auto, using(crate::specs::NumberLaws::number_at, crate::specs::NumberLaws::no_number_at))]
+    pub fn get(&self, index: usize) -> Option<u32>
+        ensures { result ≡ slice_get (viewed_numbers self.now) index }
+    {
+        if index >= self.bytes.len() / 4 {
+            return None;
+        }
+        Some(LittleEndian::read_u32(&self.bytes[4 * index..]))
+    }
+
+    /// Whether there are none.
+    #[tactic(auto, using(crate::specs::NumberLaws::how_many))]
+    pub fn is_empty(&self) -> bool
+        ensures { IsTrue result ↔ (viewed_numbers self.now ≡ []) }
+    {
+        self.bytes.is_empty()
+    }
+
+    /// The numbers, one after the other.
+    pub fn iter(&self) -> NumbersIterator<'a>
+        ensures { numbers_left result ≡ viewed_numbers self.now }
+    {
+        NumbersIterator { rest: *self }
+    }
+
+    // Writes the numbers one after the other at the front, and leaves the rest.
+    pub(crate) fn emit(&self, buffer: &mut [u8])
+        requires { length (bytes_of_numbers (viewed_numbers self.now)) ≤ length buffer.old }
+        ensures { buffer.new ≡ bytes_of_numbers (viewed_numbers self.now)
+            ++ drop (length (bytes_of_numbers (viewed_numbers self.now))) buffer.old }
+    {
+        buffer[..self.bytes.len()].copy_from_slice(self.bytes);
+    }
+
+    /// The numbers in a list. It fails only for want of memory.
+    pub fn to_owned(&self, alloc: Global) -> Result<Vec<u32>, AllocError>
+        ensures { IfOk result (λ numbers. numbers.items ≡ viewed_numbers self.now) }
+    {
+        let mut numbers = vec![in alloc; 0; self.bytes.len() / 4]?;
+        LittleEndian::read_u32_into(self.bytes, &mut numbers);
+        Ok(numbers)
+    }
+}
+
+/// The numbers of a [`NumbersView`], one after the other.
+#[derive(Clone, Debug, Drop)]
+pub struct NumbersIterator<'a> {
+    rest: NumbersView<'a>,
+}
+
+impl<'a> Iterator for NumbersIterator<'a> {
+    ghost use Rattle.sock_diag_attributes.specs.SeenNumbers.{numbers_left};
+
+    type Item = u32;
+
+    ghost next_gives = { YieldsFirst numbers_left };
+
+    ghost remaining = { item_count numbers_left };
+
+    #[tactic(auto, using(crate::specs::NumberLaws::numbers_in_none, crate::specs::NumberLaws::numbers_in_first))]
+    fn next(&mut self) -> Option<u32> {
+        let bytes = self.rest.bytes;
+        if bytes.len() < 4 {
+            return None;
+        }
+        self.rest = NumbersView { bytes: &bytes[4..] };
+        Some(LittleEndian::read_u32(bytes))
+    }
+
+    fn size_hint(&self) -> (usize, Option<usize>) {
+        (self.rest.len(), Some(self.rest.len()))
+    }
 }
 
 /// Writes the two numbers at the front, and leaves the rest.

@@ -8,6 +8,8 @@ use std::alloc::Global;
 use std::process::Abort;
 use std::test::Fail;
 
+mod odd_values;
+
 // The attribute at the front of the bytes.
 fn unix_nla(alloc: Global, bytes: &[u8]) -> Result<Nla, DecodeError> {
     Nla::read(alloc, bytes, ())
@@ -269,7 +271,7 @@ fn reads_inet_records(rt: HostRuntime) -> Result<(), Fail> {
         return Err("no memory")?;
     };
     assert_eq!(rt; info.receive_queue, 1);
-    assert_eq!(rt; info.drops, 9);
+    assert_eq!(rt; info.drops, Some(9));
     let mut bytes = vec![in rt.alloc(); 7; 236]?;
     bytes[0] = 236;
     bytes[1] = 0;

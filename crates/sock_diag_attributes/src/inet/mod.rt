@@ -1,3 +1,4 @@
 //! Attributes of replies about IPv4 and IPv6 sockets.
 
+mod coded;
 pub mod nlas;

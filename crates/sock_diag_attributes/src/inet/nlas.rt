@@ -1,18 +1,17 @@
 //! The attributes of a reply about an IPv4 or IPv6 socket, and what they carry.
 
-ghost use Rattle.std.specs.Prelude.{◌≡◌, ◌≤◌, ◌++◌, length, drop, Ok, Err, IfOk, true, refl, ⊤};
+ghost use Rattle.std.specs.Prelude.{◌≡◌, ◌≤◌, ◌++◌, length, drop, Ok, Err, IsOk, IfOk, MatchResult, true, refl, ⊤};
 ghost use Rattle.netlink_core.specs.Attribute.{HasFittingValue, written};
-ghost use Rattle.netlink_core.specs.Family.{says};
+ghost use Rattle.netlink_core.specs.Family.{says, Said, attribute_said, IsSpareSaid};
 ghost use Rattle.netlink_core.specs.Walk.{attribute_of};
-ghost use Rattle.netlink_core.specs.Heads.{MeansHead, RefusesHead, AreIdleHeads};
-ghost use Rattle.netlink_core.specs.HeadLaws.{heads_keep_laws};
 ghost use Rattle.sock_diag_attributes.specs.Text.{text_bytes};
 
 use crate::MAX_VALUE;
 use crate::numbers::{exact_flag, exact_u8, exact_u32};
+use crate::text::read_text;
 use netlink_core::{
     DecodeError, DefaultNla, Emitable, Nla as NlaTrait, NlaBuffer, Parseable, Readable, Wire,
-    emit_nla, emit_u32, nla_len, parse_string,
+    emit_nla, emit_u32, nla_len,
 };
 use sock_diag_records::constants::{
     INET_DIAG_CLASS_ID, INET_DIAG_CONG, INET_DIAG_INFO, INET_DIAG_MARK, INET_DIAG_MEMINFO,
@@ -20,7 +19,8 @@ use sock_diag_records::constants::{
     INET_DIAG_TCLASS, INET_DIAG_TOS,
 };
 pub use sock_diag_records::inet::nlas::{
-    LegacyMemInfo, LegacyMemInfoBuffer, MemInfo, MemInfoBuffer, TcpInfo, TcpInfoBuffer,
+    LegacyMemInfo, LegacyMemInfoBuffer, MemInfo, MemInfoBuffer, MemInfoBytes, TcpInfo,
+    TcpInfoBuffer,
 };
 use std::alloc::{AllocError, Global};
 use std::default::MadeWith;
@@ -54,19 +54,29 @@ pub enum Nla {
     Other(DefaultNla),
 }
 
-// What stands in the places of a small vector that are not used. It takes no memory.
+// What stands in the places of a small vector that are not used. It takes no memory, and all of it is zeros, as memory
+// is before: so to fill the places costs nothing.
 impl MadeWith<Global> for Nla {
+    #[inline(always)]
     fn made_with(_alloc: Global) -> Self {
-        Nla::Tos(0)
+        Nla::LegacyMemInfo(LegacyMemInfo {
+            receive_queue: 0,
+            bottom_send_queue: 0,
+            cache: 0,
+            send_queue: 0,
+        })
     }
 }
 
 impl Nla {
+    ghost use Rattle.sock_diag_attributes.specs.InetAttributes.{inet};
     ghost use Rattle.sock_diag_attributes.specs.SeenInet.{seen_nla};
 
-    /// An equal attribute. It fails only for want of memory.
+    /// An equal attribute. It fails only for want of memory, which only a text and an attribute of another
+    /// kind need.
     pub fn clone(&self, alloc: Global) -> Result<Self, AllocError>
-        ensures { IfOk result (λ copy. seen_nla copy ≡ seen_nla self.now) }
+        ensures equal { IfOk result (λ copy. seen_nla copy ≡ seen_nla self.now) }
+        ensures spare { IsSpareSaid inet (seen_nla self.now) → IsOk result }
     {
         Ok(match self {
             Nla::LegacyMemInfo(info) => Nla::LegacyMemInfo(info.clone()?),
@@ -85,6 +95,96 @@ impl Nla {
     }
 }
 
+/// One attribute of a reply about an IPv4 or IPv6 socket, read in place: an [`Nla`] whose text and bytes are borrowed.
+#[derive(Clone, Debug, Drop, PartialEq, Eq)]
+pub enum NlaView<'a> {
+    /// The memory of the socket, as older kernels tell it, `INET_DIAG_MEMINFO`.
+    LegacyMemInfo(LegacyMemInfo),
+    /// What is known of the TCP connection, `INET_DIAG_INFO`.
+    TcpInfo(TcpInfo),
+    /// The name of the congestion control algorithm, `INET_DIAG_CONG`.
+    Congestion(&'a str),
+    /// The type of service, `INET_DIAG_TOS`.
+    Tos(u8),
+    /// The traffic class of an IPv6 socket, `INET_DIAG_TCLASS`.
+    Tc(u8),
+    /// The memory of the socket, `INET_DIAG_SKMEMINFO`.
+    MemInfo(MemInfo),
+    /// Which directions are shut down, `INET_DIAG_SHUTDOWN`, as the kernel tells them.
+    Shutdown(u8),
+    /// The protocol, `IPPROTO_..`, `INET_DIAG_PROTOCOL`.
+    Protocol(u8),
+    /// Whether the socket is for IPv6 alone, `INET_DIAG_SKV6ONLY`.
+    SkV6Only(bool),
+    /// The mark of the socket, `INET_DIAG_MARK`.
+    Mark(u32),
+    /// The class of the socket's packets for traffic control, `INET_DIAG_CLASS_ID`.
+    ClassId(u32),
+    /// An attribute of another kind.
+    Other {
+        /// The whole type word, with its two flag bits.
+        type_word: u16,
+        /// The value's bytes.
+        value: &'a [u8],
+    },
+}
+
+impl<'a> NlaView<'a> {
+    ghost use Rattle.sock_diag_attributes.specs.InetAttributes.{inet};
+    ghost use Rattle.sock_diag_attributes.specs.SeenInet.{seen_nla, viewed_nla};
+
+    /// Reads the value by the attribute's kind, whatever its flag bits. An attribute of a kind that is not known here
+    /// is `Other`.
+    #[inline(always)]
+    pub fn parse(nla: &NlaBuffer<'a>) -> Result<NlaView<'a>, DecodeError>
+        ensures { MatchResult result
+            (λ view. says inet (attribute_of nla.now) ≡ Ok (viewed_nla view))
+            (λ e. says inet (attribute_of nla.now) ≡ Err e) }
+    {
+        let value = nla.value();
+        Ok(match nla.kind() {
+            INET_DIAG_MEMINFO => NlaView::LegacyMemInfo(LegacyMemInfo::parse(value)?),
+            INET_DIAG_INFO => NlaView::TcpInfo(TcpInfo::parse(value)?),
+            INET_DIAG_CONG => NlaView::Congestion(read_text(value)?),
+            INET_DIAG_TOS => NlaView::Tos(exact_u8(INET_DIAG_TOS, value)?),
+            INET_DIAG_TCLASS => NlaView::Tc(exact_u8(INET_DIAG_TCLASS, value)?),
+            INET_DIAG_SKMEMINFO => NlaView::MemInfo(MemInfo::parse(value)?),
+            INET_DIAG_SHUTDOWN => NlaView::Shutdown(exact_u8(INET_DIAG_SHUTDOWN, value)?),
+            INET_DIAG_PROTOCOL => NlaView::Protocol(exact_u8(INET_DIAG_PROTOCOL, value)?),
+            INET_DIAG_SKV6ONLY => NlaView::SkV6Only(exact_flag(INET_DIAG_SKV6ONLY, value)?),
+            INET_DIAG_MARK => NlaView::Mark(exact_u32(INET_DIAG_MARK, value)?),
+            INET_DIAG_CLASS_ID => NlaView::ClassId(exact_u32(INET_DIAG_CLASS_ID, value)?),
+            _ => NlaView::Other {
+                type_word: nla.type_word(),
+                value,
+            },
+        })
+    }
+
+    /// The attribute with a text and bytes of its own. It fails only for want of memory.
+    pub fn to_owned(&self, alloc: Global) -> Result<Nla, AllocError>
+        ensures equal { IfOk result (λ nla. seen_nla nla ≡ viewed_nla self.now) }
+        ensures spare { IsSpareSaid inet (viewed_nla self.now) → IsOk result }
+    {
+        Ok(match self {
+            NlaView::LegacyMemInfo(info) => Nla::LegacyMemInfo(info.clone()?),
+            NlaView::TcpInfo(info) => Nla::TcpInfo(info.clone()?),
+            NlaView::Congestion(text) => Nla::Congestion(String::from_str(alloc, text)?),
+            NlaView::Tos(tos) => Nla::Tos(*tos),
+            NlaView::Tc(class) => Nla::Tc(*class),
+            NlaView::MemInfo(info) => Nla::MemInfo(info.clone()?),
+            NlaView::Shutdown(state) => Nla::Shutdown(*state),
+            NlaView::Protocol(protocol) => Nla::Protocol(*protocol),
+            NlaView::SkV6Only(only) => Nla::SkV6Only(*only),
+            NlaView::Mark(mark) => Nla::Mark(*mark),
+            NlaView::ClassId(class) => Nla::ClassId(*class),
+            NlaView::Other { type_word, value } => {
+                Nla::Other(DefaultNla::new(*type_word, Vec::from_slice(alloc, value)?))
+            }
+        })
+    }
+}
+
 impl Readable for Nla {
     const TAKES_MEMORY: bool = true;
 
@@ -95,36 +195,28 @@ impl<'a> Parseable<NlaBuffer<'a>> for Nla {
     ghost use Rattle.sock_diag_attributes.specs.InetAttributes.{inet};
     ghost use Rattle.sock_diag_attributes.specs.SeenInet.{seen_nla};
 
-    ghost parses = { λ nla v. says inet (attribute_of nla) ≡ Ok (seen_nla v) };
+    ghost Seen = { Said inet };
+
+    ghost seen = { seen_nla };
+
+    ghost parses = { λ nla v. says inet (attribute_of nla) ≡ Ok v };
 
     ghost parse_refuses = { λ nla e. says inet (attribute_of nla) ≡ Err e };
+
+    ghost is_spare = { IsSpareSaid inet };
 
     /// Reads the value by the attribute's kind, whatever its flag bits. An attribute of a kind that is not known here
     /// is kept as it is.
     fn parse(alloc: Global, buf: NlaBuffer<'a>) -> Result<Self, DecodeError> {
-        let value = buf.value();
-        Ok(match buf.kind() {
-            INET_DIAG_MEMINFO => Nla::LegacyMemInfo(LegacyMemInfo::parse(value)?),
-            INET_DIAG_INFO => Nla::TcpInfo(TcpInfo::parse(value)?),
-            INET_DIAG_CONG => Nla::Congestion(parse_string(alloc, value)?),
-            INET_DIAG_TOS => Nla::Tos(exact_u8(INET_DIAG_TOS, value)?),
-            INET_DIAG_TCLASS => Nla::Tc(exact_u8(INET_DIAG_TCLASS, value)?),
-            INET_DIAG_SKMEMINFO => Nla::MemInfo(MemInfo::parse(value)?),
-            INET_DIAG_SHUTDOWN => Nla::Shutdown(exact_u8(INET_DIAG_SHUTDOWN, value)?),
-            INET_DIAG_PROTOCOL => Nla::Protocol(exact_u8(INET_DIAG_PROTOCOL, value)?),
-            INET_DIAG_SKV6ONLY => Nla::SkV6Only(exact_flag(INET_DIAG_SKV6ONLY, value)?),
-            INET_DIAG_MARK => Nla::Mark(exact_u32(INET_DIAG_MARK, value)?),
-            INET_DIAG_CLASS_ID => Nla::ClassId(exact_u32(INET_DIAG_CLASS_ID, value)?),
-            _ => Nla::Other(DefaultNla::parse(alloc, buf)?),
-        })
+        Ok(NlaView::parse(&buf)?.to_owned(alloc)?)
     }
 }
 
 impl NlaTrait for Nla {
-    ghost use Rattle.sock_diag_attributes.specs.InetAttributes.{inet_attribute};
+    ghost use Rattle.sock_diag_attributes.specs.InetAttributes.{inet};
     ghost use Rattle.sock_diag_attributes.specs.SeenInet.{seen_nla};
 
-    ghost attribute = { λ v. inet_attribute (seen_nla v) };
+    ghost attribute = { λ v. attribute_said inet (seen_nla v) };
 
     fn value_fits(&self) -> bool {
         match self {
@@ -179,13 +271,73 @@ impl NlaTrait for Nla {
     }
 }
 
+impl<'a> NlaTrait for NlaView<'a> {
+    ghost use Rattle.sock_diag_attributes.specs.InetAttributes.{inet};
+    ghost use Rattle.sock_diag_attributes.specs.SeenInet.{viewed_nla};
+
+    ghost attribute = { λ v. attribute_said inet (viewed_nla v) };
+
+    fn value_fits(&self) -> bool {
+        match self {
+            NlaView::Congestion(text) => text.len() < MAX_VALUE,
+            NlaView::Other { value, .. } => value.len() <= MAX_VALUE,
+            _ => true,
+        }
+    }
+
+    fn value_len(&self) -> usize {
+        match self {
+            NlaView::LegacyMemInfo(info) => info.buffer_len(),
+            NlaView::TcpInfo(info) => info.buffer_len(),
+            NlaView::Congestion(text) => text.len() + 1,
+            NlaView::MemInfo(info) => info.buffer_len(),
+            NlaView::Mark(_) | NlaView::ClassId(_) => 4,
+            NlaView::Other { value, .. } => value.len(),
+            _ => 1,
+        }
+    }
+
+    fn kind(&self) -> u16 {
+        match self {
+            NlaView::LegacyMemInfo(_) => INET_DIAG_MEMINFO,
+            NlaView::TcpInfo(_) => INET_DIAG_INFO,
+            NlaView::Congestion(_) => INET_DIAG_CONG,
+            NlaView::Tos(_) => INET_DIAG_TOS,
+            NlaView::Tc(_) => INET_DIAG_TCLASS,
+            NlaView::MemInfo(_) => INET_DIAG_SKMEMINFO,
+            NlaView::Shutdown(_) => INET_DIAG_SHUTDOWN,
+            NlaView::Protocol(_) => INET_DIAG_PROTOCOL,
+            NlaView::SkV6Only(_) => INET_DIAG_SKV6ONLY,
+            NlaView::Mark(_) => INET_DIAG_MARK,
+            NlaView::ClassId(_) => INET_DIAG_CLASS_ID,
+            NlaView::Other { type_word, .. } => *type_word,
+        }
+    }
+
+    fn emit_value(&self, buffer: &mut [u8]) {
+        match self {
+            NlaView::LegacyMemInfo(info) => info.emit(buffer),
+            NlaView::TcpInfo(info) => info.emit(buffer),
+            NlaView::Congestion(text) => emit_text(text, buffer),
+            NlaView::Tos(byte)
+            | NlaView::Tc(byte)
+            | NlaView::Shutdown(byte)
+            | NlaView::Protocol(byte) => buffer[0] = *byte,
+            NlaView::MemInfo(info) => info.emit(buffer),
+            NlaView::SkV6Only(only) => buffer[0] = u8::from(*only),
+            NlaView::Mark(word) | NlaView::ClassId(word) => emit_u32(buffer, *word),
+            NlaView::Other { value, .. } => buffer[..value.len()].copy_from_slice(value),
+        }
+    }
+}
+
 impl Emitable for Nla {
-    ghost use Rattle.sock_diag_attributes.specs.InetAttributes.{inet_attribute};
+    ghost use Rattle.sock_diag_attributes.specs.InetAttributes.{inet};
     ghost use Rattle.sock_diag_attributes.specs.SeenInet.{seen_nla};
 
-    ghost bytes = { λ v. written (inet_attribute (seen_nla v)) };
+    ghost bytes = { λ v. written (attribute_said inet (seen_nla v)) };
 
-    ghost writable = { λ v. HasFittingValue (inet_attribute (seen_nla v)) };
+    ghost writable = { λ v. HasFittingValue (attribute_said inet (seen_nla v)) };
 
     fn is_writable(&self) -> bool {
         self.value_fits()
@@ -201,32 +353,6 @@ impl Emitable for Nla {
 }
 
 impl Wire for Nla {
-    ghost use Rattle.sock_diag_attributes.specs.InetAttributes.{inet, inet_attribute};
-    ghost use Rattle.sock_diag_attributes.specs.InetAttributeLaws.{inet_laws};
-    ghost use Rattle.sock_diag_attributes.specs.SeenInet.{seen_nla};
-
-    type Param = ();
-
-    ghost Seen = { inet.Value };
-
-    ghost seen = { seen_nla };
-
-    ghost is_typed = { inet.is_typed };
-
-    ghost is_param = { λ _. ⊤ };
-
-    ghost reads = { λ b _ v. MeansHead inet b v };
-
-    ghost refuses = { λ b _ e. RefusesHead inet b e };
-
-    ghost idle = { λ _ b c. AreIdleHeads inet b c };
-
-    ghost is_normal = { λ _ v. inet.is_normal v };
-
-    ghost written = { λ v. written (inet_attribute v) };
-
-    ghost fits = { λ v. HasFittingValue (inet_attribute v) };
-
     fn read(alloc: Global, bytes: &[u8], _param: ()) -> Result<Self, DecodeError> {
         Nla::parse(alloc, NlaBuffer::new_checked(bytes)?)
     }
@@ -234,8 +360,6 @@ impl Wire for Nla {
     ghost written_is = { λ _. refl };
 
     ghost fits_is = { λ _. (λ h. h, λ h. h) };
-
-    ghost laws = { heads_keep_laws inet inet_laws };
 }
 
 // Writes the text and an end zero at the front, and leaves the rest.

@@ -1,4 +1,5 @@
 //! Attributes of replies about UNIX sockets.
 
+mod coded;
 mod name;
 pub mod nlas;

@@ -1,11 +1,12 @@
 //! The name of a UNIX socket.
 
-ghost use Rattle.std.specs.Prelude.{◌≡◌, ◌≢◌, ℕ, suc, ◌<◌, ◌≤◌, ◌++◌, length, take, drop, slice_index, IfOk, IfErr, MatchOption, Ok, Err, true, refl, ⊤};
+ghost use Rattle.std.proofs.Common.{rules};
+ghost use Rattle.std.specs.Prelude.{◌≡◌, ◌≢◌, ℕ, suc, ◌<◌, ◌≤◌, ◌++◌, length, take, drop, slice_index, IfOk, IfErr, MatchOption, MatchResult, Ok, Err, true, refl, ⊤};
 ghost use Rattle.netlink_core.specs.declared.fault.DecodeError.TheVariants.{Memory};
-ghost use Rattle.sock_diag_attributes.specs.Name.{HasNoZero, read_name, name_bytes, SocketName, IsTypedName, IsNormalName};
+ghost use Rattle.sock_diag_attributes.specs.Name.{SocketName, HasNoZero, read_name, name_bytes, name_codec};
 ghost use Rattle.sock_diag_attributes.specs.NameLaws.{name_keeps_laws};
 
-use netlink_core::{DecodeError, Emitable, Parseable, Readable, Wire};
+use netlink_core::{Coded, DecodeError, Emitable, Parseable, Readable, Wire};
 use std::alloc::{AllocError, Global};
 
 /// The name that a UNIX socket is bound to, as the attribute `UNIX_DIAG_NAME` tells it.
@@ -20,7 +21,7 @@ pub enum UnixDiagName {
 }
 
 impl UnixDiagName {
-    ghost use Rattle.sock_diag_attributes.specs.SeenName.{seen_name};
+    ghost use Rattle.sock_diag_attributes.specs.SeenName.{seen_name, viewed_name};
 
     /// An equal name. It fails only for want of memory.
     pub fn clone(&self, alloc: Global) -> Result<Self, AllocError>
@@ -34,14 +35,94 @@ impl UnixDiagName {
         })
     }
 
+    // The same name, its bytes borrowed.
+    fn view(&self) -> NameView<'_>
+        ensures { viewed_name result ≡ seen_name self.now }
+    {
+        match self {
+            UnixDiagName::Pathname(path) => NameView::Pathname(path),
+            UnixDiagName::Abstract(address) => NameView::Abstract(address),
+        }
+    }
+
     // How many bytes stand beside the zero.
     pub(crate) fn content_len(&self) -> usize
         ensures { suc result ≡ length (name_bytes (seen_name self.now)) }
     {
-        match self {
-            UnixDiagName::Pathname(path) => path.len(),
-            UnixDiagName::Abstract(address) => address.len(),
+        self.view().content_len()
+    }
+}
+
+/// The name that a UNIX socket is bound to, read in place: a [`UnixDiagName`] whose bytes are borrowed.
+#[derive(Clone, Copy, Debug, PartialEq, Eq)]
+pub enum NameView<'a> {
+    /// The path of a file, without the zero at its end.
+    Pathname(&'a [u8]),
+    /// The bytes behind the zero that tells an abstract name; zeros may be among them.
+    Abstract(&'a [u8]),
+}
+
+impl<'a> NameView<'a> {
+    ghost use Rattle.sock_diag_attributes.specs.SeenName.{seen_name, viewed_name};
+
+    /// The whole of the bytes as a name. No bytes are `NameEmpty`. Of a path, a first zero before the last byte is
+    /// `NameInnerZero`, and no zero is `NameWithoutEnd`.
+    #[inline(always)]
+    #[tactic(auto, using(crate::specs::NameLaws::reads_inner_zero, crate::specs::NameLaws::reads_path, crate::specs::NameLaws::reads_no_end))]
+    pub fn parse(bytes: &'a [u8]) -> Result<NameView<'a>, DecodeError>
+        ensures { MatchResult result
+            (λ name. read_name bytes.entry.now ≡ Ok (viewed_name name))
+            (λ e. read_name bytes.entry.now ≡ Err e) }
+    {
+        let Some((last, path)) = bytes.split_last() else {
+            return Err(DecodeError::NameEmpty);
+        };
+        if bytes[0] == 0 {
+            return Ok(NameView::Abstract(&bytes[1..]));
         }
+        match first_zero(path) {
+            Some(index) => Err(DecodeError::NameInnerZero { index }),
+            None if *last == 0 => Ok(NameView::Pathname(path)),
+            None => Err(DecodeError::NameWithoutEnd),
+        }
+    }
+
+    // How many bytes stand beside the zero.
+    pub(crate) fn content_len(&self) -> usize
+        ensures { suc result ≡ length (name_bytes (viewed_name self.now)) }
+    {
+        match self {
+            NameView::Pathname(path) => path.len(),
+            NameView::Abstract(address) => address.len(),
+        }
+    }
+
+    // Writes the name with its zero at the front of the buffer, and leaves the rest.
+    pub(crate) fn emit(&self, buffer: &mut [u8])
+        requires { length (name_bytes (viewed_name self.now)) ≤ length buffer.old }
+        ensures { buffer.new ≡ name_bytes (viewed_name self.now)
+            ++ drop (length (name_bytes (viewed_name self.now))) buffer.old }
+    {
+        match self {
+            NameView::Pathname(path) => {
+                buffer[..path.len()].copy_from_slice(path);
+                buffer[path.len()] = 0;
+            }
+            NameView::Abstract(address) => {
+                buffer[0] = 0;
+                buffer[1..1 + address.len()].copy_from_slice(address);
+            }
+        }
+    }
+
+    /// The name with bytes of its own. It fails only for want of memory.
+    pub fn to_owned(&self, alloc: Global) -> Result<UnixDiagName, AllocError>
+        ensures { IfOk result (λ name. seen_name name ≡ viewed_name self.now) }
+    {
+        Ok(match self {
+            NameView::Pathname(path) => UnixDiagName::Pathname(Vec::from_slice(alloc, path)?),
+            NameView::Abstract(address) => UnixDiagName::Abstract(Vec::from_slice(alloc, address)?),
+        })
     }
 }
 
@@ -54,28 +135,20 @@ impl Readable for UnixDiagName {
 impl<'a> Parseable<&'a [u8]> for UnixDiagName {
     ghost use Rattle.sock_diag_attributes.specs.SeenName.{seen_name};
 
-    ghost parses = { λ b v. read_name b.now ≡ Ok (seen_name v) };
+    ghost Seen = { SocketName };
+
+    ghost seen = { seen_name };
+
+    ghost parses = { λ b v. read_name b.now ≡ Ok v };
 
     ghost parse_refuses = { λ b e. read_name b.now ≡ Err e };
 
+    ghost is_spare = { λ _. ⊥ };
+
     /// Reads the whole of the bytes as a name. No bytes are `NameEmpty`. Of a path, a first zero before the last byte
     /// is `NameInnerZero`, and no zero is `NameWithoutEnd`.
-    #[tactic(auto, using(crate::specs::NameLaws::reads_inner_zero, crate::specs::NameLaws::reads_path, crate::specs::NameLaws::reads_no_end))]
     fn parse(alloc: Global, bytes: &'a [u8]) -> Result<Self, DecodeError> {
-        let Some((first, address)) = bytes.split_first() else {
-            return Err(DecodeError::NameEmpty);
-        };
-        if *first == 0 {
-            return Ok(UnixDiagName::Abstract(Vec::from_slice(alloc, address)?));
-        }
-        match first_zero(bytes) {
-            None => Err(DecodeError::NameWithoutEnd),
-            Some(index) if index + 1 < bytes.len() => Err(DecodeError::NameInnerZero { index }),
-            Some(index) => {
-                let path = &bytes[..index];
-                Ok(UnixDiagName::Pathname(Vec::from_slice(alloc, path)?))
-            }
-        }
+        Ok(NameView::parse(bytes)?.to_owned(alloc)?)
     }
 }
 
@@ -95,44 +168,27 @@ impl Emitable for UnixDiagName {
     }
 
     fn emit(&self, buffer: &mut [u8]) {
-        match self {
-            UnixDiagName::Pathname(path) => {
-                buffer[..path.len()].copy_from_slice(path);
-                buffer[path.len()] = 0;
-            }
-            UnixDiagName::Abstract(address) => {
-                buffer[0] = 0;
-                buffer[1..1 + address.len()].copy_from_slice(address);
-            }
-        }
+        self.view().emit(buffer);
     }
 }
 
-impl Wire for UnixDiagName {
+impl Coded for UnixDiagName {
     ghost use Rattle.sock_diag_attributes.specs.SeenName.{seen_name};
 
     type Param = ();
 
-    ghost Seen = { SocketName };
+    ghost codec = { name_codec };
 
     ghost seen = { seen_name };
 
-    ghost is_typed = { IsTypedName };
+    ghost type_written = { λ _. 0 };
 
-    ghost is_param = { λ _. ⊤ };
+    ghost eq_is_seen = { Prim.search rules };
 
-    ghost reads = { λ b _ v. read_name b ≡ Ok v };
+    ghost laws = { name_keeps_laws };
+}
 
-    ghost refuses = { λ b _ e. read_name b ≡ Err e };
-
-    ghost idle = { λ _ b c. b ≡ c };
-
-    ghost is_normal = { λ _ v. IsNormalName v };
-
-    ghost written = { name_bytes };
-
-    ghost fits = { λ v. length (name_bytes v) ≤ 4294967295 };
-
+impl Wire for UnixDiagName {
     fn read(alloc: Global, bytes: &[u8], _param: ()) -> Result<Self, DecodeError> {
         UnixDiagName::parse(alloc, bytes)
     }
@@ -140,14 +196,15 @@ impl Wire for UnixDiagName {
     ghost written_is = { λ _. refl };
 
     ghost fits_is = { λ _. (λ h. h, λ h. h) };
-
-    ghost laws = { name_keeps_laws };
 }
 
-// The place of the first zero.
+// The place of the first zero. That there is none is usual, and is seen without a look at each byte by itself.
 fn first_zero(bytes: &[u8]) -> Option<usize>
     ensures { MatchOption result (HasNoZero bytes.now) (λ index.
         (index < length bytes.now) × (slice_index bytes.now index ≡ 0) × HasNoZero (take index bytes.now)) }
 {
+    if !bytes.contains(&0) {
+        return None;
+    }
     bytes.iter().position(|byte| *byte == 0)
 }

@@ -1,17 +1,14 @@
 //! The attributes of a reply about a UNIX socket, and what they carry.
 
-ghost use Rattle.std.specs.Prelude.{◌≡◌, Ok, Err, IfOk, true, refl, ⊤};
+ghost use Rattle.std.specs.Prelude.{◌≡◌, Ok, Err, IsOk, IfOk, MatchResult, true, refl, ⊤};
 ghost use Rattle.netlink_core.specs.Attribute.{HasFittingValue, written};
-ghost use Rattle.netlink_core.specs.Family.{says};
+ghost use Rattle.netlink_core.specs.Family.{says, Said, attribute_said, IsSpareSaid};
 ghost use Rattle.netlink_core.specs.Walk.{attribute_of};
-ghost use Rattle.netlink_core.specs.Heads.{MeansHead, RefusesHead, AreIdleHeads};
-ghost use Rattle.netlink_core.specs.HeadLaws.{heads_keep_laws};
 
 use crate::MAX_VALUE;
-use crate::numbers::{
-    emit_numbers, emit_u32_pair, exact_u8, exact_u32, exact_u32_pair, parse_numbers,
-};
-pub use crate::unix::name::UnixDiagName;
+pub use crate::numbers::NumbersView;
+use crate::numbers::{emit_numbers, emit_u32_pair, exact_u8, exact_u32, exact_u32_pair};
+pub use crate::unix::name::{NameView, UnixDiagName};
 use netlink_core::{
     DecodeError, DefaultNla, Emitable, Nla as NlaTrait, NlaBuffer, Parseable, Readable, Wire,
     emit_nla, emit_u32, nla_len,
@@ -55,11 +52,14 @@ impl MadeWith<Global> for Nla {
 }
 
 impl Nla {
+    ghost use Rattle.sock_diag_attributes.specs.UnixAttributes.{unix};
     ghost use Rattle.sock_diag_attributes.specs.SeenUnix.{seen_nla};
 
-    /// An equal attribute. It fails only for want of memory.
+    /// An equal attribute. It fails only for want of memory, which only a name, a list and an attribute of another
+    /// kind need.
     pub fn clone(&self, alloc: Global) -> Result<Self, AllocError>
-        ensures { IfOk result (λ copy. seen_nla copy ≡ seen_nla self.now) }
+        ensures equal { IfOk result (λ copy. seen_nla copy ≡ seen_nla self.now) }
+        ensures spare { IsSpareSaid unix (seen_nla self.now) → IsOk result }
     {
         Ok(match self {
             Nla::Name(name) => Nla::Name(name.clone(alloc)?),
@@ -76,6 +76,83 @@ impl Nla {
     }
 }
 
+/// One attribute of a reply about a UNIX socket, read in place: an [`Nla`] whose name, numbers and bytes are borrowed.
+#[derive(Clone, Debug, Drop, PartialEq, Eq)]
+pub enum NlaView<'a> {
+    /// The name that the socket is bound to, `UNIX_DIAG_NAME`.
+    Name(NameView<'a>),
+    /// The file that the socket is bound to, `UNIX_DIAG_VFS`.
+    Vfs(Vfs),
+    /// The inode of the peer, `UNIX_DIAG_PEER`.
+    Peer(u32),
+    /// The inodes of the sockets that wait to be accepted, `UNIX_DIAG_ICONS`.
+    PendingConnections(NumbersView<'a>),
+    /// The lengths of the queues, `UNIX_DIAG_RQLEN`, as [`Nla::ReceiveQueueLength`] has them.
+    ReceiveQueueLength(u32, u32),
+    /// The memory of the socket, `UNIX_DIAG_MEMINFO`.
+    MemInfo(MemInfo),
+    /// Which directions are shut down, `UNIX_DIAG_SHUTDOWN`, as the kernel tells them.
+    Shutdown(u8),
+    /// An attribute of another kind.
+    Other {
+        /// The whole type word, with its two flag bits.
+        type_word: u16,
+        /// The value's bytes.
+        value: &'a [u8],
+    },
+}
+
+impl<'a> NlaView<'a> {
+    ghost use Rattle.sock_diag_attributes.specs.UnixAttributes.{unix};
+    ghost use Rattle.sock_diag_attributes.specs.SeenUnix.{seen_nla, viewed_nla};
+
+    /// Reads the value by the attribute's kind, whatever its flag bits. An attribute of a kind that is not known here
+    /// is `Other`.
+    #[inline(always)]
+    pub fn parse(nla: &NlaBuffer<'a>) -> Result<NlaView<'a>, DecodeError>
+        ensures { MatchResult result
+            (λ view. says unix (attribute_of nla.now) ≡ Ok (viewed_nla view))
+            (λ e. says unix (attribute_of nla.now) ≡ Err e) }
+    {
+        let value = nla.value();
+        Ok(match nla.kind() {
+            UNIX_DIAG_NAME => NlaView::Name(NameView::parse(value)?),
+            UNIX_DIAG_VFS => NlaView::Vfs(Vfs::parse(value)?),
+            UNIX_DIAG_PEER => NlaView::Peer(exact_u32(UNIX_DIAG_PEER, value)?),
+            UNIX_DIAG_ICONS => NlaView::PendingConnections(NumbersView::parse(value)?),
+            UNIX_DIAG_RQLEN => {
+                let (first, second) = exact_u32_pair(UNIX_DIAG_RQLEN, value)?;
+                NlaView::ReceiveQueueLength(first, second)
+            }
+            UNIX_DIAG_MEMINFO => NlaView::MemInfo(MemInfo::parse(value)?),
+            UNIX_DIAG_SHUTDOWN => NlaView::Shutdown(exact_u8(UNIX_DIAG_SHUTDOWN, value)?),
+            _ => NlaView::Other {
+                type_word: nla.type_word(),
+                value,
+            },
+        })
+    }
+
+    /// The attribute with a name, numbers and bytes of its own. It fails only for want of memory.
+    pub fn to_owned(&self, alloc: Global) -> Result<Nla, AllocError>
+        ensures equal { IfOk result (λ nla. seen_nla nla ≡ viewed_nla self.now) }
+        ensures spare { IsSpareSaid unix (viewed_nla self.now) → IsOk result }
+    {
+        Ok(match self {
+            NlaView::Name(name) => Nla::Name(name.to_owned(alloc)?),
+            NlaView::Vfs(vfs) => Nla::Vfs(vfs.clone()?),
+            NlaView::Peer(inode) => Nla::Peer(*inode),
+            NlaView::PendingConnections(inodes) => Nla::PendingConnections(inodes.to_owned(alloc)?),
+            NlaView::ReceiveQueueLength(first, second) => Nla::ReceiveQueueLength(*first, *second),
+            NlaView::MemInfo(info) => Nla::MemInfo(*info),
+            NlaView::Shutdown(state) => Nla::Shutdown(*state),
+            NlaView::Other { type_word, value } => {
+                Nla::Other(DefaultNla::new(*type_word, Vec::from_slice(alloc, value)?))
+            }
+        })
+    }
+}
+
 impl Readable for Nla {
     const TAKES_MEMORY: bool = true;
 
@@ -86,35 +163,28 @@ impl<'a> Parseable<NlaBuffer<'a>> for Nla {
     ghost use Rattle.sock_diag_attributes.specs.UnixAttributes.{unix};
     ghost use Rattle.sock_diag_attributes.specs.SeenUnix.{seen_nla};
 
-    ghost parses = { λ nla v. says unix (attribute_of nla) ≡ Ok (seen_nla v) };
+    ghost Seen = { Said unix };
+
+    ghost seen = { seen_nla };
+
+    ghost parses = { λ nla v. says unix (attribute_of nla) ≡ Ok v };
 
     ghost parse_refuses = { λ nla e. says unix (attribute_of nla) ≡ Err e };
+
+    ghost is_spare = { IsSpareSaid unix };
 
     /// Reads the value by the attribute's kind, whatever its flag bits. An attribute of a kind that is not known here
     /// is kept as it is.
     fn parse(alloc: Global, buf: NlaBuffer<'a>) -> Result<Self, DecodeError> {
-        let value = buf.value();
-        Ok(match buf.kind() {
-            UNIX_DIAG_NAME => Nla::Name(UnixDiagName::parse(alloc, value)?),
-            UNIX_DIAG_VFS => Nla::Vfs(Vfs::parse(value)?),
-            UNIX_DIAG_PEER => Nla::Peer(exact_u32(UNIX_DIAG_PEER, value)?),
-            UNIX_DIAG_ICONS => Nla::PendingConnections(parse_numbers(alloc, value)?),
-            UNIX_DIAG_RQLEN => {
-                let (first, second) = exact_u32_pair(UNIX_DIAG_RQLEN, value)?;
-                Nla::ReceiveQueueLength(first, second)
-            }
-            UNIX_DIAG_MEMINFO => Nla::MemInfo(MemInfo::parse(value)?),
-            UNIX_DIAG_SHUTDOWN => Nla::Shutdown(exact_u8(UNIX_DIAG_SHUTDOWN, value)?),
-            _ => Nla::Other(DefaultNla::parse(alloc, buf)?),
-        })
+        Ok(NlaView::parse(&buf)?.to_owned(alloc)?)
     }
 }
 
 impl NlaTrait for Nla {
-    ghost use Rattle.sock_diag_attributes.specs.UnixAttributes.{unix_attribute};
+    ghost use Rattle.sock_diag_attributes.specs.UnixAttributes.{unix};
     ghost use Rattle.sock_diag_attributes.specs.SeenUnix.{seen_nla};
 
-    ghost attribute = { λ v. unix_attribute (seen_nla v) };
+    ghost attribute = { λ v. attribute_said unix (seen_nla v) };
 
     #[tactic(auto, using(crate::specs::NumberLaws::length_numbers))]
     fn value_fits(&self) -> bool {
@@ -167,13 +237,70 @@ impl NlaTrait for Nla {
     }
 }
 
+impl<'a> NlaTrait for NlaView<'a> {
+    ghost use Rattle.sock_diag_attributes.specs.UnixAttributes.{unix};
+    ghost use Rattle.sock_diag_attributes.specs.SeenUnix.{viewed_nla};
+
+    ghost attribute = { λ v. attribute_said unix (viewed_nla v) };
+
+    #[tactic(auto, using(crate::specs::NumberLaws::length_numbers))]
+    fn value_fits(&self) -> bool {
+        match self {
+            NlaView::Name(name) => name.content_len() < MAX_VALUE,
+            NlaView::PendingConnections(inodes) => inodes.len() <= MAX_VALUE / 4,
+            NlaView::Other { value, .. } => value.len() <= MAX_VALUE,
+            _ => true,
+        }
+    }
+
+    #[tactic(auto, using(crate::specs::NumberLaws::length_numbers))]
+    fn value_len(&self) -> usize {
+        match self {
+            NlaView::Name(name) => name.content_len() + 1,
+            NlaView::Vfs(vfs) => vfs.buffer_len(),
+            NlaView::Peer(_) => 4,
+            NlaView::PendingConnections(inodes) => 4 * inodes.len(),
+            NlaView::ReceiveQueueLength(..) => 8,
+            NlaView::MemInfo(info) => info.buffer_len(),
+            NlaView::Shutdown(_) => 1,
+            NlaView::Other { value, .. } => value.len(),
+        }
+    }
+
+    fn kind(&self) -> u16 {
+        match self {
+            NlaView::Name(_) => UNIX_DIAG_NAME,
+            NlaView::Vfs(_) => UNIX_DIAG_VFS,
+            NlaView::Peer(_) => UNIX_DIAG_PEER,
+            NlaView::PendingConnections(_) => UNIX_DIAG_ICONS,
+            NlaView::ReceiveQueueLength(..) => UNIX_DIAG_RQLEN,
+            NlaView::MemInfo(_) => UNIX_DIAG_MEMINFO,
+            NlaView::Shutdown(_) => UNIX_DIAG_SHUTDOWN,
+            NlaView::Other { type_word, .. } => *type_word,
+        }
+    }
+
+    fn emit_value(&self, buffer: &mut [u8]) {
+        match self {
+            NlaView::Name(name) => name.emit(buffer),
+            NlaView::Vfs(vfs) => vfs.emit(buffer),
+            NlaView::Peer(inode) => emit_u32(buffer, *inode),
+            NlaView::PendingConnections(inodes) => inodes.emit(buffer),
+            NlaView::ReceiveQueueLength(first, second) => emit_u32_pair(*first, *second, buffer),
+            NlaView::MemInfo(info) => info.emit(buffer),
+            NlaView::Shutdown(state) => buffer[0] = *state,
+            NlaView::Other { value, .. } => buffer[..value.len()].copy_from_slice(value),
+        }
+    }
+}
+
 impl Emitable for Nla {
-    ghost use Rattle.sock_diag_attributes.specs.UnixAttributes.{unix_attribute};
+    ghost use Rattle.sock_diag_attributes.specs.UnixAttributes.{unix};
     ghost use Rattle.sock_diag_attributes.specs.SeenUnix.{seen_nla};
 
-    ghost bytes = { λ v. written (unix_attribute (seen_nla v)) };
+    ghost bytes = { λ v. written (attribute_said unix (seen_nla v)) };
 
-    ghost writable = { λ v. HasFittingValue (unix_attribute (seen_nla v)) };
+    ghost writable = { λ v. HasFittingValue (attribute_said unix (seen_nla v)) };
 
     fn is_writable(&self) -> bool {
         self.value_fits()
@@ -189,32 +316,6 @@ impl Emitable for Nla {
 }
 
 impl Wire for Nla {
-    ghost use Rattle.sock_diag_attributes.specs.UnixAttributes.{unix, unix_attribute};
-    ghost use Rattle.sock_diag_attributes.specs.UnixAttributeLaws.{unix_laws};
-    ghost use Rattle.sock_diag_attributes.specs.SeenUnix.{seen_nla};
-
-    type Param = ();
-
-    ghost Seen = { unix.Value };
-
-    ghost seen = { seen_nla };
-
-    ghost is_typed = { unix.is_typed };
-
-    ghost is_param = { λ _. ⊤ };
-
-    ghost reads = { λ b _ v. MeansHead unix b v };
-
-    ghost refuses = { λ b _ e. RefusesHead unix b e };
-
-    ghost idle = { λ _ b c. AreIdleHeads unix b c };
-
-    ghost is_normal = { λ _ v. unix.is_normal v };
-
-    ghost written = { λ v. written (unix_attribute v) };
-
-    ghost fits = { λ v. HasFittingValue (unix_attribute v) };
-
     fn read(alloc: Global, bytes: &[u8], _param: ()) -> Result<Self, DecodeError> {
         Nla::parse(alloc, NlaBuffer::new_checked(bytes)?)
     }
@@ -222,6 +323,4 @@ impl Wire for Nla {
     ghost written_is = { λ _. refl };
 
     ghost fits_is = { λ _. (λ h. h, λ h. h) };
-
-    ghost laws = { heads_keep_laws unix unix_laws };
 }

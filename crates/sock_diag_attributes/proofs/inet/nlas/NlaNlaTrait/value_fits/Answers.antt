@@ -1,24 +1,20 @@
-use Rattle.std.proofs.Common.{◌≡◌, length, String, Global, refl, arith}
+use Rattle.std.proofs.Common.{◌≡◌, String, Global, refl, arith}
 use Rattle.netlink_core.specs.Attribute.{HasFittingValue}
-use Rattle.netlink_core.specs.Format.{bytes}
 use Rattle.netlink_core.specs.declared.nla.DefaultNla.{DefaultNla}
-use Rattle.sock_diag_values.specs.TcpInfo as connection
-use Rattle.sock_diag_values.specs.declared.inet.tcp_info.TcpInfo.{TcpInfo as Connection}
-use Rattle.sock_diag_attributes.specs.InetAttributes.{inet_attribute}
+use Rattle.netlink_core.specs.Family.{attribute_said}
+use Rattle.sock_diag_attributes.specs.InetAttributes.{inet}
 use Rattle.sock_diag_attributes.specs.SeenInet.{seen_nla}
 use Rattle.sock_diag_attributes.specs.declared.inet.nlas.Nla.{Nla}
-use Rattle.sock_diag_attributes.specs.declared.inet.nlas.Nla.TheVariants.{TcpInfo, Congestion, Other}
+use Rattle.sock_diag_attributes.specs.declared.inet.nlas.Nla.TheVariants.{TcpInfo, Congestion, MemInfo, Other}
+use Rattle.sock_diag_attributes.proofs.InetLengths.{tcp_info_long, memory_fits}
 use Rattle.sock_diag_attributes.proofs.inet.nlas.NlaNlaTrait.value_fits.Goals as goal
 
-tcp_info_long : (t : Connection) → length (bytes connection.tcp_info t) ≡ 232
-unfolding connection.tcp_info
-tcp_info_long t = refl
-
--- a value whose length is fixed
-fixed_fits : (nla : Nla) → ((text : String Global) → nla ≡ Congestion text → ⊥) → ((kept : DefaultNla) → nla ≡ Other kept → ⊥) → HasFittingValue (inet_attribute (seen_nla nla))
+-- a value whose length is fixed or has a bound
+fixed_fits : (nla : Nla) → ((text : String Global) → nla ≡ Congestion text → ⊥) → ((kept : DefaultNla) → nla ≡ Other kept → ⊥) → HasFittingValue (attribute_said inet (seen_nla nla))
 fixed_fits (Congestion text) no_text no_other = absurd (no_text text refl)
 fixed_fits (Other kept) no_text no_other = absurd (no_other kept refl)
 fixed_fits (TcpInfo t) no_text no_other = omega (arith, tcp_info_long t)
+fixed_fits (MemInfo m) no_text no_other = omega (arith, memory_fits m)
 fixed_fits nla no_text no_other = omega arith
 
 pub returns-in_default : goal.returns-in_default

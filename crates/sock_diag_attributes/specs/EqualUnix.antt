@@ -1,0 +1,111 @@
+-- Attributes of replies are equal where the same is seen of them.
+use Rattle.std.proofs.Common.{◌≡◌, ◌↔◌, ℕ, ◌&&◌, Bool, false, eqb, IsTrue, ap, refl, rules, subst, sym}
+use lib.Pointwise.{pointwise, bytes_decides}
+use Rattle.netlink_core.proofs.Equality.{numbers_equal, apart, same_test}
+use Rattle.netlink_core.proofs.RowLaws.{◌⊕◌}
+use Rattle.netlink_core.proofs.SaidTests.{Tests, TestLaws, said_test, said_test_says}
+use Rattle.sock_diag_values.specs.contracts.unix.vfs.VfsExact.TheImpl.Laws.{equal-law as same_vfs}
+use Rattle.sock_diag_values.specs.contracts.unix.vfs.VfsPartialEq.TheImpl.{ghosts as vfs}
+use Rattle.sock_diag_values.specs.contracts.unix.mem_info.MemInfoExact.TheImpl.Laws.{equal-law as same_memory}
+use Rattle.sock_diag_values.specs.contracts.unix.mem_info.MemInfoPartialEq.TheImpl.{ghosts as memory}
+use Rattle.sock_diag_attributes.specs.Name.{SocketName, pathname, abstract}
+use Rattle.sock_diag_attributes.specs.SeenName.{seen_name, viewed_name}
+use Rattle.sock_diag_attributes.specs.SeenNumbers.{viewed_numbers}
+use Rattle.sock_diag_attributes.specs.NumberLaws.{numbers_in_same}
+use Rattle.sock_diag_attributes.specs.Numbers.{numbers_in}
+use Rattle.sock_diag_attributes.specs.UnixAttributes.{unix}
+use Rattle.sock_diag_attributes.specs.SeenUnix.{seen_nla, viewed_nla}
+use Rattle.sock_diag_attributes.specs.declared.unix.name.UnixDiagName.{UnixDiagName}
+use Rattle.sock_diag_attributes.specs.declared.unix.name.UnixDiagName.TheVariants.{Pathname, Abstract}
+use Rattle.sock_diag_attributes.specs.contracts.unix.name.UnixDiagNamePartialEq.TheImpl.{ghosts as names}
+use Rattle.sock_diag_attributes.specs.declared.unix.name.NameView.{NameView}
+use Rattle.sock_diag_attributes.specs.declared.unix.name.NameView.TheVariants as name_view
+use Rattle.sock_diag_attributes.specs.contracts.unix.name.NameViewPartialEq.TheImpl.{ghosts as name_views}
+use Rattle.sock_diag_attributes.specs.declared.numbers.NumbersView.{NumbersView}
+use Rattle.sock_diag_attributes.specs.contracts.numbers.NumbersViewPartialEq.TheImpl.{ghosts as number_views}
+use Rattle.sock_diag_attributes.specs.declared.unix.nlas.NlaView.{NlaView}
+use Rattle.sock_diag_attributes.specs.declared.unix.nlas.NlaView.TheVariants as view
+use Rattle.sock_diag_attributes.specs.contracts.unix.nlas.NlaViewPartialEq.TheImpl.{ghosts as views}
+use Rattle.sock_diag_attributes.specs.declared.unix.nlas.Nla.{Nla}
+use Rattle.sock_diag_attributes.specs.declared.unix.nlas.Nla.TheVariants.{Name, Vfs, Peer, PendingConnections, ReceiveQueueLength, MemInfo, Shutdown, Other}
+use Rattle.sock_diag_attributes.specs.contracts.unix.nlas.NlaPartialEq.TheImpl.{ghosts}
+
+abbrev name_test : SocketName → SocketName → Bool
+name_test (pathname x) (pathname y) = pointwise eqb x y
+name_test (pathname x) (abstract y) = false
+name_test (abstract x) (pathname y) = false
+name_test (abstract x) (abstract y) = pointwise eqb x y
+
+name_test_says : (n m : SocketName) → IsTrue (name_test n m) ↔ (n ≡ m)
+name_test_says (pathname x) (pathname y) = (λ h. ap pathname ((bytes_decides x y).0 h), λ e. (bytes_decides x y).1 cc)
+name_test_says (pathname x) (abstract y) = apart (λ e. cc)
+name_test_says (abstract x) (pathname y) = apart (λ e. cc)
+name_test_says (abstract x) (abstract y) = (λ h. ap abstract ((bytes_decides x y).0 h), λ e. (bytes_decides x y).1 cc)
+
+abbrev two_test : ℕ × ℕ → ℕ × ℕ → Bool
+two_test a b = eqb a.0 b.0 && eqb a.1 b.1
+
+two_test_says : (a b : ℕ × ℕ) → IsTrue (two_test a b) ↔ (a ≡ b)
+two_test_says a b = (λ h. search rules, λ e. search rules)
+
+-- the test of each kind's values
+abbrev pub unix_tests : Tests unix
+unix_tests = name_test ⊕ vfs.eq ⊕ eqb ⊕ pointwise eqb ⊕ two_test ⊕ memory.eq ⊕ eqb ⊕ tt
+
+pub unix_tests_say : TestLaws unix unix_tests
+unix_tests_say = name_test_says ⊕ same_vfs ⊕ numbers_equal ⊕ bytes_decides ⊕ two_test_says ⊕ same_memory ⊕ numbers_equal ⊕ tt
+
+same_names : (a x : UnixDiagName) → names.eq a x ≡ name_test (seen_name a) (seen_name x)
+same_names (Pathname a) (Pathname x) = refl
+same_names (Pathname a) (Abstract x) = refl
+same_names (Abstract a) (Pathname x) = refl
+same_names (Abstract a) (Abstract x) = refl
+
+tests : (v w : Nla) → ghosts.eq v w ≡ said_test unix unix_tests (seen_nla v) (seen_nla w)
+tests (Name a) (Name x) = same_names a x
+tests (Vfs a) (Vfs x) = refl
+tests (Peer a) (Peer x) = refl
+tests (PendingConnections a) (PendingConnections x) = refl
+tests (ReceiveQueueLength a b) (ReceiveQueueLength x y) = refl
+tests (MemInfo a) (MemInfo x) = refl
+tests (Shutdown a) (Shutdown x) = refl
+tests (Other a) (Other x) = refl
+tests v w = refl
+
+pub nla_equal : (v w : Nla) → IsTrue (ghosts.eq v w) ↔ (seen_nla v ≡ seen_nla w)
+nla_equal v w = subst (λ (t : Bool). IsTrue t ↔ (seen_nla v ≡ seen_nla w)) (sym (tests v w)) (said_test_says unix unix_tests unix_tests_say (seen_nla v) (seen_nla w))
+
+-- ---- read in place
+
+viewed_names : (a x : NameView) → name_views.eq a x ≡ name_test (viewed_name a) (viewed_name x)
+viewed_names (name_view.Pathname a) (name_view.Pathname x) = refl
+viewed_names (name_view.Pathname a) (name_view.Abstract x) = refl
+viewed_names (name_view.Abstract a) (name_view.Pathname x) = refl
+viewed_names (name_view.Abstract a) (name_view.Abstract x) = refl
+
+pub name_views_equal : (v w : NameView) → IsTrue (name_views.eq v w) ↔ (viewed_name v ≡ viewed_name w)
+name_views_equal v w = subst (λ (t : Bool). IsTrue t ↔ (viewed_name v ≡ viewed_name w)) (sym (viewed_names v w)) (name_test_says (viewed_name v) (viewed_name w))
+
+pub number_views_equal : (v w : NumbersView) → IsTrue (number_views.eq v w) ↔ (viewed_numbers v ≡ viewed_numbers w)
+number_views_equal v w =
+    let bytes = bytes_decides v.bytes.now w.bytes.now in (
+      λ h. ap numbers_in (bytes.0 h),
+      λ e. bytes.1 (numbers_in_same v.bytes.now w.bytes.now v.typed w.typed v.whole w.whole e),
+    )
+
+viewed_lists : (v w : NumbersView) → number_views.eq v w ≡ pointwise eqb (viewed_numbers v) (viewed_numbers w)
+viewed_lists v w = same_test (number_views.eq v w) (pointwise eqb (viewed_numbers v) (viewed_numbers w)) (number_views_equal v w) (bytes_decides (viewed_numbers v) (viewed_numbers w))
+
+pub view_tests : (v w : NlaView) → views.eq v w ≡ said_test unix unix_tests (viewed_nla v) (viewed_nla w)
+view_tests (view.Name a) (view.Name x) = viewed_names a x
+view_tests (view.Vfs a) (view.Vfs x) = refl
+view_tests (view.Peer a) (view.Peer x) = refl
+view_tests (view.PendingConnections a) (view.PendingConnections x) = viewed_lists a x
+view_tests (view.ReceiveQueueLength a b) (view.ReceiveQueueLength x y) = refl
+view_tests (view.MemInfo a) (view.MemInfo x) = refl
+view_tests (view.Shutdown a) (view.Shutdown x) = refl
+view_tests (view.Other a b) (view.Other x y) = refl
+view_tests v w = refl
+
+pub views_equal : (v w : NlaView) → IsTrue (views.eq v w) ↔ (viewed_nla v ≡ viewed_nla w)
+views_equal v w = subst (λ (t : Bool). IsTrue t ↔ (viewed_nla v ≡ viewed_nla w)) (sym (view_tests v w)) (said_test_says unix unix_tests unix_tests_say (viewed_nla v) (viewed_nla w))
