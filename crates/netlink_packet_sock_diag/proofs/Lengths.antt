@@ -3,6 +3,7 @@ use Rattle.std.proofs.Common.{◌≡◌, ℕ, ◌%◌, List, [], ◌∷◌, leng
 use Rattle.std.specs.List.{flat_map}
 use Rattle.std.proofs.lemmas.List.{length-append, length-replicate}
 use Rattle.netlink_core.specs.Attribute.{Attribute, fill, unpadded, written}
+use Rattle.netlink_core.specs.Family.{attribute_said}
 use Rattle.netlink_core.specs.Reply.{Reply, ReplyLaws, ValueOf, reply_bytes}
 
 -- an attribute with its padding is a multiple of four
@@ -17,5 +18,5 @@ all_multiple (x ∷ xs) = omega (arith, length-append (written x) (flat_map writ
 -- and a reply, behind a header that is one
 pub reply_multiple : (R : Reply) → ReplyLaws R → R.size % 4 ≡ 0 → (v : ValueOf R) → R.header.is_typed v.header → length (reply_bytes R v) % 4 ≡ 0
 reply_multiple R laws four v typed =
-    let nlas : List Attribute = map R.family.attribute_of v.nlas in
+    let nlas : List Attribute = map (attribute_said R.family) v.nlas in
     omega (arith, length-append (R.header.bytes v.header) (flat_map written nlas), laws.in_front.bytes_long v.header typed, all_multiple nlas, four)

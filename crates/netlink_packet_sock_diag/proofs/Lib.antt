@@ -2,3 +2,9 @@ pub mod UnixContents
 pub mod Lengths
 pub mod ReplyBytes
 pub mod Envelopes
+pub mod Finding
+pub mod Counting
+pub mod Owning
+pub mod Keeping
+pub mod FirstViews
+mod Emitting

@@ -9,7 +9,9 @@ use Rattle.sock_diag_attributes.specs.declared.unix.name.UnixDiagName.{UnixDiagN
 use Rattle.sock_diag_attributes.specs.declared.unix.nlas.Nla.{Nla}
 use Rattle.sock_diag_attributes.specs.declared.unix.nlas.Nla.TheVariants.{Name, Peer, PendingConnections, ReceiveQueueLength, MemInfo, Shutdown}
 use Rattle.sock_diag_values.specs.declared.unix.mem_info.MemInfo.{MemInfo as Memory}
-use Rattle.netlink_packet_sock_diag.specs.UnixGetters.{first_of, name_in, peer_in, pending_in, queue_in, memory_in, shutdown_in}
+use Rattle.netlink_packet_sock_diag.specs.UnixGetters.{first_of}
+use Rattle.netlink_core.specs.Family.{content}
+use Rattle.sock_diag_attributes.specs.UnixAttributes.{unix}
 
 module _ {A B C : Type 0} where
   -- the contents in two lists one after the other
@@ -32,31 +34,31 @@ module _ {A B C : Type 0} where
       ap (λ ys. filter_map content (map seen ys)) (take_more xs i x h) ∙ contents content seen (take i xs) (get_or xs i x ∷ []) none ∙ ap (λ o. cons_option o []) told
 
 -- another variant has no such content
-pub no_peer : (nla : Nla) → ((n : ℕ) → nla ≡ Peer n → ⊥) → peer_in (seen_nla nla) ≡ None
+pub no_peer : (nla : Nla) → ((n : ℕ) → nla ≡ Peer n → ⊥) → content unix 2 (seen_nla nla) ≡ None
 no_peer (Peer n) other = absurd (other n refl)
 no_peer nla other = refl
 
 -- nor has it a name
-pub no_name : (nla : Nla) → ((n : UnixDiagName) → nla ≡ Name n → ⊥) → name_in (seen_nla nla) ≡ None
+pub no_name : (nla : Nla) → ((n : UnixDiagName) → nla ≡ Name n → ⊥) → content unix 0 (seen_nla nla) ≡ None
 no_name (Name n) other = absurd (other n refl)
 no_name nla other = refl
 
 -- nor pending connections
-pub no_pending : (nla : Nla) → ((ns : Vec ℕ Global) → nla ≡ PendingConnections ns → ⊥) → pending_in (seen_nla nla) ≡ None
+pub no_pending : (nla : Nla) → ((ns : Vec ℕ Global) → nla ≡ PendingConnections ns → ⊥) → content unix 3 (seen_nla nla) ≡ None
 no_pending (PendingConnections ns) other = absurd (other ns refl)
 no_pending nla other = refl
 
 -- nor directions that are shut down
-pub no_shutdown : (nla : Nla) → ((n : ℕ) → nla ≡ Shutdown n → ⊥) → shutdown_in (seen_nla nla) ≡ None
+pub no_shutdown : (nla : Nla) → ((n : ℕ) → nla ≡ Shutdown n → ⊥) → content unix 6 (seen_nla nla) ≡ None
 no_shutdown (Shutdown n) other = absurd (other n refl)
 no_shutdown nla other = refl
 
 -- nor lengths of queues
-pub no_queue : (nla : Nla) → ((m n : ℕ) → nla ≡ ReceiveQueueLength m n → ⊥) → queue_in (seen_nla nla) ≡ None
+pub no_queue : (nla : Nla) → ((m n : ℕ) → nla ≡ ReceiveQueueLength m n → ⊥) → content unix 4 (seen_nla nla) ≡ None
 no_queue (ReceiveQueueLength m n) other = absurd (other m n refl)
 no_queue nla other = refl
 
 -- nor memory
-pub no_memory : (nla : Nla) → ((m : Memory) → nla ≡ MemInfo m → ⊥) → memory_in (seen_nla nla) ≡ None
+pub no_memory : (nla : Nla) → ((m : Memory) → nla ≡ MemInfo m → ⊥) → content unix 5 (seen_nla nla) ≡ None
 no_memory (MemInfo m) other = absurd (other m refl)
 no_memory nla other = refl

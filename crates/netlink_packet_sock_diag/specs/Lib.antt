@@ -9,3 +9,10 @@ pub mod SeenInetReply
 pub mod Message
 pub mod MessageLaws
 pub mod SeenMessage
+pub mod AttributesIn
+pub mod ViewedUnixReply
+pub mod ViewedInetReply
+pub mod ViewedMessage
+pub mod EqualReplies
+pub mod EqualMessages
+pub mod EqualViews

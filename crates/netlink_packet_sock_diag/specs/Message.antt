@@ -1,14 +1,13 @@
 -- Messages of sock_diag(7): requests, and replies about the sockets of two families. Replies alone are read.
-use Rattle.std.specs.Prelude.{◌≡◌, ◌≢◌, ℕ, ◌<◌, ◌≤◌, ◌⊎◌, Bool, true, false, List, length, slice_index, ⊤}
+use Rattle.std.specs.Prelude.{◌≡◌, ◌≢◌, ℕ, ◌^◌, ◌<◌, ◌≤◌, ◌⊎◌, Bool, true, false, List, length, slice_index, ⊤}
 use Rattle.netlink_core.specs.declared.fault.DecodeError.{DecodeError}
 use Rattle.netlink_core.specs.declared.fault.DecodeError.TheVariants.{MessageTooShort, UnknownFamily, UnknownMessageType}
+use Rattle.netlink_core.specs.Codec.{Codec}
 use Rattle.netlink_core.specs.Format.{bytes, IsTyped}
 use Rattle.netlink_core.specs.Reply.{MeansReply, RefusesReply, AreIdleReplies, IsTypedReply, IsNormalReply, reply_bytes, ReplyFits}
 use Rattle.sock_diag_records.specs.declared.inet.request.InetRequest.{InetRequest}
 use Rattle.sock_diag_records.specs.declared.unix.request.UnixRequest.{UnixRequest}
-use Rattle.sock_diag_records.specs.InetRequest as inet
 use Rattle.sock_diag_records.specs.InetRequest.{inet_request}
-use Rattle.sock_diag_records.specs.UnixRequest as unix
 use Rattle.sock_diag_records.specs.UnixRequest.{unix_request}
 use Rattle.netlink_packet_sock_diag.specs.InetReply.{InetReply, inet_reply}
 use Rattle.netlink_packet_sock_diag.specs.UnixReply.{UnixReply, unix_reply}
@@ -103,9 +102,9 @@ IdleMessages t b c =
 
 -- what the message holds is typed
 abbrev pub IsTypedMessage : Message → Type 0
-IsTypedMessage (inet_request_with v) = IsTyped inet_request inet.IsShaped v
+IsTypedMessage (inet_request_with v) = IsTyped inet_request v
 IsTypedMessage (inet_response_with v) = IsTypedReply inet_reply v
-IsTypedMessage (unix_request_with v) = IsTyped unix_request unix.IsShaped v
+IsTypedMessage (unix_request_with v) = IsTyped unix_request v
 IsTypedMessage (unix_response_with v) = IsTypedReply unix_reply v
 
 -- a reply in normal form under the type 20
@@ -114,3 +113,18 @@ IsNormalMessage t (inet_request_with v) = ⊥
 IsNormalMessage t (inet_response_with v) = (t ≡ 20) × IsNormalReply inet_reply v
 IsNormalMessage t (unix_request_with v) = ⊥
 IsNormalMessage t (unix_response_with v) = (t ≡ 20) × IsNormalReply unix_reply v
+
+-- a message under the type of its header, of 16 bits
+abbrev pub message_codec : Codec ℕ
+message_codec = record {
+  Value = Message;
+  is_param = λ t. t < 2 ^ 16;
+  is_typed = IsTypedMessage;
+  reads = MessageIs;
+  refuses = MessageFault;
+  is_spare = λ v. ⊥;
+  idle = IdleMessages;
+  is_normal = IsNormalMessage;
+  written = message_bytes;
+  fits = MessageFits;
+}

@@ -1,9 +1,9 @@
 -- The laws of messages.
-use Rattle.std.proofs.Common.{◌≡◌, ◌↔◌, ◌∙◌, ℕ, ◌<◌, ◌≤◌, ◌^◌, ◌==◌, ◌⊎◌, inl, inr, Bool, true, false, if◌then◌else◌, List, length, slice_index, Ok, Err, refl, sym, ap, arith}
+use Rattle.std.proofs.Common.{◌≡◌, ◌↔◌, ◌∙◌, ℕ, ◌≤◌, ◌==◌, ◌⊎◌, inl, inr, Bool, true, false, if◌then◌else◌, List, length, slice_index, Ok, Err, refl, sym, ap, arith}
 use Rattle.std.proofs.lemmas.Bool.{cases_eq, cases_lt, eqb-true}
 use Rattle.netlink_core.specs.Bytes.{IsBytes}
-use Rattle.netlink_core.specs.Laws.{KeepsLaws}
-use Rattle.netlink_core.specs.Reply.{MeansReply, reply_bytes, RepliesKeepLaws}
+use Rattle.netlink_core.specs.Codec.{KeepsLaws}
+use Rattle.netlink_core.specs.Reply.{MeansReply, reply_bytes, reply_codec}
 use Rattle.netlink_core.specs.declared.fault.DecodeError.{DecodeError}
 use Rattle.netlink_core.specs.declared.fault.DecodeError.TheVariants.{Memory, MessageTooShort, UnknownFamily, UnknownMessageType, UnsupportedFamily}
 use Rattle.netlink_core.proofs.FormatLaws.{accepted}
@@ -12,19 +12,22 @@ use Rattle.sock_diag_records.specs.declared.inet.response.InetResponseHeader.{In
 use Rattle.sock_diag_records.specs.SocketId.{Kinds, both, ipv4, ipv6}
 use Rattle.sock_diag_records.specs.InetRequest.{inet_request}
 use Rattle.sock_diag_records.specs.InetResponse.{inet_response_header}
-use Rattle.sock_diag_records.specs.InetRequestLaws.{inet_request_laws}
-use Rattle.sock_diag_records.specs.UnixRequestLaws.{unix_request_laws}
+use Rattle.sock_diag_records.specs.InetRequestLaws.{inet_request_sound}
+use Rattle.netlink_core.proofs.FormatLaws as formats
+use Rattle.sock_diag_records.specs.InetRequest.{inet_request}
+use Rattle.sock_diag_records.specs.UnixRequest.{unix_request}
+use Rattle.sock_diag_records.specs.UnixRequestLaws.{unix_request_sound}
 use Rattle.netlink_packet_sock_diag.specs.InetReply.{InetReply, inet_reply}
 use Rattle.netlink_packet_sock_diag.specs.UnixReply.{UnixReply, unix_reply}
 use Rattle.netlink_packet_sock_diag.specs.InetReplyLaws.{inet_reply_laws}
 use Rattle.netlink_packet_sock_diag.specs.UnixReplyLaws.{unix_reply_laws}
-use Rattle.netlink_packet_sock_diag.specs.Message.{Message, inet_request_with, inet_response_with, unix_request_with, unix_response_with, IsUnix, IsInet, MessageIs, IsNoReply, MessageFault, message_bytes, MessageFits, IdleMessages, IsTypedMessage, IsNormalMessage}
+use Rattle.netlink_packet_sock_diag.specs.Message.{Message, message_codec, inet_request_with, inet_response_with, unix_request_with, unix_response_with, IsUnix, IsInet, MessageIs, IsNoReply, MessageFault, message_bytes, MessageFits, IdleMessages, IsTypedMessage, IsNormalMessage}
 
 -- replies of both families keep the laws
-inet_replies : RepliesKeepLaws inet_reply
+inet_replies : KeepsLaws (reply_codec inet_reply)
 inet_replies = replies_keep_laws inet_reply inet_reply_laws
 
-unix_replies : RepliesKeepLaws unix_reply
+unix_replies : KeepsLaws (reply_codec unix_reply)
 unix_replies = replies_keep_laws unix_reply unix_reply_laws
 
 -- ---- the first byte
@@ -180,17 +183,18 @@ reads_normal b t (inet_response_with v) tb r = let n = inet_replies.reads_normal
 reads_normal b t (unix_response_with v) tb r = let n = unix_replies.reads_normal b tt v tb tt r.1 in (n.0, (r.0.1, n.1))
 
 written_bytes : (v : Message) → IsTypedMessage v → IsBytes (message_bytes v)
-written_bytes (inet_request_with v) typed = inet_request_laws.written_bytes v typed
-written_bytes (unix_request_with v) typed = unix_request_laws.written_bytes v typed
+written_bytes (inet_request_with v) typed = formats.written_bytes inet_request inet_request_sound v typed
+written_bytes (unix_request_with v) typed = formats.written_bytes unix_request unix_request_sound v typed
 written_bytes (inet_response_with v) typed = inet_replies.written_bytes v typed
 written_bytes (unix_response_with v) typed = unix_replies.written_bytes v typed
 
 reads_back : (t : ℕ) (v : Message) → IsTypedMessage v → IsNormalMessage t v → MessageFits v → MessageIs (message_bytes v) t v
+unfolding inet_response_header
 reads_back t (inet_request_with v) typed normal fits = absurd normal
 reads_back t (unix_request_with v) typed normal fits = absurd normal
 reads_back t (inet_response_with v) typed normal fits =
     let front = inet_family_written v in
-    let known = family_known (v.header.family == 2) (v.header.family == 10) _ (both ipv4) (both ipv6) v.header.family normal.1.0.same_kind in
+    let known = family_known (v.header.family == 2) (v.header.family == 10) _ (both ipv4) (both ipv6) v.header.family normal.1.0.own.same_kind in
     let kind : (v.header.family ≡ 2) ⊎ (v.header.family ≡ 10) = elim known [ inl two ↦ inl (eqb-true v.header.family 2 two) | inr ten ↦ inr (eqb-true v.header.family 10 ten) ] in (
       (front.0, normal.0, elim kind [ inl two ↦ inl (front.1 ∙ two) | inr ten ↦ inr (front.1 ∙ ten) ]),
       inet_replies.reads_back tt v tt typed normal.1 fits,
@@ -199,7 +203,7 @@ reads_back t (unix_response_with v) typed normal fits =
     let front = unix_family_written v in
     ((front.0, normal.0, front.1), unix_replies.reads_back tt v tt typed normal.1 fits)
 
-pub message_laws : KeepsLaws {Param = ℕ} (λ t. t < 2 ^ 16) IsTypedMessage MessageIs MessageFault IdleMessages IsNormalMessage message_bytes MessageFits
+pub message_laws : KeepsLaws message_codec
 message_laws = record {
   answered = λ b t tb tp. message_answered b t tb;
   one_answer = one_answer;

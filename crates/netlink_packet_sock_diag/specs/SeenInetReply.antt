@@ -3,7 +3,8 @@ use Rattle.std.specs.Prelude.{List, map, ℕ}
 use Rattle.netlink_core.specs.Attribute.{Attribute}
 use Rattle.netlink_core.specs.Format.{bytes}
 use Rattle.sock_diag_records.specs.InetResponse.{inet_response_header}
-use Rattle.sock_diag_attributes.specs.InetAttributes.{inet_attribute}
+use Rattle.sock_diag_attributes.specs.InetAttributes.{inet}
+use Rattle.netlink_core.specs.Family.{attribute_said}
 use Rattle.sock_diag_attributes.specs.SeenInet.{seen_nla}
 use Rattle.netlink_packet_sock_diag.specs.declared.inet.response.InetResponse.{InetResponse}
 use Rattle.netlink_packet_sock_diag.specs.InetReply.{InetReply}
@@ -18,4 +19,4 @@ header_bytes response = bytes inet_response_header response.header
 
 -- the attributes as they are written
 abbrev pub attributes_of : InetResponse → List Attribute
-attributes_of response = map (λ nla. inet_attribute (seen_nla nla)) response.nlas.items
+attributes_of response = map (λ nla. attribute_said inet (seen_nla nla)) response.nlas.items

@@ -3,7 +3,8 @@ use Rattle.std.specs.Prelude.{List, map, ℕ}
 use Rattle.netlink_core.specs.Attribute.{Attribute}
 use Rattle.netlink_core.specs.Format.{bytes}
 use Rattle.sock_diag_records.specs.UnixResponseHeader.{unix_response_header}
-use Rattle.sock_diag_attributes.specs.UnixAttributes.{unix_attribute}
+use Rattle.sock_diag_attributes.specs.UnixAttributes.{unix}
+use Rattle.netlink_core.specs.Family.{attribute_said}
 use Rattle.sock_diag_attributes.specs.SeenUnix.{seen_nla}
 use Rattle.netlink_packet_sock_diag.specs.declared.unix.response.UnixResponse.{UnixResponse}
 use Rattle.netlink_packet_sock_diag.specs.UnixReply.{UnixReply}
@@ -18,4 +19,4 @@ header_bytes response = bytes unix_response_header response.header
 
 -- the attributes as they are written
 abbrev pub attributes_of : UnixResponse → List Attribute
-attributes_of response = map (λ nla. unix_attribute (seen_nla nla)) response.nlas.items
+attributes_of response = map (λ nla. attribute_said unix (seen_nla nla)) response.nlas.items

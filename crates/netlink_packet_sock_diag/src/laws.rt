@@ -5,18 +5,19 @@ ghost use Rattle.netlink_core.specs.Bytes.{IsBytes};
 ghost use Rattle.netlink_core.specs.declared.fault.DecodeError.{DecodeError};
 ghost use Rattle.netlink_core.specs.declared.fault.DecodeError.TheVariants.{Memory, UnknownMessageType};
 ghost use Rattle.netlink_core.specs.declared.header.NetlinkHeader.{NetlinkHeader};
-ghost use Rattle.netlink_core.specs.declared.message.NetlinkMessage.{NetlinkMessage};
 ghost use Rattle.netlink_core.specs.Header.{IsTypedHeader};
-ghost use Rattle.netlink_core.specs.Seen.{envelope_of, itself};
-ghost use Rattle.netlink_packet_sock_diag.specs.declared.message.SockDiagMessage.{SockDiagMessage};
-ghost use Rattle.netlink_packet_sock_diag.specs.SeenMessage.{seen_message};
 ghost use Rattle.netlink_core.specs.Envelope.{Envelope, inner, EnvelopeIs, EnvelopeFault, EnvelopeFits, OfInner, envelope_bytes, finalized, IdleEnvelopes, IsTypedEnvelope, IsFinalized};
 ghost use Rattle.netlink_core.specs.Reply.{IsTypedReply, reply_bytes};
 ghost use Rattle.netlink_packet_sock_diag.specs.UnixReply.{UnixReply, unix_reply};
 ghost use Rattle.netlink_packet_sock_diag.specs.InetReply.{InetReply, inet_reply};
+ghost use Rattle.netlink_packet_sock_diag.specs.ViewedInetReply.{viewed_response as viewed_inet};
+ghost use Rattle.netlink_packet_sock_diag.specs.ViewedMessage.{viewed_message};
+ghost use Rattle.netlink_packet_sock_diag.specs.ViewedUnixReply.{viewed_response as viewed_unix};
 ghost use Rattle.netlink_packet_sock_diag.specs.Message.{Message, MessageIs, MessageFault, MessageFits, IdleMessages, IsTypedMessage, IsNormalMessage, message_bytes, is_inet_request, is_inet_response, is_unix_request, is_unix_response};
 
-use crate::message::SockDiagMessage;
+use crate::inet::InetResponseView;
+use crate::message::{SockDiagMessage, SockDiagView};
+use crate::unix::UnixResponseView;
 use netlink_core::laws;
 
 /// The number of bytes that a reply is written as, `buffer_len`, is a multiple of 4, for both families.
@@ -82,12 +83,24 @@ pub fn finalized_message_reads_back()
     laws::finalized_message_reads_back::<SockDiagMessage>();
 }
 
-/// A netlink message of sock_diag(7) is written as what is seen of it, and is writable where that has room for its
-/// lengths.
-pub fn messages_are_written_as_seen()
-    ensures bytes { (m : NetlinkMessage SockDiagMessage)
-        → envelope_bytes (λ v. message_bytes (seen_message v)) (envelope_of itself m) ≡ envelope_bytes message_bytes (envelope_of seen_message m) }
-    ensures fits { (m : NetlinkMessage SockDiagMessage)
-        → (EnvelopeFits (λ v. message_bytes (seen_message v)) (λ v. MessageFits (seen_message v)) (envelope_of itself m)
-        ↔ EnvelopeFits message_bytes MessageFits (envelope_of seen_message m)) }
-{}
+/// `==` says whether two replies in place, about UNIX sockets, tell the same.
+pub fn equal_unix_views(v: &UnixResponseView<'_>, w: &UnixResponseView<'_>) -> bool
+    ensures { IsTrue result ↔ (viewed_unix v.now ≡ viewed_unix w.now) }
+{
+    v == w
+}
+
+/// `==` says whether two replies in place, about IPv4 and IPv6 sockets, tell the same.
+pub fn equal_inet_views(v: &InetResponseView<'_>, w: &InetResponseView<'_>) -> bool
+    ensures { IsTrue result ↔ (viewed_inet v.now ≡ viewed_inet w.now) }
+{
+    v == w
+}
+
+/// `==` says whether two messages in place tell the same.
+#[tactic(auto, using(crate::specs::EqualMessages::view_equal))]
+pub fn equal_message_views(v: &SockDiagView<'_>, w: &SockDiagView<'_>) -> bool
+    ensures { IsTrue result ↔ (viewed_message v.now ≡ viewed_message w.now) }
+{
+    v == w
+}

@@ -3,15 +3,15 @@
 ghost use Rattle.std.specs.Prelude.{◌≡◌, ◌≢◌, ◌⊎◌, ◌<◌, ◌^◌, true, refl, IfOk, IfErr, IsTrue};
 ghost use Rattle.netlink_core.specs.declared.fault.DecodeError.TheVariants.{Memory};
 ghost use Rattle.netlink_core.specs.declared.message.NetlinkPayload.TheVariants.{InnerMessage};
-ghost use Rattle.netlink_packet_sock_diag.specs.Message.{Message, IsInet, IsUnix, MessageIs, MessageFault, IdleMessages, IsTypedMessage, IsNormalMessage, MessageFits, message_bytes, is_inet_request, is_inet_response, is_unix_request, is_unix_response};
-ghost use Rattle.netlink_packet_sock_diag.specs.MessageLaws.{message_laws, message_answered};
+ghost use Rattle.netlink_packet_sock_diag.specs.Message.{Message, IsInet, IsUnix, MessageIs, MessageFault, MessageFits, message_bytes, message_codec, is_inet_request, is_inet_response, is_unix_request, is_unix_response};
+ghost use Rattle.netlink_packet_sock_diag.specs.MessageLaws.{message_answered};
 
 use crate::constants::{AF_INET, AF_INET6, AF_UNIX, SOCK_DESTROY, SOCK_DIAG_BY_FAMILY};
-use crate::inet::{InetRequest, InetResponse};
-use crate::unix::{UnixRequest, UnixResponse};
+use crate::inet::{InetRequest, InetResponse, InetResponseView};
+use crate::unix::{UnixRequest, UnixResponse, UnixResponseView};
 use netlink_core::{
     DecodeError, Emitable, NetlinkDeserializable, NetlinkHeader, NetlinkPayload,
-    NetlinkSerializable, Parseable, ParseableParametrized, Readable, Wire,
+    NetlinkSerializable, ParseableParametrized, Readable, Wire,
 };
 use std::alloc::{AllocError, Global};
 
@@ -94,8 +94,32 @@ impl SockDiagMessage {
     ) -> Result<SockDiagMessage, DecodeError>
         ensures value { IfOk result (λ m. MessageIs payload.now message_type (seen_message m)) }
         ensures fault { IfErr result (λ e. e ≢ Memory → MessageFault payload.now message_type e) }
-        // Memory is wanted only where there is a reply to read.
-        ensures memory { IfErr result (λ e. e ≡ Memory → IsUnix payload.now message_type ⊎ IsInet payload.now message_type) }
+        // Memory is wanted only for bytes that have a message.
+        ensures wanted { IfErr result (λ e. e ≡ Memory → (m : Message) × MessageIs payload.now message_type m) }
+    {
+        Ok(SockDiagView::parse(payload, message_type)?.to_owned(alloc)?)
+    }
+}
+
+/// A message of sock_diag(7), read in place: a [`SockDiagMessage`] whose bytes are borrowed. Replies alone are read.
+#[derive(Clone, Copy, Debug, PartialEq, Eq)]
+pub enum SockDiagView<'a> {
+    /// Tells one IPv4 or IPv6 socket.
+    InetResponse(InetResponseView<'a>),
+    /// Tells one UNIX socket.
+    UnixResponse(UnixResponseView<'a>),
+}
+
+impl<'a> SockDiagView<'a> {
+    ghost use Rattle.netlink_packet_sock_diag.specs.SeenMessage.{seen_message};
+    ghost use Rattle.netlink_packet_sock_diag.specs.ViewedMessage.{viewed_message};
+
+    /// Checks the whole of the bytes under a message type, and takes no memory. Fewer than 2 bytes are
+    /// `MessageTooShort`; then a type but `SOCK_DIAG_BY_FAMILY` is `UnknownMessageType`; then a first byte but
+    /// `AF_UNIX`, `AF_INET` and `AF_INET6` is `UnknownFamily`; then the view of that family's replies decides.
+    pub fn parse(payload: &'a [u8], message_type: u16) -> Result<SockDiagView<'a>, DecodeError>
+        ensures value { IfOk result (λ view. MessageIs payload.entry.now message_type (viewed_message view)) }
+        ensures fault { IfErr result (MessageFault payload.entry.now message_type) }
     {
         if payload.len() < 2 {
             return Err(DecodeError::MessageTooShort { got: payload.len() });
@@ -104,16 +128,24 @@ impl SockDiagMessage {
             return Err(DecodeError::UnknownMessageType { message_type });
         }
         match payload[0] {
-            AF_UNIX => {
-                let reply = UnixResponse::parse(alloc, payload)?;
-                Ok(SockDiagMessage::UnixResponse(Box::new(alloc, reply)?))
-            }
-            AF_INET | AF_INET6 => {
-                let reply = InetResponse::parse(alloc, payload)?;
-                Ok(SockDiagMessage::InetResponse(Box::new(alloc, reply)?))
-            }
+            AF_UNIX => Ok(SockDiagView::UnixResponse(UnixResponseView::parse(payload)?)),
+            AF_INET | AF_INET6 => Ok(SockDiagView::InetResponse(InetResponseView::parse(payload)?)),
             family => Err(DecodeError::UnknownFamily { family }),
         }
+    }
+
+    /// The message with memory of its own. It fails only for want of memory.
+    pub fn to_owned(&self, alloc: Global) -> Result<SockDiagMessage, AllocError>
+        ensures { IfOk result (λ message. seen_message message ≡ viewed_message self.now) }
+    {
+        Ok(match self {
+            SockDiagView::InetResponse(reply) => {
+                SockDiagMessage::InetResponse(Box::new(alloc, reply.to_owned(alloc)?)?)
+            }
+            SockDiagView::UnixResponse(reply) => {
+                SockDiagMessage::UnixResponse(Box::new(alloc, reply.to_owned(alloc)?)?)
+            }
+        })
     }
 }
 
@@ -126,9 +158,15 @@ impl Readable for SockDiagMessage {
 impl<'a> ParseableParametrized<&'a [u8], u16> for SockDiagMessage {
     ghost use Rattle.netlink_packet_sock_diag.specs.SeenMessage.{seen_message};
 
-    ghost parses = { λ b t v. MessageIs b.now t (seen_message v) };
+    ghost Seen = { Message };
+
+    ghost seen = { seen_message };
+
+    ghost parses = { λ b t v. MessageIs b.now t v };
 
     ghost parse_refuses = { λ b t e. MessageFault b.now t e };
+
+    ghost is_spare = { λ _. ⊥ };
 
     /// Reads a reply under a message type. Fewer than 2 bytes are `MessageTooShort`; then a type but
     /// `SOCK_DIAG_BY_FAMILY` is `UnknownMessageType`; then a first byte but `AF_UNIX`, `AF_INET` and `AF_INET6` is
@@ -137,14 +175,7 @@ impl<'a> ParseableParametrized<&'a [u8], u16> for SockDiagMessage {
         alloc: Global,
         payload: &'a [u8],
         message_type: u16,
-    ) -> Result<Self, DecodeError>
-        ensures value { IfOk result (λ v. MessageIs payload.entry.now message_type (seen_message v)) }
-        ensures fault { IfErr result (λ e. e ≢ Memory → MessageFault payload.entry.now message_type e) }
-        ensures memory { IfErr result (λ e. e ≡ Memory → IsTrue true) }
-        // Memory is wanted only where there is a reply to read.
-        ensures reply { IfErr result (λ e. e ≡ Memory
-            → IsUnix payload.entry.now message_type ⊎ IsInet payload.entry.now message_type) }
-    {
+    ) -> Result<Self, DecodeError> {
         SockDiagMessage::read_under(alloc, payload, message_type)
     }
 }
@@ -184,30 +215,6 @@ impl Emitable for SockDiagMessage {
 }
 
 impl Wire for SockDiagMessage {
-    ghost use Rattle.netlink_packet_sock_diag.specs.SeenMessage.{seen_message};
-
-    type Param = u16;
-
-    ghost Seen = { Message };
-
-    ghost seen = { seen_message };
-
-    ghost is_typed = { IsTypedMessage };
-
-    ghost is_param = { λ t. t < 2 ^ 16 };
-
-    ghost reads = { MessageIs };
-
-    ghost refuses = { MessageFault };
-
-    ghost idle = { IdleMessages };
-
-    ghost is_normal = { IsNormalMessage };
-
-    ghost written = { message_bytes };
-
-    ghost fits = { MessageFits };
-
     fn read(alloc: Global, bytes: &[u8], param: u16) -> Result<Self, DecodeError> {
         SockDiagMessage::read_under(alloc, bytes, param)
     }
@@ -215,19 +222,9 @@ impl Wire for SockDiagMessage {
     ghost written_is = { λ v. refl };
 
     ghost fits_is = { λ v. (λ h. h, λ h. h) };
-
-    ghost laws = { message_laws };
 }
 
 impl NetlinkSerializable for SockDiagMessage {
-    ghost use Rattle.netlink_packet_sock_diag.specs.SeenMessage.{seen_message};
-
-    ghost bytes = { λ v. message_bytes (seen_message v) };
-
-    ghost writable = { λ v. MessageFits (seen_message v) };
-
-    ghost type_written = { λ _. 20 };
-
     fn is_writable(&self) -> bool {
         Emitable::is_writable(self)
     }
@@ -246,16 +243,6 @@ impl NetlinkSerializable for SockDiagMessage {
 }
 
 impl NetlinkDeserializable for SockDiagMessage {
-    ghost use Rattle.netlink_packet_sock_diag.specs.SeenMessage.{seen_message};
-
-    ghost Seen = { Message };
-
-    ghost seen = { seen_message };
-
-    ghost reads = { MessageIs };
-
-    ghost refuses = { MessageFault };
-
     fn deserialize(
         alloc: Global,
         header: &NetlinkHeader,
@@ -264,7 +251,7 @@ impl NetlinkDeserializable for SockDiagMessage {
         SockDiagMessage::read_under(alloc, payload, header.message_type)
     }
 
-    ghost answered = { λ b t typed _. message_answered b t typed };
+    ghost each_type = { λ t fits. fits };
 }
 
 impl From<SockDiagMessage> for NetlinkPayload<SockDiagMessage> {
@@ -301,14 +288,6 @@ impl SockDiagDestroy {
 }
 
 impl NetlinkSerializable for SockDiagDestroy {
-    ghost use Rattle.netlink_packet_sock_diag.specs.SeenMessage.{seen_destroy};
-
-    ghost bytes = { λ v. message_bytes (seen_destroy v) };
-
-    ghost writable = { λ v. MessageFits (seen_destroy v) };
-
-    ghost type_written = { λ _. 21 };
-
     fn is_writable(&self) -> bool {
         Emitable::is_writable(&self.0)
     }
@@ -327,16 +306,6 @@ impl NetlinkSerializable for SockDiagDestroy {
 }
 
 impl NetlinkDeserializable for SockDiagDestroy {
-    ghost use Rattle.netlink_packet_sock_diag.specs.SeenMessage.{seen_destroy};
-
-    ghost Seen = { Message };
-
-    ghost seen = { seen_destroy };
-
-    ghost reads = { MessageIs };
-
-    ghost refuses = { MessageFault };
-
     fn deserialize(
         alloc: Global,
         header: &NetlinkHeader,
@@ -346,7 +315,7 @@ impl NetlinkDeserializable for SockDiagDestroy {
         Ok(SockDiagDestroy(message))
     }
 
-    ghost answered = { λ b t typed _. message_answered b t typed };
+    ghost each_type = { λ t fits. fits };
 }
 
 impl From<SockDiagDestroy> for NetlinkPayload<SockDiagDestroy> {

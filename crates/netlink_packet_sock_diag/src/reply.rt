@@ -1,56 +1,26 @@
 //! How replies of every family are read and written: a header, and then attributes.
 
-ghost use Rattle.std.specs.Prelude.{◌≡◌, ◌≢◌, ◌≤◌, ◌++◌, ◌↔◌, ℕ, length, drop, map, [], Ok, Err, Result, OnOk, IfOk, IfErr, IsTrue};
-ghost use Rattle.netlink_core.specs.declared.fault.DecodeError.{DecodeError as Fault};
-ghost use Rattle.netlink_core.specs.declared.fault.DecodeError.TheVariants.{Memory};
-ghost use Rattle.netlink_core.specs.Attribute.{Attribute, AttributesMean, AttributeFault};
-ghost use Rattle.netlink_core.specs.Walk.{attribute_of};
+ghost use Rattle.std.specs.Prelude.{◌≡◌, ◌≤◌, ◌++◌, ◌↔◌, length, drop, map, IfOk, IsOk, IsTrue};
+ghost use Rattle.std.specs.List.{AllByRecursion};
+ghost use Rattle.netlink_core.specs.Family.{Family, Said, IsSpareSaid};
 ghost use Rattle.netlink_core.specs.Reply.{framed, FramedFits};
 
-use netlink_core::{
-    DecodeError, Emitable, Nla, NlaBuffer, NlasIterator, emit_nlas, nlas_len, nlas_writable,
-};
+use netlink_core::{Emitable, Nla, emit_nlas, nlas_len, nlas_writable};
 use smallvec::SmallVec;
 use std::alloc::{AllocError, Global};
 use std::default::MadeWith;
 
 /// The attributes of one family of replies.
 pub(crate) trait FamilyNla: Nla + Sized {
-    // What is compared of an attribute, and what an attribute in bytes says.
-    ghost Value: { Type 0 };
+    // The family, and what an attribute says in it.
+    ghost family: { Family };
 
-    ghost seen: { Self → Value };
-
-    ghost says: { Attribute → Result Value Fault };
-
-    /// Reads one attribute.
-    fn read_nla(alloc: Global, nla: NlaBuffer<'_>) -> Result<Self, DecodeError>
-        ensures value { IfOk result (λ v. says (attribute_of nla.entry) ≡ Ok (seen v)) }
-        ensures fault { IfErr result (λ e. e ≢ Memory → says (attribute_of nla.entry) ≡ Err e) };
+    ghost seen: { Self → Said family };
 
     /// An equal attribute.
     fn copy_nla(&self, alloc: Global) -> Result<Self, AllocError>
-        ensures { IfOk result (λ copy. seen copy ≡ seen self.now) };
-}
-
-/// Reads the attributes, in order, into the empty list, or tells the first fault.
-#[tactic(auto, using(netlink_core::proofs::Walking::walking, std::proofs::lemmas::List::map_push))]
-pub(crate) fn parse_nlas<T: FamilyNla + MadeWith<Global> + Drop>(
-    alloc: Global,
-    bytes: &[u8],
-    nlas: &mut SmallVec<T, 8>,
-) -> Result<(), DecodeError>
-    requires { nlas.old.items ≡ [] }
-    ensures value { OnOk result (AttributesMean T.says bytes.now (map T.seen nlas.new.items)) }
-    ensures fault { IfErr result (λ e. e ≢ Memory → AttributeFault T.says bytes.now e) }
-{
-    // They are counted first, so that at most one request for memory is made and none is moved.
-    nlas.reserve_exact(NlasIterator::new(bytes).count())?;
-    for item in NlasIterator::new(bytes) {
-        let nla = T::read_nla(alloc, item?)?;
-        nlas.push(nla)?;
-    }
-    Ok(())
+        ensures equal { IfOk result (λ copy. seen copy ≡ seen self.now) }
+        ensures spare { IsSpareSaid family (seen self.now) → IsOk result };
 }
 
 /// Equal attributes, in the same order.
@@ -59,11 +29,12 @@ pub(crate) fn copy_nlas<T: FamilyNla + MadeWith<Global> + Drop>(
     alloc: Global,
     nlas: &[T],
 ) -> Result<SmallVec<T, 8>, AllocError>
-    ensures { IfOk result (λ copy. map T.seen copy.items ≡ map T.seen nlas.now) }
+    ensures equal { IfOk result (λ copy. map T.seen copy.items ≡ map T.seen nlas.now) }
+    ensures spare { length nlas.now ≤ 8 → AllByRecursion (IsSpareSaid T.family) (map T.seen nlas.now) → IsOk result }
 {
-    let mut copy = SmallVec::new(alloc);
+    let mut copy = SmallVec::with_capacity(alloc, nlas.len())?;
     for nla in nlas {
-        copy.push(nla.copy_nla(alloc)?)?;
+        copy.push_reserved(nla.copy_nla(alloc)?);
     }
     Ok(copy)
 }

@@ -10,6 +10,13 @@ use std::process::Abort;
 use std::test::Fail;
 use std::time::Duration;
 
+mod generated;
+mod hostile;
+mod odd_values;
+mod read_twice;
+mod refused_memory;
+mod views;
+
 // A listening socket.
 const LISTENING: [u8; 16] = [1, 1, 10, 0, 0x0e, 0x4f, 0, 0, 0xa0, 2, 0, 0, 0, 0, 0, 0];
 
@@ -22,6 +29,14 @@ const LISTENING_REPLY: [u8; 60] = [
     0x70, 0x2f, 0x2e, 0x49, 0x43, 0x45, 0x2d, 0x75, 0x6e, 0x69, 0x78, 0x2f, 0x31, 0x31, 0x35, 0x31,
     0, 12, 0, 4, 0, 0, 0, 0, 0, 0x80, 0, 0, 0, 5, 0, 6, 0, 0, 0, 0, 0,
 ];
+
+// What is told of a listening socket with an abstract name, for at most 128 connections.
+const ABSTRACT_NAME: &[u8] =
+    b"\x30\0\0\0\x001c1440c5f5e2a52e/bus/systemd/\0/bus-api-user\x0c\0\x04\0\0\0\0\0\x80\0\0\0\x05\0\x06\0\0\0\0\0";
+
+// What is told of a connected socket at /run/user/1000/bus.
+const PATH_AND_PEER: &[u8] =
+    b"\x17\0\0\0/run/user/1000/bus\0\0\x08\0\x02\0\x56\x79\0\0\x0c\0\x04\0\0\0\0\0\0\0\0\0\x05\0\x06\0\0\0\0\0";
 
 // A header, and then attributes.
 fn behind(alloc: Global, header: &[u8], attributes: &[u8]) -> Result<Vec<u8>, AllocError> {
@@ -149,9 +164,7 @@ fn family_is_not_read(rt: HostRuntime) -> Result<(), Fail> {
 #[test]
 fn abstract_name(rt: HostRuntime) -> Result<(), Fail> {
     let name = b"1c1440c5f5e2a52e/bus/systemd/\0/bus-api-user";
-    let attributes =
-        b"\x30\0\0\0\x001c1440c5f5e2a52e/bus/systemd/\0/bus-api-user\x0c\0\x04\0\0\0\0\0\x80\0\0\0\x05\0\x06\0\0\0\0\0";
-    let bytes = behind(rt.alloc(), &LISTENING, attributes)?;
+    let bytes = behind(rt.alloc(), &LISTENING, ABSTRACT_NAME)?;
     assert_eq!(rt; bytes.len(), 84);
     let reply = UnixResponse::parse(rt.alloc(), bytes.as_slice())?;
     let wanted = UnixDiagName::Abstract(Vec::from_slice(rt.alloc(), name)?);
@@ -162,9 +175,7 @@ fn abstract_name(rt: HostRuntime) -> Result<(), Fail> {
 
 #[test]
 fn connected_socket(rt: HostRuntime) -> Result<(), Fail> {
-    let attributes =
-        b"\x17\0\0\0/run/user/1000/bus\0\0\x08\0\x02\0\x56\x79\0\0\x0c\0\x04\0\0\0\0\0\0\0\0\0\x05\0\x06\0\0\0\0\0";
-    let bytes = behind(rt.alloc(), &CONNECTED, attributes)?;
+    let bytes = behind(rt.alloc(), &CONNECTED, PATH_AND_PEER)?;
     assert_eq!(rt; bytes.len(), 68);
     let reply = UnixResponse::parse(rt.alloc(), bytes.as_slice())?;
     let path = Vec::from_slice(rt.alloc(), b"/run/user/1000/bus")?;
@@ -531,13 +542,97 @@ fn records_of_internet_sockets(rt: HostRuntime) -> Result<(), Fail> {
         DecodeError::BufferTooSmall { which, got, need },
     )?;
     let mut short = vec![in alloc; 0; 32]?;
-    short[0] = 32;
+    short[0] = 31;
     short[2] = 7;
     let which = RecordName::MemInfo;
-    let (got, need) = (28, 36);
+    let (got, need) = (27, 28);
     inet_refused(
         &rt,
         alloc,
+        &short,
+        DecodeError::BufferTooSmall { which, got, need },
+    )
+}
+
+// An attribute of that length that begins with these words of memory.
+fn memory_words(alloc: Global, length: u8, words: &[u8]) -> Result<Vec<u8>, AllocError> {
+    let mut bytes = Vec::from_slice(alloc, &[length, 0, 7, 0])?;
+    for word in words {
+        bytes.extend_from_slice(&[*word, 0, 0, 0])?;
+    }
+    Ok(bytes)
+}
+
+// What the words tell of a backlog and of drops.
+fn last_words_of(alloc: Global, attribute: &[u8]) -> Result<(Option<u32>, Option<u32>), Fail> {
+    let reply = inet_reply_of(alloc, attribute)?;
+    let inet::Nla::MemInfo(info) = reply.nlas.first().ok_or("nothing")? else {
+        return Err("no memory")?;
+    };
+    Ok((info.backlog_queue_length, info.drops))
+}
+
+#[test]
+fn memory_of_seven_words(rt: HostRuntime) -> Result<(), Fail> {
+    let alloc = rt.alloc();
+    let seven = memory_words(alloc, 32, &[1, 2, 3, 4, 5, 6, 7])?;
+    assert_eq!(rt; last_words_of(alloc, &seven)?, (None, None));
+    inet_written(&rt, alloc, &seven, &seven)?;
+    let mut more = memory_words(alloc, 33, &[1, 2, 3, 4, 5, 6, 7])?;
+    more.extend_from_slice(&[0xee, 0, 0, 0])?;
+    assert!(rt; inet_reply_of(alloc, &more)? == inet_reply_of(alloc, &seven)?);
+    inet_written(&rt, alloc, &more, &seven)
+}
+
+#[test]
+fn memory_of_eight_and_nine_words(rt: HostRuntime) -> Result<(), Fail> {
+    let alloc = rt.alloc();
+    let seven = memory_words(alloc, 32, &[1, 2, 3, 4, 5, 6, 7])?;
+    let eight = memory_words(alloc, 36, &[1, 2, 3, 4, 5, 6, 7, 8])?;
+    assert_eq!(rt; last_words_of(alloc, &eight)?, (Some(8), None));
+    inet_written(&rt, alloc, &eight, &eight)?;
+    assert!(rt; inet_reply_of(alloc, &eight)? != inet_reply_of(alloc, &seven)?);
+    let nine = memory_words(alloc, 40, &[1, 2, 3, 4, 5, 6, 7, 8, 9])?;
+    assert_eq!(rt; last_words_of(alloc, &nine)?, (Some(8), Some(9)));
+    inet_written(&rt, alloc, &nine, &nine)?;
+    let ten = memory_words(alloc, 44, &[1, 2, 3, 4, 5, 6, 7, 8, 9, 10])?;
+    assert!(rt; inet_reply_of(alloc, &ten)? == inet_reply_of(alloc, &nine)?);
+    inet_written(&rt, alloc, &ten, &nine)
+}
+
+#[test]
+fn drops_without_backlog(rt: HostRuntime) -> Result<(), Fail> {
+    let info = inet::MemInfo {
+        receive_queue: 1,
+        receive_queue_max: 2,
+        bottom_send_queues: 3,
+        send_queue_max: 4,
+        cache: 5,
+        send_queue: 6,
+        options: 7,
+        backlog_queue_length: None,
+        drops: Some(9),
+    };
+    let nla = inet::Nla::MemInfo(info);
+    assert_eq!(rt; nla.buffer_len(), 40);
+    let mut bytes = [0xff; 40];
+    nla.emit(&mut bytes);
+    let wanted = memory_words(rt.alloc(), 40, &[1, 2, 3, 4, 5, 6, 7, 0, 9])?;
+    assert_eq!(rt; &bytes[..40], wanted.as_slice());
+    assert_eq!(rt; last_words_of(rt.alloc(), &bytes)?, (Some(0), Some(9)));
+    Ok(())
+}
+
+#[test]
+fn memory_of_a_unix_socket_is_nine_words(rt: HostRuntime) -> Result<(), Fail> {
+    let mut short = [0; 32];
+    short[0] = 32;
+    short[2] = 5;
+    let which = RecordName::UnixMemInfo;
+    let (got, need) = (28, 36);
+    refused_behind(
+        &rt,
+        rt.alloc(),
         &short,
         DecodeError::BufferTooSmall { which, got, need },
     )

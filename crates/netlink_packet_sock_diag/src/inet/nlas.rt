@@ -1,5 +1,7 @@
 //! The attributes of a reply about an IPv4 or IPv6 socket, and what they carry.
 
+pub use crate::inet::view::NlaViews;
 pub use sock_diag_attributes::inet::nlas::{
-    LegacyMemInfo, LegacyMemInfoBuffer, MemInfo, MemInfoBuffer, Nla, TcpInfo, TcpInfoBuffer,
+    LegacyMemInfo, LegacyMemInfoBuffer, MemInfo, MemInfoBuffer, MemInfoBytes, Nla, NlaView,
+    TcpInfo, TcpInfoBuffer,
 };

@@ -1,9 +1,11 @@
 //! What the attributes of a reply about a UNIX socket tell.
 
 ghost use Rattle.std.specs.Prelude.{◌≡◌, map, None, IsSome, option_map, option_copied};
+ghost use Rattle.netlink_core.specs.Family.{content};
+ghost use Rattle.sock_diag_attributes.specs.UnixAttributes.{unix};
 ghost use Rattle.sock_diag_attributes.specs.SeenName.{seen_name};
 ghost use Rattle.sock_diag_attributes.specs.SeenUnix.{seen_nla};
-ghost use Rattle.netlink_packet_sock_diag.specs.UnixGetters.{first_of, name_in, peer_in, pending_in, queue_in, memory_in, shutdown_in, first_number, second_number};
+ghost use Rattle.netlink_packet_sock_diag.specs.UnixGetters.{first_of, first_number, second_number};
 
 use crate::unix::UnixResponse;
 use crate::unix::nlas::{MemInfo, Nla, UnixDiagName};
@@ -14,28 +16,28 @@ impl UnixResponse {
 
     /// The inode of the socket's peer, where an attribute tells it: the content of the first `Peer`.
     pub fn peer(&self) -> Option<u32>
-        ensures { result ≡ first_of peer_in (seen_response self.now).nlas }
+        ensures { result ≡ first_of (content unix 2) (seen_response self.now).nlas }
     {
         first_peer(self.nlas.as_slice())
     }
 
     /// The socket's name, where an attribute tells it: the content of the first `Name`.
     pub fn name(&self) -> Option<&UnixDiagName>
-        ensures { option_map seen_name (option_copied result) ≡ first_of name_in (seen_response self.now).nlas }
+        ensures { option_map seen_name (option_copied result) ≡ first_of (content unix 0) (seen_response self.now).nlas }
     {
         first_name(self.nlas.as_slice())
     }
 
     /// The inodes of the connections that wait to be accepted: the content of the first `PendingConnections`.
     pub fn pending_connections(&self) -> Option<&[u32]>
-        ensures { option_copied result ≡ first_of pending_in (seen_response self.now).nlas }
+        ensures { option_copied result ≡ first_of (content unix 3) (seen_response self.now).nlas }
     {
         first_pending(self.nlas.as_slice())
     }
 
     /// Which directions are shut down: the content of the first `Shutdown`.
     pub fn shutdown_state(&self) -> Option<u8>
-        ensures { result ≡ first_of shutdown_in (seen_response self.now).nlas }
+        ensures { result ≡ first_of (content unix 6) (seen_response self.now).nlas }
     {
         first_shutdown(self.nlas.as_slice())
     }
@@ -114,7 +116,7 @@ impl UnixResponse {
 
     /// The size of the send buffer, which bounds a datagram: the field `max_datagram_size` of the first `MemInfo`.
     pub fn max_datagram_size(&self) -> Option<u32>
-        ensures { result ≡ option_map (λ info. info.max_datagram_size) (first_of memory_in (seen_response self.now).nlas) }
+        ensures { result ≡ option_map (λ info. info.max_datagram_size) (first_of (content unix 5) (seen_response self.now).nlas) }
     {
         Some(first_memory(self.nlas.as_slice())?.max_datagram_size)
     }
@@ -122,7 +124,7 @@ impl UnixResponse {
     /// How many bytes of memory are taken by what was sent and is not yet read: the field `alloc` of the first
     /// `MemInfo`.
     pub fn memory_used_for_outgoing_data(&self) -> Option<u32>
-        ensures { result ≡ option_map (λ info. info.alloc) (first_of memory_in (seen_response self.now).nlas) }
+        ensures { result ≡ option_map (λ info. info.alloc) (first_of (content unix 5) (seen_response self.now).nlas) }
     {
         Some(first_memory(self.nlas.as_slice())?.alloc)
     }
@@ -130,7 +132,7 @@ impl UnixResponse {
 
 // The content of the first `Peer`.
 fn first_peer(nlas: &[Nla]) -> Option<u32>
-    ensures { result ≡ first_of peer_in (map seen_nla nlas.now) }
+    ensures { result ≡ first_of (content unix 2) (map seen_nla nlas.now) }
 {
     for nla in nlas {
         if let Nla::Peer(inode) = nla {
@@ -142,7 +144,7 @@ fn first_peer(nlas: &[Nla]) -> Option<u32>
 
 // The content of the first `Name`.
 fn first_name(nlas: &[Nla]) -> Option<&UnixDiagName>
-    ensures { option_map seen_name (option_copied result) ≡ first_of name_in (map seen_nla nlas.now) }
+    ensures { option_map seen_name (option_copied result) ≡ first_of (content unix 0) (map seen_nla nlas.now) }
 {
     for nla in nlas {
         if let Nla::Name(name) = nla {
@@ -154,7 +156,7 @@ fn first_name(nlas: &[Nla]) -> Option<&UnixDiagName>
 
 // The content of the first `PendingConnections`.
 fn first_pending(nlas: &[Nla]) -> Option<&[u32]>
-    ensures { option_copied result ≡ first_of pending_in (map seen_nla nlas.now) }
+    ensures { option_copied result ≡ first_of (content unix 3) (map seen_nla nlas.now) }
 {
     for nla in nlas {
         if let Nla::PendingConnections(inodes) = nla {
@@ -166,7 +168,7 @@ fn first_pending(nlas: &[Nla]) -> Option<&[u32]>
 
 // The content of the first `Shutdown`.
 fn first_shutdown(nlas: &[Nla]) -> Option<u8>
-    ensures { result ≡ first_of shutdown_in (map seen_nla nlas.now) }
+    ensures { result ≡ first_of (content unix 6) (map seen_nla nlas.now) }
 {
     for nla in nlas {
         if let Nla::Shutdown(state) = nla {
@@ -178,7 +180,7 @@ fn first_shutdown(nlas: &[Nla]) -> Option<u8>
 
 // The content of the first `ReceiveQueueLength`.
 fn first_queue(nlas: &[Nla]) -> Option<(u32, u32)>
-    ensures { result ≡ first_of queue_in (map seen_nla nlas.now) }
+    ensures { result ≡ first_of (content unix 4) (map seen_nla nlas.now) }
 {
     for nla in nlas {
         if let Nla::ReceiveQueueLength(first, second) = nla {
@@ -190,7 +192,7 @@ fn first_queue(nlas: &[Nla]) -> Option<(u32, u32)>
 
 // The content of the first `MemInfo`.
 fn first_memory(nlas: &[Nla]) -> Option<MemInfo>
-    ensures { result ≡ first_of memory_in (map seen_nla nlas.now) }
+    ensures { result ≡ first_of (content unix 5) (map seen_nla nlas.now) }
 {
     for nla in nlas {
         if let Nla::MemInfo(info) = nla {

@@ -1,5 +1,6 @@
 //! The attributes of a reply about a UNIX socket, and what they carry.
 
+pub use crate::unix::view::NlaViews;
 pub use sock_diag_attributes::unix::nlas::{
-    MemInfo, MemInfoBuffer, Nla, UnixDiagName, Vfs, VfsBuffer,
+    MemInfo, MemInfoBuffer, NameView, Nla, NlaView, NumbersView, UnixDiagName, Vfs, VfsBuffer,
 };

@@ -1,22 +1,22 @@
 //! The reply about one UNIX socket.
 
-ghost use Rattle.std.specs.Prelude.{◌≡◌, IfOk, map, true, refl, ⊤};
-ghost use Rattle.netlink_core.specs.Reply.{ValueOf, MeansReply, RefusesReply, AreIdleReplies, IsTypedReply, IsNormalReply, reply_bytes, ReplyFits};
+ghost use Rattle.netlink_packet_sock_diag.specs.EqualReplies.{replies_equal};
+ghost use Rattle.sock_diag_attributes.specs.contracts.unix.coded.NlaCoded.TheImpl.Laws.{eq_is_seen-law as same_nla};
+ghost use Rattle.sock_diag_records.specs.contracts.unix.response.UnixResponseHeaderExact.TheImpl.Laws.{equal-law as same_header};
+ghost use Rattle.std.specs.Prelude.{◌≡◌, IfOk, IsOk, map, true, refl, ⊤};
+ghost use Rattle.netlink_core.specs.Reply.{ValueOf, MeansReply, RefusesReply, IsSpareReply, reply_codec};
 ghost use Rattle.netlink_core.proofs.Replies.{replies_keep_laws};
 ghost use Rattle.netlink_core.specs.Reply.{framed, FramedFits};
 ghost use Rattle.netlink_packet_sock_diag.specs.FramedLaws.{framed_is, framed_fits};
 ghost use Rattle.netlink_packet_sock_diag.specs.UnixReply.{unix_reply};
 ghost use Rattle.netlink_packet_sock_diag.specs.UnixReplyLaws.{unix_reply_laws};
 
-use crate::reply::{copy_nlas, emit_reply, parse_nlas, reply_is_writable, reply_len};
-use crate::unix::UnixResponseHeader;
+use crate::reply::{copy_nlas, emit_reply, reply_is_writable, reply_len};
 use crate::unix::nlas::Nla;
-use netlink_core::{DecodeError, Emitable, Parseable, Readable, Wire};
+use crate::unix::{UnixResponseHeader, UnixResponseView};
+use netlink_core::{Coded, DecodeError, Emitable, Parseable, Readable, Wire};
 use smallvec::SmallVec;
 use std::alloc::{AllocError, Global};
-
-/// The number of bytes of the header.
-const LENGTH: usize = 16;
 
 /// The reply about one UNIX socket: the header, and the attributes that were asked for, in the order that they came.
 #[derive(Debug, Drop, PartialEq, Eq)]
@@ -30,9 +30,10 @@ pub struct UnixResponse {
 impl UnixResponse {
     ghost use Rattle.netlink_packet_sock_diag.specs.SeenUnixReply.{seen_response};
 
-    /// An equal reply. It fails only for want of memory.
+    /// An equal reply. It fails only for want of memory, which up to eight attributes that need none do not want.
     pub fn clone(&self, alloc: Global) -> Result<Self, AllocError>
-        ensures { IfOk result (λ copy. seen_response copy ≡ seen_response self.now) }
+        ensures equal { IfOk result (λ copy. seen_response copy ≡ seen_response self.now) }
+        ensures spare { IsSpareReply unix_reply (seen_response self.now) → IsOk result }
     {
         let nlas = copy_nlas(alloc, self.nlas.as_slice())?;
         Ok(UnixResponse {
@@ -51,17 +52,26 @@ impl Readable for UnixResponse {
 impl<'a> Parseable<&'a [u8]> for UnixResponse {
     ghost use Rattle.netlink_packet_sock_diag.specs.SeenUnixReply.{seen_response};
 
-    ghost parses = { λ b v. MeansReply unix_reply b.now (seen_response v) };
+    ghost Seen = { ValueOf unix_reply };
+
+    ghost seen = { seen_response };
+
+    ghost parses = { λ b v. MeansReply unix_reply b.now v };
 
     ghost parse_refuses = { λ b e. RefusesReply unix_reply b.now e };
+
+    ghost is_spare = { λ v. IsSpareReply unix_reply v };
 
     /// Reads the header, and then the attributes up to the end of the bytes. Fewer than 16 bytes are `BufferTooSmall`;
     /// after that the first fault of the attributes counts.
     fn parse(alloc: Global, payload: &'a [u8]) -> Result<Self, DecodeError> {
-        let header = UnixResponseHeader::parse(alloc, payload)?;
+        let view = UnixResponseView::parse(payload)?;
         let mut nlas = SmallVec::new(alloc);
-        parse_nlas(alloc, &payload[LENGTH..], &mut nlas)?;
-        Ok(UnixResponse { header, nlas })
+        view.own_into(alloc, &mut nlas)?;
+        Ok(UnixResponse {
+            header: view.header(),
+            nlas,
+        })
     }
 }
 
@@ -85,31 +95,25 @@ impl Emitable for UnixResponse {
     }
 }
 
-impl Wire for UnixResponse {
+impl Coded for UnixResponse {
     ghost use Rattle.sock_diag_attributes.specs.SeenUnix.{seen_nla};
     ghost use Rattle.netlink_packet_sock_diag.specs.SeenUnixReply.{seen_response};
 
     type Param = ();
 
-    ghost Seen = { ValueOf unix_reply };
+    ghost codec = { reply_codec unix_reply };
 
     ghost seen = { seen_response };
 
-    ghost is_typed = { λ v. IsTypedReply unix_reply v };
+    ghost type_written = { λ _. 0 };
 
-    ghost is_param = { λ _. ⊤ };
+    ghost eq_is_seen = { λ v w. replies_equal _ _ seen_nla same_header same_nla v.header w.header v.nlas.items w.nlas.items };
 
-    ghost reads = { λ b _ v. MeansReply unix_reply b v };
+    ghost laws = { replies_keep_laws unix_reply unix_reply_laws };
+}
 
-    ghost refuses = { λ b _ e. RefusesReply unix_reply b e };
-
-    ghost idle = { λ _ b c. AreIdleReplies unix_reply b c };
-
-    ghost is_normal = { λ _ v. IsNormalReply unix_reply v };
-
-    ghost written = { λ v. reply_bytes unix_reply v };
-
-    ghost fits = { λ v. ReplyFits unix_reply v };
+impl Wire for UnixResponse {
+    ghost use Rattle.sock_diag_attributes.specs.SeenUnix.{seen_nla};
 
     fn read(alloc: Global, bytes: &[u8], _param: ()) -> Result<Self, DecodeError> {
         UnixResponse::parse(alloc, bytes)
@@ -118,6 +122,4 @@ impl Wire for UnixResponse {
     ghost written_is = { λ v. framed_is unix_reply seen_nla v.header v.nlas.items };
 
     ghost fits_is = { λ v. framed_fits unix_reply seen_nla v.header v.nlas.items };
-
-    ghost laws = { replies_keep_laws unix_reply unix_reply_laws };
 }

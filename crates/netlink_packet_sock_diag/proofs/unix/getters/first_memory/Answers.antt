@@ -1,11 +1,12 @@
 use Rattle.std.proofs.Common.{ap}
 use Rattle.sock_diag_attributes.specs.SeenUnix.{seen_nla}
 use Rattle.netlink_packet_sock_diag.proofs.UnixContents.{first_found, none_more, no_memory}
-use Rattle.netlink_packet_sock_diag.specs.UnixGetters.{memory_in}
+use Rattle.netlink_core.specs.Family.{content}
+use Rattle.sock_diag_attributes.specs.UnixAttributes.{unix}
 use Rattle.netlink_packet_sock_diag.proofs.unix.getters.first_memory.Goals as goal
 
 pub returns-in-MemInfo : goal.returns-in-MemInfo
-returns-in-MemInfo c = first_found memory_in seen_nla c.args.nlas.now c.loop-nla.nla-index c.nla-item.result _ c.loop-nla-test.true c.nla-item.is c.loop-nla.invariant (ap (λ nla. memory_in (seen_nla nla)) c.in-MemInfo.is)
+returns-in-MemInfo c = first_found (content unix 5) seen_nla c.args.nlas.now c.loop-nla.nla-index c.nla-item.result _ c.loop-nla-test.true c.nla-item.is c.loop-nla.invariant (ap (λ nla. content unix 5 (seen_nla nla)) c.in-MemInfo.is)
 
 pub loop-nla-preserved : goal.loop-nla-preserved
-loop-nla-preserved c = none_more memory_in seen_nla c.args.nlas.now c.loop-nla.nla-index c.nla-item.result c.loop-nla-test.true c.nla-item.is c.loop-nla.invariant (no_memory c.nla-item.result c.in_default.not-MemInfo)
+loop-nla-preserved c = none_more (content unix 5) seen_nla c.args.nlas.now c.loop-nla.nla-index c.nla-item.result c.loop-nla-test.true c.nla-item.is c.loop-nla.invariant (no_memory c.nla-item.result c.in_default.not-MemInfo)

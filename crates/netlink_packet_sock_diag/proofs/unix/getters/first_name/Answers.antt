@@ -1,11 +1,12 @@
 use Rattle.std.proofs.Common.{ap}
 use Rattle.sock_diag_attributes.specs.SeenUnix.{seen_nla}
 use Rattle.netlink_packet_sock_diag.proofs.UnixContents.{first_found, none_more, no_name}
-use Rattle.netlink_packet_sock_diag.specs.UnixGetters.{name_in}
+use Rattle.netlink_core.specs.Family.{content}
+use Rattle.sock_diag_attributes.specs.UnixAttributes.{unix}
 use Rattle.netlink_packet_sock_diag.proofs.unix.getters.first_name.Goals as goal
 
 pub returns-in-Name : goal.returns-in-Name
-returns-in-Name c = first_found name_in seen_nla c.args.nlas.now c.loop-nla.nla-index c.nla-item.result _ c.loop-nla-test.true c.nla-item.is c.loop-nla.invariant (ap (λ nla. name_in (seen_nla nla)) c.in-Name.is)
+returns-in-Name c = first_found (content unix 0) seen_nla c.args.nlas.now c.loop-nla.nla-index c.nla-item.result _ c.loop-nla-test.true c.nla-item.is c.loop-nla.invariant (ap (λ nla. content unix 0 (seen_nla nla)) c.in-Name.is)
 
 pub loop-nla-preserved : goal.loop-nla-preserved
-loop-nla-preserved c = none_more name_in seen_nla c.args.nlas.now c.loop-nla.nla-index c.nla-item.result c.loop-nla-test.true c.nla-item.is c.loop-nla.invariant (no_name c.nla-item.result c.in_default.not-Name)
+loop-nla-preserved c = none_more (content unix 0) seen_nla c.args.nlas.now c.loop-nla.nla-index c.nla-item.result c.loop-nla-test.true c.nla-item.is c.loop-nla.invariant (no_name c.nla-item.result c.in_default.not-Name)

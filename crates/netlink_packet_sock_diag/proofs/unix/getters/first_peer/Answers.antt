@@ -1,11 +1,12 @@
 use Rattle.std.proofs.Common.{ap}
 use Rattle.sock_diag_attributes.specs.SeenUnix.{seen_nla}
 use Rattle.netlink_packet_sock_diag.proofs.UnixContents.{first_found, none_more, no_peer}
-use Rattle.netlink_packet_sock_diag.specs.UnixGetters.{peer_in}
+use Rattle.netlink_core.specs.Family.{content}
+use Rattle.sock_diag_attributes.specs.UnixAttributes.{unix}
 use Rattle.netlink_packet_sock_diag.proofs.unix.getters.first_peer.Goals as goal
 
 pub returns-in-Peer : goal.returns-in-Peer
-returns-in-Peer c = first_found peer_in seen_nla c.args.nlas.now c.loop-nla.nla-index c.nla-item.result _ c.loop-nla-test.true c.nla-item.is c.loop-nla.invariant (ap (λ nla. peer_in (seen_nla nla)) c.in-Peer.is)
+returns-in-Peer c = first_found (content unix 2) seen_nla c.args.nlas.now c.loop-nla.nla-index c.nla-item.result _ c.loop-nla-test.true c.nla-item.is c.loop-nla.invariant (ap (λ nla. content unix 2 (seen_nla nla)) c.in-Peer.is)
 
 pub loop-nla-preserved : goal.loop-nla-preserved
-loop-nla-preserved c = none_more peer_in seen_nla c.args.nlas.now c.loop-nla.nla-index c.nla-item.result c.loop-nla-test.true c.nla-item.is c.loop-nla.invariant (no_peer c.nla-item.result c.in_default.not-Peer)
+loop-nla-preserved c = none_more (content unix 2) seen_nla c.args.nlas.now c.loop-nla.nla-index c.nla-item.result c.loop-nla-test.true c.nla-item.is c.loop-nla.invariant (no_peer c.nla-item.result c.in_default.not-Peer)

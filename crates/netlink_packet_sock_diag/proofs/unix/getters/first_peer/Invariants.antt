@@ -2,9 +2,10 @@ use Rattle.std.proofs.Common.{◌≡◌, [], take}
 use Rattle.std.specs.Prelude.{map}
 use Rattle.std.specs.List.{filter_map}
 use Rattle.sock_diag_attributes.specs.SeenUnix.{seen_nla}
-use Rattle.netlink_packet_sock_diag.specs.UnixGetters.{peer_in}
+use Rattle.netlink_core.specs.Family.{content}
+use Rattle.sock_diag_attributes.specs.UnixAttributes.{unix}
 use Rattle.netlink_packet_sock_diag.proofs.unix.getters.first_peer.Given as goal
 
 -- no attribute so far has the content
 abbrev pub invariant-loop-nla : goal.invariant-loop-nla
-invariant-loop-nla l = filter_map peer_in (map seen_nla (take l.nla-index l.nlas)) ≡ []
+invariant-loop-nla l = filter_map (content unix 2) (map seen_nla (take l.nla-index l.nlas)) ≡ []

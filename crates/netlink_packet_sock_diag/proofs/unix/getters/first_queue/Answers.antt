@@ -1,11 +1,12 @@
 use Rattle.std.proofs.Common.{ap}
 use Rattle.sock_diag_attributes.specs.SeenUnix.{seen_nla}
 use Rattle.netlink_packet_sock_diag.proofs.UnixContents.{first_found, none_more, no_queue}
-use Rattle.netlink_packet_sock_diag.specs.UnixGetters.{queue_in}
+use Rattle.netlink_core.specs.Family.{content}
+use Rattle.sock_diag_attributes.specs.UnixAttributes.{unix}
 use Rattle.netlink_packet_sock_diag.proofs.unix.getters.first_queue.Goals as goal
 
 pub returns-in-ReceiveQueueLength : goal.returns-in-ReceiveQueueLength
-returns-in-ReceiveQueueLength c = first_found queue_in seen_nla c.args.nlas.now c.loop-nla.nla-index c.nla-item.result _ c.loop-nla-test.true c.nla-item.is c.loop-nla.invariant (ap (λ nla. queue_in (seen_nla nla)) c.in-ReceiveQueueLength.is)
+returns-in-ReceiveQueueLength c = first_found (content unix 4) seen_nla c.args.nlas.now c.loop-nla.nla-index c.nla-item.result _ c.loop-nla-test.true c.nla-item.is c.loop-nla.invariant (ap (λ nla. content unix 4 (seen_nla nla)) c.in-ReceiveQueueLength.is)
 
 pub loop-nla-preserved : goal.loop-nla-preserved
-loop-nla-preserved c = none_more queue_in seen_nla c.args.nlas.now c.loop-nla.nla-index c.nla-item.result c.loop-nla-test.true c.nla-item.is c.loop-nla.invariant (no_queue c.nla-item.result c.in_default.not-ReceiveQueueLength)
+loop-nla-preserved c = none_more (content unix 4) seen_nla c.args.nlas.now c.loop-nla.nla-index c.nla-item.result c.loop-nla-test.true c.nla-item.is c.loop-nla.invariant (no_queue c.nla-item.result c.in_default.not-ReceiveQueueLength)

@@ -1,0 +1,12 @@
+use Rattle.std.proofs.Common.{ap, sym, ◌∙◌}
+use Rattle.sock_diag_attributes.specs.SeenUnix.{viewed_nla}
+use Rattle.netlink_core.specs.Family.{content}
+use Rattle.sock_diag_attributes.specs.UnixAttributes.{unix}
+use Rattle.netlink_packet_sock_diag.proofs.FirstViews.{content_here, content_later, no_peer}
+use Rattle.netlink_packet_sock_diag.proofs.unix.view_getters.first_peer.Goals as goal
+
+pub returns-in-Peer : goal.returns-in-Peer
+returns-in-Peer c = sym (content_here (content unix 2) _ _ _ _ c.in-Some.ensures.steps (ap (λ nla. content unix 2 (viewed_nla nla)) c.in-Peer.is)) ∙ c.loop-nla.invariant
+
+pub loop-nla-preserved : goal.loop-nla-preserved
+loop-nla-preserved c = sym (content_later (content unix 2) _ _ _ c.in-Some.ensures.steps (no_peer c.in-Some.nla c.in_default.not-Peer)) ∙ c.loop-nla.invariant

@@ -1,0 +1,40 @@
+-- The attributes that stand in bytes one after the other, found by their length words.
+use Rattle.std.specs.Prelude.{◌≡◌, ℕ, zero, suc, ◌+◌, ◌-◌, List, [], ◌∷◌, take, drop, refl, Result, Ok, Err}
+use Rattle.std.specs.List.{filter_map}
+use Rattle.std.specs.Result.{result_ok}
+use Rattle.std.proofs.Common.{inl}
+use Rattle.netlink_core.specs.declared.fault.DecodeError.{DecodeError}
+use Rattle.netlink_core.specs.Attribute.{Attribute, AttributeFault, fill, first_word}
+use Rattle.netlink_core.specs.Family.{says}
+use Rattle.netlink_core.specs.Reply.{Reply, ValueOf, attribute_part, RefusesReply}
+
+-- the attribute at the front of the bytes, by its two words
+abbrev pub front_attribute : List ℕ → Attribute
+front_attribute bytes = record { type_word = first_word (drop 2 bytes); value = take (first_word bytes - 4) (drop 4 bytes) }
+
+-- those behind the next so many bytes, each at the next multiple of four
+unfoldable pub attributes_behind : ℕ → List ℕ → List Attribute
+attributes_behind n [] = []
+attributes_behind zero (byte ∷ bytes) = front_attribute (byte ∷ bytes) ∷ attributes_behind (first_word (byte ∷ bytes) + fill (first_word (byte ∷ bytes)) - 1) bytes
+attributes_behind (suc n) (byte ∷ bytes) = attributes_behind n bytes
+
+-- no fault is in the bytes
+pub record HasNoFault {A : Type 0} (reads : Attribute → Result A DecodeError) (bytes : List ℕ) : Type 0 where
+  pub none : (e : DecodeError) → AttributeFault reads bytes e → ⊥
+
+-- what the attributes in bytes say, in order
+abbrev pub values_in : {A : Type 0} → (Attribute → Result A DecodeError) → List ℕ → List A
+values_in reads bytes = filter_map (λ a. result_ok (reads a)) (attributes_behind 0 bytes)
+
+-- the value in an answer that is no fault
+abbrev pub value_in : {A : Type 0} → (answer : Result A DecodeError) → ((e : DecodeError) → answer ≡ Err e → ⊥) → A
+value_in (Ok value) good = value
+value_in (Err e) good = absurd (good e refl)
+
+-- nothing refuses the bytes as a reply
+pub record IsAccepted (R : Reply) (bytes : List ℕ) : Type 0 where
+  pub none : (e : DecodeError) → RefusesReply R bytes e → ⊥
+
+-- the reply in bytes that nothing refuses: the header's value, and what each attribute behind it says
+abbrev pub reply_in : (R : Reply) (bytes : List ℕ) → IsAccepted R bytes → ValueOf R
+reply_in R bytes accepted = record { header = value_in (R.header.reads bytes) (λ e h. accepted.none e (inl h)); nlas = values_in (says R.family) (attribute_part R bytes) }

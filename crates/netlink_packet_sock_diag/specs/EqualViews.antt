@@ -1,0 +1,39 @@
+-- Replies that are read in place are equal where they tell the same.
+use Rattle.std.proofs.Common.{◌≡◌, ◌↔◌, ◌&&◌, Bool, IsTrue}
+use Rattle.std.specs.Cmp.{IsEquivalence}
+use lib.Pointwise.{pointwise}
+use Rattle.netlink_core.proofs.Equality.{equivalence}
+use Rattle.netlink_core.proofs.SaidTests.{said_test, said_test_says}
+use Rattle.sock_diag_attributes.specs.EqualInet.{inet_tests, inet_tests_say}
+use Rattle.sock_diag_attributes.specs.EqualUnix.{unix_tests, unix_tests_say}
+use Rattle.sock_diag_attributes.specs.InetAttributes.{inet}
+use Rattle.sock_diag_attributes.specs.UnixAttributes.{unix}
+use Rattle.sock_diag_records.specs.contracts.inet.exact.InetResponseHeaderExact.TheImpl.Laws.{equal-law as same_inet_header}
+use Rattle.sock_diag_records.specs.contracts.unix.response.UnixResponseHeaderExact.TheImpl.Laws.{equal-law as same_unix_header}
+use Rattle.sock_diag_records.specs.contracts.inet.response.InetResponseHeaderPartialEq.TheImpl.{ghosts as inet_headers}
+use Rattle.sock_diag_records.specs.contracts.unix.response.UnixResponseHeaderPartialEq.TheImpl.{ghosts as unix_headers}
+use Rattle.netlink_packet_sock_diag.specs.InetReply.{InetReply}
+use Rattle.netlink_packet_sock_diag.specs.UnixReply.{UnixReply}
+use Rattle.netlink_packet_sock_diag.specs.EqualReplies.{values_equal}
+use Rattle.netlink_packet_sock_diag.specs.ViewedInetReply as inet_view
+use Rattle.netlink_packet_sock_diag.specs.ViewedUnixReply as unix_view
+
+-- equal headers, and the same attributes
+abbrev pub unix_test : UnixReply → UnixReply → Bool
+unix_test v w = unix_headers.eq v.header w.header && pointwise (said_test unix unix_tests) v.nlas w.nlas
+
+abbrev pub inet_test : InetReply → InetReply → Bool
+inet_test v w = inet_headers.eq v.header w.header && pointwise (said_test inet inet_tests) v.nlas w.nlas
+
+pub unix_test_says : (v w : UnixReply) → IsTrue (unix_test v w) ↔ (v ≡ w)
+unix_test_says = values_equal unix_headers.eq (said_test unix unix_tests) same_unix_header (said_test_says unix unix_tests unix_tests_say)
+
+pub inet_test_says : (v w : InetReply) → IsTrue (inet_test v w) ↔ (v ≡ w)
+inet_test_says = values_equal inet_headers.eq (said_test inet inet_tests) same_inet_header (said_test_says inet inet_tests inet_tests_say)
+
+-- and so are the views equal
+pub unix_equivalence : IsEquivalence (λ v w. unix_test (unix_view.viewed_response v) (unix_view.viewed_response w))
+unix_equivalence = equivalence _ unix_view.viewed_response (λ v w. unix_test_says (unix_view.viewed_response v) (unix_view.viewed_response w))
+
+pub inet_equivalence : IsEquivalence (λ v w. inet_test (inet_view.viewed_response v) (inet_view.viewed_response w))
+inet_equivalence = equivalence _ inet_view.viewed_response (λ v w. inet_test_says (inet_view.viewed_response v) (inet_view.viewed_response w))

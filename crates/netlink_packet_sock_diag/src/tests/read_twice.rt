@@ -1,0 +1,62 @@
+//! Replies read with memory of their own and in place.
+
+use crate::inet::{InetResponse, InetResponseView};
+use crate::unix::{UnixResponse, UnixResponseView};
+use crate::{SockDiagMessage, SockDiagView};
+use netlink_core::{DecodeError, Wire};
+use smallvec::SmallVec;
+use std::alloc::Global;
+use std::fmt::Debug;
+use std::process::Abort;
+
+/// A value with two readers.
+pub(crate) trait ReadTwice: Wire + Debug + Drop {
+    /// What is read in place, with memory of its own.
+    fn read_in_place(alloc: Global, bytes: &[u8], param: Self::Param) -> Result<Self, DecodeError>;
+}
+
+/// What both readers tell of the bytes: the same value or the same fault.
+pub(crate) fn read_twice<T: ReadTwice>(
+    rt: &impl Abort,
+    alloc: Global,
+    bytes: &[u8],
+    param: T::Param,
+) -> Result<T, DecodeError> {
+    let owned = T::read(alloc, bytes, param);
+    assert_eq!(rt; T::read_in_place(alloc, bytes, param), owned, "{bytes:?}");
+    owned
+}
+
+impl ReadTwice for UnixResponse {
+    fn read_in_place(alloc: Global, bytes: &[u8], _param: ()) -> Result<Self, DecodeError> {
+        let view = UnixResponseView::parse(bytes)?;
+        let mut nlas = SmallVec::new(alloc);
+        for nla in view.attributes() {
+            nlas.push(nla.to_owned(alloc)?)?;
+        }
+        Ok(UnixResponse {
+            header: view.header(),
+            nlas,
+        })
+    }
+}
+
+impl ReadTwice for InetResponse {
+    fn read_in_place(alloc: Global, bytes: &[u8], _param: ()) -> Result<Self, DecodeError> {
+        let view = InetResponseView::parse(bytes)?;
+        let mut nlas = SmallVec::new(alloc);
+        for nla in view.attributes() {
+            nlas.push(nla.to_owned(alloc)?)?;
+        }
+        Ok(InetResponse {
+            header: view.header(),
+            nlas,
+        })
+    }
+}
+
+impl ReadTwice for SockDiagMessage {
+    fn read_in_place(alloc: Global, bytes: &[u8], message_type: u16) -> Result<Self, DecodeError> {
+        Ok(SockDiagView::parse(bytes, message_type)?.to_owned(alloc)?)
+    }
+}

@@ -1,0 +1,204 @@
+//! What the attributes of a reply about a UNIX socket tell, read in place.
+
+ghost use Rattle.std.specs.Prelude.{◌≡◌, None, IsSome, option_map};
+ghost use Rattle.sock_diag_attributes.specs.SeenName.{viewed_name};
+ghost use Rattle.sock_diag_attributes.specs.SeenNumbers.{viewed_numbers};
+ghost use Rattle.netlink_packet_sock_diag.specs.ViewedUnixReply.{values_left};
+ghost use Rattle.netlink_packet_sock_diag.specs.UnixGetters.{first_of, first_number, second_number};
+ghost use Rattle.netlink_core.specs.Family.{content};
+ghost use Rattle.sock_diag_attributes.specs.UnixAttributes.{unix};
+
+use crate::unix::UnixResponseView;
+use crate::unix::nlas::{MemInfo, NameView, NlaView, NlaViews, NumbersView};
+use sock_diag_records::constants::TCP_LISTEN;
+
+impl<'a> UnixResponseView<'a> {
+    ghost use Rattle.netlink_packet_sock_diag.specs.ViewedUnixReply.{viewed_response};
+
+    /// The inode of the socket's peer, where an attribute tells it: the content of the first `Peer`.
+    pub fn peer(&self) -> Option<u32>
+        ensures { result ≡ first_of (content unix 2) (viewed_response self.now).nlas }
+    {
+        first_peer(self.attributes())
+    }
+
+    /// The socket's name, where an attribute tells it: the content of the first `Name`.
+    pub fn name(&self) -> Option<NameView<'a>>
+        ensures { option_map viewed_name result ≡ first_of (content unix 0) (viewed_response self.now).nlas }
+    {
+        first_name(self.attributes())
+    }
+
+    /// The inodes of the connections that wait to be accepted: the content of the first `PendingConnections`.
+    pub fn pending_connections(&self) -> Option<NumbersView<'a>>
+        ensures { option_map viewed_numbers result ≡ first_of (content unix 3) (viewed_response self.now).nlas }
+    {
+        first_pending(self.attributes())
+    }
+
+    /// Which directions are shut down: the content of the first `Shutdown`.
+    pub fn shutdown_state(&self) -> Option<u8>
+        ensures { result ≡ first_of (content unix 6) (viewed_response self.now).nlas }
+    {
+        first_shutdown(self.attributes())
+    }
+}
+
+impl<'a> UnixResponseView<'a> {
+    ghost use Rattle.netlink_packet_sock_diag.specs.ViewedUnixReply.{viewed_response};
+    ghost use Rattle.netlink_packet_sock_diag.specs.UnixGetters.{listening_queue_of, other_queue_of};
+
+    /// How many connections wait to be accepted, of a listening socket (state `TCP_LISTEN`): the first number of the
+    /// first `ReceiveQueueLength`.
+    ///
+    /// Where this is told, [`receive_queue_size`](Self::receive_queue_size) and
+    /// [`send_queue_size`](Self::send_queue_size) are not.
+    pub fn number_of_pending_connection(&self) -> Option<u32>
+        ensures value { result ≡ first_number (listening_queue_of (viewed_response self.now)) }
+        ensures alone { IsSome result → (first_number (other_queue_of (viewed_response self.now)) ≡ None)
+            × (second_number (other_queue_of (viewed_response self.now)) ≡ None) }
+    {
+        let (waiting, _) = self.listening_queue()?;
+        Some(waiting)
+    }
+
+    /// How many connections may wait to be accepted, of a listening socket: the second number of the first
+    /// `ReceiveQueueLength`.
+    pub fn max_number_of_pending_connection(&self) -> Option<u32>
+        ensures { result ≡ second_number (listening_queue_of (viewed_response self.now)) }
+    {
+        let (_, limit) = self.listening_queue()?;
+        Some(limit)
+    }
+
+    /// How many bytes wait to be read, of a socket that does not listen: the first number of the first
+    /// `ReceiveQueueLength`.
+    pub fn receive_queue_size(&self) -> Option<u32>
+        ensures { result ≡ first_number (other_queue_of (viewed_response self.now)) }
+    {
+        let (received, _) = self.other_queue()?;
+        Some(received)
+    }
+
+    /// How many bytes of memory are taken by what was sent and is not yet read, of a socket that does not listen: the
+    /// second number of the first `ReceiveQueueLength`.
+    pub fn send_queue_size(&self) -> Option<u32>
+        ensures { result ≡ second_number (other_queue_of (viewed_response self.now)) }
+    {
+        let (_, sent) = self.other_queue()?;
+        Some(sent)
+    }
+
+    // The lengths of the queues of a listening socket.
+    fn listening_queue(&self) -> Option<(u32, u32)>
+        ensures { result ≡ listening_queue_of (viewed_response self.now) }
+    {
+        if self.header().state == TCP_LISTEN {
+            first_queue(self.attributes())
+        } else {
+            None
+        }
+    }
+
+    // The lengths of the queues of a socket that does not listen.
+    fn other_queue(&self) -> Option<(u32, u32)>
+        ensures { result ≡ other_queue_of (viewed_response self.now) }
+    {
+        if self.header().state == TCP_LISTEN {
+            None
+        } else {
+            first_queue(self.attributes())
+        }
+    }
+}
+
+impl<'a> UnixResponseView<'a> {
+    ghost use Rattle.netlink_packet_sock_diag.specs.ViewedUnixReply.{viewed_response};
+
+    /// The size of the send buffer, which bounds a datagram: the field `max_datagram_size` of the first `MemInfo`.
+    pub fn max_datagram_size(&self) -> Option<u32>
+        ensures { result ≡ option_map (λ info. info.max_datagram_size) (first_of (content unix 5) (viewed_response self.now).nlas) }
+    {
+        Some(first_memory(self.attributes())?.max_datagram_size)
+    }
+
+    /// How many bytes of memory are taken by what was sent and is not yet read: the field `alloc` of the first
+    /// `MemInfo`.
+    pub fn memory_used_for_outgoing_data(&self) -> Option<u32>
+        ensures { result ≡ option_map (λ info. info.alloc) (first_of (content unix 5) (viewed_response self.now).nlas) }
+    {
+        Some(first_memory(self.attributes())?.alloc)
+    }
+}
+
+// The content of the first `Peer`.
+fn first_peer(nlas: NlaViews<'_>) -> Option<u32>
+    ensures { result ≡ first_of (content unix 2) (values_left nlas.entry) }
+{
+    for nla in nlas {
+        if let NlaView::Peer(inode) = nla {
+            return Some(inode);
+        }
+    }
+    None
+}
+
+// The content of the first `Name`.
+fn first_name<'a>(nlas: NlaViews<'a>) -> Option<NameView<'a>>
+    ensures { option_map viewed_name result ≡ first_of (content unix 0) (values_left nlas.entry) }
+{
+    for nla in nlas {
+        if let NlaView::Name(name) = nla {
+            return Some(name);
+        }
+    }
+    None
+}
+
+// The content of the first `PendingConnections`.
+fn first_pending<'a>(nlas: NlaViews<'a>) -> Option<NumbersView<'a>>
+    ensures { option_map viewed_numbers result ≡ first_of (content unix 3) (values_left nlas.entry) }
+{
+    for nla in nlas {
+        if let NlaView::PendingConnections(inodes) = nla {
+            return Some(inodes);
+        }
+    }
+    None
+}
+
+// The content of the first `Shutdown`.
+fn first_shutdown(nlas: NlaViews<'_>) -> Option<u8>
+    ensures { result ≡ first_of (content unix 6) (values_left nlas.entry) }
+{
+    for nla in nlas {
+        if let NlaView::Shutdown(state) = nla {
+            return Some(state);
+        }
+    }
+    None
+}
+
+// The content of the first `ReceiveQueueLength`.
+fn first_queue(nlas: NlaViews<'_>) -> Option<(u32, u32)>
+    ensures { result ≡ first_of (content unix 4) (values_left nlas.entry) }
+{
+    for nla in nlas {
+        if let NlaView::ReceiveQueueLength(first, second) = nla {
+            return Some((first, second));
+        }
+    }
+    None
+}
+
+// The content of the first `MemInfo`.
+fn first_memory(nlas: NlaViews<'_>) -> Option<MemInfo>
+    ensures { result ≡ first_of (content unix 5) (values_left nlas.entry) }
+{
+    for nla in nlas {
+        if let NlaView::MemInfo(info) = nla {
+            return Some(info);
+        }
+    }
+    None
+}
