@@ -1,5 +1,5 @@
 -- The answer to a line, by what the line is.
-use Rattle.std.proofs.Common.{◌≡◌, ◌<◌, ◌+◌, ◌⊎◌, inl, inr, ℕ, suc, Bool, true, false, List, [], ◌∷◌, ◌++◌, length, take, drop, get_or, codes, Option, Some, None, Result, Ok, Err, refl, sym, ap, ◌∙◌, arith, add-one}
+use Rattle.std.proofs.Common.{◌≡◌, ◌≢◌, ◌==◌, ◌<◌, ◌+◌, ◌⊎◌, inl, inr, ℕ, suc, Bool, true, false, List, [], ◌∷◌, ◌++◌, length, take, drop, get_or, cond, codes, Option, Some, None, Result, Ok, Err, refl, sym, ap, ◌∙◌, arith, add-one, subst}
 use Rattle.std.specs.List.{find, position, position_or_len}
 use Rattle.std.specs.Result.{result_ok}
 use Rattle.std.specs.Str.{bytes_eq}
@@ -11,10 +11,57 @@ use Rattle.std.proofs.Math.Seq.{drop-cons, take-append_seam}
 use Rattle.hex.specs.Hex.{decode_of}
 use Rattle.hex.proofs.HexLemmas.{decode_of-ok}
 use Rattle.hex.specs.declared.error.FromHexError.{FromHexError}
-use Rattle.sockdiag.specs.Answer.{IsRequest, answer_at, answer_of, answer_to, answer_under, bad_line, is_space, name_of, names, word_of}
-use Rattle.sockdiag.specs.HexField.{IsHexField, field_bytes}
+use Rattle.sockdiag.specs.Answer.{IsAnswer, IsAnswerOf, IsAnswerTo, IsReadAs, IsRequest, subject_of, word_of}
+use Rattle.sockdiag.specs.HexField.{IsHexField}
+use Rattle.sockdiag.specs.Told.{IsAccepted, Subject, TellsOf}
 use Rattle.sockdiag.specs.declared.answers.Name.{Name}
-use Rattle.sockdiag.specs.declared.answers.Name.TheVariants.{UnixRequest, UnixResponse, InetRequest, InetResponse, SocketId4, SocketId6, Message, NetlinkMessage}
+use Rattle.sockdiag.specs.declared.answers.Name.TheVariants.{UnixRequest, UnixResponse, InetRequest, InetResponse, SocketId4, SocketId6, Message, NetlinkMessage, UnixView}
+use Rattle.sockdiag.proofs.FieldLaws.{IsBytes-field}
+use Rattle.sockdiag.proofs.NameLaws.{laws_of, shows_all}
+use Rattle.sockdiag.proofs.SubjectLaws.{told}
+use Rattle.sockdiag.proofs.Telling.{one_text, told-tells, told_alike, told_apart}
+
+-- ---- the answer, as a function of the line
+
+-- a space
+abbrev pub is_space : ℕ → Bool
+is_space c = c == 32
+
+-- what is answered to a line of another form
+abbrev pub bad_line : List ℕ
+bad_line = codes "bad line"
+
+-- all names
+abbrev names : List Name
+names = UnixRequest ∷ UnixResponse ∷ InetRequest ∷ InetResponse ∷ SocketId4 ∷ SocketId6 ∷ Message ∷ NetlinkMessage ∷ UnixView ∷ []
+
+-- the name that a word is
+abbrev pub name_of : List ℕ → Option Name
+name_of word = find (λ name. bytes_eq word (word_of name)) names
+
+-- the bytes that a field stands for, where there are such
+abbrev pub field_bytes : List ℕ → Option (List ℕ)
+field_bytes [] = None
+field_bytes (c ∷ rest) = cond (bytes_eq (c ∷ rest) (codes "-")) (Some []) (result_ok (decode_of (c ∷ rest)))
+
+-- the one answer to a name and the bytes of its field
+abbrev pub answer_to : Name → List ℕ → List ℕ
+answer_to name bytes = told (subject_of name) (laws_of name) bytes
+
+-- the answer to what stands before and after the first space, where they are a name and a hex field
+abbrev answer_under : Option Name → Option (List ℕ) → List ℕ
+answer_under None bytes = bad_line
+answer_under (Some name) None = bad_line
+answer_under (Some name) (Some bytes) = answer_to name bytes
+
+-- the answer to a line whose first space stands at a place, or that has none
+abbrev answer_at : Option ℕ → List ℕ → List ℕ
+answer_at None line = bad_line
+answer_at (Some i) line = answer_under (name_of (take i line)) (field_bytes (drop (i + 1) line))
+
+-- the answer to a line
+abbrev pub answer_of : List ℕ → List ℕ
+answer_of line = answer_at (position is_space line) line
 
 -- ---- fields
 
@@ -50,6 +97,19 @@ IsHexField-from_bytes (c ∷ rest) bytes h =
           inr (omega (arith, len), read)
     ]
 
+-- an empty field stands for no bytes
+pub no_field : (field bytes : List ℕ) → (length field == 0) ≡ true → IsHexField field bytes → ⊥
+no_field field bytes h (inl dash) = let one = ap length dash.0 in let none = eqb-true (length field) 0 h in omega (arith, one, none)
+no_field field bytes h (inr digits) =
+    let len = (decode_of-ok field bytes digits.1).2 in
+    let none = eqb-true (length field) 0 h in
+    omega (arith, len, none, digits.0)
+
+-- digits stand for what they decode to
+pub digits_field : (field bytes : List ℕ) → (length field == 0) ≡ false → decode_of field ≡ Ok bytes → IsHexField field bytes
+digits_field [] bytes h read = absurd (cc h)
+digits_field (c ∷ rest) bytes h read = let len = (decode_of-ok (c ∷ rest) bytes read).2 in inr (omega (arith, len), read)
+
 -- ---- names
 
 name_of-word : (name : Name) → name_of (word_of name) ≡ Some name
@@ -61,6 +121,7 @@ name_of-word SocketId4 = refl
 name_of-word SocketId6 = refl
 name_of-word Message = refl
 name_of-word NetlinkMessage = refl
+name_of-word UnixView = refl
 
 -- what a search finds passes its test
 find-passes : (p : Name → Bool) (xs : List Name) (x : Name) → find p xs ≡ Some x → p x ≡ true
@@ -87,6 +148,7 @@ word_place SocketId4 field = refl
 word_place SocketId6 field = refl
 word_place Message field = refl
 word_place NetlinkMessage field = refl
+word_place UnixView field = refl
 
 word_left : (name : Name) (field : List ℕ) → drop (length (word_of name) + 1) (word_of name ++ 32 ∷ field) ≡ field
 word_left UnixRequest field = refl
@@ -97,6 +159,7 @@ word_left SocketId4 field = refl
 word_left SocketId6 field = refl
 word_left Message field = refl
 word_left NetlinkMessage field = refl
+word_left UnixView field = refl
 
 -- ---- lines
 
@@ -120,19 +183,103 @@ at_space line i h =
     let is : get_or line i 0 ≡ 32 = eqb-true _ _ space in
     sym (take-append-drop i line) ∙ ap (λ t. take i line ++ t) (rw (add-one, drop-cons line i 0) (ap (λ c. c ∷ drop (suc i) line) is))
 
-pub answer_of-other : (line : List ℕ) → ((name : Name) (bytes : List ℕ) → IsRequest line name bytes → ⊥) → answer_of line ≡ bad_line
-answer_of-other line h = by_place (position is_space line) refl
+-- a line is a request, or its answer is `bad line`
+request_or_bad : (line : List ℕ) → ((name : Name) × (bytes : List ℕ) × IsRequest line name bytes) ⊎ (answer_of line ≡ bad_line)
+request_or_bad line = by_place (position is_space line) refl
   where
     by_parts : (i : ℕ) → position is_space line ≡ Some i → (named : Option Name) → name_of (take i line) ≡ named
-        → (read : Option (List ℕ)) → field_bytes (drop (i + 1) line) ≡ read → answer_under named read ≡ bad_line
-    by_parts i place None n read r = refl
-    by_parts i place (Some name) n None r = refl
-    by_parts i place (Some name) n (Some bytes) r = absurd (h name bytes (record {
-      field = drop (i + 1) line;
-      spelled = at_space line i place ∙ ap (λ word. word ++ 32 ∷ drop (i + 1) line) (word_of-name (take i line) name n);
-      stands_for = IsHexField-from_bytes (drop (i + 1) line) bytes r;
-    }))
+        → (read : Option (List ℕ)) → field_bytes (drop (i + 1) line) ≡ read
+        → ((name : Name) × (bytes : List ℕ) × IsRequest line name bytes) ⊎ (answer_under named read ≡ bad_line)
+    by_parts i place None n read r = inr refl
+    by_parts i place (Some name) n None r = inr refl
+    by_parts i place (Some name) n (Some bytes) r = inl (
+      name,
+      bytes,
+      record {
+        field = drop (i + 1) line;
+        spelled = at_space line i place ∙ ap (λ word. word ++ 32 ∷ drop (i + 1) line) (word_of-name (take i line) name n);
+        stands_for = IsHexField-from_bytes (drop (i + 1) line) bytes r;
+      },
+    )
 
-    by_place : (found : Option ℕ) → position is_space line ≡ found → answer_at found line ≡ bad_line
-    by_place None p = refl
+    by_place : (found : Option ℕ) → position is_space line ≡ found
+        → ((name : Name) × (bytes : List ℕ) × IsRequest line name bytes) ⊎ (answer_at found line ≡ bad_line)
+    by_place None p = inr refl
     by_place (Some i) p = by_parts i p (name_of (take i line)) refl (field_bytes (drop (i + 1) line)) refl
+
+-- what answers a name and bytes isn't `bad line`
+not_bad : (S : Subject) (bytes : List ℕ) → TellsOf S bytes bad_line → ⊥
+not_bad S bytes (inl (v, r, f, e)) = let h : 98 ≡ 111 = ap (λ (t : List ℕ). get_or t 0 0) e in omega (arith, h)
+not_bad S bytes (inr (inl (v, r, f, e))) = let h : 98 ≡ 117 = ap (λ (t : List ℕ). get_or t 0 0) e in omega (arith, h)
+not_bad S bytes (inr (inr (fault, r, e))) = let h : 98 ≡ 114 = ap (λ (t : List ℕ). get_or t 0 0) e in omega (arith, h)
+
+-- ---- the answer's laws
+
+-- each line has an answer
+pub answer_of-is : (line : List ℕ) → IsAnswerOf line (answer_of line)
+answer_of-is line = record {
+  asked = λ name bytes asked.
+      subst (λ (t : List ℕ). IsAnswer name bytes t) (sym (answer_of-asked line name bytes asked))
+      (told-tells (subject_of name) (laws_of name) bytes (IsBytes-field asked.field bytes asked.stands_for));
+  other = λ none. elim (request_or_bad line) [
+    | inl (name, bytes, asked) ↦ absurd (none name bytes asked)
+    | inr bad ↦ bad
+  ];
+}
+
+-- and no other
+pub answer_of-only : (line text : List ℕ) → IsAnswerOf line text → text ≡ answer_of line
+answer_of-only line text h = elim (request_or_bad line) [
+  | inl (name, bytes, asked) ↦
+      let typed = IsBytes-field asked.field bytes asked.stands_for in
+      one_text (subject_of name) (laws_of name) bytes text _ typed (h.asked name bytes asked) (told-tells (subject_of name) (laws_of name) bytes typed)
+      ∙ sym (answer_of-asked line name bytes asked)
+  | inr bad ↦ h.other (λ name bytes asked.
+      not_bad (subject_of name) bytes (subst (λ (t : List ℕ). IsAnswer name bytes t) bad ((answer_of-is line).asked name bytes asked))) ∙ sym bad
+]
+
+pub one_answer : (line a b : List ℕ) → IsAnswerOf line a → IsAnswerOf line b → a ≡ b
+one_answer line a b h k = answer_of-only line a h ∙ sym (answer_of-only line b k)
+
+-- any function that gives each line an answer is this one
+pub one_function : (f : List ℕ → List ℕ) → ((line : List ℕ) → IsAnswerOf line (f line)) → answer_of ≡ f
+one_function f h = λ i line. sym (answer_of-only line (f line) (h line)) i
+
+-- what answers the name and bytes of a line answers the line
+asked_answer : (line : List ℕ) (name : Name) (bytes text : List ℕ) → IsRequest line name bytes → IsAnswer name bytes text → IsAnswerOf line text
+asked_answer line name bytes text asked tells =
+    let typed = IsBytes-field asked.field bytes asked.stands_for in
+    let same = one_text (subject_of name) (laws_of name) bytes text _ typed tells (told-tells (subject_of name) (laws_of name) bytes typed) in
+    subst (IsAnswerOf line) (answer_of-asked line name bytes asked ∙ sym same) (answer_of-is line)
+
+-- a name before the first space, and a hex field behind it
+pub request_at : (line : List ℕ) (i : ℕ) (name : Name) (bytes : List ℕ) → Some i ≡ position is_space line → take i line ≡ word_of name
+    → IsHexField (drop (i + 1) line) bytes → IsRequest line name bytes
+request_at line i name bytes place word field = record {
+  field = drop (i + 1) line;
+  spelled = at_space line i (sym place) ∙ ap (λ w. w ++ 32 ∷ drop (i + 1) line) word;
+  stands_for = field;
+}
+
+-- what answers that which a line was read as answers the line
+pub read_answer : (line : List ℕ) (asked : Option Name) (bytes text : List ℕ) → IsReadAs line asked bytes → IsAnswerTo asked bytes text → IsAnswerOf line text
+read_answer line None bytes text none e = record { asked = λ name content asked. absurd (none name content asked); other = λ _. e }
+read_answer line (Some name) bytes text asked tells = asked_answer line name bytes text asked tells
+
+-- two fields of one name have one answer where they are idle
+pub answers_alike : (name : Name) (line other bytes bytes' text text' : List ℕ) → IsAnswerOf line text → IsAnswerOf other text'
+    → IsRequest line name bytes → IsRequest other name bytes' → IsAccepted (subject_of name) bytes → IsAccepted (subject_of name) bytes'
+    → (subject_of name).idle bytes bytes' → text ≡ text'
+answers_alike name line other bytes bytes' text text' h k asked asked' ok ok' i =
+    answer_of-only line text h ∙ answer_of-asked line name bytes asked
+    ∙ told_alike (subject_of name) (laws_of name) bytes bytes' (IsBytes-field asked.field bytes asked.stands_for) (IsBytes-field asked'.field bytes' asked'.stands_for) ok ok' i
+    ∙ sym (answer_of-only other text' k ∙ answer_of-asked other name bytes' asked')
+
+-- and but for `unixview` nowhere else
+pub answers_apart : (name : Name) → name ≢ UnixView → (line other bytes bytes' text text' : List ℕ) → IsAnswerOf line text → IsAnswerOf other text'
+    → IsRequest line name bytes → IsRequest other name bytes' → IsAccepted (subject_of name) bytes → IsAccepted (subject_of name) bytes'
+    → text ≡ text' → (subject_of name).idle bytes bytes'
+answers_apart name all line other bytes bytes' text text' h k asked asked' ok ok' e =
+    let one = answer_of-only line text h ∙ answer_of-asked line name bytes asked in
+    let two = answer_of-only other text' k ∙ answer_of-asked other name bytes' asked' in
+    told_apart (subject_of name) (laws_of name) (shows_all name all) bytes bytes' (IsBytes-field asked.field bytes asked.stands_for) (IsBytes-field asked'.field bytes' asked'.stands_for) ok ok' (sym one ∙ e ∙ two)

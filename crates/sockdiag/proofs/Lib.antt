@@ -1,4 +1,12 @@
+pub mod ByteLaws
+pub mod FieldLaws
+pub mod SubjectLaws
+pub mod Deciding
+pub mod CanonicalLaws
+pub mod EnvelopeLaws
+pub mod Telling
+pub mod NameLaws
 pub mod AnswerLemmas
+pub mod ViewLemmas
 pub mod LinesLemmas
 pub mod RunLemmas
-pub mod Telling

@@ -1,28 +1,30 @@
 -- What a run has written, from what its parts wrote.
-use Rattle.std.proofs.Common.{◌≡◌, ◌≢◌, ◌<◌, ◌+◌, ℕ, List, [], ◌∷◌, ◌++◌, length, take, drop, get_or, Option, None, Some, Result, Ok, Err, ◌==◌, true, false, refl, sym, ap, ◌∙◌, subst, append_assoc, append-nil, take-append-drop, arith}
-use Rattle.std.specs.Prelude.{IfSome, OnOk}
+use Rattle.std.proofs.Common.{◌≡◌, ◌<◌, ◌≤◌, ◌+◌, ℕ, suc, List, [], ◌∷◌, ◌++◌, length, take, drop, get_or, slice_index, Option, None, Some, Result, Ok, Err, ◌==◌, true, false, refl, sym, ap, ◌∙◌, subst, append_assoc, append-nil, take-append-drop, take_all, le_refl, add-one, arith}
+use Rattle.std.specs.Prelude.{IfErr, IfSome, IsOk, OnOk}
 use Rattle.std.specs.Io.KnownBytes.{Appends, Consumes, IsAtEnd, Keeps}
 use Rattle.std.proofs.KnownBytes.{Appends-kept, Appends-trans, Consumes-trans}
-use Rattle.std.proofs.lemmas.Bool.{eqb-true}
+use Rattle.std.proofs.lemmas.Bool.{eq-eqb, eqb-true}
+use Rattle.std.proofs.lemmas.List.{get_or-take, get_or_default, length-take}
 use Rattle.std.proofs.lemmas.List.Concat.{flat_map-append}
-use Rattle.std.proofs.lemmas.List.{take_more}
-use Rattle.std.proofs.Math.Seq.{take-append-add}
-use Rattle.sockdiag.specs.Lines.{Splits, with_rest}
-use Rattle.sockdiag.specs.Run.{CaughtUp, Answers, AnswersPiece, IsBeginning, Writes, answer_line, answer_lines}
-use Rattle.sockdiag.proofs.LinesLemmas.{Splits-append, Splits-byte, Splits-feed, Splits-one_way, split_of}
+use Rattle.std.proofs.Math.Seq.{drop-cons, take-append-add}
+use Rattle.memchr.specs.Find.{IsFirstByte, is_byte}
+use Rattle.sockdiag.specs.Answer.{IsAnswerOf}
+use Rattle.sockdiag.specs.Lines.{IsLine, Splits, fed, with_rest}
+use Rattle.sockdiag.specs.Run.{CaughtUp, Answers, AnswersPiece, IsBeginning, Writes, answer_lines}
+use Rattle.sockdiag.proofs.LinesLemmas.{Splits-append, Splits-feed, Splits-line, Splits-one_way, Splits-rest, split_of}
 use Rattle.sockdiag.specs.declared.stream.RunError.{RunError}
 use Rattle.sockdiag.specs.declared.stream.RunError.TheVariants.{Read, Write, Memory}
 
--- the answers to all whole lines of the text are written, and `line` is what follows them
-pub record PieceSoFar (text line : List ℕ) (contents contents' : Option (List ℕ)) : Type 0 where
-  pub whole : List (List ℕ)
-  pub splits : Splits text whole line
-  pub appended : Appends contents contents' (answer_lines whole)
-
 -- the text was written, and then a call failed
-pub Writes-all : (contents contents' contents'' : Option (List ℕ)) (text : List ℕ)
+Writes-all : (contents contents' contents'' : Option (List ℕ)) (text : List ℕ)
     → Appends contents contents' text → Keeps contents' contents'' → Writes contents contents'' text (Err Write)
 Writes-all a b c text p q = (text, ([], sym (append-nil text)), Appends-kept a b c text p q)
+
+-- all was written, and then the output was flushed or a call failed
+pub flushed : (P : Type 0) (contents contents' contents'' : Option (List ℕ)) (text : List ℕ) (result : Result Unit RunError)
+    → Appends contents contents' text → Keeps contents' contents'' → IfErr result (λ e. (e ≡ Write) × P) → Writes contents contents'' text result
+flushed P a b c text (Ok done) p q h = Appends-kept a b c text p q
+flushed P a b c text (Err e) p q h = subst (λ f. Writes a c text (Err f)) (sym h.0) (Writes-all a b c text p q)
 
 -- ---- beginnings
 
@@ -35,210 +37,196 @@ IsBeginning-more front text b (more, e) = (more ++ b, ap (λ t. t ++ b) e ∙ ap
 IsBeginning-same : (front a b : List ℕ) → a ≡ b → IsBeginning front a → IsBeginning front b
 IsBeginning-same front a b e (more, h) = (more, sym e ∙ h)
 
+-- ---- the places of line feeds
+
+-- what lies before the first place is a line
+line_before : (xs : List ℕ) (n : ℕ) → n ≤ length xs → ((k : ℕ) → 0 ≤ k → k < n → ¬ ((slice_index xs k == 10) ≡ true)) → IsLine (take n xs)
+line_before xs n within none k d below =
+    let inside : k < n = omega (arith, length-take n xs) in
+    λ e. none k (omega arith) inside (eq-eqb (get_or xs k 0) 10 (get_or_default xs k 0 d (omega arith) ∙ sym (get_or-take n xs k d inside) ∙ e))
+
+pub line_to_feed : (xs : List ℕ) (n : ℕ) → IsFirstByte (is_byte 10) xs (Some n) → IsLine (take n xs) × (xs ≡ (take n xs ++ 10 ∷ []) ++ drop (n + 1) xs)
+line_to_feed xs n h = (
+  line_before xs n (omega (arith, h.0.high)) h.0.before,
+  sym (take-append-drop n xs)
+      ∙ ap (λ t. take n xs ++ t) (rw (add-one, drop-cons xs n 0 h.0.high) (ap (λ c. c ∷ drop (suc n) xs) (eqb-true _ _ h.1)))
+      ∙ sym (append_assoc (take n xs) (10 ∷ []) (drop (n + 1) xs)),
+)
+
+pub line_without_feed : (xs : List ℕ) → IsFirstByte (is_byte 10) xs None → IsLine xs
+line_without_feed xs h = subst IsLine (take_all (length xs) xs (le_refl (length xs))) (line_before xs (length xs) (le_refl (length xs)) h)
+
 -- ---- answer lines
 
-answer_lines-append : (a b : List (List ℕ)) → answer_lines (a ++ b) ≡ answer_lines a ++ answer_lines b
-answer_lines-append a b = flat_map-append answer_line a b
+module _ (f : List ℕ → List ℕ) where
+  answer_lines-append : (a b : List (List ℕ)) → answer_lines f (a ++ b) ≡ answer_lines f a ++ answer_lines f b
+  answer_lines-append a b = flat_map-append (λ line. fed (f line)) a b
 
-answer_lines-push : (a : List (List ℕ)) (line : List ℕ) → answer_lines (a ++ line ∷ []) ≡ answer_lines a ++ answer_line line
-answer_lines-push a line = answer_lines-append a (line ∷ []) ∙ ap (λ t. answer_lines a ++ t) (append-nil (answer_line line))
+  answer_lines-push : (a : List (List ℕ)) (line : List ℕ) → answer_lines f (a ++ line ∷ []) ≡ answer_lines f a ++ fed (f line)
+  answer_lines-push a line = answer_lines-append a (line ∷ []) ∙ ap (λ t. answer_lines f a ++ t) (append-nil (fed (f line)))
 
--- the answers to whole lines come before the answer to the rest
-answer_lines-with_rest : (whole : List (List ℕ)) (rest : List ℕ)
-    → answer_lines (with_rest whole rest) ≡ answer_lines whole ++ answer_lines (with_rest [] rest)
-answer_lines-with_rest whole [] = sym (append-nil (answer_lines whole))
-answer_lines-with_rest whole (b ∷ rest) = answer_lines-append whole ((b ∷ rest) ∷ [])
+  -- the answers to whole lines come before the answer to the rest
+  answer_lines-with_rest : (whole : List (List ℕ)) (rest : List ℕ)
+      → answer_lines f (with_rest whole rest) ≡ answer_lines f whole ++ answer_lines f (with_rest [] rest)
+  answer_lines-with_rest whole [] = sym (append-nil (answer_lines f whole))
+  answer_lines-with_rest whole (b ∷ rest) = answer_lines-append whole ((b ∷ rest) ∷ [])
 
--- the answers to a last line, and to none
-pub last_line : (line : List ℕ) → (length line == 0) ≡ false → answer_line line ≡ answer_lines (with_rest [] line)
-last_line [] h = absurd (cc h)
-last_line (b ∷ rest) h = sym (append-nil (answer_line (b ∷ rest)))
+  -- the answers to a last line, and to none
+  pub last_line : (line : List ℕ) → (length line == 0) ≡ false → fed (f line) ≡ answer_lines f (with_rest [] line)
+  last_line [] h = absurd (cc h)
+  last_line (b ∷ rest) h = sym (append-nil (fed (f (b ∷ rest))))
 
-pub no_last_line : (line : List ℕ) → (length line == 0) ≡ true → [] ≡ answer_lines (with_rest [] line)
-no_last_line [] h = refl
-no_last_line (b ∷ rest) h = let none = eqb-true (length (b ∷ rest)) 0 h in absurd (omega arith)
+  pub no_last_line : (line : List ℕ) → (length line == 0) ≡ true → [] ≡ answer_lines f (with_rest [] line)
+  no_last_line [] h = refl
+  no_last_line (b ∷ rest) h = let none = eqb-true (length (b ∷ rest)) 0 h in absurd (omega arith)
 
--- ---- a piece
+  -- ---- a piece
 
--- the text up to a byte of the piece and with it
-pub text_with : (front piece : List ℕ) (i b : ℕ) → i < length piece → get_or piece i 0 ≡ b
-    → front ++ take (i + 1) piece ≡ (front ++ take i piece) ++ b ∷ []
-text_with front piece i b below is =
-    ap (λ t. front ++ t) (take_more piece i 0 below ∙ ap (λ x. take i piece ++ x ∷ []) is) ∙ sym (append_assoc front (take i piece) (b ∷ []))
+  -- nothing of the piece was looked at
+  pub piece_begun : (line answers : List ℕ) → IsLine line → AnswersPiece f (line ++ []) line answers answers
+  piece_begun line answers h = record {
+    whole = [];
+    splits = subst (λ t. Splits t [] line) (sym (append-nil line)) (Splits-rest line h);
+    added = sym (append-nil answers);
+  }
 
--- the text up to a place of the piece, and what follows it
-pub text_split : (front piece : List ℕ) (i : ℕ) → front ++ piece ≡ (front ++ take i piece) ++ drop i piece
-text_split front piece i = ap (λ t. front ++ t) (sym (take-append-drop i piece)) ∙ sym (append_assoc front (take i piece) (drop i piece))
+  -- the bytes up to a line feed end the line, which is answered
+  pub piece_line : (text line more a b : List ℕ) → AnswersPiece f text line a b → IsLine more
+      → AnswersPiece f (text ++ (more ++ 10 ∷ [])) [] a (b ++ fed (f (line ++ more)))
+  piece_line text line more a b p h = record {
+    whole = p.whole ++ (line ++ more) ∷ [];
+    splits = subst (λ t. Splits t (p.whole ++ (line ++ more) ∷ []) []) (append_assoc text more (10 ∷ []))
+        (Splits-feed (text ++ more) p.whole (line ++ more) (Splits-line text p.whole line more p.splits h));
+    added = ap (λ t. t ++ fed (f (line ++ more))) p.added ∙ append_assoc a (answer_lines f p.whole) (fed (f (line ++ more)))
+        ∙ ap (λ t. a ++ t) (sym (answer_lines-push p.whole (line ++ more)));
+  }
 
--- the same after a byte
-pub text_from : (front piece : List ℕ) (i b : ℕ) → i < length piece → get_or piece i 0 ≡ b
-    → front ++ piece ≡ ((front ++ take i piece) ++ b ∷ []) ++ drop (i + 1) piece
-text_from front piece i b below is =
-    text_split front piece (i + 1)
-    ∙ ap (λ t. t ++ drop (i + 1) piece) (text_with front piece i b below is)
+  -- the bytes after the last line feed go on the line
+  pub piece_rest : (text line more a b : List ℕ) → AnswersPiece f text line a b → IsLine more → AnswersPiece f (text ++ more) (line ++ more) a b
+  piece_rest text line more a b p h = record {
+    whole = p.whole;
+    splits = Splits-line text p.whole line more p.splits h;
+    added = p.added;
+  }
 
--- the line is answered
-pub PieceSoFar-feed : (text line : List ℕ) (a b c : Option (List ℕ)) → PieceSoFar text line a b → Appends b c (answer_line line)
-    → PieceSoFar (text ++ 10 ∷ []) [] a c
-PieceSoFar-feed text line a b c p q = record {
-  whole = p.whole ++ line ∷ [];
-  splits = Splits-feed text p.whole line p.splits;
-  appended = subst (Appends a c) (sym (answer_lines-push p.whole line)) (Appends-trans a b c _ _ p.appended q);
-}
+  -- ---- a run
 
--- another byte of the line
-pub PieceSoFar-byte : (text line : List ℕ) (byte : ℕ) (a b : Option (List ℕ)) → PieceSoFar text line a b → byte ≢ 10
-    → PieceSoFar (text ++ byte ∷ []) (line ++ byte ∷ []) a b
-PieceSoFar-byte text line byte a b p h = record {
-  whole = p.whole;
-  splits = Splits-byte text p.whole line byte p.splits h;
-  appended = p.appended;
-}
+  -- nothing more was read
+  at_end : (r r' r'' : Option (List ℕ)) (text : List ℕ) → Consumes r r' text → Consumes r' r'' [] → Consumes r r'' text
+  at_end r r' r'' text p q = subst (Consumes r r'') (append-nil text) (Consumes-trans r r' r'' text [] p q)
 
--- memory ran out, and more of the piece was left
-pub piece_without_memory : (text more line line' : List ℕ) (a b c : Option (List ℕ)) → PieceSoFar text line a b → Keeps b c
-    → AnswersPiece (text ++ more) line' a c (Err Memory)
-piece_without_memory text more line line' a b c p kept =
-    let s = split_of (line ++ more) in
-    record {
-      whole = p.whole ++ s.whole;
-      rest = s.rest;
-      written = answer_lines p.whole;
-      splits = Splits-append text more p.whole s.whole line s.rest p.splits s.splits;
-      appended = Appends-kept a b c _ p.appended kept;
-      is_written = (length p.whole + 0, ap answer_lines (sym (take-append-add p.whole s.whole 0 ∙ append-nil p.whole)));
-    }
+  -- a piece was read and answered
+  pub CaughtUp-piece : (r r' r'' c c' c'' : Option (List ℕ)) (line piece line' answers : List ℕ) → CaughtUp f r r' c c' line
+      → Consumes r' r'' piece → AnswersPiece f (line ++ piece) line' [] answers → Appends c' c'' answers → CaughtUp f r r'' c c'' line'
+  CaughtUp-piece r r' r'' c c' c'' line piece line' answers p read q wrote = record {
+    text = p.text ++ piece;
+    whole = p.whole ++ q.whole;
+    read = Consumes-trans r r' r'' p.text piece p.read read;
+    splits = Splits-append p.text piece p.whole q.whole line line' p.splits q.splits;
+    appended = subst (Appends c c'') (sym (answer_lines-append p.whole q.whole))
+        (Appends-trans c c' c'' _ _ p.appended (subst (Appends c' c'') q.added wrote));
+  }
 
--- the answer to the line could not be written, and more of the piece was left
-pub piece_failed : (text more line line' : List ℕ) (a b c : Option (List ℕ)) (e : RunError) → PieceSoFar text line a b
-    → Writes b c (answer_line line) (Err e) → AnswersPiece ((text ++ 10 ∷ []) ++ more) line' a c (Err e)
-piece_failed text more line line' a b c Read p q = absurd q
-piece_failed text more line line' a b c Memory p q =
-    subst (λ t. AnswersPiece t line' a c (Err Memory)) (sym (append_assoc text (10 ∷ []) more))
-    (piece_without_memory text (10 ∷ more) line line' a b c p q)
-piece_failed text more line line' a b c Write p (front, begins, appended) =
-    let s = split_of more in
-    let before = answer_lines p.whole in
-    let whole = p.whole ++ line ∷ [] in
-    record {
-      whole = whole ++ s.whole;
-      rest = s.rest;
-      written = before ++ front;
-      splits = Splits-append (text ++ 10 ∷ []) more whole s.whole [] s.rest (Splits-feed text p.whole line p.splits) s.splits;
-      appended = Appends-trans a b c before front p.appended appended;
-      is_written = IsBeginning-same (before ++ front) _ _ (sym (answer_lines-append whole s.whole))
-          (IsBeginning-more (before ++ front) _ (answer_lines s.whole)
-          (IsBeginning-same (before ++ front) _ _ (sym (answer_lines-push p.whole line))
-          (IsBeginning-after before front (answer_line line) begins)));
-    }
+  -- memory ran out, and nothing was written of the answers to a piece
+  pub run_without_memory : (r r' r'' c c' c'' : Option (List ℕ)) (line piece : List ℕ) → CaughtUp f r r' c c' line
+      → Consumes r' r'' piece → Keeps c' c'' → Answers f r r'' c c'' (Err Memory)
+  run_without_memory r r' r'' c c' c'' line piece p read kept =
+      let s = split_of (line ++ piece) in
+      record {
+        text = p.text ++ piece;
+        whole = p.whole ++ s.whole;
+        rest = s.rest;
+        written = answer_lines f p.whole;
+        read = Consumes-trans r r' r'' p.text piece p.read read;
+        splits = Splits-append p.text piece p.whole s.whole line s.rest p.splits s.splits;
+        appended = Appends-kept c c' c'' _ p.appended kept;
+        is_written = (length p.whole + 0, ap (answer_lines f) (sym (take-append-add p.whole s.whole 0 ∙ append-nil p.whole)));
+      }
 
--- ---- a run
+  -- the answers to a piece could not be written
+  pub run_failed : (r r' r'' c c' c'' : Option (List ℕ)) (line piece line' answers : List ℕ) (e : RunError) → CaughtUp f r r' c c' line
+      → Consumes r' r'' piece → AnswersPiece f (line ++ piece) line' [] answers → Writes c' c'' answers (Err e) → Answers f r r'' c c'' (Err e)
+  run_failed r r' r'' c c' c'' line piece line' answers Read p read q wrote = absurd wrote
+  run_failed r r' r'' c c' c'' line piece line' answers Memory p read q wrote = run_without_memory r r' r'' c c' c'' line piece p read wrote
+  run_failed r r' r'' c c' c'' line piece line' answers Write p read q (front, begins, appended) =
+      let before = answer_lines f p.whole in
+      record {
+        text = p.text ++ piece;
+        whole = p.whole ++ q.whole;
+        rest = line';
+        written = before ++ front;
+        read = Consumes-trans r r' r'' p.text piece p.read read;
+        splits = Splits-append p.text piece p.whole q.whole line line' p.splits q.splits;
+        appended = Appends-trans c c' c'' _ _ p.appended appended;
+        is_written = IsBeginning-same (before ++ front) _ _ (sym (answer_lines-with_rest (p.whole ++ q.whole) line'))
+            (IsBeginning-more (before ++ front) _ (answer_lines f (with_rest [] line'))
+            (IsBeginning-same (before ++ front) _ _ (sym (answer_lines-append p.whole q.whole))
+            (IsBeginning-after before front (answer_lines f q.whole) (subst (IsBeginning front) q.added begins))));
+      }
 
--- nothing more was read
-at_end : (r r' r'' : Option (List ℕ)) (text : List ℕ) → Consumes r r' text → Consumes r' r'' [] → Consumes r r'' text
-at_end r r' r'' text p q = subst (Consumes r r'') (append-nil text) (Consumes-trans r r' r'' text [] p q)
+  -- the end was read, and the last line answered or not
+  pub run_finished : (r r' r'' c c' c'' : Option (List ℕ)) (line : List ℕ) (result : Result Unit RunError) → CaughtUp f r r' c c' line
+      → Consumes r' r'' [] → Writes c' c'' (answer_lines f (with_rest [] line)) result → Answers f r r'' c c'' result
+  run_finished r r' r'' c c' c'' line (Err Read) p read q = absurd q
+  run_finished r r' r'' c c' c'' line (Err Memory) p read q = record {
+    text = p.text;
+    whole = p.whole;
+    rest = line;
+    written = answer_lines f p.whole;
+    read = at_end r r' r'' p.text p.read read;
+    splits = p.splits;
+    appended = Appends-kept c c' c'' _ p.appended q;
+    is_written = (length p.whole + 0, ap (answer_lines f) (sym (ap (take (length p.whole + 0)) (sym (append-nil p.whole)) ∙ take-append-add p.whole [] 0 ∙ append-nil p.whole)));
+  }
+  run_finished r r' r'' c c' c'' line (Err Write) p read (front, begins, appended) =
+      let before = answer_lines f p.whole in
+      record {
+        text = p.text;
+        whole = p.whole;
+        rest = line;
+        written = before ++ front;
+        read = at_end r r' r'' p.text p.read read;
+        splits = p.splits;
+        appended = Appends-trans c c' c'' _ _ p.appended appended;
+        is_written = IsBeginning-same (before ++ front) _ _ (sym (answer_lines-with_rest p.whole line))
+            (IsBeginning-after before front (answer_lines f (with_rest [] line)) begins);
+      }
+  run_finished r r' r'' c c' c'' line (Ok done) p read q = record {
+    text = p.text;
+    whole = p.whole;
+    rest = line;
+    written = answer_lines f (with_rest p.whole line);
+    read = at_end r r' r'' p.text p.read read;
+    splits = p.splits;
+    appended = subst (Appends c c'') (sym (answer_lines-with_rest p.whole line)) (Appends-trans c c' c'' _ _ p.appended q);
+    is_written = refl;
+  }
 
--- a piece was read and answered
-pub CaughtUp-piece : (r r' r'' c c' c'' : Option (List ℕ)) (line piece line' : List ℕ) → CaughtUp r r' c c' line
-    → Consumes r' r'' piece → AnswersPiece (line ++ piece) line' c' c'' (Ok tt) → CaughtUp r r'' c c'' line'
-CaughtUp-piece r r' r'' c c' c'' line piece line' p read q = record {
-  text = p.text ++ piece;
-  whole = p.whole ++ q.whole;
-  read = Consumes-trans r r' r'' p.text piece p.read read;
-  splits = subst (Splits (p.text ++ piece) (p.whole ++ q.whole)) (sym q.is_written.0)
-      (Splits-append p.text piece p.whole q.whole line q.rest p.splits q.splits);
-  appended = subst (Appends c c'') (sym (answer_lines-append p.whole q.whole))
-      (Appends-trans c c' c'' _ _ p.appended (subst (Appends c' c'') q.is_written.1 q.appended));
-}
+  -- a run that ended well answered all that its reader told
+  pub run_complete : (r r' c c' : Option (List ℕ)) → IsAtEnd r' → Answers f r r' c c' (Ok tt)
+      → IfSome r (λ text. (whole : List (List ℕ)) (rest : List ℕ) → Splits text whole rest → Appends c c' (answer_lines f (with_rest whole rest)))
+  run_complete None r' c c' ended p = tt
+  run_complete (Some text) None c c' ended p = absurd p.read
+  run_complete (Some text) (Some left) c c' ended p = λ whole rest splits.
+      let all : text ≡ p.text = p.read ∙ ap (λ t. p.text ++ t) ended ∙ append-nil p.text in
+      let same = Splits-one_way p.text whole p.whole rest p.rest (subst (λ t. Splits t whole rest) all splits) p.splits in
+      let written : p.written ≡ answer_lines f (with_rest whole rest) = p.is_written
+      ∙ ap (λ w. answer_lines f (with_rest w p.rest)) (sym same.0) ∙ ap (λ t. answer_lines f (with_rest whole t)) (sym same.1) in
+      subst (Appends c c') written p.appended
 
--- a piece was read and could not be answered
-pub run_failed : (r r' r'' c c' c'' : Option (List ℕ)) (line piece line' : List ℕ) (e : RunError) → CaughtUp r r' c c' line
-    → Consumes r' r'' piece → AnswersPiece (line ++ piece) line' c' c'' (Err e) → Answers r r'' c c'' (Err e)
-run_failed r r' r'' c c' c'' line piece line' Read p read q = absurd q.is_written
-run_failed r r' r'' c c' c'' line piece line' Memory p read q =
-    let (k, written) = q.is_written in
-    record {
-      text = p.text ++ piece;
-      whole = p.whole ++ q.whole;
-      rest = q.rest;
-      written = answer_lines p.whole ++ q.written;
-      read = Consumes-trans r r' r'' p.text piece p.read read;
-      splits = Splits-append p.text piece p.whole q.whole line q.rest p.splits q.splits;
-      appended = Appends-trans c c' c'' _ _ p.appended q.appended;
-      is_written = (
-        length p.whole + k,
-        ap (λ t. answer_lines p.whole ++ t) written
-            ∙ sym (ap answer_lines (take-append-add p.whole q.whole k) ∙ answer_lines-append p.whole (take k q.whole)),
-      );
-    }
-run_failed r r' r'' c c' c'' line piece line' Write p read q =
-    let before = answer_lines p.whole in
-    record {
-      text = p.text ++ piece;
-      whole = p.whole ++ q.whole;
-      rest = q.rest;
-      written = before ++ q.written;
-      read = Consumes-trans r r' r'' p.text piece p.read read;
-      splits = Splits-append p.text piece p.whole q.whole line q.rest p.splits q.splits;
-      appended = Appends-trans c c' c'' _ _ p.appended q.appended;
-      is_written = IsBeginning-same (before ++ q.written) _ _ (sym (answer_lines-with_rest (p.whole ++ q.whole) q.rest))
-          (IsBeginning-more (before ++ q.written) _ (answer_lines (with_rest [] q.rest))
-          (IsBeginning-same (before ++ q.written) _ _ (sym (answer_lines-append p.whole q.whole))
-          (IsBeginning-after before q.written (answer_lines q.whole) q.is_written)));
-    }
+-- the same by each function that gives each line its answer, where a run ended one way or another
+pub run_complete_on_ok : (a : List ℕ → List ℕ) → ((f : List ℕ → List ℕ) → ((line : List ℕ) → IsAnswerOf line (f line)) → a ≡ f)
+    → (r r' c c' : Option (List ℕ)) (result : Result Unit RunError) → OnOk result (IsAtEnd r') → Answers a r r' c c' result
+    → OnOk result (IfSome r (λ text. (f : List ℕ → List ℕ) (whole : List (List ℕ)) (rest : List ℕ) → ((line : List ℕ) → IsAnswerOf line (f line))
+    → Splits text whole rest → Appends c c' (answer_lines f (with_rest whole rest))))
+run_complete_on_ok a only None r' c c' (Ok done) ended p = tt
+run_complete_on_ok a only (Some text) r' c c' (Ok done) ended p =
+    λ f whole rest right splits. run_complete f (Some text) r' c c' ended (subst (λ g. Answers g (Some text) r' c c' (Ok tt)) (only f right) p) whole rest splits
+run_complete_on_ok a only r r' c c' (Err e) ended p = tt
 
--- the end was read, and the last line answered or not
-pub run_finished : (r r' r'' c c' c'' : Option (List ℕ)) (line : List ℕ) (result : Result Unit RunError) → CaughtUp r r' c c' line
-    → Consumes r' r'' [] → Writes c' c'' (answer_lines (with_rest [] line)) result → Answers r r'' c c'' result
-run_finished r r' r'' c c' c'' line (Err Read) p read q = absurd q
-run_finished r r' r'' c c' c'' line (Err Memory) p read q = record {
-  text = p.text;
-  whole = p.whole;
-  rest = line;
-  written = answer_lines p.whole;
-  read = at_end r r' r'' p.text p.read read;
-  splits = p.splits;
-  appended = Appends-kept c c' c'' _ p.appended q;
-  is_written = (length p.whole + 0, ap answer_lines (sym (ap (take (length p.whole + 0)) (sym (append-nil p.whole)) ∙ take-append-add p.whole [] 0 ∙ append-nil p.whole)));
-}
-run_finished r r' r'' c c' c'' line (Err Write) p read (front, begins, appended) =
-    let before = answer_lines p.whole in
-    record {
-      text = p.text;
-      whole = p.whole;
-      rest = line;
-      written = before ++ front;
-      read = at_end r r' r'' p.text p.read read;
-      splits = p.splits;
-      appended = Appends-trans c c' c'' _ _ p.appended appended;
-      is_written = IsBeginning-same (before ++ front) _ _ (sym (answer_lines-with_rest p.whole line))
-          (IsBeginning-after before front (answer_lines (with_rest [] line)) begins);
-    }
-run_finished r r' r'' c c' c'' line (Ok done) p read q = record {
-  text = p.text;
-  whole = p.whole;
-  rest = line;
-  written = answer_lines (with_rest p.whole line);
-  read = at_end r r' r'' p.text p.read read;
-  splits = p.splits;
-  appended = subst (Appends c c'') (sym (answer_lines-with_rest p.whole line)) (Appends-trans c c' c'' _ _ p.appended q);
-  is_written = refl;
-}
+pub run_answered : (a f : List ℕ → List ℕ) (r r' c c' : Option (List ℕ)) (result : Result Unit RunError) → a ≡ f → Answers a r r' c c' result → Answers f r r' c c' result
+run_answered a f r r' c c' result same p = subst (λ h. Answers h r r' c c' result) same p
 
--- a run that ended well answered all that its reader told
-pub run_complete : (r r' c c' : Option (List ℕ)) → IsAtEnd r' → Answers r r' c c' (Ok tt)
-    → IfSome r (λ text. (whole : List (List ℕ)) (rest : List ℕ) → Splits text whole rest → Appends c c' (answer_lines (with_rest whole rest)))
-run_complete None r' c c' ended p = tt
-run_complete (Some text) None c c' ended p = absurd p.read
-run_complete (Some text) (Some left) c c' ended p = λ whole rest splits.
-    let all : text ≡ p.text = p.read ∙ ap (λ t. p.text ++ t) ended ∙ append-nil p.text in
-    let same = Splits-one_way p.text whole p.whole rest p.rest (subst (λ t. Splits t whole rest) all splits) p.splits in
-    let written : p.written ≡ answer_lines (with_rest whole rest) = p.is_written
-    ∙ ap (λ w. answer_lines (with_rest w p.rest)) (sym same.0) ∙ ap (λ t. answer_lines (with_rest whole t)) (sym same.1) in
-    subst (Appends c c') written p.appended
-
--- the same where a run ended one way or another
-pub run_complete_on_ok : (r r' c c' : Option (List ℕ)) (result : Result Unit RunError) → OnOk result (IsAtEnd r') → Answers r r' c c' result
-    → OnOk result (IfSome r (λ text. (whole : List (List ℕ)) (rest : List ℕ) → Splits text whole rest → Appends c c' (answer_lines (with_rest whole rest))))
-run_complete_on_ok r r' c c' (Ok done) ended p = run_complete r r' c c' ended p
-run_complete_on_ok r r' c c' (Err e) ended p = tt
+pub from_on_ok : {P : Type 0} (r : Result Unit RunError) → IsOk r → OnOk r P → P
+from_on_ok (Ok done) h p = p
+from_on_ok (Err e) h p = absurd (cc h)

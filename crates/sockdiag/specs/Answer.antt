@@ -1,30 +1,18 @@
 -- The answer to a line: a name, one space and a hex field, or anything else.
-use Rattle.std.specs.Prelude.{◌≡◌, ◌∷◌, ℕ, ◌+◌, ◌==◌, Bool, List, [], ◌++◌, take, drop, codes, Option, Some, None}
-use Rattle.std.specs.List.{find, position}
-use Rattle.std.specs.Str.{bytes_eq}
+use Rattle.std.specs.Prelude.{◌≡◌, ◌∷◌, ℕ, List, ◌++◌, codes, Option, MatchOption}
 use Rattle.sock_diag_records.specs.UnixRequest.{unix_request}
-use Rattle.sock_diag_records.specs.UnixRequestLaws.{unix_request_laws}
 use Rattle.sock_diag_records.specs.InetRequest.{inet_request}
-use Rattle.sock_diag_records.specs.InetRequestLaws.{inet_request_laws}
 use Rattle.sock_diag_records.specs.SocketId.{socket_id}
-use Rattle.sock_diag_records.specs.SocketIdLaws.{socket_id_laws}
 use Rattle.netlink_packet_sock_diag.specs.UnixReply.{unix_reply}
-use Rattle.netlink_packet_sock_diag.specs.UnixReplyLaws.{unix_reply_laws}
 use Rattle.netlink_packet_sock_diag.specs.InetReply.{inet_reply}
-use Rattle.netlink_packet_sock_diag.specs.InetReplyLaws.{inet_reply_laws}
-use Rattle.sockdiag.specs.HexField.{IsHexField, field_bytes}
-use Rattle.sockdiag.specs.Told.{Subject, TellsOf, told}
-use Rattle.sockdiag.specs.Subjects.{record_subject, reply_subject, message_subject, envelope_subject}
+use Rattle.netlink_packet_sock_diag.specs.Message.{message_codec}
+use Rattle.netlink_core.specs.Codec.{record_codec}
+use Rattle.netlink_core.specs.Reply.{reply_codec}
+use Rattle.sockdiag.specs.HexField.{IsHexField}
+use Rattle.sockdiag.specs.Told.{Subject, TellsOf}
+use Rattle.sockdiag.specs.Subjects.{subject, envelope_subject, view_subject}
 use Rattle.sockdiag.specs.declared.answers.Name.{Name}
-use Rattle.sockdiag.specs.declared.answers.Name.TheVariants.{UnixRequest, UnixResponse, InetRequest, InetResponse, SocketId4, SocketId6, Message, NetlinkMessage}
-
--- a space
-abbrev pub is_space : ℕ → Bool
-is_space c = c == 32
-
--- what is answered to a line of another form
-abbrev pub bad_line : List ℕ
-bad_line = codes "bad line"
+use Rattle.sockdiag.specs.declared.answers.Name.TheVariants.{UnixRequest, UnixResponse, InetRequest, InetResponse, SocketId4, SocketId6, Message, NetlinkMessage, UnixView}
 
 -- how each name is spelled
 abbrev pub word_of : Name → List ℕ
@@ -36,14 +24,7 @@ word_of SocketId4 = codes "sockid4"
 word_of SocketId6 = codes "sockid6"
 word_of Message = codes "message"
 word_of NetlinkMessage = codes "netlink"
-
--- all names
-abbrev pub names : List Name
-names = UnixRequest ∷ UnixResponse ∷ InetRequest ∷ InetResponse ∷ SocketId4 ∷ SocketId6 ∷ Message ∷ NetlinkMessage ∷ []
-
--- the name that a word is
-abbrev pub name_of : List ℕ → Option Name
-name_of word = find (λ name. bytes_eq word (word_of name)) names
+word_of UnixView = codes "unixview"
 
 -- the line is a name, one space and a hex field of these bytes
 pub record IsRequest (line : List ℕ) (name : Name) (bytes : List ℕ) : Type 0 where
@@ -53,34 +34,31 @@ pub record IsRequest (line : List ℕ) (name : Name) (bytes : List ℕ) : Type 0
 
 -- what the bytes of each name are read as; the socket identities under AF_INET, 2, and AF_INET6, 10
 abbrev pub subject_of : Name → Subject
-subject_of UnixRequest = record_subject unix_request _ _ unix_request_laws tt
-subject_of UnixResponse = reply_subject unix_reply unix_reply_laws
-subject_of InetRequest = record_subject inet_request _ _ inet_request_laws tt
-subject_of InetResponse = reply_subject inet_reply inet_reply_laws
-subject_of SocketId4 = record_subject socket_id _ _ socket_id_laws 2
-subject_of SocketId6 = record_subject socket_id _ _ socket_id_laws 10
-subject_of Message = message_subject
+subject_of UnixRequest = subject (record_codec unix_request) tt
+subject_of UnixResponse = subject (reply_codec unix_reply) tt
+subject_of InetRequest = subject (record_codec inet_request) tt
+subject_of InetResponse = subject (reply_codec inet_reply) tt
+subject_of SocketId4 = subject (record_codec socket_id) 2
+subject_of SocketId6 = subject (record_codec socket_id) 10
+subject_of Message = subject message_codec 20
 subject_of NetlinkMessage = envelope_subject
+subject_of UnixView = view_subject
 
 -- the text answers the bytes of a name
 abbrev pub IsAnswer : Name → List ℕ → List ℕ → Type 0
-IsAnswer name field text = TellsOf (subject_of name) field text
+IsAnswer name bytes text = TellsOf (subject_of name) bytes text
 
--- the one answer to a name and the bytes of its field
-abbrev pub answer_to : Name → List ℕ → List ℕ
-answer_to name field = told (subject_of name) field
+-- the text answers the line: the bytes of its name, and `bad line` where it is of another form
+pub record IsAnswerOf (line text : List ℕ) : Type 0 where
+  pub asked : (name : Name) (bytes : List ℕ) → IsRequest line name bytes → IsAnswer name bytes text
+  pub other : ((name : Name) (bytes : List ℕ) → IsRequest line name bytes → ⊥) → text ≡ codes "bad line"
 
--- the answer to what stands before and after the first space, where they are a name and a hex field
-abbrev pub answer_under : Option Name → Option (List ℕ) → List ℕ
-answer_under None bytes = bad_line
-answer_under (Some name) None = bad_line
-answer_under (Some name) (Some bytes) = answer_to name bytes
+-- ---- the parts of an answer
 
--- the answer to a line whose first space stands at a place, or that has none
-abbrev pub answer_at : Option ℕ → List ℕ → List ℕ
-answer_at None line = bad_line
-answer_at (Some i) line = answer_under (name_of (take i line)) (field_bytes (drop (i + 1) line))
+-- a line is read as a name and the bytes of its field, or as no request
+abbrev pub IsReadAs : List ℕ → Option Name → List ℕ → Type 0
+IsReadAs line asked bytes = MatchOption asked ((name : Name) (content : List ℕ) → ¬ IsRequest line name content) (λ name. IsRequest line name bytes)
 
--- the answer to a line
-abbrev pub answer_of : List ℕ → List ℕ
-answer_of line = answer_at (position is_space line) line
+-- the text answers what a line was read as
+abbrev pub IsAnswerTo : Option Name → List ℕ → List ℕ → Type 0
+IsAnswerTo asked bytes text = MatchOption asked (text ≡ codes "bad line") (λ name. IsAnswer name bytes text)

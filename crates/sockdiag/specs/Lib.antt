@@ -1,12 +1,8 @@
 pub mod Lines
 pub mod HexField
-pub mod ByteLaws
-pub mod FieldLaws
 pub mod Told
 pub mod EnvelopeLine
-pub mod Deciding
-pub mod CanonicalLaws
-pub mod EnvelopeLaws
+pub mod ViewLine
 pub mod Subjects
 pub mod Answer
 pub mod Run

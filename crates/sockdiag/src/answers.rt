@@ -1,19 +1,22 @@
 //! The answer to one line.
 
 ghost use Rattle.sockdiag.specs.declared.answers.Name.{Name};
-ghost use Rattle.std.specs.Prelude.{[], ◌∷◌, ℕ, List, Option, decimal, ◌≡◌, ◌≢◌, ◌↔◌, ◌<◌, ◌++◌, length, IfSome, IfOk, OnOk, option_map};
-ghost use Rattle.std.specs.List.{position};
-ghost use Rattle.sockdiag.specs.HexField.{field_bytes, field_of};
-ghost use Rattle.sockdiag.specs.Answer.{IsAnswer, IsRequest, answer_of, bad_line, is_space, name_of, subject_of};
+ghost use Rattle.sockdiag.specs.declared.answers.Name.TheVariants.{UnixView};
+ghost use Rattle.std.specs.Prelude.{◌≡◌, ◌≢◌, ◌↔◌, ◌<◌, ◌==◌, ◌++◌, ◌∷◌, [], ℕ, List, decimal, length, position, IfSome, IfOk, OnOk, MatchBool, MatchOption};
+ghost use Rattle.netlink_core.specs.Envelope.{EnvelopeFits};
 ghost use Rattle.netlink_core.specs.Seen.{envelope_of};
-ghost use Rattle.netlink_core.specs.declared.fault.DecodeError.TheVariants.{Memory};
+ghost use Rattle.netlink_packet_sock_diag.specs.Message.{MessageFits, message_bytes};
 ghost use Rattle.netlink_packet_sock_diag.specs.SeenMessage.{seen_message};
-ghost use Rattle.sockdiag.specs.EnvelopeLine.{ShowsEnvelope};
+ghost use Rattle.sockdiag.specs.Answer.{IsAnswer, IsAnswerOf, IsAnswerTo, IsReadAs, IsRequest, subject_of, word_of};
+ghost use Rattle.sockdiag.specs.EnvelopeLine.{shown_envelope, word};
+ghost use Rattle.sockdiag.specs.HexField.{IsHexField, field_of};
 ghost use Rattle.sockdiag.specs.Subjects.{envelope_subject};
-ghost use Rattle.sockdiag.specs.Told.{IsAccepted, Tells, TellsOf, accepted, refused};
+ghost use Rattle.sockdiag.specs.Told.{Adds, IsAccepted, Tells, TellsOf, accepted};
 
-use hex::FromHexError;
-use netlink_core::{CanonError, DecodeError, NetlinkMessage, Wire, canonical};
+use crate::view_line::push_view;
+use crate::words::{OK, push_accepted, push_field, push_number, push_refused};
+use memchr::memchr;
+use netlink_core::{CanonError, NetlinkHeader, NetlinkMessage, Wire, canonical};
 use netlink_packet_sock_diag::SockDiagMessage;
 use netlink_packet_sock_diag::constants::{AF_INET, AF_INET6, SOCK_DIAG_BY_FAMILY};
 use netlink_packet_sock_diag::inet::{InetRequest, InetResponse, SocketId};
@@ -35,162 +38,200 @@ pub(crate) enum Name {
     Message,
     /// The same with its netlink header.
     NetlinkMessage,
+    /// A reply about a UNIX socket, which is looked at in place.
+    UnixView,
 }
 
 /// The answer to a line of another form.
 const BAD_LINE: &[u8] = b"bad line";
 
+/// The answer to bytes whose value can't be written.
+const UNWRITABLE: &[u8] = b"unwritable";
+
 /// The number of bytes of a netlink header.
 const HEADER: usize = 16;
 
-/// The answer to a line, without its line feed: `ok` and the bytes written back (for `netlink` behind the
-/// five fields of the header), `unwritable`, `refused` and the number of the first fault, or `bad line`.
+/// The answer to a line, without its line feed: `ok` and what is shown of the value that was read,
+/// `unwritable`, `refused` and the number of the first fault, or `bad line`. Shown are the bytes written back,
+/// for `netlink` behind the five fields of the header, and for `unixview` thirteen words.
 pub fn answer(alloc: Global, line: &[u8]) -> Result<Vec<u8>, AllocError>
-    ensures asked { IfOk result (λ text. (name : Name) (bytes : List ℕ) → IsRequest line.now name bytes
-        → IsAnswer name bytes text.items) }
-    ensures other { IfOk result (λ text.
-        ((name : Name) (bytes : List ℕ) → IsRequest line.now name bytes → ⊥) → text.items ≡ bad_line) }
-    // One function of the line gives both.
-    ensures value { IfOk result (λ text. text.items ≡ answer_of line.now) }
+    ensures answers { IfOk result (λ text. IsAnswerOf line.now text.items) }
 
     // Two fields of one name whose values can be written have one answer exactly where they differ in idle
-    // details alone.
-    ensures same { IfOk result (λ text. (name : Name) (other bytes bytes' : List ℕ)
+    // details alone. Only `unixview` shows less than that.
+    ensures same { IfOk result (λ text. (name : Name) → name ≢ UnixView → (other bytes bytes' text' : List ℕ)
         → IsRequest line.now name bytes → IsRequest other name bytes'
         → IsAccepted (subject_of name) bytes → IsAccepted (subject_of name) bytes'
-        → ((text.items ≡ answer_of other) ↔ (subject_of name).idle bytes bytes')) }
+        → IsAnswerOf other text' → ((text.items ≡ text') ↔ (subject_of name).idle bytes bytes')) }
+    // Two fields of any name that differ in idle details alone have one answer.
+    ensures alike { IfOk result (λ text. (name : Name) (other bytes bytes' text' : List ℕ)
+        → IsRequest line.now name bytes → IsRequest other name bytes'
+        → IsAccepted (subject_of name) bytes → IsAccepted (subject_of name) bytes'
+        → IsAnswerOf other text' → (subject_of name).idle bytes bytes' → text.items ≡ text') }
 {
-    answer_by_parts(alloc, line)
+    let mut text = Vec::new(alloc);
+    push_answer(alloc, &mut Vec::new(alloc), &mut text, line)?;
+    Ok(text)
 }
 
-/// What `answer_of` is of a line: the one text that answers its name and bytes, or `bad line`. It does
-/// nothing: its contract is the law.
-pub fn answers_are_as_stated()
-    ensures asked { (line : List ℕ) (name : Name) (bytes : List ℕ) → IsRequest line name bytes
-        → IsAnswer name bytes (answer_of line) }
-    ensures only { (line : List ℕ) (name : Name) (bytes text : List ℕ) → IsRequest line name bytes
-        → IsAnswer name bytes text → text ≡ answer_of line }
-    ensures other { (line : List ℕ) → ((name : Name) (bytes : List ℕ) → IsRequest line name bytes → ⊥)
-        → answer_of line ≡ bad_line }
+/// Each line has one answer. It does nothing: its contract is the law.
+pub fn each_line_has_one_answer()
+    ensures some { (answer : List ℕ → List ℕ) × ((line : List ℕ) → IsAnswerOf line (answer line)) }
+    ensures one { (line text other : List ℕ) → IsAnswerOf line text → IsAnswerOf line other → text ≡ other }
 {}
 
-fn answer_by_parts(alloc: Global, line: &[u8]) -> Result<Vec<u8>, AllocError>
-    ensures { IfOk result (λ text. text.items ≡ answer_of line.now) }
+/// Adds the answer to a line to the text. Where memory runs out the text may have a part of it. `bytes` is
+/// room for the bytes of the field.
+pub(crate) fn push_answer(
+    alloc: Global,
+    bytes: &mut Vec<u8>,
+    text: &mut Vec<u8>,
+    line: &[u8],
+) -> Result<(), AllocError>
+    ensures { OnOk result (Adds text.old.items text.new.items (IsAnswerOf line.now)) }
 {
-    let Some(space) = find_space(line) else {
-        return Vec::from_slice(alloc, BAD_LINE);
-    };
-    let Some(name) = find_name(&line[..space]) else {
-        return Vec::from_slice(alloc, BAD_LINE);
-    };
-    let Some(bytes) = read_field(alloc, &line[space + 1..])? else {
-        return Vec::from_slice(alloc, BAD_LINE);
-    };
-    answer_bytes(alloc, name, bytes.as_slice())
+    let asked = read_request(bytes, line)?;
+    push_told(alloc, text, asked, bytes.as_slice())
 }
 
-/// The answer to a name and the bytes of its field.
-fn answer_bytes(alloc: Global, name: Name, bytes: &[u8]) -> Result<Vec<u8>, AllocError>
-    ensures { IfOk result (λ text. IsAnswer name bytes.now text.items) }
+/// The name of a line that is a request. The bytes of its field are put in place of what `bytes` held.
+pub(crate) fn read_request(bytes: &mut Vec<u8>, line: &[u8]) -> Result<Option<Name>, AllocError>
+    ensures { IfOk result (λ asked. IsReadAs line.now asked bytes.new.items) }
 {
-    match name {
-        Name::UnixRequest => answer_as::<UnixRequest>(alloc, bytes, ()),
-        Name::UnixResponse => answer_as::<UnixResponse>(alloc, bytes, ()),
-        Name::InetRequest => answer_as::<InetRequest>(alloc, bytes, ()),
-        Name::InetResponse => answer_as::<InetResponse>(alloc, bytes, ()),
-        Name::SocketId4 => answer_as::<SocketId>(alloc, bytes, AF_INET),
-        Name::SocketId6 => answer_as::<SocketId>(alloc, bytes, AF_INET6),
-        Name::Message => answer_as::<SockDiagMessage>(alloc, bytes, SOCK_DIAG_BY_FAMILY),
-        Name::NetlinkMessage => answer_netlink_message(alloc, bytes),
+    let Some(space) = find_space(line) else {
+        return Ok(None);
+    };
+    let Some(name) = find_name(&line[..space]) else {
+        return Ok(None);
+    };
+    if read_field(bytes, &line[space + 1..])? {
+        Ok(Some(name))
+    } else {
+        Ok(None)
     }
 }
 
-/// `ok` and the canonical form, `unwritable`, or `refused` and the number of the fault.
-fn answer_as<T: Wire + Drop>(
+/// Adds the answer to a name and the bytes of its field, or to a line of another form.
+pub(crate) fn push_told(
     alloc: Global,
+    text: &mut Vec<u8>,
+    asked: Option<Name>,
+    bytes: &[u8],
+) -> Result<(), AllocError>
+    ensures { OnOk result (Adds text.old.items text.new.items (IsAnswerTo asked bytes.now)) }
+{
+    match asked {
+        Some(name) => push_named(alloc, text, name, bytes),
+        None => text.extend_from_slice(BAD_LINE),
+    }
+}
+
+/// Adds the answer to a name and the bytes of its field.
+fn push_named(alloc: Global, text: &mut Vec<u8>, name: Name, bytes: &[u8]) -> Result<(), AllocError>
+    ensures { OnOk result (Adds text.old.items text.new.items (IsAnswer name bytes.now)) }
+{
+    match name {
+        Name::UnixRequest => push_canonical::<UnixRequest>(alloc, text, bytes, ()),
+        Name::UnixResponse => push_canonical::<UnixResponse>(alloc, text, bytes, ()),
+        Name::InetRequest => push_canonical::<InetRequest>(alloc, text, bytes, ()),
+        Name::InetResponse => push_canonical::<InetResponse>(alloc, text, bytes, ()),
+        Name::SocketId4 => push_canonical::<SocketId>(alloc, text, bytes, AF_INET),
+        Name::SocketId6 => push_canonical::<SocketId>(alloc, text, bytes, AF_INET6),
+        Name::Message => {
+            push_canonical::<SockDiagMessage>(alloc, text, bytes, SOCK_DIAG_BY_FAMILY)
+        }
+        Name::NetlinkMessage => push_netlink_message(alloc, text, bytes),
+        Name::UnixView => push_view(text, bytes),
+    }
+}
+
+/// Adds `ok` and the canonical form, `unwritable`, or `refused` and the number of the fault.
+fn push_canonical<T: Wire + Drop>(
+    alloc: Global,
+    text: &mut Vec<u8>,
     bytes: &[u8],
     param: T::Param,
-) -> Result<Vec<u8>, AllocError>
-    ensures { IfOk result (λ text. Tells (T.reads bytes.now param) (T.refuses bytes.now param) T.fits
-        (λ v. field_of (T.written v)) text.items) }
+) -> Result<(), AllocError>
+    ensures { OnOk result (Adds text.old.items text.new.items
+        (Tells (T.codec.reads bytes.now param) (T.codec.refuses bytes.now param) T.codec.fits
+        (λ v. field_of (T.codec.written v)))) }
 {
     match canonical::<T>(alloc, bytes, param) {
-        Ok(written) => accept(alloc, written.as_slice()),
-        Err(CanonError::Refused(fault)) => refuse(alloc, &fault),
-        Err(CanonError::Unwritable) => Vec::from_slice(alloc, b"unwritable"),
+        Ok(written) => push_accepted(text, written.as_slice()),
+        Err(CanonError::Refused(fault)) => push_refused(text, &fault),
+        Err(CanonError::Unwritable) => text.extend_from_slice(UNWRITABLE),
         Err(CanonError::Memory) => Err(AllocError),
     }
 }
 
-/// `ok` and what is shown of a netlink message, `unwritable`, or `refused` and the number of the fault.
-fn answer_netlink_message(alloc: Global, bytes: &[u8]) -> Result<Vec<u8>, AllocError>
-    ensures { IfOk result (λ text. TellsOf envelope_subject bytes.now text.items) }
+/// Adds `ok` and what is shown of a netlink message, `unwritable`, or `refused` and the number of the fault.
+fn push_netlink_message(alloc: Global, text: &mut Vec<u8>, bytes: &[u8]) -> Result<(), AllocError>
+    ensures { OnOk result (Adds text.old.items text.new.items (TellsOf envelope_subject bytes.now)) }
 {
     match NetlinkMessage::<SockDiagMessage>::deserialize(alloc, bytes) {
-        Ok(message) => show_netlink_message(alloc, &message),
-        Err(fault) => refuse(alloc, &fault),
+        Ok(message) => push_shown(alloc, text, message),
+        Err(fault) => push_refused(text, &fault),
     }
 }
 
-/// `ok`, the five fields of the header and the payload as it is written back, or `unwritable`.
-fn show_netlink_message(
+/// Adds `ok`, the five fields of the header and the payload as it is written back, or `unwritable`.
+fn push_shown(
     alloc: Global,
-    message: &NetlinkMessage<SockDiagMessage>,
-) -> Result<Vec<u8>, AllocError>
-    ensures { IfOk result (λ text. ShowsEnvelope (envelope_of seen_message message.now) text.items) }
+    text: &mut Vec<u8>,
+    message: NetlinkMessage<SockDiagMessage>,
+) -> Result<(), AllocError>
+    ensures { OnOk result (Adds text.old.items text.new.items
+        (Tells (λ e. e ≡ envelope_of seen_message message) (λ fault. ⊥) (EnvelopeFits message_bytes MessageFits) shown_envelope)) }
 {
     if !message.is_writable() {
-        return Vec::from_slice(alloc, b"unwritable");
+        return text.extend_from_slice(UNWRITABLE);
     }
     let mut bytes = vec![in alloc; 0; message.buffer_len()]?;
     message.serialize(&mut bytes);
-    let header = &message.header;
-    let mut text = Vec::from_slice(alloc, b"ok ")?;
-    push_number(alloc, &mut text, header.length)?;
-    push_number(alloc, &mut text, header.message_type.into())?;
-    push_number(alloc, &mut text, header.flags.into())?;
-    push_number(alloc, &mut text, header.sequence_number)?;
-    push_number(alloc, &mut text, header.port_number)?;
-    push_field(alloc, &mut text, &bytes[HEADER..])?;
-    Ok(text)
+    // The payload's memory is let go before the text takes any.
+    let NetlinkMessage { header, payload } = message;
+    drop(payload);
+    push_envelope(text, &header, &bytes[HEADER..])
+}
+
+/// Adds `ok`, the five fields of a header and a payload.
+fn push_envelope(
+    text: &mut Vec<u8>,
+    header: &NetlinkHeader,
+    payload: &[u8],
+) -> Result<(), AllocError>
+    ensures { OnOk result (text.new.items ≡ text.old.items ++ accepted
+        (word header.now.length (word header.now.message_type (word header.now.flags
+        (word header.now.sequence_number (word header.now.port_number (field_of payload.now))))))) }
+{
+    text.extend_from_slice(OK)?;
+    push_word(text, header.length)?;
+    push_word(text, header.message_type.into())?;
+    push_word(text, header.flags.into())?;
+    push_word(text, header.sequence_number)?;
+    push_word(text, header.port_number)?;
+    push_field(text, payload)
 }
 
 /// Adds a number in decimal and a space to the text.
-fn push_number(alloc: Global, text: &mut Vec<u8>, number: u32) -> Result<(), AllocError>
+fn push_word(text: &mut Vec<u8>, number: u32) -> Result<(), AllocError>
     ensures { OnOk result (text.new.items ≡ text.old.items ++ (decimal number ++ 32 ∷ [])) }
 {
-    text.extend_from_slice(format!(in alloc; "{number} ")?.as_bytes())
-}
-
-/// `ok` and the hex field of some bytes.
-fn accept(alloc: Global, written: &[u8]) -> Result<Vec<u8>, AllocError>
-    ensures { IfOk result (λ text. text.items ≡ accepted (field_of written.now)) }
-{
-    let mut text = Vec::from_slice(alloc, b"ok ")?;
-    push_field(alloc, &mut text, written)?;
-    Ok(text)
-}
-
-/// `refused` and the number of a fault. Want of memory is none, and is handed on.
-fn refuse(alloc: Global, fault: &DecodeError) -> Result<Vec<u8>, AllocError>
-    ensures { IfOk result (λ text. (fault.now ≢ Memory) × (text.items ≡ refused fault.now)) }
-{
-    match fault {
-        DecodeError::Memory => Err(AllocError),
-        named => Ok(format!(in alloc; "refused {}", named.number())?.into_bytes()),
-    }
+    push_number(text, number)?;
+    Ok(text.push(b' ')?)
 }
 
 /// The place of the first space.
 fn find_space(line: &[u8]) -> Option<usize>
-    ensures place { result ≡ position is_space line.now }
+    ensures place { result ≡ position (λ c. c == 32) line.now }
     ensures within { IfSome result (λ i. i < length line.now) }
 {
-    line.iter().position(|c| *c == b' ')
+    memchr(b' ', line)
 }
 
+/// The name that a word is.
 fn find_name(word: &[u8]) -> Option<Name>
-    ensures { result ≡ name_of word.now }
+    ensures { MatchOption result ((name : Name) → word.now ≢ word_of name) (λ name. word.now ≡ word_of name) }
 {
     match word {
         b"unixreq" => Some(Name::UnixRequest),
@@ -201,31 +242,23 @@ fn find_name(word: &[u8]) -> Option<Name>
         b"sockid6" => Some(Name::SocketId6),
         b"message" => Some(Name::Message),
         b"netlink" => Some(Name::NetlinkMessage),
+        b"unixview" => Some(Name::UnixView),
         _ => None,
     }
 }
 
-/// The bytes that a hex field stands for.
-fn read_field(alloc: Global, field: &[u8]) -> Result<Option<Vec<u8>>, AllocError>
-    ensures { IfOk result (λ found. option_map (λ bytes. bytes.items) found ≡ field_bytes field.now) }
+/// Puts the bytes that a hex field stands for in place of what `bytes` held, and answers whether it is one.
+fn read_field(bytes: &mut Vec<u8>, field: &[u8]) -> Result<bool, AllocError>
+    ensures { IfOk result (λ is_field. MatchBool is_field (IsHexField field.now bytes.new.items)
+        ((content : List ℕ) → ¬ IsHexField field.now content)) }
 {
-    match field {
-        [] => Ok(None),
-        b"-" => Ok(Some(Vec::new(alloc))),
-        _ => match hex::decode(alloc, field) {
-            Ok(bytes) => Ok(Some(bytes)),
-            Err(FromHexError::OutOfMemory) => Err(AllocError),
-            Err(_) => Ok(None),
-        },
+    bytes.clear();
+    if field.is_empty() {
+        return Ok(false);
     }
-}
-
-/// Adds the hex field of some bytes to the text.
-fn push_field(alloc: Global, text: &mut Vec<u8>, bytes: &[u8]) -> Result<(), AllocError>
-    ensures { OnOk result (text.new.items ≡ text.old.items ++ field_of bytes.now) }
-{
-    if bytes.is_empty() {
-        return Ok(text.push(b'-')?);
+    if field == b"-".as_slice() {
+        return Ok(true);
     }
-    text.extend_from_slice(hex::encode(alloc, bytes)?.as_bytes())
+    bytes.resize(field.len() / 2, 0)?;
+    Ok(hex::decode_to_slice(field, bytes.as_mut_slice()).is_ok())
 }

@@ -1,12 +1,14 @@
 //! Answers the lines of a reader on a writer.
-ghost use Rattle.std.specs.Prelude.{◌≡◌, ℕ, List, [], ◌++◌, OnOk, IfErr, IfSome, Option, None};
-ghost use Rattle.std.specs.Io.KnownBytes.{Appends, IsAtEnd, ReadConsumes};
-ghost use Rattle.std.specs.Io.{ReadsAtMost};
-ghost use Rattle.sockdiag.specs.Lines.{IsLine, Splits, with_rest};
-ghost use Rattle.sockdiag.specs.Run.{CaughtUp, Answers, AnswersPiece, Writes, answer_line, answer_lines};
+ghost use Rattle.std.specs.Prelude.{◌≡◌, ◌⊎◌, ◌-◌, ◌^◌, ℕ, List, [], ◌++◌, OnOk, OnErr, IfOk, IfErr, IfSome, Option, None};
+ghost use Rattle.std.specs.Io.KnownBytes.{Appends, IsAtEnd};
+ghost use Rattle.sockdiag.specs.Answer.{IsAnswerOf, IsReadAs};
+ghost use Rattle.sockdiag.specs.Lines.{IsLine, Splits, fed, with_rest};
+ghost use Rattle.sockdiag.specs.Run.{Answers, AnswersPiece, HasCause, Writes, answer_lines};
 ghost use Rattle.sockdiag.specs.declared.stream.RunError.TheVariants.{Memory};
 
-use crate::answers::answer;
+use crate::answers::{Name, push_told, read_request};
+use crate::prompt::{AnswerWrite, PromptRead};
+use memchr::memchr;
 use std::alloc::{AllocError, AllocFailed, Global};
 use std::io::{Read, Write};
 use std::marker::Brand;
@@ -42,20 +44,28 @@ impl<T: Drop> From<AllocFailed<T>> for RunError {
     }
 }
 
-/// How many bytes a read asks for.
+/// How many bytes a read asks for. An answer line is at most nine times as long as its line and the line feed,
+/// so what is gathered before a write is at most 72 KiB and the answer to one line that began earlier.
 const CHUNK: usize = 8192;
 
-/// What a reader and a writer told when a run began.
+/// How many bytes of memory a room keeps from line to line.
+const KEPT: usize = 131072;
+
+/// What a reader and a writer told when a run began, and the answer to each line.
 pub(crate) trait Start {
     ghost remaining: { Option (List ℕ) };
 
     ghost contents: { Option (List ℕ) };
+
+    ghost answer: { List ℕ → List ℕ };
 }
 
 impl Start for Brand {
     ghost remaining = { None };
 
     ghost contents = { None };
+
+    ghost answer = { λ line. line };
 }
 
 /// Writes the answer line of each line of `input`, and flushes. Before each read, the answers to
@@ -63,114 +73,172 @@ impl Start for Brand {
 pub fn run<R: Read, W: Write>(alloc: Global, input: &mut R, output: &mut W) -> Result<(), RunError>
     // All is read, and the answers to all lines that the reader told at the start are written.
     ensures ended { OnOk result (IsAtEnd (R.remaining input.new)) }
-    ensures complete { OnOk result (IfSome (R.remaining input.old) (λ text. (whole : List (List ℕ)) (rest : List ℕ)
-        → Splits text whole rest
-        → Appends (W.contents output.old) (W.contents output.new) (answer_lines (with_rest whole rest)))) }
+    ensures complete { OnOk result (IfSome (R.remaining input.old) (λ text.
+        (answer : List ℕ → List ℕ) (whole : List (List ℕ)) (rest : List ℕ)
+        → ((line : List ℕ) → IsAnswerOf line (answer line)) → Splits text whole rest
+        → Appends (W.contents output.old) (W.contents output.new) (answer_lines answer (with_rest whole rest)))) }
 
     // What was read and written, for each way to end.
-    ensures answered { Answers (R.remaining input.old) (R.remaining input.new)
+    ensures answered { (answer : List ℕ → List ℕ) → ((line : List ℕ) → IsAnswerOf line (answer line))
+        → Answers answer (R.remaining input.old) (R.remaining input.new)
         (W.contents output.old) (W.contents output.new) result }
 {
     serve::<Brand, R, W>(alloc, input, output)
 }
 
+/// What a run keeps from line to line, so that it takes memory only where a line is longer than those
+/// before.
+#[derive(Drop)]
+struct Kept {
+    /// The bytes since the last line feed.
+    line: Vec<u8>,
+    /// Room for the bytes of a field.
+    bytes: Vec<u8>,
+    /// The answer lines that are not written yet.
+    answers: Vec<u8>,
+}
+
 /// `run`, which knows what its reader and its writer told at the start.
-fn serve<S: Start, R: Read, W: Write>(
+fn serve<S: Start, R: PromptRead, W: AnswerWrite>(
     alloc: Global,
     input: &mut R,
     output: &mut W,
 ) -> Result<(), RunError>
-    requires { (S.remaining ≡ R.remaining input.old) × (S.contents ≡ W.contents output.old) }
-    ensures ended { OnOk result (IsAtEnd (R.remaining input.new)) }
-    ensures answered { Answers S.remaining (R.remaining input.new) S.contents (W.contents output.new) result }
+    requires start { (S.remaining ≡ R.left input.old) × (S.contents ≡ W.held output.old) × R.reads input.old 0 }
+    requires right { (line : List ℕ) → IsAnswerOf line (S.answer line) }
+    ensures ended { OnOk result (IsAtEnd (R.left input.new)) }
+    ensures answered { Answers S.answer S.remaining (R.left input.new) S.contents (W.held output.new) result }
+    ensures cause { IfErr result (λ e. HasCause e
+        (R.failed input.new ⊎ R.reads input.new (2 ^ 64 - 1)) (W.failed output.new)) }
 {
-    let mut line = Vec::new(alloc);
+    let mut kept = Kept {
+        line: Vec::new(alloc),
+        bytes: Vec::new(alloc),
+        answers: Vec::new(alloc),
+    };
     let mut chunk = [0u8; CHUNK];
-    'reads: for _ in 0..u64::MAX {
-        let count = read_piece::<S, R, W>(input, output, line.as_slice(), &mut chunk)?;
+    'reads: for _made in 0..u64::MAX {
+        let count = input.read_prompt::<S, W>(output, kept.line.as_slice(), &mut chunk)?;
         if count == 0 {
-            return finish(alloc, line.as_slice(), output);
+            return finish::<S, W>(alloc, &mut kept, output);
         }
-        take_piece(alloc, &mut line, &chunk[..count], output)?;
+        take_piece::<S>(alloc, &mut kept, &chunk[..count])?;
+        send(output, kept.answers.as_slice())?;
+        empty(alloc, &mut kept.answers);
     }
     Err(RunError::Read)
 }
 
-/// Reads once, where the answers to all whole lines that were read stand on `output`. Nothing else
-/// reads.
-fn read_piece<S: Start, R: Read, W: Write>(
-    input: &mut R,
-    _output: &W,
-    _line: &[u8],
-    piece: &mut [u8],
-) -> Result<usize, RunError>
-    requires { CaughtUp S.remaining (R.remaining input.old) S.contents (W.contents _output.now) _line.now }
-    ensures bound { ReadsAtMost result piece.new }
-    ensures bytes { ReadConsumes (R.remaining input.old) (R.remaining input.new) result piece.new }
-    ensures kind { IfErr result (λ e. e ≡ RunError.Read) }
-{
-    match input.read(piece) {
-        Ok(count) => Ok(count),
-        Err(_) => Err(RunError::Read),
-    }
-}
-
 /// Answers the last line, where it has bytes and no line feed, and flushes.
-fn finish<W: Write>(alloc: Global, line: &[u8], output: &mut W) -> Result<(), RunError>
-    ensures { Writes (W.contents output.old) (W.contents output.new)
-        (answer_lines (with_rest [] line.now)) result }
-{
-    if !line.is_empty() {
-        respond(alloc, line, output)?;
-    }
-    match output.flush() {
-        Ok(()) => Ok(()),
-        Err(_) => Err(RunError::Write),
-    }
-}
-
-/// Answers the lines that a piece of the input ends. What follows the last of them goes on `line`,
-/// the bytes since the last line feed.
-fn take_piece<W: Write>(
+fn finish<S: Start, W: AnswerWrite>(
     alloc: Global,
-    line: &mut Vec<u8>,
-    piece: &[u8],
+    kept: &mut Kept,
     output: &mut W,
 ) -> Result<(), RunError>
-    requires { IsLine line.old.items }
-    ensures { AnswersPiece (line.old.items ++ piece.now) line.new.items
-        (W.contents output.old) (W.contents output.new) result }
+    requires { (kept.old.answers.items ≡ []) × ((line : List ℕ) → IsAnswerOf line (S.answer line)) }
+    ensures written { Writes (W.held output.old) (W.held output.new)
+        (answer_lines S.answer (with_rest [] kept.old.line.items)) result }
+    ensures cause { IfErr result (λ e. e ≡ RunError.Write → W.failed output.new) }
 {
-    'bytes: for byte in piece {
-        if *byte == b'\n' {
-            respond(alloc, line.as_slice(), output)?;
-            line.clear();
-        } else {
-            line.push(*byte)?;
-        }
+    send_last::<S, W>(alloc, kept, output)?;
+    output.flush_answers()
+}
+
+/// Answers the last line, where it has bytes and no line feed.
+fn send_last<S: Start, W: AnswerWrite>(
+    alloc: Global,
+    kept: &mut Kept,
+    output: &mut W,
+) -> Result<(), RunError>
+    requires { (kept.old.answers.items ≡ []) × ((line : List ℕ) → IsAnswerOf line (S.answer line)) }
+    ensures written { Writes (W.held output.old) (W.held output.new)
+        (answer_lines S.answer (with_rest [] kept.old.line.items)) result }
+    ensures cause { IfErr result (λ e. e ≡ RunError.Write → W.failed output.new) }
+{
+    if kept.line.is_empty() {
+        return Ok(());
     }
+    end_line::<S>(alloc, kept, &[])?;
+    send(output, kept.answers.as_slice())
+}
+
+/// Adds the answers to the lines that a piece of the input ends. What follows the last of them goes on the
+/// line that is kept.
+fn take_piece<S: Start>(alloc: Global, kept: &mut Kept, piece: &[u8]) -> Result<(), AllocError>
+    requires { IsLine kept.old.line.items × ((line : List ℕ) → IsAnswerOf line (S.answer line)) }
+    ensures { OnOk result (AnswersPiece S.answer (kept.old.line.items ++ piece.now) kept.new.line.items
+        kept.old.answers.items kept.new.answers.items) }
+{
+    let mut rest = piece;
+    'lines: while let Some(end) = memchr(b'\n', rest) {
+        end_line::<S>(alloc, kept, &rest[..end])?;
+        rest = &rest[end + 1..];
+    }
+    kept.line.extend_from_slice(rest)?;
     Ok(())
 }
 
-/// Writes the answer line of one line.
-fn respond<W: Write>(alloc: Global, line: &[u8], output: &mut W) -> Result<(), RunError>
-    ensures { Writes (W.contents output.old) (W.contents output.new) (answer_line line.now) result }
+/// Adds the answer to a line whose last bytes are `end`, and begins the next. A long line's memory is let go
+/// before its answer takes any.
+fn end_line<S: Start>(alloc: Global, kept: &mut Kept, end: &[u8]) -> Result<(), AllocError>
+    requires { (line : List ℕ) → IsAnswerOf line (S.answer line) }
+    ensures { OnOk result ((kept.new.line.items ≡ [])
+        × (kept.new.answers.items ≡ kept.old.answers.items ++ fed (S.answer (kept.old.line.items ++ end.now)))) }
 {
-    let mut text = answer(alloc, line)?;
-    text.push(b'\n')?;
-    send(output, text.as_slice())
+    let asked = read_line(kept, end)?;
+    empty(alloc, &mut kept.line);
+    add_answer_line::<S>(alloc, &mut kept.answers, asked, kept.bytes.as_slice())?;
+    empty(alloc, &mut kept.bytes);
+    Ok(())
+}
+
+/// Reads a line whose last bytes are `end`. One that began in no earlier piece is read where it lies.
+fn read_line(kept: &mut Kept, end: &[u8]) -> Result<Option<Name>, AllocError>
+    ensures { IfOk result (λ asked. IsReadAs (kept.old.line.items ++ end.now) asked kept.new.bytes.items
+        × (kept.new.answers.items ≡ kept.old.answers.items)) }
+{
+    if kept.line.is_empty() {
+        return read_request(&mut kept.bytes, end);
+    }
+    kept.line.extend_from_slice(end)?;
+    read_request(&mut kept.bytes, kept.line.as_slice())
+}
+
+/// Adds the answer line of what a line was read as.
+fn add_answer_line<S: Start>(
+    alloc: Global,
+    answers: &mut Vec<u8>,
+    asked: Option<Name>,
+    bytes: &[u8],
+) -> Result<(), AllocError>
+    requires { (line : List ℕ) → IsAnswerOf line (S.answer line) }
+    ensures { OnOk result ((line : List ℕ) → IsReadAs line asked bytes.now
+        → answers.new.items ≡ answers.old.items ++ fed (S.answer line)) }
+{
+    push_told(alloc, answers, asked, bytes)?;
+    Ok(answers.push(b'\n')?)
+}
+
+/// Makes room empty, and keeps its memory unless a long line needed it.
+fn empty(alloc: Global, room: &mut Vec<u8>)
+    ensures { room.new.items ≡ [] }
+{
+    if room.capacity() > KEPT {
+        *room = Vec::new(alloc);
+    } else {
+        room.clear();
+    }
 }
 
 /// Writes all the bytes.
-fn send<W: Write>(output: &mut W, bytes: &[u8]) -> Result<(), RunError>
-    ensures { Writes (W.contents output.old) (W.contents output.new) bytes.now result }
+fn send<W: AnswerWrite>(output: &mut W, bytes: &[u8]) -> Result<(), RunError>
+    ensures written { Writes (W.held output.old) (W.held output.new) bytes.now result }
+    ensures cause { OnErr result (W.failed output.new) }
 {
     let mut rest = bytes;
     'writes: while !rest.is_empty() {
-        match output.write(rest) {
-            Ok(0) | Err(_) => return Err(RunError::Write),
-            Ok(count) => rest = &rest[count..],
-        }
+        let count = output.write_some(rest)?;
+        rest = &rest[count..];
     }
     Ok(())
 }

@@ -9,7 +9,10 @@ use std::io::{ErrorKind, Read, Write};
 use std::process::Abort;
 use std::test::Fail;
 
+mod generated;
+mod hostile;
 mod rows;
+mod streams;
 
 const INPUT: &str = "unixreq 01000000020400003412000004000000ffffffffffffffff\n\
 unixreq 0709ffffffffffff34120000ffffffffffffffffffffffffaabbcc\n\
@@ -237,6 +240,122 @@ fn answers_before_it_reads_on(rt: HostRuntime) {
     assert_eq!(rt; answered.get(), 3);
 }
 
+/// Gives so many bytes a call at most, and counts its calls.
+#[derive(Drop)]
+struct PieceReader<'a> {
+    rest: &'a [u8],
+    most: usize,
+    calls: usize,
+}
+
+impl Read for PieceReader<'_> {
+    ghost remaining = { λ r. Some r.rest.now };
+
+    fn read(&mut self, buf: &mut [u8]) -> io::Result<usize> {
+        self.calls = self.calls.saturating_add(1);
+        let count = self.rest.len().min(buf.len()).min(self.most.max(1));
+        let (given, rest) = self.rest.split_at(count);
+        buf[..count].copy_from_slice(given);
+        self.rest = rest;
+        Ok(count)
+    }
+}
+
+/// Takes all, and counts its calls.
+#[derive(Drop)]
+struct WholeWriter {
+    taken: Vec<u8>,
+    calls: usize,
+}
+
+impl Write for WholeWriter {
+    ghost contents = { λ w. Some w.taken.items };
+
+    fn write(&mut self, buf: &[u8]) -> io::Result<usize> {
+        self.calls = self.calls.saturating_add(1);
+        self.taken.extend_from_slice(buf)?;
+        Ok(buf.len())
+    }
+
+    fn flush(&mut self) -> io::Result<()> {
+        Ok(())
+    }
+}
+
+/// In pieces of any size each line gets its answer, and there is one write for each read and one more at most.
+fn writes_once_a_read(rt: &impl Abort, alloc: Global, text: &[u8], want: &[u8]) {
+    for most in [1, 7, 64, 1000, 8191, 8192, usize::MAX] {
+        let mut input = PieceReader {
+            rest: text,
+            most,
+            calls: 0,
+        };
+        let mut output = WholeWriter {
+            taken: Vec::new(alloc),
+            calls: 0,
+        };
+        assert_eq!(rt; run(alloc, &mut input, &mut output), Ok(()));
+        assert!(rt; output.taken.as_slice() == want, "pieces of {most}");
+        let limit = input.calls.saturating_add(1);
+        assert!(rt;
+            output.calls <= limit,
+            "{} writes for pieces of {most}",
+            output.calls
+        );
+    }
+}
+
+#[test]
+fn writes_once_a_read_of_lines(rt: HostRuntime) -> Result<(), Fail> {
+    let alloc = rt.alloc();
+    let mut text = Vec::new(alloc);
+    let mut want = Vec::new(alloc);
+    for _ in 0..20 {
+        for (line, answer) in &rows::FORMS {
+            text.extend_from_slice(line.as_bytes())?;
+            text.push(b'\n')?;
+            want.extend_from_slice(answer.as_bytes())?;
+            want.push(b'\n')?;
+        }
+    }
+    writes_once_a_read(&rt, alloc, text.as_slice(), want.as_slice());
+    Ok(())
+}
+
+/// The shortest lines have the longest answers, for their length.
+#[test]
+fn writes_once_a_read_of_short_lines(rt: HostRuntime) -> Result<(), Fail> {
+    let alloc = rt.alloc();
+    let mut text = Vec::new(alloc);
+    let mut want = Vec::new(alloc);
+    for _ in 0..30000 {
+        text.push(b'\n')?;
+        want.extend_from_slice(b"bad line\n")?;
+    }
+    writes_once_a_read(&rt, alloc, text.as_slice(), want.as_slice());
+    Ok(())
+}
+
+/// A line that is longer than the memory that is kept, and lines behind it.
+#[test]
+fn goes_on_after_long_lines(rt: HostRuntime) -> Result<(), Fail> {
+    let alloc = rt.alloc();
+    let mut text = Vec::new(alloc);
+    let mut want = Vec::new(alloc);
+    for _ in 0..2 {
+        text.extend_from_slice(b"unixreq 01000000020400003412000004000000ffffffffffffffff")?;
+        for _ in 0..100000 {
+            text.extend_from_slice(b"00")?;
+        }
+        text.extend_from_slice(b"\nunixreq 00\n")?;
+        want.extend_from_slice(
+            b"ok 01000000020400003412000004000000ffffffffffffffff\nrefused 2\n",
+        )?;
+    }
+    writes_once_a_read(&rt, alloc, text.as_slice(), want.as_slice());
+    Ok(())
+}
+
 #[test]
 fn answers_odd_lines(rt: HostRuntime) -> Result<(), Fail> {
     for line in [
@@ -275,6 +394,28 @@ fn answers_requests_and_identities(rt: HostRuntime) -> Result<(), Fail> {
 fn answers_replies(rt: HostRuntime) -> Result<(), Fail> {
     answers_each(&rt, rt.alloc(), &rows::UNIX_REPLIES)?;
     answers_each(&rt, rt.alloc(), &rows::INET_REPLIES)
+}
+
+#[test]
+fn answers_views(rt: HostRuntime) -> Result<(), Fail> {
+    answers_each(&rt, rt.alloc(), &rows::VIEWS)
+}
+
+/// What `unix` refuses is refused with the same number.
+#[test]
+fn refuses_views_as_replies(rt: HostRuntime) -> Result<(), Fail> {
+    for (line, want) in &rows::UNIX_REPLIES {
+        if !want.starts_with("refused ") {
+            continue;
+        }
+        let Some(field) = line.strip_prefix("unix ") else {
+            continue;
+        };
+        let view = format!(in rt.alloc(); "unixview {field}")?;
+        let text = answer(rt.alloc(), view.as_bytes())?;
+        assert_eq!(rt; text.as_slice(), want.as_bytes(), "{view}");
+    }
+    Ok(())
 }
 
 #[test]

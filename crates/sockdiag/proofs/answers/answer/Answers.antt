@@ -1,25 +1,24 @@
-use Rattle.std.proofs.Common.{ℕ, List, sym, ◌∙◌, subst}
-use Rattle.std.proofs.lemmas.Result.{IfOk-weaker}
-use Rattle.sockdiag.specs.Answer.{IsAnswer, subject_of}
-use Rattle.sockdiag.proofs.AnswerLemmas.{answer_of-asked, answer_of-other}
-use Rattle.sockdiag.specs.FieldLaws.{IsBytes-field}
-use Rattle.sockdiag.proofs.Telling.{told-tells, told_alike}
+use Rattle.std.proofs.Common.{◌≡◌, [], ◌++◌, List, ℕ, sym, ap, ◌∙◌, subst}
+use Rattle.sockdiag.specs.Answer.{IsAnswerOf}
+use Rattle.sockdiag.specs.Told.{Adds}
+use Rattle.sockdiag.proofs.AnswerLemmas.{answers_alike, answers_apart}
 use Rattle.sockdiag.proofs.answers.answer.Goals as goal
 
-pub returns-clause-asked : goal.returns-clause-asked
-returns-clause-asked c =
-    IfOk-weaker c.answer_by_parts.result _ _ (λ text e name bytes asked.
-    subst (λ (t : List ℕ). IsAnswer name bytes t) (sym (e ∙ answer_of-asked c.args.line.now name bytes asked))
-    (told-tells (subject_of name) bytes (IsBytes-field asked.field bytes asked.stands_for))) c.answer_by_parts.ensures
-
-pub returns-clause-other : goal.returns-clause-other
-returns-clause-other c =
-    IfOk-weaker c.answer_by_parts.result _ _ (λ text e none. e ∙ answer_of-other c.args.line.now none) c.answer_by_parts.ensures
+-- what was added to an empty text is the whole of it
+whole : (line old new : List ℕ) → old ≡ [] → Adds old new (IsAnswerOf line) → IsAnswerOf line new
+whole line old new none (more, e, is) = subst (IsAnswerOf line) (sym (e ∙ ap (λ t. t ++ more) none)) is
 
 pub returns-clause-same : goal.returns-clause-same
-returns-clause-same c =
-    IfOk-weaker c.answer_by_parts.result _ _ (λ text e name other bytes bytes' asked asked' ok ok'.
-    let one = e ∙ answer_of-asked c.args.line.now name bytes asked in
-    let two = answer_of-asked other name bytes' asked' in
-    let both = told_alike (subject_of name) bytes bytes' (IsBytes-field asked.field bytes asked.stands_for) (IsBytes-field asked'.field bytes' asked'.stands_for) ok ok' in
-    (λ h. both.0 (sym one ∙ h ∙ two), λ i. one ∙ both.1 i ∙ sym two)) c.answer_by_parts.ensures
+returns-clause-same c = λ name all other bytes bytes' text' asked asked' ok ok' is'.
+    let line = c.args.line.now in
+    let text = c.push_answer.new.text.items in
+    let is = whole line _ text c.new-text.ensures.items c.in_ok-push_answer.ensures in (
+      answers_apart name all line other bytes bytes' text text' is is' asked asked' ok ok',
+      answers_alike name line other bytes bytes' text text' is is' asked asked' ok ok',
+    )
+
+pub returns-clause-alike : goal.returns-clause-alike
+returns-clause-alike c = λ name other bytes bytes' text' asked asked' ok ok' is'.
+    let line = c.args.line.now in
+    let text = c.push_answer.new.text.items in
+    answers_alike name line other bytes bytes' text text' (whole line _ text c.new-text.ensures.items c.in_ok-push_answer.ensures) is' asked asked' ok ok'

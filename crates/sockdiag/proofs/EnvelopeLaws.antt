@@ -1,18 +1,19 @@
--- Netlink messages are told alike exactly where their strings are idle.
+-- What is shown of netlink messages, which is all of them.
 use Rattle.std.proofs.Common.{◌≡◌, ◌↔◌, ◌⊎◌, ◌∙◌, inl, inr, ℕ, ◌<◌, ◌≤◌, ◌^◌, List, decimal, refl, sym, ap, subst, arith}
 use Rattle.std.proofs.lemmas.Fmt.{decimal_injective}
 use Rattle.netlink_core.specs.Bytes.{IsBytes}
 use Rattle.netlink_core.specs.declared.header.NetlinkHeader.{NetlinkHeader}
-use Rattle.netlink_core.specs.Envelope.{Payload, done_with, error_with, no_payload, overrun_with, inner, Envelope, IsInnerType, IsFramed, PayloadIs, EnvelopeIs, EnvelopeFault, EnvelopeFits, OfInner, IdleEnvelopes, payload_bytes}
+use Rattle.netlink_core.specs.Envelope.{Payload, done_with, error_with, no_payload, overrun_with, inner, Envelope, IsInnerType, IsFramed, PayloadIs, EnvelopeIs, EnvelopeFits, OfInner, IdleEnvelopes, payload_bytes}
 use Rattle.netlink_core.proofs.Framing.{envelope_or_fault, envelope_or_fault_apart, framed_payload, one_envelope_fault, payload_typed}
 use Rattle.netlink_core.proofs.Idle.{equal_where_idle}
-use Rattle.netlink_packet_sock_diag.specs.Message.{Message, MessageIs, MessageFault, MessageFits, IdleMessages, message_bytes}
+use Rattle.netlink_packet_sock_diag.specs.Message.{message_codec, Message, MessageIs, MessageFault, MessageFits, IdleMessages, message_bytes}
 use Rattle.netlink_packet_sock_diag.specs.MessageLaws.{message_laws}
-use Rattle.sockdiag.specs.CanonicalLaws.{same_written}
-use Rattle.sockdiag.specs.Deciding.{envelope_fits_or_not}
+use Rattle.sockdiag.proofs.CanonicalLaws.{same_written}
+use Rattle.sockdiag.proofs.Deciding.{envelope_fits_or_not}
 use Rattle.sockdiag.specs.EnvelopeLine.{shown_envelope, word}
-use Rattle.sockdiag.specs.FieldLaws.{decimal_digits, field_of-same, word_and_rest}
-use Rattle.sockdiag.specs.Told.{SubjectLaws}
+use Rattle.sockdiag.proofs.FieldLaws.{decimal_digits, field_of-same, word_and_rest}
+use Rattle.sockdiag.specs.Subjects.{envelope_subject}
+use Rattle.sockdiag.proofs.SubjectLaws.{LawsOf, ShowsAll}
 
 -- ---- words
 
@@ -57,7 +58,7 @@ same_payload t x y no_payload no_payload h hx hy r s f g e = refl
 same_payload t x y (error_with a) (error_with b) h hx hy r s f g e = ap error_with e
 same_payload t x y (done_with a) (done_with b) h hx hy r s f g e = ap done_with e
 same_payload t x y (overrun_with a) (overrun_with b) h hx hy r s f g e = ap overrun_with e
-same_payload t x y (inner m) (inner n) h hx hy r s f g e = ap inner (same_written message_laws t h x y m n hx hy r.1 s.1 f g e)
+same_payload t x y (inner m) (inner n) h hx hy r s f g e = ap inner (same_written message_codec message_laws t h x y m n hx hy r.1 s.1 f g e)
 same_payload t x y p q h hx hy r s f g e = let ranks : rank p ≡ rank q = same_rank x y t p q r s in absurd (omega arith)
 
 -- what is written of a payload that was read is bytes
@@ -102,14 +103,16 @@ same_shown b c v w hb hc (x, framed, r) (y, other, s) f g e =
       payload = payloads i;
     }
 
-pub envelope_laws : SubjectLaws (λ b v. EnvelopeIs MessageIs b v) (λ b e. EnvelopeFault MessageFault b e) (λ v. EnvelopeFits message_bytes MessageFits v) shown_envelope (λ b c. IdleEnvelopes IdleMessages b c)
+pub envelope_laws : LawsOf envelope_subject
 envelope_laws = record {
   answered = λ b h. envelope_or_fault MessageIs MessageFault b h (λ x t hx fits. message_laws.answered x t hx fits);
   one_value = λ b v w h r s. (equal_idle b b v w h h r s).1 ((equal_idle b b v v h h r r).0 refl);
   one_answer = λ b v e. envelope_or_fault_apart MessageIs MessageFault b v e (λ x t m. message_laws.one_answer x t m e);
   one_fault = λ b e f. one_envelope_fault MessageFault b e f (λ x t. message_laws.one_fault x t e f);
   fits_or_not = envelope_fits_or_not;
-  shown_alike = λ b c v w hb hc r s f g.
-      let same = equal_idle b c v w hb hc r s in
-      (λ e. same.0 (same_shown b c v w hb hc r s f g e), λ i. ap shown_envelope (same.1 i));
+  shown_alike = λ b c v w hb hc r s i. ap shown_envelope ((equal_idle b c v w hb hc r s).1 i);
 }
+
+-- the fields of the header and the written payload show all of a message
+pub envelope_shows_all : ShowsAll envelope_subject
+envelope_shows_all b c v w hb hc r s f g e = (equal_idle b c v w hb hc r s).0 (same_shown b c v w hb hc r s f g e)

@@ -3,6 +3,7 @@ use Rattle.std.proofs.Common.{◌⊎◌, inl, inr, ℕ, ◌+◌, ◌≤◌, List
 use Rattle.std.specs.List.{AllByRecursion}
 use Rattle.std.proofs.lemmas.Bool.{cases_lt}
 use Rattle.netlink_core.specs.Attribute.{Attribute, HasFittingValue}
+use Rattle.netlink_core.specs.Family.{attribute_said}
 use Rattle.netlink_core.specs.Reply.{Reply, ReplyFits, ValueOf, reply_bytes}
 use Rattle.netlink_core.specs.Envelope.{Payload, done_with, error_with, no_payload, overrun_with, inner, Envelope, EnvelopeFits, OfInner, payload_bytes}
 use Rattle.netlink_packet_sock_diag.specs.InetReply.{inet_reply}
@@ -23,7 +24,7 @@ all_fit (a ∷ later) = elim (at_most (length a.value) 65531) [
 ]
 
 pub reply_fits_or_not : (R : Reply) (value : ValueOf R) → ReplyFits R value ⊎ ¬ ReplyFits R value
-reply_fits_or_not R value = elim (all_fit (map R.family.attribute_of value.nlas)) [
+reply_fits_or_not R value = elim (all_fit (map (attribute_said R.family) value.nlas)) [
   | inl fits ↦ elim (at_most (length (reply_bytes R value)) 4294967295) [ inl room ↦ inl (fits, room) | inr full ↦ inr (λ h. full h.1) ]
   | inr unfit ↦ inr (λ h. unfit h.0)
 ]
