@@ -1,0 +1,94 @@
+#!/usr/bin/env python3
+"""Measures programs that answer lines: lines.py PROGRAM STORED [OTHER [FOLDER]], called by lines.sh."""
+import os
+import subprocess
+import sys
+import tempfile
+import time
+
+ROUNDS = 5
+OUTPUTS = ("null", "file", "pipe")
+
+
+def requests(count):
+    return b"".join(b"unixreq 010000000204000034120000%02x000000ffffffffffffffff\n" % (i % 64) for i in range(count))
+
+
+def inputs(stored):
+    """The inputs by name: many lines, twice as long lines of one name, and one long line."""
+    lines = [line + b"\n" for line in open(stored, "rb").read().split(b"\n") if line]
+    yield "unixreq, 10^4", requests(10**4)
+    yield "unixreq, 10^5", requests(10**5)
+    yield "unixreq, 10^6", requests(10**6)
+    for name in (b"unix", b"inet", b"netlink", b"unixview"):
+        own = b"".join(line for line in lines if line.startswith(name + b" "))
+        yield name.decode() + ", stored lines", own * (20_000_000 // len(own))
+    yield "short bad lines", b"a\n" * 10**6
+    yield "one unixreq line", b"unixreq " + b"01" * 50_000_000 + b"\n"
+    length = 50_000_000
+    message = length.to_bytes(4, "little") + b"\4\0" + bytes(10) + b"\x5a" * (length - 16)
+    yield "one netlink line", b"netlink " + message.hex().encode() + b"\n"
+    yield "one bad line", b"x" * 100_000_000 + b"\n"
+
+
+def seconds(program, given, output, work):
+    """The CPU time of one run."""
+    target = {"null": os.devnull, "file": os.path.join(work, "out")}.get(output)
+    with open(given, "rb") as stdin:
+        if target:
+            with open(target, "wb") as stdout:
+                run = subprocess.Popen([program], stdin=stdin, stdout=stdout)
+        else:
+            run = subprocess.Popen([program], stdin=stdin, stdout=subprocess.PIPE)
+            while run.stdout.read(1 << 20):
+                pass
+            run.stdout.close()
+        _, status, usage = os.wait4(run.pid, 0)
+    run.returncode = status
+    assert status == 0, program
+    return usage.ru_utime + usage.ru_stime
+
+
+def peak(program, given):
+    """The peak memory in KiB, which is read while the program waits for more."""
+    run = subprocess.Popen([program], stdin=subprocess.PIPE, stdout=subprocess.DEVNULL)
+    with open(given, "rb") as text:
+        while piece := text.read(1 << 20):
+            run.stdin.write(piece)
+    run.stdin.flush()
+    time.sleep(0.5)
+    with open(f"/proc/{run.pid}/status") as status:
+        kib = next(int(line.split()[1]) for line in status if line.startswith("VmHWM"))
+    run.stdin.close()
+    run.wait()
+    return kib
+
+
+def main(program, stored, other=None, folder=None):
+    cases = list(inputs(stored))
+    if folder:
+        cases += [(name, open(os.path.join(folder, name), "rb").read()) for name in sorted(os.listdir(folder))]
+    print(f"{'input':24} {'lines':>8} {'ns/line':>10} {'peak KiB':>9}  of longest" + ("   other's time: " + " ".join(OUTPUTS) if other else ""))
+    with tempfile.TemporaryDirectory() as work:
+        given = os.path.join(work, "in")
+        for name, text in cases:
+            with open(given, "wb") as file:
+                file.write(text)
+            count = text.count(b"\n")
+            longest = max(len(line) for line in text.split(b"\n"))
+            own = {output: [] for output in OUTPUTS}
+            others = {output: [] for output in OUTPUTS}
+            for _ in range(ROUNDS):
+                for output in OUTPUTS:
+                    own[output].append(seconds(program, given, output, work))
+                    if other:
+                        others[output].append(seconds(other, given, output, work))
+            kib = peak(program, given)
+            line = f"{name:24} {count:8} {min(own['null']) / count * 1e9:10.0f} {kib:9}  {kib * 1024 / longest:9.2f}" if longest > 10**6 else f"{name:24} {count:8} {min(own['null']) / count * 1e9:10.0f} {kib:9}  {'-':>9}"
+            if other:
+                line += "   " + " ".join(f"{min(own[o]) / max(min(others[o]), 1e-9):.2f}" for o in OUTPUTS)
+            print(line, flush=True)
+
+
+if __name__ == "__main__":
+    main(*sys.argv[1:])
