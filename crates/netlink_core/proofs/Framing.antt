@@ -90,7 +90,7 @@ fault_is_first b (EnvelopeLengthPast word got) f =
 fault_is_first b _ f = absurd f
 
 -- a framing has one fault at most
-one_framing_fault : (b : List ℕ) (e f : DecodeError) → IsEnvelopeFault b e → IsEnvelopeFault b f → e ≡ f
+pub one_framing_fault : (b : List ℕ) (e f : DecodeError) → IsEnvelopeFault b e → IsEnvelopeFault b f → e ≡ f
 one_framing_fault b e f h k =
     let same : Some e ≡ Some f = sym (fault_is_first b e h) ∙ fault_is_first b f k in
     cc

@@ -14,7 +14,10 @@ pub mod Prefixes
 pub mod Replies
 pub mod Headers
 pub mod Framing
+pub mod Datagrams
+pub mod Items
 pub mod Idle
 pub mod Equality
 pub mod SaidTests
 mod WholeWalk
+mod WholeDatagram

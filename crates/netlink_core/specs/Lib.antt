@@ -22,6 +22,9 @@ pub mod FamilyLaws
 pub mod HeadLaws
 pub mod Header
 pub mod Envelope
+pub mod Datagram
+pub mod DatagramWalk
+pub mod Items
 pub mod Seen
 pub mod Spare
 pub mod Kept

@@ -1,6 +1,7 @@
 //! Laws of the framing of attributes and of messages. The functions do nothing: their contracts are the laws.
 
-ghost use Rattle.std.specs.Prelude.{◌≡◌, ◌↔◌, ◌⊎◌, ◌<◌, ◌^◌, ℕ, List, [], map, Some, Ok, Err, IsTrue, IfOk, IsOk};
+ghost use Rattle.std.specs.Prelude.{◌≡◌, ◌↔◌, ◌⊎◌, ◌<◌, ◌^◌, ◌++◌, ℕ, List, [], map, Option, Some, None, Result, Ok, Err, IsTrue, IfOk, IsOk};
+ghost use Rattle.std.specs.Borrow.{Bor};
 ghost use Rattle.std.specs.Iterator.{Drains, YieldsThen};
 ghost use Rattle.std.specs.List.{AllByRecursion, flat_map};
 ghost use Rattle.netlink_core.specs.Attribute.{Attribute, FitsWords, Cut, CutInFull, written};
@@ -8,15 +9,20 @@ ghost use Rattle.netlink_core.specs.StatedCut.{StatedCut};
 ghost use Rattle.netlink_core.specs.Bytes.{IsBytes};
 ghost use Rattle.netlink_core.specs.CutOff.{CutOff};
 ghost use Rattle.netlink_core.specs.Walk.{attribute_of, bytes_left, GivesAttribute};
+ghost use Rattle.netlink_core.specs.Datagram.{CutIntoMessages, AreWholeMessages};
+ghost use Rattle.netlink_core.specs.DatagramWalk.{datagram_left, message_bytes, found, GivesMessage};
+ghost use Rattle.netlink_core.specs.Items.{ItemsAre};
 ghost use Rattle.netlink_core.specs.Seen.{envelope_of};
 ghost use Rattle.netlink_core.specs.declared.attribute.NlaBuffer.{NlaBuffer};
 ghost use Rattle.netlink_core.specs.declared.attribute.NlasIterator.{NlasIterator};
+ghost use Rattle.netlink_core.specs.declared.datagram.MessageStrings.{MessageStrings};
 ghost use Rattle.netlink_core.specs.declared.fault.DecodeError.{DecodeError};
 ghost use Rattle.netlink_core.specs.declared.fault.DecodeError.TheVariants.{Memory};
-ghost use Rattle.netlink_core.specs.Envelope.{Envelope, EnvelopeIs, EnvelopeFault, EnvelopeFits, envelope_bytes, IdleEnvelopes, IsTypedEnvelope, IsFinalized, IsNormalEnvelope};
+ghost use Rattle.netlink_core.specs.Envelope.{Payload, Envelope, EnvelopeIs, EnvelopeFault, EnvelopeFits, envelope_bytes, IdleEnvelopes, IsTypedEnvelope, IsFinalized, IsNormalEnvelope};
 
 use crate::attribute::{NlaBuffer, NlasIterator};
 use crate::canon::CanonError;
+use crate::datagram::MessageStrings;
 use crate::exact::Exact;
 use crate::fault::DecodeError as Fault;
 use crate::header::NetlinkHeader;
@@ -121,6 +127,14 @@ pub fn copied_walk<'a>(walk: &NlasIterator<'a>) -> Result<NlasIterator<'a>, Allo
     walk.clone()
 }
 
+/// The copy of a walk over messages has the same bytes left.
+pub fn copied_messages<'a>(walk: &MessageStrings<'a>) -> Result<MessageStrings<'a>, AllocError>
+    ensures ok { IsOk result }
+    ensures same { IfOk result (λ copy. datagram_left copy ≡ datagram_left walk.now) }
+{
+    walk.clone()
+}
+
 /// A default header has zeros.
 pub fn default_header() -> NetlinkHeader
     ensures { result ≡ record { length = 0; message_type = 0; flags = 0; sequence_number = 0; port_number = 0 } }
@@ -153,6 +167,45 @@ pub fn finalized_message_reads_back<I: Coded<Param = u16>>()
     ensures { ((t : ℕ) → t < 2 ^ 16 → I.codec.is_param t) → (type_of : I.codec.Value → ℕ) (v : Envelope I.codec.Value)
         → IsTypedEnvelope I.codec.is_typed v → EnvelopeFits I.codec.written I.codec.fits v → IsFinalized I.codec.written type_of v
         → (EnvelopeIs I.codec.reads (envelope_bytes I.codec.written v) v ↔ IsNormalEnvelope I.codec.is_normal v) }
+{}
+
+/// A walk that ends without a fault gave the messages into which the datagram is cut, and one that ends with a fault
+/// those that stand in front of it.
+pub fn whole_walk_is_the_datagram()
+    ensures ended { (walk : MessageStrings) (given : List (Bor (List ℕ))) → Drains GivesMessage walk (found given)
+        → CutIntoMessages (datagram_left walk) (map message_bytes given) None }
+    ensures fault { (walk last : MessageStrings) (given : List (Bor (List ℕ))) (e : DecodeError)
+        → YieldsThen GivesMessage walk (found given) (Some (Err e)) last
+        → CutIntoMessages (datagram_left walk) (map message_bytes given) (Some e) × (datagram_left last ≡ []) }
+{}
+
+/// A datagram is cut into at most one list of messages, with one end.
+pub fn one_list_of_messages()
+    ensures { (bytes : List ℕ) (xs ys : List (List ℕ)) (e f : Option DecodeError)
+        → CutIntoMessages bytes xs e → CutIntoMessages bytes ys f → (xs ≡ ys) × (e ≡ f) }
+{}
+
+/// Each datagram has items.
+pub fn datagram_has_items<I: Coded<Param = u16>>()
+    ensures { ((t : ℕ) → t < 2 ^ 16 → I.codec.is_param t) → (bytes : List ℕ) → IsBytes bytes
+        → (items : List (Result (Payload I.codec.Value) DecodeError)) × ItemsAre I.codec.reads I.codec.refuses bytes items }
+{}
+
+/// Each datagram has one list of items.
+pub fn one_list_of_items<I: Coded<Param = u16>>()
+    ensures { ((t : ℕ) → t < 2 ^ 16 → I.codec.is_param t) → (bytes : List ℕ) → IsBytes bytes
+        → (xs ys : List (Result (Payload I.codec.Value) DecodeError))
+        → ItemsAre I.codec.reads I.codec.refuses bytes xs → ItemsAre I.codec.reads I.codec.refuses bytes ys → xs ≡ ys }
+{
+    one_message_or_fault::<I>();
+}
+
+/// Messages with all their padding, and then more bytes, have the items of those messages and then those of the others.
+pub fn items_in_a_row<I: Coded<Param = u16>>()
+    ensures { (front back : List ℕ) (messages : List (List ℕ)) (xs ys : List (Result (Payload I.codec.Value) DecodeError))
+        → AreWholeMessages front messages
+        → ItemsAre I.codec.reads I.codec.refuses front xs → ItemsAre I.codec.reads I.codec.refuses back ys
+        → ItemsAre I.codec.reads I.codec.refuses (front ++ back) (xs ++ ys) }
 {}
 
 /// The types and flags of messages have the numbers of netlink(7).

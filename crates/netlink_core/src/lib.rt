@@ -4,6 +4,7 @@
 mod attribute;
 mod canon;
 mod codec;
+mod datagram;
 mod exact;
 mod fault;
 mod header;
@@ -17,6 +18,7 @@ mod wire;
 pub use crate::attribute::{NlaBuffer, NlasIterator};
 pub use crate::canon::{CanonError, canonical};
 pub use crate::codec::{Emitable, Parseable, ParseableParametrized, Readable};
+pub use crate::datagram::MessageStrings;
 pub use crate::exact::Exact;
 pub use crate::fault::{DecodeError, RecordName};
 pub use crate::header::NetlinkHeader;

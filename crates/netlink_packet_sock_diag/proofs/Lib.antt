@@ -8,3 +8,5 @@ pub mod Owning
 pub mod Keeping
 pub mod FirstViews
 mod Emitting
+pub mod Dumping
+pub mod DumpRows

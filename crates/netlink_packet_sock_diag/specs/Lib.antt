@@ -16,3 +16,6 @@ pub mod ViewedMessage
 pub mod EqualReplies
 pub mod EqualMessages
 pub mod EqualViews
+pub mod Dump
+pub mod Feed
+pub mod SeenDump

@@ -1,13 +1,19 @@
 //! Laws of replies and of messages. The functions do nothing: their contracts are the laws.
 
-ghost use Rattle.std.specs.Prelude.{◌≡◌, ◌%◌, ◌↔◌, ◌⊎◌, ℕ, List, [], ◌∷◌, length, count_by, IsTrue};
+ghost use Rattle.std.specs.Prelude.{◌≡◌, ◌%◌, ◌↔◌, ◌⊎◌, ◌++◌, ℕ, List, [], ◌∷◌, length, count_by, IsTrue, Result};
+ghost use Rattle.std.specs.List.{AllByRecursion, AllZip};
 ghost use Rattle.netlink_core.specs.Bytes.{IsBytes};
 ghost use Rattle.netlink_core.specs.declared.fault.DecodeError.{DecodeError};
 ghost use Rattle.netlink_core.specs.declared.fault.DecodeError.TheVariants.{Memory, UnknownMessageType};
 ghost use Rattle.netlink_core.specs.declared.header.NetlinkHeader.{NetlinkHeader};
 ghost use Rattle.netlink_core.specs.Header.{IsTypedHeader};
-ghost use Rattle.netlink_core.specs.Envelope.{Envelope, inner, EnvelopeIs, EnvelopeFault, EnvelopeFits, OfInner, envelope_bytes, finalized, IdleEnvelopes, IsTypedEnvelope, IsFinalized};
+ghost use Rattle.netlink_core.specs.Envelope.{Payload, Envelope, inner, EnvelopeIs, EnvelopeFault, EnvelopeFits, OfInner, envelope_bytes, finalized, IdleEnvelopes, IsTypedEnvelope, IsFinalized};
+ghost use Rattle.netlink_core.specs.Items.{ItemsAre};
 ghost use Rattle.netlink_core.specs.Reply.{IsTypedReply, reply_bytes};
+ghost use Rattle.netlink_packet_sock_diag.specs.declared.dump.DumpState.{DumpState};
+ghost use Rattle.netlink_packet_sock_diag.specs.declared.dump.DumpState.TheVariants.{Reading};
+ghost use Rattle.netlink_packet_sock_diag.specs.Dump.{in_a_row, Dump, DumpGoesOn, DatagramsDump, AreSplit};
+ghost use Rattle.netlink_packet_sock_diag.specs.Feed.{FeedsLeave};
 ghost use Rattle.netlink_packet_sock_diag.specs.UnixReply.{UnixReply, unix_reply};
 ghost use Rattle.netlink_packet_sock_diag.specs.InetReply.{InetReply, inet_reply};
 ghost use Rattle.netlink_packet_sock_diag.specs.ViewedInetReply.{viewed_response as viewed_inet};
@@ -81,6 +87,56 @@ pub fn finalized_message_reads_back()
         → (EnvelopeIs MessageIs (envelope_bytes message_bytes v) v ↔ OfInner (IsNormalMessage 20) v.payload) }
 {
     laws::finalized_message_reads_back::<SockDiagMessage>();
+}
+
+/// Items have one dump.
+pub fn items_have_one_dump()
+    ensures some { (before : List Message) (items : List (Result (Payload Message) DecodeError))
+        → (after : List Message) × (end : Result DumpState DecodeError) × Dump before items after end }
+    ensures one { (before a b : List Message) (items : List (Result (Payload Message) DecodeError)) (e f : Result DumpState DecodeError)
+        → Dump before items a e → Dump before items b f → (a ≡ b) × (e ≡ f) }
+{}
+
+/// The dump over items in a row is that over the first part, continued by the second.
+pub fn dump_over_items_in_a_row()
+    ensures { (before after : List Message) (end : Result DumpState DecodeError) (xs ys : List (Result (Payload Message) DecodeError))
+        → (Dump before (xs ++ ys) after end
+        ↔ ((middle : List Message) × (state : Result DumpState DecodeError) × Dump before xs middle state × DumpGoesOn middle state ys after end)) }
+{}
+
+/// Datagrams with the same items in a row have the same dump.
+pub fn same_items_have_one_dump()
+    ensures { (datagrams others : List (List ℕ)) (xs ys : List (List (Result (Payload Message) DecodeError))) → AllByRecursion IsBytes datagrams
+        → AllZip (ItemsAre MessageIs MessageFault) datagrams xs → AllZip (ItemsAre MessageIs MessageFault) others ys → in_a_row xs ≡ in_a_row ys
+        → (before after : List Message) (end : Result DumpState DecodeError)
+        → DatagramsDump MessageIs MessageFault before datagrams after end → DatagramsDump MessageIs MessageFault before others after end }
+{
+    laws::one_list_of_items::<SockDiagMessage>();
+}
+
+/// The dump does not depend on the split: any two ways to cut the same bytes into datagrams, of which all but the last
+/// are whole messages, have the same dump.
+pub fn split_changes_no_dump()
+    ensures { (datagrams others : List (List ℕ)) → AllByRecursion IsBytes datagrams → AllByRecursion IsBytes others
+        → AreSplit datagrams → AreSplit others → in_a_row datagrams ≡ in_a_row others
+        → (before after : List Message) (end : Result DumpState DecodeError)
+        → DatagramsDump MessageIs MessageFault before datagrams after end → DatagramsDump MessageIs MessageFault before others after end }
+{
+    laws::datagram_has_items::<SockDiagMessage>();
+    laws::one_list_of_items::<SockDiagMessage>();
+}
+
+/// Nor does what feeding leaves: the same bytes, fed to two new readers in any two such ways, and memory for all,
+/// leave the same messages and the same state.
+pub fn split_changes_no_feed()
+    ensures { (datagrams others : List (List ℕ)) → AllByRecursion IsBytes datagrams → AllByRecursion IsBytes others
+        → AreSplit datagrams → AreSplit others → in_a_row datagrams ≡ in_a_row others
+        → (messages same : List Message) (state end : DumpState)
+        → FeedsLeave MessageIs MessageFault [] Reading datagrams messages state → FeedsLeave MessageIs MessageFault [] Reading others same end
+        → (messages ≡ same) × (state ≡ end) }
+{
+    laws::datagram_has_items::<SockDiagMessage>();
+    laws::one_list_of_items::<SockDiagMessage>();
 }
 
 /// `==` says whether two replies in place, about UNIX sockets, tell the same.

@@ -8,6 +8,7 @@
 ghost use Rattle.std.specs.Prelude.{◌≡◌, [], ◌∷◌};
 
 mod coded;
+mod dump;
 pub mod inet;
 pub mod laws;
 pub mod message;
@@ -15,6 +16,9 @@ mod reply;
 pub mod unix;
 mod views;
 
+pub use dump::DumpError;
+pub use dump::DumpReader;
+pub use dump::DumpState;
 pub use message::SockDiagDestroy;
 pub use message::SockDiagMessage;
 pub use message::SockDiagView;

@@ -1,0 +1,310 @@
+-- Each list of items has one dump, and items in a row have that of the first part, continued by the second.
+use Rattle.std.proofs.Common.{◌≡◌, ◌≢◌, ◌↔◌, ℕ, ◌⊎◌, inl, inr, List, [], ◌∷◌, ◌++◌, refl, sym, ap, subst, ◌∙◌, append_assoc}
+use Rattle.std.specs.Prelude.{Result, Ok, Err}
+use Rattle.std.specs.List.{AllByRecursion, AllZip, flat_map}
+use Rattle.std.proofs.lemmas.List.{append-nil}
+use Rattle.std.proofs.lemmas.Grind.{flat_map-append}
+use Rattle.netlink_core.specs.declared.fault.DecodeError.{DecodeError}
+use Rattle.netlink_core.specs.Envelope.{Payload, done_with, error_with, no_payload, overrun_with, inner}
+use Rattle.netlink_core.specs.Bytes.{IsBytes}
+use Rattle.netlink_core.specs.declared.fault.DecodeError.TheVariants.{Memory}
+use Rattle.netlink_core.specs.ByteLaws.{IsBytes-nil, IsBytes-append}
+use Rattle.netlink_core.specs.Items.{ItemsAre}
+use Rattle.netlink_core.proofs.Items.{no_items, items_in_a_row}
+use Rattle.netlink_packet_sock_diag.specs.declared.dump.DumpState.{DumpState}
+use Rattle.netlink_packet_sock_diag.specs.declared.dump.DumpState.TheVariants.{Reading, Done, Error, Overrun, Failed}
+use Rattle.netlink_packet_sock_diag.specs.declared.dump.DumpError.{DumpError}
+use Rattle.netlink_packet_sock_diag.specs.declared.dump.DumpError.TheVariants.{Ended, Fault}
+use Rattle.netlink_packet_sock_diag.specs.Dump.{in_a_row, GoesOn, kept, EndsWith, Ends, Dump, DumpGoesOn, DumpInParts, DatagramDump, DatagramsDump, AreSplit}
+use Rattle.netlink_packet_sock_diag.specs.Feed.{FeedLeaves, FeedsLeave}
+
+module _ {A : Type 0} where
+  no_end_and_plain : (item : Result (Payload A) DecodeError) (end : Result DumpState DecodeError) → GoesOn item → EndsWith item end → ⊥
+  no_end_and_plain (Ok (inner value)) end plain ends = ends
+  no_end_and_plain (Ok no_payload) end plain ends = ends
+  no_end_and_plain (Ok (done_with given)) end plain ends = plain
+  no_end_and_plain (Ok (error_with given)) end plain ends = plain
+  no_end_and_plain (Ok (overrun_with given)) end plain ends = plain
+  no_end_and_plain (Err e) end plain ends = plain
+
+  no_end_reading : (item : Result (Payload A) DecodeError) → EndsWith item (Ok Reading) → ⊥
+  no_end_reading (Ok (inner value)) ends = ends
+  no_end_reading (Ok no_payload) ends = ends
+  no_end_reading (Ok (done_with given)) ends = cc
+  no_end_reading (Ok (error_with given)) ends = cc
+  no_end_reading (Ok (overrun_with given)) ends = cc
+  no_end_reading (Err e) ends = cc
+
+  one_end : (item : Result (Payload A) DecodeError) (e f : Result DumpState DecodeError) → EndsWith item e → EndsWith item f → e ≡ f
+  one_end (Ok (inner value)) e f h k = absurd h
+  one_end (Ok no_payload) e f h k = absurd h
+  one_end (Ok (done_with given)) e f h k = h ∙ sym k
+  one_end (Ok (error_with given)) e f h k = h ∙ sym k
+  one_end (Ok (overrun_with given)) e f h k = h ∙ sym k
+  one_end (Err fault) e f h k = h ∙ sym k
+
+  plain_or_end : (item : Result (Payload A) DecodeError) → GoesOn item ⊎ ((end : Result DumpState DecodeError) × EndsWith item end)
+  plain_or_end (Ok (inner value)) = inl tt
+  plain_or_end (Ok no_payload) = inl tt
+  plain_or_end (Ok (done_with given)) = inr (Ok Done, refl)
+  plain_or_end (Ok (error_with given)) = inr (Ok Error, refl)
+  plain_or_end (Ok (overrun_with given)) = inr (Ok Overrun, refl)
+  plain_or_end (Err e) = inr (Err e, refl)
+
+  one_split : (p q l m : List (Result (Payload A) DecodeError)) (e f : Result DumpState DecodeError) → p ++ l ≡ q ++ m → AllByRecursion GoesOn p → AllByRecursion GoesOn q → Ends l e → Ends m f → (p ≡ q) × (e ≡ f)
+  one_split [] [] [] [] e f same hp hq el em = (refl, el ∙ sym em)
+  one_split [] [] [] (y ∷ m) e f same hp hq el em = cc
+  one_split [] [] (x ∷ l) [] e f same hp hq el em = cc
+  one_split [] [] (x ∷ l) (y ∷ m) e f same hp hq el em = let heads : x ≡ y = cc in (refl, one_end x e f el (subst (λ (i : Result (Payload A) DecodeError). EndsWith i f) (sym heads) em))
+  one_split [] (y ∷ q) [] m e f same hp hq el em = cc
+  one_split [] (y ∷ q) (x ∷ l) m e f same hp hq el em = let heads : x ≡ y = cc in absurd (no_end_and_plain y e hq.0 (subst (λ (i : Result (Payload A) DecodeError). EndsWith i e) heads el))
+  one_split (x ∷ p) [] l [] e f same hp hq el em = cc
+  one_split (x ∷ p) [] l (y ∷ m) e f same hp hq el em = let heads : x ≡ y = cc in absurd (no_end_and_plain x f hp.0 (subst (λ (i : Result (Payload A) DecodeError). EndsWith i f) (sym heads) em))
+  one_split (x ∷ p) (y ∷ q) l m e f same hp hq el em =
+      let heads : x ≡ y = cc in
+      let tails : p ++ l ≡ q ++ m = cc in
+      let rest = one_split p q l m e f tails hp.1 hq.1 el em in
+      (λ i. heads i ∷ rest.0 i, rest.1)
+
+  pub one_dump : (before : List A) (items : List (Result (Payload A) DecodeError)) (a b : List A) (e f : Result DumpState DecodeError) → Dump before items a e → Dump before items b f → (a ≡ b) × (e ≡ f)
+  one_dump before items a b e f d t =
+      let same = one_split d.passed t.passed d.later t.later e f (sym d.parts ∙ t.parts) d.plain t.plain d.ends t.ends in
+      (d.keeps ∙ ap (λ (p : List (Result (Payload A) DecodeError)). before ++ flat_map kept p) same.0 ∙ sym t.keeps, same.1)
+
+  pub has_dump : (before : List A) (items : List (Result (Payload A) DecodeError)) → (after : List A) × (end : Result DumpState DecodeError) × Dump before items after end
+  has_dump before [] = (before, Ok Reading, record { passed = []; later = []; parts = refl; plain = tt; keeps = sym (append-nil before); ends = refl })
+  has_dump before (item ∷ items) = elim (plain_or_end item) [
+    | inl plain ↦
+        let rest = has_dump (before ++ kept item) items in
+        let d = rest.2 in (
+          rest.0,
+          rest.1,
+          record {
+            passed = item ∷ d.passed;
+            later = d.later;
+            parts = ap (λ (t : List (Result (Payload A) DecodeError)). item ∷ t) d.parts;
+            plain = (plain, d.plain);
+            keeps = d.keeps ∙ append_assoc before (kept item) (flat_map kept d.passed);
+            ends = d.ends;
+          },
+        )
+    | inr e ↦ (before, e.0, record { passed = []; later = item ∷ items; parts = refl; plain = tt; keeps = sym (append-nil before); ends = e.1 })
+  ]
+
+  plain_append : (xs ys : List (Result (Payload A) DecodeError)) → AllByRecursion GoesOn xs → AllByRecursion GoesOn ys → AllByRecursion GoesOn (xs ++ ys)
+  plain_append [] ys h k = k
+  plain_append (x ∷ xs) ys h k = (h.0, plain_append xs ys h.1 k)
+
+  none_later : (later : List (Result (Payload A) DecodeError)) (state : Result DumpState DecodeError) → Ends later state → state ≡ Ok Reading → later ≡ []
+  none_later [] state ends is = refl
+  none_later (item ∷ later) state ends is = absurd (no_end_reading item (subst (λ (s : Result DumpState DecodeError). EndsWith item s) is ends))
+
+  ends_before : (later more : List (Result (Payload A) DecodeError)) (state : Result DumpState DecodeError) → Ends later state → state ≢ Ok Reading → Ends (later ++ more) state
+  ends_before [] more state ends other = absurd (other ends)
+  ends_before (item ∷ later) more state ends other = ends
+
+  pub joined : (before middle after : List A) (state end : Result DumpState DecodeError) (xs ys : List (Result (Payload A) DecodeError)) → Dump before xs middle state → DumpGoesOn middle state ys after end → Dump before (xs ++ ys) after end
+  joined before middle after state end xs ys d (inl on) =
+      let t = on.1 in
+      let all : xs ≡ d.passed = d.parts ∙ ap (λ (l : List (Result (Payload A) DecodeError)). d.passed ++ l) (none_later d.later state d.ends on.0) ∙ append-nil d.passed in
+      record {
+        passed = d.passed ++ t.passed;
+        later = t.later;
+        parts = ap (λ (l : List (Result (Payload A) DecodeError)). l ++ ys) all ∙ ap (λ (l : List (Result (Payload A) DecodeError)). d.passed ++ l) t.parts ∙ sym (append_assoc d.passed t.passed t.later);
+        plain = plain_append d.passed t.passed d.plain t.plain;
+        keeps = t.keeps ∙ ap (λ (l : List A). l ++ flat_map kept t.passed) d.keeps ∙ append_assoc before (flat_map kept d.passed) (flat_map kept t.passed) ∙ ap (λ (l : List A). before ++ l) (sym (flat_map-append kept d.passed t.passed));
+        ends = t.ends;
+      }
+  joined before middle after state end xs ys d (inr off) = record {
+    passed = d.passed;
+    later = d.later ++ ys;
+    parts = ap (λ (l : List (Result (Payload A) DecodeError)). l ++ ys) d.parts ∙ append_assoc d.passed d.later ys;
+    plain = d.plain;
+    keeps = off.1 ∙ d.keeps;
+    ends = subst (λ (s : Result DumpState DecodeError). Ends (d.later ++ ys) s) (sym off.2) (ends_before d.later ys state d.ends off.0);
+  }
+
+  reading_or_not : (items : List (Result (Payload A) DecodeError)) (state : Result DumpState DecodeError) → Ends items state → (state ≡ Ok Reading) ⊎ (state ≢ Ok Reading)
+  reading_or_not [] state ends = inl ends
+  reading_or_not (item ∷ items) state ends = inr (λ is. no_end_reading item (subst (λ (s : Result DumpState DecodeError). EndsWith item s) is ends))
+
+  pub parted : (before after : List A) (end : Result DumpState DecodeError) (xs ys : List (Result (Payload A) DecodeError)) → Dump before (xs ++ ys) after end
+      → (middle : List A) × (state : Result DumpState DecodeError) × Dump before xs middle state × DumpGoesOn middle state ys after end
+  parted before after end xs ys d =
+      let first = has_dump before xs in
+      elim (reading_or_not first.2.later first.1 first.2.ends) [
+        | inl reading ↦
+            let second = has_dump first.0 ys in
+            let whole = joined before first.0 second.0 first.1 second.1 xs ys first.2 (inl (reading, second.2)) in
+            let same = one_dump before (xs ++ ys) after second.0 end second.1 d whole in
+            (first.0, first.1, first.2, inl (reading, subst (λ (s : Result DumpState DecodeError). Dump first.0 ys after s) (sym same.1) (subst (λ (l : List A). Dump first.0 ys l second.1) (sym same.0) second.2)))
+        | inr other ↦
+            let whole = joined before first.0 first.0 first.1 first.1 xs ys first.2 (inr (other, refl, refl)) in
+            let same = one_dump before (xs ++ ys) after first.0 end first.1 d whole in
+            (first.0, first.1, first.2, inr (other, same.0, same.1))
+      ]
+
+  pub in_parts : (before after : List A) (end : Result DumpState DecodeError) (parts : List (List (Result (Payload A) DecodeError))) → (DumpInParts before parts after end ↔ Dump before (in_a_row parts) after end)
+  in_parts before after end [] = (
+    λ h. record { passed = []; later = []; parts = refl; plain = tt; keeps = h.0 ∙ sym (append-nil before); ends = h.1 },
+    λ d. one_dump before [] after before end (Ok Reading) d (record { passed = []; later = []; parts = refl; plain = tt; keeps = sym (append-nil before); ends = refl }),
+  )
+  in_parts before after end (items ∷ later) = (
+    λ h. joined before h.0 after h.1 end items (in_a_row later) h.2 (elim h.3 [ inl on ↦ inl (on.0, (in_parts h.0 after end later).0 on.1) | inr off ↦ inr off ]),
+    λ d.
+        let p = parted before after end items (in_a_row later) d in
+        (p.0, p.1, p.2, elim p.3 [ inl on ↦ inl (on.0, (in_parts p.0 after end later).1 on.1) | inr off ↦ inr off ]),
+  )
+
+-- bytes one after the other are bytes
+bytes-in_a_row : (datagrams : List (List ℕ)) → AllByRecursion IsBytes datagrams → IsBytes (in_a_row datagrams)
+bytes-in_a_row [] typed = IsBytes-nil
+bytes-in_a_row (b ∷ later) typed = IsBytes-append b (in_a_row later) typed.0 (bytes-in_a_row later typed.1)
+
+module _ {A : Type 0} (reads : List ℕ → ℕ → A → Type 0) (refuses : List ℕ → ℕ → DecodeError → Type 0) where
+  by_items : ((b : List ℕ) → IsBytes b → (xs ys : List (Result (Payload A) DecodeError)) → ItemsAre reads refuses b xs → ItemsAre reads refuses b ys → xs ≡ ys)
+      → (before after : List A) (end : Result DumpState DecodeError) (datagrams : List (List ℕ)) (parts : List (List (Result (Payload A) DecodeError))) → AllByRecursion IsBytes datagrams
+      → AllZip (ItemsAre reads refuses) datagrams parts → DatagramsDump reads refuses before datagrams after end → DumpInParts before parts after end
+  by_items one before after end [] [] typed each d = d
+  by_items one before after end [] (p ∷ parts) typed each d = absurd each
+  by_items one before after end (b ∷ datagrams) [] typed each d = absurd each
+  by_items one before after end (b ∷ datagrams) (p ∷ parts) typed each d =
+      let first : Dump before p d.0 d.1 = subst (λ (l : List (Result (Payload A) DecodeError)). Dump before l d.0 d.1) (one b typed.0 d.2.0 p d.2.1 each.0) d.2.2 in
+      (d.0, d.1, first, elim d.3 [ inl on ↦ inl (on.0, by_items one d.0 after end datagrams parts typed.1 each.1 on.1) | inr off ↦ inr off ])
+
+  from_items : (before after : List A) (end : Result DumpState DecodeError) (datagrams : List (List ℕ)) (parts : List (List (Result (Payload A) DecodeError)))
+      → AllZip (ItemsAre reads refuses) datagrams parts → DumpInParts before parts after end → DatagramsDump reads refuses before datagrams after end
+  from_items before after end [] [] each d = d
+  from_items before after end [] (p ∷ parts) each d = absurd each
+  from_items before after end (b ∷ datagrams) [] each d = absurd each
+  from_items before after end (b ∷ datagrams) (p ∷ parts) each d =
+      (d.0, d.1, (p, each.0, d.2), elim d.3 [ inl on ↦ inl (on.0, from_items d.0 after end datagrams parts each.1 on.1) | inr off ↦ inr off ])
+
+  pub same_dump : ((b : List ℕ) → IsBytes b → (xs ys : List (Result (Payload A) DecodeError)) → ItemsAre reads refuses b xs → ItemsAre reads refuses b ys → xs ≡ ys)
+      → (datagrams others : List (List ℕ)) (xs ys : List (List (Result (Payload A) DecodeError))) → AllByRecursion IsBytes datagrams
+      → AllZip (ItemsAre reads refuses) datagrams xs → AllZip (ItemsAre reads refuses) others ys → in_a_row xs ≡ in_a_row ys
+      → (before after : List A) (end : Result DumpState DecodeError) → DatagramsDump reads refuses before datagrams after end → DatagramsDump reads refuses before others after end
+  same_dump one datagrams others xs ys typed each also same before after end d =
+      from_items before after end others ys also ((in_parts before after end ys).1 (subst (λ (l : List (Result (Payload A) DecodeError)). Dump before l after end) same ((in_parts before after end xs).0 (by_items one before after end datagrams xs typed each d))))
+
+  -- ---- how whole messages are split into datagrams
+
+  -- the last datagram has its items
+  last_items : (b : List ℕ) (p : List (Result (Payload A) DecodeError)) (later : List (List ℕ)) (parts : List (List (Result (Payload A) DecodeError)))
+      → later ≡ [] → AllZip (ItemsAre reads refuses) later parts → ItemsAre reads refuses b p → ItemsAre reads refuses (b ++ in_a_row later) (p ++ in_a_row parts)
+  last_items b p [] [] none each is = rw (append-nil b, append-nil p) is
+  last_items b p [] (q ∷ parts) none each is = absurd each
+  last_items b p (d ∷ later) parts none each is = absurd cc
+
+  -- the items of split datagrams are those of all their bytes
+  split_items : (datagrams : List (List ℕ)) (parts : List (List (Result (Payload A) DecodeError))) → AreSplit datagrams
+      → AllZip (ItemsAre reads refuses) datagrams parts → ItemsAre reads refuses (in_a_row datagrams) (in_a_row parts)
+  split_items [] [] split each = no_items reads refuses
+  split_items [] (p ∷ parts) split each = absurd each
+  split_items (b ∷ later) [] split each = absurd each
+  split_items (b ∷ later) (p ∷ parts) split each = elim split.0 [
+    | inl none ↦ last_items b p later parts none each.1 each.0
+    | inr whole ↦ items_in_a_row reads refuses b (in_a_row later) whole.0 p (in_a_row parts) whole.1 each.0 (split_items later parts split.1 each.1)
+  ]
+
+  -- datagrams have items
+  items_of_each : ((b : List ℕ) → IsBytes b → (items : List (Result (Payload A) DecodeError)) × ItemsAre reads refuses b items)
+      → (datagrams : List (List ℕ)) → AllByRecursion IsBytes datagrams → (parts : List (List (Result (Payload A) DecodeError))) × AllZip (ItemsAre reads refuses) datagrams parts
+  items_of_each some [] typed = ([], tt)
+  items_of_each some (b ∷ later) typed =
+      let first = some b typed.0 in
+      let rest = items_of_each some later typed.1 in
+      (first.0 ∷ rest.0, (first.1, rest.1))
+
+  -- the dump of split datagrams is that of the items of all their bytes
+  pub dump_of_split : ((b : List ℕ) → IsBytes b → (items : List (Result (Payload A) DecodeError)) × ItemsAre reads refuses b items)
+      → ((b : List ℕ) → IsBytes b → (xs ys : List (Result (Payload A) DecodeError)) → ItemsAre reads refuses b xs → ItemsAre reads refuses b ys → xs ≡ ys)
+      → (datagrams : List (List ℕ)) → AllByRecursion IsBytes datagrams → AreSplit datagrams → (before after : List A) (end : Result DumpState DecodeError)
+      → DatagramsDump reads refuses before datagrams after end → DatagramDump reads refuses before (in_a_row datagrams) after end
+  dump_of_split some one datagrams typed split before after end d =
+      let parts = items_of_each some datagrams typed in
+      (in_a_row parts.0, split_items datagrams parts.0 split parts.1, (in_parts before after end parts.0).0 (by_items one before after end datagrams parts.0 typed parts.1 d))
+
+  -- the other way round
+  pub split_of_dump : ((b : List ℕ) → IsBytes b → (items : List (Result (Payload A) DecodeError)) × ItemsAre reads refuses b items)
+      → ((b : List ℕ) → IsBytes b → (xs ys : List (Result (Payload A) DecodeError)) → ItemsAre reads refuses b xs → ItemsAre reads refuses b ys → xs ≡ ys)
+      → (datagrams : List (List ℕ)) → AllByRecursion IsBytes datagrams → AreSplit datagrams → (before after : List A) (end : Result DumpState DecodeError)
+      → DatagramDump reads refuses before (in_a_row datagrams) after end → DatagramsDump reads refuses before datagrams after end
+  split_of_dump some one datagrams typed split before after end d =
+      let parts = items_of_each some datagrams typed in
+      let same = one (in_a_row datagrams) (bytes-in_a_row datagrams typed) d.0 (in_a_row parts.0) d.1 (split_items datagrams parts.0 split parts.1) in
+      from_items before after end datagrams parts.0 parts.1 ((in_parts before after end parts.0).1 (subst (λ (l : List (Result (Payload A) DecodeError)). Dump before l after end) same d.2))
+
+  -- a datagram has one dump
+  pub one_datagram_dump : ((b : List ℕ) → IsBytes b → (xs ys : List (Result (Payload A) DecodeError)) → ItemsAre reads refuses b xs → ItemsAre reads refuses b ys → xs ≡ ys)
+      → (datagram : List ℕ) → IsBytes datagram → (before a b : List A) (e f : Result DumpState DecodeError)
+      → DatagramDump reads refuses before datagram a e → DatagramDump reads refuses before datagram b f → (a ≡ b) × (e ≡ f)
+  one_datagram_dump one datagram typed before a b e f d t =
+      one_dump before d.0 a b e f d.2 (subst (λ (l : List (Result (Payload A) DecodeError)). Dump before l b f) (one datagram typed t.0 d.0 t.1 d.1) t.2)
+
+  -- ---- what feeding leaves
+
+  -- the state in which a dump is left
+  state_left : Result DumpState DecodeError → DumpState
+  state_left (Ok state) = state
+  state_left (Err e) = Failed
+
+  feed_step : (before : List A) (datagram : List ℕ) (middle : List A) (next : DumpState) (answer : Result Unit DumpError)
+      → FeedLeaves reads refuses before Reading datagram middle next answer → answer ≢ Err (Fault Memory)
+      → (end : Result DumpState DecodeError) × DatagramDump reads refuses before datagram middle end × (next ≡ state_left end)
+  unfolding state_left
+  feed_step before datagram middle next (Ok done) f some = (Ok next, f.1, refl)
+  feed_step before datagram middle next (Err Ended) f some = absurd (f.0 refl)
+  feed_step before datagram middle next (Err (Fault e)) f some = (Err e, f.2 (λ memory. some (ap (λ (g : DecodeError). Err (Fault g)) memory)), f.1)
+
+  ended_step : (before : List A) (state : DumpState) (datagram : List ℕ) (middle : List A) (next : DumpState) (answer : Result Unit DumpError) → state ≢ Reading
+      → FeedLeaves reads refuses before state datagram middle next answer → (middle ≡ before) × (next ≡ state)
+  ended_step before state datagram middle next (Ok done) over f = absurd (over f.0)
+  ended_step before state datagram middle next (Err Ended) over f = (f.1, f.2)
+  ended_step before state datagram middle next (Err (Fault e)) over f = absurd (over f.0)
+
+  ended_stays : (datagrams : List (List ℕ)) (before after : List A) (state left : DumpState) → state ≢ Reading
+      → FeedsLeave reads refuses before state datagrams after left → (after ≡ before) × (left ≡ state)
+  ended_stays [] before after state left over f = f
+  ended_stays (datagram ∷ later) before after state left over f =
+      let one = ended_step before state datagram f.0 f.1 f.2 over f.3 in
+      let rest = ended_stays later f.0 after f.1 left (λ is. over (sym one.1 ∙ is)) f.5 in
+      (rest.0 ∙ one.0, rest.1 ∙ one.1)
+
+  left_reading : (state : Result DumpState DecodeError) → state ≢ Ok Reading → state_left state ≢ Reading
+  unfolding state_left
+  left_reading (Ok state) over = λ is. over (ap Ok is)
+  left_reading (Err e) over = λ is. cc
+
+  state_left-reading : state_left (Ok Reading) ≡ Reading
+  unfolding state_left
+  state_left-reading = refl
+
+  -- feeding datagrams in a row gives their dump
+  feeds_dump : (datagrams : List (List ℕ)) (before after : List A) (left : DumpState) → FeedsLeave reads refuses before Reading datagrams after left
+      → (end : Result DumpState DecodeError) × DatagramsDump reads refuses before datagrams after end × (left ≡ state_left end)
+  feeds_dump [] before after left f = (Ok Reading, (f.0, refl), f.1 ∙ sym state_left-reading)
+  feeds_dump (datagram ∷ later) before after left f =
+      let one = feed_step before datagram f.0 f.1 f.2 f.3 f.4 in
+      elim (reading_or_not one.1.2.later one.0 one.1.2.ends) [
+        | inl on ↦
+            let going : f.1 ≡ Reading = one.2 ∙ ap state_left on ∙ state_left-reading in
+            let rest = feeds_dump later f.0 after left (subst (λ (s : DumpState). FeedsLeave reads refuses f.0 s later after left) going f.5) in
+            (rest.0, (f.0, one.0, one.1, inl (on, rest.1)), rest.2)
+        | inr off ↦
+            let stays = ended_stays later f.0 after f.1 left (λ is. left_reading one.0 off (sym one.2 ∙ is)) f.5 in
+            (one.0, (f.0, one.0, one.1, inr (off, stays.0, refl)), stays.1 ∙ one.2)
+      ]
+
+  -- feeding the same bytes in split datagrams leaves the same messages and state
+  pub same_feeds : ((b : List ℕ) → IsBytes b → (items : List (Result (Payload A) DecodeError)) × ItemsAre reads refuses b items)
+      → ((b : List ℕ) → IsBytes b → (xs ys : List (Result (Payload A) DecodeError)) → ItemsAre reads refuses b xs → ItemsAre reads refuses b ys → xs ≡ ys)
+      → (datagrams others : List (List ℕ)) → AllByRecursion IsBytes datagrams → AllByRecursion IsBytes others → AreSplit datagrams → AreSplit others → in_a_row datagrams ≡ in_a_row others
+      → (before after also : List A) (left state : DumpState) → FeedsLeave reads refuses before Reading datagrams after left → FeedsLeave reads refuses before Reading others also state
+      → (after ≡ also) × (left ≡ state)
+  same_feeds some one datagrams others typed fits split cut same before after also left state f g =
+      let a = feeds_dump datagrams before after left f in
+      let b = feeds_dump others before also state g in
+      let whole : DatagramDump reads refuses before (in_a_row others) after a.0 = subst (λ (bytes : List ℕ). DatagramDump reads refuses before bytes after a.0) same (dump_of_split some one datagrams typed split before after a.0 a.1) in
+      let ends = one_datagram_dump one (in_a_row others) (bytes-in_a_row others fits) before after also a.0 b.0 whole (dump_of_split some one others fits cut before also b.0 b.1) in
+      (ends.0, a.2 ∙ ap state_left ends.1 ∙ sym b.2)

@@ -1,0 +1,90 @@
+-- The messages that a dump keeps of the items of its datagrams, and how it ends.
+use Rattle.std.specs.Prelude.{◌≡◌, ◌≢◌, ℕ, List, [], ◌∷◌, ◌++◌, ⊤, ◌⊎◌, Result, Ok, Err}
+use Rattle.std.specs.List.{AllByRecursion, flat_map}
+use Rattle.netlink_core.specs.declared.fault.DecodeError.{DecodeError}
+use Rattle.netlink_core.specs.Datagram.{AreWholeMessages}
+use Rattle.netlink_core.specs.Envelope.{Payload, done_with, error_with, no_payload, overrun_with, inner}
+use Rattle.netlink_core.specs.Items.{ItemsAre}
+use Rattle.netlink_packet_sock_diag.specs.declared.dump.DumpState.{DumpState}
+use Rattle.netlink_packet_sock_diag.specs.declared.dump.DumpState.TheVariants.{Reading, Done, Error, Overrun}
+
+-- lists one after the other, as one
+abbrev pub in_a_row : {A : Type 0} → List (List A) → List A
+in_a_row lists = flat_map (λ one. one) lists
+
+module _ {A : Type 0} where
+  -- after the item the dump goes on
+  abbrev pub GoesOn : Result (Payload A) DecodeError → Type 0
+  GoesOn (Ok (inner value)) = ⊤
+  GoesOn (Ok no_payload) = ⊤
+  GoesOn _ = ⊥
+
+  -- what is kept of the item
+  abbrev pub kept : Result (Payload A) DecodeError → List A
+  kept (Ok (inner value)) = value ∷ []
+  kept _ = []
+
+  -- how the item ends a dump: in a state, or with a fault
+  abbrev pub EndsWith : Result (Payload A) DecodeError → Result DumpState DecodeError → Type 0
+  EndsWith (Ok (done_with given)) end = end ≡ Ok Done
+  EndsWith (Ok (error_with given)) end = end ≡ Ok Error
+  EndsWith (Ok (overrun_with given)) end = end ≡ Ok Overrun
+  EndsWith (Err e) end = end ≡ Err e
+  EndsWith _ end = ⊥
+
+  -- the first of the later items ends the dump; where there is none it is still read
+  abbrev pub Ends : List (Result (Payload A) DecodeError) → Result DumpState DecodeError → Type 0
+  Ends [] end = end ≡ Ok Reading
+  Ends (item ∷ later) end = EndsWith item end
+
+  -- The inner messages of the longest beginning of the items that holds inner messages and messages of nothing alone
+  -- follow those before, and the next item is the end.
+  pub record Dump (before : List A) (items : List (Result (Payload A) DecodeError)) (after : List A) (end : Result DumpState DecodeError) : Type 0 where
+    pub passed : List (Result (Payload A) DecodeError)
+    pub later : List (Result (Payload A) DecodeError)
+    pub parts : items ≡ passed ++ later
+    pub plain : AllByRecursion GoesOn passed
+    pub keeps : after ≡ before ++ flat_map kept passed
+    pub ends : Ends later end
+
+  -- Some first items were taken, none of them an end, and the next is an inner message, for which there was no memory.
+  pub record DumpStopped (before : List A) (items : List (Result (Payload A) DecodeError)) (after : List A) : Type 0 where
+    pub passed : List (Result (Payload A) DecodeError)
+    pub next : A
+    pub later : List (Result (Payload A) DecodeError)
+    pub parts : items ≡ passed ++ (Ok (inner next) ∷ later)
+    pub plain : AllByRecursion GoesOn passed
+    pub keeps : after ≡ before ++ flat_map kept passed
+
+-- the dump goes on, if it was still read
+abbrev pub DumpGoesOn : {A : Type 0} → List A → Result DumpState DecodeError → List (Result (Payload A) DecodeError) → List A → Result DumpState DecodeError → Type 0
+DumpGoesOn middle state items after end = ((state ≡ Ok Reading) × Dump middle items after end) ⊎ ((state ≢ Ok Reading) × (after ≡ middle) × (end ≡ state))
+
+-- the dump over items that come in several parts, one after the other
+abbrev pub DumpInParts : {A : Type 0} → List A → List (List (Result (Payload A) DecodeError)) → List A → Result DumpState DecodeError → Type 0
+DumpInParts before [] after end = (after ≡ before) × (end ≡ Ok Reading)
+DumpInParts {A} before (items ∷ later) after end =
+    (middle : List A) × (state : Result DumpState DecodeError) × Dump before items middle state
+    × (((state ≡ Ok Reading) × DumpInParts middle later after end) ⊎ ((state ≢ Ok Reading) × (after ≡ middle) × (end ≡ state)))
+
+-- the dump over the items of a datagram
+module _ {A : Type 0} (reads : List ℕ → ℕ → A → Type 0) (refuses : List ℕ → ℕ → DecodeError → Type 0) where
+  -- to its end
+  abbrev pub DatagramDump : List A → List ℕ → List A → Result DumpState DecodeError → Type 0
+  DatagramDump before datagram after end = (items : List (Result (Payload A) DecodeError)) × ItemsAre reads refuses datagram items × Dump before items after end
+
+  -- up to a message for which there was no memory
+  abbrev pub DatagramStopped : List A → List ℕ → List A → Type 0
+  DatagramStopped before datagram after = (items : List (Result (Payload A) DecodeError)) × ItemsAre reads refuses datagram items × DumpStopped before items after
+
+  -- the dump over several datagrams, one after the other
+  abbrev pub DatagramsDump : List A → List (List ℕ) → List A → Result DumpState DecodeError → Type 0
+  DatagramsDump before [] after end = (after ≡ before) × (end ≡ Ok Reading)
+  DatagramsDump before (datagram ∷ later) after end =
+      (middle : List A) × (state : Result DumpState DecodeError) × DatagramDump before datagram middle state
+      × (((state ≡ Ok Reading) × DatagramsDump middle later after end) ⊎ ((state ≢ Ok Reading) × (after ≡ middle) × (end ≡ state)))
+
+-- each datagram but the last one is whole messages alone, with all padding there
+abbrev pub AreSplit : List (List ℕ) → Type 0
+AreSplit [] = ⊤
+AreSplit (datagram ∷ later) = ((later ≡ []) ⊎ ((messages : List (List ℕ)) × AreWholeMessages datagram messages)) × AreSplit later
