@@ -1,5 +1,5 @@
 -- A dump goes through the items of a datagram.
-use Rattle.std.proofs.Common.{◌≡◌, ◌≢◌, ℕ, ◌-◌, ◌<◌, ◌^◌, ◌⊎◌, inl, inr, List, [], ◌∷◌, ◌++◌, length, take, drop, refl, sym, ap, subst, ◌∙◌, append_assoc}
+use Rattle.std.proofs.Common.{◌≡◌, ◌≢◌, ℕ, ◌-◌, ◌<◌, ◌^◌, ◌⊎◌, List, [], ◌∷◌, ◌++◌, take, drop, refl, sym, ap, subst, ◌∙◌, append_assoc}
 use Rattle.std.specs.Prelude.{Result, Ok, Err}
 use Rattle.std.specs.List.{AllByRecursion, flat_map}
 use Rattle.std.proofs.lemmas.List.{append-nil}
@@ -9,13 +9,13 @@ use Rattle.netlink_core.specs.declared.fault.DecodeError.{DecodeError}
 use Rattle.netlink_core.specs.declared.header.NetlinkHeader.{NetlinkHeader}
 use Rattle.netlink_core.specs.Header.{HasHeader, IsEnvelopeFault}
 use Rattle.netlink_core.specs.Datagram.{StartsWithMessage}
-use Rattle.netlink_core.specs.Envelope.{Payload, no_payload, inner, IsInnerType, PayloadIs}
+use Rattle.netlink_core.specs.Envelope.{Payload, no_payload, inner, PayloadIs}
 use Rattle.netlink_core.specs.Items.{ItemIs, ItemsAre}
 use Rattle.netlink_core.proofs.Framing.{framed}
 use Rattle.netlink_core.proofs.Items.{Following, items_begin, items_go_on, items_with, no_items, fault_alone}
 use Rattle.netlink_packet_sock_diag.specs.declared.dump.DumpState.{DumpState}
 use Rattle.netlink_packet_sock_diag.specs.declared.dump.DumpState.TheVariants.{Reading}
-use Rattle.netlink_packet_sock_diag.specs.Dump.{GoesOn, kept, EndsWith, Ends, Dump, DumpStopped, DatagramDump, DatagramStopped}
+use Rattle.netlink_packet_sock_diag.specs.Dump.{GoesOn, kept, EndsWith, DatagramDump, DatagramStopped}
 
 plain_push : {A : Type 0} (xs : List (Result (Payload A) DecodeError)) (item : Result (Payload A) DecodeError) → AllByRecursion GoesOn xs → GoesOn item → AllByRecursion GoesOn (xs ++ item ∷ [])
 plain_push [] item h is = (is, tt)

@@ -30,7 +30,7 @@ pub enum DumpState {
 }
 
 /// Why not all of a datagram was taken.
-#[derive(Debug, Drop, PartialEq, Eq)]
+#[derive(Clone, Debug, Drop, PartialEq, Eq)]
 pub enum DumpError {
     /// A message was refused, or memory ran out. The messages in front of it are kept.
     Fault(DecodeError),
@@ -132,3 +132,6 @@ impl DumpReader {
         self.state
     }
 }
+
+#[cfg(test)]
+mod tests;

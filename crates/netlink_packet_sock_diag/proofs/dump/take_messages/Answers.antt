@@ -1,4 +1,4 @@
-use Rattle.std.proofs.Common.{◌≡◌, ◌-◌, Ok, Err, map, take, drop, arith, refl, sym, ap, ◌∙◌, subst, rules}
+use Rattle.std.proofs.Common.{◌-◌, Ok, Err, take, drop, arith, refl, rules}
 use Rattle.std.proofs.lemmas.Result.{err_from_is_err_and}
 use Rattle.std.proofs.lemmas.List.{map_push}
 use Rattle.netlink_core.specs.Envelope.{IsInnerType, done_with, error_with, overrun_with, no_payload, inner}
@@ -75,9 +75,10 @@ returns-in_err-push-in_default-clause-memory g c =
     let p = err_from_is_err_and c.from_residual-in_err-push-in_default.result c.from_residual-in_err-push-in_default.ensures.1 in
     let start = rw c.in_ok-message.was at c.in-Some.ensures.steps in
     let h = c.in_ok-header.header in
+    let value = g.I.Coded.seen c.in_ok-deserialize-in_default.field-0 in
     let other : IsInnerType h.message_type = search rules in
-    rw (p.1, c.in_err-push-in_default.ensures.items) (λ _. stops_at g.I.Coded.codec.reads g.I.Coded.codec.refuses (λ b t tb fits. g.met.I.Coded.laws.answered b t tb (g.met.I.NetlinkDeserializable.each_type t fits)) _ _ _ _ _ _ _ (λ i. omega (arith, c.type_inv.datagram i)) c.loop-item.invariant start
-    (carries g.I.Coded.codec.reads g.I.Coded.codec.refuses _ h (inner (g.I.Coded.seen c.in_ok-deserialize-in_default.field-0)) c.in_ok-header.ensures (other, c.in_ok-deserialize-in_default.ensures.value)))
+    rw (p.1, c.in_err-push-in_default.ensures.items) (λ _. stops_at g.I.Coded.codec.reads g.I.Coded.codec.refuses (λ b t tb fits. g.met.I.Coded.laws.answered b t tb (g.met.I.NetlinkDeserializable.each_type t fits)) _ _ _ _ _ _ value (λ i. omega (arith, c.type_inv.datagram i)) c.loop-item.invariant start
+    (carries g.I.Coded.codec.reads g.I.Coded.codec.refuses _ h (inner value) c.in_ok-header.ensures (other, c.in_ok-deserialize-in_default.ensures.value)))
 
 pub returns-clause-state : goal.returns-clause-state
 returns-clause-state g c = still_read g.I.Coded.codec.reads g.I.Coded.codec.refuses _ _ _ _ c.loop-item.invariant c.in-None.ensures.steps.0

@@ -1,4 +1,4 @@
-use Rattle.std.proofs.Common.{List, ℕ, sym, subst}
+use Rattle.std.proofs.Common.{List, ℕ, subst}
 use Rattle.netlink_packet_sock_diag.specs.Message.{MessageIs, MessageFault}
 use Rattle.netlink_packet_sock_diag.specs.Dump.{DatagramDump}
 use Rattle.netlink_packet_sock_diag.proofs.DumpRows.{dump_of_split, split_of_dump}
