@@ -1,6 +1,6 @@
--- The answer to a line, by what the line is.
-use Rattle.std.proofs.Common.{◌≡◌, ◌≢◌, ◌==◌, ◌<◌, ◌+◌, ◌⊎◌, inl, inr, ℕ, suc, Bool, true, false, List, [], ◌∷◌, ◌++◌, length, take, drop, get_or, cond, codes, Option, Some, None, Result, Ok, Err, refl, sym, ap, ◌∙◌, arith, add-one, subst}
-use Rattle.std.specs.List.{find, position, position_or_len}
+-- What a line asks for, and that it has one answer.
+use Rattle.std.proofs.Common.{◌≡◌, ◌≢◌, ◌==◌, ◌<◌, ◌+◌, ◌⊎◌, inl, inr, ℕ, suc, Bool, true, false, List, [], ◌∷◌, ◌++◌, length, take, drop, get_or, cond, codes, Option, Some, None, Result, Ok, Err, refl, sym, ap, ap₂, ◌∙◌, arith, add-one, subst}
+use Rattle.std.specs.List.{AllByRecursion, AllZip, find, position, position_or_len, slice_split}
 use Rattle.std.specs.Result.{result_ok}
 use Rattle.std.specs.Str.{bytes_eq}
 use Rattle.std.proofs.lemmas.Bool.{cond-true, cond-false, eqb-true, lt-ltb}
@@ -11,25 +11,34 @@ use Rattle.std.proofs.Math.Seq.{drop-cons, take-append_seam}
 use Rattle.hex.specs.Hex.{decode_of}
 use Rattle.hex.proofs.HexLemmas.{decode_of-ok}
 use Rattle.hex.specs.declared.error.FromHexError.{FromHexError}
-use Rattle.sockdiag.specs.Answer.{IsAnswer, IsAnswerOf, IsAnswerTo, IsReadAs, IsRequest, subject_of, word_of}
+use Rattle.netlink_core.specs.Bytes.{IsBytes}
+use Rattle.netlink_packet_sock_diag.specs.Dump.{AreSplit, in_a_row}
+use Rattle.sockdiag.specs.Answer.{IsAnswer, IsAnswerOf, IsNoRequest, IsRequest, subject_of, word_of}
+use Rattle.sockdiag.specs.Asked.{IsAnswerTo, IsReadAs}
+use Rattle.sockdiag.specs.DumpLine.{HaveSameItems, IsDumpOf, IsDumpRequest, IsWritable, TellsDump, shown_dump}
 use Rattle.sockdiag.specs.HexField.{IsHexField}
-use Rattle.sockdiag.specs.Told.{IsAccepted, Subject, TellsOf}
+use Rattle.sockdiag.specs.ReadDump.{told_dump}
+use Rattle.sockdiag.specs.Told.{IsAccepted}
+use Rattle.sockdiag.specs.declared.answers.Asked.{Asked}
+use Rattle.sockdiag.specs.declared.answers.Asked.TheVariants.{Field, Dump, Nothing}
 use Rattle.sockdiag.specs.declared.answers.Name.{Name}
 use Rattle.sockdiag.specs.declared.answers.Name.TheVariants.{UnixRequest, UnixResponse, InetRequest, InetResponse, SocketId4, SocketId6, Message, NetlinkMessage, UnixView}
+use Rattle.sockdiag.proofs.DumpLaws.{fields_typed, has_dump_text, one_dump_text, tells_same_items, tells_split}
 use Rattle.sockdiag.proofs.FieldLaws.{IsBytes-field}
 use Rattle.sockdiag.proofs.NameLaws.{laws_of, shows_all}
 use Rattle.sockdiag.proofs.SubjectLaws.{told}
-use Rattle.sockdiag.proofs.Telling.{one_text, told-tells, told_alike, told_apart}
+use Rattle.sockdiag.proofs.Telling.{one_text, tells_same, told-tells, told_alike, told_apart}
 
--- ---- the answer, as a function of the line
+-- ---- what a line asks for, as a function of the line
+
+data Asking : Type 0 where
+  named : Name → List ℕ → Asking
+  dumped : List (List ℕ) → Asking
+  nothing : Asking
 
 -- a space
 abbrev pub is_space : ℕ → Bool
 is_space c = c == 32
-
--- what is answered to a line of another form
-abbrev pub bad_line : List ℕ
-bad_line = codes "bad line"
 
 -- all names
 abbrev names : List Name
@@ -44,24 +53,37 @@ abbrev pub field_bytes : List ℕ → Option (List ℕ)
 field_bytes [] = None
 field_bytes (c ∷ rest) = cond (bytes_eq (c ∷ rest) (codes "-")) (Some []) (result_ok (decode_of (c ∷ rest)))
 
--- the one answer to a name and the bytes of its field
-abbrev pub answer_to : Name → List ℕ → List ℕ
-answer_to name bytes = told (subject_of name) (laws_of name) bytes
+abbrev with_later : Option (List ℕ) → Option (List (List ℕ)) → Option (List (List ℕ))
+with_later None later = None
+with_later (Some bytes) None = None
+with_later (Some bytes) (Some later) = Some (bytes ∷ later)
 
--- the answer to what stands before and after the first space, where they are a name and a hex field
-abbrev answer_under : Option Name → Option (List ℕ) → List ℕ
-answer_under None bytes = bad_line
-answer_under (Some name) None = bad_line
-answer_under (Some name) (Some bytes) = answer_to name bytes
+-- the bytes that fields stand for, where each does
+abbrev all_bytes : List (List ℕ) → Option (List (List ℕ))
+all_bytes [] = Some []
+all_bytes (field ∷ fields) = with_later (field_bytes field) (all_bytes fields)
 
--- the answer to a line whose first space stands at a place, or that has none
-abbrev answer_at : Option ℕ → List ℕ → List ℕ
-answer_at None line = bad_line
-answer_at (Some i) line = answer_under (name_of (take i line)) (field_bytes (drop (i + 1) line))
+abbrev asking_dump : Option (List (List ℕ)) → Asking
+asking_dump None = nothing
+asking_dump (Some datagrams) = dumped datagrams
 
--- the answer to a line
-abbrev pub answer_of : List ℕ → List ℕ
-answer_of line = answer_at (position is_space line) line
+abbrev asking_name : Option Name → Option (List ℕ) → Asking
+asking_name None bytes = nothing
+asking_name (Some name) None = nothing
+asking_name (Some name) (Some bytes) = named name bytes
+
+-- by whether the word before the first space is `dump`, that word, and what stands behind the space
+abbrev asking_by : Bool → List ℕ → List ℕ → Asking
+asking_by true word text = asking_dump (all_bytes (slice_split is_space text))
+asking_by false word text = asking_name (name_of word) (field_bytes text)
+
+-- by the place of the first space
+abbrev asking_at : Option ℕ → List ℕ → Asking
+asking_at None line = nothing
+asking_at (Some i) line = asking_by (bytes_eq (take i line) (codes "dump")) (take i line) (drop (i + 1) line)
+
+abbrev asking : List ℕ → Asking
+asking line = asking_at (position is_space line) line
 
 -- ---- fields
 
@@ -161,38 +183,116 @@ word_left Message field = refl
 word_left NetlinkMessage field = refl
 word_left UnixView field = refl
 
+-- no name is `dump`
+name_is_no_dump : (name : Name) → bytes_eq (word_of name) (codes "dump") ≡ false
+name_is_no_dump UnixRequest = refl
+name_is_no_dump UnixResponse = refl
+name_is_no_dump InetRequest = refl
+name_is_no_dump InetResponse = refl
+name_is_no_dump SocketId4 = refl
+name_is_no_dump SocketId6 = refl
+name_is_no_dump Message = refl
+name_is_no_dump NetlinkMessage = refl
+name_is_no_dump UnixView = refl
+
+-- ---- lists of fields
+
+all_bytes-Some : (fields datagrams : List (List ℕ)) → AllZip IsHexField fields datagrams → all_bytes fields ≡ Some datagrams
+all_bytes-Some [] [] each = refl
+all_bytes-Some [] (d ∷ datagrams) each = absurd each
+all_bytes-Some (f ∷ fields) [] each = absurd each
+all_bytes-Some (f ∷ fields) (d ∷ datagrams) each = ap₂ with_later (field_bytes-Some f d each.0) (all_bytes-Some fields datagrams each.1)
+
+AreHexFields-from_bytes : (fields : List (List ℕ)) (read : Option (List (List ℕ))) (datagrams : List (List ℕ)) → all_bytes fields ≡ read → read ≡ Some datagrams → AllZip IsHexField fields datagrams
+AreHexFields-from_bytes [] read [] e is = tt
+AreHexFields-from_bytes [] read (d ∷ datagrams) e is = absurd (cc (e ∙ is))
+AreHexFields-from_bytes (f ∷ fields) read datagrams e is =
+    by_parts (field_bytes f) refl (all_bytes fields) refl (λ later l. AreHexFields-from_bytes fields (Some later) later l refl) (e ∙ is)
+  where
+    same : (xs ys : List (List ℕ)) → Some xs ≡ Some ys → xs ≡ ys
+    same xs ys e = cc
+
+    by_parts : (one : Option (List ℕ)) → field_bytes f ≡ one → (later : Option (List (List ℕ))) → all_bytes fields ≡ later
+        → ((others : List (List ℕ)) → all_bytes fields ≡ Some others → AllZip IsHexField fields others)
+        → with_later (field_bytes f) (all_bytes fields) ≡ Some datagrams → AllZip IsHexField (f ∷ fields) datagrams
+    by_parts None n later l each h = absurd (cc (ap (λ o. with_later o (all_bytes fields)) (sym n) ∙ h))
+    by_parts (Some bytes) n None l each h = absurd (cc (ap₂ with_later (sym n) (sym l) ∙ h))
+    by_parts (Some bytes) n (Some later) l each h =
+        let some : Some (bytes ∷ later) ≡ Some datagrams = ap₂ with_later (sym n) (sym l) ∙ h in
+        subst (AllZip IsHexField (f ∷ fields)) (same (bytes ∷ later) datagrams some) (IsHexField-from_bytes f bytes n, each later l)
+
 -- ---- lines
 
-pub answer_of-asked : (line : List ℕ) (name : Name) (bytes : List ℕ) → IsRequest line name bytes → answer_of line ≡ answer_to name bytes
-answer_of-asked line name bytes h =
-    let word = word_of name in
-    let spelled = word ++ 32 ∷ h.field in
-    let within : length word < length spelled = simp length-append (omega arith) in
-    let first = word_place name h.field in
-    let place : position is_space spelled ≡ Some (length word) = rw first (cond-true _ _ _ (lt-ltb (length word) (length spelled) within)) in
-    let named : name_of (take (length word) spelled) ≡ Some name = ap name_of (take-append_seam word (32 ∷ h.field)) ∙ name_of-word name in
-    let read : field_bytes (drop (length word + 1) spelled) ≡ Some bytes = ap field_bytes (word_left name h.field) ∙ field_bytes-Some h.field bytes h.stands_for in
-    ap answer_of h.spelled ∙ ap (λ found. answer_at found spelled) place
-    ∙ ap (λ found. answer_under found (field_bytes (drop (length word + 1) spelled))) named
-    ∙ ap (λ found. answer_under (Some name) found) read
-
 -- a space splits a line
-at_space : (line : List ℕ) (i : ℕ) → position is_space line ≡ Some i → line ≡ take i line ++ 32 ∷ drop (i + 1) line
+pub at_space : (line : List ℕ) (i : ℕ) → position is_space line ≡ Some i → line ≡ take i line ++ 32 ∷ drop (i + 1) line
 at_space line i h =
     let (within, space, before) = position-Some is_space line i 0 h in
     let is : get_or line i 0 ≡ 32 = eqb-true _ _ space in
     sym (take-append-drop i line) ∙ ap (λ t. take i line ++ t) (rw (add-one, drop-cons line i 0) (ap (λ c. c ∷ drop (suc i) line) is))
 
--- a line is a request, or its answer is `bad line`
-request_or_bad : (line : List ℕ) → ((name : Name) × (bytes : List ℕ) × IsRequest line name bytes) ⊎ (answer_of line ≡ bad_line)
-request_or_bad line = by_place (position is_space line) refl
+-- a word before the first space, and what stands behind it
+asking-spelled : (word text : List ℕ) → position_or_len is_space (word ++ 32 ∷ text) ≡ length word → drop (length word + 1) (word ++ 32 ∷ text) ≡ text
+    → asking (word ++ 32 ∷ text) ≡ asking_by (bytes_eq word (codes "dump")) word text
+asking-spelled word text first behind =
+    let spelled = word ++ 32 ∷ text in
+    let within : length word < length spelled = simp length-append (omega arith) in
+    let place : position is_space spelled ≡ Some (length word) = rw first (cond-true _ _ _ (lt-ltb (length word) (length spelled) within)) in
+    ap (λ found. asking_at found spelled) place ∙ ap₂ (λ w t. asking_by (bytes_eq w (codes "dump")) w t) (take-append_seam word (32 ∷ text)) behind
+
+asking-named : (line : List ℕ) (name : Name) (bytes : List ℕ) → IsRequest line name bytes → asking line ≡ named name bytes
+asking-named line name bytes h =
+    ap asking h.spelled ∙ asking-spelled (word_of name) h.field (word_place name h.field) (word_left name h.field)
+    ∙ ap (λ b. asking_by b (word_of name) h.field) (name_is_no_dump name)
+    ∙ ap₂ asking_name (name_of-word name) (field_bytes-Some h.field bytes h.stands_for)
+
+asking-dumped : (line : List ℕ) (datagrams : List (List ℕ)) → IsDumpRequest line datagrams → asking line ≡ dumped datagrams
+asking-dumped line datagrams h =
+    ap asking h.spelled ∙ asking-spelled (codes "dump") h.fields refl refl
+    ∙ ap asking_dump (all_bytes-Some (slice_split is_space h.fields) datagrams h.stand_for)
+
+one_request : (line : List ℕ) (name other : Name) (bytes bytes' : List ℕ) → IsRequest line name bytes → IsRequest line other bytes' → (name ≡ other) × (bytes ≡ bytes')
+one_request line name other bytes bytes' h k = same (sym (asking-named line name bytes h) ∙ asking-named line other bytes' k)
   where
-    by_parts : (i : ℕ) → position is_space line ≡ Some i → (named : Option Name) → name_of (take i line) ≡ named
-        → (read : Option (List ℕ)) → field_bytes (drop (i + 1) line) ≡ read
-        → ((name : Name) × (bytes : List ℕ) × IsRequest line name bytes) ⊎ (answer_under named read ≡ bad_line)
-    by_parts i place None n read r = inr refl
-    by_parts i place (Some name) n None r = inr refl
-    by_parts i place (Some name) n (Some bytes) r = inl (
+    same : named name bytes ≡ named other bytes' → (name ≡ other) × (bytes ≡ bytes')
+    same e = (cc, cc)
+
+one_dump_request : (line : List ℕ) (datagrams others : List (List ℕ)) → IsDumpRequest line datagrams → IsDumpRequest line others → datagrams ≡ others
+one_dump_request line datagrams others h k = same (sym (asking-dumped line datagrams h) ∙ asking-dumped line others k)
+  where
+    same : dumped datagrams ≡ dumped others → datagrams ≡ others
+    same e = cc
+
+request_is_no_dump : (line : List ℕ) (name : Name) (bytes : List ℕ) (datagrams : List (List ℕ)) → IsRequest line name bytes → IsDumpRequest line datagrams → ⊥
+request_is_no_dump line name bytes datagrams h k = apart (sym (asking-named line name bytes h) ∙ asking-dumped line datagrams k)
+  where
+    apart : named name bytes ≡ dumped datagrams → ⊥
+    apart e = cc
+
+no_request : (line : List ℕ) → asking line ≡ nothing → IsNoRequest line
+no_request line e = record {
+  unnamed = λ name bytes h. apart_named name bytes (sym (asking-named line name bytes h) ∙ e);
+  undumped = λ datagrams h. apart_dumped datagrams (sym (asking-dumped line datagrams h) ∙ e);
+}
+  where
+    apart_named : (name : Name) (bytes : List ℕ) → named name bytes ≡ nothing → ⊥
+    apart_named name bytes e = cc
+
+    apart_dumped : (datagrams : List (List ℕ)) → dumped datagrams ≡ nothing → ⊥
+    apart_dumped datagrams e = cc
+
+-- a line is a name with a field, or a dump, or of another form
+Kind : List ℕ → Type 0
+Kind line = ((name : Name) × (bytes : List ℕ) × IsRequest line name bytes) ⊎ (((datagrams : List (List ℕ)) × IsDumpRequest line datagrams) ⊎ IsNoRequest line)
+
+kind_of : (line : List ℕ) → Kind line
+unfolding Kind
+kind_of line = by_place (position is_space line) refl
+  where
+    by_name : (i : ℕ) → position is_space line ≡ Some i → bytes_eq (take i line) (codes "dump") ≡ false → (word : Option Name) → name_of (take i line) ≡ word
+        → (read : Option (List ℕ)) → field_bytes (drop (i + 1) line) ≡ read → asking line ≡ asking_name word read → Kind line
+    by_name i place other None n read r e = inr (inr (no_request line e))
+    by_name i place other (Some name) n None r e = inr (inr (no_request line e))
+    by_name i place other (Some name) n (Some bytes) r e = inl (
       name,
       bytes,
       record {
@@ -202,55 +302,101 @@ request_or_bad line = by_place (position is_space line) refl
       },
     )
 
-    by_place : (found : Option ℕ) → position is_space line ≡ found
-        → ((name : Name) × (bytes : List ℕ) × IsRequest line name bytes) ⊎ (answer_at found line ≡ bad_line)
-    by_place None p = inr refl
-    by_place (Some i) p = by_parts i p (name_of (take i line)) refl (field_bytes (drop (i + 1) line)) refl
+    by_fields : (i : ℕ) → position is_space line ≡ Some i → bytes_eq (take i line) (codes "dump") ≡ true
+        → (read : Option (List (List ℕ))) → all_bytes (slice_split is_space (drop (i + 1) line)) ≡ read → asking line ≡ asking_dump read → Kind line
+    by_fields i place word None r e = inr (inr (no_request line e))
+    by_fields i place word (Some datagrams) r e = inr (inl (
+      datagrams,
+      record {
+        fields = drop (i + 1) line;
+        spelled = at_space line i place ∙ ap (λ w. w ++ 32 ∷ drop (i + 1) line) ((bytes_eq-Decides (take i line) (codes "dump")).0 word);
+        stand_for = AreHexFields-from_bytes (slice_split is_space (drop (i + 1) line)) (Some datagrams) datagrams r refl;
+      },
+    ))
 
--- what answers a name and bytes isn't `bad line`
-not_bad : (S : Subject) (bytes : List ℕ) → TellsOf S bytes bad_line → ⊥
-not_bad S bytes (inl (v, r, f, e)) = let h : 98 ≡ 111 = ap (λ (t : List ℕ). get_or t 0 0) e in omega (arith, h)
-not_bad S bytes (inr (inl (v, r, f, e))) = let h : 98 ≡ 117 = ap (λ (t : List ℕ). get_or t 0 0) e in omega (arith, h)
-not_bad S bytes (inr (inr (fault, r, e))) = let h : 98 ≡ 114 = ap (λ (t : List ℕ). get_or t 0 0) e in omega (arith, h)
+    by_word : (i : ℕ) → position is_space line ≡ Some i → (b : Bool) → bytes_eq (take i line) (codes "dump") ≡ b → Kind line
+    by_word i place true word =
+        let e = ap (λ found. asking_at found line) place ∙ ap (λ b. asking_by b (take i line) (drop (i + 1) line)) word in
+        by_fields i place word (all_bytes (slice_split is_space (drop (i + 1) line))) refl e
+    by_word i place false word =
+        let e = ap (λ found. asking_at found line) place ∙ ap (λ b. asking_by b (take i line) (drop (i + 1) line)) word in
+        by_name i place word (name_of (take i line)) refl (field_bytes (drop (i + 1) line)) refl e
 
--- ---- the answer's laws
+    by_place : (found : Option ℕ) → position is_space line ≡ found → Kind line
+    by_place None p = inr (inr (no_request line (ap (λ found. asking_at found line) p)))
+    by_place (Some i) p = by_word i p (bytes_eq (take i line) (codes "dump")) refl
 
--- each line has an answer
-pub answer_of-is : (line : List ℕ) → IsAnswerOf line (answer_of line)
-answer_of-is line = record {
-  asked = λ name bytes asked.
-      subst (λ (t : List ℕ). IsAnswer name bytes t) (sym (answer_of-asked line name bytes asked))
-      (told-tells (subject_of name) (laws_of name) bytes (IsBytes-field asked.field bytes asked.stands_for));
-  other = λ none. elim (request_or_bad line) [
-    | inl (name, bytes, asked) ↦ absurd (none name bytes asked)
-    | inr bad ↦ bad
-  ];
-}
-
--- and no other
-pub answer_of-only : (line text : List ℕ) → IsAnswerOf line text → text ≡ answer_of line
-answer_of-only line text h = elim (request_or_bad line) [
-  | inl (name, bytes, asked) ↦
-      let typed = IsBytes-field asked.field bytes asked.stands_for in
-      one_text (subject_of name) (laws_of name) bytes text _ typed (h.asked name bytes asked) (told-tells (subject_of name) (laws_of name) bytes typed)
-      ∙ sym (answer_of-asked line name bytes asked)
-  | inr bad ↦ h.other (λ name bytes asked.
-      not_bad (subject_of name) bytes (subst (λ (t : List ℕ). IsAnswer name bytes t) bad ((answer_of-is line).asked name bytes asked))) ∙ sym bad
-]
-
-pub one_answer : (line a b : List ℕ) → IsAnswerOf line a → IsAnswerOf line b → a ≡ b
-one_answer line a b h k = answer_of-only line a h ∙ sym (answer_of-only line b k)
-
--- any function that gives each line an answer is this one
-pub one_function : (f : List ℕ → List ℕ) → ((line : List ℕ) → IsAnswerOf line (f line)) → answer_of ≡ f
-one_function f h = λ i line. sym (answer_of-only line (f line) (h line)) i
+-- ---- what answers a line
 
 -- what answers the name and bytes of a line answers the line
 asked_answer : (line : List ℕ) (name : Name) (bytes text : List ℕ) → IsRequest line name bytes → IsAnswer name bytes text → IsAnswerOf line text
-asked_answer line name bytes text asked tells =
-    let typed = IsBytes-field asked.field bytes asked.stands_for in
-    let same = one_text (subject_of name) (laws_of name) bytes text _ typed tells (told-tells (subject_of name) (laws_of name) bytes typed) in
-    subst (IsAnswerOf line) (answer_of-asked line name bytes asked ∙ sym same) (answer_of-is line)
+asked_answer line name bytes text asked tells = record {
+  asked = λ other bytes' also.
+      let same = one_request line name other bytes bytes' asked also in
+      subst (λ (n : Name). IsAnswer n bytes' text) same.0 (subst (λ (b : List ℕ). IsAnswer name b text) same.1 tells);
+  dumped = λ datagrams dump. absurd (request_is_no_dump line name bytes datagrams asked dump);
+  other = λ none. absurd (none.unnamed name bytes asked);
+}
+
+-- what tells of its datagrams does
+dump_answer : (line : List ℕ) (datagrams : List (List ℕ)) (text : List ℕ) → IsDumpRequest line datagrams → TellsDump datagrams text → IsAnswerOf line text
+dump_answer line datagrams text dump tells = record {
+  asked = λ name bytes asked. absurd (request_is_no_dump line name bytes datagrams asked dump);
+  dumped = λ others also. subst (λ (d : List (List ℕ)). TellsDump d text) (one_dump_request line datagrams others dump also) tells;
+  other = λ none. absurd (none.undumped datagrams dump);
+}
+
+-- and `bad line` answers one of another form
+bad_answer : (line text : List ℕ) → IsNoRequest line → text ≡ codes "bad line" → IsAnswerOf line text
+bad_answer line text none e = record {
+  asked = λ name bytes asked. absurd (none.unnamed name bytes asked);
+  dumped = λ datagrams dump. absurd (none.undumped datagrams dump);
+  other = λ _. e;
+}
+
+request_typed : (line : List ℕ) (name : Name) (bytes : List ℕ) → IsRequest line name bytes → IsBytes bytes
+request_typed line name bytes asked = IsBytes-field asked.field bytes asked.stands_for
+
+datagrams_typed : (line : List ℕ) (datagrams : List (List ℕ)) → IsDumpRequest line datagrams → AllByRecursion IsBytes datagrams
+datagrams_typed line datagrams dump = fields_typed (slice_split is_space dump.fields) datagrams dump.stand_for
+
+-- each line has an answer
+has_answer : (line : List ℕ) → (text : List ℕ) × IsAnswerOf line text
+unfolding Kind
+has_answer line = by_kind (kind_of line)
+  where
+    by_kind : Kind line → (text : List ℕ) × IsAnswerOf line text
+    by_kind (inl (name, bytes, asked)) =
+        let text = told (subject_of name) (laws_of name) bytes in
+        (text, asked_answer line name bytes text asked (told-tells (subject_of name) (laws_of name) bytes (request_typed line name bytes asked)))
+    by_kind (inr (inl (datagrams, dump))) =
+        let text = has_dump_text datagrams (datagrams_typed line datagrams dump) in
+        (text.0, dump_answer line datagrams text.0 dump text.1)
+    by_kind (inr (inr none)) = (codes "bad line", bad_answer line (codes "bad line") none refl)
+
+-- and no other
+pub one_answer : (line a b : List ℕ) → IsAnswerOf line a → IsAnswerOf line b → a ≡ b
+unfolding Kind
+one_answer line a b h k = by_kind (kind_of line)
+  where
+    by_kind : Kind line → a ≡ b
+    by_kind (inl (name, bytes, asked)) = one_text (subject_of name) (laws_of name) bytes a b (request_typed line name bytes asked) (h.asked name bytes asked) (k.asked name bytes asked)
+    by_kind (inr (inl (datagrams, dump))) = one_dump_text datagrams (datagrams_typed line datagrams dump) a b (h.dumped datagrams dump) (k.dumped datagrams dump)
+    by_kind (inr (inr none)) = h.other none ∙ sym (k.other none)
+
+-- the answer, as a function of the line
+pub answer_of : List ℕ → List ℕ
+answer_of line = (has_answer line).0
+
+pub answer_of-is : (line : List ℕ) → IsAnswerOf line (answer_of line)
+unfolding answer_of
+answer_of-is line = (has_answer line).1
+
+-- any function that gives each line an answer is this one
+pub one_function : (f : List ℕ → List ℕ) → ((line : List ℕ) → IsAnswerOf line (f line)) → answer_of ≡ f
+one_function f h = λ i line. one_answer line (answer_of line) (f line) (answer_of-is line) (h line) i
+
+-- ---- what a line was read as
 
 -- a name before the first space, and a hex field behind it
 pub request_at : (line : List ℕ) (i : ℕ) (name : Name) (bytes : List ℕ) → Some i ≡ position is_space line → take i line ≡ word_of name
@@ -261,25 +407,76 @@ request_at line i name bytes place word field = record {
   stands_for = field;
 }
 
+-- `dump` before the first space
+pub dump_at : (line : List ℕ) (i : ℕ) → Some i ≡ position is_space line → take i line ≡ codes "dump" → line ≡ codes "dump" ++ 32 ∷ drop (i + 1) line
+dump_at line i place word = at_space line i (sym place) ∙ ap (λ w. w ++ 32 ∷ drop (i + 1) line) word
+
+-- a word before the first space that is neither, or a text behind it that is no field
+pub no_request_at : (line : List ℕ) (i : ℕ) → Some i ≡ position is_space line → take i line ≢ codes "dump"
+    → ((name : Name) (bytes : List ℕ) → take i line ≡ word_of name → IsHexField (drop (i + 1) line) bytes → ⊥) → IsNoRequest line
+unfolding Kind
+no_request_at line i place word none = elim_kind (kind_of line)
+  where
+    some_same : (a b : ℕ) → Some a ≡ Some b → a ≡ b
+    some_same a b e = cc
+
+    split_once : (w v text rest : List ℕ) → take i line ≡ w → line ≡ v ++ 32 ∷ rest → position_or_len is_space (v ++ 32 ∷ rest) ≡ length v → drop (length v + 1) (v ++ 32 ∷ rest) ≡ rest
+        → (take i line ≡ v) × (drop (i + 1) line ≡ rest)
+    split_once w v text rest is spelled first behind =
+        let whole = v ++ 32 ∷ rest in
+        let within : length v < length whole = simp length-append (omega arith) in
+        let at : position is_space whole ≡ Some (length v) = rw first (cond-true _ _ _ (lt-ltb (length v) (length whole) within)) in
+        let same = some_same i (length v) (place ∙ ap (position is_space) spelled ∙ at) in
+        (ap₂ take same spelled ∙ take-append_seam v (32 ∷ rest), ap₂ (λ n l. drop (n + 1) l) same spelled ∙ behind)
+
+    elim_kind : Kind line → IsNoRequest line
+    elim_kind (inl (name, bytes, asked)) =
+        let parts = split_once (take i line) (word_of name) [] asked.field refl asked.spelled (word_place name asked.field) (word_left name asked.field) in
+        absurd (none name bytes parts.0 (subst (λ (f : List ℕ). IsHexField f bytes) (sym parts.1) asked.stands_for))
+    elim_kind (inr (inl (datagrams, dump))) = absurd (word (split_once (take i line) (codes "dump") [] dump.fields refl dump.spelled refl refl).0)
+    elim_kind (inr (inr neither)) = neither
+
 -- what answers that which a line was read as answers the line
-pub read_answer : (line : List ℕ) (asked : Option Name) (bytes text : List ℕ) → IsReadAs line asked bytes → IsAnswerTo asked bytes text → IsAnswerOf line text
-read_answer line None bytes text none e = record { asked = λ name content asked. absurd (none name content asked); other = λ _. e }
-read_answer line (Some name) bytes text asked tells = asked_answer line name bytes text asked tells
+pub read_answer : (line : List ℕ) (asked : Asked) (bytes text : List ℕ) → IsReadAs line asked bytes → IsAnswerTo asked bytes text → IsAnswerOf line text
+read_answer line (Field name) bytes text asked tells = asked_answer line name bytes text asked tells
+read_answer line (Dump dump) bytes text (datagrams, asked, read) tells =
+    dump_answer line datagrams text asked (tells_same IsWritable shown_dump (λ d. IsDumpOf datagrams d) (λ fault. ⊥) (told_dump dump) text read.is tells)
+read_answer line Nothing bytes text none e = bad_answer line text none e
+
+-- ---- answers of two lines
+
+told_is : (line : List ℕ) (name : Name) (bytes text : List ℕ) → IsAnswerOf line text → IsRequest line name bytes → text ≡ told (subject_of name) (laws_of name) bytes
+told_is line name bytes text h asked =
+    let typed = request_typed line name bytes asked in
+    one_text (subject_of name) (laws_of name) bytes text _ typed (h.asked name bytes asked) (told-tells (subject_of name) (laws_of name) bytes typed)
 
 -- two fields of one name have one answer where they are idle
 pub answers_alike : (name : Name) (line other bytes bytes' text text' : List ℕ) → IsAnswerOf line text → IsAnswerOf other text'
     → IsRequest line name bytes → IsRequest other name bytes' → IsAccepted (subject_of name) bytes → IsAccepted (subject_of name) bytes'
     → (subject_of name).idle bytes bytes' → text ≡ text'
 answers_alike name line other bytes bytes' text text' h k asked asked' ok ok' i =
-    answer_of-only line text h ∙ answer_of-asked line name bytes asked
-    ∙ told_alike (subject_of name) (laws_of name) bytes bytes' (IsBytes-field asked.field bytes asked.stands_for) (IsBytes-field asked'.field bytes' asked'.stands_for) ok ok' i
-    ∙ sym (answer_of-only other text' k ∙ answer_of-asked other name bytes' asked')
+    told_is line name bytes text h asked
+    ∙ told_alike (subject_of name) (laws_of name) bytes bytes' (request_typed line name bytes asked) (request_typed other name bytes' asked') ok ok' i
+    ∙ sym (told_is other name bytes' text' k asked')
 
 -- and but for `unixview` nowhere else
 pub answers_apart : (name : Name) → name ≢ UnixView → (line other bytes bytes' text text' : List ℕ) → IsAnswerOf line text → IsAnswerOf other text'
     → IsRequest line name bytes → IsRequest other name bytes' → IsAccepted (subject_of name) bytes → IsAccepted (subject_of name) bytes'
     → text ≡ text' → (subject_of name).idle bytes bytes'
 answers_apart name all line other bytes bytes' text text' h k asked asked' ok ok' e =
-    let one = answer_of-only line text h ∙ answer_of-asked line name bytes asked in
-    let two = answer_of-only other text' k ∙ answer_of-asked other name bytes' asked' in
-    told_apart (subject_of name) (laws_of name) (shows_all name all) bytes bytes' (IsBytes-field asked.field bytes asked.stands_for) (IsBytes-field asked'.field bytes' asked'.stands_for) ok ok' (sym one ∙ e ∙ two)
+    told_apart (subject_of name) (laws_of name) (shows_all name all) bytes bytes' (request_typed line name bytes asked) (request_typed other name bytes' asked') ok ok'
+    (sym (told_is line name bytes text h asked) ∙ e ∙ told_is other name bytes' text' k asked')
+
+-- dumps over the same items have one answer
+pub dumps_alike : (line other text text' : List ℕ) (datagrams datagrams' : List (List ℕ)) → IsAnswerOf line text → IsAnswerOf other text'
+    → IsDumpRequest line datagrams → IsDumpRequest other datagrams' → HaveSameItems datagrams datagrams' → text ≡ text'
+dumps_alike line other text text' datagrams datagrams' h k dump dump' same =
+    one_dump_text datagrams' (datagrams_typed other datagrams' dump') text text'
+    (tells_same_items datagrams datagrams' (datagrams_typed line datagrams dump) same text (h.dumped datagrams dump)) (k.dumped datagrams' dump')
+
+-- and dumps of the same bytes in whole messages
+pub dumps_split : (line other text text' : List ℕ) (datagrams datagrams' : List (List ℕ)) → IsAnswerOf line text → IsAnswerOf other text'
+    → IsDumpRequest line datagrams → IsDumpRequest other datagrams' → AreSplit datagrams → AreSplit datagrams' → in_a_row datagrams ≡ in_a_row datagrams' → text ≡ text'
+dumps_split line other text text' datagrams datagrams' h k dump dump' split split' same =
+    one_dump_text datagrams' (datagrams_typed other datagrams' dump') text text'
+    (tells_split datagrams datagrams' (datagrams_typed line datagrams dump) (datagrams_typed other datagrams' dump') split split' same text (h.dumped datagrams dump)) (k.dumped datagrams' dump')

@@ -16,12 +16,16 @@ at_most m n = elim (cases_lt n m) [
   | inr below ↦ inl below
 ]
 
-all_fit : (attributes : List Attribute) → AllByRecursion HasFittingValue attributes ⊎ ¬ AllByRecursion HasFittingValue attributes
-all_fit [] = inl tt
-all_fit (a ∷ later) = elim (at_most (length a.value) 65531) [
-  | inl fits ↦ elim (all_fit later) [ inl others ↦ inl (fits, others) | inr unfit ↦ inr (λ h. unfit h.1) ]
-  | inr unfit ↦ inr (λ h. unfit h.0)
+-- whether something holds of each is decided where it is decided of one
+pub each_or_not : {X : Type 0} (P : X → Type 0) → ((x : X) → P x ⊎ ¬ P x) → (xs : List X) → AllByRecursion P xs ⊎ ¬ AllByRecursion P xs
+each_or_not P decide [] = inl tt
+each_or_not P decide (x ∷ later) = elim (decide x) [
+  | inl holds ↦ elim (each_or_not P decide later) [ inl others ↦ inl (holds, others) | inr fails ↦ inr (λ h. fails h.1) ]
+  | inr fails ↦ inr (λ h. fails h.0)
 ]
+
+all_fit : (attributes : List Attribute) → AllByRecursion HasFittingValue attributes ⊎ ¬ AllByRecursion HasFittingValue attributes
+all_fit attributes = each_or_not HasFittingValue (λ a. at_most (length a.value) 65531) attributes
 
 pub reply_fits_or_not : (R : Reply) (value : ValueOf R) → ReplyFits R value ⊎ ¬ ReplyFits R value
 reply_fits_or_not R value = elim (all_fit (map (attribute_said R.family) value.nlas)) [

@@ -6,7 +6,9 @@ pub mod CanonicalLaws
 pub mod EnvelopeLaws
 pub mod Telling
 pub mod NameLaws
+pub mod DumpLaws
 pub mod AnswerLemmas
+pub mod FieldLists
 pub mod ViewLemmas
 pub mod LinesLemmas
 pub mod RunLemmas

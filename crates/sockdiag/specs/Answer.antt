@@ -1,5 +1,5 @@
--- The answer to a line: a name, one space and a hex field, or anything else.
-use Rattle.std.specs.Prelude.{◌≡◌, ◌∷◌, ℕ, List, ◌++◌, codes, Option, MatchOption}
+-- The answer to a line: a name, one space and a hex field, a dump over datagrams, or anything else.
+use Rattle.std.specs.Prelude.{◌≡◌, ◌∷◌, ℕ, List, ◌++◌, codes}
 use Rattle.sock_diag_records.specs.UnixRequest.{unix_request}
 use Rattle.sock_diag_records.specs.InetRequest.{inet_request}
 use Rattle.sock_diag_records.specs.SocketId.{socket_id}
@@ -8,6 +8,7 @@ use Rattle.netlink_packet_sock_diag.specs.InetReply.{inet_reply}
 use Rattle.netlink_packet_sock_diag.specs.Message.{message_codec}
 use Rattle.netlink_core.specs.Codec.{record_codec}
 use Rattle.netlink_core.specs.Reply.{reply_codec}
+use Rattle.sockdiag.specs.DumpLine.{IsDumpRequest, TellsDump}
 use Rattle.sockdiag.specs.HexField.{IsHexField}
 use Rattle.sockdiag.specs.Told.{Subject, TellsOf}
 use Rattle.sockdiag.specs.Subjects.{subject, envelope_subject, view_subject}
@@ -48,17 +49,13 @@ subject_of UnixView = view_subject
 abbrev pub IsAnswer : Name → List ℕ → List ℕ → Type 0
 IsAnswer name bytes text = TellsOf (subject_of name) bytes text
 
--- the text answers the line: the bytes of its name, and `bad line` where it is of another form
+-- the line is of another form: no name with a hex field, and no dump
+pub record IsNoRequest (line : List ℕ) : Type 0 where
+  pub unnamed : (name : Name) (bytes : List ℕ) → ¬ IsRequest line name bytes
+  pub undumped : (datagrams : List (List ℕ)) → ¬ IsDumpRequest line datagrams
+
+-- the text answers the line: the bytes of its name, or its dump, and `bad line` where it is of another form
 pub record IsAnswerOf (line text : List ℕ) : Type 0 where
   pub asked : (name : Name) (bytes : List ℕ) → IsRequest line name bytes → IsAnswer name bytes text
-  pub other : ((name : Name) (bytes : List ℕ) → IsRequest line name bytes → ⊥) → text ≡ codes "bad line"
-
--- ---- the parts of an answer
-
--- a line is read as a name and the bytes of its field, or as no request
-abbrev pub IsReadAs : List ℕ → Option Name → List ℕ → Type 0
-IsReadAs line asked bytes = MatchOption asked ((name : Name) (content : List ℕ) → ¬ IsRequest line name content) (λ name. IsRequest line name bytes)
-
--- the text answers what a line was read as
-abbrev pub IsAnswerTo : Option Name → List ℕ → List ℕ → Type 0
-IsAnswerTo asked bytes text = MatchOption asked (text ≡ codes "bad line") (λ name. IsAnswer name bytes text)
+  pub dumped : (datagrams : List (List ℕ)) → IsDumpRequest line datagrams → TellsDump datagrams text
+  pub other : IsNoRequest line → text ≡ codes "bad line"

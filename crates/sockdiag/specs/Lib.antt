@@ -4,5 +4,8 @@ pub mod Told
 pub mod EnvelopeLine
 pub mod ViewLine
 pub mod Subjects
+pub mod DumpLine
 pub mod Answer
+pub mod ReadDump
+pub mod Asked
 pub mod Run

@@ -2,20 +2,24 @@
 
 ghost use Rattle.sockdiag.specs.declared.answers.Name.{Name};
 ghost use Rattle.sockdiag.specs.declared.answers.Name.TheVariants.{UnixView};
-ghost use Rattle.std.specs.Prelude.{◌≡◌, ◌≢◌, ◌↔◌, ◌<◌, ◌==◌, ◌++◌, ◌∷◌, [], ℕ, List, decimal, length, position, IfSome, IfOk, OnOk, MatchBool, MatchOption};
+ghost use Rattle.std.specs.Prelude.{◌≡◌, ◌≢◌, ◌↔◌, ◌++◌, ◌∷◌, [], ℕ, List, codes, decimal, IfOk, OnOk, MatchOption};
 ghost use Rattle.netlink_core.specs.Envelope.{EnvelopeFits};
 ghost use Rattle.netlink_core.specs.Seen.{envelope_of};
+ghost use Rattle.netlink_packet_sock_diag.specs.Dump.{AreSplit, in_a_row};
 ghost use Rattle.netlink_packet_sock_diag.specs.Message.{MessageFits, message_bytes};
 ghost use Rattle.netlink_packet_sock_diag.specs.SeenMessage.{seen_message};
-ghost use Rattle.sockdiag.specs.Answer.{IsAnswer, IsAnswerOf, IsAnswerTo, IsReadAs, IsRequest, subject_of, word_of};
+ghost use Rattle.sockdiag.specs.Answer.{IsAnswer, IsAnswerOf, IsRequest, subject_of, word_of};
+ghost use Rattle.sockdiag.specs.Asked.{IsAnswerTo, IsReadAs};
+ghost use Rattle.sockdiag.specs.DumpLine.{HaveSameItems, IsDumpRequest};
 ghost use Rattle.sockdiag.specs.EnvelopeLine.{shown_envelope, word};
-ghost use Rattle.sockdiag.specs.HexField.{IsHexField, field_of};
+ghost use Rattle.sockdiag.specs.HexField.{field_of};
 ghost use Rattle.sockdiag.specs.Subjects.{envelope_subject};
 ghost use Rattle.sockdiag.specs.Told.{Adds, IsAccepted, Tells, TellsOf, accepted};
 
+use crate::dump_line::{ReadDump, push_dump, read_dump};
+use crate::fields::{find_space, read_field};
 use crate::view_line::push_view;
-use crate::words::{OK, push_accepted, push_field, push_number, push_refused};
-use memchr::memchr;
+use crate::words::{OK, UNWRITABLE, push_accepted, push_field, push_number, push_refused};
 use netlink_core::{CanonError, NetlinkHeader, NetlinkMessage, Wire, canonical};
 use netlink_packet_sock_diag::SockDiagMessage;
 use netlink_packet_sock_diag::constants::{AF_INET, AF_INET6, SOCK_DIAG_BY_FAMILY};
@@ -42,11 +46,22 @@ pub(crate) enum Name {
     UnixView,
 }
 
+/// What a line asks for.
+#[derive(Drop)]
+pub(crate) enum Asked {
+    /// What the bytes of its field are, under its name.
+    Field(Name),
+    /// The dump over its datagrams.
+    Dump(ReadDump),
+    /// Nothing: the line is of another form.
+    Nothing,
+}
+
+/// The word before the datagrams of a dump.
+const DUMP: &[u8] = b"dump";
+
 /// The answer to a line of another form.
 const BAD_LINE: &[u8] = b"bad line";
-
-/// The answer to bytes whose value can't be written.
-const UNWRITABLE: &[u8] = b"unwritable";
 
 /// The number of bytes of a netlink header.
 const HEADER: usize = 16;
@@ -68,6 +83,15 @@ pub fn answer(alloc: Global, line: &[u8]) -> Result<Vec<u8>, AllocError>
         → IsRequest line.now name bytes → IsRequest other name bytes'
         → IsAccepted (subject_of name) bytes → IsAccepted (subject_of name) bytes'
         → IsAnswerOf other text' → (subject_of name).idle bytes bytes' → text.items ≡ text') }
+    // Two dumps whose datagrams have the same items in a row have one answer.
+    ensures dumps { IfOk result (λ text. (other text' : List ℕ) (datagrams datagrams' : List (List ℕ))
+        → IsDumpRequest line.now datagrams → IsDumpRequest other datagrams'
+        → HaveSameItems datagrams datagrams' → IsAnswerOf other text' → text.items ≡ text') }
+    // So have two dumps of the same bytes, of which each datagram but the last is whole messages.
+    ensures split { IfOk result (λ text. (other text' : List ℕ) (datagrams datagrams' : List (List ℕ))
+        → IsDumpRequest line.now datagrams → IsDumpRequest other datagrams'
+        → AreSplit datagrams → AreSplit datagrams' → in_a_row datagrams ≡ in_a_row datagrams'
+        → IsAnswerOf other text' → text.items ≡ text') }
 {
     let mut text = Vec::new(alloc);
     push_answer(alloc, &mut Vec::new(alloc), &mut text, line)?;
@@ -90,39 +114,57 @@ pub(crate) fn push_answer(
 ) -> Result<(), AllocError>
     ensures { OnOk result (Adds text.old.items text.new.items (IsAnswerOf line.now)) }
 {
-    let asked = read_request(bytes, line)?;
+    let asked = read_request(alloc, bytes, line)?;
     push_told(alloc, text, asked, bytes.as_slice())
 }
 
-/// The name of a line that is a request. The bytes of its field are put in place of what `bytes` held.
-pub(crate) fn read_request(bytes: &mut Vec<u8>, line: &[u8]) -> Result<Option<Name>, AllocError>
+/// What a line asks for. The bytes of its last field are put in place of what `bytes` held.
+pub(crate) fn read_request(
+    alloc: Global,
+    bytes: &mut Vec<u8>,
+    line: &[u8],
+) -> Result<Asked, AllocError>
     ensures { IfOk result (λ asked. IsReadAs line.now asked bytes.new.items) }
 {
     let Some(space) = find_space(line) else {
-        return Ok(None);
+        return Ok(Asked::Nothing);
     };
+    if &line[..space] == DUMP {
+        return read_dump_request(alloc, bytes, &line[space + 1..]);
+    }
     let Some(name) = find_name(&line[..space]) else {
-        return Ok(None);
+        return Ok(Asked::Nothing);
     };
     if read_field(bytes, &line[space + 1..])? {
-        Ok(Some(name))
+        Ok(Asked::Field(name))
     } else {
-        Ok(None)
+        Ok(Asked::Nothing)
     }
 }
 
-/// Adds the answer to a name and the bytes of its field, or to a line of another form.
+/// What a line asks for whose name is `dump`, by the text behind the space.
+fn read_dump_request(alloc: Global, bytes: &mut Vec<u8>, fields: &[u8]) -> Result<Asked, AllocError>
+    ensures { IfOk result (λ asked. IsReadAs (codes "dump" ++ 32 ∷ fields.now) asked bytes.new.items) }
+{
+    match read_dump(alloc, bytes, fields)? {
+        Some(dump) => Ok(Asked::Dump(dump)),
+        None => Ok(Asked::Nothing),
+    }
+}
+
+/// Adds the answer to what a line asks for, which may be about the bytes of its field.
 pub(crate) fn push_told(
     alloc: Global,
     text: &mut Vec<u8>,
-    asked: Option<Name>,
+    asked: Asked,
     bytes: &[u8],
 ) -> Result<(), AllocError>
     ensures { OnOk result (Adds text.old.items text.new.items (IsAnswerTo asked bytes.now)) }
 {
     match asked {
-        Some(name) => push_named(alloc, text, name, bytes),
-        None => text.extend_from_slice(BAD_LINE),
+        Asked::Field(name) => push_named(alloc, text, name, bytes),
+        Asked::Dump(dump) => push_dump(alloc, text, &dump),
+        Asked::Nothing => text.extend_from_slice(BAD_LINE),
     }
 }
 
@@ -217,16 +259,8 @@ fn push_envelope(
 fn push_word(text: &mut Vec<u8>, number: u32) -> Result<(), AllocError>
     ensures { OnOk result (text.new.items ≡ text.old.items ++ (decimal number ++ 32 ∷ [])) }
 {
-    push_number(text, number)?;
+    push_number(text, number.into())?;
     Ok(text.push(b' ')?)
-}
-
-/// The place of the first space.
-fn find_space(line: &[u8]) -> Option<usize>
-    ensures place { result ≡ position (λ c. c == 32) line.now }
-    ensures within { IfSome result (λ i. i < length line.now) }
-{
-    memchr(b' ', line)
 }
 
 /// The name that a word is.
@@ -245,20 +279,4 @@ fn find_name(word: &[u8]) -> Option<Name>
         b"unixview" => Some(Name::UnixView),
         _ => None,
     }
-}
-
-/// Puts the bytes that a hex field stands for in place of what `bytes` held, and answers whether it is one.
-fn read_field(bytes: &mut Vec<u8>, field: &[u8]) -> Result<bool, AllocError>
-    ensures { IfOk result (λ is_field. MatchBool is_field (IsHexField field.now bytes.new.items)
-        ((content : List ℕ) → ¬ IsHexField field.now content)) }
-{
-    bytes.clear();
-    if field.is_empty() {
-        return Ok(false);
-    }
-    if field == b"-".as_slice() {
-        return Ok(true);
-    }
-    bytes.resize(field.len() / 2, 0)?;
-    Ok(hex::decode_to_slice(field, bytes.as_mut_slice()).is_ok())
 }

@@ -11,6 +11,8 @@ ghost use Rattle.sockdiag.specs.Run.{Answers, answer_lines};
 ghost use Rattle.sockdiag.specs.declared.stream.RunError.{RunError};
 
 mod answers;
+mod dump_line;
+mod fields;
 mod prompt;
 mod stream;
 #[cfg(test)]

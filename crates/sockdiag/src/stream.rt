@@ -1,12 +1,13 @@
 //! Answers the lines of a reader on a writer.
 ghost use Rattle.std.specs.Prelude.{◌≡◌, ◌⊎◌, ◌-◌, ◌^◌, ℕ, List, [], ◌++◌, OnOk, OnErr, IfOk, IfErr, IfSome, Option, None};
 ghost use Rattle.std.specs.Io.KnownBytes.{Appends, IsAtEnd};
-ghost use Rattle.sockdiag.specs.Answer.{IsAnswerOf, IsReadAs};
+ghost use Rattle.sockdiag.specs.Answer.{IsAnswerOf};
+ghost use Rattle.sockdiag.specs.Asked.{IsReadAs};
 ghost use Rattle.sockdiag.specs.Lines.{IsLine, Splits, fed, with_rest};
 ghost use Rattle.sockdiag.specs.Run.{Answers, AnswersPiece, HasCause, Writes, answer_lines};
 ghost use Rattle.sockdiag.specs.declared.stream.RunError.TheVariants.{Memory};
 
-use crate::answers::{Name, push_told, read_request};
+use crate::answers::{Asked, push_told, read_request};
 use crate::prompt::{AnswerWrite, PromptRead};
 use memchr::memchr;
 use std::alloc::{AllocError, AllocFailed, Global};
@@ -185,7 +186,7 @@ fn end_line<S: Start>(alloc: Global, kept: &mut Kept, end: &[u8]) -> Result<(), 
     ensures { OnOk result ((kept.new.line.items ≡ [])
         × (kept.new.answers.items ≡ kept.old.answers.items ++ fed (S.answer (kept.old.line.items ++ end.now)))) }
 {
-    let asked = read_line(kept, end)?;
+    let asked = read_line(alloc, kept, end)?;
     empty(alloc, &mut kept.line);
     add_answer_line::<S>(alloc, &mut kept.answers, asked, kept.bytes.as_slice())?;
     empty(alloc, &mut kept.bytes);
@@ -193,22 +194,22 @@ fn end_line<S: Start>(alloc: Global, kept: &mut Kept, end: &[u8]) -> Result<(), 
 }
 
 /// Reads a line whose last bytes are `end`. One that began in no earlier piece is read where it lies.
-fn read_line(kept: &mut Kept, end: &[u8]) -> Result<Option<Name>, AllocError>
+fn read_line(alloc: Global, kept: &mut Kept, end: &[u8]) -> Result<Asked, AllocError>
     ensures { IfOk result (λ asked. IsReadAs (kept.old.line.items ++ end.now) asked kept.new.bytes.items
         × (kept.new.answers.items ≡ kept.old.answers.items)) }
 {
     if kept.line.is_empty() {
-        return read_request(&mut kept.bytes, end);
+        return read_request(alloc, &mut kept.bytes, end);
     }
     kept.line.extend_from_slice(end)?;
-    read_request(&mut kept.bytes, kept.line.as_slice())
+    read_request(alloc, &mut kept.bytes, kept.line.as_slice())
 }
 
 /// Adds the answer line of what a line was read as.
 fn add_answer_line<S: Start>(
     alloc: Global,
     answers: &mut Vec<u8>,
-    asked: Option<Name>,
+    asked: Asked,
     bytes: &[u8],
 ) -> Result<(), AllocError>
     requires { (line : List ℕ) → IsAnswerOf line (S.answer line) }

@@ -17,11 +17,14 @@ use std::io::Write;
 /// What stands before what is shown of a value.
 pub(crate) const OK: &[u8] = b"ok ";
 
+/// The answer to bytes whose value can't be written.
+pub(crate) const UNWRITABLE: &[u8] = b"unwritable";
+
 /// The word for what a reply does not tell, behind a space.
 const NONE: &[u8] = b" none";
 
 /// Adds a number in decimal.
-pub(crate) fn push_number(text: &mut Vec<u8>, number: u32) -> Result<(), AllocError>
+pub(crate) fn push_number(text: &mut Vec<u8>, number: u64) -> Result<(), AllocError>
     ensures { OnOk result (text.new.items ≡ text.old.items ++ decimal number) }
 {
     match write!(text, "{number}") {
@@ -87,7 +90,7 @@ pub(crate) fn push_number_word(text: &mut Vec<u8>, number: Option<u32>) -> Resul
         return text.extend_from_slice(NONE);
     };
     text.push(b' ')?;
-    push_number(text, number)
+    push_number(text, number.into())
 }
 
 /// Adds a space, the sort of a name and its bytes as a hex field, or `none`.
@@ -131,13 +134,13 @@ fn push_numbers(text: &mut Vec<u8>, numbers: NumbersView<'_>) -> Result<(), Allo
     let Some(first) = numbers.get(0) else {
         return Ok(text.push(b'-')?);
     };
-    push_number(text, first)?;
+    push_number(text, first.into())?;
     'rest: for index in 1..numbers.len() {
         let Some(number) = numbers.get(index) else {
             unreachable!();
         };
         text.push(b',')?;
-        push_number(text, number)?;
+        push_number(text, number.into())?;
     }
     Ok(())
 }

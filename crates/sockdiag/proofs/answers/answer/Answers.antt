@@ -1,7 +1,7 @@
 use Rattle.std.proofs.Common.{◌≡◌, [], ◌++◌, List, ℕ, sym, ap, ◌∙◌, subst}
 use Rattle.sockdiag.specs.Answer.{IsAnswerOf}
 use Rattle.sockdiag.specs.Told.{Adds}
-use Rattle.sockdiag.proofs.AnswerLemmas.{answers_alike, answers_apart}
+use Rattle.sockdiag.proofs.AnswerLemmas.{answers_alike, answers_apart, dumps_alike, dumps_split}
 use Rattle.sockdiag.proofs.answers.answer.Goals as goal
 
 -- what was added to an empty text is the whole of it
@@ -22,3 +22,15 @@ returns-clause-alike c = λ name other bytes bytes' text' asked asked' ok ok' is
     let line = c.args.line.now in
     let text = c.push_answer.new.text.items in
     answers_alike name line other bytes bytes' text text' (whole line _ text c.new-text.ensures.items c.in_ok-push_answer.ensures) is' asked asked' ok ok'
+
+pub returns-clause-dumps : goal.returns-clause-dumps
+returns-clause-dumps c = λ other text' datagrams datagrams' asked asked' same is'.
+    let line = c.args.line.now in
+    let text = c.push_answer.new.text.items in
+    dumps_alike line other text text' datagrams datagrams' (whole line _ text c.new-text.ensures.items c.in_ok-push_answer.ensures) is' asked asked' same
+
+pub returns-clause-split : goal.returns-clause-split
+returns-clause-split c = λ other text' datagrams datagrams' asked asked' split split' same is'.
+    let line = c.args.line.now in
+    let text = c.push_answer.new.text.items in
+    dumps_split line other text text' datagrams datagrams' (whole line _ text c.new-text.ensures.items c.in_ok-push_answer.ensures) is' asked asked' split split' same

@@ -1,4 +1,4 @@
-use Rattle.std.proofs.Common.{◌++◌, ◌∷◌, [], sym, ap, ◌∙◌, append_assoc, take, arith, decimal}
+use Rattle.std.proofs.Common.{◌++◌, ◌∷◌, ℕ, [], sym, ap, ◌∙◌, append_assoc, take, arith, decimal}
 use Rattle.std.proofs.lemmas.List.{take_all}
 use Rattle.sock_diag_attributes.specs.SeenNumbers.{viewed_numbers}
 use Rattle.sockdiag.specs.ViewLine.{comma_list}
@@ -6,7 +6,7 @@ use Rattle.sockdiag.proofs.ViewLemmas.{first_listed, next_listed}
 use Rattle.sockdiag.proofs.words.push_numbers.Goals as goal
 
 pub rest-init : goal.rest-init
-rest-init c = c.in_ok-push_number.ensures ∙ ap (λ t. c.args.text.now.items ++ t) (sym (first_listed (viewed_numbers c.args.numbers) c.in-Some.first (sym c.in-Some.ensures)))
+rest-init c = c.in_ok-push_number.ensures ∙ ap (λ (n : ℕ). c.args.text.now.items ++ decimal n) c.into.ensures ∙ ap (λ t. c.args.text.now.items ++ t) (sym (first_listed (viewed_numbers c.args.numbers) c.in-Some.first (sym c.in-Some.ensures)))
 
 pub rest-preserved : goal.rest-preserved
 rest-preserved c =
@@ -14,6 +14,7 @@ rest-preserved c =
     let old = c.args.text.now.items in
     let number = c.in-Some-get.number in
     c.in_ok-push_number-2.ensures
+    ∙ ap (λ (n : ℕ). c.push-in-rest.new.self.items ++ decimal n) c.into-in-rest.ensures
     ∙ ap (λ t. t ++ decimal number) (c.in_ok-push-2.ensures.items ∙ ap (λ t. t ++ 44 ∷ []) c.rest.invariant)
     ∙ append_assoc (old ++ comma_list (take c.rest.index all)) (44 ∷ []) (decimal number)
     ∙ append_assoc old (comma_list (take c.rest.index all)) (44 ∷ decimal number)

@@ -1,0 +1,185 @@
+-- The dump over datagrams: there is one, and how it grows by a datagram.
+use Rattle.std.proofs.Common.{◌≡◌, ◌≢◌, ◌⊎◌, inl, inr, ℕ, List, [], ◌∷◌, ◌++◌, Option, Some, None, Result, Ok, Err, refl, sym, ap, subst, ◌∙◌}
+use Rattle.std.specs.List.{AllByRecursion, AllZip}
+use Rattle.netlink_core.specs.Bytes.{IsBytes}
+use Rattle.netlink_core.specs.declared.fault.DecodeError.{DecodeError}
+use Rattle.netlink_core.specs.declared.fault.DecodeError.TheVariants.{Memory}
+use Rattle.netlink_core.specs.Envelope.{Payload}
+use Rattle.netlink_core.specs.Items.{ItemsAre}
+use Rattle.netlink_core.proofs.Items.{items_of, one_list}
+use Rattle.netlink_packet_sock_diag.specs.declared.dump.DumpState.{DumpState}
+use Rattle.netlink_packet_sock_diag.specs.declared.dump.DumpState.TheVariants.{Reading, Done, Error, Overrun, Failed}
+use Rattle.netlink_packet_sock_diag.specs.declared.dump.DumpError.TheVariants.{Ended, Fault}
+use Rattle.netlink_packet_sock_diag.specs.Feed.{FeedLeaves}
+use Rattle.netlink_packet_sock_diag.specs.Dump.{AreSplit, DatagramDump, DatagramsDump, in_a_row}
+use Rattle.netlink_packet_sock_diag.specs.Message.{Message, MessageIs, MessageFault}
+use Rattle.netlink_packet_sock_diag.specs.MessageLaws.{message_laws}
+use Rattle.netlink_packet_sock_diag.proofs.DumpRows.{dump_of_split, has_dump, one_datagram_dump, same_dump, split_of_dump}
+use Rattle.sockdiag.specs.DumpLine.{HaveSameItems, IsDumpOf, IsWritable, TellsDump, ToldDump, shown_dump}
+use Rattle.sockdiag.specs.HexField.{IsHexField}
+use Rattle.sockdiag.specs.ReadDump.{ended_with}
+use Rattle.sockdiag.proofs.Deciding.{each_or_not, message_fits_or_not}
+use Rattle.sockdiag.proofs.EnvelopeLaws.{envelope_laws}
+use Rattle.sockdiag.proofs.FieldLaws.{IsBytes-field}
+use Rattle.sockdiag.proofs.Telling.{one_telling, tells_value}
+
+-- each datagram has items
+some_items : (b : List ℕ) → IsBytes b → (items : List (Result (Payload Message) DecodeError)) × ItemsAre MessageIs MessageFault b items
+some_items = items_of MessageIs MessageFault (λ b t typed fits. message_laws.answered b t typed fits)
+
+-- and no others
+one_items : (b : List ℕ) → IsBytes b → (xs ys : List (Result (Payload Message) DecodeError)) → ItemsAre MessageIs MessageFault b xs → ItemsAre MessageIs MessageFault b ys → xs ≡ ys
+one_items = one_list MessageIs MessageFault envelope_laws.one_value envelope_laws.one_answer envelope_laws.one_fault
+
+reading_or_not : (end : Result DumpState DecodeError) → (end ≡ Ok Reading) ⊎ (end ≢ Ok Reading)
+reading_or_not (Ok Reading) = inl refl
+reading_or_not (Ok Done) = inr (λ e. cc e)
+reading_or_not (Ok Error) = inr (λ e. cc e)
+reading_or_not (Ok Overrun) = inr (λ e. cc e)
+reading_or_not (Ok Failed) = inr (λ e. cc e)
+reading_or_not (Err fault) = inr (λ e. cc e)
+
+-- ---- one dump
+
+-- datagrams have a dump
+has_dumps : (before : List Message) (datagrams : List (List ℕ)) → AllByRecursion IsBytes datagrams
+    → (after : List Message) × (end : Result DumpState DecodeError) × DatagramsDump MessageIs MessageFault before datagrams after end
+has_dumps before [] typed = (before, Ok Reading, (refl, refl))
+has_dumps before (datagram ∷ later) typed =
+    let items = some_items datagram typed.0 in
+    let first = has_dump before items.0 in
+    elim (reading_or_not first.1) [
+      | inl on ↦ let rest = has_dumps first.0 later typed.1 in (rest.0, rest.1, (first.0, first.1, (items.0, items.1, first.2), inl (on, rest.2)))
+      | inr off ↦ (first.0, first.1, (first.0, first.1, (items.0, items.1, first.2), inr (off, refl, refl)))
+    ]
+
+-- and no other
+one_dumps : (before : List Message) (datagrams : List (List ℕ)) → AllByRecursion IsBytes datagrams → (a b : List Message) (e f : Result DumpState DecodeError)
+    → DatagramsDump MessageIs MessageFault before datagrams a e → DatagramsDump MessageIs MessageFault before datagrams b f → (a ≡ b) × (e ≡ f)
+one_dumps before [] typed a b e f d t = (d.0 ∙ sym t.0, d.1 ∙ sym t.1)
+one_dumps before (datagram ∷ later) typed a b e f d t =
+    let same = one_datagram_dump MessageIs MessageFault one_items datagram typed.0 before d.0 t.0 d.1 t.1 d.2 t.2 in
+    elim d.3 [
+      | inl on ↦ elim t.3 [
+        | inl also ↦ one_dumps d.0 later typed.1 a b e f on.1 (subst (λ (m : List Message). DatagramsDump MessageIs MessageFault m later b f) (sym same.0) also.1)
+        | inr off ↦ absurd (off.0 (sym same.1 ∙ on.0))
+      ]
+      | inr off ↦ elim t.3 [
+        | inl on ↦ absurd (off.0 (same.1 ∙ on.0))
+        | inr also ↦ (off.1 ∙ same.0 ∙ sym also.1, off.2 ∙ same.1 ∙ sym also.2)
+      ]
+    ]
+
+-- ---- one text
+
+-- hex fields stand for bytes
+pub fields_typed : (fields datagrams : List (List ℕ)) → AllZip IsHexField fields datagrams → AllByRecursion IsBytes datagrams
+fields_typed [] [] each = tt
+fields_typed [] (d ∷ datagrams) each = absurd each
+fields_typed (f ∷ fields) [] each = absurd each
+fields_typed (f ∷ fields) (d ∷ datagrams) each = (IsBytes-field f d each.0, fields_typed fields datagrams each.1)
+
+-- a text tells of datagrams
+pub has_dump_text : (datagrams : List (List ℕ)) → AllByRecursion IsBytes datagrams → (text : List ℕ) × TellsDump datagrams text
+has_dump_text datagrams typed =
+    let dump = has_dumps [] datagrams typed in
+    tells_value IsWritable shown_dump (λ d. IsDumpOf datagrams d) (λ fault. ⊥) (record { messages = dump.0; end = dump.1 }) dump.2
+    (each_or_not _ message_fits_or_not dump.0)
+
+-- and no other
+pub one_dump_text : (datagrams : List (List ℕ)) → AllByRecursion IsBytes datagrams → (x y : List ℕ) → TellsDump datagrams x → TellsDump datagrams y → x ≡ y
+one_dump_text datagrams typed = one_telling IsWritable shown_dump (λ d. IsDumpOf datagrams d) (λ fault. ⊥) one (λ d fault is never. never) (λ fault other never also. absurd never)
+  where
+    one : (d e : ToldDump) → IsDumpOf datagrams d → IsDumpOf datagrams e → d ≡ e
+    one d e is also = let same = one_dumps [] datagrams typed d.messages e.messages d.end e.end is also in λ i. record { messages = same.0 i; end = same.1 i }
+
+-- what tells of datagrams tells of others that have the same dumps
+tells_others : (datagrams others : List (List ℕ)) → ((d : ToldDump) → IsDumpOf datagrams d → IsDumpOf others d) → (text : List ℕ) → TellsDump datagrams text → TellsDump others text
+tells_others datagrams others same text (inl (d, is, fits, e)) = inl (d, same d is, fits, e)
+tells_others datagrams others same text (inr (inl (d, is, unfit, e))) = inr (inl (d, same d is, unfit, e))
+tells_others datagrams others same text (inr (inr (fault, never, e))) = absurd never
+
+-- the same items
+pub tells_same_items : (datagrams others : List (List ℕ)) → AllByRecursion IsBytes datagrams → HaveSameItems datagrams others → (text : List ℕ) → TellsDump datagrams text → TellsDump others text
+tells_same_items datagrams others typed h =
+    tells_others datagrams others
+    (λ d. same_dump MessageIs MessageFault one_items datagrams others h.items h.other_items typed h.are h.others_are h.same [] d.messages d.end)
+
+-- another split
+pub tells_split : (datagrams others : List (List ℕ)) → AllByRecursion IsBytes datagrams → AllByRecursion IsBytes others → AreSplit datagrams → AreSplit others
+    → in_a_row datagrams ≡ in_a_row others → (text : List ℕ) → TellsDump datagrams text → TellsDump others text
+tells_split datagrams others typed fits split cut same =
+    tells_others datagrams others (λ d is. split_of_dump MessageIs MessageFault some_items one_items others fits cut [] d.messages d.end
+    (subst (λ (bytes : List ℕ). DatagramDump MessageIs MessageFault [] bytes d.messages d.end) same
+    (dump_of_split MessageIs MessageFault some_items one_items datagrams typed split [] d.messages d.end is)))
+
+-- ---- one datagram more
+
+-- what a further datagram makes of a dump
+Next : List Message → Result DumpState DecodeError → List ℕ → List Message → Result DumpState DecodeError → Type 0
+Next middle state datagram after end = ((state ≡ Ok Reading) × DatagramDump MessageIs MessageFault middle datagram after end) ⊎ ((state ≢ Ok Reading) × (after ≡ middle) × (end ≡ state))
+
+one_more : (before : List Message) (datagrams : List (List ℕ)) (datagram : List ℕ) (middle after : List Message) (state end : Result DumpState DecodeError)
+    → DatagramsDump MessageIs MessageFault before datagrams middle state → Next middle state datagram after end
+    → DatagramsDump MessageIs MessageFault before (datagrams ++ datagram ∷ []) after end
+unfolding Next
+one_more before [] datagram middle after state end d (inl on) =
+    let is = subst (λ (m : List Message). DatagramDump MessageIs MessageFault m datagram after end) d.0 on.1 in
+    (after, end, is, elim (reading_or_not end) [ inl reading ↦ inl (reading, (refl, reading)) | inr over ↦ inr (over, refl, refl) ])
+one_more before [] datagram middle after state end d (inr off) = absurd (off.0 d.1)
+one_more before (first ∷ later) datagram middle after state end d step = (
+  d.0,
+  d.1,
+  d.2,
+  elim d.3 [
+    | inl on ↦ inl (on.0, one_more d.0 later datagram middle after state end on.1 step)
+    | inr off ↦ elim step [
+      | inl on ↦ absurd (off.0 (sym off.2 ∙ on.0))
+      | inr over ↦ inr (off.0, over.1 ∙ off.1, over.2 ∙ off.2)
+    ]
+  ],
+)
+
+reading_at : (state : DumpState) (fault : Option DecodeError) → (state ≡ Reading → fault ≡ None) → state ≡ Reading → ended_with state fault ≡ Ok Reading
+reading_at state fault none is = ap (ended_with state) (none is) ∙ ap Ok is
+
+over_at : (state : DumpState) (fault : Option DecodeError) → state ≢ Reading → ended_with state fault ≢ Ok Reading
+over_at state None over = λ e. over (bare state e)
+  where
+    bare : (s : DumpState) → ended_with s None ≡ Ok Reading → s ≡ Reading
+    bare s e = cc
+over_at state (Some fault) over = λ e. cc
+
+module _ (datagrams : List (List ℕ)) (datagram : List ℕ) (before after : List Message) (state left : DumpState) (fault : Option DecodeError)
+    (d : DatagramsDump MessageIs MessageFault [] datagrams before (ended_with state fault)) (none : state ≡ Reading → fault ≡ None) where
+  -- the datagram was taken without a fault
+  pub took : FeedLeaves MessageIs MessageFault before state datagram after left (Ok tt)
+      → DatagramsDump MessageIs MessageFault [] (datagrams ++ datagram ∷ []) after (ended_with left fault) × (left ≡ Reading → fault ≡ None)
+  unfolding Next
+  took fed = (
+    one_more [] datagrams datagram before after (ended_with state fault) (ended_with left fault) d
+        (inl (reading_at state fault none fed.0, subst (λ (e : Result DumpState DecodeError). DatagramDump MessageIs MessageFault before datagram after e) (sym (ap (ended_with left) (none fed.0))) fed.1)),
+    λ still. none fed.0,
+  )
+
+  -- it was not, since the dump had ended
+  pub left_as_it_was : FeedLeaves MessageIs MessageFault before state datagram after left (Err Ended)
+      → DatagramsDump MessageIs MessageFault [] (datagrams ++ datagram ∷ []) after (ended_with left fault) × (left ≡ Reading → fault ≡ None)
+  unfolding Next
+  left_as_it_was fed = (
+    one_more [] datagrams datagram before after (ended_with state fault) (ended_with left fault) d
+        (inr (over_at state fault fed.0, fed.1, ap (λ (s : DumpState). ended_with s fault) fed.2)),
+    λ reading. absurd (fed.0 (sym fed.2 ∙ reading)),
+  )
+
+  -- it has a fault
+  pub failed_at : (e : DecodeError) → e ≢ Memory → FeedLeaves MessageIs MessageFault before state datagram after left (Err (Fault e))
+      → DatagramsDump MessageIs MessageFault [] (datagrams ++ datagram ∷ []) after (Err e) × (left ≡ Reading → Some e ≡ None)
+  unfolding Next
+  failed_at e named fed = (
+    one_more [] datagrams datagram before after (ended_with state fault) (Err e) d (inl (reading_at state fault none fed.0, fed.2 named)),
+    λ still. absurd (apart (sym fed.1 ∙ still)),
+  )
+    where
+      apart : Failed ≡ Reading → ⊥
+      apart e = cc

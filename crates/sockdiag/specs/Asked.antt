@@ -1,0 +1,20 @@
+-- What a line is read as, and what answers that.
+use Rattle.std.specs.Prelude.{◌≡◌, ℕ, List, codes}
+use Rattle.sockdiag.specs.Answer.{IsAnswer, IsNoRequest, IsRequest}
+use Rattle.sockdiag.specs.DumpLine.{IsDumpRequest, IsWritable, shown_dump}
+use Rattle.sockdiag.specs.ReadDump.{IsReadDump, told_dump}
+use Rattle.sockdiag.specs.Told.{Tells}
+use Rattle.sockdiag.specs.declared.answers.Asked.{Asked}
+use Rattle.sockdiag.specs.declared.answers.Asked.TheVariants.{Field, Dump, Nothing}
+
+-- a line is read as a name and the bytes of its field, as a dump, or as no request
+abbrev pub IsReadAs : List ℕ → Asked → List ℕ → Type 0
+IsReadAs line (Field name) bytes = IsRequest line name bytes
+IsReadAs line (Dump dump) bytes = (datagrams : List (List ℕ)) × IsDumpRequest line datagrams × IsReadDump datagrams dump
+IsReadAs line Nothing bytes = IsNoRequest line
+
+-- the text answers what a line was read as
+abbrev pub IsAnswerTo : Asked → List ℕ → List ℕ → Type 0
+IsAnswerTo (Field name) bytes text = IsAnswer name bytes text
+IsAnswerTo (Dump dump) bytes text = Tells (λ d. d ≡ told_dump dump) (λ fault. ⊥) IsWritable shown_dump text
+IsAnswerTo Nothing bytes text = text ≡ codes "bad line"

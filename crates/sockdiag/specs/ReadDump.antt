@@ -1,0 +1,30 @@
+-- What is seen of a dump that the program reads, and how it grows.
+use Rattle.std.specs.Prelude.{◌≡◌, ℕ, List, [], ◌∷◌, ◌++◌, Option, Some, None, Result, Ok, Err}
+use Rattle.netlink_core.specs.declared.fault.DecodeError.{DecodeError}
+use Rattle.netlink_packet_sock_diag.specs.declared.dump.DumpState.{DumpState}
+use Rattle.netlink_packet_sock_diag.specs.declared.dump.DumpState.TheVariants.{Reading}
+use Rattle.netlink_packet_sock_diag.specs.SeenDump.{dump_state, kept_messages}
+use Rattle.sockdiag.specs.declared.dump_line.ReadDump.{ReadDump}
+use Rattle.sockdiag.specs.DumpLine.{IsDumpOf, ToldDump}
+
+-- the fault at which it failed, or else its state
+abbrev pub ended_with : DumpState → Option DecodeError → Result DumpState DecodeError
+ended_with state None = Ok state
+ended_with state (Some fault) = Err fault
+
+-- how it ends
+abbrev pub end_of : ReadDump → Result DumpState DecodeError
+end_of dump = ended_with (dump_state dump.reader) dump.fault
+
+-- what is told of it
+abbrev pub told_dump : ReadDump → ToldDump
+told_dump dump = record { messages = kept_messages dump.reader; end = end_of dump }
+
+-- it is the dump over these datagrams, and has no fault while it is read
+pub record IsReadDump (datagrams : List (List ℕ)) (dump : ReadDump) : Type 0 where
+  pub is : IsDumpOf datagrams (told_dump dump)
+  pub faultless : dump_state dump.reader ≡ Reading → dump.fault ≡ None
+
+-- whatever datagrams were read, this one was read behind them
+abbrev pub TakesDatagram : ReadDump → List ℕ → ReadDump → Type 0
+TakesDatagram old datagram new = (datagrams : List (List ℕ)) → IsReadDump datagrams old → IsReadDump (datagrams ++ datagram ∷ []) new
