@@ -3,7 +3,7 @@
 ghost use Rattle.sockdiag.specs.declared.answers.Name.{Name};
 ghost use Rattle.sockdiag.specs.declared.answers.Name.TheVariants.{UnixView};
 ghost use Rattle.std.specs.Prelude.{◌≡◌, ◌≢◌, ◌↔◌, ◌++◌, ◌∷◌, [], ℕ, List, codes, decimal, IfOk, OnOk, MatchOption};
-ghost use Rattle.netlink_core.specs.Envelope.{EnvelopeFits};
+ghost use Rattle.netlink_core.specs.Envelope.{EnvelopeFits, inner as of_inner};
 ghost use Rattle.netlink_core.specs.Seen.{envelope_of};
 ghost use Rattle.netlink_packet_sock_diag.specs.Dump.{AreSplit, in_a_row};
 ghost use Rattle.netlink_packet_sock_diag.specs.Message.{MessageFits, message_bytes};
@@ -20,7 +20,9 @@ use crate::dump_line::{ReadDump, push_dump, read_dump};
 use crate::fields::{find_space, read_field};
 use crate::view_line::push_view;
 use crate::words::{OK, UNWRITABLE, push_accepted, push_field, push_number, push_refused};
-use netlink_core::{CanonError, NetlinkHeader, NetlinkMessage, Wire, canonical};
+use netlink_core::{
+    CanonError, Emitable, NetlinkHeader, NetlinkMessage, NetlinkPayload, Wire, canonical,
+};
 use netlink_packet_sock_diag::SockDiagMessage;
 use netlink_packet_sock_diag::constants::{AF_INET, AF_INET6, SOCK_DIAG_BY_FAMILY};
 use netlink_packet_sock_diag::inet::{InetRequest, InetResponse, SocketId};
@@ -62,9 +64,6 @@ const DUMP: &[u8] = b"dump";
 
 /// The answer to a line of another form.
 const BAD_LINE: &[u8] = b"bad line";
-
-/// The number of bytes of a netlink header.
-const HEADER: usize = 16;
 
 /// The answer to a line, without its line feed: `ok` and what is shown of the value that was read,
 /// `unwritable`, `refused` and the number of the first fault, or `bad line`. Shown are the bytes written back,
@@ -228,12 +227,32 @@ fn push_shown(
     if !message.is_writable() {
         return text.extend_from_slice(UNWRITABLE);
     }
-    let mut bytes = vec![in alloc; 0; message.buffer_len()]?;
-    message.serialize(&mut bytes);
-    // The payload's memory is let go before the text takes any.
     let NetlinkMessage { header, payload } = message;
-    drop(payload);
-    push_envelope(text, &header, &bytes[HEADER..])
+    match payload {
+        NetlinkPayload::Noop => push_envelope(text, &header, &[]),
+        NetlinkPayload::Error(bytes) => push_envelope(text, &header, bytes.as_slice()),
+        NetlinkPayload::Done(bytes) => push_envelope(text, &header, bytes.as_slice()),
+        NetlinkPayload::Overrun(bytes) => push_envelope(text, &header, bytes.as_slice()),
+        NetlinkPayload::InnerMessage(inner) => push_inner(alloc, text, &header, inner),
+    }
+}
+
+/// Adds `ok`, the five fields of a header and an inner message as it is written back.
+fn push_inner(
+    alloc: Global,
+    text: &mut Vec<u8>,
+    header: &NetlinkHeader,
+    inner: SockDiagMessage,
+) -> Result<(), AllocError>
+    requires { MessageFits (seen_message inner) }
+    ensures { OnOk result (text.new.items ≡ text.old.items ++ accepted
+        (shown_envelope (record { header = header.now; payload = of_inner (seen_message inner) }))) }
+{
+    let mut bytes = vec![in alloc; 0; inner.buffer_len()]?;
+    inner.emit(&mut bytes);
+    // The message's memory is let go before the text takes any.
+    drop(inner);
+    push_envelope(text, header, &bytes)
 }
 
 /// Adds `ok`, the five fields of a header and a payload.

@@ -9,6 +9,7 @@ use std::io::{ErrorKind, Read, Write};
 use std::process::Abort;
 use std::test::Fail;
 
+mod dumps;
 mod generated;
 mod hostile;
 mod rows;

@@ -1,7 +1,7 @@
 //! Lines and their answers, worked out by hand from the layouts.
 
 /// Requests for UNIX sockets, and lines of another form.
-pub(crate) const FORMS: [(&str, &str); 13] = [
+pub(crate) const FORMS: [(&str, &str); 12] = [
     (
         "unixreq 01000000020400003412000004000000ffffffffffffffff",
         "ok 01000000020400003412000004000000ffffffffffffffff",
@@ -26,7 +26,6 @@ pub(crate) const FORMS: [(&str, &str); 13] = [
         "ok 01000000020400003412000004000000ffffffffffffffff",
     ),
     ("unixview", "bad line"),
-    ("dump -", "bad line"),
 ];
 
 /// Requests for IPv4 and IPv6 sockets, and identities of sockets.
