@@ -20,7 +20,7 @@ def inputs(stored):
     yield "unixreq, 10^4", requests(10**4)
     yield "unixreq, 10^5", requests(10**5)
     yield "unixreq, 10^6", requests(10**6)
-    for name in (b"unix", b"inet", b"netlink", b"unixview"):
+    for name in (b"unix", b"inet", b"netlink", b"unixview", b"dump"):
         own = b"".join(line for line in lines if line.startswith(name + b" "))
         yield name.decode() + ", stored lines", own * (20_000_000 // len(own))
     yield "short bad lines", b"a\n" * 10**6
