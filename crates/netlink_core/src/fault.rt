@@ -23,7 +23,7 @@ pub enum RecordName {
     UnixResponseHeader,
     /// The value of `INET_DIAG_MEMINFO`, 16 bytes.
     LegacyMemInfo,
-    /// The value of `INET_DIAG_SKMEMINFO`, 36 bytes.
+    /// The value of `INET_DIAG_SKMEMINFO`, 28, 32 or 36 bytes.
     MemInfo,
     /// The value of `INET_DIAG_INFO`, 232 bytes.
     TcpInfo,
