@@ -43,6 +43,7 @@ impl<'a> Iterator for MessageStrings<'a> {
 
     /// The bytes of the next message. At each the faults are those of [`NetlinkHeader::from_prefix`], over the bytes
     /// that are left.
+    #[inline(always)]
     fn next(&mut self) -> Option<Result<&'a [u8], DecodeError>> {
         if self.at >= self.bytes.len() {
             return None;

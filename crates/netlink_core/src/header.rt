@@ -32,6 +32,7 @@ impl NetlinkHeader {
     ///
     /// Refused are fewer than 16 bytes as `EnvelopeCut`, then a length under 16 as `EnvelopeLengthUnder16`, then one
     /// past the bytes as `EnvelopeLengthPast`.
+    #[inline(always)]
     pub fn from_prefix(bytes: &[u8]) -> Result<Self, DecodeError>
         ensures { MatchResult result (HasHeader bytes.now) (IsEnvelopeFault bytes.now) }
     {

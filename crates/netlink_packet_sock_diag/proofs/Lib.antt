@@ -10,3 +10,4 @@ pub mod FirstViews
 mod Emitting
 pub mod Dumping
 pub mod DumpRows
+pub mod WholeViews

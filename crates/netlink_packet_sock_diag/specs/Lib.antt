@@ -19,3 +19,6 @@ pub mod EqualViews
 pub mod Dump
 pub mod Feed
 pub mod SeenDump
+pub mod ViewedPayload
+pub mod DumpWalk
+pub mod EqualPayloads

@@ -1,12 +1,17 @@
 //! Dumps: the messages of several datagrams, up to the one that ends them.
 
 ghost use Rattle.std.specs.Prelude.{◌≡◌, ◌≢◌, [], map, Ok as ok, Err as err, IfOk, IfErr};
+ghost use Rattle.std.proofs.Common.{rules};
 ghost use Rattle.netlink_core.specs.declared.fault.DecodeError.TheVariants.{Memory};
 ghost use Rattle.netlink_packet_sock_diag.specs.Dump.{DatagramDump, DatagramStopped};
 
+mod views;
+
+pub use self::views::{DumpViews, PayloadView};
+
 use crate::message::SockDiagMessage;
 use netlink_core::{
-    DecodeError, MessageStrings, NLMSG_DONE, NLMSG_ERROR, NLMSG_NOOP, NLMSG_OVERRUN,
+    DecodeError, Exact, MessageStrings, NLMSG_DONE, NLMSG_ERROR, NLMSG_NOOP, NLMSG_OVERRUN,
     NetlinkDeserializable, NetlinkHeader,
 };
 use std::alloc::Global;
@@ -36,6 +41,14 @@ pub enum DumpError {
     Fault(DecodeError),
     /// The dump had ended, so nothing was taken.
     Ended,
+}
+
+impl Exact for DumpState {
+    ghost equal = { Prim.search rules };
+
+    ghost copied = { Prim.search rules };
+
+    ghost unfailing = { Prim.search rules };
 }
 
 // Takes the messages of a datagram up to the end of the dump. The type of each is looked at before memory is taken.

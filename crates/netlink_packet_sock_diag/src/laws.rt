@@ -1,6 +1,7 @@
 //! Laws of replies and of messages. The functions do nothing: their contracts are the laws.
 
-ghost use Rattle.std.specs.Prelude.{◌≡◌, ◌%◌, ◌↔◌, ◌⊎◌, ◌++◌, ℕ, List, [], ◌∷◌, length, count_by, IsTrue, Result};
+ghost use Rattle.std.specs.Prelude.{◌≡◌, ◌%◌, ◌↔◌, ◌⊎◌, ◌++◌, ℕ, List, [], ◌∷◌, length, count_by, IsTrue, Result, IfOk, IsOk, map};
+ghost use Rattle.std.specs.Iterator.{Drains};
 ghost use Rattle.std.specs.List.{AllByRecursion, AllZip};
 ghost use Rattle.netlink_core.specs.Bytes.{IsBytes};
 ghost use Rattle.netlink_core.specs.declared.fault.DecodeError.{DecodeError};
@@ -14,6 +15,10 @@ ghost use Rattle.netlink_packet_sock_diag.specs.declared.dump.DumpState.{DumpSta
 ghost use Rattle.netlink_packet_sock_diag.specs.declared.dump.DumpState.TheVariants.{Reading};
 ghost use Rattle.netlink_packet_sock_diag.specs.Dump.{in_a_row, Dump, DumpGoesOn, DatagramsDump, AreSplit};
 ghost use Rattle.netlink_packet_sock_diag.specs.Feed.{FeedsLeave};
+ghost use Rattle.netlink_packet_sock_diag.specs.declared.dump.views.DumpViews.{DumpViews};
+ghost use Rattle.netlink_packet_sock_diag.specs.declared.dump.views.PayloadView.{PayloadView};
+ghost use Rattle.netlink_packet_sock_diag.specs.DumpWalk.{views_left, GivesView};
+ghost use Rattle.netlink_packet_sock_diag.specs.ViewedPayload.{viewed_payload, viewed_item};
 ghost use Rattle.netlink_packet_sock_diag.specs.UnixReply.{UnixReply, unix_reply};
 ghost use Rattle.netlink_packet_sock_diag.specs.InetReply.{InetReply, inet_reply};
 ghost use Rattle.netlink_packet_sock_diag.specs.ViewedInetReply.{viewed_response as viewed_inet};
@@ -21,10 +26,12 @@ ghost use Rattle.netlink_packet_sock_diag.specs.ViewedMessage.{viewed_message};
 ghost use Rattle.netlink_packet_sock_diag.specs.ViewedUnixReply.{viewed_response as viewed_unix};
 ghost use Rattle.netlink_packet_sock_diag.specs.Message.{Message, MessageIs, MessageFault, MessageFits, IdleMessages, IsTypedMessage, IsNormalMessage, message_bytes, is_inet_request, is_inet_response, is_unix_request, is_unix_response};
 
+use crate::dump::{DumpError, DumpViews as Views, PayloadView as View};
 use crate::inet::InetResponseView;
 use crate::message::{SockDiagMessage, SockDiagView};
 use crate::unix::UnixResponseView;
 use netlink_core::laws;
+use std::alloc::AllocError;
 
 /// The number of bytes that a reply is written as, `buffer_len`, is a multiple of 4, for both families.
 pub fn reply_lengths_are_multiples_of_four()
@@ -139,6 +146,36 @@ pub fn split_changes_no_feed()
     laws::one_list_of_items::<SockDiagMessage>();
 }
 
+/// A whole walk over a datagram gives its items in order: what each message carries or its fault, and last the fault
+/// of what is no message, if there is one.
+pub fn whole_views_are_the_datagram()
+    ensures { (walk : DumpViews) (given : List (Result PayloadView DecodeError)) → Drains GivesView walk given
+        → ItemsAre MessageIs MessageFault (views_left walk) (map viewed_item given) }
+{}
+
+/// `==` says whether two errors of a dump are the same.
+pub fn equal_dump_errors(v: &DumpError, w: &DumpError) -> bool
+    ensures { IsTrue result ↔ (v.now ≡ w.now) }
+{
+    v == w
+}
+
+/// A copy is the same error of a dump.
+pub fn copied_dump_error(v: &DumpError) -> Result<DumpError, AllocError>
+    ensures ok { IsOk result }
+    ensures same { IfOk result (λ copy. copy ≡ v.now) }
+{
+    v.clone()
+}
+
+/// The copy of a walk has the same bytes left.
+pub fn copied_views<'a>(walk: &Views<'a>) -> Result<Views<'a>, AllocError>
+    ensures ok { IsOk result }
+    ensures same { IfOk result (λ copy. views_left copy ≡ views_left walk.now) }
+{
+    walk.clone()
+}
+
 /// `==` says whether two replies in place, about UNIX sockets, tell the same.
 pub fn equal_unix_views(v: &UnixResponseView<'_>, w: &UnixResponseView<'_>) -> bool
     ensures { IsTrue result ↔ (viewed_unix v.now ≡ viewed_unix w.now) }
@@ -149,6 +186,14 @@ pub fn equal_unix_views(v: &UnixResponseView<'_>, w: &UnixResponseView<'_>) -> b
 /// `==` says whether two replies in place, about IPv4 and IPv6 sockets, tell the same.
 pub fn equal_inet_views(v: &InetResponseView<'_>, w: &InetResponseView<'_>) -> bool
     ensures { IsTrue result ↔ (viewed_inet v.now ≡ viewed_inet w.now) }
+{
+    v == w
+}
+
+/// `==` says whether two payloads in place tell the same.
+#[tactic(auto, using(crate::specs::EqualPayloads::payload_equal))]
+pub fn equal_payload_views(v: &View<'_>, w: &View<'_>) -> bool
+    ensures { IsTrue result ↔ (viewed_payload v.now ≡ viewed_payload w.now) }
 {
     v == w
 }

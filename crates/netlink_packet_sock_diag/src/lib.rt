@@ -19,6 +19,8 @@ mod views;
 pub use dump::DumpError;
 pub use dump::DumpReader;
 pub use dump::DumpState;
+pub use dump::DumpViews;
+pub use dump::PayloadView;
 pub use message::SockDiagDestroy;
 pub use message::SockDiagMessage;
 pub use message::SockDiagView;

@@ -1,3 +1,5 @@
+mod views;
+
 use super::*;
 use netlink_core::Emitable;
 use std::alloc::AllocError;

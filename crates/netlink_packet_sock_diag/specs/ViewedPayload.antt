@@ -1,0 +1,21 @@
+-- What contracts see of what a message carries, where it is read in place.
+use Rattle.std.specs.Prelude.{Result, Ok, Err}
+use Rattle.netlink_core.specs.declared.fault.DecodeError.{DecodeError}
+use Rattle.netlink_core.specs.Envelope.{Payload, done_with, error_with, no_payload, overrun_with, inner}
+use Rattle.netlink_packet_sock_diag.specs.declared.dump.views.PayloadView.{PayloadView}
+use Rattle.netlink_packet_sock_diag.specs.declared.dump.views.PayloadView.TheVariants.{Done, Error, Noop, Overrun, InnerMessage}
+use Rattle.netlink_packet_sock_diag.specs.Message.{Message}
+use Rattle.netlink_packet_sock_diag.specs.ViewedMessage.{viewed_message}
+
+-- what the message carries
+abbrev pub viewed_payload : PayloadView → Payload Message
+viewed_payload (Done given) = done_with given.now
+viewed_payload (Error given) = error_with given.now
+viewed_payload Noop = no_payload
+viewed_payload (Overrun given) = overrun_with given.now
+viewed_payload (InnerMessage message) = inner (viewed_message message)
+
+-- what an item of a datagram says
+abbrev pub viewed_item : Result PayloadView DecodeError → Result (Payload Message) DecodeError
+viewed_item (Ok payload) = Ok (viewed_payload payload)
+viewed_item (Err e) = Err e

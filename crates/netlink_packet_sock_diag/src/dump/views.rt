@@ -1,0 +1,89 @@
+//! The messages of a datagram with what they carry, read in place.
+
+ghost use Rattle.std.specs.Prelude.{◌≡◌, IfOk, IfErr};
+ghost use Rattle.netlink_core.specs.Envelope.{EnvelopeFault};
+ghost use Rattle.netlink_core.specs.Items.{ItemIs};
+ghost use Rattle.netlink_packet_sock_diag.specs.Message.{MessageIs, MessageFault};
+
+use super::HEADER;
+use crate::message::SockDiagView;
+use netlink_core::{
+    DecodeError, MessageStrings, NLMSG_DONE, NLMSG_ERROR, NLMSG_NOOP, NLMSG_OVERRUN, NetlinkHeader,
+};
+
+/// What a message carries, read in place: a [`netlink_core::NetlinkPayload`] whose bytes are borrowed.
+#[derive(Clone, Copy, Debug, PartialEq, Eq)]
+pub enum PayloadView<'a> {
+    /// A dump ends. The bytes are those behind the header.
+    Done(&'a [u8]),
+    /// A request failed, or is acknowledged. The bytes are those behind the header.
+    Error(&'a [u8]),
+    /// Nothing.
+    Noop,
+    /// Data was lost. The bytes are those behind the header.
+    Overrun(&'a [u8]),
+    /// A message of the protocol.
+    InnerMessage(SockDiagView<'a>),
+}
+
+impl<'a> PayloadView<'a> {
+    ghost use Rattle.netlink_packet_sock_diag.specs.ViewedPayload.{viewed_payload, viewed_item};
+
+    // What the message in these bytes carries, or the first fault.
+    #[inline(always)]
+    fn read(message: &'a [u8]) -> Result<PayloadView<'a>, DecodeError>
+        ensures { ItemIs MessageIs MessageFault message.entry.now (viewed_item result) }
+    {
+        let header = NetlinkHeader::from_prefix(message)?;
+        let payload = &message[HEADER..header.length as usize];
+        Ok(match header.message_type {
+            NLMSG_NOOP => PayloadView::Noop,
+            NLMSG_ERROR => PayloadView::Error(payload),
+            NLMSG_DONE => PayloadView::Done(payload),
+            NLMSG_OVERRUN => PayloadView::Overrun(payload),
+            message_type => PayloadView::InnerMessage(SockDiagView::parse(payload, message_type)?),
+        })
+    }
+}
+
+/// The walk over the messages of a datagram, each as what it carries. The end of a dump does not end it, nor does a
+/// message whose payload is refused: that is told, and the next message follows.
+///
+/// It ends where no bytes are left, and behind what is no message. No memory is taken.
+#[derive(Clone, Drop)]
+pub struct DumpViews<'a> {
+    messages: MessageStrings<'a>,
+}
+
+impl<'a> DumpViews<'a> {
+    ghost use Rattle.netlink_packet_sock_diag.specs.DumpWalk.{views_left};
+
+    /// The walk over this datagram.
+    pub fn new(datagram: &'a [u8]) -> DumpViews<'a>
+        ensures { views_left result ≡ datagram.entry.now }
+    {
+        DumpViews {
+            messages: MessageStrings::new(datagram),
+        }
+    }
+}
+
+impl<'a> Iterator for DumpViews<'a> {
+    ghost use Rattle.netlink_packet_sock_diag.specs.DumpWalk.{GivesView, messages_to_view};
+
+    type Item = Result<PayloadView<'a>, DecodeError>;
+
+    ghost next_gives = { GivesView };
+
+    ghost remaining = { messages_to_view };
+
+    /// What the next message carries, or its fault. At what is no message the faults are those of
+    /// [`NetlinkHeader::from_prefix`], over the bytes that are left.
+    #[inline(always)]
+    fn next(&mut self) -> Option<Result<PayloadView<'a>, DecodeError>> {
+        match self.messages.next()? {
+            Ok(message) => Some(PayloadView::read(message)),
+            Err(fault) => Some(Err(fault)),
+        }
+    }
+}
