@@ -138,14 +138,19 @@ impl<'a> SockDiagView<'a> {
     pub fn to_owned(&self, alloc: Global) -> Result<SockDiagMessage, AllocError>
         ensures { IfOk result (λ message. seen_message message ≡ viewed_message self.now) }
     {
-        Ok(match self {
+        // The attributes are built where they stay.
+        match self {
             SockDiagView::InetResponse(reply) => {
-                SockDiagMessage::InetResponse(Box::new(alloc, reply.to_owned(alloc)?)?)
+                let mut owned = Box::new(alloc, reply.without_attributes(alloc))?;
+                reply.own_into(alloc, &mut owned.nlas)?;
+                Ok(SockDiagMessage::InetResponse(owned))
             }
             SockDiagView::UnixResponse(reply) => {
-                SockDiagMessage::UnixResponse(Box::new(alloc, reply.to_owned(alloc)?)?)
+                let mut owned = Box::new(alloc, reply.without_attributes(alloc))?;
+                reply.own_into(alloc, &mut owned.nlas)?;
+                Ok(SockDiagMessage::UnixResponse(owned))
             }
-        })
+        }
     }
 }
 

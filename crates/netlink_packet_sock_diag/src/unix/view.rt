@@ -156,6 +156,18 @@ impl<'a> UnixResponseView<'a> {
         })
     }
 
+    // The reply's header alone.
+    #[inline(always)]
+    pub(crate) fn without_attributes(&self, alloc: Global) -> UnixResponse
+        ensures header { result.header ≡ (viewed_response self.now).header }
+        ensures empty { result.nlas.items ≡ [] }
+    {
+        UnixResponse {
+            header: self.header(),
+            nlas: SmallVec::new(alloc),
+        }
+    }
+
     // Puts the attributes, with memory of their own, into the empty list. They are not moved again where the list is
     // already in its place.
     pub(crate) fn own_into(
