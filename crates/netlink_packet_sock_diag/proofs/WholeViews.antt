@@ -1,16 +1,15 @@
 -- A whole walk over the messages of a datagram, each as what it carries, gives the items of the datagram.
-use Rattle.std.proofs.Common.{Result, Ok, Err, ◌≡◌, ◌<◌, ℕ, inl, inr, List, [], ◌∷◌, length, refl, sym, ap, subst, arith}
+use Rattle.std.proofs.Common.{Result, Err, ◌≡◌, ℕ, inl, inr, List, [], ◌∷◌, length, refl, sym, ap, subst, arith}
 use Rattle.std.specs.Prelude.{map}
 use Rattle.std.specs.Iterator.{Drains}
 use Rattle.netlink_core.specs.declared.fault.DecodeError.{DecodeError}
-use Rattle.netlink_core.specs.Envelope.{Payload}
 use Rattle.netlink_core.specs.Items.{ItemsAre}
 use Rattle.netlink_core.proofs.Datagrams.{shorter-rest}
 use Rattle.netlink_core.proofs.Items.{item_in_front, no_items, fault_alone}
 use Rattle.netlink_packet_sock_diag.specs.declared.dump.views.DumpViews.{DumpViews}
 use Rattle.netlink_packet_sock_diag.specs.declared.dump.views.PayloadView.{PayloadView}
 use Rattle.netlink_packet_sock_diag.specs.DumpWalk.{views_left, GivesView}
-use Rattle.netlink_packet_sock_diag.specs.Message.{Message, MessageIs, MessageFault}
+use Rattle.netlink_packet_sock_diag.specs.Message.{MessageIs, MessageFault}
 use Rattle.netlink_packet_sock_diag.specs.ViewedPayload.{viewed_item}
 
 -- where nothing is left nothing is given

@@ -8,7 +8,6 @@ ghost use Rattle.netlink_packet_sock_diag.specs.Dump.{DatagramDump, DatagramStop
 mod views;
 
 pub use self::views::{DumpViews, PayloadView};
-
 use crate::message::SockDiagMessage;
 use netlink_core::{
     DecodeError, Exact, MessageStrings, NLMSG_DONE, NLMSG_ERROR, NLMSG_NOOP, NLMSG_OVERRUN,

@@ -31,7 +31,11 @@ fn reply() -> Result<PayloadView<'static>, DecodeError> {
 fn the_end_of_a_dump_ends_no_walk(rt: HostRuntime) -> Result<(), Fail> {
     let all = row(rt.alloc(), &[&NOOP, &REPLY, &END, &REPLY])?;
     let end = PayloadView::Done(&[0, 0, 0, 0]);
-    shows(&rt, all.as_slice(), &[Ok(PayloadView::Noop), reply(), Ok(end), reply()])?;
+    shows(
+        &rt,
+        all.as_slice(),
+        &[Ok(PayloadView::Noop), reply(), Ok(end), reply()],
+    )?;
     shows(&rt, &REPLY, &[reply()])?;
     shows(&rt, &END, &[Ok(end)])?;
     shows(&rt, &[], &[])
@@ -70,13 +74,21 @@ fn what_is_no_message_ends_a_walk(rt: HostRuntime) -> Result<(), Fail> {
 fn views_stand_behind_the_padding(rt: HostRuntime) -> Result<(), Fail> {
     let odd = SockDiagView::parse(ODD.get(16..).ok_or("short")?, 20)?;
     let padded = row(rt.alloc(), &[&ODD, &[0, 0, 0], &REPLY])?;
-    shows(&rt, padded.as_slice(), &[Ok(PayloadView::InnerMessage(odd)), reply()])?;
+    shows(
+        &rt,
+        padded.as_slice(),
+        &[Ok(PayloadView::InnerMessage(odd)), reply()],
+    )?;
     let close = row(rt.alloc(), &[&ODD, &REPLY])?;
     let fault = DecodeError::EnvelopeLengthPast {
         length: 33_559_552,
         got: 29,
     };
-    shows(&rt, close.as_slice(), &[Ok(PayloadView::InnerMessage(odd)), Err(fault)])
+    shows(
+        &rt,
+        close.as_slice(),
+        &[Ok(PayloadView::InnerMessage(odd)), Err(fault)],
+    )
 }
 
 #[test]

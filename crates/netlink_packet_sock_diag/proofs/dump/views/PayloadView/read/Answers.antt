@@ -1,4 +1,4 @@
-use Rattle.std.proofs.Common.{◌-◌, Ok, Err, take, drop, refl, rules}
+use Rattle.std.proofs.Common.{◌-◌, take, drop, refl, rules}
 use Rattle.std.proofs.lemmas.Result.{err_from_is_err_and}
 use Rattle.netlink_core.specs.Envelope.{IsInnerType, done_with, error_with, overrun_with, no_payload, inner}
 use Rattle.netlink_core.proofs.Framing.{fault_within}
