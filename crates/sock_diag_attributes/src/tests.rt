@@ -9,6 +9,8 @@ use std::process::Abort;
 use std::test::Fail;
 
 mod odd_values;
+mod shown;
+mod sizes;
 
 // The attribute at the front of the bytes.
 fn unix_nla(alloc: Global, bytes: &[u8]) -> Result<Nla, DecodeError> {

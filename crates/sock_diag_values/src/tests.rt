@@ -3,6 +3,8 @@ use crate::unix::{self, Vfs, VfsBuffer};
 use netlink_core::{DecodeError, Emitable, RecordName};
 use std::test::Fail;
 
+mod shown;
+
 // Each byte tells its own place.
 fn places() -> [u8; 232] {
     let mut bytes = [0; 232];
