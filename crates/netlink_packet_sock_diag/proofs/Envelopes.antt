@@ -1,9 +1,16 @@
 -- Laws of netlink messages that carry messages of sock_diag(7).
-use Rattle.std.proofs.Common.{◌≡◌, ◌↔◌, ◌⊎◌, inl, inr, ℕ, List, [], ◌∷◌, refl, sym, subst, arith}
+use Rattle.std.proofs.Common.{◌≡◌, ◌↔◌, ◌⊎◌, inl, inr, ℕ, List, [], ◌∷◌, ◌++◌, refl, sym, subst, arith}
+use Rattle.std.proofs.lemmas.List.{append_assoc}
 use Rattle.std.specs.Prelude.{IsTrue, count_by}
 use Rattle.netlink_core.specs.declared.fault.DecodeError.TheVariants.{UnknownMessageType}
 use Rattle.netlink_core.specs.declared.header.NetlinkHeader.{NetlinkHeader}
-use Rattle.netlink_core.specs.Header.{IsTypedHeader}
+use Rattle.netlink_core.specs.declared.message.NetlinkMessage.{NetlinkMessage}
+use Rattle.netlink_core.specs.declared.message.NetlinkPayload.{NetlinkPayload}
+use Rattle.netlink_core.specs.declared.message.NetlinkPayload.TheVariants.{InnerMessage}
+use Rattle.netlink_core.specs.Header.{IsTypedHeader, header_bytes}
+use Rattle.netlink_core.specs.Seen.{envelope_of, payload_of}
+use Rattle.netlink_packet_sock_diag.specs.SeenMessage.{seen_destroy}
+use Rattle.netlink_packet_sock_diag.specs.declared.message.SockDiagDestroy.{SockDiagDestroy}
 use Rattle.netlink_core.specs.Envelope.{Payload, done_with, error_with, no_payload, overrun_with, inner, Envelope, IsInnerType, EnvelopeFault, EnvelopeFits, OfInner, envelope_bytes, finalized, payload_type, IsNormalEnvelope}
 use Rattle.netlink_core.proofs.Idle.{finalized_frame}
 use Rattle.netlink_packet_sock_diag.specs.Message.{Message, inet_request_with, inet_response_with, unix_request_with, unix_response_with, MessageIs, MessageFault, MessageFits, IsNormalMessage, message_bytes, is_inet_request, is_inet_response, is_unix_request, is_unix_response}
@@ -28,6 +35,27 @@ destroy_is_refused h m typed fits =
     let own = finalized message_bytes (λ _. 21) (record { header = h; payload = inner m }) in
     let own-typed : IsTypedHeader own = record { length = let whole = fits.1 in omega arith; message_type = omega arith; flags = typed.flags; sequence_number = typed.sequence_number; port_number = typed.port_number } in
     inr (own, message_bytes m, finalized_frame MessageIs message_bytes (λ _. 21) (record { header = own; payload = inner m }) own-typed (refl, refl), inr (omega arith), inl (refl, length-message_bytes m, λ is. omega (arith, is)))
+
+-- and so it is with more bytes behind it
+destroy_before_is_refused : (h : NetlinkHeader) (m : Message) (rest : List ℕ) → IsTypedHeader h → EnvelopeFits message_bytes MessageFits (record { header = h; payload = inner m })
+    → EnvelopeFault MessageFault (envelope_bytes message_bytes (record { header = finalized message_bytes (λ _. 21) (record { header = h; payload = inner m }); payload = inner m }) ++ rest) (UnknownMessageType 21)
+destroy_before_is_refused h m rest typed fits =
+    let own = finalized message_bytes (λ _. 21) (record { header = h; payload = inner m }) in
+    let own-typed : IsTypedHeader own = record { length = let whole = fits.1 in omega arith; message_type = omega arith; flags = typed.flags; sequence_number = typed.sequence_number; port_number = typed.port_number } in
+    inr (own, message_bytes m, record { rest = rest; parts = append_assoc (header_bytes own) (message_bytes m) rest; typed = own-typed; size = refl }, inr (omega arith), inl (refl, length-message_bytes m, λ is. omega (arith, is)))
+
+-- a message in hand that carries the request, its header finalized
+pub destroy_in_hand_is_refused : (message : NetlinkMessage SockDiagDestroy) (destroy : SockDiagDestroy) (rest : List ℕ) → message.payload ≡ InnerMessage destroy
+    → IsTypedHeader message.header → EnvelopeFits message_bytes MessageFits (envelope_of seen_destroy message)
+    → EnvelopeFault MessageFault (envelope_bytes message_bytes (envelope_of seen_destroy (record message { header = finalized message_bytes (λ _. 21) (envelope_of seen_destroy message) })) ++ rest) (UnknownMessageType 21)
+destroy_in_hand_is_refused message destroy rest is typed =
+    subst
+    (λ (p : NetlinkPayload SockDiagDestroy). EnvelopeFits message_bytes MessageFits (record { header = message.header; payload = payload_of seen_destroy p })
+    → EnvelopeFault MessageFault
+    (envelope_bytes message_bytes (record { header = finalized message_bytes (λ _. 21) (record { header = message.header; payload = payload_of seen_destroy p }); payload = payload_of seen_destroy p }) ++ rest)
+    (UnknownMessageType 21))
+    (sym is)
+    (destroy_before_is_refused message.header (seen_destroy destroy) rest typed)
 
 -- the type of a finalized inner message is 20, a type of inner messages
 normal_payload : (t : ℕ) (p : Payload Message) → t ≡ payload_type (λ _. 20) p → (OfInner (λ m. IsInnerType t × IsNormalMessage t m) p ↔ OfInner (IsNormalMessage 20) p)

@@ -9,8 +9,13 @@ ghost use Rattle.netlink_core.specs.declared.fault.DecodeError.TheVariants.{Memo
 ghost use Rattle.netlink_core.specs.declared.header.NetlinkHeader.{NetlinkHeader};
 ghost use Rattle.netlink_core.specs.Header.{IsTypedHeader};
 ghost use Rattle.netlink_core.specs.Envelope.{Payload, Envelope, inner, EnvelopeIs, EnvelopeFault, EnvelopeFits, OfInner, envelope_bytes, finalized, IdleEnvelopes, IsTypedEnvelope, IsFinalized};
+ghost use Rattle.netlink_core.specs.declared.message.NetlinkMessage.{NetlinkMessage};
+ghost use Rattle.netlink_core.specs.declared.message.NetlinkPayload.TheVariants.{InnerMessage};
 ghost use Rattle.netlink_core.specs.Items.{ItemsAre};
+ghost use Rattle.netlink_core.specs.Seen.{envelope_of};
 ghost use Rattle.netlink_core.specs.Reply.{IsTypedReply, reply_bytes};
+ghost use Rattle.netlink_packet_sock_diag.specs.SeenMessage.{seen_destroy};
+ghost use Rattle.netlink_packet_sock_diag.specs.declared.message.SockDiagDestroy.{SockDiagDestroy};
 ghost use Rattle.netlink_packet_sock_diag.specs.declared.dump.DumpState.{DumpState};
 ghost use Rattle.netlink_packet_sock_diag.specs.declared.dump.DumpState.TheVariants.{Reading};
 ghost use Rattle.netlink_packet_sock_diag.specs.Dump.{in_a_row, Dump, DumpGoesOn, DatagramsDump, AreSplit};
@@ -60,6 +65,16 @@ pub fn finalized_destroy_is_refused()
           header = finalized message_bytes (λ _. 21) (record { header = h; payload = inner m });
           payload = inner m;
         }))
+        (UnknownMessageType 21) }
+{}
+
+/// So it is of a request in hand: what `serialize` writes of its message behind `finalize`, with whatever follows in the
+/// buffer, is refused by the reader of the request.
+pub fn finalized_destroy_in_hand_is_refused()
+    ensures { (message : NetlinkMessage SockDiagDestroy) (destroy : SockDiagDestroy) (rest : List ℕ) → message.payload ≡ InnerMessage destroy
+        → IsTypedHeader message.header → EnvelopeFits message_bytes MessageFits (envelope_of seen_destroy message)
+        → EnvelopeFault MessageFault
+        (envelope_bytes message_bytes (envelope_of seen_destroy (record message { header = finalized message_bytes (λ _. 21) (envelope_of seen_destroy message) })) ++ rest)
         (UnknownMessageType 21) }
 {}
 
