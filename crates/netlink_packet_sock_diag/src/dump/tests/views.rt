@@ -6,6 +6,11 @@ use netlink_core::DecodeError;
 use std::process::Abort;
 use std::test::Fail;
 
+// The reply with an attribute of one byte.
+const ODD_REPLY: [u8; 21] = [
+    1, 1, 10, 0, 0x0e, 0x4f, 0, 0, 0xa0, 2, 0, 0, 0, 0, 0, 0, 5, 0, 6, 0, 0,
+];
+
 // The walk gives these items, and then nothing.
 fn shows<'a>(
     rt: &impl Abort,
@@ -27,6 +32,11 @@ fn reply() -> Result<PayloadView<'static>, DecodeError> {
     Ok(PayloadView::InnerMessage(SockDiagView::parse(&LISTENING, 20)?))
 }
 
+// The reply of 21 bytes, as it is carried.
+fn odd_reply() -> Result<PayloadView<'static>, DecodeError> {
+    Ok(PayloadView::InnerMessage(SockDiagView::parse(&ODD_REPLY, 20)?))
+}
+
 #[test]
 fn the_end_of_a_dump_ends_no_walk(rt: HostRuntime) -> Result<(), Fail> {
     let all = row(rt.alloc(), &[&NOOP, &REPLY, &END, &REPLY])?;
@@ -43,12 +53,20 @@ fn the_end_of_a_dump_ends_no_walk(rt: HostRuntime) -> Result<(), Fail> {
 
 #[test]
 fn bytes_of_errors_and_lost_data_are_lent(rt: HostRuntime) -> Result<(), Fail> {
-    let mut last = END;
-    last[16] = 0xee;
-    last[4] = 2;
-    shows(&rt, &last, &[Ok(PayloadView::Error(&[0xee, 0, 0, 0]))])?;
-    last[4] = 4;
-    shows(&rt, &last, &[Ok(PayloadView::Overrun(&[0xee, 0, 0, 0]))])
+    let mut error = END;
+    error[4] = 2;
+    error[16] = 0xee;
+    let Some(Ok(PayloadView::Error(bytes))) = DumpViews::new(&error).next() else {
+        return Err("no error".into());
+    };
+    assert_eq!(rt; bytes, &error[16..]);
+    let mut lost = error;
+    lost[4] = 4;
+    let Some(Ok(PayloadView::Overrun(bytes))) = DumpViews::new(&lost).next() else {
+        return Err("no overrun".into());
+    };
+    assert_eq!(rt; bytes, &lost[16..]);
+    Ok(())
 }
 
 #[test]
@@ -72,23 +90,14 @@ fn what_is_no_message_ends_a_walk(rt: HostRuntime) -> Result<(), Fail> {
 
 #[test]
 fn views_stand_behind_the_padding(rt: HostRuntime) -> Result<(), Fail> {
-    let odd = SockDiagView::parse(ODD.get(16..).ok_or("short")?, 20)?;
     let padded = row(rt.alloc(), &[&ODD, &[0, 0, 0], &REPLY])?;
-    shows(
-        &rt,
-        padded.as_slice(),
-        &[Ok(PayloadView::InnerMessage(odd)), reply()],
-    )?;
+    shows(&rt, padded.as_slice(), &[odd_reply(), reply()])?;
     let close = row(rt.alloc(), &[&ODD, &REPLY])?;
     let fault = DecodeError::EnvelopeLengthPast {
         length: 33_559_552,
         got: 29,
     };
-    shows(
-        &rt,
-        close.as_slice(),
-        &[Ok(PayloadView::InnerMessage(odd)), Err(fault)],
-    )
+    shows(&rt, close.as_slice(), &[odd_reply(), Err(fault)])
 }
 
 #[test]
