@@ -88,6 +88,9 @@ fn a_dump_without_an_end_is_read_on(rt: HostRuntime) -> Result<(), Fail> {
     let reader = fed(alloc, &[&REPLY])?;
     assert_eq!(rt; reader.state(), DumpState::Reading);
     keeps(&rt, &reader, &[&LISTENING]);
+    let nothing = fed(alloc, &[])?;
+    assert_eq!(rt; nothing.state(), DumpState::Reading);
+    keeps(&rt, &nothing, &[]);
     let none: &[u8] = &[];
     let empty = fed(alloc, &[none])?;
     assert_eq!(rt; empty.state(), DumpState::Reading);
