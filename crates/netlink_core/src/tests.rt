@@ -6,6 +6,9 @@ use crate::{
 use std::process::Abort;
 use std::test::Fail;
 
+mod shown;
+mod sizes;
+
 #[test]
 fn reads_one_attribute(rt: HostRuntime) -> Result<(), Fail> {
     let bytes: &[u8] = &[5, 0, 6, 0x80, 2, 0xaa];

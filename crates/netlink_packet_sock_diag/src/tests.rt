@@ -15,6 +15,8 @@ mod hostile;
 mod odd_values;
 mod read_twice;
 mod refused_memory;
+mod shown;
+mod sizes;
 mod views;
 
 // A listening socket.

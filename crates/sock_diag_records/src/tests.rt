@@ -14,6 +14,7 @@ use std::time::Duration;
 
 mod hostile;
 mod odd_values;
+mod shown;
 
 // A reply about a socket with a timer that keeps it alive.
 const HEADER: [u8; 72] = [

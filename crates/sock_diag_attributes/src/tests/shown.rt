@@ -40,7 +40,12 @@ fn shows_unix(
     viewed: &str,
 ) -> Result<(), Fail> {
     shows(rt, alloc, &unix_nla(alloc, bytes)?, owned)?;
-    shows(rt, alloc, &NlaView::parse(&NlaBuffer::new_checked(bytes)?)?, viewed)
+    shows(
+        rt,
+        alloc,
+        &NlaView::parse(&NlaBuffer::new_checked(bytes)?)?,
+        viewed,
+    )
 }
 
 #[test]
@@ -48,9 +53,15 @@ fn attributes_of_unix_sockets(rt: HostRuntime) -> Result<(), Fail> {
     let alloc = rt.alloc();
     for (bytes, text) in [
         (b"\x06\0\0\0a\0".as_slice(), "Name(Pathname([97]))"),
-        (&[12, 0, 1, 0, 1, 0, 0, 0, 2, 0, 0, 0], "Vfs(Vfs { inode: 1, device: 2 })"),
+        (
+            &[12, 0, 1, 0, 1, 0, 0, 0, 2, 0, 0, 0],
+            "Vfs(Vfs { inode: 1, device: 2 })",
+        ),
         (&[8, 0, 2, 0, 5, 0, 0, 0], "Peer(5)"),
-        (&[12, 0, 4, 0, 1, 0, 0, 0, 2, 0, 0, 0], "ReceiveQueueLength(1, 2)"),
+        (
+            &[12, 0, 4, 0, 1, 0, 0, 0, 2, 0, 0, 0],
+            "ReceiveQueueLength(1, 2)",
+        ),
         (&[5, 0, 6, 0, 2], "Shutdown(2)"),
     ] {
         shows_unix(&rt, alloc, bytes, text, text)?;
@@ -85,7 +96,12 @@ fn shows_inet(
     viewed: &str,
 ) -> Result<(), Fail> {
     shows(rt, alloc, &InetNla::read(alloc, bytes, ())?, owned)?;
-    shows(rt, alloc, &InetNlaView::parse(&NlaBuffer::new_checked(bytes)?)?, viewed)
+    shows(
+        rt,
+        alloc,
+        &InetNlaView::parse(&NlaBuffer::new_checked(bytes)?)?,
+        viewed,
+    )
 }
 
 #[test]
@@ -118,16 +134,22 @@ fn records_in_attributes_of_inet_sockets(rt: HostRuntime) -> Result<(), Fail> {
     let mut bytes = [0; 236];
     bytes[0] = 20;
     bytes[2] = 1;
-    let text = "LegacyMemInfo(LegacyMemInfo { receive_queue: 0, bottom_send_queue: 0, cache: 0, send_queue: 0 })";
+    let text =
+        "LegacyMemInfo(LegacyMemInfo { receive_queue: 0, bottom_send_queue: 0, cache: 0, send_queue: 0 })";
     shows_inet(&rt, alloc, &bytes, text, text)?;
     bytes[0] = 36;
     bytes[2] = 7;
-    let text = "MemInfo(MemInfo { receive_queue: 0, receive_queue_max: 0, bottom_send_queues: 0, send_queue_max: 0, cache: 0, send_queue: 0, options: 0, backlog_queue_length: Some(0), drops: None })";
+    let text =
+        "MemInfo(MemInfo { receive_queue: 0, receive_queue_max: 0, bottom_send_queues: 0, send_queue_max: 0, cache: 0, send_queue: 0, options: 0, backlog_queue_length: Some(0), drops: None })";
     shows_inet(&rt, alloc, &bytes, text, text)?;
     bytes[0] = 236;
     bytes[2] = 2;
     let owned = format!(in alloc; "{:?}", InetNla::read(alloc, &bytes, ())?)?;
-    assert!(rt; owned.as_str().starts_with("TcpInfo(TcpInfo { state: 0, ca_state: 0, "));
+    assert!(rt;
+        owned
+            .as_str()
+            .starts_with("TcpInfo(TcpInfo { state: 0, ca_state: 0, ")
+    );
     let view = InetNlaView::parse(&NlaBuffer::new_checked(&bytes)?)?;
     assert_eq!(rt; format!(in alloc; "{view:?}")?.as_str(), owned.as_str());
     Ok(())
