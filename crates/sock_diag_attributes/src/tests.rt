@@ -1,10 +1,10 @@
 use crate::inet::nlas as inet;
-use crate::unix::nlas::{MemInfo, Nla, UnixDiagName};
+use crate::unix::nlas::{MemInfo, Nla, NlaView, UnixDiagName};
 use netlink_core::{
     DecodeError, DefaultNla, Emitable, Nla as NlaTrait, NlaBuffer, Parseable, RecordName, Wire,
     canonical,
 };
-use std::alloc::Global;
+use std::alloc::{AllocError, Global};
 use std::process::Abort;
 use std::test::Fail;
 
@@ -358,4 +358,79 @@ fn writes_inet_attributes(rt: HostRuntime) -> Result<(), Fail> {
     inet::Nla::Protocol(6).emit(&mut buffer);
     assert_eq!(rt; buffer, [5, 0, 10, 0, 6, 0, 0, 0]);
     Ok(())
+}
+
+#[test]
+fn attributes_are_printed(rt: HostRuntime) -> Result<(), Fail> {
+    let alloc = rt.alloc();
+    let name: &[u8] = &[6, 0, 0, 0, 0x61, 0];
+    let nla = NlaBuffer::new_checked(name)?;
+    let view = NlaView::parse(&nla)?;
+    let kept = view.to_owned(alloc)?;
+    assert_eq!(rt;
+        format!(in alloc; "{view:?} {kept:?}")?.as_str(),
+        "Name(Pathname([97])) Name(Pathname([97]))"
+    );
+    let text: &[u8] = &[6, 0, 4, 0, 0x61, 0];
+    let nla = NlaBuffer::new_checked(text)?;
+    let view = inet::NlaView::parse(&nla)?;
+    let kept = view.to_owned(alloc)?;
+    assert_eq!(rt;
+        format!(in alloc; "{view:?} {kept:?}")?.as_str(),
+        "Congestion(\"a\") Congestion(\"a\")"
+    );
+    Ok(())
+}
+
+// Each kind, at the length that values of it have, is copied.
+#[test]
+fn attributes_of_each_kind_are_copied(rt: HostRuntime) -> Result<(), Fail> {
+    let alloc = rt.alloc();
+    for (kind, length) in [
+        (0, 110),
+        (1, 8),
+        (2, 4),
+        (3, 400),
+        (4, 8),
+        (5, 36),
+        (6, 1),
+        (7, 300),
+    ] {
+        let bytes = filled(alloc, kind, length)?;
+        let nla = unix_nla(alloc, &bytes)?;
+        assert_eq!(rt; nla.clone(alloc)?, nla);
+    }
+    for (kind, length) in [
+        (1, 16),
+        (2, 232),
+        (4, 300),
+        (5, 1),
+        (6, 1),
+        (7, 36),
+        (8, 1),
+        (15, 4),
+    ] {
+        let bytes = filled(alloc, kind, length)?;
+        let nla = inet_nla(alloc, &bytes)?;
+        assert_eq!(rt; nla.clone(alloc)?, nla);
+    }
+    for (kind, length) in [(10, 1), (11, 1), (17, 4), (3, 300)] {
+        let bytes = filled(alloc, kind, length)?;
+        let nla = inet_nla(alloc, &bytes)?;
+        assert_eq!(rt; nla.clone(alloc)?, nla);
+    }
+    Ok(())
+}
+
+// An attribute whose value is so many letters and a zero at the end, or one letter.
+fn filled(alloc: Global, kind: u8, length: u16) -> Result<Vec<u8>, AllocError> {
+    let mut bytes = vec![in alloc; b'a'; usize::from(length)]?;
+    if length > 1 {
+        bytes.pop();
+        bytes.push(0)?;
+    }
+    let mut whole = Vec::from_slice(alloc, &length.saturating_add(4).to_le_bytes())?;
+    whole.extend_from_slice(&[kind, 0])?;
+    whole.extend_from_slice(&bytes)?;
+    Ok(whole)
 }
