@@ -1,5 +1,5 @@
 //! Answers the lines of a reader on a writer.
-ghost use Rattle.std.specs.Prelude.{◌≡◌, ◌⊎◌, ◌-◌, ◌^◌, ℕ, List, [], ◌++◌, OnOk, OnErr, IfOk, IfErr, IfSome, Option, None};
+ghost use Rattle.std.specs.Prelude.{◌≡◌, ◌≤◌, ◌⊎◌, ◌-◌, ◌^◌, ℕ, List, [], ◌++◌, OnOk, OnErr, IfOk, IfErr, IfSome, Option, None, vec_capacity};
 ghost use Rattle.std.specs.Io.KnownBytes.{Appends, IsAtEnd};
 ghost use Rattle.sockdiag.specs.Answer.{IsAnswerOf};
 ghost use Rattle.sockdiag.specs.Asked.{IsReadAs};
@@ -222,7 +222,9 @@ fn add_answer_line<S: Start>(
 
 /// Makes room empty, and keeps its memory unless a long line needed it.
 fn empty(alloc: Global, room: &mut Vec<u8>)
-    ensures { room.new.items ≡ [] }
+    ensures emptied { room.new.items ≡ [] }
+    ensures bound { vec_capacity room.new ≤ KEPT }
+    ensures keeps { vec_capacity room.old ≤ KEPT → vec_capacity room.new ≡ vec_capacity room.old }
 {
     if room.capacity() > KEPT {
         *room = Vec::new(alloc);

@@ -26,4 +26,4 @@ pub reads-preserved : goal.reads-preserved
 reads-preserved g c =
     let piece = rw c.reads.invariant.1 at c.in_ok-take_piece.ensures in
     let sent = rw c.as_slice-in-reads.ensures.value at c.in_ok-send.ensures.written in
-    (CaughtUp-piece _ _ _ _ _ _ _ _ _ _ _ c.reads.invariant.0 c.in_ok-count.ensures.bytes.0 piece sent, c.empty.ensures, c.in_ok-count.ensures.counted c.reads._made c.reads.invariant.2)
+    (CaughtUp-piece _ _ _ _ _ _ _ _ _ _ _ c.reads.invariant.0 c.in_ok-count.ensures.bytes.0 piece sent, c.empty.ensures.emptied, c.in_ok-count.ensures.counted c.reads._made c.reads.invariant.2)
