@@ -1,6 +1,7 @@
 ghost use Rattle.std.specs.Prelude.{Some};
 
 use crate::answers::answer;
+use crate::run_to_status;
 use crate::stream::{RunError, run};
 use std::alloc::{AllocError, Global};
 use std::cell::Cell;
@@ -466,6 +467,19 @@ fn answers_texts_at_the_limit(rt: HostRuntime) -> Result<(), Fail> {
     Ok(())
 }
 
+/// The same of a netlink message of 65,623 bytes.
+#[test]
+fn answers_a_message_that_has_no_room(rt: HostRuntime) -> Result<(), Fail> {
+    let alloc = rt.alloc();
+    let word = "netlink 57000100140000000000000000000000";
+    let line = long_reply(alloc, word, 65_531, "")?;
+    assert_eq!(rt;
+        answer(alloc, line.as_slice())?.as_slice(),
+        &b"unwritable"[..]
+    );
+    Ok(())
+}
+
 #[test]
 fn answers_bytes_that_are_no_text(rt: HostRuntime) -> Result<(), Fail> {
     for line in [
@@ -490,6 +504,34 @@ fn tells_why_a_run_failed(rt: HostRuntime) -> Result<(), Fail> {
         let text = format!(in rt.alloc(); "{error}")?;
         assert_eq!(rt; text.as_str(), want);
     }
+    Ok(())
+}
+
+// The run fails so, and tells no more than this.
+fn tells(rt: &impl Abort, alloc: Global, fails_at: usize, can_flush: bool, want: &str) {
+    let mut input = SlowReader::new(INPUT.as_bytes(), fails_at);
+    let mut output = SlowWriter::new(alloc, usize::MAX, can_flush);
+    let mut errors = Vec::new(alloc);
+    let _status = run_to_status(alloc, &mut input, &mut output, &mut errors);
+    assert_eq!(rt; errors.as_slice(), want.as_bytes());
+}
+
+#[test]
+fn tells_on_errors_why_it_failed(rt: HostRuntime) {
+    let alloc = rt.alloc();
+    tells(&rt, alloc, 0, true, "sockdiag: reading failed\n");
+    tells(&rt, alloc, 30, true, "sockdiag: reading failed\n");
+    tells(&rt, alloc, usize::MAX, false, "sockdiag: writing failed\n");
+    tells(&rt, alloc, usize::MAX, true, "");
+}
+
+#[test]
+fn errors_of_a_run_differ(rt: HostRuntime) -> Result<(), Fail> {
+    assert!(rt; RunError::Read != RunError::Write);
+    assert!(rt; RunError::Read != RunError::Memory);
+    assert!(rt; RunError::Memory != RunError::Write);
+    let text = format!(in rt.alloc(); "{:?}", RunError::Write)?;
+    assert_eq!(rt; text.as_str(), "Write");
     Ok(())
 }
 

@@ -98,6 +98,17 @@ fn a_dump_without_an_end_is_read_on(rt: HostRuntime) -> Result<(), Fail> {
     Ok(())
 }
 
+// More messages than a reply has room for attributes.
+#[test]
+fn a_long_dump_keeps_all(rt: HostRuntime) -> Result<(), Fail> {
+    let alloc = rt.alloc();
+    let many = REPLY.repeat(alloc, 300)?;
+    let reader = fed(alloc, &[many.as_slice(), many.as_slice(), &END])?;
+    assert_eq!(rt; reader.state(), DumpState::Done);
+    assert_eq!(rt; reader.messages().len(), 600);
+    Ok(())
+}
+
 // The datagram fails with the fault, and these messages in front of it are kept.
 fn fails(
     rt: &impl Abort,

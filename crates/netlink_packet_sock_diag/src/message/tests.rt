@@ -1,8 +1,8 @@
-use crate::constants::SOCK_DESTROY;
-use crate::inet::{InetRequest, SocketId};
+use crate::constants::{IPPROTO_TCP, SOCK_DESTROY};
+use crate::inet::{ExtensionFlags, InetRequest, SocketId, StateFlags};
 use crate::unix::nlas::Nla;
-use crate::unix::{UnixRequest, UnixResponse};
-use crate::{SockDiagDestroy, SockDiagMessage};
+use crate::unix::{self, ShowFlags, UnixRequest, UnixResponse};
+use crate::{AF_INET, SockDiagDestroy, SockDiagMessage};
 use netlink_core::{
     CanonError, DecodeError, Emitable, NLM_F_DUMP, NLM_F_REQUEST, NetlinkDeserializable,
     NetlinkHeader, NetlinkMessage, NetlinkPayload, NetlinkSerializable, Parseable,
@@ -288,6 +288,31 @@ fn dump_request(alloc: Global) -> Result<InetRequest, DecodeError> {
     bytes[1] = 6;
     bytes[4..8].copy_from_slice(&[0xff; 4]);
     InetRequest::parse(alloc, bytes.as_slice())
+}
+
+// Each family's requests are made of its own flags, as they are given again here.
+#[test]
+fn requests_are_made(rt: HostRuntime) {
+    let request = InetRequest {
+        family: AF_INET,
+        protocol: IPPROTO_TCP,
+        extensions: ExtensionFlags::SHUTDOWN,
+        states: StateFlags::CLOSING,
+        socket_id: SocketId::new_v4(),
+    };
+    let mut buffer = [0xee; 56];
+    emitted(&rt, &request, &mut buffer);
+    assert_eq!(rt; &buffer[..8], [2, 6, 0x80, 0, 0, 8, 0, 0].as_slice());
+    let request = UnixRequest {
+        state_flags: unix::StateFlags::LISTEN,
+        inode: 0x1234,
+        show_flags: ShowFlags::PEER,
+        cookie: [255; 8],
+    };
+    let mut buffer = [0xee; 24];
+    emitted(&rt, &request, &mut buffer);
+    assert_eq!(rt; &buffer[..8], [1, 0, 0, 0, 0, 4, 0, 0].as_slice());
+    assert_eq!(rt; &buffer[8..], &UNIX_REQUEST[8..]);
 }
 
 // The request for a dump, as it is sent.

@@ -5,7 +5,7 @@ use crate::unix::{UnixResponse, UnixResponseView};
 use crate::{SockDiagMessage, SockDiagView};
 use netlink_core::{DecodeError, Wire};
 use smallvec::SmallVec;
-use std::alloc::Global;
+use std::alloc::{AllocError, Global};
 use std::fmt::Debug;
 use std::process::Abort;
 
@@ -13,9 +13,12 @@ use std::process::Abort;
 pub(crate) trait ReadTwice: Wire + Debug + Drop {
     /// What is read in place, with memory of its own.
     fn read_in_place(alloc: Global, bytes: &[u8], param: Self::Param) -> Result<Self, DecodeError>;
+
+    /// A copy of the value.
+    fn copied(&self, alloc: Global) -> Result<Self, AllocError>;
 }
 
-/// What both readers tell of the bytes: the same value or the same fault.
+/// What both readers tell of the bytes: the same value, whose copy is equal, or the same fault.
 pub(crate) fn read_twice<T: ReadTwice>(
     rt: &impl Abort,
     alloc: Global,
@@ -24,6 +27,12 @@ pub(crate) fn read_twice<T: ReadTwice>(
 ) -> Result<T, DecodeError> {
     let owned = T::read(alloc, bytes, param);
     assert_eq!(rt; T::read_in_place(alloc, bytes, param), owned, "{bytes:?}");
+    if let Ok(value) = &owned {
+        assert!(rt;
+            value.copied(alloc).is_ok_and(|copy| copy == *value),
+            "{bytes:?}"
+        );
+    }
     owned
 }
 
@@ -39,6 +48,10 @@ impl ReadTwice for UnixResponse {
             nlas,
         })
     }
+
+    fn copied(&self, alloc: Global) -> Result<Self, AllocError> {
+        self.clone(alloc)
+    }
 }
 
 impl ReadTwice for InetResponse {
@@ -53,10 +66,18 @@ impl ReadTwice for InetResponse {
             nlas,
         })
     }
+
+    fn copied(&self, alloc: Global) -> Result<Self, AllocError> {
+        self.clone(alloc)
+    }
 }
 
 impl ReadTwice for SockDiagMessage {
     fn read_in_place(alloc: Global, bytes: &[u8], message_type: u16) -> Result<Self, DecodeError> {
         Ok(SockDiagView::parse(bytes, message_type)?.to_owned(alloc)?)
+    }
+
+    fn copied(&self, alloc: Global) -> Result<Self, AllocError> {
+        self.clone(alloc)
     }
 }

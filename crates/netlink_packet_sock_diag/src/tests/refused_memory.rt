@@ -6,7 +6,7 @@ use crate::constants::SOCK_DIAG_BY_FAMILY;
 use crate::inet::InetResponse;
 use crate::unix::nlas::Nla;
 use crate::unix::{UnixRequest, UnixResponse};
-use crate::{SockDiagDestroy, SockDiagMessage};
+use crate::{DumpError, DumpReader, DumpState, SockDiagDestroy, SockDiagMessage};
 use netlink_core::{
     CanonError, DecodeError, NetlinkMessage, NetlinkPayload, RecordName, Wire, canonical,
 };
@@ -248,4 +248,60 @@ fn spare_strings(rt: HostRuntime) {
     let shut = row::<80>(&INET_HEADER, &SHUTDOWN);
     let reply = InetResponse::read(alloc, &shut, ());
     assert!(rt; reply.is_ok_and(|reply| reply.clone(alloc) == Ok(reply)));
+}
+
+/// The messages that are kept are replies about these UNIX sockets, or the first of them.
+fn keeps_first(rt: &impl Abort, reader: &DumpReader, inodes: &[u32]) {
+    assert!(rt; reader.messages().len() <= inodes.len());
+    for (message, inode) in reader.messages().iter().zip(inodes) {
+        match message {
+            SockDiagMessage::UnixResponse(reply) => assert_eq!(rt; reply.header.inode, *inode),
+            _ => panic!(rt; "another message"),
+        }
+    }
+}
+
+/// The dump of these datagrams is done and keeps all replies, or it failed for want of memory and keeps the first ones.
+fn dump(rt: &impl Abort, alloc: Global, datagrams: &[&[u8]], inodes: &[u32]) {
+    let mut reader = DumpReader::new(alloc);
+    for datagram in datagrams {
+        let was_failed = reader.state() == DumpState::Failed;
+        match reader.feed(datagram) {
+            Ok(()) => assert!(rt; !was_failed),
+            Err(DumpError::Fault(fault)) => {
+                assert!(rt; !was_failed);
+                assert_eq!(rt; fault, DecodeError::Memory);
+                assert_eq!(rt; reader.state(), DumpState::Failed);
+            }
+            Err(DumpError::Ended) => assert!(rt; was_failed),
+        }
+        keeps_first(rt, &reader, inodes);
+    }
+    if reader.state() != DumpState::Failed {
+        assert_eq!(rt; reader.state(), DumpState::Done);
+        assert_eq!(rt; reader.messages().len(), inodes.len());
+    }
+}
+
+#[test]
+fn dumps(rt: HostRuntime) {
+    let alloc = rt.alloc();
+    let listening = row::<32>(&envelope(32, 20), &LISTENING);
+    let connected = row::<32>(&envelope(32, 20), &CONNECTED);
+    let end = row::<20>(&envelope(20, 3), &[]);
+    dump(&rt, alloc, &[&listening, &end], &[20_238]);
+    let two = row::<64>(&listening, &connected);
+    let inodes = [20_238, 31_927, 20_238, 31_927];
+    dump(&rt, alloc, &[&two, &row::<84>(&two, &end)], &inodes);
+}
+
+/// What keeps no message takes no memory.
+#[test]
+fn spare_dumps(rt: HostRuntime) {
+    let mut reader = DumpReader::new(rt.alloc());
+    assert_eq!(rt; reader.feed(&envelope(16, 1)), Ok(()));
+    assert_eq!(rt; reader.state(), DumpState::Reading);
+    let end = row::<36>(&envelope(16, 1), &envelope(20, 3));
+    assert_eq!(rt; reader.feed(&end), Ok(()));
+    assert_eq!(rt; reader.state(), DumpState::Done);
 }

@@ -5,8 +5,8 @@ use crate::inet::nlas::NlaView as InetNlaView;
 use crate::inet::{InetResponse, InetResponseView};
 use crate::unix::nlas::{NameView, NlaView};
 use crate::unix::{UnixResponse, UnixResponseView};
-use crate::{SockDiagMessage, SockDiagView};
-use netlink_core::{Emitable, Parseable};
+use crate::{DumpError, DumpState, SockDiagMessage, SockDiagView};
+use netlink_core::{DecodeError, Emitable, Parseable};
 use std::process::Abort;
 use std::test::Fail;
 
@@ -147,5 +147,35 @@ fn messages_in_place(rt: HostRuntime) -> Result<(), Fail> {
     assert_eq!(rt; reply.header.inode, 20_238);
     assert_eq!(rt; view, SockDiagView::parse(&LISTENING_REPLY[..57], 20)?);
     assert!(rt; view != SockDiagView::parse(&INET_HEADER, 20)?);
+    Ok(())
+}
+
+#[test]
+fn replies_are_printed(rt: HostRuntime) -> Result<(), Fail> {
+    let alloc = rt.alloc();
+    let bytes = behind(alloc, &LISTENING, &SHUTDOWN)?;
+    let view = SockDiagView::parse(bytes.as_slice(), 20)?;
+    assert_eq!(rt;
+        format!(in alloc; "{view:?}")?.as_str(),
+        "UnixResponse(UnixResponseView { bytes: [1, 1, 10, 0, 14, 79, 0, 0, 160, 2, 0, 0, 0, 0, 0, 0, 5, 0, 8, 0, 0, 0, 0, 0], count: 1 })"
+    );
+    assert_eq!(rt;
+        format!(in alloc; "{:?}", view.to_owned(alloc)?)?.as_str(),
+        "UnixResponse(UnixResponse { header: UnixResponseHeader { kind: 1, state: 10, inode: 20238, cookie: [160, 2, 0, 0, 0, 0, 0, 0] }, nlas: [Other(DefaultNla { kind: 8, value: [0] })] })"
+    );
+    let bytes = behind(alloc, &INET_HEADER, &SHUTDOWN)?;
+    let reply = InetResponse::parse(alloc, bytes.as_slice())?;
+    let text = format!(in alloc; "{reply:?}")?;
+    assert!(rt; text.starts_with("InetResponse { header: InetResponseHeader { family: 2, "));
+    assert!(rt; text.ends_with(" }, nlas: [Shutdown(0)] }"));
+    assert_eq!(rt;
+        format!(in alloc;
+            "{:?} {:?}",
+            DumpState::Reading,
+            DumpError::Fault(DecodeError::NotUtf8)
+        )?
+        .as_str(),
+        "Reading Fault(NotUtf8)"
+    );
     Ok(())
 }
