@@ -301,3 +301,40 @@ fn records_tell_their_names(rt: HostRuntime) -> Result<(), Fail> {
     );
     Ok(())
 }
+
+#[test]
+fn attributes_and_faults_are_printed(rt: HostRuntime) -> Result<(), Fail> {
+    let alloc = rt.alloc();
+    let bytes: &[u8] = &[6, 0, 9, 0x80, 1, 2];
+    let nla = NlaBuffer::new_checked(bytes)?;
+    let kept = DefaultNla::parse(alloc, nla)?;
+    assert_eq!(rt;
+        format!(in alloc; "{nla:?} {kept:?}")?.as_str(),
+        "NlaBuffer { type_word: 32777, value: [1, 2] } DefaultNla { kind: 32777, value: [1, 2] }"
+    );
+    let fault = DecodeError::BufferTooSmall {
+        which: RecordName::Vfs,
+        got: 7,
+        need: 8,
+    };
+    assert_eq!(rt;
+        format!(in alloc; "{fault:?} {:?}", CanonError::Refused(DecodeError::NotUtf8))?.as_str(),
+        "BufferTooSmall { which: Vfs, got: 7, need: 8 } Refused(NotUtf8)"
+    );
+    Ok(())
+}
+
+// What is as long as a value can be is read and copied all the same.
+#[test]
+fn longest_values_are_kept(rt: HostRuntime) -> Result<(), Fail> {
+    let alloc = rt.alloc();
+    let mut bytes = vec![in alloc; b'a'; 65_535]?;
+    bytes[..4].copy_from_slice(&[0xff, 0xff, 9, 0]);
+    let nla = NlaBuffer::new_checked(&bytes)?;
+    let kept = DefaultNla::parse(alloc, nla)?;
+    assert_eq!(rt; kept.value().len(), 65_531);
+    assert_eq!(rt; kept.clone(alloc)?, kept);
+    let text = parse_string(alloc, kept.value())?;
+    assert_eq!(rt; text.as_bytes(), kept.value());
+    Ok(())
+}
