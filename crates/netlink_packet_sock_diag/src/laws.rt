@@ -220,3 +220,27 @@ pub fn equal_message_views(v: &SockDiagView<'_>, w: &SockDiagView<'_>) -> bool
 {
     v == w
 }
+
+/// The copy of a reply in place, about a UNIX socket, tells the same.
+pub fn copied_unix_view<'a>(view: &UnixResponseView<'a>) -> Result<UnixResponseView<'a>, AllocError>
+    ensures ok { IsOk result }
+    ensures same { IfOk result (λ copy. viewed_unix copy ≡ viewed_unix view.now) }
+{
+    view.clone()
+}
+
+/// The copy of a reply in place, about an IPv4 or IPv6 socket, tells the same.
+pub fn copied_inet_view<'a>(view: &InetResponseView<'a>) -> Result<InetResponseView<'a>, AllocError>
+    ensures ok { IsOk result }
+    ensures same { IfOk result (λ copy. viewed_inet copy ≡ viewed_inet view.now) }
+{
+    view.clone()
+}
+
+/// The copy of a message in place tells the same.
+pub fn copied_message_view<'a>(view: &SockDiagView<'a>) -> Result<SockDiagView<'a>, AllocError>
+    ensures ok { IsOk result }
+    ensures same { IfOk result (λ copy. viewed_message copy ≡ viewed_message view.now) }
+{
+    view.clone()
+}

@@ -1,13 +1,15 @@
 //! Laws of attributes that are read in place.
 
-ghost use Rattle.std.specs.Prelude.{◌≡◌, ◌↔◌, IsTrue};
+ghost use Rattle.std.specs.Prelude.{◌≡◌, ◌↔◌, IsTrue, IsOk, IfOk};
 ghost use Rattle.sock_diag_attributes.specs.SeenName.{viewed_name};
-ghost use Rattle.sock_diag_attributes.specs.SeenNumbers.{viewed_numbers};
+ghost use Rattle.sock_diag_attributes.specs.SeenNumbers.{viewed_numbers, numbers_left};
 ghost use Rattle.sock_diag_attributes.specs.SeenInet.{viewed_nla as viewed_inet};
 ghost use Rattle.sock_diag_attributes.specs.SeenUnix.{viewed_nla as viewed_unix};
 
 use crate::inet::nlas::NlaView as InetNlaView;
+use crate::numbers::NumbersIterator;
 use crate::unix::nlas::{NameView, NlaView as UnixNlaView, NumbersView};
+use std::alloc::AllocError;
 
 /// `==` says whether two names in place are the same name.
 #[tactic(auto, using(crate::specs::EqualUnix::name_views_equal))]
@@ -39,4 +41,46 @@ pub fn equal_inet_views(v: &InetNlaView<'_>, w: &InetNlaView<'_>) -> bool
     ensures { IsTrue result ↔ (viewed_inet v.now ≡ viewed_inet w.now) }
 {
     v == w
+}
+
+/// The copy of a name in place is the same name.
+pub fn copied_name_view<'a>(view: &NameView<'a>) -> Result<NameView<'a>, AllocError>
+    ensures ok { IsOk result }
+    ensures same { IfOk result (λ copy. viewed_name copy ≡ viewed_name view.now) }
+{
+    view.clone()
+}
+
+/// The copy of numbers in place has the same numbers.
+pub fn copied_numbers_view<'a>(view: &NumbersView<'a>) -> Result<NumbersView<'a>, AllocError>
+    ensures ok { IsOk result }
+    ensures same { IfOk result (λ copy. viewed_numbers copy ≡ viewed_numbers view.now) }
+{
+    view.clone()
+}
+
+/// The copy of a walk over numbers has the same numbers left.
+pub fn copied_numbers_walk<'a>(
+    walk: &NumbersIterator<'a>,
+) -> Result<NumbersIterator<'a>, AllocError>
+    ensures ok { IsOk result }
+    ensures same { IfOk result (λ copy. numbers_left copy ≡ numbers_left walk.now) }
+{
+    walk.clone()
+}
+
+/// The copy of an attribute in place, of a reply about a UNIX socket, says the same.
+pub fn copied_unix_view<'a>(view: &UnixNlaView<'a>) -> Result<UnixNlaView<'a>, AllocError>
+    ensures ok { IsOk result }
+    ensures same { IfOk result (λ copy. viewed_unix copy ≡ viewed_unix view.now) }
+{
+    view.clone()
+}
+
+/// The copy of an attribute in place, of a reply about an IPv4 or IPv6 socket, says the same.
+pub fn copied_inet_view<'a>(view: &InetNlaView<'a>) -> Result<InetNlaView<'a>, AllocError>
+    ensures ok { IsOk result }
+    ensures same { IfOk result (λ copy. viewed_inet copy ≡ viewed_inet view.now) }
+{
+    view.clone()
 }

@@ -1,7 +1,8 @@
 //! Numbers that fill the value of an attribute.
 
-ghost use Rattle.std.specs.Prelude.{◌≡◌, ◌≤◌, ◌↔◌, ◌++◌, ◌%◌, [], length, drop, slice_get, IsTrue, IfOk, MatchResult, Ok, Err};
-ghost use Rattle.std.specs.Iterator.{YieldsFirst, item_count};
+ghost use Rattle.std.specs.Prelude.{◌≡◌, ◌≤◌, ◌↔◌, ◌++◌, ◌%◌, [], length, drop, slice_get, IsTrue, IfOk, IfSome, MatchResult, Ok, Err, Some};
+ghost use Rattle.std.specs.Iterator.{UpTo, YieldsFirst, item_count};
+ghost use Rattle.std.specs.Iterator.SizeHint.{IsWithinCount};
 ghost use Rattle.netlink_core.specs.Bytes.{IsBytes};
 ghost use Rattle.netlink_core.specs.Faults.{under_kind};
 ghost use Rattle.netlink_core.specs.Parse.{exact_number};
@@ -153,7 +154,13 @@ impl<'a> Iterator for NumbersIterator<'a> {
         Some(LittleEndian::read_u32(bytes))
     }
 
-    fn size_hint(&self) -> (usize, Option<usize>) {
+    /// How many numbers are left, exactly.
+    #[tactic(auto, using(crate::specs::NumberLaws::how_many))]
+    fn size_hint(&self) -> (usize, Option<usize>)
+        ensures lower { IsWithinCount result.0 (item_count numbers_left self.now) }
+        ensures upper { IfSome result.1 (UpTo (item_count numbers_left self.now)) }
+        ensures exact { result ≡ (length (numbers_left self.now), Some (length (numbers_left self.now))) }
+    {
         (self.rest.len(), Some(self.rest.len()))
     }
 }

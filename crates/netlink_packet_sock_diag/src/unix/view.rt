@@ -1,8 +1,9 @@
 //! The reply about one UNIX socket, read in place.
 
-ghost use Rattle.std.specs.Prelude.{◌≡◌, ◌≤◌, length, map, [], IfOk, OnOk, IfErr, IsOk, option_map, IsSome, IfSome, None, refl, ⊤, ◌↔◌};
+ghost use Rattle.std.specs.Prelude.{◌≡◌, ◌≤◌, length, map, [], IfOk, OnOk, IfErr, IsOk, option_map, IsSome, IfSome, None, Some, refl, ⊤, ◌↔◌};
 ghost use Rattle.std.specs.Cmp.{partial_equiv_from_equiv};
-ghost use Rattle.std.specs.Iterator.{YieldsFirstBy, item_count};
+ghost use Rattle.std.specs.Iterator.{UpTo, YieldsFirstBy, item_count};
+ghost use Rattle.std.specs.Iterator.SizeHint.{IsWithinCount};
 ghost use Rattle.netlink_core.specs.Family.{says};
 ghost use Rattle.netlink_core.specs.Walk.{bytes_left};
 ghost use Rattle.netlink_core.specs.Reply.{MeansReply, RefusesReply, IsSpareReply, ReplyFits, attribute_part, reply_bytes};
@@ -91,7 +92,12 @@ impl<'a> Iterator for NlaViews<'a> {
         Some(view)
     }
 
-    fn size_hint(&self) -> (usize, Option<usize>) {
+    /// How many attributes are left, exactly.
+    fn size_hint(&self) -> (usize, Option<usize>)
+        ensures lower { IsWithinCount result.0 (item_count values_left self.now) }
+        ensures upper { IfSome result.1 (UpTo (item_count values_left self.now)) }
+        ensures exact { result ≡ (length (values_left self.now), Some (length (values_left self.now))) }
+    {
         (self.count, Some(self.count))
     }
 }
