@@ -244,3 +244,11 @@ pub fn copied_message_view<'a>(view: &SockDiagView<'a>) -> Result<SockDiagView<'
 {
     view.clone()
 }
+
+/// The copy of a payload in place tells the same.
+pub fn copied_payload_view<'a>(view: &View<'a>) -> Result<View<'a>, AllocError>
+    ensures ok { IsOk result }
+    ensures same { IfOk result (λ copy. viewed_payload copy ≡ viewed_payload view.now) }
+{
+    view.clone()
+}
