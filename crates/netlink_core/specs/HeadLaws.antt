@@ -1,9 +1,9 @@
 -- An attribute of a family, read at the front of a string, keeps the laws. Proved once, for every family.
-use Rattle.std.proofs.Common.{Ok, Err, ◌≡◌, ◌∙◌, ◌↔◌, ◌⊎◌, inl, inr, List, ℕ, length, replicate, refl, sym, subst}
+use Rattle.std.proofs.Common.{Ok, Err, ◌≡◌, ◌∙◌, ◌↔◌, ◌⊎◌, inl, inr, List, ℕ, length, replicate, refl, sym, ap, subst}
 use Rattle.netlink_core.specs.declared.fault.DecodeError.{DecodeError}
 use Rattle.netlink_core.specs.declared.fault.DecodeError.TheVariants.{Memory}
 use Rattle.netlink_core.specs.Bytes.{IsBytes}
-use Rattle.netlink_core.specs.Attribute.{Attribute, HasFittingValue, fill, written}
+use Rattle.netlink_core.specs.Attribute.{Attribute, FitsWords, HasFittingValue, HeadIs, fill, written}
 use Rattle.netlink_core.specs.Family.{Family, FamilyLaws, Said, says, attribute_said, IsTypedSaid, IsNormalSaid, AreIdleAttributes}
 use Rattle.netlink_core.specs.AnyKind.{any_kind}
 use Rattle.netlink_core.specs.Heads.{MeansHead, RefusesHead, AreIdleHeads, head_codec}
@@ -70,6 +70,25 @@ module _ (F : Family) (laws : FamilyLaws F) where
     written_bytes = head_written_bytes;
     reads_back = λ p v tp typed normal fits. head_reads_back v typed normal fits;
   }
+
+-- ---- an attribute in hand
+
+module _ (F : Family) (a : Attribute) (fits : FitsWords a) where
+  -- its bytes begin with it
+  begins : HeadIs (written a) a
+  begins = (replicate (fill (length a.value)) 0, refl, fits)
+
+  -- what it says is read of its bytes
+  pub said_is_read : (v : Said F) → says F a ≡ Ok v → MeansHead F (written a) v
+  said_is_read v s = (a, begins, s)
+
+  -- why it is refused is why they are
+  pub refused_is_read : (e : DecodeError) → says F a ≡ Err e → RefusesHead F (written a) e
+  refused_is_read e s = inr (a, begins, s)
+
+-- it is kept as what is read of its bytes
+pub kept_is_read : (a v : Attribute) → FitsWords a → v ≡ a → MeansHead any_kind (written a) v
+kept_is_read a v fits e = said_is_read any_kind a fits v (ap Ok (sym e))
 
 -- the family in which no kind is known
 pub any_kind_laws : FamilyLaws any_kind

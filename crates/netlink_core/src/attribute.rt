@@ -4,8 +4,9 @@
 //! Both words have 16 bits, the low byte first.
 
 ghost use Rattle.std.specs.Prelude.{◌≡◌, ◌+◌, ◌≤◌, ◌<◌, ◌^◌, ◌↔◌, length, IsTrue, IsBitSet, MatchResult};
-ghost use Rattle.netlink_core.specs.Attribute.{HeadIs, IsFramingFault, fill, kind_of};
+ghost use Rattle.netlink_core.specs.Attribute.{HeadIs, IsFramingFault, fill, kind_of, written};
 
+use crate::codec::Holds;
 use crate::fault::DecodeError;
 use byteorder::{ByteOrder, LittleEndian};
 
@@ -29,6 +30,7 @@ const KIND: u16 = 0x3fff;
 pub struct NlaBuffer<'a> {
     type_word: u16,
     value: &'a [u8],
+    ghost word_fits: { type_word < 2 ^ 16 },
     ghost value_fits: { length value.now ≤ 65531 },
 }
 
@@ -103,6 +105,13 @@ impl<'a> NlaBuffer<'a> {
     {
         self.value
     }
+}
+
+// An attribute is read as its bytes, with the padding.
+impl Holds for NlaBuffer<'_> {
+    ghost use Rattle.netlink_core.specs.Walk.{attribute_of};
+
+    ghost held = { λ nla. written (attribute_of nla) };
 }
 
 /// The walk over attributes that stand one after the other, each at a multiple of 4.

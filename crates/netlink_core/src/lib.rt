@@ -17,7 +17,7 @@ mod wire;
 
 pub use crate::attribute::{NlaBuffer, NlasIterator};
 pub use crate::canon::{CanonError, canonical};
-pub use crate::codec::{Emitable, Parseable, ParseableParametrized, Readable};
+pub use crate::codec::{Emitable, Holds, Parseable, ParseableParametrized, Readable};
 pub use crate::datagram::MessageStrings;
 pub use crate::exact::Exact;
 pub use crate::fault::{DecodeError, RecordName};

@@ -139,12 +139,23 @@ pub struct DefaultNla {
 
 impl DefaultNla {
     ghost use Rattle.netlink_core.specs.DefaultNla.{kept_attribute};
+    ghost use Rattle.netlink_core.specs.Walk.{attribute_of};
 
     /// The attribute with this type word and value.
     pub fn new(kind: u16, value: Vec<u8>) -> DefaultNla
         ensures { kept_attribute result ≡ record { type_word = kind; value = value.items } }
     {
         DefaultNla { kind, value }
+    }
+
+    // The attribute with memory of its own.
+    fn keep(alloc: Global, nla: &NlaBuffer<'_>) -> Result<DefaultNla, AllocError>
+        ensures { IfOk result (λ kept. kept_attribute kept ≡ attribute_of nla.now) }
+    {
+        Ok(DefaultNla {
+            kind: nla.type_word(),
+            value: Vec::from_slice(alloc, nla.value())?,
+        })
     }
 
     /// The whole type word, with its two flag bits.
@@ -179,24 +190,9 @@ impl Readable for DefaultNla {
 }
 
 impl<'a> Parseable<NlaBuffer<'a>> for DefaultNla {
-    ghost use Rattle.netlink_core.specs.DefaultNla.{kept_attribute};
-    ghost use Rattle.netlink_core.specs.Walk.{attribute_of};
-
-    ghost Seen = { Attribute };
-
-    ghost seen = { kept_attribute };
-
-    ghost parses = { λ nla a. a ≡ attribute_of nla };
-
-    ghost parse_refuses = { λ _ _. ⊥ };
-
-    ghost is_spare = { λ _. ⊥ };
-
+    #[tactic(auto, using(crate::specs::HeadLaws::kept_is_read))]
     fn parse(alloc: Global, buf: NlaBuffer<'a>) -> Result<Self, DecodeError> {
-        Ok(DefaultNla {
-            kind: buf.type_word(),
-            value: Vec::from_slice(alloc, buf.value())?,
-        })
+        Ok(DefaultNla::keep(alloc, &buf)?)
     }
 }
 
@@ -260,7 +256,7 @@ impl Coded for DefaultNla {
 
 impl Wire for DefaultNla {
     fn read(alloc: Global, bytes: &[u8], _param: ()) -> Result<Self, DecodeError> {
-        DefaultNla::parse(alloc, NlaBuffer::new_checked(bytes)?)
+        Ok(DefaultNla::keep(alloc, &NlaBuffer::new_checked(bytes)?)?)
     }
 
     ghost written_is = { λ v. refl };

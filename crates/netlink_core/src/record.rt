@@ -68,32 +68,12 @@ impl<T: Record> Readable for T {
 }
 
 impl<'a, T: Record<Told = ()>> Parseable<&'a [u8]> for T {
-    ghost Seen = { T };
-
-    ghost seen = { λ value. value };
-
-    ghost parses = { λ payload value. Reads T.format payload.now tt value };
-
-    ghost parse_refuses = { λ payload fault. Refuses T.format payload.now tt fault };
-
-    ghost is_spare = { λ _. ⊤ };
-
     fn parse(_alloc: Global, payload: &'a [u8]) -> Result<Self, DecodeError> {
         read_record(payload, ())
     }
 }
 
 impl<'a, T: Record<Told = u8>> ParseableParametrized<&'a [u8], u8> for T {
-    ghost Seen = { T };
-
-    ghost seen = { λ value. value };
-
-    ghost parses = { λ payload told value. Reads T.format payload.now told value };
-
-    ghost parse_refuses = { λ payload told fault. Refuses T.format payload.now told fault };
-
-    ghost is_spare = { λ _. ⊤ };
-
     fn parse_with_param(_alloc: Global, payload: &'a [u8], told: u8) -> Result<Self, DecodeError> {
         read_record(payload, told)
     }

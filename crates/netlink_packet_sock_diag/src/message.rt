@@ -161,18 +161,6 @@ impl Readable for SockDiagMessage {
 }
 
 impl<'a> ParseableParametrized<&'a [u8], u16> for SockDiagMessage {
-    ghost use Rattle.netlink_packet_sock_diag.specs.SeenMessage.{seen_message};
-
-    ghost Seen = { Message };
-
-    ghost seen = { seen_message };
-
-    ghost parses = { λ b t v. MessageIs b.now t v };
-
-    ghost parse_refuses = { λ b t e. MessageFault b.now t e };
-
-    ghost is_spare = { λ _. ⊥ };
-
     /// Reads a reply under a message type. Fewer than 2 bytes are `MessageTooShort`; then a type but
     /// `SOCK_DIAG_BY_FAMILY` is `UnknownMessageType`; then a first byte but `AF_UNIX`, `AF_INET` and `AF_INET6` is
     /// `UnknownFamily`; then the reader of that family's replies decides.

@@ -50,18 +50,6 @@ impl Readable for InetResponse {
 }
 
 impl<'a> Parseable<&'a [u8]> for InetResponse {
-    ghost use Rattle.netlink_packet_sock_diag.specs.SeenInetReply.{seen_response};
-
-    ghost Seen = { ValueOf inet_reply };
-
-    ghost seen = { seen_response };
-
-    ghost parses = { λ b v. MeansReply inet_reply b.now v };
-
-    ghost parse_refuses = { λ b e. RefusesReply inet_reply b.now e };
-
-    ghost is_spare = { λ v. IsSpareReply inet_reply v };
-
     /// Reads the header, and then the attributes up to the end of the bytes. Fewer than 72 bytes are `BufferTooSmall`,
     /// then another family than 2 and 10 is `UnsupportedFamily`; after that the first fault of the attributes counts.
     fn parse(alloc: Global, payload: &'a [u8]) -> Result<Self, DecodeError> {

@@ -50,18 +50,6 @@ impl Readable for UnixResponse {
 }
 
 impl<'a> Parseable<&'a [u8]> for UnixResponse {
-    ghost use Rattle.netlink_packet_sock_diag.specs.SeenUnixReply.{seen_response};
-
-    ghost Seen = { ValueOf unix_reply };
-
-    ghost seen = { seen_response };
-
-    ghost parses = { λ b v. MeansReply unix_reply b.now v };
-
-    ghost parse_refuses = { λ b e. RefusesReply unix_reply b.now e };
-
-    ghost is_spare = { λ v. IsSpareReply unix_reply v };
-
     /// Reads the header, and then the attributes up to the end of the bytes. Fewer than 16 bytes are `BufferTooSmall`;
     /// after that the first fault of the attributes counts.
     fn parse(alloc: Global, payload: &'a [u8]) -> Result<Self, DecodeError> {

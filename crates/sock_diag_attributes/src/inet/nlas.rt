@@ -192,19 +192,6 @@ impl Readable for Nla {
 }
 
 impl<'a> Parseable<NlaBuffer<'a>> for Nla {
-    ghost use Rattle.sock_diag_attributes.specs.InetAttributes.{inet};
-    ghost use Rattle.sock_diag_attributes.specs.SeenInet.{seen_nla};
-
-    ghost Seen = { Said inet };
-
-    ghost seen = { seen_nla };
-
-    ghost parses = { λ nla v. says inet (attribute_of nla) ≡ Ok v };
-
-    ghost parse_refuses = { λ nla e. says inet (attribute_of nla) ≡ Err e };
-
-    ghost is_spare = { IsSpareSaid inet };
-
     /// Reads the value by the attribute's kind, whatever its flag bits. An attribute of a kind that is not known here
     /// is kept as it is.
     fn parse(alloc: Global, buf: NlaBuffer<'a>) -> Result<Self, DecodeError> {
@@ -354,7 +341,7 @@ impl Emitable for Nla {
 
 impl Wire for Nla {
     fn read(alloc: Global, bytes: &[u8], _param: ()) -> Result<Self, DecodeError> {
-        Nla::parse(alloc, NlaBuffer::new_checked(bytes)?)
+        Ok(NlaView::parse(&NlaBuffer::new_checked(bytes)?)?.to_owned(alloc)?)
     }
 
     ghost written_is = { λ _. refl };

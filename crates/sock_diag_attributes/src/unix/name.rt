@@ -133,18 +133,6 @@ impl Readable for UnixDiagName {
 }
 
 impl<'a> Parseable<&'a [u8]> for UnixDiagName {
-    ghost use Rattle.sock_diag_attributes.specs.SeenName.{seen_name};
-
-    ghost Seen = { SocketName };
-
-    ghost seen = { seen_name };
-
-    ghost parses = { λ b v. read_name b.now ≡ Ok v };
-
-    ghost parse_refuses = { λ b e. read_name b.now ≡ Err e };
-
-    ghost is_spare = { λ _. ⊥ };
-
     /// Reads the whole of the bytes as a name. No bytes are `NameEmpty`. Of a path, a first zero before the last byte
     /// is `NameInnerZero`, and no zero is `NameWithoutEnd`.
     fn parse(alloc: Global, bytes: &'a [u8]) -> Result<Self, DecodeError> {
