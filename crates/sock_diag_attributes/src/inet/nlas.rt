@@ -2,7 +2,7 @@
 
 ghost use Rattle.std.specs.Prelude.{◌≡◌, ◌≤◌, ◌++◌, length, drop, Ok, Err, IsOk, IfOk, MatchResult, true, refl, ⊤};
 ghost use Rattle.netlink_core.specs.Attribute.{HasFittingValue, written};
-ghost use Rattle.netlink_core.specs.Family.{says, Said, attribute_said, IsSpareSaid};
+ghost use Rattle.netlink_core.specs.Family.{says, attribute_said, IsSpareSaid};
 ghost use Rattle.netlink_core.specs.Walk.{attribute_of};
 ghost use Rattle.sock_diag_attributes.specs.Text.{text_bytes};
 

@@ -3,7 +3,7 @@
 ghost use Rattle.std.proofs.Common.{rules};
 ghost use Rattle.std.specs.Prelude.{◌≡◌, ◌≢◌, ℕ, suc, ◌<◌, ◌≤◌, ◌++◌, length, take, drop, slice_index, IfOk, IfErr, MatchOption, MatchResult, Ok, Err, true, refl, ⊤};
 ghost use Rattle.netlink_core.specs.declared.fault.DecodeError.TheVariants.{Memory};
-ghost use Rattle.sock_diag_attributes.specs.Name.{SocketName, HasNoZero, read_name, name_bytes, name_codec};
+ghost use Rattle.sock_diag_attributes.specs.Name.{HasNoZero, read_name, name_bytes, name_codec};
 ghost use Rattle.sock_diag_attributes.specs.NameLaws.{name_keeps_laws};
 
 use netlink_core::{Coded, DecodeError, Emitable, Parseable, Readable, Wire};
