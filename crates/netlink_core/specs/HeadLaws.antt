@@ -82,10 +82,6 @@ module _ (F : Family) (a : Attribute) (fits : FitsWords a) where
   pub said_is_read : (v : Said F) → says F a ≡ Ok v → MeansHead F (written a) v
   said_is_read v s = (a, begins, s)
 
-  -- why it is refused is why they are
-  pub refused_is_read : (e : DecodeError) → says F a ≡ Err e → RefusesHead F (written a) e
-  refused_is_read e s = inr (a, begins, s)
-
 -- it is kept as what is read of its bytes
 pub kept_is_read : (a v : Attribute) → FitsWords a → v ≡ a → MeansHead any_kind (written a) v
 kept_is_read a v fits e = said_is_read any_kind a fits v (ap Ok (sym e))

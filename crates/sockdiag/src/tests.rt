@@ -14,6 +14,7 @@ mod dumps;
 mod generated;
 mod hostile;
 mod rows;
+mod sizes;
 mod streams;
 
 const INPUT: &str = "unixreq 01000000020400003412000004000000ffffffffffffffff\n\
