@@ -26,10 +26,9 @@ use crate::datagram::MessageStrings;
 use crate::exact::Exact;
 use crate::fault::DecodeError as Fault;
 use crate::header::NetlinkHeader;
-use crate::message::{
-    NLM_F_DUMP, NLM_F_REQUEST, NLMSG_DONE, NLMSG_ERROR, NLMSG_NOOP, NLMSG_OVERRUN, NetlinkMessage,
-};
+use crate::message::NetlinkMessage;
 use crate::wire::Coded;
+use crate::{NLM_F_DUMP, NLM_F_REQUEST, NLMSG_DONE, NLMSG_ERROR, NLMSG_NOOP, NLMSG_OVERRUN};
 use std::alloc::AllocError;
 
 /// A string is cut into attributes exactly as stated: after each, either its padding is whole and the rest is cut on,
@@ -208,7 +207,7 @@ pub fn items_in_a_row<I: Coded<Param = u16>>()
         → ItemsAre I.codec.reads I.codec.refuses (front ++ back) (xs ++ ys) }
 {}
 
-/// The types and flags of messages have the numbers of netlink(7).
+/// The types and flags of messages, as they stand at the root, have the numbers of netlink(7).
 pub fn message_constants_have_their_numbers()
     ensures noop { NLMSG_NOOP ≡ 1 }
     ensures error { NLMSG_ERROR ≡ 2 }

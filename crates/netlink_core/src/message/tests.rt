@@ -124,6 +124,25 @@ fn the_type_tells_the_payload(rt: HostRuntime) -> Result<(), Fail> {
     Ok(())
 }
 
+// What an error or the end of a dump carries is kept, however long it is.
+#[test]
+fn long_payloads_are_kept(rt: HostRuntime) -> Result<(), Fail> {
+    let alloc = rt.alloc();
+    let kept = vec![in alloc; 7; 70_000]?;
+    for message_type in [NLMSG_ERROR, NLMSG_DONE, NLMSG_OVERRUN] {
+        let mut bytes = Vec::from_slice(alloc, &70_016u32.to_le_bytes())?;
+        bytes.extend_from_slice(&message_type.to_le_bytes())?;
+        bytes.resize(70_016, 7)?;
+        match NetlinkMessage::<Kept>::deserialize(alloc, &bytes)?.payload {
+            NetlinkPayload::Error(given)
+            | NetlinkPayload::Done(given)
+            | NetlinkPayload::Overrun(given) => assert!(rt; given == kept),
+            _ => return Err("another payload".into()),
+        }
+    }
+    Ok(())
+}
+
 #[test]
 fn faults_come_in_order(rt: HostRuntime) {
     refused(
