@@ -10,6 +10,7 @@ use std::process::Abort;
 use std::test::Fail;
 use std::time::Duration;
 
+mod buffers;
 mod generated;
 mod hostile;
 mod odd_values;
