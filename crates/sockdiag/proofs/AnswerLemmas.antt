@@ -407,35 +407,6 @@ request_at line i name bytes place word field = record {
   stands_for = field;
 }
 
--- `dump` before the first space
-pub dump_at : (line : List ℕ) (i : ℕ) → Some i ≡ position is_space line → take i line ≡ codes "dump" → line ≡ codes "dump" ++ 32 ∷ drop (i + 1) line
-dump_at line i place word = at_space line i (sym place) ∙ ap (λ w. w ++ 32 ∷ drop (i + 1) line) word
-
--- a word before the first space that is neither, or a text behind it that is no field
-pub no_request_at : (line : List ℕ) (i : ℕ) → Some i ≡ position is_space line → take i line ≢ codes "dump"
-    → ((name : Name) (bytes : List ℕ) → take i line ≡ word_of name → IsHexField (drop (i + 1) line) bytes → ⊥) → IsNoRequest line
-unfolding Kind
-no_request_at line i place word none = elim_kind (kind_of line)
-  where
-    some_same : (a b : ℕ) → Some a ≡ Some b → a ≡ b
-    some_same a b e = cc
-
-    split_once : (w v text rest : List ℕ) → take i line ≡ w → line ≡ v ++ 32 ∷ rest → position_or_len is_space (v ++ 32 ∷ rest) ≡ length v → drop (length v + 1) (v ++ 32 ∷ rest) ≡ rest
-        → (take i line ≡ v) × (drop (i + 1) line ≡ rest)
-    split_once w v text rest is spelled first behind =
-        let whole = v ++ 32 ∷ rest in
-        let within : length v < length whole = simp length-append (omega arith) in
-        let at : position is_space whole ≡ Some (length v) = rw first (cond-true _ _ _ (lt-ltb (length v) (length whole) within)) in
-        let same = some_same i (length v) (place ∙ ap (position is_space) spelled ∙ at) in
-        (ap₂ take same spelled ∙ take-append_seam v (32 ∷ rest), ap₂ (λ n l. drop (n + 1) l) same spelled ∙ behind)
-
-    elim_kind : Kind line → IsNoRequest line
-    elim_kind (inl (name, bytes, asked)) =
-        let parts = split_once (take i line) (word_of name) [] asked.field refl asked.spelled (word_place name asked.field) (word_left name asked.field) in
-        absurd (none name bytes parts.0 (subst (λ (f : List ℕ). IsHexField f bytes) (sym parts.1) asked.stands_for))
-    elim_kind (inr (inl (datagrams, dump))) = absurd (word (split_once (take i line) (codes "dump") [] dump.fields refl dump.spelled refl refl).0)
-    elim_kind (inr (inr neither)) = neither
-
 -- what answers that which a line was read as answers the line
 pub read_answer : (line : List ℕ) (asked : Asked) (bytes text : List ℕ) → IsReadAs line asked bytes → IsAnswerTo asked bytes text → IsAnswerOf line text
 read_answer line (Field name) bytes text asked tells = asked_answer line name bytes text asked tells

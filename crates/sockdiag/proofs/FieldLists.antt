@@ -1,5 +1,5 @@
 -- How a text splits into fields at its spaces.
-use Rattle.std.proofs.Common.{◌≡◌, ◌<◌, ◌+◌, inl, inr, ℕ, false, List, [], ◌∷◌, ◌++◌, length, take, drop, get_or, Some, None, refl, sym, ap, ◌∙◌, arith, subst, append_assoc}
+use Rattle.std.proofs.Common.{◌≡◌, ◌<◌, ◌+◌, inl, inr, ℕ, false, List, [], ◌∷◌, ◌++◌, length, take, drop, get_or, Some, None, refl, sym, ap, ◌∙◌, arith, subst}
 use Rattle.std.specs.List.{AllZip, position, position_or_len, slice_split}
 use Rattle.std.proofs.lemmas.Bool.{cases_lt, cond-true, lt-ltb}
 use Rattle.std.proofs.lemmas.List.{get_or-take, length-take}
@@ -45,8 +45,3 @@ no_fields text done rest field split none datagrams each = among done datagrams 
     among [] (d ∷ datagrams) each = none d each.0
     among (f ∷ fields) [] each = each
     among (f ∷ fields) (d ∷ datagrams) each = among fields datagrams each.1
-
--- one field more
-pub one_field_more : (text : List ℕ) (done datagrams : List (List ℕ)) (rest : List (List ℕ)) (field datagram : List ℕ) → slice_split is_space text ≡ done ++ field ∷ rest
-    → slice_split is_space text ≡ (done ++ field ∷ []) ++ rest
-one_field_more text done datagrams rest field datagram split = split ∙ sym (append_assoc done (field ∷ []) rest)

@@ -2,10 +2,10 @@
 
 ghost use Rattle.std.specs.Prelude.{◌≡◌, ◌↔◌, ◌∷◌, ◌++◌, ℕ, List, map, IsTrue, IfOk, OnOk, MatchBool, MatchOption};
 ghost use Rattle.std.specs.List.{AllByRecursion, flat_map};
-ghost use Rattle.netlink_packet_sock_diag.specs.Message.{MessageFits, message_bytes};
+ghost use Rattle.netlink_packet_sock_diag.specs.Message.{MessageFits};
 ghost use Rattle.netlink_packet_sock_diag.specs.SeenMessage.{seen_message};
 ghost use Rattle.sockdiag.specs.DumpLine.{AreHexFields, IsWritable, end_word, shown_dump, shown_message, word_of_state};
-ghost use Rattle.sockdiag.specs.HexField.{IsHexField, field_of};
+ghost use Rattle.sockdiag.specs.HexField.{IsHexField};
 ghost use Rattle.sockdiag.specs.ReadDump.{IsReadDump, TakesDatagram, end_of, told_dump};
 ghost use Rattle.sockdiag.specs.Told.{Adds, Tells};
 
