@@ -5,7 +5,7 @@ ghost use Rattle.netlink_core.specs.Bytes.{IsBytes};
 ghost use Rattle.netlink_core.specs.Canonical.{GivesUp, from_fault};
 ghost use Rattle.netlink_core.specs.declared.canon.CanonError.TheVariants.{Memory};
 
-use crate::{DecodeError, Emitable, Wire};
+use crate::{DecodeError, Wire};
 use std::alloc::{AllocError, Global};
 
 /// Why a string has no canonical form in hand.
@@ -63,23 +63,15 @@ pub fn canonical<T: Wire + Drop>(
     // The value stays where it was read to: a large one takes longer to move than to write.
     let read = T::read(alloc, bytes, param);
     if let Ok(value) = &read {
-        if !value.is_writable() {
+        let Some(len) = value.writable_len() else {
             return Err(CanonError::Unwritable);
-        }
-        return Ok(written(alloc, value)?);
+        };
+        let mut written = vec![in alloc; 0; len]?;
+        value.emit(&mut written);
+        return Ok(written);
     }
     match read {
         Ok(_) => unreachable!(),
         Err(fault) => Err(CanonError::from(fault)),
     }
-}
-
-// The bytes of a value.
-fn written<T: Emitable>(alloc: Global, value: &T) -> Result<Vec<u8>, AllocError>
-    requires { T.writable value.now }
-    ensures { IfOk result (λ bytes. bytes.items ≡ T.bytes value.now) }
-{
-    let mut bytes = vec![in alloc; 0; value.buffer_len()]?;
-    value.emit(&mut bytes);
-    Ok(bytes)
 }

@@ -1,6 +1,6 @@
 //! Attributes that are written, and the attribute of any kind.
 
-ghost use Rattle.std.specs.Prelude.{◌≡◌, ◌≤◌, ◌<◌, ◌↔◌, replicate, ◌++◌, ⊤, length, drop, map, true, refl, IsTrue, IfOk};
+ghost use Rattle.std.specs.Prelude.{◌≡◌, ◌≤◌, ◌<◌, ◌↔◌, replicate, ◌++◌, ⊤, length, drop, map, true, refl, IsTrue, IfOk, SomeIff};
 ghost use Rattle.std.specs.List.{flat_map};
 ghost use Rattle.std.proofs.Common.{rules};
 ghost use Rattle.netlink_core.specs.Attribute.{Attribute, IsTypedAttribute, HasFittingValue, AreWritable, written};
@@ -85,22 +85,29 @@ fn zero_padding(padding: &mut [u8])
     }
 }
 
+/// How many bytes the attributes have, one after the other, where each value fits and they have at most so many.
+pub fn nlas_len_within<T: Nla>(nlas: &[T], limit: usize) -> Option<usize>
+    ensures { SomeIff result (AreWritable (map T.attribute nlas.now) limit) (length (flat_map written (map T.attribute nlas.now))) }
+{
+    let mut room = limit;
+    for nla in nlas {
+        if !nla.value_fits() {
+            return None;
+        }
+        let len = nla_len(nla);
+        if len > room {
+            return None;
+        }
+        room -= len;
+    }
+    Some(limit - room)
+}
+
 /// Whether each value fits, and all of the attributes together have at most 4,294,967,295 bytes.
 pub fn nlas_writable<T: Nla>(nlas: &[T]) -> bool
     ensures { IsTrue result ↔ AreWritable (map T.attribute nlas.now) 4294967295 }
 {
-    let mut room = u32::MAX as usize;
-    for nla in nlas {
-        if !nla.value_fits() {
-            return false;
-        }
-        let len = nla_len(nla);
-        if len > room {
-            return false;
-        }
-        room -= len;
-    }
-    true
+    nlas_len_within(nlas, u32::MAX as usize).is_some()
 }
 
 /// How many bytes the attributes have, one after the other.

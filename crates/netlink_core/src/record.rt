@@ -1,6 +1,6 @@
 //! Records: what each is read from and written as, and all that follows from it.
 
-ghost use Rattle.std.specs.Prelude.{◌≡◌, ◌≢◌, ◌≤◌, IfErr, ℕ, List, length, take, replicate, SomeIff, false, ⊤, refl};
+ghost use Rattle.std.specs.Prelude.{◌≡◌, ◌≢◌, ◌≤◌, IfErr, ℕ, List, length, take, SomeIff, false, ⊤, refl};
 ghost use Rattle.netlink_core.specs.Format.{Format, read, read_row, Reads, bytes, IsFixed, IsSound};
 ghost use Rattle.netlink_core.specs.declared.fault.DecodeError.TheVariants.{Memory};
 ghost use Rattle.netlink_core.specs.Codec.{record_codec, KeepsLaws};
@@ -37,9 +37,9 @@ pub trait Record: Exact + Sized {
         requires { format.least ≤ length bytes.now }
         ensures { result ≡ read_row format told bytes.now };
 
-    /// Writes the value over zeros.
+    /// Writes the value over bytes of any content.
     fn write_row(&self, row: &mut [u8])
-        requires { row.old ≡ replicate (format.size (format.tag_of self.now)) 0 }
+        requires { length row.old ≡ format.size (format.tag_of self.now) }
         ensures { row.new ≡ bytes format self.now };
 
     ghost sound: { IsSound format };
@@ -93,9 +93,7 @@ impl<T: Record> Emitable for T {
     }
 
     fn emit(&self, buffer: &mut [u8]) {
-        let row = &mut buffer[..self.size()];
-        row.fill(0);
-        self.write_row(row);
+        self.write_row(&mut buffer[..self.size()]);
     }
 }
 

@@ -67,7 +67,7 @@ impl Record for UnixRequest {
     fn write_row(&self, row: &mut [u8]) {
         let (start, rest) = row.split_at_mut(4);
         let (words, cookie) = rest.split_at_mut(12);
-        start[0] = AF_UNIX;
+        start.copy_from_slice(&[AF_UNIX, 0, 0, 0]);
         LittleEndian::write_u32_into(
             &[self.state_flags.bits(), self.inode, self.show_flags.bits()],
             words,

@@ -123,18 +123,26 @@ impl Record for MemInfo {
     }
 
     fn write_row(&self, row: &mut [u8]) {
-        let words = [
-            self.receive_queue,
-            self.receive_queue_max,
-            self.bottom_send_queues,
-            self.send_queue_max,
-            self.cache,
-            self.send_queue,
-            self.options,
-            self.backlog_queue_length.unwrap_or(0),
-            self.drops.unwrap_or(0),
-        ];
-        LittleEndian::write_u32_into(&words[..self.size() / 4], row);
+        let (words, rest) = row.split_at_mut(28);
+        LittleEndian::write_u32_into(
+            &[
+                self.receive_queue,
+                self.receive_queue_max,
+                self.bottom_send_queues,
+                self.send_queue_max,
+                self.cache,
+                self.send_queue,
+                self.options,
+            ],
+            words,
+        );
+        match (self.backlog_queue_length, self.drops) {
+            (backlog, Some(drops)) => {
+                LittleEndian::write_u32_into(&[backlog.unwrap_or(0), drops], rest)
+            }
+            (Some(backlog), None) => LittleEndian::write_u32_into(&[backlog], rest),
+            (None, None) => {}
+        }
     }
 
     ghost sound = { mem_info_sound };

@@ -1,0 +1,13 @@
+use Rattle.std.proofs.Common.{◌≡◌, ◌≤◌, ◌+◌, drop, length}
+use Rattle.std.specs.Prelude.{◌↔◌, map}
+use Rattle.std.specs.List.{flat_map}
+use Rattle.netlink_core.specs.Attribute.{AreWritable, written}
+use Rattle.netlink_core.proofs.nla.nlas_len_within.Given as goal
+
+-- what is left is to fit the room that is left, and fills it as far as all fills the limit
+abbrev pub invariant-loop-nla : goal.invariant-loop-nla
+invariant-loop-nla g l = record {
+  room : l.room ≤ l.limit;
+  same : AreWritable (map g.T.Nla.attribute (drop l.nla-index l.nlas)) l.room ↔ AreWritable (map g.T.Nla.attribute l.nlas) l.limit;
+  len : l.limit + length (flat_map written (map g.T.Nla.attribute (drop l.nla-index l.nlas))) ≡ l.room + length (flat_map written (map g.T.Nla.attribute l.nlas));
+}
