@@ -41,6 +41,13 @@ pub trait Nla {
             ++ drop (length (attribute self.now).value) buffer.old };
 }
 
+/// A value that is read and written as one attribute: what `emit` writes is the attribute, where its value fits.
+pub trait WireNla: Nla + Wire {
+    ghost emitted_is: { (v : Self) → Self.bytes v ≡ written (Self.attribute v) };
+
+    ghost writable_is: { (v : Self) → (Self.writable v ↔ HasFittingValue (Self.attribute v)) };
+}
+
 /// How many bytes the attribute has, with header and padding.
 pub fn nla_len<T: Nla>(nla: &T) -> usize
     requires { HasFittingValue (T.attribute nla.now) }
@@ -269,4 +276,10 @@ impl Wire for DefaultNla {
     ghost written_is = { λ v. refl };
 
     ghost fits_is = { λ v. (λ h. h, λ h. h) };
+}
+
+impl WireNla for DefaultNla {
+    ghost emitted_is = { λ _. refl };
+
+    ghost writable_is = { λ _. (λ h. h, λ h. h) };
 }
