@@ -26,7 +26,10 @@ pub use crate::message::{
     NLM_F_DUMP, NLM_F_REQUEST, NLMSG_DONE, NLMSG_ERROR, NLMSG_NOOP, NLMSG_OVERRUN,
     NetlinkDeserializable, NetlinkMessage, NetlinkPayload, NetlinkSerializable,
 };
-pub use crate::nla::{DefaultNla, Nla, WireNla, emit_nla, emit_nlas, nla_len, nlas_len, nlas_len_within, nlas_writable};
+pub use crate::nla::{
+    DefaultNla, Nla, WireNla, emit_nla, emit_nlas, nla_len, nlas_len, nlas_len_within,
+    nlas_writable,
+};
 pub use crate::parse::{emit_u32, parse_string, parse_u8, parse_u32};
 pub use crate::record::{Fills, Record, RecordBuffer, read_record};
 pub use crate::wire::{Coded, Wire};

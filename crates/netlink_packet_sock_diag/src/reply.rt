@@ -1,11 +1,12 @@
 //! How replies of every family are read and written: a header, and then attributes.
 
-ghost use Rattle.std.specs.Prelude.{◌≡◌, ◌≤◌, ◌++◌, ◌↔◌, length, drop, map, IfOk, IsOk, IsTrue};
+ghost use Rattle.std.specs.Prelude.{◌≡◌, ◌≤◌, ◌++◌, length, drop, map, Err, IfOk, IsOk, SomeIff};
 ghost use Rattle.std.specs.List.{AllByRecursion};
+ghost use Rattle.netlink_core.specs.declared.fault.DecodeError.TheVariants.{Memory};
 ghost use Rattle.netlink_core.specs.Family.{Family, Said, IsSpareSaid};
 ghost use Rattle.netlink_core.specs.Reply.{framed, FramedFits};
 
-use netlink_core::{Emitable, Nla, emit_nlas, nlas_len, nlas_writable};
+use netlink_core::{DecodeError, Emitable, Nla, emit_nlas, nlas_len_within};
 use smallvec::SmallVec;
 use std::alloc::{AllocError, Global};
 use std::default::MadeWith;
@@ -39,21 +40,24 @@ pub(crate) fn copy_nlas<T: FamilyNla + MadeWith<Global> + Drop>(
     Ok(copy)
 }
 
-/// Whether each value fits, and header and attributes together have at most 4,294,967,295 bytes.
-pub(crate) fn reply_is_writable<H: Emitable, T: Nla>(header: &H, nlas: &[T]) -> bool
-    requires { H.writable header.now }
-    ensures { IsTrue result ↔ FramedFits (H.bytes header.now) (map T.attribute nlas.now) }
+/// Puts want of memory in the place of what was read. It stands apart, so that what drops a list takes no time where
+/// there is memory.
+#[cold]
+#[inline(never)]
+pub(crate) fn give_up<T: Drop>(read: &mut Result<T, DecodeError>)
+    ensures { read.new ≡ Err Memory }
 {
-    nlas_writable(nlas) && header.buffer_len() <= u32::MAX as usize - nlas_len(nlas)
+    *read = Err(DecodeError::Memory);
 }
 
-/// How many bytes header and attributes have.
-pub(crate) fn reply_len<H: Emitable, T: Nla>(header: &H, nlas: &[T]) -> usize
-    requires header { H.writable header.now }
-    requires fits { FramedFits (H.bytes header.now) (map T.attribute nlas.now) }
-    ensures { result ≡ length (framed (H.bytes header.now) (map T.attribute nlas.now)) }
+/// How many bytes header and attributes have, where each value fits and all of it has at most 4,294,967,295 bytes.
+pub(crate) fn reply_len<H: Emitable, T: Nla>(header: &H, nlas: &[T]) -> Option<usize>
+    requires { H.writable header.now }
+    ensures { SomeIff result (FramedFits (H.bytes header.now) (map T.attribute nlas.now)) (length (framed (H.bytes header.now) (map T.attribute nlas.now))) }
 {
-    header.buffer_len() + nlas_len(nlas)
+    let len = header.buffer_len();
+    let room = (u32::MAX as usize).checked_sub(len)?;
+    Some(len + nlas_len_within(nlas, room)?)
 }
 
 /// Writes header and attributes at the front of the buffer, and leaves the rest.

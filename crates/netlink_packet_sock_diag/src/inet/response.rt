@@ -13,8 +13,8 @@ ghost use Rattle.netlink_packet_sock_diag.specs.InetReplyLaws.{inet_reply_laws};
 
 use crate::inet::nlas::Nla;
 use crate::inet::{InetResponseHeader, InetResponseView};
-use crate::reply::{copy_nlas, emit_reply, reply_is_writable, reply_len};
-use netlink_core::{Coded, DecodeError, Emitable, Parseable, Readable, Wire};
+use crate::reply::{copy_nlas, emit_reply, give_up, reply_len};
+use netlink_core::{Coded, DecodeError, Emitable, Parseable, Readable, Wire, nlas_len};
 use smallvec::SmallVec;
 use std::alloc::{AllocError, Global};
 
@@ -54,12 +54,14 @@ impl<'a> Parseable<&'a [u8]> for InetResponse {
     /// then another family than 2 and 10 is `UnsupportedFamily`; after that the first fault of the attributes counts.
     fn parse(alloc: Global, payload: &'a [u8]) -> Result<Self, DecodeError> {
         let view = InetResponseView::parse(payload)?;
-        let mut nlas = SmallVec::new(alloc);
-        view.own_into(alloc, &mut nlas)?;
-        Ok(InetResponse {
-            header: view.header(),
-            nlas,
-        })
+        // The attributes are built where they stay: the list takes longer to move than to fill.
+        let mut read = Ok(view.without_attributes(alloc));
+        if let Ok(reply) = &mut read {
+            if view.own_into(alloc, &mut reply.nlas).is_err() {
+                give_up(&mut read);
+            }
+        }
+        read
     }
 }
 
@@ -71,10 +73,14 @@ impl Emitable for InetResponse {
     ghost writable = { λ v. FramedFits (header_bytes v) (attributes_of v) };
 
     fn is_writable(&self) -> bool {
-        reply_is_writable(&self.header, self.nlas.as_slice())
+        self.writable_len().is_some()
     }
 
     fn buffer_len(&self) -> usize {
+        self.header.buffer_len() + nlas_len(self.nlas.as_slice())
+    }
+
+    fn writable_len(&self) -> Option<usize> {
         reply_len(&self.header, self.nlas.as_slice())
     }
 

@@ -168,6 +168,7 @@ impl<'a> InetResponseView<'a> {
     pub(crate) fn without_attributes(&self, alloc: Global) -> InetResponse
         ensures header { result.header ≡ (viewed_response self.now).header }
         ensures empty { result.nlas.items ≡ [] }
+        ensures room { result.nlas.capacity ≡ 8 }
     {
         InetResponse {
             header: self.header(),

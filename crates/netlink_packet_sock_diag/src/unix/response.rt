@@ -11,10 +11,10 @@ ghost use Rattle.netlink_packet_sock_diag.specs.FramedLaws.{framed_is, framed_fi
 ghost use Rattle.netlink_packet_sock_diag.specs.UnixReply.{unix_reply};
 ghost use Rattle.netlink_packet_sock_diag.specs.UnixReplyLaws.{unix_reply_laws};
 
-use crate::reply::{copy_nlas, emit_reply, reply_is_writable, reply_len};
+use crate::reply::{copy_nlas, emit_reply, give_up, reply_len};
 use crate::unix::nlas::Nla;
 use crate::unix::{UnixResponseHeader, UnixResponseView};
-use netlink_core::{Coded, DecodeError, Emitable, Parseable, Readable, Wire};
+use netlink_core::{Coded, DecodeError, Emitable, Parseable, Readable, Wire, nlas_len};
 use smallvec::SmallVec;
 use std::alloc::{AllocError, Global};
 
@@ -54,12 +54,14 @@ impl<'a> Parseable<&'a [u8]> for UnixResponse {
     /// after that the first fault of the attributes counts.
     fn parse(alloc: Global, payload: &'a [u8]) -> Result<Self, DecodeError> {
         let view = UnixResponseView::parse(payload)?;
-        let mut nlas = SmallVec::new(alloc);
-        view.own_into(alloc, &mut nlas)?;
-        Ok(UnixResponse {
-            header: view.header(),
-            nlas,
-        })
+        // The attributes are built where they stay: the list takes longer to move than to fill.
+        let mut read = Ok(view.without_attributes(alloc));
+        if let Ok(reply) = &mut read {
+            if view.own_into(alloc, &mut reply.nlas).is_err() {
+                give_up(&mut read);
+            }
+        }
+        read
     }
 }
 
@@ -71,10 +73,14 @@ impl Emitable for UnixResponse {
     ghost writable = { λ v. FramedFits (header_bytes v) (attributes_of v) };
 
     fn is_writable(&self) -> bool {
-        reply_is_writable(&self.header, self.nlas.as_slice())
+        self.writable_len().is_some()
     }
 
     fn buffer_len(&self) -> usize {
+        self.header.buffer_len() + nlas_len(self.nlas.as_slice())
+    }
+
+    fn writable_len(&self) -> Option<usize> {
         reply_len(&self.header, self.nlas.as_slice())
     }
 

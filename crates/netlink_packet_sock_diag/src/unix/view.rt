@@ -167,6 +167,7 @@ impl<'a> UnixResponseView<'a> {
     pub(crate) fn without_attributes(&self, alloc: Global) -> UnixResponse
         ensures header { result.header ≡ (viewed_response self.now).header }
         ensures empty { result.nlas.items ≡ [] }
+        ensures room { result.nlas.capacity ≡ 8 }
     {
         UnixResponse {
             header: self.header(),

@@ -10,7 +10,7 @@ use crate::MAX_VALUE;
 use crate::numbers::{exact_flag, exact_u8, exact_u32};
 use crate::text::read_text;
 use netlink_core::{
-    DecodeError, DefaultNla, Emitable, Nla as NlaTrait, NlaBuffer, Parseable, Readable, Wire,
+    DecodeError, DefaultNla, Emitable, Nla as NlaTrait, NlaBuffer, Parseable, Readable, Wire, WireNla,
     emit_nla, emit_u32, nla_len,
 };
 use sock_diag_records::constants::{
@@ -347,6 +347,12 @@ impl Wire for Nla {
     ghost written_is = { λ _. refl };
 
     ghost fits_is = { λ _. (λ h. h, λ h. h) };
+}
+
+impl WireNla for Nla {
+    ghost emitted_is = { λ _. refl };
+
+    ghost writable_is = { λ _. (λ h. h, λ h. h) };
 }
 
 // Writes the text and an end zero at the front, and leaves the rest.

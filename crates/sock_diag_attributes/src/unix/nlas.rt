@@ -10,7 +10,7 @@ pub use crate::numbers::NumbersView;
 use crate::numbers::{emit_numbers, emit_u32_pair, exact_u8, exact_u32, exact_u32_pair};
 pub use crate::unix::name::{NameView, UnixDiagName};
 use netlink_core::{
-    DecodeError, DefaultNla, Emitable, Nla as NlaTrait, NlaBuffer, Parseable, Readable, Wire,
+    DecodeError, DefaultNla, Emitable, Nla as NlaTrait, NlaBuffer, Parseable, Readable, Wire, WireNla,
     emit_nla, emit_u32, nla_len,
 };
 use sock_diag_records::constants::{
@@ -310,4 +310,10 @@ impl Wire for Nla {
     ghost written_is = { λ _. refl };
 
     ghost fits_is = { λ _. (λ h. h, λ h. h) };
+}
+
+impl WireNla for Nla {
+    ghost emitted_is = { λ _. refl };
+
+    ghost writable_is = { λ _. (λ h. h, λ h. h) };
 }
