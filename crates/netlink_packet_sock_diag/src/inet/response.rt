@@ -13,7 +13,7 @@ ghost use Rattle.netlink_packet_sock_diag.specs.InetReplyLaws.{inet_reply_laws};
 
 use crate::inet::nlas::Nla;
 use crate::inet::{InetResponseHeader, InetResponseView};
-use crate::reply::{copy_nlas, emit_reply, give_up, reply_len};
+use crate::reply::{copy_nlas, emit_reply, reply_len};
 use netlink_core::{Coded, DecodeError, Emitable, Parseable, Readable, Wire, nlas_len};
 use smallvec::SmallVec;
 use std::alloc::{AllocError, Global};
@@ -54,14 +54,7 @@ impl<'a> Parseable<&'a [u8]> for InetResponse {
     /// then another family than 2 and 10 is `UnsupportedFamily`; after that the first fault of the attributes counts.
     fn parse(alloc: Global, payload: &'a [u8]) -> Result<Self, DecodeError> {
         let view = InetResponseView::parse(payload)?;
-        // The attributes are built where they stay: the list takes longer to move than to fill.
-        let mut read = Ok(view.without_attributes(alloc));
-        if let Ok(reply) = &mut read {
-            if view.own_into(alloc, &mut reply.nlas).is_err() {
-                give_up(&mut read);
-            }
-        }
-        read
+        view.read_owned(alloc)
     }
 }
 

@@ -11,7 +11,7 @@ ghost use Rattle.netlink_packet_sock_diag.specs.FramedLaws.{framed_is, framed_fi
 ghost use Rattle.netlink_packet_sock_diag.specs.UnixReply.{unix_reply};
 ghost use Rattle.netlink_packet_sock_diag.specs.UnixReplyLaws.{unix_reply_laws};
 
-use crate::reply::{copy_nlas, emit_reply, give_up, reply_len};
+use crate::reply::{copy_nlas, emit_reply, reply_len};
 use crate::unix::nlas::Nla;
 use crate::unix::{UnixResponseHeader, UnixResponseView};
 use netlink_core::{Coded, DecodeError, Emitable, Parseable, Readable, Wire, nlas_len};
@@ -54,14 +54,7 @@ impl<'a> Parseable<&'a [u8]> for UnixResponse {
     /// after that the first fault of the attributes counts.
     fn parse(alloc: Global, payload: &'a [u8]) -> Result<Self, DecodeError> {
         let view = UnixResponseView::parse(payload)?;
-        // The attributes are built where they stay: the list takes longer to move than to fill.
-        let mut read = Ok(view.without_attributes(alloc));
-        if let Ok(reply) = &mut read {
-            if view.own_into(alloc, &mut reply.nlas).is_err() {
-                give_up(&mut read);
-            }
-        }
-        read
+        view.read_owned(alloc)
     }
 }
 
