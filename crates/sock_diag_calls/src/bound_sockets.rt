@@ -18,8 +18,6 @@ pub fn is_bound_to(reply: &[u8], path: &[u8]) -> Result<bool, DecodeError>
         × (IsTrue bound ↔ (first_of (content unix 0) v.nlas ≡ Some (pathname path.now)))) }
     ensures fault { IfErr result (RefusesReply unix_reply reply.now) }
 {
-    match UnixResponseView::parse(reply)?.name() {
-        Some(NameView::Pathname(bound)) => Ok(bound == path),
-        _ => Ok(false),
-    }
+    let view = UnixResponseView::parse(reply)?;
+    Ok(view.name() == Some(NameView::Pathname(path)))
 }

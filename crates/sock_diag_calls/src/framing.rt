@@ -7,6 +7,7 @@ ghost use Rattle.netlink_core.specs.CutOff.{CutOff};
 use netlink_core::{DecodeError, NlasIterator};
 
 /// How many attributes stand in the bytes, one after the other and nothing else, or the first fault of their framing.
+#[tactic(auto, using(crate::proofs::Counted::counting))]
 pub fn count_attributes(bytes: &[u8]) -> Result<usize, DecodeError>
     ensures count { IfOk result (λ count. (attributes : List Attribute)
         × Cut bytes.now attributes × (length attributes ≡ count)) }
