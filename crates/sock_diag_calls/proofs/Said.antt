@@ -1,10 +1,10 @@
 -- What an attribute says, row by row of its family.
-use Rattle.std.proofs.Common.{Result, Ok, Err, ◌≡◌, ◌∙◌, ◌⊎◌, inl, inr, ℕ, ◌∷◌, List, length, refl, sym, arith}
+use Rattle.std.proofs.Common.{Result, Ok, Err, ◌≡◌, ◌⊎◌, inl, inr, ℕ, List, length}
 use Rattle.std.proofs.lemmas.Bool.{cases_eq, eq-eqb, ne_eqb}
 use Rattle.byteorder.specs.Endian.{little_number}
 use Rattle.netlink_core.specs.declared.fault.DecodeError.{DecodeError}
 use Rattle.netlink_core.specs.Attribute.{Attribute, kind_of}
-use Rattle.netlink_core.specs.Family.{Kind, Family, Said, said, said_as, says}
+use Rattle.netlink_core.specs.Family.{said, said_as, says}
 use Rattle.netlink_core.specs.Faults.{under_kind}
 use Rattle.netlink_core.specs.Parse.{exact_number}
 use Rattle.sock_diag_attributes.specs.UnixAttributes.{unix}
