@@ -56,5 +56,5 @@ framing_fault bytes e f = (
 pub count_is_cut_off : (bytes rest : List ℕ) (count : ℕ) (e : DecodeError) → Counted bytes rest count → rest ≢ [] → IsFramingFault rest e → (xs : List Attribute) × CutOff bytes xs e
 count_is_cut_off bytes rest count e c some f = framing_fault bytes e (walk_is_cut_off itself bytes rest c.so_far e c.walk some f)
 
--- what the loop keeps, and what holds where it ends
-pub ruleset counting = (count_begins, count_goes_on, count_ends, count_is_cut_off)
+-- what the loop keeps
+pub ruleset counting = (count_begins, count_goes_on)

@@ -9,6 +9,7 @@ use Rattle.netlink_core.specs.Faults.{under_kind}
 use Rattle.netlink_core.specs.Parse.{exact_number}
 use Rattle.sock_diag_attributes.specs.UnixAttributes.{unix}
 
+-- What a row says of an attribute, where it is of its kind, and what is left to the later rows.
 module _ {A B : Type 0} where
   abbrev one : A → A ⊎ B
   one x = inl x
@@ -16,6 +17,7 @@ module _ {A B : Type 0} where
   abbrev other : B → A ⊎ B
   other y = inr y
 
+  -- a value of the row was read by it, and by no other
   was_one : (read : Result A DecodeError) (x : A) → said_as one read ≡ Ok (one x) → read ≡ Ok x
   was_one (Ok u) x h = cc
   was_one (Err e) x h = absurd cc
@@ -24,6 +26,7 @@ module _ {A B : Type 0} where
   not_one (Ok u) y h = cc
   not_one (Err e) y h = cc
 
+  -- what is left to the later rows was read by them
   was_other : (read : Result B DecodeError) (y : B) → said_as other read ≡ Ok (other y) → read ≡ Ok y
   was_other (Ok u) y h = cc
   was_other (Err e) y h = absurd cc
