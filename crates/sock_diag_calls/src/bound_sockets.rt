@@ -1,0 +1,23 @@
+//! A reply, by `netlink_packet_sock_diag`.
+
+ghost use Rattle.std.specs.Prelude.{◌≡◌, ◌↔◌, Some, IsTrue, IfOk, IfErr};
+ghost use Rattle.netlink_core.specs.Family.{content};
+ghost use Rattle.netlink_core.specs.Reply.{MeansReply, RefusesReply};
+ghost use Rattle.sock_diag_attributes.specs.Name.{pathname};
+ghost use Rattle.sock_diag_attributes.specs.UnixAttributes.{unix};
+ghost use Rattle.netlink_packet_sock_diag.specs.UnixGetters.{first_of};
+ghost use Rattle.netlink_packet_sock_diag.specs.UnixReply.{UnixReply, unix_reply};
+
+use netlink_core::DecodeError;
+use netlink_packet_sock_diag::unix::UnixResponseView;
+use netlink_packet_sock_diag::unix::nlas::NameView;
+
+/// Whether a reply about a UNIX socket tells that it is bound to this path.
+pub fn is_bound_to(reply: &[u8], path: &[u8]) -> Result<bool, DecodeError>
+    ensures value { IfOk result (λ bound. (v : UnixReply) × MeansReply unix_reply reply.now v
+        × (IsTrue bound ↔ (first_of (content unix 0) v.nlas ≡ Some (pathname path.now)))) }
+    ensures fault { IfErr result (RefusesReply unix_reply reply.now) }
+{
+    let view = UnixResponseView::parse(reply)?;
+    Ok(view.name() == Some(NameView::Pathname(path)))
+}

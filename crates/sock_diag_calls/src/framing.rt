@@ -1,0 +1,22 @@
+//! A walk over attributes, by `netlink_core`.
+
+ghost use Rattle.std.specs.Prelude.{◌≡◌, List, length, IfOk, IfErr};
+ghost use Rattle.netlink_core.specs.Attribute.{Attribute, Cut};
+ghost use Rattle.netlink_core.specs.CutOff.{CutOff};
+
+use netlink_core::{DecodeError, NlasIterator};
+
+/// How many attributes stand in the bytes, one after the other and nothing else, or the first fault of their framing.
+#[tactic(auto, using(crate::proofs::Counted::counting))]
+pub fn count_attributes(bytes: &[u8]) -> Result<usize, DecodeError>
+    ensures count { IfOk result (λ count. (attributes : List Attribute)
+        × Cut bytes.now attributes × (length attributes ≡ count)) }
+    ensures fault { IfErr result (λ fault. (before : List Attribute) × CutOff bytes.now before fault) }
+{
+    let mut count = 0;
+    for item in NlasIterator::new(bytes) {
+        let _attribute = item?;
+        count += 1;
+    }
+    Ok(count)
+}

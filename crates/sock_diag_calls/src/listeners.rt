@@ -1,0 +1,19 @@
+//! A request, by `sock_diag_records`.
+
+ghost use Rattle.std.specs.Prelude.{◌≡◌, ◌∷◌, ◌++◌, [], replicate};
+
+use sock_diag_records::unix::{ShowFlags, StateFlags, UnixRequest, UnixRequestBuffer};
+
+/// The bytes of the request for all UNIX sockets that listen, with their names.
+pub fn listening_sockets() -> [u8; 24]
+    ensures { result ≡ (1 ∷ 0 ∷ 0 ∷ 0 ∷ []) ++ (0 ∷ 4 ∷ 0 ∷ 0 ∷ []) ++ (0 ∷ 0 ∷ 0 ∷ 0 ∷ [])
+        ++ (1 ∷ 0 ∷ 0 ∷ 0 ∷ []) ++ replicate 8 255 }
+{
+    let request = UnixRequest {
+        state_flags: StateFlags::LISTEN,
+        inode: 0,
+        show_flags: ShowFlags::NAME,
+        cookie: [0xff; 8],
+    };
+    UnixRequestBuffer::from(&request).to_bytes()
+}

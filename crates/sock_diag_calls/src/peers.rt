@@ -1,0 +1,21 @@
+//! An attribute of a reply, by `sock_diag_attributes`.
+
+ghost use Rattle.std.specs.Prelude.{◌≡◌, length, SomeIff};
+ghost use Rattle.byteorder.specs.Endian.{little_number};
+ghost use Rattle.netlink_core.specs.Attribute.{kind_of};
+ghost use Rattle.netlink_core.specs.Walk.{attribute_of};
+
+use netlink_core::NlaBuffer;
+use sock_diag_attributes::unix::nlas::NlaView;
+
+/// The inode of the peer, where an attribute of a UNIX socket's reply is `UNIX_DIAG_PEER` and has four bytes.
+pub fn peer(nla: &NlaBuffer<'_>) -> Option<u32>
+    ensures { SomeIff result
+        ((kind_of (attribute_of nla.now) ≡ 2) × (length (attribute_of nla.now).value ≡ 4))
+        (little_number 4 (attribute_of nla.now).value) }
+{
+    match NlaView::parse(nla) {
+        Ok(NlaView::Peer(inode)) => Some(inode),
+        _ => None,
+    }
+}
