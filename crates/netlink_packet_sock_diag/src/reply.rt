@@ -1,6 +1,6 @@
 //! How replies of every family are read and written: a header, and then attributes.
 
-ghost use Rattle.std.specs.Prelude.{◌≡◌, ◌≤◌, ◌++◌, length, drop, map, Err, IfOk, IsOk, SomeIff};
+ghost use Rattle.std.specs.Prelude.{◌≡◌, ◌≤◌, ◌++◌, length, drop, map, IfOk, IsOk, SomeIff};
 ghost use Rattle.std.specs.List.{AllByRecursion};
 ghost use Rattle.netlink_core.specs.declared.fault.DecodeError.TheVariants.{Memory};
 ghost use Rattle.netlink_core.specs.Family.{Family, Said, IsSpareSaid};
@@ -40,14 +40,14 @@ pub(crate) fn copy_nlas<T: FamilyNla + MadeWith<Global> + Drop>(
     Ok(copy)
 }
 
-/// Puts want of memory in the place of what was read. It stands apart, so that what drops a list takes no time where
-/// there is memory.
+/// Want of memory, in the place of what was begun. It stands apart, so that what drops a list takes no time where there
+/// is memory.
 #[cold]
 #[inline(never)]
-pub(crate) fn give_up<T: Drop>(read: &mut Result<T, DecodeError>)
-    ensures { read.new ≡ Err Memory }
+pub(crate) fn without_memory<T: Drop>(_begun: T) -> DecodeError
+    ensures { result ≡ Memory }
 {
-    *read = Err(DecodeError::Memory);
+    DecodeError::Memory
 }
 
 /// How many bytes header and attributes have, where each value fits and all of it has at most 4,294,967,295 bytes.

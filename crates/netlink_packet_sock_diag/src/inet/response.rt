@@ -13,7 +13,7 @@ ghost use Rattle.netlink_packet_sock_diag.specs.InetReplyLaws.{inet_reply_laws};
 
 use crate::inet::nlas::Nla;
 use crate::inet::{InetResponseHeader, InetResponseView};
-use crate::reply::{copy_nlas, emit_reply, reply_len};
+use crate::reply::{copy_nlas, emit_reply, reply_len, without_memory};
 use netlink_core::{Coded, DecodeError, Emitable, Parseable, Readable, Wire, nlas_len};
 use smallvec::SmallVec;
 use std::alloc::{AllocError, Global};
@@ -54,7 +54,14 @@ impl<'a> Parseable<&'a [u8]> for InetResponse {
     /// then another family than 2 and 10 is `UnsupportedFamily`; after that the first fault of the attributes counts.
     fn parse(alloc: Global, payload: &'a [u8]) -> Result<Self, DecodeError> {
         let view = InetResponseView::parse(payload)?;
-        view.read_owned(alloc)
+        let mut nlas = SmallVec::new(alloc);
+        if view.own_into(alloc, &mut nlas).is_err() {
+            return Err(without_memory(nlas));
+        }
+        Ok(InetResponse {
+            header: view.header(),
+            nlas,
+        })
     }
 }
 

@@ -4,7 +4,6 @@ ghost use Rattle.std.specs.Prelude.{◌≡◌, ◌≤◌, length, map, [], IfOk,
 ghost use Rattle.std.specs.Cmp.{partial_equiv_from_equiv};
 ghost use Rattle.std.specs.Iterator.{UpTo, YieldsFirstBy, item_count};
 ghost use Rattle.std.specs.Iterator.SizeHint.{IsWithinCount};
-ghost use Rattle.netlink_core.specs.declared.fault.DecodeError.TheVariants.{Memory};
 ghost use Rattle.netlink_core.specs.Family.{says};
 ghost use Rattle.netlink_core.specs.Walk.{bytes_left};
 ghost use Rattle.netlink_core.specs.Reply.{MeansReply, RefusesReply, IsSpareReply, ReplyFits, attribute_part, reply_bytes};
@@ -17,7 +16,6 @@ ghost use Rattle.netlink_packet_sock_diag.specs.declared.inet.view.TheConstants.
 
 use crate::inet::nlas::{Nla, NlaView};
 use crate::inet::{InetResponse, InetResponseHeader};
-use crate::reply::give_up;
 use crate::views::{
     FamilyView, check_nlas, emit_viewed_reply, next_view, own_nlas, same_views, viewed_reply_len,
 };
@@ -165,29 +163,11 @@ impl<'a> InetResponseView<'a> {
         })
     }
 
-    // The reply with memory of its own, as a reader answers it. The attributes are built where they stay, and apart from
-    // the check of the bytes: a list takes longer to make and to move than to fill.
-    #[inline(never)]
-    pub(crate) fn read_owned(&self, alloc: Global) -> Result<InetResponse, DecodeError>
-        ensures equal { IfOk result (λ reply. seen_response reply ≡ viewed_response self.now) }
-        ensures memory { IfErr result (λ e. e ≡ Memory) }
-        ensures spare { IsSpareReply inet_reply (viewed_response self.now) → IsOk result }
-    {
-        let mut read = Ok(self.without_attributes(alloc));
-        if let Ok(reply) = &mut read {
-            if self.own_into(alloc, &mut reply.nlas).is_err() {
-                give_up(&mut read);
-            }
-        }
-        read
-    }
-
     // The reply's header alone.
     #[inline(always)]
     pub(crate) fn without_attributes(&self, alloc: Global) -> InetResponse
         ensures header { result.header ≡ (viewed_response self.now).header }
         ensures empty { result.nlas.items ≡ [] }
-        ensures room { result.nlas.capacity ≡ 8 }
     {
         InetResponse {
             header: self.header(),

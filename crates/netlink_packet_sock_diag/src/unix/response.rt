@@ -11,7 +11,7 @@ ghost use Rattle.netlink_packet_sock_diag.specs.FramedLaws.{framed_is, framed_fi
 ghost use Rattle.netlink_packet_sock_diag.specs.UnixReply.{unix_reply};
 ghost use Rattle.netlink_packet_sock_diag.specs.UnixReplyLaws.{unix_reply_laws};
 
-use crate::reply::{copy_nlas, emit_reply, reply_len};
+use crate::reply::{copy_nlas, emit_reply, reply_len, without_memory};
 use crate::unix::nlas::Nla;
 use crate::unix::{UnixResponseHeader, UnixResponseView};
 use netlink_core::{Coded, DecodeError, Emitable, Parseable, Readable, Wire, nlas_len};
@@ -54,7 +54,14 @@ impl<'a> Parseable<&'a [u8]> for UnixResponse {
     /// after that the first fault of the attributes counts.
     fn parse(alloc: Global, payload: &'a [u8]) -> Result<Self, DecodeError> {
         let view = UnixResponseView::parse(payload)?;
-        view.read_owned(alloc)
+        let mut nlas = SmallVec::new(alloc);
+        if view.own_into(alloc, &mut nlas).is_err() {
+            return Err(without_memory(nlas));
+        }
+        Ok(UnixResponse {
+            header: view.header(),
+            nlas,
+        })
     }
 }
 
