@@ -1,6 +1,6 @@
 //! One string for all strings that differ in idle details alone.
 
-ghost use Rattle.std.specs.Prelude.{◌≡◌, ◌≢◌, ◌↔◌, ℕ, List, IfOk, IfErr};
+ghost use Rattle.std.specs.Prelude.{◌≡◌, ◌↔◌, ℕ, List, IfOk, IfErr};
 ghost use Rattle.netlink_core.specs.Bytes.{IsBytes};
 ghost use Rattle.netlink_core.specs.Canonical.{GivesUp, from_fault};
 ghost use Rattle.netlink_core.specs.declared.canon.CanonError.TheVariants.{Memory};

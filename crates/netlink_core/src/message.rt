@@ -1,8 +1,6 @@
 //! Netlink messages: a header, and what it frames.
 
-ghost use Rattle.std.specs.Prelude.{◌≡◌, ◌≢◌, ◌≤◌, ◌<◌, ◌^◌, ◌++◌, ◌↔◌, ◌⊎◌, ℕ, List, length, drop, IfOk, IfErr, IsTrue};
-ghost use Rattle.netlink_core.specs.Bytes.{IsBytes};
-ghost use Rattle.netlink_core.specs.declared.fault.DecodeError.{DecodeError as Fault};
+ghost use Rattle.std.specs.Prelude.{◌≡◌, ◌≢◌, ◌≤◌, ◌<◌, ◌^◌, ◌++◌, ◌↔◌, ℕ, length, drop, IfOk, IfErr, IsTrue};
 ghost use Rattle.netlink_core.specs.declared.fault.DecodeError.TheVariants.{Memory};
 ghost use Rattle.netlink_core.specs.Envelope.{type_word, Payload, Envelope, PayloadIs, EnvelopeIs, EnvelopeFault, IsInnerType, payload_bytes, payload_type, envelope_bytes, OfInner, EnvelopeFits, finalized};
 ghost use Rattle.netlink_core.specs.Seen.{payload_of, envelope_of};

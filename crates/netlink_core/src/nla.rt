@@ -1,9 +1,9 @@
 //! Attributes that are written, and the attribute of any kind.
 
-ghost use Rattle.std.specs.Prelude.{◌≡◌, ◌≤◌, ◌<◌, ◌↔◌, replicate, ◌++◌, ⊤, length, drop, map, true, refl, IsTrue, IfOk, SomeIff};
+ghost use Rattle.std.specs.Prelude.{◌≡◌, ◌≤◌, ◌<◌, ◌↔◌, replicate, ◌++◌, length, drop, map, true, refl, IsTrue, IfOk, SomeIff};
 ghost use Rattle.std.specs.List.{flat_map};
 ghost use Rattle.std.proofs.Common.{rules};
-ghost use Rattle.netlink_core.specs.Attribute.{Attribute, IsTypedAttribute, HasFittingValue, AreWritable, written};
+ghost use Rattle.netlink_core.specs.Attribute.{Attribute, HasFittingValue, AreWritable, written};
 ghost use Rattle.netlink_core.specs.Heads.{head_codec};
 ghost use Rattle.netlink_core.specs.AnyKind.{any_kind};
 ghost use Rattle.netlink_core.specs.HeadLaws.{heads_keep_laws, any_kind_laws};

@@ -1,10 +1,9 @@
 //! The messages of sock_diag(7): requests and replies, and the request to close sockets.
 
-ghost use Rattle.std.specs.Prelude.{◌≡◌, ◌≢◌, ◌⊎◌, ◌<◌, ◌^◌, true, refl, IfOk, IfErr, IsTrue};
+ghost use Rattle.std.specs.Prelude.{◌≡◌, ◌≢◌, ◌<◌, true, refl, IfOk, IfErr};
 ghost use Rattle.netlink_core.specs.declared.fault.DecodeError.TheVariants.{Memory};
 ghost use Rattle.netlink_core.specs.declared.message.NetlinkPayload.TheVariants.{InnerMessage};
-ghost use Rattle.netlink_packet_sock_diag.specs.Message.{Message, IsInet, IsUnix, MessageIs, MessageFault, MessageFits, message_bytes, message_codec, is_inet_request, is_inet_response, is_unix_request, is_unix_response};
-ghost use Rattle.netlink_packet_sock_diag.specs.MessageLaws.{message_answered};
+ghost use Rattle.netlink_packet_sock_diag.specs.Message.{Message, MessageIs, MessageFault, MessageFits, message_bytes, is_inet_request, is_inet_response, is_unix_request, is_unix_response};
 
 use crate::constants::{AF_INET, AF_INET6, AF_UNIX, SOCK_DESTROY, SOCK_DIAG_BY_FAMILY};
 use crate::inet::{InetRequest, InetResponse, InetResponseView};

@@ -1,6 +1,6 @@
 //! How replies of every family are read in place.
 
-ghost use Rattle.std.specs.Prelude.{◌≡◌, ◌≤◌, ◌↔◌, ◌+◌, ◌++◌, List, [], length, drop, map, Ok, Err, OnOk, IfOk, IfErr, IsOk, IsSome, IfSome};
+ghost use Rattle.std.specs.Prelude.{◌≡◌, ◌≤◌, ◌↔◌, ◌+◌, ◌++◌, [], length, drop, map, Ok, Err, OnOk, IfOk, IfErr, IsOk, IsSome, IfSome};
 ghost use Rattle.std.specs.List.{AllByRecursion, flat_map};
 ghost use lib.Pointwise.{pointwise};
 ghost use Rattle.std.specs.Iterator.{YieldsFirstBy};

@@ -1,6 +1,6 @@
 //! The answer to a line that asks for the dump over some datagrams.
 
-ghost use Rattle.std.specs.Prelude.{◌≡◌, ◌↔◌, ◌∷◌, ◌++◌, ℕ, List, map, IsTrue, IfOk, OnOk, MatchBool, MatchOption};
+ghost use Rattle.std.specs.Prelude.{◌≡◌, ◌↔◌, ◌++◌, ℕ, List, map, IsTrue, IfOk, OnOk, MatchBool, MatchOption};
 ghost use Rattle.std.specs.List.{AllByRecursion, flat_map};
 ghost use Rattle.netlink_packet_sock_diag.specs.Message.{MessageFits};
 ghost use Rattle.netlink_packet_sock_diag.specs.SeenMessage.{seen_message};

@@ -1,7 +1,6 @@
 //! The answer to a line that looks at a reply about a UNIX socket without a copy of it.
 
-ghost use Rattle.std.specs.Prelude.{◌≡◌, ◌∷◌, ◌++◌, [], decimal, OnOk};
-ghost use Rattle.std.specs.List.{flat_map};
+ghost use Rattle.std.specs.Prelude.{◌≡◌, ◌∷◌, ◌++◌, decimal, OnOk};
 ghost use Rattle.netlink_packet_sock_diag.specs.ViewedUnixReply.{viewed_response};
 ghost use Rattle.sockdiag.specs.Subjects.{view_subject};
 ghost use Rattle.sockdiag.specs.Told.{Adds, TellsOf, accepted};

@@ -1,7 +1,6 @@
 //! The messages of a datagram with what they carry, read in place.
 
-ghost use Rattle.std.specs.Prelude.{◌≡◌, IfOk, IfErr};
-ghost use Rattle.netlink_core.specs.Envelope.{EnvelopeFault};
+ghost use Rattle.std.specs.Prelude.{◌≡◌};
 ghost use Rattle.netlink_core.specs.Items.{ItemIs};
 ghost use Rattle.netlink_packet_sock_diag.specs.Message.{MessageIs, MessageFault};
 
@@ -27,7 +26,7 @@ pub enum PayloadView<'a> {
 }
 
 impl<'a> PayloadView<'a> {
-    ghost use Rattle.netlink_packet_sock_diag.specs.ViewedPayload.{viewed_payload, viewed_item};
+    ghost use Rattle.netlink_packet_sock_diag.specs.ViewedPayload.{viewed_item};
 
     // What the message in these bytes carries, or the first fault.
     #[inline(always)]

@@ -3,7 +3,7 @@
 ghost use Rattle.netlink_packet_sock_diag.specs.EqualReplies.{replies_equal};
 ghost use Rattle.sock_diag_attributes.specs.contracts.unix.coded.NlaCoded.TheImpl.Laws.{eq_is_seen-law as same_nla};
 ghost use Rattle.sock_diag_records.specs.contracts.unix.response.UnixResponseHeaderExact.TheImpl.Laws.{equal-law as same_header};
-ghost use Rattle.std.specs.Prelude.{◌≡◌, IfOk, IsOk, map, true, refl, ⊤};
+ghost use Rattle.std.specs.Prelude.{◌≡◌, IfOk, IsOk, true};
 ghost use Rattle.netlink_core.specs.Reply.{IsSpareReply, reply_codec};
 ghost use Rattle.netlink_core.proofs.Replies.{replies_keep_laws};
 ghost use Rattle.netlink_core.specs.Reply.{framed, FramedFits};

@@ -1,6 +1,6 @@
 //! The attributes of a reply about an IPv4 or IPv6 socket, and what they carry.
 
-ghost use Rattle.std.specs.Prelude.{◌≡◌, ◌≤◌, ◌++◌, length, drop, Ok, Err, IsOk, IfOk, MatchResult, true, refl, ⊤};
+ghost use Rattle.std.specs.Prelude.{◌≡◌, ◌≤◌, ◌++◌, length, drop, Ok, Err, IsOk, IfOk, MatchResult, true, refl};
 ghost use Rattle.netlink_core.specs.Attribute.{HasFittingValue, written};
 ghost use Rattle.netlink_core.specs.Family.{says, attribute_said, IsSpareSaid};
 ghost use Rattle.netlink_core.specs.Walk.{attribute_of};
@@ -10,8 +10,8 @@ use crate::MAX_VALUE;
 use crate::numbers::{exact_flag, exact_u8, exact_u32};
 use crate::text::read_text;
 use netlink_core::{
-    DecodeError, DefaultNla, Emitable, Nla as NlaTrait, NlaBuffer, Parseable, Readable, Wire, WireNla,
-    emit_nla, emit_u32, nla_len,
+    DecodeError, DefaultNla, Emitable, Nla as NlaTrait, NlaBuffer, Parseable, Readable, Wire,
+    WireNla, emit_nla, emit_u32, nla_len,
 };
 use sock_diag_records::constants::{
     INET_DIAG_CLASS_ID, INET_DIAG_CONG, INET_DIAG_INFO, INET_DIAG_MARK, INET_DIAG_MEMINFO,

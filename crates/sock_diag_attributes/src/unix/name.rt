@@ -1,8 +1,7 @@
 //! The name of a UNIX socket.
 
 ghost use Rattle.std.proofs.Common.{rules};
-ghost use Rattle.std.specs.Prelude.{◌≡◌, ◌≢◌, ℕ, suc, ◌<◌, ◌≤◌, ◌++◌, length, take, drop, slice_index, IfOk, IfErr, MatchOption, MatchResult, Ok, Err, true, refl, ⊤};
-ghost use Rattle.netlink_core.specs.declared.fault.DecodeError.TheVariants.{Memory};
+ghost use Rattle.std.specs.Prelude.{◌≡◌, suc, ◌<◌, ◌≤◌, ◌++◌, length, take, drop, slice_index, IfOk, MatchOption, MatchResult, Ok, Err, true, refl};
 ghost use Rattle.sock_diag_attributes.specs.Name.{HasNoZero, read_name, name_bytes, name_codec};
 ghost use Rattle.sock_diag_attributes.specs.NameLaws.{name_keeps_laws};
 

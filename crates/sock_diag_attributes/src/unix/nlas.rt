@@ -1,6 +1,6 @@
 //! The attributes of a reply about a UNIX socket, and what they carry.
 
-ghost use Rattle.std.specs.Prelude.{◌≡◌, Ok, Err, IsOk, IfOk, MatchResult, true, refl, ⊤};
+ghost use Rattle.std.specs.Prelude.{◌≡◌, Ok, Err, IsOk, IfOk, MatchResult, true, refl};
 ghost use Rattle.netlink_core.specs.Attribute.{HasFittingValue, written};
 ghost use Rattle.netlink_core.specs.Family.{says, attribute_said, IsSpareSaid};
 ghost use Rattle.netlink_core.specs.Walk.{attribute_of};
@@ -10,8 +10,8 @@ pub use crate::numbers::NumbersView;
 use crate::numbers::{emit_numbers, emit_u32_pair, exact_u8, exact_u32, exact_u32_pair};
 pub use crate::unix::name::{NameView, UnixDiagName};
 use netlink_core::{
-    DecodeError, DefaultNla, Emitable, Nla as NlaTrait, NlaBuffer, Parseable, Readable, Wire, WireNla,
-    emit_nla, emit_u32, nla_len,
+    DecodeError, DefaultNla, Emitable, Nla as NlaTrait, NlaBuffer, Parseable, Readable, Wire,
+    WireNla, emit_nla, emit_u32, nla_len,
 };
 use sock_diag_records::constants::{
     UNIX_DIAG_ICONS, UNIX_DIAG_MEMINFO, UNIX_DIAG_NAME, UNIX_DIAG_PEER, UNIX_DIAG_RQLEN,

@@ -1,6 +1,6 @@
 //! What INET_DIAG_INFO tells: a TCP connection.
 
-ghost use Rattle.std.specs.Prelude.{◌≡◌, ◌≤◌, [], ◌∷◌, length, refl};
+ghost use Rattle.std.specs.Prelude.{◌≡◌, ◌≤◌, [], ◌∷◌, length};
 ghost use Rattle.std.proofs.Common.{rules};
 ghost use Rattle.netlink_core.specs.Table.{bytes_at, numbers, little_endian, values_of, bytes_of};
 ghost use Rattle.netlink_core.specs.Format.{read};
