@@ -1,7 +1,7 @@
 use crate::{
     CanonError, DecodeError, DefaultNla, Emitable, Nla, NlaBuffer, NlasIterator, Parseable,
-    RecordName, canonical, emit_nla, emit_nlas, emit_u32, nla_len, nlas_len, nlas_writable,
-    parse_string, parse_u8, parse_u32,
+    RecordName, canonical, emit_nla, emit_nlas, emit_u32, nla_len, nlas_len, nlas_len_within,
+    nlas_writable, parse_string, parse_u8, parse_u32,
 };
 use std::process::Abort;
 use std::test::Fail;
@@ -90,6 +90,8 @@ fn knows_a_value_too_long(rt: HostRuntime) -> Result<(), Fail> {
     let long = DefaultNla::new(1, vec![in rt.alloc(); 0; 65532]?);
     assert!(rt; !long.value_fits());
     assert!(rt; !long.is_writable());
+    assert_eq!(rt; long.writable_len(), None);
+    assert_eq!(rt; longest.writable_len(), Some(65536));
     let nlas = [longest, long];
     assert!(rt; nlas_writable(&nlas[..1]));
     assert!(rt; !nlas_writable(&nlas));
@@ -104,6 +106,8 @@ fn writes_two_attributes(rt: HostRuntime) -> Result<(), Fail> {
     ];
     assert!(rt; nlas_writable(&nlas));
     assert_eq!(rt; nlas_len(&nlas), 16);
+    assert_eq!(rt; nlas_len_within(&nlas, 16), Some(16));
+    assert_eq!(rt; nlas_len_within(&nlas, 15), None);
     let mut buffer = [0xff; 18];
     emit_nlas(&nlas, &mut buffer);
     assert_eq!(rt;
