@@ -1,0 +1,3 @@
+pub mod Readme
+pub mod ListeningTcp
+pub mod Stored

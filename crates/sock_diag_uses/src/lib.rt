@@ -1,0 +1,8 @@
+//! Callers of the crates of sock_diag(7), each with its contract, and the examples of the README.
+#![tactic(auto)]
+
+pub mod listening_tcp;
+pub mod readme;
+pub mod stored;
+#[cfg(test)]
+mod tests;

@@ -1,0 +1,64 @@
+use crate::listening_tcp::{Family, listening_tcp, listening_tcp_bytes};
+use crate::readme::{listening, path, rewrite, tell_the_same};
+use crate::stored::{key, same_reply};
+use std::test::Fail;
+
+// The reply about a listening UNIX socket, without attributes.
+const LISTENING: [u8; 16] = [1, 1, 10, 0, 0x0e, 0x4f, 0, 0, 0xa0, 2, 0, 0, 0, 0, 0, 0];
+
+// The reply about a socket at /run/x, with nonzero bytes where no reader looks: at 3, and in the padding.
+const NAMED: [u8; 28] = [
+    1, 1, 10, 7, 0x0e, 0x4f, 0, 0, 0xa0, 2, 0, 0, 0, 0, 0, 0, 11, 0, 0, 0, 0x2f, 0x72, 0x75, 0x6e,
+    0x2f, 0x78, 0, 9,
+];
+
+// A listening socket in a message of its own, and the end of a dump.
+const DUMP: [u8; 52] = [
+    32, 0, 0, 0, 20, 0, 2, 0, 7, 0, 0, 0, 0, 0, 0, 0, 1, 1, 10, 0, 0x0e, 0x4f, 0, 0, 0xa0, 2, 0, 0,
+    0, 0, 0, 0, 20, 0, 0, 0, 3, 0, 2, 0, 7, 0, 0, 0, 0, 0, 0, 0, 0, 0, 0, 0,
+];
+
+// The reply at /run/x as it is written.
+fn canonical_named() -> [u8; 28] {
+    let mut bytes = NAMED;
+    bytes[3] = 0;
+    bytes[27] = 0;
+    bytes
+}
+
+#[test]
+fn readme_examples_answer(rt: HostRuntime) -> Result<(), Fail> {
+    assert_eq!(rt; path(&NAMED, 20)?, Some(&NAMED[20..26]));
+    assert_eq!(rt; path(&LISTENING, 20)?, None);
+    let canonical = canonical_named();
+    assert!(rt; tell_the_same(&NAMED, &canonical)?);
+    assert!(rt; !tell_the_same(&NAMED, &LISTENING)?);
+    let mut buffer = [0; 28];
+    assert_eq!(rt; rewrite(&NAMED, &mut buffer)?, Some(28));
+    assert_eq!(rt; buffer, canonical);
+    assert_eq!(rt; listening(&DUMP)?, 1);
+    Ok(())
+}
+
+#[test]
+fn the_request_for_listening_sockets_has_its_bytes(rt: HostRuntime) {
+    let mut wanted = [0; 72];
+    wanted[..20].copy_from_slice(&[
+        72, 0, 0, 0, 20, 0, 1, 3, 7, 0, 0, 0, 0, 0, 0, 0, 10, 6, 0, 0,
+    ]);
+    wanted[21] = 4;
+    assert_eq!(rt; listening_tcp_bytes(Family::Inet6, 7), wanted);
+    wanted[16] = 2;
+    assert_eq!(rt; listening_tcp_bytes(Family::Inet, 7), wanted);
+    assert_eq!(rt; listening_tcp(Family::Inet, 7).header.length, 72);
+}
+
+#[test]
+fn replies_are_stored_by_what_they_tell(rt: HostRuntime) -> Result<(), Fail> {
+    let alloc = rt.alloc();
+    let canonical = canonical_named();
+    assert_eq!(rt; key(alloc, &NAMED)?.as_slice(), canonical.as_slice());
+    assert!(rt; same_reply(alloc, &NAMED, &canonical)?);
+    assert!(rt; !same_reply(alloc, &NAMED, &LISTENING)?);
+    Ok(())
+}
