@@ -1,3 +1,5 @@
 pub mod Readme
 pub mod ListeningTcp
 pub mod Stored
+pub mod Lister
+pub mod Link

@@ -1,6 +1,9 @@
+use crate::link::{LinkError, parse_link};
 use crate::listening_tcp::{Family, listening_tcp, listening_tcp_bytes};
+use crate::lister::{Line, list};
 use crate::readme::{listening, path, rewrite, tell_the_same};
 use crate::stored::{key, same_reply};
+use netlink_core::DecodeError;
 use std::test::Fail;
 
 // The reply about a listening UNIX socket, without attributes.
@@ -16,6 +19,13 @@ const NAMED: [u8; 28] = [
 const DUMP: [u8; 52] = [
     32, 0, 0, 0, 20, 0, 2, 0, 7, 0, 0, 0, 0, 0, 0, 0, 1, 1, 10, 0, 0x0e, 0x4f, 0, 0, 0xa0, 2, 0, 0,
     0, 0, 0, 0, 20, 0, 0, 0, 3, 0, 2, 0, 7, 0, 0, 0, 0, 0, 0, 0, 0, 0, 0, 0,
+];
+
+// What rtnetlink(7) tells of the interface eth0: an ethernet device that is up, its name, an attribute of kind
+// 13, and its MTU of 1500.
+const ETH0: [u8; 44] = [
+    0, 0, 1, 0, 2, 0, 0, 0, 0x43, 0x10, 1, 0, 0, 0, 0, 0, 9, 0, 3, 0, 0x65, 0x74, 0x68, 0x30, 0, 0,
+    0, 0, 8, 0, 13, 0, 0xe8, 3, 0, 0, 8, 0, 4, 0, 0xdc, 5, 0, 0,
 ];
 
 // The reply at /run/x as it is written.
@@ -60,5 +70,43 @@ fn replies_are_stored_by_what_they_tell(rt: HostRuntime) -> Result<(), Fail> {
     assert_eq!(rt; key(alloc, &NAMED)?.as_slice(), canonical.as_slice());
     assert!(rt; same_reply(alloc, &NAMED, &canonical)?);
     assert!(rt; !same_reply(alloc, &NAMED, &LISTENING)?);
+    Ok(())
+}
+
+#[test]
+fn a_datagram_has_its_lines(rt: HostRuntime) -> Result<(), Fail> {
+    let alloc = rt.alloc();
+    let socket = Line::Socket {
+        state: 10,
+        inode: 0x4f0e,
+    };
+    assert_eq!(rt;
+        list(alloc, &DUMP)?.as_slice(),
+        [socket, Line::End].as_slice()
+    );
+    let refused = Line::Refused(DecodeError::EnvelopeCut { got: 4 });
+    assert_eq!(rt; list(alloc, &DUMP[48..])?.as_slice(), [refused].as_slice());
+    Ok(())
+}
+
+#[test]
+fn a_link_has_its_name_and_its_mtu(rt: HostRuntime) -> Result<(), Fail> {
+    let alloc = rt.alloc();
+    let link = parse_link(alloc, &ETH0).ok().ok_or("refused")?;
+    assert!(rt; link.name.is_some_and(|name| name.as_str() == "eth0"));
+    assert_eq!(rt; link.mtu, Some(1500));
+    let short = parse_link(alloc, &ETH0[..15]);
+    assert!(rt; matches!(short, Err(LinkError::TooShort { got: 15 })));
+    let fault = DecodeError::WrongLength {
+        kind: None,
+        got: 3,
+        need: 4,
+    };
+    let mut odd = ETH0;
+    odd[36] = 7;
+    assert_eq!(rt;
+        parse_link(alloc, &odd).err(),
+        Some(LinkError::Attribute(fault))
+    );
     Ok(())
 }
