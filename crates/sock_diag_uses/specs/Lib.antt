@@ -3,3 +3,4 @@ pub mod ListeningTcp
 pub mod Stored
 pub mod Lister
 pub mod Link
+pub mod TestKernel

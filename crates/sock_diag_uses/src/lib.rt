@@ -6,5 +6,6 @@ pub mod listening_tcp;
 pub mod lister;
 pub mod readme;
 pub mod stored;
+pub mod test_kernel;
 #[cfg(test)]
 mod tests;

@@ -3,7 +3,10 @@ use crate::listening_tcp::{Family, listening_tcp, listening_tcp_bytes};
 use crate::lister::{Line, list};
 use crate::readme::{listening, path, rewrite, tell_the_same};
 use crate::stored::{key, same_reply};
-use netlink_core::DecodeError;
+use crate::test_kernel::answer;
+use netlink_core::{DecodeError, Parseable};
+use netlink_packet_sock_diag::unix::UnixResponse;
+use netlink_packet_sock_diag::{DumpReader, DumpState};
 use std::test::Fail;
 
 // The reply about a listening UNIX socket, without attributes.
@@ -26,6 +29,12 @@ const DUMP: [u8; 52] = [
 const ETH0: [u8; 44] = [
     0, 0, 1, 0, 2, 0, 0, 0, 0x43, 0x10, 1, 0, 0, 0, 0, 0, 9, 0, 3, 0, 0x65, 0x74, 0x68, 0x30, 0, 0,
     0, 0, 8, 0, 13, 0, 0xe8, 3, 0, 0, 8, 0, 4, 0, 0xdc, 5, 0, 0,
+];
+
+// A request for all UNIX sockets with their names, under the sequence number 7.
+const REQUEST: [u8; 40] = [
+    40, 0, 0, 0, 20, 0, 1, 3, 7, 0, 0, 0, 0, 0, 0, 0, 1, 0, 0, 0, 2, 4, 0, 0, 0, 0, 0, 0, 1, 0, 0,
+    0, 0, 0, 0, 0, 0, 0, 0, 0,
 ];
 
 // The reply at /run/x as it is written.
@@ -108,5 +117,26 @@ fn a_link_has_its_name_and_its_mtu(rt: HostRuntime) -> Result<(), Fail> {
         parse_link(alloc, &odd).err(),
         Some(LinkError::Attribute(fault))
     );
+    Ok(())
+}
+
+#[test]
+fn a_request_is_answered_with_the_replies(rt: HostRuntime) -> Result<(), Fail> {
+    let alloc = rt.alloc();
+    let reply = UnixResponse::parse(alloc, &NAMED[..])?;
+    let answered = answer(alloc, &REQUEST, &[reply]).ok().ok_or("no answer")?;
+    let datagram = answered.as_slice();
+    assert_eq!(rt; datagram.len(), 64);
+    assert_eq!(rt;
+        &datagram[..16],
+        [44, 0, 0, 0, 20, 0, 2, 0, 7, 0, 0, 0, 0, 0, 0, 0].as_slice()
+    );
+    assert_eq!(rt; &datagram[16..44], canonical_named().as_slice());
+    assert_eq!(rt; &datagram[44..], &DUMP[32..]);
+    let mut reader = DumpReader::new(alloc);
+    reader.feed(datagram)?;
+    assert_eq!(rt; reader.state(), DumpState::Done);
+    assert_eq!(rt; reader.messages().len(), 1);
+    assert!(rt; answer(alloc, &REQUEST[..39], &[]).is_err());
     Ok(())
 }
