@@ -1,16 +1,17 @@
 //! A kernel for tests: it answers a request for UNIX sockets with given replies, as one datagram.
 
-ghost use Rattle.std.specs.Prelude.{◌≡◌, ◌++◌, map, OnOk, IfOk};
-ghost use Rattle.std.specs.List.{flat_map};
+ghost use Rattle.std.specs.Prelude.{◌≡◌, ◌++◌, ℕ, List, map, OnOk, IfOk};
+ghost use Rattle.std.specs.List.{AllByRecursion, flat_map};
 ghost use Rattle.netlink_core.specs.Seen.{payload_of};
 ghost use Rattle.netlink_packet_sock_diag.specs.SeenMessage.{seen_message};
 ghost use Rattle.netlink_packet_sock_diag.specs.SeenUnixReply.{seen_response};
-ghost use Rattle.sock_diag_uses.specs.TestKernel.{IsAnswer, message_under, reply_under};
+ghost use Rattle.netlink_packet_sock_diag.specs.UnixReply.{UnixReply};
+ghost use Rattle.sock_diag_uses.specs.TestKernel.{CanBeTold, IsAnswer, IsWholeDump, message_under, reply_under};
 
 use netlink_core::{DecodeError, NetlinkHeader, NetlinkMessage, NetlinkPayload, Parseable};
-use netlink_packet_sock_diag::SockDiagMessage;
 use netlink_packet_sock_diag::constants::SOCK_DIAG_BY_FAMILY;
 use netlink_packet_sock_diag::unix::{UnixRequest, UnixResponse};
+use netlink_packet_sock_diag::{SockDiagMessage, laws};
 use std::alloc::{AllocError, AllocFailed, Global};
 
 /// The flag of a header that says that the message is one of several, `NLM_F_MULTI` of netlink(7).
@@ -69,6 +70,17 @@ pub fn answer(
     let end = NetlinkPayload::Done(vec![in alloc; 0; 4]?);
     push_message(alloc, &mut datagram, header.sequence_number, end)?;
     Ok(datagram)
+}
+
+/// The dump over an answer is done, and has the given replies, where each is as readers give it and can be written. The
+/// function does nothing: its contract is the law.
+pub fn answer_is_a_whole_dump()
+    ensures { (request : List ℕ) (replies : List UnixReply) (datagram : List ℕ) → IsAnswer request replies datagram
+        → AllByRecursion CanBeTold replies → IsWholeDump datagram replies }
+{
+    netlink_core::laws::items_in_a_row::<SockDiagMessage>();
+    laws::finalized_message_reads_back();
+    laws::reply_lengths_are_multiples_of_four();
 }
 
 // Adds a message for each reply.
