@@ -1,0 +1,145 @@
+-- An answer of the kernel for tests, read as a dump.
+use Rattle.std.proofs.Common.{◌≡◌, ◌↔◌, ℕ, ◌+◌, ◌%◌, ◌^◌, ◌<◌, ◌≤◌, inl, List, [], ◌∷◌, ◌++◌, length, refl, sym, ap, subst, ◌∙◌, append_assoc, arith}
+use Rattle.std.specs.Prelude.{map, Option, None, Result, Ok}
+use Rattle.std.specs.List.{AllByRecursion, flat_map}
+use Rattle.std.proofs.lemmas.List.{append-nil}
+use Rattle.byteorder.specs.Numbers.{little_number-reads_back}
+use Rattle.netlink_core.specs.Attribute.{fill}
+use Rattle.netlink_core.specs.declared.fault.DecodeError.{DecodeError}
+use Rattle.netlink_core.specs.declared.header.NetlinkHeader.{NetlinkHeader}
+use Rattle.netlink_core.specs.Header.{IsTypedHeader, length_word}
+use Rattle.netlink_core.specs.Datagram.{AreWholeMessages, IsMessageString, StartsWithMessage}
+use Rattle.netlink_core.specs.Envelope.{Envelope, Payload, done_with, inner, EnvelopeFits, EnvelopeIs, IsFinalized, IsTypedEnvelope, OfInner, envelope_bytes, payload_bytes, payload_type}
+use Rattle.netlink_core.specs.Items.{ItemIs, ItemsAre}
+use Rattle.netlink_core.specs.Reply.{IsTypedReply, reply_bytes}
+use Rattle.netlink_packet_sock_diag.specs.Dump.{GoesOn, kept}
+use Rattle.netlink_packet_sock_diag.specs.Message.{Message, MessageIs, MessageFault, MessageFits, IsNormalMessage, IsTypedMessage, message_bytes, unix_response_with}
+use Rattle.netlink_packet_sock_diag.specs.UnixReply.{UnixReply, unix_reply}
+use Rattle.sock_diag_uses.specs.TestKernel.{CanBeTold, IsAnswer, IsWholeDump, end_under, message_under, reply_under}
+
+-- no padding stands behind a message whose length is a multiple of four
+no_fill : (message : List ℕ) → length message % 4 ≡ 0 → 0 ≡ fill (length message)
+no_fill message even = rw even refl
+
+-- ---- messages one after the other
+
+module _ (reads : List ℕ → ℕ → Message → Type 0) (refuses : List ℕ → ℕ → DecodeError → Type 0) where
+  -- a message that is carried whole
+  pub record Carries (message : List ℕ) (item : Result (Payload Message) DecodeError) : Type 0 where
+    pub whole : IsMessageString message
+    pub even : length message % 4 ≡ 0
+    pub is : ItemIs reads refuses message item
+
+  -- it has its item alone
+  pub one_item : (message : List ℕ) (item : Result (Payload Message) DecodeError) → Carries message item → ItemsAre reads refuses message (item ∷ [])
+  one_item message item c =
+      let starts : StartsWithMessage message message [] = record { padding = []; parts = sym (append-nil message); whole = c.whole; filled = inl (no_fill message c.even) } in
+      record { messages = message ∷ []; end = None; carried = item ∷ []; cut = ([], starts, refl); each = (c.is, tt); parts = refl }
+
+  -- and those of messages stand in a row
+  pub items_of_all : ((front back : List ℕ) (messages : List (List ℕ)) (xs ys : List (Result (Payload Message) DecodeError)) → AreWholeMessages front messages
+      → ItemsAre reads refuses front xs → ItemsAre reads refuses back ys → ItemsAre reads refuses (front ++ back) (xs ++ ys))
+      → {A : Type 0} (bytes : A → List ℕ) (item : A → Result (Payload Message) DecodeError) (last : List ℕ) (ends : List (Result (Payload Message) DecodeError))
+      → (xs : List A) → AllByRecursion (λ x. Carries (bytes x) (item x)) xs → ItemsAre reads refuses last ends
+      → ItemsAre reads refuses (flat_map bytes xs ++ last) (map item xs ++ ends)
+  items_of_all law bytes item last ends [] all are = are
+  items_of_all law bytes item last ends (x ∷ xs) all are =
+      rw append_assoc (law (bytes x) (flat_map bytes xs ++ last) (bytes x ∷ []) (item x ∷ []) (map item xs ++ ends)
+      ([], [], sym (append-nil (bytes x)), all.0.whole, no_fill (bytes x) all.0.even, refl)
+      (one_item (bytes x) (item x) all.0) (items_of_all law bytes item last ends xs all.1 are))
+
+-- ---- the messages of an answer
+
+abbrev header_under : ℕ → Payload Message → NetlinkHeader
+header_under n payload = record {
+  length = 16 + length (payload_bytes message_bytes payload);
+  message_type = payload_type (λ _. 20) payload;
+  flags = 2;
+  sequence_number = n;
+  port_number = 0;
+}
+
+abbrev envelope_under : ℕ → Payload Message → Envelope Message
+envelope_under n payload = record { header = header_under n payload; payload = payload }
+
+typed_header : (n : ℕ) (payload : Payload Message) → n < 2 ^ 32 → 16 + length (payload_bytes message_bytes payload) ≤ 4294967295 → payload_type (λ _. 20) payload < 2 ^ 16 → IsTypedHeader (header_under n payload)
+typed_header n carried small short kind = record {
+  length = omega arith;
+  message_type = kind;
+  flags = omega arith;
+  sequence_number = small;
+  port_number = omega arith;
+}
+
+-- it is as long as its length word says
+whole_message : (n : ℕ) (payload : Payload Message) → 16 + length (payload_bytes message_bytes payload) ≤ 4294967295 → IsMessageString (message_under n payload)
+unfolding message_under
+whole_message n payload short =
+    let size = 16 + length (payload_bytes message_bytes payload) in
+    let word : length_word (message_under n payload) ≡ 16 + length (payload_bytes message_bytes payload) = little_number-reads_back 4 (16 + length (payload_bytes message_bytes payload)) [] (omega arith) in
+    record { low = omega arith; word = word ∙ omega arith }
+
+-- and a multiple of four, where its payload is
+even_message : (n : ℕ) (payload : Payload Message) → length (payload_bytes message_bytes payload) % 4 ≡ 0 → length (message_under n payload) % 4 ≡ 0
+unfolding message_under
+even_message n carried even = omega arith
+
+module _ (reads_back : (v : Envelope Message) → IsTypedEnvelope IsTypedMessage v → EnvelopeFits message_bytes MessageFits v → IsFinalized message_bytes (λ _. 20) v
+    → (EnvelopeIs MessageIs (envelope_bytes message_bytes v) v ↔ OfInner (IsNormalMessage 20) v.payload)) where
+  carries_payload : (n : ℕ) (payload : Payload Message) → IsTypedEnvelope IsTypedMessage (envelope_under n payload) → EnvelopeFits message_bytes MessageFits (envelope_under n payload)
+      → OfInner (IsNormalMessage 20) payload → length (payload_bytes message_bytes payload) % 4 ≡ 0 → Carries MessageIs MessageFault (message_under n payload) (Ok payload)
+  unfolding message_under
+  carries_payload n payload typed fits normal even = record {
+    whole = whole_message n payload fits.1;
+    even = even_message n payload even;
+    is = (header_under n payload, (reads_back (envelope_under n payload) typed fits (refl, refl)).1 normal);
+  }
+
+  carries_reply : ((v : UnixReply) → IsTypedReply unix_reply v → length (reply_bytes unix_reply v) % 4 ≡ 0)
+      → (n : ℕ) → n < 2 ^ 32 → (r : UnixReply) → CanBeTold r → Carries MessageIs MessageFault (reply_under n r) (Ok (inner (unix_response_with r)))
+  carries_reply even n small r told = carries_payload n (inner (unix_response_with r)) (typed_header n (inner (unix_response_with r)) small told.short (omega arith), told.typed) (told.fits, told.short) (refl, told.normal) (even r told.typed)
+
+  carries_all : ((v : UnixReply) → IsTypedReply unix_reply v → length (reply_bytes unix_reply v) % 4 ≡ 0)
+      → (n : ℕ) → n < 2 ^ 32 → (rs : List UnixReply) → AllByRecursion CanBeTold rs → AllByRecursion (λ r. Carries MessageIs MessageFault (reply_under n r) (Ok (inner (unix_response_with r)))) rs
+  carries_all even n small [] told = tt
+  carries_all even n small (r ∷ rs) told = (carries_reply even n small r told.0, carries_all even n small rs told.1)
+
+  carries_end : (n : ℕ) → n < 2 ^ 32 → Carries MessageIs MessageFault (end_under n) (Ok (done_with (0 ∷ 0 ∷ 0 ∷ 0 ∷ [])))
+  carries_end n small = carries_payload n (done_with (0 ∷ 0 ∷ 0 ∷ 0 ∷ [])) (typed_header n (done_with (0 ∷ 0 ∷ 0 ∷ 0 ∷ [])) small (omega arith) (omega arith), tt) (tt, omega arith) tt refl
+
+-- ---- the dump
+
+plain_all : (rs : List UnixReply) → AllByRecursion (GoesOn {A = Message}) (map (λ r. Ok (inner (unix_response_with r))) rs)
+plain_all [] = tt
+plain_all (r ∷ rs) = (tt, plain_all rs)
+
+keeps_all : (rs : List UnixReply) → map unix_response_with rs ≡ flat_map kept (map (λ (r : UnixReply). Ok (inner (unix_response_with r))) rs)
+keeps_all [] = refl
+keeps_all (r ∷ rs) = ap (λ (ms : List Message). unix_response_with r ∷ ms) (keeps_all rs)
+
+pub whole_dump : ((v : Envelope Message) → IsTypedEnvelope IsTypedMessage v → EnvelopeFits message_bytes MessageFits v → IsFinalized message_bytes (λ _. 20) v
+    → (EnvelopeIs MessageIs (envelope_bytes message_bytes v) v ↔ OfInner (IsNormalMessage 20) v.payload))
+    → ((v : UnixReply) → IsTypedReply unix_reply v → length (reply_bytes unix_reply v) % 4 ≡ 0)
+    → ((front back : List ℕ) (messages : List (List ℕ)) (xs ys : List (Result (Payload Message) DecodeError)) → AreWholeMessages front messages
+    → ItemsAre MessageIs MessageFault front xs → ItemsAre MessageIs MessageFault back ys → ItemsAre MessageIs MessageFault (front ++ back) (xs ++ ys))
+    → (request : List ℕ) (replies : List UnixReply) (datagram : List ℕ) → IsAnswer request replies datagram → AllByRecursion CanBeTold replies → IsWholeDump datagram replies
+whole_dump reads_back even in_a_row request replies datagram answer told =
+    let n = answer.header.sequence_number in
+    let small = answer.framed.typed.sequence_number in
+    let ends = one_item MessageIs MessageFault (end_under n) (Ok (done_with (0 ∷ 0 ∷ 0 ∷ 0 ∷ []))) (carries_end reads_back n small) in
+    let items = map (λ (r : UnixReply). Ok (inner (unix_response_with r))) replies ++ (Ok (done_with (0 ∷ 0 ∷ 0 ∷ 0 ∷ [])) ∷ []) in
+    let all = items_of_all MessageIs MessageFault in_a_row (reply_under n) (λ r. Ok (inner (unix_response_with r))) (end_under n) (Ok (done_with (0 ∷ 0 ∷ 0 ∷ 0 ∷ [])) ∷ []) replies (carries_all reads_back even n small replies told) ends in
+    record {
+      dump = (
+        items,
+        subst (λ (bytes : List ℕ). ItemsAre MessageIs MessageFault bytes items) (sym answer.written) all,
+        record {
+          passed = map (λ (r : UnixReply). Ok (inner (unix_response_with r))) replies;
+          later = Ok (done_with (0 ∷ 0 ∷ 0 ∷ 0 ∷ [])) ∷ [];
+          parts = refl;
+          plain = plain_all replies;
+          keeps = keeps_all replies;
+          ends = refl;
+        },
+      );
+    }

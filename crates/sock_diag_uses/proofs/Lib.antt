@@ -1,0 +1,3 @@
+pub mod Pushing
+pub mod LinkWalk
+pub mod AnswerDump

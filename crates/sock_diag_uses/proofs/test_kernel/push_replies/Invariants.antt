@@ -1,0 +1,11 @@
+use Rattle.std.proofs.Common.{◌≡◌, ◌++◌, drop, map}
+use Rattle.std.specs.List.{flat_map}
+use Rattle.netlink_packet_sock_diag.specs.SeenUnixReply.{seen_response}
+use Rattle.sock_diag_uses.specs.TestKernel.{reply_under}
+use Rattle.sock_diag_uses.proofs.test_kernel.push_replies.Given as goal
+
+-- what was added and what is left to be added make the whole
+abbrev pub invariant-loop-reply : goal.invariant-loop-reply
+invariant-loop-reply l =
+    l.datagram.items ++ flat_map (reply_under l.sequence_number) (map seen_response (drop l.reply-index l.replies))
+    ≡ l.fn.datagram.items ++ flat_map (reply_under l.sequence_number) (map seen_response l.replies)

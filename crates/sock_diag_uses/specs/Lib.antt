@@ -1,0 +1,6 @@
+pub mod Readme
+pub mod ListeningTcp
+pub mod Stored
+pub mod Lister
+pub mod Link
+pub mod TestKernel

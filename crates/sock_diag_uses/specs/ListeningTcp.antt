@@ -1,0 +1,31 @@
+-- The request for all TCP sockets that listen.
+use Rattle.std.specs.Prelude.{ℕ}
+use Rattle.netlink_core.specs.Envelope.{Envelope, inner}
+use Rattle.sock_diag_records.specs.SocketId.{Kind, ipv4, ipv6, zeros}
+use Rattle.netlink_packet_sock_diag.specs.Message.{Message, inet_request_with}
+use Rattle.sock_diag_uses.specs.declared.listening_tcp.Family.{Family}
+use Rattle.sock_diag_uses.specs.declared.listening_tcp.Family.TheVariants.{Inet, Inet6}
+
+-- AF_INET and AF_INET6
+abbrev pub family_number : Family → ℕ
+family_number Inet = 2
+family_number Inet6 = 10
+
+-- the kind of their addresses
+abbrev pub address_kind : Family → Kind
+address_kind Inet = ipv4
+address_kind Inet6 = ipv6
+
+-- A dump (flags 0x301) under the type 20, of TCP (6) and the state LISTEN (bit 10) alone. Of the socket's identity
+-- nothing is told.
+abbrev pub listening_request : Family → ℕ → Envelope Message
+listening_request family sequence_number = record {
+  header = record { length = 72; message_type = 20; flags = 0x301; sequence_number = sequence_number; port_number = 0 };
+  payload = inner (inet_request_with (record {
+    family = family_number family;
+    protocol = 6;
+    extensions = record { 0 = 0 };
+    states = record { 0 = 0x400 };
+    socket_id = zeros (address_kind family);
+  }));
+}

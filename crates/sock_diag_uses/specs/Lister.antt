@@ -1,0 +1,31 @@
+-- The lines of a listing.
+use Rattle.std.specs.Prelude.{◌≡◌, ℕ, List, Option, Some, None, Result, Ok, Err}
+use Rattle.std.specs.List.{filter_map}
+use Rattle.netlink_core.specs.declared.fault.DecodeError.{DecodeError}
+use Rattle.netlink_core.specs.Envelope.{Payload, done_with, error_with, no_payload, overrun_with, inner}
+use Rattle.netlink_core.specs.Items.{ItemsAre}
+use Rattle.netlink_packet_sock_diag.specs.Message.{Message, MessageIs, MessageFault, inet_request_with, inet_response_with, unix_request_with, unix_response_with}
+use Rattle.sock_diag_uses.specs.declared.lister.Line.{Line}
+use Rattle.sock_diag_uses.specs.declared.lister.Line.TheVariants.{Socket, End, Failure, Refused}
+
+-- the socket that a reply tells
+abbrev pub socket_of : Message → Option Line
+socket_of (inet_request_with v) = None
+socket_of (inet_response_with v) = Some (Socket v.header.state v.header.inode)
+socket_of (unix_request_with v) = None
+socket_of (unix_response_with v) = Some (Socket v.header.state v.header.inode)
+
+-- the line of what a message carries, or of its fault
+abbrev pub line_of : Result (Payload Message) DecodeError → Option Line
+line_of (Ok (inner message)) = socket_of message
+line_of (Ok (done_with given)) = Some End
+line_of (Ok (error_with given)) = Some Failure
+line_of (Ok (overrun_with given)) = Some Failure
+line_of (Ok no_payload) = None
+line_of (Err e) = Some (Refused e)
+
+-- the lines of a datagram's items, in order
+pub record AreLinesOf (datagram : List ℕ) (lines : List Line) : Type 0 where
+  pub items : List (Result (Payload Message) DecodeError)
+  pub are : ItemsAre MessageIs MessageFault datagram items
+  pub told : lines ≡ filter_map line_of items

@@ -1,0 +1,56 @@
+-- What the kernel for tests answers.
+use Rattle.std.specs.Prelude.{◌≡◌, ℕ, ◌+◌, ◌-◌, ◌≤◌, List, [], ◌∷◌, ◌++◌, length, map, take, drop, Ok}
+use Rattle.std.specs.List.{flat_map}
+use Rattle.netlink_core.specs.declared.header.NetlinkHeader.{NetlinkHeader}
+use Rattle.netlink_core.specs.Header.{HasHeader}
+use Rattle.netlink_core.specs.Envelope.{Payload, done_with, inner, envelope_bytes, payload_bytes, payload_type}
+use Rattle.netlink_core.specs.Format.{read}
+use Rattle.sock_diag_records.specs.declared.unix.request.UnixRequest.{UnixRequest}
+use Rattle.sock_diag_records.specs.UnixRequest.{unix_request}
+use Rattle.netlink_core.specs.Reply.{IsNormalReply, IsTypedReply, ReplyFits, reply_bytes}
+use Rattle.netlink_packet_sock_diag.specs.declared.dump.DumpState.TheVariants.{Done}
+use Rattle.netlink_packet_sock_diag.specs.Dump.{DatagramDump}
+use Rattle.netlink_packet_sock_diag.specs.Message.{Message, MessageIs, MessageFault, unix_response_with, message_bytes}
+use Rattle.netlink_packet_sock_diag.specs.UnixReply.{UnixReply, unix_reply}
+
+-- the written bytes of a message that is one of several (flags 2), with its own length and type, from port 0
+unfoldable pub message_under : ℕ → Payload Message → List ℕ
+message_under sequence_number payload = envelope_bytes message_bytes (record {
+  header = record {
+    length = 16 + length (payload_bytes message_bytes payload);
+    message_type = payload_type (λ _. 20) payload;
+    flags = 2;
+    sequence_number = sequence_number;
+    port_number = 0;
+  };
+  payload = payload;
+})
+
+-- a reply in a message of its own; the length of each is a multiple of four, so no padding follows
+abbrev pub reply_under : ℕ → UnixReply → List ℕ
+reply_under sequence_number reply = message_under sequence_number (inner (unix_response_with reply))
+
+-- the end of a dump, with four zeros
+abbrev pub end_under : ℕ → List ℕ
+end_under sequence_number = message_under sequence_number (done_with (0 ∷ 0 ∷ 0 ∷ 0 ∷ []))
+
+-- The first bytes are a message of type 20 that asks for UNIX sockets. The others are the messages of the replies, in
+-- order, and then the end, each with its sequence number.
+pub record IsAnswer (request : List ℕ) (replies : List UnixReply) (datagram : List ℕ) : Type 0 where
+  pub header : NetlinkHeader
+  pub asked : UnixRequest
+  pub framed : HasHeader request header
+  pub kind : header.message_type ≡ 20
+  pub asks : read unix_request tt (take (header.length - 16) (drop 16 request)) ≡ Ok asked
+  pub written : datagram ≡ flat_map (reply_under header.sequence_number) replies ++ end_under header.sequence_number
+
+-- a reply as readers give it, whose message can be written
+pub record CanBeTold (reply : UnixReply) : Type 0 where
+  pub typed : IsTypedReply unix_reply reply
+  pub normal : IsNormalReply unix_reply reply
+  pub fits : ReplyFits unix_reply reply
+  pub short : 16 + length (reply_bytes unix_reply reply) ≤ 4294967295
+
+-- the dump over the datagram is done, and has these replies
+pub record IsWholeDump (datagram : List ℕ) (replies : List UnixReply) : Type 0 where
+  pub dump : DatagramDump MessageIs MessageFault [] datagram (map unix_response_with replies) (Ok Done)

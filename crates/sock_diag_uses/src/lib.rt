@@ -1,0 +1,11 @@
+//! Callers of the crates of sock_diag(7), each with its contract, and the examples of the README.
+#![tactic(auto)]
+
+pub mod link;
+pub mod listening_tcp;
+pub mod lister;
+pub mod readme;
+pub mod stored;
+pub mod test_kernel;
+#[cfg(test)]
+mod tests;

@@ -1,0 +1,73 @@
+//! The name and the MTU of a network interface, after rtnetlink(7): the attributes of another netlink family.
+
+ghost use Rattle.std.specs.Prelude.{◌≡◌, ◌≤◌, List, None, length, drop, IfOk, IfErr};
+ghost use Rattle.std.specs.List.{filter_map, last_or};
+ghost use Rattle.netlink_core.specs.Attribute.{AttributesMean};
+ghost use Rattle.sock_diag_uses.specs.Link.{Told, told_by, name_in, mtu_in, text_of, from_fault, GivesUp};
+
+use netlink_core::{DecodeError, NlasIterator, parse_string, parse_u32};
+use std::alloc::Global;
+
+/// The kind of the attribute that tells the name, a text with a zero at its end.
+pub const IFLA_IFNAME: u16 = 3;
+
+/// The kind of the attribute that tells the MTU, 4 bytes.
+pub const IFLA_MTU: u16 = 4;
+
+/// How many bytes stand in front of the attributes: `struct ifinfomsg`.
+const HEADER: usize = 16;
+
+/// What a message of type `RTM_NEWLINK` tells of an interface.
+#[derive(Debug, Drop, PartialEq, Eq)]
+pub struct Link {
+    /// Its name. Of several the last counts, as for the kernel.
+    pub name: Option<String>,
+    /// The most bytes of a packet, likewise.
+    pub mtu: Option<u32>,
+}
+
+/// Why a message tells no interface.
+#[derive(Debug, Drop, PartialEq, Eq)]
+pub enum LinkError {
+    /// It has fewer than the 16 bytes of its header.
+    TooShort {
+        /// How many bytes there are.
+        got: usize,
+    },
+    /// An attribute is refused, or memory ran out.
+    Attribute(DecodeError),
+}
+
+impl From<DecodeError> for LinkError {
+    ghost from_gives = { λ fault e. e ≡ from_fault fault };
+
+    fn from(fault: DecodeError) -> LinkError {
+        LinkError::Attribute(fault)
+    }
+}
+
+/// Reads the payload of a message about an interface: what stands behind the netlink header.
+pub fn parse_link(alloc: Global, payload: &[u8]) -> Result<Link, LinkError>
+    ensures value { IfOk result (λ link. (told : List Told) × (16 ≤ length payload.now)
+        × AttributesMean told_by (drop 16 payload.now) told
+        × (text_of link.name ≡ last_or None (filter_map name_in told))
+        × (link.mtu ≡ last_or None (filter_map mtu_in told))) }
+    ensures fault { IfErr result (GivesUp payload.now) }
+{
+    if payload.len() < HEADER {
+        return Err(LinkError::TooShort { got: payload.len() });
+    }
+    let mut link = Link {
+        name: None,
+        mtu: None,
+    };
+    for item in NlasIterator::new(&payload[HEADER..]) {
+        let attribute = item?;
+        match attribute.kind() {
+            IFLA_IFNAME => link.name = Some(parse_string(alloc, attribute.value())?),
+            IFLA_MTU => link.mtu = Some(parse_u32(attribute.value())?),
+            _ => {}
+        }
+    }
+    Ok(link)
+}

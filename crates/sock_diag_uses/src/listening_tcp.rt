@@ -1,0 +1,68 @@
+//! The request for all TCP sockets that listen.
+
+ghost use Rattle.std.specs.Prelude.{◌≡◌, [], ◌∷◌, ◌++◌, replicate};
+ghost use Rattle.byteorder.specs.Endian.{little_bytes};
+ghost use Rattle.netlink_core.specs.Seen.{envelope_of};
+ghost use Rattle.netlink_core.specs.Envelope.{envelope_bytes};
+ghost use Rattle.netlink_packet_sock_diag.specs.Message.{message_bytes};
+ghost use Rattle.netlink_packet_sock_diag.specs.SeenMessage.{seen_message};
+ghost use Rattle.sock_diag_uses.specs.ListeningTcp.{family_number, listening_request};
+
+use bitflags::Flags;
+use netlink_core::{NLM_F_DUMP, NLM_F_REQUEST, NetlinkHeader, NetlinkMessage, NetlinkPayload};
+use netlink_packet_sock_diag::SockDiagMessage;
+use netlink_packet_sock_diag::constants::{AF_INET, AF_INET6, IPPROTO_TCP};
+use netlink_packet_sock_diag::inet::{ExtensionFlags, InetRequest, SocketId, StateFlags};
+
+/// How many bytes the request has: 16 of the netlink header and 56 of `struct inet_diag_req_v2`.
+pub const REQUEST_LENGTH: usize = 72;
+
+/// Which internet sockets are asked for.
+#[derive(Clone, Copy, Debug, PartialEq, Eq)]
+pub enum Family {
+    /// Those with IPv4 addresses, `AF_INET`.
+    Inet,
+    /// Those with IPv6 addresses, `AF_INET6`.
+    Inet6,
+}
+
+/// The request for all TCP sockets of a family that listen, and for none of their attributes. The kernel's replies
+/// repeat the sequence number.
+#[tactic(auto, unfolding(sock_diag_records::specs::InetRequest::inet_request))]
+pub fn listening_tcp(family: Family, sequence_number: u32) -> NetlinkMessage<SockDiagMessage>
+    ensures { envelope_of seen_message result ≡ listening_request family sequence_number }
+{
+    let (family, socket_id) = match family {
+        Family::Inet => (AF_INET, SocketId::new_v4()),
+        Family::Inet6 => (AF_INET6, SocketId::new_v6()),
+    };
+    let request = InetRequest {
+        family,
+        protocol: IPPROTO_TCP,
+        extensions: ExtensionFlags::empty(),
+        states: StateFlags::LISTEN,
+        socket_id,
+    };
+    let header = NetlinkHeader {
+        flags: NLM_F_REQUEST | NLM_F_DUMP,
+        sequence_number,
+        ..NetlinkHeader::default()
+    };
+    let mut message = NetlinkMessage::new(header, SockDiagMessage::InetRequest(request).into());
+    message.finalize();
+    message
+}
+
+/// The bytes of [`listening_tcp`], as they are sent. No memory is taken.
+#[tactic(auto, unfolding(sock_diag_records::specs::InetRequest::inet_request))]
+pub fn listening_tcp_bytes(family: Family, sequence_number: u32) -> [u8; REQUEST_LENGTH]
+    ensures written { result ≡ envelope_bytes message_bytes (listening_request family sequence_number) }
+    // Length 72, type 20, flags 0x301, the sequence number and port 0; the family, protocol 6, no extensions, a pad, the
+    // state LISTEN; and the identity of no socket.
+    ensures bytes { result ≡ (72 ∷ 0 ∷ 0 ∷ 0 ∷ 20 ∷ 0 ∷ 1 ∷ 3 ∷ [])
+        ++ (little_bytes 4 sequence_number ++ (0 ∷ 0 ∷ 0 ∷ 0 ∷ family_number family ∷ 6 ∷ 0 ∷ 0 ∷ 0 ∷ 4 ∷ 0 ∷ 0 ∷ replicate 48 0)) }
+{
+    let mut bytes = [0; REQUEST_LENGTH];
+    listening_tcp(family, sequence_number).serialize(&mut bytes);
+    bytes
+}

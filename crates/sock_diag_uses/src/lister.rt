@@ -1,0 +1,91 @@
+//! A listing of what a datagram of a dump tells, read in place.
+
+ghost use Rattle.std.specs.Prelude.{◌≡◌, List, Result, Some, IfOk, map};
+ghost use Rattle.std.specs.Iterator.{Drains};
+ghost use Rattle.std.specs.List.{filter_map};
+ghost use Rattle.netlink_core.specs.declared.fault.DecodeError.{DecodeError as Fault};
+ghost use Rattle.netlink_packet_sock_diag.specs.DumpWalk.{GivesView};
+ghost use Rattle.netlink_packet_sock_diag.specs.declared.dump.views.PayloadView.{PayloadView};
+ghost use Rattle.netlink_packet_sock_diag.specs.ViewedMessage.{viewed_message};
+ghost use Rattle.netlink_packet_sock_diag.specs.ViewedPayload.{viewed_item};
+ghost use Rattle.sock_diag_uses.specs.Lister.{AreLinesOf, line_of, socket_of};
+
+use netlink_core::DecodeError;
+use netlink_packet_sock_diag::{DumpViews, PayloadView, SockDiagView, laws};
+use std::alloc::{AllocError, Global};
+
+/// One line of a listing.
+#[derive(Debug, Drop, PartialEq, Eq)]
+pub enum Line {
+    /// A socket.
+    Socket {
+        /// Its state, one of `TCP_..`.
+        state: u8,
+        /// Its inode.
+        inode: u32,
+    },
+    /// The dump ends.
+    End,
+    /// The kernel tells an error, or that data was lost.
+    Failure,
+    /// A message is refused, or what stands there is no message.
+    Refused(DecodeError),
+}
+
+/// The lines of a datagram, in order: one for each message but those of nothing, and one for what is no message. Only
+/// the lines take memory.
+pub fn list(alloc: Global, datagram: &[u8]) -> Result<Vec<Line>, AllocError>
+    ensures { IfOk result (λ lines. AreLinesOf datagram.now lines.items) }
+{
+    laws::whole_views_are_the_datagram();
+    lines_of(alloc, DumpViews::new(datagram))
+}
+
+// The lines of what a walk gives.
+fn lines_of(alloc: Global, views: DumpViews<'_>) -> Result<Vec<Line>, AllocError>
+    ensures { IfOk result (λ lines. (given : List (Result PayloadView Fault)) × Drains GivesView views.entry given
+        × (lines.items ≡ filter_map line_of (map viewed_item given))) }
+{
+    let mut lines = Vec::new(alloc);
+    for item in views {
+        if let Some(line) = line_for(item) {
+            lines.push(line)?;
+        }
+    }
+    Ok(lines)
+}
+
+// The line of an item, if it has one.
+fn line_for(item: Result<PayloadView<'_>, DecodeError>) -> Option<Line>
+    ensures { result ≡ line_of (viewed_item item.entry) }
+{
+    match item {
+        Ok(PayloadView::InnerMessage(message)) => Some(socket_line(&message)),
+        Ok(PayloadView::Done(_)) => Some(Line::End),
+        Ok(PayloadView::Error(_) | PayloadView::Overrun(_)) => Some(Line::Failure),
+        Ok(PayloadView::Noop) => None,
+        Err(fault) => Some(Line::Refused(fault)),
+    }
+}
+
+// The line of a socket.
+fn socket_line(message: &SockDiagView<'_>) -> Line
+    ensures { Some result ≡ socket_of (viewed_message message.now) }
+{
+    match message {
+        SockDiagView::InetResponse(reply) => {
+            let header = reply.header();
+            Line::Socket {
+                state: header.state,
+                inode: header.inode,
+            }
+        }
+        SockDiagView::UnixResponse(reply) => {
+            let header = reply.header();
+            Line::Socket {
+                state: header.state,
+                inode: header.inode,
+            }
+        }
+    }
+}

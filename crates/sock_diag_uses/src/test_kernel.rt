@@ -1,0 +1,145 @@
+//! A kernel for tests: it answers a request for UNIX sockets with given replies, as one datagram.
+
+ghost use Rattle.std.specs.Prelude.{◌≡◌, ◌++◌, ℕ, List, map, OnOk, IfOk};
+ghost use Rattle.std.specs.List.{AllByRecursion, flat_map};
+ghost use Rattle.netlink_core.specs.Seen.{payload_of};
+ghost use Rattle.netlink_packet_sock_diag.specs.SeenMessage.{seen_message};
+ghost use Rattle.netlink_packet_sock_diag.specs.SeenUnixReply.{seen_response};
+ghost use Rattle.netlink_packet_sock_diag.specs.UnixReply.{UnixReply};
+ghost use Rattle.sock_diag_uses.specs.TestKernel.{CanBeTold, IsAnswer, IsWholeDump, message_under, reply_under};
+
+use netlink_core::{DecodeError, NetlinkHeader, NetlinkMessage, NetlinkPayload, Parseable};
+use netlink_packet_sock_diag::constants::SOCK_DIAG_BY_FAMILY;
+use netlink_packet_sock_diag::unix::{UnixRequest, UnixResponse};
+use netlink_packet_sock_diag::{SockDiagMessage, laws};
+use std::alloc::{AllocError, AllocFailed, Global};
+
+/// The flag of a header that says that the message is one of several, `NLM_F_MULTI` of netlink(7).
+pub const NLM_F_MULTI: u16 = 2;
+
+/// How many bytes the header of a netlink message has.
+const HEADER: usize = 16;
+
+/// Why there is no answer.
+#[derive(Debug, Drop, PartialEq, Eq)]
+pub enum AnswerError {
+    /// The request is refused.
+    Request(DecodeError),
+    /// A reply is too long to be written.
+    Unwritable,
+    /// Memory ran out.
+    Memory,
+}
+
+impl From<DecodeError> for AnswerError {
+    fn from(fault: DecodeError) -> AnswerError {
+        AnswerError::Request(fault)
+    }
+}
+
+impl From<AllocError> for AnswerError {
+    fn from(_e: AllocError) -> AnswerError {
+        AnswerError::Memory
+    }
+}
+
+impl<T: Drop> From<AllocFailed<T>> for AnswerError {
+    fn from(_e: AllocFailed<T>) -> AnswerError {
+        AnswerError::Memory
+    }
+}
+
+/// The answer to a request for UNIX sockets: each reply in a message of its own, and the message that ends a dump, all
+/// of them with the request's sequence number. What the request asks for is read, and doesn't choose among the replies.
+pub fn answer(
+    alloc: Global,
+    request: &[u8],
+    replies: &[UnixResponse],
+) -> Result<Vec<u8>, AnswerError>
+    ensures { IfOk result (λ datagram. IsAnswer request.now (map seen_response replies.now) datagram.items) }
+{
+    let header = NetlinkHeader::from_prefix(request)?;
+    if header.message_type != SOCK_DIAG_BY_FAMILY {
+        return Err(AnswerError::Request(DecodeError::UnknownMessageType {
+            message_type: header.message_type,
+        }));
+    }
+    let _asked = UnixRequest::parse(alloc, &request[HEADER..header.length as usize])?;
+    let mut datagram = Vec::new(alloc);
+    push_replies(alloc, &mut datagram, header.sequence_number, replies)?;
+    let end = NetlinkPayload::Done(vec![in alloc; 0; 4]?);
+    push_message(alloc, &mut datagram, header.sequence_number, end)?;
+    Ok(datagram)
+}
+
+/// The dump over an answer is done, and has the given replies, where each is as readers give it and can be written. The
+/// function does nothing: its contract is the law.
+pub fn answer_is_a_whole_dump()
+    ensures { (request : List ℕ) (replies : List UnixReply) (datagram : List ℕ) → IsAnswer request replies datagram
+        → AllByRecursion CanBeTold replies → IsWholeDump datagram replies }
+{
+    netlink_core::laws::items_in_a_row::<SockDiagMessage>();
+    laws::finalized_message_reads_back();
+    laws::reply_lengths_are_multiples_of_four();
+}
+
+// Adds a message for each reply.
+fn push_replies(
+    alloc: Global,
+    datagram: &mut Vec<u8>,
+    sequence_number: u32,
+    replies: &[UnixResponse],
+) -> Result<(), AnswerError>
+    ensures { OnOk result (datagram.new.items ≡ datagram.old.items ++ flat_map (reply_under sequence_number) (map seen_response replies.now)) }
+{
+    for reply in replies {
+        push_reply(alloc, datagram, sequence_number, reply)?;
+    }
+    Ok(())
+}
+
+// Adds the message of a reply.
+fn push_reply(
+    alloc: Global,
+    datagram: &mut Vec<u8>,
+    sequence_number: u32,
+    reply: &UnixResponse,
+) -> Result<(), AnswerError>
+    ensures { OnOk result (datagram.new.items ≡ datagram.old.items ++ reply_under sequence_number (seen_response reply.now)) }
+{
+    let message = SockDiagMessage::UnixResponse(Box::new(
+        alloc,
+        UnixResponse::clone(reply, alloc)?,
+    )?);
+    push_message(
+        alloc,
+        datagram,
+        sequence_number,
+        NetlinkPayload::InnerMessage(message),
+    )
+}
+
+// Adds a message with this payload, and the header's length and type after it.
+#[tactic(auto, unfolding(crate::specs::TestKernel::message_under))]
+fn push_message(
+    alloc: Global,
+    datagram: &mut Vec<u8>,
+    sequence_number: u32,
+    payload: NetlinkPayload<SockDiagMessage>,
+) -> Result<(), AnswerError>
+    ensures { OnOk result (datagram.new.items ≡ datagram.old.items ++ message_under sequence_number (payload_of seen_message payload)) }
+{
+    let header = NetlinkHeader {
+        flags: NLM_F_MULTI,
+        sequence_number,
+        ..NetlinkHeader::default()
+    };
+    let mut message = NetlinkMessage::new(header, payload);
+    if !message.is_writable() {
+        return Err(AnswerError::Unwritable);
+    }
+    message.finalize();
+    let mut bytes = vec![in alloc; 0; message.buffer_len()]?;
+    message.serialize(&mut bytes);
+    Ok(datagram.extend_from_slice(&bytes)?)
+}
