@@ -38,7 +38,7 @@ fault_complaint (UnknownFamily family) = None
 fault_complaint fault = Some (Refused fault)
 
 -- what is told of an item: refused messages, errors and lost data
-abbrev pub item_complaint : Item → Option Complaint
+unfoldable pub item_complaint : Item → Option Complaint
 item_complaint (Err fault) = fault_complaint fault
 item_complaint (Ok (done_with payload)) = error_complaint (error_number payload)
 item_complaint (Ok (error_with payload)) = error_complaint (error_number payload)

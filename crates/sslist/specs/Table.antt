@@ -161,7 +161,7 @@ abbrev pub inet_lines : InetReply → List ℕ
 inet_lines v = inet_line v.header ++ flat_map details_of v.nlas
 
 -- the lines of a message, where it is a reply
-abbrev pub message_lines : Message → List ℕ
+unfoldable pub message_lines : Message → List ℕ
 message_lines (inet_response_with v) = inet_lines v
 message_lines (unix_response_with v) = unix_line v
 message_lines (inet_request_with v) = []

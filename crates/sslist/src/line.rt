@@ -54,6 +54,7 @@ fn push_first_columns(text: &mut Vec<u8>, cells: &Cells) -> Result<(), AllocErro
 }
 
 /// Adds the line of a socket, and behind it those of what is told of a TCP connection.
+#[tactic(auto, unfolding(crate::specs::Table::message_lines))]
 pub fn push_socket(text: &mut Vec<u8>, view: &SockDiagView<'_>) -> Result<(), AllocError>
     ensures { OnOk result (text.new.items ≡ text.old.items ++ message_lines (viewed_message view.now)) }
 {

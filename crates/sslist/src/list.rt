@@ -2,7 +2,7 @@
 
 ghost use Rattle.std.specs.Prelude.{◌≡◌, ◌≢◌, ◌↔◌, ◌++◌, ◌≤◌, ℕ, List, bit_and, length, IfOk, OnOk, IsTrue, None, flat_map};
 ghost use Rattle.netlink_packet_sock_diag.specs.ViewedPayload.{viewed_item};
-ghost use Rattle.sslist.specs.Listing.{Carries, IsRequest, IsClean, IsListedAs, Item, error_complaint, error_number, fault_complaint, item_complaint, item_lines};
+ghost use Rattle.sslist.specs.Listing.{Carries, IsRequest, IsClean, IsListedAs, IsPlain, Item, error_complaint, error_number, fault_complaint, item_complaint, item_lines};
 
 use crate::capture::Packet;
 use crate::line::push_socket;
@@ -45,11 +45,7 @@ pub struct Written {
 
 /// Adds the lines of the sockets that a packet of this number tells, and what is told of it. It answers whether the
 /// packet was listed whole: none of its messages was refused, tells an error or tells that data was lost.
-pub fn list_packet(written: &mut Written, number: u64, packet: &[u8]) -> Result<bool, AllocError>
-    ensures { IfOk result (λ is_clean. (items : List Item) × IsListedAs packet.now items
-        × (written.new.lines.items ≡ written.old.lines.items ++ flat_map item_lines items)
-        × (IsTrue is_clean ↔ ((16 ≤ length packet.now) × IsClean items))) }
-{
+pub fn list_packet(written: &mut Written, number: u64, packet: &[u8]) -> Result<bool, AllocError> {
     match Packet::parse(packet) {
         Packet::SockDiag(datagram) if !is_request(datagram) => {
             list_datagram(written, number, datagram)
@@ -77,11 +73,7 @@ fn list_datagram(
     written: &mut Written,
     number: u64,
     datagram: &[u8],
-) -> Result<bool, AllocError>
-    ensures { IfOk result (λ is_clean. (items : List Item) × Carries datagram.now items
-        × (written.new.lines.items ≡ written.old.lines.items ++ flat_map item_lines items)
-        × (IsTrue is_clean ↔ IsClean items)) }
-{
+) -> Result<bool, AllocError> {
     let mut is_clean = true;
     let mut place = Place {
         packet: number,
@@ -89,13 +81,29 @@ fn list_datagram(
     };
     for item in DumpViews::new(datagram) {
         place.message = place.message.saturating_add(1);
-        push_lines(&mut written.lines, &item)?;
-        if let Some(complaint) = complaint_about(item) {
-            is_clean = false;
-            push_complaint(&mut written.complaints, place, &complaint)?;
-        }
+        let is_plain = list_item(written, place, item)?;
+        is_clean = is_clean && is_plain;
     }
     Ok(is_clean)
+}
+
+/// Adds the lines of a message, or what is told of it, and answers whether nothing is.
+fn list_item(
+    written: &mut Written,
+    place: Place,
+    item: Result<PayloadView<'_>, DecodeError>,
+) -> Result<bool, AllocError>
+    ensures lines { OnOk result (written.new.lines.items ≡ written.old.lines.items ++ item_lines (viewed_item item.entry)) }
+    ensures plain { IfOk result (λ is_plain. IsTrue is_plain ↔ IsPlain (viewed_item item.entry)) }
+{
+    push_lines(&mut written.lines, &item)?;
+    match complaint_about(item) {
+        Some(complaint) => {
+            push_complaint(&mut written.complaints, place, &complaint)?;
+            Ok(false)
+        }
+        None => Ok(true),
+    }
 }
 
 /// Adds the lines of a message, where it is a reply.
@@ -113,6 +121,7 @@ fn push_lines(
 
 /// What is told of a message: that it is refused, that it tells an error, or that data was lost. A socket of another
 /// family than those that are listed is passed over.
+#[tactic(auto, unfolding(crate::specs::Listing::item_complaint))]
 fn complaint_about(item: Result<PayloadView<'_>, DecodeError>) -> Option<Complaint>
     ensures { result ≡ item_complaint (viewed_item item.entry) }
 {

@@ -1,7 +1,0 @@
-use Rattle.netlink_packet_sock_diag.specs.DumpWalk.{views_left}
-use Rattle.sslist.proofs.Listings.{Listing}
-use Rattle.sslist.proofs.list.list_datagram.Given as goal
-
--- the items so far are listed
-abbrev pub invariant-loop-item : goal.invariant-loop-item
-invariant-loop-item l = Listing l.datagram (views_left l.item-iterator) l.fn.written.lines.items l.written.lines.items l.is_clean
