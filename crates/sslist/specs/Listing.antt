@@ -1,5 +1,5 @@
 -- What the datagrams of a capture are listed as.
-use Rattle.std.specs.Prelude.{◌≡◌, ◌≢◌, ℕ, ◌+◌, ◌-◌, ◌^◌, ◌%◌, ◌==◌, if◌then◌else◌, nat_lt, List, [], ◌∷◌, ◌++◌, ◌≤◌, ◌⊎◌, bit_and, drop, length, flat_map, Option, None, Some, Result, Ok, Err}
+use Rattle.std.specs.Prelude.{◌≡◌, ◌≢◌, ◌↔◌, Bool, IsTrue, ℕ, ◌+◌, ◌-◌, ◌^◌, ◌%◌, ◌==◌, if◌then◌else◌, nat_lt, List, [], ◌∷◌, ◌++◌, ◌≤◌, ◌⊎◌, bit_and, drop, length, flat_map, Option, None, Some, Result, Ok, Err}
 use Rattle.byteorder.specs.Endian.{little_number}
 use Rattle.std.specs.List.{AllByRecursion}
 use Rattle.netlink_core.specs.declared.fault.DecodeError.{DecodeError}
@@ -68,6 +68,16 @@ pub record IsAnswer (packet : List ℕ) : Type 0 where
   pub sock_diag : IsOfSockDiag packet
   pub no_request : ¬ IsRequest (drop 16 packet)
 
--- the packet is listed as these items: those that its datagram carries, and none where it is no answer of sock_diag(7)
-abbrev pub IsListedAs : List ℕ → List Item → Type 0
-IsListedAs packet items = (IsAnswer packet × Carries (drop 16 packet) items) ⊎ ((¬ IsAnswer packet) × (items ≡ []))
+-- The lines of the datagram follow those before: of each of its items in order. Whether nothing is told of any of them.
+pub record Lists (datagram before after : List ℕ) (is_clean : Bool) : Type 0 where
+  pub items : List Item
+  pub carried : Carries datagram items
+  pub lines : after ≡ before ++ flat_map item_lines items
+  pub clean : IsTrue is_clean ↔ IsClean items
+
+-- The lines of the packet follow those before: those of its datagram where it is an answer of sock_diag(7), and none for
+-- another. Of one with fewer than 16 bytes something is told, and of no other that is no answer.
+abbrev pub ListsPacket : List ℕ → List ℕ → List ℕ → Bool → Type 0
+ListsPacket packet before after is_clean =
+    (IsAnswer packet × Lists (drop 16 packet) before after is_clean)
+    ⊎ ((¬ IsAnswer packet) × (after ≡ before) × (IsTrue is_clean ↔ (16 ≤ length packet)))

@@ -1,8 +1,8 @@
 //! The sockets that the packets of a capture tell, line by line, and what is told of a packet that can't be listed whole.
 
-ghost use Rattle.std.specs.Prelude.{◌≡◌, ◌≢◌, ◌↔◌, ◌++◌, ◌≤◌, ℕ, List, bit_and, length, IfOk, OnOk, IsTrue, None, flat_map};
+ghost use Rattle.std.specs.Prelude.{◌≡◌, ◌↔◌, ◌++◌, IfOk, OnOk, IsTrue};
 ghost use Rattle.netlink_packet_sock_diag.specs.ViewedPayload.{viewed_item};
-ghost use Rattle.sslist.specs.Listing.{Carries, IsRequest, IsClean, IsListedAs, IsPlain, Item, error_complaint, error_number, fault_complaint, item_complaint, item_lines};
+ghost use Rattle.sslist.specs.Listing.{IsPlain, IsRequest, Lists, ListsPacket, error_complaint, error_number, fault_complaint, item_complaint, item_lines};
 
 use crate::capture::Packet;
 use crate::line::push_socket;
@@ -45,7 +45,9 @@ pub struct Written {
 
 /// Adds the lines of the sockets that a packet of this number tells, and what is told of it. It answers whether the
 /// packet was listed whole: none of its messages was refused, tells an error or tells that data was lost.
-pub fn list_packet(written: &mut Written, number: u64, packet: &[u8]) -> Result<bool, AllocError> {
+pub fn list_packet(written: &mut Written, number: u64, packet: &[u8]) -> Result<bool, AllocError>
+    ensures { IfOk result (ListsPacket packet.now written.old.lines.items written.new.lines.items) }
+{
     match Packet::parse(packet) {
         Packet::SockDiag(datagram) if !is_request(datagram) => {
             list_datagram(written, number, datagram)
@@ -73,7 +75,9 @@ fn list_datagram(
     written: &mut Written,
     number: u64,
     datagram: &[u8],
-) -> Result<bool, AllocError> {
+) -> Result<bool, AllocError>
+    ensures { IfOk result (Lists datagram.now written.old.lines.items written.new.lines.items) }
+{
     let mut is_clean = true;
     let mut place = Place {
         packet: number,

@@ -10,6 +10,8 @@ mod cells;
 mod line;
 mod list;
 mod stream;
+#[cfg(test)]
+mod tests;
 
 pub use capture::{ByteOrder, CaptureError, FileHeader, Packet};
 pub use line::{HEADING, push_socket};
