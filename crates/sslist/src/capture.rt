@@ -152,9 +152,7 @@ impl FileHeader {
         ensures { MatchResult result (IsFileHeader bytes.now) (IsFileHeaderFault bytes.now) }
     {
         let Some(order) = ByteOrder::find(bytes) else {
-            return Err(CaptureError::NoCapture(
-                ByteOrder::HighFirst.word_at(bytes, 0),
-            ));
+            return Err(CaptureError::NoCapture(ByteOrder::HighFirst.word_at(bytes, 0)));
         };
         let version = order.short_at(bytes, 4);
         if version != MAJOR_VERSION {
@@ -189,7 +187,7 @@ impl FileHeader {
     ) -> Result<bool, CaptureError>
         ensures { IfOk result (λ is_read. MatchBool is_read
             ((header : List ℕ) × IsRecord self.now header packet.new.items
-                × Consumes (R.remaining input.old) (R.remaining input.new) (header ++ packet.new.items))
+            × Consumes (R.remaining input.old) (R.remaining input.new) (header ++ packet.new.items))
             (IsAtEnd (R.remaining input.new) × Keeps (R.remaining input.old) (R.remaining input.new))) }
     {
         let mut header = [0u8; RECORD_HEADER];

@@ -53,7 +53,11 @@ fn end_column(text: &mut Vec<u8>, start: usize, width: usize) -> Result<(), Allo
 }
 
 /// Adds a column that holds a text.
-pub(crate) fn push_column(text: &mut Vec<u8>, width: usize, content: &[u8]) -> Result<(), AllocError>
+pub(crate) fn push_column(
+    text: &mut Vec<u8>,
+    width: usize,
+    content: &[u8],
+) -> Result<(), AllocError>
     ensures { OnOk result (text.new.items ≡ text.old.items ++ column width content.now) }
 {
     let start = text.len();

@@ -25,7 +25,8 @@ use netlink_packet_sock_diag::unix::UnixResponseView;
 use std::alloc::AllocError;
 
 /// The first line of the table.
-pub const HEADING: &[u8] = b"Netid State      Recv-Q Send-Q Inode      Uid   Local                          Peer\n";
+pub const HEADING: &[u8] =
+    b"Netid State      Recv-Q Send-Q Inode      Uid   Local                          Peer\n";
 
 /// What the first columns of a line hold.
 #[derive(Clone, Copy)]
@@ -78,12 +79,12 @@ fn push_unix(text: &mut Vec<u8>, reply: &UnixResponseView<'_>) -> Result<(), All
 fn unix_cells(reply: &UnixResponseView<'_>) -> Cells
     ensures { let v = viewed_unix.viewed_response reply.now in let queues = first_of (content unix 4) v.nlas in
         shown_cells result ≡ record {
-        kind = unix_kind v.header.kind;
-        state = v.header.state;
-        receive_queue = first_number queues;
-        send_queue = second_number queues;
-        inode = v.header.inode;
-        uid = None;
+          kind = unix_kind v.header.kind;
+          state = v.header.state;
+          receive_queue = first_number queues;
+          send_queue = second_number queues;
+          inode = v.header.inode;
+          uid = None;
         } }
 {
     let header = reply.header();
@@ -131,7 +132,13 @@ fn push_inet_line(text: &mut Vec<u8>, header: &InetResponseHeader) -> Result<(),
 {
     push_first_columns(text, &inet_cells(header))?;
     let id = &header.socket_id;
-    push_endpoint_column(text, LOCAL, id.source_address, id.interface_id, id.source_port)?;
+    push_endpoint_column(
+        text,
+        LOCAL,
+        id.source_address,
+        id.interface_id,
+        id.source_port,
+    )?;
     push_endpoint(text, id.destination_address, 0, id.destination_port)?;
     Ok(text.push(b'\n')?)
 }
@@ -139,13 +146,13 @@ fn push_inet_line(text: &mut Vec<u8>, header: &InetResponseHeader) -> Result<(),
 /// The first columns of an IPv4 or IPv6 socket. The protocol is not told.
 fn inet_cells(header: &InetResponseHeader) -> Cells
     ensures { shown_cells result ≡ record {
-        kind = inet_kind header.now.family;
-        state = header.now.state;
-        receive_queue = Some header.now.recv_queue;
-        send_queue = Some header.now.send_queue;
-        inode = header.now.inode;
-        uid = Some header.now.uid;
-        } }
+      kind = inet_kind header.now.family;
+      state = header.now.state;
+      receive_queue = Some header.now.recv_queue;
+      send_queue = Some header.now.send_queue;
+      inode = header.now.inode;
+      uid = Some header.now.uid;
+    } }
 {
     Cells {
         kind: if header.family == AF_INET6 {

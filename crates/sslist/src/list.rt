@@ -71,11 +71,7 @@ fn is_request(datagram: &[u8]) -> bool
 }
 
 /// Adds the lines of the sockets that a datagram tells, and what is told of it, and answers whether it was listed whole.
-fn list_datagram(
-    written: &mut Written,
-    number: u64,
-    datagram: &[u8],
-) -> Result<bool, AllocError>
+fn list_datagram(written: &mut Written, number: u64, datagram: &[u8]) -> Result<bool, AllocError>
     ensures { IfOk result (Lists datagram.now written.old.lines.items written.new.lines.items) }
 {
     let mut is_clean = true;
@@ -178,7 +174,10 @@ fn push_complaint(
     complaint: &Complaint,
 ) -> Result<(), AllocError> {
     let Place { packet, message } = place;
-    match writeln!(complaints, "sslist: packet {packet}, message {message}: {complaint}") {
+    match writeln!(
+        complaints,
+        "sslist: packet {packet}, message {message}: {complaint}"
+    ) {
         Ok(()) => Ok(()),
         Err(_) => Err(AllocError),
     }

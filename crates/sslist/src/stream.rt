@@ -84,7 +84,7 @@ fn read_packet<R: Read>(
 ) -> Result<bool, RunError>
     ensures { IfOk result (λ is_read. MatchBool is_read
         ((header : List ℕ) × IsRecord file.now header packet.new.items
-            × Consumes (R.remaining input.old) (R.remaining input.new) (header ++ packet.new.items))
+        × Consumes (R.remaining input.old) (R.remaining input.new) (header ++ packet.new.items))
         (IsAtEnd (R.remaining input.new) × Keeps (R.remaining input.old) (R.remaining input.new))) }
 {
     match file.read_packet(input, packet) {

@@ -8,10 +8,12 @@ use std::process::Abort;
 use std::test::Fail;
 
 /// A reply about an IPv6 socket in TIME-WAIT: `[fe80::1]` and interface 3, port 22, to `[2001:db8::ff]`, port 40000.
-const INET6: &str = "580000001400020007000000000000000a06030000169c40fe80000000000000000000000000000120010db80000000000000000000000ff030000000000000000000000000000000000000000000000e803000000000000";
+const INET6: &str =
+    "580000001400020007000000000000000a06030000169c40fe80000000000000000000000000000120010db80000000000000000000000ff030000000000000000000000000000000000000000000000e803000000000000";
 
 /// A reply about a listening stream socket with the abstract name `a b\`.
-const UNIX: &str = "3800000014000200070000000000000001010a000e4f0000a00200000000000009000000006120625c0000000c0004000200000080000000";
+const UNIX: &str =
+    "3800000014000200070000000000000001010a000e4f0000a00200000000000009000000006120625c0000000c0004000200000080000000";
 
 /// A dump ends.
 const DONE: &str = "1400000003000200070000000000000000000000";
@@ -26,10 +28,12 @@ const SHORT_REPLY: &str = "1c00000014000200070000000000000001010a000e4f0000a0020
 const OTHER_FAMILY: &str = "20000000140002000700000000000000100101000e4f0000a002000000000000";
 
 /// A request for UNIX sockets.
-const REQUEST: &str = "2800000014000103010000000000000001000000ffffffff000000003f000000ffffffffffffffff";
+const REQUEST: &str =
+    "2800000014000103010000000000000001000000ffffffff000000003f000000ffffffffffffffff";
 
 /// The protocol of sock_diag(7), and another one.
 const SOCK_DIAG: u16 = 4;
+
 const ROUTE: u16 = 0;
 
 /// Adds a number of two or four bytes.
@@ -102,8 +106,11 @@ fn table(alloc: Global, lines: &str) -> Result<Vec<u8>, AllocError> {
     Ok(text)
 }
 
-const INET6_LINE: &str = "inet6 TIME-WAIT  0      0      0          1000  [fe80::1]%3:22                 [2001:db8::ff]:40000\n";
-const UNIX_LINE: &str = "u_str LISTEN     2      128    20238      -     @a\\x20b\\x5c                    *\n";
+const INET6_LINE: &str =
+    "inet6 TIME-WAIT  0      0      0          1000  [fe80::1]%3:22                 [2001:db8::ff]:40000\n";
+
+const UNIX_LINE: &str =
+    "u_str LISTEN     2      128    20238      -     @a\\x20b\\x5c                    *\n";
 
 /// Captures of both orders and both magic numbers, with packets of other protocols and a request.
 #[test]
@@ -147,7 +154,8 @@ fn tells_what_is_refused(rt: HostRuntime) -> Result<(), Fail> {
     assert_eq!(rt;
         errors.as_slice(),
         b"sslist: packet 1, message 1: UnixResponseHeader: buffer of 12 bytes, at least 16 needed\n\
-sslist: packet 3, message 1: the kernel answers error 2\n".as_slice()
+sslist: packet 3, message 1: the kernel answers error 2\n"
+            .as_slice()
     );
     Ok(())
 }
@@ -192,9 +200,15 @@ fn refuses_other_captures(rt: HostRuntime) -> Result<(), Fail> {
     let mut output = Vec::new(alloc);
     let _status = run_to_status(alloc, &mut other.as_slice(), &mut output, &mut errors);
     assert!(rt; output.is_empty());
-    assert_eq!(rt; errors.as_slice(), b"sslist: packets of link type 1, not 253 (netlink)\n".as_slice());
+    assert_eq!(rt;
+        errors.as_slice(),
+        b"sslist: packets of link type 1, not 253 (netlink)\n".as_slice()
+    );
     let (outcome, _, _) = listed(alloc, b"\x0a\x0d\x0d\x0a and a text of twenty bytes")?;
-    assert_eq!(rt; outcome, Err(RunError::Header(CaptureError::NoCapture(0x0a0d_0d0a))));
+    assert_eq!(rt;
+        outcome,
+        Err(RunError::Header(CaptureError::NoCapture(0x0a0d_0d0a)))
+    );
     let mut long = Vec::new(alloc);
     push_header(&mut long, order, 0xa1b2_c3d4, 253)?;
     for word in [0, 0, 4097, 4097] {
