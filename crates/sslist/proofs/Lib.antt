@@ -1,0 +1,3 @@
+pub mod Adding
+pub mod Listings
+pub mod Steps

@@ -1,0 +1,5 @@
+pub mod Capture
+pub mod Cooked
+pub mod Table
+pub mod Shown
+pub mod Listing

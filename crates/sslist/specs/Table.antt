@@ -1,0 +1,168 @@
+-- The lines of the table.
+use Rattle.std.specs.Prelude.{ℕ, ◌-◌, ◌≤◌, ◌==◌, nat_le, nat_lt, if◌then◌else◌, Bool, true, false, ◌&&◌, List, [], ◌∷◌, ◌++◌, length, replicate, flat_map, codes, decimal, Option, None, Some, slice_get, unwrap_or, Result, Ok, Err}
+use Rattle.std.specs.declared.net.ip_addr.IpAddr.{IpAddr}
+use Rattle.std.specs.declared.net.ip_addr.IpAddr.TheVariants.{V4, V6}
+use Rattle.std.specs.Net.Text.{ip_text, scope_text}
+use Rattle.hex.specs.Hex.{encode_lower}
+use Rattle.netlink_core.specs.Family.{Said, content}
+use Rattle.sock_diag_values.specs.declared.inet.tcp_info.TcpInfo.{TcpInfo}
+use Rattle.sock_diag_records.specs.declared.inet.response.InetResponseHeader.{InetResponseHeader}
+use Rattle.sock_diag_attributes.specs.Name.{SocketName, abstract, pathname}
+use Rattle.sock_diag_attributes.specs.InetAttributes.{inet}
+use Rattle.sock_diag_attributes.specs.UnixAttributes.{unix}
+use Rattle.netlink_packet_sock_diag.specs.InetReply.{InetReply}
+use Rattle.netlink_packet_sock_diag.specs.Message.{Message, inet_request_with, inet_response_with, unix_request_with, unix_response_with}
+use Rattle.netlink_packet_sock_diag.specs.UnixReply.{UnixReply}
+use Rattle.netlink_packet_sock_diag.specs.UnixGetters.{first_number, first_of, second_number}
+
+-- ---- cells
+
+-- a text, filled up with spaces to a width, and one more space
+abbrev pub column : ℕ → List ℕ → List ℕ
+column width content = content ++ replicate (width - length content) 32 ++ 32 ∷ []
+
+-- a number in decimal, or `-` where none is told
+abbrev pub number_cell : Option ℕ → List ℕ
+number_cell None = codes "-"
+number_cell (Some n) = decimal n
+
+-- the states by their numbers, as ss(8) names them
+abbrev pub state_names : List (List ℕ)
+state_names =
+    codes "UNKNOWN" ∷ codes "ESTAB" ∷ codes "SYN-SENT" ∷ codes "SYN-RECV" ∷ codes "FIN-WAIT-1" ∷ codes "FIN-WAIT-2"
+    ∷ codes "TIME-WAIT" ∷ codes "UNCONN" ∷ codes "CLOSE-WAIT" ∷ codes "LAST-ACK" ∷ codes "LISTEN" ∷ codes "CLOSING" ∷ []
+
+-- the name of a state
+abbrev pub state_name : ℕ → List ℕ
+state_name state = unwrap_or (slice_get state_names state) (codes "UNKNOWN")
+
+-- a byte from `!` to `~` but the backslash, 92
+abbrev pub is_plain : ℕ → Bool
+is_plain c = (nat_le 33 c && nat_le c 126) && (if c == 92 then false else true)
+
+-- a byte that is not plain is a backslash, `x` and two digits
+abbrev pub escaped : ℕ → List ℕ
+escaped c = if is_plain c then c ∷ [] else 92 ∷ 120 ∷ encode_lower (c ∷ [])
+
+-- ---- UNIX sockets
+
+-- the kind of a UNIX socket
+abbrev pub unix_kind : ℕ → List ℕ
+unix_kind kind = if kind == 1 then codes "u_str" else (if kind == 2 then codes "u_dgr" else (if kind == 5 then codes "u_seq" else codes "unix"))
+
+-- the path, or `@` and an abstract name, or `*` where none is told
+abbrev pub name_cell : Option SocketName → List ℕ
+name_cell None = codes "*"
+name_cell (Some (pathname path)) = flat_map escaped path
+name_cell (Some (abstract address)) = 64 ∷ flat_map escaped address
+
+-- the inode of the peer, or `*` where none is told
+abbrev pub peer_cell : Option ℕ → List ℕ
+peer_cell None = codes "*"
+peer_cell (Some n) = decimal n
+
+-- ---- IPv4 and IPv6 sockets
+
+-- `inet6` for the family 10, AF_INET6, and `inet` for the other
+abbrev pub inet_kind : ℕ → List ℕ
+inet_kind family = if family == 10 then codes "inet6" else codes "inet"
+
+-- the address, in brackets where it is one of IPv6
+abbrev pub host : IpAddr → List ℕ
+host (V4 a) = ip_text (V4 a)
+host (V6 a) = 91 ∷ ip_text (V6 a) ++ 93 ∷ []
+
+-- the port, or `*` for 0
+abbrev pub port_text : ℕ → List ℕ
+port_text port = if port == 0 then codes "*" else decimal port
+
+-- an address, `%` and the number of an interface where there is one, and a port behind a colon
+abbrev pub endpoint : IpAddr → ℕ → ℕ → List ℕ
+endpoint address interface port = host address ++ scope_text interface ++ 58 ∷ port_text port
+
+-- ---- lines
+
+-- what the first columns of a line hold
+pub record FirstColumns : Type 0 where
+  pub kind : List ℕ
+  pub state : ℕ
+  pub receive_queue : Option ℕ
+  pub send_queue : Option ℕ
+  pub inode : ℕ
+  pub uid : Option ℕ
+
+-- the first columns of a line
+abbrev pub first_columns : FirstColumns → List ℕ
+first_columns c =
+    column 5 c.kind ++ column 10 (state_name c.state) ++ column 6 (number_cell c.receive_queue)
+    ++ column 6 (number_cell c.send_queue) ++ column 10 (decimal c.inode) ++ column 5 (number_cell c.uid)
+
+-- a line with these ends
+abbrev pub line : FirstColumns → List ℕ → List ℕ → List ℕ
+line c local peer = first_columns c ++ column 30 local ++ peer ++ 10 ∷ []
+
+-- the line of a UNIX socket
+abbrev pub unix_line : UnixReply → List ℕ
+unix_line v =
+    let queues = first_of (content unix 4) v.nlas in
+    line (record {
+      kind = unix_kind v.header.kind;
+      state = v.header.state;
+      receive_queue = first_number queues;
+      send_queue = second_number queues;
+      inode = v.header.inode;
+      uid = None;
+    }) (name_cell (first_of (content unix 0) v.nlas)) (peer_cell (first_of (content unix 2) v.nlas))
+
+-- the line of an IPv4 or IPv6 socket
+abbrev pub inet_line : InetResponseHeader → List ℕ
+inet_line h =
+    let id = h.socket_id in
+    line (record {
+      kind = inet_kind h.family;
+      state = h.state;
+      receive_queue = Some h.recv_queue;
+      send_queue = Some h.send_queue;
+      inode = h.inode;
+      uid = Some h.uid;
+    }) (endpoint id.source_address id.interface_id id.source_port) (endpoint id.destination_address 0 id.destination_port)
+
+-- a space, a word, a colon and a number
+abbrev pub detail : List ℕ → ℕ → List ℕ
+detail word n = 32 ∷ word ++ 58 ∷ decimal n
+
+-- the times of a TCP connection, in microseconds, and the sizes of its segments, in bytes
+abbrev pub times : TcpInfo → List ℕ
+times t =
+    detail (codes "rtt") t.rtt ++ detail (codes "rttvar") t.rttvar ++ detail (codes "rto") t.rto
+    ++ detail (codes "mss") t.snd_mss ++ detail (codes "pmtu") t.pmtu
+
+-- its window, in segments, the segments that are not acknowledged or were sent again, and the bytes sent and received
+abbrev pub traffic : TcpInfo → List ℕ
+traffic t =
+    detail (codes "cwnd") t.snd_cwnd ++ detail (codes "unacked") t.unacked ++ detail (codes "retrans") t.total_retrans
+    ++ detail (codes "sent") t.bytes_sent ++ detail (codes "received") t.bytes_received
+
+-- the line of a TCP connection, behind that of its socket: a tab and ten numbers
+abbrev pub details_line : TcpInfo → List ℕ
+details_line t = 9 ∷ times t ++ traffic t ++ 10 ∷ []
+
+-- the line of what an attribute tells of a TCP connection, or nothing
+abbrev pub details_or_nothing : Option TcpInfo → List ℕ
+details_or_nothing None = []
+details_or_nothing (Some t) = details_line t
+
+-- the details that an attribute tells
+abbrev pub details_of : Said inet → List ℕ
+details_of said = details_or_nothing (content inet 2 said)
+
+-- the lines of an IPv4 or IPv6 socket: its own, and one for each attribute that tells of a TCP connection
+abbrev pub inet_lines : InetReply → List ℕ
+inet_lines v = inet_line v.header ++ flat_map details_of v.nlas
+
+-- the lines of a message, where it is a reply
+unfoldable pub message_lines : Message → List ℕ
+message_lines (inet_response_with v) = inet_lines v
+message_lines (unix_response_with v) = unix_line v
+message_lines (inet_request_with v) = []
+message_lines (unix_request_with v) = []

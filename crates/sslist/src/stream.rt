@@ -1,0 +1,117 @@
+//! The table of a capture, read as it comes.
+
+ghost use Rattle.std.specs.Prelude.{◌≡◌, ◌++◌, ℕ, List, OnOk, IfOk, MatchBool};
+ghost use Rattle.std.specs.Io.KnownBytes.{Appends, Consumes, IsAtEnd, Keeps};
+ghost use Rattle.sslist.specs.Capture.{IsRecord};
+
+use crate::capture::{CaptureError, FileHeader};
+use crate::line::HEADING;
+use crate::list::{Written, list_packet};
+use std::alloc::{AllocError, Global};
+use std::io::{Read, Write};
+use thiserror::Error;
+
+/// Why a run ended before the end of its input.
+#[derive(Clone, Copy, Debug, PartialEq, Eq, Error)]
+pub enum RunError {
+    /// The header of the capture could not be read.
+    #[error("{0}")]
+    Header(CaptureError),
+    /// The packet of this number could not be read. The first one is 1.
+    #[error("packet {packet}: {fault}")]
+    Packet {
+        /// The number of the packet.
+        packet: u64,
+        /// Why it could not be read.
+        fault: CaptureError,
+    },
+    /// A write or the last flush failed.
+    #[error("writing failed")]
+    Write,
+    /// Memory ran out.
+    #[error("out of memory")]
+    Memory,
+}
+
+impl From<AllocError> for RunError {
+    fn from(_e: AllocError) -> RunError {
+        RunError::Memory
+    }
+}
+
+/// Writes the table of a capture: a heading, and the lines of each packet before the next one is read. What is told of
+/// packets goes to `errors`, and where that can't be written it is dropped. It answers whether each packet was listed
+/// whole.
+pub fn run<R: Read, W: Write, E: Write>(
+    alloc: Global,
+    input: &mut R,
+    output: &mut W,
+    errors: &mut E,
+) -> Result<bool, RunError>
+    ensures ended { OnOk result (IsAtEnd (R.remaining input.new)) }
+{
+    let file = FileHeader::read(input).map_err(RunError::Header)?;
+    send(output, HEADING)?;
+    let mut packet = Vec::new(alloc);
+    let mut written = Written {
+        lines: Vec::new(alloc),
+        complaints: Vec::new(alloc),
+    };
+    let mut is_whole = true;
+    'packets: for number in 1..u64::MAX {
+        if !read_packet(&file, input, number, &mut packet)? {
+            flush(output)?;
+            return Ok(is_whole);
+        }
+        written.lines.clear();
+        written.complaints.clear();
+        is_whole &= list_packet(&mut written, number, packet.as_slice())?;
+        send(output, written.lines.as_slice())?;
+        let _ = errors.write_all(written.complaints.as_slice());
+    }
+    Err(RunError::Packet {
+        packet: u64::MAX,
+        fault: CaptureError::Read,
+    })
+}
+
+/// Reads the packet of a number in place of what `packet` held, and answers whether there is one.
+fn read_packet<R: Read>(
+    file: &FileHeader,
+    input: &mut R,
+    number: u64,
+    packet: &mut Vec<u8>,
+) -> Result<bool, RunError>
+    ensures { IfOk result (λ is_read. MatchBool is_read
+        ((header : List ℕ) × IsRecord file.now header packet.new.items
+        × Consumes (R.remaining input.old) (R.remaining input.new) (header ++ packet.new.items))
+        (IsAtEnd (R.remaining input.new) × Keeps (R.remaining input.old) (R.remaining input.new))) }
+{
+    match file.read_packet(input, packet) {
+        Ok(is_read) => Ok(is_read),
+        Err(fault) => Err(RunError::Packet {
+            packet: number,
+            fault,
+        }),
+    }
+}
+
+/// Writes all the bytes.
+fn send<W: Write>(output: &mut W, bytes: &[u8]) -> Result<(), RunError>
+    ensures { OnOk result (Appends (W.contents output.old) (W.contents output.new) bytes.now) }
+{
+    match output.write_all(bytes) {
+        Ok(()) => Ok(()),
+        Err(_) => Err(RunError::Write),
+    }
+}
+
+/// Flushes what was written.
+fn flush<W: Write>(output: &mut W) -> Result<(), RunError>
+    ensures { Keeps (W.contents output.old) (W.contents output.new) }
+{
+    match output.flush() {
+        Ok(()) => Ok(()),
+        Err(_) => Err(RunError::Write),
+    }
+}

@@ -1,0 +1,224 @@
+use crate::capture::{ByteOrder, CaptureError};
+use crate::line::HEADING;
+use crate::run_to_status;
+use crate::stream::{RunError, run};
+use byteorder::{BigEndian, ByteOrder as _, LittleEndian};
+use std::alloc::{AllocError, Global};
+use std::process::Abort;
+use std::test::Fail;
+
+/// A reply about an IPv6 socket in TIME-WAIT: `[fe80::1]` and interface 3, port 22, to `[2001:db8::ff]`, port 40000.
+const INET6: &str =
+    "580000001400020007000000000000000a06030000169c40fe80000000000000000000000000000120010db80000000000000000000000ff030000000000000000000000000000000000000000000000e803000000000000";
+
+/// A reply about a listening stream socket with the abstract name `a b\`.
+const UNIX: &str =
+    "3800000014000200070000000000000001010a000e4f0000a00200000000000009000000006120625c0000000c0004000200000080000000";
+
+/// A dump ends.
+const DONE: &str = "1400000003000200070000000000000000000000";
+
+/// A dump ends with the error 2.
+const DONE_WITH_ERROR: &str = "14000000030002000700000000000000feffffff";
+
+/// A reply about a UNIX socket with 12 bytes of the 16 of its header.
+const SHORT_REPLY: &str = "1c00000014000200070000000000000001010a000e4f0000a0020000";
+
+/// A reply about a netlink socket, of the family 16.
+const OTHER_FAMILY: &str = "20000000140002000700000000000000100101000e4f0000a002000000000000";
+
+/// A request for UNIX sockets.
+const REQUEST: &str =
+    "2800000014000103010000000000000001000000ffffffff000000003f000000ffffffffffffffff";
+
+/// The protocol of sock_diag(7), and another one.
+const SOCK_DIAG: u16 = 4;
+
+const ROUTE: u16 = 0;
+
+/// Adds a number of two or four bytes.
+fn push_word(capture: &mut Vec<u8>, order: ByteOrder, number: u32) -> Result<(), AllocError> {
+    let mut bytes = [0u8; 4];
+    match order {
+        ByteOrder::LowFirst => LittleEndian::write_u32(&mut bytes, number),
+        ByteOrder::HighFirst => BigEndian::write_u32(&mut bytes, number),
+    }
+    capture.extend_from_slice(&bytes)
+}
+
+/// Adds the header of a capture.
+fn push_header(
+    capture: &mut Vec<u8>,
+    order: ByteOrder,
+    magic: u32,
+    link_type: u32,
+) -> Result<(), AllocError> {
+    push_word(capture, order, magic)?;
+    let version: &[u8] = match order {
+        ByteOrder::LowFirst => &[2, 0, 4, 0],
+        ByteOrder::HighFirst => &[0, 2, 0, 4],
+    };
+    capture.extend_from_slice(version)?;
+    for word in [0, 0, 4096, link_type] {
+        push_word(capture, order, word)?;
+    }
+    Ok(())
+}
+
+/// Adds a packet of a protocol, whose datagram is given in hex.
+fn push_packet(
+    alloc: Global,
+    capture: &mut Vec<u8>,
+    order: ByteOrder,
+    protocol: u16,
+    datagram: &str,
+) -> Result<(), Fail> {
+    let bytes = hex::decode(alloc, datagram)?;
+    for word in [7, 9, 16u32.wrapping_add(bytes.len() as u32), 0] {
+        push_word(capture, order, word)?;
+    }
+    let mut cooked = [0u8; 16];
+    cooked[1] = 4;
+    cooked[2] = 3;
+    cooked[3] = 0x38;
+    BigEndian::write_u16(&mut cooked[14..], protocol);
+    capture.extend_from_slice(&cooked)?;
+    capture.extend_from_slice(&bytes)?;
+    Ok(())
+}
+
+/// What a run over a capture ends with, writes on its output and tells on its errors.
+fn listed(
+    alloc: Global,
+    capture: &[u8],
+) -> Result<(Result<bool, RunError>, Vec<u8>, Vec<u8>), AllocError> {
+    let mut input = capture;
+    let mut output = Vec::new(alloc);
+    let mut errors = Vec::new(alloc);
+    let outcome = run(alloc, &mut input, &mut output, &mut errors);
+    Ok((outcome, output, errors))
+}
+
+/// A heading and some lines.
+fn table(alloc: Global, lines: &str) -> Result<Vec<u8>, AllocError> {
+    let mut text = Vec::from_slice(alloc, HEADING)?;
+    text.extend_from_slice(lines.as_bytes())?;
+    Ok(text)
+}
+
+const INET6_LINE: &str =
+    "inet6 TIME-WAIT  0      0      0          1000  [fe80::1]%3:22                 [2001:db8::ff]:40000\n";
+
+const UNIX_LINE: &str =
+    "u_str LISTEN     2      128    20238      -     @a\\x20b\\x5c                    *\n";
+
+/// Captures of both orders and both magic numbers, with packets of other protocols and a request.
+#[test]
+fn lists_captures_of_both_orders(rt: HostRuntime) -> Result<(), Fail> {
+    let alloc = rt.alloc();
+    let mut lines = Vec::from_slice(alloc, UNIX_LINE.as_bytes())?;
+    lines.extend_from_slice(INET6_LINE.as_bytes())?;
+    let want = table(alloc, std::str::from_utf8(&lines)?)?;
+    for order in [ByteOrder::LowFirst, ByteOrder::HighFirst] {
+        for magic in [0xa1b2_c3d4, 0xa1b2_3c4d] {
+            let mut capture = Vec::new(alloc);
+            push_header(&mut capture, order, magic, 253)?;
+            push_packet(alloc, &mut capture, order, ROUTE, UNIX)?;
+            push_packet(alloc, &mut capture, order, SOCK_DIAG, REQUEST)?;
+            push_packet(alloc, &mut capture, order, SOCK_DIAG, UNIX)?;
+            push_packet(alloc, &mut capture, order, SOCK_DIAG, OTHER_FAMILY)?;
+            push_packet(alloc, &mut capture, order, SOCK_DIAG, INET6)?;
+            push_packet(alloc, &mut capture, order, SOCK_DIAG, DONE)?;
+            let (outcome, output, errors) = listed(alloc, &capture)?;
+            assert_eq!(rt; outcome, Ok(true));
+            assert_eq!(rt; output.as_slice(), want.as_slice());
+            assert!(rt; errors.is_empty());
+        }
+    }
+    Ok(())
+}
+
+/// A refused message and an error at the end of a dump are told, and the lines around them stand.
+#[test]
+fn tells_what_is_refused(rt: HostRuntime) -> Result<(), Fail> {
+    let alloc = rt.alloc();
+    let order = ByteOrder::LowFirst;
+    let mut capture = Vec::new(alloc);
+    push_header(&mut capture, order, 0xa1b2_c3d4, 253)?;
+    push_packet(alloc, &mut capture, order, SOCK_DIAG, SHORT_REPLY)?;
+    push_packet(alloc, &mut capture, order, SOCK_DIAG, UNIX)?;
+    push_packet(alloc, &mut capture, order, SOCK_DIAG, DONE_WITH_ERROR)?;
+    let (outcome, output, errors) = listed(alloc, &capture)?;
+    assert_eq!(rt; outcome, Ok(false));
+    assert_eq!(rt; output.as_slice(), table(alloc, UNIX_LINE)?.as_slice());
+    assert_eq!(rt;
+        errors.as_slice(),
+        b"sslist: packet 1, message 1: UnixResponseHeader: buffer of 12 bytes, at least 16 needed\n\
+sslist: packet 3, message 1: the kernel answers error 2\n"
+            .as_slice()
+    );
+    Ok(())
+}
+
+/// A capture that is cut at any byte gives the lines of its whole packets, and says where it is cut.
+#[test]
+fn tells_where_a_capture_is_cut(rt: HostRuntime) -> Result<(), Fail> {
+    let alloc = rt.alloc();
+    let order = ByteOrder::HighFirst;
+    let mut capture = Vec::new(alloc);
+    push_header(&mut capture, order, 0xa1b2_c3d4, 253)?;
+    push_packet(alloc, &mut capture, order, SOCK_DIAG, UNIX)?;
+    let whole = capture.len();
+    push_packet(alloc, &mut capture, order, SOCK_DIAG, INET6)?;
+    for len in 0..capture.len() {
+        let (outcome, output, errors) = listed(alloc, &capture[..len])?;
+        let fault = CaptureError::Cut;
+        let want = match len {
+            0..24 => Err(RunError::Header(fault)),
+            24 => Ok(true),
+            _ if len < whole => Err(RunError::Packet { packet: 1, fault }),
+            _ if len == whole => Ok(true),
+            _ => Err(RunError::Packet { packet: 2, fault }),
+        };
+        assert_eq!(rt; outcome, want, "at {len}");
+        assert!(rt; errors.is_empty());
+        if len >= whole {
+            assert_eq!(rt; output.as_slice(), table(alloc, UNIX_LINE)?.as_slice());
+        }
+    }
+    Ok(())
+}
+
+/// Files that are no captures of netlink traffic are refused before anything is written, and a long packet where it stands.
+#[test]
+fn refuses_other_captures(rt: HostRuntime) -> Result<(), Fail> {
+    let alloc = rt.alloc();
+    let order = ByteOrder::LowFirst;
+    let mut other = Vec::new(alloc);
+    push_header(&mut other, order, 0xa1b2_c3d4, 1)?;
+    let mut errors = Vec::new(alloc);
+    let mut output = Vec::new(alloc);
+    let _status = run_to_status(alloc, &mut other.as_slice(), &mut output, &mut errors);
+    assert!(rt; output.is_empty());
+    assert_eq!(rt;
+        errors.as_slice(),
+        b"sslist: packets of link type 1, not 253 (netlink)\n".as_slice()
+    );
+    let (outcome, _, _) = listed(alloc, b"\x0a\x0d\x0d\x0a and a text of twenty bytes")?;
+    assert_eq!(rt;
+        outcome,
+        Err(RunError::Header(CaptureError::NoCapture(0x0a0d_0d0a)))
+    );
+    let mut long = Vec::new(alloc);
+    push_header(&mut long, order, 0xa1b2_c3d4, 253)?;
+    for word in [0, 0, 4097, 4097] {
+        push_word(&mut long, order, word)?;
+    }
+    let (outcome, _, _) = listed(alloc, &long)?;
+    let fault = CaptureError::PacketTooLong {
+        length: 4097,
+        limit: 4096,
+    };
+    assert_eq!(rt; outcome, Err(RunError::Packet { packet: 1, fault }));
+    Ok(())
+}
