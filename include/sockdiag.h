@@ -8,7 +8,7 @@
  * What the caller upholds, and nothing checks:
  * - A pointer to bytes points to as many as the length beside it says, at most PTRDIFF_MAX. It isn't null, even where
  *   the length is 0.
- * - A pointer to a struct points to one whose bytes are all set, at its alignment.
+ * - A pointer to a struct points to one whose fields are all set, at its alignment.
  * - What a call writes, a buffer or a struct that is no const, overlaps nothing else that the call is given, and no
  *   other thread reads or writes it meanwhile. What a call only reads isn't written meanwhile.
  *

@@ -1,7 +1,9 @@
 -- Replies that are written in canonical form.
-use Rattle.std.specs.Prelude.{◌≡◌, ℕ, ◌<◌, ◌≤◌, ◌⊎◌, List, ◌++◌, length, drop}
+use Rattle.std.specs.Prelude.{◌≡◌, ℕ, ◌<◌, ◌≤◌, ◌↔◌, ◌⊎◌, List, ◌++◌, length, take, drop}
+use Rattle.netlink_core.specs.Bytes.{IsBytes}
 use Rattle.netlink_core.specs.declared.fault.DecodeError.{DecodeError}
 use Rattle.netlink_core.specs.Faults.{number_of}
+use Rattle.netlink_core.specs.Reply.{AreIdleReplies, MeansReply, Reply, ReplyFits, ValueOf, reply_bytes}
 use Rattle.sockdiag_c.specs.declared.rewriting.Outcome.{Outcome}
 
 -- a fault by its number, or 0, and how many bytes are needed
@@ -25,3 +27,10 @@ abbrev pub Rewrites : {V : Type 0} → (V → Type 0) → (DecodeError → Type 
 Rewrites {V} reads refuses fits bytes old new outcome answer =
     ((v : V) × reads v × Writes (fits v) (bytes v) old new outcome answer)
     ⊎ ((e : DecodeError) × refuses e × (outcome ≡ outcome_of (number_of e) 0) × StaysAsItWas old new answer)
+
+-- Where something was written, it is the one string for all strings that are idle with these bytes: of the strings with a
+-- value that can be written, exactly the idle ones are written so.
+abbrev pub IsCanonical : Reply → List ℕ → List ℕ → ℕ → Type 0
+IsCanonical R payload new answer =
+    0 < answer → (d : List ℕ) (w : ValueOf R) → IsBytes d → MeansReply R d w → ReplyFits R w
+    → ((reply_bytes R w ≡ take answer new) ↔ AreIdleReplies R payload d)

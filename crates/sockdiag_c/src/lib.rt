@@ -7,4 +7,6 @@ mod check;
 mod headers;
 mod requests;
 mod rewriting;
+#[cfg(test)]
+mod tests;
 mod walks;

@@ -15,6 +15,7 @@ use netlink_packet_sock_diag::SockDiagMessage;
 use netlink_packet_sock_diag::constants::{AF_INET, AF_INET6};
 use netlink_packet_sock_diag::inet::{self, ExtensionFlags, SocketId};
 use netlink_packet_sock_diag::unix::{self, ShowFlags};
+use std::mem::forget;
 use std::net::{IpAddr, Ipv4Addr, Ipv6Addr};
 
 /// What the netlink header of a request tells, but its length and its type: `struct sockdiag_request_header` of
@@ -98,7 +99,7 @@ pub extern "C" fn sockdiag_write_unix_request(request: &UnixRequest, buffer: &mu
         show_flags: ShowFlags::from_bits_retain(request.show),
         cookie,
     };
-    write_message(
+    write_request(
         &request.header,
         SockDiagMessage::UnixRequest(record),
         buffer,
@@ -119,7 +120,7 @@ pub extern "C" fn sockdiag_write_inet_request(request: &InetRequest, buffer: &mu
         return 0;
     }
     let record = inet_record(request);
-    write_message(
+    write_request(
         &request.header,
         SockDiagMessage::InetRequest(record),
         buffer,
@@ -158,8 +159,8 @@ fn address_in(family: u8, octets: &[u8; 16]) -> IpAddr
     IpAddr::V6(Ipv6Addr::from_octets(*octets))
 }
 
-// Writes the message behind its netlink header at the front of the buffer, and leaves the rest.
-fn write_message(header: &RequestHeader, message: SockDiagMessage, buffer: &mut [u8]) -> usize
+// Writes a request behind its netlink header at the front of the buffer, and leaves the rest.
+fn write_request(header: &RequestHeader, message: SockDiagMessage, buffer: &mut [u8]) -> usize
     requires fits { MessageFits (seen_message message) }
     requires small { 16 + length (message_bytes (seen_message message)) ≤ 4294967295 }
     requires room { 16 + length (message_bytes (seen_message message)) ≤ length buffer.old }
@@ -176,5 +177,8 @@ fn write_message(header: &RequestHeader, message: SockDiagMessage, buffer: &mut 
     let mut whole = NetlinkMessage::new(header, NetlinkPayload::InnerMessage(message));
     whole.finalize();
     whole.serialize(buffer);
-    whole.buffer_len()
+    let len = whole.buffer_len();
+    // A request holds no memory, and with nothing to free the library needs no allocator.
+    forget(whole);
+    len
 }

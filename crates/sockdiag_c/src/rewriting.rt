@@ -5,7 +5,7 @@ ghost use Rattle.netlink_core.specs.Faults.{number_of};
 ghost use Rattle.netlink_core.specs.Reply.{MeansReply, RefusesReply, ReplyFits, reply_bytes};
 ghost use Rattle.netlink_packet_sock_diag.specs.InetReply.{inet_reply};
 ghost use Rattle.netlink_packet_sock_diag.specs.UnixReply.{unix_reply};
-ghost use Rattle.sockdiag_c.specs.Rewriting.{Rewrites, Writes, outcome_of};
+ghost use Rattle.sockdiag_c.specs.Rewriting.{IsCanonical, Rewrites, Writes, outcome_of};
 
 use netlink_core::{DecodeError, Emitable};
 use netlink_packet_sock_diag::inet::InetResponseView;
@@ -30,8 +30,9 @@ pub extern "C" fn sockdiag_rewrite_unix_reply(
     buffer: &mut [u8],
     outcome: &mut Outcome,
 ) -> usize
-    ensures { Rewrites (MeansReply unix_reply payload.now) (RefusesReply unix_reply payload.now) (ReplyFits unix_reply) (reply_bytes unix_reply)
+    ensures rewrites { Rewrites (MeansReply unix_reply payload.now) (RefusesReply unix_reply payload.now) (ReplyFits unix_reply) (reply_bytes unix_reply)
         buffer.old buffer.new outcome.new result }
+    ensures canonical { IsCanonical unix_reply payload.now buffer.new result }
 {
     match UnixResponseView::parse(payload) {
         Ok(view) => write_value(&view, buffer, outcome),
@@ -46,8 +47,9 @@ pub extern "C" fn sockdiag_rewrite_inet_reply(
     buffer: &mut [u8],
     outcome: &mut Outcome,
 ) -> usize
-    ensures { Rewrites (MeansReply inet_reply payload.now) (RefusesReply inet_reply payload.now) (ReplyFits inet_reply) (reply_bytes inet_reply)
+    ensures rewrites { Rewrites (MeansReply inet_reply payload.now) (RefusesReply inet_reply payload.now) (ReplyFits inet_reply) (reply_bytes inet_reply)
         buffer.old buffer.new outcome.new result }
+    ensures canonical { IsCanonical inet_reply payload.now buffer.new result }
 {
     match InetResponseView::parse(payload) {
         Ok(view) => write_value(&view, buffer, outcome),

@@ -7,11 +7,11 @@ use Rattle.sock_diag_records.specs.InetRequestLaws.{request_length}
 use Rattle.sockdiag_c.specs.Requests.{header_of, inet_request_of}
 use Rattle.sockdiag_c.proofs.requests.sockdiag_write_inet_request.Goals as goal
 
-pub write_message-requires-clause-small : goal.write_message-requires-clause-small
-write_message-requires-clause-small c = omega (arith, request_length c.inet_record-record.result)
+pub write_request-requires-clause-small : goal.write_request-requires-clause-small
+write_request-requires-clause-small c = omega (arith, request_length c.inet_record-record.result)
 
-pub write_message-requires-clause-room : goal.write_message-requires-clause-room
-write_message-requires-clause-room c = omega (arith, request_length c.inet_record-record.result)
+pub write_request-requires-clause-room : goal.write_request-requires-clause-room
+write_request-requires-clause-room c = omega (arith, request_length c.inet_record-record.result)
 
 pub returns-clause-written : goal.returns-clause-written
 returns-clause-written c long family =
@@ -23,4 +23,4 @@ returns-clause-written c long family =
     λ i. header_bytes (header_of (size i) header) ++ bytes inet_request (c.inet_record-record.ensures i) in
     let len : length (header_bytes (header_of (16 + length record_bytes) header) ++ record_bytes) ≡ 72 =
     length-append (header_bytes (header_of (16 + length record_bytes) header)) record_bytes ∙ size in
-    (c.write_message.ensures.0 ∙ len, c.write_message.ensures.1 ∙ (λ i. whole i ++ drop (len i) c.args.buffer.now))
+    (c.write_request.ensures.0 ∙ len, c.write_request.ensures.1 ∙ (λ i. whole i ++ drop (len i) c.args.buffer.now))
