@@ -1,17 +1,21 @@
 -- Steps of walks, by the place of a cursor.
-use Rattle.std.proofs.Common.{◌≡◌, ◌∙◌, ℕ, ◌+◌, ◌-◌, ◌≤◌, ◌⊎◌, inl, inr, List, ◌++◌, length, take, drop, refl, sym, ap, subst, arith}
+use Rattle.std.proofs.Common.{◌≡◌, ◌∙◌, ℕ, ◌+◌, ◌-◌, ◌≤◌, ◌⊎◌, inl, inr, List, [], ◌∷◌, ◌++◌, length, take, drop, refl, sym, ap, subst, arith}
 use Rattle.std.proofs.lemmas.List.{drop-drop, take_at}
-use Rattle.netlink_core.specs.Attribute.{Attribute, StartsWith, fill}
+use Rattle.netlink_core.specs.Attribute.{Attribute, Cut, StartsWith, fill}
 use Rattle.netlink_core.specs.Datagram.{StartsWithMessage}
 use Rattle.netlink_core.specs.declared.header.NetlinkHeader.{NetlinkHeader}
 use Rattle.netlink_core.specs.Envelope.{IsFramed, done_with, error_with, no_payload, overrun_with}
 use Rattle.netlink_core.specs.Header.{HasHeader}
+use Rattle.netlink_core.specs.FrontLaws.{head_or_fault_apart}
+use Rattle.netlink_core.proofs.Cutting.{one_start}
 use Rattle.netlink_core.proofs.Datagrams.{starts_with_message}
 use Rattle.netlink_core.proofs.Framing.{framed}
 use Rattle.netlink_core.proofs.Front.{starts_with}
-use Rattle.netlink_core.proofs.Walking.{head_of_start}
+use Rattle.netlink_core.proofs.Walking.{StartsWith-some, head_of_start}
+use Rattle.sockdiag_c.specs.declared.walks.AttributePart.{AttributePart}
+use Rattle.sockdiag_c.specs.declared.walks.Cursor.{Cursor}
 use Rattle.sockdiag_c.specs.declared.walks.MessagePart.{MessagePart}
-use Rattle.sockdiag_c.specs.Walks.{Carries, attribute_in, header_in, payload_in}
+use Rattle.sockdiag_c.specs.Walks.{Carries, NextAttribute, attribute_in, header_in, left_of, payload_in}
 
 -- the attribute at a place is the one whose value stands behind the two words there
 attribute_told : (bytes rest : List ℕ) (place : ℕ) (a : Attribute) → StartsWith (drop place bytes) a rest
@@ -70,3 +74,21 @@ kept_is_carried payload t (inl one) = inl (refl, (no_payload, one))
 kept_is_carried payload t (inr (inl two)) = inl (refl, (error_with payload, (two, refl)))
 kept_is_carried payload t (inr (inr (inl three))) = inl (refl, (done_with payload, (three, refl)))
 kept_is_carried payload t (inr (inr (inr four))) = inl (refl, (overrun_with payload, (four, refl)))
+
+-- ---- steps over bytes that are cut into attributes
+
+-- a step tells the first attribute
+pub step_at_attribute : (bytes : List ℕ) (old new : Cursor) (was now : AttributePart) (answer : ℕ) (first : Attribute) (later : List Attribute)
+    → Cut (left_of bytes old) (first ∷ later) → NextAttribute bytes old new was now answer → (answer ≡ 1) × (attribute_in bytes now ≡ first) × Cut (left_of bytes new) later
+step_at_attribute bytes old new was now answer first later h (inl ends) = absurd (StartsWith-some (left_of bytes old) h.0 first h.1 ends.1)
+step_at_attribute bytes old new was now answer first later h (inr (inl s)) =
+    let same = one_start (left_of bytes old) h.0 (left_of bytes new) first (attribute_in bytes now) h.1 s.1 in
+    (s.0, sym same.0, subst (λ (b : List ℕ). Cut b later) same.1 h.2)
+step_at_attribute bytes old new was now answer first later h (inr (inr fails)) =
+    absurd (head_or_fault_apart (left_of bytes old) first fails.0 (head_of_start (left_of bytes old) h.0 first h.1) fails.1)
+
+-- where none is left, the walk ends
+pub step_at_end : (bytes : List ℕ) (old new : Cursor) (was now : AttributePart) (answer : ℕ) → Cut (left_of bytes old) [] → NextAttribute bytes old new was now answer → answer ≡ 0
+step_at_end bytes old new was now answer none (inl ends) = ends.0
+step_at_end bytes old new was now answer none (inr (inl s)) = absurd (StartsWith-some (left_of bytes old) (left_of bytes new) (attribute_in bytes now) s.1 none)
+step_at_end bytes old new was now answer none (inr (inr fails)) = absurd (fails.3 none)

@@ -5,6 +5,7 @@
 
 mod check;
 mod headers;
+pub mod laws;
 mod requests;
 mod rewriting;
 #[cfg(test)]
