@@ -1,9 +1,10 @@
 /*
  * Messages of sock_diag(7) behind headers of netlink(7), read and written in the caller's memory.
  *
- * The library is crates/sockdiag_c. What is said here of each call is proved there, as a contract of the function of
- * the same name. It takes no memory, opens nothing and keeps nothing between calls, so any thread may call it at any
- * time, with memory that is its own.
+ * The library is crates/sockdiag_c, and tests/c_face.sh shows how to build and link it. What is said here of each call is
+ * proved there, as a contract of the function of the same name. It takes no memory, opens nothing and keeps nothing
+ * between calls, so any thread may call it at any time, with memory that is its own. Of the C library it needs memcpy,
+ * memmove and memset.
  *
  * What the caller upholds, and nothing checks:
  * - A pointer to bytes points to as many as the length beside it says, at most PTRDIFF_MAX. It isn't null, even where

@@ -4,7 +4,6 @@
 # runs no C, and needs the kit's rt and a C compiler.
 set -eu
 top=$(CDPATH='' cd -- "$(dirname -- "$0")/.." && pwd)
-kit=$(dirname "$(rt doc)")
 work=$(mktemp -d)
 trap 'rm -rf "$work"' EXIT
 
@@ -13,8 +12,8 @@ echo "proving and building the library"
 
 # build NAME SOURCE
 build() {
-    ${CC:-cc} -std=c11 -O2 -Wall -Wextra -Wpedantic -Werror -I"$top/include" -o "$work/$1" "$2" \
-        "$top/crates/sockdiag_c/out/libsockdiag_c.a" "$kit/c/liblibc_c.a"
+    ${CC:-cc} -std=c11 -O2 -Wall -Wextra -Wpedantic -Werror -I"$top/include" \
+        -o "$work/$1" "$2" "$top/crates/sockdiag_c/out/libsockdiag_c.a"
 }
 
 build c_face "$top/tests/c_face.c"
