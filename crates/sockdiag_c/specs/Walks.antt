@@ -63,10 +63,13 @@ Carries payload t answer =
     ⊎ ((e : DecodeError) × IsInnerType t × MessageFault payload t e × (answer ≡ number_of e))
 
 -- The message at the front of what was left is told, its payload behind the header, and what it carries; and the walk
--- passes it and its padding. Or the walk ends, or fails.
+-- passes it and its padding.
+abbrev pub IsTold : List ℕ → Cursor → Cursor → MessagePart → ℕ → Type 0
+IsTold bytes old new now answer =
+    (message : List ℕ) × StartsWithMessage (left_of bytes old) message (left_of bytes new)
+    × IsFramed (left_of bytes old) (header_in now) (payload_in bytes now) × (now.offset ≡ old.place + 16) × Carries (payload_in bytes now) now.message_type answer
+
+-- A message is told, or the walk ends, or fails.
 abbrev pub NextMessage : List ℕ → Cursor → Cursor → MessagePart → MessagePart → ℕ → Type 0
 NextMessage bytes old new was now answer =
-    EndsAt bytes old new was now answer
-    ⊎ (((message : List ℕ) × StartsWithMessage (left_of bytes old) message (left_of bytes new)
-    × IsFramed (left_of bytes old) (header_in now) (payload_in bytes now) × (now.offset ≡ old.place + 16) × Carries (payload_in bytes now) now.message_type answer)
-    ⊎ FailsAt IsEnvelopeFault bytes old new was now answer)
+    EndsAt bytes old new was now answer ⊎ (IsTold bytes old new now answer ⊎ FailsAt IsEnvelopeFault bytes old new was now answer)
