@@ -1,10 +1,10 @@
 /*
  * Messages of sock_diag(7) behind headers of netlink(7), read and written in the caller's memory.
  *
- * The library is crates/sockdiag_c, and tests/c_face.sh shows how to build and link it. What is said here of each call is
- * proved there, as a contract of the function of the same name. It takes no memory, opens nothing and keeps nothing
- * between calls, so any thread may call it at any time, with memory that is its own. Of the C library it needs memcpy,
- * memmove and memset.
+ * The library is crates/sockdiag_c, and tests/c_face.sh shows how to build and link it. What is said here of a call is
+ * proved there, by the contract of the function of the same name and the two laws of the walks in src/laws.rt. The library
+ * takes no memory, opens nothing and keeps nothing between calls, so any thread may call it at any time, with memory that
+ * is its own. Of the C library it needs memcpy, memmove and memset.
  *
  * What the caller upholds, and nothing checks:
  * - A pointer to bytes points to as many as the length beside it says, at most PTRDIFF_MAX. It isn't null, even where
@@ -147,10 +147,10 @@ struct sockdiag_message {
 /*
  * Tells the message at the cursor's place and moves the cursor behind it and its padding.
  *
- * The answer is 1 where it is of one of the four NLMSG_ types, or a reply that the checks above accept; or 0 where no
- * bytes are left, and then nothing is written; or the number of the first fault of the payload of a message of any other
- * type, 2 to 15, and then the message is told nevertheless and the walk may go on; or that of the framing there, 16 to
- * 18, and then *message is as it was, and nothing is left. The end of a dump doesn't end the walk.
+ * The answer is 1 where it is of one of the four NLMSG_ types, or a reply that sockdiag_check_message accepts; or 0 where
+ * no bytes are left, and then nothing is written; or the number of the first fault of the payload of a message of any
+ * other type, and then the message is told nevertheless and the walk may go on; or the number of the fault of the framing
+ * there, 16 to 18, and then *message is as it was, and nothing is left. The end of a dump doesn't end the walk.
  */
 uint32_t sockdiag_next_message(const uint8_t *datagram, size_t length, struct sockdiag_cursor *cursor,
                                struct sockdiag_message *message);

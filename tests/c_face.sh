@@ -10,6 +10,12 @@ trap 'rm -rf "$work"' EXIT
 echo "proving and building the library"
 (cd "$top/crates/sockdiag_c" && rt lib) >"$work/log" 2>&1 || { cat "$work/log" >&2; exit 1; }
 
+# It takes no memory, so it calls no allocator.
+if nm -u "$top/crates/sockdiag_c/out/libsockdiag_c.a" | grep -E 'alloc|free'; then
+    echo "the library needs an allocator" >&2
+    exit 1
+fi
+
 # build NAME SOURCE
 build() {
     ${CC:-cc} -std=c11 -O2 -Wall -Wextra -Wpedantic -Werror -I"$top/include" \
