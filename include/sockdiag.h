@@ -138,7 +138,7 @@ struct sockdiag_message {
     size_t offset;            /* where the payload begins */
     size_t length;            /* how many bytes it has, without padding: the length word less 16 */
     uint16_t message_type;    /* NLMSG_NOOP, NLMSG_ERROR, NLMSG_DONE or NLMSG_OVERRUN of netlink(7), or
-                                 SOCK_DIAG_BY_FAMILY for a reply */
+                                 SOCK_DIAG_BY_FAMILY for a reply; any other where the payload is refused */
     uint16_t flags;           /* the NLM_F_ flags */
     uint32_t sequence_number; /* the sender's number, that of the request in its replies */
     uint32_t port_number;     /* the port of the sender, 0 for the kernel */
