@@ -1,0 +1,22 @@
+use Rattle.std.proofs.Common.{rules, refl, inl, inr}
+use Rattle.netlink_core.specs.Envelope.{IsInnerType, inner}
+use Rattle.netlink_packet_sock_diag.specs.ViewedMessage.{viewed_message}
+use Rattle.sockdiag_c.proofs.Steps.{kept_is_carried}
+use Rattle.sockdiag_c.proofs.walks.check_payload.Goals as goal
+
+pub returns-in-1 : goal.returns-in-1
+returns-in-1 c = kept_is_carried c.args.payload.now c.args.message_type (inl c.in-1.is)
+
+pub returns-in-2 : goal.returns-in-2
+returns-in-2 c = kept_is_carried c.args.payload.now c.args.message_type (inr (inl c.in-2.is))
+
+pub returns-in-3 : goal.returns-in-3
+returns-in-3 c = kept_is_carried c.args.payload.now c.args.message_type (inr (inr (inl c.in-3.is)))
+
+pub returns-in-4 : goal.returns-in-4
+returns-in-4 c = kept_is_carried c.args.payload.now c.args.message_type (inr (inr (inr c.in-4.is)))
+
+pub returns-in-Ok : goal.returns-in-Ok
+returns-in-Ok c =
+    let other : IsInnerType c.args.message_type = search rules in
+    inl (refl, (inner (viewed_message c.in-Ok.field-0), (other, c.in-Ok.ensures.value)))

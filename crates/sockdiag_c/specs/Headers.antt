@@ -1,0 +1,42 @@
+-- What C is told of the headers of replies.
+use Rattle.std.specs.Prelude.{slice_index}
+use Rattle.sock_diag_records.specs.declared.inet.response.InetResponseHeader.{InetResponseHeader}
+use Rattle.sock_diag_records.specs.declared.unix.response.UnixResponseHeader.{UnixResponseHeader}
+use Rattle.sock_diag_records.specs.InetResponse.{byte_of_class, class_of, expires_values, retransmits_values}
+use Rattle.sock_diag_records.specs.SocketId.{address_bytes}
+use Rattle.netlink_packet_sock_diag.specs.Message.{Message, inet_request_with, inet_response_with, unix_request_with, unix_response_with}
+use Rattle.sockdiag_c.specs.declared.headers.InetHeader.{InetHeader}
+use Rattle.sockdiag_c.specs.declared.headers.Reply.{Reply}
+use Rattle.sockdiag_c.specs.declared.headers.UnixHeader.{UnixHeader}
+
+-- each field by its name
+abbrev pub unix_header_of : UnixResponseHeader → UnixHeader
+unix_header_of h = record { kind = h.kind; state = h.state; inode = h.inode; cookie = h.cookie }
+
+-- each field by its name; of the timer its byte, and its count and its milliseconds or else zeros; of an address its
+-- octets, and zeros behind four of them
+abbrev pub inet_header_of : InetResponseHeader → InetHeader
+inet_header_of h = record {
+  family = h.family;
+  state = h.state;
+  timer = byte_of_class (class_of h.timer);
+  retransmits = slice_index (retransmits_values h.timer) 0;
+  expires = slice_index (expires_values h.timer) 0;
+  source_port = h.socket_id.source_port;
+  destination_port = h.socket_id.destination_port;
+  source_address = address_bytes h.socket_id.source_address;
+  destination_address = address_bytes h.socket_id.destination_address;
+  interface_id = h.socket_id.interface_id;
+  cookie = h.socket_id.cookie;
+  recv_queue = h.recv_queue;
+  send_queue = h.send_queue;
+  uid = h.uid;
+  inode = h.inode;
+}
+
+-- which kind of reply it is, and its header. A request is never read, and of the header of the other kind nothing is told.
+abbrev pub reply_of : Reply → Message → Reply
+reply_of old (unix_response_with v) = record old { kind = 1; unix_header = unix_header_of v.header }
+reply_of old (inet_response_with v) = record old { kind = 2; inet_header = inet_header_of v.header }
+reply_of old (unix_request_with v) = old
+reply_of old (inet_request_with v) = old

@@ -1,0 +1,5 @@
+pub mod Answers
+pub mod Headers
+pub mod Walks
+pub mod Requests
+pub mod Rewriting

@@ -1,0 +1,90 @@
+//! The canonical form of replies: one string for all strings that differ in idle details alone.
+
+ghost use Rattle.std.specs.Prelude.{◌≡◌};
+ghost use Rattle.netlink_core.specs.Faults.{number_of};
+ghost use Rattle.netlink_core.specs.Reply.{MeansReply, RefusesReply, ReplyFits, reply_bytes};
+ghost use Rattle.netlink_packet_sock_diag.specs.InetReply.{inet_reply};
+ghost use Rattle.netlink_packet_sock_diag.specs.UnixReply.{unix_reply};
+ghost use Rattle.sockdiag_c.specs.Rewriting.{IsCanonical, Rewrites, Writes, outcome_of};
+
+use netlink_core::{DecodeError, Emitable};
+use netlink_packet_sock_diag::inet::InetResponseView;
+use netlink_packet_sock_diag::unix::UnixResponseView;
+
+/// How a reply was rewritten: `struct sockdiag_outcome` of `include/sockdiag.h`.
+#[repr(C)]
+#[derive(Clone, Copy)]
+pub struct Outcome {
+    /// The number of the first fault of a reply that is refused, else 0.
+    pub fault: u32,
+    /// How many bytes the canonical form has, or 0 where the reply is refused or can't be written.
+    pub needed: usize,
+}
+
+/// Writes the canonical form of a reply about a UNIX socket, the payload of its message, at the front of the buffer. It
+/// answers how many bytes were written, or 0, and then nothing is written: the reply is refused, or it can't be written,
+/// or the buffer is shorter than is needed.
+#[unsafe(no_mangle)]
+pub extern "C" fn sockdiag_rewrite_unix_reply(
+    payload: &[u8],
+    buffer: &mut [u8],
+    outcome: &mut Outcome,
+) -> usize
+    ensures rewrites { Rewrites (MeansReply unix_reply payload.now) (RefusesReply unix_reply payload.now) (ReplyFits unix_reply) (reply_bytes unix_reply)
+        buffer.old buffer.new outcome.new result }
+    ensures canonical { IsCanonical unix_reply payload.now buffer.new result }
+{
+    match UnixResponseView::parse(payload) {
+        Ok(view) => write_value(&view, buffer, outcome),
+        Err(fault) => refuse(&fault, outcome),
+    }
+}
+
+/// The same of a reply about an IPv4 or IPv6 socket.
+#[unsafe(no_mangle)]
+pub extern "C" fn sockdiag_rewrite_inet_reply(
+    payload: &[u8],
+    buffer: &mut [u8],
+    outcome: &mut Outcome,
+) -> usize
+    ensures rewrites { Rewrites (MeansReply inet_reply payload.now) (RefusesReply inet_reply payload.now) (ReplyFits inet_reply) (reply_bytes inet_reply)
+        buffer.old buffer.new outcome.new result }
+    ensures canonical { IsCanonical inet_reply payload.now buffer.new result }
+{
+    match InetResponseView::parse(payload) {
+        Ok(view) => write_value(&view, buffer, outcome),
+        Err(fault) => refuse(&fault, outcome),
+    }
+}
+
+// Writes the value, where it can be written and there is room for it.
+fn write_value<V: Emitable>(value: &V, buffer: &mut [u8], outcome: &mut Outcome) -> usize
+    ensures { Writes (V.writable value.now) (V.bytes value.now) buffer.old buffer.new outcome.new result }
+{
+    if !value.is_writable() {
+        *outcome = Outcome {
+            fault: 0,
+            needed: 0,
+        };
+        return 0;
+    }
+    let needed = value.buffer_len();
+    *outcome = Outcome { fault: 0, needed };
+    if buffer.len() < needed {
+        return 0;
+    }
+    value.emit(buffer);
+    needed
+}
+
+// Tells the fault. Nothing is written.
+fn refuse(fault: &DecodeError, outcome: &mut Outcome) -> usize
+    ensures outcome { outcome.new ≡ outcome_of (number_of fault.now) 0 }
+    ensures none { result ≡ 0 }
+{
+    *outcome = Outcome {
+        fault: u32::from(fault.number()),
+        needed: 0,
+    };
+    0
+}

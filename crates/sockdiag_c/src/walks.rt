@@ -1,0 +1,155 @@
+//! Walks over the attributes of a reply and over the messages of a datagram, in place.
+
+ghost use Rattle.std.specs.Prelude.{◌≡◌, ◌+◌, ◌<◌, ◌^◌};
+ghost use Rattle.netlink_core.specs.Attribute.{fill};
+ghost use Rattle.sockdiag_c.specs.Walks.{Carries, NextAttribute, NextMessage};
+
+use netlink_core::{
+    NLMSG_DONE, NLMSG_ERROR, NLMSG_NOOP, NLMSG_OVERRUN, NetlinkHeader, NlasIterator,
+};
+use netlink_packet_sock_diag::SockDiagView;
+
+/// The answer of a walk that has ended.
+const END: u32 = 0;
+
+/// The answer of a walk that tells an item. It is no fault's number here: want of memory doesn't occur.
+const ITEM: u32 = 1;
+
+/// How many bytes the two words in front of an attribute's value have.
+const WORDS: usize = 4;
+
+/// How many bytes the header of a netlink message has.
+const HEADER: usize = 16;
+
+/// How far a walk is: `struct sockdiag_cursor` of `include/sockdiag.h`.
+#[repr(C)]
+#[derive(Clone, Copy)]
+pub struct Cursor {
+    /// Where the next item stands. A place at the end of the bytes or behind it says that none is left.
+    pub place: usize,
+}
+
+/// An attribute, by where its value stands: `struct sockdiag_attribute` of `include/sockdiag.h`.
+#[repr(C)]
+#[derive(Clone, Copy)]
+pub struct AttributePart {
+    /// Where the value begins.
+    pub offset: usize,
+    /// How many bytes the value has, without padding.
+    pub length: usize,
+    /// The type word, with its two flag bits.
+    pub type_word: u16,
+}
+
+/// A message, by where its payload stands, with what its header tells: `struct sockdiag_message` of
+/// `include/sockdiag.h`.
+#[repr(C)]
+#[derive(Clone, Copy)]
+pub struct MessagePart {
+    /// Where the payload begins.
+    pub offset: usize,
+    /// How many bytes the payload has, without padding: those that the length word counts, without the header's.
+    pub length: usize,
+    /// What the payload is: one of the `NLMSG_` types, or `SOCK_DIAG_BY_FAMILY` for a reply.
+    pub message_type: u16,
+    /// The `NLM_F_` flags.
+    pub flags: u16,
+    /// The sender's number for the message, which a reply repeats.
+    pub sequence_number: u32,
+    /// The port of the sender, 0 for the kernel.
+    pub port_number: u32,
+}
+
+/// Tells the attribute at the cursor's place, and moves the cursor behind it. The answer is 1; 0 where no bytes are
+/// left, and then nothing is told; or the number of the framing fault there, and then nothing is told, and nothing is
+/// left.
+#[unsafe(no_mangle)]
+pub extern "C" fn sockdiag_next_attribute(
+    bytes: &[u8],
+    cursor: &mut Cursor,
+    attribute: &mut AttributePart,
+) -> u32
+    ensures { NextAttribute bytes.now cursor.old cursor.new attribute.old attribute.new result }
+{
+    let place = cursor.place;
+    if place >= bytes.len() {
+        return END;
+    }
+    let mut walk = NlasIterator::new(&bytes[place..]);
+    match walk.next() {
+        None => END,
+        Some(Ok(nla)) => {
+            attribute.offset = place + WORDS;
+            attribute.length = nla.value().len();
+            attribute.type_word = nla.type_word();
+            cursor.place = place + padded(WORDS + attribute.length);
+            ITEM
+        }
+        Some(Err(fault)) => {
+            cursor.place = bytes.len();
+            u32::from(fault.number())
+        }
+    }
+}
+
+/// Tells the message at the cursor's place, and moves the cursor behind it. The answer is 1 where the message carries
+/// what its type says; 0 where no bytes are left, and then nothing is told; the number of the first fault of its
+/// payload, and then the walk may go on; or the number of the framing fault there, and then nothing is told, and
+/// nothing is left.
+#[unsafe(no_mangle)]
+pub extern "C" fn sockdiag_next_message(
+    datagram: &[u8],
+    cursor: &mut Cursor,
+    message: &mut MessagePart,
+) -> u32
+    ensures { NextMessage datagram.now cursor.old cursor.new message.old message.new result }
+{
+    let place = cursor.place;
+    if place >= datagram.len() {
+        return END;
+    }
+    let left = &datagram[place..];
+    match NetlinkHeader::from_prefix(left) {
+        Ok(header) => {
+            let end = header.length as usize;
+            *message = MessagePart {
+                offset: place + HEADER,
+                length: end - HEADER,
+                message_type: header.message_type,
+                flags: header.flags,
+                sequence_number: header.sequence_number,
+                port_number: header.port_number,
+            };
+            cursor.place = place + padded(end);
+            check_payload(&left[HEADER..end], header.message_type)
+        }
+        Err(fault) => {
+            cursor.place = datagram.len();
+            u32::from(fault.number())
+        }
+    }
+}
+
+// Whether the payload carries what its type says: the answer is 1, or the number of the first fault.
+fn check_payload(payload: &[u8], message_type: u16) -> u32
+    ensures { Carries payload.now message_type result }
+{
+    match message_type {
+        NLMSG_NOOP => ITEM,
+        NLMSG_ERROR => ITEM,
+        NLMSG_DONE => ITEM,
+        NLMSG_OVERRUN => ITEM,
+        _ => match SockDiagView::parse(payload, message_type) {
+            Ok(_) => ITEM,
+            Err(fault) => u32::from(fault.number()),
+        },
+    }
+}
+
+// The length with the padding that brings it to a multiple of 4.
+fn padded(length: usize) -> usize
+    requires { length < 2 ^ 32 }
+    ensures { result ≡ length + fill length }
+{
+    (length + 3) / 4 * 4
+}

@@ -1,0 +1,228 @@
+/*
+ * Calls each function of include/sockdiag.h once with what it accepts and with what it refuses. The bytes are worked out
+ * by hand from the layouts of sock_diag(7) and netlink(7). tests/c_face.sh builds and runs it.
+ */
+#include "sockdiag.h"
+
+#include <stdio.h>
+#include <string.h>
+
+static int failures;
+
+static void check(int holds, const char *what) {
+    if (!holds) {
+        fprintf(stderr, "c_face: %s\n", what);
+        failures++;
+    }
+}
+
+/* A reply about a UNIX socket: type 1, state 10, inode 0x11223344, a pathname "/a" with its zero and one byte of padding,
+ * and a peer. The byte at 3, which no reader looks at, and the padding are not zero. */
+static const uint8_t unix_reply[36] = {
+    1, 1, 10, 0xee, 0x44, 0x33, 0x22, 0x11, 1, 2, 3, 4, 5, 6, 7, 8,
+    7, 0, 0, 0, '/', 'a', 0, 0xff,
+    8, 0, 2, 0, 0x78, 0x56, 0x34, 0x12,
+    4, 0, 0x63, 0,
+};
+
+/* The header of a reply about an IPv4 socket: state 1, the timer 1 with 3 retransmits and 200 milliseconds, from
+ * 127.0.0.1 port 80 to 10.0.0.2 port 49152. Behind the addresses stand bytes that no reader looks at. */
+static const uint8_t inet_reply[72] = {
+    2, 1, 1, 3, 0, 80, 0xc0, 0,
+    127, 0, 0, 1, 9, 9, 9, 9, 9, 9, 9, 9, 9, 9, 9, 9,
+    10, 0, 0, 2, 9, 9, 9, 9, 9, 9, 9, 9, 9, 9, 9, 9,
+    4, 0, 0, 0, 8, 7, 6, 5, 4, 3, 2, 1,
+    200, 0, 0, 0, 1, 0, 0, 0, 2, 0, 0, 0, 0xe8, 3, 0, 0, 0x39, 0x30, 0, 0,
+};
+
+static void checks_unix(void) {
+    static const uint8_t cookie[8] = {1, 2, 3, 4, 5, 6, 7, 8};
+    struct sockdiag_unix_header header, before;
+    memset(&header, 0xaa, sizeof header);
+    before = header;
+    check(sockdiag_check_unix_reply(unix_reply, 15, &header) == SOCKDIAG_BUFFER_TOO_SMALL, "a cut header");
+    check(sockdiag_check_unix_reply(unix_reply, 22, &header) == SOCKDIAG_ATTRIBUTE_LENGTH_PAST, "a cut attribute");
+    check(sockdiag_check_unix_reply(unix_reply, 34, &header) == SOCKDIAG_ATTRIBUTE_HEADER_CUT, "a cut attribute's header");
+    check(memcmp(&header, &before, sizeof header) == 0, "a header is told of a refused reply");
+    check(sockdiag_check_unix_reply(unix_reply, sizeof unix_reply, &header) == 0, "a UNIX reply");
+    check(header.kind == 1 && header.state == 10 && header.inode == 0x11223344, "a UNIX header");
+    check(memcmp(header.cookie, cookie, 8) == 0, "a UNIX cookie");
+}
+
+static void checks_inet(void) {
+    static const uint8_t source[16] = {127, 0, 0, 1}, destination[16] = {10, 0, 0, 2};
+    struct sockdiag_inet_header header;
+    uint8_t other[72];
+    memset(&header, 0, sizeof header);
+    check(sockdiag_check_inet_reply(inet_reply, 71, &header) == SOCKDIAG_BUFFER_TOO_SMALL, "a cut internet header");
+    memcpy(other, inet_reply, sizeof other);
+    other[0] = 3;
+    check(sockdiag_check_inet_reply(other, 72, &header) == SOCKDIAG_UNSUPPORTED_FAMILY, "another family");
+    check(sockdiag_check_inet_reply(inet_reply, 72, &header) == 0, "an internet reply");
+    check(header.family == 2 && header.state == 1, "family and state");
+    check(header.timer == 1 && header.retransmits == 3 && header.expires == 200, "timer");
+    check(header.source_port == 80 && header.destination_port == 49152, "ports");
+    check(memcmp(header.source_address, source, 16) == 0, "source address");
+    check(memcmp(header.destination_address, destination, 16) == 0, "destination address");
+    check(header.interface_id == 4 && header.cookie[0] == 8 && header.cookie[7] == 1, "interface and cookie");
+    check(header.recv_queue == 1 && header.send_queue == 2, "queues");
+    check(header.uid == 1000 && header.inode == 12345, "user and inode");
+}
+
+static void checks_messages(void) {
+    static const uint8_t packet[2] = {17, 0};
+    struct sockdiag_reply reply;
+    memset(&reply, 0, sizeof reply);
+    check(sockdiag_check_message(unix_reply, 1, 20, &reply) == SOCKDIAG_MESSAGE_TOO_SHORT, "a short payload");
+    check(sockdiag_check_message(unix_reply, 36, 21, &reply) == SOCKDIAG_UNKNOWN_MESSAGE_TYPE, "another type");
+    check(sockdiag_check_message(packet, 2, 20, &reply) == SOCKDIAG_UNKNOWN_FAMILY, "a packet socket");
+    check(reply.kind == 0, "a reply is told of a refused message");
+    check(sockdiag_check_message(unix_reply, 36, 20, &reply) == 0, "a message");
+    check(reply.kind == SOCKDIAG_UNIX && reply.unix_header.inode == 0x11223344, "a message about a UNIX socket");
+    check(sockdiag_check_message(inet_reply, 72, 20, &reply) == 0, "an internet message");
+    check(reply.kind == SOCKDIAG_INET && reply.inet_header.inode == 12345, "a message about an internet socket");
+    check(reply.unix_header.inode == 0x11223344, "the other header changes");
+}
+
+static void walks_attributes(void) {
+    struct sockdiag_cursor cursor = {SOCKDIAG_UNIX_ATTRIBUTES};
+    struct sockdiag_attribute attribute = {0, 0, 0};
+    check(sockdiag_next_attribute(unix_reply, 36, &cursor, &attribute) == 1, "the first attribute");
+    check(attribute.type_word == 0 && attribute.offset == 20 && attribute.length == 3 && cursor.place == 24, "a name");
+    check(sockdiag_next_attribute(unix_reply, 36, &cursor, &attribute) == 1, "the second attribute");
+    check(attribute.type_word == 2 && attribute.offset == 28 && attribute.length == 4 && cursor.place == 32, "a peer");
+    check(sockdiag_next_attribute(unix_reply, 36, &cursor, &attribute) == 1, "the third attribute");
+    check(attribute.type_word == 0x63 && attribute.length == 0 && cursor.place == 36, "an attribute without value");
+    check(sockdiag_next_attribute(unix_reply, 36, &cursor, &attribute) == 0, "the end of the attributes");
+    cursor.place = SIZE_MAX;
+    check(sockdiag_next_attribute(unix_reply, 36, &cursor, &attribute) == 0, "a place behind the end");
+    cursor.place = 24;
+    check(sockdiag_next_attribute(unix_reply, 31, &cursor, &attribute) == SOCKDIAG_ATTRIBUTE_LENGTH_PAST, "a cut value");
+    check(attribute.type_word == 0x63, "an attribute is told at a fault");
+    check(sockdiag_next_attribute(unix_reply, 31, &cursor, &attribute) == 0, "a walk goes on behind a fault");
+}
+
+/* Four messages: a reply, one of nothing, a payload that is refused, and the end of a dump. Two bytes are left. */
+static size_t make_datagram(uint8_t *bytes) {
+    static const uint8_t headers[4][16] = {
+        {52, 0, 0, 0, 20, 0, 2, 0, 7, 0, 0, 0, 9, 0, 0, 0},
+        {17, 0, 0, 0, 1, 0, 0, 0, 7, 0, 0, 0, 9, 0, 0, 0},
+        {18, 0, 0, 0, 20, 0, 0, 0, 7, 0, 0, 0, 9, 0, 0, 0},
+        {20, 0, 0, 0, 3, 0, 2, 0, 7, 0, 0, 0, 9, 0, 0, 0},
+    };
+    memset(bytes, 0, 128);
+    memcpy(bytes, headers[0], 16);
+    memcpy(bytes + 16, unix_reply, 36);
+    memcpy(bytes + 52, headers[1], 16);
+    memcpy(bytes + 72, headers[2], 16);
+    memcpy(bytes + 92, headers[3], 16);
+    return 114;
+}
+
+static void walks_messages(void) {
+    uint8_t bytes[128];
+    size_t length = make_datagram(bytes);
+    struct sockdiag_cursor cursor = {0};
+    struct sockdiag_message message;
+    memset(&message, 0, sizeof message);
+    check(sockdiag_next_message(bytes, length, &cursor, &message) == 1, "a reply in a datagram");
+    check(message.message_type == 20 && message.offset == 16 && message.length == 36, "where a payload stands");
+    check(message.flags == 2 && message.sequence_number == 7 && message.port_number == 9, "what a header tells");
+    check(sockdiag_next_message(bytes, length, &cursor, &message) == 1, "a message of nothing");
+    check(message.message_type == 1 && message.offset == 68 && message.length == 1, "nothing");
+    check(sockdiag_next_message(bytes, length, &cursor, &message) == SOCKDIAG_UNKNOWN_FAMILY, "a payload that is refused");
+    check(message.message_type == 20 && message.offset == 88 && message.length == 2, "a refused payload's place");
+    check(sockdiag_next_message(bytes, length, &cursor, &message) == 1, "the end of a dump");
+    check(message.message_type == 3 && message.offset == 108 && message.length == 4, "the end's payload");
+    check(cursor.place == 112, "the place behind the end of the dump");
+    check(sockdiag_next_message(bytes, length, &cursor, &message) == SOCKDIAG_ENVELOPE_CUT, "two bytes that are left");
+    check(message.message_type == 3, "a message is told at a fault");
+    check(sockdiag_next_message(bytes, length, &cursor, &message) == 0, "a walk over messages ends");
+}
+
+static void writes_unix_request(void) {
+    static const uint8_t want[40] = {
+        40, 0, 0, 0, 20, 0, 1, 3, 5, 0, 0, 0, 0, 0, 0, 0,
+        1, 0, 0, 0, 0xff, 0xff, 0xff, 0xff, 6, 0, 0, 0, 0x3f, 0, 0, 0, 1, 2, 3, 4, 5, 6, 7, 8,
+    };
+    struct sockdiag_unix_request request = {
+        {0x301, 5, 0}, 0xffffffff, 6, 0x3f, {1, 2, 3, 4, 5, 6, 7, 8},
+    };
+    uint8_t buffer[48], before[48];
+    memset(buffer, 0xaa, sizeof buffer);
+    memcpy(before, buffer, sizeof buffer);
+    check(sockdiag_write_unix_request(&request, buffer, 39) == 0, "a short buffer");
+    check(memcmp(buffer, before, sizeof buffer) == 0, "a short buffer is written to");
+    check(sockdiag_write_unix_request(&request, buffer, sizeof buffer) == 40, "a UNIX request");
+    check(memcmp(buffer, want, 40) == 0, "a UNIX request's bytes");
+    check(memcmp(buffer + 40, before + 40, 8) == 0, "what stands behind a request");
+}
+
+static void writes_inet_request(void) {
+    static const uint8_t want[72] = {
+        72, 0, 0, 0, 20, 0, 1, 3, 6, 0, 0, 0, 1, 0, 0, 0,
+        10, 6, 0x41, 0, 0, 4, 0, 0, 0, 80, 0x1f, 0x90,
+        0xfe, 0x80, 0, 0, 0, 0, 0, 0, 0, 0, 0, 0, 0, 0, 0, 1,
+        0, 0, 0, 0, 0, 0, 0, 0, 0, 0, 0, 0, 0, 0, 0, 2,
+        3, 0, 0, 0, 8, 7, 6, 5, 4, 3, 2, 1,
+    };
+    struct sockdiag_inet_request request = {
+        {0x301, 6, 1}, 10, 6, 0x41, 0x400, 80, 8080,
+        {0xfe, 0x80, 0, 0, 0, 0, 0, 0, 0, 0, 0, 0, 0, 0, 0, 1}, {0, 0, 0, 0, 0, 0, 0, 0, 0, 0, 0, 0, 0, 0, 0, 2},
+        3, {8, 7, 6, 5, 4, 3, 2, 1},
+    };
+    uint8_t buffer[72];
+    check(sockdiag_write_inet_request(&request, buffer, 71) == 0, "a short buffer for an internet request");
+    check(sockdiag_write_inet_request(&request, buffer, 72) == 72, "an internet request");
+    check(memcmp(buffer, want, 72) == 0, "an internet request's bytes");
+    request.family = 2;
+    check(sockdiag_write_inet_request(&request, buffer, 72) == 72, "an IPv4 request");
+    check(buffer[16] == 2 && buffer[28] == 0xfe && buffer[29] == 0x80 && buffer[43] == 0, "an IPv4 address and zeros");
+    request.family = 1;
+    check(sockdiag_write_inet_request(&request, buffer, 72) == 0, "a request of another family");
+}
+
+static void rewrites_unix_reply(void) {
+    uint8_t want[36], buffer[40];
+    struct sockdiag_outcome outcome;
+    memset(&outcome, 0xaa, sizeof outcome);
+    memset(buffer, 0xaa, sizeof buffer);
+    memcpy(want, unix_reply, sizeof want);
+    want[3] = 0;
+    want[23] = 0;
+    check(sockdiag_rewrite_unix_reply(unix_reply, 36, buffer, 35, &outcome) == 0, "a short buffer for a reply");
+    check(outcome.fault == 0 && outcome.needed == 36, "how many bytes are needed");
+    check(buffer[0] == 0xaa && buffer[34] == 0xaa, "a short buffer gets a part");
+    check(sockdiag_rewrite_unix_reply(unix_reply, 36, buffer, 40, &outcome) == 36, "a canonical UNIX reply");
+    check(outcome.fault == 0 && outcome.needed == 36 && memcmp(buffer, want, 36) == 0, "its bytes");
+    check(buffer[36] == 0xaa, "what stands behind the canonical form");
+    check(sockdiag_rewrite_unix_reply(unix_reply, 15, buffer, 40, &outcome) == 0, "a refused UNIX reply");
+    check(outcome.fault == SOCKDIAG_BUFFER_TOO_SMALL && outcome.needed == 0, "why it is refused");
+}
+
+static void rewrites_inet_reply(void) {
+    uint8_t want[72], buffer[72];
+    struct sockdiag_outcome outcome = {0, 0};
+    memcpy(want, inet_reply, sizeof want);
+    memset(want + 12, 0, 12);
+    memset(want + 28, 0, 12);
+    check(sockdiag_rewrite_inet_reply(inet_reply, 72, buffer, 72, &outcome) == 72, "a canonical internet reply");
+    check(memcmp(buffer, want, 72) == 0, "an internet reply's bytes");
+    check(sockdiag_rewrite_inet_reply(unix_reply, 36, buffer, 72, &outcome) == 0, "a refused internet reply");
+    check(outcome.fault == SOCKDIAG_BUFFER_TOO_SMALL, "why an internet reply is refused");
+}
+
+int main(void) {
+    checks_unix();
+    checks_inet();
+    checks_messages();
+    walks_attributes();
+    walks_messages();
+    writes_unix_request();
+    writes_inet_request();
+    rewrites_unix_reply();
+    rewrites_inet_reply();
+    if (failures == 0)
+        puts("c_face: each call answers as it must");
+    return failures != 0;
+}

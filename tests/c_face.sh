@@ -1,0 +1,34 @@
+#!/bin/sh
+# Builds the static library of include/sockdiag.h, and calls it from C: tests/c_face.c checks each call by value, and
+# examples/list_sockets.c lists this machine's sockets where the kernel lets it ask. It stands outside the gate, which
+# runs no C, and needs the kit's rt and a C compiler.
+set -eu
+top=$(CDPATH='' cd -- "$(dirname -- "$0")/.." && pwd)
+work=$(mktemp -d)
+trap 'rm -rf "$work"' EXIT
+
+echo "proving and building the library"
+(cd "$top/crates/sockdiag_c" && rt lib) >"$work/log" 2>&1 || { cat "$work/log" >&2; exit 1; }
+
+# It takes no memory, so it calls no allocator.
+if nm -u "$top/crates/sockdiag_c/out/libsockdiag_c.a" | grep -E 'alloc|free'; then
+    echo "the library needs an allocator" >&2
+    exit 1
+fi
+
+# build NAME SOURCE
+build() {
+    ${CC:-cc} -std=c11 -O2 -Wall -Wextra -Wpedantic -Werror -I"$top/include" \
+        -o "$work/$1" "$2" "$top/crates/sockdiag_c/out/libsockdiag_c.a"
+}
+
+build c_face "$top/tests/c_face.c"
+"$work/c_face"
+
+build list_sockets "$top/examples/list_sockets.c"
+if "$work/list_sockets" >"$work/sockets" 2>"$work/told"; then
+    echo "list_sockets: $(wc -l <"$work/sockets") sockets, the first of them:"
+    head -n 5 "$work/sockets"
+else
+    echo "list_sockets: the kernel doesn't let it ask: $(cat "$work/told")"
+fi
