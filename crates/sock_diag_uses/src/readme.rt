@@ -1,15 +1,39 @@
 //! The examples of the repository's README.
 
-ghost use Rattle.std.specs.Prelude.{◌≡◌, ◌↔◌, ◌<◌, ◌++◌, length, drop, IsTrue, IfOk, IfErr, MatchOption};
+ghost use Rattle.std.specs.Prelude.{◌≡◌, ◌↔◌, ◌<◌, [], ◌∷◌, ◌++◌, length, replicate, drop, IsTrue, IfOk, IfErr, MatchOption};
 ghost use Rattle.netlink_core.specs.Reply.{AreIdleReplies, MeansReply, RefusesReply, ReplyFits, reply_bytes};
 ghost use Rattle.netlink_packet_sock_diag.specs.Message.{Message, MessageIs, MessageFault};
 ghost use Rattle.netlink_packet_sock_diag.specs.UnixReply.{UnixReply, unix_reply};
 ghost use Rattle.sock_diag_uses.specs.Readme.{path_of, path_bytes};
 
-use netlink_core::{DecodeError, Emitable};
-use netlink_packet_sock_diag::unix::UnixResponseView;
+use netlink_core::{
+    DecodeError, Emitable, NLM_F_DUMP, NLM_F_REQUEST, NetlinkHeader, NetlinkMessage,
+};
 use netlink_packet_sock_diag::unix::nlas::NameView;
-use netlink_packet_sock_diag::{DumpViews, PayloadView, SockDiagView};
+use netlink_packet_sock_diag::unix::{ShowFlags, StateFlags, UnixRequest, UnixResponseView};
+use netlink_packet_sock_diag::{DumpViews, PayloadView, SockDiagMessage, SockDiagView};
+
+/// The request for the names of all UNIX sockets that listen: a netlink message of 40 bytes.
+pub fn request() -> [u8; 40]
+    ensures { result ≡ (40 ∷ 0 ∷ 0 ∷ 0 ∷ 20 ∷ 0 ∷ 1 ∷ 3 ∷ replicate 8 0)
+        ++ ((1 ∷ 0 ∷ 0 ∷ 0 ∷ 0 ∷ 4 ∷ 0 ∷ 0 ∷ 0 ∷ 0 ∷ 0 ∷ 0 ∷ 1 ∷ 0 ∷ 0 ∷ 0 ∷ []) ++ replicate 8 255) }
+{
+    let request = UnixRequest {
+        state_flags: StateFlags::LISTEN,
+        inode: 0,
+        show_flags: ShowFlags::NAME,
+        cookie: [0xff; 8],
+    };
+    let header = NetlinkHeader {
+        flags: NLM_F_REQUEST | NLM_F_DUMP,
+        ..NetlinkHeader::default()
+    };
+    let mut message = NetlinkMessage::new(header, SockDiagMessage::UnixRequest(request).into());
+    message.finalize();
+    let mut bytes = [0; 40];
+    message.serialize(&mut bytes);
+    bytes
+}
 
 /// The path that a UNIX socket is bound to, where the payload of a message of this type tells one.
 pub fn path<'a>(payload: &'a [u8], message_type: u16) -> Result<Option<&'a [u8]>, DecodeError>

@@ -1,7 +1,7 @@
 use crate::link::{LinkError, parse_link};
 use crate::listening_tcp::{Family, listening_tcp, listening_tcp_bytes};
 use crate::lister::{Line, list};
-use crate::readme::{listening, path, rewrite, tell_the_same};
+use crate::readme::{listening, path, request, rewrite, tell_the_same};
 use crate::stored::{key, same_reply};
 use crate::test_kernel::answer;
 use netlink_core::{DecodeError, Parseable};
@@ -56,6 +56,13 @@ fn readme_examples_answer(rt: HostRuntime) -> Result<(), Fail> {
     assert_eq!(rt; rewrite(&NAMED, &mut buffer)?, Some(28));
     assert_eq!(rt; buffer, canonical);
     assert_eq!(rt; listening(&DUMP)?, 1);
+    assert_eq!(rt;
+        request(),
+        [
+            40, 0, 0, 0, 20, 0, 1, 3, 0, 0, 0, 0, 0, 0, 0, 0, 1, 0, 0, 0, 0, 4, 0, 0, 0, 0, 0, 0, 1,
+            0, 0, 0, 255, 255, 255, 255, 255, 255, 255, 255,
+        ]
+    );
     Ok(())
 }
 

@@ -1,5 +1,4 @@
 use Rattle.std.proofs.Common.{◌≡◌, ℕ, List, ◌++◌, length, sym, ap, ◌∙◌, arith}
-use Rattle.netlink_core.specs.Table.{first}
 use Rattle.netlink_core.proofs.Congruence.{◌⊛◌}
 use Rattle.netlink_core.proofs.RowReads.{first_all}
 use Rattle.sock_diag_records.specs.SocketIdLaws.{bytes-alone}
