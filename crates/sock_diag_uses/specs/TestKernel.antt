@@ -1,8 +1,10 @@
 -- What the kernel for tests answers.
-use Rattle.std.specs.Prelude.{◌≡◌, ℕ, ◌+◌, ◌-◌, ◌≤◌, List, [], ◌∷◌, ◌++◌, length, map, take, drop, Ok}
+use Rattle.std.specs.Prelude.{⊤, ◌≡◌, ◌≢◌, ℕ, ◌+◌, ◌-◌, ◌≤◌, List, [], ◌∷◌, ◌++◌, length, map, take, drop, Ok, Err}
 use Rattle.std.specs.List.{flat_map}
 use Rattle.netlink_core.specs.declared.header.NetlinkHeader.{NetlinkHeader}
-use Rattle.netlink_core.specs.Header.{HasHeader}
+use Rattle.netlink_core.specs.declared.fault.DecodeError.{DecodeError}
+use Rattle.netlink_core.specs.declared.fault.DecodeError.TheVariants.{UnknownMessageType}
+use Rattle.netlink_core.specs.Header.{HasHeader, IsEnvelopeFault}
 use Rattle.netlink_core.specs.Envelope.{Payload, done_with, inner, envelope_bytes, payload_bytes, payload_type}
 use Rattle.netlink_core.specs.Format.{read}
 use Rattle.sock_diag_records.specs.declared.unix.request.UnixRequest.{UnixRequest}
@@ -12,6 +14,8 @@ use Rattle.netlink_packet_sock_diag.specs.declared.dump.DumpState.TheVariants.{D
 use Rattle.netlink_packet_sock_diag.specs.Dump.{DatagramDump}
 use Rattle.netlink_packet_sock_diag.specs.Message.{Message, MessageIs, MessageFault, unix_response_with, message_bytes}
 use Rattle.netlink_packet_sock_diag.specs.UnixReply.{UnixReply, unix_reply}
+use Rattle.sock_diag_uses.specs.declared.test_kernel.AnswerError.{AnswerError}
+use Rattle.sock_diag_uses.specs.declared.test_kernel.AnswerError.TheVariants.{Request, Unwritable, Memory}
 
 -- the written bytes of a message that is one of several (flags 2), with its own length and type, from port 0
 unfoldable pub message_under : ℕ → Payload Message → List ℕ
@@ -43,6 +47,24 @@ pub record IsAnswer (request : List ℕ) (replies : List UnixReply) (datagram : 
   pub kind : header.message_type ≡ 20
   pub asks : read unix_request tt (take (header.length - 16) (drop 16 request)) ≡ Ok asked
   pub written : datagram ≡ flat_map (reply_under header.sequence_number) replies ++ end_under header.sequence_number
+
+-- The request is refused: for what stands for its netlink header, for its type, or for what it asks.
+pub data RefusesRequest (request : List ℕ) (e : DecodeError) : Type 0 where
+  no_message : IsEnvelopeFault request e → RefusesRequest request e
+  other_type : (h : NetlinkHeader) → HasHeader request h → h.message_type ≢ 20 → e ≡ UnknownMessageType h.message_type → RefusesRequest request e
+  no_request : (h : NetlinkHeader) → HasHeader request h → h.message_type ≡ 20 → read unix_request tt (take (h.length - 16) (drop 16 request)) ≡ Err e → RefusesRequest request e
+
+-- why there is no answer; nothing is said of memory and of replies that are too long
+abbrev pub GivesNoAnswer : List ℕ → AnswerError → Type 0
+GivesNoAnswer request (Request e) = RefusesRequest request e
+GivesNoAnswer request Unwritable = ⊤
+GivesNoAnswer request Memory = ⊤
+
+-- no fault of a request
+abbrev pub IsOfReplies : AnswerError → Type 0
+IsOfReplies (Request e) = ⊥
+IsOfReplies Unwritable = ⊤
+IsOfReplies Memory = ⊤
 
 -- a reply as readers give it, whose message can be written
 pub record CanBeTold (reply : UnixReply) : Type 0 where

@@ -1,12 +1,13 @@
 //! A kernel for tests: it answers a request for UNIX sockets with given replies, as one datagram.
 
-ghost use Rattle.std.specs.Prelude.{◌≡◌, ◌++◌, ℕ, List, map, OnOk, IfOk};
+ghost use Rattle.std.specs.Prelude.{◌≡◌, ◌++◌, ℕ, List, map, OnOk, IfOk, IfErr};
 ghost use Rattle.std.specs.List.{AllByRecursion, flat_map};
 ghost use Rattle.netlink_core.specs.Seen.{payload_of};
 ghost use Rattle.netlink_packet_sock_diag.specs.SeenMessage.{seen_message};
 ghost use Rattle.netlink_packet_sock_diag.specs.SeenUnixReply.{seen_response};
 ghost use Rattle.netlink_packet_sock_diag.specs.UnixReply.{UnixReply};
-ghost use Rattle.sock_diag_uses.specs.TestKernel.{CanBeTold, IsAnswer, IsWholeDump, message_under, reply_under};
+ghost use Rattle.sock_diag_uses.specs.TestKernel.{CanBeTold, GivesNoAnswer, IsAnswer, IsOfReplies, IsWholeDump, message_under, reply_under};
+ghost use Rattle.sock_diag_uses.specs.declared.test_kernel.AnswerError.TheVariants.{Request, Memory};
 
 use netlink_core::{DecodeError, NetlinkHeader, NetlinkMessage, NetlinkPayload, Parseable};
 use netlink_packet_sock_diag::constants::SOCK_DIAG_BY_FAMILY;
@@ -32,18 +33,24 @@ pub enum AnswerError {
 }
 
 impl From<DecodeError> for AnswerError {
+    ghost from_gives = { λ fault e. e ≡ Request fault };
+
     fn from(fault: DecodeError) -> AnswerError {
         AnswerError::Request(fault)
     }
 }
 
 impl From<AllocError> for AnswerError {
+    ghost from_gives = { λ _ e. e ≡ Memory };
+
     fn from(_e: AllocError) -> AnswerError {
         AnswerError::Memory
     }
 }
 
 impl<T: Drop> From<AllocFailed<T>> for AnswerError {
+    ghost from_gives = { λ _ e. e ≡ Memory };
+
     fn from(_e: AllocFailed<T>) -> AnswerError {
         AnswerError::Memory
     }
@@ -56,7 +63,8 @@ pub fn answer(
     request: &[u8],
     replies: &[UnixResponse],
 ) -> Result<Vec<u8>, AnswerError>
-    ensures { IfOk result (λ datagram. IsAnswer request.now (map seen_response replies.now) datagram.items) }
+    ensures answer { IfOk result (λ datagram. IsAnswer request.now (map seen_response replies.now) datagram.items) }
+    ensures refused { IfErr result (GivesNoAnswer request.now) }
 {
     let header = NetlinkHeader::from_prefix(request)?;
     if header.message_type != SOCK_DIAG_BY_FAMILY {
@@ -90,7 +98,8 @@ fn push_replies(
     sequence_number: u32,
     replies: &[UnixResponse],
 ) -> Result<(), AnswerError>
-    ensures { OnOk result (datagram.new.items ≡ datagram.old.items ++ flat_map (reply_under sequence_number) (map seen_response replies.now)) }
+    ensures added { OnOk result (datagram.new.items ≡ datagram.old.items ++ flat_map (reply_under sequence_number) (map seen_response replies.now)) }
+    ensures err { IfErr result IsOfReplies }
 {
     for reply in replies {
         push_reply(alloc, datagram, sequence_number, reply)?;
@@ -105,7 +114,8 @@ fn push_reply(
     sequence_number: u32,
     reply: &UnixResponse,
 ) -> Result<(), AnswerError>
-    ensures { OnOk result (datagram.new.items ≡ datagram.old.items ++ reply_under sequence_number (seen_response reply.now)) }
+    ensures added { OnOk result (datagram.new.items ≡ datagram.old.items ++ reply_under sequence_number (seen_response reply.now)) }
+    ensures err { IfErr result IsOfReplies }
 {
     let message = SockDiagMessage::UnixResponse(Box::new(
         alloc,
@@ -127,7 +137,8 @@ fn push_message(
     sequence_number: u32,
     payload: NetlinkPayload<SockDiagMessage>,
 ) -> Result<(), AnswerError>
-    ensures { OnOk result (datagram.new.items ≡ datagram.old.items ++ message_under sequence_number (payload_of seen_message payload)) }
+    ensures added { OnOk result (datagram.new.items ≡ datagram.old.items ++ message_under sequence_number (payload_of seen_message payload)) }
+    ensures err { IfErr result IsOfReplies }
 {
     let header = NetlinkHeader {
         flags: NLM_F_MULTI,
