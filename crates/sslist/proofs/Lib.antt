@@ -1,3 +1,4 @@
 pub mod Adding
 pub mod Listings
 pub mod Steps
+pub mod Progress

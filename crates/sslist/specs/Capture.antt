@@ -1,5 +1,5 @@
 -- Captures: the classic pcap format of netlink traffic.
-use Rattle.std.specs.Prelude.{◌≡◌, ◌≢◌, ℕ, ◌<◌, ◌≤◌, ◌⊎◌, ◌==◌, nat_lt, if◌then◌else◌, Bool, List, ◌++◌, length, drop}
+use Rattle.std.specs.Prelude.{◌≡◌, ◌≢◌, ℕ, ◌≤◌, ◌⊎◌, ◌==◌, nat_lt, if◌then◌else◌, List, length, drop}
 use Rattle.byteorder.specs.Endian.{big_number, little_number}
 use Rattle.sslist.specs.declared.capture.ByteOrder.{ByteOrder}
 use Rattle.sslist.specs.declared.capture.ByteOrder.TheVariants.{LowFirst, HighFirst}

@@ -3,3 +3,4 @@ pub mod Cooked
 pub mod Table
 pub mod Shown
 pub mod Listing
+pub mod Run

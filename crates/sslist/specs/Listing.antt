@@ -1,5 +1,5 @@
 -- What the datagrams of a capture are listed as.
-use Rattle.std.specs.Prelude.{◌≡◌, ◌≢◌, ◌↔◌, Bool, IsTrue, ℕ, ◌+◌, ◌-◌, ◌^◌, ◌%◌, ◌==◌, if◌then◌else◌, nat_lt, List, [], ◌∷◌, ◌++◌, ◌≤◌, ◌⊎◌, bit_and, drop, length, flat_map, Option, None, Some, Result, Ok, Err}
+use Rattle.std.specs.Prelude.{◌≡◌, ◌≢◌, ◌↔◌, Bool, IsTrue, ℕ, ◌-◌, ◌^◌, ◌%◌, ◌==◌, if◌then◌else◌, nat_lt, List, [], ◌++◌, ◌≤◌, ◌⊎◌, bit_and, drop, length, flat_map, Option, None, Some, Result, Ok, Err}
 use Rattle.byteorder.specs.Endian.{little_number}
 use Rattle.std.specs.List.{AllByRecursion}
 use Rattle.netlink_core.specs.declared.fault.DecodeError.{DecodeError}

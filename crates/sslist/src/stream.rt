@@ -1,8 +1,9 @@
 //! The table of a capture, read as it comes.
 
-ghost use Rattle.std.specs.Prelude.{◌≡◌, ◌++◌, ℕ, List, OnOk, IfOk, MatchBool};
+ghost use Rattle.std.specs.Prelude.{◌≡◌, ◌++◌, ℕ, List, length, OnOk, IfOk, MatchBool};
 ghost use Rattle.std.specs.Io.KnownBytes.{Appends, Consumes, IsAtEnd, Keeps};
-ghost use Rattle.sslist.specs.Capture.{IsRecord};
+ghost use Rattle.sslist.specs.Capture.{IsFileHeader, IsRecord};
+ghost use Rattle.sslist.specs.Run.{IsTable};
 
 use crate::capture::{CaptureError, FileHeader};
 use crate::line::HEADING;
@@ -49,8 +50,11 @@ pub fn run<R: Read, W: Write, E: Write>(
     errors: &mut E,
 ) -> Result<bool, RunError>
     ensures ended { OnOk result (IsAtEnd (R.remaining input.new)) }
+    ensures table { IfOk result (λ is_whole. (bytes lines : List ℕ) × IsTable bytes lines is_whole
+        × Consumes (R.remaining input.old) (R.remaining input.new) bytes
+        × Appends (W.contents output.old) (W.contents output.new) (HEADING.now ++ lines)) }
 {
-    let file = FileHeader::read(input).map_err(RunError::Header)?;
+    let file = read_header(input)?;
     send(output, HEADING)?;
     let mut packet = Vec::new(alloc);
     let mut written = Written {
@@ -65,7 +69,8 @@ pub fn run<R: Read, W: Write, E: Write>(
         }
         written.lines.clear();
         written.complaints.clear();
-        is_whole &= list_packet(&mut written, number, packet.as_slice())?;
+        let is_listed = list_packet(&mut written, number, packet.as_slice())?;
+        is_whole = is_whole && is_listed;
         send(output, written.lines.as_slice())?;
         let _ = errors.write_all(written.complaints.as_slice());
     }
@@ -73,6 +78,17 @@ pub fn run<R: Read, W: Write, E: Write>(
         packet: u64::MAX,
         fault: CaptureError::Read,
     })
+}
+
+/// Reads the header of the capture.
+fn read_header<R: Read>(input: &mut R) -> Result<FileHeader, RunError>
+    ensures { IfOk result (λ file. (bytes : List ℕ) × (length bytes ≡ 24) × IsFileHeader bytes file
+        × Consumes (R.remaining input.old) (R.remaining input.new) bytes) }
+{
+    match FileHeader::read(input) {
+        Ok(file) => Ok(file),
+        Err(fault) => Err(RunError::Header(fault)),
+    }
 }
 
 /// Reads the packet of a number in place of what `packet` held, and answers whether there is one.
