@@ -22,8 +22,7 @@ packets-preserved g c =
 
 pub returns-then-not-branch-clause-table : goal.returns-then-not-branch-clause-table
 returns-then-not-branch-clause-table g c =
-    let end = rw c.if-not-branch.true at c.in_ok-read_packet.ensures in
-    (
+    let end = rw c.if-not-branch.true at c.in_ok-read_packet.ensures in (
       c.in_ok-file.ensures.0 ++ c.packets.invariant.records,
       flat_map lines_told c.packets.invariant.told,
       record {

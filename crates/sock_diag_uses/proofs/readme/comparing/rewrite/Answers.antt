@@ -1,7 +1,7 @@
 use Rattle.std.proofs.Common.{refl, arith}
 use Rattle.netlink_packet_sock_diag.specs.ViewedUnixReply.{viewed_response}
-use Rattle.sock_diag_uses.proofs.readme.rewrite.Goals as goal
-use Rattle.sock_diag_uses.proofs.readme.rewrite.Goals.{then-not-is_writable-via-then-not-is_writable, then-not-is_writable-via-else-not-is_writable+then-buffer_len-buffer}
+use Rattle.sock_diag_uses.proofs.readme.comparing.rewrite.Goals as goal
+use Rattle.sock_diag_uses.proofs.readme.comparing.rewrite.Goals.{then-not-is_writable-via-then-not-is_writable, then-not-is_writable-via-else-not-is_writable+then-buffer_len-buffer}
 
 pub returns-then-not-is_writable-clause-value : goal.returns-then-not-is_writable-clause-value
 returns-then-not-is_writable-clause-value c = (

@@ -2,7 +2,7 @@ use Rattle.std.proofs.Common.{arith}
 use Rattle.netlink_packet_sock_diag.specs.ViewedUnixReply.{viewed_response}
 use Rattle.netlink_packet_sock_diag.specs.EqualViews.{unix_test_says}
 use Rattle.netlink_packet_sock_diag.specs.contracts.unix.response.UnixResponseCoded.TheImpl.Laws.{laws-law}
-use Rattle.sock_diag_uses.proofs.readme.tell_the_same.Goals as goal
+use Rattle.sock_diag_uses.proofs.readme.comparing.tell_the_same.Goals as goal
 
 -- `==` compares what the two tell, and that is equal exactly where the bytes are idle
 pub returns : goal.returns

@@ -1,0 +1,29 @@
+//! A request is built.
+
+ghost use Rattle.std.specs.Prelude.{◌≡◌, [], ◌∷◌, ◌++◌, replicate};
+
+use netlink_core::{NLM_F_DUMP, NLM_F_REQUEST, NetlinkHeader, NetlinkMessage};
+use netlink_packet_sock_diag::SockDiagMessage;
+use netlink_packet_sock_diag::unix::{ShowFlags, StateFlags, UnixRequest};
+
+/// The request for the names of all UNIX sockets that listen: a netlink message of 40 bytes.
+pub fn request() -> [u8; 40]
+    ensures { result ≡ (40 ∷ 0 ∷ 0 ∷ 0 ∷ 20 ∷ 0 ∷ 1 ∷ 3 ∷ replicate 8 0)
+        ++ ((1 ∷ 0 ∷ 0 ∷ 0 ∷ 0 ∷ 4 ∷ 0 ∷ 0 ∷ 0 ∷ 0 ∷ 0 ∷ 0 ∷ 1 ∷ 0 ∷ 0 ∷ 0 ∷ []) ++ replicate 8 255) }
+{
+    let request = UnixRequest {
+        state_flags: StateFlags::LISTEN,
+        inode: 0,
+        show_flags: ShowFlags::NAME,
+        cookie: [0xff; 8],
+    };
+    let header = NetlinkHeader {
+        flags: NLM_F_REQUEST | NLM_F_DUMP,
+        ..NetlinkHeader::default()
+    };
+    let mut message = NetlinkMessage::new(header, SockDiagMessage::UnixRequest(request).into());
+    message.finalize();
+    let mut bytes = [0; 40];
+    message.serialize(&mut bytes);
+    bytes
+}

@@ -1,0 +1,11 @@
+//! The examples of the repository's README.
+
+mod asking;
+mod comparing;
+mod counting;
+mod reading;
+
+pub use asking::request;
+pub use comparing::{rewrite, tell_the_same};
+pub use counting::listening;
+pub use reading::path;
