@@ -2,11 +2,11 @@
 """Looks for the code of the documents in the files that are proved.
 
 A block that is marked `rust` or `antt` has to stand, as whole lines in a row, in some file under crates/*/src,
-crates/*/proofs or crates/*/specs; how far its lines are set in, and blank lines, don't count.
+crates/*/proofs or crates/*/specs; how far its lines are set in, and blank lines, don't count. In a README.md the
+contracts may be left out.
 A block that is marked `text` in a CALLING.md quotes contracts, below a line that names the file; each quoted line has
 to stand there, written as the page shortens it.
-Each block or line that stands nowhere is told with its file and line, and then the status is 1. It is run by hand:
-`rt ci` runs no script.
+Each block or line that stands nowhere is told with its file and line, and then the status is 1.
 """
 
 import re
@@ -26,6 +26,18 @@ def files(patterns):
 def bare_lines(text):
     """The lines that aren't blank, without what stands in front of and behind their text."""
     return [line.strip() for line in text.splitlines() if line.strip()]
+
+
+def without_contracts(text):
+    """The code without clauses, hints to the prover and imports of definitions."""
+    kept, depth = [], 0
+    for line in text.splitlines():
+        bare = line.strip()
+        if depth > 0 or re.match(r"(requires|ensures)\b", bare):
+            depth += line.count("{") - line.count("}")
+        elif not bare.startswith(("ghost use ", "#[tactic")):
+            kept.append(line)
+    return re.sub(r"\n\{\n", " {\n", "\n".join(kept))
 
 
 def blocks(document):
@@ -83,7 +95,9 @@ def missing_quotes(document, number, lines):
 
 
 def main():
-    sources = [bare_lines(path.read_text(encoding="utf-8")) for path in files(SOURCES)]
+    texts = [path.read_text(encoding="utf-8") for path in files(SOURCES)]
+    sources = [bare_lines(text) for text in texts]
+    shown = [bare_lines(without_contracts(text)) for text in texts]
     found, missing = 0, []
     for document in files(DOCUMENTS):
         for number, language, lines in blocks(document):
@@ -93,7 +107,8 @@ def main():
                 found += not gone
                 missing += [(document, at, "quoted line stands not in its file") for at in gone]
             elif language in ("rust", "antt"):
-                if block and any(stands_in(block, source) for source in sources):
+                likely = sources + shown if document.name == "README.md" else sources
+                if block and any(stands_in(block, source) for source in likely):
                     found += 1
                 else:
                     missing.append((document, number, f"{language} block stands in no file"))
