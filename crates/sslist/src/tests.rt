@@ -74,7 +74,10 @@ fn push_packet(
     datagram: &str,
 ) -> Result<(), Fail> {
     let bytes = hex::decode(alloc, datagram)?;
-    for word in [7, 9, 16u32.wrapping_add(bytes.len() as u32), 0] {
+    let length = u32::try_from(bytes.len())
+        .ok()
+        .ok_or("a datagram that is too long")?;
+    for word in [7, 9, length.saturating_add(16), 0] {
         push_word(capture, order, word)?;
     }
     let mut cooked = [0u8; 16];
