@@ -1,10 +1,10 @@
 use crate::link::{LinkError, parse_link};
 use crate::listening_tcp::{Family, listening_tcp, listening_tcp_bytes};
 use crate::lister::{Line, list};
-use crate::readme::{listening, path, request, rewrite, tell_the_same};
+use crate::readme::{listener, listening, path, request, rewrite, tell_the_same};
 use crate::stored::{key, same_reply};
 use crate::test_kernel::answer;
-use netlink_core::{DecodeError, Parseable};
+use netlink_core::{DecodeError, Emitable, Parseable};
 use netlink_packet_sock_diag::unix::UnixResponse;
 use netlink_packet_sock_diag::{DumpReader, DumpState};
 use std::test::Fail;
@@ -55,7 +55,13 @@ fn readme_examples_answer(rt: HostRuntime) -> Result<(), Fail> {
     let mut buffer = [0; 28];
     assert_eq!(rt; rewrite(&NAMED, &mut buffer)?, Some(28));
     assert_eq!(rt; buffer, canonical);
-    assert_eq!(rt; listening(&DUMP)?, 1);
+    assert_eq!(rt; listening(&DUMP)?, Some(1));
+    let mut failed = DUMP;
+    failed[48] = 0xfe;
+    assert_eq!(rt; listening(&failed)?, None);
+    let reply = listener(rt.alloc(), 0x4f0e, b"/run/x")?;
+    assert!(rt; reply.is_writable());
+    assert_eq!(rt; reply.nlas.len(), 1);
     assert_eq!(rt;
         request(),
         [

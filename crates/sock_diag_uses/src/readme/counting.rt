@@ -1,20 +1,27 @@
 //! A datagram of a dump is gone over in place.
 
 use netlink_core::DecodeError;
+use netlink_packet_sock_diag::constants::TCP_LISTEN;
 use netlink_packet_sock_diag::{DumpViews, PayloadView, SockDiagView};
 
-/// How many replies of a datagram are about UNIX sockets that listen (state 10). No memory is taken.
-pub fn listening(datagram: &[u8]) -> Result<usize, DecodeError> {
+/// How many replies of a datagram are about UNIX sockets that listen, or `None` where the kernel says that its dump
+/// failed or that data was lost. No memory is taken.
+pub fn listening(datagram: &[u8]) -> Result<Option<usize>, DecodeError> {
     let mut count = 0usize;
     for item in DumpViews::new(datagram) {
         match item? {
-            PayloadView::InnerMessage(SockDiagView::UnixResponse(reply))
-                if reply.header().state == 10 => {
-                count = count.saturating_add(1);
+            PayloadView::InnerMessage(SockDiagView::UnixResponse(reply)) => {
+                if reply.header().state == TCP_LISTEN {
+                    count = count.saturating_add(1);
+                }
             }
-            PayloadView::Done(_) => break,
-            _ => {}
+            PayloadView::InnerMessage(_) | PayloadView::Noop => {}
+            // An end begins with a number, 0 where all went well and else -errno.
+            PayloadView::Done(status) if status.first_chunk() == Some(&[0u8; 4]) => break,
+            PayloadView::Done(_) | PayloadView::Error(_) | PayloadView::Overrun(_) => {
+                return Ok(None);
+            }
         }
     }
-    Ok(count)
+    Ok(Some(count))
 }

@@ -1,0 +1,32 @@
+//! A reply is made from its parts.
+
+ghost use Rattle.std.specs.Prelude.{◌≡◌, [], ◌∷◌, replicate, IfOk};
+ghost use Rattle.netlink_core.specs.Family.{said};
+ghost use Rattle.netlink_packet_sock_diag.specs.SeenUnixReply.{seen_response};
+ghost use Rattle.sock_diag_attributes.specs.Name.{pathname};
+ghost use Rattle.sock_diag_attributes.specs.UnixAttributes.{unix};
+
+use netlink_packet_sock_diag::constants::{SOCK_STREAM, TCP_LISTEN};
+use netlink_packet_sock_diag::unix::nlas::{Nla, UnixDiagName};
+use netlink_packet_sock_diag::unix::{UnixResponse, UnixResponseHeader};
+use smallvec::SmallVec;
+use std::alloc::{AllocError, Global};
+
+/// The reply about a stream socket that listens at a path.
+pub fn listener(alloc: Global, inode: u32, path: &[u8]) -> Result<UnixResponse, AllocError>
+    ensures header { IfOk result (λ reply. reply.header ≡ record { kind = 1; state = 10; inode = inode; cookie = replicate 8 0 }) }
+    ensures name { IfOk result (λ reply. (seen_response reply).nlas ≡ said unix 0 (pathname path.now) ∷ []) }
+{
+    let mut nlas = SmallVec::new(alloc);
+    let name = UnixDiagName::Pathname(Vec::from_slice(alloc, path)?);
+    nlas.push(Nla::Name(name))?;
+    Ok(UnixResponse {
+        header: UnixResponseHeader {
+            kind: SOCK_STREAM,
+            state: TCP_LISTEN,
+            inode,
+            cookie: [0; 8],
+        },
+        nlas,
+    })
+}
