@@ -1,11 +1,16 @@
 //! The name and the MTU of a network interface, after rtnetlink(7): the attributes of another netlink family.
 
-ghost use Rattle.std.specs.Prelude.{◌≡◌, ◌≤◌, List, None, length, drop, IfOk, IfErr};
+ghost use Rattle.std.specs.Prelude.{◌≡◌, ◌≤◌, ◌↔◌, ℕ, List, None, length, drop, IfOk, IfErr};
 ghost use Rattle.std.specs.List.{filter_map, last_or};
-ghost use Rattle.netlink_core.specs.Attribute.{AttributesMean};
+ghost use Rattle.netlink_core.specs.AnyKind.{any_kind};
+ghost use Rattle.netlink_core.specs.Attribute.{Attribute, AttributesMean, HasFittingValue, written};
+ghost use Rattle.netlink_core.specs.Bytes.{IsBytes};
+ghost use Rattle.netlink_core.specs.Heads.{AreIdleHeads, MeansHead};
 ghost use Rattle.sock_diag_uses.specs.Link.{Told, told_by, name_in, mtu_in, text_of, from_fault, GivesUp};
 
-use netlink_core::{DecodeError, NlasIterator, parse_string, parse_u32};
+use netlink_core::{
+    CanonError, DecodeError, DefaultNla, NlasIterator, canonical, parse_string, parse_u32,
+};
 use std::alloc::Global;
 
 /// The kind of the attribute that tells the name, a text with a zero at its end.
@@ -70,4 +75,14 @@ pub fn parse_link(alloc: Global, payload: &[u8]) -> Result<Link, LinkError>
         }
     }
     Ok(link)
+}
+
+/// The canonical bytes of the attribute in front, of whatever family: one string for all that differ in paddings and in
+/// what follows alone.
+pub fn attribute_key(alloc: Global, attribute: &[u8]) -> Result<Vec<u8>, CanonError>
+    ensures written { IfOk result (λ key. (a : Attribute) × MeansHead any_kind attribute.now a × (key.items ≡ written a)) }
+    ensures alike { IfOk result (λ key. (other : List ℕ) (theirs : Attribute) → IsBytes other → MeansHead any_kind other theirs
+        → HasFittingValue theirs → ((written theirs ≡ key.items) ↔ AreIdleHeads any_kind attribute.now other)) }
+{
+    canonical::<DefaultNla>(alloc, attribute, ())
 }

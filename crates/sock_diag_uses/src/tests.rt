@@ -1,4 +1,4 @@
-use crate::link::{LinkError, parse_link};
+use crate::link::{LinkError, attribute_key, parse_link};
 use crate::listening_tcp::{Family, listening_tcp, listening_tcp_bytes};
 use crate::lister::{Line, list};
 use crate::readme::{listener, listening, path, request, rewrite, tell_the_same};
@@ -130,6 +130,12 @@ fn a_link_has_its_name_and_its_mtu(rt: HostRuntime) -> Result<(), Fail> {
         parse_link(alloc, &odd).err(),
         Some(LinkError::Attribute(fault))
     );
+    let key = attribute_key(alloc, &ETH0[16..]).ok().ok_or("no key")?;
+    assert_eq!(rt; key.as_slice(), &ETH0[16..28]);
+    let mut padded = ETH0;
+    padded[27] = 9;
+    let same = attribute_key(alloc, &padded[16..]).ok().ok_or("no key")?;
+    assert_eq!(rt; same.as_slice(), key.as_slice());
     Ok(())
 }
 
