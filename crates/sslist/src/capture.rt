@@ -1,6 +1,6 @@
 //! Captures of netlink traffic, as tcpdump writes them: the classic pcap format with the link type LINKTYPE_NETLINK.
 
-ghost use Rattle.std.specs.Prelude.{◌≡◌, ◌≢◌, ◌↔◌, ◌+◌, ◌<◌, ◌≤◌, ◌++◌, ℕ, List, length, drop, IfOk, OnOk, IfErr, IsTrue, MatchBool, MatchOption, MatchResult};
+ghost use Rattle.std.specs.Prelude.{◌≡◌, ◌↔◌, ◌+◌, ◌<◌, ◌≤◌, ◌++◌, ℕ, List, length, IfOk, OnOk, IsTrue, MatchBool, MatchOption, MatchResult};
 ghost use Rattle.std.specs.Io.KnownBytes.{Consumes, IsAtEnd, Keeps};
 ghost use Rattle.sslist.specs.Capture.{IsFileHeader, IsFileHeaderFault, IsMagic, IsRecord, limit_of, number_at};
 ghost use Rattle.sslist.specs.declared.capture.CaptureError.TheVariants.{Memory};
