@@ -2,8 +2,9 @@
 use Rattle.std.proofs.Common.{◌≡◌, inl, inr, ℕ, ◌<◌, ◌≤◌, Bool, IsTrue, List, [], length, Result, Ok, Err, if◌then◌else◌, refl, sym, ap, ◌∙◌, subst, arith, append-nil, le-ltb, lt-ltb}
 use Rattle.std.proofs.lemmas.Bool.{cases_lt}
 use Rattle.netlink_core.specs.Bytes.{IsBytes}
-use Rattle.netlink_core.specs.Table.{Row, is_table, values_of, bytes_of, Fit, AreDefined}
-use Rattle.netlink_core.specs.Format.{Format, read, read_row, read_tagged, bytes, AreIdle, IsTyped, IsNormal, IsSound, plain}
+use Rattle.netlink_core.specs.Table.{Row, values_of, bytes_of, Fit, AreDefined}
+use Rattle.netlink_core.specs.SoundLaws.{is_table, IsSound}
+use Rattle.netlink_core.specs.Format.{Format, read, read_row, read_tagged, bytes, AreIdle, IsTyped, IsNormal, plain}
 use Rattle.netlink_core.specs.Codec.{KeepsLaws, record_codec}
 use Rattle.netlink_core.specs.FrontLaws.{value_or_reason}
 use Rattle.netlink_core.proofs.TableLaws.{IsTable, table_from_test, values-bytes_of, values-fit, values-defined, bytes_of-bytes, same_live, same_values}

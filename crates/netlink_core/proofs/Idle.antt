@@ -1,5 +1,5 @@
 -- Messages are equal exactly where their bytes are idle, and read back as themselves exactly where they are in normal form.
-use Rattle.std.proofs.Common.{◌≡◌, ◌↔◌, ◌∙◌, ℕ, ◌<◌, ◌^◌, inl, inr, List, [], ◌++◌, refl, sym, ap, subst, arith}
+use Rattle.std.proofs.Common.{◌≡◌, ◌↔◌, ◌∙◌, ℕ, zero, suc, ◌<◌, ◌≤◌, ◌^◌, inl, inr, List, [], ◌++◌, take, drop, refl, sym, ap, subst, arith}
 use Rattle.std.proofs.lemmas.List.{append-nil}
 use Rattle.netlink_core.specs.declared.header.NetlinkHeader.{NetlinkHeader}
 use Rattle.netlink_core.specs.Header.{IsTypedHeader, header_bytes}
@@ -7,14 +7,35 @@ use Rattle.netlink_core.specs.Envelope.{Payload, done_with, error_with, no_paylo
 use Rattle.netlink_core.proofs.Headers.{one_header}
 use Rattle.netlink_core.proofs.Framing.{framed_type, framed_payload, framed_front}
 
+-- the type where one payload alone belongs to it, or 0 where an inner message does
+abbrev kind_under : ℕ → ℕ
+kind_under zero = 0
+kind_under (suc zero) = 1
+kind_under (suc (suc zero)) = 2
+kind_under (suc (suc (suc zero))) = 3
+kind_under (suc (suc (suc (suc zero)))) = 4
+kind_under (suc (suc (suc (suc (suc t))))) = 0
+
+past_four : (t : ℕ) → 5 ≤ t → kind_under t ≡ 0
+past_four zero h = refl
+past_four (suc zero) h = absurd (omega arith)
+past_four (suc (suc zero)) h = absurd (omega arith)
+past_four (suc (suc (suc zero))) h = absurd (omega arith)
+past_four (suc (suc (suc (suc zero)))) h = absurd (omega arith)
+past_four (suc (suc (suc (suc (suc t))))) h = refl
+
+inner_kind : (t : ℕ) → IsInnerType t → kind_under t ≡ 0
+inner_kind t (inl none) = ap kind_under none
+inner_kind t (inr past) = past_four t past
+
 module _ {A : Type 0} (reads : List ℕ → ℕ → A → Type 0) where
-  -- the type that a payload belongs under
-  payload_kind : (x : List ℕ) (t : ℕ) (p : Payload A) → PayloadIs reads x t p → payload_type (λ _. t) p ≡ t
-  payload_kind x t no_payload h = sym h
-  payload_kind x t (error_with g) h = sym h.0
-  payload_kind x t (done_with g) h = sym h.0
-  payload_kind x t (overrun_with g) h = sym h.0
-  payload_kind x t (inner m) h = refl
+  -- which of the five payloads one is, by its type
+  payload_kind : (x : List ℕ) (t : ℕ) (p : Payload A) → PayloadIs reads x t p → payload_type (λ _. 0) p ≡ kind_under t
+  payload_kind x t no_payload h = ap kind_under (sym h)
+  payload_kind x t (error_with g) h = ap kind_under (sym h.0)
+  payload_kind x t (done_with g) h = ap kind_under (sym h.0)
+  payload_kind x t (overrun_with g) h = ap kind_under (sym h.0)
+  payload_kind x t (inner m) h = sym (inner_kind t h.0)
 
   -- payloads of one type are equal exactly where they are idle
   payloads_idle : (idle : ℕ → List ℕ → List ℕ → Type 0) (t : ℕ) (x y : List ℕ) → ((v w : A) → reads x t v → reads y t w → ((v ≡ w) ↔ idle t x y))
@@ -39,15 +60,30 @@ module _ {A : Type 0} (reads : List ℕ → ℕ → A → Type 0) where
       | inr r ↦ elim r [ inl s ↦ elim h.0 [ inl z ↦ absurd (omega (arith, s.0, z)) | inr z ↦ absurd (omega (arith, s.1, z)) ] | inr n ↦ ap inner ((law v w h.1 k.1).1 n.1) ]
     ],
   )
-  payloads_idle idle t x y law (inner v) no_payload h k = elim h.0 [ inl z ↦ absurd (omega (arith, k, z)) | inr z ↦ absurd (omega (arith, k, z)) ]
-  payloads_idle idle t x y law (inner v) (error_with f) h k = elim h.0 [ inl z ↦ absurd (omega (arith, k.0, z)) | inr z ↦ absurd (omega (arith, k.0, z)) ]
-  payloads_idle idle t x y law (inner v) (done_with f) h k = elim h.0 [ inl z ↦ absurd (omega (arith, k.0, z)) | inr z ↦ absurd (omega (arith, k.0, z)) ]
-  payloads_idle idle t x y law (inner v) (overrun_with f) h k = elim h.0 [ inl z ↦ absurd (omega (arith, k.0, z)) | inr z ↦ absurd (omega (arith, k.0, z)) ]
-  payloads_idle idle t x y law no_payload (inner w) h k = elim k.0 [ inl z ↦ absurd (omega (arith, h, z)) | inr z ↦ absurd (omega (arith, h, z)) ]
-  payloads_idle idle t x y law (error_with g) (inner w) h k = elim k.0 [ inl z ↦ absurd (omega (arith, h.0, z)) | inr z ↦ absurd (omega (arith, h.0, z)) ]
-  payloads_idle idle t x y law (done_with g) (inner w) h k = elim k.0 [ inl z ↦ absurd (omega (arith, h.0, z)) | inr z ↦ absurd (omega (arith, h.0, z)) ]
-  payloads_idle idle t x y law (overrun_with g) (inner w) h k = elim k.0 [ inl z ↦ absurd (omega (arith, h.0, z)) | inr z ↦ absurd (omega (arith, h.0, z)) ]
   payloads_idle idle t x y law p q h k = absurd (omega (arith, payload_kind x t p h, payload_kind y t q k))
+
+  -- payloads of one type that are written alike are equal
+  payloads_alike : (written : A → List ℕ) (fits : A → Type 0) (t : ℕ) (x y : List ℕ) → ((v w : A) → reads x t v → reads y t w → fits v → fits w → written v ≡ written w → v ≡ w)
+      → (p q : Payload A) → PayloadIs reads x t p → PayloadIs reads y t q → OfInner fits p → OfInner fits q → payload_bytes written p ≡ payload_bytes written q → p ≡ q
+  payloads_alike written fits t x y law no_payload no_payload h k f g e = refl
+  payloads_alike written fits t x y law (error_with m) (error_with n) h k f g e = ap error_with e
+  payloads_alike written fits t x y law (done_with m) (done_with n) h k f g e = ap done_with e
+  payloads_alike written fits t x y law (overrun_with m) (overrun_with n) h k f g e = ap overrun_with e
+  payloads_alike written fits t x y law (inner v) (inner w) h k f g e = ap inner (law v w h.1 k.1 f g e)
+  payloads_alike written fits t x y law p q h k f g e = absurd (omega (arith, payload_kind x t p h, payload_kind y t q k))
+
+  -- messages that are written alike are equal
+  pub equal_where_alike : (written : A → List ℕ) (fits : A → Type 0) (b c : List ℕ)
+      → ((t : ℕ) (x y : List ℕ) (v w : A) → t < 2 ^ 16 → x ≡ payload_at b → y ≡ payload_at c → reads x t v → reads y t w → fits v → fits w → written v ≡ written w → v ≡ w)
+      → (v w : Envelope A) → EnvelopeIs reads b v → EnvelopeIs reads c w → OfInner fits v.payload → OfInner fits w.payload
+      → envelope_bytes written v ≡ envelope_bytes written w → v ≡ w
+  equal_where_alike written fits b c law v w r s fv fw e =
+      let headers : v.header ≡ w.header = one_header v.header w.header r.1.typed s.1.typed (ap (take 16) e) in
+      let read : PayloadIs reads s.0 v.header.message_type w.payload = subst (λ (h : NetlinkHeader). PayloadIs reads s.0 h.message_type w.payload) (sym headers) s.2 in
+      let same : v.payload ≡ w.payload = payloads_alike written fits v.header.message_type r.0 s.0
+      (λ m n. law v.header.message_type r.0 s.0 m n r.1.typed.message_type (sym (framed_payload b r.0 v.header r.1)) (sym (framed_payload c s.0 w.header s.1)))
+      v.payload w.payload r.2 read fv fw (ap (drop 16) e) in
+      λ z. record { header = headers z; payload = same z }
 
   -- messages are equal exactly where their strings are idle
   pub equal_where_idle : (idle : ℕ → List ℕ → List ℕ → Type 0) (b c : List ℕ)

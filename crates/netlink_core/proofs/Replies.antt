@@ -7,8 +7,9 @@ use Rattle.netlink_core.specs.declared.fault.DecodeError.{DecodeError}
 use Rattle.netlink_core.specs.declared.fault.DecodeError.TheVariants.{Memory}
 use Rattle.netlink_core.specs.Bytes.{IsBytes}
 use Rattle.netlink_core.specs.Attribute.{Attribute, IsTypedAttribute, FitsWords, HasFittingValue, AttributesMean, written}
-use Rattle.netlink_core.specs.Family.{Family, FamilyLaws, Said, says, attribute_said, IsTypedSaid, IsNormalSaid, AreIdleAttributes}
-use Rattle.netlink_core.specs.Reply.{Reply, ReplyLaws, ValueOf, attribute_part, MeansReply, RefusesReply, AreIdleReplies, IsTypedReply, IsNormalReply, reply_bytes, ReplyFits, reply_codec}
+use Rattle.netlink_core.specs.Family.{Family, Said, says, attribute_said, IsTypedSaid, IsNormalSaid, AreIdleAttributes}
+use Rattle.netlink_core.specs.ShownLaws.{FamilyLaws, ReplyLaws}
+use Rattle.netlink_core.specs.Reply.{Reply, ValueOf, attribute_part, MeansReply, RefusesReply, AreIdleReplies, IsTypedReply, IsNormalReply, reply_bytes, ReplyFits, reply_codec}
 use Rattle.netlink_core.specs.Codec.{KeepsLaws}
 use Rattle.netlink_core.specs.ByteLaws.{IsBytes-append}
 use Rattle.netlink_core.specs.FrontLaws.{value_or_reason}

@@ -9,8 +9,8 @@ use Rattle.netlink_core.specs.declared.fault.DecodeError.{DecodeError}
 use Rattle.netlink_core.specs.declared.fault.DecodeError.TheVariants.{Memory}
 use Rattle.netlink_core.specs.Bytes.{IsBytes}
 use Rattle.netlink_core.specs.ByteLaws.{IsBytes-number}
-use Rattle.netlink_core.specs.Prefix.{Prefix, PrefixLaws}
-use Rattle.netlink_core.specs.Family.{KindLaws}
+use Rattle.netlink_core.specs.Prefix.{Prefix}
+use Rattle.netlink_core.specs.ShownLaws.{PrefixLaws, KindLaws}
 use Rattle.netlink_core.specs.Rows.{exact_value, kind, memory_kind, number_kind}
 use Rattle.netlink_core.specs.Faults.{under_kind}
 use Rattle.netlink_core.specs.Parse.{exact_number}

@@ -1,12 +1,14 @@
 -- Numbers that were read in a row are a row of the table, and rows that were written one after the other
 -- are the bytes of the table.
-use Rattle.std.proofs.Common.{◌≡◌, ℕ, zero, suc, append_assoc, ap₂, ◌+◌, ◌-◌, ◌*◌, ◌<◌, ◌≤◌, List, [], ◌∷◌, ◌++◌, length, take, drop, slice_index, bit_and, refl, sym, ap, ◌∙◌, arith, mul-le-mul_left, mul-suc}
+use Rattle.std.proofs.Common.{◌≡◌, ℕ, zero, suc, append_assoc, ap₂, ◌+◌, ◌-◌, ◌*◌, ◌^◌, ◌<◌, ◌≤◌, List, [], ◌∷◌, ◌++◌, length, take, drop, slice_index, bit_and, refl, sym, ap, ◌∙◌, arith, mul-le-mul_left, mul-suc}
 use Rattle.std.proofs.lemmas.List.{ext_get_or, drop-take, take-take, drop-drop, drop_more, get_or-drop, take_at, drop_at}
 use borrow.Rule.Slice.PartMut.{put_mid}
 use Rattle.std.specs.List.{flat_map}
 use Rattle.byteorder.specs.Endian.{IsRead}
-use Rattle.netlink_core.specs.Table.{Order, little_endian, Row, byte, number, flags, unread, number_in, bytes_in, bytes_at, numbers, values_of, bytes_of, first}
+use Rattle.netlink_core.specs.Bytes.{IsBytes}
+use Rattle.netlink_core.specs.Table.{Order, little_endian, Row, byte, number, flags, unread, number_in, bytes_in, bytes_at, numbers, values_of, bytes_of, first, Fit}
 use Rattle.netlink_core.proofs.Numbers.{number-take}
+use Rattle.netlink_core.proofs.TableLaws.{AreBytes-drop}
 
 length-row : (order : Order) (width place count : ℕ) (bytes : List ℕ) → length (values_of (numbers place width order count) bytes) ≡ count
 length-row order width place zero bytes = refl
@@ -93,6 +95,41 @@ values-moved by (byte place ∷ rows) bytes = ap₂ (λ (a : ℕ) (others : List
 values-moved by (number place width order ∷ rows) bytes = ap₂ (λ (a : ℕ) (others : List ℕ). a ∷ others) (ap (number_in order width) (sym (drop-drop place by bytes))) (values-moved by rows bytes)
 values-moved by (flags place width mask ∷ rows) bytes = ap₂ (λ (a : ℕ) (others : List ℕ). a ∷ others) (ap (λ (b : List ℕ). bit_and (number_in little_endian width b) mask) (sym (drop-drop place by bytes))) (values-moved by rows bytes)
 values-moved by (unread place written ∷ rows) bytes = values-moved by rows bytes
+
+-- ---- values within their rows
+
+-- rows, and others behind them
+pub fit-append : (rows more : List Row) (values others : List ℕ) → Fit rows values → Fit more others → Fit (rows ++ more) (values ++ others)
+fit-append [] more [] others f g = g
+fit-append [] more (value ∷ values) others f g = absurd f
+fit-append (unread place written ∷ rows) more values others f g = fit-append rows more values others f g
+fit-append (byte place ∷ rows) more [] others f g = absurd f
+fit-append (byte place ∷ rows) more (value ∷ values) others f g = (f.0, fit-append rows more values others f.1 g)
+fit-append (number place width order ∷ rows) more [] others f g = absurd f
+fit-append (number place width order ∷ rows) more (value ∷ values) others f g = (f.0, fit-append rows more values others f.1 g)
+fit-append (flags place width mask ∷ rows) more [] others f g = absurd f
+fit-append (flags place width mask ∷ rows) more (value ∷ values) others f g = (f.0, fit-append rows more values others f.1 g)
+
+-- wherever the rows stand
+pub fit-moved : (by : ℕ) (rows : List Row) (values : List ℕ) → Fit rows values → Fit (moved by rows) values
+fit-moved by [] values f = f
+fit-moved by (unread place written ∷ rows) values f = fit-moved by rows values f
+fit-moved by (byte place ∷ rows) [] f = absurd f
+fit-moved by (byte place ∷ rows) (value ∷ values) f = (f.0, fit-moved by rows values f.1)
+fit-moved by (number place width order ∷ rows) [] f = absurd f
+fit-moved by (number place width order ∷ rows) (value ∷ values) f = (f.0, fit-moved by rows values f.1)
+fit-moved by (flags place width mask ∷ rows) [] f = absurd f
+fit-moved by (flags place width mask ∷ rows) (value ∷ values) f = (f.0, fit-moved by rows values f.1)
+
+-- so many bytes of an array
+pub fit-bytes : (place count : ℕ) (bytes : List ℕ) → IsBytes bytes → Fit (bytes_at place count) (first count bytes)
+fit-bytes place zero bytes typed = tt
+fit-bytes place (suc count) bytes typed = (typed 0, fit-bytes (place + 1) count (drop 1 bytes) (AreBytes-drop 1 bytes typed))
+
+-- all numbers of a list
+pub fit_numbers : (order : Order) (place width : ℕ) (xs : List ℕ) → ((i : ℕ) → slice_index xs i < 256 ^ width) → Fit (numbers place width order (length xs)) xs
+fit_numbers order place width [] below = tt
+fit_numbers order place width (x ∷ xs) below = (below 0, fit_numbers order (place + width) width xs (λ i. below (suc i)))
 
 -- ---- arrays
 

@@ -1,10 +1,10 @@
 -- Families of attributes: a list of kinds, and what follows from it: what each attribute says, which say the same,
 -- and what is written.
-use Rattle.std.specs.Prelude.{◌≡◌, ◌≢◌, ℕ, ◌⊎◌, ◌==◌, if◌then◌else◌, Bool, true, false, List, [], ◌∷◌, bit_and, Option, Some, None, Result, Ok, Err, ⊤}
+use Rattle.std.specs.Prelude.{◌≡◌, ◌≢◌, ℕ, ◌⊎◌, ◌==◌, if◌then◌else◌, Bool, true, false, List, [], ◌∷◌, Option, Some, None, Result, Ok, Err, ⊤}
 use Rattle.std.proofs.Common.{inl, inr}
 use Rattle.netlink_core.specs.declared.fault.DecodeError.{DecodeError}
 use Rattle.netlink_core.specs.Attribute.{Attribute, IsTypedAttribute, kind_of}
-use Rattle.netlink_core.specs.Prefix.{Prefix, PrefixLaws}
+use Rattle.netlink_core.specs.Prefix.{Prefix}
 
 -- one kind: its number, how its values are read and written, and whether they are kept without memory
 pub record Kind : Type 1 where
@@ -98,13 +98,3 @@ content [] k a = None
 content (row ∷ rows) k v = got (row.number == k) (content rows k) v
 
 -- ---- what is shown
-
--- of a kind: its number has no flag bit, and its values keep the laws
-pub record KindLaws (row : Kind) : Type 0 where
-  pub plain : bit_and row.number 0x3fff ≡ row.number
-  pub value : PrefixLaws row.value
-
--- of a family: the same of each kind
-abbrev pub FamilyLaws : Family → Type 0
-FamilyLaws [] = Unit {0}
-FamilyLaws (row ∷ rows) = KindLaws row × FamilyLaws rows

@@ -1,9 +1,8 @@
 -- Formats of records, by tables.
-use Rattle.std.specs.Prelude.{◌≡◌, ◌≤◌, ⊤, ℕ, nat_lt, if◌then◌else◌, List, length, Result, Ok, Err, IsTrue}
-use Rattle.netlink_core.specs.Bytes.{IsBytes}
-use Rattle.netlink_core.specs.Table.{Row, is_table, values_of, bytes_of, live_bits, masked, Fit, AreDefined}
+use Rattle.std.specs.Prelude.{◌≡◌, ◌≤◌, ⊤, ℕ, nat_lt, if◌then◌else◌, List, length, Result, Ok, Err}
+use Rattle.netlink_core.specs.Table.{Row, values_of, bytes_of, live_bits, masked, Fit, AreDefined}
 use Rattle.netlink_core.specs.declared.fault.DecodeError.{DecodeError}
-use Rattle.netlink_core.specs.declared.fault.DecodeError.TheVariants.{Memory, BufferTooSmall}
+use Rattle.netlink_core.specs.declared.fault.DecodeError.TheVariants.{BufferTooSmall}
 use Rattle.netlink_core.specs.declared.fault.RecordName.{RecordName}
 
 -- How a record stands in bytes: its name in faults, the fewest bytes that it is read from, and the tables of its rows. A
@@ -85,21 +84,3 @@ module _ {Param Tag Value : Type 0} (format : Format Param Tag Value) where
   -- all tables are of one size
   abbrev pub IsFixed : ℕ → Type 0
   IsFixed size = (format.least ≡ size) × ((tag : Tag) → format.size tag ≡ size)
-
-  -- What is shown of a format so that it keeps the laws.
-  pub record IsSound : Type 0 where
-    -- each table is one of its size, which is not under the least, and which a string that tells it has
-    pub tables : (tag : Tag) → IsTrue (is_table 0 (format.table tag) (format.size tag))
-    pub enough : (tag : Tag) → format.least ≤ format.size tag
-    pub room : (param : Param) (tag : Tag) (left : List ℕ) → format.least ≤ length left → format.tag_at param left ≡ Ok tag → format.size tag ≤ length left
-    -- each value has as many bytes, and no fault that a string tells is want of memory
-    pub long : (value : Value) → length (bytes value) ≡ format.size (format.tag_of value)
-    pub named : (param : Param) (left : List ℕ) → format.tag_at param left ≡ Err Memory → ⊥
-    -- a value that was read has the values and the tag that were read, and is shaped and as normal form asks
-    pub kept : (tag : Tag) (left : List ℕ) → IsBytes left → format.values (format.value tag (values_of (format.table tag) left)) ≡ values_of (format.table tag) left
-    pub tagged : (tag : Tag) (left : List ℕ) → format.tag_of (format.value tag (values_of (format.table tag) left)) ≡ tag
-    pub shaped : (tag : Tag) (left : List ℕ) → IsBytes left → format.is_shaped (format.value tag (values_of (format.table tag) left))
-    pub owned : (param : Param) (tag : Tag) (left : List ℕ) → IsBytes left → format.tag_at param left ≡ Ok tag → format.is_own param (format.value tag (values_of (format.table tag) left))
-    -- a typed value in normal form is that of its values, and its bytes tell its tag
-    pub back : (param : Param) (value : Value) → IsTyped value → IsNormal param value → format.value (format.tag_of value) (format.values value) ≡ value
-    pub told : (param : Param) (value : Value) → IsTyped value → IsNormal param value → format.tag_at param (bytes value) ≡ Ok (format.tag_of value)

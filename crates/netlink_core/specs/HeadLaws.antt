@@ -4,7 +4,8 @@ use Rattle.netlink_core.specs.declared.fault.DecodeError.{DecodeError}
 use Rattle.netlink_core.specs.declared.fault.DecodeError.TheVariants.{Memory}
 use Rattle.netlink_core.specs.Bytes.{IsBytes}
 use Rattle.netlink_core.specs.Attribute.{Attribute, FitsWords, HasFittingValue, HeadIs, fill, written}
-use Rattle.netlink_core.specs.Family.{Family, FamilyLaws, Said, says, attribute_said, IsTypedSaid, IsNormalSaid, AreIdleAttributes}
+use Rattle.netlink_core.specs.Family.{Family, Said, says, attribute_said, IsTypedSaid, IsNormalSaid, AreIdleAttributes}
+use Rattle.netlink_core.specs.ShownLaws.{FamilyLaws}
 use Rattle.netlink_core.specs.AnyKind.{any_kind}
 use Rattle.netlink_core.specs.Heads.{MeansHead, RefusesHead, AreIdleHeads, head_codec}
 use Rattle.netlink_core.specs.Codec.{KeepsLaws}

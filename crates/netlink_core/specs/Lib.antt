@@ -2,6 +2,7 @@ pub mod Bytes
 pub mod ByteLaws
 pub mod Table
 pub mod Format
+pub mod SoundLaws
 pub mod Codec
 pub mod Faults
 pub mod Canonical
@@ -14,6 +15,7 @@ pub mod Prefix
 pub mod Rows
 pub mod Heads
 pub mod Reply
+pub mod ShownLaws
 pub mod AnyKind
 pub mod DefaultNla
 pub mod Parse

@@ -3,8 +3,8 @@ use Rattle.std.specs.Prelude.{◌≡◌, ℕ, ◌≤◌, ◌⊎◌, List, ◌++�
 use Rattle.std.specs.List.{AllByRecursion, AllZip, flat_map}
 use Rattle.netlink_core.specs.declared.fault.DecodeError.{DecodeError}
 use Rattle.netlink_core.specs.Attribute.{Attribute, HasFittingValue, Cut, AttributesMean, AttributeFault, written}
-use Rattle.netlink_core.specs.Prefix.{Prefix, PrefixLaws, StandsInFront}
-use Rattle.netlink_core.specs.Family.{Family, FamilyLaws, Said, says, attribute_said, IsTypedSaid, IsNormalSaid, IsSpareSaid, AreIdleAttributes}
+use Rattle.netlink_core.specs.Prefix.{Prefix}
+use Rattle.netlink_core.specs.Family.{Family, Said, says, attribute_said, IsTypedSaid, IsNormalSaid, IsSpareSaid, AreIdleAttributes}
 use Rattle.netlink_core.specs.Codec.{Codec}
 
 -- a header, the number of its bytes, and the family of the attributes behind it
@@ -12,12 +12,6 @@ pub record Reply : Type 1 where
   pub header : Prefix
   pub size : ℕ
   pub family : Family
-
--- what is shown of them
-pub record ReplyLaws (R : Reply) : Type 0 where
-  pub header : PrefixLaws R.header
-  pub in_front : StandsInFront R.header R.size
-  pub family : FamilyLaws R.family
 
 -- a reply without where it lies in memory
 pub record ReplyValue (H V : Type 0) : Type 0 where

@@ -1,7 +1,6 @@
 -- Records of a fixed length, as tables: rows one after the other, each with its place. A list of bytes
 -- is a list of numbers below 256.
-use Rattle.std.specs.Prelude.{◌≡◌, ◌<◌, ℕ, zero, suc, ◌+◌, ◌^◌, Bool, ◌&&◌, ◌==◌, nat_lt, List, [], ◌∷◌, ◌++◌, length, drop, replicate, slice_index, bit_and}
-use Rattle.std.specs.List.{list_all}
+use Rattle.std.specs.Prelude.{◌≡◌, ◌<◌, ℕ, zero, suc, ◌+◌, ◌^◌, List, [], ◌∷◌, ◌++◌, length, drop, replicate, slice_index, bit_and}
 use Rattle.byteorder.specs.Endian.{little_number, big_number, little_bytes, big_bytes}
 
 -- which byte of a number stands first
@@ -36,14 +35,6 @@ number_in big_endian width bytes = big_number width bytes
 abbrev pub bytes_in : Order → ℕ → ℕ → List ℕ
 bytes_in little_endian width n = little_bytes width n
 bytes_in big_endian width n = big_bytes width n
-
--- the rows stand one after the other from this place on and end at that one, and what is written is bytes
-abbrev pub is_table : ℕ → List Row → ℕ → Bool
-is_table from [] end = from == end
-is_table from (byte place ∷ rows) end = (place == from) && is_table (from + 1) rows end
-is_table from (number place width order ∷ rows) end = (place == from) && is_table (from + width) rows end
-is_table from (flags place width mask ∷ rows) end = (place == from) && is_table (from + width) rows end
-is_table from (unread place written ∷ rows) end = (place == from) && list_all (λ one. nat_lt one 256) written && is_table (from + length written) rows end
 
 -- the values of the rows that are read, in a string
 abbrev pub values_of : List Row → List ℕ → List ℕ

@@ -160,6 +160,15 @@ pub fn equal_messages_where_idle<I: Coded<Param = u16>>()
         → EnvelopeIs I.codec.reads b v → EnvelopeIs I.codec.reads c w → ((v ≡ w) ↔ IdleEnvelopes I.codec.idle b c) }
 {}
 
+/// Two accepted strings whose messages can be written are written alike, their headers as they stand, exactly where
+/// they are idle.
+pub fn messages_written_alike<I: Coded<Param = u16>>()
+    ensures { ((t : ℕ) → t < 2 ^ 16 → I.codec.is_param t) → (b c : List ℕ) (v w : Envelope I.codec.Value) → IsBytes b → IsBytes c
+        → EnvelopeIs I.codec.reads b v → EnvelopeIs I.codec.reads c w
+        → EnvelopeFits I.codec.written I.codec.fits v → EnvelopeFits I.codec.written I.codec.fits w
+        → ((envelope_bytes I.codec.written v ≡ envelope_bytes I.codec.written w) ↔ IdleEnvelopes I.codec.idle b c) }
+{}
+
 /// The bytes of a writable message whose header has its own length and type, as `finalize` sets them, read back as
 /// itself exactly where it is in normal form.
 pub fn finalized_message_reads_back<I: Coded<Param = u16>>()

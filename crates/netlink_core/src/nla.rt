@@ -11,7 +11,7 @@ ghost use Rattle.netlink_core.specs.HeadLaws.{heads_keep_laws, any_kind_laws};
 use crate::attribute::{HEADER, MAX_VALUE, NlaBuffer, padded};
 use crate::codec::{Emitable, Parseable, Readable};
 use crate::fault::DecodeError;
-use crate::wire::{Coded, Wire};
+use crate::wire::{Coded, Wire, bytes_typed};
 use byteorder::{ByteOrder, LittleEndian};
 use std::alloc::{AllocError, Global};
 
@@ -262,6 +262,11 @@ impl Coded for DefaultNla {
     ghost seen = { kept_attribute };
 
     ghost type_written = { λ _. 0 };
+
+    fn typed(&self) {
+        let _kind = self.kind;
+        bytes_typed(self.value.as_slice());
+    }
 
     ghost eq_is_seen = { Prim.search rules };
 

@@ -1,7 +1,7 @@
 //! Records: what each is read from and written as, and all that follows from it.
 
 ghost use Rattle.std.specs.Prelude.{◌≡◌, ◌≢◌, ◌≤◌, IfErr, ℕ, List, length, take, SomeIff, false, ⊤, refl};
-ghost use Rattle.netlink_core.specs.Format.{Format, read, read_row, Reads, bytes, IsFixed, IsSound};
+ghost use Rattle.netlink_core.specs.Format.{Format, read, read_row, Reads, bytes, IsFixed, IsTyped};
 ghost use Rattle.netlink_core.specs.declared.fault.DecodeError.TheVariants.{Memory};
 ghost use Rattle.netlink_core.specs.Codec.{record_codec, KeepsLaws};
 
@@ -42,7 +42,12 @@ pub trait Record: Exact + Sized {
         requires { length row.old ≡ format.size (format.tag_of self.now) }
         ensures { row.new ≡ bytes format self.now };
 
-    ghost sound: { IsSound format };
+    /// Tells the prover that the value's numbers are within their rows. It does nothing.
+    fn row_typed(&self)
+        ensures { IsTyped format self.now };
+
+    // A value has as many bytes as its tag tells.
+    ghost long: { (value : Self) → length (bytes format value) ≡ format.size (format.tag_of value) };
 
     ghost laws: { KeepsLaws (record_codec format) };
 }
@@ -105,6 +110,10 @@ impl<T: Record> Coded for T {
     ghost seen = { λ value. value };
 
     ghost type_written = { λ _. 0 };
+
+    fn typed(&self) {
+        self.row_typed();
+    }
 
     ghost eq_is_seen = { T.equal };
 

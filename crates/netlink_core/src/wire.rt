@@ -1,6 +1,6 @@
 //! A reader joined with its writer.
 
-ghost use Rattle.std.specs.Prelude.{◌≡◌, ◌≢◌, ◌↔◌, ℕ, List, IfOk, IfErr, IsTrue, refl};
+ghost use Rattle.std.specs.Prelude.{◌≡◌, ◌≢◌, ◌<◌, ◌^◌, ◌↔◌, ℕ, List, IfOk, IfErr, IsTrue, refl};
 ghost use Rattle.std.proofs.Common.{sym, ap, ◌∙◌, subst};
 ghost use Rattle.netlink_core.specs.Bytes.{IsBytes};
 ghost use Rattle.netlink_core.specs.Codec.{Codec, KeepsLaws};
@@ -29,6 +29,10 @@ pub trait Coded: PartialEq + Sized {
     {
         self == other
     }
+
+    /// Tells the prover that the value's numbers are within their types. It does nothing.
+    fn typed(&self)
+        ensures { codec.is_typed (seen self.now) };
 
     // `==` compares what is seen.
     ghost eq_is_seen: { (v w : Self) → IsTrue (Self.eq v w) ↔ (seen v ≡ seen w) };
@@ -97,3 +101,14 @@ pub trait Wire: Coded + Readable + Emitable {
 
     ghost fits_is: { (v : Self) → (Self.writable v ↔ Self.codec.fits (Self.seen v)) };
 }
+
+/// Tells the prover that bytes are numbers below 256. Like [`word_typed`] it is for a type's own [`Coded::typed`], and
+/// does nothing.
+pub fn bytes_typed(_bytes: &[u8])
+    ensures { IsBytes _bytes.now }
+{}
+
+/// Tells the prover that a word is a number of four bytes. It does nothing.
+pub fn word_typed(_word: u32)
+    ensures { _word < 256 ^ 4 }
+{}

@@ -15,8 +15,15 @@ use Rattle.netlink_packet_sock_diag.specs.declared.dump.DumpState.{DumpState}
 use Rattle.netlink_packet_sock_diag.specs.declared.dump.DumpState.TheVariants.{Reading, Done, Error, Overrun, Failed}
 use Rattle.netlink_packet_sock_diag.specs.declared.dump.DumpError.{DumpError}
 use Rattle.netlink_packet_sock_diag.specs.declared.dump.DumpError.TheVariants.{Ended, Fault}
-use Rattle.netlink_packet_sock_diag.specs.Dump.{in_a_row, GoesOn, kept, EndsWith, Ends, Dump, DumpGoesOn, DumpInParts, DatagramDump, DatagramsDump, AreSplit}
+use Rattle.netlink_packet_sock_diag.specs.Dump.{in_a_row, GoesOn, kept, EndsWith, Ends, Dump, DumpGoesOn, DatagramDump, DatagramsDump, AreSplit}
 use Rattle.netlink_packet_sock_diag.specs.Feed.{FeedLeaves, FeedsLeave}
+
+-- the dump over items that come in several parts, one after the other
+abbrev pub DumpInParts : {A : Type 0} → List A → List (List (Result (Payload A) DecodeError)) → List A → Result DumpState DecodeError → Type 0
+DumpInParts before [] after end = (after ≡ before) × (end ≡ Ok Reading)
+DumpInParts {A} before (items ∷ later) after end =
+    (middle : List A) × (state : Result DumpState DecodeError) × Dump before items middle state
+    × (((state ≡ Ok Reading) × DumpInParts middle later after end) ⊎ ((state ≢ Ok Reading) × (after ≡ middle) × (end ≡ state)))
 
 module _ {A : Type 0} where
   no_end_and_plain : (item : Result (Payload A) DecodeError) (end : Result DumpState DecodeError) → GoesOn item → EndsWith item end → ⊥

@@ -1,6 +1,7 @@
 -- Replies that are refused, which is no want of memory.
 use Rattle.std.proofs.Common.{ℕ, List}
-use Rattle.netlink_core.specs.Reply.{Reply, ReplyLaws, RefusesReply}
+use Rattle.netlink_core.specs.Reply.{Reply, RefusesReply}
+use Rattle.netlink_core.specs.ShownLaws.{ReplyLaws}
 use Rattle.netlink_core.specs.declared.fault.DecodeError.TheVariants.{Memory}
 use Rattle.netlink_core.proofs.Replies.{replies_keep_laws}
 

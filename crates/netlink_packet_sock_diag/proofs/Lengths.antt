@@ -4,7 +4,8 @@ use Rattle.std.specs.List.{flat_map}
 use Rattle.std.proofs.lemmas.List.{length-append, length-replicate}
 use Rattle.netlink_core.specs.Attribute.{Attribute, fill, unpadded, written}
 use Rattle.netlink_core.specs.Family.{attribute_said}
-use Rattle.netlink_core.specs.Reply.{Reply, ReplyLaws, ValueOf, reply_bytes}
+use Rattle.netlink_core.specs.Reply.{Reply, ValueOf, reply_bytes}
+use Rattle.netlink_core.specs.ShownLaws.{ReplyLaws}
 
 -- an attribute with its padding is a multiple of four
 written_multiple : (a : Attribute) → length (written a) % 4 ≡ 0

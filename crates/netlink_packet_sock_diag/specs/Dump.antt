@@ -60,13 +60,6 @@ module _ {A : Type 0} where
 abbrev pub DumpGoesOn : {A : Type 0} → List A → Result DumpState DecodeError → List (Result (Payload A) DecodeError) → List A → Result DumpState DecodeError → Type 0
 DumpGoesOn middle state items after end = ((state ≡ Ok Reading) × Dump middle items after end) ⊎ ((state ≢ Ok Reading) × (after ≡ middle) × (end ≡ state))
 
--- the dump over items that come in several parts, one after the other
-abbrev pub DumpInParts : {A : Type 0} → List A → List (List (Result (Payload A) DecodeError)) → List A → Result DumpState DecodeError → Type 0
-DumpInParts before [] after end = (after ≡ before) × (end ≡ Ok Reading)
-DumpInParts {A} before (items ∷ later) after end =
-    (middle : List A) × (state : Result DumpState DecodeError) × Dump before items middle state
-    × (((state ≡ Ok Reading) × DumpInParts middle later after end) ⊎ ((state ≢ Ok Reading) × (after ≡ middle) × (end ≡ state)))
-
 -- the dump over the items of a datagram
 module _ {A : Type 0} (reads : List ℕ → ℕ → A → Type 0) (refuses : List ℕ → ℕ → DecodeError → Type 0) where
   -- to its end

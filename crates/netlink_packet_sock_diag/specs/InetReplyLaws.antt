@@ -2,7 +2,7 @@
 use Rattle.std.proofs.Common.{◌≡◌, ◌∙◌, ℕ, ◌≤◌, List, ◌++◌, length, slice_index, Ok, ap, arith}
 use Rattle.std.proofs.lemmas.List.{get_or_append_left}
 use Rattle.netlink_core.specs.Format.{read}
-use Rattle.netlink_core.specs.Reply.{ReplyLaws}
+use Rattle.netlink_core.specs.ShownLaws.{ReplyLaws}
 use Rattle.netlink_core.proofs.FormatLaws.{accepted}
 use Rattle.netlink_core.proofs.Prefixes.{prefix_laws, stands_in_front}
 use Rattle.sock_diag_records.specs.declared.inet.response.InetResponseHeader.{InetResponseHeader}

@@ -13,12 +13,12 @@ pub mod AttributesIn
 pub mod ViewedUnixReply
 pub mod ViewedInetReply
 pub mod ViewedMessage
-pub mod EqualReplies
-pub mod EqualMessages
-pub mod EqualViews
+pub mod EqualReplyLaws
+pub mod EqualMessageLaws
+pub mod EqualViewLaws
 pub mod Dump
 pub mod Feed
 pub mod SeenDump
 pub mod ViewedPayload
 pub mod DumpWalk
-pub mod EqualPayloads
+pub mod EqualPayloadLaws

@@ -22,30 +22,22 @@ pub data Message : Type 0 where
 -- the message is a request for IPv4 or IPv6 sockets
 abbrev pub is_inet_request : Message → Bool
 is_inet_request (inet_request_with v) = true
-is_inet_request (inet_response_with v) = false
-is_inet_request (unix_request_with v) = false
-is_inet_request (unix_response_with v) = false
+is_inet_request _ = false
 
 -- the message is a reply about an IPv4 or IPv6 socket
 abbrev pub is_inet_response : Message → Bool
-is_inet_response (inet_request_with v) = false
 is_inet_response (inet_response_with v) = true
-is_inet_response (unix_request_with v) = false
-is_inet_response (unix_response_with v) = false
+is_inet_response _ = false
 
 -- the message is a request for UNIX sockets
 abbrev pub is_unix_request : Message → Bool
-is_unix_request (inet_request_with v) = false
-is_unix_request (inet_response_with v) = false
 is_unix_request (unix_request_with v) = true
-is_unix_request (unix_response_with v) = false
+is_unix_request _ = false
 
 -- the message is a reply about a UNIX socket
 abbrev pub is_unix_response : Message → Bool
-is_unix_response (inet_request_with v) = false
-is_unix_response (inet_response_with v) = false
-is_unix_response (unix_request_with v) = false
 is_unix_response (unix_response_with v) = true
+is_unix_response _ = false
 
 -- ---- what is read
 

@@ -1,6 +1,6 @@
 -- The laws of replies about UNIX sockets.
 use Rattle.std.proofs.Common.{refl}
-use Rattle.netlink_core.specs.Reply.{ReplyLaws}
+use Rattle.netlink_core.specs.ShownLaws.{ReplyLaws}
 use Rattle.netlink_core.proofs.Prefixes.{prefix_laws, stands_in_front}
 use Rattle.sock_diag_records.specs.UnixResponseHeader.{unix_response_header}
 use Rattle.sock_diag_records.specs.UnixResponseHeaderLaws.{unix_response_header_sound}

@@ -3,7 +3,7 @@
 ghost use Rattle.netlink_packet_sock_diag.specs.Message.{message_codec};
 ghost use Rattle.netlink_packet_sock_diag.specs.MessageLaws.{message_laws};
 ghost use Rattle.netlink_packet_sock_diag.specs.SeenMessage.{seen_message, seen_destroy};
-ghost use Rattle.netlink_packet_sock_diag.specs.EqualMessages.{message_equal};
+ghost use Rattle.netlink_packet_sock_diag.specs.EqualMessageLaws.{message_equal};
 
 use crate::message::{SockDiagDestroy, SockDiagMessage};
 use netlink_core::Coded;
@@ -16,6 +16,15 @@ impl Coded for SockDiagMessage {
     ghost seen = { seen_message };
 
     ghost type_written = { λ _. 20 };
+
+    fn typed(&self) {
+        match self {
+            SockDiagMessage::InetRequest(request) => request.typed(),
+            SockDiagMessage::InetResponse(reply) => reply.typed(),
+            SockDiagMessage::UnixRequest(request) => request.typed(),
+            SockDiagMessage::UnixResponse(reply) => reply.typed(),
+        }
+    }
 
     ghost eq_is_seen = { message_equal };
 
@@ -30,6 +39,10 @@ impl Coded for SockDiagDestroy {
     ghost seen = { seen_destroy };
 
     ghost type_written = { λ _. 21 };
+
+    fn typed(&self) {
+        self.0.typed();
+    }
 
     ghost eq_is_seen = { λ v w. message_equal v.0 w.0 };
 

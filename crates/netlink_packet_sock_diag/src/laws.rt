@@ -101,6 +101,17 @@ pub fn equal_messages_where_idle()
     laws::equal_messages_where_idle::<SockDiagMessage>();
 }
 
+/// Two accepted strings whose netlink messages can be written are written alike, their headers as they stand, exactly
+/// where they are idle.
+pub fn messages_written_alike()
+    ensures { (b c : List ℕ) (v w : Envelope Message) → IsBytes b → IsBytes c
+        → EnvelopeIs MessageIs b v → EnvelopeIs MessageIs c w
+        → EnvelopeFits message_bytes MessageFits v → EnvelopeFits message_bytes MessageFits w
+        → ((envelope_bytes message_bytes v ≡ envelope_bytes message_bytes w) ↔ IdleEnvelopes IdleMessages b c) }
+{
+    laws::messages_written_alike::<SockDiagMessage>();
+}
+
 /// The bytes of a writable netlink message whose header has its own length and type, as `finalize` sets them, read back
 /// as itself exactly where it carries nothing or bytes that are kept, or a message in normal form under the type 20.
 pub fn finalized_message_reads_back()
@@ -206,7 +217,7 @@ pub fn equal_inet_views(v: &InetResponseView<'_>, w: &InetResponseView<'_>) -> b
 }
 
 /// `==` says whether two payloads in place tell the same.
-#[tactic(auto, using(crate::specs::EqualPayloads::payload_equal))]
+#[tactic(auto, using(crate::specs::EqualPayloadLaws::payload_equal))]
 pub fn equal_payload_views(v: &View<'_>, w: &View<'_>) -> bool
     ensures { IsTrue result ↔ (viewed_payload v.now ≡ viewed_payload w.now) }
 {
@@ -214,7 +225,7 @@ pub fn equal_payload_views(v: &View<'_>, w: &View<'_>) -> bool
 }
 
 /// `==` says whether two messages in place tell the same.
-#[tactic(auto, using(crate::specs::EqualMessages::view_equal))]
+#[tactic(auto, using(crate::specs::EqualMessageLaws::view_equal))]
 pub fn equal_message_views(v: &SockDiagView<'_>, w: &SockDiagView<'_>) -> bool
     ensures { IsTrue result ↔ (viewed_message v.now ≡ viewed_message w.now) }
 {

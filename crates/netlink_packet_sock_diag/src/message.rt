@@ -259,7 +259,7 @@ impl From<SockDiagMessage> for NetlinkPayload<SockDiagMessage> {
 /// It is read as a message is, so under `SOCK_DIAG_BY_FAMILY` alone, and what was written under its own type is
 /// refused.
 #[derive(Debug, Drop, PartialEq, Eq)]
-pub struct SockDiagDestroy(SockDiagMessage);
+pub struct SockDiagDestroy(pub(crate) SockDiagMessage);
 
 impl SockDiagDestroy {
     ghost use Rattle.netlink_packet_sock_diag.specs.SeenMessage.{seen_message, seen_destroy};

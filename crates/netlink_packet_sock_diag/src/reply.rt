@@ -6,7 +6,7 @@ ghost use Rattle.netlink_core.specs.declared.fault.DecodeError.TheVariants.{Memo
 ghost use Rattle.netlink_core.specs.Family.{Family, Said, IsSpareSaid};
 ghost use Rattle.netlink_core.specs.Reply.{framed, FramedFits};
 
-use netlink_core::{DecodeError, Emitable, Nla, emit_nlas, nlas_len_within};
+use netlink_core::{Coded, DecodeError, Emitable, Nla, emit_nlas, nlas_len_within};
 use smallvec::SmallVec;
 use std::alloc::{AllocError, Global};
 use std::default::MadeWith;
@@ -48,6 +48,15 @@ pub(crate) fn without_memory<T: Drop>(_begun: T) -> DecodeError
     ensures { result ≡ Memory }
 {
     DecodeError::Memory
+}
+
+/// Tells the prover that each attribute's numbers are within their types. It does nothing.
+pub(crate) fn nlas_typed<T: Coded>(nlas: &[T])
+    ensures { AllByRecursion T.codec.is_typed (map T.seen nlas.now) }
+{
+    for nla in nlas {
+        nla.typed();
+    }
 }
 
 /// How many bytes header and attributes have, where each value fits and all of it has at most 4,294,967,295 bytes.

@@ -3,9 +3,9 @@ use Rattle.std.proofs.Common.{Ok, ◌≡◌, ◌∙◌, ◌↔◌, inl, inr, ℕ
 use Rattle.std.specs.Prelude.{not, ◌==◌}
 use Rattle.std.proofs.lemmas.Bool.{cases_eq, eq-eqb, ne_eqb}
 use Rattle.netlink_core.specs.ByteLaws.{IsBytes-cons, IsBytes-nil}
-use Rattle.netlink_core.specs.Prefix.{PrefixLaws}
+use Rattle.netlink_core.specs.ShownLaws.{PrefixLaws}
 use Rattle.netlink_core.specs.declared.fault.DecodeError.TheVariants.{Memory}
-use Rattle.sock_diag_attributes.specs.Choices.{if_equal, if_equal_err}
+use Rattle.sock_diag_attributes.specs.ChoiceLaws.{if_equal, if_equal_err}
 use Rattle.sock_diag_attributes.specs.Flag.{read_flag, flag_byte, flag_value}
 
 -- two numbers say the same exactly where both are zero or both are not

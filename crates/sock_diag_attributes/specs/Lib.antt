@@ -1,7 +1,7 @@
 pub mod Name
 pub mod NameLaws
 pub mod SeenName
-pub mod Choices
+pub mod ChoiceLaws
 pub mod Numbers
 pub mod NumberLaws
 pub mod SeenNumbers
@@ -15,5 +15,5 @@ pub mod FlagLaws
 pub mod InetAttributes
 pub mod InetAttributeLaws
 pub mod SeenInet
-pub mod EqualUnix
-pub mod EqualInet
+pub mod EqualUnixLaws
+pub mod EqualInetLaws

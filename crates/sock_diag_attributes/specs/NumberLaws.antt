@@ -10,9 +10,9 @@ use Rattle.netlink_core.specs.declared.fault.DecodeError.TheVariants.{Memory, No
 use Rattle.netlink_core.specs.Bytes.{IsBytes}
 use Rattle.netlink_core.specs.ByteLaws.{IsBytes-append, IsBytes-left, IsBytes-nil, IsBytes-number, IsBytes-right}
 use Rattle.netlink_core.proofs.RowLaws.{same_bytes, exact_laws}
-use Rattle.netlink_core.specs.Prefix.{PrefixLaws}
-use Rattle.std.specs.Prelude.{⊤}
-use Rattle.sock_diag_attributes.specs.Choices.{if_equal, if_equal_err}
+use Rattle.netlink_core.specs.ShownLaws.{PrefixLaws}
+use Rattle.std.specs.Prelude.{⊤, slice_index}
+use Rattle.sock_diag_attributes.specs.ChoiceLaws.{if_equal, if_equal_err}
 use Rattle.sock_diag_attributes.specs.Numbers.{two_numbers, bytes_of_two, numbers_in, read_numbers, bytes_of_numbers, two_value, numbers_value}
 
 -- the number of a number's bytes
@@ -78,6 +78,11 @@ pub numbers_exact : (x : List ℕ) (u : List ℕ) → IsBytes x → read_numbers
 numbers_exact x u typed h =
     let read = if_equal (length x % 4) 0 _ u _ h in
     subst (λ (v : List ℕ). (x ≡ bytes_of_numbers v) × AllByRecursion (λ n. n < 2 ^ 32) v) read.1 (whole x typed read.0)
+
+-- numbers that are below a bound place by place
+pub each_below : (bound : ℕ) (u : List ℕ) → ((i : ℕ) → slice_index u i < bound) → AllByRecursion (λ n. n < bound) u
+each_below bound [] below = tt
+each_below bound (n ∷ u) below = (below 0, each_below bound u (λ i. below (suc i)))
 
 -- four bytes each
 pub length_numbers : (u : List ℕ) → length (bytes_of_numbers u) ≡ 4 * length u

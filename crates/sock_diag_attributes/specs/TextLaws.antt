@@ -7,7 +7,7 @@ use Rattle.std.proofs.lemmas.Str.{IsUtf8-from_is_utf8}
 use Rattle.netlink_core.specs.Bytes.{IsBytes}
 use Rattle.netlink_core.specs.ByteLaws.{IsBytes-append, IsBytes-cons, IsBytes-left, IsBytes-nil}
 use Rattle.netlink_core.specs.Parse.{without_end_zero, text_in}
-use Rattle.netlink_core.specs.Prefix.{PrefixLaws}
+use Rattle.netlink_core.specs.ShownLaws.{PrefixLaws}
 use Rattle.netlink_core.specs.declared.fault.DecodeError.TheVariants.{Memory, NotUtf8}
 use Rattle.netlink_core.proofs.Texts.{end_zero, text_there}
 use Rattle.sock_diag_attributes.specs.Text.{text_bytes, EndsInZero, AreIdleTexts, text_value}

@@ -1,6 +1,6 @@
 -- The laws of the attributes of replies about UNIX sockets.
 use Rattle.std.proofs.Common.{refl}
-use Rattle.netlink_core.specs.Family.{FamilyLaws}
+use Rattle.netlink_core.specs.ShownLaws.{FamilyLaws}
 use Rattle.netlink_core.proofs.Prefixes.{prefix_laws}
 use Rattle.netlink_core.proofs.RowLaws.{◌⊕◌, kind_laws, memory_kind_laws, number_laws}
 use Rattle.sock_diag_values.specs.Vfs.{vfs}

@@ -12,7 +12,7 @@ use crate::unix::nlas::{NameView, NlaView as UnixNlaView, NumbersView};
 use std::alloc::AllocError;
 
 /// `==` says whether two names in place are the same name.
-#[tactic(auto, using(crate::specs::EqualUnix::name_views_equal))]
+#[tactic(auto, using(crate::specs::EqualUnixLaws::name_views_equal))]
 pub fn equal_name_views(v: &NameView<'_>, w: &NameView<'_>) -> bool
     ensures { IsTrue result ↔ (viewed_name v.now ≡ viewed_name w.now) }
 {
@@ -20,7 +20,7 @@ pub fn equal_name_views(v: &NameView<'_>, w: &NameView<'_>) -> bool
 }
 
 /// `==` says whether the same numbers stand in both places.
-#[tactic(auto, using(crate::specs::EqualUnix::number_views_equal))]
+#[tactic(auto, using(crate::specs::EqualUnixLaws::number_views_equal))]
 pub fn equal_numbers_views(v: &NumbersView<'_>, w: &NumbersView<'_>) -> bool
     ensures { IsTrue result ↔ (viewed_numbers v.now ≡ viewed_numbers w.now) }
 {
@@ -28,7 +28,7 @@ pub fn equal_numbers_views(v: &NumbersView<'_>, w: &NumbersView<'_>) -> bool
 }
 
 /// `==` says whether two attributes in place, of replies about UNIX sockets, say the same.
-#[tactic(auto, using(crate::specs::EqualUnix::views_equal))]
+#[tactic(auto, using(crate::specs::EqualUnixLaws::views_equal))]
 pub fn equal_unix_views(v: &UnixNlaView<'_>, w: &UnixNlaView<'_>) -> bool
     ensures { IsTrue result ↔ (viewed_unix v.now ≡ viewed_unix w.now) }
 {
@@ -36,7 +36,7 @@ pub fn equal_unix_views(v: &UnixNlaView<'_>, w: &UnixNlaView<'_>) -> bool
 }
 
 /// `==` says whether two attributes in place, of replies about IPv4 and IPv6 sockets, say the same.
-#[tactic(auto, using(crate::specs::EqualInet::views_equal))]
+#[tactic(auto, using(crate::specs::EqualInetLaws::views_equal))]
 pub fn equal_inet_views(v: &InetNlaView<'_>, w: &InetNlaView<'_>) -> bool
     ensures { IsTrue result ↔ (viewed_inet v.now ≡ viewed_inet w.now) }
 {

@@ -1,6 +1,7 @@
 //! Numbers that fill the value of an attribute.
 
-ghost use Rattle.std.specs.Prelude.{◌≡◌, ◌≤◌, ◌↔◌, ◌++◌, ◌%◌, [], length, drop, slice_get, IsTrue, IfOk, IfSome, MatchResult, Ok, Err, Some};
+ghost use Rattle.std.specs.List.{AllByRecursion};
+ghost use Rattle.std.specs.Prelude.{◌≡◌, ◌<◌, ◌^◌, ◌≤◌, ◌↔◌, ◌++◌, ◌%◌, [], length, drop, slice_get, IsTrue, IfOk, IfSome, MatchResult, Ok, Err, Some};
 ghost use Rattle.std.specs.Iterator.{UpTo, YieldsFirst, item_count};
 ghost use Rattle.std.specs.Iterator.SizeHint.{IsWithinCount};
 ghost use Rattle.netlink_core.specs.Bytes.{IsBytes};
@@ -180,3 +181,14 @@ pub(crate) fn emit_numbers(numbers: &[u32], buffer: &mut [u8])
 {
     LittleEndian::write_u32_into(numbers, &mut buffer[..4 * numbers.len()]);
 }
+
+/// Tells the prover that a byte is below 256. It does nothing.
+pub(crate) fn byte_typed(_byte: u8)
+    ensures { _byte < 256 }
+{}
+
+/// Tells the prover that each word is a number of four bytes. It does nothing.
+#[tactic(auto, using(crate::specs::NumberLaws::each_below))]
+pub(crate) fn words_typed(_words: &[u32])
+    ensures { AllByRecursion (λ n. n < 2 ^ 32) _words.now }
+{}

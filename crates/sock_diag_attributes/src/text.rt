@@ -1,6 +1,7 @@
 //! Texts that fill the value of an attribute, read in place.
 
-ghost use Rattle.std.specs.Prelude.{◌≡◌, Ok, Err, IfOk, IfErr};
+ghost use Rattle.std.specs.Prelude.{◌≡◌, Ok, Err, IfOk, IfErr, IsUtf8};
+ghost use Rattle.netlink_core.specs.Bytes.{IsBytes};
 ghost use Rattle.netlink_core.specs.Parse.{text_in, without_end_zero};
 
 use netlink_core::DecodeError;
@@ -28,3 +29,8 @@ fn text_bytes(value: &[u8]) -> &[u8]
         None => value,
     }
 }
+
+/// Tells the prover that a text is UTF-8. It does nothing.
+pub(crate) fn text_typed(_text: &str)
+    ensures { IsUtf8 _text.now × IsBytes _text.now }
+{}

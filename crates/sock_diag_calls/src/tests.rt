@@ -3,7 +3,9 @@ use crate::dropped_packets::dropped;
 use crate::framing::count_attributes;
 use crate::listeners::listening_sockets;
 use crate::peers::peer;
+use crate::reading_back::copy_by_bytes;
 use netlink_core::{DecodeError, NlaBuffer};
+use sock_diag_values::unix::Vfs;
 use std::test::Fail;
 
 #[test]
@@ -58,5 +60,15 @@ fn a_path_is_found(rt: HostRuntime) -> Result<(), Fail> {
         is_bound_to(&reply[..15], b"/a").map_err(|fault| fault.number()),
         Err(2)
     );
+    Ok(())
+}
+
+#[test]
+fn a_value_reads_back(rt: HostRuntime) -> Result<(), Fail> {
+    let vfs = Vfs {
+        inode: 0x01020304,
+        device: 7,
+    };
+    assert_eq!(rt; copy_by_bytes(rt.alloc(), &vfs, ())?, vfs);
     Ok(())
 }

@@ -1,14 +1,15 @@
 -- The request for IPv4 or IPv6 sockets keeps the laws.
-use Rattle.std.proofs.Common.{◌≡◌, ◌∙◌, ℕ, List, [], ◌∷◌, ◌++◌, length, drop, slice_index, true, Result, Ok, refl, sym, ap, arith, append-nil}
-use Rattle.netlink_core.specs.Table.{Row, is_table, values_of, bytes_of}
-use Rattle.netlink_core.specs.Format.{bytes, IsFixed, IsSound}
+use Rattle.std.proofs.Common.{◌≡◌, ◌∙◌, ℕ, List, [], ◌∷◌, ◌++◌, length, drop, slice_index, true, Result, Ok, refl, sym, ap, subst, arith, append-nil}
+use Rattle.netlink_core.specs.Table.{Row, values_of, bytes_of, Fit}
+use Rattle.netlink_core.specs.SoundLaws.{is_table, IsSound}
+use Rattle.netlink_core.specs.Format.{bytes, IsFixed, IsTyped}
 use Rattle.netlink_core.proofs.Congruence.{◌⊛◌}
-use Rattle.netlink_core.proofs.RowReads.{moved, values-moved}
+use Rattle.netlink_core.proofs.RowReads.{moved, values-moved, fit-moved}
 use Rattle.netlink_core.specs.declared.fault.DecodeError.{DecodeError}
 use Rattle.byteorder.specs.Endian.{little_bytes}
 use Rattle.sock_diag_records.specs.declared.inet.request.InetRequest.{InetRequest}
 use Rattle.sock_diag_records.specs.declared.inet.socket_id.SocketId.{SocketId}
-use Rattle.sock_diag_records.specs.SocketId.{Kind, ipv4, ipv6, Kinds, kinds_of, socket_id, socket_id_rows, socket_id_values, socket_id_of}
+use Rattle.sock_diag_records.specs.SocketId.{Kind, ipv4, ipv6, Kinds, kind_of, kinds_of, socket_id, socket_id_rows, socket_id_values, socket_id_of}
 use Rattle.sock_diag_records.specs.SocketIdLaws.{pair, kept_is, shaped_is, socket_id_back, kinds_are, kinds_named, socket_id_next, length-bytes}
 use Rattle.sock_diag_records.specs.InetRequest.{inet_request_rows, inet_request}
 
@@ -40,6 +41,13 @@ values-inside kinds left = sym (values-moved 8 (socket_id_rows 0 kinds) left) �
 
 pub identity_read : (kinds : Kinds) (left : List ℕ) → socket_id_of kinds (drop 4 (values_of (inet_request_rows kinds) left)) ≡ socket_id_of kinds (values_of (socket_id_rows 0 kinds) (drop 8 left))
 identity_read kinds left = ap (socket_id_of kinds) (sym (values-inside kinds left))
+
+-- an identity in hand is typed here too
+pub fit_inside : (value : SocketId) → IsTyped socket_id value → Fit (socket_id_rows 8 (kinds_of value)) (socket_id_values value)
+unfolding socket_id
+fit_inside value typed =
+    subst (λ (rows : List Row). Fit rows (socket_id_values value)) (sym (rows_moved (kind_of value.source_address) (kind_of value.destination_address)))
+    (fit-moved 8 (socket_id_rows 0 (kinds_of value)) (socket_id_values value) typed.fit)
 
 -- the bytes of the request in pieces
 pub request_pieces : (value : InetRequest) → bytes inet_request value ≡ (value.family ∷ value.protocol ∷ value.extensions.0 ∷ 0 ∷ []) ++ (little_bytes 4 value.states.0 ++ bytes socket_id value.socket_id)

@@ -5,9 +5,11 @@ use Rattle.std.specs.Duration.{as_nanos}
 use Rattle.std.specs.List.{flat_map}
 use Rattle.byteorder.specs.Endian.{little_bytes}
 use Rattle.std.specs.declared.time.Duration.{Duration}
-use Rattle.netlink_core.specs.Table.{Row, byte, is_table, values_of, bytes_of, number, unread, numbers, little_endian}
+use Rattle.netlink_core.specs.Table.{Row, byte, values_of, bytes_of, number, unread, numbers, little_endian, Fit}
+use Rattle.netlink_core.specs.SoundLaws.{is_table, IsSound}
 use Rattle.netlink_core.specs.Bytes.{IsBytes}
-use Rattle.netlink_core.specs.Format.{IsFixed, IsSound, bytes}
+use Rattle.netlink_core.specs.Format.{IsFixed, IsTyped, bytes}
+use Rattle.netlink_core.proofs.RowReads.{fit-append}
 use Rattle.netlink_core.proofs.Numbers.{number-fits}
 use Rattle.netlink_core.proofs.TableLaws.{AreBytes-drop}
 use Rattle.netlink_core.proofs.Congruence.{◌⊛◌}
@@ -20,8 +22,8 @@ use Rattle.netlink_core.specs.declared.fault.DecodeError.TheVariants.{Memory}
 use Rattle.sock_diag_records.specs.SocketId.{Kind, ipv4, ipv6, Kinds, kinds_of, kinds_of_family, socket_id_rows, socket_id_values, socket_id_of, socket_id, kind_of}
 use Rattle.sock_diag_records.specs.SocketId as identity
 use Rattle.sock_diag_records.specs.InetResponse.{duration, milliseconds, IsWholeMilliseconds, Class, retransmits, keeps_alive, waits, probes, none, class_of_byte, byte_of_class, class_of, retransmits_row, expires_row, retransmits_values, expires_values, retransmits_count, expires_count, timer_of, IsWholeTimer, Tag, header_rows, header_values, header_of, socket_id_count, tag_of, with_class, inet_response_header}
-use Rattle.sock_diag_records.specs.TablesInARow.{is_table-append, values_of-append}
-use Rattle.sock_diag_records.specs.SocketIdLaws.{pair, kept_is, shaped_is, read_before, length-values, socket_id_back, socket_id_next, kinds_are, kinds_named, length-socket_id, length-bytes}
+use Rattle.sock_diag_records.specs.TablesInARowLaws.{is_table-append, values_of-append}
+use Rattle.sock_diag_records.specs.SocketIdLaws.{pair, kept_is, shaped_is, read_before, length-values, socket_id_back, socket_id_next, kinds_are, kinds_named, length-socket_id, length-bytes, fit_inside}
 
 -- ---- durations
 
@@ -273,3 +275,28 @@ header_sound = record {
 pub header_size : IsFixed inet_response_header 72
 unfolding inet_response_header
 header_size = (refl, λ tag. refl)
+
+-- ---- a header in hand is typed
+
+-- the milliseconds of each timer are within their row, before the words behind them
+expires_fit : (timer : Option Timer) (words : List ℕ) → Fit (numbers 56 4 little_endian 4) words → Fit (behind (class_of timer)) (expires_values timer ++ words)
+expires_fit (Some (Retransmit expires count)) words h = (omega arith, h)
+expires_fit (Some (KeepAlive expires)) words h = (omega arith, h)
+expires_fit (Some TimeWait) words h = h
+expires_fit (Some (Probe expires)) words h = (omega arith, h)
+expires_fit None words h = h
+
+-- the numbers are within their rows where the parts are
+pub header_fit : (value : InetResponseHeader) → value.family < 256 → value.state < 256
+    → Fit (retransmits_row (class_of value.timer) ∷ []) (retransmits_values value.timer) → IsTyped socket_id value.socket_id
+    → value.recv_queue < 256 ^ 4 → value.send_queue < 256 ^ 4 → value.uid < 256 ^ 4 → value.inode < 256 ^ 4
+    → Fit (header_rows (tag_of value)) (header_values value)
+header_fit value family state count socket recv_queue send_queue uid inode =
+    let words = expires_fit value.timer _ (recv_queue, (send_queue, (uid, (inode, tt)))) in (
+      family,
+      (
+        state,
+        fit-append (retransmits_row (class_of value.timer) ∷ []) _ (retransmits_values value.timer) _ count
+            (fit-append (socket_id_rows 4 (kinds_of value.socket_id)) _ (socket_id_values value.socket_id) _ (fit_inside value.socket_id socket) words),
+      ),
+    )

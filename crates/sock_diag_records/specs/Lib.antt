@@ -3,7 +3,7 @@ pub mod Flags
 pub mod UnixRequest
 pub mod UnixRequestLaws
 pub mod SocketId
-pub mod TablesInARow
+pub mod TablesInARowLaws
 pub mod SocketIdLaws
 pub mod UnixResponseHeader
 pub mod UnixResponseHeaderLaws
@@ -11,4 +11,4 @@ pub mod InetRequest
 pub mod InetRequestLaws
 pub mod InetResponse
 pub mod InetResponseLaws
-pub mod EqualRecords
+pub mod EqualRecordLaws

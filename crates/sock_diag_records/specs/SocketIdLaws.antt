@@ -1,16 +1,18 @@
 -- The format of a socket's identity is sound.
-use Rattle.std.proofs.Common.{◌≡◌, ℕ, ◌+◌, List, [], ◌∷◌, ◌++◌, length, drop, Bool, true, false, Result, Ok, Err, if◌then◌else◌, refl, sym, ap, ◌∙◌, arith}
+use Rattle.std.proofs.Common.{◌≡◌, ℕ, ◌+◌, List, [], ◌∷◌, ◌++◌, length, drop, Bool, true, false, Result, Ok, Err, if◌then◌else◌, refl, sym, ap, ◌∙◌, subst, ◌<◌, ◌^◌, arith}
 use Rattle.std.proofs.lemmas.List.{drop_at, append_assoc, length-append}
 use Rattle.std.specs.Prelude.{◌==◌}
 use Rattle.std.specs.List.{flat_map}
 use Rattle.std.proofs.Common.{append-nil}
 use Rattle.byteorder.specs.Endian.{big_bytes, little_bytes}
-use Rattle.netlink_core.proofs.RowReads.{moved, values-moved, first_all}
+use Rattle.netlink_core.proofs.RowReads.{moved, values-moved, first_all, fit-append, fit-bytes, fit-moved}
 use Rattle.std.specs.declared.net.ip_addr.IpAddr.{IpAddr}
 use Rattle.std.specs.declared.net.ip_addr.IpAddr.TheVariants.{V4, V6}
-use Rattle.netlink_core.specs.Table.{Row, number, bytes_at, little_endian, bytes_of, is_table, values_of, first}
+use Rattle.netlink_core.specs.Bytes.{IsBytes}
+use Rattle.netlink_core.specs.Table.{Row, number, bytes_at, little_endian, bytes_of, values_of, first, Fit}
+use Rattle.netlink_core.specs.SoundLaws.{is_table, IsSound}
 use Rattle.netlink_core.specs.declared.fault.DecodeError.TheVariants.{Memory, UnsupportedFamily}
-use Rattle.netlink_core.specs.Format.{IsFixed, IsSound, bytes}
+use Rattle.netlink_core.specs.Format.{IsFixed, IsTyped, bytes}
 use Rattle.netlink_core.proofs.Congruence.{◌⊛◌}
 use Rattle.sock_diag_records.specs.declared.inet.socket_id.SocketId.{SocketId}
 use Rattle.netlink_core.specs.declared.fault.DecodeError.{DecodeError}
@@ -184,3 +186,27 @@ rows_moved ipv6 ipv6 = refl
 -- what is read four places on
 pub values-inside : (kinds : Kinds) (left : List ℕ) → values_of (socket_id_rows 0 kinds) (drop 4 left) ≡ values_of (socket_id_rows 4 kinds) left
 values-inside kinds left = sym (values-moved 4 (socket_id_rows 0 kinds) left) ∙ sym (ap (λ (rows : List Row). values_of rows left) (rows_moved kinds.source kinds.destination))
+
+-- ---- an identity in hand is typed
+
+-- its numbers are within their rows where its parts are
+pub parts_fit : (value : SocketId) → value.source_port < 256 ^ 2 → value.destination_port < 256 ^ 2
+    → Fit (address_rows 4 (kind_of value.source_address)) (address_values value.source_address)
+    → Fit (address_rows 20 (kind_of value.destination_address)) (address_values value.destination_address)
+    → value.interface_id < 256 ^ 4 → IsBytes value.cookie → Fit (socket_id_rows 0 (kinds_of value)) (socket_id_values value)
+parts_fit value source_port destination_port source destination interface cookie =
+    let rest : Fit (number 36 4 little_endian ∷ bytes_at 40 8) (value.interface_id ∷ first 8 value.cookie) = (interface, fit-bytes 40 8 value.cookie cookie) in (
+      source_port,
+      (
+        destination_port,
+        fit-append (address_rows 4 (kind_of value.source_address)) _ (address_values value.source_address) _ source
+            (fit-append (address_rows 20 (kind_of value.destination_address)) _ (address_values value.destination_address) _ destination rest),
+      ),
+    )
+
+-- inside another record too
+pub fit_inside : (value : SocketId) → IsTyped socket_id value → Fit (socket_id_rows 4 (kinds_of value)) (socket_id_values value)
+unfolding socket_id
+fit_inside value typed =
+    subst (λ (rows : List Row). Fit rows (socket_id_values value)) (sym (rows_moved (kind_of value.source_address) (kind_of value.destination_address)))
+    (fit-moved 4 (socket_id_rows 0 (kinds_of value)) (socket_id_values value) typed.fit)

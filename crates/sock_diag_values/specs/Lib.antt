@@ -6,7 +6,7 @@ pub mod LegacyMemInfo
 pub mod LegacyMemInfoLaws
 pub mod MemInfo
 pub mod MemInfoLaws
-pub mod MemInfoEqual
+pub mod MemInfoEqualLaws
 pub mod TcpInfo
 pub mod TcpInfoLaws
-pub mod TcpInfoEqual
+pub mod TcpInfoEqualLaws

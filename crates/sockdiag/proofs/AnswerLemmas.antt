@@ -14,10 +14,10 @@ use Rattle.hex.specs.declared.error.FromHexError.{FromHexError}
 use Rattle.netlink_core.specs.Bytes.{IsBytes}
 use Rattle.netlink_packet_sock_diag.specs.Dump.{AreSplit, in_a_row}
 use Rattle.sockdiag.specs.Answer.{IsAnswer, IsAnswerOf, IsNoRequest, IsRequest, subject_of, word_of}
-use Rattle.sockdiag.specs.Asked.{IsAnswerTo, IsReadAs}
+use Rattle.sockdiag.specs.AskedSteps.{IsAnswerTo, IsReadAs}
 use Rattle.sockdiag.specs.DumpLine.{HaveSameItems, IsDumpOf, IsDumpRequest, IsWritable, TellsDump, shown_dump}
 use Rattle.sockdiag.specs.HexField.{IsHexField}
-use Rattle.sockdiag.specs.ReadDump.{told_dump}
+use Rattle.sockdiag.specs.ReadDumpSteps.{told_dump}
 use Rattle.sockdiag.specs.Told.{IsAccepted}
 use Rattle.sockdiag.specs.declared.answers.Asked.{Asked}
 use Rattle.sockdiag.specs.declared.answers.Asked.TheVariants.{Field, Dump, Nothing}

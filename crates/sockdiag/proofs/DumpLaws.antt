@@ -17,7 +17,7 @@ use Rattle.netlink_packet_sock_diag.specs.MessageLaws.{message_laws}
 use Rattle.netlink_packet_sock_diag.proofs.DumpRows.{dump_of_split, has_dump, one_datagram_dump, same_dump, split_of_dump}
 use Rattle.sockdiag.specs.DumpLine.{HaveSameItems, IsDumpOf, IsWritable, TellsDump, ToldDump, shown_dump}
 use Rattle.sockdiag.specs.HexField.{IsHexField}
-use Rattle.sockdiag.specs.ReadDump.{ended_with}
+use Rattle.sockdiag.specs.ReadDumpSteps.{ended_with}
 use Rattle.sockdiag.proofs.Deciding.{each_or_not, message_fits_or_not}
 use Rattle.sockdiag.proofs.EnvelopeLaws.{envelope_laws}
 use Rattle.sockdiag.proofs.FieldLaws.{IsBytes-field}

@@ -1,11 +1,13 @@
 pub mod Lines
 pub mod HexField
 pub mod Told
+pub mod TextSteps
 pub mod EnvelopeLine
 pub mod ViewLine
 pub mod Subjects
 pub mod DumpLine
 pub mod Answer
-pub mod ReadDump
-pub mod Asked
+pub mod ReadDumpSteps
+pub mod AskedSteps
 pub mod Run
+pub mod RunSteps

@@ -41,19 +41,6 @@ HasCause Memory read write = ⊤
 
 -- ---- the parts of a run
 
--- the text was written, or a beginning of it where a write failed, or nothing where memory ran out
-abbrev pub Writes : Option (List ℕ) → Option (List ℕ) → List ℕ → Result Unit RunError → Type 0
-Writes contents contents' text (Ok done) = Appends contents contents' text
-Writes contents contents' text (Err Read) = ⊥
-Writes contents contents' text (Err Memory) = Keeps contents contents'
-Writes contents contents' text (Err Write) = (front : List ℕ) × IsBeginning front text × Appends contents contents' front
-
--- the answers to the whole lines of the text were added, and `line` is what follows these
-pub record AnswersPiece (answer : List ℕ → List ℕ) (text line answers answers' : List ℕ) : Type 0 where
-  pub whole : List (List ℕ)
-  pub splits : Splits text whole line
-  pub added : answers' ≡ answers ++ answer_lines answer whole
-
 -- the answers to all whole lines that were read are written, and `line` is what was read after them
 pub record CaughtUp (answer : List ℕ → List ℕ) (remaining remaining' contents contents' : Option (List ℕ)) (line : List ℕ) : Type 0 where
   pub text : List ℕ

@@ -39,7 +39,3 @@ TellsOf S field text = Tells (S.reads field) (S.refuses field) S.fits S.shown te
 -- the bytes have a value that can be written
 abbrev pub IsAccepted : Subject → List ℕ → Type 0
 IsAccepted S field = (value : S.Value) × S.reads field value × S.fits value
-
--- a text grew at its end, by one of those that P holds of
-abbrev pub Adds : List ℕ → List ℕ → (List ℕ → Type 0) → Type 0
-Adds old new P = (more : List ℕ) × (new ≡ old ++ more) × P more

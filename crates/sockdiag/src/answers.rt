@@ -9,12 +9,13 @@ ghost use Rattle.netlink_packet_sock_diag.specs.Dump.{AreSplit, in_a_row};
 ghost use Rattle.netlink_packet_sock_diag.specs.Message.{MessageFits, message_bytes};
 ghost use Rattle.netlink_packet_sock_diag.specs.SeenMessage.{seen_message};
 ghost use Rattle.sockdiag.specs.Answer.{IsAnswer, IsAnswerOf, IsRequest, subject_of, word_of};
-ghost use Rattle.sockdiag.specs.Asked.{IsAnswerTo, IsReadAs};
+ghost use Rattle.sockdiag.specs.AskedSteps.{IsAnswerTo, IsReadAs};
 ghost use Rattle.sockdiag.specs.DumpLine.{HaveSameItems, IsDumpRequest};
 ghost use Rattle.sockdiag.specs.EnvelopeLine.{shown_envelope, word};
 ghost use Rattle.sockdiag.specs.HexField.{field_of};
 ghost use Rattle.sockdiag.specs.Subjects.{envelope_subject};
-ghost use Rattle.sockdiag.specs.Told.{Adds, IsAccepted, Tells, TellsOf, accepted};
+ghost use Rattle.sockdiag.specs.Told.{IsAccepted, Tells, TellsOf, accepted};
+ghost use Rattle.sockdiag.specs.TextSteps.{Adds};
 
 use crate::dump_line::{ReadDump, push_dump, read_dump};
 use crate::fields::{find_space, read_field};

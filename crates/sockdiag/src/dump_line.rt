@@ -6,8 +6,9 @@ ghost use Rattle.netlink_packet_sock_diag.specs.Message.{MessageFits};
 ghost use Rattle.netlink_packet_sock_diag.specs.SeenMessage.{seen_message};
 ghost use Rattle.sockdiag.specs.DumpLine.{AreHexFields, IsWritable, end_word, shown_dump, shown_message, word_of_state};
 ghost use Rattle.sockdiag.specs.HexField.{IsHexField};
-ghost use Rattle.sockdiag.specs.ReadDump.{IsReadDump, TakesDatagram, end_of, told_dump};
-ghost use Rattle.sockdiag.specs.Told.{Adds, Tells};
+ghost use Rattle.sockdiag.specs.ReadDumpSteps.{IsReadDump, TakesDatagram, end_of, told_dump};
+ghost use Rattle.sockdiag.specs.Told.{Tells};
+ghost use Rattle.sockdiag.specs.TextSteps.{Adds};
 
 use crate::fields::{find_space, read_field};
 use crate::words::{OK, UNWRITABLE, push_field, push_number};

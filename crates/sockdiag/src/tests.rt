@@ -243,12 +243,13 @@ fn answers_before_it_reads_on(rt: HostRuntime) {
     assert_eq!(rt; answered.get(), 3);
 }
 
-/// Gives so many bytes a call at most, and counts its calls.
+/// Gives so many bytes a call at most, counts its calls, and keeps how many bytes the last one asked for.
 #[derive(Drop)]
 struct PieceReader<'a> {
     rest: &'a [u8],
     most: usize,
     calls: usize,
+    asked: usize,
 }
 
 impl Read for PieceReader<'_> {
@@ -256,6 +257,7 @@ impl Read for PieceReader<'_> {
 
     fn read(&mut self, buf: &mut [u8]) -> io::Result<usize> {
         self.calls = self.calls.saturating_add(1);
+        self.asked = buf.len();
         let count = self.rest.len().min(buf.len()).min(self.most.max(1));
         let (given, rest) = self.rest.split_at(count);
         buf[..count].copy_from_slice(given);
@@ -285,13 +287,15 @@ impl Write for WholeWriter {
     }
 }
 
-/// In pieces of any size each line gets its answer, and there is one write for each read and one more at most.
+/// In pieces of any size each line gets its answer, there is one write for each read and one more at most, and a read
+/// asks for 8 KiB.
 fn writes_once_a_read(rt: &impl Abort, alloc: Global, text: &[u8], want: &[u8]) {
     for most in [1, 7, 64, 1000, 8191, 8192, usize::MAX] {
         let mut input = PieceReader {
             rest: text,
             most,
             calls: 0,
+            asked: 0,
         };
         let mut output = WholeWriter {
             taken: Vec::new(alloc),
@@ -305,6 +309,7 @@ fn writes_once_a_read(rt: &impl Abort, alloc: Global, text: &[u8], want: &[u8]) 
             "{} writes for pieces of {most}",
             output.calls
         );
+        assert_eq!(rt; input.asked, 8192);
     }
 }
 

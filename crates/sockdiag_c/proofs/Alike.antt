@@ -4,7 +4,8 @@ use Rattle.std.specs.Prelude.{◌↔◌}
 use Rattle.std.proofs.lemmas.List.{take_at}
 use Rattle.netlink_core.specs.Bytes.{IsBytes}
 use Rattle.netlink_core.specs.Codec.{Codec, KeepsLaws}
-use Rattle.netlink_core.specs.Reply.{MeansReply, Reply, ReplyFits, ReplyLaws, ValueOf, reply_bytes, reply_codec}
+use Rattle.netlink_core.specs.Reply.{MeansReply, Reply, ReplyFits, ValueOf, reply_bytes, reply_codec}
+use Rattle.netlink_core.specs.ShownLaws.{ReplyLaws}
 use Rattle.netlink_core.proofs.Replies.{replies_keep_laws}
 use Rattle.sockdiag_c.specs.declared.rewriting.Outcome.{Outcome}
 use Rattle.sockdiag_c.specs.Rewriting.{IsCanonical, Writes}

@@ -5,7 +5,7 @@ ghost use Rattle.netlink_core.specs.Kept.{kept_codec, kept_laws};
 use crate::{
     Coded, DecodeError, NLM_F_DUMP, NLM_F_REQUEST, NLMSG_DONE, NLMSG_ERROR, NLMSG_NOOP,
     NLMSG_OVERRUN, NetlinkDeserializable, NetlinkHeader, NetlinkMessage, NetlinkPayload,
-    NetlinkSerializable,
+    NetlinkSerializable, bytes_typed,
 };
 use std::alloc::Global;
 use std::process::Abort;
@@ -25,6 +25,10 @@ impl Coded for Kept {
     ghost seen = { λ v. v.0.items };
 
     ghost type_written = { λ _. 20 };
+
+    fn typed(&self) {
+        bytes_typed(&self.0);
+    }
 
     ghost eq_is_seen = { Prim.search rules };
 

@@ -1,6 +1,6 @@
 //! The reply about one IPv4 or IPv6 socket.
 
-ghost use Rattle.netlink_packet_sock_diag.specs.EqualReplies.{replies_equal};
+ghost use Rattle.netlink_packet_sock_diag.specs.EqualReplyLaws.{replies_equal};
 ghost use Rattle.sock_diag_attributes.specs.contracts.inet.coded.NlaCoded.TheImpl.Laws.{eq_is_seen-law as same_nla};
 ghost use Rattle.sock_diag_records.specs.contracts.inet.exact.InetResponseHeaderExact.TheImpl.Laws.{equal-law as same_header};
 ghost use Rattle.std.specs.Prelude.{◌≡◌, IfOk, IsOk, true};
@@ -13,7 +13,7 @@ ghost use Rattle.netlink_packet_sock_diag.specs.InetReplyLaws.{inet_reply_laws};
 
 use crate::inet::nlas::Nla;
 use crate::inet::{InetResponseHeader, InetResponseView};
-use crate::reply::{copy_nlas, emit_reply, reply_len, without_memory};
+use crate::reply::{copy_nlas, emit_reply, nlas_typed, reply_len, without_memory};
 use netlink_core::{Coded, DecodeError, Emitable, Parseable, Readable, Wire, nlas_len};
 use smallvec::SmallVec;
 use std::alloc::{AllocError, Global};
@@ -100,6 +100,11 @@ impl Coded for InetResponse {
     ghost seen = { seen_response };
 
     ghost type_written = { λ _. 0 };
+
+    fn typed(&self) {
+        self.header.typed();
+        nlas_typed(self.nlas.as_slice());
+    }
 
     ghost eq_is_seen = { λ v w. replies_equal _ _ seen_nla same_header same_nla v.header w.header v.nlas.items w.nlas.items };
 

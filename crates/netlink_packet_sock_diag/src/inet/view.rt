@@ -8,7 +8,7 @@ ghost use Rattle.netlink_core.specs.Family.{says};
 ghost use Rattle.netlink_core.specs.Walk.{bytes_left};
 ghost use Rattle.netlink_core.specs.Reply.{MeansReply, RefusesReply, IsSpareReply, ReplyFits, attribute_part, reply_bytes};
 ghost use Rattle.sock_diag_attributes.specs.InetAttributes.{inet};
-ghost use Rattle.sock_diag_attributes.specs.EqualInet.{inet_tests, view_tests};
+ghost use Rattle.sock_diag_attributes.specs.EqualInetLaws.{inet_tests, view_tests};
 ghost use Rattle.sock_diag_attributes.specs.SeenInet.{seen_nla, viewed_nla};
 ghost use Rattle.netlink_packet_sock_diag.specs.AttributesIn.{HasNoFault, IsAccepted, values_in};
 ghost use Rattle.netlink_packet_sock_diag.specs.InetReply.{inet_reply};
@@ -209,7 +209,7 @@ impl<'a> InetResponseView<'a> {
 /// Two replies are equal where they tell the same: equal headers, and the same attributes in the same order.
 impl PartialEq for InetResponseView<'_> {
     ghost use Rattle.netlink_packet_sock_diag.specs.ViewedInetReply.{viewed_response};
-    ghost use Rattle.netlink_packet_sock_diag.specs.EqualViews.{inet_test, inet_equivalence};
+    ghost use Rattle.netlink_packet_sock_diag.specs.EqualViewLaws.{inet_test, inet_equivalence};
 
     ghost eq = { λ v w. inet_test (viewed_response v) (viewed_response w) };
 
@@ -222,7 +222,7 @@ impl PartialEq for InetResponseView<'_> {
 }
 
 impl Eq for InetResponseView<'_> {
-    ghost use Rattle.netlink_packet_sock_diag.specs.EqualViews.{inet_equivalence};
+    ghost use Rattle.netlink_packet_sock_diag.specs.EqualViewLaws.{inet_equivalence};
 
     ghost laws = { inet_equivalence };
 }

@@ -1,6 +1,6 @@
 //! The reply about one UNIX socket.
 
-ghost use Rattle.netlink_packet_sock_diag.specs.EqualReplies.{replies_equal};
+ghost use Rattle.netlink_packet_sock_diag.specs.EqualReplyLaws.{replies_equal};
 ghost use Rattle.sock_diag_attributes.specs.contracts.unix.coded.NlaCoded.TheImpl.Laws.{eq_is_seen-law as same_nla};
 ghost use Rattle.sock_diag_records.specs.contracts.unix.response.UnixResponseHeaderExact.TheImpl.Laws.{equal-law as same_header};
 ghost use Rattle.std.specs.Prelude.{◌≡◌, IfOk, IsOk, true};
@@ -11,7 +11,7 @@ ghost use Rattle.netlink_packet_sock_diag.specs.FramedLaws.{framed_is, framed_fi
 ghost use Rattle.netlink_packet_sock_diag.specs.UnixReply.{unix_reply};
 ghost use Rattle.netlink_packet_sock_diag.specs.UnixReplyLaws.{unix_reply_laws};
 
-use crate::reply::{copy_nlas, emit_reply, reply_len, without_memory};
+use crate::reply::{copy_nlas, emit_reply, nlas_typed, reply_len, without_memory};
 use crate::unix::nlas::Nla;
 use crate::unix::{UnixResponseHeader, UnixResponseView};
 use netlink_core::{Coded, DecodeError, Emitable, Parseable, Readable, Wire, nlas_len};
@@ -100,6 +100,11 @@ impl Coded for UnixResponse {
     ghost seen = { seen_response };
 
     ghost type_written = { λ _. 0 };
+
+    fn typed(&self) {
+        self.header.typed();
+        nlas_typed(self.nlas.as_slice());
+    }
 
     ghost eq_is_seen = { λ v w. replies_equal _ _ seen_nla same_header same_nla v.header w.header v.nlas.items w.nlas.items };
 

@@ -8,7 +8,7 @@ ghost use Rattle.netlink_core.specs.Family.{says};
 ghost use Rattle.netlink_core.specs.Walk.{bytes_left};
 ghost use Rattle.netlink_core.specs.Reply.{MeansReply, RefusesReply, IsSpareReply, ReplyFits, attribute_part, reply_bytes};
 ghost use Rattle.sock_diag_attributes.specs.UnixAttributes.{unix};
-ghost use Rattle.sock_diag_attributes.specs.EqualUnix.{unix_tests, view_tests};
+ghost use Rattle.sock_diag_attributes.specs.EqualUnixLaws.{unix_tests, view_tests};
 ghost use Rattle.sock_diag_attributes.specs.SeenUnix.{seen_nla, viewed_nla};
 ghost use Rattle.netlink_packet_sock_diag.specs.AttributesIn.{HasNoFault, IsAccepted, values_in};
 ghost use Rattle.netlink_packet_sock_diag.specs.UnixReply.{unix_reply};
@@ -208,7 +208,7 @@ impl<'a> UnixResponseView<'a> {
 /// Two replies are equal where they tell the same: equal headers, and the same attributes in the same order.
 impl PartialEq for UnixResponseView<'_> {
     ghost use Rattle.netlink_packet_sock_diag.specs.ViewedUnixReply.{viewed_response};
-    ghost use Rattle.netlink_packet_sock_diag.specs.EqualViews.{unix_test, unix_equivalence};
+    ghost use Rattle.netlink_packet_sock_diag.specs.EqualViewLaws.{unix_test, unix_equivalence};
 
     ghost eq = { λ v w. unix_test (viewed_response v) (viewed_response w) };
 
@@ -221,7 +221,7 @@ impl PartialEq for UnixResponseView<'_> {
 }
 
 impl Eq for UnixResponseView<'_> {
-    ghost use Rattle.netlink_packet_sock_diag.specs.EqualViews.{unix_equivalence};
+    ghost use Rattle.netlink_packet_sock_diag.specs.EqualViewLaws.{unix_equivalence};
 
     ghost laws = { unix_equivalence };
 }

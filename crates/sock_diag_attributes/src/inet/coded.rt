@@ -5,10 +5,12 @@ ghost use Rattle.netlink_core.specs.HeadLaws.{heads_keep_laws};
 ghost use Rattle.sock_diag_attributes.specs.InetAttributes.{inet};
 ghost use Rattle.sock_diag_attributes.specs.InetAttributeLaws.{inet_laws};
 ghost use Rattle.sock_diag_attributes.specs.SeenInet.{seen_nla};
-ghost use Rattle.sock_diag_attributes.specs.EqualInet.{nla_equal};
+ghost use Rattle.sock_diag_attributes.specs.EqualInetLaws.{nla_equal};
 
 use super::nlas::Nla;
-use netlink_core::Coded;
+use crate::numbers::byte_typed;
+use crate::text::text_typed;
+use netlink_core::{Coded, word_typed};
 
 impl Coded for Nla {
     type Param = ();
@@ -18,6 +20,21 @@ impl Coded for Nla {
     ghost seen = { seen_nla };
 
     ghost type_written = { λ _. 0 };
+
+    fn typed(&self) {
+        match self {
+            Nla::LegacyMemInfo(info) => info.typed(),
+            Nla::TcpInfo(info) => info.typed(),
+            Nla::Congestion(text) => text_typed(text),
+            Nla::Tos(number) | Nla::Tc(number) | Nla::Shutdown(number) | Nla::Protocol(number) => {
+                byte_typed(*number)
+            }
+            Nla::MemInfo(info) => info.typed(),
+            Nla::SkV6Only(_) => {}
+            Nla::Mark(number) | Nla::ClassId(number) => word_typed(*number),
+            Nla::Other(nla) => nla.typed(),
+        }
+    }
 
     ghost eq_is_seen = { nla_equal };
 

@@ -5,7 +5,7 @@ ghost use Rattle.std.specs.Prelude.{◌≡◌, suc, ◌<◌, ◌≤◌, ◌++◌
 ghost use Rattle.sock_diag_attributes.specs.Name.{HasNoZero, read_name, name_bytes, name_codec};
 ghost use Rattle.sock_diag_attributes.specs.NameLaws.{name_keeps_laws};
 
-use netlink_core::{Coded, DecodeError, Emitable, Parseable, Readable, Wire};
+use netlink_core::{Coded, DecodeError, Emitable, Parseable, Readable, Wire, bytes_typed};
 use std::alloc::{AllocError, Global};
 
 /// The name that a UNIX socket is bound to, as the attribute `UNIX_DIAG_NAME` tells it.
@@ -169,6 +169,13 @@ impl Coded for UnixDiagName {
     ghost seen = { seen_name };
 
     ghost type_written = { λ _. 0 };
+
+    fn typed(&self) {
+        match self {
+            UnixDiagName::Pathname(path) => bytes_typed(path),
+            UnixDiagName::Abstract(address) => bytes_typed(address),
+        }
+    }
 
     ghost eq_is_seen = { Prim.search rules };
 

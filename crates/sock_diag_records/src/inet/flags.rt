@@ -2,41 +2,99 @@
 
 ghost use Rattle.std.proofs.Common.{rules};
 ghost use Rattle.std.specs.Prelude.{⊤, ◌≡◌};
+ghost use Rattle.std.specs.Int.RustNames.{bit_or};
 ghost use Rattle.bitflags.specs.Sets.{known_bits};
 ghost use Rattle.sock_diag_records.specs.Flags.{inet_states, inet_extensions};
 
-use bitflags::{Flag, Flags, bitflag_items};
+use bitflags::{Flag, Flags};
 use netlink_core::Exact;
+use std::ops::BitOr;
 
 /// Which states are asked for, `idiag_states` of sock_diag(7): a set of eleven bits, each that of the number of its
 /// state.
 #[derive(Clone, Debug, Drop, PartialEq, Eq)]
 pub struct StateFlags(u32);
 
-bitflag_items! {
-    impl StateFlags: u32 {
-        /// The state `TCP_ESTABLISHED`.
-        const ESTABLISHED = 0x2;
-        /// The state `TCP_SYN_SENT`.
-        const SYN_SENT = 0x4;
-        /// The state `TCP_SYN_RECV`.
-        const SYN_RECV = 0x8;
-        /// The state `TCP_FIN_WAIT1`.
-        const FIN_WAIT1 = 0x10;
-        /// The state `TCP_FIN_WAIT2`.
-        const FIN_WAIT2 = 0x20;
-        /// The state `TCP_TIME_WAIT`.
-        const TIME_WAIT = 0x40;
-        /// The state `TCP_CLOSE`.
-        const CLOSE = 0x80;
-        /// The state `TCP_CLOSE_WAIT`.
-        const CLOSE_WAIT = 0x100;
-        /// The state `TCP_LAST_ACK`.
-        const LAST_ACK = 0x200;
-        /// The state `TCP_LISTEN`.
-        const LISTEN = 0x400;
-        /// The state `TCP_CLOSING`.
-        const CLOSING = 0x800;
+impl StateFlags {
+    /// The state `TCP_ESTABLISHED`.
+    pub const ESTABLISHED: StateFlags = StateFlags(0x2);
+    /// The state `TCP_SYN_SENT`.
+    pub const SYN_SENT: StateFlags = StateFlags(0x4);
+    /// The state `TCP_SYN_RECV`.
+    pub const SYN_RECV: StateFlags = StateFlags(0x8);
+    /// The state `TCP_FIN_WAIT1`.
+    pub const FIN_WAIT1: StateFlags = StateFlags(0x10);
+    /// The state `TCP_FIN_WAIT2`.
+    pub const FIN_WAIT2: StateFlags = StateFlags(0x20);
+    /// The state `TCP_TIME_WAIT`.
+    pub const TIME_WAIT: StateFlags = StateFlags(0x40);
+    /// The state `TCP_CLOSE`.
+    pub const CLOSE: StateFlags = StateFlags(0x80);
+    /// The state `TCP_CLOSE_WAIT`.
+    pub const CLOSE_WAIT: StateFlags = StateFlags(0x100);
+    /// The state `TCP_LAST_ACK`.
+    pub const LAST_ACK: StateFlags = StateFlags(0x200);
+    /// The state `TCP_LISTEN`.
+    pub const LISTEN: StateFlags = StateFlags(0x400);
+    /// The state `TCP_CLOSING`.
+    pub const CLOSING: StateFlags = StateFlags(0x800);
+
+    const FLAGS: &'static [Flag<StateFlags>] = &[
+        Flag {
+            name: "ESTABLISHED",
+            value: StateFlags::ESTABLISHED,
+        },
+        Flag {
+            name: "SYN_SENT",
+            value: StateFlags::SYN_SENT,
+        },
+        Flag {
+            name: "SYN_RECV",
+            value: StateFlags::SYN_RECV,
+        },
+        Flag {
+            name: "FIN_WAIT1",
+            value: StateFlags::FIN_WAIT1,
+        },
+        Flag {
+            name: "FIN_WAIT2",
+            value: StateFlags::FIN_WAIT2,
+        },
+        Flag {
+            name: "TIME_WAIT",
+            value: StateFlags::TIME_WAIT,
+        },
+        Flag {
+            name: "CLOSE",
+            value: StateFlags::CLOSE,
+        },
+        Flag {
+            name: "CLOSE_WAIT",
+            value: StateFlags::CLOSE_WAIT,
+        },
+        Flag {
+            name: "LAST_ACK",
+            value: StateFlags::LAST_ACK,
+        },
+        Flag {
+            name: "LISTEN",
+            value: StateFlags::LISTEN,
+        },
+        Flag {
+            name: "CLOSING",
+            value: StateFlags::CLOSING,
+        },
+    ];
+}
+
+impl BitOr for StateFlags {
+    type Output = StateFlags;
+
+    ghost bitor_gives = { λ v w both. both.0 ≡ bit_or v.0 w.0 };
+
+    /// The flags of both sets.
+    fn bitor(self, other: StateFlags) -> StateFlags {
+        StateFlags(self.0 | other.0)
     }
 }
 
@@ -75,24 +133,68 @@ impl Flags for StateFlags {
 #[derive(Clone, Debug, Drop, PartialEq, Eq)]
 pub struct ExtensionFlags(u8);
 
-bitflag_items! {
-    impl ExtensionFlags: u8 {
-        /// The attribute `INET_DIAG_MEMINFO`.
-        const MEMINFO = 0x1;
-        /// The attribute `INET_DIAG_INFO`.
-        const INFO = 0x2;
-        /// The attribute `INET_DIAG_VEGASINFO`.
-        const VEGASINFO = 0x4;
-        /// The attribute `INET_DIAG_CONG`.
-        const CONG = 0x8;
-        /// The attribute `INET_DIAG_TOS`.
-        const TOS = 0x10;
-        /// The attribute `INET_DIAG_TCLASS`.
-        const TCLASS = 0x20;
-        /// The attribute `INET_DIAG_SKMEMINFO`.
-        const SKMEMINFO = 0x40;
-        /// The attribute `INET_DIAG_SHUTDOWN`.
-        const SHUTDOWN = 0x80;
+impl ExtensionFlags {
+    /// The attribute `INET_DIAG_MEMINFO`.
+    pub const MEMINFO: ExtensionFlags = ExtensionFlags(0x1);
+    /// The attribute `INET_DIAG_INFO`.
+    pub const INFO: ExtensionFlags = ExtensionFlags(0x2);
+    /// The attribute `INET_DIAG_VEGASINFO`.
+    pub const VEGASINFO: ExtensionFlags = ExtensionFlags(0x4);
+    /// The attribute `INET_DIAG_CONG`.
+    pub const CONG: ExtensionFlags = ExtensionFlags(0x8);
+    /// The attribute `INET_DIAG_TOS`.
+    pub const TOS: ExtensionFlags = ExtensionFlags(0x10);
+    /// The attribute `INET_DIAG_TCLASS`.
+    pub const TCLASS: ExtensionFlags = ExtensionFlags(0x20);
+    /// The attribute `INET_DIAG_SKMEMINFO`.
+    pub const SKMEMINFO: ExtensionFlags = ExtensionFlags(0x40);
+    /// The attribute `INET_DIAG_SHUTDOWN`.
+    pub const SHUTDOWN: ExtensionFlags = ExtensionFlags(0x80);
+
+    const FLAGS: &'static [Flag<ExtensionFlags>] = &[
+        Flag {
+            name: "MEMINFO",
+            value: ExtensionFlags::MEMINFO,
+        },
+        Flag {
+            name: "INFO",
+            value: ExtensionFlags::INFO,
+        },
+        Flag {
+            name: "VEGASINFO",
+            value: ExtensionFlags::VEGASINFO,
+        },
+        Flag {
+            name: "CONG",
+            value: ExtensionFlags::CONG,
+        },
+        Flag {
+            name: "TOS",
+            value: ExtensionFlags::TOS,
+        },
+        Flag {
+            name: "TCLASS",
+            value: ExtensionFlags::TCLASS,
+        },
+        Flag {
+            name: "SKMEMINFO",
+            value: ExtensionFlags::SKMEMINFO,
+        },
+        Flag {
+            name: "SHUTDOWN",
+            value: ExtensionFlags::SHUTDOWN,
+        },
+    ];
+}
+
+impl BitOr for ExtensionFlags {
+    type Output = ExtensionFlags;
+
+    ghost bitor_gives = { λ v w both. both.0 ≡ bit_or v.0 w.0 };
+
+    /// The flags of both sets.
+    fn bitor(self, other: ExtensionFlags) -> ExtensionFlags {
+        ExtensionFlags(self.0 | other.0)
     }
 }
 

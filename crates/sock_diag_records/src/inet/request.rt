@@ -72,7 +72,16 @@ impl Record for InetRequest {
         self.socket_id.write_row(socket_id);
     }
 
-    ghost sound = { inet_request_sound };
+    #[tactic(auto, unfolding(crate::specs::InetRequest::inet_request, crate::specs::SocketId::socket_id), using(crate::specs::InetRequestLaws::fit_inside))]
+    fn row_typed(&self) {
+        let _family = self.family;
+        let _protocol = self.protocol;
+        let _extensions = self.extensions.bits();
+        let _states = self.states.bits();
+        self.socket_id.row_typed();
+    }
+
+    ghost long = { inet_request_sound.long };
 
     ghost laws = { keeps_laws inet_request inet_request_sound };
 }

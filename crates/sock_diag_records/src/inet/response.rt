@@ -1,11 +1,12 @@
 //! The header of a reply about an IPv4 or IPv6 socket.
 
 ghost use Rattle.std.proofs.Common.{rules};
-ghost use Rattle.std.specs.Prelude.{◌≡◌, ◌≢◌, slice_index, IfErr};
+ghost use Rattle.std.specs.Prelude.{[], ◌∷◌, ◌≡◌, ◌≢◌, slice_index, IfErr};
 ghost use Rattle.netlink_core.specs.declared.fault.DecodeError.TheVariants.{Memory};
 ghost use Rattle.netlink_core.specs.Format.{read};
+ghost use Rattle.netlink_core.specs.Table.{Fit};
 ghost use Rattle.netlink_core.proofs.FormatLaws.{keeps_laws};
-ghost use Rattle.sock_diag_records.specs.InetResponse.{inet_response_header, Tag, class_of_byte, class_of, byte_of_class, timer_of, milliseconds, retransmits_values, expires_values};
+ghost use Rattle.sock_diag_records.specs.InetResponse.{inet_response_header, Tag, class_of_byte, class_of, byte_of_class, timer_of, milliseconds, retransmits_row, retransmits_values, expires_values};
 ghost use Rattle.sock_diag_records.specs.InetResponseLaws.{header_sound, header_size};
 
 use super::SocketId;
@@ -119,7 +120,19 @@ impl Record for InetResponseHeader {
         LittleEndian::write_u32_into(&words, rest);
     }
 
-    ghost sound = { header_sound };
+    #[tactic(auto, unfolding(crate::specs::InetResponse::inet_response_header, crate::specs::SocketId::socket_id), using(crate::specs::InetResponseLaws::header_fit))]
+    fn row_typed(&self) {
+        let _family = self.family;
+        let _state = self.state;
+        timer_typed(&self.timer);
+        self.socket_id.row_typed();
+        let _recv_queue = self.recv_queue;
+        let _send_queue = self.send_queue;
+        let _uid = self.uid;
+        let _inode = self.inode;
+    }
+
+    ghost long = { header_sound.long };
 
     ghost laws = { keeps_laws inet_response_header header_sound };
 }
@@ -176,5 +189,14 @@ fn timer_from(timer: u8, retransmits: u8, milliseconds: u32) -> Option<Timer>
         3 => Some(Timer::TimeWait),
         4 => Some(Timer::Probe(expires)),
         _ => None,
+    }
+}
+
+// The number of retransmits is within its type.
+fn timer_typed(timer: &Option<Timer>)
+    ensures { Fit (retransmits_row (class_of timer.now) ∷ []) (retransmits_values timer.now) }
+{
+    if let Some(Timer::Retransmit(_, retransmits)) = timer {
+        let _retransmits = *retransmits;
     }
 }

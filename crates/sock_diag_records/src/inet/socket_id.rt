@@ -7,12 +7,16 @@ ghost use Rattle.netlink_core.specs.Table.{bytes_at, numbers, big_endian, values
 ghost use Rattle.netlink_core.specs.declared.fault.DecodeError.TheVariants.{Memory};
 ghost use Rattle.netlink_core.specs.Format.{read};
 ghost use Rattle.netlink_core.proofs.FormatLaws.{keeps_laws};
-ghost use Rattle.sock_diag_records.specs.SocketId.{socket_id, Kinds, ipv4, ipv6, zeros, address_bytes};
+ghost use Rattle.std.specs.Prelude.{ℕ, slice_index, ◌<◌};
+ghost use Rattle.netlink_core.specs.Table.{Fit};
+ghost use Rattle.sock_diag_records.specs.SocketId.{IsAddress, address_rows, address_values, kind_of, socket_id, Kinds, ipv4, ipv6, zeros, address_bytes};
 ghost use Rattle.sock_diag_records.specs.SocketIdLaws.{socket_id_sound, socket_id_size};
 
 use crate::constants::{AF_INET, AF_INET6};
 use byteorder::{BigEndian, ByteOrder, LittleEndian};
-use netlink_core::{DecodeError, Exact, Fills, Record, RecordBuffer, RecordName, read_record};
+use netlink_core::{
+    DecodeError, Exact, Fills, Record, RecordBuffer, RecordName, bytes_typed, read_record,
+};
 use sock_diag_values::rows::{array_at, big_shorts_at, words_at};
 use std::net::{IpAddr, Ipv4Addr, Ipv6Addr};
 
@@ -172,7 +176,16 @@ impl Record for SocketId {
         cookie.copy_from_slice(&self.cookie);
     }
 
-    ghost sound = { socket_id_sound };
+    fn row_typed(&self) {
+        let _source_port = self.source_port;
+        let _destination_port = self.destination_port;
+        address_typed(self.source_address);
+        address_typed(self.destination_address);
+        let _interface_id = self.interface_id;
+        bytes_typed(&self.cookie);
+    }
+
+    ghost long = { socket_id_sound.long };
 
     ghost laws = { keeps_laws socket_id socket_id_sound };
 }
@@ -193,3 +206,19 @@ impl SocketId {
 impl Fills<48> for SocketId {
     ghost fills = { socket_id_size };
 }
+
+// The parts of an address are within their types, wherever it stands.
+fn address_typed(address: IpAddr)
+    ensures shaped { IsAddress address }
+    ensures fit { (place : ℕ) → Fit (address_rows place (kind_of address)) (address_values address) }
+{
+    match address {
+        IpAddr::V4(ip) => bytes_typed(&ip.octets()),
+        IpAddr::V6(ip) => shorts_typed(&ip.segments()),
+    }
+}
+
+// Numbers are of 16 bits.
+fn shorts_typed(_numbers: &[u16])
+    ensures { (i : ℕ) → slice_index _numbers.now i < 65536 }
+{}

@@ -2,23 +2,45 @@
 
 ghost use Rattle.std.proofs.Common.{rules};
 ghost use Rattle.std.specs.Prelude.{⊤, ◌≡◌};
+ghost use Rattle.std.specs.Int.RustNames.{bit_or};
 ghost use Rattle.bitflags.specs.Sets.{known_bits};
 ghost use Rattle.sock_diag_records.specs.Flags.{unix_states, unix_shown};
 
-use bitflags::{Flag, Flags, bitflag_items};
+use bitflags::{Flag, Flags};
 use netlink_core::Exact;
+use std::ops::BitOr;
 
 /// Which states are asked for, `udiag_states` of sock_diag(7): a set of two bits, each that of the number of its
 /// state. A reader drops all others.
 #[derive(Clone, Debug, Drop, PartialEq, Eq)]
 pub struct StateFlags(u32);
 
-bitflag_items! {
-    impl StateFlags: u32 {
-        /// The state `TCP_ESTABLISHED`.
-        const ESTABLISHED = 0x2;
-        /// The state `TCP_LISTEN`.
-        const LISTEN = 0x400;
+impl StateFlags {
+    /// The state `TCP_ESTABLISHED`.
+    pub const ESTABLISHED: StateFlags = StateFlags(0x2);
+    /// The state `TCP_LISTEN`.
+    pub const LISTEN: StateFlags = StateFlags(0x400);
+
+    const FLAGS: &'static [Flag<StateFlags>] = &[
+        Flag {
+            name: "ESTABLISHED",
+            value: StateFlags::ESTABLISHED,
+        },
+        Flag {
+            name: "LISTEN",
+            value: StateFlags::LISTEN,
+        },
+    ];
+}
+
+impl BitOr for StateFlags {
+    type Output = StateFlags;
+
+    ghost bitor_gives = { λ v w both. both.0 ≡ bit_or v.0 w.0 };
+
+    /// The flags of both sets.
+    fn bitor(self, other: StateFlags) -> StateFlags {
+        StateFlags(self.0 | other.0)
     }
 }
 
@@ -57,20 +79,56 @@ impl Flags for StateFlags {
 #[derive(Clone, Debug, Drop, PartialEq, Eq)]
 pub struct ShowFlags(u32);
 
-bitflag_items! {
-    impl ShowFlags: u32 {
-        /// The attribute `UNIX_DIAG_NAME`, as `UDIAG_SHOW_NAME`.
-        const NAME = 0x1;
-        /// The attribute `UNIX_DIAG_VFS`, as `UDIAG_SHOW_VFS`.
-        const VFS = 0x2;
-        /// The attribute `UNIX_DIAG_PEER`, as `UDIAG_SHOW_PEER`.
-        const PEER = 0x4;
-        /// The attribute `UNIX_DIAG_ICONS`, as `UDIAG_SHOW_ICONS`.
-        const ICONS = 0x8;
-        /// The attribute `UNIX_DIAG_RQLEN`, as `UDIAG_SHOW_RQLEN`.
-        const RQLEN = 0x10;
-        /// The attribute `UNIX_DIAG_MEMINFO`, as `UDIAG_SHOW_MEMINFO`.
-        const MEMINFO = 0x20;
+impl ShowFlags {
+    /// The attribute `UNIX_DIAG_NAME`, as `UDIAG_SHOW_NAME`.
+    pub const NAME: ShowFlags = ShowFlags(0x1);
+    /// The attribute `UNIX_DIAG_VFS`, as `UDIAG_SHOW_VFS`.
+    pub const VFS: ShowFlags = ShowFlags(0x2);
+    /// The attribute `UNIX_DIAG_PEER`, as `UDIAG_SHOW_PEER`.
+    pub const PEER: ShowFlags = ShowFlags(0x4);
+    /// The attribute `UNIX_DIAG_ICONS`, as `UDIAG_SHOW_ICONS`.
+    pub const ICONS: ShowFlags = ShowFlags(0x8);
+    /// The attribute `UNIX_DIAG_RQLEN`, as `UDIAG_SHOW_RQLEN`.
+    pub const RQLEN: ShowFlags = ShowFlags(0x10);
+    /// The attribute `UNIX_DIAG_MEMINFO`, as `UDIAG_SHOW_MEMINFO`.
+    pub const MEMINFO: ShowFlags = ShowFlags(0x20);
+
+    const FLAGS: &'static [Flag<ShowFlags>] = &[
+        Flag {
+            name: "NAME",
+            value: ShowFlags::NAME,
+        },
+        Flag {
+            name: "VFS",
+            value: ShowFlags::VFS,
+        },
+        Flag {
+            name: "PEER",
+            value: ShowFlags::PEER,
+        },
+        Flag {
+            name: "ICONS",
+            value: ShowFlags::ICONS,
+        },
+        Flag {
+            name: "RQLEN",
+            value: ShowFlags::RQLEN,
+        },
+        Flag {
+            name: "MEMINFO",
+            value: ShowFlags::MEMINFO,
+        },
+    ];
+}
+
+impl BitOr for ShowFlags {
+    type Output = ShowFlags;
+
+    ghost bitor_gives = { λ v w both. both.0 ≡ bit_or v.0 w.0 };
+
+    /// The flags of both sets.
+    fn bitor(self, other: ShowFlags) -> ShowFlags {
+        ShowFlags(self.0 | other.0)
     }
 }
 

@@ -10,7 +10,7 @@ use super::{ShowFlags, StateFlags};
 use crate::constants::AF_UNIX;
 use bitflags::Flags;
 use byteorder::{ByteOrder, LittleEndian};
-use netlink_core::{DecodeError, Exact, Fills, Record, RecordBuffer, RecordName};
+use netlink_core::{DecodeError, Exact, Fills, Record, RecordBuffer, RecordName, bytes_typed};
 use sock_diag_values::rows::{array_at, words_at};
 
 /// The request for UNIX sockets: `struct unix_diag_req` of sock_diag(7), 24 bytes, numbers low byte first. The
@@ -75,7 +75,14 @@ impl Record for UnixRequest {
         cookie.copy_from_slice(&self.cookie);
     }
 
-    ghost sound = { unix_request_sound };
+    fn row_typed(&self) {
+        let _state_flags = self.state_flags.bits();
+        let _inode = self.inode;
+        let _show_flags = self.show_flags.bits();
+        bytes_typed(&self.cookie);
+    }
+
+    ghost long = { unix_request_sound.long };
 
     ghost laws = { keeps_laws unix_request unix_request_sound };
 }

@@ -9,7 +9,9 @@ ghost use Rattle.sock_diag_records.specs.UnixResponseHeaderLaws.{unix_response_h
 
 use crate::constants::AF_UNIX;
 use byteorder::{ByteOrder, LittleEndian};
-use netlink_core::{DecodeError, Exact, Fills, Record, RecordBuffer, RecordName, read_record};
+use netlink_core::{
+    DecodeError, Exact, Fills, Record, RecordBuffer, RecordName, bytes_typed, read_record,
+};
 use sock_diag_values::rows::{array_at, words_at};
 
 /// The header of a reply about a UNIX socket: `struct unix_diag_msg` of sock_diag(7), 16 bytes. The bytes at 0 and 3
@@ -70,7 +72,14 @@ impl Record for UnixResponseHeader {
         cookie.copy_from_slice(&self.cookie);
     }
 
-    ghost sound = { unix_response_header_sound };
+    fn row_typed(&self) {
+        let _kind = self.kind;
+        let _state = self.state;
+        let _inode = self.inode;
+        bytes_typed(&self.cookie);
+    }
+
+    ghost long = { unix_response_header_sound.long };
 
     ghost laws = { keeps_laws unix_response_header unix_response_header_sound };
 }

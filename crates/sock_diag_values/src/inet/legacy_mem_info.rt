@@ -72,7 +72,14 @@ impl Record for LegacyMemInfo {
         );
     }
 
-    ghost sound = { legacy_mem_info_sound };
+    fn row_typed(&self) {
+        let _receive_queue = self.receive_queue;
+        let _bottom_send_queue = self.bottom_send_queue;
+        let _cache = self.cache;
+        let _send_queue = self.send_queue;
+    }
+
+    ghost long = { legacy_mem_info_sound.long };
 
     ghost laws = { keeps_laws legacy_mem_info legacy_mem_info_sound };
 }

@@ -1,17 +1,18 @@
 //! What INET_DIAG_SKMEMINFO tells: the memory of a socket.
 
-ghost use Rattle.std.specs.Prelude.{◌≡◌, ◌≤◌, ◌+◌, ◌↔◌, ◌<◌, ◌^◌, length, take, drop, SomeIff, IfSome, IsSome};
+ghost use Rattle.std.specs.Prelude.{[], ◌≡◌, ◌≤◌, ◌+◌, ◌↔◌, ◌<◌, ◌^◌, length, take, drop, SomeIff, IfSome, IsSome};
 ghost use Rattle.std.proofs.Common.{rules};
 ghost use Rattle.netlink_core.specs.Format.{read, bytes};
 ghost use Rattle.netlink_core.proofs.FormatLaws.{keeps_laws};
-ghost use Rattle.sock_diag_values.specs.MemInfo.{Words, words_in, mem_info, held_bytes, buffer_bytes};
+ghost use Rattle.netlink_core.specs.Table.{Fit, numbers, little_endian};
+ghost use Rattle.sock_diag_values.specs.MemInfo.{words_before, Words, words_in, mem_info, held_bytes, buffer_bytes};
 ghost use Rattle.sock_diag_values.specs.MemInfoLaws.{mem_info_sound};
-ghost use Rattle.sock_diag_values.specs.MemInfoEqual.{buffer_equal, bytes_equal, mem_info_equal};
+ghost use Rattle.sock_diag_values.specs.MemInfoEqualLaws.{buffer_equal, bytes_equal, mem_info_equal};
 ghost use Rattle.byteorder.specs.Endian.{little_number};
 
 use crate::rows::words_at;
 use byteorder::{ByteOrder, LittleEndian};
-use netlink_core::{DecodeError, Exact, Record, RecordName, read_record};
+use netlink_core::{DecodeError, Exact, Record, RecordName, read_record, word_typed};
 
 /// The memory of a socket, as the attribute `INET_DIAG_SKMEMINFO` tells it: the nine words `SK_MEMINFO_..` of
 /// `linux/sock_diag.h`. It is 36 bytes, each word a `u32`, low byte first. Older kernels tell seven words, 28 bytes, or
@@ -145,12 +146,38 @@ impl Record for MemInfo {
         }
     }
 
-    ghost sound = { mem_info_sound };
+    fn row_typed(&self) {
+        self.typed_words();
+        match (self.backlog_queue_length, self.drops) {
+            (Some(backlog), Some(drops)) => {
+                word_typed(backlog);
+                word_typed(drops);
+            }
+            (None, Some(drops)) => word_typed(drops),
+            (Some(backlog), None) => word_typed(backlog),
+            (None, None) => {}
+        }
+    }
+
+    ghost long = { mem_info_sound.long };
 
     ghost laws = { keeps_laws mem_info mem_info_sound };
 }
 
 impl MemInfo {
+    // The first seven words are within their types.
+    fn typed_words(&self)
+        ensures { Fit (numbers 0 4 little_endian 7) (words_before self.now []) }
+    {
+        let _receive_queue = self.receive_queue;
+        let _receive_queue_max = self.receive_queue_max;
+        let _bottom_send_queues = self.bottom_send_queues;
+        let _send_queue_max = self.send_queue_max;
+        let _cache = self.cache;
+        let _send_queue = self.send_queue;
+        let _options = self.options;
+    }
+
     /// Reads the first 36 bytes, or the first 32 or 28 where there are no more. What follows them is ignored, and fewer
     /// are [`DecodeError::BufferTooSmall`].
     pub fn parse(payload: &[u8]) -> Result<Self, DecodeError>

@@ -1,17 +1,18 @@
 //! What INET_DIAG_INFO tells: a TCP connection.
 
-ghost use Rattle.std.specs.Prelude.{◌≡◌, ◌≤◌, [], ◌∷◌, length};
+ghost use Rattle.std.specs.Prelude.{◌≡◌};
 ghost use Rattle.std.proofs.Common.{rules};
-ghost use Rattle.netlink_core.specs.Table.{bytes_at, numbers, little_endian, values_of, bytes_of};
 ghost use Rattle.netlink_core.specs.Format.{read};
 ghost use Rattle.netlink_core.proofs.FormatLaws.{keeps_laws};
-ghost use Rattle.sock_diag_values.specs.TcpInfo.{tcp_info};
-ghost use Rattle.sock_diag_values.specs.TcpInfoEqual.{tcp_info_equal, unfailing};
+ghost use Rattle.sock_diag_values.specs.TcpInfo.{tcp_info, states, counts, ages, metrics, receiver, rates, segments, limits, deliveries, totals, reorderings};
+ghost use Rattle.sock_diag_values.specs.TcpInfoEqualLaws.{tcp_info_equal, unfailing};
 ghost use Rattle.sock_diag_values.specs.TcpInfoLaws.{tcp_info_sound};
 
-use crate::rows::{array_at, long_words_at, words_at};
+use crate::rows::{array_at, long_words_at, long_words_typed, words_at, words_typed};
 use byteorder::{ByteOrder, LittleEndian};
-use netlink_core::{DecodeError, Exact, Fills, Record, RecordBuffer, RecordName, read_record};
+use netlink_core::{
+    DecodeError, Exact, Fills, Record, RecordBuffer, RecordName, bytes_typed, read_record,
+};
 
 /// A TCP connection, as the attribute `INET_DIAG_INFO` tells it: `struct tcp_info` of `linux/tcp.h`, 232 bytes,
 /// numbers of 8, 32 and 64 bits, low byte first.
@@ -165,107 +166,72 @@ impl Record for TcpInfo {
 
     #[tactic(auto, unfolding(crate::specs::TcpInfo::tcp_info))]
     fn from_row(payload: &[u8], _told: ()) -> Result<Self, DecodeError> {
-        let [
-            state,
-            ca_state,
-            retransmits,
-            probes,
-            backoff,
-            options,
-            wscale,
-            delivery_rate_app_limited,
-        ] = read_states(payload);
-        let [
-            rto,
-            ato,
-            snd_mss,
-            rcv_mss,
-            unacked,
-            sacked,
-            lost,
-            retrans,
-            fackets,
-        ] = read_counts(payload);
-        let [last_data_sent, last_ack_sent, last_data_recv, last_ack_recv] = read_ages(payload);
-        let [
-            pmtu,
-            rcv_ssthresh,
-            rtt,
-            rttvar,
-            snd_ssthresh,
-            snd_cwnd,
-            advmss,
-            reordering,
-        ] = read_metrics(payload);
-        let [rcv_rtt, rcv_space, total_retrans] = read_receiver(payload);
-        let [pacing_rate, max_pacing_rate, bytes_acked, bytes_received] = read_rates(payload);
-        let [
-            segs_out,
-            segs_in,
-            notsent_bytes,
-            min_rtt,
-            data_segs_in,
-            data_segs_out,
-        ] = read_segments(payload);
-        let [delivery_rate, busy_time, rwnd_limited, sndbuf_limited] = read_limits(payload);
-        let [delivered, delivered_ce] = read_deliveries(payload);
-        let [bytes_sent, bytes_retrans] = read_totals(payload);
-        let [dsack_dups, reord_seen, rcv_ooopack, snd_wnd] = read_reorderings(payload);
+        let states = array_at::<8>(payload, 0);
+        let counts = words_at::<9>(payload, 8);
+        let ages = words_at::<4>(payload, 44);
+        let metrics = words_at::<8>(payload, 60);
+        let receiver = words_at::<3>(payload, 92);
+        let rates = long_words_at::<4>(payload, 104);
+        let segments = words_at::<6>(payload, 136);
+        let limits = long_words_at::<4>(payload, 160);
+        let deliveries = words_at::<2>(payload, 192);
+        let totals = long_words_at::<2>(payload, 200);
+        let reorderings = words_at::<4>(payload, 216);
         Ok(TcpInfo {
-            state,
-            ca_state,
-            retransmits,
-            probes,
-            backoff,
-            options,
-            wscale,
-            delivery_rate_app_limited,
-            rto,
-            ato,
-            snd_mss,
-            rcv_mss,
-            unacked,
-            sacked,
-            lost,
-            retrans,
-            fackets,
-            last_data_sent,
-            last_ack_sent,
-            last_data_recv,
-            last_ack_recv,
-            pmtu,
-            rcv_ssthresh,
-            rtt,
-            rttvar,
-            snd_ssthresh,
-            snd_cwnd,
-            advmss,
-            reordering,
-            rcv_rtt,
-            rcv_space,
-            total_retrans,
-            pacing_rate,
-            max_pacing_rate,
-            bytes_acked,
-            bytes_received,
-            segs_out,
-            segs_in,
-            notsent_bytes,
-            min_rtt,
-            data_segs_in,
-            data_segs_out,
-            delivery_rate,
-            busy_time,
-            rwnd_limited,
-            sndbuf_limited,
-            delivered,
-            delivered_ce,
-            bytes_sent,
-            bytes_retrans,
-            dsack_dups,
-            reord_seen,
-            rcv_ooopack,
-            snd_wnd,
+            state: states[0],
+            ca_state: states[1],
+            retransmits: states[2],
+            probes: states[3],
+            backoff: states[4],
+            options: states[5],
+            wscale: states[6],
+            delivery_rate_app_limited: states[7],
+            rto: counts[0],
+            ato: counts[1],
+            snd_mss: counts[2],
+            rcv_mss: counts[3],
+            unacked: counts[4],
+            sacked: counts[5],
+            lost: counts[6],
+            retrans: counts[7],
+            fackets: counts[8],
+            last_data_sent: ages[0],
+            last_ack_sent: ages[1],
+            last_data_recv: ages[2],
+            last_ack_recv: ages[3],
+            pmtu: metrics[0],
+            rcv_ssthresh: metrics[1],
+            rtt: metrics[2],
+            rttvar: metrics[3],
+            snd_ssthresh: metrics[4],
+            snd_cwnd: metrics[5],
+            advmss: metrics[6],
+            reordering: metrics[7],
+            rcv_rtt: receiver[0],
+            rcv_space: receiver[1],
+            total_retrans: receiver[2],
+            pacing_rate: rates[0],
+            max_pacing_rate: rates[1],
+            bytes_acked: rates[2],
+            bytes_received: rates[3],
+            segs_out: segments[0],
+            segs_in: segments[1],
+            notsent_bytes: segments[2],
+            min_rtt: segments[3],
+            data_segs_in: segments[4],
+            data_segs_out: segments[5],
+            delivery_rate: limits[0],
+            busy_time: limits[1],
+            rwnd_limited: limits[2],
+            sndbuf_limited: limits[3],
+            delivered: deliveries[0],
+            delivered_ce: deliveries[1],
+            bytes_sent: totals[0],
+            bytes_retrans: totals[1],
+            dsack_dups: reorderings[0],
+            reord_seen: reorderings[1],
+            rcv_ooopack: reorderings[2],
+            snd_wnd: reorderings[3],
         })
     }
 
@@ -281,20 +247,34 @@ impl Record for TcpInfo {
         let (limits, rest) = rest.split_at_mut(32);
         let (deliveries, rest) = rest.split_at_mut(8);
         let (totals, reorderings) = rest.split_at_mut(16);
-        self.write_states(states);
-        self.write_counts(counts);
-        self.write_ages(ages);
-        self.write_metrics(metrics);
-        self.write_receiver(receiver);
-        self.write_rates(rates);
-        self.write_segments(segments);
-        self.write_limits(limits);
-        self.write_deliveries(deliveries);
-        self.write_totals(totals);
-        self.write_reorderings(reorderings);
+        states.copy_from_slice(&self.states());
+        LittleEndian::write_u32_into(&self.counts(), counts);
+        LittleEndian::write_u32_into(&self.ages(), ages);
+        LittleEndian::write_u32_into(&self.metrics(), metrics);
+        LittleEndian::write_u32_into(&self.receiver(), receiver);
+        LittleEndian::write_u64_into(&self.rates(), rates);
+        LittleEndian::write_u32_into(&self.segments(), segments);
+        LittleEndian::write_u64_into(&self.limits(), limits);
+        LittleEndian::write_u32_into(&self.deliveries(), deliveries);
+        LittleEndian::write_u64_into(&self.totals(), totals);
+        LittleEndian::write_u32_into(&self.reorderings(), reorderings);
     }
 
-    ghost sound = { tcp_info_sound };
+    fn row_typed(&self) {
+        bytes_typed(&self.states());
+        words_typed(&self.counts());
+        words_typed(&self.ages());
+        words_typed(&self.metrics());
+        words_typed(&self.receiver());
+        long_words_typed(&self.rates());
+        words_typed(&self.segments());
+        long_words_typed(&self.limits());
+        words_typed(&self.deliveries());
+        long_words_typed(&self.totals());
+        words_typed(&self.reorderings());
+    }
+
+    ghost long = { tcp_info_sound.long };
 
     ghost laws = { keeps_laws tcp_info tcp_info_sound };
 }
@@ -303,94 +283,6 @@ impl Fills<232> for TcpInfo {
     ghost use Rattle.sock_diag_values.specs.TcpInfoLaws.{tcp_info_long};
 
     ghost fills = { tcp_info_long };
-}
-
-// The numbers of the row at 0.
-fn read_states(payload: &[u8]) -> [u8; 8]
-    requires { 8 ≤ length payload.now }
-    ensures { result ≡ values_of (bytes_at 0 8) payload.now }
-{
-    array_at(payload, 0)
-}
-
-// The numbers of the row at 8.
-fn read_counts(payload: &[u8]) -> [u32; 9]
-    requires { 44 ≤ length payload.now }
-    ensures { result ≡ values_of (numbers 8 4 little_endian 9) payload.now }
-{
-    words_at(payload, 8)
-}
-
-// The numbers of the row at 44.
-fn read_ages(payload: &[u8]) -> [u32; 4]
-    requires { 60 ≤ length payload.now }
-    ensures { result ≡ values_of (numbers 44 4 little_endian 4) payload.now }
-{
-    words_at(payload, 44)
-}
-
-// The numbers of the row at 60.
-fn read_metrics(payload: &[u8]) -> [u32; 8]
-    requires { 92 ≤ length payload.now }
-    ensures { result ≡ values_of (numbers 60 4 little_endian 8) payload.now }
-{
-    words_at(payload, 60)
-}
-
-// The numbers of the row at 92.
-fn read_receiver(payload: &[u8]) -> [u32; 3]
-    requires { 104 ≤ length payload.now }
-    ensures { result ≡ values_of (numbers 92 4 little_endian 3) payload.now }
-{
-    words_at(payload, 92)
-}
-
-// The numbers of the row at 104.
-fn read_rates(payload: &[u8]) -> [u64; 4]
-    requires { 136 ≤ length payload.now }
-    ensures { result ≡ values_of (numbers 104 8 little_endian 4) payload.now }
-{
-    long_words_at(payload, 104)
-}
-
-// The numbers of the row at 136.
-fn read_segments(payload: &[u8]) -> [u32; 6]
-    requires { 160 ≤ length payload.now }
-    ensures { result ≡ values_of (numbers 136 4 little_endian 6) payload.now }
-{
-    words_at(payload, 136)
-}
-
-// The numbers of the row at 160.
-fn read_limits(payload: &[u8]) -> [u64; 4]
-    requires { 192 ≤ length payload.now }
-    ensures { result ≡ values_of (numbers 160 8 little_endian 4) payload.now }
-{
-    long_words_at(payload, 160)
-}
-
-// The numbers of the row at 192.
-fn read_deliveries(payload: &[u8]) -> [u32; 2]
-    requires { 200 ≤ length payload.now }
-    ensures { result ≡ values_of (numbers 192 4 little_endian 2) payload.now }
-{
-    words_at(payload, 192)
-}
-
-// The numbers of the row at 200.
-fn read_totals(payload: &[u8]) -> [u64; 2]
-    requires { 216 ≤ length payload.now }
-    ensures { result ≡ values_of (numbers 200 8 little_endian 2) payload.now }
-{
-    long_words_at(payload, 200)
-}
-
-// The numbers of the row at 216.
-fn read_reorderings(payload: &[u8]) -> [u32; 4]
-    requires { 232 ≤ length payload.now }
-    ensures { result ≡ values_of (numbers 216 4 little_endian 4) payload.now }
-{
-    words_at(payload, 216)
 }
 
 impl TcpInfo {
@@ -403,12 +295,11 @@ impl TcpInfo {
         read_record(payload, ())
     }
 
-    // Writes the row at 0.
-    fn write_states(&self, row: &mut [u8])
-        requires { length row.old ≡ 8 }
-        ensures { row.new ≡ bytes_of (bytes_at 0 8) (self.now.state ∷ self.now.ca_state ∷ self.now.retransmits ∷ self.now.probes ∷ self.now.backoff ∷ self.now.options ∷ self.now.wscale ∷ self.now.delivery_rate_app_limited ∷ []) }
+    // The bytes at 0.
+    fn states(&self) -> [u8; 8]
+        ensures { result ≡ states self.now }
     {
-        row.copy_from_slice(&[
+        [
             self.state,
             self.ca_state,
             self.retransmits,
@@ -417,153 +308,122 @@ impl TcpInfo {
             self.options,
             self.wscale,
             self.delivery_rate_app_limited,
-        ]);
+        ]
     }
 
-    // Writes the row at 8.
-    fn write_counts(&self, row: &mut [u8])
-        requires { length row.old ≡ 36 }
-        ensures { row.new ≡ bytes_of (numbers 8 4 little_endian 9) (self.now.rto ∷ self.now.ato ∷ self.now.snd_mss ∷ self.now.rcv_mss ∷ self.now.unacked ∷ self.now.sacked ∷ self.now.lost ∷ self.now.retrans ∷ self.now.fackets ∷ []) }
+    // The words at 8.
+    fn counts(&self) -> [u32; 9]
+        ensures { result ≡ counts self.now }
     {
-        LittleEndian::write_u32_into(
-            &[
-                self.rto,
-                self.ato,
-                self.snd_mss,
-                self.rcv_mss,
-                self.unacked,
-                self.sacked,
-                self.lost,
-                self.retrans,
-                self.fackets,
-            ],
-            row,
-        );
+        [
+            self.rto,
+            self.ato,
+            self.snd_mss,
+            self.rcv_mss,
+            self.unacked,
+            self.sacked,
+            self.lost,
+            self.retrans,
+            self.fackets,
+        ]
     }
 
-    // Writes the row at 44.
-    fn write_ages(&self, row: &mut [u8])
-        requires { length row.old ≡ 16 }
-        ensures { row.new ≡ bytes_of (numbers 44 4 little_endian 4) (self.now.last_data_sent ∷ self.now.last_ack_sent ∷ self.now.last_data_recv ∷ self.now.last_ack_recv ∷ []) }
+    // The words at 44.
+    fn ages(&self) -> [u32; 4]
+        ensures { result ≡ ages self.now }
     {
-        LittleEndian::write_u32_into(
-            &[
-                self.last_data_sent,
-                self.last_ack_sent,
-                self.last_data_recv,
-                self.last_ack_recv,
-            ],
-            row,
-        );
+        [
+            self.last_data_sent,
+            self.last_ack_sent,
+            self.last_data_recv,
+            self.last_ack_recv,
+        ]
     }
 
-    // Writes the row at 60.
-    fn write_metrics(&self, row: &mut [u8])
-        requires { length row.old ≡ 32 }
-        ensures { row.new ≡ bytes_of (numbers 60 4 little_endian 8) (self.now.pmtu ∷ self.now.rcv_ssthresh ∷ self.now.rtt ∷ self.now.rttvar ∷ self.now.snd_ssthresh ∷ self.now.snd_cwnd ∷ self.now.advmss ∷ self.now.reordering ∷ []) }
+    // The words at 60.
+    fn metrics(&self) -> [u32; 8]
+        ensures { result ≡ metrics self.now }
     {
-        LittleEndian::write_u32_into(
-            &[
-                self.pmtu,
-                self.rcv_ssthresh,
-                self.rtt,
-                self.rttvar,
-                self.snd_ssthresh,
-                self.snd_cwnd,
-                self.advmss,
-                self.reordering,
-            ],
-            row,
-        );
+        [
+            self.pmtu,
+            self.rcv_ssthresh,
+            self.rtt,
+            self.rttvar,
+            self.snd_ssthresh,
+            self.snd_cwnd,
+            self.advmss,
+            self.reordering,
+        ]
     }
 
-    // Writes the row at 92.
-    fn write_receiver(&self, row: &mut [u8])
-        requires { length row.old ≡ 12 }
-        ensures { row.new ≡ bytes_of (numbers 92 4 little_endian 3) (self.now.rcv_rtt ∷ self.now.rcv_space ∷ self.now.total_retrans ∷ []) }
+    // The words at 92.
+    fn receiver(&self) -> [u32; 3]
+        ensures { result ≡ receiver self.now }
     {
-        LittleEndian::write_u32_into(&[self.rcv_rtt, self.rcv_space, self.total_retrans], row);
+        [self.rcv_rtt, self.rcv_space, self.total_retrans]
     }
 
-    // Writes the row at 104.
-    fn write_rates(&self, row: &mut [u8])
-        requires { length row.old ≡ 32 }
-        ensures { row.new ≡ bytes_of (numbers 104 8 little_endian 4) (self.now.pacing_rate ∷ self.now.max_pacing_rate ∷ self.now.bytes_acked ∷ self.now.bytes_received ∷ []) }
+    // The long words at 104.
+    fn rates(&self) -> [u64; 4]
+        ensures { result ≡ rates self.now }
     {
-        LittleEndian::write_u64_into(
-            &[
-                self.pacing_rate,
-                self.max_pacing_rate,
-                self.bytes_acked,
-                self.bytes_received,
-            ],
-            row,
-        );
+        [
+            self.pacing_rate,
+            self.max_pacing_rate,
+            self.bytes_acked,
+            self.bytes_received,
+        ]
     }
 
-    // Writes the row at 136.
-    fn write_segments(&self, row: &mut [u8])
-        requires { length row.old ≡ 24 }
-        ensures { row.new ≡ bytes_of (numbers 136 4 little_endian 6) (self.now.segs_out ∷ self.now.segs_in ∷ self.now.notsent_bytes ∷ self.now.min_rtt ∷ self.now.data_segs_in ∷ self.now.data_segs_out ∷ []) }
+    // The words at 136.
+    fn segments(&self) -> [u32; 6]
+        ensures { result ≡ segments self.now }
     {
-        LittleEndian::write_u32_into(
-            &[
-                self.segs_out,
-                self.segs_in,
-                self.notsent_bytes,
-                self.min_rtt,
-                self.data_segs_in,
-                self.data_segs_out,
-            ],
-            row,
-        );
+        [
+            self.segs_out,
+            self.segs_in,
+            self.notsent_bytes,
+            self.min_rtt,
+            self.data_segs_in,
+            self.data_segs_out,
+        ]
     }
 
-    // Writes the row at 160.
-    fn write_limits(&self, row: &mut [u8])
-        requires { length row.old ≡ 32 }
-        ensures { row.new ≡ bytes_of (numbers 160 8 little_endian 4) (self.now.delivery_rate ∷ self.now.busy_time ∷ self.now.rwnd_limited ∷ self.now.sndbuf_limited ∷ []) }
+    // The long words at 160.
+    fn limits(&self) -> [u64; 4]
+        ensures { result ≡ limits self.now }
     {
-        LittleEndian::write_u64_into(
-            &[
-                self.delivery_rate,
-                self.busy_time,
-                self.rwnd_limited,
-                self.sndbuf_limited,
-            ],
-            row,
-        );
+        [
+            self.delivery_rate,
+            self.busy_time,
+            self.rwnd_limited,
+            self.sndbuf_limited,
+        ]
     }
 
-    // Writes the row at 192.
-    fn write_deliveries(&self, row: &mut [u8])
-        requires { length row.old ≡ 8 }
-        ensures { row.new ≡ bytes_of (numbers 192 4 little_endian 2) (self.now.delivered ∷ self.now.delivered_ce ∷ []) }
+    // The words at 192.
+    fn deliveries(&self) -> [u32; 2]
+        ensures { result ≡ deliveries self.now }
     {
-        LittleEndian::write_u32_into(&[self.delivered, self.delivered_ce], row);
+        [self.delivered, self.delivered_ce]
     }
 
-    // Writes the row at 200.
-    fn write_totals(&self, row: &mut [u8])
-        requires { length row.old ≡ 16 }
-        ensures { row.new ≡ bytes_of (numbers 200 8 little_endian 2) (self.now.bytes_sent ∷ self.now.bytes_retrans ∷ []) }
+    // The long words at 200.
+    fn totals(&self) -> [u64; 2]
+        ensures { result ≡ totals self.now }
     {
-        LittleEndian::write_u64_into(&[self.bytes_sent, self.bytes_retrans], row);
+        [self.bytes_sent, self.bytes_retrans]
     }
 
-    // Writes the row at 216.
-    fn write_reorderings(&self, row: &mut [u8])
-        requires { length row.old ≡ 16 }
-        ensures { row.new ≡ bytes_of (numbers 216 4 little_endian 4) (self.now.dsack_dups ∷ self.now.reord_seen ∷ self.now.rcv_ooopack ∷ self.now.snd_wnd ∷ []) }
+    // The words at 216.
+    fn reorderings(&self) -> [u32; 4]
+        ensures { result ≡ reorderings self.now }
     {
-        LittleEndian::write_u32_into(
-            &[
-                self.dsack_dups,
-                self.reord_seen,
-                self.rcv_ooopack,
-                self.snd_wnd,
-            ],
-            row,
-        );
+        [
+            self.dsack_dups,
+            self.reord_seen,
+            self.rcv_ooopack,
+            self.snd_wnd,
+        ]
     }
 }

@@ -74,7 +74,13 @@ impl Record for MemInfo {
         LittleEndian::write_u32_into(&words, row);
     }
 
-    ghost sound = { unix_mem_info_sound };
+    fn row_typed(&self) {
+        let _so_rcvbuf = self.so_rcvbuf;
+        let _max_datagram_size = self.max_datagram_size;
+        let _alloc = self.alloc;
+    }
+
+    ghost long = { unix_mem_info_sound.long };
 
     ghost laws = { keeps_laws unix_mem_info unix_mem_info_sound };
 }

@@ -54,7 +54,12 @@ impl Record for Vfs {
         LittleEndian::write_u32_into(&[self.inode, self.device], row);
     }
 
-    ghost sound = { vfs_sound };
+    fn row_typed(&self) {
+        let _inode = self.inode;
+        let _device = self.device;
+    }
+
+    ghost long = { vfs_sound.long };
 
     ghost laws = { keeps_laws vfs vfs_sound };
 }

@@ -1,6 +1,6 @@
 use Rattle.std.proofs.Common.{◌≡◌, ◌↔◌, Bor, IsTrue, List, Option, None, Some, ap, sym, ℕ}
 use Rattle.std.specs.Option.{option_eq, option_map}
-use Rattle.sock_diag_attributes.specs.EqualUnix.{name_views_equal}
+use Rattle.sock_diag_attributes.specs.EqualUnixLaws.{name_views_equal}
 use Rattle.sock_diag_attributes.specs.Name.{SocketName, pathname}
 use Rattle.sock_diag_attributes.specs.SeenName.{viewed_name}
 use Rattle.sock_diag_attributes.specs.contracts.unix.name.NameViewPartialEq.TheImpl.{ghosts as name_views}

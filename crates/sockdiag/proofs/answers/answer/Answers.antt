@@ -1,6 +1,6 @@
 use Rattle.std.proofs.Common.{◌≡◌, [], ◌++◌, List, ℕ, sym, ap, ◌∙◌, subst}
 use Rattle.sockdiag.specs.Answer.{IsAnswerOf}
-use Rattle.sockdiag.specs.Told.{Adds}
+use Rattle.sockdiag.specs.TextSteps.{Adds}
 use Rattle.sockdiag.proofs.AnswerLemmas.{answers_alike, answers_apart, dumps_alike, dumps_split}
 use Rattle.sockdiag.proofs.answers.answer.Goals as goal
 

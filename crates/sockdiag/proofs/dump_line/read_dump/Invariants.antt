@@ -1,7 +1,7 @@
 use Rattle.std.proofs.Common.{◌≡◌, ◌==◌, ℕ, List, ◌++◌, length}
 use Rattle.std.specs.List.{AllZip, slice_split}
 use Rattle.sockdiag.specs.HexField.{IsHexField}
-use Rattle.sockdiag.specs.ReadDump.{IsReadDump}
+use Rattle.sockdiag.specs.ReadDumpSteps.{IsReadDump}
 use Rattle.sockdiag.proofs.dump_line.read_dump.Given as goal
 
 -- the fields in front of the rest, and the dump over the datagrams that they stand for

@@ -2,7 +2,7 @@ use Rattle.std.proofs.Common.{◌≡◌, ◌++◌, List, ℕ, [], vec_len, refl,
 use Rattle.std.proofs.lemmas.Bool.{eqb-true}
 use Rattle.std.proofs.lemmas.List.{nil_from_length}
 use Rattle.std.proofs.lemmas.Result.{IfOk-weaker}
-use Rattle.sockdiag.specs.Asked.{IsReadAs}
+use Rattle.sockdiag.specs.AskedSteps.{IsReadAs}
 use Rattle.sockdiag.proofs.stream.read_line.Goals as goal
 
 pub returns-then-is_empty : goal.returns-then-is_empty

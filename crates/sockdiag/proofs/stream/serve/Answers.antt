@@ -1,5 +1,5 @@
 use Rattle.std.proofs.Common.{Err, subst}
-use Rattle.sockdiag.specs.Run.{Writes}
+use Rattle.sockdiag.specs.RunSteps.{Writes}
 use Rattle.std.proofs.KnownBytes.{Keeps-refl}
 use Rattle.std.proofs.lemmas.Result.{err_from_is_err_and}
 use Rattle.sockdiag.proofs.RunLemmas.{CaughtUp-piece, run_failed, run_finished, run_without_memory}

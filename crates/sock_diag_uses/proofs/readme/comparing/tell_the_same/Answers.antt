@@ -1,6 +1,6 @@
 use Rattle.std.proofs.Common.{arith}
 use Rattle.netlink_packet_sock_diag.specs.ViewedUnixReply.{viewed_response}
-use Rattle.netlink_packet_sock_diag.specs.EqualViews.{unix_test_says}
+use Rattle.netlink_packet_sock_diag.specs.EqualViewLaws.{unix_test_says}
 use Rattle.netlink_packet_sock_diag.specs.contracts.unix.response.UnixResponseCoded.TheImpl.Laws.{laws-law}
 use Rattle.sock_diag_uses.proofs.readme.comparing.tell_the_same.Goals as goal
 

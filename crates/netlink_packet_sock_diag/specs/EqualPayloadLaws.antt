@@ -2,7 +2,7 @@
 use Rattle.std.proofs.Common.{◌≡◌, ◌↔◌, IsTrue, ap, rules}
 use Rattle.netlink_core.proofs.Equality.{apart}
 use Rattle.netlink_core.specs.Envelope.{inner}
-use Rattle.netlink_packet_sock_diag.specs.EqualMessages.{view_equal}
+use Rattle.netlink_packet_sock_diag.specs.EqualMessageLaws.{view_equal}
 use Rattle.netlink_packet_sock_diag.specs.declared.dump.views.PayloadView.{PayloadView}
 use Rattle.netlink_packet_sock_diag.specs.declared.dump.views.PayloadView.TheVariants.{Done, Error, Noop, Overrun, InnerMessage}
 use Rattle.netlink_packet_sock_diag.specs.contracts.dump.views.PayloadViewPartialEq.TheImpl.{ghosts}

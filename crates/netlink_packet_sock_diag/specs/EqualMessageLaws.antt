@@ -13,7 +13,7 @@ use Rattle.netlink_packet_sock_diag.specs.SeenMessage.{seen_message}
 use Rattle.netlink_packet_sock_diag.specs.declared.message.SockDiagView.{SockDiagView}
 use Rattle.netlink_packet_sock_diag.specs.declared.message.SockDiagView.TheVariants as view
 use Rattle.netlink_packet_sock_diag.specs.contracts.message.SockDiagViewPartialEq.TheImpl.{ghosts as views}
-use Rattle.netlink_packet_sock_diag.specs.EqualViews.{inet_test_says, unix_test_says}
+use Rattle.netlink_packet_sock_diag.specs.EqualViewLaws.{inet_test_says, unix_test_says}
 use Rattle.netlink_packet_sock_diag.specs.ViewedInetReply as inet_view
 use Rattle.netlink_packet_sock_diag.specs.ViewedUnixReply as unix_view
 use Rattle.netlink_packet_sock_diag.specs.ViewedMessage.{viewed_message}

@@ -2,7 +2,7 @@
 use Rattle.std.specs.Prelude.{◌≡◌, ℕ, List, codes}
 use Rattle.sockdiag.specs.Answer.{IsAnswer, IsNoRequest, IsRequest}
 use Rattle.sockdiag.specs.DumpLine.{IsDumpRequest, IsWritable, shown_dump}
-use Rattle.sockdiag.specs.ReadDump.{IsReadDump, told_dump}
+use Rattle.sockdiag.specs.ReadDumpSteps.{IsReadDump, told_dump}
 use Rattle.sockdiag.specs.Told.{Tells}
 use Rattle.sockdiag.specs.declared.answers.Asked.{Asked}
 use Rattle.sockdiag.specs.declared.answers.Asked.TheVariants.{Field, Dump, Nothing}

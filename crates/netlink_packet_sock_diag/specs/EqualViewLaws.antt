@@ -4,8 +4,8 @@ use Rattle.std.specs.Cmp.{IsEquivalence}
 use lib.Pointwise.{pointwise}
 use Rattle.netlink_core.proofs.Equality.{equivalence}
 use Rattle.netlink_core.proofs.SaidTests.{said_test, said_test_says}
-use Rattle.sock_diag_attributes.specs.EqualInet.{inet_tests, inet_tests_say}
-use Rattle.sock_diag_attributes.specs.EqualUnix.{unix_tests, unix_tests_say}
+use Rattle.sock_diag_attributes.specs.EqualInetLaws.{inet_tests, inet_tests_say}
+use Rattle.sock_diag_attributes.specs.EqualUnixLaws.{unix_tests, unix_tests_say}
 use Rattle.sock_diag_attributes.specs.InetAttributes.{inet}
 use Rattle.sock_diag_attributes.specs.UnixAttributes.{unix}
 use Rattle.sock_diag_records.specs.contracts.inet.exact.InetResponseHeaderExact.TheImpl.Laws.{equal-law as same_inet_header}
@@ -14,7 +14,7 @@ use Rattle.sock_diag_records.specs.contracts.inet.response.InetResponseHeaderPar
 use Rattle.sock_diag_records.specs.contracts.unix.response.UnixResponseHeaderPartialEq.TheImpl.{ghosts as unix_headers}
 use Rattle.netlink_packet_sock_diag.specs.InetReply.{InetReply}
 use Rattle.netlink_packet_sock_diag.specs.UnixReply.{UnixReply}
-use Rattle.netlink_packet_sock_diag.specs.EqualReplies.{values_equal}
+use Rattle.netlink_packet_sock_diag.specs.EqualReplyLaws.{values_equal}
 use Rattle.netlink_packet_sock_diag.specs.ViewedInetReply as inet_view
 use Rattle.netlink_packet_sock_diag.specs.ViewedUnixReply as unix_view
 

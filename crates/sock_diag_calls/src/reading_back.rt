@@ -1,0 +1,26 @@
+//! A value of any type, written and read again, by `netlink_core`.
+
+ghost use Rattle.std.specs.Prelude.{◌≡◌, IfOk, IfErr};
+ghost use Rattle.netlink_core.specs.declared.fault.DecodeError.TheVariants.{Memory};
+
+use netlink_core::{DecodeError, Wire};
+use std::alloc::Global;
+
+/// A copy of a writable value in normal form: what is read from the bytes that it is written as. It fails only for
+/// want of memory.
+pub fn copy_by_bytes<T: Wire + Drop>(
+    alloc: Global,
+    value: &T,
+    param: T::Param,
+) -> Result<T, DecodeError>
+    requires param { T.codec.is_param param }
+    requires normal { T.codec.is_normal param (T.seen value.now) }
+    requires writable { T.writable value.now }
+    ensures equal { IfOk result (λ copy. T.seen copy ≡ T.seen value.now) }
+    ensures fault { IfErr result (λ e. e ≡ Memory) }
+{
+    let mut bytes = vec![in alloc; 0; value.buffer_len()]?;
+    value.emit(&mut bytes);
+    value.typed();
+    T::read(alloc, &bytes, param)
+}

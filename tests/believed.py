@@ -1,0 +1,316 @@
+#!/usr/bin/env python3
+"""Prints what has to be believed: the definitions that the contracts of the port's crates reach.
+
+The roots are the clauses of public functions and of the methods of public traits, the invariants of public structs, and
+the ghost members of public traits and of their impls. From these the way goes on by the names that they hold, through the
+imports, to definitions in specs/, and from each of them likewise. A lemma is not followed. What Rust types declare is
+code, and what the kit defines is the kit's: the way ends there.
+
+    tests/believed.py             each definition that is reached: module: name, lines, comment; sums; and what is odd
+    tests/believed.py --lines     the lines that are reached in each module, most first
+    tests/believed.py --private   the clauses and members of private functions and traits are roots too
+
+It fails, with status 1, where a name resolves to nothing, a ghost member is in none of the two lists below, or something
+stands in the wrong place: what has to be believed, lemmas, and the words of private functions stand in modules apart.
+"""
+
+import re
+import sys
+from pathlib import Path
+
+CRATES = ["netlink_core", "sock_diag_values", "sock_diag_records", "sock_diag_attributes", "netlink_packet_sock_diag", "sockdiag"]
+ROOT = Path(__file__).resolve().parent.parent / "crates"
+# Ghost members that say something: their types and their bodies are read.
+MEANING = set("""codec seen type_written bytes writable held TAKES_MEMORY attribute format Tag Value view inverse is_clone
+    is_infallible from_gives bitor_gives next_gives remaining table set_of exact family viewed contents answer left reads failed""".split())
+# Ghost members that are laws: the type that a trait declares is read, and their bodies are proofs. `eq` and `tests` are
+# among them: what `==` answers is computed there, and said in the words of contracts by `eq_is_seen` and in laws.rt.
+LAWS = set("""laws long fills equal copied unfailing eq_is_seen written_is fits_is each_type emitted_is writable_is written_as
+    compared idle_reflexive idle_symmetric idle_transitive one_value equal_by_bytes idle_with_written reads_back_exactly
+    written_alike eq tests""".split())
+# Private functions whose clauses docs/PROMISES.md cites.
+CITED = {"serve", "read_prompt"}
+# A module of specs/ with this ending holds lemmas and what they stand on, and one with that the words of private functions.
+LEMMAS, STEPS = "Laws", "Steps"
+# Definitions of the tests.
+OF_TESTS = {"Rattle.netlink_core.specs.Kept"}
+# Words of the language, and what needs no import.
+BUILT_IN = set("record data module let in if then else Type Unit tt absurd abbrev unfoldable pub where _".split())
+RUST = set("Ok Err Some None self Self result".split())
+# A function without a keyword that ends in one of these computes. One that ends in anything else is a lemma.
+COMPUTES = re.compile(r"ℕ|(List|Bool|Option|Result|Type|Codec|Format|Family|Kind|Prefix)\b")
+WORD = r"[A-Za-z_](?:[A-Za-z0-9_']|-(?=[A-Za-z]))*"
+TOKEN = re.compile(rf"(?<=[)\]}}])\.[\w.]+|(?P<path>{WORD}(?:\.(?:{WORD}|\d+))*)|\d\w*|\"[^\"]*\"|==|\S")
+USE = re.compile(r"\buse\s+([\w.]+?)(?:\.\{([^}]*)\}|\s+as\s+(\w+))\s*(?:;|$)", re.M)
+
+
+def tokens_of(text):
+    """The tokens, each with whether it is a path: names with points between."""
+    return [(m.group(), bool(m.group("path"))) for m in TOKEN.finditer(text)]
+
+
+def names_in(text, bound):
+    """The paths in the text, but for the names that are bound, by its own binders too, and the labels of records."""
+    found, bound, tokens, at = [], bound | BUILT_IN, tokens_of(text) + [("", False)], 0
+    while at < len(tokens):
+        token, is_path = tokens[at]
+        end = at + 1
+        while end < len(tokens) and tokens[end][1]:
+            end += 1
+        if token in ("λ", "let") or token in ("(", "{") and end < len(tokens) and tokens[end][0] == ":":
+            bound |= {name for name, _ in tokens[at + 1:end]}
+            at = end
+            continue
+        if is_path and tokens[at + 1][0] != "=":
+            found.append(token)
+        at += 1
+    return [path for path in found if path.split(".")[0] not in bound]
+
+
+def at_depth_zero(text, sign):
+    """The places of a sign that stand outside all brackets, and in no `==`."""
+    depth = 0
+    for place, c in enumerate(text):
+        depth += (c in "({[") - (c in ")}]")
+        if depth == 0 and c == sign and "=" not in (text[place - 1:place], text[place + 1:place + 2]):
+            yield place
+
+
+def closing(text, at):
+    """The place of the brace that closes the one at that place."""
+    return at + next(at_depth_zero(text[at:], "}"))
+
+
+def imports(text):
+    """What names stand for: a module and a name in it, or a module alone and None."""
+    names = {}
+    for path, listed, alias in USE.findall(text):
+        names |= {alias: (path, None)} if alias else {}
+        for name, other in re.findall(r"([^\s,]+)(?:\s+as\s+([^\s,]+))?", listed):
+            names[other or name] = (path, name)
+    return names
+
+
+class Item:
+    """A definition, a lemma, or the head of a `module _`. `heads` are those of the modules that it stands in."""
+
+    def __init__(self, kind, name, line, comment, heads):
+        self.kind, self.name, self.lines, self.comment, self.heads = kind, name, [line], comment, heads
+        self.indent, self.reached = len(line) - len(line.lstrip()), None
+
+    def close(self):
+        """Takes the item apart: its head, its equations, and its fields or constructors. Tells what it is."""
+        text = "\n".join(self.lines)
+        self.head, *self.equations = re.split(rf"^\s*{re.escape(self.name)}(?=\s)", text, flags=re.M)
+        self.parts = re.findall(rf"^\s+(?:pub )?({WORD}) :", text, re.M) if self.kind in ("record", "data") else []
+        self.bound = {name for group in re.findall(r"[({]([^(){}:]*?) :", self.head) for name in group.split()}
+        answer = self.head[max(at_depth_zero(self.head, "→"), default=self.head.find(":")) + 1:].strip()
+        computes = COMPUTES.match(answer) and not re.search("[≡≢≤<↔]", answer)
+        self.is_lemma = self.kind == "" and not computes
+        self.is_definition = self.kind != "module" and not self.is_lemma
+
+    def names(self, is_constructor):
+        """The names that its head, its fields and its equations hold."""
+        outer = {name for head in self.heads for name in head.bound} | {self.name}
+        found = names_in(self.head, outer if self.equations else outer | self.bound | set(self.parts))
+        for equation in self.equations:
+            place = next(at_depth_zero(equation, "="))
+            pattern = [token for token, is_path in tokens_of(equation[:place]) if is_path]
+            found += filter(is_constructor, pattern)
+            found += names_in(equation[place + 1:], outer | {name for name in pattern if not is_constructor(name)})
+        return found
+
+
+class Module:
+    """A module of specs/ or proofs/: its items, and what names stand for in it."""
+    START = re.compile(rf"(?:(abbrev|unfoldable) )?(?:pub )?({WORD}) :|(?:pub )?(record|data|module) ({WORD})")
+
+    def __init__(self, path, full_name):
+        text = path.read_text(encoding="utf-8")
+        self.name, self.items = full_name.removeprefix("Rattle."), {}
+        heads, item, comment = [], None, []
+        for number, line in enumerate(text.splitlines(), 1):
+            words, indent = line.strip(), len(line) - len(line.lstrip())
+            if words.startswith("--"):
+                comment.append(words.strip("- "))
+                continue
+            if not words or re.match(r"(pub )?(use|mod) ", words):
+                comment = []
+                continue
+            heads = [head for head in heads if head.indent < indent]
+            start = self.START.match(words) if indent == (heads[-1].indent + 2 if heads else 0) else None
+            if start:
+                kind = start.group(1) or start.group(3) or ""
+                item = Item(kind, start.group(2) or start.group(4), line, " ".join(comment), heads)
+                heads = heads + [item] if kind == "module" else heads
+                self.items[f"module {number}" if kind == "module" else item.name] = item
+            elif item:
+                item.lines.append(line)
+            comment = []
+        for item in self.items.values():
+            item.close()
+        self.things = {part: item for item in self.items.values() if item.kind == "data" for part in item.parts} | self.items
+        self.names = imports(text) | {thing: (full_name, thing) for thing in self.things}
+
+    def lines(self, holds):
+        """How many lines the items have of which something holds."""
+        return sum(len(item.lines) for item in self.items.values() if holds(item))
+
+
+class Specs:
+    """All modules of specs/ and proofs/, and the way from a name to what it stands for."""
+
+    def __init__(self):
+        self.modules, self.faults = {}, []
+        folders = [ROOT / crate / folder for crate in CRATES for folder in ("specs", "proofs")]
+        for path in (path for folder in folders for path in sorted(folder.glob("*.antt"))):
+            name = f"Rattle.{path.parent.parent.name}.{path.parent.name}.{path.stem}"
+            self.modules[name] = Module(path, name)
+
+    def find(self, path, names):
+        """The module and the item that a path stands for; None for the kit's and for code; False for nothing."""
+        head, *rest = path.split(".")
+        target, name = names.get(head, ("", ""))
+        if target in self.modules:
+            item = self.modules[target].things.get(name or "".join(rest[:1]))
+            return (self.modules[target], item) if item else False
+        ours = re.match(rf"Rattle\.({'|'.join(CRATES)})\.(specs\.(?!declared|contracts)|proofs\.\w+$)", target)
+        return None if target and not ours else False
+
+    def is_constructor(self, path, module):
+        """Whether a name in a pattern is no variable."""
+        found = self.find(path, module.names)
+        is_kits = found is None and (path[0].isupper() or "." in path or path in "zero suc true false inl inr".split())
+        return path.split(".")[-1] in found[1].parts if found else is_kits
+
+    def reach(self, path, names, where, by):
+        """Marks what a path of a root or of a definition stands for, and what that holds in turn."""
+        found = self.find(path, names)
+        if found is False:
+            self.faults.append(f"{where}: {path} resolves to nothing.")
+        if not found or not found[1].is_definition:
+            return
+        module, item = found
+        for one in [item, *item.heads]:
+            if not one.reached:
+                one.reached = by
+                for name in one.names(lambda name: self.is_constructor(name, module)):
+                    self.reach(name, module.names, f"{module.name}: {one.name}", by)
+
+
+class Source:
+    """A file of src/, with its comments, strings and characters blanked out, and its roots."""
+    UNREAD = re.compile(r"//[^\n]*|\"(?:\\.|[^\"\\])*\"|(?<![\w'])b?'(?:\\[^']*|[^'\\\n])'", re.S)
+    BLOCK = re.compile(r"^[ ]*(pub |pub\(\w+\) )?(trait|impl|struct)\b([^{;]*)\{", re.M)
+    FN = re.compile(r"(pub |pub\(\w+\) )?(?:const )?\bfn (\w+)((?:\[[^]]*\]|[^;{\[])*)")
+    CLAUSE = re.compile(r"\b(?:requires|ensures)\s*\w*\s*(\{)")
+    GHOST = re.compile(r"(?:\bghost (?!use\b)(\w+)|\})\s*([:=])\s*(\{)")
+
+    def __init__(self, path, private_traits):
+        self.name, self.private_traits = path.relative_to(ROOT).as_posix(), private_traits
+        self.text = self.UNREAD.sub(lambda m: re.sub(r"[^\n]", " ", m.group()), path.read_text(encoding="utf-8"))
+        self.blocks = [(m.start(), closing(self.text, m.end() - 1), m) for m in self.BLOCK.finditer(self.text)]
+        self.uses = [(m.start(), imports(m.group())) for m in re.finditer(r"\bghost use [^;]*;", self.text)]
+        code = " ".join(re.findall(r"^\s*(?:pub )?use ([^;]*);", self.text, re.M))
+        self.code = RUST | set(re.findall(r"\w+", code)) | set(re.findall(r"\b(?:struct|enum|trait|type|const|fn)\s+(\w+)", self.text))
+
+    def block(self, place):
+        """The trait, impl or struct that a place stands in, or None."""
+        return next((m for start, end, m in self.blocks if start <= place < end), None)
+
+    def is_promised(self, block):
+        """Whether the members and methods of a trait or of its impl, or the invariants of a struct, are promised."""
+        of = re.search(r"(\w+)(<[^{]*?>)? for ", block.group(3))
+        trait = re.search(r"\w+", block.group(3)).group() if block.group(2) == "trait" else of and of.group(1)
+        return trait not in self.private_traits if trait else block.group(2) == "struct" and block.group(1) == "pub "
+
+    def own_names(self, block):
+        """The names that the members of a trait and the fields of a struct have inside of it."""
+        label = {"trait": r"\bghost (\w+): ", "struct": r"(\w+): "}.get(block and block.group(2))
+        return set(re.findall(label, self.text[block.end():closing(self.text, block.end() - 1)])) if label else set()
+
+    def clauses(self):
+        """Of each clause of a function its place, the head of the function, and whether it is promised."""
+        for m in self.CLAUSE.finditer(self.text):
+            fn = [one for one in self.FN.finditer(self.text, 0, m.start())][-1]
+            block = self.block(fn.start())
+            yield m.start(1), fn.group(3), fn.group(1) == "pub " or fn.group(2) in CITED or bool(block and self.is_promised(block))
+
+    def ghosts(self, faults):
+        """Of each type and body of a ghost member, and of each invariant, the same. A body may follow a type."""
+        name = None
+        for m in self.GHOST.finditer(self.text):
+            block, name = self.block(m.start()), m.group(1) or name
+            if name not in MEANING | LAWS and block.group(2) != "struct":
+                faults.append(f"{self.name}: the ghost member {name} is in no list of tests/believed.py.")
+            if m.group(2) == ":" or name in MEANING:
+                yield m.start(3), "", self.is_promised(block)
+
+    def roots(self, faults):
+        """Of each root its paths one by one, what names stand for there, where it stands, and whether it is promised."""
+        for place, head, promised in [*self.clauses(), *self.ghosts(faults)]:
+            block, names = self.block(place), {}
+            for use, listed in self.uses:
+                names |= listed if self.block(use) in (None, block) else {}
+            code = self.code | set(re.findall(r"\w+", head + (block.group(3) if block else "")))
+            bound = self.own_names(block) | set(re.findall(r"(\w+)\s*:", head)) | {"self", "result"}
+            for path in names_in(self.text[place + 1:closing(self.text, place)], bound):
+                if path.split(".")[0] in names or path.split(".")[0] not in code:
+                    yield path, names, f"{self.name}:{self.text.count(chr(10), 0, place) + 1}", promised
+
+
+def named_beside():
+    """The definitions that the crates beside the port import: their module and their name."""
+    paths = (path for end in ("rt", "antt") for path in sorted(ROOT.glob(f"*/s*/**/*.{end}")))
+    texts = [path.read_text(encoding="utf-8") for path in paths if path.relative_to(ROOT).parts[0] not in CRATES]
+    return {found for text in texts for found in imports(text).values()}
+
+
+def odd_things(specs, counted):
+    """Sentences on what stands in the wrong place: a definition that no promise reaches, one that a promise reaches among
+    lemmas or steps, and a lemma among definitions."""
+    beside = named_beside()
+    for full_name, module in specs.modules.items():
+        if ".specs." not in full_name or full_name in OF_TESTS:
+            continue
+        apart = full_name.endswith((LEMMAS, STEPS))
+        for name, item in module.items.items():
+            if item.is_lemma and not full_name.endswith(LEMMAS):
+                yield f"{module.name}: {name} is a lemma among definitions."
+            if item.is_definition and apart and item.reached == "promise":
+                yield f"{module.name}: {name} is reached by a promise, and stands among what need not be believed."
+            if item.is_definition and not apart and item.reached not in counted and (full_name, name) not in beside:
+                yield f"{module.name}: {name} is reached by no promise."
+
+
+def print_all(specs, counted, sizes):
+    """What is reached, by crate and module, and how many lines it has."""
+    for module in specs.modules.values():
+        for item in (item for item in module.items.values() if item.reached in counted):
+            print(f"{module.name}: {item.kind == 'module' and 'module ' or ''}{item.name}, {len(item.lines)}, {item.comment}")
+    print(*(f"{name}: {lines} lines" for name, lines in sizes.items() if lines), sep="\n")
+    of_crates = [sum(lines for name, lines in sizes.items() if name.startswith(crate + ".")) for crate in CRATES]
+    print(*(f"{crate}: {lines} lines" for crate, lines in zip(CRATES, of_crates)), f"In all: {sum(of_crates)} lines.", sep="\n")
+
+
+def main():
+    flags, specs = set(sys.argv[1:]), Specs()
+    paths = [path for crate in CRATES for path in sorted((ROOT / crate / "src").rglob("*.rt")) if "/tests" not in path.as_posix()]
+    private = {name for path in paths for name in re.findall(r"^\s*(?:pub\(\w+\) )?trait (\w+)", path.read_text(), re.M)}
+    roots = [root for path in paths for root in Source(path, private).roots(specs.faults)]
+    for path, names, where, promised in sorted(roots, key=lambda root: not root[3]):
+        specs.reach(path, names, where, "promise" if promised else "private")
+    counted = {"promise", "private"} if "--private" in flags else {"promise"}
+    sizes = {module.name: module.lines(lambda item: item.reached in counted) for module in specs.modules.values()}
+    odd = list(odd_things(specs, counted))
+    if "--lines" in flags:
+        print(*(f"{lines:5} {name}" for name, lines in sorted(sizes.items(), key=lambda pair: -pair[1]) if lines), sep="\n")
+    else:
+        print_all(specs, counted, sizes)
+        print(*odd, sep="\n", end="\n" * bool(odd))
+    print(*specs.faults, sep="\n", end="\n" * bool(specs.faults), file=sys.stderr)
+    return int(bool(specs.faults or odd))
+
+
+if __name__ == "__main__":
+    sys.exit(main())
