@@ -65,10 +65,7 @@ fn a_path_is_found(rt: HostRuntime) -> Result<(), Fail> {
 
 #[test]
 fn a_value_reads_back(rt: HostRuntime) -> Result<(), Fail> {
-    let vfs = Vfs {
-        inode: 0x01020304,
-        device: 7,
-    };
+    let vfs = Vfs::parse(&[4, 3, 2, 1, 7, 0, 0, 0])?;
     assert_eq!(rt; copy_by_bytes(rt.alloc(), &vfs, ())?, vfs);
     Ok(())
 }
