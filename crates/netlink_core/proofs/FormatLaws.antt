@@ -3,7 +3,7 @@ use Rattle.std.proofs.Common.{◌≡◌, inl, inr, ℕ, ◌<◌, ◌≤◌, Bool
 use Rattle.std.proofs.lemmas.Bool.{cases_lt}
 use Rattle.netlink_core.specs.Bytes.{IsBytes}
 use Rattle.netlink_core.specs.Table.{Row, values_of, bytes_of, Fit, AreDefined}
-use Rattle.netlink_core.specs.SoundLaws.{is_table, IsSound}
+use Rattle.netlink_core.specs.Sound.{is_table, IsSound}
 use Rattle.netlink_core.specs.Format.{Format, read, read_row, read_tagged, bytes, AreIdle, IsTyped, IsNormal, plain}
 use Rattle.netlink_core.specs.Codec.{KeepsLaws, record_codec}
 use Rattle.netlink_core.specs.FrontLaws.{value_or_reason}

@@ -4,7 +4,7 @@ use Rattle.std.proofs.lemmas.List.{length-append}
 use Rattle.netlink_core.specs.declared.fault.DecodeError.{DecodeError}
 use Rattle.netlink_core.specs.Table.{values_of}
 use Rattle.netlink_core.specs.Format.{Format, read, bytes, IsTyped, IsNormal, IsFixed}
-use Rattle.netlink_core.specs.SoundLaws.{IsSound}
+use Rattle.netlink_core.specs.Sound.{IsSound}
 use Rattle.netlink_core.specs.Prefix.{prefix_of}
 use Rattle.netlink_core.specs.ShownLaws.{PrefixLaws, StandsInFront}
 use Rattle.netlink_core.proofs.TableLaws.{table_from_test, values-bytes_of}

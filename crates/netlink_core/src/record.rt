@@ -4,6 +4,7 @@ ghost use Rattle.std.specs.Prelude.{◌≡◌, ◌≢◌, ◌≤◌, IfErr, ℕ,
 ghost use Rattle.netlink_core.specs.Format.{Format, read, read_row, Reads, bytes, IsFixed, IsTyped};
 ghost use Rattle.netlink_core.specs.declared.fault.DecodeError.TheVariants.{Memory};
 ghost use Rattle.netlink_core.specs.Codec.{record_codec, KeepsLaws};
+ghost use Rattle.netlink_core.specs.Sound.{IsSound};
 
 use crate::{
     Coded, DecodeError, Emitable, Exact, Parseable, ParseableParametrized, Readable, RecordName,
@@ -46,8 +47,8 @@ pub trait Record: Exact + Sized {
     fn row_typed(&self)
         ensures { IsTyped format self.now };
 
-    // A value has as many bytes as its tag tells.
-    ghost long: { (value : Self) → length (bytes format value) ≡ format.size (format.tag_of value) };
+    // Its tables and its rows stand as the format's sizes say.
+    ghost sound: { IsSound format };
 
     ghost laws: { KeepsLaws (record_codec format) };
 }

@@ -1,6 +1,6 @@
 pub mod UnixContents
 pub mod Lengths
-pub mod ReplyBytes
+pub mod SaidAttributes
 pub mod Envelopes
 pub mod Finding
 pub mod Counting

@@ -1,4 +1,3 @@
-pub mod FramedLaws
 pub mod UnixReply
 pub mod UnixReplyLaws
 pub mod SeenUnixReply

@@ -1,6 +1,6 @@
 -- The header of a reply about an IPv4 or IPv6 socket: 72 bytes. The byte at 2 tells the timer, and with it
 -- whether the byte at 3 and the word at 52 are read.
-use Rattle.std.specs.Prelude.{◌≡◌, ℕ, ◌+◌, ◌*◌, ◌/◌, ◌%◌, ◌^◌, ◌<◌, ◌==◌, if◌then◌else◌, List, [], ◌∷◌, ◌++◌, drop, replicate, slice_index, Option, Some, None, Result, Ok, Err}
+use Rattle.std.specs.Prelude.{◌≡◌, ℕ, Bool, true, false, ◌+◌, ◌*◌, ◌/◌, ◌%◌, ◌^◌, ◌<◌, ◌==◌, if◌then◌else◌, List, [], ◌∷◌, ◌++◌, drop, replicate, slice_index, Option, Some, None, Result, Ok, Err}
 use Rattle.std.specs.Duration.{as_nanos}
 use Rattle.std.specs.declared.time.Duration.{Duration}
 use Rattle.netlink_core.specs.Table.{Row, byte, number, unread, numbers, little_endian}
@@ -41,13 +41,17 @@ pub data Class : Type 0 where
 abbrev pub class_of_byte : ℕ → Class
 class_of_byte timer = if timer == 1 then retransmits else if timer == 2 then keeps_alive else if timer == 3 then waits else if timer == 4 then probes else none
 
+-- of each class the byte that is written, whether the byte at 3 is read under it, and whether the word at 52 is
+abbrev pub told_by : Class → ℕ × Bool × Bool
+told_by retransmits = (1, true, true)
+told_by keeps_alive = (2, false, true)
+told_by waits = (3, false, false)
+told_by probes = (4, false, true)
+told_by none = (0, false, false)
+
 -- what is written for a class
 abbrev pub byte_of_class : Class → ℕ
-byte_of_class retransmits = 1
-byte_of_class keeps_alive = 2
-byte_of_class waits = 3
-byte_of_class probes = 4
-byte_of_class none = 0
+byte_of_class class = (told_by class).0
 
 -- the class of a timer
 abbrev pub class_of : Option Timer → Class
@@ -57,53 +61,32 @@ class_of (Some TimeWait) = waits
 class_of (Some (Probe expires)) = probes
 class_of None = none
 
--- the byte at 3 is read under 1 alone
+-- the byte at 3, read or not
 abbrev pub retransmits_row : Class → Row
-retransmits_row retransmits = byte 3
-retransmits_row keeps_alive = unread 3 (0 ∷ [])
-retransmits_row waits = unread 3 (0 ∷ [])
-retransmits_row probes = unread 3 (0 ∷ [])
-retransmits_row none = unread 3 (0 ∷ [])
+retransmits_row class = if (told_by class).1 then byte 3 else unread 3 (0 ∷ [])
 
--- the word at 52 is read under 1, 2 and 4
+-- the word at 52, read or not
 abbrev pub expires_row : Class → Row
-expires_row retransmits = number 52 4 little_endian
-expires_row keeps_alive = number 52 4 little_endian
-expires_row waits = unread 52 (replicate 4 0)
-expires_row probes = number 52 4 little_endian
-expires_row none = unread 52 (replicate 4 0)
+expires_row class = if (told_by class).2 then number 52 4 little_endian else unread 52 (replicate 4 0)
 
 -- what a timer keeps for the byte at 3
 abbrev pub retransmits_values : Option Timer → List ℕ
 retransmits_values (Some (Retransmit expires count)) = count ∷ []
-retransmits_values (Some (KeepAlive expires)) = []
-retransmits_values (Some TimeWait) = []
-retransmits_values (Some (Probe expires)) = []
-retransmits_values None = []
+retransmits_values _ = []
 
 -- what a timer keeps for the word at 52
 abbrev pub expires_values : Option Timer → List ℕ
 expires_values (Some (Retransmit expires count)) = milliseconds expires ∷ []
 expires_values (Some (KeepAlive expires)) = milliseconds expires ∷ []
-expires_values (Some TimeWait) = []
 expires_values (Some (Probe expires)) = milliseconds expires ∷ []
-expires_values None = []
+expires_values _ = []
 
--- how many values the byte at 3 has
+-- how many values the byte at 3 has, and how many the word at 52
 abbrev pub retransmits_count : Class → ℕ
-retransmits_count retransmits = 1
-retransmits_count keeps_alive = 0
-retransmits_count waits = 0
-retransmits_count probes = 0
-retransmits_count none = 0
+retransmits_count class = if (told_by class).1 then 1 else 0
 
--- how many values the word at 52 has
 abbrev pub expires_count : Class → ℕ
-expires_count retransmits = 1
-expires_count keeps_alive = 1
-expires_count waits = 0
-expires_count probes = 1
-expires_count none = 0
+expires_count class = if (told_by class).2 then 1 else 0
 
 -- the timer of a class, with the byte at 3 and the word at 52
 abbrev pub timer_of : Class → ℕ → ℕ → Option Timer
@@ -117,9 +100,8 @@ timer_of none count expires = None
 abbrev pub IsWholeTimer : Option Timer → Type 0
 IsWholeTimer (Some (Retransmit expires count)) = IsWholeMilliseconds expires
 IsWholeTimer (Some (KeepAlive expires)) = IsWholeMilliseconds expires
-IsWholeTimer (Some TimeWait) = Unit {0}
 IsWholeTimer (Some (Probe expires)) = IsWholeMilliseconds expires
-IsWholeTimer None = Unit {0}
+IsWholeTimer _ = Unit {0}
 
 -- ---- the record
 

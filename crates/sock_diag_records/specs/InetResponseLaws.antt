@@ -6,7 +6,7 @@ use Rattle.std.specs.List.{flat_map}
 use Rattle.byteorder.specs.Endian.{little_bytes}
 use Rattle.std.specs.declared.time.Duration.{Duration}
 use Rattle.netlink_core.specs.Table.{Row, byte, values_of, bytes_of, number, unread, numbers, little_endian, Fit}
-use Rattle.netlink_core.specs.SoundLaws.{is_table, IsSound}
+use Rattle.netlink_core.specs.Sound.{is_table, IsSound}
 use Rattle.netlink_core.specs.Bytes.{IsBytes}
 use Rattle.netlink_core.specs.Format.{IsFixed, IsTyped, bytes}
 use Rattle.netlink_core.proofs.RowReads.{fit-append}
@@ -19,7 +19,7 @@ use Rattle.sock_diag_records.specs.declared.inet.response.InetResponseHeader.{In
 use Rattle.sock_diag_records.specs.declared.inet.socket_id.SocketId.{SocketId}
 use Rattle.netlink_core.specs.declared.fault.DecodeError.{DecodeError}
 use Rattle.netlink_core.specs.declared.fault.DecodeError.TheVariants.{Memory}
-use Rattle.sock_diag_records.specs.SocketId.{Kind, ipv4, ipv6, Kinds, kinds_of, kinds_of_family, socket_id_rows, socket_id_values, socket_id_of, socket_id, kind_of}
+use Rattle.sock_diag_records.specs.SocketId.{Kind, ipv4, ipv6, Kinds, kinds_of, kinds_of_family, socket_id_rows, socket_id_values, socket_id_of, socket_id}
 use Rattle.sock_diag_records.specs.SocketId as identity
 use Rattle.sock_diag_records.specs.InetResponse.{duration, milliseconds, IsWholeMilliseconds, Class, retransmits, keeps_alive, waits, probes, none, class_of_byte, byte_of_class, class_of, retransmits_row, expires_row, retransmits_values, expires_values, retransmits_count, expires_count, timer_of, IsWholeTimer, Tag, header_rows, header_values, header_of, socket_id_count, tag_of, with_class, inet_response_header}
 use Rattle.sock_diag_records.specs.TablesInARowLaws.{is_table-append, values_of-append}

@@ -1,7 +1,7 @@
 -- What a run has read and written when it ends. `answer` is the function that gives each line its answer.
 use Rattle.std.specs.Prelude.{◌≡◌, ℕ, List, ◌++◌, take, Option, Result, Ok, Err, ⊤}
 use Rattle.std.specs.List.{flat_map}
-use Rattle.std.specs.Io.KnownBytes.{Appends, Consumes, Keeps}
+use Rattle.std.specs.Io.KnownBytes.{Appends, Consumes}
 use Rattle.sockdiag.specs.Lines.{Splits, fed, with_rest}
 use Rattle.sockdiag.specs.declared.stream.RunError.{RunError}
 use Rattle.sockdiag.specs.declared.stream.RunError.TheVariants.{Read, Write, Memory}

@@ -1,5 +1,6 @@
 //! The attributes of replies about UNIX sockets, as those of one family.
 
+ghost use Rattle.std.specs.Prelude.{refl};
 ghost use Rattle.sock_diag_attributes.specs.UnixAttributes.{unix};
 ghost use Rattle.sock_diag_attributes.specs.SeenUnix.{seen_nla};
 
@@ -15,4 +16,6 @@ impl FamilyNla for Nla {
     fn copy_nla(&self, alloc: Global) -> Result<Self, AllocError> {
         self.clone(alloc)
     }
+
+    ghost written_as = { λ _. refl };
 }

@@ -81,7 +81,7 @@ impl Record for InetRequest {
         self.socket_id.row_typed();
     }
 
-    ghost long = { inet_request_sound.long };
+    ghost sound = { inet_request_sound };
 
     ghost laws = { keeps_laws inet_request inet_request_sound };
 }

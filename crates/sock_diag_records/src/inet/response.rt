@@ -132,7 +132,7 @@ impl Record for InetResponseHeader {
         let _inode = self.inode;
     }
 
-    ghost long = { header_sound.long };
+    ghost sound = { header_sound };
 
     ghost laws = { keeps_laws inet_response_header header_sound };
 }

@@ -185,7 +185,7 @@ impl Record for SocketId {
         bytes_typed(&self.cookie);
     }
 
-    ghost long = { socket_id_sound.long };
+    ghost sound = { socket_id_sound };
 
     ghost laws = { keeps_laws socket_id socket_id_sound };
 }

@@ -82,7 +82,7 @@ impl Record for UnixRequest {
         bytes_typed(&self.cookie);
     }
 
-    ghost long = { unix_request_sound.long };
+    ghost sound = { unix_request_sound };
 
     ghost laws = { keeps_laws unix_request unix_request_sound };
 }

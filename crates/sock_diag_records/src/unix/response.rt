@@ -79,7 +79,7 @@ impl Record for UnixResponseHeader {
         bytes_typed(&self.cookie);
     }
 
-    ghost long = { unix_response_header_sound.long };
+    ghost sound = { unix_response_header_sound };
 
     ghost laws = { keeps_laws unix_response_header unix_response_header_sound };
 }

@@ -79,7 +79,7 @@ impl Record for LegacyMemInfo {
         let _send_queue = self.send_queue;
     }
 
-    ghost long = { legacy_mem_info_sound.long };
+    ghost sound = { legacy_mem_info_sound };
 
     ghost laws = { keeps_laws legacy_mem_info legacy_mem_info_sound };
 }

@@ -159,7 +159,7 @@ impl Record for MemInfo {
         }
     }
 
-    ghost long = { mem_info_sound.long };
+    ghost sound = { mem_info_sound };
 
     ghost laws = { keeps_laws mem_info mem_info_sound };
 }

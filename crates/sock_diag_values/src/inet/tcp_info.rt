@@ -274,7 +274,7 @@ impl Record for TcpInfo {
         words_typed(&self.reorderings());
     }
 
-    ghost long = { tcp_info_sound.long };
+    ghost sound = { tcp_info_sound };
 
     ghost laws = { keeps_laws tcp_info tcp_info_sound };
 }

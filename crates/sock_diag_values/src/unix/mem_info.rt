@@ -80,7 +80,7 @@ impl Record for MemInfo {
         let _alloc = self.alloc;
     }
 
-    ghost long = { unix_mem_info_sound.long };
+    ghost sound = { unix_mem_info_sound };
 
     ghost laws = { keeps_laws unix_mem_info unix_mem_info_sound };
 }

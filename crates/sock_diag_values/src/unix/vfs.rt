@@ -59,7 +59,7 @@ impl Record for Vfs {
         let _device = self.device;
     }
 
-    ghost long = { vfs_sound.long };
+    ghost sound = { vfs_sound };
 
     ghost laws = { keeps_laws vfs vfs_sound };
 }
