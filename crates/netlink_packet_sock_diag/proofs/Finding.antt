@@ -1,5 +1,5 @@
 -- The attributes that are found in bytes are those that the bytes are cut into.
-use Rattle.std.proofs.Common.{Result, Ok, Err, ◌≡◌, ◌≢◌, ℕ, zero, suc, ◌+◌, ◌-◌, ◌≤◌, List, [], ◌∷◌, ◌++◌, length, take, drop, inl, inr, refl, sym, ap, subst, ◌∙◌, append_assoc, arith}
+use Rattle.std.proofs.Common.{Result, Ok, Err, IsOk, ◌≡◌, ◌≢◌, ℕ, zero, suc, ◌+◌, ◌-◌, ◌≤◌, List, [], ◌∷◌, ◌++◌, length, take, drop, inl, inr, refl, sym, ap, subst, ◌∙◌, append_assoc, arith}
 use Rattle.std.specs.List.{AllZip}
 use Rattle.std.proofs.lemmas.List.{take_at, drop_at, drop_all, length-append}
 use Rattle.netlink_core.specs.declared.fault.DecodeError.{DecodeError}
@@ -94,12 +94,16 @@ module _ {A : Type 0} (reads : Attribute → Result A DecodeError) where
   pub nothing_has_no_fault : HasNoFault reads []
   nothing_has_no_fault = record { none = λ e f. means_or_fault_apart reads [] [] e ([], refl, tt) f }
 
-  -- no framing fault, and no fault of the attribute in front
+  -- no framing fault, and the attribute in front says something
   pub no_framing_fault : (bytes : List ℕ) (e : DecodeError) → HasNoFault reads bytes → bytes ≢ [] → IsFramingFault bytes e → ⊥
   no_framing_fault bytes e clean some f = clean.none e (fault_here reads bytes e some (inl f))
 
-  pub no_value_fault : (bytes rest : List ℕ) (a : Attribute) (e : DecodeError) → HasNoFault reads bytes → StartsWith bytes a rest → reads a ≡ Err e → ⊥
-  no_value_fault bytes rest a e clean s refused = clean.none e (fault_here reads bytes e (StartsWith-some bytes rest a s) (inr (a, head_of_start bytes rest a s, refused)))
+  pub front_says : (bytes rest : List ℕ) (a : Attribute) → HasNoFault reads bytes → StartsWith bytes a rest → IsOk (reads a)
+  front_says bytes rest a clean s = said (reads a) refl
+    where
+      said : (answer : Result A DecodeError) → reads a ≡ answer → IsOk answer
+      said (Ok v) h = refl
+      said (Err e) h = absurd (clean.none e (fault_here reads bytes e (StartsWith-some bytes rest a s) (inr (a, head_of_start bytes rest a s, h))))
 
 -- the value that was read is the one in the answer
 pub value_in_is : {A : Type 0} (answer : Result A DecodeError) (good : (e : DecodeError) → answer ≡ Err e → ⊥) → answer ≡ Ok (value_in answer good)
@@ -134,4 +138,4 @@ accepted_means R bytes accepted typed = record {
 }
 
 -- what a walk over bytes with no fault finds
-pub ruleset finding = (value_first, found_none, rest_has_no_fault, nothing_has_no_fault, no_framing_fault, no_value_fault)
+pub ruleset finding = (value_first, found_none, rest_has_no_fault, nothing_has_no_fault, no_framing_fault, front_says)

@@ -5,7 +5,6 @@ pub mod Envelopes
 pub mod Finding
 pub mod Counting
 pub mod Owning
-pub mod Keeping
 pub mod FirstViews
 mod Emitting
 pub mod Dumping

@@ -1,10 +1,14 @@
 -- The laws of replies about IPv4 and IPv6 sockets.
-use Rattle.std.proofs.Common.{◌≡◌, ◌∙◌, ℕ, ◌≤◌, List, ◌++◌, length, slice_index, Ok, ap, arith}
+use Rattle.std.proofs.Common.{◌≡◌, ◌≢◌, ◌∙◌, ℕ, ◌≤◌, List, ◌++◌, length, slice_index, Ok, ap, subst, arith}
 use Rattle.std.proofs.lemmas.List.{get_or_append_left}
 use Rattle.netlink_core.specs.Format.{read}
+use Rattle.netlink_core.specs.Reply.{RefusesReply}
 use Rattle.netlink_core.specs.ShownLaws.{ReplyLaws}
+use Rattle.netlink_core.specs.declared.fault.DecodeError.{DecodeError}
+use Rattle.netlink_core.specs.declared.fault.DecodeError.TheVariants.{Memory}
 use Rattle.netlink_core.proofs.FormatLaws.{accepted}
 use Rattle.netlink_core.proofs.Prefixes.{prefix_laws, stands_in_front}
+use Rattle.netlink_core.proofs.Replies.{replies_keep_laws}
 use Rattle.sock_diag_records.specs.declared.inet.response.InetResponseHeader.{InetResponseHeader}
 use Rattle.sock_diag_records.specs.SocketId.{kinds_of_family}
 use Rattle.sock_diag_records.specs.InetResponse.{inet_response_header, Tag, with_class, class_of_byte}
@@ -33,3 +37,7 @@ inet_reply_laws = record {
   in_front = stands_in_front inet_response_header tt header_sound header_size goes_on;
   family = inet_laws;
 }
+
+-- no fault of such a reply is want of memory
+pub inet_named : (b : List ℕ) (e : DecodeError) → RefusesReply inet_reply b e → e ≢ Memory
+inet_named b e refused memory = (replies_keep_laws inet_reply inet_reply_laws).named_fault b tt (subst (RefusesReply inet_reply b) memory refused)

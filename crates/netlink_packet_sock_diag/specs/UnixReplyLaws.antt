@@ -1,7 +1,11 @@
 -- The laws of replies about UNIX sockets.
-use Rattle.std.proofs.Common.{refl}
+use Rattle.std.proofs.Common.{◌≢◌, ℕ, List, refl, subst}
+use Rattle.netlink_core.specs.Reply.{RefusesReply}
 use Rattle.netlink_core.specs.ShownLaws.{ReplyLaws}
+use Rattle.netlink_core.specs.declared.fault.DecodeError.{DecodeError}
+use Rattle.netlink_core.specs.declared.fault.DecodeError.TheVariants.{Memory}
 use Rattle.netlink_core.proofs.Prefixes.{prefix_laws, stands_in_front}
+use Rattle.netlink_core.proofs.Replies.{replies_keep_laws}
 use Rattle.sock_diag_records.specs.UnixResponseHeader.{unix_response_header}
 use Rattle.sock_diag_records.specs.UnixResponseHeaderLaws.{unix_response_header_sound}
 use Rattle.sock_diag_attributes.specs.UnixAttributeLaws.{unix_laws}
@@ -14,3 +18,7 @@ unix_reply_laws = record {
   in_front = stands_in_front unix_response_header tt unix_response_header_sound (refl, λ tag. refl) (λ tag left rest long e. e);
   family = unix_laws;
 }
+
+-- no fault of such a reply is want of memory
+pub unix_named : (b : List ℕ) (e : DecodeError) → RefusesReply unix_reply b e → e ≢ Memory
+unix_named b e refused memory = (replies_keep_laws unix_reply unix_reply_laws).named_fault b tt (subst (RefusesReply unix_reply b) memory refused)

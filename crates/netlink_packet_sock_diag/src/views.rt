@@ -36,6 +36,11 @@ pub(crate) trait FamilyView<'a>: Nla + PartialEq + Sized {
         ensures value { IfOk result (λ view. says family (attribute_of nla.now) ≡ Ok (viewed view)) }
         ensures fault { IfErr result (λ e. says family (attribute_of nla.now) ≡ Err e) };
 
+    /// Reads one attribute that is accepted.
+    fn read_accepted(nla: &NlaBuffer<'a>) -> Self
+        requires { IsOk (says family (attribute_of nla.now)) }
+        ensures { says family (attribute_of nla.now) ≡ Ok (viewed result) };
+
     /// The attribute with memory of its own.
     fn own(&self, alloc: Global) -> Result<Self::Owned, AllocError>
         ensures equal { IfOk result (λ nla. seen nla ≡ viewed self.now) }
@@ -75,10 +80,7 @@ pub(crate) fn next_view<'a, V: FamilyView<'a>>(walk: &mut NlasIterator<'a>) -> O
     match walk.next() {
         None => None,
         Some(Err(_)) => unreachable!(),
-        Some(Ok(nla)) => match V::read_view(&nla) {
-            Ok(view) => Some(view),
-            Err(_) => unreachable!(),
-        },
+        Some(Ok(nla)) => Some(V::read_accepted(&nla)),
     }
 }
 
@@ -106,9 +108,7 @@ pub(crate) fn own_nlas<'a, V: FamilyView<'a> + Drop>(
         let Ok(nla) = item else {
             unreachable!();
         };
-        let Ok(view) = V::read_view(&nla) else {
-            unreachable!();
-        };
+        let view = V::read_accepted(&nla);
         nlas.push_reserved(view.own(alloc)?);
     }
     Ok(())

@@ -3,11 +3,13 @@ use Rattle.netlink_core.specs.Codec.{KeepsLaws}
 use Rattle.netlink_core.specs.ShownLaws.{PrefixLaws}
 use Rattle.netlink_core.proofs.RowLaws.{exact_laws}
 use Rattle.sock_diag_attributes.specs.Name.{name_value}
-use Rattle.std.proofs.Common.{Ok, Err, ◌≡◌, ◌≢◌, ◌∙◌, ℕ, zero, suc, ◌+◌, ◌<◌, ◌≤◌, List, [], ◌∷◌, ◌++◌, length, take, drop, get_or, refl, ap, sym, subst, arith}
+use Rattle.std.proofs.Common.{Result, Ok, Err, IsOk, ◌≡◌, ◌≢◌, ◌∙◌, ℕ, zero, suc, ◌+◌, ◌<◌, ◌≤◌, List, [], ◌∷◌, ◌++◌, length, take, drop, get_or, refl, ap, sym, subst, arith}
 use Rattle.std.proofs.lemmas.List.{length-drop, length-append, length-take-le, take-append-le}
 use Rattle.std.proofs.Math.ListN.{get_or-append}
+use Rattle.std.proofs.Math.Seq.{take-append_seam}
 use Rattle.std.proofs.lemmas.List.Elements.{All-head, All-tail, All-nil, All-cons, All-append}
 use Rattle.netlink_core.specs.Bytes.{IsBytes}
+use Rattle.netlink_core.specs.declared.fault.DecodeError.{DecodeError}
 use Rattle.netlink_core.specs.declared.fault.DecodeError.TheVariants.{Memory, NameInnerZero, NameWithoutEnd}
 use Rattle.netlink_core.specs.ByteLaws.{IsBytes-left, IsBytes-append, IsBytes-cons, IsBytes-nil}
 use Rattle.netlink_core.specs.FrontLaws.{value_or_reason}
@@ -133,6 +135,18 @@ pub reads_no_end : (bytes path : List ℕ) (last : ℕ) → bytes ≡ path ++ la
 reads_no_end bytes path last parts first some none =
     let all : HasNoZero bytes = subst HasNoZero (sym parts) (All-append (λ b. b ≢ 0) path (last ∷ []) none (All-cons (λ b. b ≢ 0) last [] some (All-nil (λ b. b ≢ 0)))) in
     not_abstract bytes first ∙ ap (path_before (before_zero bytes)) (no_zero bytes all)
+
+-- an accepted name that is not empty, of which the first byte is no zero: nothing else needs a look
+pub known_path : (bytes path : List ℕ) (last : ℕ) → bytes ≡ path ++ last ∷ [] → get_or bytes 0 0 ≢ 0 → IsOk (read_name bytes) → read_name bytes ≡ Ok (pathname path)
+known_path bytes path last parts first ok = answer_is (read_name bytes) refl ok
+  where
+    answer_is : (answer : Result SocketName DecodeError) → read_name bytes ≡ answer → IsOk answer → answer ≡ Ok (pathname path)
+    answer_is (Err e) h ok = absurd cc
+    answer_is (Ok (abstract address)) h ok = absurd (first (ap (λ (b : List ℕ). get_or b 0 0) (name_exact bytes (abstract address) h).0))
+    answer_is (Ok (pathname other)) h ok =
+        let same : other ++ 0 ∷ [] ≡ path ++ last ∷ [] = sym (name_exact bytes (pathname other) h).0 ∙ parts in
+        let long : length other ≡ length path = omega (arith, ap length same, length-append other (0 ∷ []), length-append path (last ∷ [])) in
+        ap (λ (p : List ℕ). Ok (pathname p)) (sym (take-append_seam other (0 ∷ [])) ∙ ap (take (length other)) same ∙ ap (λ (n : ℕ). take n (path ++ last ∷ [])) long ∙ take-append_seam path (last ∷ []))
 
 -- a name keeps the laws: its reader, its bytes, equal strings alone being idle, and its normal form
 pub name_keeps_laws : KeepsLaws name_codec

@@ -52,6 +52,7 @@ impl Readable for InetResponse {
 impl<'a> Parseable<&'a [u8]> for InetResponse {
     /// Reads the header, and then the attributes up to the end of the bytes. Fewer than 72 bytes are `BufferTooSmall`,
     /// then another family than 2 and 10 is `UnsupportedFamily`; after that the first fault of the attributes counts.
+    #[inline(always)]
     fn parse(alloc: Global, payload: &'a [u8]) -> Result<Self, DecodeError> {
         let view = InetResponseView::parse(payload)?;
         let mut nlas = SmallVec::new(alloc);
@@ -112,8 +113,17 @@ impl Coded for InetResponse {
 }
 
 impl Wire for InetResponse {
+    // The same as `parse`, which is inlined where it is called: a reply that is passed on takes a move of 2,000 bytes.
     fn read(alloc: Global, bytes: &[u8], _param: ()) -> Result<Self, DecodeError> {
-        InetResponse::parse(alloc, bytes)
+        let view = InetResponseView::parse(bytes)?;
+        let mut nlas = SmallVec::new(alloc);
+        if view.own_into(alloc, &mut nlas).is_err() {
+            return Err(without_memory(nlas));
+        }
+        Ok(InetResponse {
+            header: view.header(),
+            nlas,
+        })
     }
 
     ghost written_is = { λ _. refl };

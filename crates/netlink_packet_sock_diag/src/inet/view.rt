@@ -1,9 +1,10 @@
 //! The reply about one IPv4 or IPv6 socket, read in place.
 
-ghost use Rattle.std.specs.Prelude.{◌≡◌, ◌≤◌, length, map, [], IfOk, OnOk, IfErr, IsOk, IsSome, IfSome, Some, refl, ⊤, ◌↔◌};
+ghost use Rattle.std.specs.Prelude.{◌≡◌, ◌≤◌, length, map, [], IfOk, OnOk, IfErr, IsOk, IsSome, IfSome, Some, refl, ⊤, ◌↔◌, ◌≢◌};
 ghost use Rattle.std.specs.Cmp.{partial_equiv_from_equiv};
 ghost use Rattle.std.specs.Iterator.{UpTo, YieldsFirstBy, item_count};
 ghost use Rattle.std.specs.Iterator.SizeHint.{IsWithinCount};
+ghost use Rattle.netlink_core.specs.declared.fault.DecodeError.TheVariants.{Memory};
 ghost use Rattle.netlink_core.specs.Family.{says};
 ghost use Rattle.netlink_core.specs.Walk.{bytes_left};
 ghost use Rattle.netlink_core.specs.Reply.{MeansReply, RefusesReply, IsSpareReply, ReplyFits, attribute_part, reply_bytes};
@@ -44,6 +45,11 @@ impl<'a> FamilyView<'a> for NlaView<'a> {
     #[inline(always)]
     fn read_view(nla: &NlaBuffer<'a>) -> Result<Self, DecodeError> {
         NlaView::parse(nla)
+    }
+
+    #[inline(always)]
+    fn read_accepted(nla: &NlaBuffer<'a>) -> Self {
+        NlaView::new(nla)
     }
 
     fn own(&self, alloc: Global) -> Result<Nla, AllocError> {
@@ -119,10 +125,13 @@ impl<'a> InetResponseView<'a> {
 
     /// Checks the whole of the bytes, and takes no memory. Fewer than 72 bytes are `BufferTooSmall`; then a family
     /// but AF_INET and AF_INET6 is `UnsupportedFamily`; else the first fault of an attribute is told.
+    // It stands apart: its walk takes no time where a list is made.
+    #[inline(never)]
     #[tactic(auto, using(crate::specs::InetReplyLaws::header_enough))]
     pub fn parse(bytes: &'a [u8]) -> Result<InetResponseView<'a>, DecodeError>
         ensures value { IfOk result (λ view. MeansReply inet_reply bytes.entry.now (viewed_response view)) }
         ensures fault { IfErr result (RefusesReply inet_reply bytes.entry.now) }
+        ensures named { IfErr result (λ fault. fault ≢ Memory) }
     {
         let _header = InetResponseHeader::from_prefix(bytes)?;
         let count = check_nlas::<NlaView<'a>>(&bytes[LENGTH..])?;

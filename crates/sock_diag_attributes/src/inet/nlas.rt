@@ -161,6 +161,18 @@ impl<'a> NlaView<'a> {
         })
     }
 
+    /// Reads the value where [`NlaView::parse`] accepts it.
+    #[inline(always)]
+    pub fn new(nla: &NlaBuffer<'a>) -> NlaView<'a>
+        requires { IsOk (says inet (attribute_of nla.now)) }
+        ensures { says inet (attribute_of nla.now) ≡ Ok (viewed_nla result) }
+    {
+        let Ok(view) = NlaView::parse(nla) else {
+            unreachable!();
+        };
+        view
+    }
+
     /// The attribute with a text and bytes of its own. It fails only for want of memory.
     pub fn to_owned(&self, alloc: Global) -> Result<Nla, AllocError>
         ensures equal { IfOk result (λ nla. seen_nla nla ≡ viewed_nla self.now) }

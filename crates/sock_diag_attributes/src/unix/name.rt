@@ -1,7 +1,7 @@
 //! The name of a UNIX socket.
 
 ghost use Rattle.std.proofs.Common.{rules};
-ghost use Rattle.std.specs.Prelude.{◌≡◌, suc, ◌<◌, ◌≤◌, ◌++◌, length, take, drop, slice_index, IfOk, MatchOption, MatchResult, Ok, Err, true, refl};
+ghost use Rattle.std.specs.Prelude.{◌≡◌, suc, ◌<◌, ◌≤◌, ◌++◌, length, take, drop, slice_index, IfOk, IsOk, MatchOption, MatchResult, Ok, Err, true, refl};
 ghost use Rattle.sock_diag_attributes.specs.Name.{HasNoZero, read_name, name_bytes, name_codec};
 ghost use Rattle.sock_diag_attributes.specs.NameLaws.{name_keeps_laws};
 
@@ -84,6 +84,22 @@ impl<'a> NameView<'a> {
             None if *last == 0 => Ok(NameView::Pathname(path)),
             None => Err(DecodeError::NameWithoutEnd),
         }
+    }
+
+    /// The whole of the bytes as a name, where [`NameView::parse`] accepts them. They are not searched again.
+    #[inline(always)]
+    #[tactic(auto, using(crate::specs::NameLaws::known_path))]
+    pub fn new(bytes: &'a [u8]) -> NameView<'a>
+        requires { IsOk (read_name bytes.now) }
+        ensures { read_name bytes.entry.now ≡ Ok (viewed_name result) }
+    {
+        let Some((_, path)) = bytes.split_last() else {
+            unreachable!();
+        };
+        if bytes[0] == 0 {
+            return NameView::Abstract(&bytes[1..]);
+        }
+        NameView::Pathname(path)
     }
 
     // How many bytes stand beside the zero.

@@ -24,12 +24,13 @@ use std::default::MadeWith;
 /// One attribute of a reply about a UNIX socket.
 #[derive(Debug, Drop, PartialEq, Eq)]
 pub enum Nla {
+    // It stands first, so that what stands in unused places of a small vector is zeros alone.
+    /// The inode of the peer, `UNIX_DIAG_PEER`.
+    Peer(u32),
     /// The name that the socket is bound to, `UNIX_DIAG_NAME`.
     Name(UnixDiagName),
     /// The file that the socket is bound to, `UNIX_DIAG_VFS`.
     Vfs(Vfs),
-    /// The inode of the peer, `UNIX_DIAG_PEER`.
-    Peer(u32),
     /// The inodes of the sockets that wait to be accepted, `UNIX_DIAG_ICONS`.
     PendingConnections(Vec<u32>),
     /// The lengths of the queues, `UNIX_DIAG_RQLEN`. Of a listening socket, how many connections wait to be accepted,
@@ -131,6 +132,21 @@ impl<'a> NlaView<'a> {
                 value,
             },
         })
+    }
+
+    /// Reads the value where [`NlaView::parse`] accepts it. A name is not searched again.
+    #[inline(always)]
+    pub fn new(nla: &NlaBuffer<'a>) -> NlaView<'a>
+        requires { IsOk (says unix (attribute_of nla.now)) }
+        ensures { says unix (attribute_of nla.now) ≡ Ok (viewed_nla result) }
+    {
+        if nla.kind() == UNIX_DIAG_NAME {
+            return NlaView::Name(NameView::new(nla.value()));
+        }
+        let Ok(view) = NlaView::parse(nla) else {
+            unreachable!();
+        };
+        view
     }
 
     /// The attribute with a name, numbers and bytes of its own. It fails only for want of memory.

@@ -1,18 +1,29 @@
-use Rattle.std.proofs.Common.{ℕ, List, length, ap, ◌∙◌, rules, sym, arith}
+use Rattle.std.proofs.Common.{ℕ, List, length, ap, inl, ◌∙◌, rules, sym, arith}
 use Rattle.std.proofs.lemmas.List.{take_rest}
 use Rattle.std.proofs.lemmas.Result.{err_from_is_err_and}
 use Rattle.netlink_core.specs.Bytes.{IsBytes}
 use Rattle.netlink_packet_sock_diag.specs.UnixReply.{unix_reply}
+use Rattle.netlink_packet_sock_diag.specs.UnixReplyLaws.{unix_named}
 use Rattle.netlink_core.specs.Family.{says}
 use Rattle.sock_diag_attributes.specs.UnixAttributes.{unix}
 use Rattle.netlink_packet_sock_diag.specs.AttributesIn.{values_in}
 use Rattle.netlink_packet_sock_diag.proofs.Finding.{reply_accepted, behind_refused, accepted_means}
 use Rattle.netlink_packet_sock_diag.proofs.unix.view.UnixResponseView.parse.Goals as goal
 
+pub returns-in_err-_header-clause-named : goal.returns-in_err-_header-clause-named
+returns-in_err-_header-clause-named c =
+    let p = err_from_is_err_and c.from_residual.result c.from_residual.ensures.1 in
+    rw (p.1, p.2) (unix_named c.args.bytes.now _ (inl (sym c.in_err-_header.ensures)))
+
 pub returns-in_err-count-clause-fault : goal.returns-in_err-count-clause-fault
 returns-in_err-count-clause-fault c =
     let p = err_from_is_err_and c.from_residual-in_err-count.result c.from_residual-in_err-count.ensures.1 in
     rw (p.1, p.2) (behind_refused unix_reply _ _ (take_rest c.args.bytes.now 16) _ _ (sym c.in_ok-_header.ensures) c.in_err-count.ensures.fault)
+
+pub returns-in_err-count-clause-named : goal.returns-in_err-count-clause-named
+returns-in_err-count-clause-named c =
+    let p = err_from_is_err_and c.from_residual-in_err-count.result c.from_residual-in_err-count.ensures.1 in
+    rw (p.1, p.2) (unix_named _ _ (behind_refused unix_reply _ _ (take_rest c.args.bytes.now 16) _ _ (sym c.in_ok-_header.ensures) c.in_err-count.ensures.fault))
 
 pub invariant_of-result : goal.invariant_of-result
 invariant_of-result c = record {
