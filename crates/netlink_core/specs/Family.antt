@@ -12,6 +12,7 @@ pub record Kind : Type 1 where
   pub value : Prefix
   pub is_spare : Type 0
 
+-- a family: its kinds
 abbrev pub Family : Type 1
 Family = List Kind
 
@@ -49,7 +50,7 @@ IsTypedSaid [] a = IsTypedAttribute a
 IsTypedSaid (row ∷ rows) (inl x) = row.value.is_typed x
 IsTypedSaid (row ∷ rows) (inr v) = IsTypedSaid rows v
 
--- it is in normal form: so is a value of a kind, and what is not of a kind has another number
+-- it is in normal form: a value of a kind is, and what is said of no kind has the number of none
 abbrev pub IsNormalSaid : (F : Family) → Said F → Type 0
 IsNormalSaid [] a = ⊤
 IsNormalSaid (row ∷ rows) (inl x) = row.value.is_normal x
@@ -63,6 +64,7 @@ IsSpareSaid (row ∷ rows) (inr v) = IsSpareSaid rows v
 
 -- ---- by the number of a kind
 
+-- the one or the other
 abbrev pub either : Bool → Type 0 → Type 0 → Type 0
 either true A B = A
 either false A B = B
@@ -72,6 +74,7 @@ abbrev pub ValueAt : Family → ℕ → Type 0
 ValueAt [] k = Attribute
 ValueAt (row ∷ rows) k = either (row.number == k) row.value.Value (ValueAt rows k)
 
+-- a value of one of two, at its side
 abbrev pub put : {A B C : Type 0} → (t : Bool) → (B → C) → either t A B → A ⊎ C
 put true later x = inl x
 put false later x = inr (later x)
@@ -86,6 +89,7 @@ abbrev pub other : (F : Family) → Attribute → Said F
 other [] a = a
 other (row ∷ rows) a = inr (other rows a)
 
+-- what stands at that side, where it is there that something stands
 abbrev pub got : {A B C : Type 0} → (t : Bool) → (C → Option B) → A ⊎ C → Option (either t A B)
 got true later (inl x) = Some x
 got true later (inr v) = None
@@ -96,5 +100,3 @@ got false later (inr v) = later v
 abbrev pub content : (F : Family) → (k : ℕ) → Said F → Option (ValueAt F k)
 content [] k a = None
 content (row ∷ rows) k v = got (row.number == k) (content rows k) v
-
--- ---- what is shown

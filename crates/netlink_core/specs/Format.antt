@@ -81,6 +81,6 @@ module _ {Param Tag Value : Type 0} (format : Format Param Tag Value) where
     pub flags : AreDefined (format.table (format.tag_of value)) (format.values value)
     pub own : format.is_own param value
 
-  -- all tables are of one size
+  -- all tables are of one size, which is the least
   abbrev pub IsFixed : ℕ → Type 0
   IsFixed size = (format.least ≡ size) × ((tag : Tag) → format.size tag ≡ size)

@@ -34,7 +34,7 @@ abbrev pub FamilyLaws : Family → Type 0
 FamilyLaws [] = Unit {0}
 FamilyLaws (row ∷ rows) = KindLaws row × FamilyLaws rows
 
--- what is shown of them
+-- what is shown of a reply: of its header, also in front of its attributes, and of its family
 pub record ReplyLaws (R : Reply) : Type 0 where
   pub header : PrefixLaws R.header
   pub in_front : StandsInFront R.header R.size

@@ -56,7 +56,7 @@ module _ {A : Type 0} where
     pub plain : AllByRecursion GoesOn passed
     pub keeps : after ≡ before ++ flat_map kept passed
 
--- the dump goes on, if it was still read
+-- the dump goes on, if it was still read; else its list and its end stay
 abbrev pub DumpGoesOn : {A : Type 0} → List A → Result DumpState DecodeError → List (Result (Payload A) DecodeError) → List A → Result DumpState DecodeError → Type 0
 DumpGoesOn middle state items after end = ((state ≡ Ok Reading) × Dump middle items after end) ⊎ ((state ≢ Ok Reading) × (after ≡ middle) × (end ≡ state))
 

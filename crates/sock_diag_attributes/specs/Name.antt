@@ -26,7 +26,7 @@ abbrev pub IsNormalName : SocketName → Type 0
 IsNormalName (pathname path) = HasNoZero path × (path ≢ [])
 IsNormalName (abstract address) = ⊤
 
--- the names of bytes
+-- a name whose text is bytes
 abbrev pub IsTypedName : SocketName → Type 0
 IsTypedName (pathname path) = IsBytes path
 IsTypedName (abstract address) = IsBytes address
@@ -43,7 +43,7 @@ from_zero [] = []
 from_zero (zero ∷ bytes) = zero ∷ bytes
 from_zero (suc n ∷ bytes) = from_zero bytes
 
--- a path is what stands in front of one zero in the last place
+-- a path is what stands in front of one zero in the last place; else that zero stands too early, or there is none
 abbrev pub path_before : List ℕ → List ℕ → Result SocketName DecodeError
 path_before path [] = Err NameWithoutEnd
 path_before path (z ∷ []) = Ok (pathname path)

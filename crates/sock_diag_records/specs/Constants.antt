@@ -1,4 +1,4 @@
--- The constants by their numbers.
+-- What is said of a table of constants, a name and a number each.
 use Rattle.std.specs.Prelude.{ℕ, ◌==◌, List, IsTrue}
 use Rattle.std.specs.List.{list_all}
 

@@ -30,7 +30,7 @@ inet_extensions =
     (codes "SHUTDOWN", 0x80) ∷
     []
 
--- the states of a UNIX socket
+-- the states of a UNIX socket, bit 1 and bit 10
 abbrev pub unix_states : List (List ℕ × ℕ)
 unix_states =
     (codes "ESTABLISHED", 0x2) ∷

@@ -61,11 +61,11 @@ class_of (Some TimeWait) = waits
 class_of (Some (Probe expires)) = probes
 class_of None = none
 
--- the byte at 3, read or not
+-- the byte at 3, read, or else written 0
 abbrev pub retransmits_row : Class → Row
 retransmits_row class = if (told_by class).1 then byte 3 else unread 3 (0 ∷ [])
 
--- the word at 52, read or not
+-- the word at 52, read, or else written 0
 abbrev pub expires_row : Class → Row
 expires_row class = if (told_by class).2 then number 52 4 little_endian else unread 52 (replicate 4 0)
 
@@ -81,10 +81,11 @@ expires_values (Some (KeepAlive expires)) = milliseconds expires ∷ []
 expires_values (Some (Probe expires)) = milliseconds expires ∷ []
 expires_values _ = []
 
--- how many values the byte at 3 has, and how many the word at 52
+-- how many values the byte at 3 has
 abbrev pub retransmits_count : Class → ℕ
 retransmits_count class = if (told_by class).1 then 1 else 0
 
+-- how many values the word at 52 has
 abbrev pub expires_count : Class → ℕ
 expires_count class = if (told_by class).2 then 1 else 0
 

@@ -116,7 +116,7 @@ zeros kind = record {
   cookie = replicate 8 0;
 }
 
--- four octets or eight segments, and eight bytes of cookie
+-- four octets or eight segments
 abbrev pub IsAddress : IpAddr → Type 0
 IsAddress (V4 ip) = length ip.octets ≡ 4
 IsAddress (V6 ip) = length ip.segments ≡ 8

@@ -14,6 +14,7 @@ pub data Words : Type 0 where
   eight : Words
   nine : Words
 
+-- the number of those
 abbrev pub count_of : Words → ℕ
 count_of seven = 7
 count_of eight = 8
@@ -23,12 +24,13 @@ count_of nine = 9
 abbrev pub words_in : ℕ → Words
 words_in bytes = if nat_lt bytes 32 then seven else if nat_lt bytes 36 then eight else nine
 
--- those by which a backlog and drops are written, and the last of them; in front of drops an absent backlog is 0
+-- those by which a backlog and drops are written
 abbrev pub words_of : Option ℕ → Option ℕ → Words
 words_of backlog (Some drops) = nine
 words_of (Some backlog) None = eight
 words_of None None = seven
 
+-- the last of them; in front of drops an absent backlog is 0
 abbrev pub last_words : Option ℕ → Option ℕ → List ℕ
 last_words backlog (Some drops) = unwrap_or backlog 0 ∷ drops ∷ []
 last_words (Some backlog) None = backlog ∷ []
@@ -66,11 +68,12 @@ mem_info = record {
   is_own = λ param value. IfSome value.drops (λ drops. IsSome value.backlog_queue_length);
 }
 
--- the bytes that a buffer holds
+-- the bytes of seven, eight or nine words
 abbrev pub held_bytes : MemInfoBytes → List ℕ
 held_bytes (Seven bytes) = bytes
 held_bytes (Eight bytes) = bytes
 held_bytes (Nine bytes) = bytes
 
+-- the same of a buffer
 abbrev pub buffer_bytes : MemInfoBuffer → List ℕ
 buffer_bytes buffer = held_bytes buffer.bytes

@@ -33,7 +33,7 @@ pub record Answers (answer : List ℕ → List ℕ) (remaining remaining' conten
   pub appended : Appends contents contents' written
   pub is_written : IsWritten answer result whole rest written
 
--- a run fails for its cause: `read` says that a read failed or that they are used up, `write` that a write or the flush failed
+-- a run fails for its cause: `read` says that a read failed or that there are no more, `write` that a write or the flush failed
 abbrev pub HasCause : RunError → Type 0 → Type 0 → Type 0
 HasCause Read read write = read
 HasCause Write read write = write

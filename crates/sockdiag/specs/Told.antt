@@ -7,7 +7,7 @@ use Rattle.netlink_core.specs.declared.fault.DecodeError.{DecodeError}
 abbrev pub accepted : List ℕ → List ℕ
 accepted shown = codes "ok " ++ shown
 
--- a value that can't be written
+-- `unwritable`, for a value that can't be written
 abbrev pub unwritable : List ℕ
 unwritable = codes "unwritable"
 
