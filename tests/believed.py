@@ -32,6 +32,9 @@ LAWS = set("""laws sound fills equal copied unfailing eq_is_seen written_is fits
 CITED = {"serve", "read_prompt"}
 # A module of specs/ with this ending holds lemmas and what they stand on, and one with that the words of private functions.
 LEMMAS, STEPS = "Laws", "Steps"
+# One with this ending holds the inverse of a format's `values`. A format alone may lead there, and the way ends: the law
+# `read_where_it_stands` says what is read without it.
+INVERSE = "Inverse"
 # Definitions of the tests.
 OF_TESTS = {"Rattle.netlink_core.specs.Kept"}
 # Words of the language, and what needs no import.
@@ -107,6 +110,7 @@ class Item:
         answer = self.head[max(at_depth_zero(self.head, "→"), default=self.head.find(":")) + 1:].strip()
         computes = COMPUTES.match(answer) and not re.search("[≡≢≤<↔]", answer)
         self.is_lemma = self.kind == "" and not computes
+        self.is_format = answer.startswith("Format ")
         self.is_definition = self.kind != "module" and not self.is_lemma
 
     def names(self, is_constructor):
@@ -183,6 +187,11 @@ class Specs:
         is_kits = found is None and (path[0].isupper() or "." in path or path in "zero suc true false inl inr".split())
         return path.split(".")[-1] in found[1].parts if found else is_kits
 
+    def is_inverse(self, path, module):
+        """Whether a name stands for something that inverts a format's `values`."""
+        found = self.find(path, module.names)
+        return bool(found) and found[0].name.endswith(INVERSE)
+
     def reach(self, path, names, where, by):
         """Marks what a path of a root or of a definition stands for, and what that holds in turn."""
         found = self.find(path, names)
@@ -195,7 +204,8 @@ class Specs:
             if not one.reached:
                 one.reached = by
                 for name in one.names(lambda name: self.is_constructor(name, module)):
-                    self.reach(name, module.names, f"{module.name}: {one.name}", by)
+                    if not (one.is_format and self.is_inverse(name, module)):
+                        self.reach(name, module.names, f"{module.name}: {one.name}", by)
 
 
 class Source:
@@ -273,7 +283,7 @@ def odd_things(specs, counted):
     for full_name, module in specs.modules.items():
         if ".specs." not in full_name or full_name in OF_TESTS:
             continue
-        apart = full_name.endswith((LEMMAS, STEPS))
+        apart = full_name.endswith((LEMMAS, STEPS, INVERSE))
         for name, item in module.items.items():
             if item.is_lemma and not full_name.endswith(LEMMAS):
                 yield f"{module.name}: {name} is a lemma among definitions."

@@ -1,10 +1,10 @@
 -- A sound format keeps the laws. Proved once, for every format.
-use Rattle.std.proofs.Common.{◌≡◌, inl, inr, ℕ, ◌<◌, ◌≤◌, Bool, IsTrue, List, [], length, Result, Ok, Err, if◌then◌else◌, refl, sym, ap, ◌∙◌, subst, arith, append-nil, le-ltb, lt-ltb}
+use Rattle.std.proofs.Common.{◌≡◌, ◌↔◌, inl, inr, ℕ, ◌<◌, ◌≤◌, Bool, IsTrue, List, [], length, Result, Ok, Err, if◌then◌else◌, refl, sym, ap, ◌∙◌, subst, arith, append-nil, le-ltb, lt-ltb}
 use Rattle.std.proofs.lemmas.Bool.{cases_lt}
 use Rattle.netlink_core.specs.Bytes.{IsBytes}
 use Rattle.netlink_core.specs.Table.{Row, values_of, bytes_of, Fit, AreDefined}
 use Rattle.netlink_core.specs.Sound.{is_table, IsSound}
-use Rattle.netlink_core.specs.Format.{Format, read, read_row, read_tagged, bytes, AreIdle, IsTyped, IsNormal, plain}
+use Rattle.netlink_core.specs.Format.{Format, read, read_row, read_tagged, Reads, StandsIn, bytes, AreIdle, IsTyped, IsNormal, plain}
 use Rattle.netlink_core.specs.Codec.{KeepsLaws, record_codec}
 use Rattle.netlink_core.specs.FrontLaws.{value_or_reason}
 use Rattle.netlink_core.proofs.TableLaws.{IsTable, table_from_test, values-bytes_of, values-fit, values-defined, bytes_of-bytes, same_live, same_values}
@@ -135,6 +135,27 @@ module _ {Param Tag Value : Type 0} (format : Format Param Tag Value) (sound : I
           own = sound.owned param a.tag left h a.told;
         },
       )
+
+  -- what is read is what stands there
+  pub stands_where_read : (param : Param) (left : List ℕ) (value : Value) → IsBytes left → Reads format left param value ↔ StandsIn format left param value
+  stands_where_read param left value h = (
+    λ e.
+        let a = accepted format param left value e in
+        let tag = sym (sound.tagged a.tag left) ∙ ap format.tag_of (sym a.is) in
+        let parts = normal_read param left value h e in
+        record {
+          long = a.long;
+          told = a.told ∙ ap (λ (t : Tag). ok t) tag;
+          numbers = ap (λ (t : Tag). values_of (format.table t) left) (sym tag) ∙ sym (ap format.values a.is ∙ sound.kept a.tag left h);
+          typed = parts.0;
+          normal = parts.1;
+        },
+    λ s.
+        long_enough format param left s.long
+        ∙ accepts format param left (format.tag_of value) s.told
+        ∙ ap (λ (vs : List ℕ). ok (format.value (format.tag_of value) vs)) s.numbers
+        ∙ ap (λ (v : Value). ok v) (sound.back param value s.typed s.normal),
+  )
 
   -- a typed value is written as bytes
   pub written_bytes : (value : Value) → IsTyped format value → IsBytes (bytes format value)

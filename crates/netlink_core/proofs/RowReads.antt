@@ -1,12 +1,11 @@
 -- Numbers that were read in a row are a row of the table, and rows that were written one after the other
 -- are the bytes of the table.
-use Rattle.std.proofs.Common.{◌≡◌, ℕ, zero, suc, append_assoc, ap₂, ◌+◌, ◌-◌, ◌*◌, ◌^◌, ◌<◌, ◌≤◌, List, [], ◌∷◌, ◌++◌, length, take, drop, slice_index, bit_and, refl, sym, ap, ◌∙◌, arith, mul-le-mul_left, mul-suc}
-use Rattle.std.proofs.lemmas.List.{ext_get_or, drop-take, take-take, drop-drop, drop_more, get_or-drop, take_at, drop_at}
+use Rattle.std.proofs.Common.{◌≡◌, ℕ, zero, suc, ap₂, ◌+◌, ◌-◌, ◌*◌, ◌^◌, ◌<◌, ◌≤◌, List, [], ◌∷◌, ◌++◌, length, take, drop, slice_index, bit_and, refl, sym, ap, ◌∙◌, arith, mul-le-mul_left, mul-suc}
+use Rattle.std.proofs.lemmas.List.{ext_get_or, drop-take, take-take, drop-drop, drop_more, get_or-drop}
 use borrow.Rule.Slice.PartMut.{put_mid}
-use Rattle.std.specs.List.{flat_map}
 use Rattle.byteorder.specs.Endian.{IsRead}
 use Rattle.netlink_core.specs.Bytes.{IsBytes}
-use Rattle.netlink_core.specs.Table.{Order, little_endian, Row, byte, number, flags, unread, number_in, bytes_in, bytes_at, numbers, values_of, bytes_of, first, Fit}
+use Rattle.netlink_core.specs.Table.{Order, little_endian, Row, byte, number, flags, unread, number_in, bytes_at, numbers, values_of, first, Fit}
 use Rattle.netlink_core.proofs.Numbers.{number-take}
 use Rattle.netlink_core.proofs.TableLaws.{AreBytes-drop}
 
@@ -47,29 +46,6 @@ row_read order width place count bytes source row l s r =
     ∙ sym (row-at order width place count bytes k below))
 
 -- ---- rows that are written
-
--- bytes, and numbers, that were written in front are those of the table
-pub bytes-bytes_at : (place count : ℕ) (rows : List Row) (values others : List ℕ) → length values ≡ count → bytes_of (bytes_at place count ++ rows) (values ++ others) ≡ values ++ bytes_of rows others
-bytes-bytes_at place zero rows [] others l = refl
-bytes-bytes_at place zero rows (value ∷ values) others l = absurd (omega arith)
-bytes-bytes_at place (suc count) rows [] others l = absurd (omega arith)
-bytes-bytes_at place (suc count) rows (value ∷ values) others l = ap (λ (b : List ℕ). value ∷ b) (bytes-bytes_at (place + 1) count rows values others (omega arith))
-
-pub bytes-numbers : (order : Order) (width place count : ℕ) (rows : List Row) (values others : List ℕ) → length values ≡ count → bytes_of (numbers place width order count ++ rows) (values ++ others) ≡ flat_map (bytes_in order width) values ++ bytes_of rows others
-bytes-numbers order width place zero rows [] others l = refl
-bytes-numbers order width place zero rows (value ∷ values) others l = absurd (omega arith)
-bytes-numbers order width place (suc count) rows [] others l = absurd (omega arith)
-bytes-numbers order width place (suc count) rows (value ∷ values) others l =
-    ap (λ (b : List ℕ). bytes_in order width value ++ b) (bytes-numbers order width (place + width) count rows values others (omega arith))
-    ∙ sym (append_assoc (bytes_in order width value) (flat_map (bytes_in order width) values) (bytes_of rows others))
-
--- one more row behind those that are written
-pub after_row : (at size : ℕ) (bytes done rest row : List ℕ) → bytes ≡ done ++ rest → length done ≡ at → put_mid at size bytes row ≡ (done ++ row) ++ drop size rest
-after_row at size bytes done rest row e l =
-    ap₂ (λ (front back : List ℕ). front ++ (row ++ drop size back))
-    (ap (take at) e ∙ take_at done rest at l)
-    (ap (drop at) e ∙ drop_at done rest at l)
-    ∙ sym (append_assoc done row (drop size rest))
 
 -- bytes that were taken are those of the table
 pub bytes_read : (place count : ℕ) (bytes : List ℕ) → place + count ≤ length bytes → take count (drop place bytes) ≡ values_of (bytes_at place count) bytes

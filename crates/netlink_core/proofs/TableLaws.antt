@@ -1,6 +1,6 @@
 -- The laws of tables, by induction on the rows: what was written is read again, and two strings have the
 -- same values exactly where they have the same live bits.
-use Rattle.std.proofs.Common.{◌≡◌, ℕ, zero, suc, ◌+◌, ◌<◌, ◌≤◌, Bool, true, false, ◌&&◌, IsTrue, List, [], ◌∷◌, ◌++◌, length, take, drop, replicate, slice_index, bit_and, refl, sym, ap, ap₂, ◌∙◌, subst, arith, append_assoc, eqb, length-append, length-drop, add-zero}
+use Rattle.std.proofs.Common.{◌≡◌, ℕ, zero, suc, ◌+◌, ◌<◌, ◌≤◌, Bool, true, false, ◌&&◌, IsTrue, List, [], ◌∷◌, ◌++◌, length, take, drop, replicate, slice_index, bit_and, refl, sym, ap, ap₂, ◌∙◌, subst, arith, append_assoc, eqb, length-drop, add-zero}
 use Rattle.std.proofs.lemmas.List.{drop_at, drop_more, drop-drop, length-replicate, get_or-drop, take_all}
 use Rattle.std.proofs.lemmas.Nat.{and_le_l, and_assoc}
 use Rattle.std.proofs.lemmas.Bool.{eqb-true, ltb-true}
@@ -83,30 +83,6 @@ split_masked (m ∷ ms) ns (x ∷ xs) (y ∷ ys) hx hy e =
     (ap₂ (λ (a : ℕ) (others : List ℕ). a ∷ others) first parts.0, parts.1)
 
 -- ---- reading what was written
-
--- a table that is written is as long as its rows
-pub length-bytes_of : (from : ℕ) (rows : List Row) (end : ℕ) (values : List ℕ) → IsTable from rows end → Fit rows values → from + length (bytes_of rows values) ≡ end
-length-bytes_of from [] end [] t f = omega arith
-length-bytes_of from [] end (value ∷ values) t f = absurd f
-length-bytes_of from (unread place written ∷ rows) end values t f =
-    let rest = length-bytes_of (from + length written) rows end values t.2 f in
-    simp length-append (omega arith)
-length-bytes_of from (byte place ∷ rows) end [] t f = absurd f
-length-bytes_of from (byte place ∷ rows) end (value ∷ values) t f =
-    let rest = length-bytes_of (from + 1) rows end values t.1 f.1 in
-    omega arith
-length-bytes_of from (number place width order ∷ rows) end [] t f = absurd f
-length-bytes_of from (number place width order ∷ rows) end (value ∷ values) t f =
-    let rest = length-bytes_of (from + width) rows end values t.1 f.1 in
-    let own = length-bytes_in order width value in
-    let sum = length-append (bytes_in order width value) (bytes_of rows values) in
-    omega arith
-length-bytes_of from (flags place width mask ∷ rows) end [] t f = absurd f
-length-bytes_of from (flags place width mask ∷ rows) end (value ∷ values) t f =
-    let rest = length-bytes_of (from + width) rows end values t.1 f.1 in
-    let own : length (little_bytes width value) ≡ width = length-bytes_in little_endian width value in
-    let sum = length-append (little_bytes width value) (bytes_of rows values) in
-    omega arith
 
 -- it is written as bytes
 pub bytes_of-bytes : (from : ℕ) (rows : List Row) (end : ℕ) (values : List ℕ) → IsTable from rows end → Fit rows values → IsBytes (bytes_of rows values)
@@ -273,22 +249,3 @@ same_values from (unread place written ∷ rows) end b c t hb hc lb lc e =
     let reach = ends-after (from + length written) rows end t.2 in
     let parts = split_at from (length written) (replicate (length written) 0) (live_bits rows) b c (length-replicate (length written) 0) (omega arith) (omega arith) e in
     same_values (from + length written) rows end b c t.2 hb hc lb lc parts.1
-
--- ---- rows of which none is one of flags
-
-abbrev pub has_no_flags : List Row → Bool
-has_no_flags [] = true
-has_no_flags (byte place ∷ rows) = has_no_flags rows
-has_no_flags (number place width order ∷ rows) = has_no_flags rows
-has_no_flags (flags place width mask ∷ rows) = false
-has_no_flags (unread place written ∷ rows) = has_no_flags rows
-
--- where there are no flags all are defined
-pub defined_without_flags : (rows : List Row) (values : List ℕ) → IsTrue (has_no_flags rows) → AreDefined rows values
-defined_without_flags [] values h = tt
-defined_without_flags (unread place written ∷ rows) values h = defined_without_flags rows values h
-defined_without_flags (byte place ∷ rows) [] h = tt
-defined_without_flags (byte place ∷ rows) (value ∷ values) h = defined_without_flags rows values h
-defined_without_flags (number place width order ∷ rows) [] h = tt
-defined_without_flags (number place width order ∷ rows) (value ∷ values) h = defined_without_flags rows values h
-defined_without_flags (flags place width mask ∷ rows) values h = absurd (cc)

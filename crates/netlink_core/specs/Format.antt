@@ -8,7 +8,8 @@ use Rattle.netlink_core.specs.declared.fault.RecordName.{RecordName}
 -- How a record stands in bytes: its name in faults, the fewest bytes that it is read from, and the tables of its rows. A
 -- tag chooses between tables, each of its size: a string that is long enough tells by which it is read, or the fault that
 -- refuses it, and a value by which it is written. Beside the rows, a shape says that arrays are as long as their type
--- tells, and `is_own` what normal form asks.
+-- tells, and `is_own` what normal form asks. `value` is the inverse of `values`: `StandsIn` says what belongs to a string
+-- without it, and the law `read_where_it_stands` that this is the same.
 pub record Format (Param Tag Value : Type 0) : Type 1 where
   pub name : RecordName
   pub least : ℕ
@@ -80,6 +81,15 @@ module _ {Param Tag Value : Type 0} (format : Format Param Tag Value) where
   pub record IsNormal (param : Param) (value : Value) : Type 0 where
     pub flags : AreDefined (format.table (format.tag_of value)) (format.values value)
     pub own : format.is_own param value
+
+  -- What belongs to a string, said without `value`: the string is long enough and tells the value's table, its numbers
+  -- are those of the value, and the value is typed and in normal form.
+  pub record StandsIn (left : List ℕ) (param : Param) (value : Value) : Type 0 where
+    pub long : format.least ≤ length left
+    pub told : format.tag_at param left ≡ Ok (format.tag_of value)
+    pub numbers : values_of (format.table (format.tag_of value)) left ≡ format.values value
+    pub typed : IsTyped value
+    pub normal : IsNormal param value
 
   -- all tables are of one size, which is the least
   abbrev pub IsFixed : ℕ → Type 0

@@ -15,6 +15,7 @@ pub mod Prefix
 pub mod Rows
 pub mod Heads
 pub mod Reply
+pub mod ReplySteps
 pub mod ShownLaws
 pub mod AnyKind
 pub mod DefaultNla

@@ -56,21 +56,13 @@ IsNormalReply R v = R.header.is_normal v.header × AllByRecursion (IsNormalSaid 
 abbrev pub IsSpareReply : (R : Reply) → ValueOf R → Type 0
 IsSpareReply R v = (length v.nlas ≤ 8) × AllByRecursion (IsSpareSaid R.family) v.nlas
 
--- bytes of a header, and then those of each attribute in order
-abbrev pub framed : List ℕ → List Attribute → List ℕ
-framed header attributes = header ++ flat_map written attributes
-
--- each attribute's value has at most 65,531 bytes, and the whole at most 4,294,967,295
-abbrev pub FramedFits : List ℕ → List Attribute → Type 0
-FramedFits header attributes = AllByRecursion HasFittingValue attributes × (length (framed header attributes) ≤ 4294967295)
-
 -- the header's bytes, and then those of each attribute
 abbrev pub reply_bytes : (R : Reply) → ValueOf R → List ℕ
-reply_bytes R v = framed (R.header.bytes v.header) (map (attribute_said R.family) v.nlas)
+reply_bytes R v = R.header.bytes v.header ++ flat_map written (map (attribute_said R.family) v.nlas)
 
--- each value and the whole fit their lengths
+-- each attribute's value has at most 65,531 bytes, and the whole at most 4,294,967,295
 abbrev pub ReplyFits : (R : Reply) → ValueOf R → Type 0
-ReplyFits R v = FramedFits (R.header.bytes v.header) (map (attribute_said R.family) v.nlas)
+ReplyFits R v = AllByRecursion HasFittingValue (map (attribute_said R.family) v.nlas) × (length (reply_bytes R v) ≤ 4294967295)
 
 -- a reply
 abbrev pub reply_codec : Reply → Codec (Unit {0})

@@ -46,14 +46,11 @@ values_of (unread place written ∷ rows) bytes = values_of rows bytes
 
 -- the bytes of the table with these values in the rows that are read
 abbrev pub bytes_of : List Row → List ℕ → List ℕ
-bytes_of [] values = []
 bytes_of (unread place written ∷ rows) values = written ++ bytes_of rows values
-bytes_of (byte place ∷ rows) [] = []
 bytes_of (byte place ∷ rows) (value ∷ values) = value ∷ bytes_of rows values
-bytes_of (number place width order ∷ rows) [] = []
 bytes_of (number place width order ∷ rows) (value ∷ values) = bytes_in order width value ++ bytes_of rows values
-bytes_of (flags place width mask ∷ rows) [] = []
 bytes_of (flags place width mask ∷ rows) (value ∷ values) = little_bytes width value ++ bytes_of rows values
+bytes_of _ _ = []
 
 -- the bits that are live: all of a number's, the mask's, none of what isn't read
 abbrev pub live_bits : List Row → List ℕ
@@ -65,9 +62,8 @@ live_bits (unread place written ∷ rows) = replicate (length written) 0 ++ live
 
 -- the bytes with the bits outside the masks taken off, as far as the masks go
 abbrev pub masked : List ℕ → List ℕ → List ℕ
-masked [] bytes = []
-masked (mask ∷ masks) [] = []
 masked (mask ∷ masks) (one ∷ bytes) = bit_and one mask ∷ masked masks bytes
+masked _ _ = []
 
 -- the first so many numbers of a list, with zeros where it has fewer
 abbrev pub first : ℕ → List ℕ → List ℕ
@@ -77,22 +73,15 @@ first (suc n) xs = slice_index xs 0 ∷ first n (drop 1 xs)
 -- a value for each row that is read, and each within its row's width
 abbrev pub Fit : List Row → List ℕ → Type 0
 Fit [] [] = Unit {0}
-Fit [] (value ∷ values) = ⊥
 Fit (unread place written ∷ rows) values = Fit rows values
-Fit (byte place ∷ rows) [] = ⊥
 Fit (byte place ∷ rows) (value ∷ values) = (value < 256) × Fit rows values
-Fit (number place width order ∷ rows) [] = ⊥
 Fit (number place width order ∷ rows) (value ∷ values) = (value < 256 ^ width) × Fit rows values
-Fit (flags place width mask ∷ rows) [] = ⊥
 Fit (flags place width mask ∷ rows) (value ∷ values) = (value < 256 ^ width) × Fit rows values
+Fit _ _ = ⊥
 
 -- no flag has a bit outside its mask
 abbrev pub AreDefined : List Row → List ℕ → Type 0
-AreDefined [] values = Unit {0}
 AreDefined (unread place written ∷ rows) values = AreDefined rows values
-AreDefined (byte place ∷ rows) [] = Unit {0}
-AreDefined (byte place ∷ rows) (value ∷ values) = AreDefined rows values
-AreDefined (number place width order ∷ rows) [] = Unit {0}
-AreDefined (number place width order ∷ rows) (value ∷ values) = AreDefined rows values
-AreDefined (flags place width mask ∷ rows) [] = Unit {0}
 AreDefined (flags place width mask ∷ rows) (value ∷ values) = (bit_and value mask ≡ value) × AreDefined rows values
+AreDefined (row ∷ rows) (value ∷ values) = AreDefined rows values
+AreDefined _ _ = Unit {0}

@@ -6,6 +6,7 @@ ghost use Rattle.std.specs.Iterator.{Drains, YieldsThen};
 ghost use Rattle.std.specs.List.{AllByRecursion, flat_map};
 ghost use Rattle.netlink_core.specs.Attribute.{Attribute, FitsWords, Cut, CutInFull, written};
 ghost use Rattle.netlink_core.specs.StatedCut.{StatedCut};
+ghost use Rattle.netlink_core.specs.Format.{Reads, StandsIn};
 ghost use Rattle.netlink_core.specs.Bytes.{IsBytes};
 ghost use Rattle.netlink_core.specs.CutOff.{CutOff};
 ghost use Rattle.netlink_core.specs.Walk.{attribute_of, bytes_left, GivesAttribute};
@@ -27,6 +28,7 @@ use crate::exact::Exact;
 use crate::fault::DecodeError as Fault;
 use crate::header::NetlinkHeader;
 use crate::message::NetlinkMessage;
+use crate::record::Record;
 use crate::wire::Coded;
 use crate::{NLM_F_DUMP, NLM_F_REQUEST, NLMSG_DONE, NLMSG_ERROR, NLMSG_NOOP, NLMSG_OVERRUN};
 use std::alloc::AllocError;
@@ -46,6 +48,13 @@ pub fn one_list_of_attributes()
 pub fn written_attributes_are_cut()
     ensures { (xs : List Attribute) → AllByRecursion FitsWords xs
         → CutInFull (flat_map written xs) xs × Cut (flat_map written xs) xs }
+{}
+
+/// A record is read exactly where it stands: a string that is long enough, tells the value's table and has its numbers is
+/// read as the typed value in normal form with these, and as no other.
+pub fn read_where_it_stands<T: Record>()
+    ensures { (bytes : List ℕ) (told : T.Told) (value : T) → IsBytes bytes
+        → Reads T.format bytes told value ↔ StandsIn T.format bytes told value }
 {}
 
 /// A walk that ends without a fault gave the attributes into which the bytes are cut, and one that ends with a fault

@@ -36,10 +36,6 @@ module _ {A : Type 0} (reads : Attribute → Result A DecodeError) where
         room = omega (arith, four_and_more rest after a s);
       }
 
-  -- so many fit a length of memory
-  pub count_fits : (bytes rest after : List ℕ) (count : ℕ) (a : Attribute) → Counted bytes rest count → StartsWith rest a after → 4 * count + 4 ≤ length bytes
-  count_fits bytes rest after count a c s = let room : 4 * count + length rest ≤ length bytes = c.room in omega (arith, four_and_more rest after a s)
-
   -- where nothing is left there was no fault
   pub count_ends : (bytes rest : List ℕ) (count : ℕ) → Counted bytes rest count → rest ≡ [] → HasNoFault reads bytes
   count_ends bytes rest count c none = record { none = λ e f. means_or_fault_apart reads bytes c.so_far e (walk_ends reads bytes rest c.so_far c.walk none) f }

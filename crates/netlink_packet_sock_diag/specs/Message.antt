@@ -51,10 +51,9 @@ IsInet b t = (2 ≤ length b) × (t ≡ 20) × ((slice_index b 0 ≡ 2) ⊎ (sli
 
 -- the message belongs to the bytes under the type: it is a reply of the family that the first byte tells
 abbrev pub MessageIs : List ℕ → ℕ → Message → Type 0
-MessageIs b t (inet_request_with v) = ⊥
 MessageIs b t (inet_response_with v) = IsInet b t × MeansReply inet_reply b v
-MessageIs b t (unix_request_with v) = ⊥
 MessageIs b t (unix_response_with v) = IsUnix b t × MeansReply unix_reply b v
+MessageIs b t _ = ⊥
 
 -- There is no reply to read, and why. Of several faults it is the first.
 abbrev pub IsNoReply : List ℕ → ℕ → DecodeError → Type 0
@@ -78,10 +77,9 @@ message_bytes (unix_response_with v) = reply_bytes unix_reply v
 
 -- requests have room for their lengths in any case
 abbrev pub MessageFits : Message → Type 0
-MessageFits (inet_request_with v) = ⊤
 MessageFits (inet_response_with v) = ReplyFits inet_reply v
-MessageFits (unix_request_with v) = ⊤
 MessageFits (unix_response_with v) = ReplyFits unix_reply v
+MessageFits _ = ⊤
 
 -- ---- equal messages, and messages that read back
 
@@ -101,10 +99,9 @@ IsTypedMessage (unix_response_with v) = IsTypedReply unix_reply v
 
 -- a reply in normal form under the type 20
 abbrev pub IsNormalMessage : ℕ → Message → Type 0
-IsNormalMessage t (inet_request_with v) = ⊥
 IsNormalMessage t (inet_response_with v) = (t ≡ 20) × IsNormalReply inet_reply v
-IsNormalMessage t (unix_request_with v) = ⊥
 IsNormalMessage t (unix_response_with v) = (t ≡ 20) × IsNormalReply unix_reply v
+IsNormalMessage t _ = ⊥
 
 -- a message under the type of its header, of 16 bits
 abbrev pub message_codec : Codec ℕ

@@ -9,7 +9,7 @@ use Rattle.netlink_core.specs.declared.fault.DecodeError.TheVariants.{Memory, Me
 use Rattle.netlink_core.proofs.FormatLaws.{accepted}
 use Rattle.netlink_core.proofs.Replies.{replies_keep_laws}
 use Rattle.sock_diag_records.specs.declared.inet.response.InetResponseHeader.{InetResponseHeader}
-use Rattle.sock_diag_records.specs.SocketId.{Kinds, both, ipv4, ipv6}
+use Rattle.sock_diag_records.specs.Kinds.{Kinds, both, ipv4, ipv6}
 use Rattle.sock_diag_records.specs.InetRequest.{inet_request}
 use Rattle.sock_diag_records.specs.InetResponse.{inet_response_header}
 use Rattle.sock_diag_records.specs.InetRequestLaws.{inet_request_sound}

@@ -5,7 +5,7 @@ ghost use Rattle.std.specs.List.{AllByRecursion, flat_map};
 ghost use Rattle.netlink_core.specs.Attribute.{AreWritable, written};
 ghost use Rattle.netlink_core.specs.declared.fault.DecodeError.TheVariants.{Memory};
 ghost use Rattle.netlink_core.specs.Family.{Family, Said, attribute_said, IsSpareSaid};
-ghost use Rattle.netlink_core.specs.Reply.{framed, FramedFits};
+ghost use Rattle.netlink_core.specs.ReplySteps.{framed, FramedFits};
 
 use netlink_core::{Coded, DecodeError, Emitable, Nla, emit_nlas, nlas_len, nlas_len_within};
 use smallvec::SmallVec;

@@ -7,7 +7,7 @@ ghost use Rattle.std.specs.Iterator.{YieldsFirstBy};
 ghost use Rattle.netlink_core.specs.Attribute.{AreWritable, AttributeFault, HasFittingValue, written};
 ghost use Rattle.netlink_core.specs.Family.{Family, Said, says, attribute_said, IsSpareSaid};
 ghost use Rattle.netlink_core.proofs.SaidTests.{Tests, said_test};
-ghost use Rattle.netlink_core.specs.Reply.{FramedFits, framed};
+ghost use Rattle.netlink_core.specs.ReplySteps.{FramedFits, framed};
 ghost use Rattle.netlink_core.specs.Walk.{attribute_of, bytes_left};
 ghost use Rattle.netlink_packet_sock_diag.specs.AttributesIn.{HasNoFault, values_in};
 

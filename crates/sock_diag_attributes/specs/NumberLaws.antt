@@ -121,10 +121,6 @@ places (a ∷ b ∷ c ∷ d ∷ rest) (n ∷ u) long each =
     let later : numbers_in rest ≡ u = places rest u (omega (arith, long)) (λ k l. each (suc k) (omega (arith, l)) ∙ ap (λ (m : ℕ). little_number 4 (drop m x)) (next k)) in
     λ i. first i ∷ later i
 
--- and so numbers are read
-pub read_in_places : (x u : List ℕ) → length x ≡ 4 * length u → IsRead little_number 4 x u → read_numbers x ≡ Ok u
-read_in_places x u long each = rw (eq-eqb (length x % 4) 0 (omega (arith, long)), places x u long each) refl
-
 -- both keep the laws of the value of an attribute
 pub two_laws : (k : ℕ) → PrefixLaws (two_value k)
 two_laws k = exact_laws (two_numbers k) bytes_of_two (λ ns. (ns.0 < 2 ^ 32) × (ns.1 < 2 ^ 32)) (λ ns. ⊤) (two_named k)

@@ -1,12 +1,13 @@
 -- The record of a request for IPv4 or IPv6 sockets: 56 bytes, that at 3 not read, and from 8 on the identity
 -- of a socket, with addresses of the kind that the byte at 0 tells.
-use Rattle.std.specs.Prelude.{◌≡◌, List, [], ◌∷◌, drop, slice_index, Ok}
+use Rattle.std.specs.Prelude.{◌≡◌, List, [], ◌∷◌, slice_index, Ok}
 use Rattle.netlink_core.specs.Table.{Row, byte, flags, unread}
 use Rattle.netlink_core.specs.Format.{Format}
 use Rattle.netlink_core.specs.declared.fault.RecordName.TheVariants as name
 use Rattle.sock_diag_records.specs.declared.inet.request.InetRequest.{InetRequest}
-use Rattle.sock_diag_records.specs.SocketId as identity
-use Rattle.sock_diag_records.specs.SocketId.{Kinds, kinds_of, kinds_of_family, socket_id_rows, socket_id_values, socket_id_of}
+use Rattle.sock_diag_records.specs.SocketId.{IsShaped, socket_id_rows, socket_id_values}
+use Rattle.sock_diag_records.specs.Kinds.{Kinds, kinds_of, kinds_of_family}
+use Rattle.sock_diag_records.specs.InetRequestInverse.{inet_request_of}
 
 -- the bytes at 0, 1 and 2, the word at 4 and the identity at 8; the byte at 3 is written 0
 abbrev pub inet_request_rows : Kinds → List Row
@@ -22,13 +23,7 @@ inet_request = record {
   tag_of = λ value. kinds_of value.socket_id;
   table = inet_request_rows;
   values = λ value. value.family ∷ value.protocol ∷ value.extensions.0 ∷ value.states.0 ∷ socket_id_values value.socket_id;
-  value = λ kinds values. record {
-    family = slice_index values 0;
-    protocol = slice_index values 1;
-    extensions = record { 0 = slice_index values 2 };
-    states = record { 0 = slice_index values 3 };
-    socket_id = socket_id_of kinds (drop 4 values);
-  };
-  is_shaped = λ value. identity.IsShaped value.socket_id;
+  value = inet_request_of;
+  is_shaped = λ value. IsShaped value.socket_id;
   is_own = λ param value. kinds_of_family value.family ≡ Ok (kinds_of value.socket_id);
 }

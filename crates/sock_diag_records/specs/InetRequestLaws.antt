@@ -9,7 +9,9 @@ use Rattle.netlink_core.specs.declared.fault.DecodeError.{DecodeError}
 use Rattle.byteorder.specs.Endian.{little_bytes}
 use Rattle.sock_diag_records.specs.declared.inet.request.InetRequest.{InetRequest}
 use Rattle.sock_diag_records.specs.declared.inet.socket_id.SocketId.{SocketId}
-use Rattle.sock_diag_records.specs.SocketId.{Kind, ipv4, ipv6, Kinds, kind_of, kinds_of, socket_id, socket_id_rows, socket_id_values, socket_id_of}
+use Rattle.sock_diag_records.specs.SocketId.{socket_id, socket_id_rows, socket_id_values}
+use Rattle.sock_diag_records.specs.SocketIdInverse.{socket_id_of}
+use Rattle.sock_diag_records.specs.Kinds.{Kind, ipv4, ipv6, Kinds, kind_of, kinds_of}
 use Rattle.sock_diag_records.specs.SocketIdLaws.{pair, kept_is, shaped_is, socket_id_back, kinds_are, kinds_named, socket_id_next, length-bytes}
 use Rattle.sock_diag_records.specs.InetRequest.{inet_request_rows, inet_request}
 

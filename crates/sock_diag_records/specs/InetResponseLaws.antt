@@ -19,9 +19,13 @@ use Rattle.sock_diag_records.specs.declared.inet.response.InetResponseHeader.{In
 use Rattle.sock_diag_records.specs.declared.inet.socket_id.SocketId.{SocketId}
 use Rattle.netlink_core.specs.declared.fault.DecodeError.{DecodeError}
 use Rattle.netlink_core.specs.declared.fault.DecodeError.TheVariants.{Memory}
-use Rattle.sock_diag_records.specs.SocketId.{Kind, ipv4, ipv6, Kinds, kinds_of, kinds_of_family, socket_id_rows, socket_id_values, socket_id_of, socket_id}
+use Rattle.sock_diag_records.specs.SocketId.{socket_id_rows, socket_id_values, socket_id}
+use Rattle.sock_diag_records.specs.SocketIdInverse.{socket_id_of}
+use Rattle.sock_diag_records.specs.Kinds.{Kind, ipv4, ipv6, Kinds, kinds_of, kinds_of_family}
 use Rattle.sock_diag_records.specs.SocketId as identity
-use Rattle.sock_diag_records.specs.InetResponse.{duration, milliseconds, IsWholeMilliseconds, Class, retransmits, keeps_alive, waits, probes, none, class_of_byte, byte_of_class, class_of, retransmits_row, expires_row, retransmits_values, expires_values, retransmits_count, expires_count, timer_of, IsWholeTimer, Tag, header_rows, header_values, header_of, socket_id_count, tag_of, with_class, inet_response_header}
+use Rattle.sock_diag_records.specs.InetResponse.{header_rows, header_values, tag_of, with_class, inet_response_header}
+use Rattle.sock_diag_records.specs.InetResponseInverse.{duration, retransmits_count, expires_count, timer_of, header_of, socket_id_count}
+use Rattle.sock_diag_records.specs.Timer.{milliseconds, IsWholeMilliseconds, Class, retransmits, keeps_alive, waits, probes, none, class_of_byte, byte_of_class, class_of, retransmits_row, expires_row, retransmits_values, expires_values, IsWholeTimer, Tag}
 use Rattle.sock_diag_records.specs.TablesInARowLaws.{is_table-append, values_of-append}
 use Rattle.sock_diag_records.specs.SocketIdLaws.{pair, kept_is, shaped_is, read_before, length-values, socket_id_back, socket_id_next, kinds_are, kinds_named, length-socket_id, length-bytes, fit_inside}
 

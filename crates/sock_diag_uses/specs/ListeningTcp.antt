@@ -1,7 +1,8 @@
 -- The request for all TCP sockets that listen.
 use Rattle.std.specs.Prelude.{ℕ}
 use Rattle.netlink_core.specs.Envelope.{Envelope, inner}
-use Rattle.sock_diag_records.specs.SocketId.{Kind, ipv4, ipv6, zeros}
+use Rattle.sock_diag_records.specs.SocketId.{zeros}
+use Rattle.sock_diag_records.specs.Kinds.{Kind, ipv4, ipv6}
 use Rattle.netlink_packet_sock_diag.specs.Message.{Message, inet_request_with}
 use Rattle.sock_diag_uses.specs.declared.listening_tcp.Family.{Family}
 use Rattle.sock_diag_uses.specs.declared.listening_tcp.Family.TheVariants.{Inet, Inet6}

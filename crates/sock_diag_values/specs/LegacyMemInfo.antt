@@ -9,10 +9,7 @@ use Rattle.sock_diag_values.specs.declared.inet.legacy_mem_info.LegacyMemInfo.{L
 abbrev pub legacy_mem_info : Format (Unit {0}) (Unit {0}) LegacyMemInfo
 legacy_mem_info = plain name.LegacyMemInfo 16
     (numbers 0 4 little_endian 4)
-    (λ value.
-    value.receive_queue ∷ value.bottom_send_queue ∷ value.cache ∷
-    value.send_queue ∷
-    [])
+    (λ value. value.receive_queue ∷ value.bottom_send_queue ∷ value.cache ∷ value.send_queue ∷ [])
     (λ words. record {
       receive_queue = slice_index words 0;
       bottom_send_queue = slice_index words 1;

@@ -4,9 +4,12 @@ pub mod UnixMemInfo
 pub mod UnixMemInfoLaws
 pub mod LegacyMemInfo
 pub mod LegacyMemInfoLaws
+pub mod MemInfoInverse
 pub mod MemInfo
 pub mod MemInfoLaws
 pub mod MemInfoEqualLaws
+pub mod TcpInfoInverse
 pub mod TcpInfo
+pub mod TcpInfoSteps
 pub mod TcpInfoLaws
 pub mod TcpInfoEqualLaws

@@ -1,9 +1,10 @@
 -- The memory of a socket: seven, eight or nine words of 32 bits, low byte first. Kernels added the last two in turn.
-use Rattle.std.specs.Prelude.{⊤, ℕ, ◌*◌, List, [], ◌∷◌, Option, Some, None, Ok, nat_lt, if◌then◌else◌, length, slice_index, slice_get, unwrap_or, IfSome, IsSome}
+use Rattle.std.specs.Prelude.{⊤, ℕ, ◌*◌, List, [], ◌∷◌, Option, Some, None, Ok, nat_lt, if◌then◌else◌, length, unwrap_or, IfSome, IsSome}
 use Rattle.netlink_core.specs.Table.{numbers, little_endian}
 use Rattle.netlink_core.specs.Format.{Format}
 use Rattle.netlink_core.specs.declared.fault.RecordName.TheVariants as name
 use Rattle.sock_diag_values.specs.declared.inet.mem_info.MemInfo.{MemInfo}
+use Rattle.sock_diag_values.specs.MemInfoInverse.{mem_info_of}
 use Rattle.sock_diag_values.specs.declared.inet.mem_info.MemInfoBytes.{MemInfoBytes}
 use Rattle.sock_diag_values.specs.declared.inet.mem_info.MemInfoBytes.TheVariants.{Seven, Eight, Nine}
 use Rattle.sock_diag_values.specs.declared.inet.mem_info.MemInfoBuffer.{MemInfoBuffer}
@@ -53,17 +54,7 @@ mem_info = record {
   tag_of = λ value. words_of value.backlog_queue_length value.drops;
   table = λ words. numbers 0 4 little_endian (count_of words);
   values = λ value. words_before value (last_words value.backlog_queue_length value.drops);
-  value = λ words values. record {
-    receive_queue = slice_index values 0;
-    receive_queue_max = slice_index values 1;
-    bottom_send_queues = slice_index values 2;
-    send_queue_max = slice_index values 3;
-    cache = slice_index values 4;
-    send_queue = slice_index values 5;
-    options = slice_index values 6;
-    backlog_queue_length = slice_get values 7;
-    drops = slice_get values 8;
-  };
+  value = λ words values. mem_info_of values;
   is_shaped = λ value. ⊤;
   is_own = λ param value. IfSome value.drops (λ drops. IsSome value.backlog_queue_length);
 }

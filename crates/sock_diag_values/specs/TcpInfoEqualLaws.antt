@@ -2,7 +2,8 @@
 use Rattle.std.proofs.Common.{◌≡◌, ◌↔◌, ◌&&◌, ℕ, zero, suc, List, [], ◌∷◌, Bool, false, eqb, IsTrue, drop, refl, ap, rules}
 use Rattle.netlink_core.proofs.Equality.{parts, both, numbers_equal}
 use Rattle.sock_diag_values.specs.declared.inet.tcp_info.TcpInfo.{TcpInfo}
-use Rattle.sock_diag_values.specs.TcpInfo.{tcp_info_values, tcp_info_of}
+use Rattle.sock_diag_values.specs.TcpInfo.{tcp_info_values}
+use Rattle.sock_diag_values.specs.TcpInfoInverse.{tcp_info_of}
 
 -- the first numbers are equal, and those behind them
 abbrev equal_from : ℕ → ℕ → List ℕ → List ℕ → Bool

@@ -7,7 +7,8 @@ use Rattle.netlink_core.specs.Sound.{IsSound}
 use Rattle.netlink_core.proofs.FormatLaws.{plain_sound}
 use Rattle.netlink_core.proofs.RowReads.{fit-append, fit-bytes}
 use Rattle.sock_diag_values.specs.declared.inet.tcp_info.TcpInfo.{TcpInfo}
-use Rattle.sock_diag_values.specs.TcpInfo.{tcp_info, tcp_info_rows, tcp_info_values, states, counts, ages, metrics, receiver, rates, segments, limits, deliveries, totals, reorderings}
+use Rattle.sock_diag_values.specs.TcpInfo.{tcp_info, tcp_info_rows, tcp_info_values}
+use Rattle.sock_diag_values.specs.TcpInfoSteps.{states, counts, ages, metrics, receiver, rates, segments, limits, deliveries, totals, reorderings}
 
 pub tcp_info_sound : IsSound tcp_info
 unfolding tcp_info

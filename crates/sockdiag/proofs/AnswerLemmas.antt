@@ -127,11 +127,6 @@ no_field field bytes h (inr digits) =
     let none = eqb-true (length field) 0 h in
     omega (arith, len, none, digits.0)
 
--- digits stand for what they decode to
-pub digits_field : (field bytes : List ℕ) → (length field == 0) ≡ false → decode_of field ≡ Ok bytes → IsHexField field bytes
-digits_field [] bytes h read = absurd (cc h)
-digits_field (c ∷ rest) bytes h read = let len = (decode_of-ok (c ∷ rest) bytes read).2 in inr (omega (arith, len), read)
-
 -- ---- names
 
 name_of-word : (name : Name) → name_of (word_of name) ≡ Some name

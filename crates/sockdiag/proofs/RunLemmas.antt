@@ -77,10 +77,6 @@ module _ (f : List ℕ → List ℕ) where
   last_line [] h = absurd (cc h)
   last_line (b ∷ rest) h = sym (append-nil (fed (f (b ∷ rest))))
 
-  pub no_last_line : (line : List ℕ) → (length line == 0) ≡ true → [] ≡ answer_lines f (with_rest [] line)
-  no_last_line [] h = refl
-  no_last_line (b ∷ rest) h = let none = eqb-true (length (b ∷ rest)) 0 h in absurd (omega arith)
-
   -- ---- a piece
 
   -- nothing of the piece was looked at

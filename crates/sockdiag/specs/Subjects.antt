@@ -3,8 +3,8 @@ use Rattle.std.specs.Prelude.{⊤}
 use Rattle.netlink_core.specs.Codec.{Codec}
 use Rattle.netlink_core.specs.Envelope.{Envelope, EnvelopeIs, EnvelopeFault, EnvelopeFits, IdleEnvelopes}
 use Rattle.netlink_packet_sock_diag.specs.Message.{Message, MessageIs, MessageFault, MessageFits, IdleMessages, message_bytes}
-use Rattle.netlink_core.specs.Reply.{AreIdleReplies, MeansReply, RefusesReply}
-use Rattle.netlink_packet_sock_diag.specs.UnixReply.{UnixReply, unix_reply}
+use Rattle.netlink_core.specs.Reply.{reply_codec}
+use Rattle.netlink_packet_sock_diag.specs.UnixReply.{unix_reply}
 use Rattle.sockdiag.specs.EnvelopeLine.{shown_envelope}
 use Rattle.sockdiag.specs.ViewLine.{shown_reply}
 use Rattle.sockdiag.specs.HexField.{field_of}
@@ -34,11 +34,4 @@ envelope_subject = record {
 
 -- a reply about a UNIX socket, of which thirteen words are shown whether or not it can be written
 abbrev pub view_subject : Subject
-view_subject = record {
-  Value = UnixReply;
-  reads = λ b v. MeansReply unix_reply b v;
-  refuses = λ b e. RefusesReply unix_reply b e;
-  fits = λ v. ⊤;
-  shown = shown_reply;
-  idle = λ b c. AreIdleReplies unix_reply b c;
-}
+view_subject = record (subject (reply_codec unix_reply) tt) { fits = λ v. ⊤; shown = shown_reply }

@@ -2,7 +2,7 @@
 use Rattle.std.specs.Prelude.{slice_index}
 use Rattle.sock_diag_records.specs.declared.inet.response.InetResponseHeader.{InetResponseHeader}
 use Rattle.sock_diag_records.specs.declared.unix.response.UnixResponseHeader.{UnixResponseHeader}
-use Rattle.sock_diag_records.specs.InetResponse.{byte_of_class, class_of, expires_values, retransmits_values}
+use Rattle.sock_diag_records.specs.Timer.{byte_of_class, class_of, expires_values, retransmits_values}
 use Rattle.sock_diag_records.specs.SocketId.{address_bytes}
 use Rattle.netlink_packet_sock_diag.specs.Message.{Message, inet_request_with, inet_response_with, unix_request_with, unix_response_with}
 use Rattle.sockdiag_c.specs.declared.headers.InetHeader.{InetHeader}

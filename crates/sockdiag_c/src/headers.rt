@@ -1,7 +1,7 @@
 //! The headers of replies, as C sees them.
 
 ghost use Rattle.std.specs.Prelude.{◌≡◌, slice_index};
-ghost use Rattle.sock_diag_records.specs.InetResponse.{byte_of_class, class_of, expires_values, milliseconds, retransmits_values};
+ghost use Rattle.sock_diag_records.specs.Timer.{byte_of_class, class_of, expires_values, milliseconds, retransmits_values};
 ghost use Rattle.sock_diag_records.specs.SocketId.{address_bytes};
 ghost use Rattle.sockdiag_c.specs.Headers.{inet_header_of, unix_header_of};
 

@@ -2,7 +2,7 @@
 
 ghost use Rattle.netlink_core.proofs.FormatLaws.{keeps_laws};
 ghost use Rattle.sock_diag_records.specs.InetRequest.{inet_request};
-ghost use Rattle.sock_diag_records.specs.SocketId.{Kinds};
+ghost use Rattle.sock_diag_records.specs.Kinds.{Kinds};
 ghost use Rattle.sock_diag_records.specs.InetRequestLaws.{inet_request_sound, inet_request_size};
 
 use super::{ExtensionFlags, SocketId, StateFlags};

@@ -6,7 +6,9 @@ ghost use Rattle.netlink_core.specs.declared.fault.DecodeError.TheVariants.{Memo
 ghost use Rattle.netlink_core.specs.Format.{read};
 ghost use Rattle.netlink_core.specs.Table.{Fit};
 ghost use Rattle.netlink_core.proofs.FormatLaws.{keeps_laws};
-ghost use Rattle.sock_diag_records.specs.InetResponse.{inet_response_header, Tag, class_of_byte, class_of, byte_of_class, timer_of, milliseconds, retransmits_row, retransmits_values, expires_values};
+ghost use Rattle.sock_diag_records.specs.InetResponse.{inet_response_header};
+ghost use Rattle.sock_diag_records.specs.InetResponseInverse.{timer_of};
+ghost use Rattle.sock_diag_records.specs.Timer.{Tag, class_of_byte, class_of, byte_of_class, milliseconds, retransmits_row, retransmits_values, expires_values};
 ghost use Rattle.sock_diag_records.specs.InetResponseLaws.{header_sound, header_size};
 
 use super::SocketId;

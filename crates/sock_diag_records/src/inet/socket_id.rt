@@ -9,7 +9,8 @@ ghost use Rattle.netlink_core.specs.Format.{read};
 ghost use Rattle.netlink_core.proofs.FormatLaws.{keeps_laws};
 ghost use Rattle.std.specs.Prelude.{ℕ, slice_index, ◌<◌};
 ghost use Rattle.netlink_core.specs.Table.{Fit};
-ghost use Rattle.sock_diag_records.specs.SocketId.{IsAddress, address_rows, address_values, kind_of, socket_id, Kinds, ipv4, ipv6, zeros, address_bytes};
+ghost use Rattle.sock_diag_records.specs.SocketId.{IsAddress, address_rows, address_values, socket_id, zeros, address_bytes};
+ghost use Rattle.sock_diag_records.specs.Kinds.{kind_of, Kinds, ipv4, ipv6};
 ghost use Rattle.sock_diag_records.specs.SocketIdLaws.{socket_id_sound, socket_id_size};
 
 use crate::constants::{AF_INET, AF_INET6};

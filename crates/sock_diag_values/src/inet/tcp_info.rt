@@ -4,7 +4,8 @@ ghost use Rattle.std.specs.Prelude.{◌≡◌};
 ghost use Rattle.std.proofs.Common.{rules};
 ghost use Rattle.netlink_core.specs.Format.{read};
 ghost use Rattle.netlink_core.proofs.FormatLaws.{keeps_laws};
-ghost use Rattle.sock_diag_values.specs.TcpInfo.{tcp_info, states, counts, ages, metrics, receiver, rates, segments, limits, deliveries, totals, reorderings};
+ghost use Rattle.sock_diag_values.specs.TcpInfo.{tcp_info};
+ghost use Rattle.sock_diag_values.specs.TcpInfoSteps.{states, counts, ages, metrics, receiver, rates, segments, limits, deliveries, totals, reorderings};
 ghost use Rattle.sock_diag_values.specs.TcpInfoEqualLaws.{tcp_info_equal, unfailing};
 ghost use Rattle.sock_diag_values.specs.TcpInfoLaws.{tcp_info_sound};
 

@@ -4,8 +4,11 @@ use Rattle.netlink_core.specs.Format.{read_row}
 use Rattle.netlink_core.proofs.FormatLaws.{accepts, accepted_row}
 use Rattle.netlink_core.proofs.Congruence.{◌⊛◌}
 use Rattle.netlink_core.specs.declared.fault.DecodeError.{DecodeError}
-use Rattle.sock_diag_records.specs.SocketId.{socket_id, socket_id_of}
-use Rattle.sock_diag_records.specs.InetResponse.{inet_response_header, Tag, class_of_byte, with_class, timer_of}
+use Rattle.sock_diag_records.specs.SocketId.{socket_id}
+use Rattle.sock_diag_records.specs.SocketIdInverse.{socket_id_of}
+use Rattle.sock_diag_records.specs.InetResponse.{inet_response_header, with_class}
+use Rattle.sock_diag_records.specs.InetResponseInverse.{timer_of}
+use Rattle.sock_diag_records.specs.Timer.{Tag, class_of_byte}
 use Rattle.sock_diag_records.specs.InetResponseLaws.{header_is}
 use Rattle.sock_diag_records.specs.SocketIdLaws.{values-inside}
 use Rattle.sock_diag_records.specs.declared.inet.response.Timer.{Timer}

@@ -2,7 +2,8 @@ use Rattle.std.proofs.Common.{ℕ, List, ap, Result, Ok}
 use Rattle.netlink_core.proofs.Congruence.{◌⊛◌}
 use Rattle.netlink_core.specs.declared.fault.DecodeError.{DecodeError}
 use Rattle.sock_diag_values.specs.declared.inet.tcp_info.TcpInfo.{TcpInfo}
-use Rattle.sock_diag_values.specs.TcpInfo.{tcp_info, with_rows}
+use Rattle.sock_diag_values.specs.TcpInfo.{tcp_info}
+use Rattle.sock_diag_values.specs.TcpInfoInverse.{with_rows}
 use Rattle.sock_diag_values.proofs.inet.tcp_info.TcpInfoRecord.from_row.Goals as goal
 
 abbrev read_as : (states counts ages metrics receiver rates segments limits deliveries totals reorderings : List ℕ) → Result TcpInfo DecodeError

@@ -1,0 +1,50 @@
+-- The header of a reply about an IPv4 or IPv6 socket with the numbers of its rows.
+use Rattle.std.specs.Prelude.{ℕ, ◌+◌, ◌*◌, ◌/◌, ◌%◌, if◌then◌else◌, List, drop, slice_index, Option, Some, None}
+use Rattle.std.specs.declared.time.Duration.{Duration}
+use Rattle.sock_diag_records.specs.declared.inet.response.Timer.{Timer}
+use Rattle.sock_diag_records.specs.declared.inet.response.Timer.TheVariants.{Retransmit, KeepAlive, TimeWait, Probe}
+use Rattle.sock_diag_records.specs.declared.inet.response.InetResponseHeader.{InetResponseHeader}
+use Rattle.sock_diag_records.specs.Kinds.{Kinds}
+use Rattle.sock_diag_records.specs.SocketIdInverse.{count_of, socket_id_of}
+use Rattle.sock_diag_records.specs.Timer.{Class, retransmits, keeps_alive, waits, probes, none, told_by, Tag}
+
+-- so many milliseconds
+abbrev pub duration : ℕ → Duration
+duration milliseconds = record { secs = milliseconds / 1_000; nanos = milliseconds % 1_000 * 1_000_000 }
+
+-- how many values the byte at 3 has
+abbrev pub retransmits_count : Class → ℕ
+retransmits_count class = if (told_by class).1 then 1 else 0
+
+-- how many values the word at 52 has
+abbrev pub expires_count : Class → ℕ
+expires_count class = if (told_by class).2 then 1 else 0
+
+-- the timer of a class, with the byte at 3 and the word at 52
+abbrev pub timer_of : Class → ℕ → ℕ → Option Timer
+timer_of retransmits count expires = Some (Retransmit (duration expires) count)
+timer_of keeps_alive count expires = Some (KeepAlive (duration expires))
+timer_of waits count expires = Some TimeWait
+timer_of probes count expires = Some (Probe (duration expires))
+timer_of none count expires = None
+
+-- how many values a socket's identity has
+abbrev pub socket_id_count : Kinds → ℕ
+socket_id_count kinds = 2 + count_of kinds.source + count_of kinds.destination + 9
+
+-- the header with these values
+abbrev pub header_of : Tag → List ℕ → InetResponseHeader
+header_of tag values =
+    let socket = drop (retransmits_count tag.class) (drop 2 values) in
+    let behind = drop (socket_id_count tag.kinds) socket in
+    let last = drop (expires_count tag.class) behind in
+    record {
+      family = slice_index values 0;
+      state = slice_index values 1;
+      timer = timer_of tag.class (slice_index values 2) (slice_index behind 0);
+      socket_id = socket_id_of tag.kinds socket;
+      recv_queue = slice_index last 0;
+      send_queue = slice_index last 1;
+      uid = slice_index last 2;
+      inode = slice_index last 3;
+    }

@@ -1,0 +1,34 @@
+-- The identity of a socket with the numbers of its rows.
+use Rattle.std.specs.Prelude.{ℕ, List, take, drop, slice_index}
+use Rattle.std.specs.declared.net.ip_addr.IpAddr.{IpAddr}
+use Rattle.std.specs.declared.net.ip_addr.IpAddr.TheVariants.{V4, V6}
+use Rattle.sock_diag_records.specs.declared.inet.socket_id.SocketId.{SocketId}
+use Rattle.sock_diag_records.specs.Kinds.{Kind, ipv4, ipv6, Kinds}
+
+-- how many values an address has
+abbrev pub count_of : Kind → ℕ
+count_of ipv4 = 4
+count_of ipv6 = 8
+
+-- the address with these values
+abbrev pub address_of : Kind → List ℕ → IpAddr
+address_of ipv4 values = V4 record { octets = take 4 values }
+address_of ipv6 values = V6 record { segments = take 8 values }
+
+-- the identity of two ports, two addresses, and an interface before a cookie
+abbrev pub socket_id_with : ℕ → ℕ → IpAddr → IpAddr → List ℕ → SocketId
+socket_id_with source_port destination_port source destination rest = record {
+  source_port = source_port;
+  destination_port = destination_port;
+  source_address = source;
+  destination_address = destination;
+  interface_id = slice_index rest 0;
+  cookie = take 8 (drop 1 rest);
+}
+
+-- the identity with these values, its addresses of these kinds
+abbrev pub socket_id_of : Kinds → List ℕ → SocketId
+socket_id_of kinds values =
+    let addresses = drop 2 values in
+    let destination = drop (count_of kinds.source) addresses in
+    socket_id_with (slice_index values 0) (slice_index values 1) (address_of kinds.source addresses) (address_of kinds.destination destination) (drop (count_of kinds.destination) destination)

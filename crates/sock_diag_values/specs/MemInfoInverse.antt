@@ -1,0 +1,17 @@
+-- The memory of a socket with the numbers of its rows.
+use Rattle.std.specs.Prelude.{ℕ, List, slice_index, slice_get}
+use Rattle.sock_diag_values.specs.declared.inet.mem_info.MemInfo.{MemInfo}
+
+-- the memory with these words
+abbrev pub mem_info_of : List ℕ → MemInfo
+mem_info_of values = record {
+  receive_queue = slice_index values 0;
+  receive_queue_max = slice_index values 1;
+  bottom_send_queues = slice_index values 2;
+  send_queue_max = slice_index values 3;
+  cache = slice_index values 4;
+  send_queue = slice_index values 5;
+  options = slice_index values 6;
+  backlog_queue_length = slice_get values 7;
+  drops = slice_get values 8;
+}

@@ -1,0 +1,48 @@
+-- The fields of each of the rows.
+use Rattle.std.specs.Prelude.{ℕ, List, take, drop}
+use Rattle.sock_diag_values.specs.declared.inet.tcp_info.TcpInfo.{TcpInfo}
+use Rattle.sock_diag_values.specs.TcpInfo.{tcp_info_values}
+
+-- the bytes at 0
+abbrev pub states : TcpInfo → List ℕ
+states value = take 8 (tcp_info_values value)
+
+-- the words at 8
+abbrev pub counts : TcpInfo → List ℕ
+counts value = take 9 (drop 8 (tcp_info_values value))
+
+-- the words at 44
+abbrev pub ages : TcpInfo → List ℕ
+ages value = take 4 (drop 17 (tcp_info_values value))
+
+-- the words at 60
+abbrev pub metrics : TcpInfo → List ℕ
+metrics value = take 8 (drop 21 (tcp_info_values value))
+
+-- the words at 92
+abbrev pub receiver : TcpInfo → List ℕ
+receiver value = take 3 (drop 29 (tcp_info_values value))
+
+-- the long words at 104
+abbrev pub rates : TcpInfo → List ℕ
+rates value = take 4 (drop 32 (tcp_info_values value))
+
+-- the words at 136
+abbrev pub segments : TcpInfo → List ℕ
+segments value = take 6 (drop 36 (tcp_info_values value))
+
+-- the long words at 160
+abbrev pub limits : TcpInfo → List ℕ
+limits value = take 4 (drop 42 (tcp_info_values value))
+
+-- the words at 192
+abbrev pub deliveries : TcpInfo → List ℕ
+deliveries value = take 2 (drop 46 (tcp_info_values value))
+
+-- the long words at 200
+abbrev pub totals : TcpInfo → List ℕ
+totals value = take 2 (drop 48 (tcp_info_values value))
+
+-- the words at 216
+abbrev pub reorderings : TcpInfo → List ℕ
+reorderings value = take 4 (drop 50 (tcp_info_values value))
