@@ -1,18 +1,18 @@
 -- What the kernel for tests answers.
 use Rattle.std.specs.Prelude.{⊤, ◌≡◌, ◌≢◌, ℕ, ◌+◌, ◌-◌, ◌≤◌, List, [], ◌∷◌, ◌++◌, length, map, take, drop, Ok, Err}
-use Rattle.std.specs.List.{flat_map}
+use Rattle.std.specs.List.{AllByRecursion, flat_map}
 use Rattle.netlink_core.specs.declared.header.NetlinkHeader.{NetlinkHeader}
 use Rattle.netlink_core.specs.declared.fault.DecodeError.{DecodeError}
 use Rattle.netlink_core.specs.declared.fault.DecodeError.TheVariants.{UnknownMessageType}
 use Rattle.netlink_core.specs.Header.{HasHeader, IsEnvelopeFault}
-use Rattle.netlink_core.specs.Envelope.{Payload, done_with, inner, envelope_bytes, payload_bytes, payload_type}
+use Rattle.netlink_core.specs.Envelope.{Payload, OfInner, done_with, inner, envelope_bytes, payload_bytes, payload_type}
 use Rattle.netlink_core.specs.Format.{read}
 use Rattle.sock_diag_records.specs.declared.unix.request.UnixRequest.{UnixRequest}
 use Rattle.sock_diag_records.specs.UnixRequest.{unix_request}
 use Rattle.netlink_core.specs.Reply.{IsNormalReply, IsTypedReply, ReplyFits, reply_bytes}
 use Rattle.netlink_packet_sock_diag.specs.declared.dump.DumpState.TheVariants.{Done}
 use Rattle.netlink_packet_sock_diag.specs.Dump.{DatagramDump}
-use Rattle.netlink_packet_sock_diag.specs.Message.{Message, MessageIs, MessageFault, unix_response_with, message_bytes}
+use Rattle.netlink_packet_sock_diag.specs.Message.{Message, MessageIs, MessageFault, MessageFits, unix_response_with, message_bytes}
 use Rattle.netlink_packet_sock_diag.specs.UnixReply.{UnixReply, unix_reply}
 use Rattle.sock_diag_uses.specs.declared.test_kernel.AnswerError.{AnswerError}
 use Rattle.sock_diag_uses.specs.declared.test_kernel.AnswerError.TheVariants.{Request, Unwritable, Memory}
@@ -54,17 +54,24 @@ pub data RefusesRequest (request : List ℕ) (e : DecodeError) : Type 0 where
   other_type : (h : NetlinkHeader) → HasHeader request h → h.message_type ≢ 20 → e ≡ UnknownMessageType h.message_type → RefusesRequest request e
   no_request : (h : NetlinkHeader) → HasHeader request h → h.message_type ≡ 20 → read unix_request tt (take (h.length - 16) (drop 16 request)) ≡ Err e → RefusesRequest request e
 
--- why there is no answer; nothing is said of memory and of replies that are too long
-abbrev pub GivesNoAnswer : List ℕ → AnswerError → Type 0
-GivesNoAnswer request (Request e) = RefusesRequest request e
-GivesNoAnswer request Unwritable = ⊤
-GivesNoAnswer request Memory = ⊤
+-- a message with this payload can be written
+abbrev pub HasRoom : Payload Message → Type 0
+HasRoom payload = OfInner MessageFits payload × (16 + length (payload_bytes message_bytes payload) ≤ 4294967295)
 
--- no fault of a request
-abbrev pub IsOfReplies : AnswerError → Type 0
-IsOfReplies (Request e) = ⊥
-IsOfReplies Unwritable = ⊤
-IsOfReplies Memory = ⊤
+-- a message of its own for the reply can be written
+abbrev pub ReplyHasRoom : UnixReply → Type 0
+ReplyHasRoom reply = HasRoom (inner (unix_response_with reply))
+
+-- no fault of a request, and `Unwritable` for this reason alone; nothing is said of memory
+abbrev pub FailsFor : Type 0 → AnswerError → Type 0
+FailsFor reason (Request e) = ⊥
+FailsFor reason Unwritable = reason
+FailsFor reason Memory = ⊤
+
+-- why there is no answer: the request is refused, or some reply can't be written
+abbrev pub GivesNoAnswer : List ℕ → List UnixReply → AnswerError → Type 0
+GivesNoAnswer request replies (Request e) = RefusesRequest request e
+GivesNoAnswer request replies other = FailsFor (¬ AllByRecursion ReplyHasRoom replies) other
 
 -- a reply as readers give it, whose message can be written
 pub record CanBeTold (reply : UnixReply) : Type 0 where

@@ -5,7 +5,8 @@ ghost use Rattle.std.specs.List.{filter_map, last_or};
 ghost use Rattle.netlink_core.specs.AnyKind.{any_kind};
 ghost use Rattle.netlink_core.specs.Attribute.{Attribute, AttributesMean, HasFittingValue, written};
 ghost use Rattle.netlink_core.specs.Bytes.{IsBytes};
-ghost use Rattle.netlink_core.specs.Heads.{AreIdleHeads, MeansHead};
+ghost use Rattle.netlink_core.specs.Canonical as canon;
+ghost use Rattle.netlink_core.specs.Heads.{AreIdleHeads, MeansHead, RefusesHead};
 ghost use Rattle.sock_diag_uses.specs.Link.{Told, told_by, name_in, mtu_in, text_of, from_fault, GivesUp};
 
 use netlink_core::{
@@ -83,6 +84,7 @@ pub fn attribute_key(alloc: Global, attribute: &[u8]) -> Result<Vec<u8>, CanonEr
     ensures written { IfOk result (λ key. (a : Attribute) × MeansHead any_kind attribute.now a × (key.items ≡ written a)) }
     ensures alike { IfOk result (λ key. (other : List ℕ) (theirs : Attribute) → IsBytes other → MeansHead any_kind other theirs
         → HasFittingValue theirs → ((written theirs ≡ key.items) ↔ AreIdleHeads any_kind attribute.now other)) }
+    ensures err { IfErr result (canon.GivesUp (λ a. MeansHead any_kind attribute.now a) (λ e. RefusesHead any_kind attribute.now e) HasFittingValue) }
 {
     canonical::<DefaultNla>(alloc, attribute, ())
 }

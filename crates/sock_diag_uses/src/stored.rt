@@ -1,6 +1,6 @@
 //! Replies that are stored once, whatever their idle details: under their canonical bytes.
 
-ghost use Rattle.std.specs.Prelude.{◌≡◌, ◌↔◌, ℕ, List, IsTrue, IfOk, IfErr};
+ghost use Rattle.std.specs.Prelude.{◌≡◌, ◌↔◌, ◌⊎◌, ℕ, List, IsTrue, IfOk, IfErr};
 ghost use Rattle.netlink_core.specs.Canonical.{GivesUp};
 ghost use Rattle.netlink_packet_sock_diag.specs.Message.{MessageIs, MessageFault, MessageFits, IdleMessages};
 ghost use Rattle.sock_diag_uses.specs.Stored.{IsKey};
@@ -26,7 +26,9 @@ pub fn key(alloc: Global, reply: &[u8]) -> Result<Vec<u8>, CanonError>
 
 /// Whether two replies are stored as one.
 pub fn same_reply(alloc: Global, one: &[u8], other: &[u8]) -> Result<bool, CanonError>
-    ensures { IfOk result (λ same. IsTrue same ↔ IdleMessages 20 one.now other.now) }
+    ensures value { IfOk result (λ same. IsTrue same ↔ IdleMessages 20 one.now other.now) }
+    ensures err { IfErr result (λ e. GivesUp (MessageIs one.now 20) (MessageFault one.now 20) MessageFits e
+        ⊎ GivesUp (MessageIs other.now 20) (MessageFault other.now 20) MessageFits e) }
 {
     Ok(key(alloc, one)?.as_slice() == key(alloc, other)?.as_slice())
 }

@@ -6,7 +6,7 @@ ghost use Rattle.netlink_core.specs.Seen.{payload_of};
 ghost use Rattle.netlink_packet_sock_diag.specs.SeenMessage.{seen_message};
 ghost use Rattle.netlink_packet_sock_diag.specs.SeenUnixReply.{seen_response};
 ghost use Rattle.netlink_packet_sock_diag.specs.UnixReply.{UnixReply};
-ghost use Rattle.sock_diag_uses.specs.TestKernel.{CanBeTold, GivesNoAnswer, IsAnswer, IsOfReplies, IsWholeDump, message_under, reply_under};
+ghost use Rattle.sock_diag_uses.specs.TestKernel.{CanBeTold, FailsFor, GivesNoAnswer, HasRoom, IsAnswer, IsWholeDump, ReplyHasRoom, message_under, reply_under};
 ghost use Rattle.sock_diag_uses.specs.declared.test_kernel.AnswerError.TheVariants.{Request, Memory};
 
 use netlink_core::{DecodeError, NetlinkHeader, NetlinkMessage, NetlinkPayload, Parseable};
@@ -64,7 +64,7 @@ pub fn answer(
     replies: &[UnixResponse],
 ) -> Result<Vec<u8>, AnswerError>
     ensures answer { IfOk result (λ datagram. IsAnswer request.now (map seen_response replies.now) datagram.items) }
-    ensures refused { IfErr result (GivesNoAnswer request.now) }
+    ensures refused { IfErr result (GivesNoAnswer request.now (map seen_response replies.now)) }
 {
     let header = NetlinkHeader::from_prefix(request)?;
     if header.message_type != SOCK_DIAG_BY_FAMILY {
@@ -99,7 +99,7 @@ fn push_replies(
     replies: &[UnixResponse],
 ) -> Result<(), AnswerError>
     ensures added { OnOk result (datagram.new.items ≡ datagram.old.items ++ flat_map (reply_under sequence_number) (map seen_response replies.now)) }
-    ensures err { IfErr result IsOfReplies }
+    ensures err { IfErr result (FailsFor (¬ AllByRecursion ReplyHasRoom (map seen_response replies.now))) }
 {
     for reply in replies {
         push_reply(alloc, datagram, sequence_number, reply)?;
@@ -115,7 +115,7 @@ fn push_reply(
     reply: &UnixResponse,
 ) -> Result<(), AnswerError>
     ensures added { OnOk result (datagram.new.items ≡ datagram.old.items ++ reply_under sequence_number (seen_response reply.now)) }
-    ensures err { IfErr result IsOfReplies }
+    ensures err { IfErr result (FailsFor (¬ ReplyHasRoom (seen_response reply.now))) }
 {
     let message = SockDiagMessage::UnixResponse(Box::new(
         alloc,
@@ -138,7 +138,7 @@ fn push_message(
     payload: NetlinkPayload<SockDiagMessage>,
 ) -> Result<(), AnswerError>
     ensures added { OnOk result (datagram.new.items ≡ datagram.old.items ++ message_under sequence_number (payload_of seen_message payload)) }
-    ensures err { IfErr result IsOfReplies }
+    ensures err { IfErr result (FailsFor (¬ HasRoom (payload_of seen_message payload))) }
 {
     let header = NetlinkHeader {
         flags: NLM_F_MULTI,

@@ -1,6 +1,6 @@
 //! Replies are compared and rewritten in place.
 
-ghost use Rattle.std.specs.Prelude.{◌≡◌, ◌↔◌, ◌<◌, ◌++◌, length, drop, IsTrue, IfOk, IfErr, MatchOption};
+ghost use Rattle.std.specs.Prelude.{◌≡◌, ◌↔◌, ◌⊎◌, ◌<◌, ◌++◌, length, drop, IsTrue, IfOk, IfErr, MatchOption};
 ghost use Rattle.netlink_core.specs.Reply.{AreIdleReplies, MeansReply, RefusesReply, ReplyFits, reply_bytes};
 ghost use Rattle.netlink_packet_sock_diag.specs.UnixReply.{UnixReply, unix_reply};
 
@@ -9,7 +9,9 @@ use netlink_packet_sock_diag::unix::UnixResponseView;
 
 /// Whether two replies tell the same, whatever their pads and paddings.
 pub fn tell_the_same(one: &[u8], other: &[u8]) -> Result<bool, DecodeError>
-    ensures { IfOk result (λ same. IsTrue same ↔ AreIdleReplies unix_reply one.now other.now) }
+    ensures value { IfOk result (λ same. IsTrue same ↔ AreIdleReplies unix_reply one.now other.now) }
+    ensures fault { IfErr result (λ e. RefusesReply unix_reply one.now e
+        ⊎ ((v : UnixReply) × MeansReply unix_reply one.now v × RefusesReply unix_reply other.now e)) }
 {
     Ok(UnixResponseView::parse(one)? == UnixResponseView::parse(other)?)
 }

@@ -5,8 +5,8 @@ use Rattle.netlink_packet_sock_diag.specs.contracts.unix.response.UnixResponseCo
 use Rattle.sock_diag_uses.proofs.readme.comparing.tell_the_same.Goals as goal
 
 -- `==` compares what the two tell, and that is equal exactly where the bytes are idle
-pub returns : goal.returns
-returns c =
+pub returns-clause-value : goal.returns-clause-value
+returns-clause-value c =
     let v = viewed_response c.in_ok-parse.field-0 in
     let w = viewed_response c.in_ok-parse-2.field-0 in
     let told = unix_test_says v w in
