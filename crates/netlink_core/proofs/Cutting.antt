@@ -122,11 +122,12 @@ module _ {A : Type 0} (reads : Attribute → Result A DecodeError) where
   -- bytes that mean something have no fault
   pub means_or_fault_apart : (bytes : List ℕ) (values : List A) (e : DecodeError) → AttributesMean reads bytes values → AttributeFault reads bytes e → ⊥
   means_or_fault_apart bytes values e m f =
-      let cut : Cut (f.before ++ f.after) m.0 = subst (λ (b : List ℕ). Cut b m.0) f.parts m.1 in
-      let behind = cut_behind f.before f.after f.attributes m.0 f.cut f.left cut in
-      let split : AllZip (λ a value. reads a ≡ Ok value) (f.attributes ++ behind.0) values = subst (λ (xs : List Attribute). AllZip (λ a value. reads a ≡ Ok value) xs values) behind.1 m.2 in
-      let later = later_means f.attributes behind.0 values split in
-      no_cut_at_fault f.after behind.0 later.0 e f.left f.fault behind.2 later.1
+      let at = f.1 in
+      let cut : Cut (at.before ++ at.after) m.0 = subst (λ (b : List ℕ). Cut b m.0) at.parts m.1 in
+      let behind = cut_behind at.before at.after f.0 m.0 at.cut at.left cut in
+      let split : AllZip (λ a value. reads a ≡ Ok value) (f.0 ++ behind.0) values = subst (λ (xs : List Attribute). AllZip (λ a value. reads a ≡ Ok value) xs values) behind.1 m.2 in
+      let later = later_means f.0 behind.0 values split in
+      no_cut_at_fault at.after behind.0 later.0 e at.left at.fault behind.2 later.1
 
 -- ---- bytes are cut, or have a fault
 
@@ -183,7 +184,7 @@ module _ {A : Type 0} (reads : Attribute → Result A DecodeError) where
 
   -- bytes have one fault at most
   pub one_fault : (bytes : List ℕ) (e f : DecodeError) → AttributeFault reads bytes e → AttributeFault reads bytes f → e ≡ f
-  one_fault bytes e f h k = one_fault_of bytes h.before h.after k.before k.after h.attributes k.attributes e f h.parts k.parts h.cut k.cut h.good k.good h.fault k.fault
+  one_fault bytes e f h k = one_fault_of bytes h.1.before h.1.after k.1.before k.1.after h.0 k.0 e f h.1.parts k.1.parts h.1.cut k.1.cut h.2 k.2 h.1.fault k.1.fault
 
 -- ---- what was written means what is read from it
 

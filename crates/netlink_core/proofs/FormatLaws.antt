@@ -4,7 +4,8 @@ use Rattle.std.proofs.lemmas.Bool.{cases_lt}
 use Rattle.netlink_core.specs.Bytes.{IsBytes}
 use Rattle.netlink_core.specs.Table.{Row, values_of, bytes_of, Fit, AreDefined}
 use Rattle.netlink_core.specs.Sound.{is_table, IsSound}
-use Rattle.netlink_core.specs.Format.{Format, read, read_row, read_tagged, Reads, StandsIn, bytes, AreIdle, IsTyped, IsNormal, plain}
+use Rattle.netlink_core.specs.Format.{Format, read, read_row, Reads, StandsIn, bytes, AreIdle, IsTyped, IsNormal, plain}
+use Rattle.netlink_core.specs.Faults.{said_as}
 use Rattle.netlink_core.specs.Codec.{KeepsLaws, record_codec}
 use Rattle.netlink_core.specs.FrontLaws.{value_or_reason}
 use Rattle.netlink_core.proofs.TableLaws.{IsTable, table_from_test, values-bytes_of, values-fit, values-defined, bytes_of-bytes, same_live, same_values}
@@ -24,6 +25,10 @@ pub record Accepts {Param Tag Value : Type 0} (format : Format Param Tag Value) 
   pub is : value ≡ format.value tag (values_of (format.table tag) left)
 
 module _ {Param Tag Value : Type 0} (format : Format Param Tag Value) where
+  -- the value in a string, by the table that it tells
+  abbrev read_tagged : List ℕ → Result Tag DecodeError → Result Value DecodeError
+  read_tagged left told = said_as (λ tag. format.value tag (values_of (format.table tag) left)) told
+
   -- a string that is too short is refused
   pub too_short : (param : Param) (left : List ℕ) → length left < format.least → read format param left ≡ Err (BufferTooSmall format.name (length left) format.least)
   too_short param left l = ap (λ (small : Bool). if small then Err (BufferTooSmall format.name (length left) format.least) else read_row format param left) (lt-ltb (length left) format.least l)
@@ -34,13 +39,13 @@ module _ {Param Tag Value : Type 0} (format : Format Param Tag Value) where
 
   -- a tag that was told gives its value
   pub accepts : (param : Param) (left : List ℕ) (tag : Tag) → format.tag_at param left ≡ Ok tag → read_row format param left ≡ Ok (format.value tag (values_of (format.table tag) left))
-  accepts param left tag e = ap (read_tagged format left) e
+  accepts param left tag e = ap (read_tagged left) e
 
   -- a fault that was told is the reader's
   pub faults : (param : Param) (left : List ℕ) (fault : DecodeError) → format.tag_at param left ≡ Err fault → read_row format param left ≡ Err fault
-  faults param left fault e = ap (read_tagged format left) e
+  faults param left fault e = ap (read_tagged left) e
 
-  accepted_by : (told : Result Tag DecodeError) (left : List ℕ) (value : Value) → read_tagged format left told ≡ Ok value → (tag : Tag) × (told ≡ Ok tag) × (value ≡ format.value tag (values_of (format.table tag) left))
+  accepted_by : (told : Result Tag DecodeError) (left : List ℕ) (value : Value) → read_tagged left told ≡ Ok value → (tag : Tag) × (told ≡ Ok tag) × (value ≡ format.value tag (values_of (format.table tag) left))
   accepted_by (Ok tag) left value e = (tag, refl, (cc))
   accepted_by (Err other) left value e = cc
 
@@ -57,7 +62,7 @@ module _ {Param Tag Value : Type 0} (format : Format Param Tag Value) where
         record { long = long; tag = parts.0; told = parts.1; is = parts.2 }
   ]
 
-  rejected_by : (told : Result Tag DecodeError) (left : List ℕ) (fault : DecodeError) → read_tagged format left told ≡ Err fault → told ≡ Err fault
+  rejected_by : (told : Result Tag DecodeError) (left : List ℕ) (fault : DecodeError) → read_tagged left told ≡ Err fault → told ≡ Err fault
   rejected_by (Ok tag) left fault e = cc
   rejected_by (Err other) left fault e = cc
 

@@ -25,18 +25,21 @@ module _ {A : Type 0} (reads : Attribute → Result A DecodeError) where
   -- a fault behind an attribute is a fault of the bytes with it
   pub later_fault : (bytes rest : List ℕ) (a : Attribute) (meaning : A) (e : DecodeError) → StartsWith bytes a rest → reads a ≡ Ok meaning → AttributeFault reads rest e → AttributeFault reads bytes e
   later_fault bytes rest a meaning e s means f =
+      let c = f.1 in
       elim s.filled [
-        | inl full ↦ record {
-          before = unpadded a ++ (s.padding ++ f.before);
-          after = f.after;
-          attributes = a ∷ f.attributes;
-          parts = s.parts ∙ ap (λ (t : List ℕ). unpadded a ++ (s.padding ++ t)) f.parts ∙ simp append_assoc;
-          cut = (s.padding, f.before, refl, s.fits, full, f.cut);
-          good = (rw means refl, f.good);
-          left = f.left;
-          fault = f.fault;
-        }
-        | inr short ↦ absurd (f.left (both_empty f.before f.after (sym f.parts ∙ short.1)))
+        | inl full ↦ (
+          a ∷ f.0,
+          record {
+            before = unpadded a ++ (s.padding ++ c.before);
+            after = c.after;
+            parts = s.parts ∙ ap (λ (t : List ℕ). unpadded a ++ (s.padding ++ t)) c.parts ∙ simp append_assoc;
+            cut = (s.padding, c.before, refl, s.fits, full, c.cut);
+            left = c.left;
+            fault = c.fault;
+          },
+          (rw means refl, f.2),
+        )
+        | inr short ↦ absurd (c.left (both_empty c.before c.after (sym c.parts ∙ short.1)))
       ]
 
   -- the walk begins with all the bytes
@@ -56,7 +59,7 @@ module _ {A : Type 0} (reads : Attribute → Result A DecodeError) where
 
   -- a fault where it stands is the fault of the bytes
   pub fault_here : (rest : List ℕ) (e : DecodeError) → rest ≢ [] → FaultAtFront reads rest e → AttributeFault reads rest e
-  fault_here rest e some f = record { before = []; after = rest; attributes = []; parts = refl; cut = refl; good = tt; left = some; fault = f }
+  fault_here rest e some f = ([], record { before = []; after = rest; parts = refl; cut = refl; left = some; fault = f }, tt)
 
   -- a fault of the framing, or of a value, is the fault of the bytes
   pub walk_is_cut_off : (bytes rest : List ℕ) (so_far : List A) (e : DecodeError) → Continues bytes so_far rest → rest ≢ [] → IsFramingFault rest e → AttributeFault reads bytes e

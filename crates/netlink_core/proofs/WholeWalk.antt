@@ -5,8 +5,7 @@ use Rattle.std.specs.Iterator.{Drains, YieldsThen}
 use Rattle.netlink_core.specs.declared.fault.DecodeError.{DecodeError}
 use Rattle.netlink_core.specs.declared.attribute.NlaBuffer.{NlaBuffer}
 use Rattle.netlink_core.specs.declared.attribute.NlasIterator.{NlasIterator}
-use Rattle.netlink_core.specs.Attribute.{Cut, unpadded}
-use Rattle.netlink_core.specs.CutOff.{CutOff}
+use Rattle.netlink_core.specs.Attribute.{Cut, CutOff, IsFramingFault, unpadded}
 use Rattle.netlink_core.specs.Walk.{attribute_of, bytes_left, GivesAttribute}
 
 -- items that are attributes
@@ -22,7 +21,7 @@ whole_walk walk [] h = subst (λ (w : NlasIterator). bytes_left w ≡ []) (sym h
 whole_walk walk (g ∷ given) h = (bytes_left h.1.1.0, h.1.1.1, whole_walk h.1.1.0 given (h.0, (h.1.0, h.1.1.2, h.1.2)))
 
 pub cut_off_walk : (walk last : NlasIterator) (given : List NlaBuffer) (e : DecodeError) → YieldsThen GivesAttribute walk (found given) (Some (Err e)) last
-    → CutOff (bytes_left walk) (map attribute_of given) e × (bytes_left last ≡ [])
+    → CutOff IsFramingFault (bytes_left walk) (map attribute_of given) e × (bytes_left last ≡ [])
 cut_off_walk walk last [] e h =
     let at : GivesAttribute walk (Some (Err e)) last = subst (λ (w : NlasIterator). GivesAttribute w (Some (Err e)) last) (sym h.1) h.2 in
     (record { before = []; after = bytes_left walk; parts = refl; cut = refl; left = at.0; fault = at.1 }, at.2)

@@ -77,6 +77,15 @@ IsFramingFault bytes (AttributeLengthUnder4 word) = (word ≡ first_word bytes) 
 IsFramingFault bytes (AttributeLengthPast word left) = (word ≡ first_word bytes) × (left ≡ length bytes) × (4 ≤ length bytes) × (4 ≤ word) × (length bytes < word)
 IsFramingFault bytes _ = ⊥
 
+-- Attributes come first, with all their padding. Then bytes are left, and there the fault is.
+pub record CutOff (faulty : List ℕ → DecodeError → Type 0) (bytes : List ℕ) (given : List Attribute) (e : DecodeError) : Type 0 where
+  pub before : List ℕ
+  pub after : List ℕ
+  pub parts : bytes ≡ before ++ after
+  pub cut : CutInFull before given
+  pub left : after ≢ []
+  pub fault : faulty after e
+
 -- What a reader makes of each attribute: a value, or the reason that it is refused.
 module _ {A : Type 0} (reads : Attribute → Result A DecodeError) where
   -- the bytes are cut into attributes, and these are what is read from them, in order
@@ -87,13 +96,6 @@ module _ {A : Type 0} (reads : Attribute → Result A DecodeError) where
   abbrev pub FaultAtFront : List ℕ → DecodeError → Type 0
   FaultAtFront bytes e = IsFramingFault bytes e ⊎ ((a : Attribute) × HeadIs bytes a × (reads a ≡ Err e))
 
-  -- Attributes that can be read come first, with all their padding. Then bytes are left, and there the fault is.
-  pub record AttributeFault (bytes : List ℕ) (e : DecodeError) : Type 0 where
-    pub before : List ℕ
-    pub after : List ℕ
-    pub attributes : List Attribute
-    pub parts : bytes ≡ before ++ after
-    pub cut : CutInFull before attributes
-    pub good : AllByRecursion (λ a. IsOk (reads a)) attributes
-    pub left : after ≢ []
-    pub fault : FaultAtFront after e
+  -- the first fault stands behind attributes that can be read
+  abbrev pub AttributeFault : List ℕ → DecodeError → Type 0
+  AttributeFault bytes e = (attributes : List Attribute) × CutOff FaultAtFront bytes attributes e × AllByRecursion (λ a. IsOk (reads a)) attributes

@@ -1,9 +1,10 @@
 -- Families of attributes: a list of kinds, and what follows from it: what each attribute says, which say the same,
 -- and what is written.
-use Rattle.std.specs.Prelude.{◌≡◌, ◌≢◌, ℕ, ◌⊎◌, ◌==◌, if◌then◌else◌, Bool, true, false, List, [], ◌∷◌, Option, Some, None, Result, Ok, Err, ⊤}
+use Rattle.std.specs.Prelude.{◌≡◌, ◌≢◌, ℕ, ◌⊎◌, ◌==◌, if◌then◌else◌, Bool, true, false, List, [], ◌∷◌, Option, Some, None, Result, Ok, ⊤}
 use Rattle.std.proofs.Common.{inl, inr}
 use Rattle.netlink_core.specs.declared.fault.DecodeError.{DecodeError}
 use Rattle.netlink_core.specs.Attribute.{Attribute, IsTypedAttribute, kind_of}
+use Rattle.netlink_core.specs.Faults.{said_as}
 use Rattle.netlink_core.specs.Prefix.{Prefix}
 
 -- one kind: its number, how its values are read and written, and whether they are kept without memory
@@ -20,11 +21,6 @@ Family = List Kind
 abbrev pub Said : Family → Type 0
 Said [] = Attribute
 Said (row ∷ rows) = row.value.Value ⊎ Said rows
-
--- what was read, said as something else
-abbrev pub said_as : {A B : Type 0} → (A → B) → Result A DecodeError → Result B DecodeError
-said_as made (Ok x) = Ok (made x)
-said_as made (Err e) = Err e
 
 -- what an attribute says, or why it is refused
 abbrev pub says : (F : Family) → Attribute → Result (Said F) DecodeError

@@ -6,7 +6,8 @@ use Rattle.std.proofs.lemmas.Nat.{and_mask}
 use Rattle.netlink_core.specs.declared.fault.DecodeError.{DecodeError}
 use Rattle.netlink_core.specs.declared.fault.DecodeError.TheVariants.{Memory}
 use Rattle.netlink_core.specs.Attribute.{Attribute, IsTypedAttribute, kind_of}
-use Rattle.netlink_core.specs.Family.{Kind, Family, Said, said_as, says, attribute_said, AreIdleAttributes, IsTypedSaid, IsNormalSaid}
+use Rattle.netlink_core.specs.Faults.{said_as}
+use Rattle.netlink_core.specs.Family.{Kind, Family, Said, says, attribute_said, AreIdleAttributes, IsTypedSaid, IsNormalSaid}
 use Rattle.netlink_core.specs.ShownLaws.{FamilyLaws}
 
 -- what was said is what was read

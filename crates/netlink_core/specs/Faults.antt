@@ -1,5 +1,6 @@
 -- The faults by number.
-use Rattle.std.specs.Prelude.{ℕ, Some, None, Result, Ok, Err}
+use Rattle.std.specs.Prelude.{ℕ, Some, None, Result}
+use Rattle.std.specs.Result.{result_map_both}
 use Rattle.netlink_core.specs.declared.fault.DecodeError.{DecodeError}
 use Rattle.netlink_core.specs.declared.fault.DecodeError.TheVariants.{Memory, BufferTooSmall, UnsupportedFamily, MessageTooShort, UnknownFamily, UnknownMessageType, AttributeHeaderCut, AttributeLengthUnder4, AttributeLengthPast, WrongLength, NotMultipleOfFour, NotUtf8, NameEmpty, NameInnerZero, NameWithoutEnd, EnvelopeCut, EnvelopeLengthUnder16, EnvelopeLengthPast}
 
@@ -31,5 +32,8 @@ of_kind k other = other
 
 -- an answer whose fault tells the kind
 abbrev pub under_kind : {A : Type 0} → ℕ → Result A DecodeError → Result A DecodeError
-under_kind k (Ok value) = Ok value
-under_kind k (Err fault) = Err (of_kind k fault)
+under_kind k answer = result_map_both (λ value. value) (of_kind k) answer
+
+-- what was read, said as something else; a fault stays
+abbrev pub said_as : {A B : Type 0} → (A → B) → Result A DecodeError → Result B DecodeError
+said_as made answer = result_map_both made (λ fault. fault) answer

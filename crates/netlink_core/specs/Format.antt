@@ -1,6 +1,7 @@
 -- Formats of records, by tables.
 use Rattle.std.specs.Prelude.{◌≡◌, ◌≤◌, ⊤, ℕ, nat_lt, if◌then◌else◌, List, length, Result, Ok, Err}
 use Rattle.netlink_core.specs.Table.{Row, values_of, bytes_of, live_bits, masked, Fit, AreDefined}
+use Rattle.netlink_core.specs.Faults.{said_as}
 use Rattle.netlink_core.specs.declared.fault.DecodeError.{DecodeError}
 use Rattle.netlink_core.specs.declared.fault.DecodeError.TheVariants.{BufferTooSmall}
 use Rattle.netlink_core.specs.declared.fault.RecordName.{RecordName}
@@ -38,14 +39,9 @@ plain name size rows values value is_shaped = record {
 }
 
 module _ {Param Tag Value : Type 0} (format : Format Param Tag Value) where
-  -- the value in a string, by the table that it tells
-  abbrev pub read_tagged : List ℕ → Result Tag DecodeError → Result Value DecodeError
-  read_tagged left (Ok tag) = Ok (format.value tag (values_of (format.table tag) left))
-  read_tagged left (Err fault) = Err fault
-
-  -- the value in a string that is long enough, or the fault of what it tells
+  -- the value in a string that is long enough, by the table that it tells, or the fault of what it tells
   abbrev pub read_row : Param → List ℕ → Result Value DecodeError
-  read_row param left = read_tagged left (format.tag_at param left)
+  read_row param left = said_as (λ tag. format.value tag (values_of (format.table tag) left)) (format.tag_at param left)
 
   -- the value in a string, or the first fault
   abbrev pub read : Param → List ℕ → Result Value DecodeError

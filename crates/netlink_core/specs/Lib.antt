@@ -8,8 +8,8 @@ pub mod Faults
 pub mod Canonical
 pub mod Attribute
 pub mod StatedCut
+pub mod Gives
 pub mod Walk
-pub mod CutOff
 pub mod Family
 pub mod Prefix
 pub mod Rows

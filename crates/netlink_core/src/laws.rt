@@ -4,14 +4,13 @@ ghost use Rattle.std.specs.Prelude.{◌≡◌, ◌↔◌, ◌⊎◌, ◌<◌, �
 ghost use Rattle.std.specs.Borrow.{Bor};
 ghost use Rattle.std.specs.Iterator.{Drains, YieldsThen};
 ghost use Rattle.std.specs.List.{AllByRecursion, flat_map};
-ghost use Rattle.netlink_core.specs.Attribute.{Attribute, FitsWords, Cut, CutInFull, written};
+ghost use Rattle.netlink_core.specs.Attribute.{Attribute, FitsWords, Cut, CutInFull, CutOff, IsFramingFault, written};
 ghost use Rattle.netlink_core.specs.StatedCut.{StatedCut};
 ghost use Rattle.netlink_core.specs.Format.{Reads, StandsIn};
 ghost use Rattle.netlink_core.specs.Bytes.{IsBytes};
-ghost use Rattle.netlink_core.specs.CutOff.{CutOff};
 ghost use Rattle.netlink_core.specs.Walk.{attribute_of, bytes_left, GivesAttribute};
 ghost use Rattle.netlink_core.specs.Datagram.{CutIntoMessages, AreWholeMessages};
-ghost use Rattle.netlink_core.specs.DatagramWalk.{datagram_left, message_bytes, found, GivesMessage};
+ghost use Rattle.netlink_core.specs.DatagramWalk.{datagram_left, GivesMessage};
 ghost use Rattle.netlink_core.specs.Items.{ItemsAre};
 ghost use Rattle.netlink_core.specs.Seen.{envelope_of};
 ghost use Rattle.netlink_core.specs.declared.attribute.NlaBuffer.{NlaBuffer};
@@ -64,7 +63,7 @@ pub fn whole_walk_is_the_cut()
         → Cut (bytes_left walk) (map attribute_of given) }
     ensures fault { (walk last : NlasIterator) (given : List NlaBuffer) (e : DecodeError)
         → YieldsThen GivesAttribute walk (map (λ (b : NlaBuffer). Ok b) given) (Some (Err e)) last
-        → CutOff (bytes_left walk) (map attribute_of given) e × (bytes_left last ≡ []) }
+        → CutOff IsFramingFault (bytes_left walk) (map attribute_of given) e × (bytes_left last ≡ []) }
 {}
 
 /// `==` says whether two values are the same.
@@ -189,11 +188,11 @@ pub fn finalized_message_reads_back<I: Coded<Param = u16>>()
 /// A walk that ends without a fault gave the messages into which the datagram is cut, and one that ends with a fault
 /// those that stand in front of it.
 pub fn whole_walk_is_the_datagram()
-    ensures ended { (walk : MessageStrings) (given : List (Bor (List ℕ))) → Drains GivesMessage walk (found given)
-        → CutIntoMessages (datagram_left walk) (map message_bytes given) None }
+    ensures ended { (walk : MessageStrings) (given : List (Bor (List ℕ))) → Drains GivesMessage walk (map (λ (m : Bor (List ℕ)). Ok m) given)
+        → CutIntoMessages (datagram_left walk) (map (λ (m : Bor (List ℕ)). m.now) given) None }
     ensures fault { (walk last : MessageStrings) (given : List (Bor (List ℕ))) (e : DecodeError)
-        → YieldsThen GivesMessage walk (found given) (Some (Err e)) last
-        → CutIntoMessages (datagram_left walk) (map message_bytes given) (Some e) × (datagram_left last ≡ []) }
+        → YieldsThen GivesMessage walk (map (λ (m : Bor (List ℕ)). Ok m) given) (Some (Err e)) last
+        → CutIntoMessages (datagram_left walk) (map (λ (m : Bor (List ℕ)). m.now) given) (Some e) × (datagram_left last ≡ []) }
 {}
 
 /// A datagram is cut into at most one list of messages, with one end.

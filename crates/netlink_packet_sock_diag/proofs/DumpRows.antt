@@ -1,6 +1,6 @@
 -- Each list of items has one dump, and items in a row have that of the first part, continued by the second.
 use Rattle.std.proofs.Common.{◌≡◌, ◌≢◌, ◌↔◌, ℕ, ◌⊎◌, inl, inr, List, [], ◌∷◌, ◌++◌, refl, sym, ap, subst, ◌∙◌, append_assoc}
-use Rattle.std.specs.Prelude.{Result, Ok, Err}
+use Rattle.std.specs.Prelude.{Option, Some, None, Result, Ok, Err}
 use Rattle.std.specs.List.{AllByRecursion, AllZip, flat_map}
 use Rattle.std.proofs.lemmas.List.{append-nil}
 use Rattle.std.proofs.lemmas.Grind.{flat_map-append}
@@ -15,7 +15,7 @@ use Rattle.netlink_packet_sock_diag.specs.declared.dump.DumpState.{DumpState}
 use Rattle.netlink_packet_sock_diag.specs.declared.dump.DumpState.TheVariants.{Reading, Done, Error, Overrun, Failed}
 use Rattle.netlink_packet_sock_diag.specs.declared.dump.DumpError.{DumpError}
 use Rattle.netlink_packet_sock_diag.specs.declared.dump.DumpError.TheVariants.{Ended, Fault}
-use Rattle.netlink_packet_sock_diag.specs.Dump.{in_a_row, GoesOn, kept, EndsWith, Ends, Dump, DumpGoesOn, DatagramDump, DatagramsDump, AreSplit}
+use Rattle.netlink_packet_sock_diag.specs.Dump.{in_a_row, end_of, GoesOn, kept, Ends, Dump, DumpGoesOn, DatagramDump, DatagramsDump, AreSplit}
 use Rattle.netlink_packet_sock_diag.specs.Feed.{FeedLeaves, FeedsLeave}
 
 -- the dump over items that come in several parts, one after the other
@@ -25,48 +25,34 @@ DumpInParts {A} before (items ∷ later) after end =
     (middle : List A) × (state : Result DumpState DecodeError) × Dump before items middle state
     × (((state ≡ Ok Reading) × DumpInParts middle later after end) ⊎ ((state ≢ Ok Reading) × (after ≡ middle) × (end ≡ state)))
 
-module _ {A : Type 0} where
-  no_end_and_plain : (item : Result (Payload A) DecodeError) (end : Result DumpState DecodeError) → GoesOn item → EndsWith item end → ⊥
-  no_end_and_plain (Ok (inner value)) end plain ends = ends
-  no_end_and_plain (Ok no_payload) end plain ends = ends
-  no_end_and_plain (Ok (done_with given)) end plain ends = plain
-  no_end_and_plain (Ok (error_with given)) end plain ends = plain
-  no_end_and_plain (Ok (overrun_with given)) end plain ends = plain
-  no_end_and_plain (Err e) end plain ends = plain
+none_or_some : {X : Type 0} (end : Option X) → (end ≡ None) ⊎ ((x : X) × (end ≡ Some x))
+none_or_some None = inl refl
+none_or_some (Some x) = inr (x, refl)
 
-  no_end_reading : (item : Result (Payload A) DecodeError) → EndsWith item (Ok Reading) → ⊥
-  no_end_reading (Ok (inner value)) ends = ends
-  no_end_reading (Ok no_payload) ends = ends
+module _ {A : Type 0} where
+  no_end_and_plain : (item : Result (Payload A) DecodeError) (end : Result DumpState DecodeError) → end_of item ≡ None → end_of item ≡ Some end → ⊥
+  no_end_and_plain item end plain ends = let no = sym plain ∙ ends in cc
+
+  no_end_reading : (item : Result (Payload A) DecodeError) → end_of item ≡ Some (Ok Reading) → ⊥
+  no_end_reading (Ok (inner value)) ends = cc
+  no_end_reading (Ok no_payload) ends = cc
   no_end_reading (Ok (done_with given)) ends = cc
   no_end_reading (Ok (error_with given)) ends = cc
   no_end_reading (Ok (overrun_with given)) ends = cc
   no_end_reading (Err e) ends = cc
 
-  one_end : (item : Result (Payload A) DecodeError) (e f : Result DumpState DecodeError) → EndsWith item e → EndsWith item f → e ≡ f
-  one_end (Ok (inner value)) e f h k = absurd h
-  one_end (Ok no_payload) e f h k = absurd h
-  one_end (Ok (done_with given)) e f h k = h ∙ sym k
-  one_end (Ok (error_with given)) e f h k = h ∙ sym k
-  one_end (Ok (overrun_with given)) e f h k = h ∙ sym k
-  one_end (Err fault) e f h k = h ∙ sym k
+  one_end : (item : Result (Payload A) DecodeError) (e f : Result DumpState DecodeError) → end_of item ≡ Some e → end_of item ≡ Some f → e ≡ f
+  one_end item e f h k = let same = sym h ∙ k in cc
 
-  plain_or_end : (item : Result (Payload A) DecodeError) → GoesOn item ⊎ ((end : Result DumpState DecodeError) × EndsWith item end)
-  plain_or_end (Ok (inner value)) = inl tt
-  plain_or_end (Ok no_payload) = inl tt
-  plain_or_end (Ok (done_with given)) = inr (Ok Done, refl)
-  plain_or_end (Ok (error_with given)) = inr (Ok Error, refl)
-  plain_or_end (Ok (overrun_with given)) = inr (Ok Overrun, refl)
-  plain_or_end (Err e) = inr (Err e, refl)
-
-  one_split : (p q l m : List (Result (Payload A) DecodeError)) (e f : Result DumpState DecodeError) → p ++ l ≡ q ++ m → AllByRecursion GoesOn p → AllByRecursion GoesOn q → Ends l e → Ends m f → (p ≡ q) × (e ≡ f)
+  one_split : (p q l m : List (Result (Payload A) DecodeError)) (e f : Result DumpState DecodeError) → p ++ l ≡ q ++ m → GoesOn p → GoesOn q → Ends l e → Ends m f → (p ≡ q) × (e ≡ f)
   one_split [] [] [] [] e f same hp hq el em = (refl, el ∙ sym em)
   one_split [] [] [] (y ∷ m) e f same hp hq el em = cc
   one_split [] [] (x ∷ l) [] e f same hp hq el em = cc
-  one_split [] [] (x ∷ l) (y ∷ m) e f same hp hq el em = let heads : x ≡ y = cc in (refl, one_end x e f el (subst (λ (i : Result (Payload A) DecodeError). EndsWith i f) (sym heads) em))
+  one_split [] [] (x ∷ l) (y ∷ m) e f same hp hq el em = let heads : x ≡ y = cc in (refl, one_end x e f el (ap end_of heads ∙ em))
   one_split [] (y ∷ q) [] m e f same hp hq el em = cc
-  one_split [] (y ∷ q) (x ∷ l) m e f same hp hq el em = let heads : x ≡ y = cc in absurd (no_end_and_plain y e hq.0 (subst (λ (i : Result (Payload A) DecodeError). EndsWith i e) heads el))
+  one_split [] (y ∷ q) (x ∷ l) m e f same hp hq el em = let heads : x ≡ y = cc in absurd (no_end_and_plain y e hq.0 (sym (ap end_of heads) ∙ el))
   one_split (x ∷ p) [] l [] e f same hp hq el em = cc
-  one_split (x ∷ p) [] l (y ∷ m) e f same hp hq el em = let heads : x ≡ y = cc in absurd (no_end_and_plain x f hp.0 (subst (λ (i : Result (Payload A) DecodeError). EndsWith i f) (sym heads) em))
+  one_split (x ∷ p) [] l (y ∷ m) e f same hp hq el em = let heads : x ≡ y = cc in absurd (no_end_and_plain x f hp.0 (ap end_of heads ∙ em))
   one_split (x ∷ p) (y ∷ q) l m e f same hp hq el em =
       let heads : x ≡ y = cc in
       let tails : p ++ l ≡ q ++ m = cc in
@@ -80,7 +66,7 @@ module _ {A : Type 0} where
 
   pub has_dump : (before : List A) (items : List (Result (Payload A) DecodeError)) → (after : List A) × (end : Result DumpState DecodeError) × Dump before items after end
   has_dump before [] = (before, Ok Reading, record { passed = []; later = []; parts = refl; plain = tt; keeps = sym (append-nil before); ends = refl })
-  has_dump before (item ∷ items) = elim (plain_or_end item) [
+  has_dump before (item ∷ items) = elim (none_or_some (end_of item)) [
     | inl plain ↦
         let rest = has_dump (before ++ kept item) items in
         let d = rest.2 in (
@@ -98,13 +84,13 @@ module _ {A : Type 0} where
     | inr e ↦ (before, e.0, record { passed = []; later = item ∷ items; parts = refl; plain = tt; keeps = sym (append-nil before); ends = e.1 })
   ]
 
-  plain_append : (xs ys : List (Result (Payload A) DecodeError)) → AllByRecursion GoesOn xs → AllByRecursion GoesOn ys → AllByRecursion GoesOn (xs ++ ys)
+  plain_append : (xs ys : List (Result (Payload A) DecodeError)) → GoesOn xs → GoesOn ys → GoesOn (xs ++ ys)
   plain_append [] ys h k = k
   plain_append (x ∷ xs) ys h k = (h.0, plain_append xs ys h.1 k)
 
   none_later : (later : List (Result (Payload A) DecodeError)) (state : Result DumpState DecodeError) → Ends later state → state ≡ Ok Reading → later ≡ []
   none_later [] state ends is = refl
-  none_later (item ∷ later) state ends is = absurd (no_end_reading item (subst (λ (s : Result DumpState DecodeError). EndsWith item s) is ends))
+  none_later (item ∷ later) state ends is = absurd (no_end_reading item (ends ∙ ap Some is))
 
   ends_before : (later more : List (Result (Payload A) DecodeError)) (state : Result DumpState DecodeError) → Ends later state → state ≢ Ok Reading → Ends (later ++ more) state
   ends_before [] more state ends other = absurd (other ends)
@@ -133,7 +119,7 @@ module _ {A : Type 0} where
 
   reading_or_not : (items : List (Result (Payload A) DecodeError)) (state : Result DumpState DecodeError) → Ends items state → (state ≡ Ok Reading) ⊎ (state ≢ Ok Reading)
   reading_or_not [] state ends = inl ends
-  reading_or_not (item ∷ items) state ends = inr (λ is. no_end_reading item (subst (λ (s : Result DumpState DecodeError). EndsWith item s) is ends))
+  reading_or_not (item ∷ items) state ends = inr (λ is. no_end_reading item (ends ∙ ap Some is))
 
   pub parted : (before after : List A) (end : Result DumpState DecodeError) (xs ys : List (Result (Payload A) DecodeError)) → Dump before (xs ++ ys) after end
       → (middle : List A) × (state : Result DumpState DecodeError) × Dump before xs middle state × DumpGoesOn middle state ys after end

@@ -1,7 +1,7 @@
 -- A dump goes through the items of a datagram.
 use Rattle.std.proofs.Common.{◌≡◌, ◌≢◌, ℕ, ◌-◌, ◌<◌, ◌^◌, ◌⊎◌, List, [], ◌∷◌, ◌++◌, take, drop, refl, sym, ap, subst, ◌∙◌, append_assoc}
-use Rattle.std.specs.Prelude.{Result, Ok, Err}
-use Rattle.std.specs.List.{AllByRecursion, flat_map}
+use Rattle.std.specs.Prelude.{Some, None, Result, Ok, Err}
+use Rattle.std.specs.List.{flat_map}
 use Rattle.std.proofs.lemmas.List.{append-nil}
 use Rattle.std.proofs.lemmas.Grind.{flat_map-append}
 use Rattle.netlink_core.specs.Bytes.{IsBytes}
@@ -15,9 +15,9 @@ use Rattle.netlink_core.proofs.Framing.{framed}
 use Rattle.netlink_core.proofs.Items.{Following, items_begin, items_go_on, items_with, no_items, fault_alone}
 use Rattle.netlink_packet_sock_diag.specs.declared.dump.DumpState.{DumpState}
 use Rattle.netlink_packet_sock_diag.specs.declared.dump.DumpState.TheVariants.{Reading}
-use Rattle.netlink_packet_sock_diag.specs.Dump.{GoesOn, kept, EndsWith, DatagramDump, DatagramStopped}
+use Rattle.netlink_packet_sock_diag.specs.Dump.{end_of, GoesOn, kept, DatagramDump, DatagramStopped}
 
-plain_push : {A : Type 0} (xs : List (Result (Payload A) DecodeError)) (item : Result (Payload A) DecodeError) → AllByRecursion GoesOn xs → GoesOn item → AllByRecursion GoesOn (xs ++ item ∷ [])
+plain_push : {A : Type 0} (xs : List (Result (Payload A) DecodeError)) (item : Result (Payload A) DecodeError) → GoesOn xs → end_of item ≡ None → GoesOn (xs ++ item ∷ [])
 plain_push [] item h is = (is, tt)
 plain_push (x ∷ xs) item h is = (h.0, plain_push xs item h.1 is)
 
@@ -29,7 +29,7 @@ module _ {A : Type 0} (reads : List ℕ → ℕ → A → Type 0) (refuses : Lis
   pub record Passing (datagram rest : List ℕ) (before after : List A) : Type 0 where
     pub passed : List (Result (Payload A) DecodeError)
     pub walk : Following reads refuses datagram passed rest
-    pub plain : AllByRecursion GoesOn passed
+    pub plain : GoesOn passed
     pub keeps : after ≡ before ++ flat_map kept passed
 
   pub passing_begins : (datagram : List ℕ) (before : List A) → Passing datagram datagram before before
@@ -39,7 +39,7 @@ module _ {A : Type 0} (reads : List ℕ → ℕ → A → Type 0) (refuses : Lis
   pub carries : (message : List ℕ) (h : NetlinkHeader) (carried : Payload A) → HasHeader message h → PayloadIs reads (take (h.length - 16) (drop 16 message)) h.message_type carried → ItemIs reads refuses message (Ok carried)
   carries message h carried head is = (h, (take (h.length - 16) (drop 16 message), framed message h head, is))
 
-  passes : (datagram rest next message : List ℕ) (before after : List A) (item : Result (Payload A) DecodeError) → GoesOn item
+  passes : (datagram rest next message : List ℕ) (before after : List A) (item : Result (Payload A) DecodeError) → end_of item ≡ None
       → Passing datagram rest before after → StartsWithMessage rest message next → ItemIs reads refuses message item → Passing datagram next before (after ++ kept item)
   passes datagram rest next message before after item plain p s is = record {
     passed = p.passed ++ item ∷ [];
@@ -50,15 +50,15 @@ module _ {A : Type 0} (reads : List ℕ → ℕ → A → Type 0) (refuses : Lis
 
   pub passes_nothing : (datagram rest next message : List ℕ) (before after : List A) → Passing datagram rest before after → StartsWithMessage rest message next
       → ItemIs reads refuses message (Ok no_payload) → Passing datagram next before after
-  passes_nothing datagram rest next message before after p s is = rw append-nil at (passes datagram rest next message before after (Ok no_payload) tt p s is)
+  passes_nothing datagram rest next message before after p s is = rw append-nil at (passes datagram rest next message before after (Ok no_payload) refl p s is)
 
   pub passes_inner : (datagram rest next message : List ℕ) (before after : List A) (value : A) → Passing datagram rest before after → StartsWithMessage rest message next
       → ItemIs reads refuses message (Ok (inner value)) → Passing datagram next before (after ++ value ∷ [])
-  passes_inner datagram rest next message before after value p s is = passes datagram rest next message before after (Ok (inner value)) tt p s is
+  passes_inner datagram rest next message before after value p s is = passes datagram rest next message before after (Ok (inner value)) refl p s is
 
   pub ends_at : ((b : List ℕ) (t : ℕ) → IsBytes b → t < 2 ^ 16 → ((m : A) × reads b t m) ⊎ ((e : DecodeError) × refuses b t e))
       → (datagram rest next message : List ℕ) (before after : List A) (item : Result (Payload A) DecodeError) (end : Result DumpState DecodeError) → IsBytes datagram
-      → Passing datagram rest before after → StartsWithMessage rest message next → ItemIs reads refuses message item → EndsWith item end → DatagramDump reads refuses before datagram after end
+      → Passing datagram rest before after → StartsWithMessage rest message next → ItemIs reads refuses message item → end_of item ≡ Some end → DatagramDump reads refuses before datagram after end
   ends_at answers datagram rest next message before after item end typed p s is ends =
       let all = items_with reads refuses answers datagram rest next message p.passed item typed p.walk s is in
       (p.passed ++ (item ∷ all.0), all.1, record { passed = p.passed; later = item ∷ all.0; parts = refl; plain = p.plain; keeps = p.keeps; ends = ends })

@@ -1,5 +1,5 @@
 -- The messages that a dump keeps of the items of its datagrams, and how it ends.
-use Rattle.std.specs.Prelude.{◌≡◌, ◌≢◌, ℕ, List, [], ◌∷◌, ◌++◌, ⊤, ◌⊎◌, Result, Ok, Err}
+use Rattle.std.specs.Prelude.{◌≡◌, ◌≢◌, ℕ, List, [], ◌∷◌, ◌++◌, ⊤, ◌⊎◌, Option, Some, None, Result, Ok, Err}
 use Rattle.std.specs.List.{AllByRecursion, flat_map}
 use Rattle.netlink_core.specs.declared.fault.DecodeError.{DecodeError}
 use Rattle.netlink_core.specs.Datagram.{AreWholeMessages}
@@ -13,29 +13,27 @@ abbrev pub in_a_row : {A : Type 0} → List (List A) → List A
 in_a_row lists = flat_map (λ one. one) lists
 
 module _ {A : Type 0} where
-  -- after the item the dump goes on
-  abbrev pub GoesOn : Result (Payload A) DecodeError → Type 0
-  GoesOn (Ok (inner value)) = ⊤
-  GoesOn (Ok no_payload) = ⊤
-  GoesOn _ = ⊥
-
   -- what is kept of the item
   abbrev pub kept : Result (Payload A) DecodeError → List A
   kept (Ok (inner value)) = value ∷ []
   kept _ = []
 
-  -- how the item ends a dump: in a state, or with a fault
-  abbrev pub EndsWith : Result (Payload A) DecodeError → Result DumpState DecodeError → Type 0
-  EndsWith (Ok (done_with given)) end = end ≡ Ok Done
-  EndsWith (Ok (error_with given)) end = end ≡ Ok Error
-  EndsWith (Ok (overrun_with given)) end = end ≡ Ok Overrun
-  EndsWith (Err e) end = end ≡ Err e
-  EndsWith _ end = ⊥
+  -- how the item ends a dump: in a state, or with a fault; after a message, or one of nothing, it goes on
+  abbrev pub end_of : Result (Payload A) DecodeError → Option (Result DumpState DecodeError)
+  end_of (Ok (done_with given)) = Some (Ok Done)
+  end_of (Ok (error_with given)) = Some (Ok Error)
+  end_of (Ok (overrun_with given)) = Some (Ok Overrun)
+  end_of (Err e) = Some (Err e)
+  end_of _ = None
+
+  -- after each item the dump goes on
+  abbrev pub GoesOn : List (Result (Payload A) DecodeError) → Type 0
+  GoesOn items = AllByRecursion (λ item. end_of item ≡ None) items
 
   -- the first of the later items ends the dump; where there is none it is still read
   abbrev pub Ends : List (Result (Payload A) DecodeError) → Result DumpState DecodeError → Type 0
   Ends [] end = end ≡ Ok Reading
-  Ends (item ∷ later) end = EndsWith item end
+  Ends (item ∷ later) end = end_of item ≡ Some end
 
   -- The inner messages of the longest beginning of the items that holds inner messages and messages of nothing alone
   -- follow those before, and the next item is the end.
@@ -43,7 +41,7 @@ module _ {A : Type 0} where
     pub passed : List (Result (Payload A) DecodeError)
     pub later : List (Result (Payload A) DecodeError)
     pub parts : items ≡ passed ++ later
-    pub plain : AllByRecursion GoesOn passed
+    pub plain : GoesOn passed
     pub keeps : after ≡ before ++ flat_map kept passed
     pub ends : Ends later end
 
@@ -53,7 +51,7 @@ module _ {A : Type 0} where
     pub next : A
     pub later : List (Result (Payload A) DecodeError)
     pub parts : items ≡ passed ++ (Ok (inner next) ∷ later)
-    pub plain : AllByRecursion GoesOn passed
+    pub plain : GoesOn passed
     pub keeps : after ≡ before ++ flat_map kept passed
 
 -- the dump goes on, if it was still read; else its list and its end stay

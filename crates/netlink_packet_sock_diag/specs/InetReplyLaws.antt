@@ -11,9 +11,9 @@ use Rattle.netlink_core.proofs.Prefixes.{prefix_laws, stands_in_front}
 use Rattle.netlink_core.proofs.Replies.{replies_keep_laws}
 use Rattle.sock_diag_records.specs.declared.inet.response.InetResponseHeader.{InetResponseHeader}
 use Rattle.sock_diag_records.specs.Kinds.{kinds_of_family}
-use Rattle.sock_diag_records.specs.InetResponse.{inet_response_header, with_class}
+use Rattle.sock_diag_records.specs.InetResponse.{inet_response_header}
 use Rattle.sock_diag_records.specs.Timer.{Tag, class_of_byte}
-use Rattle.sock_diag_records.specs.InetResponseLaws.{header_sound, header_size}
+use Rattle.sock_diag_records.specs.InetResponseLaws.{header_sound, header_size, with_class}
 use Rattle.sock_diag_attributes.specs.InetAttributeLaws.{inet_laws}
 use Rattle.netlink_packet_sock_diag.specs.InetReply.{inet_reply}
 

@@ -1,6 +1,7 @@
 -- A byte that says yes or no, as the value of an attribute.
 use Rattle.std.specs.Prelude.{◌≡◌, ℕ, ◌==◌, ◌↔◌, not, if◌then◌else◌, List, [], ◌∷◌, length, slice_index, Some, Bool, true, false, Result, Ok, Err, ⊤}
 use Rattle.netlink_core.specs.Prefix.{Prefix}
+use Rattle.netlink_core.specs.Rows.{exact_value}
 use Rattle.netlink_core.specs.declared.fault.DecodeError.{DecodeError}
 use Rattle.netlink_core.specs.declared.fault.DecodeError.TheVariants.{WrongLength}
 
@@ -15,11 +16,6 @@ flag_byte false = 0
 
 -- a flag of the kind k; two bytes are idle where both are zero or both are not
 abbrev pub flag_value : ℕ → Prefix
-flag_value k = record {
-  Value = Bool;
-  reads = read_flag k;
-  bytes = λ flag. flag_byte flag ∷ [];
+flag_value k = record (exact_value (read_flag k) (λ flag. flag_byte flag ∷ []) (λ flag. ⊤) (λ flag. ⊤)) {
   idle = λ left right. (slice_index left 0 ≡ 0) ↔ (slice_index right 0 ≡ 0);
-  is_typed = λ flag. ⊤;
-  is_normal = λ flag. ⊤;
 }

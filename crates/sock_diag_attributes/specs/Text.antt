@@ -3,6 +3,7 @@ use Rattle.std.specs.Prelude.{◌≡◌, ℕ, ◌⊎◌, List, [], ◌∷◌, �
 use Rattle.netlink_core.specs.Bytes.{IsBytes}
 use Rattle.netlink_core.specs.Parse.{text_in}
 use Rattle.netlink_core.specs.Prefix.{Prefix}
+use Rattle.netlink_core.specs.Rows.{exact_value}
 
 -- a text is always written with one end zero
 abbrev pub text_bytes : List ℕ → List ℕ
@@ -21,11 +22,4 @@ AreIdleTexts left right =
 
 -- a text is read from all of the value, and seen by its bytes, which are UTF-8
 abbrev pub text_value : Prefix
-text_value = record {
-  Value = List ℕ;
-  reads = text_in;
-  bytes = text_bytes;
-  idle = AreIdleTexts;
-  is_typed = λ text. IsUtf8 text × IsBytes text;
-  is_normal = λ text. ⊤;
-}
+text_value = record (exact_value text_in text_bytes (λ text. IsUtf8 text × IsBytes text) (λ text. ⊤)) { idle = AreIdleTexts }

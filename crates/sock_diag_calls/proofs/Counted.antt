@@ -3,8 +3,7 @@ use Rattle.std.proofs.Common.{Result, Ok, ◌≡◌, ◌≢◌, ℕ, suc, ◌+�
 use Rattle.std.specs.List.{AllZip}
 use Rattle.std.proofs.lemmas.List.{length-append}
 use Rattle.netlink_core.specs.declared.fault.DecodeError.{DecodeError}
-use Rattle.netlink_core.specs.Attribute.{Attribute, Cut, StartsWith, IsFramingFault, AttributeFault}
-use Rattle.netlink_core.specs.CutOff.{CutOff}
+use Rattle.netlink_core.specs.Attribute.{Attribute, Cut, CutOff, StartsWith, IsFramingFault, AttributeFault}
 use Rattle.netlink_core.proofs.Walking.{Continues, walk_begins, walk_goes_on, walk_ends, walk_is_cut_off}
 
 -- each attribute is taken as it is
@@ -39,21 +38,22 @@ count_ends bytes rest count c none =
     let all = walk_ends itself bytes rest c.so_far c.walk none in
     (all.0, all.1, same_length all.0 c.so_far all.2 ∙ c.many)
 
-framing_fault : (bytes : List ℕ) (e : DecodeError) → AttributeFault itself bytes e → (xs : List Attribute) × CutOff bytes xs e
-framing_fault bytes e f = (
-  f.attributes,
-  record {
-    before = f.before;
-    after = f.after;
-    parts = f.parts;
-    cut = f.cut;
-    left = f.left;
-    fault = elim f.fault [ inl framing ↦ framing | inr refused ↦ absurd (let wrong = refused.2 in cc) ];
-  },
-)
+framing_fault : (bytes : List ℕ) (e : DecodeError) → AttributeFault itself bytes e → (xs : List Attribute) × CutOff IsFramingFault bytes xs e
+framing_fault bytes e f =
+    let c = f.1 in (
+      f.0,
+      record {
+        before = c.before;
+        after = c.after;
+        parts = c.parts;
+        cut = c.cut;
+        left = c.left;
+        fault = elim c.fault [ inl framing ↦ framing | inr refused ↦ absurd (let wrong = refused.2 in cc) ];
+      },
+    )
 
 -- a fault stands behind those that were counted
-pub count_is_cut_off : (bytes rest : List ℕ) (count : ℕ) (e : DecodeError) → Counted bytes rest count → rest ≢ [] → IsFramingFault rest e → (xs : List Attribute) × CutOff bytes xs e
+pub count_is_cut_off : (bytes rest : List ℕ) (count : ℕ) (e : DecodeError) → Counted bytes rest count → rest ≢ [] → IsFramingFault rest e → (xs : List Attribute) × CutOff IsFramingFault bytes xs e
 count_is_cut_off bytes rest count e c some f = framing_fault bytes e (walk_is_cut_off itself bytes rest c.so_far e c.walk some f)
 
 -- what the loop keeps

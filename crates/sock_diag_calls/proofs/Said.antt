@@ -4,8 +4,8 @@ use Rattle.std.proofs.lemmas.Bool.{cases_eq, eq-eqb, ne_eqb}
 use Rattle.byteorder.specs.Endian.{little_number}
 use Rattle.netlink_core.specs.declared.fault.DecodeError.{DecodeError}
 use Rattle.netlink_core.specs.Attribute.{Attribute, kind_of}
-use Rattle.netlink_core.specs.Family.{said, said_as, says}
-use Rattle.netlink_core.specs.Faults.{under_kind}
+use Rattle.netlink_core.specs.Family.{said, says}
+use Rattle.netlink_core.specs.Faults.{said_as, under_kind}
 use Rattle.netlink_core.specs.Parse.{exact_number}
 use Rattle.sock_diag_attributes.specs.UnixAttributes.{unix}
 

@@ -1,8 +1,7 @@
 //! A walk over attributes, by `netlink_core`.
 
 ghost use Rattle.std.specs.Prelude.{◌≡◌, List, length, IfOk, IfErr};
-ghost use Rattle.netlink_core.specs.Attribute.{Attribute, Cut};
-ghost use Rattle.netlink_core.specs.CutOff.{CutOff};
+ghost use Rattle.netlink_core.specs.Attribute.{Attribute, Cut, CutOff, IsFramingFault};
 
 use netlink_core::{DecodeError, NlasIterator};
 
@@ -11,7 +10,7 @@ use netlink_core::{DecodeError, NlasIterator};
 pub fn count_attributes(bytes: &[u8]) -> Result<usize, DecodeError>
     ensures count { IfOk result (λ count. (attributes : List Attribute)
         × Cut bytes.now attributes × (length attributes ≡ count)) }
-    ensures fault { IfErr result (λ fault. (before : List Attribute) × CutOff bytes.now before fault) }
+    ensures fault { IfErr result (λ fault. (before : List Attribute) × CutOff IsFramingFault bytes.now before fault) }
 {
     let mut count = 0;
     for item in NlasIterator::new(bytes) {

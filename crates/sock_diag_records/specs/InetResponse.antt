@@ -1,14 +1,14 @@
 -- The header of a reply about an IPv4 or IPv6 socket: 72 bytes. The byte at 2 tells the timer, and with it
 -- whether the byte at 3 and the word at 52 are read.
-use Rattle.std.specs.Prelude.{◌≡◌, ℕ, List, [], ◌∷◌, ◌++◌, slice_index, Result, Ok, Err}
+use Rattle.std.specs.Prelude.{◌≡◌, ℕ, List, [], ◌∷◌, ◌++◌, slice_index, Ok}
 use Rattle.netlink_core.specs.Table.{Row, byte, unread, numbers, little_endian}
 use Rattle.netlink_core.specs.Format.{Format}
 use Rattle.sock_diag_records.specs.declared.inet.response.InetResponseHeader.{InetResponseHeader}
-use Rattle.netlink_core.specs.declared.fault.DecodeError.{DecodeError}
+use Rattle.netlink_core.specs.Faults.{said_as}
 use Rattle.netlink_core.specs.declared.fault.RecordName.TheVariants as name
 use Rattle.sock_diag_records.specs.Kinds.{Kinds, kinds_of, kinds_of_family}
 use Rattle.sock_diag_records.specs.SocketId.{IsShaped, socket_id_rows, socket_id_values}
-use Rattle.sock_diag_records.specs.Timer.{Class, class_of_byte, byte_of_class, class_of, retransmits_row, expires_row, retransmits_values, expires_values, IsWholeTimer, Tag}
+use Rattle.sock_diag_records.specs.Timer.{class_of_byte, byte_of_class, class_of, retransmits_row, expires_row, retransmits_values, expires_values, IsWholeTimer, Tag}
 use Rattle.sock_diag_records.specs.InetResponseInverse.{header_of}
 
 -- the bytes at 0 and 1, the timer, the identity at 4 and the words at 56, 60, 64 and 68
@@ -29,11 +29,6 @@ header_values value =
 abbrev pub tag_of : InetResponseHeader → Tag
 tag_of value = record { kinds = kinds_of value.socket_id; class = class_of value.timer }
 
--- the class beside what the family tells, or the family's fault
-abbrev pub with_class : Class → Result Kinds DecodeError → Result Tag DecodeError
-with_class class (Ok kinds) = Ok record { kinds = kinds; class = class }
-with_class class (Err fault) = Err fault
-
 -- the addresses are of the family's kind, and the timer's duration is whole milliseconds of 32 bits
 pub record IsOwn (value : InetResponseHeader) : Type 0 where
   pub same_kind : kinds_of_family value.family ≡ Ok (kinds_of value.socket_id)
@@ -46,7 +41,7 @@ inet_response_header = record {
   name = name.InetResponseHeader;
   least = 72;
   size = λ tag. 72;
-  tag_at = λ param left. with_class (class_of_byte (slice_index left 2)) (kinds_of_family (slice_index left 0));
+  tag_at = λ param left. said_as (λ kinds. record { kinds = kinds; class = class_of_byte (slice_index left 2) }) (kinds_of_family (slice_index left 0));
   tag_of = tag_of;
   table = header_rows;
   values = header_values;

@@ -8,6 +8,7 @@ use Rattle.std.specs.declared.time.Duration.{Duration}
 use Rattle.netlink_core.specs.Table.{Row, byte, values_of, bytes_of, number, unread, numbers, little_endian, Fit}
 use Rattle.netlink_core.specs.Sound.{is_table, IsSound}
 use Rattle.netlink_core.specs.Bytes.{IsBytes}
+use Rattle.netlink_core.specs.Faults.{said_as}
 use Rattle.netlink_core.specs.Format.{IsFixed, IsTyped, bytes}
 use Rattle.netlink_core.proofs.RowReads.{fit-append}
 use Rattle.netlink_core.proofs.Numbers.{number-fits}
@@ -23,7 +24,7 @@ use Rattle.sock_diag_records.specs.SocketId.{socket_id_rows, socket_id_values, s
 use Rattle.sock_diag_records.specs.SocketIdInverse.{socket_id_of}
 use Rattle.sock_diag_records.specs.Kinds.{Kind, ipv4, ipv6, Kinds, kinds_of, kinds_of_family}
 use Rattle.sock_diag_records.specs.SocketId as identity
-use Rattle.sock_diag_records.specs.InetResponse.{header_rows, header_values, tag_of, with_class, inet_response_header}
+use Rattle.sock_diag_records.specs.InetResponse.{header_rows, header_values, tag_of, inet_response_header}
 use Rattle.sock_diag_records.specs.InetResponseInverse.{duration, retransmits_count, expires_count, timer_of, header_of, socket_id_count}
 use Rattle.sock_diag_records.specs.Timer.{milliseconds, IsWholeMilliseconds, Class, retransmits, keeps_alive, waits, probes, none, class_of_byte, byte_of_class, class_of, retransmits_row, expires_row, retransmits_values, expires_values, IsWholeTimer, Tag}
 use Rattle.sock_diag_records.specs.TablesInARowLaws.{is_table-append, values_of-append}
@@ -167,6 +168,13 @@ whole_read t left h = subst (λ (value : InetResponseHeader). IsWholeTimer value
 shaped_read : (t : Tag) (left : List ℕ) → identity.IsShaped (header_of t (values_of (header_rows t) left)).socket_id
 shaped_read t left = subst (λ (value : InetResponseHeader). identity.IsShaped value.socket_id) (sym (header_is t left)) (shaped_is 4 t.kinds.source t.kinds.destination left)
 
+abbrev the_tag : Kinds → Class → Tag
+the_tag kinds class = record { kinds = kinds; class = class }
+
+-- the class beside what the family tells, or the family's fault
+abbrev pub with_class : Class → Result Kinds DecodeError → Result Tag DecodeError
+with_class class told = said_as (λ kinds. the_tag kinds class) told
+
 -- what the tag tells
 told_parts : (class : Class) (kinds : Result Kinds DecodeError) (told : Tag) → with_class class kinds ≡ Ok told → (kinds ≡ Ok told.kinds) × (class ≡ told.class)
 told_parts class (Ok kinds) told e =
@@ -215,9 +223,6 @@ header_back value shaped whole =
     ap (header_with value.family value.state) (ap (λ (b : List ℕ). timer_of (class_of value.timer) (slice_index (retransmits_values value.timer ++ rest) 0) (slice_index b 0)) behind_is ∙ timer_back value.timer rest last whole)
     ⊛ (ap (socket_id_of (kinds_of value.socket_id)) socket_is ∙ socket_id_back value.socket_id behind shaped)
     ⊛ (ap (drop (expires_count (class_of value.timer))) behind_is ∙ drop_expires value.timer last)
-
-abbrev the_tag : Kinds → Class → Tag
-the_tag kinds class = record { kinds = kinds; class = class }
 
 -- a header has the tag under which it was read
 tag_read : (t : Tag) (values : List ℕ) → tag_of (header_of t values) ≡ t

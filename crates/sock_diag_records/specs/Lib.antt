@@ -1,5 +1,6 @@
 pub mod Constants
 pub mod Flags
+pub mod UnixRequestInverse
 pub mod UnixRequest
 pub mod UnixRequestLaws
 pub mod Kinds
@@ -7,6 +8,7 @@ pub mod SocketIdInverse
 pub mod SocketId
 pub mod TablesInARowLaws
 pub mod SocketIdLaws
+pub mod UnixResponseHeaderInverse
 pub mod UnixResponseHeader
 pub mod UnixResponseHeaderLaws
 pub mod InetRequestInverse

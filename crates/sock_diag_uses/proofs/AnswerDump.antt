@@ -109,9 +109,9 @@ module _ (reads_back : (v : Envelope Message) → IsTypedEnvelope IsTypedMessage
 
 -- ---- the dump
 
-plain_all : (rs : List UnixReply) → AllByRecursion (GoesOn {A = Message}) (map (λ r. Ok (inner (unix_response_with r))) rs)
+plain_all : (rs : List UnixReply) → GoesOn {A = Message} (map (λ r. Ok (inner (unix_response_with r))) rs)
 plain_all [] = tt
-plain_all (r ∷ rs) = (tt, plain_all rs)
+plain_all (r ∷ rs) = (refl, plain_all rs)
 
 keeps_all : (rs : List UnixReply) → map unix_response_with rs ≡ flat_map kept (map (λ (r : UnixReply). Ok (inner (unix_response_with r))) rs)
 keeps_all [] = refl

@@ -53,19 +53,23 @@ pub record SoFar (bytes : List ℕ) (told : List Told) (rest : List ℕ) : Type 
 
 -- a fault behind an attribute is a fault of the bytes with it
 behind : (bytes rest : List ℕ) (a : Attribute) (t : Told) (e : DecodeError) → StartsWith bytes a rest → told_by a ≡ Ok t → AttributeFault told_by rest e → AttributeFault told_by bytes e
-behind bytes rest a t e s tells f = elim s.filled [
-  | inl full ↦ record {
-    before = unpadded a ++ (s.padding ++ f.before);
-    after = f.after;
-    attributes = a ∷ f.attributes;
-    parts = s.parts ∙ ap (λ (tail : List ℕ). unpadded a ++ (s.padding ++ tail)) f.parts ∙ simp append_assoc;
-    cut = (s.padding, f.before, refl, s.fits, full, f.cut);
-    good = (rw tells refl, f.good);
-    left = f.left;
-    fault = f.fault;
-  }
-  | inr short ↦ absurd (f.left (both_empty f.before f.after (sym f.parts ∙ short.1)))
-]
+behind bytes rest a t e s tells f =
+    let c = f.1 in
+    elim s.filled [
+      | inl full ↦ (
+        a ∷ f.0,
+        record {
+          before = unpadded a ++ (s.padding ++ c.before);
+          after = c.after;
+          parts = s.parts ∙ ap (λ (tail : List ℕ). unpadded a ++ (s.padding ++ tail)) c.parts ∙ simp append_assoc;
+          cut = (s.padding, c.before, refl, s.fits, full, c.cut);
+          left = c.left;
+          fault = c.fault;
+        },
+        (rw tells refl, f.2),
+      )
+      | inr short ↦ absurd (c.left (both_empty c.before c.after (sym c.parts ∙ short.1)))
+    ]
 
 -- the walk begins with all the bytes
 pub begins : (bytes : List ℕ) → SoFar bytes [] bytes
@@ -84,7 +88,7 @@ ends bytes rest told walk none = rw append-nil at (walk.means [] ([], none, tt))
 
 -- a fault where it stands is the fault of the bytes
 here : (rest : List ℕ) (e : DecodeError) → rest ≢ [] → FaultAtFront told_by rest e → AttributeFault told_by rest e
-here rest e some f = record { before = []; after = rest; attributes = []; parts = refl; cut = refl; good = tt; left = some; fault = f }
+here rest e some f = ([], record { before = []; after = rest; parts = refl; cut = refl; left = some; fault = f }, tt)
 
 pub cut_off : (bytes rest : List ℕ) (told : List Told) (e : DecodeError) → SoFar bytes told rest → rest ≢ [] → IsFramingFault rest e → AttributeFault told_by bytes e
 cut_off bytes rest told e walk some f = walk.fault e (here rest e some (inl f))

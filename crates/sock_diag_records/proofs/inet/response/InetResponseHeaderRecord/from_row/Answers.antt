@@ -6,10 +6,10 @@ use Rattle.netlink_core.proofs.Congruence.{◌⊛◌}
 use Rattle.netlink_core.specs.declared.fault.DecodeError.{DecodeError}
 use Rattle.sock_diag_records.specs.SocketId.{socket_id}
 use Rattle.sock_diag_records.specs.SocketIdInverse.{socket_id_of}
-use Rattle.sock_diag_records.specs.InetResponse.{inet_response_header, with_class}
+use Rattle.sock_diag_records.specs.InetResponse.{inet_response_header}
 use Rattle.sock_diag_records.specs.InetResponseInverse.{timer_of}
 use Rattle.sock_diag_records.specs.Timer.{Tag, class_of_byte}
-use Rattle.sock_diag_records.specs.InetResponseLaws.{header_is}
+use Rattle.sock_diag_records.specs.InetResponseLaws.{header_is, with_class}
 use Rattle.sock_diag_records.specs.SocketIdLaws.{values-inside}
 use Rattle.sock_diag_records.specs.declared.inet.response.Timer.{Timer}
 use Rattle.sock_diag_records.specs.declared.inet.response.InetResponseHeader.{InetResponseHeader}

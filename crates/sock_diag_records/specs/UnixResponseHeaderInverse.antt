@@ -1,0 +1,12 @@
+-- The header of a reply about a UNIX socket with the numbers of its rows.
+use Rattle.std.specs.Prelude.{ℕ, List, take, drop, slice_index}
+use Rattle.sock_diag_records.specs.declared.unix.response.UnixResponseHeader.{UnixResponseHeader}
+
+-- the header with these values
+abbrev pub unix_response_header_of : List ℕ → UnixResponseHeader
+unix_response_header_of values = record {
+  kind = slice_index values 0;
+  state = slice_index values 1;
+  inode = slice_index values 2;
+  cookie = take 8 (drop 3 values);
+}
