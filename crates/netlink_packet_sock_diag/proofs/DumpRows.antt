@@ -12,7 +12,7 @@ use Rattle.netlink_core.specs.ByteLaws.{IsBytes-nil, IsBytes-append}
 use Rattle.netlink_core.specs.Items.{ItemsAre}
 use Rattle.netlink_core.proofs.Items.{no_items, items_in_a_row}
 use Rattle.netlink_packet_sock_diag.specs.declared.dump.DumpState.{DumpState}
-use Rattle.netlink_packet_sock_diag.specs.declared.dump.DumpState.TheVariants.{Reading, Done, Error, Overrun, Failed}
+use Rattle.netlink_packet_sock_diag.specs.declared.dump.DumpState.TheVariants.{Reading, Failed}
 use Rattle.netlink_packet_sock_diag.specs.declared.dump.DumpError.{DumpError}
 use Rattle.netlink_packet_sock_diag.specs.declared.dump.DumpError.TheVariants.{Ended, Fault}
 use Rattle.netlink_packet_sock_diag.specs.Dump.{in_a_row, end_of, GoesOn, kept, Ends, Dump, DumpGoesOn, DatagramDump, DatagramsDump, AreSplit}

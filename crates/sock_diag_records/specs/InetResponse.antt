@@ -6,7 +6,7 @@ use Rattle.netlink_core.specs.Format.{Format}
 use Rattle.sock_diag_records.specs.declared.inet.response.InetResponseHeader.{InetResponseHeader}
 use Rattle.netlink_core.specs.Faults.{said_as}
 use Rattle.netlink_core.specs.declared.fault.RecordName.TheVariants as name
-use Rattle.sock_diag_records.specs.Kinds.{Kinds, kinds_of, kinds_of_family}
+use Rattle.sock_diag_records.specs.Kinds.{kinds_of, kinds_of_family}
 use Rattle.sock_diag_records.specs.SocketId.{IsShaped, socket_id_rows, socket_id_values}
 use Rattle.sock_diag_records.specs.Timer.{class_of_byte, byte_of_class, class_of, retransmits_row, expires_row, retransmits_values, expires_values, IsWholeTimer, Tag}
 use Rattle.sock_diag_records.specs.InetResponseInverse.{header_of}
