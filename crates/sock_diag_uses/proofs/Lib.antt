@@ -1,3 +1,3 @@
 pub mod Pushing
-pub mod LinkWalk
+pub mod LinkTells
 pub mod AnswerDump
