@@ -3,10 +3,10 @@ use Rattle.std.proofs.Common.{◌≡◌, ◌↔◌, inl, inr, ℕ, ◌<◌, ◌�
 use Rattle.std.proofs.lemmas.Bool.{cases_lt}
 use Rattle.netlink_core.specs.Bytes.{IsBytes}
 use Rattle.netlink_core.specs.Table.{Row, values_of, bytes_of, Fit, AreDefined}
-use Rattle.netlink_core.specs.Sound.{is_table, IsSound}
+use Rattle.netlink_core.specs.SoundLaws.{is_table, IsSound}
 use Rattle.netlink_core.specs.Format.{Format, read, read_row, Reads, StandsIn, bytes, AreIdle, IsTyped, IsNormal, plain}
 use Rattle.netlink_core.specs.Faults.{said_as}
-use Rattle.netlink_core.specs.Codec.{KeepsLaws, record_codec}
+use Rattle.netlink_core.specs.Codec.{KeepsLaws, RecordLaws, record_codec}
 use Rattle.netlink_core.specs.FrontLaws.{value_or_reason}
 use Rattle.netlink_core.proofs.TableLaws.{IsTable, table_from_test, values-bytes_of, values-fit, values-defined, bytes_of-bytes, same_live, same_values}
 use Rattle.netlink_core.specs.declared.fault.DecodeError.{DecodeError}
@@ -169,18 +169,22 @@ module _ {Param Tag Value : Type 0} (format : Format Param Tag Value) (sound : I
   -- the laws together
   pub keeps_laws : KeepsLaws (record_codec format)
   keeps_laws = record {
-    answered = λ b p tb tp. value_or_reason (read format p b);
+    answered = λ b p tb. value_or_reason (read format p b);
     one_answer = λ b p v e h k. not_both (read format p b) v e h k;
     one_fault = λ b p e f h k. same_fault (read format p b) e f h k;
     named_fault = λ b p h. named p b h;
-    same_value = λ b c p v w tb tc tp r s. (
+    same_value = λ b c p v w tb tc r s. (
       λ e. idle_from_equal p b c v tb tc (accepted format p b v r) (accepted format p c v (s ∙ ap (λ (x : Value). ok x) (sym e))),
       λ i. same_tag (read format p b) v w r (equal_from_idle p b c tb tc i ∙ s),
     );
-    reads_normal = λ b p v tb tp r. normal_read p b v tb r;
+    reads_normal = λ b p v tb r. normal_read p b v tb r;
     written_bytes = written_bytes;
-    reads_back = λ p v tp tv n f. reads_back p v tv n;
+    reads_back = λ p v tv n f. reads_back p v tv n;
   }
+
+  -- the laws of the record
+  pub record_laws : RecordLaws format
+  record_laws = record { codec = keeps_laws; long = sound.long; stands = λ b p v h. stands_where_read p b v h }
 
 -- what is shown of a record with one table
 pub plain_sound : {Value : Type 0} {name : RecordName} {size : ℕ} {rows : List Row} {values : Value → List ℕ} {value : List ℕ → Value} {is_shaped : Value → Type 0}

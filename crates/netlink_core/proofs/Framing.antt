@@ -114,7 +114,7 @@ of_kept_type reads x t = elim (cases_eq t 1) [
 -- Bytes have one message or one fault, where payloads of inner messages have one of them or one fault.
 module _ {A : Type 0} (reads : List ℕ → ℕ → A → Type 0) (refuses : List ℕ → ℕ → DecodeError → Type 0) where
   -- a message or a fault
-  pub envelope_or_fault : (b : List ℕ) → IsBytes b → ((x : List ℕ) (t : ℕ) → IsBytes x → t < 2 ^ 16 → ((m : A) × reads x t m) ⊎ ((e : DecodeError) × refuses x t e))
+  pub envelope_or_fault : (b : List ℕ) → IsBytes b → ((x : List ℕ) (t : ℕ) → IsBytes x → ((m : A) × reads x t m) ⊎ ((e : DecodeError) × refuses x t e))
       → ((v : Envelope A) × EnvelopeIs reads b v) ⊎ ((e : DecodeError) × EnvelopeFault refuses b e)
   envelope_or_fault b tb law = elim (header_or_fault b tb) [
     | inr fault ↦ inr (fault.0, inl fault.1)
@@ -124,7 +124,7 @@ module _ {A : Type 0} (reads : List ℕ → ℕ → A → Type 0) (refuses : Lis
         let frame = framed b h found.1 in
         elim (of_kept_type reads x h.message_type) [
           | inr kept ↦ inl (record { header = h; payload = kept.0 }, (x, frame, kept.1))
-          | inl kind ↦ elim (law x h.message_type (AreBytes-take (h.length - 16) (drop 16 b) (AreBytes-drop 16 b tb)) frame.typed.message_type) [
+          | inl kind ↦ elim (law x h.message_type (AreBytes-take (h.length - 16) (drop 16 b) (AreBytes-drop 16 b tb))) [
             | inl answer ↦ inl (record { header = h; payload = inner answer.0 }, (x, frame, (kind, answer.1)))
             | inr fault ↦ inr (fault.0, inr (h, x, frame, kind, fault.1))
           ]

@@ -74,20 +74,20 @@ module _ {A : Type 0} (reads : List ℕ → ℕ → A → Type 0) where
 
   -- messages that are written alike are equal
   pub equal_where_alike : (written : A → List ℕ) (fits : A → Type 0) (b c : List ℕ)
-      → ((t : ℕ) (x y : List ℕ) (v w : A) → t < 2 ^ 16 → x ≡ payload_at b → y ≡ payload_at c → reads x t v → reads y t w → fits v → fits w → written v ≡ written w → v ≡ w)
+      → ((t : ℕ) (x y : List ℕ) (v w : A) → x ≡ payload_at b → y ≡ payload_at c → reads x t v → reads y t w → fits v → fits w → written v ≡ written w → v ≡ w)
       → (v w : Envelope A) → EnvelopeIs reads b v → EnvelopeIs reads c w → OfInner fits v.payload → OfInner fits w.payload
       → envelope_bytes written v ≡ envelope_bytes written w → v ≡ w
   equal_where_alike written fits b c law v w r s fv fw e =
       let headers : v.header ≡ w.header = one_header v.header w.header r.1.typed s.1.typed (ap (take 16) e) in
       let read : PayloadIs reads s.0 v.header.message_type w.payload = subst (λ (h : NetlinkHeader). PayloadIs reads s.0 h.message_type w.payload) (sym headers) s.2 in
       let same : v.payload ≡ w.payload = payloads_alike written fits v.header.message_type r.0 s.0
-      (λ m n. law v.header.message_type r.0 s.0 m n r.1.typed.message_type (sym (framed_payload b r.0 v.header r.1)) (sym (framed_payload c s.0 w.header s.1)))
+      (λ m n. law v.header.message_type r.0 s.0 m n (sym (framed_payload b r.0 v.header r.1)) (sym (framed_payload c s.0 w.header s.1)))
       v.payload w.payload r.2 read fv fw (ap (drop 16) e) in
       λ z. record { header = headers z; payload = same z }
 
   -- messages are equal exactly where their strings are idle
   pub equal_where_idle : (idle : ℕ → List ℕ → List ℕ → Type 0) (b c : List ℕ)
-      → ((t : ℕ) (x y : List ℕ) (v w : A) → t < 2 ^ 16 → x ≡ payload_at b → y ≡ payload_at c → reads x t v → reads y t w → ((v ≡ w) ↔ idle t x y))
+      → ((t : ℕ) (x y : List ℕ) (v w : A) → x ≡ payload_at b → y ≡ payload_at c → reads x t v → reads y t w → ((v ≡ w) ↔ idle t x y))
       → (v w : Envelope A) → EnvelopeIs reads b v → EnvelopeIs reads c w → ((v ≡ w) ↔ IdleEnvelopes idle b c)
   equal_where_idle idle b c law v w r s =
       let xb = framed_payload b r.0 v.header r.1 in
@@ -96,17 +96,16 @@ module _ {A : Type 0} (reads : List ℕ → ℕ → A → Type 0) where
       let tc = framed_type c s.0 w.header s.1 in
       let read-b : PayloadIs reads (payload_at b) (type_word b) v.payload = subst (λ (t : ℕ). PayloadIs reads (payload_at b) t v.payload) (sym tb) (subst (λ (x : List ℕ). PayloadIs reads x v.header.message_type v.payload) (sym xb) r.2) in
       let read-c : (type_word b ≡ type_word c) → PayloadIs reads (payload_at c) (type_word b) w.payload = λ same. subst (λ (t : ℕ). PayloadIs reads (payload_at c) t w.payload) (sym tc ∙ sym same) (subst (λ (x : List ℕ). PayloadIs reads x w.header.message_type w.payload) (sym yc) s.2) in
-      let fits : type_word b < 2 ^ 16 = let f = r.1.typed.message_type in omega (arith, tb) in
       let fronts = framed_front b r.0 v.header r.1 in
       let others = framed_front c s.0 w.header s.1 in (
         λ e.
             let types : type_word b ≡ type_word c = tb ∙ ap (λ (m : Envelope A). m.header.message_type) e ∙ sym tc in
-            let payloads = payloads_idle idle (type_word b) (payload_at b) (payload_at c) (λ x y. law (type_word b) _ _ x y fits refl refl) v.payload w.payload read-b (read-c types) in
+            let payloads = payloads_idle idle (type_word b) (payload_at b) (payload_at c) (λ x y. law (type_word b) _ _ x y refl refl) v.payload w.payload read-b (read-c types) in
             (fronts ∙ ap (λ (m : Envelope A). header_bytes m.header) e ∙ sym others, payloads.0 (ap (λ (m : Envelope A). m.payload) e)),
         λ i.
             let headers : v.header ≡ w.header = one_header v.header w.header r.1.typed s.1.typed (sym fronts ∙ i.0 ∙ others) in
             let types : type_word b ≡ type_word c = tb ∙ ap (λ (h : NetlinkHeader). h.message_type) headers ∙ sym tc in
-            let payloads = payloads_idle idle (type_word b) (payload_at b) (payload_at c) (λ x y. law (type_word b) _ _ x y fits refl refl) v.payload w.payload read-b (read-c types) in
+            let payloads = payloads_idle idle (type_word b) (payload_at b) (payload_at c) (λ x y. law (type_word b) _ _ x y refl refl) v.payload w.payload read-b (read-c types) in
             let same : v.payload ≡ w.payload = payloads.1 i.1 in
             λ z. record { header = headers z; payload = same z },
       )

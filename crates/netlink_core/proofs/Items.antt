@@ -39,7 +39,7 @@ zip_append R (x ∷ xs) ys (v ∷ vs) ws h k = (h.0, zip_append R xs ys vs ws h.
 
 module _ {A : Type 0} (reads : List ℕ → ℕ → A → Type 0) (refuses : List ℕ → ℕ → DecodeError → Type 0) where
   -- a message has an item
-  item_of : ((b : List ℕ) (t : ℕ) → IsBytes b → t < 2 ^ 16 → ((m : A) × reads b t m) ⊎ ((e : DecodeError) × refuses b t e))
+  item_of : ((b : List ℕ) (t : ℕ) → IsBytes b → ((m : A) × reads b t m) ⊎ ((e : DecodeError) × refuses b t e))
       → (message : List ℕ) → IsBytes message → (item : Result (Payload A) DecodeError) × ItemIs reads refuses message item
   item_of law message typed = elim (envelope_or_fault reads refuses message typed law) [
     | inl v ↦ (Ok v.0.payload, (v.0.header, v.1))
@@ -67,7 +67,7 @@ module _ {A : Type 0} (reads : List ℕ → ℕ → A → Type 0) (refuses : Lis
   fault_alone bytes e some f = record { messages = []; end = Some e; carried = []; cut = (some, f); each = tt; parts = refl }
 
   -- each datagram has items, by its length
-  items_within : ((b : List ℕ) (t : ℕ) → IsBytes b → t < 2 ^ 16 → ((m : A) × reads b t m) ⊎ ((e : DecodeError) × refuses b t e))
+  items_within : ((b : List ℕ) (t : ℕ) → IsBytes b → ((m : A) × reads b t m) ⊎ ((e : DecodeError) × refuses b t e))
       → (n : ℕ) (bytes : List ℕ) → length bytes < n → IsBytes bytes → (items : List (Result (Payload A) DecodeError)) × ItemsAre reads refuses bytes items
   items_within law zero bytes short typed = absurd (omega arith)
   items_within law (suc n) [] short typed = ([], no_items)
@@ -81,7 +81,7 @@ module _ {A : Type 0} (reads : List ℕ → ℕ → A → Type 0) (refuses : Lis
   ]
 
   -- each datagram has items
-  pub items_of : ((b : List ℕ) (t : ℕ) → IsBytes b → t < 2 ^ 16 → ((m : A) × reads b t m) ⊎ ((e : DecodeError) × refuses b t e))
+  pub items_of : ((b : List ℕ) (t : ℕ) → IsBytes b → ((m : A) × reads b t m) ⊎ ((e : DecodeError) × refuses b t e))
       → (bytes : List ℕ) → IsBytes bytes → (items : List (Result (Payload A) DecodeError)) × ItemsAre reads refuses bytes items
   items_of law bytes typed = items_within law (suc (length bytes)) bytes (omega arith) typed
 
@@ -122,7 +122,7 @@ module _ {A : Type 0} (reads : List ℕ → ℕ → A → Type 0) (refuses : Lis
   }
 
   -- all items, where one that was found is followed by others
-  pub items_with : ((b : List ℕ) (t : ℕ) → IsBytes b → t < 2 ^ 16 → ((m : A) × reads b t m) ⊎ ((e : DecodeError) × refuses b t e))
+  pub items_with : ((b : List ℕ) (t : ℕ) → IsBytes b → ((m : A) × reads b t m) ⊎ ((e : DecodeError) × refuses b t e))
       → (bytes rest after message : List ℕ) (so_far : List (Result (Payload A) DecodeError)) (item : Result (Payload A) DecodeError) → IsBytes bytes
       → Following bytes so_far rest → StartsWithMessage rest message after → ItemIs reads refuses message item
       → (later : List (Result (Payload A) DecodeError)) × ItemsAre reads refuses bytes (so_far ++ (item ∷ later))

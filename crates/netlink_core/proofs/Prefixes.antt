@@ -4,7 +4,7 @@ use Rattle.std.proofs.lemmas.List.{length-append}
 use Rattle.netlink_core.specs.declared.fault.DecodeError.{DecodeError}
 use Rattle.netlink_core.specs.Table.{values_of}
 use Rattle.netlink_core.specs.Format.{Format, read, bytes, IsTyped, IsNormal, IsFixed}
-use Rattle.netlink_core.specs.Sound.{IsSound}
+use Rattle.netlink_core.specs.SoundLaws.{IsSound}
 use Rattle.netlink_core.specs.Prefix.{prefix_of}
 use Rattle.netlink_core.specs.ShownLaws.{PrefixLaws, StandsInFront}
 use Rattle.netlink_core.proofs.TableLaws.{table_from_test, values-bytes_of}
@@ -17,10 +17,10 @@ module _ {Param Tag Value : Type 0} (format : Format Param Tag Value) (param : P
       let laws = keeps_laws format sound in
       record {
         named = λ b h. laws.named_fault b param h;
-        same_value = λ b c v w b-typed c-typed h k. laws.same_value b c param v w b-typed c-typed tt h k;
-        gives_normal = λ b v typed h. laws.reads_normal b param v typed tt h;
+        same_value = λ b c v w b-typed c-typed h k. laws.same_value b c param v w b-typed c-typed h k;
+        gives_normal = λ b v typed h. laws.reads_normal b param v typed h;
         bytes_typed = laws.written_bytes;
-        reads_back = λ v typed normal. laws.reads_back param v tt typed normal tt;
+        reads_back = λ v typed normal. laws.reads_back param v typed normal tt;
       }
 
   -- a value's bytes tell its tag and its values also where others follow

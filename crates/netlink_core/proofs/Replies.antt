@@ -159,12 +159,12 @@ module _ (R : Reply) (laws : ReplyLaws R) where
   -- the laws together
   pub replies_keep_laws : KeepsLaws (reply_codec R)
   replies_keep_laws = record {
-    answered = λ b p typed tp. reply_answered b typed;
+    answered = λ b p typed. reply_answered b typed;
     one_answer = λ b p v e h k. reply_one_answer b v e h k;
     one_fault = λ b p e f h k. reply_one_fault b e f h k;
     named_fault = λ b p h. reply_named_fault b h;
-    same_value = λ b c p v w b-typed c-typed tp h k. reply_same_value b c v w b-typed c-typed h k;
-    reads_normal = λ b p v typed tp h. reply_gives_normal b v typed h;
+    same_value = λ b c p v w b-typed c-typed h k. reply_same_value b c v w b-typed c-typed h k;
+    reads_normal = λ b p v typed h. reply_gives_normal b v typed h;
     written_bytes = reply_written_bytes;
-    reads_back = λ p v tp typed normal fits. reply_reads_back v typed normal fits;
+    reads_back = λ p v typed normal fits. reply_reads_back v typed normal fits;
   }

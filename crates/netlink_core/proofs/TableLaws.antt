@@ -9,7 +9,7 @@ use Rattle.std.specs.List.{list_all}
 use Rattle.std.specs.Prelude.{nat_lt}
 use Rattle.byteorder.specs.Endian.{little_number, little_bytes}
 use Rattle.netlink_core.specs.Table.{Order, little_endian, Row, byte, number, flags, unread, number_in, bytes_in, values_of, bytes_of, live_bits, masked, Fit, AreDefined}
-use Rattle.netlink_core.specs.Sound.{is_table}
+use Rattle.netlink_core.specs.SoundLaws.{is_table}
 use Rattle.netlink_core.specs.Bytes.{IsBytes}
 use Rattle.netlink_core.specs.ByteLaws.{IsBytes-cons, IsBytes-append}
 use Rattle.netlink_core.proofs.Numbers.{number-same, number-take, number-fits, number-reads_back, length-bytes_in, bytes_in-bytes, masked-all, masked-none, length-masked, masked-bytes, and_number}

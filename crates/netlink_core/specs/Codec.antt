@@ -1,16 +1,15 @@
 -- A reader joined with a writer, and the laws between them.
-use Rattle.std.specs.Prelude.{⊤, ◌≡◌, ◌↔◌, ◌⊎◌, ℕ, List}
+use Rattle.std.specs.Prelude.{⊤, ◌≡◌, ◌↔◌, ◌⊎◌, ℕ, List, length}
 use Rattle.netlink_core.specs.Bytes.{IsBytes}
-use Rattle.netlink_core.specs.Format.{Format, IsTyped, IsNormal, Reads, Refuses, AreIdle, bytes}
+use Rattle.netlink_core.specs.Format.{Format, IsTyped, IsNormal, Reads, Refuses, StandsIn, AreIdle, bytes}
 use Rattle.netlink_core.specs.declared.fault.DecodeError.{DecodeError}
 use Rattle.netlink_core.specs.declared.fault.DecodeError.TheVariants.{Memory}
 
--- Values that are read under a parameter, and written: which parameters and values are typed, what a string's value or
--- first fault is, which values are kept without memory (their strings are spare), which strings are idle, which values
--- are in normal form, what is written, and whether that has room.
+-- Values that are read under a parameter, and written: which values are typed, what a string's value or first fault is,
+-- which values are kept without memory (their strings are spare), which strings are idle, which values are in normal
+-- form, what is written, and whether that has room.
 pub record Codec (Param : Type 0) : Type 1 where
   pub Value : Type 0
-  pub is_param : Param → Type 0
   pub is_typed : Value → Type 0
   pub reads : List ℕ → Param → Value → Type 0
   pub refuses : List ℕ → Param → DecodeError → Type 0
@@ -23,23 +22,22 @@ pub record Codec (Param : Type 0) : Type 1 where
 -- the laws
 pub record KeepsLaws {Param : Type 0} (C : Codec Param) : Type 0 where
   -- a string has a value or a fault, not both, and one fault, which has a name
-  pub answered : (b : List ℕ) (p : Param) → IsBytes b → C.is_param p → ((v : C.Value) × C.reads b p v) ⊎ ((e : DecodeError) × C.refuses b p e)
+  pub answered : (b : List ℕ) (p : Param) → IsBytes b → ((v : C.Value) × C.reads b p v) ⊎ ((e : DecodeError) × C.refuses b p e)
   pub one_answer : (b : List ℕ) (p : Param) (v : C.Value) (e : DecodeError) → C.reads b p v → C.refuses b p e → ⊥
   pub one_fault : (b : List ℕ) (p : Param) (e f : DecodeError) → C.refuses b p e → C.refuses b p f → e ≡ f
   pub named_fault : (b : List ℕ) (p : Param) → C.refuses b p Memory → ⊥
   -- two accepted strings have equal values exactly where they are idle
-  pub same_value : (b c : List ℕ) (p : Param) (v w : C.Value) → IsBytes b → IsBytes c → C.is_param p → C.reads b p v → C.reads c p w → ((v ≡ w) ↔ C.idle p b c)
+  pub same_value : (b c : List ℕ) (p : Param) (v w : C.Value) → IsBytes b → IsBytes c → C.reads b p v → C.reads c p w → ((v ≡ w) ↔ C.idle p b c)
   -- what is read is typed and in normal form
-  pub reads_normal : (b : List ℕ) (p : Param) (v : C.Value) → IsBytes b → C.is_param p → C.reads b p v → C.is_typed v × C.is_normal p v
+  pub reads_normal : (b : List ℕ) (p : Param) (v : C.Value) → IsBytes b → C.reads b p v → C.is_typed v × C.is_normal p v
   -- what a typed value is written as is bytes, and a writable one in normal form reads back as itself
   pub written_bytes : (v : C.Value) → C.is_typed v → IsBytes (C.written v)
-  pub reads_back : (p : Param) (v : C.Value) → C.is_param p → C.is_typed v → C.is_normal p v → C.fits v → C.reads (C.written v) p v
+  pub reads_back : (p : Param) (v : C.Value) → C.is_typed v → C.is_normal p v → C.fits v → C.reads (C.written v) p v
 
 -- a record that is given as a format
 abbrev pub record_codec : {Param Tag Value : Type 0} → Format Param Tag Value → Codec Param
 record_codec {Param} {Tag} {Value} format = record {
   Value = Value;
-  is_param = λ p. ⊤;
   is_typed = IsTyped format;
   reads = Reads format;
   refuses = Refuses format;
@@ -49,3 +47,9 @@ record_codec {Param} {Tag} {Value} format = record {
   written = bytes format;
   fits = λ v. ⊤;
 }
+
+-- the laws of a record: its codec's, each value has as many bytes as its table, and what is read is what stands in a string
+pub record RecordLaws {Param Tag Value : Type 0} (format : Format Param Tag Value) : Type 0 where
+  pub codec : KeepsLaws (record_codec format)
+  pub long : (value : Value) → length (bytes format value) ≡ format.size (format.tag_of value)
+  pub stands : (b : List ℕ) (p : Param) (v : Value) → IsBytes b → Reads format b p v ↔ StandsIn format b p v

@@ -7,10 +7,8 @@ use Rattle.netlink_core.specs.Header.{IsTypedHeader, header_bytes, length_word, 
 
 -- what a message carries, without where it lies in memory
 pub data Payload (A : Type 0) : Type 0 where
-  done_with : List ℕ → Payload A
-  error_with : List ℕ → Payload A
   no_payload : Payload A
-  overrun_with : List ℕ → Payload A
+  error_with done_with overrun_with : List ℕ → Payload A
   inner : A → Payload A
 
 -- a header and what the message carries

@@ -62,14 +62,14 @@ module _ (F : Family) (laws : FamilyLaws F) where
   -- the laws together
   pub heads_keep_laws : KeepsLaws (head_codec F)
   heads_keep_laws = record {
-    answered = λ b p typed tp. head_answered b typed;
+    answered = λ b p typed. head_answered b typed;
     one_answer = λ b p v e h k. head_one_answer b v e h k;
     one_fault = λ b p e f h k. head_one_fault b e f h k;
     named_fault = λ b p h. head_named_fault b h;
-    same_value = λ b c p v w b-typed c-typed tp h k. head_same_value b c v w b-typed c-typed h k;
-    reads_normal = λ b p v typed tp h. head_gives_normal b v typed h;
+    same_value = λ b c p v w b-typed c-typed h k. head_same_value b c v w b-typed c-typed h k;
+    reads_normal = λ b p v typed h. head_gives_normal b v typed h;
     written_bytes = head_written_bytes;
-    reads_back = λ p v tp typed normal fits. head_reads_back v typed normal fits;
+    reads_back = λ p v typed normal fits. head_reads_back v typed normal fits;
   }
 
 -- ---- an attribute in hand

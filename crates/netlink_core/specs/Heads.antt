@@ -21,7 +21,6 @@ AreIdleHeads F b c = (x y : Attribute) × HeadIs b x × HeadIs c y × AreIdleAtt
 abbrev pub head_codec : Family → Codec (Unit {0})
 head_codec F = record {
   Value = Said F;
-  is_param = λ p. ⊤;
   is_typed = IsTypedSaid F;
   reads = λ b p v. MeansHead F b v;
   refuses = λ b p e. RefusesHead F b e;

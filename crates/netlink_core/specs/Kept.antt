@@ -1,5 +1,5 @@
 -- A protocol of one message, which keeps its bytes: of the tests.
-use Rattle.std.proofs.Common.{◌≡◌, ◌≢◌, ◌≤◌, ◌<◌, ◌^◌, ℕ, List, length, refl, sym, ◌∙◌, inl, inr}
+use Rattle.std.proofs.Common.{◌≡◌, ◌≢◌, ◌≤◌, ℕ, List, length, refl, sym, ◌∙◌, inl, inr}
 use Rattle.std.proofs.lemmas.Bool.{cases_eq}
 use Rattle.netlink_core.specs.Bytes.{IsBytes}
 use Rattle.netlink_core.specs.Codec.{Codec, KeepsLaws}
@@ -9,7 +9,6 @@ use Rattle.netlink_core.specs.declared.fault.DecodeError.TheVariants.{UnknownMes
 abbrev pub kept_codec : Codec ℕ
 kept_codec = record {
   Value = List ℕ;
-  is_param = λ t. t < 2 ^ 16;
   is_typed = IsBytes;
   reads = λ b t v. (t ≡ 20) × (v ≡ b);
   refuses = λ b t e. (e ≡ UnknownMessageType t) × (t ≢ 20);
@@ -22,12 +21,12 @@ kept_codec = record {
 
 pub kept_laws : KeepsLaws kept_codec
 kept_laws = record {
-  answered = λ b t tb typed. elim (cases_eq t 20) [ inl is ↦ inl (b, (is, refl)) | inr other ↦ inr (UnknownMessageType t, (refl, other)) ];
+  answered = λ b t tb. elim (cases_eq t 20) [ inl is ↦ inl (b, (is, refl)) | inr other ↦ inr (UnknownMessageType t, (refl, other)) ];
   one_answer = λ b t v e r f. f.1 r.0;
   one_fault = λ b t e f x y. x.0 ∙ sym y.0;
   named_fault = λ b t x. absurd (let wrong = x.0 in cc);
-  same_value = λ b c t v w tb tc typed r s. (λ e. sym r.1 ∙ e ∙ s.1, λ e. r.1 ∙ e ∙ sym s.1);
-  reads_normal = λ b t v tb typed r. (rw r.1 tb, r.0);
+  same_value = λ b c t v w tb tc r s. (λ e. sym r.1 ∙ e ∙ s.1, λ e. r.1 ∙ e ∙ sym s.1);
+  reads_normal = λ b t v tb r. (rw r.1 tb, r.0);
   written_bytes = λ v typed. typed;
-  reads_back = λ t v typed tv normal fits. (normal, refl);
+  reads_back = λ t v tv normal fits. (normal, refl);
 }

@@ -2,7 +2,7 @@ pub mod Bytes
 pub mod ByteLaws
 pub mod Table
 pub mod Format
-pub mod Sound
+pub mod SoundLaws
 pub mod Codec
 pub mod Faults
 pub mod Canonical

@@ -68,7 +68,6 @@ ReplyFits R v = AllByRecursion HasFittingValue (map (attribute_said R.family) v.
 abbrev pub reply_codec : Reply → Codec (Unit {0})
 reply_codec R = record {
   Value = ValueOf R;
-  is_param = λ p. ⊤;
   is_typed = IsTypedReply R;
   reads = λ b p v. MeansReply R b v;
   refuses = λ b p e. RefusesReply R b e;

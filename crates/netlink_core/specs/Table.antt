@@ -5,8 +5,7 @@ use Rattle.byteorder.specs.Endian.{little_number, big_number, little_bytes, big_
 
 -- which byte of a number stands first
 pub data Order : Type 0 where
-  little_endian : Order
-  big_endian : Order
+  little_endian big_endian : Order
 
 -- What stands at a place: a byte; a number of so many bytes; a little-endian number of which only the bits of
 -- the mask are defined; or bytes that no reader looks at, with what is written there.

@@ -151,9 +151,9 @@ pub fn default_header() -> NetlinkHeader
 
 /// Bytes have one message at their front or one fault, which has a name.
 pub fn one_message_or_fault<I: Coded<Param = u16>>()
-    ensures answered { ((t : ℕ) → t < 2 ^ 16 → I.codec.is_param t) → (b : List ℕ) → IsBytes b
+    ensures answered { (b : List ℕ) → IsBytes b
         → ((v : Envelope I.codec.Value) × EnvelopeIs I.codec.reads b v) ⊎ ((e : DecodeError) × EnvelopeFault I.codec.refuses b e) }
-    ensures one_value { ((t : ℕ) → t < 2 ^ 16 → I.codec.is_param t) → (b : List ℕ) (v w : Envelope I.codec.Value) → IsBytes b
+    ensures one_value { (b : List ℕ) (v w : Envelope I.codec.Value) → IsBytes b
         → EnvelopeIs I.codec.reads b v → EnvelopeIs I.codec.reads b w → v ≡ w }
     ensures one_answer { (b : List ℕ) (v : Envelope I.codec.Value) (e : DecodeError)
         → EnvelopeIs I.codec.reads b v → EnvelopeFault I.codec.refuses b e → ⊥ }
@@ -164,14 +164,14 @@ pub fn one_message_or_fault<I: Coded<Param = u16>>()
 
 /// Two accepted strings give equal messages exactly where they are idle.
 pub fn equal_messages_where_idle<I: Coded<Param = u16>>()
-    ensures { ((t : ℕ) → t < 2 ^ 16 → I.codec.is_param t) → (b c : List ℕ) (v w : Envelope I.codec.Value) → IsBytes b → IsBytes c
+    ensures { (b c : List ℕ) (v w : Envelope I.codec.Value) → IsBytes b → IsBytes c
         → EnvelopeIs I.codec.reads b v → EnvelopeIs I.codec.reads c w → ((v ≡ w) ↔ IdleEnvelopes I.codec.idle b c) }
 {}
 
 /// Two accepted strings whose messages can be written are written alike, their headers as they stand, exactly where
 /// they are idle.
 pub fn messages_written_alike<I: Coded<Param = u16>>()
-    ensures { ((t : ℕ) → t < 2 ^ 16 → I.codec.is_param t) → (b c : List ℕ) (v w : Envelope I.codec.Value) → IsBytes b → IsBytes c
+    ensures { (b c : List ℕ) (v w : Envelope I.codec.Value) → IsBytes b → IsBytes c
         → EnvelopeIs I.codec.reads b v → EnvelopeIs I.codec.reads c w
         → EnvelopeFits I.codec.written I.codec.fits v → EnvelopeFits I.codec.written I.codec.fits w
         → ((envelope_bytes I.codec.written v ≡ envelope_bytes I.codec.written w) ↔ IdleEnvelopes I.codec.idle b c) }
@@ -180,7 +180,7 @@ pub fn messages_written_alike<I: Coded<Param = u16>>()
 /// The bytes of a writable message whose header has its own length and type, as `finalize` sets them, read back as
 /// itself exactly where it is in normal form.
 pub fn finalized_message_reads_back<I: Coded<Param = u16>>()
-    ensures { ((t : ℕ) → t < 2 ^ 16 → I.codec.is_param t) → (type_of : I.codec.Value → ℕ) (v : Envelope I.codec.Value)
+    ensures { (type_of : I.codec.Value → ℕ) (v : Envelope I.codec.Value)
         → IsTypedEnvelope I.codec.is_typed v → EnvelopeFits I.codec.written I.codec.fits v → IsFinalized I.codec.written type_of v
         → (EnvelopeIs I.codec.reads (envelope_bytes I.codec.written v) v ↔ IsNormalEnvelope I.codec.is_normal v) }
 {}
@@ -203,13 +203,13 @@ pub fn one_list_of_messages()
 
 /// Each datagram has items.
 pub fn datagram_has_items<I: Coded<Param = u16>>()
-    ensures { ((t : ℕ) → t < 2 ^ 16 → I.codec.is_param t) → (bytes : List ℕ) → IsBytes bytes
+    ensures { (bytes : List ℕ) → IsBytes bytes
         → (items : List (Result (Payload I.codec.Value) DecodeError)) × ItemsAre I.codec.reads I.codec.refuses bytes items }
 {}
 
 /// Each datagram has one list of items.
 pub fn one_list_of_items<I: Coded<Param = u16>>()
-    ensures { ((t : ℕ) → t < 2 ^ 16 → I.codec.is_param t) → (bytes : List ℕ) → IsBytes bytes
+    ensures { (bytes : List ℕ) → IsBytes bytes
         → (xs ys : List (Result (Payload I.codec.Value) DecodeError))
         → ItemsAre I.codec.reads I.codec.refuses bytes xs → ItemsAre I.codec.reads I.codec.refuses bytes ys → xs ≡ ys }
 {

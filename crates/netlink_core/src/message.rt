@@ -65,9 +65,6 @@ pub trait NetlinkDeserializable: Coded<Param = u16> {
         ensures fault { IfErr result (λ e. e ≢ Memory → Self.codec.refuses payload.now header.now.message_type e) }
         // Memory is wanted only for a payload that has a message.
         ensures wanted { IfErr result (λ e. e ≡ Memory → (m : Self.codec.Value) × Self.codec.reads payload.now header.now.message_type m) };
-
-    // A payload is read under each type.
-    ghost each_type: { (t : ℕ) → t < 2 ^ 16 → Self.codec.is_param t };
 }
 
 /// What a message carries, by its type.

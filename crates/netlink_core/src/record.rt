@@ -3,8 +3,7 @@
 ghost use Rattle.std.specs.Prelude.{◌≡◌, ◌≢◌, ◌≤◌, IfErr, ℕ, List, length, take, SomeIff, false, ⊤, refl};
 ghost use Rattle.netlink_core.specs.Format.{Format, read, read_row, Reads, bytes, IsFixed, IsTyped};
 ghost use Rattle.netlink_core.specs.declared.fault.DecodeError.TheVariants.{Memory};
-ghost use Rattle.netlink_core.specs.Codec.{record_codec, KeepsLaws};
-ghost use Rattle.netlink_core.specs.Sound.{IsSound};
+ghost use Rattle.netlink_core.specs.Codec.{record_codec, RecordLaws};
 
 use crate::{
     Coded, DecodeError, Emitable, Exact, Parseable, ParseableParametrized, Readable, RecordName,
@@ -47,10 +46,8 @@ pub trait Record: Exact + Sized {
     fn row_typed(&self)
         ensures { IsTyped format self.now };
 
-    // Its tables and its rows stand as the format's sizes say.
-    ghost sound: { IsSound format };
-
-    ghost laws: { KeepsLaws (record_codec format) };
+    // What is read is what stands in the bytes, and the codec keeps the laws.
+    ghost laws: { RecordLaws format };
 }
 
 /// Reads the value in front of the bytes.
@@ -118,7 +115,7 @@ impl<T: Record> Coded for T {
 
     ghost eq_is_seen = { T.equal };
 
-    ghost laws = { T.Record.laws };
+    ghost laws = { T.Record.laws.codec };
 }
 
 impl<T: Record> Wire for T {

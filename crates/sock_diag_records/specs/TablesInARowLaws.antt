@@ -6,7 +6,7 @@ use Rattle.std.specs.Prelude.{nat_lt}
 use Rattle.std.specs.List.{list_all}
 use Rattle.byteorder.specs.Endian.{little_number}
 use Rattle.netlink_core.specs.Table.{Row, byte, number, flags, unread, number_in, values_of}
-use Rattle.netlink_core.specs.Sound.{is_table}
+use Rattle.netlink_core.specs.SoundLaws.{is_table}
 
 pub is_table-append : (from : ℕ) (rows : List Row) (middle : ℕ) (others : List Row) (end : ℕ) → IsTrue (is_table from rows middle) → IsTrue (is_table middle others end) → IsTrue (is_table from (rows ++ others) end)
 is_table-append from [] middle others end h k = subst (λ (m : ℕ). IsTrue (is_table m others end)) (sym (eqb-true from middle h)) k

@@ -1,6 +1,6 @@
 -- The record of a socket's memory, as older kernels tell it, is sound.
 use Rattle.std.proofs.Common.{refl}
-use Rattle.netlink_core.specs.Sound.{IsSound}
+use Rattle.netlink_core.specs.SoundLaws.{IsSound}
 use Rattle.netlink_core.proofs.FormatLaws.{plain_sound}
 use Rattle.sock_diag_values.specs.LegacyMemInfo.{legacy_mem_info}
 

@@ -3,7 +3,7 @@ use Rattle.std.proofs.Common.{◌≡◌, ◌∙◌, inl, inr, ℕ, ◌*◌, ◌�
 use Rattle.std.specs.Prelude.{slice_get, IfSome, IsSome}
 use Rattle.std.proofs.lemmas.Bool.{cases_lt}
 use Rattle.netlink_core.specs.Table.{numbers, little_endian, bytes_of}
-use Rattle.netlink_core.specs.Sound.{IsSound}
+use Rattle.netlink_core.specs.SoundLaws.{IsSound}
 use Rattle.netlink_core.specs.declared.fault.DecodeError.{DecodeError}
 use Rattle.sock_diag_values.specs.declared.inet.mem_info.MemInfo.{MemInfo}
 use Rattle.sock_diag_values.specs.MemInfo.{Words, seven, eight, nine, count_of, words_in, words_of, last_words, words_before, mem_info}

@@ -1,6 +1,6 @@
 -- The record of a UNIX socket's memory is sound.
 use Rattle.std.proofs.Common.{refl}
-use Rattle.netlink_core.specs.Sound.{IsSound}
+use Rattle.netlink_core.specs.SoundLaws.{IsSound}
 use Rattle.netlink_core.proofs.FormatLaws.{plain_sound}
 use Rattle.sock_diag_values.specs.UnixMemInfo.{unix_mem_info}
 

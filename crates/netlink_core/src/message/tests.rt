@@ -66,8 +66,6 @@ impl NetlinkDeserializable for Kept {
         }
         Ok(Kept(Vec::from_slice(alloc, payload)?))
     }
-
-    ghost each_type = { λ t fits. fits };
 }
 
 /// A message of 18 bytes whose header has a number of its own in each field, and behind it two bytes more.

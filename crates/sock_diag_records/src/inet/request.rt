@@ -1,6 +1,6 @@
 //! The request for IPv4 or IPv6 sockets.
 
-ghost use Rattle.netlink_core.proofs.FormatLaws.{keeps_laws};
+ghost use Rattle.netlink_core.proofs.FormatLaws.{record_laws};
 ghost use Rattle.sock_diag_records.specs.InetRequest.{inet_request};
 ghost use Rattle.sock_diag_records.specs.Kinds.{Kinds};
 ghost use Rattle.sock_diag_records.specs.InetRequestLaws.{inet_request_sound, inet_request_size};
@@ -81,9 +81,7 @@ impl Record for InetRequest {
         self.socket_id.row_typed();
     }
 
-    ghost sound = { inet_request_sound };
-
-    ghost laws = { keeps_laws inet_request inet_request_sound };
+    ghost laws = { record_laws inet_request inet_request_sound };
 }
 
 impl Fills<56> for InetRequest {

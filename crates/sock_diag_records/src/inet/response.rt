@@ -5,7 +5,7 @@ ghost use Rattle.std.specs.Prelude.{[], ◌∷◌, ◌≡◌, ◌≢◌, slice_i
 ghost use Rattle.netlink_core.specs.declared.fault.DecodeError.TheVariants.{Memory};
 ghost use Rattle.netlink_core.specs.Format.{read};
 ghost use Rattle.netlink_core.specs.Table.{Fit};
-ghost use Rattle.netlink_core.proofs.FormatLaws.{keeps_laws};
+ghost use Rattle.netlink_core.proofs.FormatLaws.{record_laws};
 ghost use Rattle.sock_diag_records.specs.InetResponse.{inet_response_header};
 ghost use Rattle.sock_diag_records.specs.InetResponseInverse.{timer_of};
 ghost use Rattle.sock_diag_records.specs.Timer.{Tag, class_of_byte, class_of, byte_of_class, milliseconds, retransmits_row, retransmits_values, expires_values};
@@ -134,9 +134,7 @@ impl Record for InetResponseHeader {
         let _inode = self.inode;
     }
 
-    ghost sound = { header_sound };
-
-    ghost laws = { keeps_laws inet_response_header header_sound };
+    ghost laws = { record_laws inet_response_header header_sound };
 }
 
 impl Fills<72> for InetResponseHeader {

@@ -6,7 +6,7 @@ ghost use Rattle.std.specs.Net.Addr.{ipv4_octets, ipv6_segments};
 ghost use Rattle.netlink_core.specs.Table.{bytes_at, numbers, big_endian, values_of};
 ghost use Rattle.netlink_core.specs.declared.fault.DecodeError.TheVariants.{Memory};
 ghost use Rattle.netlink_core.specs.Format.{read};
-ghost use Rattle.netlink_core.proofs.FormatLaws.{keeps_laws};
+ghost use Rattle.netlink_core.proofs.FormatLaws.{record_laws};
 ghost use Rattle.std.specs.Prelude.{ℕ, slice_index, ◌<◌};
 ghost use Rattle.netlink_core.specs.Table.{Fit};
 ghost use Rattle.sock_diag_records.specs.SocketId.{IsAddress, address_rows, address_values, socket_id, zeros, address_bytes};
@@ -186,9 +186,7 @@ impl Record for SocketId {
         bytes_typed(&self.cookie);
     }
 
-    ghost sound = { socket_id_sound };
-
-    ghost laws = { keeps_laws socket_id socket_id_sound };
+    ghost laws = { record_laws socket_id socket_id_sound };
 }
 
 impl SocketId {

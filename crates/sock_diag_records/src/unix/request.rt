@@ -2,7 +2,7 @@
 
 ghost use Rattle.std.proofs.Common.{rules};
 ghost use Rattle.std.specs.Prelude.{refl};
-ghost use Rattle.netlink_core.proofs.FormatLaws.{keeps_laws};
+ghost use Rattle.netlink_core.proofs.FormatLaws.{record_laws};
 ghost use Rattle.sock_diag_records.specs.UnixRequest.{unix_request};
 ghost use Rattle.sock_diag_records.specs.UnixRequestLaws.{unix_request_sound};
 
@@ -82,9 +82,7 @@ impl Record for UnixRequest {
         bytes_typed(&self.cookie);
     }
 
-    ghost sound = { unix_request_sound };
-
-    ghost laws = { keeps_laws unix_request unix_request_sound };
+    ghost laws = { record_laws unix_request unix_request_sound };
 }
 
 impl Fills<24> for UnixRequest {

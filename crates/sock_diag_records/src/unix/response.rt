@@ -3,7 +3,7 @@
 ghost use Rattle.std.proofs.Common.{rules};
 ghost use Rattle.std.specs.Prelude.{◌≡◌, refl};
 ghost use Rattle.netlink_core.specs.Format.{read};
-ghost use Rattle.netlink_core.proofs.FormatLaws.{keeps_laws};
+ghost use Rattle.netlink_core.proofs.FormatLaws.{record_laws};
 ghost use Rattle.sock_diag_records.specs.UnixResponseHeader.{unix_response_header};
 ghost use Rattle.sock_diag_records.specs.UnixResponseHeaderLaws.{unix_response_header_sound};
 
@@ -79,9 +79,7 @@ impl Record for UnixResponseHeader {
         bytes_typed(&self.cookie);
     }
 
-    ghost sound = { unix_response_header_sound };
-
-    ghost laws = { keeps_laws unix_response_header unix_response_header_sound };
+    ghost laws = { record_laws unix_response_header unix_response_header_sound };
 }
 
 impl UnixResponseHeader {

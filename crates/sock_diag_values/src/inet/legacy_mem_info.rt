@@ -3,7 +3,7 @@
 ghost use Rattle.std.specs.Prelude.{◌≡◌, refl};
 ghost use Rattle.std.proofs.Common.{rules};
 ghost use Rattle.netlink_core.specs.Format.{read};
-ghost use Rattle.netlink_core.proofs.FormatLaws.{keeps_laws};
+ghost use Rattle.netlink_core.proofs.FormatLaws.{record_laws};
 ghost use Rattle.sock_diag_values.specs.LegacyMemInfo.{legacy_mem_info};
 ghost use Rattle.sock_diag_values.specs.LegacyMemInfoLaws.{legacy_mem_info_sound};
 
@@ -79,9 +79,7 @@ impl Record for LegacyMemInfo {
         let _send_queue = self.send_queue;
     }
 
-    ghost sound = { legacy_mem_info_sound };
-
-    ghost laws = { keeps_laws legacy_mem_info legacy_mem_info_sound };
+    ghost laws = { record_laws legacy_mem_info legacy_mem_info_sound };
 }
 
 impl Fills<16> for LegacyMemInfo {

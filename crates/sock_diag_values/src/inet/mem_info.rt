@@ -3,7 +3,7 @@
 ghost use Rattle.std.specs.Prelude.{[], ◌≡◌, ◌≤◌, ◌+◌, ◌↔◌, ◌<◌, ◌^◌, length, take, drop, SomeIff, IfSome, IsSome};
 ghost use Rattle.std.proofs.Common.{rules};
 ghost use Rattle.netlink_core.specs.Format.{read, bytes};
-ghost use Rattle.netlink_core.proofs.FormatLaws.{keeps_laws};
+ghost use Rattle.netlink_core.proofs.FormatLaws.{record_laws};
 ghost use Rattle.netlink_core.specs.Table.{Fit, numbers, little_endian};
 ghost use Rattle.sock_diag_values.specs.MemInfo.{words_before, Words, words_in, mem_info, held_bytes, buffer_bytes};
 ghost use Rattle.sock_diag_values.specs.MemInfoLaws.{mem_info_sound};
@@ -159,9 +159,7 @@ impl Record for MemInfo {
         }
     }
 
-    ghost sound = { mem_info_sound };
-
-    ghost laws = { keeps_laws mem_info mem_info_sound };
+    ghost laws = { record_laws mem_info mem_info_sound };
 }
 
 impl MemInfo {

@@ -3,7 +3,7 @@
 ghost use Rattle.std.specs.Prelude.{◌≡◌};
 ghost use Rattle.std.proofs.Common.{rules};
 ghost use Rattle.netlink_core.specs.Format.{read};
-ghost use Rattle.netlink_core.proofs.FormatLaws.{keeps_laws};
+ghost use Rattle.netlink_core.proofs.FormatLaws.{record_laws};
 ghost use Rattle.sock_diag_values.specs.TcpInfo.{tcp_info};
 ghost use Rattle.sock_diag_values.specs.TcpInfoSteps.{states, counts, ages, metrics, receiver, rates, segments, limits, deliveries, totals, reorderings};
 ghost use Rattle.sock_diag_values.specs.TcpInfoEqualLaws.{tcp_info_equal, unfailing};
@@ -275,9 +275,7 @@ impl Record for TcpInfo {
         words_typed(&self.reorderings());
     }
 
-    ghost sound = { tcp_info_sound };
-
-    ghost laws = { keeps_laws tcp_info tcp_info_sound };
+    ghost laws = { record_laws tcp_info tcp_info_sound };
 }
 
 impl Fills<232> for TcpInfo {

@@ -3,7 +3,7 @@
 ghost use Rattle.std.specs.Prelude.{◌≡◌, refl};
 ghost use Rattle.std.proofs.Common.{rules};
 ghost use Rattle.netlink_core.specs.Format.{read};
-ghost use Rattle.netlink_core.proofs.FormatLaws.{keeps_laws};
+ghost use Rattle.netlink_core.proofs.FormatLaws.{record_laws};
 ghost use Rattle.sock_diag_values.specs.UnixMemInfo.{unix_mem_info};
 ghost use Rattle.sock_diag_values.specs.UnixMemInfoLaws.{unix_mem_info_sound};
 
@@ -80,9 +80,7 @@ impl Record for MemInfo {
         let _alloc = self.alloc;
     }
 
-    ghost sound = { unix_mem_info_sound };
-
-    ghost laws = { keeps_laws unix_mem_info unix_mem_info_sound };
+    ghost laws = { record_laws unix_mem_info unix_mem_info_sound };
 }
 
 impl Fills<36> for MemInfo {

@@ -3,7 +3,7 @@
 ghost use Rattle.std.specs.Prelude.{◌≡◌, refl};
 ghost use Rattle.std.proofs.Common.{rules};
 ghost use Rattle.netlink_core.specs.Format.{read};
-ghost use Rattle.netlink_core.proofs.FormatLaws.{keeps_laws};
+ghost use Rattle.netlink_core.proofs.FormatLaws.{record_laws};
 ghost use Rattle.sock_diag_values.specs.Vfs.{vfs};
 ghost use Rattle.sock_diag_values.specs.VfsLaws.{vfs_sound};
 
@@ -59,9 +59,7 @@ impl Record for Vfs {
         let _device = self.device;
     }
 
-    ghost sound = { vfs_sound };
-
-    ghost laws = { keeps_laws vfs vfs_sound };
+    ghost laws = { record_laws vfs vfs_sound };
 }
 
 impl Fills<8> for Vfs {

@@ -2,6 +2,4 @@ use Rattle.netlink_core.proofs.Items.{items_of}
 use Rattle.netlink_core.proofs.laws.datagram_has_items.Goals as goal
 
 pub returns : goal.returns
-returns g c = λ params.
-    let laws = g.met.I.Coded.laws in
-    items_of g.I.Coded.codec.reads g.I.Coded.codec.refuses (λ x t tx fits. laws.answered x t tx (params t fits))
+returns g c = items_of g.I.Coded.codec.reads g.I.Coded.codec.refuses g.met.I.Coded.laws.answered

@@ -2,6 +2,6 @@ use Rattle.netlink_core.proofs.Items.{one_list}
 use Rattle.netlink_core.proofs.laws.one_list_of_items.Goals as goal
 
 pub returns : goal.returns
-returns g c = λ params.
+returns g c =
     let law = c.one_message_or_fault.ensures in
-    one_list g.I.Coded.codec.reads g.I.Coded.codec.refuses (law.one_value params) law.one_answer law.one_fault
+    one_list g.I.Coded.codec.reads g.I.Coded.codec.refuses law.one_value law.one_answer law.one_fault

@@ -8,10 +8,10 @@ pub returns : goal.returns
 returns g c =
     let laws = g.met.I.Coded.laws in
     record {
-      answered = λ params b tb. envelope_or_fault g.I.Coded.codec.reads g.I.Coded.codec.refuses b tb (λ x t tx fits. laws.answered x t tx (params t fits));
-      one_value = λ params b v w tb r s.
+      answered = λ b tb. envelope_or_fault g.I.Coded.codec.reads g.I.Coded.codec.refuses b tb laws.answered;
+      one_value = λ b v w tb r s.
           let same = equal_where_idle g.I.Coded.codec.reads g.I.Coded.codec.idle b b
-          (λ t x y m n fits ex ey. laws.same_value x y t m n (subst IsBytes (sym ex) (payload_typed b tb)) (subst IsBytes (sym ey) (payload_typed b tb)) (params t fits)) in
+          (λ t x y m n ex ey. laws.same_value x y t m n (subst IsBytes (sym ex) (payload_typed b tb)) (subst IsBytes (sym ey) (payload_typed b tb))) in
           (same v w r s).1 ((same v v r r).0 refl);
       one_answer = λ b v e. envelope_or_fault_apart g.I.Coded.codec.reads g.I.Coded.codec.refuses b v e (λ x t m. laws.one_answer x t m e);
       one_fault = λ b e f. one_envelope_fault g.I.Coded.codec.refuses b e f (λ x t. laws.one_fault x t e f);
