@@ -10,35 +10,35 @@ use Rattle.netlink_core.specs.ShownLaws.{PrefixLaws, StandsInFront}
 use Rattle.netlink_core.proofs.TableLaws.{table_from_test, values-bytes_of}
 use Rattle.netlink_core.proofs.FormatLaws.{accepts, long_enough, keeps_laws}
 
-module _ {Param Tag Value : Type 0} (format : Format Param Tag Value) (param : Param) (sound : IsSound format) where
+module _ {Tag Value : Type 0} (format : Format (Unit {0}) Tag Value) (sound : IsSound format) where
   -- a sound format has the laws of a record in front
-  pub prefix_laws : PrefixLaws (prefix_of format param)
+  pub prefix_laws : PrefixLaws (prefix_of format)
   prefix_laws =
       let laws = keeps_laws format sound in
       record {
-        named = λ b h. laws.named_fault b param h;
-        same_value = λ b c v w b-typed c-typed h k. laws.same_value b c param v w b-typed c-typed h k;
-        gives_normal = λ b v typed h. laws.reads_normal b param v typed h;
+        named = λ b h. laws.named_fault b tt h;
+        same_value = λ b c v w b-typed c-typed h k. laws.same_value b c tt v w b-typed c-typed h k;
+        gives_normal = λ b v typed h. laws.reads_normal b tt v typed h;
         bytes_typed = laws.written_bytes;
-        reads_back = λ v typed normal. laws.reads_back param v typed normal tt;
+        reads_back = λ v typed normal. laws.reads_back tt v typed normal tt;
       }
 
   -- a value's bytes tell its tag and its values also where others follow
-  reads_in_front : ((tag : Tag) (left rest : List ℕ) → format.least ≤ length left → format.tag_at param left ≡ Ok tag → format.tag_at param (left ++ rest) ≡ Ok tag) → (v : Value) (rest : List ℕ) → IsTyped format v → IsNormal format param v → read format param (bytes format v ++ rest) ≡ Ok v
+  reads_in_front : ((tag : Tag) (left rest : List ℕ) → format.least ≤ length left → format.tag_at tt left ≡ Ok tag → format.tag_at tt (left ++ rest) ≡ Ok tag) → (v : Value) (rest : List ℕ) → IsTyped format v → IsNormal format tt v → read format tt (bytes format v ++ rest) ≡ Ok v
   reads_in_front goes_on v rest typed normal =
       let enough = sound.enough (format.tag_of v) in
       let size = sound.long v in
       let same : values_of (format.table (format.tag_of v)) (bytes format v ++ rest) ≡ format.values v = values-bytes_of 0 (format.table (format.tag_of v)) (format.size (format.tag_of v)) (format.values v) (bytes format v ++ rest) rest (table_from_test 0 (format.table (format.tag_of v)) (format.size (format.tag_of v)) (sound.tables (format.tag_of v))) typed.fit normal.flags refl in
-      long_enough format param (bytes format v ++ rest) (omega (arith, length-append (bytes format v) rest))
-      ∙ accepts format param (bytes format v ++ rest) (format.tag_of v) (goes_on (format.tag_of v) (bytes format v) rest (omega arith) (sound.told param v typed normal))
+      long_enough format tt (bytes format v ++ rest) (omega (arith, length-append (bytes format v) rest))
+      ∙ accepts format tt (bytes format v ++ rest) (format.tag_of v) (goes_on (format.tag_of v) (bytes format v) rest (omega arith) (sound.told tt v typed normal))
       ∙ ap (λ (vs : List ℕ). answered (format.value (format.tag_of v) vs)) same
-      ∙ ap answered (sound.back param v typed normal)
+      ∙ ap answered (sound.back tt v typed normal)
     where
       answered : Value → Result Value DecodeError
       answered x = Ok x
 
   -- a record of one size whose tag is told by its own bytes stands in front of whatever follows it
-  pub stands_in_front : {size : ℕ} → IsFixed format size → ((tag : Tag) (left rest : List ℕ) → format.least ≤ length left → format.tag_at param left ≡ Ok tag → format.tag_at param (left ++ rest) ≡ Ok tag) → StandsInFront (prefix_of format param) size
+  pub stands_in_front : {size : ℕ} → IsFixed format size → ((tag : Tag) (left rest : List ℕ) → format.least ≤ length left → format.tag_at tt left ≡ Ok tag → format.tag_at tt (left ++ rest) ≡ Ok tag) → StandsInFront (prefix_of format) size
   stands_in_front fixed goes_on = record {
     bytes_long = λ v typed. sound.long v ∙ fixed.1 (format.tag_of v);
     reads_in_front = reads_in_front goes_on;

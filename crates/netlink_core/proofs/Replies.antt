@@ -67,7 +67,7 @@ module _ (R : Reply) (laws : ReplyLaws R) where
   -- bytes have a value or a fault
   reply_answered : (b : List ℕ) → IsBytes b → ((v : ValueOf R) × MeansReply R b v) ⊎ ((e : DecodeError) × RefusesReply R b e)
   reply_answered b typed =
-      elim (value_or_reason (R.header.reads b)) [
+      elim (value_or_reason (R.header.reads tt b)) [
         | inr refused ↦ inr (refused.0, inl refused.1)
         | inl header ↦ elim (means_or_fault (says R.family) (attribute_part R b) (AreBytes-drop R.size b typed)) [
           | inl nlas ↦ inl (record { header = header.0; nlas = nlas.0 }, record { header = header.1; nlas = nlas.1 })

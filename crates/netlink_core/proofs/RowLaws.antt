@@ -79,10 +79,10 @@ module _ (k width : ℕ) where
   }
 
 -- a kind of values that keep the laws
-pub kind_laws : (k : ℕ) {P : Prefix} → bit_and k 0x3fff ≡ k → PrefixLaws P → KindLaws (kind k P)
+pub kind_laws : (k : ℕ) {P : Prefix (Unit {0})} → bit_and k 0x3fff ≡ k → PrefixLaws P → KindLaws (kind k P)
 kind_laws k plain value = record { plain = plain; value = value }
 
-pub memory_kind_laws : (k : ℕ) {P : Prefix} → bit_and k 0x3fff ≡ k → PrefixLaws P → KindLaws (memory_kind k P)
+pub memory_kind_laws : (k : ℕ) {P : Prefix (Unit {0})} → bit_and k 0x3fff ≡ k → PrefixLaws P → KindLaws (memory_kind k P)
 memory_kind_laws k plain value = record { plain = plain; value = value }
 
 -- the laws of a family: those of its first kind and those of the others

@@ -1,7 +1,8 @@
 -- A reader joined with a writer, and the laws between them.
-use Rattle.std.specs.Prelude.{⊤, ◌≡◌, ◌↔◌, ◌⊎◌, ℕ, List, length}
+use Rattle.std.specs.Prelude.{⊤, ◌≡◌, ◌↔◌, ◌⊎◌, ℕ, List, length, Result, Ok, Err}
 use Rattle.netlink_core.specs.Bytes.{IsBytes}
-use Rattle.netlink_core.specs.Format.{Format, IsTyped, IsNormal, Reads, Refuses, StandsIn, AreIdle, bytes}
+use Rattle.netlink_core.specs.Format.{Format, Reads, StandsIn, bytes}
+use Rattle.netlink_core.specs.Prefix.{Prefix, prefix_of}
 use Rattle.netlink_core.specs.declared.fault.DecodeError.{DecodeError}
 use Rattle.netlink_core.specs.declared.fault.DecodeError.TheVariants.{Memory}
 
@@ -34,19 +35,23 @@ pub record KeepsLaws {Param : Type 0} (C : Codec Param) : Type 0 where
   pub written_bytes : (v : C.Value) → C.is_typed v → IsBytes (C.written v)
   pub reads_back : (p : Param) (v : C.Value) → C.is_typed v → C.is_normal p v → C.fits v → C.reads (C.written v) p v
 
--- a record that is given as a format
-abbrev pub record_codec : {Param Tag Value : Type 0} → Format Param Tag Value → Codec Param
-record_codec {Param} {Tag} {Value} format = record {
-  Value = Value;
-  is_typed = IsTyped format;
-  reads = Reads format;
-  refuses = Refuses format;
+-- a part of a string on its own; each value is kept without memory, and has room
+abbrev pub codec_of : {Param : Type 0} → Prefix Param → Codec Param
+codec_of P = record {
+  Value = P.Value;
+  is_typed = P.is_typed;
+  reads = λ b p v. P.reads p b ≡ Ok v;
+  refuses = λ b p e. P.reads p b ≡ Err e;
   is_spare = λ v. ⊤;
-  idle = AreIdle format;
-  is_normal = IsNormal format;
-  written = bytes format;
+  idle = P.idle;
+  is_normal = P.is_normal;
+  written = P.bytes;
   fits = λ v. ⊤;
 }
+
+-- a record that is given as a format
+abbrev pub record_codec : {Param Tag Value : Type 0} → Format Param Tag Value → Codec Param
+record_codec format = codec_of (prefix_of format)
 
 -- the laws of a record: its codec's, each value has as many bytes as its table, and what is read is what stands in a string
 pub record RecordLaws {Param Tag Value : Type 0} (format : Format Param Tag Value) : Type 0 where

@@ -10,7 +10,7 @@ use Rattle.netlink_core.specs.Prefix.{Prefix}
 -- one kind: its number, how its values are read and written, and whether they are kept without memory
 pub record Kind : Type 1 where
   pub number : ℕ
-  pub value : Prefix
+  pub value : Prefix (Unit {0})
   pub is_spare : Type 0
 
 -- a family: its kinds
@@ -25,7 +25,7 @@ Said (row ∷ rows) = row.value.Value ⊎ Said rows
 -- what an attribute says, or why it is refused
 abbrev pub says : (F : Family) → Attribute → Result (Said F) DecodeError
 says [] a = Ok a
-says (row ∷ rows) a = if kind_of a == row.number then said_as inl (row.value.reads a.value) else said_as inr (says rows a)
+says (row ∷ rows) a = if kind_of a == row.number then said_as inl (row.value.reads tt a.value) else said_as inr (says rows a)
 
 -- the attribute that is written: the kind without flag bits and the value's bytes, or else the attribute itself
 abbrev pub attribute_said : (F : Family) → Said F → Attribute
@@ -37,7 +37,7 @@ attribute_said (row ∷ rows) (inr v) = attribute_said rows v
 abbrev pub AreIdleAttributes : Family → Attribute → Attribute → Type 0
 AreIdleAttributes [] a b = a ≡ b
 AreIdleAttributes (row ∷ rows) a b =
-    ((kind_of a ≡ row.number) × (kind_of b ≡ row.number) × row.value.idle a.value b.value)
+    ((kind_of a ≡ row.number) × (kind_of b ≡ row.number) × row.value.idle tt a.value b.value)
     ⊎ ((kind_of a ≢ row.number) × (kind_of b ≢ row.number) × AreIdleAttributes rows a b)
 
 -- what is said is typed
@@ -49,7 +49,7 @@ IsTypedSaid (row ∷ rows) (inr v) = IsTypedSaid rows v
 -- it is in normal form: a value of a kind is, and what is said of no kind has the number of none
 abbrev pub IsNormalSaid : (F : Family) → Said F → Type 0
 IsNormalSaid [] a = ⊤
-IsNormalSaid (row ∷ rows) (inl x) = row.value.is_normal x
+IsNormalSaid (row ∷ rows) (inl x) = row.value.is_normal tt x
 IsNormalSaid (row ∷ rows) (inr v) = (kind_of (attribute_said rows v) ≢ row.number) × IsNormalSaid rows v
 
 -- it is kept without memory: a value of a kind whose values are

@@ -20,7 +20,7 @@ said_fault made (Ok u) e h = absurd cc
 said_fault made (Err f) e h = let same : f ≡ e = cc in ap Err same
 
 -- an attribute of the first kind, and one of another
-here : (row : Kind) (rows : Family) (a : Attribute) → kind_of a ≡ row.number → says (row ∷ rows) a ≡ said_as inl (row.value.reads a.value)
+here : (row : Kind) (rows : Family) (a : Attribute) → kind_of a ≡ row.number → says (row ∷ rows) a ≡ said_as inl (row.value.reads tt a.value)
 here row rows a same = rw (eq-eqb (kind_of a) row.number same) refl
 
 there : (row : Kind) (rows : Family) (a : Attribute) → kind_of a ≢ row.number → says (row ∷ rows) a ≡ said_as inr (says rows a)
@@ -30,7 +30,7 @@ there row rows a differs = rw (ne_eqb (kind_of a) row.number differs) refl
 pub family_named : (F : Family) → FamilyLaws F → (a : Attribute) → says F a ≡ Err Memory → ⊥
 family_named [] laws a h = cc
 family_named (row ∷ rows) laws a h = elim (cases_eq (kind_of a) row.number) [
-  | inl same ↦ laws.0.value.named a.value (said_fault inl (row.value.reads a.value) Memory (sym (here row rows a same) ∙ h))
+  | inl same ↦ laws.0.value.named a.value (said_fault inl (row.value.reads tt a.value) Memory (sym (here row rows a same) ∙ h))
   | inr differs ↦ family_named rows laws.1 a (said_fault inr (says rows a) Memory (sym (there row rows a differs) ∙ h))
 ]
 
@@ -39,7 +39,7 @@ own_kind : (F : Family) → FamilyLaws F → (a : Attribute) (v : Said F) → sa
 own_kind [] laws a v h = let same : a ≡ v = cc in ap kind_of (sym same)
 own_kind (row ∷ rows) laws a v h = elim (cases_eq (kind_of a) row.number) [
   | inl same ↦
-      let read = said_value inl (row.value.reads a.value) v (sym (here row rows a same) ∙ h) in
+      let read = said_value inl (row.value.reads tt a.value) v (sym (here row rows a same) ∙ h) in
       ap (λ (w : Said (row ∷ rows)). kind_of (attribute_said (row ∷ rows) w)) (sym read.2) ∙ laws.0.plain ∙ sym same
   | inr differs ↦
       let read = said_value inr (says rows a) v (sym (there row rows a differs) ∙ h) in
@@ -51,7 +51,7 @@ pub family_gives_normal : (F : Family) → FamilyLaws F → (a : Attribute) (v :
 family_gives_normal [] laws a v typed h = let same : a ≡ v = cc in (subst IsTypedAttribute same typed, tt)
 family_gives_normal (row ∷ rows) laws a v typed h = elim (cases_eq (kind_of a) row.number) [
   | inl same ↦
-      let read = said_value inl (row.value.reads a.value) v (sym (here row rows a same) ∙ h) in
+      let read = said_value inl (row.value.reads tt a.value) v (sym (here row rows a same) ∙ h) in
       subst (λ (w : Said (row ∷ rows)). IsTypedSaid (row ∷ rows) w × IsNormalSaid (row ∷ rows) w) read.2 (laws.0.value.gives_normal a.value read.0 typed.value read.1)
   | inr differs ↦
       let read = said_value inr (says rows a) v (sym (there row rows a differs) ∙ h) in
@@ -82,10 +82,10 @@ family_same_value [] laws a b v w s t h k =
     (λ e. left ∙ e ∙ sym right, λ e. sym left ∙ e ∙ right)
 family_same_value (row ∷ rows) laws a b v w s t h k = elim (cases_eq (kind_of a) row.number) [
   | inl a_here ↦
-      let x = said_value inl (row.value.reads a.value) v (sym (here row rows a a_here) ∙ h) in
+      let x = said_value inl (row.value.reads tt a.value) v (sym (here row rows a a_here) ∙ h) in
       elim (cases_eq (kind_of b) row.number) [
         | inl b_here ↦
-            let y = said_value inl (row.value.reads b.value) w (sym (here row rows b b_here) ∙ k) in
+            let y = said_value inl (row.value.reads tt b.value) w (sym (here row rows b b_here) ∙ k) in
             let same = laws.0.value.same_value a.value b.value x.0 y.0 s.value t.value x.1 y.1 in (
               λ e. inl (a_here, b_here, same.0 (same_left x.0 y.0 (x.2 ∙ e ∙ sym y.2))),
               λ idle. elim idle [
@@ -103,7 +103,7 @@ family_same_value (row ∷ rows) laws a b v w s t h k = elim (cases_eq (kind_of 
       let x = said_value inr (says rows a) v (sym (there row rows a a_there) ∙ h) in
       elim (cases_eq (kind_of b) row.number) [
         | inl b_here ↦
-            let y = said_value inl (row.value.reads b.value) w (sym (here row rows b b_here) ∙ k) in (
+            let y = said_value inl (row.value.reads tt b.value) w (sym (here row rows b b_here) ∙ k) in (
               λ e. absurd (apart y.0 x.0 (y.2 ∙ sym e ∙ sym x.2)),
               λ idle. elim idle [ inl own ↦ absurd (a_there own.0) | inr later ↦ absurd (later.1 b_here) ],
             )

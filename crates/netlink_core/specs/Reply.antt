@@ -9,7 +9,7 @@ use Rattle.netlink_core.specs.Codec.{Codec}
 
 -- a header, the number of its bytes, and the family of the attributes behind it
 pub record Reply : Type 1 where
-  pub header : Prefix
+  pub header : Prefix (Unit {0})
   pub size : ℕ
   pub family : Family
 
@@ -28,16 +28,16 @@ attribute_part R b = drop R.size b
 
 -- the header's value, and one value for each attribute behind it
 pub record MeansReply (R : Reply) (b : List ℕ) (v : ValueOf R) : Type 0 where
-  pub header : R.header.reads b ≡ Ok v.header
+  pub header : R.header.reads tt b ≡ Ok v.header
   pub nlas : AttributesMean (says R.family) (attribute_part R b) v.nlas
 
 -- the header's fault, or behind a header that can be read the first fault of the attributes
 abbrev pub RefusesReply : Reply → List ℕ → DecodeError → Type 0
-RefusesReply R b e = (R.header.reads b ≡ Err e) ⊎ ((h : R.header.Value) × (R.header.reads b ≡ Ok h) × AttributeFault (says R.family) (attribute_part R b) e)
+RefusesReply R b e = (R.header.reads tt b ≡ Err e) ⊎ ((h : R.header.Value) × (R.header.reads tt b ≡ Ok h) × AttributeFault (says R.family) (attribute_part R b) e)
 
 -- The headers are idle, both attribute parts are cut into lists of one length, and the attributes at each place are idle.
 pub record AreIdleReplies (R : Reply) (b c : List ℕ) : Type 0 where
-  pub headers : R.header.idle b c
+  pub headers : R.header.idle tt b c
   pub left : List Attribute
   pub right : List Attribute
   pub left_cut : Cut (attribute_part R b) left
@@ -50,7 +50,7 @@ IsTypedReply R v = R.header.is_typed v.header × AllByRecursion (IsTypedSaid R.f
 
 -- each part is in normal form
 abbrev pub IsNormalReply : (R : Reply) → ValueOf R → Type 0
-IsNormalReply R v = R.header.is_normal v.header × AllByRecursion (IsNormalSaid R.family) v.nlas
+IsNormalReply R v = R.header.is_normal tt v.header × AllByRecursion (IsNormalSaid R.family) v.nlas
 
 -- at most eight attributes, each of them kept without memory
 abbrev pub IsSpareReply : (R : Reply) → ValueOf R → Type 0

@@ -8,21 +8,21 @@ use Rattle.netlink_core.specs.Family.{Kind, Family}
 use Rattle.netlink_core.specs.Reply.{Reply}
 
 -- What is shown of a record that is the value of an attribute.
-pub record PrefixLaws (P : Prefix) : Type 0 where
+pub record PrefixLaws (P : Prefix (Unit {0})) : Type 0 where
   -- no fault is want of memory
-  pub named : (b : List ℕ) → P.reads b ≡ Err Memory → ⊥
+  pub named : (b : List ℕ) → P.reads tt b ≡ Err Memory → ⊥
   -- two strings have equal values exactly where they are idle
-  pub same_value : (b c : List ℕ) (v w : P.Value) → IsBytes b → IsBytes c → P.reads b ≡ Ok v → P.reads c ≡ Ok w → ((v ≡ w) ↔ P.idle b c)
+  pub same_value : (b c : List ℕ) (v w : P.Value) → IsBytes b → IsBytes c → P.reads tt b ≡ Ok v → P.reads tt c ≡ Ok w → ((v ≡ w) ↔ P.idle tt b c)
   -- what is read is typed and in normal form
-  pub gives_normal : (b : List ℕ) (v : P.Value) → IsBytes b → P.reads b ≡ Ok v → P.is_typed v × P.is_normal v
+  pub gives_normal : (b : List ℕ) (v : P.Value) → IsBytes b → P.reads tt b ≡ Ok v → P.is_typed v × P.is_normal tt v
   -- a typed value is written as bytes, and one in normal form reads back as itself
   pub bytes_typed : (v : P.Value) → P.is_typed v → IsBytes (P.bytes v)
-  pub reads_back : (v : P.Value) → P.is_typed v → P.is_normal v → P.reads (P.bytes v) ≡ Ok v
+  pub reads_back : (v : P.Value) → P.is_typed v → P.is_normal tt v → P.reads tt (P.bytes v) ≡ Ok v
 
 -- what is shown beside that of a record that other bytes follow: it has so many bytes, and reads back in front of them
-pub record StandsInFront (P : Prefix) (size : ℕ) : Type 0 where
+pub record StandsInFront (P : Prefix (Unit {0})) (size : ℕ) : Type 0 where
   pub bytes_long : (v : P.Value) → P.is_typed v → length (P.bytes v) ≡ size
-  pub reads_in_front : (v : P.Value) (rest : List ℕ) → P.is_typed v → P.is_normal v → P.reads (P.bytes v ++ rest) ≡ Ok v
+  pub reads_in_front : (v : P.Value) (rest : List ℕ) → P.is_typed v → P.is_normal tt v → P.reads tt (P.bytes v ++ rest) ≡ Ok v
 
 -- of a kind: its number has no flag bit, and its values keep the laws
 pub record KindLaws (row : Kind) : Type 0 where
