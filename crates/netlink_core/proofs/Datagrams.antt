@@ -13,6 +13,7 @@ use Rattle.netlink_core.specs.Header.{HasHeader, length_word, IsEnvelopeFault}
 use Rattle.netlink_core.specs.Datagram.{StartsWithMessage, CutIntoMessages, AreWholeMessages}
 use Rattle.netlink_core.proofs.Numbers.{number-take}
 use Rattle.netlink_core.proofs.Framing.{one_framing_fault}
+use Rattle.netlink_core.proofs.Headers.{framed_bounds}
 
 -- the front parts of equal bytes, of one length, are equal, and so is what follows them
 same_parts : (xs ys s t : List ℕ) → length xs ≡ length ys → xs ++ s ≡ ys ++ t → (xs ≡ ys) × (s ≡ t)
@@ -34,10 +35,11 @@ word_in_front n bytes long =
 pub starts_with_message : (bytes message rest : List ℕ) (h : NetlinkHeader) (end : ℕ) → HasHeader bytes h → message ≡ take h.length bytes
     → end ≡ h.length + fill h.length → rest ≡ drop end bytes → StartsWithMessage bytes message rest
 starts_with_message bytes message rest h end head message-is end-is rest-is =
-    let low : 16 ≤ h.length = head.low in
-    let high : h.length ≤ length bytes = head.high in
+    let bounds = framed_bounds bytes head.0 h head.1 in
+    let low : 16 ≤ h.length = bounds.0 in
+    let high : h.length ≤ length bytes = bounds.1 in
     let len : length message ≡ h.length = ap length message-is ∙ omega (arith, length-take h.length bytes) in
-    let word : length_word bytes ≡ h.length = ap length_word head.parts ∙ little_number-reads_back 4 h.length [] head.typed.length in
+    let word : length_word bytes ≡ h.length = ap length_word head.1.parts ∙ little_number-reads_back 4 h.length [] head.1.typed.length in
     let own : length_word message ≡ length_word bytes = ap length_word message-is ∙ word_in_front h.length bytes (omega arith) in
     let n : ℕ = end - h.length in
     let tail : List ℕ = drop h.length bytes in

@@ -8,26 +8,10 @@ use Rattle.netlink_core.specs.declared.fault.DecodeError.{DecodeError}
 use Rattle.netlink_core.specs.declared.fault.DecodeError.TheVariants.{Memory, EnvelopeCut, EnvelopeLengthUnder16, EnvelopeLengthPast}
 use Rattle.netlink_core.specs.declared.header.NetlinkHeader.{NetlinkHeader}
 use Rattle.netlink_core.specs.Bytes.{IsBytes}
-use Rattle.netlink_core.specs.Header.{HasHeader, IsEnvelopeFault, header_bytes, length_word}
-use Rattle.netlink_core.specs.Envelope.{Payload, done_with, error_with, no_payload, overrun_with, inner, Envelope, IsFramed, IsInnerType, PayloadIs, EnvelopeIs, EnvelopeFault, type_word, payload_at}
+use Rattle.netlink_core.specs.Header.{HasHeader, IsFramed, IsEnvelopeFault, header_bytes, length_word}
+use Rattle.netlink_core.specs.Envelope.{Payload, done_with, error_with, no_payload, overrun_with, inner, Envelope, IsInnerType, PayloadIs, EnvelopeIs, EnvelopeFault}
 use Rattle.netlink_core.proofs.TableLaws.{AreBytes-drop}
-use Rattle.netlink_core.proofs.Headers.{AreBytes-take, header_or_fault, one_header}
-
--- the payload that a header frames
-pub framed : (bytes : List ℕ) (h : NetlinkHeader) → HasHeader bytes h → IsFramed bytes h (take (h.length - 16) (drop 16 bytes))
-framed bytes h head =
-    let tail-is : drop 16 bytes ≡ head.tail = ap (drop 16) head.parts in
-    record {
-      rest = drop (h.length - 16) (drop 16 bytes);
-      parts = head.parts ∙ ap (λ (t : List ℕ). header_bytes h ++ t) (sym tail-is ∙ sym (take-append-drop (h.length - 16) (drop 16 bytes)));
-      typed = head.typed;
-      size = let low = head.low in let high = head.high in omega (arith, length-take (h.length - 16) (drop 16 bytes), length-drop 16 bytes);
-    }
-
--- a fault of the inner message is one of the whole message
-pub fault_within : (refuses : List ℕ → ℕ → DecodeError → Type 0) (bytes : List ℕ) (h : NetlinkHeader) (e : DecodeError) → HasHeader bytes h
-    → IsInnerType h.message_type × refuses (take (h.length - 16) (drop 16 bytes)) h.message_type e → EnvelopeFault refuses bytes e
-fault_within refuses bytes h e head fault = inr (h, take (h.length - 16) (drop 16 bytes), framed bytes h head, fault.0, fault.1)
+use Rattle.netlink_core.proofs.Headers.{AreBytes-take, header_or_fault, one_header, framed_bounds}
 
 -- ---- what stands in a framed message
 
@@ -35,39 +19,42 @@ fault_within refuses bytes h e head fault = inr (h, take (h.length - 16) (drop 1
 pub framed_length : (b x : List ℕ) (h : NetlinkHeader) → IsFramed b h x → length_word b ≡ h.length
 framed_length b x h f = ap length_word f.parts ∙ little_number-reads_back 4 h.length [] f.typed.length
 
--- the type is the header's
-pub framed_type : (b x : List ℕ) (h : NetlinkHeader) → IsFramed b h x → type_word b ≡ h.message_type
-framed_type b x h f = ap type_word f.parts ∙ little_number-reads_back 2 h.message_type [] f.typed.message_type
-
--- the payload stands where the length word says
-pub framed_payload : (b x : List ℕ) (h : NetlinkHeader) → IsFramed b h x → payload_at b ≡ x
+-- the payload stands where the header says
+pub framed_payload : (b x : List ℕ) (h : NetlinkHeader) → IsFramed b h x → take (h.length - 16) (drop 16 b) ≡ x
 framed_payload b x h f =
-    let size : length_word b - 16 ≡ length x = omega (arith, framed_length b x h f, f.size) in
+    let size : h.length - 16 ≡ length x = omega (arith, f.size) in
     ap (λ (n : ℕ). take n (drop 16 b)) size ∙ ap (λ (l : List ℕ). take (length x) (drop 16 l)) f.parts ∙ take_at x f.rest (length x) refl
 
 -- the first sixteen bytes are the header's
 pub framed_front : (b x : List ℕ) (h : NetlinkHeader) → IsFramed b h x → take 16 b ≡ header_bytes h
 framed_front b x h f = ap (take 16) f.parts
 
--- bytes frame one header
-pub framed_header : (b x y : List ℕ) (h k : NetlinkHeader) → IsFramed b h x → IsFramed b k y → h ≡ k
-framed_header b x y h k f g = one_header h k f.typed g.typed (sym (framed_front b x h f) ∙ framed_front b y k g)
+-- bytes frame one header and one payload
+pub one_frame : (b x y : List ℕ) (h k : NetlinkHeader) → IsFramed b h x → IsFramed b k y → (h ≡ k) × (x ≡ y)
+one_frame b x y h k f g =
+    let header : h ≡ k = one_header h k f.typed g.typed (sym (framed_front b x h f) ∙ framed_front b y k g) in
+    (header, sym (framed_payload b x h f) ∙ ap (λ (l : NetlinkHeader). take (l.length - 16) (drop 16 b)) header ∙ framed_payload b y k g)
 
 -- a payload of bytes is bytes
-pub payload_typed : (b : List ℕ) → IsBytes b → IsBytes (payload_at b)
-payload_typed b tb = AreBytes-take (length_word b - 16) (drop 16 b) (AreBytes-drop 16 b tb)
+pub payload_typed : (b x : List ℕ) (h : NetlinkHeader) → IsBytes b → IsFramed b h x → IsBytes x
+payload_typed b x h tb f = subst IsBytes (framed_payload b x h f) (AreBytes-take (h.length - 16) (drop 16 b) (AreBytes-drop 16 b tb))
+
+-- the payload that a header frames
+pub framed : (bytes : List ℕ) (h : NetlinkHeader) → HasHeader bytes h → IsFramed bytes h (take (h.length - 16) (drop 16 bytes))
+framed bytes h head = subst (λ (x : List ℕ). IsFramed bytes h x) (sym (framed_payload bytes head.0 h head.1)) head.1
+
+-- a fault of the inner message is one of the whole message
+pub fault_within : (refuses : List ℕ → ℕ → DecodeError → Type 0) (bytes : List ℕ) (h : NetlinkHeader) (e : DecodeError) → HasHeader bytes h
+    → IsInnerType h.message_type × refuses (take (h.length - 16) (drop 16 bytes)) h.message_type e → EnvelopeFault refuses bytes e
+fault_within refuses bytes h e head fault = inr (h, take (h.length - 16) (drop 16 bytes), framed bytes h head, fault.0, fault.1)
 
 -- ---- one message or one fault
 
--- the length is within the bytes
-length-framed : (b x : List ℕ) (h : NetlinkHeader) → IsFramed b h x → h.length ≤ length b
-length-framed b x h f = omega (arith, f.size, ap length f.parts ∙ length-append (header_bytes h) (x ++ f.rest), length-append x f.rest)
-
 -- a framed message has no fault of framing
 no_fault_where_framed : (b x : List ℕ) (h : NetlinkHeader) (e : DecodeError) → IsFramed b h x → IsEnvelopeFault b e → ⊥
-no_fault_where_framed b x h (EnvelopeCut got) f k = omega (arith, f.size, length-framed b x h f, k.1)
+no_fault_where_framed b x h (EnvelopeCut got) f k = omega (arith, f.size, (framed_bounds b x h f).1, k.1)
 no_fault_where_framed b x h (EnvelopeLengthUnder16 word) f k = omega (arith, f.size, framed_length b x h f, k.0, k.2)
-no_fault_where_framed b x h (EnvelopeLengthPast word got) f k = omega (arith, length-framed b x h f, framed_length b x h f, k.0, k.4)
+no_fault_where_framed b x h (EnvelopeLengthPast word got) f k = omega (arith, (framed_bounds b x h f).1, framed_length b x h f, k.0, k.4)
 no_fault_where_framed b x h _ f k = k
 
 -- the first fault of framing, computed
@@ -148,9 +135,8 @@ module _ {A : Type 0} (reads : List ℕ → ℕ → A → Type 0) (refuses : Lis
       → EnvelopeIs reads b v → EnvelopeFault refuses b e → ⊥
   envelope_or_fault_apart b v e law r (inl fault) = no_fault_where_framed b r.0 v.header e r.1 fault
   envelope_or_fault_apart b v e law r (inr (h, x, frame, kind, fault)) =
-      let header : h ≡ v.header = framed_header b x r.0 h v.header frame r.1 in
-      let payload : r.0 ≡ x = sym (framed_payload b r.0 v.header r.1) ∙ framed_payload b x h frame in
-      let read : PayloadIs reads x h.message_type v.payload = subst (λ (y : List ℕ). PayloadIs reads y h.message_type v.payload) payload (subst (λ (k : NetlinkHeader). PayloadIs reads r.0 k.message_type v.payload) (sym header) r.2) in
+      let same = one_frame b r.0 x v.header h r.1 frame in
+      let read : PayloadIs reads x h.message_type v.payload = subst (λ (y : List ℕ). PayloadIs reads y h.message_type v.payload) same.1 (subst (λ (k : NetlinkHeader). PayloadIs reads r.0 k.message_type v.payload) same.0 r.2) in
       let answer = inner_payload x h.message_type v.payload kind read in
       law x h.message_type answer.0 answer.1 fault
 
@@ -161,9 +147,8 @@ one_envelope_fault refuses b e f law (inl fault) (inl other) = one_framing_fault
 one_envelope_fault refuses b e f law (inl fault) (inr (h, x, frame, kind, other)) = absurd (no_fault_where_framed b x h e frame fault)
 one_envelope_fault refuses b e f law (inr (h, x, frame, kind, fault)) (inl other) = absurd (no_fault_where_framed b x h f frame other)
 one_envelope_fault refuses b e f law (inr (h, x, frame, kind, fault)) (inr (k, y, also, _, other)) =
-    let header : k ≡ h = framed_header b y x k h also frame in
-    let payload : y ≡ x = sym (framed_payload b y k also) ∙ framed_payload b x h frame in
-    law x h.message_type fault (subst (λ (z : List ℕ). refuses z h.message_type f) payload (subst (λ (l : NetlinkHeader). refuses y l.message_type f) header other))
+    let same = one_frame b y x k h also frame in
+    law x h.message_type fault (subst (λ (z : List ℕ). refuses z h.message_type f) same.1 (subst (λ (l : NetlinkHeader). refuses y l.message_type f) same.0 other))
 
 -- no fault is want of memory
 pub envelope_fault_named : (refuses : List ℕ → ℕ → DecodeError → Type 0) (b : List ℕ) → ((x : List ℕ) (t : ℕ) → refuses x t Memory → ⊥) → EnvelopeFault refuses b Memory → ⊥

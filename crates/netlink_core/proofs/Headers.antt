@@ -1,13 +1,13 @@
 -- A header fixes its bytes, and its bytes fix it.
 use Rattle.std.proofs.Common.{◌≡◌, ℕ, ◌+◌, ◌-◌, ◌^◌, ◌<◌, ◌≤◌, ◌⊎◌, inl, inr, List, [], ◌++◌, length, take, drop, refl, sym, ap, subst, ◌∙◌, arith}
-use Rattle.std.proofs.lemmas.List.{take-append-drop, take_all, drop-drop, length-drop, append-nil}
+use Rattle.std.proofs.lemmas.List.{take-append-drop, take_all, drop-drop, length-take, length-drop, length-append, append-nil}
 use Rattle.byteorder.specs.Endian.{little_bytes, little_number}
 use Rattle.byteorder.specs.Numbers.{little_number-reads_back, length-bytes_low_first}
 use Rattle.netlink_core.specs.declared.header.NetlinkHeader.{NetlinkHeader}
 use Rattle.netlink_core.specs.Bytes.{IsBytes}
 use Rattle.netlink_core.specs.Table.{little_endian}
 use Rattle.netlink_core.specs.ByteLaws.{IsBytes-number, IsBytes-left}
-use Rattle.netlink_core.specs.Header.{IsTypedHeader, HasHeader, IsEnvelopeFault, header_bytes, length_word}
+use Rattle.netlink_core.specs.Header.{IsTypedHeader, HasHeader, IsFramed, IsEnvelopeFault, header_bytes, length_word}
 use Rattle.netlink_core.specs.declared.fault.DecodeError.{DecodeError}
 use Rattle.netlink_core.specs.declared.fault.DecodeError.TheVariants.{EnvelopeCut, EnvelopeLengthUnder16, EnvelopeLengthPast}
 use Rattle.std.proofs.lemmas.Bool.{cases_lt}
@@ -53,9 +53,11 @@ header_read bytes h fits long length-is type-is flags-is sequence-is port-is low
     let of_flags = number_behind 6 2 h.flags bytes fits (omega arith) flags-is in
     let of_sequence = number_behind 8 4 h.sequence_number bytes fits (omega arith) sequence-is in
     let of_port = number_behind 12 4 h.port_number bytes fits (omega arith) port-is in
-    record {
-      tail = drop 16 bytes;
-      parts = of_length ∙ ap (λ (t : List ℕ). little_bytes 4 h.length ++ t) (of_type ∙ ap (λ (t : List ℕ). little_bytes 2 h.message_type ++ t) (of_flags ∙ ap (λ (t : List ℕ). little_bytes 2 h.flags ++ t) (of_sequence ∙ ap (λ (t : List ℕ). little_bytes 4 h.sequence_number ++ t) of_port)));
+    (
+      take (h.length - 16) (drop 16 bytes),
+      record {
+      rest = drop (h.length - 16) (drop 16 bytes);
+      parts = of_length ∙ ap (λ (t : List ℕ). little_bytes 4 h.length ++ t) (of_type ∙ ap (λ (t : List ℕ). little_bytes 2 h.message_type ++ t) (of_flags ∙ ap (λ (t : List ℕ). little_bytes 2 h.flags ++ t) (of_sequence ∙ ap (λ (t : List ℕ). little_bytes 4 h.sequence_number ++ t) of_port))) ∙ ap (λ (t : List ℕ). header_bytes h ++ t) (sym (take-append-drop (h.length - 16) (drop 16 bytes)));
       typed = record {
         length = subst (λ (k : ℕ). k < 2 ^ 32) (sym length-is) (number-fits little_endian 4 bytes fits);
         message_type = fits_behind 4 2 h.message_type bytes fits type-is;
@@ -63,9 +65,13 @@ header_read bytes h fits long length-is type-is flags-is sequence-is port-is low
         sequence_number = fits_behind 8 4 h.sequence_number bytes fits sequence-is;
         port_number = fits_behind 12 4 h.port_number bytes fits port-is;
       };
-      low = low;
-      high = high;
-    }
+      size = omega (arith, length-take (h.length - 16) (drop 16 bytes), length-drop 16 bytes);
+      },
+    )
+
+-- the header counts itself, and its length is within the bytes
+pub framed_bounds : (b x : List ℕ) (h : NetlinkHeader) → IsFramed b h x → (16 ≤ h.length) × (h.length ≤ length b)
+framed_bounds b x h f = (omega (arith, f.size), omega (arith, f.size, ap length f.parts ∙ length-append (header_bytes h) (x ++ f.rest), length-append x f.rest))
 
 -- a header stands at the front, or a fault tells why not
 pub header_or_fault : (bytes : List ℕ) → IsBytes bytes → ((h : NetlinkHeader) × HasHeader bytes h) ⊎ ((e : DecodeError) × IsEnvelopeFault bytes e)

@@ -1,11 +1,12 @@
 -- Messages are equal exactly where their bytes are idle, and read back as themselves exactly where they are in normal form.
-use Rattle.std.proofs.Common.{◌≡◌, ◌↔◌, ◌∙◌, ℕ, zero, suc, ◌<◌, ◌≤◌, ◌^◌, inl, inr, List, [], ◌++◌, take, drop, refl, sym, ap, subst, arith}
+use Rattle.std.proofs.Common.{◌≡◌, ◌↔◌, ◌∙◌, ℕ, zero, suc, ◌-◌, ◌≤◌, inl, inr, List, [], ◌++◌, take, drop, refl, sym, ap, subst, arith}
 use Rattle.std.proofs.lemmas.List.{append-nil}
 use Rattle.netlink_core.specs.declared.header.NetlinkHeader.{NetlinkHeader}
-use Rattle.netlink_core.specs.Header.{IsTypedHeader, header_bytes}
-use Rattle.netlink_core.specs.Envelope.{Payload, done_with, error_with, no_payload, overrun_with, inner, Envelope, IsInnerType, IsFramed, PayloadIs, EnvelopeIs, payload_bytes, payload_type, envelope_bytes, OfInner, IsFinalized, IsNormalEnvelope, type_word, payload_at, IdlePayloads, IdleEnvelopes}
+use Rattle.netlink_core.specs.Bytes.{IsBytes}
+use Rattle.netlink_core.specs.Header.{IsTypedHeader, IsFramed, header_bytes}
+use Rattle.netlink_core.specs.Envelope.{Payload, done_with, error_with, no_payload, overrun_with, inner, Envelope, IsInnerType, PayloadIs, EnvelopeIs, payload_bytes, payload_type, envelope_bytes, OfInner, IsFinalized, IsNormalEnvelope, IdlePayloads, IdleEnvelopes}
 use Rattle.netlink_core.proofs.Headers.{one_header}
-use Rattle.netlink_core.proofs.Framing.{framed_type, framed_payload, framed_front}
+use Rattle.netlink_core.proofs.Framing.{one_frame, framed_payload, payload_typed}
 
 -- the type where one payload alone belongs to it, or 0 where an inner message does
 abbrev kind_under : ℕ → ℕ
@@ -73,40 +74,35 @@ module _ {A : Type 0} (reads : List ℕ → ℕ → A → Type 0) where
   payloads_alike written fits t x y law p q h k f g e = absurd (omega (arith, payload_kind x t p h, payload_kind y t q k))
 
   -- messages that are written alike are equal
-  pub equal_where_alike : (written : A → List ℕ) (fits : A → Type 0) (b c : List ℕ)
-      → ((t : ℕ) (x y : List ℕ) (v w : A) → x ≡ payload_at b → y ≡ payload_at c → reads x t v → reads y t w → fits v → fits w → written v ≡ written w → v ≡ w)
-      → (v w : Envelope A) → EnvelopeIs reads b v → EnvelopeIs reads c w → OfInner fits v.payload → OfInner fits w.payload
+  pub equal_where_alike : (written : A → List ℕ) (fits : A → Type 0)
+      → ((x y : List ℕ) (t : ℕ) (v w : A) → IsBytes x → IsBytes y → reads x t v → reads y t w → fits v → fits w → written v ≡ written w → v ≡ w)
+      → (b c : List ℕ) (v w : Envelope A) → IsBytes b → IsBytes c → EnvelopeIs reads b v → EnvelopeIs reads c w → OfInner fits v.payload → OfInner fits w.payload
       → envelope_bytes written v ≡ envelope_bytes written w → v ≡ w
-  equal_where_alike written fits b c law v w r s fv fw e =
+  equal_where_alike written fits law b c v w tb tc r s fv fw e =
       let headers : v.header ≡ w.header = one_header v.header w.header r.1.typed s.1.typed (ap (take 16) e) in
       let read : PayloadIs reads s.0 v.header.message_type w.payload = subst (λ (h : NetlinkHeader). PayloadIs reads s.0 h.message_type w.payload) (sym headers) s.2 in
       let same : v.payload ≡ w.payload = payloads_alike written fits v.header.message_type r.0 s.0
-      (λ m n. law v.header.message_type r.0 s.0 m n (sym (framed_payload b r.0 v.header r.1)) (sym (framed_payload c s.0 w.header s.1)))
+      (λ m n. law r.0 s.0 v.header.message_type m n (payload_typed b r.0 v.header tb r.1) (payload_typed c s.0 w.header tc s.1))
       v.payload w.payload r.2 read fv fw (ap (drop 16) e) in
       λ z. record { header = headers z; payload = same z }
 
   -- messages are equal exactly where their strings are idle
-  pub equal_where_idle : (idle : ℕ → List ℕ → List ℕ → Type 0) (b c : List ℕ)
-      → ((t : ℕ) (x y : List ℕ) (v w : A) → x ≡ payload_at b → y ≡ payload_at c → reads x t v → reads y t w → ((v ≡ w) ↔ idle t x y))
-      → (v w : Envelope A) → EnvelopeIs reads b v → EnvelopeIs reads c w → ((v ≡ w) ↔ IdleEnvelopes idle b c)
-  equal_where_idle idle b c law v w r s =
-      let xb = framed_payload b r.0 v.header r.1 in
-      let yc = framed_payload c s.0 w.header s.1 in
-      let tb = framed_type b r.0 v.header r.1 in
-      let tc = framed_type c s.0 w.header s.1 in
-      let read-b : PayloadIs reads (payload_at b) (type_word b) v.payload = subst (λ (t : ℕ). PayloadIs reads (payload_at b) t v.payload) (sym tb) (subst (λ (x : List ℕ). PayloadIs reads x v.header.message_type v.payload) (sym xb) r.2) in
-      let read-c : (type_word b ≡ type_word c) → PayloadIs reads (payload_at c) (type_word b) w.payload = λ same. subst (λ (t : ℕ). PayloadIs reads (payload_at c) t w.payload) (sym tc ∙ sym same) (subst (λ (x : List ℕ). PayloadIs reads x w.header.message_type w.payload) (sym yc) s.2) in
-      let fronts = framed_front b r.0 v.header r.1 in
-      let others = framed_front c s.0 w.header s.1 in (
+  pub equal_where_idle : (idle : ℕ → List ℕ → List ℕ → Type 0)
+      → ((x y : List ℕ) (t : ℕ) (v w : A) → IsBytes x → IsBytes y → reads x t v → reads y t w → ((v ≡ w) ↔ idle t x y))
+      → (b c : List ℕ) (v w : Envelope A) → IsBytes b → IsBytes c → EnvelopeIs reads b v → EnvelopeIs reads c w → ((v ≡ w) ↔ IdleEnvelopes idle b c)
+  equal_where_idle idle law b c v w tb tc r s =
+      let t : ℕ = v.header.message_type in
+      let read : v.header ≡ w.header → PayloadIs reads s.0 t w.payload = λ e. subst (λ (h : NetlinkHeader). PayloadIs reads s.0 h.message_type w.payload) (sym e) s.2 in
+      let payloads = λ (e : v.header ≡ w.header). payloads_idle idle t r.0 s.0 (λ m n. law r.0 s.0 t m n (payload_typed b r.0 v.header tb r.1) (payload_typed c s.0 w.header tc s.1)) v.payload w.payload r.2 (read e) in (
         λ e.
-            let types : type_word b ≡ type_word c = tb ∙ ap (λ (m : Envelope A). m.header.message_type) e ∙ sym tc in
-            let payloads = payloads_idle idle (type_word b) (payload_at b) (payload_at c) (λ x y. law (type_word b) _ _ x y refl refl) v.payload w.payload read-b (read-c types) in
-            (fronts ∙ ap (λ (m : Envelope A). header_bytes m.header) e ∙ sym others, payloads.0 (ap (λ (m : Envelope A). m.payload) e)),
-        λ i.
-            let headers : v.header ≡ w.header = one_header v.header w.header r.1.typed s.1.typed (sym fronts ∙ i.0 ∙ others) in
-            let types : type_word b ≡ type_word c = tb ∙ ap (λ (h : NetlinkHeader). h.message_type) headers ∙ sym tc in
-            let payloads = payloads_idle idle (type_word b) (payload_at b) (payload_at c) (λ x y. law (type_word b) _ _ x y refl refl) v.payload w.payload read-b (read-c types) in
-            let same : v.payload ≡ w.payload = payloads.1 i.1 in
+            let headers : v.header ≡ w.header = ap (λ (m : Envelope A). m.header) e in
+            (v.header, r.0, s.0, r.1, subst (λ (h : NetlinkHeader). IsFramed c h s.0) (sym headers) s.1, (payloads headers).0 (ap (λ (m : Envelope A). m.payload) e)),
+        λ (h, x, y, f, g, i).
+            let left = one_frame b x r.0 h v.header f r.1 in
+            let right = one_frame c y s.0 h w.header g s.1 in
+            let headers : v.header ≡ w.header = sym left.0 ∙ right.0 in
+            let idle_here : IdlePayloads idle t r.0 s.0 = subst (λ (k : NetlinkHeader). IdlePayloads idle k.message_type r.0 s.0) left.0 (subst (λ (a : List ℕ). IdlePayloads idle h.message_type a s.0) left.1 (subst (λ (a : List ℕ). IdlePayloads idle h.message_type x a) right.1 i)) in
+            let same : v.payload ≡ w.payload = (payloads headers).1 idle_here in
             λ z. record { header = headers z; payload = same z },
       )
 

@@ -1,9 +1,8 @@
 -- A message: its header, and its payload by its type.
-use Rattle.std.specs.Prelude.{◌≡◌, ℕ, ◌+◌, ◌-◌, ◌≤◌, ◌⊎◌, List, [], ◌++◌, length, take, drop, ⊤}
-use Rattle.byteorder.specs.Endian.{little_number}
+use Rattle.std.specs.Prelude.{◌≡◌, ℕ, ◌+◌, ◌≤◌, ◌⊎◌, List, [], ◌++◌, length, ⊤}
 use Rattle.netlink_core.specs.declared.fault.DecodeError.{DecodeError}
 use Rattle.netlink_core.specs.declared.header.NetlinkHeader.{NetlinkHeader}
-use Rattle.netlink_core.specs.Header.{IsTypedHeader, header_bytes, length_word, IsEnvelopeFault}
+use Rattle.netlink_core.specs.Header.{IsTypedHeader, header_bytes, IsFramed, IsEnvelopeFault}
 
 -- what a message carries, without where it lies in memory
 pub data Payload (A : Type 0) : Type 0 where
@@ -19,13 +18,6 @@ pub record Envelope (A : Type 0) : Type 0 where
 -- the types whose payload the inner message's reader reads
 abbrev pub IsInnerType : ℕ → Type 0
 IsInnerType t = (t ≡ 0) ⊎ (5 ≤ t)
-
--- The header stands at the front, its length counts itself and the payload, and what follows is unread.
-pub record IsFramed (bytes : List ℕ) (h : NetlinkHeader) (payload : List ℕ) : Type 0 where
-  pub rest : List ℕ
-  pub parts : bytes ≡ header_bytes h ++ (payload ++ rest)
-  pub typed : IsTypedHeader h
-  pub size : h.length ≡ 16 + length payload
 
 -- What belongs to bytes, where this is what belongs to those of an inner message under a type.
 module _ {A : Type 0} (reads : List ℕ → ℕ → A → Type 0) where
@@ -91,21 +83,13 @@ IsFinalized bytes type_of e = (e.header.length ≡ 16 + length (payload_bytes by
 
 -- ---- equal messages, and messages that read back
 
--- the number where a header has its type
-abbrev pub type_word : List ℕ → ℕ
-type_word bytes = little_number 2 (drop 4 bytes)
-
--- the payload that the length word counts
-abbrev pub payload_at : List ℕ → List ℕ
-payload_at bytes = take (length_word bytes - 16) (drop 16 bytes)
-
 -- by the type: any payloads of nothing, equal ones that are kept as bytes, and idle ones of inner messages
 abbrev pub IdlePayloads : (ℕ → List ℕ → List ℕ → Type 0) → ℕ → List ℕ → List ℕ → Type 0
 IdlePayloads idle t x y = (t ≡ 1) ⊎ (((2 ≤ t) × (t ≤ 4) × (x ≡ y)) ⊎ (IsInnerType t × idle t x y))
 
--- equal first sixteen bytes, and payloads that are idle by type
+-- one header in front of both, and payloads that are idle by its type
 abbrev pub IdleEnvelopes : (ℕ → List ℕ → List ℕ → Type 0) → List ℕ → List ℕ → Type 0
-IdleEnvelopes idle b c = (take 16 b ≡ take 16 c) × IdlePayloads idle (type_word b) (payload_at b) (payload_at c)
+IdleEnvelopes idle b c = (h : NetlinkHeader) × (x y : List ℕ) × IsFramed b h x × IsFramed c h y × IdlePayloads idle h.message_type x y
 
 -- each field of the header is within its type, and an inner message is typed
 abbrev pub IsTypedEnvelope : {A : Type 0} → (A → Type 0) → Envelope A → Type 0

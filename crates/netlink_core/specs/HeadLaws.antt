@@ -1,16 +1,26 @@
 -- An attribute of a family, read at the front of a string, keeps the laws. Proved once, for every family.
-use Rattle.std.proofs.Common.{Ok, Err, ◌≡◌, ◌∙◌, ◌↔◌, ◌⊎◌, inl, inr, List, ℕ, length, replicate, refl, sym, ap, subst}
+use Rattle.std.proofs.Common.{Ok, Err, ◌≡◌, ◌∙◌, ◌↔◌, ◌⊎◌, inl, inr, List, [], ℕ, length, replicate, refl, sym, ap, subst}
 use Rattle.netlink_core.specs.declared.fault.DecodeError.{DecodeError}
 use Rattle.netlink_core.specs.declared.fault.DecodeError.TheVariants.{Memory}
 use Rattle.netlink_core.specs.Bytes.{IsBytes}
 use Rattle.netlink_core.specs.Attribute.{Attribute, FitsWords, HasFittingValue, HeadIs, fill, written}
 use Rattle.netlink_core.specs.Family.{Family, Said, says, attribute_said, IsTypedSaid, IsNormalSaid, AreIdleAttributes}
 use Rattle.netlink_core.specs.ShownLaws.{FamilyLaws}
-use Rattle.netlink_core.specs.AnyKind.{any_kind}
-use Rattle.netlink_core.specs.Heads.{MeansHead, RefusesHead, AreIdleHeads, head_codec}
+use Rattle.netlink_core.specs.Heads.{head_codec}
 use Rattle.netlink_core.specs.Codec.{KeepsLaws}
 use Rattle.netlink_core.specs.FrontLaws.{value_or_reason, head_or_fault, head_or_fault_apart, head_typed, one_attribute, one_fault_at_front, written_typed}
 use Rattle.netlink_core.specs.FamilyLaws.{family_named, family_gives_normal, family_same_value, writes_typed, reads_back}
+
+module _ (F : Family) where
+  -- what the codec reads, refuses and has as idle
+  abbrev MeansHead : List ℕ → Said F → Type 0
+  MeansHead b v = (head_codec F).reads b tt v
+
+  abbrev RefusesHead : List ℕ → DecodeError → Type 0
+  RefusesHead b e = (head_codec F).refuses b tt e
+
+  abbrev AreIdleHeads : List ℕ → List ℕ → Type 0
+  AreIdleHeads b c = (head_codec F).idle tt b c
 
 module _ (F : Family) (laws : FamilyLaws F) where
   head_answered : (b : List ℕ) → IsBytes b → ((v : Said F) × MeansHead F b v) ⊎ ((e : DecodeError) × RefusesHead F b e)
@@ -84,9 +94,5 @@ module _ (F : Family) (a : Attribute) (fits : FitsWords a) where
   said_is_read v s = (a, begins, s)
 
 -- it is kept as what is read of its bytes
-pub kept_is_read : (a v : Attribute) → FitsWords a → v ≡ a → MeansHead any_kind (written a) v
-kept_is_read a v fits e = said_is_read any_kind a fits v (ap Ok (sym e))
-
--- the family in which no kind is known
-pub any_kind_laws : FamilyLaws any_kind
-any_kind_laws = tt
+pub kept_is_read : (a v : Attribute) → FitsWords a → v ≡ a → MeansHead [] (written a) v
+kept_is_read a v fits e = said_is_read [] a fits v (ap Ok (sym e))

@@ -1,5 +1,5 @@
 -- The netlink header at the front of a message, and why none stands there.
-use Rattle.std.specs.Prelude.{◌≡◌, ℕ, ◌^◌, ◌<◌, ◌≤◌, List, ◌++◌, length}
+use Rattle.std.specs.Prelude.{◌≡◌, ℕ, ◌+◌, ◌^◌, ◌<◌, ◌≤◌, List, ◌++◌, length}
 use Rattle.byteorder.specs.Endian.{little_bytes, little_number}
 use Rattle.netlink_core.specs.declared.fault.DecodeError.{DecodeError}
 use Rattle.netlink_core.specs.declared.fault.DecodeError.TheVariants.{EnvelopeCut, EnvelopeLengthUnder16, EnvelopeLengthPast}
@@ -17,13 +17,16 @@ pub record IsTypedHeader (h : NetlinkHeader) : Type 0 where
 abbrev pub header_bytes : NetlinkHeader → List ℕ
 header_bytes h = little_bytes 4 h.length ++ little_bytes 2 h.message_type ++ little_bytes 2 h.flags ++ little_bytes 4 h.sequence_number ++ little_bytes 4 h.port_number
 
--- the bytes begin with the header, and are at least as many as its length says, which counts the header
-pub record HasHeader (bytes : List ℕ) (h : NetlinkHeader) : Type 0 where
-  pub tail : List ℕ
-  pub parts : bytes ≡ header_bytes h ++ tail
+-- The header stands at the front, its length counts itself and the payload, and what follows is unread.
+pub record IsFramed (bytes : List ℕ) (h : NetlinkHeader) (payload : List ℕ) : Type 0 where
+  pub rest : List ℕ
+  pub parts : bytes ≡ header_bytes h ++ (payload ++ rest)
   pub typed : IsTypedHeader h
-  pub low : 16 ≤ h.length
-  pub high : h.length ≤ length bytes
+  pub size : h.length ≡ 16 + length payload
+
+-- the bytes begin with the header and the payload that its length counts
+abbrev pub HasHeader : List ℕ → NetlinkHeader → Type 0
+HasHeader bytes h = (payload : List ℕ) × IsFramed bytes h payload
 
 -- the number in the first four bytes
 abbrev pub length_word : List ℕ → ℕ

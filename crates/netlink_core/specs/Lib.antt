@@ -17,7 +17,6 @@ pub mod Heads
 pub mod Reply
 pub mod ReplySteps
 pub mod ShownLaws
-pub mod AnyKind
 pub mod DefaultNla
 pub mod Parse
 pub mod FrontLaws

@@ -1,8 +1,9 @@
 //! Netlink messages: a header, and what it frames.
 
 ghost use Rattle.std.specs.Prelude.{◌≡◌, ◌≢◌, ◌≤◌, ◌<◌, ◌^◌, ◌++◌, ◌↔◌, ℕ, length, drop, IfOk, IfErr, IsTrue};
+ghost use Rattle.byteorder.specs.Endian.{little_number};
 ghost use Rattle.netlink_core.specs.declared.fault.DecodeError.TheVariants.{Memory};
-ghost use Rattle.netlink_core.specs.Envelope.{type_word, Payload, Envelope, PayloadIs, EnvelopeIs, EnvelopeFault, IsInnerType, payload_bytes, payload_type, envelope_bytes, OfInner, EnvelopeFits, finalized};
+ghost use Rattle.netlink_core.specs.Envelope.{Payload, Envelope, PayloadIs, EnvelopeIs, EnvelopeFault, IsInnerType, payload_bytes, payload_type, envelope_bytes, OfInner, EnvelopeFits, finalized};
 ghost use Rattle.netlink_core.specs.Seen.{payload_of, envelope_of};
 
 use crate::fault::DecodeError;
@@ -194,7 +195,7 @@ impl<I: NetlinkDeserializable> NetlinkMessage<I> {
     pub fn deserialize(alloc: Global, bytes: &[u8]) -> Result<Self, DecodeError>
         ensures value { IfOk result (λ m. EnvelopeIs I.codec.reads bytes.now (envelope_of I.seen m)) }
         ensures fault { IfErr result (λ e. e ≢ Memory → EnvelopeFault I.codec.refuses bytes.now e) }
-        ensures memory { IfErr result (λ e. e ≡ Memory → type_word bytes.now ≢ 1) }
+        ensures memory { IfErr result (λ e. e ≡ Memory → little_number 2 (drop 4 bytes.now) ≢ 1) }
         // Memory is wanted only for bytes that have a message.
         ensures wanted { IfErr result (λ e. e ≡ Memory → (m : Envelope I.codec.Value) × EnvelopeIs I.codec.reads bytes.now m) }
     {

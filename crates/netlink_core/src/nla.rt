@@ -1,12 +1,11 @@
 //! Attributes that are written, and the attribute of any kind.
 
-ghost use Rattle.std.specs.Prelude.{◌≡◌, ◌≤◌, ◌<◌, ◌↔◌, replicate, ◌++◌, length, drop, map, true, refl, IsTrue, IfOk, SomeIff};
+ghost use Rattle.std.specs.Prelude.{◌≡◌, ◌≤◌, ◌<◌, ◌↔◌, replicate, ◌++◌, length, drop, [], map, true, refl, IsTrue, IfOk, SomeIff};
 ghost use Rattle.std.specs.List.{flat_map};
 ghost use Rattle.std.proofs.Common.{rules};
 ghost use Rattle.netlink_core.specs.Attribute.{Attribute, HasFittingValue, AreWritable, written};
 ghost use Rattle.netlink_core.specs.Heads.{head_codec};
-ghost use Rattle.netlink_core.specs.AnyKind.{any_kind};
-ghost use Rattle.netlink_core.specs.HeadLaws.{heads_keep_laws, any_kind_laws};
+ghost use Rattle.netlink_core.specs.HeadLaws.{heads_keep_laws};
 
 use crate::attribute::{HEADER, MAX_VALUE, NlaBuffer, padded};
 use crate::codec::{Emitable, Parseable, Readable};
@@ -257,7 +256,8 @@ impl Coded for DefaultNla {
 
     type Param = ();
 
-    ghost codec = { head_codec any_kind };
+    // Of no kind: each attribute says itself.
+    ghost codec = { head_codec [] };
 
     ghost seen = { kept_attribute };
 
@@ -270,7 +270,7 @@ impl Coded for DefaultNla {
 
     ghost eq_is_seen = { Prim.search rules };
 
-    ghost laws = { heads_keep_laws any_kind any_kind_laws };
+    ghost laws = { heads_keep_laws [] tt };
 }
 
 impl Wire for DefaultNla {
