@@ -3,13 +3,14 @@ use Rattle.std.proofs.Common.{◌≡◌, ℕ, ◌+◌, ◌-◌, ◌<◌, ◌≤�
 use Rattle.std.specs.Prelude.{Option, Some, None}
 use Rattle.std.proofs.lemmas.List.{take-append-drop, take-take, take_at, drop_all, drop-drop, length-take, length-drop, length-append}
 use Rattle.std.proofs.lemmas.Bool.{cases_lt}
+use Rattle.byteorder.specs.Endian.{little_number}
 use Rattle.byteorder.specs.Numbers.{little_number-reads_back}
 use Rattle.netlink_core.specs.declared.header.NetlinkHeader.{NetlinkHeader}
 use Rattle.netlink_core.specs.declared.fault.DecodeError.{DecodeError}
 use Rattle.netlink_core.specs.declared.fault.DecodeError.TheVariants.{EnvelopeCut, EnvelopeLengthUnder16, EnvelopeLengthPast}
 use Rattle.netlink_core.specs.Attribute.{fill}
 use Rattle.netlink_core.specs.Table.{little_endian}
-use Rattle.netlink_core.specs.Header.{HasHeader, length_word, IsEnvelopeFault}
+use Rattle.netlink_core.specs.Header.{HasHeader, IsEnvelopeFault}
 use Rattle.netlink_core.specs.Datagram.{StartsWithMessage, CutIntoMessages, AreWholeMessages}
 use Rattle.netlink_core.proofs.Numbers.{number-take}
 use Rattle.netlink_core.proofs.Framing.{one_framing_fault}
@@ -25,9 +26,9 @@ same_parts (x ∷ xs) (y ∷ ys) s t len e =
     (cc, rest.1)
 
 -- the length word stands in the first four bytes
-word_in_front : (n : ℕ) (bytes : List ℕ) → 4 ≤ n → length_word (take n bytes) ≡ length_word bytes
+word_in_front : (n : ℕ) (bytes : List ℕ) → 4 ≤ n → little_number 4 (take n bytes) ≡ little_number 4 bytes
 word_in_front n bytes long =
-    sym (number-take little_endian 4 (take n bytes)) ∙ ap length_word (take-take 4 n bytes long) ∙ number-take little_endian 4 bytes
+    sym (number-take little_endian 4 (take n bytes)) ∙ ap (little_number 4) (take-take 4 n bytes long) ∙ number-take little_endian 4 bytes
 
 -- ---- one message
 
@@ -39,8 +40,8 @@ starts_with_message bytes message rest h end head message-is end-is rest-is =
     let low : 16 ≤ h.length = bounds.0 in
     let high : h.length ≤ length bytes = bounds.1 in
     let len : length message ≡ h.length = ap length message-is ∙ omega (arith, length-take h.length bytes) in
-    let word : length_word bytes ≡ h.length = ap length_word head.1.parts ∙ little_number-reads_back 4 h.length [] head.1.typed.length in
-    let own : length_word message ≡ length_word bytes = ap length_word message-is ∙ word_in_front h.length bytes (omega arith) in
+    let word : little_number 4 bytes ≡ h.length = ap (little_number 4) head.1.parts ∙ little_number-reads_back 4 h.length [] head.1.typed.length in
+    let own : little_number 4 message ≡ little_number 4 bytes = ap (little_number 4) message-is ∙ word_in_front h.length bytes (omega arith) in
     let n : ℕ = end - h.length in
     let tail : List ℕ = drop h.length bytes in
     let rest-at : rest ≡ drop n tail = rest-is ∙ ap (λ (k : ℕ). drop k bytes) (omega arith) ∙ sym (drop-drop n h.length bytes) in
@@ -56,11 +57,11 @@ starts_with_message bytes message rest h end head message-is end-is rest-is =
     }
 
 -- the length word of the bytes is the message's
-message_word : (bytes message rest : List ℕ) → StartsWithMessage bytes message rest → (length_word bytes ≡ length message) × (16 ≤ length message) × (length message ≤ length bytes)
+message_word : (bytes message rest : List ℕ) → StartsWithMessage bytes message rest → (little_number 4 bytes ≡ length message) × (16 ≤ length message) × (length message ≤ length bytes)
 message_word bytes message rest s =
     let low : 16 ≤ length message = s.whole.low in
     let front : take (length message) bytes ≡ message = ap (take (length message)) s.parts ∙ take_at message (s.padding ++ rest) (length message) refl in
-    let own : length_word bytes ≡ length_word message = sym (word_in_front (length message) bytes (omega arith)) ∙ ap length_word front in
+    let own : little_number 4 bytes ≡ little_number 4 message = sym (word_in_front (length message) bytes (omega arith)) ∙ ap (little_number 4) front in
     (own ∙ s.whole.word, low, omega (arith, ap length s.parts ∙ length-append message (s.padding ++ rest)))
 
 -- what stands behind a message is shorter

@@ -4,7 +4,7 @@ use Rattle.std.proofs.lemmas.Bool.{cases_lt}
 use Rattle.netlink_core.specs.Bytes.{IsBytes}
 use Rattle.netlink_core.specs.Table.{Row, values_of, bytes_of, Fit, AreDefined}
 use Rattle.netlink_core.specs.SoundLaws.{is_table, IsSound}
-use Rattle.netlink_core.specs.Format.{Format, read, read_row, Reads, StandsIn, bytes, AreIdle, IsTyped, IsNormal, plain}
+use Rattle.netlink_core.specs.Format.{Format, read, read_row, StandsIn, bytes, AreIdle, IsTyped, IsNormal, plain}
 use Rattle.netlink_core.specs.Faults.{said_as}
 use Rattle.netlink_core.specs.Codec.{KeepsLaws, RecordLaws, record_codec}
 use Rattle.netlink_core.specs.FrontLaws.{value_or_reason}
@@ -142,7 +142,7 @@ module _ {Param Tag Value : Type 0} (format : Format Param Tag Value) (sound : I
       )
 
   -- what is read is what stands there
-  pub stands_where_read : (param : Param) (left : List ℕ) (value : Value) → IsBytes left → Reads format left param value ↔ StandsIn format left param value
+  pub stands_where_read : (param : Param) (left : List ℕ) (value : Value) → IsBytes left → (read format param left ≡ Ok value) ↔ StandsIn format left param value
   stands_where_read param left value h = (
     λ e.
         let a = accepted format param left value e in

@@ -3,12 +3,13 @@ use Rattle.std.proofs.Common.{cond, ltb, ◌≡◌, ◌∙◌, ℕ, ◌-◌, ◌
 use Rattle.std.specs.Prelude.{Option, Some, None}
 use Rattle.std.proofs.lemmas.Bool.{cases_eq, lt-ltb, le-ltb}
 use Rattle.std.proofs.lemmas.List.{take-append-drop, take_at, length-take, length-drop, length-append}
+use Rattle.byteorder.specs.Endian.{little_number}
 use Rattle.byteorder.specs.Numbers.{little_number-reads_back}
 use Rattle.netlink_core.specs.declared.fault.DecodeError.{DecodeError}
 use Rattle.netlink_core.specs.declared.fault.DecodeError.TheVariants.{Memory, EnvelopeCut, EnvelopeLengthUnder16, EnvelopeLengthPast}
 use Rattle.netlink_core.specs.declared.header.NetlinkHeader.{NetlinkHeader}
 use Rattle.netlink_core.specs.Bytes.{IsBytes}
-use Rattle.netlink_core.specs.Header.{HasHeader, IsFramed, IsEnvelopeFault, header_bytes, length_word}
+use Rattle.netlink_core.specs.Header.{HasHeader, IsFramed, IsEnvelopeFault, header_bytes}
 use Rattle.netlink_core.specs.Envelope.{Payload, done_with, error_with, no_payload, overrun_with, inner, Envelope, IsInnerType, PayloadIs, EnvelopeIs, EnvelopeFault}
 use Rattle.netlink_core.proofs.TableLaws.{AreBytes-drop}
 use Rattle.netlink_core.proofs.Headers.{AreBytes-take, header_or_fault, one_header, framed_bounds}
@@ -16,8 +17,8 @@ use Rattle.netlink_core.proofs.Headers.{AreBytes-take, header_or_fault, one_head
 -- ---- what stands in a framed message
 
 -- the length word is the header's
-pub framed_length : (b x : List ℕ) (h : NetlinkHeader) → IsFramed b h x → length_word b ≡ h.length
-framed_length b x h f = ap length_word f.parts ∙ little_number-reads_back 4 h.length [] f.typed.length
+pub framed_length : (b x : List ℕ) (h : NetlinkHeader) → IsFramed b h x → little_number 4 b ≡ h.length
+framed_length b x h f = ap (little_number 4) f.parts ∙ little_number-reads_back 4 h.length [] f.typed.length
 
 -- the payload stands where the header says
 pub framed_payload : (b x : List ℕ) (h : NetlinkHeader) → IsFramed b h x → take (h.length - 16) (drop 16 b) ≡ x
@@ -60,20 +61,20 @@ no_fault_where_framed b x h _ f k = k
 -- the first fault of framing, computed
 first_fault : List ℕ → Option DecodeError
 first_fault b = cond (ltb (length b) 16) (Some (EnvelopeCut (length b)))
-    (cond (ltb (length_word b) 16) (Some (EnvelopeLengthUnder16 (length_word b)))
-    (cond (ltb (length b) (length_word b)) (Some (EnvelopeLengthPast (length_word b) (length b))) None))
+    (cond (ltb (little_number 4 b) 16) (Some (EnvelopeLengthUnder16 (little_number 4 b)))
+    (cond (ltb (length b) (little_number 4 b)) (Some (EnvelopeLengthPast (little_number 4 b) (length b))) None))
 
 -- a fault of framing is the first
 fault_is_first : (b : List ℕ) (e : DecodeError) → IsEnvelopeFault b e → first_fault b ≡ Some e
 unfolding first_fault
 fault_is_first b (EnvelopeCut got) f = rw (lt-ltb (length b) 16 f.1, ← f.0) refl
 fault_is_first b (EnvelopeLengthUnder16 word) f =
-    let under : length_word b < 16 = omega (arith, f.0, f.2) in
-    rw (le-ltb (length b) 16 f.1, lt-ltb (length_word b) 16 under, ← f.0) refl
+    let under : little_number 4 b < 16 = omega (arith, f.0, f.2) in
+    rw (le-ltb (length b) 16 f.1, lt-ltb (little_number 4 b) 16 under, ← f.0) refl
 fault_is_first b (EnvelopeLengthPast word got) f =
-    let low : 16 ≤ length_word b = omega (arith, f.0, f.3) in
-    let past : length b < length_word b = omega (arith, f.0, f.4) in
-    rw (le-ltb (length b) 16 f.2, le-ltb (length_word b) 16 low, lt-ltb (length b) (length_word b) past, ← f.0, ← f.1) refl
+    let low : 16 ≤ little_number 4 b = omega (arith, f.0, f.3) in
+    let past : length b < little_number 4 b = omega (arith, f.0, f.4) in
+    rw (le-ltb (length b) 16 f.2, le-ltb (little_number 4 b) 16 low, lt-ltb (length b) (little_number 4 b) past, ← f.0, ← f.1) refl
 fault_is_first b _ f = absurd f
 
 -- a framing has one fault at most

@@ -7,7 +7,7 @@ use Rattle.netlink_core.specs.declared.header.NetlinkHeader.{NetlinkHeader}
 use Rattle.netlink_core.specs.Bytes.{IsBytes}
 use Rattle.netlink_core.specs.Table.{little_endian}
 use Rattle.netlink_core.specs.ByteLaws.{IsBytes-number, IsBytes-left}
-use Rattle.netlink_core.specs.Header.{IsTypedHeader, HasHeader, IsFramed, IsEnvelopeFault, header_bytes, length_word}
+use Rattle.netlink_core.specs.Header.{IsTypedHeader, HasHeader, IsFramed, IsEnvelopeFault, header_bytes}
 use Rattle.netlink_core.specs.declared.fault.DecodeError.{DecodeError}
 use Rattle.netlink_core.specs.declared.fault.DecodeError.TheVariants.{EnvelopeCut, EnvelopeLengthUnder16, EnvelopeLengthPast}
 use Rattle.std.proofs.lemmas.Bool.{cases_lt}
@@ -43,7 +43,7 @@ fits_behind : (m n x : ℕ) (bytes : List ℕ) → IsBytes bytes → x ≡ littl
 fits_behind m n x bytes fits is = subst (λ (k : ℕ). k < 256 ^ n) (sym (is ∙ ap (little_number n) (behind m bytes))) (number-fits little_endian n (drop m bytes) (AreBytes-drop m bytes fits))
 
 -- what is read from the five places is the header
-pub header_read : (bytes : List ℕ) (h : NetlinkHeader) → IsBytes bytes → 16 ≤ length bytes → h.length ≡ length_word bytes
+pub header_read : (bytes : List ℕ) (h : NetlinkHeader) → IsBytes bytes → 16 ≤ length bytes → h.length ≡ little_number 4 bytes
     → h.message_type ≡ little_number 2 (take (length bytes - 4) (drop 4 bytes)) → h.flags ≡ little_number 2 (take (length bytes - 6) (drop 6 bytes))
     → h.sequence_number ≡ little_number 4 (take (length bytes - 8) (drop 8 bytes)) → h.port_number ≡ little_number 4 (take (length bytes - 12) (drop 12 bytes))
     → 16 ≤ h.length → h.length ≤ length bytes → HasHeader bytes h
@@ -77,13 +77,13 @@ framed_bounds b x h f = (omega (arith, f.size), omega (arith, f.size, ap length 
 pub header_or_fault : (bytes : List ℕ) → IsBytes bytes → ((h : NetlinkHeader) × HasHeader bytes h) ⊎ ((e : DecodeError) × IsEnvelopeFault bytes e)
 header_or_fault bytes fits = elim (cases_lt (length bytes) 16) [
   | inl cut ↦ inr (EnvelopeCut (length bytes), (refl, cut))
-  | inr long ↦ elim (cases_lt (length_word bytes) 16) [
-    | inl under ↦ inr (EnvelopeLengthUnder16 (length_word bytes), (refl, long, under))
-    | inr low ↦ elim (cases_lt (length bytes) (length_word bytes)) [
-      | inl past ↦ inr (EnvelopeLengthPast (length_word bytes) (length bytes), (refl, refl, long, low, past))
+  | inr long ↦ elim (cases_lt (little_number 4 bytes) 16) [
+    | inl under ↦ inr (EnvelopeLengthUnder16 (little_number 4 bytes), (refl, long, under))
+    | inr low ↦ elim (cases_lt (length bytes) (little_number 4 bytes)) [
+      | inl past ↦ inr (EnvelopeLengthPast (little_number 4 bytes) (length bytes), (refl, refl, long, low, past))
       | inr high ↦ inl (
         record {
-          length = length_word bytes;
+          length = little_number 4 bytes;
           message_type = little_number 2 (take (length bytes - 4) (drop 4 bytes));
           flags = little_number 2 (take (length bytes - 6) (drop 6 bytes));
           sequence_number = little_number 4 (take (length bytes - 8) (drop 8 bytes));

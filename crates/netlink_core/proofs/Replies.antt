@@ -1,6 +1,6 @@
 -- The laws of a reply, from those of its header and its family.
 use Rattle.std.proofs.Common.{Ok, Err, ◌≡◌, ◌∙◌, ◌↔◌, ◌⊎◌, inl, inr, ℕ, List, [], ◌∷◌, refl, ap, sym, subst}
-use Rattle.std.specs.Prelude.{map}
+use Rattle.std.specs.Prelude.{drop, map}
 use Rattle.std.specs.List.{AllByRecursion, AllZip, flat_map}
 use Rattle.std.proofs.lemmas.List.{drop_at}
 use Rattle.netlink_core.specs.declared.fault.DecodeError.{DecodeError}
@@ -9,7 +9,7 @@ use Rattle.netlink_core.specs.Bytes.{IsBytes}
 use Rattle.netlink_core.specs.Attribute.{Attribute, IsTypedAttribute, FitsWords, HasFittingValue, AttributesMean, written}
 use Rattle.netlink_core.specs.Family.{Family, Said, says, attribute_said, IsTypedSaid, IsNormalSaid, AreIdleAttributes}
 use Rattle.netlink_core.specs.ShownLaws.{FamilyLaws, ReplyLaws}
-use Rattle.netlink_core.specs.Reply.{Reply, ValueOf, attribute_part, MeansReply, RefusesReply, AreIdleReplies, IsTypedReply, IsNormalReply, reply_bytes, ReplyFits, reply_codec}
+use Rattle.netlink_core.specs.Reply.{Reply, ValueOf, MeansReply, RefusesReply, AreIdleReplies, IsTypedReply, IsNormalReply, reply_bytes, ReplyFits, reply_codec}
 use Rattle.netlink_core.specs.Codec.{KeepsLaws}
 use Rattle.netlink_core.specs.ByteLaws.{IsBytes-append}
 use Rattle.netlink_core.specs.FrontLaws.{value_or_reason}
@@ -69,7 +69,7 @@ module _ (R : Reply) (laws : ReplyLaws R) where
   reply_answered b typed =
       elim (value_or_reason (R.header.reads tt b)) [
         | inr refused ↦ inr (refused.0, inl refused.1)
-        | inl header ↦ elim (means_or_fault (says R.family) (attribute_part R b) (AreBytes-drop R.size b typed)) [
+        | inl header ↦ elim (means_or_fault (says R.family) (drop R.size b) (AreBytes-drop R.size b typed)) [
           | inl nlas ↦ inl (record { header = header.0; nlas = nlas.0 }, record { header = header.1; nlas = nlas.1 })
           | inr fault ↦ inr (fault.0, inr (header.0, header.1, fault.1))
         ]
@@ -80,7 +80,7 @@ module _ (R : Reply) (laws : ReplyLaws R) where
   reply_one_answer b v e h k =
       elim k [
         | inl refused ↦ let no : Ok v.header ≡ Err e = sym h.header ∙ refused in cc
-        | inr later ↦ means_or_fault_apart (says R.family) (attribute_part R b) v.nlas e h.nlas later.2
+        | inr later ↦ means_or_fault_apart (says R.family) (drop R.size b) v.nlas e h.nlas later.2
       ]
 
   -- one fault at most
@@ -93,7 +93,7 @@ module _ (R : Reply) (laws : ReplyLaws R) where
         ]
         | inr later ↦ elim k [
           | inl refused ↦ let no : Err f ≡ Ok later.0 = sym refused ∙ later.1 in absurd cc
-          | inr also ↦ one_fault (says R.family) (attribute_part R b) e f later.2 also.2
+          | inr also ↦ one_fault (says R.family) (drop R.size b) e f later.2 also.2
         ]
       ]
 
@@ -111,8 +111,8 @@ module _ (R : Reply) (laws : ReplyLaws R) where
   reply_same_value : (b c : List ℕ) (v w : ValueOf R) → IsBytes b → IsBytes c → MeansReply R b v → MeansReply R c w → ((v ≡ w) ↔ AreIdleReplies R b c)
   reply_same_value b c v w b-typed c-typed h k =
       let headers = laws.header.same_value b c v.header w.header b-typed c-typed h.header k.header in
-      let left-typed = cut_typed (attribute_part R b) h.nlas.0 (AreBytes-drop R.size b b-typed) h.nlas.1 in
-      let right-typed = cut_typed (attribute_part R c) k.nlas.0 (AreBytes-drop R.size c c-typed) k.nlas.1 in
+      let left-typed = cut_typed (drop R.size b) h.nlas.0 (AreBytes-drop R.size b b-typed) h.nlas.1 in
+      let right-typed = cut_typed (drop R.size c) k.nlas.0 (AreBytes-drop R.size c c-typed) k.nlas.1 in
       let lists = lists_same_value R.family laws.family h.nlas.0 k.nlas.0 v.nlas w.nlas left-typed right-typed h.nlas.2 k.nlas.2 in (
         λ e. record {
           headers = headers.0 (ap (λ (u : ValueOf R). u.header) e);
@@ -123,8 +123,8 @@ module _ (R : Reply) (laws : ReplyLaws R) where
           each = lists.0 (ap (λ (u : ValueOf R). u.nlas) e);
         },
         λ idle.
-            let lefts = one_cut (attribute_part R b) idle.left h.nlas.0 idle.left_cut h.nlas.1 in
-            let rights = one_cut (attribute_part R c) idle.right k.nlas.0 idle.right_cut k.nlas.1 in
+            let lefts = one_cut (drop R.size b) idle.left h.nlas.0 idle.left_cut h.nlas.1 in
+            let rights = one_cut (drop R.size c) idle.right k.nlas.0 idle.right_cut k.nlas.1 in
             let half : AllZip (AreIdleAttributes R.family) h.nlas.0 idle.right = subst (λ (xs : List Attribute). AllZip (AreIdleAttributes R.family) xs idle.right) lefts idle.each in
             let each : AllZip (AreIdleAttributes R.family) h.nlas.0 k.nlas.0 = subst (λ (ys : List Attribute). AllZip (AreIdleAttributes R.family) h.nlas.0 ys) rights half in
             let same-header : v.header ≡ w.header = headers.1 idle.headers in
@@ -136,7 +136,7 @@ module _ (R : Reply) (laws : ReplyLaws R) where
   reply_gives_normal : (b : List ℕ) (v : ValueOf R) → IsBytes b → MeansReply R b v → IsTypedReply R v × IsNormalReply R v
   reply_gives_normal b v typed h =
       let header = laws.header.gives_normal b v.header typed h.header in
-      let nlas = list_gives_normal R.family laws.family h.nlas.0 v.nlas (cut_typed (attribute_part R b) h.nlas.0 (AreBytes-drop R.size b typed) h.nlas.1) h.nlas.2 in
+      let nlas = list_gives_normal R.family laws.family h.nlas.0 v.nlas (cut_typed (drop R.size b) h.nlas.0 (AreBytes-drop R.size b typed) h.nlas.1) h.nlas.2 in
       ((header.0, nlas.0), (header.1, nlas.1))
 
   -- a typed value is written as bytes
@@ -149,7 +149,7 @@ module _ (R : Reply) (laws : ReplyLaws R) where
   reply_reads_back : (v : ValueOf R) → IsTypedReply R v → IsNormalReply R v → ReplyFits R v → MeansReply R (reply_bytes R v) v
   reply_reads_back v typed normal fits =
       let nlas : List ℕ = flat_map written (map (attribute_said R.family) v.nlas) in
-      let behind : attribute_part R (reply_bytes R v) ≡ nlas = drop_at (R.header.bytes v.header) nlas R.size (laws.in_front.bytes_long v.header typed.0) in
+      let behind : drop R.size (reply_bytes R v) ≡ nlas = drop_at (R.header.bytes v.header) nlas R.size (laws.in_front.bytes_long v.header typed.0) in
       record {
         header = laws.in_front.reads_in_front v.header nlas typed.0 normal.0;
         nlas = subst (λ (part : List ℕ). AttributesMean (says R.family) part v.nlas) (sym behind)

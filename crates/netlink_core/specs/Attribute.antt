@@ -66,15 +66,11 @@ abbrev pub CutInFull : List ℕ → List Attribute → Type 0
 CutInFull bytes [] = bytes ≡ []
 CutInFull bytes (a ∷ later) = (padding rest : List ℕ) × (bytes ≡ unpadded a ++ (padding ++ rest)) × FitsWords a × (length padding ≡ fill (length a.value)) × CutInFull rest later
 
--- the number in the first two bytes
-abbrev pub first_word : List ℕ → ℕ
-first_word bytes = little_number 2 bytes
-
 -- No attribute stands at the front of the bytes, and why. Of several faults it is the first.
 abbrev pub IsFramingFault : List ℕ → DecodeError → Type 0
 IsFramingFault bytes (AttributeHeaderCut left) = (left ≡ length bytes) × (length bytes < 4)
-IsFramingFault bytes (AttributeLengthUnder4 word) = (word ≡ first_word bytes) × (4 ≤ length bytes) × (word < 4)
-IsFramingFault bytes (AttributeLengthPast word left) = (word ≡ first_word bytes) × (left ≡ length bytes) × (4 ≤ length bytes) × (4 ≤ word) × (length bytes < word)
+IsFramingFault bytes (AttributeLengthUnder4 word) = (word ≡ little_number 2 bytes) × (4 ≤ length bytes) × (word < 4)
+IsFramingFault bytes (AttributeLengthPast word left) = (word ≡ little_number 2 bytes) × (left ≡ length bytes) × (4 ≤ length bytes) × (4 ≤ word) × (length bytes < word)
 IsFramingFault bytes _ = ⊥
 
 -- Attributes come first, with all their padding. Then bytes are left, and there the fault is.

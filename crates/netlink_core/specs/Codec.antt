@@ -1,7 +1,7 @@
 -- A reader joined with a writer, and the laws between them.
 use Rattle.std.specs.Prelude.{⊤, ◌≡◌, ◌↔◌, ◌⊎◌, ℕ, List, length, Result, Ok, Err}
 use Rattle.netlink_core.specs.Bytes.{IsBytes}
-use Rattle.netlink_core.specs.Format.{Format, Reads, StandsIn, bytes}
+use Rattle.netlink_core.specs.Format.{Format, read, StandsIn, bytes}
 use Rattle.netlink_core.specs.Prefix.{Prefix, prefix_of}
 use Rattle.netlink_core.specs.declared.fault.DecodeError.{DecodeError}
 use Rattle.netlink_core.specs.declared.fault.DecodeError.TheVariants.{Memory}
@@ -57,4 +57,4 @@ record_codec format = codec_of (prefix_of format)
 pub record RecordLaws {Param Tag Value : Type 0} (format : Format Param Tag Value) : Type 0 where
   pub codec : KeepsLaws (record_codec format)
   pub long : (value : Value) → length (bytes format value) ≡ format.size (format.tag_of value)
-  pub stands : (b : List ℕ) (p : Param) (v : Value) → IsBytes b → Reads format b p v ↔ StandsIn format b p v
+  pub stands : (b : List ℕ) (p : Param) (v : Value) → IsBytes b → (read format p b ≡ Ok v) ↔ StandsIn format b p v

@@ -1,13 +1,14 @@
 -- Messages one after the other: into which messages a datagram is cut, and at which fault the cutting stops.
 use Rattle.std.specs.Prelude.{◌≡◌, ◌≢◌, ℕ, ◌<◌, ◌≤◌, ◌⊎◌, List, [], ◌∷◌, ◌++◌, length, Option, Some, None}
+use Rattle.byteorder.specs.Endian.{little_number}
 use Rattle.netlink_core.specs.declared.fault.DecodeError.{DecodeError}
 use Rattle.netlink_core.specs.Attribute.{fill}
-use Rattle.netlink_core.specs.Header.{length_word, IsEnvelopeFault}
+use Rattle.netlink_core.specs.Header.{IsEnvelopeFault}
 
 -- a message is as long as its own length word says, which counts the header
 pub record IsMessageString (message : List ℕ) : Type 0 where
   pub low : 16 ≤ length message
-  pub word : length_word message ≡ length message
+  pub word : little_number 4 message ≡ length message
 
 -- The bytes are the message, its padding and the rest. Where nothing follows, the padding may be short.
 pub record StartsWithMessage (bytes message rest : List ℕ) : Type 0 where

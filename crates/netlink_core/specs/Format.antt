@@ -47,14 +47,6 @@ module _ {Param Tag Value : Type 0} (format : Format Param Tag Value) where
   abbrev pub read : Param → List ℕ → Result Value DecodeError
   read param left = if nat_lt (length left) format.least then Err (BufferTooSmall format.name (length left) format.least) else read_row param left
 
-  -- the value belongs to the string
-  abbrev pub Reads : List ℕ → Param → Value → Type 0
-  Reads left param value = read param left ≡ Ok value
-
-  -- the fault is the string's first
-  abbrev pub Refuses : List ℕ → Param → DecodeError → Type 0
-  Refuses left param fault = read param left ≡ Err fault
-
   -- the bytes of a value
   abbrev pub bytes : Value → List ℕ
   bytes value = bytes_of (format.table (format.tag_of value)) (format.values value)

@@ -6,7 +6,7 @@ use Rattle.byteorder.specs.Endian.{little_bytes, little_number}
 use Rattle.netlink_core.specs.declared.fault.DecodeError.{DecodeError}
 use Rattle.netlink_core.specs.declared.fault.DecodeError.TheVariants.{AttributeHeaderCut, AttributeLengthUnder4, AttributeLengthPast}
 use Rattle.netlink_core.specs.Bytes.{IsBytes}
-use Rattle.netlink_core.specs.Attribute.{Attribute, IsTypedAttribute, FitsWords, fill, unpadded, written, HeadIs, first_word, IsFramingFault, FaultAtFront}
+use Rattle.netlink_core.specs.Attribute.{Attribute, IsTypedAttribute, FitsWords, fill, unpadded, written, HeadIs, IsFramingFault, FaultAtFront}
 use Rattle.netlink_core.specs.ByteLaws.{IsBytes-append, IsBytes-left, IsBytes-right, IsBytes-number, IsBytes-zeros}
 
 -- ---- the attribute at the front
@@ -78,11 +78,11 @@ written_typed a typed =
 -- ---- an attribute or a fault
 
 -- the length word of an attribute at the front
-pub word_is : (bytes : List ℕ) (a : Attribute) → HeadIs bytes a → (first_word bytes ≡ 4 + length a.value) × (4 + length a.value ≤ length bytes)
+pub word_is : (bytes : List ℕ) (a : Attribute) → HeadIs bytes a → (little_number 2 bytes ≡ 4 + length a.value) × (4 + length a.value ≤ length bytes)
 word_is bytes a head =
     let fits : length a.value ≤ 65531 = head.2.value in
     let len : length bytes ≡ 4 + length a.value + length head.0 = ap length head.1 ∙ simp length-append (omega arith) in
-    (ap first_word head.1 ∙ omega arith, omega arith)
+    (ap (little_number 2) head.1 ∙ omega arith, omega arith)
 
 -- not both an attribute and a fault
 pub head_or_fault_apart : (bytes : List ℕ) (a : Attribute) (e : DecodeError) → HeadIs bytes a → IsFramingFault bytes e → ⊥
@@ -96,11 +96,11 @@ pub head_or_fault : (bytes : List ℕ) → IsBytes bytes → ((a : Attribute) ×
 head_or_fault bytes fits =
     elim (cases_lt (length bytes) 4) [
       | inl short ↦ inr (AttributeHeaderCut (length bytes), (refl, short))
-      | inr some ↦ elim (cases_lt (first_word bytes) 4) [
-        | inl under ↦ inr (AttributeLengthUnder4 (first_word bytes), (refl, some, under))
-        | inr low ↦ elim (cases_lt (length bytes) (first_word bytes)) [
-          | inl past ↦ inr (AttributeLengthPast (first_word bytes) (length bytes), (refl, refl, some, low, past))
-          | inr high ↦ inl (_, head_is bytes (first_word bytes) (little_number 2 (take (length bytes - 2) (drop 2 bytes))) fits refl refl low high)
+      | inr some ↦ elim (cases_lt (little_number 2 bytes) 4) [
+        | inl under ↦ inr (AttributeLengthUnder4 (little_number 2 bytes), (refl, some, under))
+        | inr low ↦ elim (cases_lt (length bytes) (little_number 2 bytes)) [
+          | inl past ↦ inr (AttributeLengthPast (little_number 2 bytes) (length bytes), (refl, refl, some, low, past))
+          | inr high ↦ inl (_, head_is bytes (little_number 2 bytes) (little_number 2 (take (length bytes - 2) (drop 2 bytes))) fits refl refl low high)
         ]
       ]
     ]
@@ -114,19 +114,19 @@ value_or_reason (Err e) = inr (e, refl)
 first_fault : List ℕ → Option DecodeError
 first_fault bytes =
     cond (ltb (length bytes) 4) (Some (AttributeHeaderCut (length bytes)))
-    (cond (ltb (first_word bytes) 4) (Some (AttributeLengthUnder4 (first_word bytes)))
-    (cond (ltb (length bytes) (first_word bytes)) (Some (AttributeLengthPast (first_word bytes) (length bytes))) None))
+    (cond (ltb (little_number 2 bytes) 4) (Some (AttributeLengthUnder4 (little_number 2 bytes)))
+    (cond (ltb (length bytes) (little_number 2 bytes)) (Some (AttributeLengthPast (little_number 2 bytes) (length bytes))) None))
 
 framing_is_first : (bytes : List ℕ) (e : DecodeError) → IsFramingFault bytes e → first_fault bytes ≡ Some e
 unfolding first_fault
 framing_is_first bytes (AttributeHeaderCut left) f = rw (lt-ltb (length bytes) 4 f.1, ← f.0) refl
 framing_is_first bytes (AttributeLengthUnder4 word) f =
-    let under : first_word bytes < 4 = omega (arith, f.0, f.2) in
-    rw (le-ltb (length bytes) 4 f.1, lt-ltb (first_word bytes) 4 under, ← f.0) refl
+    let under : little_number 2 bytes < 4 = omega (arith, f.0, f.2) in
+    rw (le-ltb (length bytes) 4 f.1, lt-ltb (little_number 2 bytes) 4 under, ← f.0) refl
 framing_is_first bytes (AttributeLengthPast word left) f =
-    let low : 4 ≤ first_word bytes = omega (arith, f.0, f.3) in
-    let past : length bytes < first_word bytes = omega (arith, f.0, f.4) in
-    rw (le-ltb (length bytes) 4 f.2, le-ltb (first_word bytes) 4 low, lt-ltb (length bytes) (first_word bytes) past, ← f.0, ← f.1) refl
+    let low : 4 ≤ little_number 2 bytes = omega (arith, f.0, f.3) in
+    let past : length bytes < little_number 2 bytes = omega (arith, f.0, f.4) in
+    rw (le-ltb (length bytes) 4 f.2, le-ltb (little_number 2 bytes) 4 low, lt-ltb (length bytes) (little_number 2 bytes) past, ← f.0, ← f.1) refl
 framing_is_first bytes _ f = absurd f
 
 -- one fault at most, of the framing and of all

@@ -28,13 +28,9 @@ pub record IsFramed (bytes : List ℕ) (h : NetlinkHeader) (payload : List ℕ) 
 abbrev pub HasHeader : List ℕ → NetlinkHeader → Type 0
 HasHeader bytes h = (payload : List ℕ) × IsFramed bytes h payload
 
--- the number in the first four bytes
-abbrev pub length_word : List ℕ → ℕ
-length_word bytes = little_number 4 bytes
-
 -- No message stands at the front of the bytes, and why. Of several faults it is the first.
 abbrev pub IsEnvelopeFault : List ℕ → DecodeError → Type 0
 IsEnvelopeFault bytes (EnvelopeCut got) = (got ≡ length bytes) × (length bytes < 16)
-IsEnvelopeFault bytes (EnvelopeLengthUnder16 word) = (word ≡ length_word bytes) × (16 ≤ length bytes) × (word < 16)
-IsEnvelopeFault bytes (EnvelopeLengthPast word got) = (word ≡ length_word bytes) × (got ≡ length bytes) × (16 ≤ length bytes) × (16 ≤ word) × (length bytes < word)
+IsEnvelopeFault bytes (EnvelopeLengthUnder16 word) = (word ≡ little_number 4 bytes) × (16 ≤ length bytes) × (word < 16)
+IsEnvelopeFault bytes (EnvelopeLengthPast word got) = (word ≡ little_number 4 bytes) × (got ≡ length bytes) × (16 ≤ length bytes) × (16 ≤ word) × (length bytes < word)
 IsEnvelopeFault bytes _ = ⊥

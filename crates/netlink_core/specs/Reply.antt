@@ -22,26 +22,22 @@ pub record ReplyValue (H V : Type 0) : Type 0 where
 abbrev pub ValueOf : Reply → Type 0
 ValueOf R = ReplyValue R.header.Value (Said R.family)
 
--- the bytes behind the header
-abbrev pub attribute_part : Reply → List ℕ → List ℕ
-attribute_part R b = drop R.size b
-
 -- the header's value, and one value for each attribute behind it
 pub record MeansReply (R : Reply) (b : List ℕ) (v : ValueOf R) : Type 0 where
   pub header : R.header.reads tt b ≡ Ok v.header
-  pub nlas : AttributesMean (says R.family) (attribute_part R b) v.nlas
+  pub nlas : AttributesMean (says R.family) (drop R.size b) v.nlas
 
 -- the header's fault, or behind a header that can be read the first fault of the attributes
 abbrev pub RefusesReply : Reply → List ℕ → DecodeError → Type 0
-RefusesReply R b e = (R.header.reads tt b ≡ Err e) ⊎ ((h : R.header.Value) × (R.header.reads tt b ≡ Ok h) × AttributeFault (says R.family) (attribute_part R b) e)
+RefusesReply R b e = (R.header.reads tt b ≡ Err e) ⊎ ((h : R.header.Value) × (R.header.reads tt b ≡ Ok h) × AttributeFault (says R.family) (drop R.size b) e)
 
 -- The headers are idle, both attribute parts are cut into lists of one length, and the attributes at each place are idle.
 pub record AreIdleReplies (R : Reply) (b c : List ℕ) : Type 0 where
   pub headers : R.header.idle tt b c
   pub left : List Attribute
   pub right : List Attribute
-  pub left_cut : Cut (attribute_part R b) left
-  pub right_cut : Cut (attribute_part R c) right
+  pub left_cut : Cut (drop R.size b) left
+  pub right_cut : Cut (drop R.size c) right
   pub each : AllZip (AreIdleAttributes R.family) left right
 
 -- each part is typed

@@ -6,7 +6,7 @@ ghost use Rattle.std.specs.Iterator.{Drains, YieldsThen};
 ghost use Rattle.std.specs.List.{AllByRecursion, flat_map};
 ghost use Rattle.netlink_core.specs.Attribute.{Attribute, FitsWords, Cut, CutInFull, CutOff, IsFramingFault, written};
 ghost use Rattle.netlink_core.specs.StatedCut.{StatedCut};
-ghost use Rattle.netlink_core.specs.Format.{Reads, StandsIn};
+ghost use Rattle.netlink_core.specs.Format.{read, StandsIn};
 ghost use Rattle.netlink_core.specs.Bytes.{IsBytes};
 ghost use Rattle.netlink_core.specs.Walk.{attribute_of, bytes_left, GivesAttribute};
 ghost use Rattle.netlink_core.specs.Datagram.{CutIntoMessages, AreWholeMessages};
@@ -53,7 +53,7 @@ pub fn written_attributes_are_cut()
 /// read as the typed value in normal form with these, and as no other.
 pub fn read_where_it_stands<T: Record>()
     ensures { (bytes : List ℕ) (told : T.Told) (value : T) → IsBytes bytes
-        → Reads T.format bytes told value ↔ StandsIn T.format bytes told value }
+        → (read T.format told bytes ≡ Ok value) ↔ StandsIn T.format bytes told value }
 {}
 
 /// A walk that ends without a fault gave the attributes into which the bytes are cut, and one that ends with a fault

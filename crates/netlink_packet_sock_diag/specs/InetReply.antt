@@ -6,7 +6,7 @@ use Rattle.sock_diag_attributes.specs.InetAttributes.{inet}
 
 -- the header and the family of the attributes behind it
 abbrev pub inet_reply : Reply
-inet_reply = record { header = prefix_of inet_response_header tt; size = 72; family = inet }
+inet_reply = record { header = prefix_of inet_response_header; size = 72; family = inet }
 
 -- what a reply says, without where it lies in memory
 abbrev pub InetReply : Type 0

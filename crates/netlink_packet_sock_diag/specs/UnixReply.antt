@@ -6,7 +6,7 @@ use Rattle.sock_diag_attributes.specs.UnixAttributes.{unix}
 
 -- the header and the family of the attributes behind it
 abbrev pub unix_reply : Reply
-unix_reply = record { header = prefix_of unix_response_header tt; size = 16; family = unix }
+unix_reply = record { header = prefix_of unix_response_header; size = 16; family = unix }
 
 -- what a reply says, without where it lies in memory
 abbrev pub UnixReply : Type 0

@@ -15,7 +15,7 @@ flag_byte true = 1
 flag_byte false = 0
 
 -- a flag of the kind k; two bytes are idle where both are zero or both are not
-abbrev pub flag_value : ℕ → Prefix
+abbrev pub flag_value : ℕ → Prefix (Unit {0})
 flag_value k = record (exact_value (read_flag k) (λ flag. flag_byte flag ∷ []) (λ flag. ⊤) (λ flag. ⊤)) {
-  idle = λ left right. (slice_index left 0 ≡ 0) ↔ (slice_index right 0 ≡ 0);
+  idle = λ p left right. (slice_index left 0 ≡ 0) ↔ (slice_index right 0 ≡ 0);
 }

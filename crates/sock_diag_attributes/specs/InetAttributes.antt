@@ -13,12 +13,12 @@ use Rattle.sock_diag_attributes.specs.Flag.{flag_value}
 -- traffic class, the memory, the directions that are shut down, the protocol, whether for IPv6 alone, mark and class
 abbrev pub inet : Family
 inet =
-    kind 1 (prefix_of legacy_mem_info tt)
-    ∷ kind 2 (prefix_of tcp_info tt)
+    kind 1 (prefix_of legacy_mem_info)
+    ∷ kind 2 (prefix_of tcp_info)
     ∷ memory_kind 4 text_value
     ∷ number_kind 5 1
     ∷ number_kind 6 1
-    ∷ kind 7 (prefix_of mem_info tt)
+    ∷ kind 7 (prefix_of mem_info)
     ∷ number_kind 8 1
     ∷ number_kind 10 1
     ∷ kind 11 (flag_value 11)

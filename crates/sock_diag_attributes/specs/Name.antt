@@ -1,7 +1,7 @@
 -- The name of a UNIX socket, and its bytes.
 use Rattle.std.specs.Prelude.{◌≡◌, ◌≢◌, ℕ, zero, suc, List, [], ◌∷◌, ◌++◌, length, ◌≤◌, All, Result, Ok, Err, ⊤}
 use Rattle.netlink_core.specs.Bytes.{IsBytes}
-use Rattle.netlink_core.specs.Codec.{Codec}
+use Rattle.netlink_core.specs.Codec.{Codec, codec_of}
 use Rattle.netlink_core.specs.Prefix.{Prefix}
 use Rattle.netlink_core.specs.Rows.{exact_value}
 use Rattle.netlink_core.specs.declared.fault.DecodeError.{DecodeError}
@@ -9,8 +9,7 @@ use Rattle.netlink_core.specs.declared.fault.DecodeError.TheVariants.{NameEmpty,
 
 -- a path without its end zero, or what stands behind the zero of an abstract name
 pub data SocketName : Type 0 where
-  pathname : List ℕ → SocketName
-  abstract : List ℕ → SocketName
+  pathname abstract : List ℕ → SocketName
 
 -- no byte is a zero
 abbrev pub HasNoZero : List ℕ → Type 0
@@ -56,20 +55,9 @@ read_name (zero ∷ address) = Ok (abstract address)
 read_name (suc n ∷ bytes) = path_before (suc n ∷ before_zero bytes) (from_zero bytes)
 
 -- a name as the value of an attribute
-abbrev pub name_value : Prefix
+abbrev pub name_value : Prefix (Unit {0})
 name_value = exact_value read_name name_bytes IsTypedName IsNormalName
 
--- a name by itself: equal strings alone are idle
+-- a name by itself, which takes memory
 abbrev pub name_codec : Codec (Unit {0})
-name_codec = record {
-  Value = SocketName;
-  is_param = λ p. ⊤;
-  is_typed = IsTypedName;
-  reads = λ b p v. read_name b ≡ Ok v;
-  refuses = λ b p e. read_name b ≡ Err e;
-  is_spare = λ v. ⊥;
-  idle = λ p b c. b ≡ c;
-  is_normal = λ p v. IsNormalName v;
-  written = name_bytes;
-  fits = λ v. length (name_bytes v) ≤ 4294967295;
-}
+name_codec = record (codec_of name_value) { is_spare = λ v. ⊥; fits = λ v. length (name_bytes v) ≤ 4294967295 }

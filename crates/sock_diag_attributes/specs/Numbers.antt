@@ -29,9 +29,9 @@ abbrev pub bytes_of_numbers : List ℕ → List ℕ
 bytes_of_numbers numbers = flat_map (little_bytes 4) numbers
 
 -- two numbers as the value of an attribute of kind k
-abbrev pub two_value : ℕ → Prefix
+abbrev pub two_value : ℕ → Prefix (Unit {0})
 two_value k = exact_value (two_numbers k) bytes_of_two (λ ns. (ns.0 < 2 ^ 32) × (ns.1 < 2 ^ 32)) (λ ns. ⊤)
 
 -- numbers as the value of an attribute
-abbrev pub numbers_value : Prefix
+abbrev pub numbers_value : Prefix (Unit {0})
 numbers_value = exact_value read_numbers bytes_of_numbers (AllByRecursion (λ n. n < 2 ^ 32)) (λ ns. ⊤)

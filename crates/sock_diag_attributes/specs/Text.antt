@@ -21,5 +21,5 @@ AreIdleTexts left right =
     ⊎ (¬ (EndsInZero right) × (left ≡ right ++ 0 ∷ [])))
 
 -- a text is read from all of the value, and seen by its bytes, which are UTF-8
-abbrev pub text_value : Prefix
-text_value = record (exact_value text_in text_bytes (λ text. IsUtf8 text × IsBytes text) (λ text. ⊤)) { idle = AreIdleTexts }
+abbrev pub text_value : Prefix (Unit {0})
+text_value = record (exact_value text_in text_bytes (λ text. IsUtf8 text × IsBytes text) (λ text. ⊤)) { idle = λ p. AreIdleTexts }

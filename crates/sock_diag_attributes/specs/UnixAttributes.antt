@@ -13,10 +13,10 @@ use Rattle.sock_diag_attributes.specs.Numbers.{two_value, numbers_value}
 abbrev pub unix : Family
 unix =
     memory_kind 0 name_value
-    ∷ kind 1 (prefix_of vfs tt)
+    ∷ kind 1 (prefix_of vfs)
     ∷ number_kind 2 4
     ∷ memory_kind 3 numbers_value
     ∷ kind 4 (two_value 4)
-    ∷ kind 5 (prefix_of unix_mem_info tt)
+    ∷ kind 5 (prefix_of unix_mem_info)
     ∷ number_kind 6 1
     ∷ []

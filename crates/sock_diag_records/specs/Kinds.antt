@@ -8,8 +8,7 @@ use Rattle.netlink_core.specs.declared.fault.DecodeError.TheVariants.{Unsupporte
 
 -- the kind of an address
 pub data Kind : Type 0 where
-  ipv4 : Kind
-  ipv6 : Kind
+  ipv4 ipv6 : Kind
 
 -- the kinds of the source's and the destination's address
 pub record Kinds : Type 0 where

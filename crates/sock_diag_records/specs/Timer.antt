@@ -17,11 +17,7 @@ IsWholeMilliseconds time = (n : ℕ) × (n < 2 ^ 32) × (as_nanos time ≡ n * 1
 
 -- the classes of the timer byte: 1, 2, 3, 4, and all others
 pub data Class : Type 0 where
-  retransmits : Class
-  keeps_alive : Class
-  waits : Class
-  probes : Class
-  none : Class
+  retransmits keeps_alive waits probes none : Class
 
 -- the class of a byte
 abbrev pub class_of_byte : ℕ → Class

@@ -3,11 +3,12 @@ use Rattle.std.proofs.Common.{◌≡◌, ◌↔◌, ℕ, ◌+◌, ◌%◌, ◌^�
 use Rattle.std.specs.Prelude.{map, None, Result, Ok}
 use Rattle.std.specs.List.{AllByRecursion, flat_map}
 use Rattle.std.proofs.lemmas.List.{append-nil}
+use Rattle.byteorder.specs.Endian.{little_number}
 use Rattle.byteorder.specs.Numbers.{little_number-reads_back}
 use Rattle.netlink_core.specs.Attribute.{fill}
 use Rattle.netlink_core.specs.declared.fault.DecodeError.{DecodeError}
 use Rattle.netlink_core.specs.declared.header.NetlinkHeader.{NetlinkHeader}
-use Rattle.netlink_core.specs.Header.{IsTypedHeader, length_word}
+use Rattle.netlink_core.specs.Header.{IsTypedHeader}
 use Rattle.netlink_core.specs.Datagram.{AreWholeMessages, IsMessageString, StartsWithMessage}
 use Rattle.netlink_core.specs.Envelope.{Envelope, Payload, done_with, inner, EnvelopeFits, EnvelopeIs, IsFinalized, IsTypedEnvelope, OfInner, envelope_bytes, payload_bytes, payload_type}
 use Rattle.netlink_core.specs.Items.{ItemIs, ItemsAre}
@@ -76,7 +77,7 @@ whole_message : (n : ℕ) (payload : Payload Message) → 16 + length (payload_b
 unfolding message_under
 whole_message n payload short =
     let size = 16 + length (payload_bytes message_bytes payload) in
-    let word : length_word (message_under n payload) ≡ 16 + length (payload_bytes message_bytes payload) = little_number-reads_back 4 (16 + length (payload_bytes message_bytes payload)) [] (omega arith) in
+    let word : little_number 4 (message_under n payload) ≡ 16 + length (payload_bytes message_bytes payload) = little_number-reads_back 4 (16 + length (payload_bytes message_bytes payload)) [] (omega arith) in
     record { low = omega arith; word = word ∙ omega arith }
 
 -- and a multiple of four, where its payload is

@@ -11,9 +11,7 @@ use Rattle.sock_diag_values.specs.declared.inet.mem_info.MemInfoBuffer.{MemInfoB
 
 -- how many words there are
 pub data Words : Type 0 where
-  seven : Words
-  eight : Words
-  nine : Words
+  seven eight nine : Words
 
 -- the number of those
 abbrev pub count_of : Words → ℕ

@@ -7,7 +7,7 @@ ghost use Rattle.std.specs.Iterator.SizeHint.{IsWithinCount};
 ghost use Rattle.netlink_core.specs.declared.fault.DecodeError.TheVariants.{Memory};
 ghost use Rattle.netlink_core.specs.Family.{says};
 ghost use Rattle.netlink_core.specs.Walk.{bytes_left};
-ghost use Rattle.netlink_core.specs.Reply.{MeansReply, RefusesReply, IsSpareReply, ReplyFits, attribute_part, reply_bytes};
+ghost use Rattle.netlink_core.specs.Reply.{MeansReply, RefusesReply, IsSpareReply, ReplyFits, reply_bytes};
 ghost use Rattle.sock_diag_attributes.specs.InetAttributes.{inet};
 ghost use Rattle.sock_diag_attributes.specs.EqualInetLaws.{inet_tests, view_tests};
 ghost use Rattle.sock_diag_attributes.specs.SeenInet.{seen_nla, viewed_nla};
@@ -116,7 +116,7 @@ pub struct InetResponseView<'a> {
     count: usize,
     ghost long: { LENGTH ≤ length bytes.now },
     ghost accepted: { IsAccepted inet_reply bytes.now },
-    ghost counted: { count ≡ length (values_in (says inet) (attribute_part inet_reply bytes.now)) },
+    ghost counted: { count ≡ length (values_in (says inet) (drop inet_reply.size bytes.now)) },
 }
 
 impl<'a> InetResponseView<'a> {
@@ -208,7 +208,7 @@ impl<'a> InetResponseView<'a> {
 
     // The bytes behind the header.
     fn attribute_bytes(&self) -> &'a [u8]
-        ensures part { result.now ≡ attribute_part inet_reply self.now.bytes.now }
+        ensures part { result.now ≡ drop inet_reply.size self.now.bytes.now }
         ensures clean { HasNoFault (says inet) result.now }
     {
         &self.bytes[LENGTH..]

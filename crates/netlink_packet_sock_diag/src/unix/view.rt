@@ -7,7 +7,7 @@ ghost use Rattle.std.specs.Iterator.SizeHint.{IsWithinCount};
 ghost use Rattle.netlink_core.specs.declared.fault.DecodeError.TheVariants.{Memory};
 ghost use Rattle.netlink_core.specs.Family.{says};
 ghost use Rattle.netlink_core.specs.Walk.{bytes_left};
-ghost use Rattle.netlink_core.specs.Reply.{MeansReply, RefusesReply, IsSpareReply, ReplyFits, attribute_part, reply_bytes};
+ghost use Rattle.netlink_core.specs.Reply.{MeansReply, RefusesReply, IsSpareReply, ReplyFits, reply_bytes};
 ghost use Rattle.sock_diag_attributes.specs.UnixAttributes.{unix};
 ghost use Rattle.sock_diag_attributes.specs.EqualUnixLaws.{unix_tests, view_tests};
 ghost use Rattle.sock_diag_attributes.specs.SeenUnix.{seen_nla, viewed_nla};
@@ -116,7 +116,7 @@ pub struct UnixResponseView<'a> {
     count: usize,
     ghost long: { LENGTH ≤ length bytes.now },
     ghost accepted: { IsAccepted unix_reply bytes.now },
-    ghost counted: { count ≡ length (values_in (says unix) (attribute_part unix_reply bytes.now)) },
+    ghost counted: { count ≡ length (values_in (says unix) (drop unix_reply.size bytes.now)) },
 }
 
 impl<'a> UnixResponseView<'a> {
@@ -207,7 +207,7 @@ impl<'a> UnixResponseView<'a> {
 
     // The bytes behind the header.
     fn attribute_bytes(&self) -> &'a [u8]
-        ensures part { result.now ≡ attribute_part unix_reply self.now.bytes.now }
+        ensures part { result.now ≡ drop unix_reply.size self.now.bytes.now }
         ensures clean { HasNoFault (says unix) result.now }
     {
         &self.bytes[LENGTH..]
