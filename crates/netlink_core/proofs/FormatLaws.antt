@@ -73,10 +73,10 @@ module _ {Param Tag Value : Type 0} (format : Format Param Tag Value) where
 same_tag : {T : Type 0} (r : Result T DecodeError) (s t : T) → r ≡ Ok s → r ≡ Ok t → s ≡ t
 same_tag r s t e f = cc
 
-same_fault : {T : Type 0} (r : Result T DecodeError) (e f : DecodeError) → r ≡ Err e → r ≡ Err f → e ≡ f
+pub same_fault : {T : Type 0} (r : Result T DecodeError) (e f : DecodeError) → r ≡ Err e → r ≡ Err f → e ≡ f
 same_fault r e f h k = cc
 
-not_both : {T : Type 0} (r : Result T DecodeError) (v : T) (e : DecodeError) → r ≡ Ok v → r ≡ Err e → ⊥
+pub not_both : {T : Type 0} (r : Result T DecodeError) (v : T) (e : DecodeError) → r ≡ Ok v → r ≡ Err e → ⊥
 not_both r v e h k = cc
 
 module _ {Param Tag Value : Type 0} (format : Format Param Tag Value) (sound : IsSound format) where

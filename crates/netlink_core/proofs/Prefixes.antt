@@ -5,10 +5,12 @@ use Rattle.netlink_core.specs.declared.fault.DecodeError.{DecodeError}
 use Rattle.netlink_core.specs.Table.{values_of}
 use Rattle.netlink_core.specs.Format.{Format, read, bytes, IsTyped, IsNormal, IsFixed}
 use Rattle.netlink_core.specs.SoundLaws.{IsSound}
-use Rattle.netlink_core.specs.Prefix.{prefix_of}
+use Rattle.netlink_core.specs.Codec.{KeepsLaws, codec_of}
+use Rattle.netlink_core.specs.FrontLaws.{value_or_reason}
+use Rattle.netlink_core.specs.Prefix.{Prefix, prefix_of}
 use Rattle.netlink_core.specs.ShownLaws.{PrefixLaws, StandsInFront}
 use Rattle.netlink_core.proofs.TableLaws.{table_from_test, values-bytes_of}
-use Rattle.netlink_core.proofs.FormatLaws.{accepts, long_enough, keeps_laws}
+use Rattle.netlink_core.proofs.FormatLaws.{accepts, long_enough, keeps_laws, not_both, same_fault}
 
 module _ {Tag Value : Type 0} (format : Format (Unit {0}) Tag Value) (sound : IsSound format) where
   -- a sound format has the laws of a record in front
@@ -43,3 +45,16 @@ module _ {Tag Value : Type 0} (format : Format (Unit {0}) Tag Value) (sound : Is
     bytes_long = λ v typed. sound.long v ∙ fixed.1 (format.tag_of v);
     reads_in_front = reads_in_front goes_on;
   }
+
+-- a part that keeps its laws is the codec of its values, whichever of them are spare and have room
+pub codec_laws : {P : Prefix (Unit {0})} (is_spare fits : P.Value → Type 0) → PrefixLaws P → KeepsLaws (record (codec_of P) { is_spare = is_spare; fits = fits })
+codec_laws {P} is_spare fits laws = record {
+  answered = λ b p typed. value_or_reason (P.reads p b);
+  one_answer = λ b p v e h k. not_both (P.reads p b) v e h k;
+  one_fault = λ b p e f h k. same_fault (P.reads p b) e f h k;
+  named_fault = λ b p h. laws.named b h;
+  same_value = λ b c p v w tb tc h k. laws.same_value b c v w tb tc h k;
+  reads_normal = λ b p v typed h. laws.gives_normal b v typed h;
+  written_bytes = laws.bytes_typed;
+  reads_back = λ p v typed normal room. laws.reads_back v typed normal;
+}

@@ -34,8 +34,8 @@ header_enough b h e = let long = (accepted inet_response_header tt b h e).long i
 -- the laws of header and attributes
 pub inet_reply_laws : ReplyLaws inet_reply
 inet_reply_laws = record {
-  header = prefix_laws inet_response_header tt header_sound;
-  in_front = stands_in_front inet_response_header tt header_sound header_size goes_on;
+  header = prefix_laws inet_response_header header_sound;
+  in_front = stands_in_front inet_response_header header_sound header_size goes_on;
   family = inet_laws;
 }
 

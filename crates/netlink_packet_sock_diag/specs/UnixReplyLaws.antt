@@ -14,8 +14,8 @@ use Rattle.netlink_packet_sock_diag.specs.UnixReply.{unix_reply}
 -- the laws of header and attributes
 pub unix_reply_laws : ReplyLaws unix_reply
 unix_reply_laws = record {
-  header = prefix_laws unix_response_header tt unix_response_header_sound;
-  in_front = stands_in_front unix_response_header tt unix_response_header_sound (refl, λ tag. refl) (λ tag left rest long e. e);
+  header = prefix_laws unix_response_header unix_response_header_sound;
+  in_front = stands_in_front unix_response_header unix_response_header_sound (refl, λ tag. refl) (λ tag left rest long e. e);
   family = unix_laws;
 }
 

@@ -15,12 +15,12 @@ use Rattle.sock_diag_attributes.specs.InetAttributes.{inet}
 
 pub inet_laws : FamilyLaws inet
 inet_laws =
-    kind_laws 1 refl (prefix_laws legacy_mem_info tt legacy_mem_info_sound)
-    ⊕ kind_laws 2 refl (prefix_laws tcp_info tt tcp_info_sound)
+    kind_laws 1 refl (prefix_laws legacy_mem_info legacy_mem_info_sound)
+    ⊕ kind_laws 2 refl (prefix_laws tcp_info tcp_info_sound)
     ⊕ memory_kind_laws 4 refl text_laws
     ⊕ number_laws 5 1 refl
     ⊕ number_laws 6 1 refl
-    ⊕ kind_laws 7 refl (prefix_laws mem_info tt mem_info_sound)
+    ⊕ kind_laws 7 refl (prefix_laws mem_info mem_info_sound)
     ⊕ number_laws 8 1 refl
     ⊕ number_laws 10 1 refl
     ⊕ kind_laws 11 refl (flag_laws 11)

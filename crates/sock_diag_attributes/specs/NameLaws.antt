@@ -1,5 +1,6 @@
 -- The laws of the name of a UNIX socket.
 use Rattle.netlink_core.specs.Codec.{KeepsLaws}
+use Rattle.netlink_core.proofs.Prefixes.{codec_laws}
 use Rattle.netlink_core.specs.ShownLaws.{PrefixLaws}
 use Rattle.netlink_core.proofs.RowLaws.{exact_laws}
 use Rattle.sock_diag_attributes.specs.Name.{name_value}
@@ -148,28 +149,13 @@ known_path bytes path last parts first ok = answer_is (read_name bytes) refl ok
         let long : length other ≡ length path = omega (arith, ap length same, length-append other (0 ∷ []), length-append path (last ∷ [])) in
         ap (λ (p : List ℕ). Ok (pathname p)) (sym (take-append_seam other (0 ∷ [])) ∙ ap (take (length other)) same ∙ ap (λ (n : ℕ). take n (path ++ last ∷ [])) long ∙ take-append_seam path (last ∷ []))
 
--- a name keeps the laws: its reader, its bytes, equal strings alone being idle, and its normal form
-pub name_keeps_laws : KeepsLaws name_codec
-name_keeps_laws = record {
-  answered = λ b p typed tp. value_or_reason (read_name b);
-  one_answer = λ b p v e h k. cc (h, k);
-  one_fault = λ b p e f h k. cc (h, k);
-  named_fault = λ b p h. name_named b h;
-  same_value = λ b c p v w b-typed c-typed tp h k. (
-    λ e. (name_exact b v h).0 ∙ ap name_bytes e ∙ sym (name_exact c w k).0,
-    λ e. same_value b v w h (ap read_name e ∙ k),
-  );
-  reads_normal = λ b p v typed tp h. let exact = name_exact b v h in (name_typed v (subst IsBytes exact.0 typed), exact.1);
-  written_bytes = name_bytes_typed;
-  reads_back = λ p v tp typed normal fits. name_reads_back v normal;
-}
-  where
-    same_value : (b : List ℕ) (v w : SocketName) → read_name b ≡ Ok v → read_name b ≡ Ok w → v ≡ w
-    same_value b v w h k = cc
-
--- and as the value of an attribute
+-- a name as the value of an attribute: its reader, its bytes, equal strings alone being idle, and its normal form
 pub name_laws : PrefixLaws name_value
 name_laws = exact_laws read_name name_bytes IsTypedName IsNormalName name_named
     (λ x u typed h. let exact = name_exact x u h in (exact.0, name_typed u (subst IsBytes exact.0 typed), exact.1))
     name_bytes_typed
     (λ u typed normal. name_reads_back u normal)
+
+-- and by itself
+pub name_keeps_laws : KeepsLaws name_codec
+name_keeps_laws = codec_laws (λ v. ⊥) (λ v. length (name_bytes v) ≤ 4294967295) name_laws

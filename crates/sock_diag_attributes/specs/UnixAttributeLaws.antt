@@ -14,10 +14,10 @@ use Rattle.sock_diag_attributes.specs.UnixAttributes.{unix}
 pub unix_laws : FamilyLaws unix
 unix_laws =
     memory_kind_laws 0 refl name_laws
-    ⊕ kind_laws 1 refl (prefix_laws vfs tt vfs_sound)
+    ⊕ kind_laws 1 refl (prefix_laws vfs vfs_sound)
     ⊕ number_laws 2 4 refl
     ⊕ memory_kind_laws 3 refl numbers_laws
     ⊕ kind_laws 4 refl (two_laws 4)
-    ⊕ kind_laws 5 refl (prefix_laws unix_mem_info tt unix_mem_info_sound)
+    ⊕ kind_laws 5 refl (prefix_laws unix_mem_info unix_mem_info_sound)
     ⊕ number_laws 6 1 refl
     ⊕ tt
