@@ -56,14 +56,14 @@ module _ {A : Type 0} (reads : List ℕ → ℕ → A → Type 0) (refuses : Lis
       → ItemIs reads refuses message (Ok (inner value)) → Passing datagram next before (after ++ value ∷ [])
   passes_inner datagram rest next message before after value p s is = passes datagram rest next message before after (Ok (inner value)) refl p s is
 
-  pub ends_at : ((b : List ℕ) (t : ℕ) → IsBytes b → t < 2 ^ 16 → ((m : A) × reads b t m) ⊎ ((e : DecodeError) × refuses b t e))
+  pub ends_at : ((b : List ℕ) (t : ℕ) → IsBytes b → ((m : A) × reads b t m) ⊎ ((e : DecodeError) × refuses b t e))
       → (datagram rest next message : List ℕ) (before after : List A) (item : Result (Payload A) DecodeError) (end : Result DumpState DecodeError) → IsBytes datagram
       → Passing datagram rest before after → StartsWithMessage rest message next → ItemIs reads refuses message item → end_of item ≡ Some end → DatagramDump reads refuses before datagram after end
   ends_at answers datagram rest next message before after item end typed p s is ends =
       let all = items_with reads refuses answers datagram rest next message p.passed item typed p.walk s is in
       (p.passed ++ (item ∷ all.0), all.1, record { passed = p.passed; later = item ∷ all.0; parts = refl; plain = p.plain; keeps = p.keeps; ends = ends })
 
-  pub stops_at : ((b : List ℕ) (t : ℕ) → IsBytes b → t < 2 ^ 16 → ((m : A) × reads b t m) ⊎ ((e : DecodeError) × refuses b t e))
+  pub stops_at : ((b : List ℕ) (t : ℕ) → IsBytes b → ((m : A) × reads b t m) ⊎ ((e : DecodeError) × refuses b t e))
       → (datagram rest next message : List ℕ) (before after : List A) (value : A) → IsBytes datagram
       → Passing datagram rest before after → StartsWithMessage rest message next → ItemIs reads refuses message (Ok (inner value)) → DatagramStopped reads refuses before datagram after
   stops_at answers datagram rest next message before after value typed p s is =

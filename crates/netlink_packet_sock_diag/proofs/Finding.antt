@@ -1,11 +1,11 @@
 -- The attributes that are found in bytes are those that the bytes are cut into.
 use Rattle.std.proofs.Common.{Result, Ok, Err, IsOk, ◌≡◌, ◌≢◌, ℕ, zero, suc, ◌+◌, ◌-◌, ◌≤◌, List, [], ◌∷◌, ◌++◌, length, take, drop, inl, inr, refl, sym, ap, subst, ◌∙◌, append_assoc, arith}
-use Rattle.byteorder.specs.Endian.{little_number}
 use Rattle.std.specs.List.{AllZip}
 use Rattle.std.proofs.lemmas.List.{take_at, drop_at, drop_all, length-append}
 use Rattle.netlink_core.specs.declared.fault.DecodeError.{DecodeError}
 use Rattle.netlink_core.specs.Bytes.{IsBytes}
 use Rattle.netlink_core.specs.Attribute.{Attribute, StartsWith, Cut, HeadIs, IsFramingFault, AttributesMean, AttributeFault, fill, unpadded}
+use Rattle.netlink_core.specs.Table.{number_in, little_endian}
 use Rattle.netlink_core.specs.Family.{says}
 use Rattle.netlink_core.specs.Reply.{Reply, MeansReply, RefusesReply}
 use Rattle.netlink_core.specs.FrontLaws.{word_is}
@@ -26,26 +26,26 @@ behind_is (suc n) (b ∷ bs) = behind_is n bs
 front_is : (bytes : List ℕ) (a : Attribute) → HeadIs bytes a → front_attribute bytes ≡ a
 front_is bytes a head =
     let fits : length a.value ≤ 65531 = head.2.value in
-    let word : little_number 2 bytes ≡ 4 + length a.value = (word_is bytes a head).0 in
-    let types : little_number 2 (drop 2 bytes) ≡ a.type_word = ap (λ (b : List ℕ). little_number 2 (drop 2 b)) head.1 ∙ omega (arith, head.2.type_word) in
-    let long : little_number 2 bytes - 4 ≡ length a.value = omega arith in
+    let word : number_in little_endian 2 bytes ≡ 4 + length a.value = (word_is bytes a head).0 in
+    let types : number_in little_endian 2 (drop 2 bytes) ≡ a.type_word = ap (λ (b : List ℕ). number_in little_endian 2 (drop 2 b)) head.1 ∙ omega (arith, head.2.type_word) in
+    let long : number_in little_endian 2 bytes - 4 ≡ length a.value = omega arith in
     let behind : drop 4 bytes ≡ a.value ++ head.0 = ap (drop 4) head.1 in
-    let value : take (little_number 2 bytes - 4) (drop 4 bytes) ≡ a.value = ap (λ (k : ℕ). take k (drop 4 bytes)) long ∙ ap (take (length a.value)) behind ∙ take_at a.value head.0 (length a.value) refl in
+    let value : take (number_in little_endian 2 bytes - 4) (drop 4 bytes) ≡ a.value = ap (λ (k : ℕ). take k (drop 4 bytes)) long ∙ ap (take (length a.value)) behind ∙ take_at a.value head.0 (length a.value) refl in
     λ i. record { type_word = types i; value = value i }
 
 -- and how far it reaches
-rest_is : (bytes rest : List ℕ) (a : Attribute) → StartsWith bytes a rest → drop (little_number 2 bytes + fill (little_number 2 bytes)) bytes ≡ rest
+rest_is : (bytes rest : List ℕ) (a : Attribute) → StartsWith bytes a rest → drop (number_in little_endian 2 bytes + fill (number_in little_endian 2 bytes)) bytes ≡ rest
 rest_is bytes rest a s =
-    let word : little_number 2 bytes ≡ 4 + length a.value = (word_is bytes a (head_of_start bytes rest a s)).0 in
+    let word : number_in little_endian 2 bytes ≡ 4 + length a.value = (word_is bytes a (head_of_start bytes rest a s)).0 in
     let front : List ℕ = unpadded a ++ s.padding in
     let parts : bytes ≡ front ++ rest = s.parts ∙ sym (append_assoc (unpadded a) s.padding rest) in
     let long : length front ≡ 4 + length a.value + length s.padding = length-append (unpadded a) s.padding ∙ omega arith in
     elim s.filled [
-      | inl full ↦ ap (drop (little_number 2 bytes + fill (little_number 2 bytes))) parts ∙ drop_at front rest (little_number 2 bytes + fill (little_number 2 bytes)) (omega (arith, full))
+      | inl full ↦ ap (drop (number_in little_endian 2 bytes + fill (number_in little_endian 2 bytes))) parts ∙ drop_at front rest (number_in little_endian 2 bytes + fill (number_in little_endian 2 bytes)) (omega (arith, full))
       | inr short ↦
           let all : length bytes ≡ length front + length rest = ap length parts ∙ length-append front rest in
           let none : length rest ≡ 0 = ap length short.1 in
-          drop_all (little_number 2 bytes + fill (little_number 2 bytes)) bytes (omega (arith, short.0)) ∙ sym short.1
+          drop_all (number_in little_endian 2 bytes + fill (number_in little_endian 2 bytes)) bytes (omega (arith, short.0)) ∙ sym short.1
     ]
 
 -- the attribute that bytes begin with is found first
@@ -55,8 +55,8 @@ found_first [] rest a s = absurd (StartsWith-some [] rest a s refl)
 found_first (b ∷ bs) rest a s =
     let all : List ℕ = b ∷ bs in
     let head : HeadIs all a = head_of_start all rest a s in
-    let n : ℕ = little_number 2 all + fill (little_number 2 all) - 1 in
-    let next : suc n ≡ little_number 2 all + fill (little_number 2 all) = omega (arith, word_is all a head) in
+    let n : ℕ = number_in little_endian 2 all + fill (number_in little_endian 2 all) - 1 in
+    let next : suc n ≡ number_in little_endian 2 all + fill (number_in little_endian 2 all) = omega (arith, word_is all a head) in
     let behind : drop n bs ≡ rest = ap (λ (k : ℕ). drop k all) next ∙ rest_is all rest a s in
     let first : front_attribute all ≡ a = front_is all a head in
     let later : attributes_behind n bs ≡ attributes_behind 0 rest = behind_is n bs ∙ ap (attributes_behind 0) behind in
@@ -113,7 +113,7 @@ value_in_is (Err e) good = absurd (good e refl)
 
 module _ (R : Reply) (bytes part : List ℕ) (same : part ≡ drop R.size bytes) where
   -- bytes whose header can be read, and behind it no fault, are accepted
-  pub reply_accepted : (h : R.header.Value) → R.header.reads bytes ≡ Ok h → HasNoFault (says R.family) part → IsAccepted R bytes
+  pub reply_accepted : (h : R.header.Value) → R.header.reads tt bytes ≡ Ok h → HasNoFault (says R.family) part → IsAccepted R bytes
   reply_accepted h good clean = record {
     none = λ e refused. elim refused [
       | inl header ↦ cc (header, good)
@@ -122,19 +122,19 @@ module _ (R : Reply) (bytes part : List ℕ) (same : part ≡ drop R.size bytes)
   }
 
   -- a fault behind such a header is that of the bytes
-  pub behind_refused : (h : R.header.Value) (e : DecodeError) → R.header.reads bytes ≡ Ok h → AttributeFault (says R.family) part e → RefusesReply R bytes e
+  pub behind_refused : (h : R.header.Value) (e : DecodeError) → R.header.reads tt bytes ≡ Ok h → AttributeFault (says R.family) part e → RefusesReply R bytes e
   behind_refused h e good f = inr (h, good, subst (λ (b : List ℕ). AttributeFault (says R.family) b e) same f)
 
   -- behind the header of accepted bytes is no fault
   pub behind_accepted : IsAccepted R bytes → HasNoFault (says R.family) part
   behind_accepted accepted = record {
-    none = λ e f. accepted.none e (behind_refused _ e (value_in_is (R.header.reads bytes) (λ e h. accepted.none e (inl h))) f);
+    none = λ e f. accepted.none e (behind_refused _ e (value_in_is (R.header.reads tt bytes) (λ e h. accepted.none e (inl h))) f);
   }
 
 -- accepted bytes mean the reply in them
 pub accepted_means : (R : Reply) (bytes : List ℕ) (accepted : IsAccepted R bytes) → IsBytes bytes → MeansReply R bytes (reply_in R bytes accepted)
 accepted_means R bytes accepted typed = record {
-  header = value_in_is (R.header.reads bytes) (λ e h. accepted.none e (inl h));
+  header = value_in_is (R.header.reads tt bytes) (λ e h. accepted.none e (inl h));
   nlas = values_mean (says R.family) (drop R.size bytes) (AreBytes-drop R.size bytes typed) (behind_accepted R bytes (drop R.size bytes) refl accepted);
 }
 

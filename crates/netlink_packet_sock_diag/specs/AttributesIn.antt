@@ -1,22 +1,22 @@
 -- The attributes that stand in bytes one after the other, found by their length words.
 use Rattle.std.specs.Prelude.{◌≡◌, ℕ, zero, suc, ◌+◌, ◌-◌, List, [], ◌∷◌, take, drop, refl, Result, Ok, Err}
-use Rattle.byteorder.specs.Endian.{little_number}
 use Rattle.std.specs.List.{filter_map}
 use Rattle.std.specs.Result.{result_ok}
 use Rattle.std.proofs.Common.{inl}
 use Rattle.netlink_core.specs.declared.fault.DecodeError.{DecodeError}
 use Rattle.netlink_core.specs.Attribute.{Attribute, AttributeFault, fill}
+use Rattle.netlink_core.specs.Table.{number_in, little_endian}
 use Rattle.netlink_core.specs.Family.{says}
 use Rattle.netlink_core.specs.Reply.{Reply, ValueOf, RefusesReply}
 
 -- the attribute at the front of the bytes, by its two words
 abbrev pub front_attribute : List ℕ → Attribute
-front_attribute bytes = record { type_word = little_number 2 (drop 2 bytes); value = take (little_number 2 bytes - 4) (drop 4 bytes) }
+front_attribute bytes = record { type_word = number_in little_endian 2 (drop 2 bytes); value = take (number_in little_endian 2 bytes - 4) (drop 4 bytes) }
 
 -- those behind the next so many bytes, each at the next multiple of four
 unfoldable pub attributes_behind : ℕ → List ℕ → List Attribute
 attributes_behind n [] = []
-attributes_behind zero (byte ∷ bytes) = front_attribute (byte ∷ bytes) ∷ attributes_behind (little_number 2 (byte ∷ bytes) + fill (little_number 2 (byte ∷ bytes)) - 1) bytes
+attributes_behind zero (byte ∷ bytes) = front_attribute (byte ∷ bytes) ∷ attributes_behind (number_in little_endian 2 (byte ∷ bytes) + fill (number_in little_endian 2 (byte ∷ bytes)) - 1) bytes
 attributes_behind (suc n) (byte ∷ bytes) = attributes_behind n bytes
 
 -- no fault is in the bytes
@@ -38,4 +38,4 @@ pub record IsAccepted (R : Reply) (bytes : List ℕ) : Type 0 where
 
 -- the reply in bytes that nothing refuses: the header's value, and what each attribute behind it says
 abbrev pub reply_in : (R : Reply) (bytes : List ℕ) → IsAccepted R bytes → ValueOf R
-reply_in R bytes accepted = record { header = value_in (R.header.reads bytes) (λ e h. accepted.none e (inl h)); nlas = values_in (says R.family) (drop R.size bytes) }
+reply_in R bytes accepted = record { header = value_in (R.header.reads tt bytes) (λ e h. accepted.none e (inl h)); nlas = values_in (says R.family) (drop R.size bytes) }

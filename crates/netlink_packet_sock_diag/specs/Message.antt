@@ -107,7 +107,6 @@ IsNormalMessage t _ = ⊥
 abbrev pub message_codec : Codec ℕ
 message_codec = record {
   Value = Message;
-  is_param = λ t. t < 2 ^ 16;
   is_typed = IsTypedMessage;
   reads = MessageIs;
   refuses = MessageFault;

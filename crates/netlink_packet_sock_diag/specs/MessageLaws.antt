@@ -74,13 +74,13 @@ no_fault_of_inet b t _ is f = f
 
 -- the reply of a family, or its fault
 unix_answered : (b : List ℕ) (t : ℕ) → IsBytes b → IsUnix b t → ((v : Message) × MessageIs b t v) ⊎ ((e : DecodeError) × MessageFault b t e)
-unix_answered b t tb is = elim (unix_replies.answered b tt tb tt) [
+unix_answered b t tb is = elim (unix_replies.answered b tt tb) [
   | inl answer ↦ inl (unix_response_with answer.0, (is, answer.1))
   | inr fault ↦ inr (fault.0, inr (inl (is, fault.1)))
 ]
 
 inet_answered : (b : List ℕ) (t : ℕ) → IsBytes b → IsInet b t → ((v : Message) × MessageIs b t v) ⊎ ((e : DecodeError) × MessageFault b t e)
-inet_answered b t tb is = elim (inet_replies.answered b tt tb tt) [
+inet_answered b t tb is = elim (inet_replies.answered b tt tb) [
   | inl answer ↦ inl (inet_response_with answer.0, (is, answer.1))
   | inr fault ↦ inr (fault.0, inr (inr (is, fault.1)))
 ]
@@ -154,7 +154,7 @@ same_value b c t (inet_response_with v) (unix_request_with w) tb tc r s = absurd
 same_value b c t (unix_response_with v) (inet_request_with w) tb tc r s = absurd s
 same_value b c t (unix_response_with v) (unix_request_with w) tb tc r s = absurd s
 same_value b c t (unix_response_with v) (unix_response_with w) tb tc r s =
-    let law = unix_replies.same_value b c tt v w tb tc tt r.1 s.1 in (
+    let law = unix_replies.same_value b c tt v w tb tc r.1 s.1 in (
       λ e. let same : v ≡ w = cc in (r.0.2 ∙ sym s.0.2, inl (r.0.2, law.0 same)),
       λ i. elim i.1 [
         | inl idle ↦ ap unix_response_with (law.1 idle.1)
@@ -162,7 +162,7 @@ same_value b c t (unix_response_with v) (unix_response_with w) tb tc r s =
       ],
     )
 same_value b c t (inet_response_with v) (inet_response_with w) tb tc r s =
-    let law = inet_replies.same_value b c tt v w tb tc tt r.1 s.1 in (
+    let law = inet_replies.same_value b c tt v w tb tc r.1 s.1 in (
       λ e. let same : v ≡ w = cc in (inet_family_read b v r.1 ∙ ap (λ (x : InetReply). x.header.family) same ∙ sym (inet_family_read c w s.1), inr (r.0.2, law.0 same)),
       λ i. elim i.1 [
         | inl idle ↦ absurd (unix_or_inet b t (r.0.0, r.0.1, idle.0) r.0)
@@ -179,8 +179,8 @@ same_value b c t (inet_response_with v) (unix_response_with w) tb tc r s =
 reads_normal : (b : List ℕ) (t : ℕ) (v : Message) → IsBytes b → MessageIs b t v → IsTypedMessage v × IsNormalMessage t v
 reads_normal b t (inet_request_with v) tb r = absurd r
 reads_normal b t (unix_request_with v) tb r = absurd r
-reads_normal b t (inet_response_with v) tb r = let n = inet_replies.reads_normal b tt v tb tt r.1 in (n.0, (r.0.1, n.1))
-reads_normal b t (unix_response_with v) tb r = let n = unix_replies.reads_normal b tt v tb tt r.1 in (n.0, (r.0.1, n.1))
+reads_normal b t (inet_response_with v) tb r = let n = inet_replies.reads_normal b tt v tb r.1 in (n.0, (r.0.1, n.1))
+reads_normal b t (unix_response_with v) tb r = let n = unix_replies.reads_normal b tt v tb r.1 in (n.0, (r.0.1, n.1))
 
 written_bytes : (v : Message) → IsTypedMessage v → IsBytes (message_bytes v)
 written_bytes (inet_request_with v) typed = formats.written_bytes inet_request inet_request_sound v typed
@@ -197,22 +197,22 @@ reads_back t (inet_response_with v) typed normal fits =
     let known = family_known (v.header.family == 2) (v.header.family == 10) _ (both ipv4) (both ipv6) v.header.family normal.1.0.own.same_kind in
     let kind : (v.header.family ≡ 2) ⊎ (v.header.family ≡ 10) = elim known [ inl two ↦ inl (eqb-true v.header.family 2 two) | inr ten ↦ inr (eqb-true v.header.family 10 ten) ] in (
       (front.0, normal.0, elim kind [ inl two ↦ inl (front.1 ∙ two) | inr ten ↦ inr (front.1 ∙ ten) ]),
-      inet_replies.reads_back tt v tt typed normal.1 fits,
+      inet_replies.reads_back tt v typed normal.1 fits,
     )
 reads_back t (unix_response_with v) typed normal fits =
     let front = unix_family_written v in
-    ((front.0, normal.0, front.1), unix_replies.reads_back tt v tt typed normal.1 fits)
+    ((front.0, normal.0, front.1), unix_replies.reads_back tt v typed normal.1 fits)
 
 pub message_laws : KeepsLaws message_codec
 message_laws = record {
-  answered = λ b t tb tp. message_answered b t tb;
+  answered = message_answered;
   one_answer = one_answer;
   one_fault = one_fault;
   named_fault = named_fault;
-  same_value = λ b c t v w tb tc tp r s. same_value b c t v w tb tc r s;
-  reads_normal = λ b t v tb tp r. reads_normal b t v tb r;
+  same_value = same_value;
+  reads_normal = reads_normal;
   written_bytes = written_bytes;
-  reads_back = λ t v tp typed normal fits. reads_back t v typed normal fits;
+  reads_back = reads_back;
 }
 
 -- a message is written as two bytes and more

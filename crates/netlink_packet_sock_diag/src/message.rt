@@ -242,8 +242,6 @@ impl NetlinkDeserializable for SockDiagMessage {
     ) -> Result<Self, DecodeError> {
         SockDiagMessage::read_under(alloc, payload, header.message_type)
     }
-
-    ghost each_type = { λ t fits. fits };
 }
 
 impl From<SockDiagMessage> for NetlinkPayload<SockDiagMessage> {
@@ -306,8 +304,6 @@ impl NetlinkDeserializable for SockDiagDestroy {
         let message = SockDiagMessage::read_under(alloc, payload, header.message_type)?;
         Ok(SockDiagDestroy(message))
     }
-
-    ghost each_type = { λ t fits. fits };
 }
 
 impl From<SockDiagDestroy> for NetlinkPayload<SockDiagDestroy> {

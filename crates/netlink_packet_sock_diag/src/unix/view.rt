@@ -1,6 +1,6 @@
 //! The reply about one UNIX socket, read in place.
 
-ghost use Rattle.std.specs.Prelude.{◌≡◌, ◌≤◌, length, map, [], IfOk, OnOk, IfErr, IsOk, IsSome, IfSome, Some, refl, ⊤, ◌↔◌, ◌≢◌};
+ghost use Rattle.std.specs.Prelude.{◌≡◌, ◌≤◌, length, drop, map, [], IfOk, OnOk, IfErr, IsOk, IsSome, IfSome, Some, refl, ⊤, ◌↔◌, ◌≢◌};
 ghost use Rattle.std.specs.Cmp.{partial_equiv_from_equiv};
 ghost use Rattle.std.specs.Iterator.{UpTo, YieldsFirstBy, item_count};
 ghost use Rattle.std.specs.Iterator.SizeHint.{IsWithinCount};

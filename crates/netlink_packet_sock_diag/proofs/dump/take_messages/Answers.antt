@@ -25,21 +25,21 @@ pub returns-in-2-clause-state : goal.returns-in-2-clause-state
 returns-in-2-clause-state g c =
     let start = rw c.in_ok-message.was at c.in-Some.ensures.steps in
     let h = c.in_ok-header.header in
-    ends_at g.I.Coded.codec.reads g.I.Coded.codec.refuses (λ b t tb fits. g.met.I.Coded.laws.answered b t tb (g.met.I.NetlinkDeserializable.each_type t fits)) _ _ _ _ _ _ (Ok (error_with (take (h.length - 16) (drop 16 c.in_ok-message.message.now)))) _ (λ i. omega (arith, c.type_inv.datagram i)) c.loop-item.invariant start
+    ends_at g.I.Coded.codec.reads g.I.Coded.codec.refuses g.met.I.Coded.laws.answered _ _ _ _ _ _ (Ok (error_with (take (h.length - 16) (drop 16 c.in_ok-message.message.now)))) _ (λ i. omega (arith, c.type_inv.datagram i)) c.loop-item.invariant start
     (carries g.I.Coded.codec.reads g.I.Coded.codec.refuses _ h (error_with (take (h.length - 16) (drop 16 c.in_ok-message.message.now))) c.in_ok-header.ensures (c.in-2.is, refl)) refl
 
 pub returns-in-3-clause-state : goal.returns-in-3-clause-state
 returns-in-3-clause-state g c =
     let start = rw c.in_ok-message.was at c.in-Some.ensures.steps in
     let h = c.in_ok-header.header in
-    ends_at g.I.Coded.codec.reads g.I.Coded.codec.refuses (λ b t tb fits. g.met.I.Coded.laws.answered b t tb (g.met.I.NetlinkDeserializable.each_type t fits)) _ _ _ _ _ _ (Ok (done_with (take (h.length - 16) (drop 16 c.in_ok-message.message.now)))) _ (λ i. omega (arith, c.type_inv.datagram i)) c.loop-item.invariant start
+    ends_at g.I.Coded.codec.reads g.I.Coded.codec.refuses g.met.I.Coded.laws.answered _ _ _ _ _ _ (Ok (done_with (take (h.length - 16) (drop 16 c.in_ok-message.message.now)))) _ (λ i. omega (arith, c.type_inv.datagram i)) c.loop-item.invariant start
     (carries g.I.Coded.codec.reads g.I.Coded.codec.refuses _ h (done_with (take (h.length - 16) (drop 16 c.in_ok-message.message.now))) c.in_ok-header.ensures (c.in-3.is, refl)) refl
 
 pub returns-in-4-clause-state : goal.returns-in-4-clause-state
 returns-in-4-clause-state g c =
     let start = rw c.in_ok-message.was at c.in-Some.ensures.steps in
     let h = c.in_ok-header.header in
-    ends_at g.I.Coded.codec.reads g.I.Coded.codec.refuses (λ b t tb fits. g.met.I.Coded.laws.answered b t tb (g.met.I.NetlinkDeserializable.each_type t fits)) _ _ _ _ _ _ (Ok (overrun_with (take (h.length - 16) (drop 16 c.in_ok-message.message.now)))) _ (λ i. omega (arith, c.type_inv.datagram i)) c.loop-item.invariant start
+    ends_at g.I.Coded.codec.reads g.I.Coded.codec.refuses g.met.I.Coded.laws.answered _ _ _ _ _ _ (Ok (overrun_with (take (h.length - 16) (drop 16 c.in_ok-message.message.now)))) _ (λ i. omega (arith, c.type_inv.datagram i)) c.loop-item.invariant start
     (carries g.I.Coded.codec.reads g.I.Coded.codec.refuses _ h (overrun_with (take (h.length - 16) (drop 16 c.in_ok-message.message.now))) c.in_ok-header.ensures (c.in-4.is, refl)) refl
 
 pub returns-in_err-deserialize-in_default-clause-fault : goal.returns-in_err-deserialize-in_default-clause-fault
@@ -48,7 +48,7 @@ returns-in_err-deserialize-in_default-clause-fault g c =
     let start = rw c.in_ok-message.was at c.in-Some.ensures.steps in
     let h = c.in_ok-header.header in
     let other : IsInnerType h.message_type = search rules in
-    rw (p.1, p.2) (λ named. ends_at g.I.Coded.codec.reads g.I.Coded.codec.refuses (λ b t tb fits. g.met.I.Coded.laws.answered b t tb (g.met.I.NetlinkDeserializable.each_type t fits)) _ _ _ _ _ _ (Err _) _ (λ i. omega (arith, c.type_inv.datagram i)) c.loop-item.invariant start
+    rw (p.1, p.2) (λ named. ends_at g.I.Coded.codec.reads g.I.Coded.codec.refuses g.met.I.Coded.laws.answered _ _ _ _ _ _ (Err _) _ (λ i. omega (arith, c.type_inv.datagram i)) c.loop-item.invariant start
     (fault_within g.I.Coded.codec.refuses _ h _ c.in_ok-header.ensures (other, c.in_err-deserialize-in_default.ensures.fault named)) refl)
 
 pub returns-in_err-deserialize-in_default-clause-memory : goal.returns-in_err-deserialize-in_default-clause-memory
@@ -58,7 +58,7 @@ returns-in_err-deserialize-in_default-clause-memory g c =
     let h = c.in_ok-header.header in
     let other : IsInnerType h.message_type = search rules in
     rw (p.1, p.2) (λ none. let m = c.in_err-deserialize-in_default.ensures.wanted none in
-    stops_at g.I.Coded.codec.reads g.I.Coded.codec.refuses (λ b t tb fits. g.met.I.Coded.laws.answered b t tb (g.met.I.NetlinkDeserializable.each_type t fits)) _ _ _ _ _ _ m.0 (λ i. omega (arith, c.type_inv.datagram i)) c.loop-item.invariant start
+    stops_at g.I.Coded.codec.reads g.I.Coded.codec.refuses g.met.I.Coded.laws.answered _ _ _ _ _ _ m.0 (λ i. omega (arith, c.type_inv.datagram i)) c.loop-item.invariant start
     (carries g.I.Coded.codec.reads g.I.Coded.codec.refuses _ h (inner m.0) c.in_ok-header.ensures (other, m.1)))
 
 pub loop-item-preserved : goal.loop-item-preserved
@@ -77,7 +77,7 @@ returns-in_err-push-in_default-clause-memory g c =
     let h = c.in_ok-header.header in
     let value = g.I.Coded.seen c.in_ok-deserialize-in_default.field-0 in
     let other : IsInnerType h.message_type = search rules in
-    rw (p.1, c.in_err-push-in_default.ensures.items) (λ _. stops_at g.I.Coded.codec.reads g.I.Coded.codec.refuses (λ b t tb fits. g.met.I.Coded.laws.answered b t tb (g.met.I.NetlinkDeserializable.each_type t fits)) _ _ _ _ _ _ value (λ i. omega (arith, c.type_inv.datagram i)) c.loop-item.invariant start
+    rw (p.1, c.in_err-push-in_default.ensures.items) (λ _. stops_at g.I.Coded.codec.reads g.I.Coded.codec.refuses g.met.I.Coded.laws.answered _ _ _ _ _ _ value (λ i. omega (arith, c.type_inv.datagram i)) c.loop-item.invariant start
     (carries g.I.Coded.codec.reads g.I.Coded.codec.refuses _ h (inner value) c.in_ok-header.ensures (other, c.in_ok-deserialize-in_default.ensures.value)))
 
 pub returns-clause-state : goal.returns-clause-state

@@ -3,6 +3,6 @@ use Rattle.netlink_packet_sock_diag.proofs.laws.finalized_message_reads_back.Goa
 
 pub returns : goal.returns
 returns c = λ v typed fits own.
-    let back = c.finalized_message_reads_back.ensures (λ t below. below) (λ _. 20) v typed fits own in
+    let back = c.finalized_message_reads_back.ensures (λ _. 20) v typed fits own in
     let normal = normal_envelope v own.1 in
     (λ r. normal.0 (back.0 r), λ n. back.1 (normal.1 n))

@@ -4,8 +4,8 @@ pub returns : goal.returns
 returns c =
     let law = c.one_message_or_fault.ensures in
     record {
-      answered = law.answered (λ t fits. fits);
-      one_value = law.one_value (λ t fits. fits);
+      answered = law.answered;
+      one_value = law.one_value;
       one_answer = law.one_answer;
       one_fault = law.one_fault;
       named_fault = law.named_fault;

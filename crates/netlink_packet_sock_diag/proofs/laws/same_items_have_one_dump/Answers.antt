@@ -3,4 +3,4 @@ use Rattle.netlink_packet_sock_diag.proofs.DumpRows.{same_dump}
 use Rattle.netlink_packet_sock_diag.proofs.laws.same_items_have_one_dump.Goals as goal
 
 pub returns : goal.returns
-returns c = same_dump MessageIs MessageFault (c.one_list_of_items.ensures (λ t fits. fits))
+returns c = same_dump MessageIs MessageFault c.one_list_of_items.ensures

@@ -6,7 +6,7 @@ use Rattle.netlink_packet_sock_diag.proofs.laws.split_changes_no_dump.Goals as g
 
 pub returns : goal.returns
 returns c = λ datagrams others typed fits split cut same before after end d.
-    let some = c.datagram_has_items.ensures (λ t fits. fits) in
-    let one = c.one_list_of_items.ensures (λ t fits. fits) in
+    let some = c.datagram_has_items.ensures in
+    let one = c.one_list_of_items.ensures in
     split_of_dump MessageIs MessageFault some one others fits cut before after end
     (subst (λ (bytes : List ℕ). DatagramDump MessageIs MessageFault before bytes after end) same (dump_of_split MessageIs MessageFault some one datagrams typed split before after end d))
