@@ -43,22 +43,6 @@ socket_id_values value =
     value.source_port ∷ value.destination_port ∷
     (address_values value.source_address ++ (address_values value.destination_address ++ value.interface_id ∷ first 8 value.cookie))
 
--- an address of zeros alone
-abbrev pub zero_address : Kind → IpAddr
-zero_address ipv4 = V4 record { octets = replicate 4 0 }
-zero_address ipv6 = V6 record { segments = replicate 8 0 }
-
--- the identity of zeros alone, its addresses of that kind
-abbrev pub zeros : Kind → SocketId
-zeros kind = record {
-  source_port = 0;
-  destination_port = 0;
-  source_address = zero_address kind;
-  destination_address = zero_address kind;
-  interface_id = 0;
-  cookie = replicate 8 0;
-}
-
 -- four octets or eight segments
 abbrev pub IsAddress : IpAddr → Type 0
 IsAddress (V4 ip) = length ip.octets ≡ 4

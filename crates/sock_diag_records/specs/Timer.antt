@@ -1,5 +1,5 @@
 -- The timer of an IPv4 or IPv6 socket. Its class is told by a byte, and with it whether two rows of its numbers are read.
-use Rattle.std.specs.Prelude.{◌≡◌, ℕ, Bool, true, false, ◌*◌, ◌/◌, ◌%◌, ◌^◌, ◌<◌, ◌==◌, if◌then◌else◌, List, [], ◌∷◌, replicate, Option, Some, None}
+use Rattle.std.specs.Prelude.{◌≡◌, ℕ, Bool, true, false, ◌*◌, ◌/◌, ◌%◌, ◌^◌, ◌<◌, ◌==◌, if◌then◌else◌, List, [], ◌∷◌, replicate, Option, Some, None, IfSome, option_map, unwrap_or}
 use Rattle.std.specs.Duration.{as_nanos}
 use Rattle.std.specs.declared.time.Duration.{Duration}
 use Rattle.netlink_core.specs.Table.{Row, byte, number, unread, little_endian}
@@ -35,13 +35,17 @@ told_by none = (0, false, false)
 abbrev pub byte_of_class : Class → ℕ
 byte_of_class class = (told_by class).0
 
+-- of each timer its class, its count for the byte at 3, and its time for the word at 52
+abbrev pub told_of : Option Timer → Class × Option ℕ × Option Duration
+told_of (Some (Retransmit expires count)) = (retransmits, Some count, Some expires)
+told_of (Some (KeepAlive expires)) = (keeps_alive, None, Some expires)
+told_of (Some TimeWait) = (waits, None, None)
+told_of (Some (Probe expires)) = (probes, None, Some expires)
+told_of None = (none, None, None)
+
 -- the class of a timer
 abbrev pub class_of : Option Timer → Class
-class_of (Some (Retransmit expires count)) = retransmits
-class_of (Some (KeepAlive expires)) = keeps_alive
-class_of (Some TimeWait) = waits
-class_of (Some (Probe expires)) = probes
-class_of None = none
+class_of timer = (told_of timer).0
 
 -- the byte at 3, read, or else written 0
 abbrev pub retransmits_row : Class → Row
@@ -53,22 +57,15 @@ expires_row class = if (told_by class).2 then number 52 4 little_endian else unr
 
 -- what a timer keeps for the byte at 3
 abbrev pub retransmits_values : Option Timer → List ℕ
-retransmits_values (Some (Retransmit expires count)) = count ∷ []
-retransmits_values _ = []
+retransmits_values timer = unwrap_or (option_map (λ count. count ∷ []) (told_of timer).1) []
 
 -- what a timer keeps for the word at 52
 abbrev pub expires_values : Option Timer → List ℕ
-expires_values (Some (Retransmit expires count)) = milliseconds expires ∷ []
-expires_values (Some (KeepAlive expires)) = milliseconds expires ∷ []
-expires_values (Some (Probe expires)) = milliseconds expires ∷ []
-expires_values _ = []
+expires_values timer = unwrap_or (option_map (λ time. milliseconds time ∷ []) (told_of timer).2) []
 
 -- a timer's time is whole milliseconds
 abbrev pub IsWholeTimer : Option Timer → Type 0
-IsWholeTimer (Some (Retransmit expires count)) = IsWholeMilliseconds expires
-IsWholeTimer (Some (KeepAlive expires)) = IsWholeMilliseconds expires
-IsWholeTimer (Some (Probe expires)) = IsWholeMilliseconds expires
-IsWholeTimer _ = Unit {0}
+IsWholeTimer timer = IfSome (told_of timer).2 IsWholeMilliseconds
 
 -- what chooses the rows of a reply's header: the kinds of the addresses, and the class of the timer
 pub record Tag : Type 0 where

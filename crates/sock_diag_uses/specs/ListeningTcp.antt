@@ -1,8 +1,8 @@
 -- The request for all TCP sockets that listen.
-use Rattle.std.specs.Prelude.{ℕ}
+use Rattle.std.specs.Prelude.{ℕ, replicate}
 use Rattle.netlink_core.specs.Envelope.{Envelope, inner}
-use Rattle.sock_diag_records.specs.SocketId.{zeros}
-use Rattle.sock_diag_records.specs.Kinds.{Kind, ipv4, ipv6}
+use Rattle.std.specs.declared.net.ip_addr.IpAddr.{IpAddr}
+use Rattle.std.specs.declared.net.ip_addr.IpAddr.TheVariants.{V4, V6}
 use Rattle.netlink_packet_sock_diag.specs.Message.{Message, inet_request_with}
 use Rattle.sock_diag_uses.specs.declared.listening_tcp.Family.{Family}
 use Rattle.sock_diag_uses.specs.declared.listening_tcp.Family.TheVariants.{Inet, Inet6}
@@ -12,10 +12,10 @@ abbrev pub family_number : Family → ℕ
 family_number Inet = 2
 family_number Inet6 = 10
 
--- the kind of their addresses
-abbrev pub address_kind : Family → Kind
-address_kind Inet = ipv4
-address_kind Inet6 = ipv6
+-- the address that tells none
+abbrev pub no_address : Family → IpAddr
+no_address Inet = V4 record { octets = replicate 4 0 }
+no_address Inet6 = V6 record { segments = replicate 8 0 }
 
 -- A dump (flags 0x301) under the type 20, of TCP (6) and the state LISTEN (bit 10) alone. Of the socket's identity
 -- nothing is told.
@@ -27,6 +27,13 @@ listening_request family sequence_number = record {
     protocol = 6;
     extensions = record { 0 = 0 };
     states = record { 0 = 0x400 };
-    socket_id = zeros (address_kind family);
+    socket_id = record {
+      source_port = 0;
+      destination_port = 0;
+      source_address = no_address family;
+      destination_address = no_address family;
+      interface_id = 0;
+      cookie = replicate 8 0;
+    };
   }));
 }

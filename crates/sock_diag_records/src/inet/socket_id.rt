@@ -1,7 +1,8 @@
 //! The identity of a socket.
 
 ghost use Rattle.std.proofs.Common.{rules};
-ghost use Rattle.std.specs.Prelude.{◌≡◌, ◌≢◌, ◌≤◌, ◌+◌, length, IfErr};
+ghost use Rattle.std.specs.Prelude.{◌≡◌, ◌≢◌, ◌≤◌, ◌+◌, length, replicate, IfErr};
+ghost use Rattle.std.specs.declared.net.ip_addr.IpAddr.TheVariants.{V4, V6};
 ghost use Rattle.std.specs.Net.Addr.{ipv4_octets, ipv6_segments};
 ghost use Rattle.netlink_core.specs.Table.{bytes_at, numbers, big_endian, values_of};
 ghost use Rattle.netlink_core.specs.declared.fault.DecodeError.TheVariants.{Memory};
@@ -9,8 +10,8 @@ ghost use Rattle.netlink_core.specs.Format.{read};
 ghost use Rattle.netlink_core.proofs.FormatLaws.{record_laws};
 ghost use Rattle.std.specs.Prelude.{ℕ, slice_index, ◌<◌};
 ghost use Rattle.netlink_core.specs.Table.{Fit};
-ghost use Rattle.sock_diag_records.specs.SocketId.{IsAddress, address_rows, address_values, socket_id, zeros, address_bytes};
-ghost use Rattle.sock_diag_records.specs.Kinds.{kind_of, Kinds, ipv4, ipv6};
+ghost use Rattle.sock_diag_records.specs.SocketId.{IsAddress, address_rows, address_values, socket_id, address_bytes};
+ghost use Rattle.sock_diag_records.specs.Kinds.{kind_of, Kinds};
 ghost use Rattle.sock_diag_records.specs.SocketIdLaws.{socket_id_sound, socket_id_size};
 
 use crate::constants::{AF_INET, AF_INET6};
@@ -45,7 +46,14 @@ pub struct SocketId {
 impl SocketId {
     /// The identity of zeros alone, with IPv4 addresses.
     pub fn new_v4() -> Self
-        ensures { result ≡ zeros ipv4 }
+        ensures { let none : IpAddr = V4 record { octets = replicate 4 0 } in result ≡ record {
+          source_port = 0;
+          destination_port = 0;
+          source_address = none;
+          destination_address = none;
+          interface_id = 0;
+          cookie = replicate 8 0;
+        } }
     {
         SocketId {
             source_port: 0,
@@ -59,7 +67,14 @@ impl SocketId {
 
     /// The identity of zeros alone, with IPv6 addresses.
     pub fn new_v6() -> Self
-        ensures { result ≡ zeros ipv6 }
+        ensures { let none : IpAddr = V6 record { segments = replicate 8 0 } in result ≡ record {
+          source_port = 0;
+          destination_port = 0;
+          source_address = none;
+          destination_address = none;
+          interface_id = 0;
+          cookie = replicate 8 0;
+        } }
     {
         SocketId {
             source_port: 0,
