@@ -64,7 +64,7 @@ module _ {A : Type 0} (reads : List ℕ → ℕ → A → Type 0) where
   payloads_idle idle t x y law p q h k = absurd (omega (arith, payload_kind x t p h, payload_kind y t q k))
 
   -- payloads of one type that are written alike are equal
-  payloads_alike : (written : A → List ℕ) (fits : A → Type 0) (t : ℕ) (x y : List ℕ) → ((v w : A) → reads x t v → reads y t w → fits v → fits w → written v ≡ written w → v ≡ w)
+  pub payloads_alike : (written : A → List ℕ) (fits : A → Type 0) (t : ℕ) (x y : List ℕ) → ((v w : A) → reads x t v → reads y t w → fits v → fits w → written v ≡ written w → v ≡ w)
       → (p q : Payload A) → PayloadIs reads x t p → PayloadIs reads y t q → OfInner fits p → OfInner fits q → payload_bytes written p ≡ payload_bytes written q → p ≡ q
   payloads_alike written fits t x y law no_payload no_payload h k f g e = refl
   payloads_alike written fits t x y law (error_with m) (error_with n) h k f g e = ap error_with e

@@ -25,7 +25,7 @@ use Rattle.sockdiag.proofs.Telling.{one_telling, tells_value}
 
 -- each datagram has items
 some_items : (b : List ℕ) → IsBytes b → (items : List (Result (Payload Message) DecodeError)) × ItemsAre MessageIs MessageFault b items
-some_items = items_of MessageIs MessageFault (λ b t typed fits. message_laws.answered b t typed fits)
+some_items = items_of MessageIs MessageFault message_laws.answered
 
 -- and no others
 one_items : (b : List ℕ) → IsBytes b → (xs ys : List (Result (Payload Message) DecodeError)) → ItemsAre MessageIs MessageFault b xs → ItemsAre MessageIs MessageFault b ys → xs ≡ ys

@@ -28,24 +28,24 @@ use Rattle.sockdiag.proofs.SubjectLaws.{LawsOf, ShowsAll}
 
 -- what is shown of each
 pub laws_of : (name : Name) → LawsOf (subject_of name)
-laws_of UnixRequest = written_laws (record_codec unix_request) (keeps_laws unix_request unix_request_sound) tt tt (λ v. inl tt)
-laws_of UnixResponse = written_laws (reply_codec unix_reply) (replies_keep_laws unix_reply unix_reply_laws) tt tt (reply_fits_or_not unix_reply)
-laws_of InetRequest = written_laws (record_codec inet_request) (keeps_laws inet_request inet_request_sound) tt tt (λ v. inl tt)
-laws_of InetResponse = written_laws (reply_codec inet_reply) (replies_keep_laws inet_reply inet_reply_laws) tt tt (reply_fits_or_not inet_reply)
-laws_of SocketId4 = written_laws (record_codec socket_id) (keeps_laws socket_id socket_id_sound) 2 tt (λ v. inl tt)
-laws_of SocketId6 = written_laws (record_codec socket_id) (keeps_laws socket_id socket_id_sound) 10 tt (λ v. inl tt)
-laws_of Message = written_laws message_codec message_laws 20 (omega arith) message_fits_or_not
+laws_of UnixRequest = written_laws (record_codec unix_request) (keeps_laws unix_request unix_request_sound) tt (λ v. inl tt)
+laws_of UnixResponse = written_laws (reply_codec unix_reply) (replies_keep_laws unix_reply unix_reply_laws) tt (reply_fits_or_not unix_reply)
+laws_of InetRequest = written_laws (record_codec inet_request) (keeps_laws inet_request inet_request_sound) tt (λ v. inl tt)
+laws_of InetResponse = written_laws (reply_codec inet_reply) (replies_keep_laws inet_reply inet_reply_laws) tt (reply_fits_or_not inet_reply)
+laws_of SocketId4 = written_laws (record_codec socket_id) (keeps_laws socket_id socket_id_sound) 2 (λ v. inl tt)
+laws_of SocketId6 = written_laws (record_codec socket_id) (keeps_laws socket_id socket_id_sound) 10 (λ v. inl tt)
+laws_of Message = written_laws message_codec message_laws 20 message_fits_or_not
 laws_of NetlinkMessage = envelope_laws
-laws_of UnixView = shown_laws (reply_codec unix_reply) (replies_keep_laws unix_reply unix_reply_laws) tt tt (λ v. ⊤) shown_reply (λ v. inl tt)
+laws_of UnixView = shown_laws (reply_codec unix_reply) (replies_keep_laws unix_reply unix_reply_laws) tt (λ v. ⊤) shown_reply (λ v. inl tt)
 
 -- all names but `unixview` show all
 pub shows_all : (name : Name) → name ≢ UnixView → ShowsAll (subject_of name)
-shows_all UnixRequest h = canonical_shows_all (record_codec unix_request) (keeps_laws unix_request unix_request_sound) tt tt
-shows_all UnixResponse h = canonical_shows_all (reply_codec unix_reply) (replies_keep_laws unix_reply unix_reply_laws) tt tt
-shows_all InetRequest h = canonical_shows_all (record_codec inet_request) (keeps_laws inet_request inet_request_sound) tt tt
-shows_all InetResponse h = canonical_shows_all (reply_codec inet_reply) (replies_keep_laws inet_reply inet_reply_laws) tt tt
-shows_all SocketId4 h = canonical_shows_all (record_codec socket_id) (keeps_laws socket_id socket_id_sound) 2 tt
-shows_all SocketId6 h = canonical_shows_all (record_codec socket_id) (keeps_laws socket_id socket_id_sound) 10 tt
-shows_all Message h = canonical_shows_all message_codec message_laws 20 (omega arith)
+shows_all UnixRequest h = canonical_shows_all (record_codec unix_request) (keeps_laws unix_request unix_request_sound) tt
+shows_all UnixResponse h = canonical_shows_all (reply_codec unix_reply) (replies_keep_laws unix_reply unix_reply_laws) tt
+shows_all InetRequest h = canonical_shows_all (record_codec inet_request) (keeps_laws inet_request inet_request_sound) tt
+shows_all InetResponse h = canonical_shows_all (reply_codec inet_reply) (replies_keep_laws inet_reply inet_reply_laws) tt
+shows_all SocketId4 h = canonical_shows_all (record_codec socket_id) (keeps_laws socket_id socket_id_sound) 2
+shows_all SocketId6 h = canonical_shows_all (record_codec socket_id) (keeps_laws socket_id socket_id_sound) 10
+shows_all Message h = canonical_shows_all message_codec message_laws 20
 shows_all NetlinkMessage h = envelope_shows_all
 shows_all UnixView h = absurd (h refl)
