@@ -13,7 +13,6 @@ pub fn copy_by_bytes<T: Wire + Drop>(
     value: &T,
     param: T::Param,
 ) -> Result<T, DecodeError>
-    requires param { T.codec.is_param param }
     requires normal { T.codec.is_normal param (T.seen value.now) }
     requires writable { T.writable value.now }
     ensures equal { IfOk result (λ copy. T.seen copy ≡ T.seen value.now) }

@@ -126,7 +126,7 @@ pub whole_dump : ((v : Envelope Message) → IsTypedEnvelope IsTypedMessage v �
     → (request : List ℕ) (replies : List UnixReply) (datagram : List ℕ) → IsAnswer request replies datagram → AllByRecursion CanBeTold replies → IsWholeDump datagram replies
 whole_dump reads_back even in_a_row request replies datagram answer told =
     let n = answer.header.sequence_number in
-    let small = answer.framed.typed.sequence_number in
+    let small = answer.framed.1.typed.sequence_number in
     let ends = one_item MessageIs MessageFault (end_under n) (Ok (done_with (0 ∷ 0 ∷ 0 ∷ 0 ∷ []))) (carries_end reads_back n small) in
     let items = map (λ (r : UnixReply). Ok (inner (unix_response_with r))) replies ++ (Ok (done_with (0 ∷ 0 ∷ 0 ∷ 0 ∷ [])) ∷ []) in
     let all = items_of_all MessageIs MessageFault in_a_row (reply_under n) (λ r. Ok (inner (unix_response_with r))) (end_under n) (Ok (done_with (0 ∷ 0 ∷ 0 ∷ 0 ∷ [])) ∷ []) replies (carries_all reads_back even n small replies told) ends in

@@ -12,17 +12,17 @@ use Rattle.sockdiag_c.specs.Rewriting.{IsCanonical, Writes}
 
 module _ {Param : Type 0} (C : Codec Param) (laws : KeepsLaws C) where
   -- a string has one value
-  one_value : (b : List ℕ) (p : Param) (v w : C.Value) → IsBytes b → C.is_param p → C.reads b p v → C.reads b p w → v ≡ w
-  one_value b p v w tb tp r s = (laws.same_value b b p v w tb tb tp r s).1 ((laws.same_value b b p v v tb tb tp r r).0 refl)
+  one_value : (b : List ℕ) (p : Param) (v w : C.Value) → IsBytes b → C.reads b p v → C.reads b p w → v ≡ w
+  one_value b p v w tb r s = (laws.same_value b b p v w tb tb r s).1 ((laws.same_value b b p v v tb tb r r).0 refl)
 
   -- strings with values that can be written are written alike exactly where they are idle
-  written_alike : (b c : List ℕ) (p : Param) (v w : C.Value) → IsBytes b → IsBytes c → C.is_param p → C.reads b p v → C.reads c p w → C.fits v → C.fits w
+  written_alike : (b c : List ℕ) (p : Param) (v w : C.Value) → IsBytes b → IsBytes c → C.reads b p v → C.reads c p w → C.fits v → C.fits w
       → ((C.written v ≡ C.written w) ↔ C.idle p b c)
-  written_alike b c p v w tb tc tp r s fv fw =
-      let same = laws.same_value b c p v w tb tc tp r s in
-      let n = laws.reads_normal b p v tb tp r in
-      let m = laws.reads_normal c p w tc tp s in (
-        λ e. same.0 (one_value (C.written w) p v w (laws.written_bytes w m.0) tp (subst (λ (x : List ℕ). C.reads x p v) e (laws.reads_back p v tp n.0 n.1 fv)) (laws.reads_back p w tp m.0 m.1 fw)),
+  written_alike b c p v w tb tc r s fv fw =
+      let same = laws.same_value b c p v w tb tc r s in
+      let n = laws.reads_normal b p v tb r in
+      let m = laws.reads_normal c p w tc s in (
+        λ e. same.0 (one_value (C.written w) p v w (laws.written_bytes w m.0) (subst (λ (x : List ℕ). C.reads x p v) e (laws.reads_back p v n.0 n.1 fv)) (laws.reads_back p w m.0 m.1 fw)),
         λ i. ap C.written (same.1 i),
       )
 
@@ -32,7 +32,7 @@ pub canonical_where_written : (R : Reply) → ReplyLaws R → (payload old new :
 canonical_where_written R laws payload old new v outcome answer tb r (inl h) some d w td s fw =
     let all = reply_bytes R v in
     let front : take answer new ≡ all = ap (λ (n : ℕ). take n new) h.3 ∙ ap (take (length all)) h.4 ∙ take_at all (drop (length all) old) (length all) refl in
-    let alike = written_alike (reply_codec R) (replies_keep_laws R laws) payload d tt v w tb td tt r s h.0 fw in
+    let alike = written_alike (reply_codec R) (replies_keep_laws R laws) payload d tt v w tb td r s h.0 fw in
     (λ e. alike.0 (sym (e ∙ front)), λ i. sym (alike.1 i) ∙ sym front)
 canonical_where_written R laws payload old new v outcome answer tb r (inr (inl h)) some d w td s fw = absurd (omega (arith, h.3.0))
 canonical_where_written R laws payload old new v outcome answer tb r (inr (inr h)) some d w td s fw = absurd (omega (arith, h.2.0))

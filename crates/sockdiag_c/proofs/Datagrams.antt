@@ -18,7 +18,7 @@ use Rattle.sockdiag_c.specs.Walks.{IsTold, NextMessage, left_of}
 cut_with_step : (bytes : List ℕ) (old new : Cursor) (now : MessagePart) (answer : ℕ) → IsBytes (left_of bytes old) → IsTold bytes old new now answer
     → (message : List ℕ) × (later : List (List ℕ)) × (end : Option DecodeError) × CutIntoMessages (left_of bytes new) later end × CutIntoMessages (left_of bytes old) (message ∷ later) end
 cut_with_step bytes old new now answer typed s =
-    let items = (items_of MessageIs MessageFault (λ x t tx fits. message_laws.answered x t tx fits) (left_of bytes new) (rest_typed (left_of bytes old) s.0 (left_of bytes new) s.1 typed)).1 in
+    let items = (items_of MessageIs MessageFault message_laws.answered (left_of bytes new) (rest_typed (left_of bytes old) s.0 (left_of bytes new) s.1 typed)).1 in
     (s.0, items.messages, items.end, items.cut, (left_of bytes new, s.1, items.cut))
 
 -- a step tells the first message, and leaves what the others are cut from

@@ -4,12 +4,13 @@ use Rattle.std.proofs.lemmas.List.{drop-drop, take_at}
 use Rattle.netlink_core.specs.Attribute.{Attribute, Cut, StartsWith, fill}
 use Rattle.netlink_core.specs.Datagram.{StartsWithMessage}
 use Rattle.netlink_core.specs.declared.header.NetlinkHeader.{NetlinkHeader}
-use Rattle.netlink_core.specs.Envelope.{IsFramed, done_with, error_with, no_payload, overrun_with}
-use Rattle.netlink_core.specs.Header.{HasHeader}
+use Rattle.netlink_core.specs.Envelope.{done_with, error_with, no_payload, overrun_with}
+use Rattle.netlink_core.specs.Header.{HasHeader, IsFramed}
 use Rattle.netlink_core.specs.FrontLaws.{head_or_fault_apart}
 use Rattle.netlink_core.proofs.Cutting.{one_start}
 use Rattle.netlink_core.proofs.Datagrams.{starts_with_message}
 use Rattle.netlink_core.proofs.Framing.{framed}
+use Rattle.netlink_core.proofs.Headers.{framed_bounds}
 use Rattle.netlink_core.proofs.Front.{starts_with}
 use Rattle.netlink_core.proofs.Walking.{StartsWith-some, head_of_start}
 use Rattle.sockdiag_c.specs.declared.walks.AttributePart.{AttributePart}
@@ -50,7 +51,7 @@ payload_told bytes place h = ap (take (h.length - 16)) (drop-drop 16 place bytes
 -- the header that is told is the one that was read
 header_told : (bytes : List ℕ) (place : ℕ) (h : NetlinkHeader) → HasHeader bytes h → h ≡ header_in (part_of place h)
 header_told bytes place h head =
-    let low : 16 ≤ h.length = head.low in
+    let low : 16 ≤ h.length = (framed_bounds bytes head.0 h head.1).0 in
     let all : h.length ≡ 16 + (h.length - 16) = omega arith in
     λ i. record h { length = all i }
 

@@ -4,9 +4,9 @@ use Rattle.netlink_core.specs.Attribute.{Attribute, IsFramingFault, StartsWith}
 use Rattle.netlink_core.specs.Datagram.{StartsWithMessage}
 use Rattle.netlink_core.specs.declared.fault.DecodeError.{DecodeError}
 use Rattle.netlink_core.specs.declared.header.NetlinkHeader.{NetlinkHeader}
-use Rattle.netlink_core.specs.Envelope.{IsFramed, IsInnerType, Payload, PayloadIs}
+use Rattle.netlink_core.specs.Envelope.{IsInnerType, Payload, PayloadIs}
 use Rattle.netlink_core.specs.Faults.{number_of}
-use Rattle.netlink_core.specs.Header.{IsEnvelopeFault}
+use Rattle.netlink_core.specs.Header.{IsEnvelopeFault, IsFramed}
 use Rattle.netlink_packet_sock_diag.specs.Message.{Message, MessageFault, MessageIs}
 use Rattle.sockdiag_c.specs.declared.walks.AttributePart.{AttributePart}
 use Rattle.sockdiag_c.specs.declared.walks.Cursor.{Cursor}

@@ -10,5 +10,5 @@ returns-clause-value c =
     let v = viewed_response c.in_ok-parse.field-0 in
     let w = viewed_response c.in_ok-parse-2.field-0 in
     let told = unix_test_says v w in
-    let idle = laws-law.same_value c.args.one.now c.args.other.now tt v w (λ i. omega (arith, c.type_inv.one i)) (λ i. omega (arith, c.type_inv.other i)) tt c.in_ok-parse.ensures.value c.in_ok-parse-2.ensures.value in
+    let idle = laws-law.same_value c.args.one.now c.args.other.now tt v w (λ i. omega (arith, c.type_inv.one i)) (λ i. omega (arith, c.type_inv.other i)) c.in_ok-parse.ensures.value c.in_ok-parse-2.ensures.value in
     rw c.eq.ensures (λ same. idle.0 (told.0 same), λ i. told.1 (idle.1 i))
