@@ -13,7 +13,7 @@ use Rattle.hex.proofs.HexLemmas.{decode_of-ok}
 use Rattle.hex.specs.declared.error.FromHexError.{FromHexError}
 use Rattle.netlink_core.specs.Bytes.{IsBytes}
 use Rattle.netlink_packet_sock_diag.specs.Dump.{AreSplit, in_a_row}
-use Rattle.sockdiag.specs.Answer.{IsAnswer, IsAnswerOf, IsNoRequest, IsRequest, subject_of, word_of}
+use Rattle.sockdiag.specs.Answer.{IsAnswer, IsAnswerOf, IsNoRequest, IsRequest, row_of}
 use Rattle.sockdiag.specs.AskedSteps.{IsAnswerTo, IsReadAs}
 use Rattle.sockdiag.specs.DumpLine.{HaveSameItems, IsDumpOf, IsDumpRequest, IsWritable, TellsDump, shown_dump}
 use Rattle.sockdiag.specs.HexField.{IsHexField}
@@ -46,7 +46,7 @@ names = UnixRequest ∷ UnixResponse ∷ InetRequest ∷ InetResponse ∷ Socket
 
 -- the name that a word is
 abbrev pub name_of : List ℕ → Option Name
-name_of word = find (λ name. bytes_eq word (word_of name)) names
+name_of word = find (λ name. bytes_eq word (row_of name).0) names
 
 -- the bytes that a field stands for, where there are such
 abbrev pub field_bytes : List ℕ → Option (List ℕ)
@@ -129,7 +129,7 @@ no_field field bytes h (inr digits) =
 
 -- ---- names
 
-name_of-word : (name : Name) → name_of (word_of name) ≡ Some name
+name_of-word : (name : Name) → name_of (row_of name).0 ≡ Some name
 name_of-word UnixRequest = refl
 name_of-word UnixResponse = refl
 name_of-word InetRequest = refl
@@ -152,11 +152,11 @@ find-passes p (y ∷ xs) x h =
     some_same : (a b : Name) → Some b ≡ Some a → b ≡ a
     some_same a b e = cc
 
-word_of-name : (word : List ℕ) (name : Name) → name_of word ≡ Some name → word ≡ word_of name
-word_of-name word name h = (bytes_eq-Decides word (word_of name)).0 (find-passes (λ n. bytes_eq word (word_of n)) names name h)
+name_of-spelled : (word : List ℕ) (name : Name) → name_of word ≡ Some name → word ≡ (row_of name).0
+name_of-spelled word name h = (bytes_eq-Decides word (row_of name).0).0 (find-passes (λ n. bytes_eq word (row_of n).0) names name h)
 
 -- the first space of a line stands behind its name
-word_place : (name : Name) (field : List ℕ) → position_or_len is_space (word_of name ++ 32 ∷ field) ≡ length (word_of name)
+word_place : (name : Name) (field : List ℕ) → position_or_len is_space ((row_of name).0 ++ 32 ∷ field) ≡ length (row_of name).0
 word_place UnixRequest field = refl
 word_place UnixResponse field = refl
 word_place InetRequest field = refl
@@ -167,7 +167,7 @@ word_place Message field = refl
 word_place NetlinkMessage field = refl
 word_place UnixView field = refl
 
-word_left : (name : Name) (field : List ℕ) → drop (length (word_of name) + 1) (word_of name ++ 32 ∷ field) ≡ field
+word_left : (name : Name) (field : List ℕ) → drop (length (row_of name).0 + 1) ((row_of name).0 ++ 32 ∷ field) ≡ field
 word_left UnixRequest field = refl
 word_left UnixResponse field = refl
 word_left InetRequest field = refl
@@ -179,7 +179,7 @@ word_left NetlinkMessage field = refl
 word_left UnixView field = refl
 
 -- no name is `dump`
-name_is_no_dump : (name : Name) → bytes_eq (word_of name) (codes "dump") ≡ false
+name_is_no_dump : (name : Name) → bytes_eq (row_of name).0 (codes "dump") ≡ false
 name_is_no_dump UnixRequest = refl
 name_is_no_dump UnixResponse = refl
 name_is_no_dump InetRequest = refl
@@ -236,8 +236,8 @@ asking-spelled word text first behind =
 
 asking-named : (line : List ℕ) (name : Name) (bytes : List ℕ) → IsRequest line name bytes → asking line ≡ named name bytes
 asking-named line name bytes h =
-    ap asking h.spelled ∙ asking-spelled (word_of name) h.field (word_place name h.field) (word_left name h.field)
-    ∙ ap (λ b. asking_by b (word_of name) h.field) (name_is_no_dump name)
+    ap asking h.spelled ∙ asking-spelled (row_of name).0 h.field (word_place name h.field) (word_left name h.field)
+    ∙ ap (λ b. asking_by b (row_of name).0 h.field) (name_is_no_dump name)
     ∙ ap₂ asking_name (name_of-word name) (field_bytes-Some h.field bytes h.stands_for)
 
 asking-dumped : (line : List ℕ) (datagrams : List (List ℕ)) → IsDumpRequest line datagrams → asking line ≡ dumped datagrams
@@ -292,7 +292,7 @@ kind_of line = by_place (position is_space line) refl
       bytes,
       record {
         field = drop (i + 1) line;
-        spelled = at_space line i place ∙ ap (λ word. word ++ 32 ∷ drop (i + 1) line) (word_of-name (take i line) name n);
+        spelled = at_space line i place ∙ ap (λ word. word ++ 32 ∷ drop (i + 1) line) (name_of-spelled (take i line) name n);
         stands_for = IsHexField-from_bytes (drop (i + 1) line) bytes r;
       },
     )
@@ -362,8 +362,8 @@ has_answer line = by_kind (kind_of line)
   where
     by_kind : Kind line → (text : List ℕ) × IsAnswerOf line text
     by_kind (inl (name, bytes, asked)) =
-        let text = told (subject_of name) (laws_of name) bytes in
-        (text, asked_answer line name bytes text asked (told-tells (subject_of name) (laws_of name) bytes (request_typed line name bytes asked)))
+        let text = told (row_of name).1 (laws_of name) bytes in
+        (text, asked_answer line name bytes text asked (told-tells (row_of name).1 (laws_of name) bytes (request_typed line name bytes asked)))
     by_kind (inr (inl (datagrams, dump))) =
         let text = has_dump_text datagrams (datagrams_typed line datagrams dump) in
         (text.0, dump_answer line datagrams text.0 dump text.1)
@@ -375,7 +375,7 @@ unfolding Kind
 one_answer line a b h k = by_kind (kind_of line)
   where
     by_kind : Kind line → a ≡ b
-    by_kind (inl (name, bytes, asked)) = one_text (subject_of name) (laws_of name) bytes a b (request_typed line name bytes asked) (h.asked name bytes asked) (k.asked name bytes asked)
+    by_kind (inl (name, bytes, asked)) = one_text (row_of name).1 (laws_of name) bytes a b (request_typed line name bytes asked) (h.asked name bytes asked) (k.asked name bytes asked)
     by_kind (inr (inl (datagrams, dump))) = one_dump_text datagrams (datagrams_typed line datagrams dump) a b (h.dumped datagrams dump) (k.dumped datagrams dump)
     by_kind (inr (inr none)) = h.other none ∙ sym (k.other none)
 
@@ -394,7 +394,7 @@ one_function f h = λ i line. one_answer line (answer_of line) (f line) (answer_
 -- ---- what a line was read as
 
 -- a name before the first space, and a hex field behind it
-pub request_at : (line : List ℕ) (i : ℕ) (name : Name) (bytes : List ℕ) → Some i ≡ position is_space line → take i line ≡ word_of name
+pub request_at : (line : List ℕ) (i : ℕ) (name : Name) (bytes : List ℕ) → Some i ≡ position is_space line → take i line ≡ (row_of name).0
     → IsHexField (drop (i + 1) line) bytes → IsRequest line name bytes
 request_at line i name bytes place word field = record {
   field = drop (i + 1) line;
@@ -411,26 +411,26 @@ read_answer line Nothing bytes text none e = bad_answer line text none e
 
 -- ---- answers of two lines
 
-told_is : (line : List ℕ) (name : Name) (bytes text : List ℕ) → IsAnswerOf line text → IsRequest line name bytes → text ≡ told (subject_of name) (laws_of name) bytes
+told_is : (line : List ℕ) (name : Name) (bytes text : List ℕ) → IsAnswerOf line text → IsRequest line name bytes → text ≡ told (row_of name).1 (laws_of name) bytes
 told_is line name bytes text h asked =
     let typed = request_typed line name bytes asked in
-    one_text (subject_of name) (laws_of name) bytes text _ typed (h.asked name bytes asked) (told-tells (subject_of name) (laws_of name) bytes typed)
+    one_text (row_of name).1 (laws_of name) bytes text _ typed (h.asked name bytes asked) (told-tells (row_of name).1 (laws_of name) bytes typed)
 
 -- two fields of one name have one answer where they are idle
 pub answers_alike : (name : Name) (line other bytes bytes' text text' : List ℕ) → IsAnswerOf line text → IsAnswerOf other text'
-    → IsRequest line name bytes → IsRequest other name bytes' → IsAccepted (subject_of name) bytes → IsAccepted (subject_of name) bytes'
-    → (subject_of name).idle bytes bytes' → text ≡ text'
+    → IsRequest line name bytes → IsRequest other name bytes' → IsAccepted (row_of name).1 bytes → IsAccepted (row_of name).1 bytes'
+    → (row_of name).1.idle bytes bytes' → text ≡ text'
 answers_alike name line other bytes bytes' text text' h k asked asked' ok ok' i =
     told_is line name bytes text h asked
-    ∙ told_alike (subject_of name) (laws_of name) bytes bytes' (request_typed line name bytes asked) (request_typed other name bytes' asked') ok ok' i
+    ∙ told_alike (row_of name).1 (laws_of name) bytes bytes' (request_typed line name bytes asked) (request_typed other name bytes' asked') ok ok' i
     ∙ sym (told_is other name bytes' text' k asked')
 
 -- and but for `unixview` nowhere else
 pub answers_apart : (name : Name) → name ≢ UnixView → (line other bytes bytes' text text' : List ℕ) → IsAnswerOf line text → IsAnswerOf other text'
-    → IsRequest line name bytes → IsRequest other name bytes' → IsAccepted (subject_of name) bytes → IsAccepted (subject_of name) bytes'
-    → text ≡ text' → (subject_of name).idle bytes bytes'
+    → IsRequest line name bytes → IsRequest other name bytes' → IsAccepted (row_of name).1 bytes → IsAccepted (row_of name).1 bytes'
+    → text ≡ text' → (row_of name).1.idle bytes bytes'
 answers_apart name all line other bytes bytes' text text' h k asked asked' ok ok' e =
-    told_apart (subject_of name) (laws_of name) (shows_all name all) bytes bytes' (request_typed line name bytes asked) (request_typed other name bytes' asked') ok ok'
+    told_apart (row_of name).1 (laws_of name) (shows_all name all) bytes bytes' (request_typed line name bytes asked) (request_typed other name bytes' asked') ok ok'
     (sym (told_is line name bytes text h asked) ∙ e ∙ told_is other name bytes' text' k asked')
 
 -- dumps over the same items have one answer

@@ -8,7 +8,7 @@ ghost use Rattle.netlink_core.specs.Seen.{envelope_of};
 ghost use Rattle.netlink_packet_sock_diag.specs.Dump.{AreSplit, in_a_row};
 ghost use Rattle.netlink_packet_sock_diag.specs.Message.{MessageFits, message_bytes};
 ghost use Rattle.netlink_packet_sock_diag.specs.SeenMessage.{seen_message};
-ghost use Rattle.sockdiag.specs.Answer.{IsAnswer, IsAnswerOf, IsRequest, subject_of, word_of};
+ghost use Rattle.sockdiag.specs.Answer.{IsAnswer, IsAnswerOf, IsRequest, row_of};
 ghost use Rattle.sockdiag.specs.AskedSteps.{IsAnswerTo, IsReadAs};
 ghost use Rattle.sockdiag.specs.DumpLine.{HaveSameItems, IsDumpRequest};
 ghost use Rattle.sockdiag.specs.EnvelopeLine.{shown_envelope, word};
@@ -76,13 +76,13 @@ pub fn answer(alloc: Global, line: &[u8]) -> Result<Vec<u8>, AllocError>
     // details alone. Only `unixview` shows less than that.
     ensures same { IfOk result (λ text. (name : Name) → name ≢ UnixView → (other bytes bytes' text' : List ℕ)
         → IsRequest line.now name bytes → IsRequest other name bytes'
-        → IsAccepted (subject_of name) bytes → IsAccepted (subject_of name) bytes'
-        → IsAnswerOf other text' → ((text.items ≡ text') ↔ (subject_of name).idle bytes bytes')) }
+        → IsAccepted (row_of name).1 bytes → IsAccepted (row_of name).1 bytes'
+        → IsAnswerOf other text' → ((text.items ≡ text') ↔ (row_of name).1.idle bytes bytes')) }
     // Two fields of any name that differ in idle details alone have one answer.
     ensures alike { IfOk result (λ text. (name : Name) (other bytes bytes' text' : List ℕ)
         → IsRequest line.now name bytes → IsRequest other name bytes'
-        → IsAccepted (subject_of name) bytes → IsAccepted (subject_of name) bytes'
-        → IsAnswerOf other text' → (subject_of name).idle bytes bytes' → text.items ≡ text') }
+        → IsAccepted (row_of name).1 bytes → IsAccepted (row_of name).1 bytes'
+        → IsAnswerOf other text' → (row_of name).1.idle bytes bytes' → text.items ≡ text') }
     // Two dumps whose datagrams have the same items in a row have one answer.
     ensures dumps { IfOk result (λ text. (other text' : List ℕ) (datagrams datagrams' : List (List ℕ))
         → IsDumpRequest line.now datagrams → IsDumpRequest other datagrams'
@@ -285,7 +285,7 @@ fn push_word(text: &mut Vec<u8>, number: u32) -> Result<(), AllocError>
 
 /// The name that a word is.
 fn find_name(word: &[u8]) -> Option<Name>
-    ensures { MatchOption result ((name : Name) → word.now ≢ word_of name) (λ name. word.now ≡ word_of name) }
+    ensures { MatchOption result ((name : Name) → word.now ≢ (row_of name).0) (λ name. word.now ≡ (row_of name).0) }
 {
     match word {
         b"unixreq" => Some(Name::UnixRequest),
