@@ -9,9 +9,9 @@ use Rattle.std.proofs.lemmas.List.Concat.{flat_map-append}
 use Rattle.std.proofs.Math.Seq.{drop-cons, take-append-add}
 use Rattle.memchr.specs.Find.{IsFirstByte, is_byte}
 use Rattle.sockdiag.specs.Answer.{IsAnswerOf}
-use Rattle.sockdiag.specs.Lines.{IsLine, Splits, fed, with_rest}
+use Rattle.sockdiag.specs.Lines.{Splits, with_rest}
 use Rattle.sockdiag.specs.Run.{CaughtUp, Answers, IsBeginning, answer_lines}
-use Rattle.sockdiag.specs.RunSteps.{AnswersPiece, Writes}
+use Rattle.sockdiag.specs.RunSteps.{AnswersPiece, IsLine, Writes, fed}
 use Rattle.sockdiag.proofs.LinesLemmas.{Splits-append, Splits-feed, Splits-line, Splits-one_way, Splits-rest, split_of}
 use Rattle.sockdiag.specs.declared.stream.RunError.{RunError}
 use Rattle.sockdiag.specs.declared.stream.RunError.TheVariants.{Read, Write, Memory}

@@ -1,14 +1,14 @@
 -- What a run has read and written when it ends. `answer` is the function that gives each line its answer.
-use Rattle.std.specs.Prelude.{◌≡◌, ℕ, List, ◌++◌, take, Option, Result, Ok, Err, ⊤}
+use Rattle.std.specs.Prelude.{◌≡◌, ℕ, List, [], ◌∷◌, ◌++◌, take, Option, Result, Ok, Err, ⊤}
 use Rattle.std.specs.List.{flat_map}
 use Rattle.std.specs.Io.KnownBytes.{Appends, Consumes}
-use Rattle.sockdiag.specs.Lines.{Splits, fed, with_rest}
+use Rattle.sockdiag.specs.Lines.{Splits, with_rest}
 use Rattle.sockdiag.specs.declared.stream.RunError.{RunError}
 use Rattle.sockdiag.specs.declared.stream.RunError.TheVariants.{Read, Write, Memory}
 
 -- the answer lines of some lines, in order
 abbrev pub answer_lines : (List ℕ → List ℕ) → List (List ℕ) → List ℕ
-answer_lines answer lines = flat_map (λ line. fed (answer line)) lines
+answer_lines answer lines = flat_map (λ line. answer line ++ 10 ∷ []) lines
 
 -- front is a beginning of the text
 abbrev pub IsBeginning : List ℕ → List ℕ → Type 0

@@ -3,9 +3,9 @@ ghost use Rattle.std.specs.Prelude.{◌≡◌, ◌≤◌, ◌⊎◌, ◌-◌, �
 ghost use Rattle.std.specs.Io.KnownBytes.{Appends, IsAtEnd};
 ghost use Rattle.sockdiag.specs.Answer.{IsAnswerOf};
 ghost use Rattle.sockdiag.specs.AskedSteps.{IsReadAs};
-ghost use Rattle.sockdiag.specs.Lines.{IsLine, Splits, fed, with_rest};
+ghost use Rattle.sockdiag.specs.Lines.{Splits, with_rest};
 ghost use Rattle.sockdiag.specs.Run.{Answers, HasCause, answer_lines};
-ghost use Rattle.sockdiag.specs.RunSteps.{AnswersPiece, Writes};
+ghost use Rattle.sockdiag.specs.RunSteps.{AnswersPiece, IsLine, Writes, fed};
 ghost use Rattle.sockdiag.specs.declared.stream.RunError.TheVariants.{Memory};
 
 use crate::answers::{Asked, push_told, read_request};

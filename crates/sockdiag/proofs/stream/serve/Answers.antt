@@ -2,8 +2,14 @@ use Rattle.std.proofs.Common.{Err, subst}
 use Rattle.sockdiag.specs.RunSteps.{Writes}
 use Rattle.std.proofs.KnownBytes.{Keeps-refl}
 use Rattle.std.proofs.lemmas.Result.{err_from_is_err_and}
+use Rattle.sockdiag.proofs.LinesLemmas.{Splits-unended}
 use Rattle.sockdiag.proofs.RunLemmas.{CaughtUp-piece, run_failed, run_finished, run_without_memory}
 use Rattle.sockdiag.proofs.stream.serve.Goals as goal
+
+pub take_piece-requires : goal.take_piece-requires
+take_piece-requires g c =
+    let up = c.reads.invariant.0 in
+    (Splits-unended up.text up.whole c.reads.kept.line.items up.splits, c.requires.right)
 
 pub returns-then-count-eq0-clause-answered : goal.returns-then-count-eq0-clause-answered
 returns-then-count-eq0-clause-answered g c =
