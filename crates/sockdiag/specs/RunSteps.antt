@@ -3,7 +3,7 @@ use Rattle.std.specs.Prelude.{◌≡◌, ◌≢◌, ℕ, List, [], ◌∷◌, �
 use Rattle.std.specs.List.{All}
 use Rattle.std.specs.Io.KnownBytes.{Appends, Keeps}
 use Rattle.sockdiag.specs.Lines.{Splits}
-use Rattle.sockdiag.specs.Run.{IsBeginning, answer_lines}
+use Rattle.sockdiag.specs.Run.{answer_lines}
 use Rattle.sockdiag.specs.declared.stream.RunError.{RunError}
 use Rattle.sockdiag.specs.declared.stream.RunError.TheVariants.{Read, Write, Memory}
 
@@ -14,6 +14,10 @@ IsLine line = All (λ b. b ≢ 10) line
 -- the text and a line feed
 abbrev pub fed : List ℕ → List ℕ
 fed text = text ++ 10 ∷ []
+
+-- front is a beginning of the text
+abbrev pub IsBeginning : List ℕ → List ℕ → Type 0
+IsBeginning front text = (more : List ℕ) × (text ≡ front ++ more)
 
 -- the text was written, or a beginning of it where a write failed, or nothing where memory ran out
 abbrev pub Writes : Option (List ℕ) → Option (List ℕ) → List ℕ → Result Unit RunError → Type 0
