@@ -13,12 +13,12 @@ use Rattle.hex.proofs.HexLemmas.{decode_of-ok}
 use Rattle.hex.specs.declared.error.FromHexError.{FromHexError}
 use Rattle.netlink_core.specs.Bytes.{IsBytes}
 use Rattle.netlink_packet_sock_diag.specs.Dump.{AreSplit, in_a_row}
-use Rattle.sockdiag.specs.Answer.{IsAnswer, IsAnswerOf, IsNoRequest, IsRequest, row_of}
-use Rattle.sockdiag.specs.AskedSteps.{IsAnswerTo, IsReadAs}
+use Rattle.sockdiag.specs.Answer.{IsAnswerOf, IsRequest, row_of}
+use Rattle.sockdiag.specs.AskedSteps.{IsAnswerTo, IsNoRequest, IsReadAs}
 use Rattle.sockdiag.specs.DumpLine.{HaveSameItems, IsDumpOf, IsDumpRequest, IsWritable, TellsDump, shown_dump}
 use Rattle.sockdiag.specs.HexField.{IsHexField}
 use Rattle.sockdiag.specs.ReadDumpSteps.{told_dump}
-use Rattle.sockdiag.specs.Told.{IsAccepted}
+use Rattle.sockdiag.specs.Told.{IsAccepted, TellsOf}
 use Rattle.sockdiag.specs.declared.answers.Asked.{Asked}
 use Rattle.sockdiag.specs.declared.answers.Asked.TheVariants.{Field, Dump, Nothing}
 use Rattle.sockdiag.specs.declared.answers.Name.{Name}
@@ -236,9 +236,9 @@ asking-spelled word text first behind =
 
 asking-named : (line : List ℕ) (name : Name) (bytes : List ℕ) → IsRequest line name bytes → asking line ≡ named name bytes
 asking-named line name bytes h =
-    ap asking h.spelled ∙ asking-spelled (row_of name).0 h.field (word_place name h.field) (word_left name h.field)
-    ∙ ap (λ b. asking_by b (row_of name).0 h.field) (name_is_no_dump name)
-    ∙ ap₂ asking_name (name_of-word name) (field_bytes-Some h.field bytes h.stands_for)
+    ap asking h.1 ∙ asking-spelled (row_of name).0 h.0 (word_place name h.0) (word_left name h.0)
+    ∙ ap (λ b. asking_by b (row_of name).0 h.0) (name_is_no_dump name)
+    ∙ ap₂ asking_name (name_of-word name) (field_bytes-Some h.0 bytes h.2)
 
 asking-dumped : (line : List ℕ) (datagrams : List (List ℕ)) → IsDumpRequest line datagrams → asking line ≡ dumped datagrams
 asking-dumped line datagrams h =
@@ -290,11 +290,11 @@ kind_of line = by_place (position is_space line) refl
     by_name i place other (Some name) n (Some bytes) r e = inl (
       name,
       bytes,
-      record {
-        field = drop (i + 1) line;
-        spelled = at_space line i place ∙ ap (λ word. word ++ 32 ∷ drop (i + 1) line) (name_of-spelled (take i line) name n);
-        stands_for = IsHexField-from_bytes (drop (i + 1) line) bytes r;
-      },
+      (
+        drop (i + 1) line,
+        at_space line i place ∙ ap (λ word. word ++ 32 ∷ drop (i + 1) line) (name_of-spelled (take i line) name n),
+        IsHexField-from_bytes (drop (i + 1) line) bytes r,
+      ),
     )
 
     by_fields : (i : ℕ) → position is_space line ≡ Some i → bytes_eq (take i line) (codes "dump") ≡ true
@@ -324,13 +324,13 @@ kind_of line = by_place (position is_space line) refl
 -- ---- what answers a line
 
 -- what answers the name and bytes of a line answers the line
-asked_answer : (line : List ℕ) (name : Name) (bytes text : List ℕ) → IsRequest line name bytes → IsAnswer name bytes text → IsAnswerOf line text
+asked_answer : (line : List ℕ) (name : Name) (bytes text : List ℕ) → IsRequest line name bytes → TellsOf (row_of name).1 bytes text → IsAnswerOf line text
 asked_answer line name bytes text asked tells = record {
   asked = λ other bytes' also.
       let same = one_request line name other bytes bytes' asked also in
-      subst (λ (n : Name). IsAnswer n bytes' text) same.0 (subst (λ (b : List ℕ). IsAnswer name b text) same.1 tells);
+      subst (λ (n : Name). TellsOf (row_of n).1 bytes' text) same.0 (subst (λ (b : List ℕ). TellsOf (row_of name).1 b text) same.1 tells);
   dumped = λ datagrams dump. absurd (request_is_no_dump line name bytes datagrams asked dump);
-  other = λ none. absurd (none.unnamed name bytes asked);
+  other = λ unnamed undumped. absurd (unnamed name bytes asked);
 }
 
 -- what tells of its datagrams does
@@ -338,7 +338,7 @@ dump_answer : (line : List ℕ) (datagrams : List (List ℕ)) (text : List ℕ) 
 dump_answer line datagrams text dump tells = record {
   asked = λ name bytes asked. absurd (request_is_no_dump line name bytes datagrams asked dump);
   dumped = λ others also. subst (λ (d : List (List ℕ)). TellsDump d text) (one_dump_request line datagrams others dump also) tells;
-  other = λ none. absurd (none.undumped datagrams dump);
+  other = λ unnamed undumped. absurd (undumped datagrams dump);
 }
 
 -- and `bad line` answers one of another form
@@ -346,11 +346,11 @@ bad_answer : (line text : List ℕ) → IsNoRequest line → text ≡ codes "bad
 bad_answer line text none e = record {
   asked = λ name bytes asked. absurd (none.unnamed name bytes asked);
   dumped = λ datagrams dump. absurd (none.undumped datagrams dump);
-  other = λ _. e;
+  other = λ unnamed undumped. e;
 }
 
 request_typed : (line : List ℕ) (name : Name) (bytes : List ℕ) → IsRequest line name bytes → IsBytes bytes
-request_typed line name bytes asked = IsBytes-field asked.field bytes asked.stands_for
+request_typed line name bytes asked = IsBytes-field asked.0 bytes asked.2
 
 datagrams_typed : (line : List ℕ) (datagrams : List (List ℕ)) → IsDumpRequest line datagrams → AllByRecursion IsBytes datagrams
 datagrams_typed line datagrams dump = fields_typed (slice_split is_space dump.fields) datagrams dump.stand_for
@@ -377,7 +377,7 @@ one_answer line a b h k = by_kind (kind_of line)
     by_kind : Kind line → a ≡ b
     by_kind (inl (name, bytes, asked)) = one_text (row_of name).1 (laws_of name) bytes a b (request_typed line name bytes asked) (h.asked name bytes asked) (k.asked name bytes asked)
     by_kind (inr (inl (datagrams, dump))) = one_dump_text datagrams (datagrams_typed line datagrams dump) a b (h.dumped datagrams dump) (k.dumped datagrams dump)
-    by_kind (inr (inr none)) = h.other none ∙ sym (k.other none)
+    by_kind (inr (inr none)) = h.other none.unnamed none.undumped ∙ sym (k.other none.unnamed none.undumped)
 
 -- the answer, as a function of the line
 pub answer_of : List ℕ → List ℕ
@@ -396,11 +396,11 @@ one_function f h = λ i line. one_answer line (answer_of line) (f line) (answer_
 -- a name before the first space, and a hex field behind it
 pub request_at : (line : List ℕ) (i : ℕ) (name : Name) (bytes : List ℕ) → Some i ≡ position is_space line → take i line ≡ (row_of name).0
     → IsHexField (drop (i + 1) line) bytes → IsRequest line name bytes
-request_at line i name bytes place word field = record {
-  field = drop (i + 1) line;
-  spelled = at_space line i (sym place) ∙ ap (λ w. w ++ 32 ∷ drop (i + 1) line) word;
-  stands_for = field;
-}
+request_at line i name bytes place word field = (
+  drop (i + 1) line,
+  at_space line i (sym place) ∙ ap (λ w. w ++ 32 ∷ drop (i + 1) line) word,
+  field,
+)
 
 -- what answers that which a line was read as answers the line
 pub read_answer : (line : List ℕ) (asked : Asked) (bytes text : List ℕ) → IsReadAs line asked bytes → IsAnswerTo asked bytes text → IsAnswerOf line text

@@ -10,7 +10,7 @@ use Rattle.sock_diag_attributes.specs.UnixAttributes.{unix}
 use Rattle.sock_diag_records.specs.declared.unix.response.UnixResponseHeader.{UnixResponseHeader}
 use Rattle.netlink_packet_sock_diag.specs.UnixGetters.{first_number, first_of, listening_queue_of, other_queue_of, second_number}
 use Rattle.netlink_packet_sock_diag.specs.UnixReply.{UnixReply}
-use Rattle.sockdiag.specs.Told.{accepted}
+use Rattle.sockdiag.specs.TextSteps.{accepted}
 use Rattle.sockdiag.specs.ViewLine.{comma_list, name_word, or_none, shown_reply}
 
 -- ---- numbers with commas between

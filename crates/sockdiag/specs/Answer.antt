@@ -28,22 +28,13 @@ row_of NetlinkMessage = (codes "netlink", envelope_subject)
 row_of UnixView = (codes "unixview", view_subject)
 
 -- the line is a name, one space and a hex field of these bytes
-pub record IsRequest (line : List ℕ) (name : Name) (bytes : List ℕ) : Type 0 where
-  pub field : List ℕ
-  pub spelled : line ≡ (row_of name).0 ++ 32 ∷ field
-  pub stands_for : IsHexField field bytes
+abbrev pub IsRequest : List ℕ → Name → List ℕ → Type 0
+IsRequest line name b = (hex : List ℕ) × (line ≡ (row_of name).0 ++ 32 ∷ hex) × IsHexField hex b
 
--- the text answers the bytes of a name
-abbrev pub IsAnswer : Name → List ℕ → List ℕ → Type 0
-IsAnswer name bytes text = TellsOf (row_of name).1 bytes text
-
--- the line is of another form: no name with a hex field, and no dump
-pub record IsNoRequest (line : List ℕ) : Type 0 where
-  pub unnamed : (name : Name) (bytes : List ℕ) → ¬ IsRequest line name bytes
-  pub undumped : (datagrams : List (List ℕ)) → ¬ IsDumpRequest line datagrams
-
--- the text answers the line: the bytes of its name, or its dump, and `bad line` where it is of another form
+-- The text answers the line: it tells of the bytes of its name, or of its dump, and is `bad line`
+-- where the line is no name with a hex field, and no dump.
 pub record IsAnswerOf (line text : List ℕ) : Type 0 where
-  pub asked : (name : Name) (bytes : List ℕ) → IsRequest line name bytes → IsAnswer name bytes text
+  pub asked : (name : Name) (b : List ℕ) → IsRequest line name b → TellsOf (row_of name).1 b text
   pub dumped : (datagrams : List (List ℕ)) → IsDumpRequest line datagrams → TellsDump datagrams text
-  pub other : IsNoRequest line → text ≡ codes "bad line"
+  pub other : ((name : Name) (b : List ℕ) → ¬ IsRequest line name b)
+      → ((datagrams : List (List ℕ)) → ¬ IsDumpRequest line datagrams) → text ≡ codes "bad line"

@@ -8,14 +8,14 @@ ghost use Rattle.netlink_core.specs.Seen.{envelope_of};
 ghost use Rattle.netlink_packet_sock_diag.specs.Dump.{AreSplit, in_a_row};
 ghost use Rattle.netlink_packet_sock_diag.specs.Message.{MessageFits, message_bytes};
 ghost use Rattle.netlink_packet_sock_diag.specs.SeenMessage.{seen_message};
-ghost use Rattle.sockdiag.specs.Answer.{IsAnswer, IsAnswerOf, IsRequest, row_of};
+ghost use Rattle.sockdiag.specs.Answer.{IsAnswerOf, IsRequest, row_of};
 ghost use Rattle.sockdiag.specs.AskedSteps.{IsAnswerTo, IsReadAs};
 ghost use Rattle.sockdiag.specs.DumpLine.{HaveSameItems, IsDumpRequest};
 ghost use Rattle.sockdiag.specs.EnvelopeLine.{shown_envelope, word};
 ghost use Rattle.sockdiag.specs.HexField.{field_of};
 ghost use Rattle.sockdiag.specs.Subjects.{envelope_subject};
-ghost use Rattle.sockdiag.specs.Told.{IsAccepted, Tells, TellsOf, accepted};
-ghost use Rattle.sockdiag.specs.TextSteps.{Adds};
+ghost use Rattle.sockdiag.specs.Told.{IsAccepted, Tells, TellsOf};
+ghost use Rattle.sockdiag.specs.TextSteps.{Adds, accepted};
 
 use crate::dump_line::{ReadDump, push_dump, read_dump};
 use crate::fields::{find_space, read_field};
@@ -170,7 +170,7 @@ pub(crate) fn push_told(
 
 /// Adds the answer to a name and the bytes of its field.
 fn push_named(alloc: Global, text: &mut Vec<u8>, name: Name, bytes: &[u8]) -> Result<(), AllocError>
-    ensures { OnOk result (Adds text.old.items text.new.items (IsAnswer name bytes.now)) }
+    ensures { OnOk result (Adds text.old.items text.new.items (TellsOf (row_of name).1 bytes.now)) }
 {
     match name {
         Name::UnixRequest => push_canonical::<UnixRequest>(alloc, text, bytes, ()),

@@ -6,7 +6,7 @@ ghost use Rattle.netlink_core.specs.declared.fault.DecodeError.TheVariants.{Memo
 ghost use Rattle.sock_diag_attributes.specs.SeenName.{viewed_name};
 ghost use Rattle.sock_diag_attributes.specs.SeenNumbers.{viewed_numbers};
 ghost use Rattle.sockdiag.specs.HexField.{field_of};
-ghost use Rattle.sockdiag.specs.Told.{accepted, refused};
+ghost use Rattle.sockdiag.specs.TextSteps.{accepted, refused};
 ghost use Rattle.sockdiag.specs.ViewLine.{comma_list, name_word, or_none};
 
 use netlink_core::DecodeError;
