@@ -12,12 +12,15 @@ use Rattle.hex.specs.Hex.{decode_of}
 use Rattle.hex.proofs.HexLemmas.{decode_of-ok}
 use Rattle.hex.specs.declared.error.FromHexError.{FromHexError}
 use Rattle.netlink_core.specs.Bytes.{IsBytes}
+use Rattle.netlink_core.specs.Envelope.{Payload}
+use Rattle.netlink_core.specs.declared.fault.DecodeError.{DecodeError}
 use Rattle.netlink_packet_sock_diag.specs.Dump.{AreSplit, in_a_row}
+use Rattle.netlink_packet_sock_diag.specs.Message.{Message as MessageValue}
 use Rattle.sockdiag.specs.Answer.{IsAnswerOf, IsRequest, row_of}
 use Rattle.sockdiag.specs.AskedSteps.{IsAnswerTo, IsNoRequest, IsReadAs}
-use Rattle.sockdiag.specs.DumpLine.{HaveSameItems, IsDumpOf, IsDumpRequest, IsWritable, TellsDump, shown_dump}
+use Rattle.sockdiag.specs.DumpLine.{HaveItems, IsDumpRequest, TellsDump, shown_dump}
 use Rattle.sockdiag.specs.HexField.{IsHexField}
-use Rattle.sockdiag.specs.ReadDumpSteps.{told_dump}
+use Rattle.sockdiag.specs.ReadDumpSteps.{IsDumpOf, IsWritable, told_dump}
 use Rattle.sockdiag.specs.Told.{IsAccepted, TellsOf}
 use Rattle.sockdiag.specs.declared.answers.Asked.{Asked}
 use Rattle.sockdiag.specs.declared.answers.Asked.TheVariants.{Field, Dump, Nothing}
@@ -434,11 +437,12 @@ answers_apart name all line other bytes bytes' text text' h k asked asked' ok ok
     (sym (told_is line name bytes text h asked) ∙ e ∙ told_is other name bytes' text' k asked')
 
 -- dumps over the same items have one answer
-pub dumps_alike : (line other text text' : List ℕ) (datagrams datagrams' : List (List ℕ)) → IsAnswerOf line text → IsAnswerOf other text'
-    → IsDumpRequest line datagrams → IsDumpRequest other datagrams' → HaveSameItems datagrams datagrams' → text ≡ text'
-dumps_alike line other text text' datagrams datagrams' h k dump dump' same =
+pub dumps_alike : (line other text text' : List ℕ) (datagrams datagrams' : List (List ℕ)) (row : List (Result (Payload MessageValue) DecodeError))
+    → IsAnswerOf line text → IsAnswerOf other text' → IsDumpRequest line datagrams → IsDumpRequest other datagrams'
+    → HaveItems datagrams row → HaveItems datagrams' row → text ≡ text'
+dumps_alike line other text text' datagrams datagrams' row h k dump dump' have have' =
     one_dump_text datagrams' (datagrams_typed other datagrams' dump') text text'
-    (tells_same_items datagrams datagrams' (datagrams_typed line datagrams dump) same text (h.dumped datagrams dump)) (k.dumped datagrams' dump')
+    (tells_same_items datagrams datagrams' row (datagrams_typed line datagrams dump) have have' text (h.dumped datagrams dump)) (k.dumped datagrams' dump')
 
 -- and dumps of the same bytes in whole messages
 pub dumps_split : (line other text text' : List ℕ) (datagrams datagrams' : List (List ℕ)) → IsAnswerOf line text → IsAnswerOf other text'

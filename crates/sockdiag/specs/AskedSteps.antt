@@ -1,8 +1,8 @@
 -- What a line is read as, and what answers that.
 use Rattle.std.specs.Prelude.{◌≡◌, ℕ, List, codes}
 use Rattle.sockdiag.specs.Answer.{IsRequest, row_of}
-use Rattle.sockdiag.specs.DumpLine.{IsDumpRequest, IsWritable, shown_dump}
-use Rattle.sockdiag.specs.ReadDumpSteps.{IsReadDump, told_dump}
+use Rattle.sockdiag.specs.DumpLine.{IsDumpRequest, shown_dump}
+use Rattle.sockdiag.specs.ReadDumpSteps.{IsReadDump, IsWritable, told_dump}
 use Rattle.sockdiag.specs.Told.{Tells, TellsOf}
 use Rattle.sockdiag.specs.declared.answers.Name.{Name}
 use Rattle.sockdiag.specs.declared.answers.Asked.{Asked}

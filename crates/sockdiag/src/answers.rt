@@ -2,15 +2,16 @@
 
 ghost use Rattle.sockdiag.specs.declared.answers.Name.{Name};
 ghost use Rattle.sockdiag.specs.declared.answers.Name.TheVariants.{UnixView};
-ghost use Rattle.std.specs.Prelude.{◌≡◌, ◌≢◌, ◌↔◌, ◌++◌, ◌∷◌, [], ℕ, List, codes, decimal, IfOk, OnOk, MatchOption};
-ghost use Rattle.netlink_core.specs.Envelope.{EnvelopeFits, inner as of_inner};
+ghost use Rattle.std.specs.Prelude.{◌≡◌, ◌≢◌, ◌↔◌, ◌++◌, ◌∷◌, [], ℕ, List, codes, decimal, Result, IfOk, OnOk, MatchOption};
+ghost use Rattle.netlink_core.specs.Envelope.{EnvelopeFits, Payload, inner as of_inner};
 ghost use Rattle.netlink_core.specs.Seen.{envelope_of};
+ghost use Rattle.netlink_core.specs.declared.fault.DecodeError.{DecodeError};
 ghost use Rattle.netlink_packet_sock_diag.specs.Dump.{AreSplit, in_a_row};
-ghost use Rattle.netlink_packet_sock_diag.specs.Message.{MessageFits, message_bytes};
+ghost use Rattle.netlink_packet_sock_diag.specs.Message.{Message, MessageFits, message_bytes};
 ghost use Rattle.netlink_packet_sock_diag.specs.SeenMessage.{seen_message};
 ghost use Rattle.sockdiag.specs.Answer.{IsAnswerOf, IsRequest, row_of};
 ghost use Rattle.sockdiag.specs.AskedSteps.{IsAnswerTo, IsReadAs};
-ghost use Rattle.sockdiag.specs.DumpLine.{HaveSameItems, IsDumpRequest};
+ghost use Rattle.sockdiag.specs.DumpLine.{HaveItems, IsDumpRequest};
 ghost use Rattle.sockdiag.specs.EnvelopeLine.{shown_envelope, word};
 ghost use Rattle.sockdiag.specs.HexField.{field_of};
 ghost use Rattle.sockdiag.specs.Subjects.{envelope_subject};
@@ -85,8 +86,10 @@ pub fn answer(alloc: Global, line: &[u8]) -> Result<Vec<u8>, AllocError>
         → IsAnswerOf other text' → (row_of name).1.idle bytes bytes' → text.items ≡ text') }
     // Two dumps whose datagrams have the same items in a row have one answer.
     ensures dumps { IfOk result (λ text. (other text' : List ℕ) (datagrams datagrams' : List (List ℕ))
+        (row : List (Result (Payload Message) DecodeError))
         → IsDumpRequest line.now datagrams → IsDumpRequest other datagrams'
-        → HaveSameItems datagrams datagrams' → IsAnswerOf other text' → text.items ≡ text') }
+        → HaveItems datagrams row → HaveItems datagrams' row
+        → IsAnswerOf other text' → text.items ≡ text') }
     // So have two dumps of the same bytes, of which each datagram but the last is whole messages.
     ensures split { IfOk result (λ text. (other text' : List ℕ) (datagrams datagrams' : List (List ℕ))
         → IsDumpRequest line.now datagrams → IsDumpRequest other datagrams'
