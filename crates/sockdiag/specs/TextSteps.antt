@@ -1,5 +1,5 @@
 -- How a text grows, and the words that it grows by.
-use Rattle.std.specs.Prelude.{◌≡◌, ℕ, List, ◌++◌, codes, decimal}
+use Rattle.std.specs.Prelude.{◌≡◌, ℕ, List, ◌∷◌, ◌++◌, codes, decimal}
 use Rattle.netlink_core.specs.Faults.{number_of}
 use Rattle.netlink_core.specs.declared.fault.DecodeError.{DecodeError}
 
@@ -18,3 +18,7 @@ unwritable = codes "unwritable"
 -- `refused` and the fault's number
 abbrev pub refused : DecodeError → List ℕ
 refused fault = codes "refused " ++ decimal (number_of fault)
+
+-- a number and a space, and what follows
+abbrev pub word : ℕ → List ℕ → List ℕ
+word n rest = decimal n ++ 32 ∷ rest

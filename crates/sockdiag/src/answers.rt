@@ -12,11 +12,11 @@ ghost use Rattle.netlink_packet_sock_diag.specs.SeenMessage.{seen_message};
 ghost use Rattle.sockdiag.specs.Answer.{IsAnswerOf, IsRequest, row_of};
 ghost use Rattle.sockdiag.specs.AskedSteps.{IsAnswerTo, IsReadAs};
 ghost use Rattle.sockdiag.specs.DumpLine.{HaveItems, IsDumpRequest};
-ghost use Rattle.sockdiag.specs.EnvelopeLine.{shown_envelope, word};
+ghost use Rattle.sockdiag.specs.EnvelopeLine.{shown_envelope};
 ghost use Rattle.sockdiag.specs.HexField.{field_of};
 ghost use Rattle.sockdiag.specs.Subjects.{envelope_subject};
 ghost use Rattle.sockdiag.specs.Told.{IsAccepted, Tells, TellsOf};
-ghost use Rattle.sockdiag.specs.TextSteps.{Adds, accepted};
+ghost use Rattle.sockdiag.specs.TextSteps.{Adds, accepted, word};
 
 use crate::dump_line::{ReadDump, push_dump, read_dump};
 use crate::fields::{find_space, read_field};
