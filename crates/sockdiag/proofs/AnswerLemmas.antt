@@ -245,8 +245,8 @@ asking-named line name bytes h =
 
 asking-dumped : (line : List ℕ) (datagrams : List (List ℕ)) → IsDumpRequest line datagrams → asking line ≡ dumped datagrams
 asking-dumped line datagrams h =
-    ap asking h.spelled ∙ asking-spelled (codes "dump") h.fields refl refl
-    ∙ ap asking_dump (all_bytes-Some (slice_split is_space h.fields) datagrams h.stand_for)
+    ap asking h.1 ∙ asking-spelled (codes "dump") h.0 refl refl
+    ∙ ap asking_dump (all_bytes-Some (slice_split is_space h.0) datagrams h.2)
 
 one_request : (line : List ℕ) (name other : Name) (bytes bytes' : List ℕ) → IsRequest line name bytes → IsRequest line other bytes' → (name ≡ other) × (bytes ≡ bytes')
 one_request line name other bytes bytes' h k = same (sym (asking-named line name bytes h) ∙ asking-named line other bytes' k)
@@ -305,11 +305,11 @@ kind_of line = by_place (position is_space line) refl
     by_fields i place word None r e = inr (inr (no_request line e))
     by_fields i place word (Some datagrams) r e = inr (inl (
       datagrams,
-      record {
-        fields = drop (i + 1) line;
-        spelled = at_space line i place ∙ ap (λ w. w ++ 32 ∷ drop (i + 1) line) ((bytes_eq-Decides (take i line) (codes "dump")).0 word);
-        stand_for = AreHexFields-from_bytes (slice_split is_space (drop (i + 1) line)) (Some datagrams) datagrams r refl;
-      },
+      (
+        drop (i + 1) line,
+        at_space line i place ∙ ap (λ w. w ++ 32 ∷ drop (i + 1) line) ((bytes_eq-Decides (take i line) (codes "dump")).0 word),
+        AreHexFields-from_bytes (slice_split is_space (drop (i + 1) line)) (Some datagrams) datagrams r refl,
+      ),
     ))
 
     by_word : (i : ℕ) → position is_space line ≡ Some i → (b : Bool) → bytes_eq (take i line) (codes "dump") ≡ b → Kind line
@@ -356,7 +356,7 @@ request_typed : (line : List ℕ) (name : Name) (bytes : List ℕ) → IsRequest
 request_typed line name bytes asked = IsBytes-field asked.0 bytes asked.2
 
 datagrams_typed : (line : List ℕ) (datagrams : List (List ℕ)) → IsDumpRequest line datagrams → AllByRecursion IsBytes datagrams
-datagrams_typed line datagrams dump = fields_typed (slice_split is_space dump.fields) datagrams dump.stand_for
+datagrams_typed line datagrams dump = fields_typed (slice_split is_space dump.0) datagrams dump.2
 
 -- each line has an answer
 has_answer : (line : List ℕ) → (text : List ℕ) × IsAnswerOf line text

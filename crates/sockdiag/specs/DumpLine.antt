@@ -13,10 +13,9 @@ use Rattle.sockdiag.specs.HexField.{IsHexField, field_of}
 use Rattle.sockdiag.specs.Told.{Tells}
 
 -- the line is `dump`, a space, and hex fields of these datagrams with one space, 32, between
-pub record IsDumpRequest (line : List ℕ) (datagrams : List (List ℕ)) : Type 0 where
-  pub fields : List ℕ
-  pub spelled : line ≡ codes "dump" ++ 32 ∷ fields
-  pub stand_for : AllZip IsHexField (slice_split (λ c. c == 32) fields) datagrams
+abbrev pub IsDumpRequest : List ℕ → List (List ℕ) → Type 0
+IsDumpRequest line datagrams = (fields : List ℕ) × (line ≡ codes "dump" ++ 32 ∷ fields)
+    × AllZip IsHexField (slice_split (λ c. c == 32) fields) datagrams
 
 -- the messages that a dump keeps, and how it ends
 pub record ToldDump : Type 0 where
