@@ -1,5 +1,5 @@
 -- What a run has written, from what its parts wrote.
-use Rattle.std.proofs.Common.{◌≡◌, ◌<◌, ◌≤◌, ◌+◌, ℕ, suc, List, [], ◌∷◌, ◌++◌, length, take, drop, get_or, slice_index, Option, None, Some, Result, Ok, Err, ◌==◌, true, false, refl, sym, ap, ◌∙◌, subst, append_assoc, append-nil, take-append-drop, take_all, le_refl, add-one, arith}
+use Rattle.std.proofs.Common.{◌≡◌, ◌<◌, ◌≤◌, ◌+◌, ℕ, suc, List, [], ◌∷◌, ◌++◌, length, take, drop, get_or, slice_index, Option, None, Some, Result, Ok, Err, ◌==◌, true, false, sym, ap, ◌∙◌, subst, append_assoc, append-nil, take-append-drop, take_all, le_refl, add-one, arith}
 use Rattle.std.specs.Prelude.{IfErr, IfSome, IsOk, OnOk}
 use Rattle.std.specs.Io.KnownBytes.{Appends, Consumes, IsAtEnd, Keeps}
 use Rattle.std.proofs.KnownBytes.{Appends-kept, Appends-trans, Consumes-kept, Consumes-trans}
