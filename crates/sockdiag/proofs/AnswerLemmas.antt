@@ -12,13 +12,16 @@ use Rattle.hex.specs.Hex.{decode_of}
 use Rattle.hex.proofs.HexLemmas.{decode_of-ok}
 use Rattle.hex.specs.declared.error.FromHexError.{FromHexError}
 use Rattle.netlink_core.specs.Bytes.{IsBytes}
+use Rattle.netlink_core.specs.Envelope.{Payload}
+use Rattle.netlink_core.specs.declared.fault.DecodeError.{DecodeError}
 use Rattle.netlink_packet_sock_diag.specs.Dump.{AreSplit, in_a_row}
-use Rattle.sockdiag.specs.Answer.{IsAnswer, IsAnswerOf, IsNoRequest, IsRequest, subject_of, word_of}
-use Rattle.sockdiag.specs.AskedSteps.{IsAnswerTo, IsReadAs}
-use Rattle.sockdiag.specs.DumpLine.{HaveSameItems, IsDumpOf, IsDumpRequest, IsWritable, TellsDump, shown_dump}
+use Rattle.netlink_packet_sock_diag.specs.Message.{Message as MessageValue}
+use Rattle.sockdiag.specs.Answer.{IsAnswerOf, IsRequest, row_of}
+use Rattle.sockdiag.specs.AskedSteps.{IsAnswerTo, IsNoRequest, IsReadAs}
+use Rattle.sockdiag.specs.DumpLine.{HaveItems, IsDumpRequest, TellsDump, shown_dump}
 use Rattle.sockdiag.specs.HexField.{IsHexField}
-use Rattle.sockdiag.specs.ReadDumpSteps.{told_dump}
-use Rattle.sockdiag.specs.Told.{IsAccepted}
+use Rattle.sockdiag.specs.ReadDumpSteps.{IsDumpOf, IsWritable, told_dump}
+use Rattle.sockdiag.specs.Told.{IsAccepted, TellsOf}
 use Rattle.sockdiag.specs.declared.answers.Asked.{Asked}
 use Rattle.sockdiag.specs.declared.answers.Asked.TheVariants.{Field, Dump, Nothing}
 use Rattle.sockdiag.specs.declared.answers.Name.{Name}
@@ -46,7 +49,7 @@ names = UnixRequest ∷ UnixResponse ∷ InetRequest ∷ InetResponse ∷ Socket
 
 -- the name that a word is
 abbrev pub name_of : List ℕ → Option Name
-name_of word = find (λ name. bytes_eq word (word_of name)) names
+name_of word = find (λ name. bytes_eq word (row_of name).0) names
 
 -- the bytes that a field stands for, where there are such
 abbrev pub field_bytes : List ℕ → Option (List ℕ)
@@ -129,7 +132,7 @@ no_field field bytes h (inr digits) =
 
 -- ---- names
 
-name_of-word : (name : Name) → name_of (word_of name) ≡ Some name
+name_of-word : (name : Name) → name_of (row_of name).0 ≡ Some name
 name_of-word UnixRequest = refl
 name_of-word UnixResponse = refl
 name_of-word InetRequest = refl
@@ -152,11 +155,11 @@ find-passes p (y ∷ xs) x h =
     some_same : (a b : Name) → Some b ≡ Some a → b ≡ a
     some_same a b e = cc
 
-word_of-name : (word : List ℕ) (name : Name) → name_of word ≡ Some name → word ≡ word_of name
-word_of-name word name h = (bytes_eq-Decides word (word_of name)).0 (find-passes (λ n. bytes_eq word (word_of n)) names name h)
+name_of-spelled : (word : List ℕ) (name : Name) → name_of word ≡ Some name → word ≡ (row_of name).0
+name_of-spelled word name h = (bytes_eq-Decides word (row_of name).0).0 (find-passes (λ n. bytes_eq word (row_of n).0) names name h)
 
 -- the first space of a line stands behind its name
-word_place : (name : Name) (field : List ℕ) → position_or_len is_space (word_of name ++ 32 ∷ field) ≡ length (word_of name)
+word_place : (name : Name) (field : List ℕ) → position_or_len is_space ((row_of name).0 ++ 32 ∷ field) ≡ length (row_of name).0
 word_place UnixRequest field = refl
 word_place UnixResponse field = refl
 word_place InetRequest field = refl
@@ -167,7 +170,7 @@ word_place Message field = refl
 word_place NetlinkMessage field = refl
 word_place UnixView field = refl
 
-word_left : (name : Name) (field : List ℕ) → drop (length (word_of name) + 1) (word_of name ++ 32 ∷ field) ≡ field
+word_left : (name : Name) (field : List ℕ) → drop (length (row_of name).0 + 1) ((row_of name).0 ++ 32 ∷ field) ≡ field
 word_left UnixRequest field = refl
 word_left UnixResponse field = refl
 word_left InetRequest field = refl
@@ -179,7 +182,7 @@ word_left NetlinkMessage field = refl
 word_left UnixView field = refl
 
 -- no name is `dump`
-name_is_no_dump : (name : Name) → bytes_eq (word_of name) (codes "dump") ≡ false
+name_is_no_dump : (name : Name) → bytes_eq (row_of name).0 (codes "dump") ≡ false
 name_is_no_dump UnixRequest = refl
 name_is_no_dump UnixResponse = refl
 name_is_no_dump InetRequest = refl
@@ -236,14 +239,14 @@ asking-spelled word text first behind =
 
 asking-named : (line : List ℕ) (name : Name) (bytes : List ℕ) → IsRequest line name bytes → asking line ≡ named name bytes
 asking-named line name bytes h =
-    ap asking h.spelled ∙ asking-spelled (word_of name) h.field (word_place name h.field) (word_left name h.field)
-    ∙ ap (λ b. asking_by b (word_of name) h.field) (name_is_no_dump name)
-    ∙ ap₂ asking_name (name_of-word name) (field_bytes-Some h.field bytes h.stands_for)
+    ap asking h.1 ∙ asking-spelled (row_of name).0 h.0 (word_place name h.0) (word_left name h.0)
+    ∙ ap (λ b. asking_by b (row_of name).0 h.0) (name_is_no_dump name)
+    ∙ ap₂ asking_name (name_of-word name) (field_bytes-Some h.0 bytes h.2)
 
 asking-dumped : (line : List ℕ) (datagrams : List (List ℕ)) → IsDumpRequest line datagrams → asking line ≡ dumped datagrams
 asking-dumped line datagrams h =
-    ap asking h.spelled ∙ asking-spelled (codes "dump") h.fields refl refl
-    ∙ ap asking_dump (all_bytes-Some (slice_split is_space h.fields) datagrams h.stand_for)
+    ap asking h.1 ∙ asking-spelled (codes "dump") h.0 refl refl
+    ∙ ap asking_dump (all_bytes-Some (slice_split is_space h.0) datagrams h.2)
 
 one_request : (line : List ℕ) (name other : Name) (bytes bytes' : List ℕ) → IsRequest line name bytes → IsRequest line other bytes' → (name ≡ other) × (bytes ≡ bytes')
 one_request line name other bytes bytes' h k = same (sym (asking-named line name bytes h) ∙ asking-named line other bytes' k)
@@ -290,11 +293,11 @@ kind_of line = by_place (position is_space line) refl
     by_name i place other (Some name) n (Some bytes) r e = inl (
       name,
       bytes,
-      record {
-        field = drop (i + 1) line;
-        spelled = at_space line i place ∙ ap (λ word. word ++ 32 ∷ drop (i + 1) line) (word_of-name (take i line) name n);
-        stands_for = IsHexField-from_bytes (drop (i + 1) line) bytes r;
-      },
+      (
+        drop (i + 1) line,
+        at_space line i place ∙ ap (λ word. word ++ 32 ∷ drop (i + 1) line) (name_of-spelled (take i line) name n),
+        IsHexField-from_bytes (drop (i + 1) line) bytes r,
+      ),
     )
 
     by_fields : (i : ℕ) → position is_space line ≡ Some i → bytes_eq (take i line) (codes "dump") ≡ true
@@ -302,11 +305,11 @@ kind_of line = by_place (position is_space line) refl
     by_fields i place word None r e = inr (inr (no_request line e))
     by_fields i place word (Some datagrams) r e = inr (inl (
       datagrams,
-      record {
-        fields = drop (i + 1) line;
-        spelled = at_space line i place ∙ ap (λ w. w ++ 32 ∷ drop (i + 1) line) ((bytes_eq-Decides (take i line) (codes "dump")).0 word);
-        stand_for = AreHexFields-from_bytes (slice_split is_space (drop (i + 1) line)) (Some datagrams) datagrams r refl;
-      },
+      (
+        drop (i + 1) line,
+        at_space line i place ∙ ap (λ w. w ++ 32 ∷ drop (i + 1) line) ((bytes_eq-Decides (take i line) (codes "dump")).0 word),
+        AreHexFields-from_bytes (slice_split is_space (drop (i + 1) line)) (Some datagrams) datagrams r refl,
+      ),
     ))
 
     by_word : (i : ℕ) → position is_space line ≡ Some i → (b : Bool) → bytes_eq (take i line) (codes "dump") ≡ b → Kind line
@@ -324,13 +327,13 @@ kind_of line = by_place (position is_space line) refl
 -- ---- what answers a line
 
 -- what answers the name and bytes of a line answers the line
-asked_answer : (line : List ℕ) (name : Name) (bytes text : List ℕ) → IsRequest line name bytes → IsAnswer name bytes text → IsAnswerOf line text
+asked_answer : (line : List ℕ) (name : Name) (bytes text : List ℕ) → IsRequest line name bytes → TellsOf (row_of name).1 bytes text → IsAnswerOf line text
 asked_answer line name bytes text asked tells = record {
   asked = λ other bytes' also.
       let same = one_request line name other bytes bytes' asked also in
-      subst (λ (n : Name). IsAnswer n bytes' text) same.0 (subst (λ (b : List ℕ). IsAnswer name b text) same.1 tells);
+      subst (λ (n : Name). TellsOf (row_of n).1 bytes' text) same.0 (subst (λ (b : List ℕ). TellsOf (row_of name).1 b text) same.1 tells);
   dumped = λ datagrams dump. absurd (request_is_no_dump line name bytes datagrams asked dump);
-  other = λ none. absurd (none.unnamed name bytes asked);
+  other = λ unnamed undumped. absurd (unnamed name bytes asked);
 }
 
 -- what tells of its datagrams does
@@ -338,7 +341,7 @@ dump_answer : (line : List ℕ) (datagrams : List (List ℕ)) (text : List ℕ) 
 dump_answer line datagrams text dump tells = record {
   asked = λ name bytes asked. absurd (request_is_no_dump line name bytes datagrams asked dump);
   dumped = λ others also. subst (λ (d : List (List ℕ)). TellsDump d text) (one_dump_request line datagrams others dump also) tells;
-  other = λ none. absurd (none.undumped datagrams dump);
+  other = λ unnamed undumped. absurd (undumped datagrams dump);
 }
 
 -- and `bad line` answers one of another form
@@ -346,14 +349,14 @@ bad_answer : (line text : List ℕ) → IsNoRequest line → text ≡ codes "bad
 bad_answer line text none e = record {
   asked = λ name bytes asked. absurd (none.unnamed name bytes asked);
   dumped = λ datagrams dump. absurd (none.undumped datagrams dump);
-  other = λ _. e;
+  other = λ unnamed undumped. e;
 }
 
 request_typed : (line : List ℕ) (name : Name) (bytes : List ℕ) → IsRequest line name bytes → IsBytes bytes
-request_typed line name bytes asked = IsBytes-field asked.field bytes asked.stands_for
+request_typed line name bytes asked = IsBytes-field asked.0 bytes asked.2
 
 datagrams_typed : (line : List ℕ) (datagrams : List (List ℕ)) → IsDumpRequest line datagrams → AllByRecursion IsBytes datagrams
-datagrams_typed line datagrams dump = fields_typed (slice_split is_space dump.fields) datagrams dump.stand_for
+datagrams_typed line datagrams dump = fields_typed (slice_split is_space dump.0) datagrams dump.2
 
 -- each line has an answer
 has_answer : (line : List ℕ) → (text : List ℕ) × IsAnswerOf line text
@@ -362,8 +365,8 @@ has_answer line = by_kind (kind_of line)
   where
     by_kind : Kind line → (text : List ℕ) × IsAnswerOf line text
     by_kind (inl (name, bytes, asked)) =
-        let text = told (subject_of name) (laws_of name) bytes in
-        (text, asked_answer line name bytes text asked (told-tells (subject_of name) (laws_of name) bytes (request_typed line name bytes asked)))
+        let text = told (row_of name).1 (laws_of name) bytes in
+        (text, asked_answer line name bytes text asked (told-tells (row_of name).1 (laws_of name) bytes (request_typed line name bytes asked)))
     by_kind (inr (inl (datagrams, dump))) =
         let text = has_dump_text datagrams (datagrams_typed line datagrams dump) in
         (text.0, dump_answer line datagrams text.0 dump text.1)
@@ -375,9 +378,9 @@ unfolding Kind
 one_answer line a b h k = by_kind (kind_of line)
   where
     by_kind : Kind line → a ≡ b
-    by_kind (inl (name, bytes, asked)) = one_text (subject_of name) (laws_of name) bytes a b (request_typed line name bytes asked) (h.asked name bytes asked) (k.asked name bytes asked)
+    by_kind (inl (name, bytes, asked)) = one_text (row_of name).1 (laws_of name) bytes a b (request_typed line name bytes asked) (h.asked name bytes asked) (k.asked name bytes asked)
     by_kind (inr (inl (datagrams, dump))) = one_dump_text datagrams (datagrams_typed line datagrams dump) a b (h.dumped datagrams dump) (k.dumped datagrams dump)
-    by_kind (inr (inr none)) = h.other none ∙ sym (k.other none)
+    by_kind (inr (inr none)) = h.other none.unnamed none.undumped ∙ sym (k.other none.unnamed none.undumped)
 
 -- the answer, as a function of the line
 pub answer_of : List ℕ → List ℕ
@@ -394,13 +397,13 @@ one_function f h = λ i line. one_answer line (answer_of line) (f line) (answer_
 -- ---- what a line was read as
 
 -- a name before the first space, and a hex field behind it
-pub request_at : (line : List ℕ) (i : ℕ) (name : Name) (bytes : List ℕ) → Some i ≡ position is_space line → take i line ≡ word_of name
+pub request_at : (line : List ℕ) (i : ℕ) (name : Name) (bytes : List ℕ) → Some i ≡ position is_space line → take i line ≡ (row_of name).0
     → IsHexField (drop (i + 1) line) bytes → IsRequest line name bytes
-request_at line i name bytes place word field = record {
-  field = drop (i + 1) line;
-  spelled = at_space line i (sym place) ∙ ap (λ w. w ++ 32 ∷ drop (i + 1) line) word;
-  stands_for = field;
-}
+request_at line i name bytes place word field = (
+  drop (i + 1) line,
+  at_space line i (sym place) ∙ ap (λ w. w ++ 32 ∷ drop (i + 1) line) word,
+  field,
+)
 
 -- what answers that which a line was read as answers the line
 pub read_answer : (line : List ℕ) (asked : Asked) (bytes text : List ℕ) → IsReadAs line asked bytes → IsAnswerTo asked bytes text → IsAnswerOf line text
@@ -411,34 +414,35 @@ read_answer line Nothing bytes text none e = bad_answer line text none e
 
 -- ---- answers of two lines
 
-told_is : (line : List ℕ) (name : Name) (bytes text : List ℕ) → IsAnswerOf line text → IsRequest line name bytes → text ≡ told (subject_of name) (laws_of name) bytes
+told_is : (line : List ℕ) (name : Name) (bytes text : List ℕ) → IsAnswerOf line text → IsRequest line name bytes → text ≡ told (row_of name).1 (laws_of name) bytes
 told_is line name bytes text h asked =
     let typed = request_typed line name bytes asked in
-    one_text (subject_of name) (laws_of name) bytes text _ typed (h.asked name bytes asked) (told-tells (subject_of name) (laws_of name) bytes typed)
+    one_text (row_of name).1 (laws_of name) bytes text _ typed (h.asked name bytes asked) (told-tells (row_of name).1 (laws_of name) bytes typed)
 
 -- two fields of one name have one answer where they are idle
 pub answers_alike : (name : Name) (line other bytes bytes' text text' : List ℕ) → IsAnswerOf line text → IsAnswerOf other text'
-    → IsRequest line name bytes → IsRequest other name bytes' → IsAccepted (subject_of name) bytes → IsAccepted (subject_of name) bytes'
-    → (subject_of name).idle bytes bytes' → text ≡ text'
+    → IsRequest line name bytes → IsRequest other name bytes' → IsAccepted (row_of name).1 bytes → IsAccepted (row_of name).1 bytes'
+    → (row_of name).1.idle bytes bytes' → text ≡ text'
 answers_alike name line other bytes bytes' text text' h k asked asked' ok ok' i =
     told_is line name bytes text h asked
-    ∙ told_alike (subject_of name) (laws_of name) bytes bytes' (request_typed line name bytes asked) (request_typed other name bytes' asked') ok ok' i
+    ∙ told_alike (row_of name).1 (laws_of name) bytes bytes' (request_typed line name bytes asked) (request_typed other name bytes' asked') ok ok' i
     ∙ sym (told_is other name bytes' text' k asked')
 
 -- and but for `unixview` nowhere else
 pub answers_apart : (name : Name) → name ≢ UnixView → (line other bytes bytes' text text' : List ℕ) → IsAnswerOf line text → IsAnswerOf other text'
-    → IsRequest line name bytes → IsRequest other name bytes' → IsAccepted (subject_of name) bytes → IsAccepted (subject_of name) bytes'
-    → text ≡ text' → (subject_of name).idle bytes bytes'
+    → IsRequest line name bytes → IsRequest other name bytes' → IsAccepted (row_of name).1 bytes → IsAccepted (row_of name).1 bytes'
+    → text ≡ text' → (row_of name).1.idle bytes bytes'
 answers_apart name all line other bytes bytes' text text' h k asked asked' ok ok' e =
-    told_apart (subject_of name) (laws_of name) (shows_all name all) bytes bytes' (request_typed line name bytes asked) (request_typed other name bytes' asked') ok ok'
+    told_apart (row_of name).1 (laws_of name) (shows_all name all) bytes bytes' (request_typed line name bytes asked) (request_typed other name bytes' asked') ok ok'
     (sym (told_is line name bytes text h asked) ∙ e ∙ told_is other name bytes' text' k asked')
 
 -- dumps over the same items have one answer
-pub dumps_alike : (line other text text' : List ℕ) (datagrams datagrams' : List (List ℕ)) → IsAnswerOf line text → IsAnswerOf other text'
-    → IsDumpRequest line datagrams → IsDumpRequest other datagrams' → HaveSameItems datagrams datagrams' → text ≡ text'
-dumps_alike line other text text' datagrams datagrams' h k dump dump' same =
+pub dumps_alike : (line other text text' : List ℕ) (datagrams datagrams' : List (List ℕ)) (row : List (Result (Payload MessageValue) DecodeError))
+    → IsAnswerOf line text → IsAnswerOf other text' → IsDumpRequest line datagrams → IsDumpRequest other datagrams'
+    → HaveItems datagrams row → HaveItems datagrams' row → text ≡ text'
+dumps_alike line other text text' datagrams datagrams' row h k dump dump' have have' =
     one_dump_text datagrams' (datagrams_typed other datagrams' dump') text text'
-    (tells_same_items datagrams datagrams' (datagrams_typed line datagrams dump) same text (h.dumped datagrams dump)) (k.dumped datagrams' dump')
+    (tells_same_items datagrams datagrams' row (datagrams_typed line datagrams dump) have have' text (h.dumped datagrams dump)) (k.dumped datagrams' dump')
 
 -- and dumps of the same bytes in whole messages
 pub dumps_split : (line other text text' : List ℕ) (datagrams datagrams' : List (List ℕ)) → IsAnswerOf line text → IsAnswerOf other text'

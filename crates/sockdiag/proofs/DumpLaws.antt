@@ -15,9 +15,9 @@ use Rattle.netlink_packet_sock_diag.specs.Dump.{AreSplit, DatagramDump, Datagram
 use Rattle.netlink_packet_sock_diag.specs.Message.{Message, MessageIs, MessageFault}
 use Rattle.netlink_packet_sock_diag.specs.MessageLaws.{message_laws}
 use Rattle.netlink_packet_sock_diag.proofs.DumpRows.{dump_of_split, has_dump, one_datagram_dump, same_dump, split_of_dump}
-use Rattle.sockdiag.specs.DumpLine.{HaveSameItems, IsDumpOf, IsWritable, TellsDump, ToldDump, shown_dump}
+use Rattle.sockdiag.specs.DumpLine.{HaveItems, TellsDump, ToldDump, shown_dump}
 use Rattle.sockdiag.specs.HexField.{IsHexField}
-use Rattle.sockdiag.specs.ReadDumpSteps.{ended_with}
+use Rattle.sockdiag.specs.ReadDumpSteps.{IsDumpOf, IsWritable, ended_with}
 use Rattle.sockdiag.proofs.Deciding.{each_or_not, message_fits_or_not}
 use Rattle.sockdiag.proofs.EnvelopeLaws.{envelope_laws}
 use Rattle.sockdiag.proofs.FieldLaws.{IsBytes-field}
@@ -100,10 +100,11 @@ tells_others datagrams others same text (inr (inl (d, is, unfit, e))) = inr (inl
 tells_others datagrams others same text (inr (inr (fault, never, e))) = absurd never
 
 -- the same items
-pub tells_same_items : (datagrams others : List (List ℕ)) → AllByRecursion IsBytes datagrams → HaveSameItems datagrams others → (text : List ℕ) → TellsDump datagrams text → TellsDump others text
-tells_same_items datagrams others typed h =
+pub tells_same_items : (datagrams others : List (List ℕ)) (row : List (Result (Payload Message) DecodeError)) → AllByRecursion IsBytes datagrams
+    → HaveItems datagrams row → HaveItems others row → (text : List ℕ) → TellsDump datagrams text → TellsDump others text
+tells_same_items datagrams others row typed h k =
     tells_others datagrams others
-    (λ d. same_dump MessageIs MessageFault one_items datagrams others h.items h.other_items typed h.are h.others_are h.same [] d.messages d.end)
+    (λ d. same_dump MessageIs MessageFault one_items datagrams others h.0 k.0 typed h.1 k.1 (sym h.2 ∙ k.2) [] d.messages d.end)
 
 -- another split
 pub tells_split : (datagrams others : List (List ℕ)) → AllByRecursion IsBytes datagrams → AllByRecursion IsBytes others → AreSplit datagrams → AreSplit others

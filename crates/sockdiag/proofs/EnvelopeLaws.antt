@@ -10,7 +10,8 @@ use Rattle.netlink_packet_sock_diag.specs.Message.{message_codec, Message, Messa
 use Rattle.netlink_packet_sock_diag.specs.MessageLaws.{message_laws}
 use Rattle.sockdiag.proofs.CanonicalLaws.{same_written}
 use Rattle.sockdiag.proofs.Deciding.{envelope_fits_or_not}
-use Rattle.sockdiag.specs.EnvelopeLine.{shown_envelope, word}
+use Rattle.sockdiag.specs.EnvelopeLine.{shown_envelope}
+use Rattle.sockdiag.specs.TextSteps.{word}
 use Rattle.sockdiag.proofs.FieldLaws.{decimal_digits, field_of-same, word_and_rest}
 use Rattle.sockdiag.specs.Subjects.{envelope_subject}
 use Rattle.sockdiag.proofs.SubjectLaws.{LawsOf, ShowsAll}

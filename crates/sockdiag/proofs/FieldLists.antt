@@ -6,7 +6,7 @@ use Rattle.std.proofs.lemmas.List.{get_or-take, length-take}
 use Rattle.std.proofs.lemmas.List.Quantifiers.{position-Some}
 use Rattle.std.proofs.lemmas.List.Splits.{slice_split_none, slice_split_at}
 use Rattle.std.proofs.lemmas.List.Sums.{fails_before_first}
-use Rattle.sockdiag.specs.DumpLine.{AreHexFields}
+use Rattle.sockdiag.specs.ReadDumpSteps.{AreHexFields}
 use Rattle.sockdiag.specs.HexField.{IsHexField}
 use Rattle.sockdiag.proofs.AnswerLemmas.{at_space, is_space}
 

@@ -17,7 +17,7 @@ use Rattle.netlink_core.specs.Codec.{record_codec}
 use Rattle.netlink_core.specs.Reply.{reply_codec}
 use Rattle.netlink_core.proofs.FormatLaws.{keeps_laws}
 use Rattle.netlink_core.proofs.Replies.{replies_keep_laws}
-use Rattle.sockdiag.specs.Answer.{subject_of}
+use Rattle.sockdiag.specs.Answer.{row_of}
 use Rattle.sockdiag.specs.declared.answers.Name.{Name}
 use Rattle.sockdiag.specs.declared.answers.Name.TheVariants.{UnixRequest, UnixResponse, InetRequest, InetResponse, SocketId4, SocketId6, Message, NetlinkMessage, UnixView}
 use Rattle.sockdiag.specs.ViewLine.{shown_reply}
@@ -27,7 +27,7 @@ use Rattle.sockdiag.proofs.EnvelopeLaws.{envelope_laws, envelope_shows_all}
 use Rattle.sockdiag.proofs.SubjectLaws.{LawsOf, ShowsAll}
 
 -- what is shown of each
-pub laws_of : (name : Name) → LawsOf (subject_of name)
+pub laws_of : (name : Name) → LawsOf (row_of name).1
 laws_of UnixRequest = written_laws (record_codec unix_request) (keeps_laws unix_request unix_request_sound) tt (λ v. inl tt)
 laws_of UnixResponse = written_laws (reply_codec unix_reply) (replies_keep_laws unix_reply unix_reply_laws) tt (reply_fits_or_not unix_reply)
 laws_of InetRequest = written_laws (record_codec inet_request) (keeps_laws inet_request inet_request_sound) tt (λ v. inl tt)
@@ -39,7 +39,7 @@ laws_of NetlinkMessage = envelope_laws
 laws_of UnixView = shown_laws (reply_codec unix_reply) (replies_keep_laws unix_reply unix_reply_laws) tt (λ v. ⊤) shown_reply (λ v. inl tt)
 
 -- all names but `unixview` show all
-pub shows_all : (name : Name) → name ≢ UnixView → ShowsAll (subject_of name)
+pub shows_all : (name : Name) → name ≢ UnixView → ShowsAll (row_of name).1
 shows_all UnixRequest h = canonical_shows_all (record_codec unix_request) (keeps_laws unix_request unix_request_sound) tt
 shows_all UnixResponse h = canonical_shows_all (reply_codec unix_reply) (replies_keep_laws unix_reply unix_reply_laws) tt
 shows_all InetRequest h = canonical_shows_all (record_codec inet_request) (keeps_laws inet_request inet_request_sound) tt

@@ -1,17 +1,17 @@
 -- What a run has written, from what its parts wrote.
-use Rattle.std.proofs.Common.{◌≡◌, ◌<◌, ◌≤◌, ◌+◌, ℕ, suc, List, [], ◌∷◌, ◌++◌, length, take, drop, get_or, slice_index, Option, None, Some, Result, Ok, Err, ◌==◌, true, false, refl, sym, ap, ◌∙◌, subst, append_assoc, append-nil, take-append-drop, take_all, le_refl, add-one, arith}
+use Rattle.std.proofs.Common.{◌≡◌, ◌<◌, ◌≤◌, ◌+◌, ℕ, suc, List, [], ◌∷◌, ◌++◌, length, take, drop, get_or, slice_index, Option, None, Some, Result, Ok, Err, ◌==◌, true, false, sym, ap, ◌∙◌, subst, append_assoc, append-nil, take-append-drop, take_all, le_refl, add-one, arith}
 use Rattle.std.specs.Prelude.{IfErr, IfSome, IsOk, OnOk}
 use Rattle.std.specs.Io.KnownBytes.{Appends, Consumes, IsAtEnd, Keeps}
-use Rattle.std.proofs.KnownBytes.{Appends-kept, Appends-trans, Consumes-trans}
+use Rattle.std.proofs.KnownBytes.{Appends-kept, Appends-trans, Consumes-kept, Consumes-trans}
 use Rattle.std.proofs.lemmas.Bool.{eq-eqb, eqb-true}
 use Rattle.std.proofs.lemmas.List.{get_or-take, get_or_default, length-take}
 use Rattle.std.proofs.lemmas.List.Concat.{flat_map-append}
-use Rattle.std.proofs.Math.Seq.{drop-cons, take-append-add}
+use Rattle.std.proofs.Math.Seq.{drop-cons, take-append_seam, take-length}
 use Rattle.memchr.specs.Find.{IsFirstByte, is_byte}
 use Rattle.sockdiag.specs.Answer.{IsAnswerOf}
-use Rattle.sockdiag.specs.Lines.{IsLine, Splits, fed, with_rest}
-use Rattle.sockdiag.specs.Run.{CaughtUp, Answers, IsBeginning, answer_lines}
-use Rattle.sockdiag.specs.RunSteps.{AnswersPiece, Writes}
+use Rattle.sockdiag.specs.Lines.{Splits, with_rest}
+use Rattle.sockdiag.specs.Run.{Answers, CaughtUp, answer_lines}
+use Rattle.sockdiag.specs.RunSteps.{AnswersPiece, IsBeginning, IsLine, Writes, fed}
 use Rattle.sockdiag.proofs.LinesLemmas.{Splits-append, Splits-feed, Splits-line, Splits-one_way, Splits-rest, split_of}
 use Rattle.sockdiag.specs.declared.stream.RunError.{RunError}
 use Rattle.sockdiag.specs.declared.stream.RunError.TheVariants.{Read, Write, Memory}
@@ -37,6 +37,9 @@ IsBeginning-more front text b (more, e) = (more ++ b, ap (λ t. t ++ b) e ∙ ap
 
 IsBeginning-same : (front a b : List ℕ) → a ≡ b → IsBeginning front a → IsBeginning front b
 IsBeginning-same front a b e (more, h) = (more, sym e ∙ h)
+
+IsBeginning-taken : (front text : List ℕ) → IsBeginning front text → front ≡ take (length front) text
+IsBeginning-taken front text (more, e) = sym (ap (take (length front)) e ∙ take-append_seam front more)
 
 -- ---- the places of line feeds
 
@@ -115,100 +118,120 @@ module _ (f : List ℕ → List ℕ) where
   -- a piece was read and answered
   pub CaughtUp-piece : (r r' r'' c c' c'' : Option (List ℕ)) (line piece line' answers : List ℕ) → CaughtUp f r r' c c' line
       → Consumes r' r'' piece → AnswersPiece f (line ++ piece) line' [] answers → Appends c' c'' answers → CaughtUp f r r'' c c'' line'
-  CaughtUp-piece r r' r'' c c' c'' line piece line' answers p read q wrote = record {
-    text = p.text ++ piece;
-    whole = p.whole ++ q.whole;
-    read = Consumes-trans r r' r'' p.text piece p.read read;
-    splits = Splits-append p.text piece p.whole q.whole line line' p.splits q.splits;
-    appended = subst (Appends c c'') (sym (answer_lines-append p.whole q.whole))
-        (Appends-trans c c' c'' _ _ p.appended (subst (Appends c' c'') q.added wrote));
-  }
+  CaughtUp-piece r r' r'' c c' c'' line piece line' answers (whole, p) read q wrote = (
+    whole ++ q.whole,
+    record {
+      text = p.text ++ piece;
+      read = Consumes-trans r r' r'' p.text piece p.read read;
+      splits = Splits-append p.text piece whole q.whole line line' p.splits q.splits;
+      appended = subst (Appends c c'') (sym (answer_lines-append whole q.whole))
+          (Appends-trans c c' c'' _ _ p.appended (subst (Appends c' c'') q.added wrote));
+    },
+  )
+
+  -- a read failed
+  pub run_unread : (r r' r'' c c' : Option (List ℕ)) (line : List ℕ) (e : RunError) → CaughtUp f r r' c c' line
+      → Keeps r' r'' → e ≡ Read → Answers f r r'' c c' (Err e)
+  run_unread r r' r'' c c' line e (whole, p) kept is =
+      subst (λ (e : RunError). Answers f r r'' c c' (Err e)) (sym is)
+      (whole, line, record { text = p.text; read = Consumes-kept r r' r'' p.text p.read kept; splits = p.splits; appended = p.appended })
 
   -- memory ran out, and nothing was written of the answers to a piece
   pub run_without_memory : (r r' r'' c c' c'' : Option (List ℕ)) (line piece : List ℕ) → CaughtUp f r r' c c' line
       → Consumes r' r'' piece → Keeps c' c'' → Answers f r r'' c c'' (Err Memory)
-  run_without_memory r r' r'' c c' c'' line piece p read kept =
-      let s = split_of (line ++ piece) in
-      record {
-        text = p.text ++ piece;
-        whole = p.whole ++ s.whole;
-        rest = s.rest;
-        written = answer_lines f p.whole;
-        read = Consumes-trans r r' r'' p.text piece p.read read;
-        splits = Splits-append p.text piece p.whole s.whole line s.rest p.splits s.splits;
-        appended = Appends-kept c c' c'' _ p.appended kept;
-        is_written = (length p.whole + 0, ap (answer_lines f) (sym (take-append-add p.whole s.whole 0 ∙ append-nil p.whole)));
-      }
+  run_without_memory r r' r'' c c' c'' line piece (whole, p) read kept =
+      let s = split_of (line ++ piece) in (
+        whole ++ s.whole,
+        s.rest,
+        (
+          length whole,
+          record {
+            text = p.text ++ piece;
+            read = Consumes-trans r r' r'' p.text piece p.read read;
+            splits = Splits-append p.text piece whole s.whole line s.rest p.splits s.splits;
+            appended = subst (λ (w : List (List ℕ)). Appends c c'' (answer_lines f w)) (sym (take-append_seam whole s.whole)) (Appends-kept c c' c'' _ p.appended kept);
+          },
+        ),
+      )
 
   -- the answers to a piece could not be written
   pub run_failed : (r r' r'' c c' c'' : Option (List ℕ)) (line piece line' answers : List ℕ) (e : RunError) → CaughtUp f r r' c c' line
       → Consumes r' r'' piece → AnswersPiece f (line ++ piece) line' [] answers → Writes c' c'' answers (Err e) → Answers f r r'' c c'' (Err e)
   run_failed r r' r'' c c' c'' line piece line' answers Read p read q wrote = absurd wrote
   run_failed r r' r'' c c' c'' line piece line' answers Memory p read q wrote = run_without_memory r r' r'' c c' c'' line piece p read wrote
-  run_failed r r' r'' c c' c'' line piece line' answers Write p read q (front, begins, appended) =
-      let before = answer_lines f p.whole in
-      record {
-        text = p.text ++ piece;
-        whole = p.whole ++ q.whole;
-        rest = line';
-        written = before ++ front;
-        read = Consumes-trans r r' r'' p.text piece p.read read;
-        splits = Splits-append p.text piece p.whole q.whole line line' p.splits q.splits;
-        appended = Appends-trans c c' c'' _ _ p.appended appended;
-        is_written = IsBeginning-same (before ++ front) _ _ (sym (answer_lines-with_rest (p.whole ++ q.whole) line'))
-            (IsBeginning-more (before ++ front) _ (answer_lines f (with_rest [] line'))
-            (IsBeginning-same (before ++ front) _ _ (sym (answer_lines-append p.whole q.whole))
-            (IsBeginning-after before front (answer_lines f q.whole) (subst (IsBeginning front) q.added begins))));
-      }
+  run_failed r r' r'' c c' c'' line piece line' answers Write (whole, p) read q (front, begins, appended) =
+      let before = answer_lines f whole in
+      let begun = IsBeginning-same (before ++ front) _ _ (sym (answer_lines-with_rest (whole ++ q.whole) line'))
+      (IsBeginning-more (before ++ front) _ (answer_lines f (with_rest [] line'))
+      (IsBeginning-same (before ++ front) _ _ (sym (answer_lines-append whole q.whole))
+      (IsBeginning-after before front (answer_lines f q.whole) (subst (IsBeginning front) q.added begins)))) in (
+        whole ++ q.whole,
+        line',
+        (
+          length (before ++ front),
+          record {
+            text = p.text ++ piece;
+            read = Consumes-trans r r' r'' p.text piece p.read read;
+            splits = Splits-append p.text piece whole q.whole line line' p.splits q.splits;
+            appended = subst (Appends c c'') (IsBeginning-taken (before ++ front) _ begun) (Appends-trans c c' c'' _ _ p.appended appended);
+          },
+        ),
+      )
 
   -- the end was read, and the last line answered or not
   pub run_finished : (r r' r'' c c' c'' : Option (List ℕ)) (line : List ℕ) (result : Result Unit RunError) → CaughtUp f r r' c c' line
       → Consumes r' r'' [] → Writes c' c'' (answer_lines f (with_rest [] line)) result → Answers f r r'' c c'' result
   run_finished r r' r'' c c' c'' line (Err Read) p read q = absurd q
-  run_finished r r' r'' c c' c'' line (Err Memory) p read q = record {
-    text = p.text;
-    whole = p.whole;
-    rest = line;
-    written = answer_lines f p.whole;
-    read = at_end r r' r'' p.text p.read read;
-    splits = p.splits;
-    appended = Appends-kept c c' c'' _ p.appended q;
-    is_written = (length p.whole + 0, ap (answer_lines f) (sym (ap (take (length p.whole + 0)) (sym (append-nil p.whole)) ∙ take-append-add p.whole [] 0 ∙ append-nil p.whole)));
-  }
-  run_finished r r' r'' c c' c'' line (Err Write) p read (front, begins, appended) =
-      let before = answer_lines f p.whole in
+  run_finished r r' r'' c c' c'' line (Err Memory) (whole, p) read q = (
+    whole,
+    line,
+    (
+      length whole,
       record {
         text = p.text;
-        whole = p.whole;
-        rest = line;
-        written = before ++ front;
         read = at_end r r' r'' p.text p.read read;
         splits = p.splits;
-        appended = Appends-trans c c' c'' _ _ p.appended appended;
-        is_written = IsBeginning-same (before ++ front) _ _ (sym (answer_lines-with_rest p.whole line))
-            (IsBeginning-after before front (answer_lines f (with_rest [] line)) begins);
-      }
-  run_finished r r' r'' c c' c'' line (Ok done) p read q = record {
-    text = p.text;
-    whole = p.whole;
-    rest = line;
-    written = answer_lines f (with_rest p.whole line);
-    read = at_end r r' r'' p.text p.read read;
-    splits = p.splits;
-    appended = subst (Appends c c'') (sym (answer_lines-with_rest p.whole line)) (Appends-trans c c' c'' _ _ p.appended q);
-    is_written = refl;
-  }
+        appended = subst (λ (w : List (List ℕ)). Appends c c'' (answer_lines f w)) (sym (take-length whole)) (Appends-kept c c' c'' _ p.appended q);
+      },
+    ),
+  )
+  run_finished r r' r'' c c' c'' line (Err Write) (whole, p) read (front, begins, appended) =
+      let before = answer_lines f whole in
+      let begun = IsBeginning-same (before ++ front) _ _ (sym (answer_lines-with_rest whole line))
+      (IsBeginning-after before front (answer_lines f (with_rest [] line)) begins) in (
+        whole,
+        line,
+        (
+          length (before ++ front),
+          record {
+            text = p.text;
+            read = at_end r r' r'' p.text p.read read;
+            splits = p.splits;
+            appended = subst (Appends c c'') (IsBeginning-taken (before ++ front) _ begun) (Appends-trans c c' c'' _ _ p.appended appended);
+          },
+        ),
+      )
+  run_finished r r' r'' c c' c'' line (Ok done) (whole, p) read q = (
+    whole,
+    line,
+    record {
+      text = p.text;
+      read = at_end r r' r'' p.text p.read read;
+      splits = p.splits;
+      appended = subst (Appends c c'') (sym (answer_lines-with_rest whole line)) (Appends-trans c c' c'' _ _ p.appended q);
+    },
+  )
 
   -- a run that ended well answered all that its reader told
   pub run_complete : (r r' c c' : Option (List ℕ)) → IsAtEnd r' → Answers f r r' c c' (Ok tt)
       → IfSome r (λ text. (whole : List (List ℕ)) (rest : List ℕ) → Splits text whole rest → Appends c c' (answer_lines f (with_rest whole rest)))
   run_complete None r' c c' ended p = tt
-  run_complete (Some text) None c c' ended p = absurd p.read
-  run_complete (Some text) (Some left) c c' ended p = λ whole rest splits.
+  run_complete (Some text) None c c' ended (lines, last, p) = absurd p.read
+  run_complete (Some text) (Some left) c c' ended (lines, last, p) = λ whole rest splits.
       let all : text ≡ p.text = p.read ∙ ap (λ t. p.text ++ t) ended ∙ append-nil p.text in
-      let same = Splits-one_way p.text whole p.whole rest p.rest (subst (λ t. Splits t whole rest) all splits) p.splits in
-      let written : p.written ≡ answer_lines f (with_rest whole rest) = p.is_written
-      ∙ ap (λ w. answer_lines f (with_rest w p.rest)) (sym same.0) ∙ ap (λ t. answer_lines f (with_rest whole t)) (sym same.1) in
+      let same = Splits-one_way p.text lines whole last rest p.splits (subst (λ t. Splits t whole rest) all splits) in
+      let written : answer_lines f (with_rest lines last) ≡ answer_lines f (with_rest whole rest) =
+      ap (λ (w : List (List ℕ)). answer_lines f (with_rest w last)) same.0 ∙ ap (λ (t : List ℕ). answer_lines f (with_rest whole t)) same.1 in
       subst (Appends c c') written p.appended
 
 -- the same by each function that gives each line its answer, where a run ended one way or another

@@ -2,7 +2,8 @@
 use Rattle.std.proofs.Common.{◌≡◌, ◌⊎◌, inl, inr, ℕ, List}
 use Rattle.netlink_core.specs.Bytes.{IsBytes}
 use Rattle.netlink_core.specs.declared.fault.DecodeError.{DecodeError}
-use Rattle.sockdiag.specs.Told.{Subject, accepted, refused, unwritable}
+use Rattle.sockdiag.specs.Told.{Subject}
+use Rattle.sockdiag.specs.TextSteps.{accepted, refused, unwritable}
 use Rattle.sockdiag.proofs.ByteLaws.{as_bytes, IsBytes-as_bytes}
 
 -- what is proved of a subject

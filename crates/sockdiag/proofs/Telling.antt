@@ -3,7 +3,8 @@ use Rattle.std.proofs.Common.{◌≡◌, ◌⊎◌, ◌∙◌, inl, inr, ℕ, Li
 use Rattle.netlink_core.specs.Bytes.{IsBytes}
 use Rattle.netlink_core.specs.declared.fault.DecodeError.{DecodeError}
 use Rattle.sockdiag.proofs.ByteLaws.{as_bytes, as_bytes-same, IsBytes-as_bytes}
-use Rattle.sockdiag.specs.Told.{IsAccepted, Subject, Tells, TellsOf, accepted, refused, unwritable}
+use Rattle.sockdiag.specs.Told.{IsAccepted, Subject, Tells, TellsOf}
+use Rattle.sockdiag.specs.TextSteps.{accepted, refused, unwritable}
 use Rattle.sockdiag.proofs.SubjectLaws.{LawsOf, ShowsAll, told, told_answer, told_value}
 
 tail_of : (x : ℕ) (xs ys : List ℕ) → x ∷ xs ≡ x ∷ ys → xs ≡ ys

@@ -1,5 +1,5 @@
 -- How the words of a reply come together.
-use Rattle.std.proofs.Common.{◌≡◌, ◌<◌, ◌≤◌, ◌+◌, ℕ, List, [], ◌∷◌, ◌++◌, length, take, codes, decimal, Option, Some, slice_get, refl, sym, ap, ◌∙◌, append_assoc, arith}
+use Rattle.std.proofs.Common.{◌≡◌, ◌<◌, ◌≤◌, ◌+◌, ℕ, List, [], ◌∷◌, ◌++◌, length, take, codes, decimal, Option, None, Some, slice_get, refl, sym, ap, ◌∙◌, append_assoc, arith}
 use Rattle.std.specs.Prelude.{option_map}
 use Rattle.std.specs.List.{join_with_byte}
 use Rattle.std.proofs.lemmas.List.{take_more, length-take}
@@ -10,8 +10,8 @@ use Rattle.sock_diag_attributes.specs.UnixAttributes.{unix}
 use Rattle.sock_diag_records.specs.declared.unix.response.UnixResponseHeader.{UnixResponseHeader}
 use Rattle.netlink_packet_sock_diag.specs.UnixGetters.{first_number, first_of, listening_queue_of, other_queue_of, second_number}
 use Rattle.netlink_packet_sock_diag.specs.UnixReply.{UnixReply}
-use Rattle.sockdiag.specs.Told.{accepted}
-use Rattle.sockdiag.specs.ViewLine.{comma_list, name_word, number_word, numbers_word, shown_reply}
+use Rattle.sockdiag.specs.TextSteps.{accepted}
+use Rattle.sockdiag.specs.ViewLine.{comma_list, name_word, or_none, shown_reply}
 
 -- ---- numbers with commas between
 
@@ -38,6 +38,11 @@ next_listed xs i x low h =
     ap comma_list (take_more xs i 0 within ∙ ap (λ y. take i xs ++ y ∷ []) (get_or_from_slice_get xs i x 0 h)) ∙ more_behind (take i xs) x some
 
 -- ---- words with one space between
+
+-- what is told as something else
+or_none-map : {A B : Type 0} (shown : B → List ℕ) (f : A → B) (told : Option A) → or_none shown (option_map f told) ≡ or_none (λ a. shown (f a)) told
+or_none-map shown f None = refl
+or_none-map shown f (Some a) = refl
 
 -- the text is a front and these words
 record Joined (front first : List ℕ) (words : List (List ℕ)) (text : List ℕ) : Type 0 where
@@ -85,28 +90,28 @@ pub reply_told : (v : UnixReply) (h : UnixResponseHeader) (peer : Option ℕ) (n
     → memory ≡ option_map (λ info. info.alloc) (first_of (content unix 5) v.nlas)
     → t0 ≡ old ++ codes "ok "
     → t1 ≡ ((t0 ++ decimal h.kind) ++ 32 ∷ decimal h.state) ++ 32 ∷ decimal h.inode
-    → t2 ≡ t1 ++ 32 ∷ number_word peer
-    → t3 ≡ t2 ++ 32 ∷ name_word name
-    → t4 ≡ t3 ++ 32 ∷ numbers_word pending
-    → t5 ≡ t4 ++ 32 ∷ number_word shutdown
-    → t6 ≡ t5 ++ 32 ∷ number_word waiting
-    → t7 ≡ t6 ++ 32 ∷ number_word limit
-    → t8 ≡ t7 ++ 32 ∷ number_word received
-    → t9 ≡ t8 ++ 32 ∷ number_word sent
-    → t10 ≡ t9 ++ 32 ∷ number_word datagram
-    → t11 ≡ t10 ++ 32 ∷ number_word memory
+    → t2 ≡ t1 ++ 32 ∷ or_none decimal peer
+    → t3 ≡ t2 ++ 32 ∷ or_none name_word name
+    → t4 ≡ t3 ++ 32 ∷ or_none comma_list pending
+    → t5 ≡ t4 ++ 32 ∷ or_none decimal shutdown
+    → t6 ≡ t5 ++ 32 ∷ or_none decimal waiting
+    → t7 ≡ t6 ++ 32 ∷ or_none decimal limit
+    → t8 ≡ t7 ++ 32 ∷ or_none decimal received
+    → t9 ≡ t8 ++ 32 ∷ or_none decimal sent
+    → t10 ≡ t9 ++ 32 ∷ or_none decimal datagram
+    → t11 ≡ t10 ++ 32 ∷ or_none decimal memory
     → t11 ≡ old ++ accepted (shown_reply v)
 reply_told v h peer name pending shutdown waiting limit received sent datagram memory old t0 t1 t2 t3 t4 t5 t6 t7 t8 t9 t10 t11
     h_is peer_is name_is pending_is shutdown_is waiting_is limit_is received_is sent_is datagram_is memory_is e0 e1 e2 e3 e4 e5 e6 e7 e8 e9 e10 e11 =
     let j1 = header_words h v.header t0 t1 e1 h_is in
-    let j2 = then_word _ _ _ t1 t2 _ _ j1 e2 (ap number_word peer_is) in
-    let j3 = then_word _ _ _ t2 t3 _ _ j2 e3 (ap name_word name_is) in
-    let j4 = then_word _ _ _ t3 t4 _ _ j3 e4 (ap numbers_word pending_is) in
-    let j5 = then_word _ _ _ t4 t5 _ _ j4 e5 (ap number_word shutdown_is) in
-    let j6 = then_word _ _ _ t5 t6 _ _ j5 e6 (ap number_word waiting_is) in
-    let j7 = then_word _ _ _ t6 t7 _ _ j6 e7 (ap number_word limit_is) in
-    let j8 = then_word _ _ _ t7 t8 _ _ j7 e8 (ap number_word received_is) in
-    let j9 = then_word _ _ _ t8 t9 _ _ j8 e9 (ap number_word sent_is) in
-    let j10 = then_word _ _ _ t9 t10 _ _ j9 e10 (ap number_word datagram_is) in
-    let j11 = then_word _ _ _ t10 t11 _ _ j10 e11 (ap number_word memory_is) in
+    let j2 = then_word _ _ _ t1 t2 _ _ j1 e2 (ap (or_none decimal) peer_is) in
+    let j3 = then_word _ _ _ t2 t3 _ _ j2 e3 (ap (or_none name_word) name_is) in
+    let j4 = then_word _ _ _ t3 t4 _ _ j3 e4 (ap (or_none comma_list) pending_is) in
+    let j5 = then_word _ _ _ t4 t5 _ _ j4 e5 (ap (or_none decimal) shutdown_is) in
+    let j6 = then_word _ _ _ t5 t6 _ _ j5 e6 (ap (or_none decimal) waiting_is) in
+    let j7 = then_word _ _ _ t6 t7 _ _ j6 e7 (ap (or_none decimal) limit_is) in
+    let j8 = then_word _ _ _ t7 t8 _ _ j7 e8 (ap (or_none decimal) received_is) in
+    let j9 = then_word _ _ _ t8 t9 _ _ j8 e9 (ap (or_none decimal) sent_is) in
+    let j10 = then_word _ _ _ t9 t10 _ _ j9 e10 (ap (or_none decimal) datagram_is ∙ or_none-map decimal (λ info. info.max_datagram_size) _) in
+    let j11 = then_word _ _ _ t10 t11 _ _ j10 e11 (ap (or_none decimal) memory_is ∙ or_none-map decimal (λ info. info.alloc) _) in
     j11.is ∙ ap (λ t. t ++ shown_reply v) e0 ∙ append_assoc old (codes "ok ") (shown_reply v)

@@ -15,47 +15,26 @@ use Rattle.sockdiag.specs.Subjects.{subject, envelope_subject, view_subject}
 use Rattle.sockdiag.specs.declared.answers.Name.{Name}
 use Rattle.sockdiag.specs.declared.answers.Name.TheVariants.{UnixRequest, UnixResponse, InetRequest, InetResponse, SocketId4, SocketId6, Message, NetlinkMessage, UnixView}
 
--- how each name is spelled
-abbrev pub word_of : Name → List ℕ
-word_of UnixRequest = codes "unixreq"
-word_of UnixResponse = codes "unix"
-word_of InetRequest = codes "inetreq"
-word_of InetResponse = codes "inet"
-word_of SocketId4 = codes "sockid4"
-word_of SocketId6 = codes "sockid6"
-word_of Message = codes "message"
-word_of NetlinkMessage = codes "netlink"
-word_of UnixView = codes "unixview"
+-- How each name is spelled, and what its bytes are read as; the socket identities under AF_INET, 2, and AF_INET6, 10.
+abbrev pub row_of : Name → List ℕ × Subject
+row_of UnixRequest = (codes "unixreq", subject (record_codec unix_request) tt)
+row_of UnixResponse = (codes "unix", subject (reply_codec unix_reply) tt)
+row_of InetRequest = (codes "inetreq", subject (record_codec inet_request) tt)
+row_of InetResponse = (codes "inet", subject (reply_codec inet_reply) tt)
+row_of SocketId4 = (codes "sockid4", subject (record_codec socket_id) 2)
+row_of SocketId6 = (codes "sockid6", subject (record_codec socket_id) 10)
+row_of Message = (codes "message", subject message_codec 20)
+row_of NetlinkMessage = (codes "netlink", envelope_subject)
+row_of UnixView = (codes "unixview", view_subject)
 
 -- the line is a name, one space and a hex field of these bytes
-pub record IsRequest (line : List ℕ) (name : Name) (bytes : List ℕ) : Type 0 where
-  pub field : List ℕ
-  pub spelled : line ≡ word_of name ++ 32 ∷ field
-  pub stands_for : IsHexField field bytes
+abbrev pub IsRequest : List ℕ → Name → List ℕ → Type 0
+IsRequest line name b = (hex : List ℕ) × (line ≡ (row_of name).0 ++ 32 ∷ hex) × IsHexField hex b
 
--- what the bytes of each name are read as; the socket identities under AF_INET, 2, and AF_INET6, 10
-abbrev pub subject_of : Name → Subject
-subject_of UnixRequest = subject (record_codec unix_request) tt
-subject_of UnixResponse = subject (reply_codec unix_reply) tt
-subject_of InetRequest = subject (record_codec inet_request) tt
-subject_of InetResponse = subject (reply_codec inet_reply) tt
-subject_of SocketId4 = subject (record_codec socket_id) 2
-subject_of SocketId6 = subject (record_codec socket_id) 10
-subject_of Message = subject message_codec 20
-subject_of NetlinkMessage = envelope_subject
-subject_of UnixView = view_subject
-
--- the text answers the bytes of a name
-abbrev pub IsAnswer : Name → List ℕ → List ℕ → Type 0
-IsAnswer name bytes text = TellsOf (subject_of name) bytes text
-
--- the line is of another form: no name with a hex field, and no dump
-pub record IsNoRequest (line : List ℕ) : Type 0 where
-  pub unnamed : (name : Name) (bytes : List ℕ) → ¬ IsRequest line name bytes
-  pub undumped : (datagrams : List (List ℕ)) → ¬ IsDumpRequest line datagrams
-
--- the text answers the line: the bytes of its name, or its dump, and `bad line` where it is of another form
+-- The text answers the line: it tells of the bytes of its name, or of its dump, and is `bad line`
+-- where the line is no name with a hex field, and no dump.
 pub record IsAnswerOf (line text : List ℕ) : Type 0 where
-  pub asked : (name : Name) (bytes : List ℕ) → IsRequest line name bytes → IsAnswer name bytes text
+  pub asked : (name : Name) (b : List ℕ) → IsRequest line name b → TellsOf (row_of name).1 b text
   pub dumped : (datagrams : List (List ℕ)) → IsDumpRequest line datagrams → TellsDump datagrams text
-  pub other : IsNoRequest line → text ≡ codes "bad line"
+  pub other : ((name : Name) (b : List ℕ) → ¬ IsRequest line name b)
+      → ((datagrams : List (List ℕ)) → ¬ IsDumpRequest line datagrams) → text ≡ codes "bad line"

@@ -12,58 +12,38 @@ use Rattle.netlink_packet_sock_diag.specs.Message.{Message, MessageIs, MessageFa
 use Rattle.sockdiag.specs.HexField.{IsHexField, field_of}
 use Rattle.sockdiag.specs.Told.{Tells}
 
--- the parts of the text between spaces, 32, are hex fields of these datagrams
-abbrev pub AreHexFields : List ℕ → List (List ℕ) → Type 0
-AreHexFields text datagrams = AllZip IsHexField (slice_split (λ c. c == 32) text) datagrams
-
--- the line is `dump`, a space, and hex fields of these datagrams with one space between
-pub record IsDumpRequest (line : List ℕ) (datagrams : List (List ℕ)) : Type 0 where
-  pub fields : List ℕ
-  pub spelled : line ≡ codes "dump" ++ 32 ∷ fields
-  pub stand_for : AreHexFields fields datagrams
+-- the line is `dump`, a space, and hex fields of these datagrams with one space, 32, between
+abbrev pub IsDumpRequest : List ℕ → List (List ℕ) → Type 0
+IsDumpRequest line datagrams = (fields : List ℕ) × (line ≡ codes "dump" ++ 32 ∷ fields)
+    × AllZip IsHexField (slice_split (λ c. c == 32) fields) datagrams
 
 -- the messages that a dump keeps, and how it ends
 pub record ToldDump : Type 0 where
   pub messages : List Message
   pub end : Result DumpState DecodeError
 
--- the dump over the datagrams
-abbrev pub IsDumpOf : List (List ℕ) → ToldDump → Type 0
-IsDumpOf datagrams dump = DatagramsDump MessageIs MessageFault [] datagrams dump.messages dump.end
-
--- each message that it keeps can be written
-abbrev pub IsWritable : ToldDump → Type 0
-IsWritable dump = AllByRecursion MessageFits dump.messages
-
--- the word for each state
-abbrev pub word_of_state : DumpState → List ℕ
-word_of_state Reading = codes "reading"
-word_of_state Done = codes "done"
-word_of_state Error = codes "error"
-word_of_state Overrun = codes "overrun"
-word_of_state Failed = codes "failed"
-
 -- the word for the state, or `failed:` and the number of the fault
 abbrev pub end_word : Result DumpState DecodeError → List ℕ
-end_word (Ok state) = word_of_state state
+end_word (Ok Reading) = codes "reading"
+end_word (Ok Done) = codes "done"
+end_word (Ok Error) = codes "error"
+end_word (Ok Overrun) = codes "overrun"
+end_word (Ok Failed) = codes "failed"
 end_word (Err fault) = codes "failed:" ++ decimal (number_of fault)
 
--- a space and the bytes of a message as a hex field
-abbrev pub shown_message : Message → List ℕ
-shown_message message = 32 ∷ field_of (message_bytes message)
-
--- how it ends, a space, how many messages it keeps, and each of them
+-- how it ends, a space, how many messages it keeps, and a space and a hex field for each of them
 abbrev pub shown_dump : ToldDump → List ℕ
-shown_dump dump = end_word dump.end ++ 32 ∷ decimal (length dump.messages) ++ flat_map shown_message dump.messages
+shown_dump dump = end_word dump.end ++ 32 ∷ decimal (length dump.messages)
+    ++ flat_map (λ message. 32 ∷ field_of (message_bytes message)) dump.messages
 
--- the text tells of the dump over the datagrams
+-- the text tells of the dump over the datagrams, which is never refused; it can be written where each
+-- message that it keeps can be
 abbrev pub TellsDump : List (List ℕ) → List ℕ → Type 0
-TellsDump datagrams text = Tells (λ dump. IsDumpOf datagrams dump) (λ fault. ⊥) IsWritable shown_dump text
+TellsDump datagrams text =
+    Tells (λ dump. DatagramsDump MessageIs MessageFault [] datagrams dump.messages dump.end)
+    (λ fault. ⊥) (λ dump. AllByRecursion MessageFits dump.messages) shown_dump text
 
--- the datagrams have the same items in a row
-pub record HaveSameItems (datagrams others : List (List ℕ)) : Type 0 where
-  pub items : List (List (Result (Payload Message) DecodeError))
-  pub other_items : List (List (Result (Payload Message) DecodeError))
-  pub are : AllZip (ItemsAre MessageIs MessageFault) datagrams items
-  pub others_are : AllZip (ItemsAre MessageIs MessageFault) others other_items
-  pub same : in_a_row items ≡ in_a_row other_items
+-- these are the items of the datagrams, in a row
+abbrev pub HaveItems : List (List ℕ) → List (Result (Payload Message) DecodeError) → Type 0
+HaveItems datagrams row = (items : List (List (Result (Payload Message) DecodeError)))
+    × AllZip (ItemsAre MessageIs MessageFault) datagrams items × (row ≡ in_a_row items)

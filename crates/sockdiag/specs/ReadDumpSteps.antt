@@ -1,11 +1,31 @@
--- What is seen of a dump that the program reads, and how it grows.
-use Rattle.std.specs.Prelude.{◌≡◌, ℕ, List, [], ◌∷◌, ◌++◌, Option, Some, None, Result, Ok, Err}
+-- What is seen of a dump that the program reads, and how it grows; and the words that it is told by.
+use Rattle.std.specs.Prelude.{◌≡◌, ◌==◌, ℕ, List, [], ◌∷◌, ◌++◌, Option, Some, None, Result, Ok, Err}
 use Rattle.netlink_core.specs.declared.fault.DecodeError.{DecodeError}
 use Rattle.netlink_packet_sock_diag.specs.declared.dump.DumpState.{DumpState}
 use Rattle.netlink_packet_sock_diag.specs.declared.dump.DumpState.TheVariants.{Reading}
 use Rattle.netlink_packet_sock_diag.specs.SeenDump.{dump_state, kept_messages}
 use Rattle.sockdiag.specs.declared.dump_line.ReadDump.{ReadDump}
-use Rattle.sockdiag.specs.DumpLine.{IsDumpOf, ToldDump}
+use Rattle.std.specs.List.{AllByRecursion, AllZip, slice_split}
+use Rattle.netlink_packet_sock_diag.specs.Dump.{DatagramsDump}
+use Rattle.netlink_packet_sock_diag.specs.Message.{Message, MessageIs, MessageFault, MessageFits, message_bytes}
+use Rattle.sockdiag.specs.DumpLine.{ToldDump}
+use Rattle.sockdiag.specs.HexField.{IsHexField, field_of}
+
+-- the parts of the text between spaces, 32, are hex fields of these datagrams
+abbrev pub AreHexFields : List ℕ → List (List ℕ) → Type 0
+AreHexFields text datagrams = AllZip IsHexField (slice_split (λ c. c == 32) text) datagrams
+
+-- the dump over the datagrams
+abbrev pub IsDumpOf : List (List ℕ) → ToldDump → Type 0
+IsDumpOf datagrams dump = DatagramsDump MessageIs MessageFault [] datagrams dump.messages dump.end
+
+-- each message that it keeps can be written
+abbrev pub IsWritable : ToldDump → Type 0
+IsWritable dump = AllByRecursion MessageFits dump.messages
+
+-- a space and the bytes of a message as a hex field
+abbrev pub shown_message : Message → List ℕ
+shown_message message = 32 ∷ field_of (message_bytes message)
 
 -- the fault at which it failed, or else its state
 abbrev pub ended_with : DumpState → Option DecodeError → Result DumpState DecodeError

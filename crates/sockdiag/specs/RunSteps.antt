@@ -1,10 +1,23 @@
 -- What the steps of a run keep.
-use Rattle.std.specs.Prelude.{◌≡◌, ℕ, List, ◌++◌, Option, Result, Ok, Err}
+use Rattle.std.specs.Prelude.{◌≡◌, ◌≢◌, ℕ, List, [], ◌∷◌, ◌++◌, Option, Result, Ok, Err}
+use Rattle.std.specs.List.{All}
 use Rattle.std.specs.Io.KnownBytes.{Appends, Keeps}
 use Rattle.sockdiag.specs.Lines.{Splits}
-use Rattle.sockdiag.specs.Run.{IsBeginning, answer_lines}
+use Rattle.sockdiag.specs.Run.{answer_lines}
 use Rattle.sockdiag.specs.declared.stream.RunError.{RunError}
 use Rattle.sockdiag.specs.declared.stream.RunError.TheVariants.{Read, Write, Memory}
+
+-- bytes without a line feed
+abbrev pub IsLine : List ℕ → Type 0
+IsLine line = All (λ b. b ≢ 10) line
+
+-- the text and a line feed
+abbrev pub fed : List ℕ → List ℕ
+fed text = text ++ 10 ∷ []
+
+-- front is a beginning of the text
+abbrev pub IsBeginning : List ℕ → List ℕ → Type 0
+IsBeginning front text = (more : List ℕ) × (text ≡ front ++ more)
 
 -- the text was written, or a beginning of it where a write failed, or nothing where memory ran out
 abbrev pub Writes : Option (List ℕ) → Option (List ℕ) → List ℕ → Result Unit RunError → Type 0

@@ -25,11 +25,11 @@ subject C p = record {
 abbrev pub envelope_subject : Subject
 envelope_subject = record {
   Value = Envelope Message;
-  reads = λ b v. EnvelopeIs MessageIs b v;
-  refuses = λ b e. EnvelopeFault MessageFault b e;
-  fits = λ v. EnvelopeFits message_bytes MessageFits v;
+  reads = EnvelopeIs MessageIs;
+  refuses = EnvelopeFault MessageFault;
+  fits = EnvelopeFits message_bytes MessageFits;
   shown = shown_envelope;
-  idle = λ b c. IdleEnvelopes IdleMessages b c;
+  idle = IdleEnvelopes IdleMessages;
 }
 
 -- a reply about a UNIX socket, of which thirteen words are shown whether or not it can be written

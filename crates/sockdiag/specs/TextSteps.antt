@@ -1,6 +1,24 @@
--- How a text grows.
-use Rattle.std.specs.Prelude.{◌≡◌, ℕ, List, ◌++◌}
+-- How a text grows, and the words that it grows by.
+use Rattle.std.specs.Prelude.{◌≡◌, ℕ, List, ◌∷◌, ◌++◌, codes, decimal}
+use Rattle.netlink_core.specs.Faults.{number_of}
+use Rattle.netlink_core.specs.declared.fault.DecodeError.{DecodeError}
 
 -- a text grew at its end, by one of those that P holds of
 abbrev pub Adds : List ℕ → List ℕ → (List ℕ → Type 0) → Type 0
 Adds old new P = (more : List ℕ) × (new ≡ old ++ more) × P more
+
+-- `ok` and what is shown
+abbrev pub accepted : List ℕ → List ℕ
+accepted shown = codes "ok " ++ shown
+
+-- `unwritable`, for a value that can't be written
+abbrev pub unwritable : List ℕ
+unwritable = codes "unwritable"
+
+-- `refused` and the fault's number
+abbrev pub refused : DecodeError → List ℕ
+refused fault = codes "refused " ++ decimal (number_of fault)
+
+-- a number and a space, and what follows
+abbrev pub word : ℕ → List ℕ → List ℕ
+word n rest = decimal n ++ 32 ∷ rest

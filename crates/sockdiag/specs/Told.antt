@@ -3,24 +3,14 @@ use Rattle.std.specs.Prelude.{◌≡◌, ◌⊎◌, ℕ, List, ◌++◌, codes, 
 use Rattle.netlink_core.specs.Faults.{number_of}
 use Rattle.netlink_core.specs.declared.fault.DecodeError.{DecodeError}
 
--- `ok` and what is shown
-abbrev pub accepted : List ℕ → List ℕ
-accepted shown = codes "ok " ++ shown
-
--- `unwritable`, for a value that can't be written
-abbrev pub unwritable : List ℕ
-unwritable = codes "unwritable"
-
--- `refused` and the fault's number
-abbrev pub refused : DecodeError → List ℕ
-refused fault = codes "refused " ++ decimal (number_of fault)
-
--- The text tells of bytes: `reads` says which values belong to them, `refuses` which faults refuse them, `fits` whether a
--- value can be written, and `shown` what is told of it.
+-- The text tells of bytes: `reads` says which values belong to them, `refuses` which faults refuse
+-- them, `fits` whether a value can be written, and `shown` what is shown of it. The text is `ok` and
+-- that; or `unwritable`, for a value that can't be written; or `refused` and the number of a fault.
 abbrev pub Tells : {Value : Type 0} → (Value → Type 0) → (DecodeError → Type 0) → (Value → Type 0) → (Value → List ℕ) → List ℕ → Type 0
 Tells {Value} reads refuses fits shown text =
-    ((value : Value) × reads value × fits value × (text ≡ accepted (shown value)))
-    ⊎ (((value : Value) × reads value × ¬ fits value × (text ≡ unwritable)) ⊎ ((fault : DecodeError) × refuses fault × (text ≡ refused fault)))
+    ((value : Value) × reads value × fits value × (text ≡ codes "ok " ++ shown value))
+    ⊎ (((value : Value) × reads value × ¬ fits value × (text ≡ codes "unwritable"))
+    ⊎ ((fault : DecodeError) × refuses fault × (text ≡ codes "refused " ++ decimal (number_of fault))))
 
 -- What bytes are read as: which values belong to them and which faults refuse them, which values can be written and what
 -- is shown of them, and which bytes differ in idle details alone.

@@ -2,20 +2,21 @@
 
 ghost use Rattle.sockdiag.specs.declared.answers.Name.{Name};
 ghost use Rattle.sockdiag.specs.declared.answers.Name.TheVariants.{UnixView};
-ghost use Rattle.std.specs.Prelude.{◌≡◌, ◌≢◌, ◌↔◌, ◌++◌, ◌∷◌, [], ℕ, List, codes, decimal, IfOk, OnOk, MatchOption};
-ghost use Rattle.netlink_core.specs.Envelope.{EnvelopeFits, inner as of_inner};
+ghost use Rattle.std.specs.Prelude.{◌≡◌, ◌≢◌, ◌↔◌, ◌++◌, ◌∷◌, [], ℕ, List, codes, decimal, Result, IfOk, OnOk, MatchOption};
+ghost use Rattle.netlink_core.specs.Envelope.{EnvelopeFits, Payload, inner as of_inner};
 ghost use Rattle.netlink_core.specs.Seen.{envelope_of};
+ghost use Rattle.netlink_core.specs.declared.fault.DecodeError.{DecodeError};
 ghost use Rattle.netlink_packet_sock_diag.specs.Dump.{AreSplit, in_a_row};
-ghost use Rattle.netlink_packet_sock_diag.specs.Message.{MessageFits, message_bytes};
+ghost use Rattle.netlink_packet_sock_diag.specs.Message.{Message, MessageFits, message_bytes};
 ghost use Rattle.netlink_packet_sock_diag.specs.SeenMessage.{seen_message};
-ghost use Rattle.sockdiag.specs.Answer.{IsAnswer, IsAnswerOf, IsRequest, subject_of, word_of};
+ghost use Rattle.sockdiag.specs.Answer.{IsAnswerOf, IsRequest, row_of};
 ghost use Rattle.sockdiag.specs.AskedSteps.{IsAnswerTo, IsReadAs};
-ghost use Rattle.sockdiag.specs.DumpLine.{HaveSameItems, IsDumpRequest};
-ghost use Rattle.sockdiag.specs.EnvelopeLine.{shown_envelope, word};
+ghost use Rattle.sockdiag.specs.DumpLine.{HaveItems, IsDumpRequest};
+ghost use Rattle.sockdiag.specs.EnvelopeLine.{shown_envelope};
 ghost use Rattle.sockdiag.specs.HexField.{field_of};
 ghost use Rattle.sockdiag.specs.Subjects.{envelope_subject};
-ghost use Rattle.sockdiag.specs.Told.{IsAccepted, Tells, TellsOf, accepted};
-ghost use Rattle.sockdiag.specs.TextSteps.{Adds};
+ghost use Rattle.sockdiag.specs.Told.{IsAccepted, Tells, TellsOf};
+ghost use Rattle.sockdiag.specs.TextSteps.{Adds, accepted, word};
 
 use crate::dump_line::{ReadDump, push_dump, read_dump};
 use crate::fields::{find_space, read_field};
@@ -76,17 +77,19 @@ pub fn answer(alloc: Global, line: &[u8]) -> Result<Vec<u8>, AllocError>
     // details alone. Only `unixview` shows less than that.
     ensures same { IfOk result (λ text. (name : Name) → name ≢ UnixView → (other bytes bytes' text' : List ℕ)
         → IsRequest line.now name bytes → IsRequest other name bytes'
-        → IsAccepted (subject_of name) bytes → IsAccepted (subject_of name) bytes'
-        → IsAnswerOf other text' → ((text.items ≡ text') ↔ (subject_of name).idle bytes bytes')) }
+        → IsAccepted (row_of name).1 bytes → IsAccepted (row_of name).1 bytes'
+        → IsAnswerOf other text' → ((text.items ≡ text') ↔ (row_of name).1.idle bytes bytes')) }
     // Two fields of any name that differ in idle details alone have one answer.
     ensures alike { IfOk result (λ text. (name : Name) (other bytes bytes' text' : List ℕ)
         → IsRequest line.now name bytes → IsRequest other name bytes'
-        → IsAccepted (subject_of name) bytes → IsAccepted (subject_of name) bytes'
-        → IsAnswerOf other text' → (subject_of name).idle bytes bytes' → text.items ≡ text') }
+        → IsAccepted (row_of name).1 bytes → IsAccepted (row_of name).1 bytes'
+        → IsAnswerOf other text' → (row_of name).1.idle bytes bytes' → text.items ≡ text') }
     // Two dumps whose datagrams have the same items in a row have one answer.
     ensures dumps { IfOk result (λ text. (other text' : List ℕ) (datagrams datagrams' : List (List ℕ))
+        (row : List (Result (Payload Message) DecodeError))
         → IsDumpRequest line.now datagrams → IsDumpRequest other datagrams'
-        → HaveSameItems datagrams datagrams' → IsAnswerOf other text' → text.items ≡ text') }
+        → HaveItems datagrams row → HaveItems datagrams' row
+        → IsAnswerOf other text' → text.items ≡ text') }
     // So have two dumps of the same bytes, of which each datagram but the last is whole messages.
     ensures split { IfOk result (λ text. (other text' : List ℕ) (datagrams datagrams' : List (List ℕ))
         → IsDumpRequest line.now datagrams → IsDumpRequest other datagrams'
@@ -170,7 +173,7 @@ pub(crate) fn push_told(
 
 /// Adds the answer to a name and the bytes of its field.
 fn push_named(alloc: Global, text: &mut Vec<u8>, name: Name, bytes: &[u8]) -> Result<(), AllocError>
-    ensures { OnOk result (Adds text.old.items text.new.items (IsAnswer name bytes.now)) }
+    ensures { OnOk result (Adds text.old.items text.new.items (TellsOf (row_of name).1 bytes.now)) }
 {
     match name {
         Name::UnixRequest => push_canonical::<UnixRequest>(alloc, text, bytes, ()),
@@ -285,7 +288,7 @@ fn push_word(text: &mut Vec<u8>, number: u32) -> Result<(), AllocError>
 
 /// The name that a word is.
 fn find_name(word: &[u8]) -> Option<Name>
-    ensures { MatchOption result ((name : Name) → word.now ≢ word_of name) (λ name. word.now ≡ word_of name) }
+    ensures { MatchOption result ((name : Name) → word.now ≢ (row_of name).0) (λ name. word.now ≡ (row_of name).0) }
 {
     match word {
         b"unixreq" => Some(Name::UnixRequest),

@@ -1,12 +1,12 @@
 //! The answer to a line that asks for the dump over some datagrams.
 
-ghost use Rattle.std.specs.Prelude.{◌≡◌, ◌↔◌, ◌++◌, ℕ, List, map, IsTrue, IfOk, OnOk, MatchBool, MatchOption};
+ghost use Rattle.std.specs.Prelude.{◌≡◌, ◌↔◌, ◌++◌, ℕ, List, map, IsTrue, IfOk, OnOk, MatchBool, MatchOption, Ok};
 ghost use Rattle.std.specs.List.{AllByRecursion, flat_map};
 ghost use Rattle.netlink_packet_sock_diag.specs.Message.{MessageFits};
 ghost use Rattle.netlink_packet_sock_diag.specs.SeenMessage.{seen_message};
-ghost use Rattle.sockdiag.specs.DumpLine.{AreHexFields, IsWritable, end_word, shown_dump, shown_message, word_of_state};
+ghost use Rattle.sockdiag.specs.DumpLine.{end_word, shown_dump};
 ghost use Rattle.sockdiag.specs.HexField.{IsHexField};
-ghost use Rattle.sockdiag.specs.ReadDumpSteps.{IsReadDump, TakesDatagram, end_of, told_dump};
+ghost use Rattle.sockdiag.specs.ReadDumpSteps.{AreHexFields, IsReadDump, IsWritable, TakesDatagram, end_of, shown_message, told_dump};
 ghost use Rattle.sockdiag.specs.Told.{Tells};
 ghost use Rattle.sockdiag.specs.TextSteps.{Adds};
 
@@ -115,7 +115,7 @@ fn push_end(text: &mut Vec<u8>, dump: &ReadDump) -> Result<(), AllocError>
 
 /// The word for a state.
 fn state_word(state: DumpState) -> &'static [u8]
-    ensures { result.now ≡ word_of_state state }
+    ensures { result.now ≡ end_word (Ok state) }
 {
     match state {
         DumpState::Reading => b"reading",

@@ -3,9 +3,9 @@ ghost use Rattle.std.specs.Prelude.{◌≡◌, ◌≤◌, ◌⊎◌, ◌-◌, �
 ghost use Rattle.std.specs.Io.KnownBytes.{Appends, IsAtEnd};
 ghost use Rattle.sockdiag.specs.Answer.{IsAnswerOf};
 ghost use Rattle.sockdiag.specs.AskedSteps.{IsReadAs};
-ghost use Rattle.sockdiag.specs.Lines.{IsLine, Splits, fed, with_rest};
-ghost use Rattle.sockdiag.specs.Run.{Answers, HasCause, answer_lines};
-ghost use Rattle.sockdiag.specs.RunSteps.{AnswersPiece, Writes};
+ghost use Rattle.sockdiag.specs.Lines.{Splits, with_rest};
+ghost use Rattle.sockdiag.specs.Run.{Answers, answer_lines};
+ghost use Rattle.sockdiag.specs.RunSteps.{AnswersPiece, IsLine, Writes, fed};
 ghost use Rattle.sockdiag.specs.declared.stream.RunError.TheVariants.{Memory};
 
 use crate::answers::{Asked, push_told, read_request};
@@ -110,8 +110,9 @@ fn serve<S: Start, R: PromptRead, W: AnswerWrite>(
     requires right { (line : List ℕ) → IsAnswerOf line (S.answer line) }
     ensures ended { OnOk result (IsAtEnd (R.left input.new)) }
     ensures answered { Answers S.answer S.remaining (R.left input.new) S.contents (W.held output.new) result }
-    ensures cause { IfErr result (λ e. HasCause e
-        (R.failed input.new ⊎ R.reads input.new (2 ^ 64 - 1)) (W.failed output.new)) }
+    ensures read_cause { IfErr result (λ e. e ≡ RunError.Read
+        → R.failed input.new ⊎ R.reads input.new (2 ^ 64 - 1)) }
+    ensures write_cause { IfErr result (λ e. e ≡ RunError.Write → W.failed output.new) }
 {
     let mut kept = Kept {
         line: Vec::new(alloc),

@@ -3,8 +3,8 @@
 ghost use Rattle.std.specs.Prelude.{◌≡◌, ◌∷◌, ◌++◌, decimal, OnOk};
 ghost use Rattle.netlink_packet_sock_diag.specs.ViewedUnixReply.{viewed_response};
 ghost use Rattle.sockdiag.specs.Subjects.{view_subject};
-ghost use Rattle.sockdiag.specs.Told.{TellsOf, accepted};
-ghost use Rattle.sockdiag.specs.TextSteps.{Adds};
+ghost use Rattle.sockdiag.specs.Told.{TellsOf};
+ghost use Rattle.sockdiag.specs.TextSteps.{Adds, accepted};
 ghost use Rattle.sockdiag.specs.ViewLine.{shown_reply};
 
 use crate::words::{

@@ -6,8 +6,8 @@ ghost use Rattle.netlink_core.specs.declared.fault.DecodeError.TheVariants.{Memo
 ghost use Rattle.sock_diag_attributes.specs.SeenName.{viewed_name};
 ghost use Rattle.sock_diag_attributes.specs.SeenNumbers.{viewed_numbers};
 ghost use Rattle.sockdiag.specs.HexField.{field_of};
-ghost use Rattle.sockdiag.specs.Told.{accepted, refused};
-ghost use Rattle.sockdiag.specs.ViewLine.{comma_list, name_word, number_word, numbers_word};
+ghost use Rattle.sockdiag.specs.TextSteps.{accepted, refused};
+ghost use Rattle.sockdiag.specs.ViewLine.{comma_list, name_word, or_none};
 
 use netlink_core::DecodeError;
 use netlink_packet_sock_diag::unix::nlas::{NameView, NumbersView};
@@ -84,7 +84,7 @@ pub(crate) fn push_refused(text: &mut Vec<u8>, fault: &DecodeError) -> Result<()
 
 /// Adds a space and a number, or `none`.
 pub(crate) fn push_number_word(text: &mut Vec<u8>, number: Option<u32>) -> Result<(), AllocError>
-    ensures { OnOk result (text.new.items ≡ text.old.items ++ 32 ∷ number_word number) }
+    ensures { OnOk result (text.new.items ≡ text.old.items ++ 32 ∷ or_none decimal number) }
 {
     let Some(number) = number else {
         return text.extend_from_slice(NONE);
@@ -98,7 +98,7 @@ pub(crate) fn push_name_word(
     text: &mut Vec<u8>,
     name: Option<NameView<'_>>,
 ) -> Result<(), AllocError>
-    ensures { OnOk result (text.new.items ≡ text.old.items ++ 32 ∷ name_word (option_map viewed_name name.entry)) }
+    ensures { OnOk result (text.new.items ≡ text.old.items ++ 32 ∷ or_none name_word (option_map viewed_name name.entry)) }
 {
     match name {
         Some(NameView::Pathname(path)) => {
@@ -118,7 +118,7 @@ pub(crate) fn push_numbers_word(
     text: &mut Vec<u8>,
     numbers: Option<NumbersView<'_>>,
 ) -> Result<(), AllocError>
-    ensures { OnOk result (text.new.items ≡ text.old.items ++ 32 ∷ numbers_word (option_map viewed_numbers numbers.entry)) }
+    ensures { OnOk result (text.new.items ≡ text.old.items ++ 32 ∷ or_none comma_list (option_map viewed_numbers numbers.entry)) }
 {
     let Some(numbers) = numbers else {
         return text.extend_from_slice(NONE);

@@ -24,10 +24,10 @@ returns-clause-alike c = λ name other bytes bytes' text' asked asked' ok ok' is
     answers_alike name line other bytes bytes' text text' (whole line _ text c.new-text.ensures.items c.in_ok-push_answer.ensures) is' asked asked' ok ok'
 
 pub returns-clause-dumps : goal.returns-clause-dumps
-returns-clause-dumps c = λ other text' datagrams datagrams' asked asked' same is'.
+returns-clause-dumps c = λ other text' datagrams datagrams' row asked asked' have have' is'.
     let line = c.args.line.now in
     let text = c.push_answer.new.text.items in
-    dumps_alike line other text text' datagrams datagrams' (whole line _ text c.new-text.ensures.items c.in_ok-push_answer.ensures) is' asked asked' same
+    dumps_alike line other text text' datagrams datagrams' row (whole line _ text c.new-text.ensures.items c.in_ok-push_answer.ensures) is' asked asked' have have'
 
 pub returns-clause-split : goal.returns-clause-split
 returns-clause-split c = λ other text' datagrams datagrams' asked asked' split split' same is'.

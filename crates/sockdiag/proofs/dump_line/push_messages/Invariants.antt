@@ -2,7 +2,7 @@ use Rattle.std.proofs.Common.{◌≡◌, ◌++◌, drop, map}
 use Rattle.std.specs.List.{AllByRecursion, flat_map}
 use Rattle.netlink_packet_sock_diag.specs.Message.{MessageFits}
 use Rattle.netlink_packet_sock_diag.specs.SeenMessage.{seen_message}
-use Rattle.sockdiag.specs.DumpLine.{shown_message}
+use Rattle.sockdiag.specs.ReadDumpSteps.{shown_message}
 use Rattle.sockdiag.proofs.dump_line.push_messages.Given as goal
 
 -- what was added and what is left to be added make the whole

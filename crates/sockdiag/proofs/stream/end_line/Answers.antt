@@ -1,5 +1,5 @@
 use Rattle.std.proofs.Common.{◌++◌, ap, ◌∙◌}
-use Rattle.sockdiag.specs.Lines.{fed}
+use Rattle.sockdiag.specs.RunSteps.{fed}
 use Rattle.sockdiag.proofs.stream.end_line.Goals as goal
 
 pub returns : goal.returns

@@ -1,7 +1,7 @@
 use Rattle.std.proofs.Common.{◌≡◌, ◌==◌, [], ◌++◌, sym, ap, ◌∙◌, subst, append-nil}
-use Rattle.sockdiag.specs.Lines.{fed, with_rest}
+use Rattle.sockdiag.specs.Lines.{with_rest}
 use Rattle.sockdiag.specs.Run.{answer_lines}
-use Rattle.sockdiag.specs.RunSteps.{Writes}
+use Rattle.sockdiag.specs.RunSteps.{Writes, fed}
 use Rattle.sockdiag.proofs.RunLemmas.{last_line}
 use Rattle.sockdiag.proofs.stream.send_last.Goals as goal
 

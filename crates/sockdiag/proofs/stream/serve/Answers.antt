@@ -2,8 +2,19 @@ use Rattle.std.proofs.Common.{Err, subst}
 use Rattle.sockdiag.specs.RunSteps.{Writes}
 use Rattle.std.proofs.KnownBytes.{Keeps-refl}
 use Rattle.std.proofs.lemmas.Result.{err_from_is_err_and}
-use Rattle.sockdiag.proofs.RunLemmas.{CaughtUp-piece, run_failed, run_finished, run_without_memory}
+use Rattle.sockdiag.proofs.LinesLemmas.{Splits-unended}
+use Rattle.sockdiag.proofs.RunLemmas.{CaughtUp-piece, run_failed, run_finished, run_unread, run_without_memory}
 use Rattle.sockdiag.proofs.stream.serve.Goals as goal
+
+pub take_piece-requires : goal.take_piece-requires
+take_piece-requires g c =
+    let up = c.reads.invariant.0 in
+    (Splits-unended up.1.text up.0 c.reads.kept.line.items up.1.splits, c.requires.right)
+
+pub returns-in_err-count-clause-answered : goal.returns-in_err-count-clause-answered
+returns-in_err-count-clause-answered g c =
+    let p = err_from_is_err_and c.from_residual.result c.from_residual.ensures.1 in
+    rw (p.1, p.2) (run_unread _ _ _ _ _ _ _ _ c.reads.invariant.0 c.in_err-count.ensures.bytes c.in_err-count.ensures.cause.0)
 
 pub returns-then-count-eq0-clause-answered : goal.returns-then-count-eq0-clause-answered
 returns-then-count-eq0-clause-answered g c =
