@@ -105,7 +105,8 @@ class Item:
         """Takes the item apart: its head, its equations, and its fields or constructors. Tells what it is."""
         text = "\n".join(self.lines)
         self.head, *self.equations = re.split(rf"^\s*{re.escape(self.name)}(?=\s)", text, flags=re.M)
-        self.parts = re.findall(rf"^\s+(?:pub )?({WORD}) :", text, re.M) if self.kind in ("record", "data") else []
+        parts = re.findall(rf"^\s+(?:pub )?({WORD}(?: {WORD})*) :", text, re.M) if self.kind in ("record", "data") else []
+        self.parts = [name for names in parts for name in names.split()]
         self.bound = {name for group in re.findall(r"[({]([^(){}:]*?) :", self.head) for name in group.split()}
         answer = self.head[max(at_depth_zero(self.head, "→"), default=self.head.find(":")) + 1:].strip()
         computes = COMPUTES.match(answer) and not re.search("[≡≢≤<↔]", answer)
