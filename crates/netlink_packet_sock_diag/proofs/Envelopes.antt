@@ -1,5 +1,5 @@
 -- Laws of netlink messages that carry messages of sock_diag(7).
-use Rattle.std.proofs.Common.{◌≡◌, ◌↔◌, ◌⊎◌, inl, inr, ℕ, List, [], ◌∷◌, ◌++◌, refl, sym, subst, arith}
+use Rattle.std.proofs.Common.{◌≡◌, ◌↔◌, inl, inr, ℕ, Bool, true, false, List, [], ◌∷◌, ◌++◌, refl, sym, subst, arith}
 use Rattle.std.proofs.lemmas.List.{append_assoc}
 use Rattle.std.specs.Prelude.{IsTrue, count_by}
 use Rattle.netlink_core.specs.declared.fault.DecodeError.TheVariants.{UnknownMessageType}
@@ -12,21 +12,43 @@ use Rattle.netlink_core.specs.Seen.{envelope_of, payload_of}
 use Rattle.netlink_packet_sock_diag.specs.SeenMessage.{seen_destroy}
 use Rattle.netlink_packet_sock_diag.specs.declared.message.SockDiagDestroy.{SockDiagDestroy}
 use Rattle.netlink_core.specs.Envelope.{Payload, done_with, error_with, no_payload, overrun_with, inner, Envelope, IsInnerType, EnvelopeFault, EnvelopeFits, OfInner, envelope_bytes, finalized, payload_type, IsNormalEnvelope}
+use Rattle.netlink_core.proofs.Equality.{apart, same_test}
 use Rattle.netlink_core.proofs.Idle.{finalized_frame}
-use Rattle.netlink_packet_sock_diag.specs.Message.{Message, inet_request_with, inet_response_with, unix_request_with, unix_response_with, MessageIs, MessageFault, MessageFits, IsNormalMessage, message_bytes, is_inet_request, is_inet_response, is_unix_request, is_unix_response}
-use Rattle.netlink_packet_sock_diag.specs.MessageLaws.{length-message_bytes}
+use Rattle.netlink_packet_sock_diag.specs.Message.{MessageKind, inet_request, inet_response, unix_request, unix_response, Message, message_kind, MessageIs, MessageFault, MessageFits, IsNormalMessage, message_bytes}
+use Rattle.netlink_packet_sock_diag.specs.MessageLaws.{length-message_bytes, type_told}
 
-pub one_kind : (m : Message) → count_by (λ is. is m) (is_inet_request ∷ is_inet_response ∷ is_unix_request ∷ is_unix_response ∷ []) ≡ 1
-one_kind (inet_request_with v) = refl
-one_kind (inet_response_with v) = refl
-one_kind (unix_request_with v) = refl
-one_kind (unix_response_with v) = refl
+-- whether two kinds are the same
+abbrev is_kind : MessageKind → MessageKind → Bool
+is_kind inet_request inet_request = true
+is_kind inet_response inet_response = true
+is_kind unix_request unix_request = true
+is_kind unix_response unix_response = true
+is_kind _ _ = false
 
-pub read_is_reply : (b : List ℕ) (t : ℕ) (m : Message) → MessageIs b t m → IsTrue (is_inet_response m) ⊎ IsTrue (is_unix_response m)
-read_is_reply b t (inet_request_with v) r = absurd r
-read_is_reply b t (inet_response_with v) r = inl refl
-read_is_reply b t (unix_request_with v) r = absurd r
-read_is_reply b t (unix_response_with v) r = inr refl
+kind_is : (kind other : MessageKind) → IsTrue (is_kind kind other) ↔ (kind ≡ other)
+kind_is inet_request inet_request = (λ _. refl, λ _. refl)
+kind_is inet_response inet_response = (λ _. refl, λ _. refl)
+kind_is unix_request unix_request = (λ _. refl, λ _. refl)
+kind_is unix_response unix_response = (λ _. refl, λ _. refl)
+kind_is kind other = apart (λ e. cc)
+
+abbrev Kinds : List MessageKind
+Kinds = inet_request ∷ inet_response ∷ unix_request ∷ unix_response ∷ []
+
+kind_counted : (kind : MessageKind) → count_by (is_kind kind) Kinds ≡ 1
+kind_counted inet_request = refl
+kind_counted inet_response = refl
+kind_counted unix_request = refl
+kind_counted unix_response = refl
+
+pub one_kind : (m : Message) (tests : MessageKind → Bool)
+    → ((kind : MessageKind) → IsTrue (tests kind) ↔ (message_kind m ≡ kind))
+    → count_by tests Kinds ≡ 1
+one_kind m tests tell =
+    let own = message_kind m in
+    let same : is_kind own ≡ tests =
+    λ i kind. same_test (is_kind own kind) (tests kind) (kind_is own kind) (tell kind) i in
+    subst (λ (test : MessageKind → Bool). count_by test Kinds ≡ 1) same (kind_counted own)
 
 -- the message stands framed under the type 21, which no message is read under
 pub destroy_is_refused : (h : NetlinkHeader) (m : Message) → IsTypedHeader h → EnvelopeFits message_bytes MessageFits (record { header = h; payload = inner m })
@@ -34,7 +56,7 @@ pub destroy_is_refused : (h : NetlinkHeader) (m : Message) → IsTypedHeader h �
 destroy_is_refused h m typed fits =
     let own = finalized message_bytes (λ _. 21) (record { header = h; payload = inner m }) in
     let own-typed : IsTypedHeader own = record { length = let whole = fits.1 in omega arith; message_type = omega arith; flags = typed.flags; sequence_number = typed.sequence_number; port_number = typed.port_number } in
-    inr (own, message_bytes m, finalized_frame MessageIs message_bytes (λ _. 21) (record { header = own; payload = inner m }) own-typed (refl, refl), inr (omega arith), inl (refl, length-message_bytes m, λ is. omega (arith, is)))
+    inr (own, message_bytes m, finalized_frame MessageIs message_bytes (λ _. 21) (record { header = own; payload = inner m }) own-typed (refl, refl), inr (omega arith), inl (type_told (message_bytes m) 21 (length-message_bytes m) (λ is. omega (arith, is))))
 
 -- and so it is with more bytes behind it
 destroy_before_is_refused : (h : NetlinkHeader) (m : Message) (rest : List ℕ) → IsTypedHeader h → EnvelopeFits message_bytes MessageFits (record { header = h; payload = inner m })
@@ -42,7 +64,7 @@ destroy_before_is_refused : (h : NetlinkHeader) (m : Message) (rest : List ℕ) 
 destroy_before_is_refused h m rest typed fits =
     let own = finalized message_bytes (λ _. 21) (record { header = h; payload = inner m }) in
     let own-typed : IsTypedHeader own = record { length = let whole = fits.1 in omega arith; message_type = omega arith; flags = typed.flags; sequence_number = typed.sequence_number; port_number = typed.port_number } in
-    inr (own, message_bytes m, record { rest = rest; parts = append_assoc (header_bytes own) (message_bytes m) rest; typed = own-typed; size = refl }, inr (omega arith), inl (refl, length-message_bytes m, λ is. omega (arith, is)))
+    inr (own, message_bytes m, record { rest = rest; parts = append_assoc (header_bytes own) (message_bytes m) rest; typed = own-typed; size = refl }, inr (omega arith), inl (type_told (message_bytes m) 21 (length-message_bytes m) (λ is. omega (arith, is))))
 
 -- a message in hand that carries the request, its header finalized
 pub destroy_in_hand_is_refused : (message : NetlinkMessage SockDiagDestroy) (destroy : SockDiagDestroy) (rest : List ℕ) → message.payload ≡ InnerMessage destroy

@@ -1,5 +1,5 @@
 -- Messages are equal where the same is seen of them.
-use Rattle.std.proofs.Common.{◌≡◌, ◌↔◌, IsTrue, ap}
+use Rattle.std.proofs.Common.{◌≡◌, ◌↔◌, Bool, IsTrue, ap}
 use Rattle.netlink_core.proofs.Equality.{apart}
 use Rattle.sock_diag_records.specs.contracts.inet.exact.InetRequestExact.TheImpl.Laws.{equal-law as same_inet_request}
 use Rattle.sock_diag_records.specs.contracts.unix.request.UnixRequestExact.TheImpl.Laws.{equal-law as same_unix_request}
@@ -8,7 +8,7 @@ use Rattle.netlink_packet_sock_diag.specs.contracts.unix.response.UnixResponseCo
 use Rattle.netlink_packet_sock_diag.specs.declared.message.SockDiagMessage.{SockDiagMessage}
 use Rattle.netlink_packet_sock_diag.specs.declared.message.SockDiagMessage.TheVariants.{InetRequest, InetResponse, UnixRequest, UnixResponse}
 use Rattle.netlink_packet_sock_diag.specs.contracts.message.SockDiagMessagePartialEq.TheImpl.{ghosts}
-use Rattle.netlink_packet_sock_diag.specs.Message.{inet_request_with, inet_response_with, unix_request_with, unix_response_with}
+use Rattle.netlink_packet_sock_diag.specs.Message.{MessageKind, inet_request, inet_response, unix_request, unix_response, codec_of, Message, message_of, message_kind}
 use Rattle.netlink_packet_sock_diag.specs.SeenMessage.{seen_message}
 use Rattle.netlink_packet_sock_diag.specs.declared.message.SockDiagView.{SockDiagView}
 use Rattle.netlink_packet_sock_diag.specs.declared.message.SockDiagView.TheVariants as view
@@ -18,16 +18,45 @@ use Rattle.netlink_packet_sock_diag.specs.ViewedInetReply as inet_view
 use Rattle.netlink_packet_sock_diag.specs.ViewedUnixReply as unix_view
 use Rattle.netlink_packet_sock_diag.specs.ViewedMessage.{viewed_message}
 
+-- what a message of a kind holds, and else something given
+abbrev held_as : (kind : MessageKind) → (codec_of kind).Value → Message → (codec_of kind).Value
+held_as inet_request other (message_of inet_request v) = v
+held_as inet_response other (message_of inet_response v) = v
+held_as unix_request other (message_of unix_request v) = v
+held_as unix_response other (message_of unix_response v) = v
+held_as _ other _ = other
+
+-- messages of one kind are equal where they hold the same
+same_held : (kind : MessageKind) (v w : (codec_of kind).Value)
+    → message_of kind v ≡ message_of kind w → v ≡ w
+same_held inet_request v w e = ap (held_as inet_request v) e
+same_held inet_response v w e = ap (held_as inet_response v) e
+same_held unix_request v w e = ap (held_as unix_request v) e
+same_held unix_response v w e = ap (held_as unix_response v) e
+
+-- so a test of what they hold is one of them
+by_held : (kind : MessageKind) (is : Bool) (v w : (codec_of kind).Value)
+    → (IsTrue is ↔ (v ≡ w)) → (IsTrue is ↔ (message_of kind v ≡ message_of kind w))
+by_held kind is v w same =
+    (λ h. ap (message_of kind) (same.0 h), λ e. same.1 (same_held kind v w e))
+
 pub message_equal : (v w : SockDiagMessage) → IsTrue (ghosts.eq v w) ↔ (seen_message v ≡ seen_message w)
-message_equal (InetRequest a) (InetRequest x) = (λ h. ap inet_request_with ((same_inet_request a x).0 h), λ e. (same_inet_request a x).1 cc)
-message_equal (InetResponse a) (InetResponse x) = (λ h. ap inet_response_with ((same_inet_response a.value x.value).0 h), λ e. (same_inet_response a.value x.value).1 cc)
-message_equal (UnixRequest a) (UnixRequest x) = (λ h. ap unix_request_with ((same_unix_request a x).0 h), λ e. (same_unix_request a x).1 cc)
-message_equal (UnixResponse a) (UnixResponse x) = (λ h. ap unix_response_with ((same_unix_response a.value x.value).0 h), λ e. (same_unix_response a.value x.value).1 cc)
-message_equal v w = apart (λ e. cc)
+message_equal (InetRequest a) (InetRequest x) =
+    by_held inet_request _ _ _ (same_inet_request a x)
+message_equal (InetResponse a) (InetResponse x) =
+    by_held inet_response _ _ _ (same_inet_response a.value x.value)
+message_equal (UnixRequest a) (UnixRequest x) =
+    by_held unix_request _ _ _ (same_unix_request a x)
+message_equal (UnixResponse a) (UnixResponse x) =
+    by_held unix_response _ _ _ (same_unix_response a.value x.value)
+message_equal v w = apart (λ e. let kinds = ap message_kind e in cc)
 
 -- and so are messages that are read in place
 pub view_equal : (v w : SockDiagView) → IsTrue (views.eq v w) ↔ (viewed_message v ≡ viewed_message w)
-view_equal (view.InetResponse a) (view.InetResponse x) = let same = inet_test_says (inet_view.viewed_response a) (inet_view.viewed_response x) in (λ h. ap inet_response_with (same.0 h), λ e. same.1 cc)
-view_equal (view.InetResponse a) (view.UnixResponse x) = apart (λ e. cc)
-view_equal (view.UnixResponse a) (view.InetResponse x) = apart (λ e. cc)
-view_equal (view.UnixResponse a) (view.UnixResponse x) = let same = unix_test_says (unix_view.viewed_response a) (unix_view.viewed_response x) in (λ h. ap unix_response_with (same.0 h), λ e. same.1 cc)
+view_equal (view.InetResponse a) (view.InetResponse x) =
+    by_held inet_response _ _ _
+    (inet_test_says (inet_view.viewed_response a) (inet_view.viewed_response x))
+view_equal (view.UnixResponse a) (view.UnixResponse x) =
+    by_held unix_response _ _ _
+    (unix_test_says (unix_view.viewed_response a) (unix_view.viewed_response x))
+view_equal v w = apart (λ e. let kinds = ap message_kind e in cc)

@@ -1,211 +1,208 @@
 -- The laws of messages.
-use Rattle.std.proofs.Common.{◌≡◌, ◌↔◌, ◌∙◌, ℕ, ◌≤◌, ◌==◌, ◌⊎◌, inl, inr, Bool, true, false, if◌then◌else◌, List, length, slice_index, Ok, Err, refl, sym, ap, arith}
-use Rattle.std.proofs.lemmas.Bool.{cases_eq, cases_lt, eqb-true}
+use Rattle.std.proofs.Common.{◌≡◌, ◌≢◌, ◌↔◌, ◌∙◌, ℕ, ◌≤◌, ◌==◌, ◌⊎◌, inl, inr, Bool, true, false, if◌then◌else◌, List, length, slice_index, Result, Ok, Err, refl, sym, ap, subst, arith, le-ltb}
+use Rattle.std.specs.Prelude.{◌||◌, not, nat_lt, MatchResult}
+use Rattle.std.proofs.lemmas.Bool.{cases_eq, eqb-true, ne_eqb, not-false}
 use Rattle.netlink_core.specs.Bytes.{IsBytes}
 use Rattle.netlink_core.specs.Codec.{KeepsLaws}
-use Rattle.netlink_core.specs.Reply.{MeansReply, reply_bytes, reply_codec}
+use Rattle.netlink_core.specs.Reply.{reply_bytes}
 use Rattle.netlink_core.specs.declared.fault.DecodeError.{DecodeError}
-use Rattle.netlink_core.specs.declared.fault.DecodeError.TheVariants.{Memory, MessageTooShort, UnknownFamily, UnknownMessageType, UnsupportedFamily}
-use Rattle.netlink_core.proofs.FormatLaws.{accepted}
+use Rattle.netlink_core.specs.declared.fault.DecodeError.TheVariants.{Memory, MessageTooShort, UnknownFamily, UnknownMessageType}
+use Rattle.netlink_core.proofs.FormatLaws.{keeps_laws}
 use Rattle.netlink_core.proofs.Replies.{replies_keep_laws}
-use Rattle.sock_diag_records.specs.declared.inet.response.InetResponseHeader.{InetResponseHeader}
-use Rattle.sock_diag_records.specs.Kinds.{Kinds, both, ipv4, ipv6}
-use Rattle.sock_diag_records.specs.InetRequest.{inet_request}
+use Rattle.sock_diag_records.specs.Kinds.{Kinds, kinds_of_family}
+use Rattle.sock_diag_records.specs.InetRequest.{inet_request as inet_request_format}
 use Rattle.sock_diag_records.specs.InetResponse.{inet_response_header}
 use Rattle.sock_diag_records.specs.InetRequestLaws.{inet_request_sound}
-use Rattle.netlink_core.proofs.FormatLaws as formats
-use Rattle.sock_diag_records.specs.InetRequest.{inet_request}
-use Rattle.sock_diag_records.specs.UnixRequest.{unix_request}
+use Rattle.sock_diag_records.specs.UnixRequest.{unix_request as unix_request_format}
 use Rattle.sock_diag_records.specs.UnixRequestLaws.{unix_request_sound}
 use Rattle.netlink_packet_sock_diag.specs.InetReply.{InetReply, inet_reply}
-use Rattle.netlink_packet_sock_diag.specs.UnixReply.{UnixReply, unix_reply}
+use Rattle.netlink_packet_sock_diag.specs.UnixReply.{unix_reply}
 use Rattle.netlink_packet_sock_diag.specs.InetReplyLaws.{inet_reply_laws}
 use Rattle.netlink_packet_sock_diag.specs.UnixReplyLaws.{unix_reply_laws}
-use Rattle.netlink_packet_sock_diag.specs.Message.{Message, message_codec, inet_request_with, inet_response_with, unix_request_with, unix_response_with, IsUnix, IsInet, MessageIs, IsNoReply, MessageFault, message_bytes, MessageFits, IdleMessages, IsTypedMessage, IsNormalMessage}
+use Rattle.netlink_packet_sock_diag.specs.Message.{MessageKind, inet_request, inet_response, unix_request, unix_response, codec_of, Message, message_of, message_kind, message_codec, reply_kind, MessageIs, MessageFault, message_bytes, MessageFits, IdleMessages, IsTypedMessage, IsNormalMessage}
 
--- replies of both families keep the laws
-inet_replies : KeepsLaws (reply_codec inet_reply)
-inet_replies = replies_keep_laws inet_reply inet_reply_laws
+-- each kind's codec keeps the laws
+laws_of : (kind : MessageKind) → KeepsLaws (codec_of kind)
+laws_of inet_request = keeps_laws inet_request_format inet_request_sound
+laws_of inet_response = replies_keep_laws inet_reply inet_reply_laws
+laws_of unix_request = keeps_laws unix_request_format unix_request_sound
+laws_of unix_response = replies_keep_laws unix_reply unix_reply_laws
 
-unix_replies : KeepsLaws (reply_codec unix_reply)
-unix_replies = replies_keep_laws unix_reply unix_reply_laws
+-- ---- which kind is told
 
--- ---- the first byte
+pub unix_told : (b : List ℕ) (t : ℕ) → 2 ≤ length b → t ≡ 20
+    → slice_index b 0 ≡ 1 → reply_kind b t ≡ Ok unix_response
+unix_told b t long is one = rw (le-ltb (length b) 2 long, is, one) refl
 
--- the first byte of an internet reply is its header's family, read and written
-inet_family_read : (b : List ℕ) (v : InetReply) → MeansReply inet_reply b v → slice_index b 0 ≡ v.header.family
-unfolding inet_response_header
-inet_family_read b v r =
-    let h = accepted inet_response_header tt b v.header r.header in
-    sym (ap (λ (header : InetResponseHeader). header.family) h.is)
+pub inet_told : (b : List ℕ) (t : ℕ) → 2 ≤ length b → t ≡ 20
+    → (slice_index b 0 ≡ 2) ⊎ (slice_index b 0 ≡ 10) → reply_kind b t ≡ Ok inet_response
+inet_told b t long is (inl two) = rw (le-ltb (length b) 2 long, is, two) refl
+inet_told b t long is (inr ten) = rw (le-ltb (length b) 2 long, is, ten) refl
 
-inet_family_written : (v : InetReply) → (2 ≤ length (reply_bytes inet_reply v)) × (slice_index (reply_bytes inet_reply v) 0 ≡ v.header.family)
-unfolding inet_response_header
-inet_family_written v = (omega arith, refl)
+pub type_told : (b : List ℕ) (t : ℕ) → 2 ≤ length b
+    → t ≢ 20 → reply_kind b t ≡ Err (UnknownMessageType t)
+type_told b t long other = rw (le-ltb (length b) 2 long, ne_eqb t 20 other) refl
 
--- in normal form it is 2 or 10
-family_known : (first second : Bool) (kinds one other : Kinds) (family : ℕ) → (if first then Ok one else if second then Ok other else Err (UnsupportedFamily family)) ≡ Ok kinds → (first ≡ true) ⊎ (second ≡ true)
-family_known true second kinds one other family h = inl refl
-family_known false true kinds one other family h = inr refl
-family_known false false kinds one other family h = cc
+-- what each answer tells
+abbrev Tells : ℕ → Result MessageKind DecodeError → Type 0
+Tells t told =
+    MatchResult told (λ kind. (t ≡ 20) × ((kind ≡ inet_response) ⊎ (kind ≡ unix_response)))
+    (λ e. e ≢ Memory)
 
--- a UNIX reply is written with 1 in front
-unix_family_written : (v : UnixReply) → (2 ≤ length (reply_bytes unix_reply v)) × (slice_index (reply_bytes unix_reply v) 0 ≡ 1)
-unix_family_written v = (omega arith, refl)
+chosen : (t got given family : ℕ) (short other unix inet : Bool) → (other ≡ false → t ≡ 20)
+    → Tells t
+    (if short then Err (MessageTooShort got)
+    else if other then Err (UnknownMessageType given)
+    else if unix then Ok unix_response
+    else if inet then Ok inet_response
+    else Err (UnknownFamily family))
+chosen t got given family true other unix inet is = λ e. cc
+chosen t got given family false true unix inet is = λ e. cc
+chosen t got given family false false true inet is = (is refl, inr refl)
+chosen t got given family false false false true is = (is refl, inl refl)
+chosen t got given family false false false false is = λ e. cc
+
+tells : (b : List ℕ) (t : ℕ) (told : Result MessageKind DecodeError) → reply_kind b t ≡ told
+    → Tells t told
+tells b t told h =
+    let first = slice_index b 0 in
+    subst (Tells t) h
+    (chosen t (length b) t first
+    (nat_lt (length b) 2) (not (t == 20)) (first == 1) ((first == 2) || (first == 10))
+    (λ e. eqb-true t 20 (not-false (t == 20) e)))
+
+-- what is read is a reply, under the type 20
+pub read_reply : (b : List ℕ) (t : ℕ) (m : Message) → MessageIs b t m
+    → (t ≡ 20) × ((message_kind m ≡ inet_response) ⊎ (message_kind m ≡ unix_response))
+read_reply b t (message_of kind v) r = tells b t (Ok kind) r.0
 
 -- ---- one message or one fault
 
-unix_or_inet : (b : List ℕ) (t : ℕ) → IsUnix b t → IsInet b t → ⊥
-unix_or_inet b t (long, is, one) (long', is', inl two) = omega (arith, one, two)
-unix_or_inet b t (long, is, one) (long', is', inr ten) = omega (arith, one, ten)
+same_kind : (told : Result MessageKind DecodeError) (k l : MessageKind) → told ≡ Ok k → told ≡ Ok l
+    → k ≡ l
+same_kind told k l h g = cc
 
-no_fault_of_unix : (b : List ℕ) (t : ℕ) (e : DecodeError) → IsUnix b t → IsNoReply b t e → ⊥
-no_fault_of_unix b t (MessageTooShort got) is f = omega (arith, is.0, f.1)
-no_fault_of_unix b t (UnknownMessageType given) is f = f.2 is.1
-no_fault_of_unix b t (UnknownFamily family) is f = f.3 (f.0 ∙ is.2)
-no_fault_of_unix b t _ is f = f
-
-no_fault_of_inet : (b : List ℕ) (t : ℕ) (e : DecodeError) → IsInet b t → IsNoReply b t e → ⊥
-no_fault_of_inet b t (MessageTooShort got) is f = omega (arith, is.0, f.1)
-no_fault_of_inet b t (UnknownMessageType given) is f = f.2 is.1
-no_fault_of_inet b t (UnknownFamily family) (long, is, inl two) f = f.4 (f.0 ∙ two)
-no_fault_of_inet b t (UnknownFamily family) (long, is, inr ten) f = f.5 (f.0 ∙ ten)
-no_fault_of_inet b t _ is f = f
-
--- the reply of a family, or its fault
-unix_answered : (b : List ℕ) (t : ℕ) → IsBytes b → IsUnix b t → ((v : Message) × MessageIs b t v) ⊎ ((e : DecodeError) × MessageFault b t e)
-unix_answered b t tb is = elim (unix_replies.answered b tt tb) [
-  | inl answer ↦ inl (unix_response_with answer.0, (is, answer.1))
-  | inr fault ↦ inr (fault.0, inr (inl (is, fault.1)))
+-- the message or the fault by the kind that is told, or its fault
+answered_as : (b : List ℕ) (t : ℕ) (told : Result MessageKind DecodeError) → IsBytes b
+    → reply_kind b t ≡ told
+    → ((m : Message) × MessageIs b t m) ⊎ ((e : DecodeError) × MessageFault b t e)
+answered_as b t (Err e) tb h = inr (e, inl h)
+answered_as b t (Ok kind) tb h = elim ((laws_of kind).answered b tt tb) [
+  | inl answer ↦ inl (message_of kind answer.0, (h, answer.1))
+  | inr fault ↦ inr (fault.0, inr (kind, h, fault.1))
 ]
 
-inet_answered : (b : List ℕ) (t : ℕ) → IsBytes b → IsInet b t → ((v : Message) × MessageIs b t v) ⊎ ((e : DecodeError) × MessageFault b t e)
-inet_answered b t tb is = elim (inet_replies.answered b tt tb) [
-  | inl answer ↦ inl (inet_response_with answer.0, (is, answer.1))
-  | inr fault ↦ inr (fault.0, inr (inr (is, fault.1)))
-]
+-- the fault of a kind is that of another one that is told
+refused_as : (b : List ℕ) (t : ℕ) (e : DecodeError) (kind other : MessageKind)
+    → reply_kind b t ≡ Ok kind → reply_kind b t ≡ Ok other
+    → (codec_of other).refuses b tt e → (codec_of kind).refuses b tt e
+refused_as b t e kind other told said refused =
+    subst (λ (k : MessageKind). (codec_of k).refuses b tt e)
+    (same_kind (reply_kind b t) other kind said told) refused
 
-pub message_answered : (b : List ℕ) (t : ℕ) → IsBytes b → ((v : Message) × MessageIs b t v) ⊎ ((e : DecodeError) × MessageFault b t e)
-message_answered b t tb = elim (cases_lt (length b) 2) [
-  | inl short ↦ inr (MessageTooShort (length b), inl (refl, short))
-  | inr long ↦ elim (cases_eq t 20) [
-    | inr other ↦ inr (UnknownMessageType t, inl (refl, long, other))
-    | inl is ↦ elim (cases_eq (slice_index b 0) 1) [
-      | inl one ↦ unix_answered b t tb (long, is, one)
-      | inr not_one ↦ elim (cases_eq (slice_index b 0) 2) [
-        | inl two ↦ inet_answered b t tb (long, is, inl two)
-        | inr not_two ↦ elim (cases_eq (slice_index b 0) 10) [
-          | inl ten ↦ inet_answered b t tb (long, is, inr ten)
-          | inr not_ten ↦ inr (UnknownFamily (slice_index b 0), inl (refl, long, is, not_one, not_two, not_ten))
-        ]
-      ]
-    ]
-  ]
-]
+one_answer : (b : List ℕ) (t : ℕ) (m : Message) (e : DecodeError) → MessageIs b t m
+    → MessageFault b t e → ⊥
+one_answer b t (message_of kind v) e (told, r) (inl none) = cc
+one_answer b t (message_of kind v) e (told, r) (inr (other, said, refused)) =
+    (laws_of kind).one_answer b tt v e r (refused_as b t e kind other told said refused)
 
-one_answer : (b : List ℕ) (t : ℕ) (v : Message) (e : DecodeError) → MessageIs b t v → MessageFault b t e → ⊥
-one_answer b t (inet_request_with v) e r f = r
-one_answer b t (unix_request_with v) e r f = r
-one_answer b t (unix_response_with v) e r (inl none) = no_fault_of_unix b t e r.0 none
-one_answer b t (unix_response_with v) e r (inr (inl refused)) = unix_replies.one_answer b tt v e r.1 refused.1
-one_answer b t (unix_response_with v) e r (inr (inr refused)) = unix_or_inet b t r.0 refused.0
-one_answer b t (inet_response_with v) e r (inl none) = no_fault_of_inet b t e r.0 none
-one_answer b t (inet_response_with v) e r (inr (inl refused)) = unix_or_inet b t refused.0 r.0
-one_answer b t (inet_response_with v) e r (inr (inr refused)) = inet_replies.one_answer b tt v e r.1 refused.1
-
-one_reason : (b : List ℕ) (t : ℕ) (e f : DecodeError) → IsNoReply b t e → IsNoReply b t f → e ≡ f
-one_reason b t (MessageTooShort x) (MessageTooShort y) h k = ap MessageTooShort (h.0 ∙ sym k.0)
-one_reason b t (UnknownMessageType x) (UnknownMessageType y) h k = ap UnknownMessageType (h.0 ∙ sym k.0)
-one_reason b t (UnknownFamily x) (UnknownFamily y) h k = ap UnknownFamily (h.0 ∙ sym k.0)
-one_reason b t (MessageTooShort x) (UnknownMessageType y) h k = absurd (omega (arith, h.1, k.1))
-one_reason b t (MessageTooShort x) (UnknownFamily y) h k = absurd (omega (arith, h.1, k.1))
-one_reason b t (UnknownMessageType x) (MessageTooShort y) h k = absurd (omega (arith, h.1, k.1))
-one_reason b t (UnknownMessageType x) (UnknownFamily y) h k = absurd (h.2 k.2)
-one_reason b t (UnknownFamily x) (MessageTooShort y) h k = absurd (omega (arith, h.1, k.1))
-one_reason b t (UnknownFamily x) (UnknownMessageType y) h k = absurd (k.2 h.2)
-one_reason b t _ (MessageTooShort y) h k = absurd h
-one_reason b t _ (UnknownMessageType y) h k = absurd h
-one_reason b t _ (UnknownFamily y) h k = absurd h
-one_reason b t e _ h k = absurd k
-
-one_fault : (b : List ℕ) (t : ℕ) (e f : DecodeError) → MessageFault b t e → MessageFault b t f → e ≡ f
-one_fault b t e f (inl h) (inl k) = one_reason b t e f h k
-one_fault b t e f (inl h) (inr (inl k)) = absurd (no_fault_of_unix b t e k.0 h)
-one_fault b t e f (inl h) (inr (inr k)) = absurd (no_fault_of_inet b t e k.0 h)
-one_fault b t e f (inr (inl h)) (inl k) = absurd (no_fault_of_unix b t f h.0 k)
-one_fault b t e f (inr (inl h)) (inr (inl k)) = unix_replies.one_fault b tt e f h.1 k.1
-one_fault b t e f (inr (inl h)) (inr (inr k)) = absurd (unix_or_inet b t h.0 k.0)
-one_fault b t e f (inr (inr h)) (inl k) = absurd (no_fault_of_inet b t f h.0 k)
-one_fault b t e f (inr (inr h)) (inr (inl k)) = absurd (unix_or_inet b t k.0 h.0)
-one_fault b t e f (inr (inr h)) (inr (inr k)) = inet_replies.one_fault b tt e f h.1 k.1
+one_fault : (b : List ℕ) (t : ℕ) (e f : DecodeError) → MessageFault b t e → MessageFault b t f
+    → e ≡ f
+one_fault b t e f (inl h) (inl k) = cc
+one_fault b t e f (inl h) (inr (kind, told, refused)) = absurd cc
+one_fault b t e f (inr (kind, told, refused)) (inl k) = absurd cc
+one_fault b t e f (inr (kind, told, refused)) (inr (other, said, also)) =
+    (laws_of kind).one_fault b tt e f refused (refused_as b t f kind other told said also)
 
 named_fault : (b : List ℕ) (t : ℕ) → MessageFault b t Memory → ⊥
-named_fault b t (inl none) = none
-named_fault b t (inr (inl refused)) = unix_replies.named_fault b tt refused.1
-named_fault b t (inr (inr refused)) = inet_replies.named_fault b tt refused.1
+named_fault b t (inl none) = tells b t (Err Memory) none refl
+named_fault b t (inr (kind, told, refused)) = (laws_of kind).named_fault b tt refused
 
 -- ---- equal messages
 
-same_value : (b c : List ℕ) (t : ℕ) (v w : Message) → IsBytes b → IsBytes c → MessageIs b t v → MessageIs c t w → ((v ≡ w) ↔ IdleMessages t b c)
-same_value b c t (inet_request_with v) w tb tc r s = absurd r
-same_value b c t (unix_request_with v) w tb tc r s = absurd r
-same_value b c t (inet_response_with v) (inet_request_with w) tb tc r s = absurd s
-same_value b c t (inet_response_with v) (unix_request_with w) tb tc r s = absurd s
-same_value b c t (unix_response_with v) (inet_request_with w) tb tc r s = absurd s
-same_value b c t (unix_response_with v) (unix_request_with w) tb tc r s = absurd s
-same_value b c t (unix_response_with v) (unix_response_with w) tb tc r s =
-    let law = unix_replies.same_value b c tt v w tb tc r.1 s.1 in (
-      λ e. let same : v ≡ w = cc in (r.0.2 ∙ sym s.0.2, inl (r.0.2, law.0 same)),
-      λ i. elim i.1 [
-        | inl idle ↦ ap unix_response_with (law.1 idle.1)
-        | inr idle ↦ absurd (unix_or_inet b t r.0 (r.0.0, r.0.1, idle.0))
-      ],
-    )
-same_value b c t (inet_response_with v) (inet_response_with w) tb tc r s =
-    let law = inet_replies.same_value b c tt v w tb tc r.1 s.1 in (
-      λ e. let same : v ≡ w = cc in (inet_family_read b v r.1 ∙ ap (λ (x : InetReply). x.header.family) same ∙ sym (inet_family_read c w s.1), inr (r.0.2, law.0 same)),
-      λ i. elim i.1 [
-        | inl idle ↦ absurd (unix_or_inet b t (r.0.0, r.0.1, idle.0) r.0)
-        | inr idle ↦ ap inet_response_with (law.1 idle.1)
-      ],
-    )
-same_value b c t (unix_response_with v) (inet_response_with w) tb tc r s =
-    (λ e. cc, λ i. absurd (unix_or_inet c t (s.0.0, s.0.1, sym i.0 ∙ r.0.2) s.0))
-same_value b c t (inet_response_with v) (unix_response_with w) tb tc r s =
-    (λ e. cc, λ i. absurd (unix_or_inet b t (r.0.0, r.0.1, i.0 ∙ s.0.2) r.0))
+-- strings that one message belongs to are idle
+idle_of : (b c : List ℕ) (t : ℕ) (m : Message) → IsBytes b → IsBytes c
+    → MessageIs b t m → MessageIs c t m → IdleMessages t b c
+idle_of b c t (message_of kind v) tb tc r s =
+    let law = (laws_of kind).same_value b c tt v v tb tc r.1 s.1 in
+    (kind, r.0, s.0, law.0 refl)
+
+-- what belongs to a string that tells a kind is of that kind
+of_kind : (b : List ℕ) (t : ℕ) (kind : MessageKind) (m : Message) → reply_kind b t ≡ Ok kind
+    → MessageIs b t m
+    → (v : (codec_of kind).Value) × (m ≡ message_of kind v) × (codec_of kind).reads b tt v
+of_kind b t kind (message_of other v) told r =
+    subst
+    (λ (k : MessageKind). (x : (codec_of k).Value)
+    × (message_of other v ≡ message_of k x)
+    × (codec_of k).reads b tt x)
+    (same_kind (reply_kind b t) other kind r.0 told) (v, refl, r.1)
+
+same_value : (b c : List ℕ) (t : ℕ) (m n : Message) → IsBytes b → IsBytes c
+    → MessageIs b t m → MessageIs c t n → ((m ≡ n) ↔ IdleMessages t b c)
+same_value b c t m n tb tc r s = (
+  λ e. idle_of b c t n tb tc (subst (MessageIs b t) e r) s,
+  λ (kind, left, right, idle).
+      let x = of_kind b t kind m left r in
+      let y = of_kind c t kind n right s in
+      let law = (laws_of kind).same_value b c tt x.0 y.0 tb tc x.2 y.2 in
+      x.1 ∙ ap (message_of kind) (law.1 idle) ∙ sym y.1,
+)
 
 -- ---- what is read and written
 
-reads_normal : (b : List ℕ) (t : ℕ) (v : Message) → IsBytes b → MessageIs b t v → IsTypedMessage v × IsNormalMessage t v
-reads_normal b t (inet_request_with v) tb r = absurd r
-reads_normal b t (unix_request_with v) tb r = absurd r
-reads_normal b t (inet_response_with v) tb r = let n = inet_replies.reads_normal b tt v tb r.1 in (n.0, (r.0.1, n.1))
-reads_normal b t (unix_response_with v) tb r = let n = unix_replies.reads_normal b tt v tb r.1 in (n.0, (r.0.1, n.1))
+reads_normal : (b : List ℕ) (t : ℕ) (m : Message) → IsBytes b → MessageIs b t m
+    → IsTypedMessage m × IsNormalMessage t m
+reads_normal b t (message_of kind v) tb (told, r) =
+    let reply = tells b t (Ok kind) told in
+    let parts = (laws_of kind).reads_normal b tt v tb r in
+    (parts.0, (reply.0, reply.1, parts.1))
 
-written_bytes : (v : Message) → IsTypedMessage v → IsBytes (message_bytes v)
-written_bytes (inet_request_with v) typed = formats.written_bytes inet_request inet_request_sound v typed
-written_bytes (unix_request_with v) typed = formats.written_bytes unix_request unix_request_sound v typed
-written_bytes (inet_response_with v) typed = inet_replies.written_bytes v typed
-written_bytes (unix_response_with v) typed = unix_replies.written_bytes v typed
+written_bytes : (m : Message) → IsTypedMessage m → IsBytes (message_bytes m)
+written_bytes (message_of kind v) typed = (laws_of kind).written_bytes v typed
 
-reads_back : (t : ℕ) (v : Message) → IsTypedMessage v → IsNormalMessage t v → MessageFits v → MessageIs (message_bytes v) t v
+-- an internet reply is written with its family in front
+family_written : (v : InetReply) → (2 ≤ length (reply_bytes inet_reply v))
+    × (slice_index (reply_bytes inet_reply v) 0 ≡ v.header.family)
 unfolding inet_response_header
-reads_back t (inet_request_with v) typed normal fits = absurd normal
-reads_back t (unix_request_with v) typed normal fits = absurd normal
-reads_back t (inet_response_with v) typed normal fits =
-    let front = inet_family_written v in
-    let known = family_known (v.header.family == 2) (v.header.family == 10) _ (both ipv4) (both ipv6) v.header.family normal.1.0.own.same_kind in
-    let kind : (v.header.family ≡ 2) ⊎ (v.header.family ≡ 10) = elim known [ inl two ↦ inl (eqb-true v.header.family 2 two) | inr ten ↦ inr (eqb-true v.header.family 10 ten) ] in (
-      (front.0, normal.0, elim kind [ inl two ↦ inl (front.1 ∙ two) | inr ten ↦ inr (front.1 ∙ ten) ]),
-      inet_replies.reads_back tt v typed normal.1 fits,
-    )
-reads_back t (unix_response_with v) typed normal fits =
-    let front = unix_family_written v in
-    ((front.0, normal.0, front.1), unix_replies.reads_back tt v typed normal.1 fits)
+family_written v = (omega arith, refl)
+
+-- in normal form that is 2 or 10
+family_known : (family : ℕ) (kinds : Kinds) → kinds_of_family family ≡ Ok kinds
+    → (family ≡ 2) ⊎ (family ≡ 10)
+family_known family kinds h = elim (cases_eq family 2) [
+  | inl two ↦ inl two
+  | inr other ↦ elim (cases_eq family 10) [
+    | inl ten ↦ inr ten
+    | inr neither ↦ let no = rw (ne_eqb family 2 other, ne_eqb family 10 neither) at h in absurd cc
+  ]
+]
+
+-- a message in normal form is written as a reply of its kind
+kind_written : (t : ℕ) (m : Message) → IsNormalMessage t m
+    → reply_kind (message_bytes m) t ≡ Ok (message_kind m)
+unfolding inet_response_header
+kind_written t (message_of inet_request v) (is, reply, normal) =
+    elim reply [ inl other ↦ absurd cc | inr other ↦ absurd cc ]
+kind_written t (message_of unix_request v) (is, reply, normal) =
+    elim reply [ inl other ↦ absurd cc | inr other ↦ absurd cc ]
+kind_written t (message_of inet_response v) (is, reply, normal) =
+    let front = family_written v in
+    inet_told (reply_bytes inet_reply v) t front.0 is
+    (rw front.1 (family_known v.header.family _ normal.0.own.same_kind))
+kind_written t (message_of unix_response v) (is, reply, normal) =
+    unix_told (reply_bytes unix_reply v) t (omega arith) is refl
+
+reads_back : (t : ℕ) (m : Message) → IsTypedMessage m → IsNormalMessage t m → MessageFits m
+    → MessageIs (message_bytes m) t m
+reads_back t (message_of kind v) typed normal fits = (
+  kind_written t (message_of kind v) normal,
+  (laws_of kind).reads_back tt v typed normal.2 fits,
+)
 
 pub message_laws : KeepsLaws message_codec
 message_laws = record {
-  answered = message_answered;
+  answered = λ b t tb. answered_as b t (reply_kind b t) tb refl;
   one_answer = one_answer;
   one_fault = one_fault;
   named_fault = named_fault;
@@ -216,9 +213,9 @@ message_laws = record {
 }
 
 -- a message is written as two bytes and more
-pub length-message_bytes : (v : Message) → 2 ≤ length (message_bytes v)
-unfolding inet_request
-length-message_bytes (inet_request_with v) = omega arith
-length-message_bytes (unix_request_with v) = omega arith
-length-message_bytes (inet_response_with v) = (inet_family_written v).0
-length-message_bytes (unix_response_with v) = (unix_family_written v).0
+pub length-message_bytes : (m : Message) → 2 ≤ length (message_bytes m)
+unfolding inet_request_format
+length-message_bytes (message_of inet_request v) = omega arith
+length-message_bytes (message_of unix_request v) = omega arith
+length-message_bytes (message_of inet_response v) = (family_written v).0
+length-message_bytes (message_of unix_response v) = omega arith

@@ -1,6 +1,6 @@
 //! Laws of replies and of messages. The functions do nothing: their contracts are the laws.
 
-ghost use Rattle.std.specs.Prelude.{◌≡◌, ◌%◌, ◌↔◌, ◌⊎◌, ◌++◌, ℕ, List, [], ◌∷◌, length, count_by, IsTrue, Result, IfOk, IsOk, map};
+ghost use Rattle.std.specs.Prelude.{Bool, ◌≡◌, ◌%◌, ◌↔◌, ◌⊎◌, ◌++◌, ℕ, List, [], ◌∷◌, length, count_by, IsTrue, Result, IfOk, IsOk, map};
 ghost use Rattle.std.specs.Iterator.{Drains};
 ghost use Rattle.std.specs.List.{AllByRecursion, AllZip};
 ghost use Rattle.netlink_core.specs.Bytes.{IsBytes};
@@ -29,7 +29,7 @@ ghost use Rattle.netlink_packet_sock_diag.specs.InetReply.{InetReply, inet_reply
 ghost use Rattle.netlink_packet_sock_diag.specs.ViewedInetReply.{viewed_response as viewed_inet};
 ghost use Rattle.netlink_packet_sock_diag.specs.ViewedMessage.{viewed_message};
 ghost use Rattle.netlink_packet_sock_diag.specs.ViewedUnixReply.{viewed_response as viewed_unix};
-ghost use Rattle.netlink_packet_sock_diag.specs.Message.{Message, MessageIs, MessageFault, MessageFits, IdleMessages, IsTypedMessage, IsNormalMessage, message_bytes, is_inet_request, is_inet_response, is_unix_request, is_unix_response};
+ghost use Rattle.netlink_packet_sock_diag.specs.Message.{Message, MessageIs, MessageFault, MessageFits, IdleMessages, IsTypedMessage, IsNormalMessage, message_bytes, MessageKind, message_kind, inet_request, inet_response, unix_request, unix_response};
 
 use crate::dump::{DumpError, DumpViews as Views, PayloadView as View};
 use crate::inet::InetResponseView;
@@ -44,15 +44,16 @@ pub fn reply_lengths_are_multiples_of_four()
     ensures inet { (v : InetReply) → IsTypedReply inet_reply v → length (reply_bytes inet_reply v) % 4 ≡ 0 }
 {}
 
-/// Exactly one of the four tests is true of a message.
+/// Exactly one of four tests, each for one kind, is true of a message.
 pub fn one_kind()
-    ensures { (m : Message) → count_by (λ is. is m) (is_inet_request ∷ is_inet_response ∷ is_unix_request ∷ is_unix_response ∷ []) ≡ 1 }
+    ensures { (m : Message) (tests : MessageKind → Bool) → ((kind : MessageKind) → IsTrue (tests kind) ↔ (message_kind m ≡ kind))
+        → count_by tests (inet_request ∷ inet_response ∷ unix_request ∷ unix_response ∷ []) ≡ 1 }
 {}
 
 /// A message that was read is a reply.
 pub fn read_messages_are_replies()
     ensures { (b : List ℕ) (t : ℕ) (m : Message) → MessageIs b t m
-        → IsTrue (is_inet_response m) ⊎ IsTrue (is_unix_response m) }
+        → (message_kind m ≡ inet_response) ⊎ (message_kind m ≡ unix_response) }
 {}
 
 /// A finalized request to close sockets is refused by its own reader: it is written under the type 21, and messages

@@ -1,9 +1,10 @@
 //! The messages of sock_diag(7): requests and replies, and the request to close sockets.
 
-ghost use Rattle.std.specs.Prelude.{◌≡◌, ◌≢◌, ◌<◌, true, refl, IfOk, IfErr};
+ghost use Rattle.std.specs.Prelude.{◌≡◌, ◌≢◌, ◌<◌, ◌↔◌, true, refl, IsTrue, IfOk, IfErr};
 ghost use Rattle.netlink_core.specs.declared.fault.DecodeError.TheVariants.{Memory};
+ghost use Rattle.netlink_core.specs.Spare.{WantsMemory};
 ghost use Rattle.netlink_core.specs.declared.message.NetlinkPayload.TheVariants.{InnerMessage};
-ghost use Rattle.netlink_packet_sock_diag.specs.Message.{Message, MessageIs, MessageFault, MessageFits, message_bytes, is_inet_request, is_inet_response, is_unix_request, is_unix_response};
+ghost use Rattle.netlink_packet_sock_diag.specs.Message.{MessageIs, MessageFault, MessageFits, message_bytes, message_kind, inet_request, inet_response, unix_request, unix_response};
 
 use crate::constants::{AF_INET, AF_INET6, AF_UNIX, SOCK_DESTROY, SOCK_DIAG_BY_FAMILY};
 use crate::inet::{InetRequest, InetResponse, InetResponseView};
@@ -32,28 +33,28 @@ impl SockDiagMessage {
 
     /// Whether the message asks for IPv4 or IPv6 sockets.
     pub fn is_inet_request(&self) -> bool
-        ensures { result ≡ is_inet_request (seen_message self.now) }
+        ensures { IsTrue result ↔ (message_kind (seen_message self.now) ≡ inet_request) }
     {
         matches!(self, SockDiagMessage::InetRequest(_))
     }
 
     /// Whether the message tells an IPv4 or IPv6 socket.
     pub fn is_inet_response(&self) -> bool
-        ensures { result ≡ is_inet_response (seen_message self.now) }
+        ensures { IsTrue result ↔ (message_kind (seen_message self.now) ≡ inet_response) }
     {
         matches!(self, SockDiagMessage::InetResponse(_))
     }
 
     /// Whether the message asks for UNIX sockets.
     pub fn is_unix_request(&self) -> bool
-        ensures { result ≡ is_unix_request (seen_message self.now) }
+        ensures { IsTrue result ↔ (message_kind (seen_message self.now) ≡ unix_request) }
     {
         matches!(self, SockDiagMessage::UnixRequest(_))
     }
 
     /// Whether the message tells a UNIX socket.
     pub fn is_unix_response(&self) -> bool
-        ensures { result ≡ is_unix_response (seen_message self.now) }
+        ensures { IsTrue result ↔ (message_kind (seen_message self.now) ≡ unix_response) }
     {
         matches!(self, SockDiagMessage::UnixResponse(_))
     }
@@ -94,7 +95,7 @@ impl SockDiagMessage {
         ensures value { IfOk result (λ m. MessageIs payload.now message_type (seen_message m)) }
         ensures fault { IfErr result (λ e. e ≢ Memory → MessageFault payload.now message_type e) }
         // Memory is wanted only for bytes that have a message.
-        ensures wanted { IfErr result (λ e. e ≡ Memory → (m : Message) × MessageIs payload.now message_type m) }
+        ensures wanted { IfErr result (λ e. e ≡ Memory → WantsMemory (MessageIs payload.now message_type) (λ m. ⊥)) }
     {
         Ok(SockDiagView::parse(payload, message_type)?.to_owned(alloc)?)
     }

@@ -1,5 +1,5 @@
 -- An answer of the kernel for tests, read as a dump.
-use Rattle.std.proofs.Common.{◌≡◌, ◌↔◌, ℕ, ◌+◌, ◌%◌, ◌^◌, ◌<◌, ◌≤◌, inl, List, [], ◌∷◌, ◌++◌, length, refl, sym, ap, subst, ◌∙◌, append_assoc, arith}
+use Rattle.std.proofs.Common.{◌≡◌, ◌↔◌, ℕ, ◌+◌, ◌%◌, ◌^◌, ◌<◌, ◌≤◌, inl, inr, List, [], ◌∷◌, ◌++◌, length, refl, sym, ap, subst, ◌∙◌, append_assoc, arith}
 use Rattle.std.specs.Prelude.{map, None, Result, Ok}
 use Rattle.std.specs.List.{AllByRecursion, flat_map}
 use Rattle.std.proofs.lemmas.List.{append-nil}
@@ -14,7 +14,7 @@ use Rattle.netlink_core.specs.Envelope.{Envelope, Payload, done_with, inner, Env
 use Rattle.netlink_core.specs.Items.{ItemIs, ItemsAre}
 use Rattle.netlink_core.specs.Reply.{IsTypedReply, reply_bytes}
 use Rattle.netlink_packet_sock_diag.specs.Dump.{GoesOn, kept}
-use Rattle.netlink_packet_sock_diag.specs.Message.{Message, MessageIs, MessageFault, MessageFits, IsNormalMessage, IsTypedMessage, message_bytes, unix_response_with}
+use Rattle.netlink_packet_sock_diag.specs.Message.{Message, MessageIs, MessageFault, MessageFits, IsNormalMessage, IsTypedMessage, message_bytes, message_of, unix_response}
 use Rattle.netlink_packet_sock_diag.specs.UnixReply.{UnixReply, unix_reply}
 use Rattle.sock_diag_uses.specs.TestKernel.{CanBeTold, IsAnswer, IsWholeDump, end_under, message_under, reply_under}
 
@@ -97,11 +97,11 @@ module _ (reads_back : (v : Envelope Message) → IsTypedEnvelope IsTypedMessage
   }
 
   carries_reply : ((v : UnixReply) → IsTypedReply unix_reply v → length (reply_bytes unix_reply v) % 4 ≡ 0)
-      → (n : ℕ) → n < 2 ^ 32 → (r : UnixReply) → CanBeTold r → Carries MessageIs MessageFault (reply_under n r) (Ok (inner (unix_response_with r)))
-  carries_reply even n small r told = carries_payload n (inner (unix_response_with r)) (typed_header n (inner (unix_response_with r)) small told.short (omega arith), told.typed) (told.fits, told.short) (refl, told.normal) (even r told.typed)
+      → (n : ℕ) → n < 2 ^ 32 → (r : UnixReply) → CanBeTold r → Carries MessageIs MessageFault (reply_under n r) (Ok (inner (message_of unix_response r)))
+  carries_reply even n small r told = carries_payload n (inner (message_of unix_response r)) (typed_header n (inner (message_of unix_response r)) small told.short (omega arith), told.typed) (told.fits, told.short) (refl, inr refl, told.normal) (even r told.typed)
 
   carries_all : ((v : UnixReply) → IsTypedReply unix_reply v → length (reply_bytes unix_reply v) % 4 ≡ 0)
-      → (n : ℕ) → n < 2 ^ 32 → (rs : List UnixReply) → AllByRecursion CanBeTold rs → AllByRecursion (λ r. Carries MessageIs MessageFault (reply_under n r) (Ok (inner (unix_response_with r)))) rs
+      → (n : ℕ) → n < 2 ^ 32 → (rs : List UnixReply) → AllByRecursion CanBeTold rs → AllByRecursion (λ r. Carries MessageIs MessageFault (reply_under n r) (Ok (inner (message_of unix_response r)))) rs
   carries_all even n small [] told = tt
   carries_all even n small (r ∷ rs) told = (carries_reply even n small r told.0, carries_all even n small rs told.1)
 
@@ -110,13 +110,13 @@ module _ (reads_back : (v : Envelope Message) → IsTypedEnvelope IsTypedMessage
 
 -- ---- the dump
 
-plain_all : (rs : List UnixReply) → GoesOn {A = Message} (map (λ r. Ok (inner (unix_response_with r))) rs)
+plain_all : (rs : List UnixReply) → GoesOn {A = Message} (map (λ r. Ok (inner (message_of unix_response r))) rs)
 plain_all [] = tt
 plain_all (r ∷ rs) = (refl, plain_all rs)
 
-keeps_all : (rs : List UnixReply) → map unix_response_with rs ≡ flat_map kept (map (λ (r : UnixReply). Ok (inner (unix_response_with r))) rs)
+keeps_all : (rs : List UnixReply) → map (message_of unix_response) rs ≡ flat_map kept (map (λ (r : UnixReply). Ok (inner (message_of unix_response r))) rs)
 keeps_all [] = refl
-keeps_all (r ∷ rs) = ap (λ (ms : List Message). unix_response_with r ∷ ms) (keeps_all rs)
+keeps_all (r ∷ rs) = ap (λ (ms : List Message). message_of unix_response r ∷ ms) (keeps_all rs)
 
 pub whole_dump : ((v : Envelope Message) → IsTypedEnvelope IsTypedMessage v → EnvelopeFits message_bytes MessageFits v → IsFinalized message_bytes (λ _. 20) v
     → (EnvelopeIs MessageIs (envelope_bytes message_bytes v) v ↔ OfInner (IsNormalMessage 20) v.payload))
@@ -128,14 +128,14 @@ whole_dump reads_back even in_a_row request replies datagram answer told =
     let n = answer.header.sequence_number in
     let small = answer.framed.1.typed.sequence_number in
     let ends = one_item MessageIs MessageFault (end_under n) (Ok (done_with (0 ∷ 0 ∷ 0 ∷ 0 ∷ []))) (carries_end reads_back n small) in
-    let items = map (λ (r : UnixReply). Ok (inner (unix_response_with r))) replies ++ (Ok (done_with (0 ∷ 0 ∷ 0 ∷ 0 ∷ [])) ∷ []) in
-    let all = items_of_all MessageIs MessageFault in_a_row (reply_under n) (λ r. Ok (inner (unix_response_with r))) (end_under n) (Ok (done_with (0 ∷ 0 ∷ 0 ∷ 0 ∷ [])) ∷ []) replies (carries_all reads_back even n small replies told) ends in
+    let items = map (λ (r : UnixReply). Ok (inner (message_of unix_response r))) replies ++ (Ok (done_with (0 ∷ 0 ∷ 0 ∷ 0 ∷ [])) ∷ []) in
+    let all = items_of_all MessageIs MessageFault in_a_row (reply_under n) (λ r. Ok (inner (message_of unix_response r))) (end_under n) (Ok (done_with (0 ∷ 0 ∷ 0 ∷ 0 ∷ [])) ∷ []) replies (carries_all reads_back even n small replies told) ends in
     record {
       dump = (
         items,
         subst (λ (bytes : List ℕ). ItemsAre MessageIs MessageFault bytes items) (sym answer.written) all,
         record {
-          passed = map (λ (r : UnixReply). Ok (inner (unix_response_with r))) replies;
+          passed = map (λ (r : UnixReply). Ok (inner (message_of unix_response r))) replies;
           later = Ok (done_with (0 ∷ 0 ∷ 0 ∷ 0 ∷ [])) ∷ [];
           parts = refl;
           plain = plain_all replies;

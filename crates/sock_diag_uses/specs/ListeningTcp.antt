@@ -3,7 +3,7 @@ use Rattle.std.specs.Prelude.{ℕ, replicate}
 use Rattle.netlink_core.specs.Envelope.{Envelope, inner}
 use Rattle.std.specs.declared.net.ip_addr.IpAddr.{IpAddr}
 use Rattle.std.specs.declared.net.ip_addr.IpAddr.TheVariants.{V4, V6}
-use Rattle.netlink_packet_sock_diag.specs.Message.{Message, inet_request_with}
+use Rattle.netlink_packet_sock_diag.specs.Message.{Message, message_of, inet_request}
 use Rattle.sock_diag_uses.specs.declared.listening_tcp.Family.{Family}
 use Rattle.sock_diag_uses.specs.declared.listening_tcp.Family.TheVariants.{Inet, Inet6}
 
@@ -22,7 +22,7 @@ no_address Inet6 = V6 record { segments = replicate 8 0 }
 abbrev pub listening_request : Family → ℕ → Envelope Message
 listening_request family sequence_number = record {
   header = record { length = 72; message_type = 20; flags = 0x301; sequence_number = sequence_number; port_number = 0 };
-  payload = inner (inet_request_with (record {
+  payload = inner (message_of inet_request (record {
     family = family_number family;
     protocol = 6;
     extensions = record { 0 = 0 };

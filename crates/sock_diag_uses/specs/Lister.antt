@@ -4,16 +4,16 @@ use Rattle.std.specs.List.{filter_map}
 use Rattle.netlink_core.specs.declared.fault.DecodeError.{DecodeError}
 use Rattle.netlink_core.specs.Envelope.{Payload, done_with, error_with, no_payload, overrun_with, inner}
 use Rattle.netlink_core.specs.Items.{ItemsAre}
-use Rattle.netlink_packet_sock_diag.specs.Message.{Message, MessageIs, MessageFault, inet_request_with, inet_response_with, unix_request_with, unix_response_with}
+use Rattle.netlink_packet_sock_diag.specs.Message.{Message, MessageIs, MessageFault, message_of, inet_request, inet_response, unix_request, unix_response}
 use Rattle.sock_diag_uses.specs.declared.lister.Line.{Line}
 use Rattle.sock_diag_uses.specs.declared.lister.Line.TheVariants.{Socket, End, Failure, Refused}
 
 -- the socket that a reply tells
 abbrev pub socket_of : Message → Option Line
-socket_of (inet_request_with v) = None
-socket_of (inet_response_with v) = Some (Socket v.header.state v.header.inode)
-socket_of (unix_request_with v) = None
-socket_of (unix_response_with v) = Some (Socket v.header.state v.header.inode)
+socket_of (message_of inet_request v) = None
+socket_of (message_of inet_response v) = Some (Socket v.header.state v.header.inode)
+socket_of (message_of unix_request v) = None
+socket_of (message_of unix_response v) = Some (Socket v.header.state v.header.inode)
 
 -- the line of what a message carries, or of its fault
 abbrev pub line_of : Result (Payload Message) DecodeError → Option Line

@@ -12,7 +12,7 @@ use Rattle.sock_diag_records.specs.UnixRequest.{unix_request}
 use Rattle.netlink_core.specs.Reply.{IsNormalReply, IsTypedReply, ReplyFits, reply_bytes}
 use Rattle.netlink_packet_sock_diag.specs.declared.dump.DumpState.TheVariants.{Done}
 use Rattle.netlink_packet_sock_diag.specs.Dump.{DatagramDump}
-use Rattle.netlink_packet_sock_diag.specs.Message.{Message, MessageIs, MessageFault, MessageFits, unix_response_with, message_bytes}
+use Rattle.netlink_packet_sock_diag.specs.Message.{Message, MessageIs, MessageFault, MessageFits, message_of, unix_response, message_bytes}
 use Rattle.netlink_packet_sock_diag.specs.UnixReply.{UnixReply, unix_reply}
 use Rattle.sock_diag_uses.specs.declared.test_kernel.AnswerError.{AnswerError}
 use Rattle.sock_diag_uses.specs.declared.test_kernel.AnswerError.TheVariants.{Request, Unwritable, Memory}
@@ -32,7 +32,7 @@ message_under sequence_number payload = envelope_bytes message_bytes (record {
 
 -- a reply in a message of its own; the length of each is a multiple of four, so no padding follows
 abbrev pub reply_under : ℕ → UnixReply → List ℕ
-reply_under sequence_number reply = message_under sequence_number (inner (unix_response_with reply))
+reply_under sequence_number reply = message_under sequence_number (inner (message_of unix_response reply))
 
 -- the end of a dump, with four zeros
 abbrev pub end_under : ℕ → List ℕ
@@ -60,7 +60,7 @@ HasRoom payload = OfInner MessageFits payload × (16 + length (payload_bytes mes
 
 -- a message of its own for the reply can be written
 abbrev pub ReplyHasRoom : UnixReply → Type 0
-ReplyHasRoom reply = HasRoom (inner (unix_response_with reply))
+ReplyHasRoom reply = HasRoom (inner (message_of unix_response reply))
 
 -- no fault of a request, and `Unwritable` for this reason alone; nothing is said of memory
 abbrev pub FailsFor : Type 0 → AnswerError → Type 0
@@ -82,4 +82,4 @@ pub record CanBeTold (reply : UnixReply) : Type 0 where
 
 -- the dump over the datagram is done, and has these replies
 pub record IsWholeDump (datagram : List ℕ) (replies : List UnixReply) : Type 0 where
-  pub dump : DatagramDump MessageIs MessageFault [] datagram (map unix_response_with replies) (Ok Done)
+  pub dump : DatagramDump MessageIs MessageFault [] datagram (map (message_of unix_response) replies) (Ok Done)

@@ -8,7 +8,7 @@ use Rattle.netlink_core.specs.Reply.{Reply, ReplyFits, ValueOf, reply_bytes}
 use Rattle.netlink_core.specs.Envelope.{Payload, done_with, error_with, no_payload, overrun_with, inner, Envelope, EnvelopeFits, OfInner, payload_bytes}
 use Rattle.netlink_packet_sock_diag.specs.InetReply.{inet_reply}
 use Rattle.netlink_packet_sock_diag.specs.UnixReply.{unix_reply}
-use Rattle.netlink_packet_sock_diag.specs.Message.{Message, inet_request_with, inet_response_with, unix_request_with, unix_response_with, MessageFits, message_bytes}
+use Rattle.netlink_packet_sock_diag.specs.Message.{Message, message_of, inet_request, inet_response, unix_request, unix_response, MessageFits, message_bytes}
 
 at_most : (m n : ℕ) → (m ≤ n) ⊎ ¬ (m ≤ n)
 at_most m n = elim (cases_lt n m) [
@@ -34,10 +34,10 @@ reply_fits_or_not R value = elim (all_fit (map (attribute_said R.family) value.n
 ]
 
 pub message_fits_or_not : (value : Message) → MessageFits value ⊎ ¬ MessageFits value
-message_fits_or_not (inet_request_with request) = inl tt
-message_fits_or_not (inet_response_with reply) = reply_fits_or_not inet_reply reply
-message_fits_or_not (unix_request_with request) = inl tt
-message_fits_or_not (unix_response_with reply) = reply_fits_or_not unix_reply reply
+message_fits_or_not (message_of inet_request request) = inl tt
+message_fits_or_not (message_of inet_response reply) = reply_fits_or_not inet_reply reply
+message_fits_or_not (message_of unix_request request) = inl tt
+message_fits_or_not (message_of unix_response reply) = reply_fits_or_not unix_reply reply
 
 inner_fits_or_not : (payload : Payload Message) → OfInner MessageFits payload ⊎ ¬ OfInner MessageFits payload
 inner_fits_or_not (inner message) = message_fits_or_not message

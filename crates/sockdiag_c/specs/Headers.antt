@@ -4,7 +4,7 @@ use Rattle.sock_diag_records.specs.declared.inet.response.InetResponseHeader.{In
 use Rattle.sock_diag_records.specs.declared.unix.response.UnixResponseHeader.{UnixResponseHeader}
 use Rattle.sock_diag_records.specs.Timer.{byte_of_class, class_of, expires_values, retransmits_values}
 use Rattle.sock_diag_records.specs.SocketId.{address_bytes}
-use Rattle.netlink_packet_sock_diag.specs.Message.{Message, inet_request_with, inet_response_with, unix_request_with, unix_response_with}
+use Rattle.netlink_packet_sock_diag.specs.Message.{Message, message_of, inet_request, inet_response, unix_request, unix_response}
 use Rattle.sockdiag_c.specs.declared.headers.InetHeader.{InetHeader}
 use Rattle.sockdiag_c.specs.declared.headers.Reply.{Reply}
 use Rattle.sockdiag_c.specs.declared.headers.UnixHeader.{UnixHeader}
@@ -36,7 +36,7 @@ inet_header_of h = record {
 
 -- which kind of reply it is, and its header. A request is never read, and of the header of the other kind nothing is told.
 abbrev pub reply_of : Reply → Message → Reply
-reply_of old (unix_response_with v) = record old { kind = 1; unix_header = unix_header_of v.header }
-reply_of old (inet_response_with v) = record old { kind = 2; inet_header = inet_header_of v.header }
-reply_of old (unix_request_with v) = old
-reply_of old (inet_request_with v) = old
+reply_of old (message_of unix_response v) = record old { kind = 1; unix_header = unix_header_of v.header }
+reply_of old (message_of inet_response v) = record old { kind = 2; inet_header = inet_header_of v.header }
+reply_of old (message_of unix_request v) = old
+reply_of old (message_of inet_request v) = old

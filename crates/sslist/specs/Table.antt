@@ -11,7 +11,7 @@ use Rattle.sock_diag_attributes.specs.Name.{SocketName, abstract, pathname}
 use Rattle.sock_diag_attributes.specs.InetAttributes.{inet}
 use Rattle.sock_diag_attributes.specs.UnixAttributes.{unix}
 use Rattle.netlink_packet_sock_diag.specs.InetReply.{InetReply}
-use Rattle.netlink_packet_sock_diag.specs.Message.{Message, inet_request_with, inet_response_with, unix_request_with, unix_response_with}
+use Rattle.netlink_packet_sock_diag.specs.Message.{Message, message_of, inet_request, inet_response, unix_request, unix_response}
 use Rattle.netlink_packet_sock_diag.specs.UnixReply.{UnixReply}
 use Rattle.netlink_packet_sock_diag.specs.UnixGetters.{first_number, first_of, second_number}
 
@@ -162,7 +162,7 @@ inet_lines v = inet_line v.header ++ flat_map details_of v.nlas
 
 -- the lines of a message, where it is a reply
 unfoldable pub message_lines : Message → List ℕ
-message_lines (inet_response_with v) = inet_lines v
-message_lines (unix_response_with v) = unix_line v
-message_lines (inet_request_with v) = []
-message_lines (unix_request_with v) = []
+message_lines (message_of inet_response v) = inet_lines v
+message_lines (message_of unix_response v) = unix_line v
+message_lines (message_of inet_request v) = []
+message_lines (message_of unix_request v) = []

@@ -11,4 +11,4 @@ returns-in_err-parse-clause-wanted c =
 pub returns-in_err-to_owned-clause-wanted : goal.returns-in_err-to_owned-clause-wanted
 returns-in_err-to_owned-clause-wanted c =
     let p = err_from_is_err_and c.from_residual-in_err-to_owned.result c.from_residual-in_err-to_owned.ensures.1 in
-    rw (p.1, p.2) (λ memory. (viewed_message c.in_ok-parse.field-0, c.in_ok-parse.ensures.value))
+    rw (p.1, p.2) (λ memory. (viewed_message c.in_ok-parse.field-0, c.in_ok-parse.ensures.value, λ spare. spare))
