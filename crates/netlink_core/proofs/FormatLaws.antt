@@ -97,21 +97,14 @@ module _ {Param Tag Value : Type 0} (format : Format Param Tag Value) (sound : I
       let told : format.tag_at param right ≡ Ok a.tag = b.told ∙ ap (λ (tag : Tag). ok tag) (sym tags) in
       let own : format.values value ≡ values_of (format.table a.tag) left = ap format.values a.is ∙ sound.kept a.tag left hl in
       let other : format.values value ≡ values_of (format.table a.tag) right = subst (λ (tag : Tag). format.values value ≡ values_of (format.table tag) right) (sym tags) (ap format.values b.is ∙ sound.kept b.tag right hr) in
-      record {
-        left_long = a.long;
-        right_long = b.long;
-        tag = a.tag;
-        left_tag = a.told;
-        right_tag = told;
-        same_bits = same_live 0 (format.table a.tag) (format.size a.tag) left right (table_is a.tag) hl hr (sound.room param a.tag left a.long a.told) (sound.room param a.tag right b.long told) (sym own ∙ other);
-      }
+      (a.long, b.long, a.tag, a.told, told, same_live 0 (format.table a.tag) (format.size a.tag) left right (table_is a.tag) hl hr (sound.room param a.tag left a.long a.told) (sound.room param a.tag right b.long told) (sym own ∙ other))
 
   equal_from_idle : (param : Param) (left right : List ℕ) → IsBytes left → IsBytes right → AreIdle format param left right → read format param left ≡ read format param right
-  equal_from_idle param left right hl hr i =
-      let read_values = same_values 0 (format.table i.tag) (format.size i.tag) left right (table_is i.tag) hl hr (sound.room param i.tag left i.left_long i.left_tag) (sound.room param i.tag right i.right_long i.right_tag) i.same_bits in
-      long_enough format param left i.left_long ∙ accepts format param left i.tag i.left_tag
-      ∙ ap (λ (vs : List ℕ). ok (format.value i.tag vs)) read_values
-      ∙ sym (long_enough format param right i.right_long ∙ accepts format param right i.tag i.right_tag)
+  equal_from_idle param left right hl hr (left_long, right_long, tag, left_tag, right_tag, bits) =
+      let read_values = same_values 0 (format.table tag) (format.size tag) left right (table_is tag) hl hr (sound.room param tag left left_long left_tag) (sound.room param tag right right_long right_tag) bits in
+      long_enough format param left left_long ∙ accepts format param left tag left_tag
+      ∙ ap (λ (vs : List ℕ). ok (format.value tag vs)) read_values
+      ∙ sym (long_enough format param right right_long ∙ accepts format param right tag right_tag)
 
   -- a value in normal form is read back
   pub reads_back : (param : Param) (value : Value) → IsTyped format value → IsNormal format param value → read format param (bytes format value) ≡ Ok value

@@ -114,20 +114,13 @@ module _ (R : Reply) (laws : ReplyLaws R) where
       let left-typed = cut_typed (drop R.size b) h.nlas.0 (AreBytes-drop R.size b b-typed) h.nlas.1 in
       let right-typed = cut_typed (drop R.size c) k.nlas.0 (AreBytes-drop R.size c c-typed) k.nlas.1 in
       let lists = lists_same_value R.family laws.family h.nlas.0 k.nlas.0 v.nlas w.nlas left-typed right-typed h.nlas.2 k.nlas.2 in (
-        λ e. record {
-          headers = headers.0 (ap (λ (u : ValueOf R). u.header) e);
-          left = h.nlas.0;
-          right = k.nlas.0;
-          left_cut = h.nlas.1;
-          right_cut = k.nlas.1;
-          each = lists.0 (ap (λ (u : ValueOf R). u.nlas) e);
-        },
-        λ idle.
-            let lefts = one_cut (drop R.size b) idle.left h.nlas.0 idle.left_cut h.nlas.1 in
-            let rights = one_cut (drop R.size c) idle.right k.nlas.0 idle.right_cut k.nlas.1 in
-            let half : AllZip (AreIdleAttributes R.family) h.nlas.0 idle.right = subst (λ (xs : List Attribute). AllZip (AreIdleAttributes R.family) xs idle.right) lefts idle.each in
+        λ e. (headers.0 (ap (λ (u : ValueOf R). u.header) e), h.nlas.0, k.nlas.0, h.nlas.1, k.nlas.1, lists.0 (ap (λ (u : ValueOf R). u.nlas) e)),
+        λ (front, left, right, left_cut, right_cut, all).
+            let lefts = one_cut (drop R.size b) left h.nlas.0 left_cut h.nlas.1 in
+            let rights = one_cut (drop R.size c) right k.nlas.0 right_cut k.nlas.1 in
+            let half : AllZip (AreIdleAttributes R.family) h.nlas.0 right = subst (λ (xs : List Attribute). AllZip (AreIdleAttributes R.family) xs right) lefts all in
             let each : AllZip (AreIdleAttributes R.family) h.nlas.0 k.nlas.0 = subst (λ (ys : List Attribute). AllZip (AreIdleAttributes R.family) h.nlas.0 ys) rights half in
-            let same-header : v.header ≡ w.header = headers.1 idle.headers in
+            let same-header : v.header ≡ w.header = headers.1 front in
             let same-nlas : v.nlas ≡ w.nlas = lists.1 each in
             λ i. record { header = same-header i; nlas = same-nlas i },
       )

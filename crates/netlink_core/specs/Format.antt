@@ -52,13 +52,10 @@ module _ {Param Tag Value : Type 0} (format : Format Param Tag Value) where
   bytes value = bytes_of (format.table (format.tag_of value)) (format.values value)
 
   -- both strings are long enough, tell the same table, and agree in its live bits
-  pub record AreIdle (param : Param) (left right : List ℕ) : Type 0 where
-    pub left_long : format.least ≤ length left
-    pub right_long : format.least ≤ length right
-    pub tag : Tag
-    pub left_tag : format.tag_at param left ≡ Ok tag
-    pub right_tag : format.tag_at param right ≡ Ok tag
-    pub same_bits : masked (live_bits (format.table tag)) left ≡ masked (live_bits (format.table tag)) right
+  abbrev pub AreIdle : Param → List ℕ → List ℕ → Type 0
+  AreIdle param b c = (format.least ≤ length b) × (format.least ≤ length c)
+      × (tag : Tag) × (format.tag_at param b ≡ Ok tag) × (format.tag_at param c ≡ Ok tag)
+      × (masked (live_bits (format.table tag)) b ≡ masked (live_bits (format.table tag)) c)
 
   -- the fields are within their types: the numbers fit their rows, and what else the shape asks
   pub record IsTyped (value : Value) : Type 0 where

@@ -32,13 +32,9 @@ abbrev pub RefusesReply : Reply → List ℕ → DecodeError → Type 0
 RefusesReply R b e = (R.header.reads tt b ≡ Err e) ⊎ ((h : R.header.Value) × (R.header.reads tt b ≡ Ok h) × AttributeFault (says R.family) (drop R.size b) e)
 
 -- The headers are idle, both attribute parts are cut into lists of one length, and the attributes at each place are idle.
-pub record AreIdleReplies (R : Reply) (b c : List ℕ) : Type 0 where
-  pub headers : R.header.idle tt b c
-  pub left : List Attribute
-  pub right : List Attribute
-  pub left_cut : Cut (drop R.size b) left
-  pub right_cut : Cut (drop R.size c) right
-  pub each : AllZip (AreIdleAttributes R.family) left right
+abbrev pub AreIdleReplies : Reply → List ℕ → List ℕ → Type 0
+AreIdleReplies R b c = R.header.idle tt b c × (left right : List Attribute)
+    × Cut (drop R.size b) left × Cut (drop R.size c) right × AllZip (AreIdleAttributes R.family) left right
 
 -- each part is typed
 abbrev pub IsTypedReply : (R : Reply) → ValueOf R → Type 0

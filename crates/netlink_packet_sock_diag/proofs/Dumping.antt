@@ -68,7 +68,7 @@ module _ {A : Type 0} (reads : List ℕ → ℕ → A → Type 0) (refuses : Lis
       → Passing datagram rest before after → StartsWithMessage rest message next → ItemIs reads refuses message (Ok (inner value)) → DatagramStopped reads refuses before datagram after
   stops_at answers datagram rest next message before after value typed p s is =
       let all = items_with reads refuses answers datagram rest next message p.passed (Ok (inner value)) typed p.walk s is in
-      (p.passed ++ (Ok (inner value) ∷ all.0), all.1, record { passed = p.passed; next = value; later = all.0; parts = refl; plain = p.plain; keeps = p.keeps })
+      (p.passed ++ (Ok (inner value) ∷ all.0), all.1, (p.passed, all.0, value, refl, record { passed = p.passed; later = []; parts = sym (append-nil p.passed); plain = p.plain; keeps = p.keeps; ends = refl }))
 
   pub cut_off_at : (datagram rest : List ℕ) (before after : List A) (e : DecodeError) → Passing datagram rest before after → rest ≢ [] → IsEnvelopeFault rest e → DatagramDump reads refuses before datagram after (Err e)
   cut_off_at datagram rest before after e p some fault =

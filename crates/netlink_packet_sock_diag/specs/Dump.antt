@@ -45,14 +45,10 @@ module _ {A : Type 0} where
     pub keeps : after ≡ before ++ flat_map kept passed
     pub ends : Ends later end
 
-  -- Some first items were taken, none of them an end, and the next is an inner message, for which there was no memory.
-  pub record DumpStopped (before : List A) (items : List (Result (Payload A) DecodeError)) (after : List A) : Type 0 where
-    pub passed : List (Result (Payload A) DecodeError)
-    pub next : A
-    pub later : List (Result (Payload A) DecodeError)
-    pub parts : items ≡ passed ++ (Ok (inner next) ∷ later)
-    pub plain : GoesOn passed
-    pub keeps : after ≡ before ++ flat_map kept passed
+  -- the dump over some first items is still read, and the next is an inner message, for which there was no memory
+  abbrev pub DumpStopped : List A → List (Result (Payload A) DecodeError) → List A → Type 0
+  DumpStopped before items after = (passed later : List (Result (Payload A) DecodeError)) × (next : A)
+      × (items ≡ passed ++ (Ok (inner next) ∷ later)) × Dump before passed after (Ok Reading)
 
 -- the dump goes on, if it was still read; else its list and its end stay
 abbrev pub DumpGoesOn : {A : Type 0} → List A → Result DumpState DecodeError → List (Result (Payload A) DecodeError) → List A → Result DumpState DecodeError → Type 0

@@ -1,9 +1,8 @@
 -- What the walk over the messages of a datagram, each as what it carries, holds and gives.
 use Rattle.std.specs.Prelude.{◌≡◌, ◌≢◌, ◌⊎◌, ℕ, List, [], Option, Result, Err, MatchOption}
-use Rattle.std.specs.Iterator.{Count}
 use Rattle.netlink_core.specs.declared.fault.DecodeError.{DecodeError}
 use Rattle.netlink_core.specs.Datagram.{StartsWithMessage}
-use Rattle.netlink_core.specs.DatagramWalk.{datagram_left, messages_left}
+use Rattle.netlink_core.specs.DatagramWalk.{datagram_left}
 use Rattle.netlink_core.specs.Header.{IsEnvelopeFault}
 use Rattle.netlink_core.specs.Items.{ItemIs}
 use Rattle.netlink_packet_sock_diag.specs.declared.dump.views.DumpViews.{DumpViews}
@@ -14,10 +13,6 @@ use Rattle.netlink_packet_sock_diag.specs.ViewedPayload.{viewed_item}
 -- what the walk has not passed yet
 abbrev pub views_left : DumpViews → List ℕ
 views_left walk = datagram_left walk.messages
-
--- at most one item for each sixteen bytes, rounded up
-abbrev pub messages_to_view : DumpViews → Count
-messages_to_view walk = messages_left walk.messages
 
 -- What the message at the front of what was left carries, or its fault, and the rest then stands behind its padding. Or
 -- the fault where there is no message, and then nothing is left. None only where nothing was left.

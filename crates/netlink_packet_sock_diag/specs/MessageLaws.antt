@@ -189,7 +189,7 @@ kind_written t (message_of unix_request v) (is, reply, normal) =
 kind_written t (message_of inet_response v) (is, reply, normal) =
     let front = family_written v in
     inet_told (reply_bytes inet_reply v) t front.0 is
-    (rw front.1 (family_known v.header.family _ normal.0.own.same_kind))
+    (rw front.1 (family_known v.header.family _ normal.0.own.0))
 kind_written t (message_of unix_response v) (is, reply, normal) =
     unix_told (reply_bytes unix_reply v) t (omega arith) is refl
 

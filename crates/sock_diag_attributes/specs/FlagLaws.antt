@@ -6,7 +6,7 @@ use Rattle.netlink_core.specs.ByteLaws.{IsBytes-cons, IsBytes-nil}
 use Rattle.netlink_core.specs.ShownLaws.{PrefixLaws}
 use Rattle.netlink_core.specs.declared.fault.DecodeError.TheVariants.{Memory}
 use Rattle.sock_diag_attributes.specs.ChoiceLaws.{if_equal, if_equal_err}
-use Rattle.sock_diag_attributes.specs.Flag.{read_flag, flag_byte, flag_value}
+use Rattle.sock_diag_attributes.specs.Flag.{read_flag, flag_value}
 
 -- two numbers say the same exactly where both are zero or both are not
 says_same : (m n : ℕ) → (not (m == 0) ≡ not (n == 0)) ↔ ((m ≡ 0) ↔ (n ≡ 0))
@@ -32,14 +32,14 @@ flag_laws k = record {
       let same = says_same (slice_index b 0) (slice_index c 0) in
       (λ e. same.0 (left ∙ e ∙ sym right), λ idle. sym left ∙ same.1 idle ∙ right);
   gives_normal = λ b v typed h. (tt, tt);
-  bytes_typed = λ v typed. IsBytes-cons (flag_byte v) [] (small v) IsBytes-nil;
+  bytes_typed = λ v typed. IsBytes-cons ((if v then 1 else 0)) [] (small v) IsBytes-nil;
   reads_back = λ v typed normal. back v;
 }
   where
-    small : (v : Bool) → flag_byte v < 256
+    small : (v : Bool) → (if v then 1 else 0) < 256
     small true = omega arith
     small false = omega arith
 
-    back : (v : Bool) → read_flag k (flag_byte v ∷ []) ≡ Ok v
+    back : (v : Bool) → read_flag k ((if v then 1 else 0) ∷ []) ≡ Ok v
     back true = refl
     back false = refl

@@ -25,27 +25,18 @@ header_values value =
     ++ (socket_id_values value.socket_id
     ++ (expires_values value.timer ++ value.recv_queue ∷ value.send_queue ∷ value.uid ∷ value.inode ∷ [])))
 
--- by which rows a header is written
-abbrev pub tag_of : InetResponseHeader → Tag
-tag_of value = record { kinds = kinds_of value.socket_id; class = class_of value.timer }
-
--- the addresses are of the family's kind, and the timer's duration is whole milliseconds of 32 bits
-pub record IsOwn (value : InetResponseHeader) : Type 0 where
-  pub same_kind : kinds_of_family value.family ≡ Ok (kinds_of value.socket_id)
-  pub whole : IsWholeTimer value.timer
-
--- 72 bytes. A string of as many is refused where its family is another. Nothing is asked of the timer's duration, and
--- one with 10^9 nanoseconds or more is never whole milliseconds
+-- 72 bytes. A string of as many is refused where its family is another. In normal form the addresses are of the family's
+-- kind, and the timer's duration is whole milliseconds of 32 bits; one with 10^9 nanoseconds or more never is.
 unfoldable pub inet_response_header : Format (Unit {0}) Tag InetResponseHeader
 inet_response_header = record {
   name = name.InetResponseHeader;
   least = 72;
   size = λ tag. 72;
   tag_at = λ param left. said_as (λ kinds. record { kinds = kinds; class = class_of_byte (slice_index left 2) }) (kinds_of_family (slice_index left 0));
-  tag_of = tag_of;
+  tag_of = λ value. record { kinds = kinds_of value.socket_id; class = class_of value.timer };
   table = header_rows;
   values = header_values;
   value = header_of;
   is_shaped = λ value. IsShaped value.socket_id;
-  is_own = λ param value. IsOwn value;
+  is_own = λ param value. (kinds_of_family value.family ≡ Ok (kinds_of value.socket_id)) × IsWholeTimer value.timer;
 }

@@ -24,7 +24,7 @@ use Rattle.sock_diag_records.specs.SocketId.{socket_id_rows, socket_id_values, s
 use Rattle.sock_diag_records.specs.SocketIdInverse.{socket_id_of}
 use Rattle.sock_diag_records.specs.Kinds.{Kind, ipv4, ipv6, Kinds, kinds_of, kinds_of_family}
 use Rattle.sock_diag_records.specs.SocketId as identity
-use Rattle.sock_diag_records.specs.InetResponse.{header_rows, header_values, tag_of, inet_response_header}
+use Rattle.sock_diag_records.specs.InetResponse.{header_rows, header_values, inet_response_header}
 use Rattle.sock_diag_records.specs.InetResponseInverse.{duration, retransmits_count, expires_count, timer_of, header_of, socket_id_count}
 use Rattle.sock_diag_records.specs.Timer.{milliseconds, IsWholeMilliseconds, Class, retransmits, keeps_alive, waits, probes, none, class_of_byte, byte_of_class, class_of, retransmits_row, expires_row, retransmits_values, expires_values, IsWholeTimer, Tag}
 use Rattle.sock_diag_records.specs.TablesInARowLaws.{is_table-append, values_of-append}
@@ -168,6 +168,10 @@ whole_read t left h = subst (λ (value : InetResponseHeader). IsWholeTimer value
 shaped_read : (t : Tag) (left : List ℕ) → identity.IsShaped (header_of t (values_of (header_rows t) left)).socket_id
 shaped_read t left = subst (λ (value : InetResponseHeader). identity.IsShaped value.socket_id) (sym (header_is t left)) (shaped_is 4 t.kinds.source t.kinds.destination left)
 
+-- by which rows a header is written
+abbrev tag_of : InetResponseHeader → Tag
+tag_of value = record { kinds = kinds_of value.socket_id; class = class_of value.timer }
+
 abbrev the_tag : Kinds → Class → Tag
 the_tag kinds class = record { kinds = kinds; class = class }
 
@@ -273,12 +277,9 @@ header_sound = record {
   shaped = λ t left h. shaped_read t left;
   owned = λ param t left h e.
       let parts = told_parts (class_of_byte (slice_index left 2)) (kinds_of_family (slice_index left 0)) t e in
-      record {
-        same_kind = parts.0 ∙ ap (λ (u : Tag). let r : Result Kinds DecodeError = Ok u.kinds in r) (sym (tag_read t (values_of (header_rows t) left)));
-        whole = whole_read t left h;
-      };
-  back = λ param value t n. header_back value t.shaped n.own.whole;
-  told = λ param value t n. ap with_class (class_told (class_of value.timer)) ⊛ n.own.same_kind;
+      (parts.0 ∙ ap (λ (u : Tag). let r : Result Kinds DecodeError = Ok u.kinds in r) (sym (tag_read t (values_of (header_rows t) left))), whole_read t left h);
+  back = λ param value t n. header_back value t.shaped n.own.1;
+  told = λ param value t n. ap with_class (class_told (class_of value.timer)) ⊛ n.own.0;
 }
 
 pub header_size : IsFixed inet_response_header 72

@@ -68,13 +68,14 @@ impl<'a> DumpViews<'a> {
 }
 
 impl<'a> Iterator for DumpViews<'a> {
-    ghost use Rattle.netlink_packet_sock_diag.specs.DumpWalk.{GivesView, messages_to_view};
+    ghost use Rattle.netlink_core.specs.DatagramWalk.{messages_left};
+    ghost use Rattle.netlink_packet_sock_diag.specs.DumpWalk.{GivesView};
 
     type Item = Result<PayloadView<'a>, DecodeError>;
 
     ghost next_gives = { GivesView };
 
-    ghost remaining = { messages_to_view };
+    ghost remaining = { λ walk. messages_left walk.messages };
 
     /// What the next message carries, or its fault. At what is no message the faults are those of
     /// [`NetlinkHeader::from_prefix`], over the bytes that are left.
