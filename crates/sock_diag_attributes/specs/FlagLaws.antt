@@ -1,6 +1,6 @@
 -- The laws of a byte that says yes or no.
 use Rattle.std.proofs.Common.{Ok, ◌≡◌, ◌∙◌, ◌↔◌, inl, inr, ℕ, ◌<◌, [], ◌∷◌, Bool, true, false, length, slice_index, refl, sym, arith}
-use Rattle.std.specs.Prelude.{not, ◌==◌}
+use Rattle.std.specs.Prelude.{if◌then◌else◌, not, ◌==◌}
 use Rattle.std.proofs.lemmas.Bool.{cases_eq, eq-eqb, ne_eqb}
 use Rattle.netlink_core.specs.ByteLaws.{IsBytes-cons, IsBytes-nil}
 use Rattle.netlink_core.specs.ShownLaws.{PrefixLaws}
