@@ -100,11 +100,13 @@ tells_others datagrams others same text (inr (inl (d, is, unfit, e))) = inr (inl
 tells_others datagrams others same text (inr (inr (fault, never, e))) = absurd never
 
 -- the same items
-pub tells_same_items : (datagrams others : List (List ℕ)) (row : List (Result (Payload Message) DecodeError)) → AllByRecursion IsBytes datagrams
-    → HaveItems datagrams row → HaveItems others row → (text : List ℕ) → TellsDump datagrams text → TellsDump others text
+pub tells_same_items : (datagrams others : List (List ℕ)) (row : List (Result (Payload Message) DecodeError))
+    → AllByRecursion IsBytes datagrams → HaveItems datagrams row → HaveItems others row
+    → (text : List ℕ) → TellsDump datagrams text → TellsDump others text
 tells_same_items datagrams others row typed h k =
     tells_others datagrams others
-    (λ d. same_dump MessageIs MessageFault one_items datagrams others h.0 k.0 typed h.1 k.1 (sym h.2 ∙ k.2) [] d.messages d.end)
+    (λ d. same_dump MessageIs MessageFault one_items datagrams others h.0 k.0 typed h.1 k.1
+    (sym h.2 ∙ k.2) [] d.messages d.end)
 
 -- another split
 pub tells_split : (datagrams others : List (List ℕ)) → AllByRecursion IsBytes datagrams → AllByRecursion IsBytes others → AreSplit datagrams → AreSplit others

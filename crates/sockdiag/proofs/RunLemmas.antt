@@ -38,8 +38,10 @@ IsBeginning-more front text b (more, e) = (more ++ b, ap (λ t. t ++ b) e ∙ ap
 IsBeginning-same : (front a b : List ℕ) → a ≡ b → IsBeginning front a → IsBeginning front b
 IsBeginning-same front a b e (more, h) = (more, sym e ∙ h)
 
-IsBeginning-taken : (front text : List ℕ) → IsBeginning front text → front ≡ take (length front) text
-IsBeginning-taken front text (more, e) = sym (ap (take (length front)) e ∙ take-append_seam front more)
+IsBeginning-taken : (front text : List ℕ) → IsBeginning front text
+    → front ≡ take (length front) text
+IsBeginning-taken front text (more, e) =
+    sym (ap (take (length front)) e ∙ take-append_seam front more)
 
 -- ---- the places of line feeds
 
@@ -130,11 +132,19 @@ module _ (f : List ℕ → List ℕ) where
   )
 
   -- a read failed
-  pub run_unread : (r r' r'' c c' : Option (List ℕ)) (line : List ℕ) (e : RunError) → CaughtUp f r r' c c' line
-      → Keeps r' r'' → e ≡ Read → Answers f r r'' c c' (Err e)
+  pub run_unread : (r r' r'' c c' : Option (List ℕ)) (line : List ℕ) (e : RunError)
+      → CaughtUp f r r' c c' line → Keeps r' r'' → e ≡ Read → Answers f r r'' c c' (Err e)
   run_unread r r' r'' c c' line e (whole, p) kept is =
-      subst (λ (e : RunError). Answers f r r'' c c' (Err e)) (sym is)
-      (whole, line, record { text = p.text; read = Consumes-kept r r' r'' p.text p.read kept; splits = p.splits; appended = p.appended })
+      subst (λ (e : RunError). Answers f r r'' c c' (Err e)) (sym is) (
+        whole,
+        line,
+        record {
+          text = p.text;
+          read = Consumes-kept r r' r'' p.text p.read kept;
+          splits = p.splits;
+          appended = p.appended;
+        },
+      )
 
   -- memory ran out, and nothing was written of the answers to a piece
   pub run_without_memory : (r r' r'' c c' c'' : Option (List ℕ)) (line piece : List ℕ) → CaughtUp f r r' c c' line
@@ -149,7 +159,8 @@ module _ (f : List ℕ → List ℕ) where
             text = p.text ++ piece;
             read = Consumes-trans r r' r'' p.text piece p.read read;
             splits = Splits-append p.text piece whole s.whole line s.rest p.splits s.splits;
-            appended = subst (λ (w : List (List ℕ)). Appends c c'' (answer_lines f w)) (sym (take-append_seam whole s.whole)) (Appends-kept c c' c'' _ p.appended kept);
+            appended = subst (λ (w : List (List ℕ)). Appends c c'' (answer_lines f w))
+                (sym (take-append_seam whole s.whole)) (Appends-kept c c' c'' _ p.appended kept);
           },
         ),
       )
@@ -173,7 +184,8 @@ module _ (f : List ℕ → List ℕ) where
             text = p.text ++ piece;
             read = Consumes-trans r r' r'' p.text piece p.read read;
             splits = Splits-append p.text piece whole q.whole line line' p.splits q.splits;
-            appended = subst (Appends c c'') (IsBeginning-taken (before ++ front) _ begun) (Appends-trans c c' c'' _ _ p.appended appended);
+            appended = subst (Appends c c'') (IsBeginning-taken (before ++ front) _ begun)
+                (Appends-trans c c' c'' _ _ p.appended appended);
           },
         ),
       )
@@ -191,7 +203,8 @@ module _ (f : List ℕ → List ℕ) where
         text = p.text;
         read = at_end r r' r'' p.text p.read read;
         splits = p.splits;
-        appended = subst (λ (w : List (List ℕ)). Appends c c'' (answer_lines f w)) (sym (take-length whole)) (Appends-kept c c' c'' _ p.appended q);
+        appended = subst (λ (w : List (List ℕ)). Appends c c'' (answer_lines f w))
+            (sym (take-length whole)) (Appends-kept c c' c'' _ p.appended q);
       },
     ),
   )
@@ -207,7 +220,8 @@ module _ (f : List ℕ → List ℕ) where
             text = p.text;
             read = at_end r r' r'' p.text p.read read;
             splits = p.splits;
-            appended = subst (Appends c c'') (IsBeginning-taken (before ++ front) _ begun) (Appends-trans c c' c'' _ _ p.appended appended);
+            appended = subst (Appends c c'') (IsBeginning-taken (before ++ front) _ begun)
+                (Appends-trans c c' c'' _ _ p.appended appended);
           },
         ),
       )
@@ -218,7 +232,8 @@ module _ (f : List ℕ → List ℕ) where
       text = p.text;
       read = at_end r r' r'' p.text p.read read;
       splits = p.splits;
-      appended = subst (Appends c c'') (sym (answer_lines-with_rest whole line)) (Appends-trans c c' c'' _ _ p.appended q);
+      appended = subst (Appends c c'') (sym (answer_lines-with_rest whole line))
+          (Appends-trans c c' c'' _ _ p.appended q);
     },
   )
 
@@ -231,7 +246,8 @@ module _ (f : List ℕ → List ℕ) where
       let all : text ≡ p.text = p.read ∙ ap (λ t. p.text ++ t) ended ∙ append-nil p.text in
       let same = Splits-one_way p.text lines whole last rest p.splits (subst (λ t. Splits t whole rest) all splits) in
       let written : answer_lines f (with_rest lines last) ≡ answer_lines f (with_rest whole rest) =
-      ap (λ (w : List (List ℕ)). answer_lines f (with_rest w last)) same.0 ∙ ap (λ (t : List ℕ). answer_lines f (with_rest whole t)) same.1 in
+      ap (λ (w : List (List ℕ)). answer_lines f (with_rest w last)) same.0
+      ∙ ap (λ (t : List ℕ). answer_lines f (with_rest whole t)) same.1 in
       subst (Appends c c') written p.appended
 
 -- the same by each function that gives each line its answer, where a run ended one way or another

@@ -40,7 +40,8 @@ next_listed xs i x low h =
 -- ---- words with one space between
 
 -- what is told as something else
-or_none-map : {A B : Type 0} (shown : B → List ℕ) (f : A → B) (told : Option A) → or_none shown (option_map f told) ≡ or_none (λ a. shown (f a)) told
+or_none-map : {A B : Type 0} (shown : B → List ℕ) (f : A → B) (told : Option A)
+    → or_none shown (option_map f told) ≡ or_none (λ a. shown (f a)) told
 or_none-map shown f None = refl
 or_none-map shown f (Some a) = refl
 
@@ -112,6 +113,8 @@ reply_told v h peer name pending shutdown waiting limit received sent datagram m
     let j7 = then_word _ _ _ t6 t7 _ _ j6 e7 (ap (or_none decimal) limit_is) in
     let j8 = then_word _ _ _ t7 t8 _ _ j7 e8 (ap (or_none decimal) received_is) in
     let j9 = then_word _ _ _ t8 t9 _ _ j8 e9 (ap (or_none decimal) sent_is) in
-    let j10 = then_word _ _ _ t9 t10 _ _ j9 e10 (ap (or_none decimal) datagram_is ∙ or_none-map decimal (λ info. info.max_datagram_size) _) in
-    let j11 = then_word _ _ _ t10 t11 _ _ j10 e11 (ap (or_none decimal) memory_is ∙ or_none-map decimal (λ info. info.alloc) _) in
+    let j10 = then_word _ _ _ t9 t10 _ _ j9 e10
+    (ap (or_none decimal) datagram_is ∙ or_none-map decimal (λ info. info.max_datagram_size) _) in
+    let j11 = then_word _ _ _ t10 t11 _ _ j10 e11
+    (ap (or_none decimal) memory_is ∙ or_none-map decimal (λ info. info.alloc) _) in
     j11.is ∙ ap (λ t. t ++ shown_reply v) e0 ∙ append_assoc old (codes "ok ") (shown_reply v)

@@ -15,7 +15,8 @@ use Rattle.sockdiag.specs.Subjects.{subject, envelope_subject, view_subject}
 use Rattle.sockdiag.specs.declared.answers.Name.{Name}
 use Rattle.sockdiag.specs.declared.answers.Name.TheVariants.{UnixRequest, UnixResponse, InetRequest, InetResponse, SocketId4, SocketId6, Message, NetlinkMessage, UnixView}
 
--- How each name is spelled, and what its bytes are read as; the socket identities under AF_INET, 2, and AF_INET6, 10.
+-- How each name is spelled, and what its bytes are read as; the socket identities under AF_INET, 2,
+-- and AF_INET6, 10, and a message under the type 20, SOCK_DIAG_BY_FAMILY.
 abbrev pub row_of : Name → List ℕ × Subject
 row_of UnixRequest = (codes "unixreq", subject (record_codec unix_request) tt)
 row_of UnixResponse = (codes "unix", subject (reply_codec unix_reply) tt)

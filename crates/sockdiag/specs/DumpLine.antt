@@ -36,8 +36,8 @@ abbrev pub shown_dump : ToldDump → List ℕ
 shown_dump dump = end_word dump.end ++ 32 ∷ decimal (length dump.messages)
     ++ flat_map (λ message. 32 ∷ field_of (message_bytes message)) dump.messages
 
--- the text tells of the dump over the datagrams, which is never refused; it can be written where each
--- message that it keeps can be
+-- The text tells of the dump over the datagrams, which is never refused. It can be written where
+-- each message that it keeps can be.
 abbrev pub TellsDump : List (List ℕ) → List ℕ → Type 0
 TellsDump datagrams text =
     Tells (λ dump. DatagramsDump MessageIs MessageFault [] datagrams dump.messages dump.end)

@@ -1,4 +1,4 @@
--- What is seen of a dump that the program reads, and how it grows; and the words that it is told by.
+-- What is seen of a dump that the program reads, how it grows, and the words that it is told by.
 use Rattle.std.specs.Prelude.{◌≡◌, ◌==◌, ℕ, List, [], ◌∷◌, ◌++◌, Option, Some, None, Result, Ok, Err}
 use Rattle.netlink_core.specs.declared.fault.DecodeError.{DecodeError}
 use Rattle.netlink_packet_sock_diag.specs.declared.dump.DumpState.{DumpState}

@@ -288,7 +288,8 @@ fn push_word(text: &mut Vec<u8>, number: u32) -> Result<(), AllocError>
 
 /// The name that a word is.
 fn find_name(word: &[u8]) -> Option<Name>
-    ensures { MatchOption result ((name : Name) → word.now ≢ (row_of name).0) (λ name. word.now ≡ (row_of name).0) }
+    ensures { MatchOption result ((name : Name) → word.now ≢ (row_of name).0)
+        (λ name. word.now ≡ (row_of name).0) }
 {
     match word {
         b"unixreq" => Some(Name::UnixRequest),

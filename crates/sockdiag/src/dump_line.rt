@@ -6,7 +6,8 @@ ghost use Rattle.netlink_packet_sock_diag.specs.Message.{MessageFits};
 ghost use Rattle.netlink_packet_sock_diag.specs.SeenMessage.{seen_message};
 ghost use Rattle.sockdiag.specs.DumpLine.{end_word, shown_dump};
 ghost use Rattle.sockdiag.specs.HexField.{IsHexField};
-ghost use Rattle.sockdiag.specs.ReadDumpSteps.{AreHexFields, IsReadDump, IsWritable, TakesDatagram, end_of, shown_message, told_dump};
+ghost use Rattle.sockdiag.specs.ReadDumpSteps.{AreHexFields, IsReadDump, IsWritable, TakesDatagram};
+ghost use Rattle.sockdiag.specs.ReadDumpSteps.{end_of, shown_message, told_dump};
 ghost use Rattle.sockdiag.specs.Told.{Tells};
 ghost use Rattle.sockdiag.specs.TextSteps.{Adds};
 

@@ -98,7 +98,8 @@ pub(crate) fn push_name_word(
     text: &mut Vec<u8>,
     name: Option<NameView<'_>>,
 ) -> Result<(), AllocError>
-    ensures { OnOk result (text.new.items ≡ text.old.items ++ 32 ∷ or_none name_word (option_map viewed_name name.entry)) }
+    ensures { OnOk result (text.new.items
+        ≡ text.old.items ++ 32 ∷ or_none name_word (option_map viewed_name name.entry)) }
 {
     match name {
         Some(NameView::Pathname(path)) => {
@@ -118,7 +119,8 @@ pub(crate) fn push_numbers_word(
     text: &mut Vec<u8>,
     numbers: Option<NumbersView<'_>>,
 ) -> Result<(), AllocError>
-    ensures { OnOk result (text.new.items ≡ text.old.items ++ 32 ∷ or_none comma_list (option_map viewed_numbers numbers.entry)) }
+    ensures { OnOk result (text.new.items
+        ≡ text.old.items ++ 32 ∷ or_none comma_list (option_map viewed_numbers numbers.entry)) }
 {
     let Some(numbers) = numbers else {
         return text.extend_from_slice(NONE);

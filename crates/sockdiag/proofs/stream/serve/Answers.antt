@@ -14,7 +14,8 @@ take_piece-requires g c =
 pub returns-in_err-count-clause-answered : goal.returns-in_err-count-clause-answered
 returns-in_err-count-clause-answered g c =
     let p = err_from_is_err_and c.from_residual.result c.from_residual.ensures.1 in
-    rw (p.1, p.2) (run_unread _ _ _ _ _ _ _ _ c.reads.invariant.0 c.in_err-count.ensures.bytes c.in_err-count.ensures.cause.0)
+    let read = c.in_err-count.ensures in
+    rw (p.1, p.2) (run_unread _ _ _ _ _ _ _ _ c.reads.invariant.0 read.bytes read.cause.0)
 
 pub returns-then-count-eq0-clause-answered : goal.returns-then-count-eq0-clause-answered
 returns-then-count-eq0-clause-answered g c =
