@@ -1,5 +1,6 @@
 -- The name of a UNIX socket, and its bytes.
-use Rattle.std.specs.Prelude.{◌≡◌, ◌≢◌, ℕ, zero, suc, List, [], ◌∷◌, ◌++◌, length, ◌≤◌, All, Result, Ok, Err, ⊤}
+use Rattle.std.specs.Prelude.{◌≢◌, ◌+◌, ◌==◌, if◌then◌else◌, ℕ, zero, List, [], ◌∷◌, ◌++◌, length, take, ◌≤◌, All, Option, Some, None, Result, Ok, Err, ⊤}
+use Rattle.std.specs.List.{position}
 use Rattle.netlink_core.specs.Bytes.{IsBytes}
 use Rattle.netlink_core.specs.Codec.{Codec, codec_of}
 use Rattle.netlink_core.specs.Prefix.{Prefix}
@@ -30,29 +31,16 @@ abbrev pub IsTypedName : SocketName → Type 0
 IsTypedName (pathname path) = IsBytes path
 IsTypedName (abstract address) = IsBytes address
 
--- the bytes in front of the first zero
-abbrev pub before_zero : List ℕ → List ℕ
-before_zero [] = []
-before_zero (zero ∷ bytes) = []
-before_zero (suc n ∷ bytes) = suc n ∷ before_zero bytes
+-- the path in a string x, by the place of its first zero, if it has one: that must be the last byte
+abbrev pub path_in : List ℕ → Option ℕ → Result SocketName DecodeError
+path_in x None = Err NameWithoutEnd
+path_in x (Some i) = if i + 1 == length x then Ok (pathname (take i x)) else Err (NameInnerZero i)
 
--- the first zero and the bytes behind it
-abbrev pub from_zero : List ℕ → List ℕ
-from_zero [] = []
-from_zero (zero ∷ bytes) = zero ∷ bytes
-from_zero (suc n ∷ bytes) = from_zero bytes
-
--- a path is what stands in front of one zero in the last place; else that zero stands too early, or there is none
-abbrev pub path_before : List ℕ → List ℕ → Result SocketName DecodeError
-path_before path [] = Err NameWithoutEnd
-path_before path (z ∷ []) = Ok (pathname path)
-path_before path (z ∷ byte ∷ bytes) = Err (NameInnerZero (length path))
-
--- No bytes are no name. A first zero says an abstract name; else the first zero ends a path, and is the last byte.
+-- No bytes are no name. A zero in front says an abstract name; else a path ends at the first zero.
 abbrev pub read_name : List ℕ → Result SocketName DecodeError
 read_name [] = Err NameEmpty
 read_name (zero ∷ address) = Ok (abstract address)
-read_name (suc n ∷ bytes) = path_before (suc n ∷ before_zero bytes) (from_zero bytes)
+read_name bytes = path_in bytes (position (λ byte. byte == 0) bytes)
 
 -- a name as the value of an attribute
 abbrev pub name_value : Prefix (Unit {0})
