@@ -1,6 +1,7 @@
 -- The items of a datagram, one after the other.
 use Rattle.std.proofs.Common.{◌≡◌, ◌≢◌, ℕ, zero, suc, ◌+◌, ◌<◌, ◌^◌, ◌⊎◌, inl, inr, List, [], ◌∷◌, ◌++◌, length, take, drop, refl, sym, ap, subst, ◌∙◌, append_assoc, arith}
-use Rattle.std.specs.Prelude.{Option, Some, None, Result, Ok, Err}
+use Rattle.std.specs.Option.{option_to_list}
+use Rattle.std.specs.Prelude.{option_map, Option, Some, None, Result, Ok, Err}
 use Rattle.std.specs.List.{AllZip}
 use Rattle.std.proofs.lemmas.List.{append-nil}
 use Rattle.netlink_core.specs.Bytes.{IsBytes}
@@ -10,7 +11,7 @@ use Rattle.netlink_core.specs.declared.fault.DecodeError.{DecodeError}
 use Rattle.netlink_core.specs.Header.{IsEnvelopeFault}
 use Rattle.netlink_core.specs.Datagram.{StartsWithMessage, CutIntoMessages, AreWholeMessages}
 use Rattle.netlink_core.specs.Envelope.{Payload, Envelope, EnvelopeIs, EnvelopeFault}
-use Rattle.netlink_core.specs.Items.{last_item, ItemIs, ItemsAre}
+use Rattle.netlink_core.specs.Items.{ItemIs, ItemsAre}
 use Rattle.netlink_core.proofs.Headers.{header_or_fault}
 use Rattle.netlink_core.proofs.Framing.{envelope_or_fault}
 use Rattle.netlink_core.proofs.Datagrams.{starts_with_message, shorter-rest, messages_in_a_row, one_cut_into_messages}
@@ -91,14 +92,14 @@ module _ {A : Type 0} (reads : List ℕ → ℕ → A → Type 0) (refuses : Lis
   items_in_a_row front back messages xs ys whole a b =
       let cut : CutIntoMessages front messages None = rw (append-nil front, append-nil messages) at (messages_in_a_row front [] messages [] None whole refl) in
       let same = one_cut_into_messages front a.messages messages a.end None a.cut cut in
-      let all : xs ≡ a.carried = a.parts ∙ ap (λ (e : Option DecodeError). a.carried ++ last_item e) same.1 ∙ append-nil a.carried in
+      let all : xs ≡ a.carried = a.parts ∙ ap (λ (e : Option DecodeError). a.carried ++ option_to_list (option_map Err e)) same.1 ∙ append-nil a.carried in
       record {
         messages = messages ++ b.messages;
         end = b.end;
         carried = a.carried ++ b.carried;
         cut = messages_in_a_row front back messages b.messages b.end whole b.cut;
         each = zip_append (ItemIs reads refuses) messages b.messages a.carried b.carried (subst (λ (s : List (List ℕ)). AllZip (ItemIs reads refuses) s a.carried) same.0 a.each) b.each;
-        parts = ap (λ (l : List (Result (Payload A) DecodeError)). l ++ ys) all ∙ ap (λ (l : List (Result (Payload A) DecodeError)). a.carried ++ l) b.parts ∙ sym (append_assoc a.carried b.carried (last_item b.end));
+        parts = ap (λ (l : List (Result (Payload A) DecodeError)). l ++ ys) all ∙ ap (λ (l : List (Result (Payload A) DecodeError)). a.carried ++ l) b.parts ∙ sym (append_assoc a.carried b.carried (option_to_list (option_map Err b.end)));
       }
 
   -- ---- the walk
@@ -160,4 +161,4 @@ module _ {A : Type 0} (reads : List ℕ → ℕ → A → Type 0) (refuses : Lis
   one_list b typed xs ys h k =
       let same = one_cut_into_messages b h.messages k.messages h.end k.end h.cut k.cut in
       let carried = one_carried b typed k.messages k.end k.cut h.carried k.carried (subst (λ (s : List (List ℕ)). AllZip (ItemIs reads refuses) s h.carried) same.0 h.each) k.each in
-      h.parts ∙ ap (λ (c : List (Result (Payload A) DecodeError)). c ++ last_item h.end) carried ∙ ap (λ (e : Option DecodeError). k.carried ++ last_item e) same.1 ∙ sym k.parts
+      h.parts ∙ ap (λ (c : List (Result (Payload A) DecodeError)). c ++ option_to_list (option_map Err h.end)) carried ∙ ap (λ (e : Option DecodeError). k.carried ++ option_to_list (option_map Err e)) same.1 ∙ sym k.parts

@@ -1,15 +1,11 @@
 -- What the messages of a datagram carry, and the faults among them.
-use Rattle.std.specs.Prelude.{◌≡◌, ℕ, List, [], ◌∷◌, ◌++◌, Option, Some, None, Result, Ok, Err}
+use Rattle.std.specs.Prelude.{◌≡◌, ℕ, List, ◌++◌, Option, option_map, Result, Ok, Err}
+use Rattle.std.specs.Option.{option_to_list}
 use Rattle.std.specs.List.{AllZip}
 use Rattle.netlink_core.specs.declared.fault.DecodeError.{DecodeError}
 use Rattle.netlink_core.specs.declared.header.NetlinkHeader.{NetlinkHeader}
 use Rattle.netlink_core.specs.Datagram.{CutIntoMessages}
 use Rattle.netlink_core.specs.Envelope.{Payload, EnvelopeIs, EnvelopeFault}
-
--- what stands behind the messages: nothing, or a fault
-abbrev pub last_item : {A : Type 0} → Option DecodeError → List (Result A DecodeError)
-last_item None = []
-last_item (Some e) = Err e ∷ []
 
 -- What belongs to a datagram, where this is what belongs to the bytes of an inner message under a type.
 module _ {A : Type 0} (reads : List ℕ → ℕ → A → Type 0) (refuses : List ℕ → ℕ → DecodeError → Type 0) where
@@ -25,4 +21,4 @@ module _ {A : Type 0} (reads : List ℕ → ℕ → A → Type 0) (refuses : Lis
     pub carried : List (Result (Payload A) DecodeError)
     pub cut : CutIntoMessages bytes messages end
     pub each : AllZip ItemIs messages carried
-    pub parts : items ≡ carried ++ last_item end
+    pub parts : items ≡ carried ++ option_to_list (option_map Err end)

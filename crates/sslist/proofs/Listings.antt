@@ -1,6 +1,7 @@
 -- The lines of a datagram, item by item.
 use Rattle.std.proofs.Common.{◌≡◌, ◌≢◌, ◌↔◌, ◌⊎◌, inl, inr, ℕ, List, [], ◌∷◌, ◌++◌, Bool, true, false, refl, sym, ap, subst, ◌∙◌, append_assoc}
-use Rattle.std.specs.Prelude.{IsTrue, Option, None, Result, Err}
+use Rattle.std.specs.Option.{option_to_list}
+use Rattle.std.specs.Prelude.{option_map, IsTrue, Option, None, Result, Err}
 use Rattle.std.specs.List.{AllByRecursion, AllZip, flat_map}
 use Rattle.std.proofs.lemmas.List.{append-nil}
 use Rattle.std.proofs.lemmas.Grind.{flat_map-append}
@@ -9,7 +10,7 @@ use Rattle.netlink_core.specs.declared.fault.DecodeError.{DecodeError}
 use Rattle.netlink_core.specs.Datagram.{StartsWithMessage}
 use Rattle.netlink_core.specs.Envelope.{Payload}
 use Rattle.netlink_core.specs.Header.{IsEnvelopeFault}
-use Rattle.netlink_core.specs.Items.{ItemIs, ItemsAre, last_item}
+use Rattle.netlink_core.specs.Items.{ItemIs, ItemsAre}
 use Rattle.netlink_core.proofs.Datagrams.{one_cut_into_messages}
 use Rattle.netlink_core.proofs.Items.{Following, items_begin, items_go_on, no_items, fault_alone}
 
@@ -53,7 +54,7 @@ module _ {A : Type 0} (reads : List ℕ → ℕ → A → Type 0) (refuses : Lis
   no_more later all =
       let same = one_cut_into_messages [] all.messages [] all.end None all.cut refl in
       let carried = none_carried all.carried (subst (λ (s : List (List ℕ)). AllZip (ItemIs reads refuses) s all.carried) same.0 all.each) in
-      all.parts ∙ ap (λ (c : List (Result (Payload A) DecodeError)). c ++ last_item all.end) carried ∙ ap (λ (e : Option DecodeError). last_item e) same.1
+      all.parts ∙ ap (λ (c : List (Result (Payload A) DecodeError)). c ++ option_to_list (option_map Err all.end)) carried ∙ ap (λ (e : Option DecodeError). option_to_list (option_map Err e)) same.1
 
   -- the walk goes on with the rest behind the item
   follows : (datagram rest next : List ℕ) (passed : List (Result (Payload A) DecodeError)) (item : Result (Payload A) DecodeError) → Following reads refuses datagram passed rest
