@@ -52,20 +52,19 @@ header_read bytes h fits long length-is type-is flags-is sequence-is port-is low
     let of_type = number_behind 4 2 h.message_type bytes fits (omega arith) type-is in
     let of_flags = number_behind 6 2 h.flags bytes fits (omega arith) flags-is in
     let of_sequence = number_behind 8 4 h.sequence_number bytes fits (omega arith) sequence-is in
-    let of_port = number_behind 12 4 h.port_number bytes fits (omega arith) port-is in
-    (
+    let of_port = number_behind 12 4 h.port_number bytes fits (omega arith) port-is in (
       take (h.length - 16) (drop 16 bytes),
       record {
-      rest = drop (h.length - 16) (drop 16 bytes);
-      parts = of_length ∙ ap (λ (t : List ℕ). little_bytes 4 h.length ++ t) (of_type ∙ ap (λ (t : List ℕ). little_bytes 2 h.message_type ++ t) (of_flags ∙ ap (λ (t : List ℕ). little_bytes 2 h.flags ++ t) (of_sequence ∙ ap (λ (t : List ℕ). little_bytes 4 h.sequence_number ++ t) of_port))) ∙ ap (λ (t : List ℕ). header_bytes h ++ t) (sym (take-append-drop (h.length - 16) (drop 16 bytes)));
-      typed = record {
-        length = subst (λ (k : ℕ). k < 2 ^ 32) (sym length-is) (number-fits little_endian 4 bytes fits);
-        message_type = fits_behind 4 2 h.message_type bytes fits type-is;
-        flags = fits_behind 6 2 h.flags bytes fits flags-is;
-        sequence_number = fits_behind 8 4 h.sequence_number bytes fits sequence-is;
-        port_number = fits_behind 12 4 h.port_number bytes fits port-is;
-      };
-      size = omega (arith, length-take (h.length - 16) (drop 16 bytes), length-drop 16 bytes);
+        rest = drop (h.length - 16) (drop 16 bytes);
+        parts = of_length ∙ ap (λ (t : List ℕ). little_bytes 4 h.length ++ t) (of_type ∙ ap (λ (t : List ℕ). little_bytes 2 h.message_type ++ t) (of_flags ∙ ap (λ (t : List ℕ). little_bytes 2 h.flags ++ t) (of_sequence ∙ ap (λ (t : List ℕ). little_bytes 4 h.sequence_number ++ t) of_port))) ∙ ap (λ (t : List ℕ). header_bytes h ++ t) (sym (take-append-drop (h.length - 16) (drop 16 bytes)));
+        typed = record {
+          length = subst (λ (k : ℕ). k < 2 ^ 32) (sym length-is) (number-fits little_endian 4 bytes fits);
+          message_type = fits_behind 4 2 h.message_type bytes fits type-is;
+          flags = fits_behind 6 2 h.flags bytes fits flags-is;
+          sequence_number = fits_behind 8 4 h.sequence_number bytes fits sequence-is;
+          port_number = fits_behind 12 4 h.port_number bytes fits port-is;
+        };
+        size = omega (arith, length-take (h.length - 16) (drop 16 bytes), length-drop 16 bytes);
       },
     )
 

@@ -1,5 +1,5 @@
 -- A reader joined with a writer, and the laws between them.
-use Rattle.std.specs.Prelude.{⊤, ◌≡◌, ◌↔◌, ◌⊎◌, ℕ, List, length, Result, Ok, Err}
+use Rattle.std.specs.Prelude.{⊤, ◌≡◌, ◌↔◌, ◌⊎◌, ℕ, List, length, Ok, Err}
 use Rattle.netlink_core.specs.Bytes.{IsBytes}
 use Rattle.netlink_core.specs.Format.{Format, read, StandsIn, bytes}
 use Rattle.netlink_core.specs.Prefix.{Prefix, prefix_of}

@@ -1,9 +1,8 @@
 -- What is shown of netlink messages, which is all of them.
-use Rattle.std.proofs.Common.{◌≡◌, ◌↔◌, ◌⊎◌, ◌∙◌, inl, inr, ℕ, ◌<◌, ◌≤◌, ◌^◌, List, decimal, refl, sym, ap, subst, arith}
+use Rattle.std.proofs.Common.{◌≡◌, ◌↔◌, ℕ, ◌<◌, ◌^◌, List, decimal, refl, sym, ap, subst, arith}
 use Rattle.std.proofs.lemmas.Fmt.{decimal_injective}
 use Rattle.netlink_core.specs.Bytes.{IsBytes}
-use Rattle.netlink_core.specs.declared.header.NetlinkHeader.{NetlinkHeader}
-use Rattle.netlink_core.specs.Envelope.{Payload, done_with, error_with, no_payload, overrun_with, inner, Envelope, IsInnerType, PayloadIs, EnvelopeIs, EnvelopeFits, OfInner, IdleEnvelopes, payload_bytes}
+use Rattle.netlink_core.specs.Envelope.{Payload, done_with, error_with, no_payload, overrun_with, inner, Envelope, PayloadIs, EnvelopeIs, EnvelopeFits, IdleEnvelopes, payload_bytes}
 use Rattle.netlink_core.proofs.Framing.{envelope_or_fault, envelope_or_fault_apart, one_envelope_fault, payload_typed}
 use Rattle.netlink_core.proofs.Idle.{equal_where_idle, payloads_alike}
 use Rattle.netlink_packet_sock_diag.specs.Message.{message_codec, Message, MessageIs, MessageFault, MessageFits, IdleMessages, message_bytes}

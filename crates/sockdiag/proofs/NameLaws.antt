@@ -1,5 +1,5 @@
 -- The laws of what the bytes of each name are read as.
-use Rattle.std.proofs.Common.{◌≢◌, inl, refl, arith}
+use Rattle.std.proofs.Common.{◌≢◌, inl, refl}
 use Rattle.std.specs.Prelude.{⊤}
 use Rattle.sock_diag_records.specs.UnixRequest.{unix_request}
 use Rattle.sock_diag_records.specs.UnixRequestLaws.{unix_request_sound}
