@@ -2,4 +2,7 @@ use Rattle.std.proofs.lemmas.Result.{IfErr-weaker}
 use Rattle.netlink_packet_sock_diag.proofs.message.SockDiagMessageNetlinkDeserializable.deserialize.Goals as goal
 
 pub returns-clause-wanted : goal.returns-clause-wanted
-returns-clause-wanted c = IfErr-weaker c.read_under.result _ _ (λ e wants memory. let wanted = wants memory in (wanted.0, wanted.1)) c.read_under.ensures.wanted
+returns-clause-wanted c =
+    IfErr-weaker c.read_under.result _ _
+    (λ e wants memory. let wanted = wants memory in (wanted.0, wanted.1))
+    c.read_under.ensures.wanted

@@ -3,10 +3,16 @@ use Rattle.netlink_packet_sock_diag.specs.ViewedMessage.{viewed_message}
 use Rattle.sock_diag_uses.proofs.readme.reading.path.Goals as goal
 
 pub returns-in-Some-Pathname-clause-value : goal.returns-in-Some-Pathname-clause-value
-returns-in-Some-Pathname-clause-value c = (viewed_message c.in_ok-reply.field-0, c.in_ok-reply.ensures.value, rw c.in-UnixResponse.is (search rules))
+returns-in-Some-Pathname-clause-value c =
+    let reply = c.in_ok-reply in
+    (viewed_message reply.field-0, reply.ensures.value, rw c.in-UnixResponse.is (search rules))
 
 pub returns-in_default-clause-value : goal.returns-in_default-clause-value
-returns-in_default-clause-value c = (viewed_message c.in_ok-reply.field-0, c.in_ok-reply.ensures.value, rw c.in-UnixResponse.is (search rules))
+returns-in_default-clause-value c =
+    let reply = c.in_ok-reply in
+    (viewed_message reply.field-0, reply.ensures.value, rw c.in-UnixResponse.is (search rules))
 
 pub returns-in-InetResponse-clause-value : goal.returns-in-InetResponse-clause-value
-returns-in-InetResponse-clause-value c = (viewed_message c.in_ok-reply.field-0, c.in_ok-reply.ensures.value, rw c.in-InetResponse.is refl)
+returns-in-InetResponse-clause-value c =
+    let reply = c.in_ok-reply in
+    (viewed_message reply.field-0, reply.ensures.value, rw c.in-InetResponse.is refl)
