@@ -4,12 +4,11 @@ use Rattle.netlink_core.proofs.Prefixes.{codec_laws}
 use Rattle.netlink_core.specs.ShownLaws.{PrefixLaws}
 use Rattle.netlink_core.proofs.RowLaws.{exact_laws}
 use Rattle.sock_diag_attributes.specs.Name.{name_value}
-use Rattle.std.proofs.Common.{Result, Ok, Err, IsOk, ◌≡◌, ◌≢◌, ◌∙◌, ℕ, zero, suc, ◌+◌, ◌<◌, ◌≤◌, Bool, true, false, cond, ltb, ◌==◌, Option, Some, None, position, List, [], ◌∷◌, ◌++◌, length, take, get_or, refl, ap, sym, subst, arith}
-use Rattle.std.proofs.lemmas.Bool.{eqb-true, eqb-false, eq-eqb, ne_eqb, lt-ltb, le-ltb}
-use Rattle.std.proofs.lemmas.List.{drop_all, get_or-take, length-append, length-take-le, take_all, take-append-le}
+use Rattle.std.proofs.Common.{Result, Ok, Err, IsOk, ◌≡◌, ◌≢◌, ◌∙◌, ℕ, zero, suc, ◌+◌, ◌<◌, ◌≤◌, false, cond, ltb, ◌==◌, Option, Some, None, position, List, [], ◌∷◌, ◌++◌, length, take, get_or, refl, ap, sym, subst, arith}
+use Rattle.std.proofs.lemmas.Bool.{eqb-true, eqb-false, eq-eqb, ne_eqb}
+use Rattle.std.proofs.lemmas.List.{drop_all, get_or-take, length-append, length-take, length-take-le, take_all, take-append-le}
 use Rattle.std.proofs.lemmas.List.Quantifiers.{position-Some}
 use Rattle.std.proofs.lemmas.List.Sums.{position_or_len_is}
-use Rattle.std.proofs.Math.Path.{ap₂}
 use Rattle.std.proofs.Math.ListN.{get_or-append}
 use Rattle.std.proofs.Math.Seq.{get_or-append_seam, split_at, take-append_seam}
 use Rattle.std.proofs.lemmas.List.Elements.{All-head, All-nil, All-cons, All-append, All-get_or, All-from_get_or}
@@ -25,13 +24,9 @@ name_named [] h = cc
 name_named (zero ∷ address) h = cc
 name_named (suc n ∷ xs) h = to (position (λ b. b == 0) (suc n ∷ xs)) h
   where
-    last : (b : Bool) (path : List ℕ) (i : ℕ) → cond b (Ok (pathname path)) (Err (NameInnerZero i)) ≡ Err Memory → ⊥
-    last true path i h = cc
-    last false path i h = cc
-
     to : (place : Option ℕ) → path_in (suc n ∷ xs) place ≡ Err Memory → ⊥
     to None h = cc
-    to (Some i) h = last (i + 1 == length (suc n ∷ xs)) (take i (suc n ∷ xs)) i h
+    to (Some i) h = grind arith
 
 -- a name that was read is written as its string, and is in normal form
 pub name_exact : (x : List ℕ) (u : SocketName) → read_name x ≡ Ok u → (x ≡ name_bytes u) × IsNormalName u
@@ -43,23 +38,16 @@ name_exact (suc n ∷ xs) u h = to (position (λ b. b == 0) (suc n ∷ xs)) refl
     x : List ℕ
     x = suc n ∷ xs
 
-    last : (i : ℕ) → position (λ b. b == 0) x ≡ Some i → (b : Bool) → (i + 1 == length x) ≡ b → cond b (Ok (pathname (take i x))) (Err (NameInnerZero i)) ≡ Ok u → (x ≡ name_bytes u) × IsNormalName u
-    last i at false end k = absurd cc
-    last i at true end k =
-        let (within, here, before) = position-Some (λ b. b == 0) x i 0 at in
-        let whole : x ≡ take i x ++ 0 ∷ [] = split_at x i 0 within ∙ ap₂ (λ (b : ℕ) (ys : List ℕ). take i x ++ b ∷ ys) (eqb-true _ _ here) (drop_all (suc i) x (omega (arith, eqb-true _ _ end))) in
-        let none : HasNoZero (take i x) = All-from_get_or (λ b. b ≢ 0) (take i x) 0 (λ k l e.
-        let below : k < i = omega (arith, l, length-take-le i x (omega (arith, within))) in
-        eqb-false _ _ (before k below) (sym (get_or-take i x k 0 below) ∙ e)) in
-        let some : take i x ≢ [] = λ e. let no : suc n ∷ xs ≡ 0 ∷ [] = whole ∙ ap (λ (p : List ℕ). p ++ 0 ∷ []) e in cc in
-        let same : pathname (take i x) ≡ u = cc in
-        subst (λ (v : SocketName). (x ≡ name_bytes v) × IsNormalName v) same (whole, (none, some))
-
     to : (place : Option ℕ) → position (λ b. b == 0) x ≡ place → path_in x place ≡ Ok u → (x ≡ name_bytes u) × IsNormalName u
     to None at k = absurd cc
-    to (Some i) at k = last i at (i + 1 == length x) refl k
-
--- ---- by places
+    to (Some i) at k =
+        let (within, here, before) = position-Some (λ b. b == 0) x i 0 at in
+        let end : i + 1 ≡ length x = grind (arith, k) in
+        let same : pathname (take i x) ≡ u = grind (arith, k, end) in
+        let whole : x ≡ take i x ++ 0 ∷ [] = grind (arith, split_at x i 0 within, here, end, eqb-true, drop_all) in
+        let none : HasNoZero (take i x) = All-from_get_or (λ b. b ≢ 0) (take i x) 0 (λ k l e. grind (arith, l, e, before, length-take, get_or-take, eqb-false)) in
+        let some : take i x ≢ [] = λ e. grind (arith, whole, e) in
+        subst (λ (v : SocketName). (x ≡ name_bytes v) × IsNormalName v) same (whole, (none, some))
 
 -- a name that does not begin with a zero, by the place of the first one, which is the length where there is none
 first_zero : (bytes : List ℕ) (i : ℕ) → get_or bytes 0 0 ≢ 0 → i ≤ length bytes → HasNoZero (take i bytes) → (i < length bytes → get_or bytes i 0 ≡ 0) → read_name bytes ≡ path_in bytes (cond (ltb i (length bytes)) (Some i) None)
@@ -76,39 +64,26 @@ pub reads_inner_zero : (bytes path : List ℕ) (last i : ℕ) → bytes ≡ path
 reads_inner_zero bytes path last i parts first lt here none =
     let long : length bytes ≡ length path + 1 = ap length parts ∙ length-append path (last ∷ []) in
     let front : take i bytes ≡ take i path = ap (take i) parts ∙ take-append-le i path (last ∷ []) (omega arith) in
-    let zero_here : get_or bytes i 0 ≡ 0 = ap (λ (b : List ℕ). get_or b i 0) parts ∙ get_or-append path (last ∷ []) 0 i lt ∙ here in
-    first_zero bytes i first (omega arith) (subst HasNoZero (sym front) none) (λ l. zero_here)
-    ∙ rw (lt-ltb i (length bytes) (omega arith)) (rw (ne_eqb (i + 1) (length bytes) (λ e. omega arith)) refl)
+    let zero_here : get_or bytes i 0 ≡ 0 = grind (arith, parts, lt, here, get_or-append) in
+    first_zero bytes i first (omega arith) (subst HasNoZero (sym front) none) (λ l. zero_here) ∙ grind arith
 
 pub reads_path : (bytes path : List ℕ) → bytes ≡ path ++ 0 ∷ [] → get_or bytes 0 0 ≢ 0 → HasNoZero path → read_name bytes ≡ Ok (pathname path)
 reads_path bytes path parts first none =
     let long : length bytes ≡ length path + 1 = ap length parts ∙ length-append path (0 ∷ []) in
     let front : take (length path) bytes ≡ path = ap (take (length path)) parts ∙ take-append_seam path (0 ∷ []) in
-    let here : get_or bytes (length path) 0 ≡ 0 = ap (λ (b : List ℕ). get_or b (length path) 0) parts ∙ get_or-append_seam path 0 [] 0 in
-    first_zero bytes (length path) first (omega arith) (subst HasNoZero (sym front) none) (λ l. here)
-    ∙ rw (lt-ltb (length path) (length bytes) (omega arith)) (rw (eq-eqb (length path + 1) (length bytes) (sym long), front) refl)
+    let here : get_or bytes (length path) 0 ≡ 0 = grind (arith, parts, get_or-append_seam) in
+    first_zero bytes (length path) first (omega arith) (subst HasNoZero (sym front) none) (λ l. here) ∙ grind arith
 
 pub reads_no_end : (bytes path : List ℕ) (last : ℕ) → bytes ≡ path ++ last ∷ [] → get_or bytes 0 0 ≢ 0 → last ≢ 0 → HasNoZero path → read_name bytes ≡ Err NameWithoutEnd
 reads_no_end bytes path last parts first some none =
     let all : HasNoZero bytes = subst HasNoZero (sym parts) (All-append (λ b. b ≢ 0) path (last ∷ []) none (All-cons (λ b. b ≢ 0) last [] some (All-nil (λ b. b ≢ 0)))) in
-    first_zero bytes (length bytes) first (omega arith) (subst HasNoZero (sym (take_all (length bytes) bytes (omega arith))) all) (λ l. absurd (omega arith))
-    ∙ rw (le-ltb (length bytes) (length bytes) (omega arith)) refl
+    first_zero bytes (length bytes) first (omega arith) (subst HasNoZero (sym (take_all (length bytes) bytes (omega arith))) all) (λ l. absurd (omega arith)) ∙ grind arith
 
 -- a name in normal form reads back
 pub name_reads_back : (u : SocketName) → IsNormalName u → read_name (name_bytes u) ≡ Ok u
 name_reads_back (abstract address) good = refl
 name_reads_back (pathname []) good = absurd (good.1 refl)
 name_reads_back (pathname (b ∷ xs)) good = reads_path (b ∷ xs ++ 0 ∷ []) (b ∷ xs) refl (All-head (λ b. b ≢ 0) b xs good.0) good.0
-
--- of a string of bytes the name is one of bytes
-pub name_typed : (u : SocketName) → IsBytes (name_bytes u) → IsTypedName u
-name_typed (pathname path) typed = IsBytes-left path (0 ∷ []) typed
-name_typed (abstract address) typed = λ i. typed (suc i)
-
--- and the bytes of a typed name are bytes
-pub name_bytes_typed : (u : SocketName) → IsTypedName u → IsBytes (name_bytes u)
-name_bytes_typed (pathname path) typed = IsBytes-append path (0 ∷ []) typed (IsBytes-cons 0 [] (omega arith) IsBytes-nil)
-name_bytes_typed (abstract address) typed = IsBytes-cons 0 address (omega arith) typed
 
 -- an accepted name that is not empty, of which the first byte is no zero: nothing else needs a look
 pub known_path : (bytes path : List ℕ) (last : ℕ) → bytes ≡ path ++ last ∷ [] → get_or bytes 0 0 ≢ 0 → IsOk (read_name bytes) → read_name bytes ≡ Ok (pathname path)
@@ -121,6 +96,16 @@ known_path bytes path last parts first ok = answer_is (read_name bytes) refl ok
         let same : other ++ 0 ∷ [] ≡ path ++ last ∷ [] = sym (name_exact bytes (pathname other) h).0 ∙ parts in
         let long : length other ≡ length path = omega (arith, ap length same, length-append other (0 ∷ []), length-append path (last ∷ [])) in
         ap (λ (p : List ℕ). Ok (pathname p)) (sym (take-append_seam other (0 ∷ [])) ∙ ap (take (length other)) same ∙ ap (λ (n : ℕ). take n (path ++ last ∷ [])) long ∙ take-append_seam path (last ∷ []))
+
+-- of a string of bytes the name is one of bytes
+pub name_typed : (u : SocketName) → IsBytes (name_bytes u) → IsTypedName u
+name_typed (pathname path) typed = IsBytes-left path (0 ∷ []) typed
+name_typed (abstract address) typed = λ i. typed (suc i)
+
+-- and the bytes of a typed name are bytes
+pub name_bytes_typed : (u : SocketName) → IsTypedName u → IsBytes (name_bytes u)
+name_bytes_typed (pathname path) typed = IsBytes-append path (0 ∷ []) typed (IsBytes-cons 0 [] (omega arith) IsBytes-nil)
+name_bytes_typed (abstract address) typed = IsBytes-cons 0 address (omega arith) typed
 
 -- a name as the value of an attribute: its reader, its bytes, equal strings alone being idle, and its normal form
 pub name_laws : PrefixLaws name_value
