@@ -32,7 +32,7 @@ message_or_fault bytes typed = elim (header_or_fault bytes typed) [
 ]
 
 -- lists that are related item by item are so in a row
-zip_append : {A B : Type 0} (R : A → B → Type 0) (xs ys : List A) (vs ws : List B) → AllZip R xs vs → AllZip R ys ws → AllZip R (xs ++ ys) (vs ++ ws)
+pub zip_append : {A B : Type 0} (R : A → B → Type 0) (xs ys : List A) (vs ws : List B) → AllZip R xs vs → AllZip R ys ws → AllZip R (xs ++ ys) (vs ++ ws)
 zip_append R [] ys [] ws h k = k
 zip_append R [] ys (v ∷ vs) ws h k = absurd h
 zip_append R (x ∷ xs) ys [] ws h k = absurd h

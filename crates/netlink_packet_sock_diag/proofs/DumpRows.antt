@@ -18,13 +18,6 @@ use Rattle.netlink_packet_sock_diag.specs.declared.dump.DumpError.TheVariants.{E
 use Rattle.netlink_packet_sock_diag.specs.Dump.{in_a_row, end_of, GoesOn, kept, Ends, Dump, DumpGoesOn, DatagramDump, DatagramsDump, AreSplit}
 use Rattle.netlink_packet_sock_diag.specs.Feed.{FeedLeaves, FeedsLeave}
 
--- the dump over items that come in several parts, one after the other
-abbrev pub DumpInParts : {A : Type 0} → List A → List (List (Result (Payload A) DecodeError)) → List A → Result DumpState DecodeError → Type 0
-DumpInParts before [] after end = (after ≡ before) × (end ≡ Ok Reading)
-DumpInParts {A} before (items ∷ later) after end =
-    (middle : List A) × (state : Result DumpState DecodeError) × Dump before items middle state
-    × (((state ≡ Ok Reading) × DumpInParts middle later after end) ⊎ ((state ≢ Ok Reading) × (after ≡ middle) × (end ≡ state)))
-
 none_or_some : {X : Type 0} (end : Option X) → (end ≡ None) ⊎ ((x : X) × (end ≡ Some x))
 none_or_some None = inl refl
 none_or_some (Some x) = inr (x, refl)
@@ -137,48 +130,33 @@ module _ {A : Type 0} where
             (first.0, first.1, first.2, inr (other, same.0, same.1))
       ]
 
-  pub in_parts : (before after : List A) (end : Result DumpState DecodeError) (parts : List (List (Result (Payload A) DecodeError))) → (DumpInParts before parts after end ↔ Dump before (in_a_row parts) after end)
-  in_parts before after end [] = (
-    λ h. record { passed = []; later = []; parts = refl; plain = tt; keeps = h.0 ∙ sym (append-nil before); ends = h.1 },
-    λ d. one_dump before [] after before end (Ok Reading) d (record { passed = []; later = []; parts = refl; plain = tt; keeps = sym (append-nil before); ends = refl }),
-  )
-  in_parts before after end (items ∷ later) = (
-    λ h. joined before h.0 after h.1 end items (in_a_row later) h.2 (elim h.3 [ inl on ↦ inl (on.0, (in_parts h.0 after end later).0 on.1) | inr off ↦ inr off ]),
-    λ d.
-        let p = parted before after end items (in_a_row later) d in
-        (p.0, p.1, p.2, elim p.3 [ inl on ↦ inl (on.0, (in_parts p.0 after end later).1 on.1) | inr off ↦ inr off ]),
-  )
-
 -- bytes one after the other are bytes
 bytes-in_a_row : (datagrams : List (List ℕ)) → AllByRecursion IsBytes datagrams → IsBytes (in_a_row datagrams)
 bytes-in_a_row [] typed = IsBytes-nil
 bytes-in_a_row (b ∷ later) typed = IsBytes-append b (in_a_row later) typed.0 (bytes-in_a_row later typed.1)
 
 module _ {A : Type 0} (reads : List ℕ → ℕ → A → Type 0) (refuses : List ℕ → ℕ → DecodeError → Type 0) where
-  by_items : ((b : List ℕ) → IsBytes b → (xs ys : List (Result (Payload A) DecodeError)) → ItemsAre reads refuses b xs → ItemsAre reads refuses b ys → xs ≡ ys)
-      → (before after : List A) (end : Result DumpState DecodeError) (datagrams : List (List ℕ)) (parts : List (List (Result (Payload A) DecodeError))) → AllByRecursion IsBytes datagrams
-      → AllZip (ItemsAre reads refuses) datagrams parts → DatagramsDump reads refuses before datagrams after end → DumpInParts before parts after end
-  by_items one before after end [] [] typed each d = d
-  by_items one before after end [] (p ∷ parts) typed each d = absurd each
-  by_items one before after end (b ∷ datagrams) [] typed each d = absurd each
-  by_items one before after end (b ∷ datagrams) (p ∷ parts) typed each d =
-      let first : Dump before p d.0 d.1 = subst (λ (l : List (Result (Payload A) DecodeError)). Dump before l d.0 d.1) (one b typed.0 d.2.0 p d.2.1 each.0) d.2.2 in
-      (d.0, d.1, first, elim d.3 [ inl on ↦ inl (on.0, by_items one d.0 after end datagrams parts typed.1 each.1 on.1) | inr off ↦ inr off ])
-
-  from_items : (before after : List A) (end : Result DumpState DecodeError) (datagrams : List (List ℕ)) (parts : List (List (Result (Payload A) DecodeError)))
-      → AllZip (ItemsAre reads refuses) datagrams parts → DumpInParts before parts after end → DatagramsDump reads refuses before datagrams after end
-  from_items before after end [] [] each d = d
-  from_items before after end [] (p ∷ parts) each d = absurd each
-  from_items before after end (b ∷ datagrams) [] each d = absurd each
-  from_items before after end (b ∷ datagrams) (p ∷ parts) each d =
-      (d.0, d.1, (p, each.0, d.2), elim d.3 [ inl on ↦ inl (on.0, from_items d.0 after end datagrams parts each.1 on.1) | inr off ↦ inr off ])
+  -- datagrams have one list of items each
+  pub one_row : ((b : List ℕ) → IsBytes b → (xs ys : List (Result (Payload A) DecodeError)) → ItemsAre reads refuses b xs → ItemsAre reads refuses b ys → xs ≡ ys)
+      → (datagrams : List (List ℕ)) → AllByRecursion IsBytes datagrams → (xs ys : List (List (Result (Payload A) DecodeError)))
+      → AllZip (ItemsAre reads refuses) datagrams xs → AllZip (ItemsAre reads refuses) datagrams ys → xs ≡ ys
+  one_row one [] typed [] [] h k = refl
+  one_row one [] typed [] (y ∷ ys) h k = absurd k
+  one_row one [] typed (x ∷ xs) ys h k = absurd h
+  one_row one (b ∷ later) typed [] ys h k = absurd h
+  one_row one (b ∷ later) typed (x ∷ xs) [] h k = absurd k
+  one_row one (b ∷ later) typed (x ∷ xs) (y ∷ ys) h k =
+      let first = one b typed.0 x y h.0 k.0 in
+      let rest = one_row one later typed.1 xs ys h.1 k.1 in
+      λ i. first i ∷ rest i
 
   pub same_dump : ((b : List ℕ) → IsBytes b → (xs ys : List (Result (Payload A) DecodeError)) → ItemsAre reads refuses b xs → ItemsAre reads refuses b ys → xs ≡ ys)
       → (datagrams others : List (List ℕ)) (xs ys : List (List (Result (Payload A) DecodeError))) → AllByRecursion IsBytes datagrams
       → AllZip (ItemsAre reads refuses) datagrams xs → AllZip (ItemsAre reads refuses) others ys → in_a_row xs ≡ in_a_row ys
       → (before after : List A) (end : Result DumpState DecodeError) → DatagramsDump reads refuses before datagrams after end → DatagramsDump reads refuses before others after end
-  same_dump one datagrams others xs ys typed each also same before after end d =
-      from_items before after end others ys also ((in_parts before after end ys).1 (subst (λ (l : List (Result (Payload A) DecodeError)). Dump before l after end) same ((in_parts before after end xs).0 (by_items one before after end datagrams xs typed each d))))
+  same_dump one datagrams others xs ys typed each also same before after end (row, items, d) =
+      let rows : row ≡ in_a_row ys = items.2 ∙ ap (λ (parts : List (List (Result (Payload A) DecodeError))). in_a_row parts) (one_row one datagrams typed items.0 xs items.1 each) ∙ same in
+      (in_a_row ys, (ys, also, refl), subst (λ (l : List (Result (Payload A) DecodeError)). Dump before l after end) rows d)
 
   -- ---- how whole messages are split into datagrams
 
@@ -201,7 +179,7 @@ module _ {A : Type 0} (reads : List ℕ → ℕ → A → Type 0) (refuses : Lis
   ]
 
   -- datagrams have items
-  items_of_each : ((b : List ℕ) → IsBytes b → (items : List (Result (Payload A) DecodeError)) × ItemsAre reads refuses b items)
+  pub items_of_each : ((b : List ℕ) → IsBytes b → (items : List (Result (Payload A) DecodeError)) × ItemsAre reads refuses b items)
       → (datagrams : List (List ℕ)) → AllByRecursion IsBytes datagrams → (parts : List (List (Result (Payload A) DecodeError))) × AllZip (ItemsAre reads refuses) datagrams parts
   items_of_each some [] typed = ([], tt)
   items_of_each some (b ∷ later) typed =
@@ -210,13 +188,10 @@ module _ {A : Type 0} (reads : List ℕ → ℕ → A → Type 0) (refuses : Lis
       (first.0 ∷ rest.0, (first.1, rest.1))
 
   -- the dump of split datagrams is that of the items of all their bytes
-  pub dump_of_split : ((b : List ℕ) → IsBytes b → (items : List (Result (Payload A) DecodeError)) × ItemsAre reads refuses b items)
-      → ((b : List ℕ) → IsBytes b → (xs ys : List (Result (Payload A) DecodeError)) → ItemsAre reads refuses b xs → ItemsAre reads refuses b ys → xs ≡ ys)
-      → (datagrams : List (List ℕ)) → AllByRecursion IsBytes datagrams → AreSplit datagrams → (before after : List A) (end : Result DumpState DecodeError)
+  pub dump_of_split : (datagrams : List (List ℕ)) → AreSplit datagrams → (before after : List A) (end : Result DumpState DecodeError)
       → DatagramsDump reads refuses before datagrams after end → DatagramDump reads refuses before (in_a_row datagrams) after end
-  dump_of_split some one datagrams typed split before after end d =
-      let parts = items_of_each some datagrams typed in
-      (in_a_row parts.0, split_items datagrams parts.0 split parts.1, (in_parts before after end parts.0).0 (by_items one before after end datagrams parts.0 typed parts.1 d))
+  dump_of_split datagrams split before after end (row, items, d) =
+      (in_a_row items.0, split_items datagrams items.0 split items.1, subst (λ (l : List (Result (Payload A) DecodeError)). Dump before l after end) items.2 d)
 
   -- the other way round
   pub split_of_dump : ((b : List ℕ) → IsBytes b → (items : List (Result (Payload A) DecodeError)) × ItemsAre reads refuses b items)
@@ -226,7 +201,7 @@ module _ {A : Type 0} (reads : List ℕ → ℕ → A → Type 0) (refuses : Lis
   split_of_dump some one datagrams typed split before after end d =
       let parts = items_of_each some datagrams typed in
       let same = one (in_a_row datagrams) (bytes-in_a_row datagrams typed) d.0 (in_a_row parts.0) d.1 (split_items datagrams parts.0 split parts.1) in
-      from_items before after end datagrams parts.0 parts.1 ((in_parts before after end parts.0).1 (subst (λ (l : List (Result (Payload A) DecodeError)). Dump before l after end) same d.2))
+      (in_a_row parts.0, (parts.0, parts.1, refl), subst (λ (l : List (Result (Payload A) DecodeError)). Dump before l after end) same d.2)
 
   -- a datagram has one dump
   pub one_datagram_dump : ((b : List ℕ) → IsBytes b → (xs ys : List (Result (Payload A) DecodeError)) → ItemsAre reads refuses b xs → ItemsAre reads refuses b ys → xs ≡ ys)
@@ -274,19 +249,32 @@ module _ {A : Type 0} (reads : List ℕ → ℕ → A → Type 0) (refuses : Lis
   state_left-reading = refl
 
   -- feeding datagrams in a row gives their dump
-  feeds_dump : (datagrams : List (List ℕ)) (before after : List A) (left : DumpState) → FeedsLeave reads refuses before Reading datagrams after left
+  feeds_dump : ((b : List ℕ) → IsBytes b → (items : List (Result (Payload A) DecodeError)) × ItemsAre reads refuses b items)
+      → (datagrams : List (List ℕ)) → AllByRecursion IsBytes datagrams → (before after : List A) (left : DumpState) → FeedsLeave reads refuses before Reading datagrams after left
       → (end : Result DumpState DecodeError) × DatagramsDump reads refuses before datagrams after end × (left ≡ state_left end)
-  feeds_dump [] before after left f = (Ok Reading, (f.0, refl), f.1 ∙ sym state_left-reading)
-  feeds_dump (datagram ∷ later) before after left f =
+  feeds_dump some [] typed before after left f =
+      let none = record { passed = []; later = []; parts = refl; plain = tt; keeps = f.0 ∙ sym (append-nil before); ends = refl } in
+      (Ok Reading, ([], ([], tt, refl), none), f.1 ∙ sym state_left-reading)
+  feeds_dump some (datagram ∷ later) typed before after left f =
       let one = feed_step before datagram f.0 f.1 f.2 f.3 f.4 in
+      let items = one.1.0 in
       elim (reading_or_not one.1.2.later one.0 one.1.2.ends) [
         | inl on ↦
             let going : f.1 ≡ Reading = one.2 ∙ ap state_left on ∙ state_left-reading in
-            let rest = feeds_dump later f.0 after left (subst (λ (s : DumpState). FeedsLeave reads refuses f.0 s later after left) going f.5) in
-            (rest.0, (f.0, one.0, one.1, inl (on, rest.1)), rest.2)
+            let rest = feeds_dump some later typed.1 f.0 after left (subst (λ (s : DumpState). FeedsLeave reads refuses f.0 s later after left) going f.5) in
+            let row = rest.1.0 in
+            let have = rest.1.1 in (
+              rest.0,
+              (items ++ row, (items ∷ have.0, (one.1.1, have.1), ap (λ (l : List (Result (Payload A) DecodeError)). items ++ l) have.2), joined before f.0 after one.0 rest.0 items row one.1.2 (inl (on, rest.1.2))),
+              rest.2,
+            )
         | inr off ↦
             let stays = ended_stays later f.0 after f.1 left (λ is. left_reading one.0 off (sym one.2 ∙ is)) f.5 in
-            (one.0, (f.0, one.0, one.1, inr (off, stays.0, refl)), stays.1 ∙ one.2)
+            let parts = items_of_each some later typed.1 in (
+              one.0,
+              (items ++ in_a_row parts.0, (items ∷ parts.0, (one.1.1, parts.1), refl), joined before f.0 after one.0 one.0 items (in_a_row parts.0) one.1.2 (inr (off, stays.0, refl))),
+              stays.1 ∙ one.2,
+            )
       ]
 
   -- feeding the same bytes in split datagrams leaves the same messages and state
@@ -296,8 +284,8 @@ module _ {A : Type 0} (reads : List ℕ → ℕ → A → Type 0) (refuses : Lis
       → (before after also : List A) (left state : DumpState) → FeedsLeave reads refuses before Reading datagrams after left → FeedsLeave reads refuses before Reading others also state
       → (after ≡ also) × (left ≡ state)
   same_feeds some one datagrams others typed fits split cut same before after also left state f g =
-      let a = feeds_dump datagrams before after left f in
-      let b = feeds_dump others before also state g in
-      let whole : DatagramDump reads refuses before (in_a_row others) after a.0 = subst (λ (bytes : List ℕ). DatagramDump reads refuses before bytes after a.0) same (dump_of_split some one datagrams typed split before after a.0 a.1) in
-      let ends = one_datagram_dump one (in_a_row others) (bytes-in_a_row others fits) before after also a.0 b.0 whole (dump_of_split some one others fits cut before also b.0 b.1) in
+      let a = feeds_dump some datagrams typed before after left f in
+      let b = feeds_dump some others fits before also state g in
+      let whole : DatagramDump reads refuses before (in_a_row others) after a.0 = subst (λ (bytes : List ℕ). DatagramDump reads refuses before bytes after a.0) same (dump_of_split datagrams split before after a.0 a.1) in
+      let ends = one_datagram_dump one (in_a_row others) (bytes-in_a_row others fits) before after also a.0 b.0 whole (dump_of_split others cut before also b.0 b.1) in
       (ends.0, a.2 ∙ ap state_left ends.1 ∙ sym b.2)

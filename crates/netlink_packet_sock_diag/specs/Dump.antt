@@ -1,6 +1,6 @@
 -- The messages that a dump keeps of the items of its datagrams, and how it ends.
 use Rattle.std.specs.Prelude.{◌≡◌, ◌≢◌, ℕ, List, [], ◌∷◌, ◌++◌, ⊤, ◌⊎◌, Option, Some, None, Result, Ok, Err}
-use Rattle.std.specs.List.{AllByRecursion, flat_map}
+use Rattle.std.specs.List.{AllByRecursion, AllZip, flat_map}
 use Rattle.netlink_core.specs.declared.fault.DecodeError.{DecodeError}
 use Rattle.netlink_core.specs.Datagram.{AreWholeMessages}
 use Rattle.netlink_core.specs.Envelope.{Payload, done_with, error_with, overrun_with, inner}
@@ -64,12 +64,14 @@ module _ {A : Type 0} (reads : List ℕ → ℕ → A → Type 0) (refuses : Lis
   abbrev pub DatagramStopped : List A → List ℕ → List A → Type 0
   DatagramStopped before datagram after = (items : List (Result (Payload A) DecodeError)) × ItemsAre reads refuses datagram items × DumpStopped before items after
 
+  -- these are the items of the datagrams, in a row
+  abbrev pub HaveItems : List (List ℕ) → List (Result (Payload A) DecodeError) → Type 0
+  HaveItems datagrams row = (items : List (List (Result (Payload A) DecodeError)))
+      × AllZip (ItemsAre reads refuses) datagrams items × (row ≡ in_a_row items)
+
   -- the dump over several datagrams, one after the other
   abbrev pub DatagramsDump : List A → List (List ℕ) → List A → Result DumpState DecodeError → Type 0
-  DatagramsDump before [] after end = (after ≡ before) × (end ≡ Ok Reading)
-  DatagramsDump before (datagram ∷ later) after end =
-      (middle : List A) × (state : Result DumpState DecodeError) × DatagramDump before datagram middle state
-      × (((state ≡ Ok Reading) × DatagramsDump middle later after end) ⊎ ((state ≢ Ok Reading) × (after ≡ middle) × (end ≡ state)))
+  DatagramsDump before datagrams after end = (row : List (Result (Payload A) DecodeError)) × HaveItems datagrams row × Dump before row after end
 
 -- each datagram but the last one is whole messages alone, with all padding there
 abbrev pub AreSplit : List (List ℕ) → Type 0

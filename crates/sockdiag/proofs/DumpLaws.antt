@@ -1,21 +1,22 @@
 -- The dump over datagrams: there is one, and how it grows by a datagram.
-use Rattle.std.proofs.Common.{◌≡◌, ◌≢◌, ◌⊎◌, inl, inr, ℕ, List, [], ◌∷◌, ◌++◌, Option, Some, None, Result, Ok, Err, refl, sym, ap, subst, ◌∙◌}
+use Rattle.std.proofs.Common.{◌≡◌, ◌≢◌, ◌⊎◌, inl, inr, ℕ, List, [], ◌∷◌, ◌++◌, Option, Some, None, Result, Ok, Err, refl, sym, ap, subst, ◌∙◌, append_assoc}
+use Rattle.std.proofs.lemmas.List.{append-nil}
 use Rattle.std.specs.List.{AllByRecursion, AllZip}
 use Rattle.netlink_core.specs.Bytes.{IsBytes}
 use Rattle.netlink_core.specs.declared.fault.DecodeError.{DecodeError}
 use Rattle.netlink_core.specs.declared.fault.DecodeError.TheVariants.{Memory}
 use Rattle.netlink_core.specs.Envelope.{Payload}
 use Rattle.netlink_core.specs.Items.{ItemsAre}
-use Rattle.netlink_core.proofs.Items.{items_of, one_list}
+use Rattle.netlink_core.proofs.Items.{items_of, one_list, zip_append}
 use Rattle.netlink_packet_sock_diag.specs.declared.dump.DumpState.{DumpState}
 use Rattle.netlink_packet_sock_diag.specs.declared.dump.DumpState.TheVariants.{Reading, Done, Error, Overrun, Failed}
 use Rattle.netlink_packet_sock_diag.specs.declared.dump.DumpError.TheVariants.{Ended, Fault}
 use Rattle.netlink_packet_sock_diag.specs.Feed.{FeedLeaves}
-use Rattle.netlink_packet_sock_diag.specs.Dump.{AreSplit, DatagramDump, DatagramsDump, in_a_row}
+use Rattle.netlink_packet_sock_diag.specs.Dump.{AreSplit, Dump, DatagramDump, DatagramsDump, HaveItems, in_a_row}
 use Rattle.netlink_packet_sock_diag.specs.Message.{Message, MessageIs, MessageFault}
 use Rattle.netlink_packet_sock_diag.specs.MessageLaws.{message_laws}
-use Rattle.netlink_packet_sock_diag.proofs.DumpRows.{dump_of_split, has_dump, one_datagram_dump, same_dump, split_of_dump}
-use Rattle.sockdiag.specs.DumpLine.{HaveItems, TellsDump, ToldDump, shown_dump}
+use Rattle.netlink_packet_sock_diag.proofs.DumpRows.{dump_of_split, has_dump, items_of_each, joined, one_dump, one_row, same_dump, split_of_dump}
+use Rattle.sockdiag.specs.DumpLine.{TellsDump, ToldDump, shown_dump}
 use Rattle.sockdiag.specs.HexField.{IsHexField}
 use Rattle.sockdiag.specs.ReadDumpSteps.{IsDumpOf, IsWritable, ended_with}
 use Rattle.sockdiag.proofs.Deciding.{each_or_not, message_fits_or_not}
@@ -31,44 +32,23 @@ some_items = items_of MessageIs MessageFault message_laws.answered
 one_items : (b : List ℕ) → IsBytes b → (xs ys : List (Result (Payload Message) DecodeError)) → ItemsAre MessageIs MessageFault b xs → ItemsAre MessageIs MessageFault b ys → xs ≡ ys
 one_items = one_list MessageIs MessageFault envelope_laws.one_value envelope_laws.one_answer envelope_laws.one_fault
 
-reading_or_not : (end : Result DumpState DecodeError) → (end ≡ Ok Reading) ⊎ (end ≢ Ok Reading)
-reading_or_not (Ok Reading) = inl refl
-reading_or_not (Ok Done) = inr (λ e. cc e)
-reading_or_not (Ok Error) = inr (λ e. cc e)
-reading_or_not (Ok Overrun) = inr (λ e. cc e)
-reading_or_not (Ok Failed) = inr (λ e. cc e)
-reading_or_not (Err fault) = inr (λ e. cc e)
-
 -- ---- one dump
 
 -- datagrams have a dump
 has_dumps : (before : List Message) (datagrams : List (List ℕ)) → AllByRecursion IsBytes datagrams
     → (after : List Message) × (end : Result DumpState DecodeError) × DatagramsDump MessageIs MessageFault before datagrams after end
-has_dumps before [] typed = (before, Ok Reading, (refl, refl))
-has_dumps before (datagram ∷ later) typed =
-    let items = some_items datagram typed.0 in
-    let first = has_dump before items.0 in
-    elim (reading_or_not first.1) [
-      | inl on ↦ let rest = has_dumps first.0 later typed.1 in (rest.0, rest.1, (first.0, first.1, (items.0, items.1, first.2), inl (on, rest.2)))
-      | inr off ↦ (first.0, first.1, (first.0, first.1, (items.0, items.1, first.2), inr (off, refl, refl)))
-    ]
+has_dumps before datagrams typed =
+    let parts = items_of_each MessageIs MessageFault some_items datagrams typed in
+    let dump = has_dump before (in_a_row parts.0) in
+    (dump.0, dump.1, (in_a_row parts.0, (parts.0, parts.1, refl), dump.2))
 
 -- and no other
 one_dumps : (before : List Message) (datagrams : List (List ℕ)) → AllByRecursion IsBytes datagrams → (a b : List Message) (e f : Result DumpState DecodeError)
     → DatagramsDump MessageIs MessageFault before datagrams a e → DatagramsDump MessageIs MessageFault before datagrams b f → (a ≡ b) × (e ≡ f)
-one_dumps before [] typed a b e f d t = (d.0 ∙ sym t.0, d.1 ∙ sym t.1)
-one_dumps before (datagram ∷ later) typed a b e f d t =
-    let same = one_datagram_dump MessageIs MessageFault one_items datagram typed.0 before d.0 t.0 d.1 t.1 d.2 t.2 in
-    elim d.3 [
-      | inl on ↦ elim t.3 [
-        | inl also ↦ one_dumps d.0 later typed.1 a b e f on.1 (subst (λ (m : List Message). DatagramsDump MessageIs MessageFault m later b f) (sym same.0) also.1)
-        | inr off ↦ absurd (off.0 (sym same.1 ∙ on.0))
-      ]
-      | inr off ↦ elim t.3 [
-        | inl on ↦ absurd (off.0 (same.1 ∙ on.0))
-        | inr also ↦ (off.1 ∙ same.0 ∙ sym also.1, off.2 ∙ same.1 ∙ sym also.2)
-      ]
-    ]
+one_dumps before datagrams typed a b e f (row, items, d) t =
+    let other = same_dump MessageIs MessageFault one_items datagrams datagrams t.1.0 items.0 typed t.1.1 items.1
+    (ap (λ (parts : List (List (Result (Payload Message) DecodeError))). in_a_row parts) (one_row MessageIs MessageFault one_items datagrams typed t.1.0 items.0 t.1.1 items.1)) before b f t in
+    one_dump before row a b e f d (subst (λ (l : List (Result (Payload Message) DecodeError)). Dump before l b f) (sym items.2) other.2)
 
 -- ---- one text
 
@@ -101,7 +81,7 @@ tells_others datagrams others same text (inr (inr (fault, never, e))) = absurd n
 
 -- the same items
 pub tells_same_items : (datagrams others : List (List ℕ)) (row : List (Result (Payload Message) DecodeError))
-    → AllByRecursion IsBytes datagrams → HaveItems datagrams row → HaveItems others row
+    → AllByRecursion IsBytes datagrams → HaveItems MessageIs MessageFault datagrams row → HaveItems MessageIs MessageFault others row
     → (text : List ℕ) → TellsDump datagrams text → TellsDump others text
 tells_same_items datagrams others row typed h k =
     tells_others datagrams others
@@ -114,7 +94,7 @@ pub tells_split : (datagrams others : List (List ℕ)) → AllByRecursion IsByte
 tells_split datagrams others typed fits split cut same =
     tells_others datagrams others (λ d is. split_of_dump MessageIs MessageFault some_items one_items others fits cut [] d.messages d.end
     (subst (λ (bytes : List ℕ). DatagramDump MessageIs MessageFault [] bytes d.messages d.end) same
-    (dump_of_split MessageIs MessageFault some_items one_items datagrams typed split [] d.messages d.end is)))
+    (dump_of_split MessageIs MessageFault datagrams split [] d.messages d.end is)))
 
 -- ---- one datagram more
 
@@ -122,26 +102,29 @@ tells_split datagrams others typed fits split cut same =
 Next : List Message → Result DumpState DecodeError → List ℕ → List Message → Result DumpState DecodeError → Type 0
 Next middle state datagram after end = ((state ≡ Ok Reading) × DatagramDump MessageIs MessageFault middle datagram after end) ⊎ ((state ≢ Ok Reading) × (after ≡ middle) × (end ≡ state))
 
-one_more : (before : List Message) (datagrams : List (List ℕ)) (datagram : List ℕ) (middle after : List Message) (state end : Result DumpState DecodeError)
+-- the items of datagrams and of one more
+in_a_row-push : (parts : List (List (Result (Payload Message) DecodeError))) (items : List (Result (Payload Message) DecodeError)) → in_a_row (parts ++ items ∷ []) ≡ in_a_row parts ++ items
+in_a_row-push [] items = append-nil items
+in_a_row-push (part ∷ parts) items = ap (λ (l : List (Result (Payload Message) DecodeError)). part ++ l) (in_a_row-push parts items) ∙ sym (append_assoc part (in_a_row parts) items)
+
+-- and their row
+grown : (datagrams : List (List ℕ)) (datagram : List ℕ) (row items : List (Result (Payload Message) DecodeError))
+    → HaveItems MessageIs MessageFault datagrams row → ItemsAre MessageIs MessageFault datagram items → HaveItems MessageIs MessageFault (datagrams ++ datagram ∷ []) (row ++ items)
+grown datagrams datagram row items have are = (
+  have.0 ++ items ∷ [],
+  zip_append (ItemsAre MessageIs MessageFault) datagrams (datagram ∷ []) have.0 (items ∷ []) have.1 (are, tt),
+  ap (λ (l : List (Result (Payload Message) DecodeError)). l ++ items) have.2 ∙ sym (in_a_row-push have.0 items),
+)
+
+one_more : (datagrams : List (List ℕ)) (datagram : List ℕ) → IsBytes datagram → (before middle after : List Message) (state end : Result DumpState DecodeError)
     → DatagramsDump MessageIs MessageFault before datagrams middle state → Next middle state datagram after end
     → DatagramsDump MessageIs MessageFault before (datagrams ++ datagram ∷ []) after end
 unfolding Next
-one_more before [] datagram middle after state end d (inl on) =
-    let is = subst (λ (m : List Message). DatagramDump MessageIs MessageFault m datagram after end) d.0 on.1 in
-    (after, end, is, elim (reading_or_not end) [ inl reading ↦ inl (reading, (refl, reading)) | inr over ↦ inr (over, refl, refl) ])
-one_more before [] datagram middle after state end d (inr off) = absurd (off.0 d.1)
-one_more before (first ∷ later) datagram middle after state end d step = (
-  d.0,
-  d.1,
-  d.2,
-  elim d.3 [
-    | inl on ↦ inl (on.0, one_more d.0 later datagram middle after state end on.1 step)
-    | inr off ↦ elim step [
-      | inl on ↦ absurd (off.0 (sym off.2 ∙ on.0))
-      | inr over ↦ inr (off.0, over.1 ∙ off.1, over.2 ∙ off.2)
-    ]
-  ],
-)
+one_more datagrams datagram typed before middle after state end (row, have, d) (inl (reading, (items, are, dump))) =
+    (row ++ items, grown datagrams datagram row items have are, joined before middle after state end row items d (inl (reading, dump)))
+one_more datagrams datagram typed before middle after state end (row, have, d) (inr off) =
+    let more = some_items datagram typed in
+    (row ++ more.0, grown datagrams datagram row more.0 have more.1, joined before middle after state end row more.0 d (inr off))
 
 reading_at : (state : DumpState) (fault : Option DecodeError) → (state ≡ Reading → fault ≡ None) → state ≡ Reading → ended_with state fault ≡ Ok Reading
 reading_at state fault none is = ap (ended_with state) (none is) ∙ ap Ok is
@@ -153,14 +136,14 @@ over_at state None over = λ e. over (bare state e)
     bare s e = cc
 over_at state (Some fault) over = λ e. cc
 
-module _ (datagrams : List (List ℕ)) (datagram : List ℕ) (before after : List Message) (state left : DumpState) (fault : Option DecodeError)
+module _ (datagrams : List (List ℕ)) (datagram : List ℕ) (typed : IsBytes datagram) (before after : List Message) (state left : DumpState) (fault : Option DecodeError)
     (d : DatagramsDump MessageIs MessageFault [] datagrams before (ended_with state fault)) (none : state ≡ Reading → fault ≡ None) where
   -- the datagram was taken without a fault
   pub took : FeedLeaves MessageIs MessageFault before state datagram after left (Ok tt)
       → DatagramsDump MessageIs MessageFault [] (datagrams ++ datagram ∷ []) after (ended_with left fault) × (left ≡ Reading → fault ≡ None)
   unfolding Next
   took fed = (
-    one_more [] datagrams datagram before after (ended_with state fault) (ended_with left fault) d
+    one_more datagrams datagram typed [] before after (ended_with state fault) (ended_with left fault) d
         (inl (reading_at state fault none fed.0, subst (λ (e : Result DumpState DecodeError). DatagramDump MessageIs MessageFault before datagram after e) (sym (ap (ended_with left) (none fed.0))) fed.1)),
     λ still. none fed.0,
   )
@@ -170,7 +153,7 @@ module _ (datagrams : List (List ℕ)) (datagram : List ℕ) (before after : Lis
       → DatagramsDump MessageIs MessageFault [] (datagrams ++ datagram ∷ []) after (ended_with left fault) × (left ≡ Reading → fault ≡ None)
   unfolding Next
   left_as_it_was fed = (
-    one_more [] datagrams datagram before after (ended_with state fault) (ended_with left fault) d
+    one_more datagrams datagram typed [] before after (ended_with state fault) (ended_with left fault) d
         (inr (over_at state fault fed.0, fed.1, ap (λ (s : DumpState). ended_with s fault) fed.2)),
     λ reading. absurd (fed.0 (sym fed.2 ∙ reading)),
   )
@@ -180,7 +163,7 @@ module _ (datagrams : List (List ℕ)) (datagram : List ℕ) (before after : Lis
       → DatagramsDump MessageIs MessageFault [] (datagrams ++ datagram ∷ []) after (Err e) × (left ≡ Reading → Some e ≡ None)
   unfolding Next
   failed_at e named fed = (
-    one_more [] datagrams datagram before after (ended_with state fault) (Err e) d (inl (reading_at state fault none fed.0, fed.2 named)),
+    one_more datagrams datagram typed [] before after (ended_with state fault) (Err e) d (inl (reading_at state fault none fed.0, fed.2 named)),
     λ still. absurd (apart (sym fed.1 ∙ still)),
   )
     where

@@ -7,7 +7,7 @@ use Rattle.netlink_core.specs.Faults.{number_of}
 use Rattle.netlink_core.specs.Items.{ItemsAre}
 use Rattle.netlink_packet_sock_diag.specs.declared.dump.DumpState.{DumpState}
 use Rattle.netlink_packet_sock_diag.specs.declared.dump.DumpState.TheVariants.{Reading, Done, Error, Overrun, Failed}
-use Rattle.netlink_packet_sock_diag.specs.Dump.{DatagramsDump, in_a_row}
+use Rattle.netlink_packet_sock_diag.specs.Dump.{DatagramsDump}
 use Rattle.netlink_packet_sock_diag.specs.Message.{Message, MessageIs, MessageFault, MessageFits, message_bytes}
 use Rattle.sockdiag.specs.HexField.{IsHexField, field_of}
 use Rattle.sockdiag.specs.Told.{Tells}
@@ -42,8 +42,3 @@ abbrev pub TellsDump : List (List ℕ) → List ℕ → Type 0
 TellsDump datagrams text =
     Tells (λ dump. DatagramsDump MessageIs MessageFault [] datagrams dump.messages dump.end)
     (λ fault. ⊥) (λ dump. AllByRecursion MessageFits dump.messages) shown_dump text
-
--- these are the items of the datagrams, in a row
-abbrev pub HaveItems : List (List ℕ) → List (Result (Payload Message) DecodeError) → Type 0
-HaveItems datagrams row = (items : List (List (Result (Payload Message) DecodeError)))
-    × AllZip (ItemsAre MessageIs MessageFault) datagrams items × (row ≡ in_a_row items)

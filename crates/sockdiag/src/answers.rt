@@ -6,12 +6,12 @@ ghost use Rattle.std.specs.Prelude.{◌≡◌, ◌≢◌, ◌↔◌, ◌++◌, �
 ghost use Rattle.netlink_core.specs.Envelope.{EnvelopeFits, Payload, inner as of_inner};
 ghost use Rattle.netlink_core.specs.Seen.{envelope_of};
 ghost use Rattle.netlink_core.specs.declared.fault.DecodeError.{DecodeError};
-ghost use Rattle.netlink_packet_sock_diag.specs.Dump.{AreSplit, in_a_row};
-ghost use Rattle.netlink_packet_sock_diag.specs.Message.{Message, MessageFits, message_bytes};
+ghost use Rattle.netlink_packet_sock_diag.specs.Dump.{AreSplit, HaveItems, in_a_row};
+ghost use Rattle.netlink_packet_sock_diag.specs.Message.{Message, MessageIs, MessageFault, MessageFits, message_bytes};
 ghost use Rattle.netlink_packet_sock_diag.specs.SeenMessage.{seen_message};
 ghost use Rattle.sockdiag.specs.Answer.{IsAnswerOf, IsRequest, row_of};
 ghost use Rattle.sockdiag.specs.AskedSteps.{IsAnswerTo, IsReadAs};
-ghost use Rattle.sockdiag.specs.DumpLine.{HaveItems, IsDumpRequest};
+ghost use Rattle.sockdiag.specs.DumpLine.{IsDumpRequest};
 ghost use Rattle.sockdiag.specs.EnvelopeLine.{shown_envelope};
 ghost use Rattle.sockdiag.specs.HexField.{field_of};
 ghost use Rattle.sockdiag.specs.Subjects.{envelope_subject};
@@ -88,7 +88,7 @@ pub fn answer(alloc: Global, line: &[u8]) -> Result<Vec<u8>, AllocError>
     ensures dumps { IfOk result (λ text. (other text' : List ℕ) (datagrams datagrams' : List (List ℕ))
         (row : List (Result (Payload Message) DecodeError))
         → IsDumpRequest line.now datagrams → IsDumpRequest other datagrams'
-        → HaveItems datagrams row → HaveItems datagrams' row
+        → HaveItems MessageIs MessageFault datagrams row → HaveItems MessageIs MessageFault datagrams' row
         → IsAnswerOf other text' → text.items ≡ text') }
     // So have two dumps of the same bytes, of which each datagram but the last is whole messages.
     ensures split { IfOk result (λ text. (other text' : List ℕ) (datagrams datagrams' : List (List ℕ))

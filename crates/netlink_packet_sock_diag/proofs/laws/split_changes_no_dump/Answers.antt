@@ -9,4 +9,4 @@ returns c = λ datagrams others typed fits split cut same before after end d.
     let some = c.datagram_has_items.ensures in
     let one = c.one_list_of_items.ensures in
     split_of_dump MessageIs MessageFault some one others fits cut before after end
-    (subst (λ (bytes : List ℕ). DatagramDump MessageIs MessageFault before bytes after end) same (dump_of_split MessageIs MessageFault some one datagrams typed split before after end d))
+    (subst (λ (bytes : List ℕ). DatagramDump MessageIs MessageFault before bytes after end) same (dump_of_split MessageIs MessageFault datagrams split before after end d))
