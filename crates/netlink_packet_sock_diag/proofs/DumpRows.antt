@@ -253,7 +253,7 @@ module _ {A : Type 0} (reads : List ℕ → ℕ → A → Type 0) (refuses : Lis
       → (datagrams : List (List ℕ)) → AllByRecursion IsBytes datagrams → (before after : List A) (left : DumpState) → FeedsLeave reads refuses before Reading datagrams after left
       → (end : Result DumpState DecodeError) × DatagramsDump reads refuses before datagrams after end × (left ≡ state_left end)
   feeds_dump some [] typed before after left f =
-      let none = record { passed = []; later = []; parts = refl; plain = tt; keeps = f.0 ∙ sym (append-nil before); ends = refl } in
+      let none : Dump before [] after (Ok Reading) = record { passed = []; later = []; parts = refl; plain = tt; keeps = f.0 ∙ sym (append-nil before); ends = refl } in
       (Ok Reading, ([], ([], tt, refl), none), f.1 ∙ sym state_left-reading)
   feeds_dump some (datagram ∷ later) typed before after left f =
       let one = feed_step before datagram f.0 f.1 f.2 f.3 f.4 in

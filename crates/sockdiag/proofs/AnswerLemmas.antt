@@ -15,7 +15,7 @@ use Rattle.netlink_core.specs.Bytes.{IsBytes}
 use Rattle.netlink_core.specs.Envelope.{Payload}
 use Rattle.netlink_core.specs.declared.fault.DecodeError.{DecodeError}
 use Rattle.netlink_packet_sock_diag.specs.Dump.{AreSplit, HaveItems, in_a_row}
-use Rattle.netlink_packet_sock_diag.specs.Message.{Message as MessageValue}
+use Rattle.netlink_packet_sock_diag.specs.Message.{Message as MessageValue, MessageIs, MessageFault}
 use Rattle.sockdiag.specs.Answer.{IsAnswerOf, IsRequest, row_of}
 use Rattle.sockdiag.specs.AskedSteps.{IsAnswerTo, IsNoRequest, IsReadAs}
 use Rattle.sockdiag.specs.DumpLine.{IsDumpRequest, TellsDump, shown_dump}

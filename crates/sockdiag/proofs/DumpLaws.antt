@@ -46,9 +46,8 @@ has_dumps before datagrams typed =
 one_dumps : (before : List Message) (datagrams : List (List ℕ)) → AllByRecursion IsBytes datagrams → (a b : List Message) (e f : Result DumpState DecodeError)
     → DatagramsDump MessageIs MessageFault before datagrams a e → DatagramsDump MessageIs MessageFault before datagrams b f → (a ≡ b) × (e ≡ f)
 one_dumps before datagrams typed a b e f (row, items, d) t =
-    let other = same_dump MessageIs MessageFault one_items datagrams datagrams t.1.0 items.0 typed t.1.1 items.1
-    (ap (λ (parts : List (List (Result (Payload Message) DecodeError))). in_a_row parts) (one_row MessageIs MessageFault one_items datagrams typed t.1.0 items.0 t.1.1 items.1)) before b f t in
-    one_dump before row a b e f d (subst (λ (l : List (Result (Payload Message) DecodeError)). Dump before l b f) (sym items.2) other.2)
+    let rows : t.0 ≡ row = t.1.2 ∙ ap (λ (parts : List (List (Result (Payload Message) DecodeError))). in_a_row parts) (one_row MessageIs MessageFault one_items datagrams typed t.1.0 items.0 t.1.1 items.1) ∙ sym items.2 in
+    one_dump before row a b e f d (subst (λ (l : List (Result (Payload Message) DecodeError)). Dump before l b f) rows t.2)
 
 -- ---- one text
 

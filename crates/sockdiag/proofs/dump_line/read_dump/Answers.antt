@@ -13,7 +13,10 @@ fields-init c = record {
   datagrams = [];
   split = refl;
   each = tt;
-  read = record { is = (c.new.ensures.messages, ap Ok c.new.ensures.state); faultless = λ _. refl };
+  read = record {
+    is = ([], ([], tt, refl), record { passed = []; later = []; parts = refl; plain = tt; keeps = c.new.ensures.messages; ends = ap Ok c.new.ensures.state });
+    faultless = λ _. refl;
+  };
 }
 
 pub returns-then-not-branch : goal.returns-then-not-branch
