@@ -122,12 +122,12 @@ module _ {A : Type 0} (reads : Attribute → Result A DecodeError) where
   -- bytes that mean something have no fault
   pub means_or_fault_apart : (bytes : List ℕ) (values : List A) (e : DecodeError) → AttributesMean reads bytes values → AttributeFault reads bytes e → ⊥
   means_or_fault_apart bytes values e m f =
-      let at = f.1 in
-      let cut : Cut (at.before ++ at.after) m.0 = subst (λ (b : List ℕ). Cut b m.0) at.parts m.1 in
-      let behind = cut_behind at.before at.after f.0 m.0 at.cut at.left cut in
+      let (before, after, parts, full, left, fault) = f.1 in
+      let cut : Cut (before ++ after) m.0 = subst (λ (b : List ℕ). Cut b m.0) parts m.1 in
+      let behind = cut_behind before after f.0 m.0 full left cut in
       let split : AllZip (λ a value. reads a ≡ Ok value) (f.0 ++ behind.0) values = subst (λ (xs : List Attribute). AllZip (λ a value. reads a ≡ Ok value) xs values) behind.1 m.2 in
       let later = later_means f.0 behind.0 values split in
-      no_cut_at_fault at.after behind.0 later.0 e at.left at.fault behind.2 later.1
+      no_cut_at_fault after behind.0 later.0 e left fault behind.2 later.1
 
 -- ---- bytes are cut, or have a fault
 
@@ -184,7 +184,8 @@ module _ {A : Type 0} (reads : Attribute → Result A DecodeError) where
 
   -- bytes have one fault at most
   pub one_fault : (bytes : List ℕ) (e f : DecodeError) → AttributeFault reads bytes e → AttributeFault reads bytes f → e ≡ f
-  one_fault bytes e f h k = one_fault_of bytes h.1.before h.1.after k.1.before k.1.after h.0 k.0 e f h.1.parts k.1.parts h.1.cut k.1.cut h.2 k.2 h.1.fault k.1.fault
+  one_fault bytes e f (given, (before, after, parts, cut, left, h), good) (given', (before', after', parts', cut', left', k), good') =
+      one_fault_of bytes before after before' after' given given' e f parts parts' cut cut' good good' h k
 
 -- ---- what was written means what is read from it
 

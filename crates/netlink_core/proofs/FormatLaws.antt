@@ -140,19 +140,18 @@ module _ {Param Tag Value : Type 0} (format : Format Param Tag Value) (sound : I
     λ e.
         let a = accepted format param left value e in
         let tag = sym (sound.tagged a.tag left) ∙ ap format.tag_of (sym a.is) in
-        let parts = normal_read param left value h e in
-        record {
-          long = a.long;
-          told = a.told ∙ ap (λ (t : Tag). ok t) tag;
-          numbers = ap (λ (t : Tag). values_of (format.table t) left) (sym tag) ∙ sym (ap format.values a.is ∙ sound.kept a.tag left h);
-          typed = parts.0;
-          normal = parts.1;
-        },
-    λ s.
-        long_enough format param left s.long
-        ∙ accepts format param left (format.tag_of value) s.told
-        ∙ ap (λ (vs : List ℕ). ok (format.value (format.tag_of value) vs)) s.numbers
-        ∙ ap (λ (v : Value). ok v) (sound.back param value s.typed s.normal),
+        let parts = normal_read param left value h e in (
+          a.long,
+          a.told ∙ ap (λ (t : Tag). ok t) tag,
+          ap (λ (t : Tag). values_of (format.table t) left) (sym tag) ∙ sym (ap format.values a.is ∙ sound.kept a.tag left h),
+          parts.0,
+          parts.1,
+        ),
+    λ (long, told, numbers, typed, normal).
+        long_enough format param left long
+        ∙ accepts format param left (format.tag_of value) told
+        ∙ ap (λ (vs : List ℕ). ok (format.value (format.tag_of value) vs)) numbers
+        ∙ ap (λ (v : Value). ok v) (sound.back param value typed normal),
   )
 
   -- a typed value is written as bytes

@@ -101,7 +101,7 @@ module _ (R : Reply) (laws : ReplyLaws R) where
   reply_named_fault b h =
       elim h [
         | inl refused ↦ laws.header.named b refused
-        | inr later ↦ elim later.2.1.fault [
+        | inr later ↦ elim later.2.1.5 [
           | inl framing ↦ framing
           | inr refused ↦ family_named R.family laws.family refused.0 refused.2
         ]

@@ -2,7 +2,7 @@
 use Rattle.std.proofs.Common.{Result, Ok, Err, ◌≡◌, ◌≢◌, ℕ, inl, inr, List, [], ◌∷◌, ◌++◌, refl, sym, ap, ◌∙◌, append_assoc}
 use Rattle.std.proofs.lemmas.List.{append-nil}
 use Rattle.netlink_core.specs.declared.fault.DecodeError.{DecodeError}
-use Rattle.netlink_core.specs.Attribute.{Attribute, StartsWith, HeadIs, IsFramingFault, FaultAtFront, AttributesMean, AttributeFault, unpadded}
+use Rattle.netlink_core.specs.Attribute.{Attribute, StartsWith, HeadIs, CutOff, IsFramingFault, FaultAtFront, AttributesMean, AttributeFault, unpadded}
 
 -- bytes that an attribute begins are some
 pub StartsWith-some : (bytes rest : List ℕ) (a : Attribute) → StartsWith bytes a rest → bytes ≢ []
@@ -16,6 +16,22 @@ both_empty : (xs ys : List ℕ) → xs ++ ys ≡ [] → ys ≡ []
 both_empty [] ys e = e
 both_empty (x ∷ xs) ys e = absurd cc
 
+-- an attribute stands in front of what is cut off
+pub cut_off_behind : (faulty : List ℕ → DecodeError → Type 0) (bytes rest : List ℕ) (a : Attribute) (given : List Attribute) (e : DecodeError)
+    → StartsWith bytes a rest → CutOff faulty rest given e → CutOff faulty bytes (a ∷ given) e
+cut_off_behind faulty bytes rest a given e s (before, after, parts, cut, left, fault) =
+    elim s.filled [
+      | inl full ↦ (
+        unpadded a ++ (s.padding ++ before),
+        after,
+        s.parts ∙ ap (λ (t : List ℕ). unpadded a ++ (s.padding ++ t)) parts ∙ simp append_assoc,
+        (s.padding, before, refl, s.fits, full, cut),
+        left,
+        fault,
+      )
+      | inr short ↦ absurd (left (both_empty before after (sym parts ∙ short.1)))
+    ]
+
 module _ {A : Type 0} (reads : Attribute → Result A DecodeError) where
   -- What was read goes on with whatever is read from the rest, and a fault of the rest is one of all the bytes.
   pub record Continues (bytes : List ℕ) (so_far : List A) (rest : List ℕ) : Type 0 where
@@ -24,23 +40,7 @@ module _ {A : Type 0} (reads : Attribute → Result A DecodeError) where
 
   -- a fault behind an attribute is a fault of the bytes with it
   pub later_fault : (bytes rest : List ℕ) (a : Attribute) (meaning : A) (e : DecodeError) → StartsWith bytes a rest → reads a ≡ Ok meaning → AttributeFault reads rest e → AttributeFault reads bytes e
-  later_fault bytes rest a meaning e s means f =
-      let c = f.1 in
-      elim s.filled [
-        | inl full ↦ (
-          a ∷ f.0,
-          record {
-            before = unpadded a ++ (s.padding ++ c.before);
-            after = c.after;
-            parts = s.parts ∙ ap (λ (t : List ℕ). unpadded a ++ (s.padding ++ t)) c.parts ∙ simp append_assoc;
-            cut = (s.padding, c.before, refl, s.fits, full, c.cut);
-            left = c.left;
-            fault = c.fault;
-          },
-          (rw means refl, f.2),
-        )
-        | inr short ↦ absurd (c.left (both_empty c.before c.after (sym c.parts ∙ short.1)))
-      ]
+  later_fault bytes rest a meaning e s means f = (a ∷ f.0, cut_off_behind (FaultAtFront reads) bytes rest a f.0 e s f.1, (rw means refl, f.2))
 
   -- the walk begins with all the bytes
   pub walk_begins : (bytes : List ℕ) → Continues bytes [] bytes
@@ -59,7 +59,7 @@ module _ {A : Type 0} (reads : Attribute → Result A DecodeError) where
 
   -- a fault where it stands is the fault of the bytes
   pub fault_here : (rest : List ℕ) (e : DecodeError) → rest ≢ [] → FaultAtFront reads rest e → AttributeFault reads rest e
-  fault_here rest e some f = ([], record { before = []; after = rest; parts = refl; cut = refl; left = some; fault = f }, tt)
+  fault_here rest e some f = ([], ([], rest, refl, refl, some, f), tt)
 
   -- a fault of the framing, or of a value, is the fault of the bytes
   pub walk_is_cut_off : (bytes rest : List ℕ) (so_far : List A) (e : DecodeError) → Continues bytes so_far rest → rest ≢ [] → IsFramingFault rest e → AttributeFault reads bytes e

@@ -1,20 +1,17 @@
 -- A whole walk gives the cut, or all of it in front of the first framing fault.
-use Rattle.std.proofs.Common.{Result, Ok, Err, Some, ◌≡◌, ℕ, inl, inr, List, [], ◌∷◌, ◌++◌, refl, sym, ap, ◌∙◌, append_assoc, subst}
+use Rattle.std.proofs.Common.{Result, Ok, Err, Some, ◌≡◌, List, [], ◌∷◌, refl, sym, subst}
 use Rattle.std.specs.Prelude.{map}
 use Rattle.std.specs.Iterator.{Drains, YieldsThen}
 use Rattle.netlink_core.specs.declared.fault.DecodeError.{DecodeError}
 use Rattle.netlink_core.specs.declared.attribute.NlaBuffer.{NlaBuffer}
 use Rattle.netlink_core.specs.declared.attribute.NlasIterator.{NlasIterator}
-use Rattle.netlink_core.specs.Attribute.{Cut, CutOff, IsFramingFault, unpadded}
+use Rattle.netlink_core.specs.Attribute.{Cut, CutOff, IsFramingFault}
+use Rattle.netlink_core.proofs.Walking.{cut_off_behind}
 use Rattle.netlink_core.specs.Walk.{attribute_of, bytes_left, GivesAttribute}
 
 -- items that are attributes
 abbrev pub found : List NlaBuffer → List (Result NlaBuffer DecodeError)
 found given = map (λ (b : NlaBuffer). Ok b) given
-
-both_empty : (xs ys : List ℕ) → xs ++ ys ≡ [] → ys ≡ []
-both_empty [] ys e = e
-both_empty (x ∷ xs) ys e = absurd cc
 
 pub whole_walk : (walk : NlasIterator) (given : List NlaBuffer) → Drains GivesAttribute walk (found given) → Cut (bytes_left walk) (map attribute_of given)
 whole_walk walk [] h = subst (λ (w : NlasIterator). bytes_left w ≡ []) (sym h.1.1) h.1.2.0
@@ -24,22 +21,7 @@ pub cut_off_walk : (walk last : NlasIterator) (given : List NlaBuffer) (e : Deco
     → CutOff IsFramingFault (bytes_left walk) (map attribute_of given) e × (bytes_left last ≡ [])
 cut_off_walk walk last [] e h =
     let at : GivesAttribute walk (Some (Err e)) last = subst (λ (w : NlasIterator). GivesAttribute w (Some (Err e)) last) (sym h.1) h.2 in
-    (record { before = []; after = bytes_left walk; parts = refl; cut = refl; left = at.0; fault = at.1 }, at.2)
+    (([], bytes_left walk, refl, refl, at.0, at.1), at.2)
 cut_off_walk walk last (g ∷ given) e h =
     let later = cut_off_walk h.1.0 last given e (h.0, h.1.2, h.2) in
-    let s = h.1.1 in
-    let f = later.0 in
-    elim s.filled [
-      | inl full ↦ (
-        record {
-          before = unpadded (attribute_of g) ++ (s.padding ++ f.before);
-          after = f.after;
-          parts = s.parts ∙ ap (λ (t : List ℕ). unpadded (attribute_of g) ++ (s.padding ++ t)) f.parts ∙ simp append_assoc;
-          cut = (s.padding, f.before, refl, s.fits, full, f.cut);
-          left = f.left;
-          fault = f.fault;
-        },
-        later.1,
-      )
-      | inr short ↦ absurd (f.left (both_empty f.before f.after (sym f.parts ∙ short.1)))
-    ]
+    (cut_off_behind IsFramingFault (bytes_left walk) _ (attribute_of g) (map attribute_of given) e h.1.1 later.0, later.1)

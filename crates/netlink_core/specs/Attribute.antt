@@ -74,13 +74,9 @@ IsFramingFault bytes (AttributeLengthPast word left) = (word ≡ little_number 2
 IsFramingFault bytes _ = ⊥
 
 -- Attributes come first, with all their padding. Then bytes are left, and there the fault is.
-pub record CutOff (faulty : List ℕ → DecodeError → Type 0) (bytes : List ℕ) (given : List Attribute) (e : DecodeError) : Type 0 where
-  pub before : List ℕ
-  pub after : List ℕ
-  pub parts : bytes ≡ before ++ after
-  pub cut : CutInFull before given
-  pub left : after ≢ []
-  pub fault : faulty after e
+abbrev pub CutOff : (List ℕ → DecodeError → Type 0) → List ℕ → List Attribute → DecodeError → Type 0
+CutOff faulty bytes given e = (before after : List ℕ)
+    × (bytes ≡ before ++ after) × CutInFull before given × (after ≢ []) × faulty after e
 
 -- What a reader makes of each attribute: a value, or the reason that it is refused.
 module _ {A : Type 0} (reads : Attribute → Result A DecodeError) where

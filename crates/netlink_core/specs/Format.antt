@@ -69,12 +69,9 @@ module _ {Param Tag Value : Type 0} (format : Format Param Tag Value) where
 
   -- What belongs to a string, said without `value`: the string is long enough and tells the value's table, its numbers
   -- are those of the value, and the value is typed and in normal form.
-  pub record StandsIn (left : List ℕ) (param : Param) (value : Value) : Type 0 where
-    pub long : format.least ≤ length left
-    pub told : format.tag_at param left ≡ Ok (format.tag_of value)
-    pub numbers : values_of (format.table (format.tag_of value)) left ≡ format.values value
-    pub typed : IsTyped value
-    pub normal : IsNormal param value
+  abbrev pub StandsIn : List ℕ → Param → Value → Type 0
+  StandsIn b param value = (format.least ≤ length b) × (format.tag_at param b ≡ Ok (format.tag_of value))
+      × (values_of (format.table (format.tag_of value)) b ≡ format.values value) × IsTyped value × IsNormal param value
 
   -- all tables are of one size, which is the least
   abbrev pub IsFixed : ℕ → Type 0

@@ -39,18 +39,8 @@ count_ends bytes rest count c none =
     (all.0, all.1, same_length all.0 c.so_far all.2 ∙ c.many)
 
 framing_fault : (bytes : List ℕ) (e : DecodeError) → AttributeFault itself bytes e → (xs : List Attribute) × CutOff IsFramingFault bytes xs e
-framing_fault bytes e f =
-    let c = f.1 in (
-      f.0,
-      record {
-        before = c.before;
-        after = c.after;
-        parts = c.parts;
-        cut = c.cut;
-        left = c.left;
-        fault = elim c.fault [ inl framing ↦ framing | inr refused ↦ absurd (let wrong = refused.2 in cc) ];
-      },
-    )
+framing_fault bytes e (xs, (before, after, parts, cut, left, fault), good) =
+    (xs, before, after, parts, cut, left, elim fault [ inl framing ↦ framing | inr refused ↦ absurd (let wrong = refused.2 in cc) ])
 
 -- a fault stands behind those that were counted
 pub count_is_cut_off : (bytes rest : List ℕ) (count : ℕ) (e : DecodeError) → Counted bytes rest count → rest ≢ [] → IsFramingFault rest e → (xs : List Attribute) × CutOff IsFramingFault bytes xs e

@@ -9,7 +9,7 @@ use Rattle.netlink_core.specs.Envelope.{Payload}
 use Rattle.netlink_core.specs.Items.{ItemsAre}
 use Rattle.netlink_core.proofs.Items.{items_of, one_list, zip_append}
 use Rattle.netlink_packet_sock_diag.specs.declared.dump.DumpState.{DumpState}
-use Rattle.netlink_packet_sock_diag.specs.declared.dump.DumpState.TheVariants.{Reading, Done, Error, Overrun, Failed}
+use Rattle.netlink_packet_sock_diag.specs.declared.dump.DumpState.TheVariants.{Reading, Failed}
 use Rattle.netlink_packet_sock_diag.specs.declared.dump.DumpError.TheVariants.{Ended, Fault}
 use Rattle.netlink_packet_sock_diag.specs.Feed.{FeedLeaves}
 use Rattle.netlink_packet_sock_diag.specs.Dump.{AreSplit, Dump, DatagramDump, DatagramsDump, HaveItems, in_a_row}

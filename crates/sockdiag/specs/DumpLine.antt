@@ -2,9 +2,7 @@
 use Rattle.std.specs.Prelude.{◌≡◌, ◌==◌, ℕ, List, [], ◌∷◌, ◌++◌, length, codes, decimal, Result, Ok, Err}
 use Rattle.std.specs.List.{AllByRecursion, AllZip, flat_map, slice_split}
 use Rattle.netlink_core.specs.declared.fault.DecodeError.{DecodeError}
-use Rattle.netlink_core.specs.Envelope.{Payload}
 use Rattle.netlink_core.specs.Faults.{number_of}
-use Rattle.netlink_core.specs.Items.{ItemsAre}
 use Rattle.netlink_packet_sock_diag.specs.declared.dump.DumpState.{DumpState}
 use Rattle.netlink_packet_sock_diag.specs.declared.dump.DumpState.TheVariants.{Reading, Done, Error, Overrun, Failed}
 use Rattle.netlink_packet_sock_diag.specs.Dump.{DatagramsDump}
