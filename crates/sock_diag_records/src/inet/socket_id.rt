@@ -46,14 +46,8 @@ pub struct SocketId {
 impl SocketId {
     /// The identity of zeros alone, with IPv4 addresses.
     pub fn new_v4() -> Self
-        ensures { let none : IpAddr = V4 record { octets = replicate 4 0 } in result ≡ record {
-          source_port = 0;
-          destination_port = 0;
-          source_address = none;
-          destination_address = none;
-          interface_id = 0;
-          cookie = replicate 8 0;
-        } }
+        ensures { let none : IpAddr = V4 record { octets = replicate 4 0 } in result
+            ≡ record { source_port = 0; destination_port = 0; source_address = none; destination_address = none; interface_id = 0; cookie = replicate 8 0 } }
     {
         SocketId {
             source_port: 0,
@@ -67,14 +61,8 @@ impl SocketId {
 
     /// The identity of zeros alone, with IPv6 addresses.
     pub fn new_v6() -> Self
-        ensures { let none : IpAddr = V6 record { segments = replicate 8 0 } in result ≡ record {
-          source_port = 0;
-          destination_port = 0;
-          source_address = none;
-          destination_address = none;
-          interface_id = 0;
-          cookie = replicate 8 0;
-        } }
+        ensures { let none : IpAddr = V6 record { segments = replicate 8 0 } in result
+            ≡ record { source_port = 0; destination_port = 0; source_address = none; destination_address = none; interface_id = 0; cookie = replicate 8 0 } }
     {
         SocketId {
             source_port: 0,
