@@ -1,7 +1,6 @@
 -- What the walk over the messages of a datagram holds and gives.
-use Rattle.std.specs.Prelude.{ℕ, ◌+◌, ◌/◌, List, length, drop, Option, Result}
+use Rattle.std.specs.Prelude.{ℕ, List, drop, Option, Result}
 use Rattle.std.specs.Borrow.{Bor}
-use Rattle.std.specs.Iterator.{Count, at_most}
 use Rattle.netlink_core.specs.declared.fault.DecodeError.{DecodeError}
 use Rattle.netlink_core.specs.declared.datagram.MessageStrings.{MessageStrings}
 use Rattle.netlink_core.specs.Header.{IsEnvelopeFault}
@@ -11,10 +10,6 @@ use Rattle.netlink_core.specs.Gives.{Gives}
 -- what the walk has not passed yet
 abbrev pub datagram_left : MessageStrings → List ℕ
 datagram_left walk = drop walk.at walk.bytes.now
-
--- at most one item for each sixteen bytes, rounded up
-abbrev pub messages_left : MessageStrings → Count
-messages_left walk = at_most ((length (datagram_left walk) + 15) / 16)
 
 -- The message at the front of what was left, of which the rest then stands behind its padding. Or the fault there.
 abbrev pub GivesMessage : MessageStrings → Option (Result (Bor (List ℕ)) DecodeError) → MessageStrings → Type 0

@@ -75,15 +75,10 @@ abbrev pub put : {A B C : Type 0} → (t : Bool) → (B → C) → either t A B 
 put true later x = inl x
 put false later x = inr (later x)
 
--- a value of the kind with that number, as it is said
+-- a value of the kind with that number, or an attribute under a number of no kind, as it is said
 abbrev pub said : (F : Family) → (k : ℕ) → ValueAt F k → Said F
 said [] k a = a
 said (row ∷ rows) k x = put (row.number == k) (said rows k) x
-
--- an attribute of no kind, as it is said
-abbrev pub other : (F : Family) → Attribute → Said F
-other [] a = a
-other (row ∷ rows) a = inr (other rows a)
 
 -- what stands at that side, where it is there that something stands
 abbrev pub got : {A B C : Type 0} → (t : Bool) → (C → Option B) → A ⊎ C → Option (either t A B)

@@ -3,7 +3,7 @@
 //! An attribute is a length word (4 and the value's bytes), a type word, the value, and padding to a multiple of 4.
 //! Both words have 16 bits, the low byte first.
 
-ghost use Rattle.std.specs.Prelude.{◌≡◌, ◌+◌, ◌≤◌, ◌<◌, ◌^◌, ◌↔◌, length, IsTrue, IsBitSet, MatchResult};
+ghost use Rattle.std.specs.Prelude.{◌≡◌, ◌+◌, ◌/◌, ◌≤◌, ◌<◌, ◌^◌, ◌↔◌, length, IsTrue, IsBitSet, MatchResult};
 ghost use Rattle.netlink_core.specs.Attribute.{HeadIs, IsFramingFault, fill, kind_of, written};
 
 use crate::codec::Holds;
@@ -137,13 +137,15 @@ impl<'a> NlasIterator<'a> {
 }
 
 impl<'a> Iterator for NlasIterator<'a> {
-    ghost use Rattle.netlink_core.specs.Walk.{GivesAttribute, attributes_left};
+    ghost use Rattle.std.specs.Iterator.{at_most};
+    ghost use Rattle.netlink_core.specs.Walk.{GivesAttribute, bytes_left};
 
     type Item = Result<NlaBuffer<'a>, DecodeError>;
 
     ghost next_gives = { GivesAttribute };
 
-    ghost remaining = { attributes_left };
+    // At most one item for each four bytes, rounded up.
+    ghost remaining = { λ walk. at_most ((length (bytes_left walk) + 3) / 4) };
 
     fn next(&mut self) -> Option<Result<NlaBuffer<'a>, DecodeError>> {
         if self.at >= self.bytes.len() {

@@ -33,13 +33,16 @@ impl<'a> MessageStrings<'a> {
 }
 
 impl<'a> Iterator for MessageStrings<'a> {
-    ghost use Rattle.netlink_core.specs.DatagramWalk.{GivesMessage, messages_left};
+    ghost use Rattle.std.specs.Prelude.{◌+◌, ◌/◌, length};
+    ghost use Rattle.std.specs.Iterator.{at_most};
+    ghost use Rattle.netlink_core.specs.DatagramWalk.{GivesMessage, datagram_left};
 
     type Item = Result<&'a [u8], DecodeError>;
 
     ghost next_gives = { GivesMessage };
 
-    ghost remaining = { messages_left };
+    // At most one item for each sixteen bytes, rounded up.
+    ghost remaining = { λ walk. at_most ((length (datagram_left walk) + 15) / 16) };
 
     /// The bytes of the next message. At each the faults are those of [`NetlinkHeader::from_prefix`], over the bytes
     /// that are left.

@@ -1,5 +1,6 @@
 -- What contracts see of what a message carries, where it is read in place.
-use Rattle.std.specs.Prelude.{Result, Ok, Err}
+use Rattle.std.specs.Prelude.{Result}
+use Rattle.netlink_core.specs.Faults.{said_as}
 use Rattle.netlink_core.specs.declared.fault.DecodeError.{DecodeError}
 use Rattle.netlink_core.specs.Envelope.{Payload, done_with, error_with, no_payload, overrun_with, inner}
 use Rattle.netlink_packet_sock_diag.specs.declared.dump.views.PayloadView.{PayloadView}
@@ -17,5 +18,4 @@ viewed_payload (InnerMessage message) = inner (viewed_message message)
 
 -- what an item of a datagram says
 abbrev pub viewed_item : Result PayloadView DecodeError → Result (Payload Message) DecodeError
-viewed_item (Ok payload) = Ok (viewed_payload payload)
-viewed_item (Err e) = Err e
+viewed_item item = said_as viewed_payload item

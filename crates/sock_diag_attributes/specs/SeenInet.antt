@@ -5,10 +5,10 @@ use Rattle.sock_diag_attributes.specs.declared.inet.nlas.Nla.{Nla}
 use Rattle.sock_diag_attributes.specs.declared.inet.nlas.Nla.TheVariants.{LegacyMemInfo, TcpInfo, Congestion, Tos, Tc, MemInfo, Shutdown, Protocol, SkV6Only, Mark, ClassId, Other}
 use Rattle.sock_diag_attributes.specs.declared.inet.nlas.NlaView.{NlaView}
 use Rattle.sock_diag_attributes.specs.declared.inet.nlas.NlaView.TheVariants as view
-use Rattle.netlink_core.specs.Family.{Said, said, other}
+use Rattle.netlink_core.specs.Family.{Said, said}
 use Rattle.sock_diag_attributes.specs.InetAttributes.{inet}
 
--- the same value; lists and texts by their elements, records as they are
+-- the same value; lists and texts by their elements, records as they are; 0xffff is the number of no kind
 abbrev pub seen_nla : Nla → Said inet
 seen_nla (LegacyMemInfo m) = said inet 1 m
 seen_nla (TcpInfo t) = said inet 2 t
@@ -21,7 +21,7 @@ seen_nla (Protocol n) = said inet 10 n
 seen_nla (SkV6Only flag) = said inet 11 flag
 seen_nla (Mark n) = said inet 15 n
 seen_nla (ClassId n) = said inet 17 n
-seen_nla (Other nla) = other inet (kept_attribute nla)
+seen_nla (Other nla) = said inet 0xffff (kept_attribute nla)
 
 -- the same of one that is read in place
 abbrev pub viewed_nla : NlaView → Said inet
@@ -36,4 +36,4 @@ viewed_nla (view.Protocol n) = said inet 10 n
 viewed_nla (view.SkV6Only flag) = said inet 11 flag
 viewed_nla (view.Mark n) = said inet 15 n
 viewed_nla (view.ClassId n) = said inet 17 n
-viewed_nla (view.Other word value) = other inet (record { type_word = word; value = value.now })
+viewed_nla (view.Other word value) = said inet 0xffff (record { type_word = word; value = value.now })

@@ -6,10 +6,10 @@ use Rattle.sock_diag_attributes.specs.declared.unix.nlas.NlaView.{NlaView}
 use Rattle.sock_diag_attributes.specs.declared.unix.nlas.NlaView.TheVariants as view
 use Rattle.sock_diag_attributes.specs.SeenName.{seen_name, viewed_name}
 use Rattle.sock_diag_attributes.specs.SeenNumbers.{viewed_numbers}
-use Rattle.netlink_core.specs.Family.{Said, said, other}
+use Rattle.netlink_core.specs.Family.{Said, said}
 use Rattle.sock_diag_attributes.specs.UnixAttributes.{unix}
 
--- the same value; lists and texts by their elements, records as they are
+-- the same value; lists and texts by their elements, records as they are; 0xffff is the number of no kind
 abbrev pub seen_nla : Nla → Said unix
 seen_nla (Name n) = said unix 0 (seen_name n)
 seen_nla (Vfs v) = said unix 1 v
@@ -18,7 +18,7 @@ seen_nla (PendingConnections ns) = said unix 3 ns.items
 seen_nla (ReceiveQueueLength first second) = said unix 4 (first, second)
 seen_nla (MemInfo m) = said unix 5 m
 seen_nla (Shutdown n) = said unix 6 n
-seen_nla (Other nla) = other unix (kept_attribute nla)
+seen_nla (Other nla) = said unix 0xffff (kept_attribute nla)
 
 -- the same of one that is read in place
 abbrev pub viewed_nla : NlaView → Said unix
@@ -29,4 +29,4 @@ viewed_nla (view.PendingConnections ns) = said unix 3 (viewed_numbers ns)
 viewed_nla (view.ReceiveQueueLength first second) = said unix 4 (first, second)
 viewed_nla (view.MemInfo m) = said unix 5 m
 viewed_nla (view.Shutdown n) = said unix 6 n
-viewed_nla (view.Other word value) = other unix (record { type_word = word; value = value.now })
+viewed_nla (view.Other word value) = said unix 0xffff (record { type_word = word; value = value.now })

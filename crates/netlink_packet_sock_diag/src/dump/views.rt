@@ -68,14 +68,16 @@ impl<'a> DumpViews<'a> {
 }
 
 impl<'a> Iterator for DumpViews<'a> {
-    ghost use Rattle.netlink_core.specs.DatagramWalk.{messages_left};
-    ghost use Rattle.netlink_packet_sock_diag.specs.DumpWalk.{GivesView};
+    ghost use Rattle.std.specs.Prelude.{length, ◌+◌, ◌/◌};
+    ghost use Rattle.std.specs.Iterator.{at_most};
+    ghost use Rattle.netlink_packet_sock_diag.specs.DumpWalk.{GivesView, views_left};
 
     type Item = Result<PayloadView<'a>, DecodeError>;
 
     ghost next_gives = { GivesView };
 
-    ghost remaining = { λ walk. messages_left walk.messages };
+    // At most one item for each sixteen bytes, rounded up.
+    ghost remaining = { λ walk. at_most ((length (views_left walk) + 15) / 16) };
 
     /// What the next message carries, or its fault. At what is no message the faults are those of
     /// [`NetlinkHeader::from_prefix`], over the bytes that are left.
