@@ -40,7 +40,7 @@ count_ends bytes rest count c none =
 
 framing_fault : (bytes : List ℕ) (e : DecodeError) → AttributeFault itself bytes e → (xs : List Attribute) × CutOff IsFramingFault bytes xs e
 framing_fault bytes e (xs, (before, after, parts, cut, left, fault), good) =
-    (xs, before, after, parts, cut, left, elim fault [ inl framing ↦ framing | inr refused ↦ absurd (let wrong = refused.2 in cc) ])
+    (xs, (before, after, parts, cut, left, elim fault [ inl framing ↦ framing | inr refused ↦ absurd (let wrong = refused.2 in cc) ]))
 
 -- a fault stands behind those that were counted
 pub count_is_cut_off : (bytes rest : List ℕ) (count : ℕ) (e : DecodeError) → Counted bytes rest count → rest ≢ [] → IsFramingFault rest e → (xs : List Attribute) × CutOff IsFramingFault bytes xs e
