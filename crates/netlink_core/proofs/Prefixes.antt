@@ -5,7 +5,7 @@ use Rattle.netlink_core.specs.declared.fault.DecodeError.{DecodeError}
 use Rattle.netlink_core.specs.Table.{values_of}
 use Rattle.netlink_core.specs.Format.{Format, read, bytes, IsTyped, IsNormal, IsFixed}
 use Rattle.netlink_core.specs.SoundLaws.{IsSound}
-use Rattle.netlink_core.specs.Codec.{KeepsLaws, codec_of}
+use Rattle.netlink_core.specs.Codec.{KeepsLaws, prefix_codec}
 use Rattle.netlink_core.specs.FrontLaws.{value_or_reason}
 use Rattle.netlink_core.specs.Prefix.{Prefix, prefix_of}
 use Rattle.netlink_core.specs.ShownLaws.{PrefixLaws, StandsInFront}
@@ -47,7 +47,7 @@ module _ {Tag Value : Type 0} (format : Format (Unit {0}) Tag Value) (sound : Is
   }
 
 -- a part that keeps its laws is the codec of its values, whichever of them are spare and have room
-pub codec_laws : {P : Prefix (Unit {0})} (is_spare fits : P.Value → Type 0) → PrefixLaws P → KeepsLaws (record (codec_of P) { is_spare = is_spare; fits = fits })
+pub codec_laws : {P : Prefix (Unit {0})} (is_spare fits : P.Value → Type 0) → PrefixLaws P → KeepsLaws (record (prefix_codec P) { is_spare = is_spare; fits = fits })
 codec_laws {P} is_spare fits laws = record {
   answered = λ b p typed. value_or_reason (P.reads p b);
   one_answer = λ b p v e h k. not_both (P.reads p b) v e h k;

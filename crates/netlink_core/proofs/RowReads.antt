@@ -2,7 +2,6 @@
 -- are the bytes of the table.
 use Rattle.std.proofs.Common.{◌≡◌, ℕ, zero, suc, ap₂, ◌+◌, ◌-◌, ◌*◌, ◌^◌, ◌<◌, ◌≤◌, List, [], ◌∷◌, ◌++◌, length, take, drop, slice_index, bit_and, refl, sym, ap, ◌∙◌, arith, mul-le-mul_left, mul-suc}
 use Rattle.std.proofs.lemmas.List.{ext_get_or, drop-take, take-take, drop-drop, drop_more, get_or-drop}
-use borrow.Rule.Slice.PartMut.{put_mid}
 use Rattle.byteorder.specs.Endian.{IsRead}
 use Rattle.netlink_core.specs.Bytes.{IsBytes}
 use Rattle.netlink_core.specs.Table.{Order, little_endian, Row, byte, number, flags, unread, number_in, bytes_at, numbers, values_of, first, Fit}

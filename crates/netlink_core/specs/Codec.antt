@@ -36,8 +36,8 @@ pub record KeepsLaws {Param : Type 0} (C : Codec Param) : Type 0 where
   pub reads_back : (p : Param) (v : C.Value) → C.is_typed v → C.is_normal p v → C.fits v → C.reads (C.written v) p v
 
 -- a part of a string on its own; each value is kept without memory, and has room
-abbrev pub codec_of : {Param : Type 0} → Prefix Param → Codec Param
-codec_of P = record {
+abbrev pub prefix_codec : {Param : Type 0} → Prefix Param → Codec Param
+prefix_codec P = record {
   Value = P.Value;
   is_typed = P.is_typed;
   reads = λ b p v. P.reads p b ≡ Ok v;
@@ -51,9 +51,10 @@ codec_of P = record {
 
 -- a record that is given as a format
 abbrev pub record_codec : {Param Tag Value : Type 0} → Format Param Tag Value → Codec Param
-record_codec format = codec_of (prefix_of format)
+record_codec format = prefix_codec (prefix_of format)
 
--- the laws of a record: its codec's, each value has as many bytes as its table, and what is read is what stands in a string
+-- the laws of a record: its codec's, each value has as many bytes as its table, and what is read is what stands in a
+-- string
 pub record RecordLaws {Param Tag Value : Type 0} (format : Format Param Tag Value) : Type 0 where
   pub codec : KeepsLaws (record_codec format)
   pub long : (value : Value) → length (bytes format value) ≡ format.size (format.tag_of value)

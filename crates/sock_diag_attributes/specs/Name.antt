@@ -2,7 +2,7 @@
 use Rattle.std.specs.Prelude.{◌≢◌, ◌+◌, ◌==◌, if◌then◌else◌, ℕ, zero, List, [], ◌∷◌, ◌++◌, length, take, ◌≤◌, All, Option, Some, None, Result, Ok, Err, ⊤}
 use Rattle.std.specs.List.{position}
 use Rattle.netlink_core.specs.Bytes.{IsBytes}
-use Rattle.netlink_core.specs.Codec.{Codec, codec_of}
+use Rattle.netlink_core.specs.Codec.{Codec, prefix_codec}
 use Rattle.netlink_core.specs.Prefix.{Prefix}
 use Rattle.netlink_core.specs.Rows.{exact_value}
 use Rattle.netlink_core.specs.declared.fault.DecodeError.{DecodeError}
@@ -48,4 +48,4 @@ name_value = exact_value read_name name_bytes IsTypedName IsNormalName
 
 -- a name by itself, which takes memory
 abbrev pub name_codec : Codec (Unit {0})
-name_codec = record (codec_of name_value) { is_spare = λ v. ⊥; fits = λ v. length (name_bytes v) ≤ 4294967295 }
+name_codec = record (prefix_codec name_value) { is_spare = λ v. ⊥; fits = λ v. length (name_bytes v) ≤ 4294967295 }
