@@ -10,7 +10,7 @@ use Rattle.netlink_core.specs.declared.fault.DecodeError.TheVariants.{Memory, En
 use Rattle.netlink_core.specs.declared.header.NetlinkHeader.{NetlinkHeader}
 use Rattle.netlink_core.specs.Bytes.{IsBytes}
 use Rattle.netlink_core.specs.Header.{HasHeader, IsFramed, IsEnvelopeFault, header_bytes}
-use Rattle.netlink_core.specs.Envelope.{Payload, done_with, error_with, no_payload, overrun_with, inner, Envelope, IsInnerType, PayloadIs, EnvelopeIs, EnvelopeFault}
+use Rattle.netlink_core.specs.Envelope.{Payload, done_with, error_with, no_payload, overrun_with, inner, Envelope, IsInnerType, PayloadIs, EnvelopeIs, EnvelopeFault, payload_at}
 use Rattle.netlink_core.proofs.TableLaws.{AreBytes-drop}
 use Rattle.netlink_core.proofs.Headers.{AreBytes-take, header_or_fault, one_header, framed_bounds}
 
@@ -25,6 +25,14 @@ pub framed_payload : (b x : List ℕ) (h : NetlinkHeader) → IsFramed b h x →
 framed_payload b x h f =
     let size : h.length - 16 ≡ length x = omega (arith, f.size) in
     ap (λ (n : ℕ). take n (drop 16 b)) size ∙ ap (λ (l : List ℕ). take (length x) (drop 16 l)) f.parts ∙ take_at x f.rest (length x) refl
+
+-- and where the length word says
+pub payload_there : (b x : List ℕ) (h : NetlinkHeader) → IsFramed b h x → payload_at b ≡ x
+payload_there b x h f = ap (λ (n : ℕ). take (n - 16) (drop 16 b)) (framed_length b x h f) ∙ framed_payload b x h f
+
+-- the type is the header's
+pub framed_type : (b x : List ℕ) (h : NetlinkHeader) → IsFramed b h x → little_number 2 (drop 4 b) ≡ h.message_type
+framed_type b x h f = ap (λ (l : List ℕ). little_number 2 (drop 4 l)) f.parts ∙ little_number-reads_back 2 h.message_type [] f.typed.message_type
 
 -- the first sixteen bytes are the header's
 pub framed_front : (b x : List ℕ) (h : NetlinkHeader) → IsFramed b h x → take 16 b ≡ header_bytes h

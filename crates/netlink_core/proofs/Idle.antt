@@ -2,11 +2,12 @@
 use Rattle.std.proofs.Common.{◌≡◌, ◌↔◌, ◌∙◌, ℕ, zero, suc, ◌≤◌, inl, inr, List, [], ◌++◌, take, drop, refl, sym, ap, subst, arith}
 use Rattle.std.proofs.lemmas.List.{append-nil}
 use Rattle.netlink_core.specs.declared.header.NetlinkHeader.{NetlinkHeader}
+use Rattle.byteorder.specs.Endian.{little_number}
 use Rattle.netlink_core.specs.Bytes.{IsBytes}
 use Rattle.netlink_core.specs.Header.{IsTypedHeader, IsFramed, header_bytes}
-use Rattle.netlink_core.specs.Envelope.{Payload, done_with, error_with, no_payload, overrun_with, inner, Envelope, IsInnerType, PayloadIs, EnvelopeIs, payload_bytes, payload_type, envelope_bytes, OfInner, IsFinalized, IsNormalEnvelope, IdlePayloads, IdleEnvelopes}
+use Rattle.netlink_core.specs.Envelope.{Payload, done_with, error_with, no_payload, overrun_with, inner, Envelope, IsInnerType, PayloadIs, EnvelopeIs, payload_bytes, payload_type, envelope_bytes, OfInner, IsFinalized, IsNormalEnvelope, payload_at, IdlePayloads, IdleEnvelopes}
 use Rattle.netlink_core.proofs.Headers.{one_header}
-use Rattle.netlink_core.proofs.Framing.{one_frame, framed_payload, payload_typed}
+use Rattle.netlink_core.proofs.Framing.{framed_front, framed_payload, framed_type, payload_there, payload_typed}
 
 -- the type where one payload alone belongs to it, or 0 where an inner message does
 abbrev kind_under : ℕ → ℕ
@@ -93,16 +94,18 @@ module _ {A : Type 0} (reads : List ℕ → ℕ → A → Type 0) where
   equal_where_idle idle law b c v w tb tc r s =
       let t : ℕ = v.header.message_type in
       let read : v.header ≡ w.header → PayloadIs reads s.0 t w.payload = λ e. subst (λ (h : NetlinkHeader). PayloadIs reads s.0 h.message_type w.payload) (sym e) s.2 in
-      let payloads = λ (e : v.header ≡ w.header). payloads_idle idle t r.0 s.0 (λ m n. law r.0 s.0 t m n (payload_typed b r.0 v.header tb r.1) (payload_typed c s.0 w.header tc s.1)) v.payload w.payload r.2 (read e) in (
+      let payloads = λ (e : v.header ≡ w.header). payloads_idle idle t r.0 s.0 (λ m n. law r.0 s.0 t m n (payload_typed b r.0 v.header tb r.1) (payload_typed c s.0 w.header tc s.1)) v.payload w.payload r.2 (read e) in
+      let type_is : little_number 2 (drop 4 b) ≡ t = framed_type b r.0 v.header r.1 in
+      let there : IdlePayloads idle (little_number 2 (drop 4 b)) (payload_at b) (payload_at c) ≡ IdlePayloads idle t r.0 s.0 =
+      λ i. IdlePayloads idle (type_is i) (payload_there b r.0 v.header r.1 i) (payload_there c s.0 w.header s.1 i) in
+      let fronts = framed_front b r.0 v.header r.1 in
+      let others = framed_front c s.0 w.header s.1 in (
         λ e.
             let headers : v.header ≡ w.header = ap (λ (m : Envelope A). m.header) e in
-            (v.header, r.0, s.0, r.1, subst (λ (h : NetlinkHeader). IsFramed c h s.0) (sym headers) s.1, (payloads headers).0 (ap (λ (m : Envelope A). m.payload) e)),
-        λ (h, x, y, f, g, i).
-            let left = one_frame b x r.0 h v.header f r.1 in
-            let right = one_frame c y s.0 h w.header g s.1 in
-            let headers : v.header ≡ w.header = sym left.0 ∙ right.0 in
-            let idle_here : IdlePayloads idle t r.0 s.0 = subst (λ (k : NetlinkHeader). IdlePayloads idle k.message_type r.0 s.0) left.0 (subst (λ (a : List ℕ). IdlePayloads idle h.message_type a s.0) left.1 (subst (λ (a : List ℕ). IdlePayloads idle h.message_type x a) right.1 i)) in
-            let same : v.payload ≡ w.payload = (payloads headers).1 idle_here in
+            (fronts ∙ ap header_bytes headers ∙ sym others, subst (λ (X : Type 0). X) (sym there) ((payloads headers).0 (ap (λ (m : Envelope A). m.payload) e))),
+        λ idle_bytes.
+            let headers : v.header ≡ w.header = one_header v.header w.header r.1.typed s.1.typed (sym fronts ∙ idle_bytes.0 ∙ others) in
+            let same : v.payload ≡ w.payload = (payloads headers).1 (subst (λ (X : Type 0). X) there idle_bytes.1) in
             λ z. record { header = headers z; payload = same z },
       )
 

@@ -1,5 +1,6 @@
 -- A message: its header, and its payload by its type.
-use Rattle.std.specs.Prelude.{◌≡◌, ℕ, ◌+◌, ◌≤◌, ◌⊎◌, List, [], ◌++◌, length, ⊤}
+use Rattle.std.specs.Prelude.{◌≡◌, ℕ, ◌+◌, ◌-◌, ◌≤◌, ◌⊎◌, List, [], ◌++◌, length, take, drop, ⊤}
+use Rattle.byteorder.specs.Endian.{little_number}
 use Rattle.netlink_core.specs.declared.fault.DecodeError.{DecodeError}
 use Rattle.netlink_core.specs.declared.header.NetlinkHeader.{NetlinkHeader}
 use Rattle.netlink_core.specs.Header.{IsTypedHeader, header_bytes, IsFramed, IsEnvelopeFault}
@@ -87,9 +88,13 @@ IsFinalized bytes type_of e = (e.header.length ≡ 16 + length (payload_bytes by
 abbrev pub IdlePayloads : (ℕ → List ℕ → List ℕ → Type 0) → ℕ → List ℕ → List ℕ → Type 0
 IdlePayloads idle t x y = (t ≡ 1) ⊎ (((2 ≤ t) × (t ≤ 4) × (x ≡ y)) ⊎ (IsInnerType t × idle t x y))
 
--- one header in front of both, and payloads that are idle by its type
+-- the payload that the number in the first four bytes counts
+abbrev pub payload_at : List ℕ → List ℕ
+payload_at bytes = take (little_number 4 bytes - 16) (drop 16 bytes)
+
+-- equal first sixteen bytes, and payloads that are idle by the type, the number at 4
 abbrev pub IdleEnvelopes : (ℕ → List ℕ → List ℕ → Type 0) → List ℕ → List ℕ → Type 0
-IdleEnvelopes idle b c = (h : NetlinkHeader) × (x y : List ℕ) × IsFramed b h x × IsFramed c h y × IdlePayloads idle h.message_type x y
+IdleEnvelopes idle b c = (take 16 b ≡ take 16 c) × IdlePayloads idle (little_number 2 (drop 4 b)) (payload_at b) (payload_at c)
 
 -- each field of the header is within its type, and an inner message is typed
 abbrev pub IsTypedEnvelope : {A : Type 0} → (A → Type 0) → Envelope A → Type 0
