@@ -10,7 +10,8 @@ use Rattle.netlink_core.specs.declared.fault.DecodeError.TheVariants.{Memory, En
 use Rattle.netlink_core.specs.declared.header.NetlinkHeader.{NetlinkHeader}
 use Rattle.netlink_core.specs.Bytes.{IsBytes}
 use Rattle.netlink_core.specs.Header.{HasHeader, IsFramed, IsEnvelopeFault, header_bytes}
-use Rattle.netlink_core.specs.Envelope.{Payload, done_with, error_with, no_payload, overrun_with, inner, Envelope, IsInnerType, PayloadIs, EnvelopeIs, EnvelopeFault, payload_at}
+use Rattle.netlink_core.specs.Envelope.{Payload, done_with, error_with, no_payload, overrun_with, inner, Envelope, IsInnerType, PayloadIs, payload_at, envelope_codec}
+use Rattle.netlink_core.specs.Codec.{Codec}
 use Rattle.netlink_core.proofs.TableLaws.{AreBytes-drop}
 use Rattle.netlink_core.proofs.Headers.{AreBytes-take, header_or_fault, one_header, framed_bounds}
 
@@ -53,9 +54,9 @@ pub framed : (bytes : List ℕ) (h : NetlinkHeader) → HasHeader bytes h → Is
 framed bytes h head = subst (λ (x : List ℕ). IsFramed bytes h x) (sym (framed_payload bytes head.0 h head.1)) head.1
 
 -- a fault of the inner message is one of the whole message
-pub fault_within : (refuses : List ℕ → ℕ → DecodeError → Type 0) (bytes : List ℕ) (h : NetlinkHeader) (e : DecodeError) → HasHeader bytes h
-    → IsInnerType h.message_type × refuses (take (h.length - 16) (drop 16 bytes)) h.message_type e → EnvelopeFault refuses bytes e
-fault_within refuses bytes h e head fault = inr (h, take (h.length - 16) (drop 16 bytes), framed bytes h head, fault.0, fault.1)
+pub fault_within : (C : Codec ℕ) (bytes : List ℕ) (h : NetlinkHeader) (e : DecodeError) → HasHeader bytes h
+    → IsInnerType h.message_type × C.refuses (take (h.length - 16) (drop 16 bytes)) h.message_type e → (envelope_codec C).refuses bytes tt e
+fault_within C bytes h e head fault = inr (h, take (h.length - 16) (drop 16 bytes), framed bytes h head, fault.0, fault.1)
 
 -- ---- one message or one fault
 
@@ -108,17 +109,17 @@ of_kept_type reads x t = elim (cases_eq t 1) [
 ]
 
 -- Bytes have one message or one fault, where payloads of inner messages have one of them or one fault.
-module _ {A : Type 0} (reads : List ℕ → ℕ → A → Type 0) (refuses : List ℕ → ℕ → DecodeError → Type 0) where
+module _ (C : Codec ℕ) where
   -- a message or a fault
-  pub envelope_or_fault : (b : List ℕ) → IsBytes b → ((x : List ℕ) (t : ℕ) → IsBytes x → ((m : A) × reads x t m) ⊎ ((e : DecodeError) × refuses x t e))
-      → ((v : Envelope A) × EnvelopeIs reads b v) ⊎ ((e : DecodeError) × EnvelopeFault refuses b e)
+  pub envelope_or_fault : (b : List ℕ) → IsBytes b → ((x : List ℕ) (t : ℕ) → IsBytes x → ((m : C.Value) × C.reads x t m) ⊎ ((e : DecodeError) × C.refuses x t e))
+      → ((v : Envelope C.Value) × (envelope_codec C).reads b tt v) ⊎ ((e : DecodeError) × (envelope_codec C).refuses b tt e)
   envelope_or_fault b tb law = elim (header_or_fault b tb) [
     | inr fault ↦ inr (fault.0, inl fault.1)
     | inl found ↦
         let h : NetlinkHeader = found.0 in
         let x : List ℕ = take (h.length - 16) (drop 16 b) in
         let frame = framed b h found.1 in
-        elim (of_kept_type reads x h.message_type) [
+        elim (of_kept_type C.reads x h.message_type) [
           | inr kept ↦ inl (record { header = h; payload = kept.0 }, (x, frame, kept.1))
           | inl kind ↦ elim (law x h.message_type (AreBytes-take (h.length - 16) (drop 16 b) (AreBytes-drop 16 b tb))) [
             | inl answer ↦ inl (record { header = h; payload = inner answer.0 }, (x, frame, (kind, answer.1)))
@@ -128,7 +129,7 @@ module _ {A : Type 0} (reads : List ℕ → ℕ → A → Type 0) (refuses : Lis
   ]
 
   -- a payload of an inner message's type is one
-  inner_payload : (x : List ℕ) (t : ℕ) (p : Payload A) → IsInnerType t → PayloadIs reads x t p → (m : A) × reads x t m
+  inner_payload : (x : List ℕ) (t : ℕ) (p : Payload C.Value) → IsInnerType t → PayloadIs C.reads x t p → (m : C.Value) × C.reads x t m
   inner_payload x t no_payload (inl kind) r = absurd (omega (arith, kind, r))
   inner_payload x t no_payload (inr kind) r = absurd (omega (arith, kind, r))
   inner_payload x t (error_with given) (inl kind) r = absurd (omega (arith, kind, r.0))
@@ -140,26 +141,26 @@ module _ {A : Type 0} (reads : List ℕ → ℕ → A → Type 0) (refuses : Lis
   inner_payload x t (inner m) kind r = (m, r.1)
 
   -- not both
-  pub envelope_or_fault_apart : (b : List ℕ) (v : Envelope A) (e : DecodeError) → ((x : List ℕ) (t : ℕ) (m : A) → reads x t m → refuses x t e → ⊥)
-      → EnvelopeIs reads b v → EnvelopeFault refuses b e → ⊥
+  pub envelope_or_fault_apart : (b : List ℕ) (v : Envelope C.Value) (e : DecodeError) → ((x : List ℕ) (t : ℕ) (m : C.Value) → C.reads x t m → C.refuses x t e → ⊥)
+      → (envelope_codec C).reads b tt v → (envelope_codec C).refuses b tt e → ⊥
   envelope_or_fault_apart b v e law r (inl fault) = no_fault_where_framed b r.0 v.header e r.1 fault
   envelope_or_fault_apart b v e law r (inr (h, x, frame, kind, fault)) =
       let same = one_frame b r.0 x v.header h r.1 frame in
-      let read : PayloadIs reads x h.message_type v.payload = subst (λ (y : List ℕ). PayloadIs reads y h.message_type v.payload) same.1 (subst (λ (k : NetlinkHeader). PayloadIs reads r.0 k.message_type v.payload) same.0 r.2) in
+      let read : PayloadIs C.reads x h.message_type v.payload = subst (λ (y : List ℕ). PayloadIs C.reads y h.message_type v.payload) same.1 (subst (λ (k : NetlinkHeader). PayloadIs C.reads r.0 k.message_type v.payload) same.0 r.2) in
       let answer = inner_payload x h.message_type v.payload kind read in
       law x h.message_type answer.0 answer.1 fault
 
 -- one fault at most
-pub one_envelope_fault : (refuses : List ℕ → ℕ → DecodeError → Type 0) (b : List ℕ) (e f : DecodeError) → ((x : List ℕ) (t : ℕ) → refuses x t e → refuses x t f → e ≡ f)
-    → EnvelopeFault refuses b e → EnvelopeFault refuses b f → e ≡ f
-one_envelope_fault refuses b e f law (inl fault) (inl other) = one_framing_fault b e f fault other
-one_envelope_fault refuses b e f law (inl fault) (inr (h, x, frame, kind, other)) = absurd (no_fault_where_framed b x h e frame fault)
-one_envelope_fault refuses b e f law (inr (h, x, frame, kind, fault)) (inl other) = absurd (no_fault_where_framed b x h f frame other)
-one_envelope_fault refuses b e f law (inr (h, x, frame, kind, fault)) (inr (k, y, also, _, other)) =
+pub one_envelope_fault : (C : Codec ℕ) (b : List ℕ) (e f : DecodeError) → ((x : List ℕ) (t : ℕ) → C.refuses x t e → C.refuses x t f → e ≡ f)
+    → (envelope_codec C).refuses b tt e → (envelope_codec C).refuses b tt f → e ≡ f
+one_envelope_fault C b e f law (inl fault) (inl other) = one_framing_fault b e f fault other
+one_envelope_fault C b e f law (inl fault) (inr (h, x, frame, kind, other)) = absurd (no_fault_where_framed b x h e frame fault)
+one_envelope_fault C b e f law (inr (h, x, frame, kind, fault)) (inl other) = absurd (no_fault_where_framed b x h f frame other)
+one_envelope_fault C b e f law (inr (h, x, frame, kind, fault)) (inr (k, y, also, _, other)) =
     let same = one_frame b y x k h also frame in
-    law x h.message_type fault (subst (λ (z : List ℕ). refuses z h.message_type f) same.1 (subst (λ (l : NetlinkHeader). refuses y l.message_type f) same.0 other))
+    law x h.message_type fault (subst (λ (z : List ℕ). C.refuses z h.message_type f) same.1 (subst (λ (l : NetlinkHeader). C.refuses y l.message_type f) same.0 other))
 
 -- no fault is want of memory
-pub envelope_fault_named : (refuses : List ℕ → ℕ → DecodeError → Type 0) (b : List ℕ) → ((x : List ℕ) (t : ℕ) → refuses x t Memory → ⊥) → EnvelopeFault refuses b Memory → ⊥
-envelope_fault_named refuses b law (inl fault) = fault
-envelope_fault_named refuses b law (inr (h, x, frame, kind, fault)) = law x h.message_type fault
+pub envelope_fault_named : (C : Codec ℕ) (b : List ℕ) → ((x : List ℕ) (t : ℕ) → C.refuses x t Memory → ⊥) → (envelope_codec C).refuses b tt Memory → ⊥
+envelope_fault_named C b law (inl fault) = fault
+envelope_fault_named C b law (inr (h, x, frame, kind, fault)) = law x h.message_type fault

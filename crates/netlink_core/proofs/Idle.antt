@@ -5,7 +5,8 @@ use Rattle.netlink_core.specs.declared.header.NetlinkHeader.{NetlinkHeader}
 use Rattle.byteorder.specs.Endian.{little_number}
 use Rattle.netlink_core.specs.Bytes.{IsBytes}
 use Rattle.netlink_core.specs.Header.{IsTypedHeader, IsFramed, header_bytes}
-use Rattle.netlink_core.specs.Envelope.{Payload, done_with, error_with, no_payload, overrun_with, inner, Envelope, IsInnerType, PayloadIs, EnvelopeIs, payload_bytes, payload_type, envelope_bytes, OfInner, IsFinalized, IsNormalEnvelope, payload_at, IdlePayloads, IdleEnvelopes}
+use Rattle.netlink_core.specs.Envelope.{Payload, done_with, error_with, no_payload, overrun_with, inner, Envelope, IsInnerType, PayloadIs, payload_bytes, payload_type, OfInner, finalized, payload_at, IdlePayloads, envelope_codec}
+use Rattle.netlink_core.specs.Codec.{Codec}
 use Rattle.netlink_core.proofs.Headers.{one_header}
 use Rattle.netlink_core.proofs.Framing.{framed_front, framed_payload, framed_type, payload_there, payload_typed}
 
@@ -74,35 +75,34 @@ module _ {A : Type 0} (reads : List ℕ → ℕ → A → Type 0) where
   payloads_alike written fits t x y law (inner v) (inner w) h k f g e = ap inner (law v w h.1 k.1 f g e)
   payloads_alike written fits t x y law p q h k f g e = absurd (omega (arith, payload_kind x t p h, payload_kind y t q k))
 
+module _ (C : Codec ℕ) where
   -- messages that are written alike are equal
-  pub equal_where_alike : (written : A → List ℕ) (fits : A → Type 0)
-      → ((x y : List ℕ) (t : ℕ) (v w : A) → IsBytes x → IsBytes y → reads x t v → reads y t w → fits v → fits w → written v ≡ written w → v ≡ w)
-      → (b c : List ℕ) (v w : Envelope A) → IsBytes b → IsBytes c → EnvelopeIs reads b v → EnvelopeIs reads c w → OfInner fits v.payload → OfInner fits w.payload
-      → envelope_bytes written v ≡ envelope_bytes written w → v ≡ w
-  equal_where_alike written fits law b c v w tb tc r s fv fw e =
+  pub equal_where_alike : ((x y : List ℕ) (t : ℕ) (v w : C.Value) → IsBytes x → IsBytes y → C.reads x t v → C.reads y t w → C.fits v → C.fits w → C.written v ≡ C.written w → v ≡ w)
+      → (b c : List ℕ) (v w : Envelope C.Value) → IsBytes b → IsBytes c → (envelope_codec C).reads b tt v → (envelope_codec C).reads c tt w → OfInner C.fits v.payload → OfInner C.fits w.payload
+      → (envelope_codec C).written v ≡ (envelope_codec C).written w → v ≡ w
+  equal_where_alike law b c v w tb tc r s fv fw e =
       let headers : v.header ≡ w.header = one_header v.header w.header r.1.typed s.1.typed (ap (take 16) e) in
-      let read : PayloadIs reads s.0 v.header.message_type w.payload = subst (λ (h : NetlinkHeader). PayloadIs reads s.0 h.message_type w.payload) (sym headers) s.2 in
-      let same : v.payload ≡ w.payload = payloads_alike written fits v.header.message_type r.0 s.0
+      let read : PayloadIs C.reads s.0 v.header.message_type w.payload = subst (λ (h : NetlinkHeader). PayloadIs C.reads s.0 h.message_type w.payload) (sym headers) s.2 in
+      let same : v.payload ≡ w.payload = payloads_alike C.reads C.written C.fits v.header.message_type r.0 s.0
       (λ m n. law r.0 s.0 v.header.message_type m n (payload_typed b r.0 v.header tb r.1) (payload_typed c s.0 w.header tc s.1))
       v.payload w.payload r.2 read fv fw (ap (drop 16) e) in
       λ z. record { header = headers z; payload = same z }
 
   -- messages are equal exactly where their strings are idle
-  pub equal_where_idle : (idle : ℕ → List ℕ → List ℕ → Type 0)
-      → ((x y : List ℕ) (t : ℕ) (v w : A) → IsBytes x → IsBytes y → reads x t v → reads y t w → ((v ≡ w) ↔ idle t x y))
-      → (b c : List ℕ) (v w : Envelope A) → IsBytes b → IsBytes c → EnvelopeIs reads b v → EnvelopeIs reads c w → ((v ≡ w) ↔ IdleEnvelopes idle b c)
-  equal_where_idle idle law b c v w tb tc r s =
+  pub equal_where_idle : ((x y : List ℕ) (t : ℕ) (v w : C.Value) → IsBytes x → IsBytes y → C.reads x t v → C.reads y t w → ((v ≡ w) ↔ C.idle t x y))
+      → (b c : List ℕ) (v w : Envelope C.Value) → IsBytes b → IsBytes c → (envelope_codec C).reads b tt v → (envelope_codec C).reads c tt w → ((v ≡ w) ↔ (envelope_codec C).idle tt b c)
+  equal_where_idle law b c v w tb tc r s =
       let t : ℕ = v.header.message_type in
-      let read : v.header ≡ w.header → PayloadIs reads s.0 t w.payload = λ e. subst (λ (h : NetlinkHeader). PayloadIs reads s.0 h.message_type w.payload) (sym e) s.2 in
-      let payloads = λ (e : v.header ≡ w.header). payloads_idle idle t r.0 s.0 (λ m n. law r.0 s.0 t m n (payload_typed b r.0 v.header tb r.1) (payload_typed c s.0 w.header tc s.1)) v.payload w.payload r.2 (read e) in
+      let read : v.header ≡ w.header → PayloadIs C.reads s.0 t w.payload = λ e. subst (λ (h : NetlinkHeader). PayloadIs C.reads s.0 h.message_type w.payload) (sym e) s.2 in
+      let payloads = λ (e : v.header ≡ w.header). payloads_idle C.reads C.idle t r.0 s.0 (λ m n. law r.0 s.0 t m n (payload_typed b r.0 v.header tb r.1) (payload_typed c s.0 w.header tc s.1)) v.payload w.payload r.2 (read e) in
       let type_is : little_number 2 (drop 4 b) ≡ t = framed_type b r.0 v.header r.1 in
-      let there : IdlePayloads idle (little_number 2 (drop 4 b)) (payload_at b) (payload_at c) ≡ IdlePayloads idle t r.0 s.0 =
-      λ i. IdlePayloads idle (type_is i) (payload_there b r.0 v.header r.1 i) (payload_there c s.0 w.header s.1 i) in
+      let there : IdlePayloads C.idle (little_number 2 (drop 4 b)) (payload_at b) (payload_at c) ≡ IdlePayloads C.idle t r.0 s.0 =
+      λ i. IdlePayloads C.idle (type_is i) (payload_there b r.0 v.header r.1 i) (payload_there c s.0 w.header s.1 i) in
       let fronts = framed_front b r.0 v.header r.1 in
       let others = framed_front c s.0 w.header s.1 in (
         λ e.
-            let headers : v.header ≡ w.header = ap (λ (m : Envelope A). m.header) e in
-            (fronts ∙ ap header_bytes headers ∙ sym others, subst (λ (X : Type 0). X) (sym there) ((payloads headers).0 (ap (λ (m : Envelope A). m.payload) e))),
+            let headers : v.header ≡ w.header = ap (λ (m : Envelope C.Value). m.header) e in
+            (fronts ∙ ap header_bytes headers ∙ sym others, subst (λ (X : Type 0). X) (sym there) ((payloads headers).0 (ap (λ (m : Envelope C.Value). m.payload) e))),
         λ idle_bytes.
             let headers : v.header ≡ w.header = one_header v.header w.header r.1.typed s.1.typed (sym fronts ∙ idle_bytes.0 ∙ others) in
             let same : v.payload ≡ w.payload = (payloads headers).1 (subst (λ (X : Type 0). X) there idle_bytes.1) in
@@ -110,27 +110,28 @@ module _ {A : Type 0} (reads : List ℕ → ℕ → A → Type 0) where
       )
 
   -- the bytes of a finalized message are framed by its own header
-  pub finalized_frame : (written : A → List ℕ) (type_of : A → ℕ) (v : Envelope A) → IsTypedHeader v.header → IsFinalized written type_of v → IsFramed (envelope_bytes written v) v.header (payload_bytes written v.payload)
-  finalized_frame written type_of v typed done = record { rest = []; parts = ap (λ (l : List ℕ). header_bytes v.header ++ l) (sym (append-nil (payload_bytes written v.payload))); typed = typed; size = done.0 }
+  finalized_frame : (type_of : C.Value → ℕ) (v : Envelope C.Value) → IsTypedHeader v.header → v.header ≡ finalized C.written type_of v → IsFramed ((envelope_codec C).written v) v.header (payload_bytes C.written v.payload)
+  finalized_frame type_of v typed done = record { rest = []; parts = ap (λ (l : List ℕ). header_bytes v.header ++ l) (sym (append-nil (payload_bytes C.written v.payload))); typed = typed; size = ap (λ (h : NetlinkHeader). h.length) done }
 
   -- the bytes of a payload read back as it exactly where it is in normal form
-  payload_itself : (written : A → List ℕ) (type_of : A → ℕ) (t : ℕ) (normal : ℕ → A → Type 0) (p : Payload A) → t ≡ payload_type type_of p → OfInner (λ m. reads (written m) t m ↔ normal t m) p
-      → (PayloadIs reads (payload_bytes written p) t p ↔ OfInner (λ m. IsInnerType t × normal t m) p)
-  payload_itself written type_of t normal no_payload e law = (λ _. tt, λ _. e)
-  payload_itself written type_of t normal (error_with g) e law = (λ _. tt, λ _. (e, refl))
-  payload_itself written type_of t normal (done_with g) e law = (λ _. tt, λ _. (e, refl))
-  payload_itself written type_of t normal (overrun_with g) e law = (λ _. tt, λ _. (e, refl))
-  payload_itself written type_of t normal (inner m) e law = (λ r. (r.0, law.0 r.1), λ n. (n.0, law.1 n.1))
+  payload_itself : (type_of : C.Value → ℕ) (t : ℕ) (p : Payload C.Value) → t ≡ payload_type type_of p → OfInner (λ m. C.reads (C.written m) t m ↔ C.is_normal t m) p
+      → (PayloadIs C.reads (payload_bytes C.written p) t p ↔ OfInner (λ m. IsInnerType t × C.is_normal t m) p)
+  payload_itself type_of t no_payload e law = (λ _. tt, λ _. e)
+  payload_itself type_of t (error_with g) e law = (λ _. tt, λ _. (e, refl))
+  payload_itself type_of t (done_with g) e law = (λ _. tt, λ _. (e, refl))
+  payload_itself type_of t (overrun_with g) e law = (λ _. tt, λ _. (e, refl))
+  payload_itself type_of t (inner m) e law = (λ r. (r.0, law.0 r.1), λ n. (n.0, law.1 n.1))
 
   -- the bytes of a finalized message read back as it exactly where it is in normal form
-  pub reads_back_exactly : (written : A → List ℕ) (type_of : A → ℕ) (normal : ℕ → A → Type 0) (v : Envelope A) → IsTypedHeader v.header → IsFinalized written type_of v
-      → OfInner (λ m. reads (written m) v.header.message_type m ↔ normal v.header.message_type m) v.payload
-      → (EnvelopeIs reads (envelope_bytes written v) v ↔ IsNormalEnvelope normal v)
-  reads_back_exactly written type_of normal v typed done law =
-      let frame = finalized_frame written type_of v typed done in
-      let itself = payload_itself written type_of v.header.message_type normal v.payload done.1 law in (
-        λ r. itself.0 (subst (λ (x : List ℕ). PayloadIs reads x v.header.message_type v.payload) (sym (framed_payload (envelope_bytes written v) r.0 v.header r.1) ∙ framed_payload (envelope_bytes written v) (payload_bytes written v.payload) v.header frame) r.2),
-        λ n. (payload_bytes written v.payload, frame, itself.1 n),
+  pub reads_back_exactly : (type_of : C.Value → ℕ) (v : Envelope C.Value) → IsTypedHeader v.header → v.header ≡ finalized C.written type_of v
+      → OfInner (λ m. C.reads (C.written m) v.header.message_type m ↔ C.is_normal v.header.message_type m) v.payload
+      → ((envelope_codec C).reads ((envelope_codec C).written v) tt v ↔ (envelope_codec C).is_normal tt v)
+  reads_back_exactly type_of v typed done law =
+      let written = (envelope_codec C).written v in
+      let frame = finalized_frame type_of v typed done in
+      let itself = payload_itself type_of v.header.message_type v.payload (ap (λ (h : NetlinkHeader). h.message_type) done) law in (
+        λ r. itself.0 (subst (λ (x : List ℕ). PayloadIs C.reads x v.header.message_type v.payload) (sym (framed_payload written r.0 v.header r.1) ∙ framed_payload written (payload_bytes C.written v.payload) v.header frame) r.2),
+        λ n. (payload_bytes C.written v.payload, frame, itself.1 n),
       )
 
 -- what holds of typed inner messages that fit holds of the payload's

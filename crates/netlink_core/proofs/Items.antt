@@ -10,7 +10,8 @@ use Rattle.netlink_core.specs.Attribute.{fill}
 use Rattle.netlink_core.specs.declared.fault.DecodeError.{DecodeError}
 use Rattle.netlink_core.specs.Header.{IsEnvelopeFault}
 use Rattle.netlink_core.specs.Datagram.{StartsWithMessage, CutIntoMessages, AreWholeMessages}
-use Rattle.netlink_core.specs.Envelope.{Payload, Envelope, EnvelopeIs, EnvelopeFault}
+use Rattle.netlink_core.specs.Codec.{Codec}
+use Rattle.netlink_core.specs.Envelope.{Payload, Envelope, envelope_codec}
 use Rattle.netlink_core.specs.Items.{ItemIs, ItemsAre}
 use Rattle.netlink_core.proofs.Headers.{header_or_fault}
 use Rattle.netlink_core.proofs.Framing.{envelope_or_fault}
@@ -38,38 +39,38 @@ zip_append R [] ys (v ∷ vs) ws h k = absurd h
 zip_append R (x ∷ xs) ys [] ws h k = absurd h
 zip_append R (x ∷ xs) ys (v ∷ vs) ws h k = (h.0, zip_append R xs ys vs ws h.1 k)
 
-module _ {A : Type 0} (reads : List ℕ → ℕ → A → Type 0) (refuses : List ℕ → ℕ → DecodeError → Type 0) where
+module _ (C : Codec ℕ) where
   -- a message has an item
-  item_of : ((b : List ℕ) (t : ℕ) → IsBytes b → ((m : A) × reads b t m) ⊎ ((e : DecodeError) × refuses b t e))
-      → (message : List ℕ) → IsBytes message → (item : Result (Payload A) DecodeError) × ItemIs reads refuses message item
-  item_of law message typed = elim (envelope_or_fault reads refuses message typed law) [
+  item_of : ((b : List ℕ) (t : ℕ) → IsBytes b → ((m : C.Value) × C.reads b t m) ⊎ ((e : DecodeError) × C.refuses b t e))
+      → (message : List ℕ) → IsBytes message → (item : Result (Payload C.Value) DecodeError) × ItemIs C message item
+  item_of law message typed = elim (envelope_or_fault C message typed law) [
     | inl v ↦ (Ok v.0.payload, (v.0.header, v.1))
     | inr e ↦ (Err e.0, e.1)
   ]
 
   -- the item of a message in front of others
-  pub item_in_front : (bytes message rest : List ℕ) (item : Result (Payload A) DecodeError) (later : List (Result (Payload A) DecodeError))
-      → StartsWithMessage bytes message rest → ItemIs reads refuses message item → ItemsAre reads refuses rest later → ItemsAre reads refuses bytes (item ∷ later)
+  pub item_in_front : (bytes message rest : List ℕ) (item : Result (Payload C.Value) DecodeError) (later : List (Result (Payload C.Value) DecodeError))
+      → StartsWithMessage bytes message rest → ItemIs C message item → ItemsAre C rest later → ItemsAre C bytes (item ∷ later)
   item_in_front bytes message rest item later s is all = record {
     messages = message ∷ all.messages;
     end = all.end;
     carried = item ∷ all.carried;
     cut = (rest, s, all.cut);
     each = (is, all.each);
-    parts = ap (λ (t : List (Result (Payload A) DecodeError)). item ∷ t) all.parts;
+    parts = ap (λ (t : List (Result (Payload C.Value) DecodeError)). item ∷ t) all.parts;
   }
 
   -- no bytes have no items
-  pub no_items : ItemsAre reads refuses [] []
+  pub no_items : ItemsAre C [] []
   no_items = record { messages = []; end = None; carried = []; cut = refl; each = tt; parts = refl }
 
   -- bytes with no message in front have the fault alone
-  pub fault_alone : (bytes : List ℕ) (e : DecodeError) → bytes ≢ [] → IsEnvelopeFault bytes e → ItemsAre reads refuses bytes (Err e ∷ [])
+  pub fault_alone : (bytes : List ℕ) (e : DecodeError) → bytes ≢ [] → IsEnvelopeFault bytes e → ItemsAre C bytes (Err e ∷ [])
   fault_alone bytes e some f = record { messages = []; end = Some e; carried = []; cut = (some, f); each = tt; parts = refl }
 
   -- each datagram has items, by its length
-  items_within : ((b : List ℕ) (t : ℕ) → IsBytes b → ((m : A) × reads b t m) ⊎ ((e : DecodeError) × refuses b t e))
-      → (n : ℕ) (bytes : List ℕ) → length bytes < n → IsBytes bytes → (items : List (Result (Payload A) DecodeError)) × ItemsAre reads refuses bytes items
+  items_within : ((b : List ℕ) (t : ℕ) → IsBytes b → ((m : C.Value) × C.reads b t m) ⊎ ((e : DecodeError) × C.refuses b t e))
+      → (n : ℕ) (bytes : List ℕ) → length bytes < n → IsBytes bytes → (items : List (Result (Payload C.Value) DecodeError)) × ItemsAre C bytes items
   items_within law zero bytes short typed = absurd (omega arith)
   items_within law (suc n) [] short typed = ([], no_items)
   items_within law (suc n) (b ∷ bytes) short typed = elim (message_or_fault (b ∷ bytes) typed) [
@@ -82,13 +83,13 @@ module _ {A : Type 0} (reads : List ℕ → ℕ → A → Type 0) (refuses : Lis
   ]
 
   -- each datagram has items
-  pub items_of : ((b : List ℕ) (t : ℕ) → IsBytes b → ((m : A) × reads b t m) ⊎ ((e : DecodeError) × refuses b t e))
-      → (bytes : List ℕ) → IsBytes bytes → (items : List (Result (Payload A) DecodeError)) × ItemsAre reads refuses bytes items
+  pub items_of : ((b : List ℕ) (t : ℕ) → IsBytes b → ((m : C.Value) × C.reads b t m) ⊎ ((e : DecodeError) × C.refuses b t e))
+      → (bytes : List ℕ) → IsBytes bytes → (items : List (Result (Payload C.Value) DecodeError)) × ItemsAre C bytes items
   items_of law bytes typed = items_within law (suc (length bytes)) bytes (omega arith) typed
 
   -- whole messages and then more bytes have the items of the one and then of the other
-  pub items_in_a_row : (front back : List ℕ) (messages : List (List ℕ)) (xs ys : List (Result (Payload A) DecodeError)) → AreWholeMessages front messages
-      → ItemsAre reads refuses front xs → ItemsAre reads refuses back ys → ItemsAre reads refuses (front ++ back) (xs ++ ys)
+  pub items_in_a_row : (front back : List ℕ) (messages : List (List ℕ)) (xs ys : List (Result (Payload C.Value) DecodeError)) → AreWholeMessages front messages
+      → ItemsAre C front xs → ItemsAre C back ys → ItemsAre C (front ++ back) (xs ++ ys)
   items_in_a_row front back messages xs ys whole a b =
       let cut : CutIntoMessages front messages None = rw (append-nil front, append-nil messages) at (messages_in_a_row front [] messages [] None whole refl) in
       let same = one_cut_into_messages front a.messages messages a.end None a.cut cut in
@@ -98,15 +99,15 @@ module _ {A : Type 0} (reads : List ℕ → ℕ → A → Type 0) (refuses : Lis
         end = b.end;
         carried = a.carried ++ b.carried;
         cut = messages_in_a_row front back messages b.messages b.end whole b.cut;
-        each = zip_append (ItemIs reads refuses) messages b.messages a.carried b.carried (subst (λ (s : List (List ℕ)). AllZip (ItemIs reads refuses) s a.carried) same.0 a.each) b.each;
-        parts = ap (λ (l : List (Result (Payload A) DecodeError)). l ++ ys) all ∙ ap (λ (l : List (Result (Payload A) DecodeError)). a.carried ++ l) b.parts ∙ sym (append_assoc a.carried b.carried (option_to_list (option_map Err b.end)));
+        each = zip_append (ItemIs C) messages b.messages a.carried b.carried (subst (λ (s : List (List ℕ)). AllZip (ItemIs C) s a.carried) same.0 a.each) b.each;
+        parts = ap (λ (l : List (Result (Payload C.Value) DecodeError)). l ++ ys) all ∙ ap (λ (l : List (Result (Payload C.Value) DecodeError)). a.carried ++ l) b.parts ∙ sym (append_assoc a.carried b.carried (option_to_list (option_map Err b.end)));
       }
 
   -- ---- the walk
 
   -- What was found goes on with whatever items the rest has.
-  pub record Following (bytes : List ℕ) (so_far : List (Result (Payload A) DecodeError)) (rest : List ℕ) : Type 0 where
-    pub items : (later : List (Result (Payload A) DecodeError)) → ItemsAre reads refuses rest later → ItemsAre reads refuses bytes (so_far ++ later)
+  pub record Following (bytes : List ℕ) (so_far : List (Result (Payload C.Value) DecodeError)) (rest : List ℕ) : Type 0 where
+    pub items : (later : List (Result (Payload C.Value) DecodeError)) → ItemsAre C rest later → ItemsAre C bytes (so_far ++ later)
     pub typed : IsBytes bytes → IsBytes rest
 
   -- the walk begins with all the bytes
@@ -114,8 +115,8 @@ module _ {A : Type 0} (reads : List ℕ → ℕ → A → Type 0) (refuses : Lis
   items_begin bytes = record { items = λ later h. h; typed = λ h. h }
 
   -- it goes on behind a message
-  pub items_go_on : (bytes rest after message : List ℕ) (so_far : List (Result (Payload A) DecodeError)) (item : Result (Payload A) DecodeError)
-      → Following bytes so_far rest → StartsWithMessage rest message after → ItemIs reads refuses message item
+  pub items_go_on : (bytes rest after message : List ℕ) (so_far : List (Result (Payload C.Value) DecodeError)) (item : Result (Payload C.Value) DecodeError)
+      → Following bytes so_far rest → StartsWithMessage rest message after → ItemIs C message item
       → Following bytes (so_far ++ item ∷ []) after
   items_go_on bytes rest after message so_far item walk s is = record {
     items = λ later h. rw append_assoc (walk.items (item ∷ later) (item_in_front rest message after item later s is h));
@@ -123,29 +124,29 @@ module _ {A : Type 0} (reads : List ℕ → ℕ → A → Type 0) (refuses : Lis
   }
 
   -- all items, where one that was found is followed by others
-  pub items_with : ((b : List ℕ) (t : ℕ) → IsBytes b → ((m : A) × reads b t m) ⊎ ((e : DecodeError) × refuses b t e))
-      → (bytes rest after message : List ℕ) (so_far : List (Result (Payload A) DecodeError)) (item : Result (Payload A) DecodeError) → IsBytes bytes
-      → Following bytes so_far rest → StartsWithMessage rest message after → ItemIs reads refuses message item
-      → (later : List (Result (Payload A) DecodeError)) × ItemsAre reads refuses bytes (so_far ++ (item ∷ later))
+  pub items_with : ((b : List ℕ) (t : ℕ) → IsBytes b → ((m : C.Value) × C.reads b t m) ⊎ ((e : DecodeError) × C.refuses b t e))
+      → (bytes rest after message : List ℕ) (so_far : List (Result (Payload C.Value) DecodeError)) (item : Result (Payload C.Value) DecodeError) → IsBytes bytes
+      → Following bytes so_far rest → StartsWithMessage rest message after → ItemIs C message item
+      → (later : List (Result (Payload C.Value) DecodeError)) × ItemsAre C bytes (so_far ++ (item ∷ later))
   items_with law bytes rest after message so_far item typed walk s is =
       let later = items_of law after (rest_typed rest message after s (walk.typed typed)) in
       (later.0, walk.items (item ∷ later.0) (item_in_front rest message after item later.0 s is later.1))
 
 -- Each message has one item and each datagram one list of them, where bytes have one message or one fault.
-module _ {A : Type 0} (reads : List ℕ → ℕ → A → Type 0) (refuses : List ℕ → ℕ → DecodeError → Type 0)
-    (one_value : (b : List ℕ) (v w : Envelope A) → IsBytes b → EnvelopeIs reads b v → EnvelopeIs reads b w → v ≡ w)
-    (one_answer : (b : List ℕ) (v : Envelope A) (e : DecodeError) → EnvelopeIs reads b v → EnvelopeFault refuses b e → ⊥)
-    (one_fault : (b : List ℕ) (e f : DecodeError) → EnvelopeFault refuses b e → EnvelopeFault refuses b f → e ≡ f) where
+module _ (C : Codec ℕ)
+    (one_value : (b : List ℕ) (v w : Envelope C.Value) → IsBytes b → (envelope_codec C).reads b tt v → (envelope_codec C).reads b tt w → v ≡ w)
+    (one_answer : (b : List ℕ) (v : Envelope C.Value) (e : DecodeError) → (envelope_codec C).reads b tt v → (envelope_codec C).refuses b tt e → ⊥)
+    (one_fault : (b : List ℕ) (e f : DecodeError) → (envelope_codec C).refuses b tt e → (envelope_codec C).refuses b tt f → e ≡ f) where
   -- one item
-  one_item : (b : List ℕ) → IsBytes b → (i j : Result (Payload A) DecodeError) → ItemIs reads refuses b i → ItemIs reads refuses b j → i ≡ j
-  one_item b typed (Ok p) (Ok q) h k = ap (λ (v : Envelope A). Ok v.payload) (one_value b (record { header = h.0; payload = p }) (record { header = k.0; payload = q }) typed h.1 k.1)
+  one_item : (b : List ℕ) → IsBytes b → (i j : Result (Payload C.Value) DecodeError) → ItemIs C b i → ItemIs C b j → i ≡ j
+  one_item b typed (Ok p) (Ok q) h k = ap (λ (v : Envelope C.Value). Ok v.payload) (one_value b (record { header = h.0; payload = p }) (record { header = k.0; payload = q }) typed h.1 k.1)
   one_item b typed (Ok p) (Err f) h k = absurd (one_answer b (record { header = h.0; payload = p }) f h.1 k)
   one_item b typed (Err e) (Ok q) h k = absurd (one_answer b (record { header = k.0; payload = q }) e k.1 h)
   one_item b typed (Err e) (Err f) h k = ap Err (one_fault b e f h k)
 
   -- the items of messages
-  one_carried : (b : List ℕ) → IsBytes b → (messages : List (List ℕ)) (end : Option DecodeError) → CutIntoMessages b messages end → (vs ws : List (Result (Payload A) DecodeError))
-      → AllZip (ItemIs reads refuses) messages vs → AllZip (ItemIs reads refuses) messages ws → vs ≡ ws
+  one_carried : (b : List ℕ) → IsBytes b → (messages : List (List ℕ)) (end : Option DecodeError) → CutIntoMessages b messages end → (vs ws : List (Result (Payload C.Value) DecodeError))
+      → AllZip (ItemIs C) messages vs → AllZip (ItemIs C) messages ws → vs ≡ ws
   one_carried b typed [] end cut [] [] h k = refl
   one_carried b typed [] end cut (v ∷ vs) ws h k = absurd h
   one_carried b typed [] end cut [] (w ∷ ws) h k = absurd k
@@ -157,8 +158,8 @@ module _ {A : Type 0} (reads : List ℕ → ℕ → A → Type 0) (refuses : Lis
       λ z. first z ∷ rest z
 
   -- one list of items
-  pub one_list : (b : List ℕ) → IsBytes b → (xs ys : List (Result (Payload A) DecodeError)) → ItemsAre reads refuses b xs → ItemsAre reads refuses b ys → xs ≡ ys
+  pub one_list : (b : List ℕ) → IsBytes b → (xs ys : List (Result (Payload C.Value) DecodeError)) → ItemsAre C b xs → ItemsAre C b ys → xs ≡ ys
   one_list b typed xs ys h k =
       let same = one_cut_into_messages b h.messages k.messages h.end k.end h.cut k.cut in
-      let carried = one_carried b typed k.messages k.end k.cut h.carried k.carried (subst (λ (s : List (List ℕ)). AllZip (ItemIs reads refuses) s h.carried) same.0 h.each) k.each in
-      h.parts ∙ ap (λ (c : List (Result (Payload A) DecodeError)). c ++ option_to_list (option_map Err h.end)) carried ∙ ap (λ (e : Option DecodeError). k.carried ++ option_to_list (option_map Err e)) same.1 ∙ sym k.parts
+      let carried = one_carried b typed k.messages k.end k.cut h.carried k.carried (subst (λ (s : List (List ℕ)). AllZip (ItemIs C) s h.carried) same.0 h.each) k.each in
+      h.parts ∙ ap (λ (c : List (Result (Payload C.Value) DecodeError)). c ++ option_to_list (option_map Err h.end)) carried ∙ ap (λ (e : Option DecodeError). k.carried ++ option_to_list (option_map Err e)) same.1 ∙ sym k.parts

@@ -9,7 +9,7 @@ use Rattle.netlink_core.specs.Bytes.{IsBytes}
 use Rattle.netlink_core.specs.Attribute.{Attribute, IsTypedAttribute, FitsWords, HasFittingValue, AttributesMean, written}
 use Rattle.netlink_core.specs.Family.{Family, Said, says, attribute_said, IsTypedSaid, IsNormalSaid, AreIdleAttributes}
 use Rattle.netlink_core.specs.ShownLaws.{FamilyLaws, ReplyLaws}
-use Rattle.netlink_core.specs.Reply.{Reply, ValueOf, MeansReply, RefusesReply, AreIdleReplies, IsTypedReply, IsNormalReply, reply_bytes, ReplyFits, reply_codec}
+use Rattle.netlink_core.specs.Reply.{Reply, ValueOf, reply_bytes, reply_codec}
 use Rattle.netlink_core.specs.Codec.{KeepsLaws}
 use Rattle.netlink_core.specs.ByteLaws.{IsBytes-append}
 use Rattle.netlink_core.specs.FrontLaws.{value_or_reason}
@@ -65,26 +65,26 @@ module _ (F : Family) (laws : FamilyLaws F) where
 
 module _ (R : Reply) (laws : ReplyLaws R) where
   -- bytes have a value or a fault
-  reply_answered : (b : List ℕ) → IsBytes b → ((v : ValueOf R) × MeansReply R b v) ⊎ ((e : DecodeError) × RefusesReply R b e)
+  reply_answered : (b : List ℕ) → IsBytes b → ((v : ValueOf R) × (reply_codec R).reads b tt v) ⊎ ((e : DecodeError) × (reply_codec R).refuses b tt e)
   reply_answered b typed =
       elim (value_or_reason (R.header.reads tt b)) [
         | inr refused ↦ inr (refused.0, inl refused.1)
         | inl header ↦ elim (means_or_fault (says R.family) (drop R.size b) (AreBytes-drop R.size b typed)) [
-          | inl nlas ↦ inl (record { header = header.0; nlas = nlas.0 }, record { header = header.1; nlas = nlas.1 })
+          | inl nlas ↦ inl (record { header = header.0; nlas = nlas.0 }, (header.1, nlas.1))
           | inr fault ↦ inr (fault.0, inr (header.0, header.1, fault.1))
         ]
       ]
 
   -- never both
-  reply_one_answer : (b : List ℕ) (v : ValueOf R) (e : DecodeError) → MeansReply R b v → RefusesReply R b e → ⊥
+  reply_one_answer : (b : List ℕ) (v : ValueOf R) (e : DecodeError) → (reply_codec R).reads b tt v → (reply_codec R).refuses b tt e → ⊥
   reply_one_answer b v e h k =
       elim k [
-        | inl refused ↦ let no : Ok v.header ≡ Err e = sym h.header ∙ refused in cc
-        | inr later ↦ means_or_fault_apart (says R.family) (drop R.size b) v.nlas e h.nlas later.2
+        | inl refused ↦ let no : Ok v.header ≡ Err e = sym h.0 ∙ refused in cc
+        | inr later ↦ means_or_fault_apart (says R.family) (drop R.size b) v.nlas e h.1 later.2
       ]
 
   -- one fault at most
-  reply_one_fault : (b : List ℕ) (e f : DecodeError) → RefusesReply R b e → RefusesReply R b f → e ≡ f
+  reply_one_fault : (b : List ℕ) (e f : DecodeError) → (reply_codec R).refuses b tt e → (reply_codec R).refuses b tt f → e ≡ f
   reply_one_fault b e f h k =
       elim h [
         | inl refused ↦ elim k [
@@ -97,7 +97,7 @@ module _ (R : Reply) (laws : ReplyLaws R) where
         ]
       ]
 
-  reply_named_fault : (b : List ℕ) → RefusesReply R b Memory → ⊥
+  reply_named_fault : (b : List ℕ) → (reply_codec R).refuses b tt Memory → ⊥
   reply_named_fault b h =
       elim h [
         | inl refused ↦ laws.header.named b refused
@@ -108,46 +108,46 @@ module _ (R : Reply) (laws : ReplyLaws R) where
       ]
 
   -- two strings have equal values exactly where they are idle
-  reply_same_value : (b c : List ℕ) (v w : ValueOf R) → IsBytes b → IsBytes c → MeansReply R b v → MeansReply R c w → ((v ≡ w) ↔ AreIdleReplies R b c)
+  reply_same_value : (b c : List ℕ) (v w : ValueOf R) → IsBytes b → IsBytes c → (reply_codec R).reads b tt v → (reply_codec R).reads c tt w → ((v ≡ w) ↔ (reply_codec R).idle tt b c)
   reply_same_value b c v w b-typed c-typed h k =
-      let headers = laws.header.same_value b c v.header w.header b-typed c-typed h.header k.header in
-      let left-typed = cut_typed (drop R.size b) h.nlas.0 (AreBytes-drop R.size b b-typed) h.nlas.1 in
-      let right-typed = cut_typed (drop R.size c) k.nlas.0 (AreBytes-drop R.size c c-typed) k.nlas.1 in
-      let lists = lists_same_value R.family laws.family h.nlas.0 k.nlas.0 v.nlas w.nlas left-typed right-typed h.nlas.2 k.nlas.2 in (
-        λ e. (headers.0 (ap (λ (u : ValueOf R). u.header) e), h.nlas.0, k.nlas.0, h.nlas.1, k.nlas.1, lists.0 (ap (λ (u : ValueOf R). u.nlas) e)),
+      let headers = laws.header.same_value b c v.header w.header b-typed c-typed h.0 k.0 in
+      let left-typed = cut_typed (drop R.size b) h.1.0 (AreBytes-drop R.size b b-typed) h.1.1 in
+      let right-typed = cut_typed (drop R.size c) k.1.0 (AreBytes-drop R.size c c-typed) k.1.1 in
+      let lists = lists_same_value R.family laws.family h.1.0 k.1.0 v.nlas w.nlas left-typed right-typed h.1.2 k.1.2 in (
+        λ e. (headers.0 (ap (λ (u : ValueOf R). u.header) e), h.1.0, k.1.0, h.1.1, k.1.1, lists.0 (ap (λ (u : ValueOf R). u.nlas) e)),
         λ (front, left, right, left_cut, right_cut, all).
-            let lefts = one_cut (drop R.size b) left h.nlas.0 left_cut h.nlas.1 in
-            let rights = one_cut (drop R.size c) right k.nlas.0 right_cut k.nlas.1 in
-            let half : AllZip (AreIdleAttributes R.family) h.nlas.0 right = subst (λ (xs : List Attribute). AllZip (AreIdleAttributes R.family) xs right) lefts all in
-            let each : AllZip (AreIdleAttributes R.family) h.nlas.0 k.nlas.0 = subst (λ (ys : List Attribute). AllZip (AreIdleAttributes R.family) h.nlas.0 ys) rights half in
+            let lefts = one_cut (drop R.size b) left h.1.0 left_cut h.1.1 in
+            let rights = one_cut (drop R.size c) right k.1.0 right_cut k.1.1 in
+            let half : AllZip (AreIdleAttributes R.family) h.1.0 right = subst (λ (xs : List Attribute). AllZip (AreIdleAttributes R.family) xs right) lefts all in
+            let each : AllZip (AreIdleAttributes R.family) h.1.0 k.1.0 = subst (λ (ys : List Attribute). AllZip (AreIdleAttributes R.family) h.1.0 ys) rights half in
             let same-header : v.header ≡ w.header = headers.1 front in
             let same-nlas : v.nlas ≡ w.nlas = lists.1 each in
             λ i. record { header = same-header i; nlas = same-nlas i },
       )
 
   -- what is read is typed and in normal form
-  reply_gives_normal : (b : List ℕ) (v : ValueOf R) → IsBytes b → MeansReply R b v → IsTypedReply R v × IsNormalReply R v
+  reply_gives_normal : (b : List ℕ) (v : ValueOf R) → IsBytes b → (reply_codec R).reads b tt v → (reply_codec R).is_typed v × (reply_codec R).is_normal tt v
   reply_gives_normal b v typed h =
-      let header = laws.header.gives_normal b v.header typed h.header in
-      let nlas = list_gives_normal R.family laws.family h.nlas.0 v.nlas (cut_typed (drop R.size b) h.nlas.0 (AreBytes-drop R.size b typed) h.nlas.1) h.nlas.2 in
+      let header = laws.header.gives_normal b v.header typed h.0 in
+      let nlas = list_gives_normal R.family laws.family h.1.0 v.nlas (cut_typed (drop R.size b) h.1.0 (AreBytes-drop R.size b typed) h.1.1) h.1.2 in
       ((header.0, nlas.0), (header.1, nlas.1))
 
   -- a typed value is written as bytes
-  reply_written_bytes : (v : ValueOf R) → IsTypedReply R v → IsBytes (reply_bytes R v)
+  reply_written_bytes : (v : ValueOf R) → (reply_codec R).is_typed v → IsBytes (reply_bytes R v)
   reply_written_bytes v typed =
       IsBytes-append (R.header.bytes v.header) (flat_map written (map (attribute_said R.family) v.nlas)) (laws.header.bytes_typed v.header typed.0)
       (all_written_typed (map (attribute_said R.family) v.nlas) (list_writes_typed R.family laws.family v.nlas typed.1))
 
   -- a writable value in normal form reads back as itself
-  reply_reads_back : (v : ValueOf R) → IsTypedReply R v → IsNormalReply R v → ReplyFits R v → MeansReply R (reply_bytes R v) v
+  reply_reads_back : (v : ValueOf R) → (reply_codec R).is_typed v → (reply_codec R).is_normal tt v → (reply_codec R).fits v → (reply_codec R).reads (reply_bytes R v) tt v
   reply_reads_back v typed normal fits =
       let nlas : List ℕ = flat_map written (map (attribute_said R.family) v.nlas) in
       let behind : drop R.size (reply_bytes R v) ≡ nlas = drop_at (R.header.bytes v.header) nlas R.size (laws.in_front.bytes_long v.header typed.0) in
-      record {
-        header = laws.in_front.reads_in_front v.header nlas typed.0 normal.0;
-        nlas = subst (λ (part : List ℕ). AttributesMean (says R.family) part v.nlas) (sym behind)
-            (written_values_are_read (says R.family) (map (attribute_said R.family) v.nlas) v.nlas (list_fits_words R.family laws.family v.nlas typed.1 fits.0) (list_reads_back R.family laws.family v.nlas typed.1 normal.1));
-      }
+      (
+        laws.in_front.reads_in_front v.header nlas typed.0 normal.0,
+        subst (λ (part : List ℕ). AttributesMean (says R.family) part v.nlas) (sym behind)
+            (written_values_are_read (says R.family) (map (attribute_said R.family) v.nlas) v.nlas (list_fits_words R.family laws.family v.nlas typed.1 fits.0) (list_reads_back R.family laws.family v.nlas typed.1 normal.1)),
+      )
 
   -- the laws together
   pub replies_keep_laws : KeepsLaws (reply_codec R)

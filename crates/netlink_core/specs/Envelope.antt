@@ -1,9 +1,9 @@
 -- A message: its header, and its payload by its type.
 use Rattle.std.specs.Prelude.{◌≡◌, ℕ, ◌+◌, ◌-◌, ◌≤◌, ◌⊎◌, List, [], ◌++◌, length, take, drop, ⊤}
 use Rattle.byteorder.specs.Endian.{little_number}
-use Rattle.netlink_core.specs.declared.fault.DecodeError.{DecodeError}
 use Rattle.netlink_core.specs.declared.header.NetlinkHeader.{NetlinkHeader}
 use Rattle.netlink_core.specs.Header.{IsTypedHeader, header_bytes, IsFramed, IsEnvelopeFault}
+use Rattle.netlink_core.specs.Codec.{Codec}
 
 -- what a message carries, without where it lies in memory
 pub data Payload (A : Type 0) : Type 0 where
@@ -20,25 +20,13 @@ pub record Envelope (A : Type 0) : Type 0 where
 abbrev pub IsInnerType : ℕ → Type 0
 IsInnerType t = (t ≡ 0) ⊎ (5 ≤ t)
 
--- What belongs to bytes, where this is what belongs to those of an inner message under a type.
-module _ {A : Type 0} (reads : List ℕ → ℕ → A → Type 0) where
-  -- the payload that belongs to its bytes under the message's type
-  abbrev pub PayloadIs : List ℕ → ℕ → Payload A → Type 0
-  PayloadIs bytes t no_payload = t ≡ 1
-  PayloadIs bytes t (error_with given) = (t ≡ 2) × (given ≡ bytes)
-  PayloadIs bytes t (done_with given) = (t ≡ 3) × (given ≡ bytes)
-  PayloadIs bytes t (overrun_with given) = (t ≡ 4) × (given ≡ bytes)
-  PayloadIs bytes t (inner value) = IsInnerType t × reads bytes t value
-
-  -- the bytes begin with the message
-  abbrev pub EnvelopeIs : List ℕ → Envelope A → Type 0
-  EnvelopeIs bytes e = (payload : List ℕ) × IsFramed bytes e.header payload × PayloadIs payload e.header.message_type e.payload
-
--- the first fault: no message is framed, or the framed one has an inner message that is refused
-abbrev pub EnvelopeFault : (List ℕ → ℕ → DecodeError → Type 0) → List ℕ → DecodeError → Type 0
-EnvelopeFault refuses bytes e =
-    IsEnvelopeFault bytes e
-    ⊎ ((h : NetlinkHeader) × (payload : List ℕ) × IsFramed bytes h payload × IsInnerType h.message_type × refuses payload h.message_type e)
+-- the payload that belongs to its bytes under the message's type, where this is what belongs to those of an inner message
+abbrev pub PayloadIs : {A : Type 0} → (List ℕ → ℕ → A → Type 0) → List ℕ → ℕ → Payload A → Type 0
+PayloadIs reads bytes t no_payload = t ≡ 1
+PayloadIs reads bytes t (error_with given) = (t ≡ 2) × (given ≡ bytes)
+PayloadIs reads bytes t (done_with given) = (t ≡ 3) × (given ≡ bytes)
+PayloadIs reads bytes t (overrun_with given) = (t ≡ 4) × (given ≡ bytes)
+PayloadIs reads bytes t (inner value) = IsInnerType t × reads bytes t value
 
 -- ---- what is written
 
@@ -58,18 +46,10 @@ payload_type type_of (done_with given) = 3
 payload_type type_of (overrun_with given) = 4
 payload_type type_of (inner value) = type_of value
 
--- the header as it stands, then the payload
-abbrev pub envelope_bytes : {A : Type 0} → (A → List ℕ) → Envelope A → List ℕ
-envelope_bytes bytes e = header_bytes e.header ++ payload_bytes bytes e.payload
-
 -- an inner message, if there is one, is so
 abbrev pub OfInner : {A : Type 0} → (A → Type 0) → Payload A → Type 0
 OfInner is (inner value) = is value
 OfInner is _ = ⊤
-
--- an inner message is writable, and a length word of 32 bits counts the whole message
-abbrev pub EnvelopeFits : {A : Type 0} → (A → List ℕ) → (A → Type 0) → Envelope A → Type 0
-EnvelopeFits bytes fits e = OfInner fits e.payload × (16 + length (payload_bytes bytes e.payload) ≤ 4294967295)
 
 -- the header with the message's own length and type, and else as it was
 abbrev pub finalized : {A : Type 0} → (A → List ℕ) → (A → ℕ) → Envelope A → NetlinkHeader
@@ -78,11 +58,7 @@ finalized bytes type_of e = record e.header {
   message_type = payload_type type_of e.payload;
 }
 
--- the header has the message's own length and type
-abbrev pub IsFinalized : {A : Type 0} → (A → List ℕ) → (A → ℕ) → Envelope A → Type 0
-IsFinalized bytes type_of e = (e.header.length ≡ 16 + length (payload_bytes bytes e.payload)) × (e.header.message_type ≡ payload_type type_of e.payload)
-
--- ---- equal messages, and messages that read back
+-- ---- the codec
 
 -- by the type: any payloads of nothing, equal ones that are kept as bytes, and idle ones of inner messages
 abbrev pub IdlePayloads : (ℕ → List ℕ → List ℕ → Type 0) → ℕ → List ℕ → List ℕ → Type 0
@@ -92,14 +68,25 @@ IdlePayloads idle t x y = (t ≡ 1) ⊎ (((2 ≤ t) × (t ≤ 4) × (x ≡ y)) �
 abbrev pub payload_at : List ℕ → List ℕ
 payload_at bytes = take (little_number 4 bytes - 16) (drop 16 bytes)
 
--- equal first sixteen bytes, and payloads that are idle by the type, the number at 4
-abbrev pub IdleEnvelopes : (ℕ → List ℕ → List ℕ → Type 0) → List ℕ → List ℕ → Type 0
-IdleEnvelopes idle b c = (take 16 b ≡ take 16 c) × IdlePayloads idle (little_number 2 (drop 4 b)) (payload_at b) (payload_at c)
-
--- each field of the header is within its type, and an inner message is typed
-abbrev pub IsTypedEnvelope : {A : Type 0} → (A → Type 0) → Envelope A → Type 0
-IsTypedEnvelope typed e = IsTypedHeader e.header × OfInner typed e.payload
-
--- an inner message is in normal form, under a type of inner messages
-abbrev pub IsNormalEnvelope : {A : Type 0} → (ℕ → A → Type 0) → Envelope A → Type 0
-IsNormalEnvelope normal e = OfInner (λ m. IsInnerType e.header.message_type × normal e.header.message_type m) e.payload
+-- a message, by the codec of inner messages under a type
+abbrev pub envelope_codec : Codec ℕ → Codec (Unit {0})
+envelope_codec C = record {
+  Value = Envelope C.Value;
+  is_typed = λ e. IsTypedHeader e.header × OfInner C.is_typed e.payload;
+  -- the bytes begin with its header and the payload that its length counts
+  reads = λ b p e. (payload : List ℕ) × IsFramed b e.header payload
+      × PayloadIs C.reads payload e.header.message_type e.payload;
+  -- no message is framed, or the framed one has an inner message that is refused
+  refuses = λ b p e. IsEnvelopeFault b e ⊎ ((h : NetlinkHeader) × (payload : List ℕ) × IsFramed b h payload
+      × IsInnerType h.message_type × C.refuses payload h.message_type e);
+  is_spare = λ e. ⊥;
+  -- equal first sixteen bytes, and payloads that are idle by the type, the number at 4
+  idle = λ p b c. (take 16 b ≡ take 16 c)
+      × IdlePayloads C.idle (little_number 2 (drop 4 b)) (payload_at b) (payload_at c);
+  -- an inner message is in normal form, under a type of inner messages
+  is_normal = λ p e. let t = e.header.message_type in OfInner (λ m. IsInnerType t × C.is_normal t m) e.payload;
+  -- the header as it stands, then the payload
+  written = λ e. header_bytes e.header ++ payload_bytes C.written e.payload;
+  -- an inner message is writable, and a length word of 32 bits counts the whole message
+  fits = λ e. OfInner C.fits e.payload × (16 + length (payload_bytes C.written e.payload) ≤ 4294967295);
+}

@@ -18,7 +18,7 @@ ghost use Rattle.netlink_core.specs.declared.attribute.NlasIterator.{NlasIterato
 ghost use Rattle.netlink_core.specs.declared.datagram.MessageStrings.{MessageStrings};
 ghost use Rattle.netlink_core.specs.declared.fault.DecodeError.{DecodeError};
 ghost use Rattle.netlink_core.specs.declared.fault.DecodeError.TheVariants.{Memory};
-ghost use Rattle.netlink_core.specs.Envelope.{Payload, Envelope, EnvelopeIs, EnvelopeFault, EnvelopeFits, envelope_bytes, IdleEnvelopes, IsTypedEnvelope, IsFinalized, IsNormalEnvelope};
+ghost use Rattle.netlink_core.specs.Envelope.{Payload, Envelope, finalized, envelope_codec};
 
 use crate::attribute::{NlaBuffer, NlasIterator};
 use crate::canon::CanonError;
@@ -152,37 +152,37 @@ pub fn default_header() -> NetlinkHeader
 /// Bytes have one message at their front or one fault, which has a name.
 pub fn one_message_or_fault<I: Coded<Param = u16>>()
     ensures answered { (b : List ℕ) → IsBytes b
-        → ((v : Envelope I.codec.Value) × EnvelopeIs I.codec.reads b v) ⊎ ((e : DecodeError) × EnvelopeFault I.codec.refuses b e) }
+        → ((v : Envelope I.codec.Value) × (envelope_codec I.codec).reads b tt v) ⊎ ((e : DecodeError) × (envelope_codec I.codec).refuses b tt e) }
     ensures one_value { (b : List ℕ) (v w : Envelope I.codec.Value) → IsBytes b
-        → EnvelopeIs I.codec.reads b v → EnvelopeIs I.codec.reads b w → v ≡ w }
+        → (envelope_codec I.codec).reads b tt v → (envelope_codec I.codec).reads b tt w → v ≡ w }
     ensures one_answer { (b : List ℕ) (v : Envelope I.codec.Value) (e : DecodeError)
-        → EnvelopeIs I.codec.reads b v → EnvelopeFault I.codec.refuses b e → ⊥ }
+        → (envelope_codec I.codec).reads b tt v → (envelope_codec I.codec).refuses b tt e → ⊥ }
     ensures one_fault { (b : List ℕ) (e f : DecodeError)
-        → EnvelopeFault I.codec.refuses b e → EnvelopeFault I.codec.refuses b f → e ≡ f }
-    ensures named_fault { (b : List ℕ) → EnvelopeFault I.codec.refuses b Memory → ⊥ }
+        → (envelope_codec I.codec).refuses b tt e → (envelope_codec I.codec).refuses b tt f → e ≡ f }
+    ensures named_fault { (b : List ℕ) → (envelope_codec I.codec).refuses b tt Memory → ⊥ }
 {}
 
 /// Two accepted strings give equal messages exactly where they are idle.
 pub fn equal_messages_where_idle<I: Coded<Param = u16>>()
     ensures { (b c : List ℕ) (v w : Envelope I.codec.Value) → IsBytes b → IsBytes c
-        → EnvelopeIs I.codec.reads b v → EnvelopeIs I.codec.reads c w → ((v ≡ w) ↔ IdleEnvelopes I.codec.idle b c) }
+        → (envelope_codec I.codec).reads b tt v → (envelope_codec I.codec).reads c tt w → ((v ≡ w) ↔ (envelope_codec I.codec).idle tt b c) }
 {}
 
 /// Two accepted strings whose messages can be written are written alike, their headers as they stand, exactly where
 /// they are idle.
 pub fn messages_written_alike<I: Coded<Param = u16>>()
     ensures { (b c : List ℕ) (v w : Envelope I.codec.Value) → IsBytes b → IsBytes c
-        → EnvelopeIs I.codec.reads b v → EnvelopeIs I.codec.reads c w
-        → EnvelopeFits I.codec.written I.codec.fits v → EnvelopeFits I.codec.written I.codec.fits w
-        → ((envelope_bytes I.codec.written v ≡ envelope_bytes I.codec.written w) ↔ IdleEnvelopes I.codec.idle b c) }
+        → (envelope_codec I.codec).reads b tt v → (envelope_codec I.codec).reads c tt w
+        → (envelope_codec I.codec).fits v → (envelope_codec I.codec).fits w
+        → (((envelope_codec I.codec).written v ≡ (envelope_codec I.codec).written w) ↔ (envelope_codec I.codec).idle tt b c) }
 {}
 
 /// The bytes of a writable message whose header has its own length and type, as `finalize` sets them, read back as
 /// itself exactly where it is in normal form.
 pub fn finalized_message_reads_back<I: Coded<Param = u16>>()
     ensures { (type_of : I.codec.Value → ℕ) (v : Envelope I.codec.Value)
-        → IsTypedEnvelope I.codec.is_typed v → EnvelopeFits I.codec.written I.codec.fits v → IsFinalized I.codec.written type_of v
-        → (EnvelopeIs I.codec.reads (envelope_bytes I.codec.written v) v ↔ IsNormalEnvelope I.codec.is_normal v) }
+        → (envelope_codec I.codec).is_typed v → (envelope_codec I.codec).fits v → (v.header ≡ finalized I.codec.written type_of v)
+        → ((envelope_codec I.codec).reads ((envelope_codec I.codec).written v) tt v ↔ (envelope_codec I.codec).is_normal tt v) }
 {}
 
 /// A walk that ends without a fault gave the messages into which the datagram is cut, and one that ends with a fault
@@ -204,14 +204,14 @@ pub fn one_list_of_messages()
 /// Each datagram has items.
 pub fn datagram_has_items<I: Coded<Param = u16>>()
     ensures { (bytes : List ℕ) → IsBytes bytes
-        → (items : List (Result (Payload I.codec.Value) DecodeError)) × ItemsAre I.codec.reads I.codec.refuses bytes items }
+        → (items : List (Result (Payload I.codec.Value) DecodeError)) × ItemsAre I.codec bytes items }
 {}
 
 /// Each datagram has one list of items.
 pub fn one_list_of_items<I: Coded<Param = u16>>()
     ensures { (bytes : List ℕ) → IsBytes bytes
         → (xs ys : List (Result (Payload I.codec.Value) DecodeError))
-        → ItemsAre I.codec.reads I.codec.refuses bytes xs → ItemsAre I.codec.reads I.codec.refuses bytes ys → xs ≡ ys }
+        → ItemsAre I.codec bytes xs → ItemsAre I.codec bytes ys → xs ≡ ys }
 {
     one_message_or_fault::<I>();
 }
@@ -220,8 +220,8 @@ pub fn one_list_of_items<I: Coded<Param = u16>>()
 pub fn items_in_a_row<I: Coded<Param = u16>>()
     ensures { (front back : List ℕ) (messages : List (List ℕ)) (xs ys : List (Result (Payload I.codec.Value) DecodeError))
         → AreWholeMessages front messages
-        → ItemsAre I.codec.reads I.codec.refuses front xs → ItemsAre I.codec.reads I.codec.refuses back ys
-        → ItemsAre I.codec.reads I.codec.refuses (front ++ back) (xs ++ ys) }
+        → ItemsAre I.codec front xs → ItemsAre I.codec back ys
+        → ItemsAre I.codec (front ++ back) (xs ++ ys) }
 {}
 
 /// The types and flags of messages, as they stand at the root, have the numbers of netlink(7).

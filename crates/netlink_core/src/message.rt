@@ -3,7 +3,7 @@
 ghost use Rattle.std.specs.Prelude.{◌≡◌, ◌≢◌, ◌≤◌, ◌<◌, ◌++◌, ◌↔◌, length, drop, IfOk, IfErr, IsTrue};
 ghost use Rattle.byteorder.specs.Endian.{little_number};
 ghost use Rattle.netlink_core.specs.declared.fault.DecodeError.TheVariants.{Memory};
-ghost use Rattle.netlink_core.specs.Envelope.{Payload, Envelope, PayloadIs, EnvelopeIs, EnvelopeFault, IsInnerType, payload_bytes, payload_type, envelope_bytes, OfInner, EnvelopeFits, finalized};
+ghost use Rattle.netlink_core.specs.Envelope.{Payload, Envelope, PayloadIs, IsInnerType, payload_bytes, payload_type, OfInner, finalized, envelope_codec};
 ghost use Rattle.netlink_core.specs.Seen.{payload_of, envelope_of};
 
 use crate::fault::DecodeError;
@@ -193,11 +193,11 @@ impl<I: NetlinkDeserializable> NetlinkMessage<I> {
     /// past the bytes as `EnvelopeLengthPast`, then what the inner message's reader refuses. A message of type
     /// `NLMSG_NOOP` takes no memory, and its payload is dropped.
     pub fn deserialize(alloc: Global, bytes: &[u8]) -> Result<Self, DecodeError>
-        ensures value { IfOk result (λ m. EnvelopeIs I.codec.reads bytes.now (envelope_of I.seen m)) }
-        ensures fault { IfErr result (λ e. e ≢ Memory → EnvelopeFault I.codec.refuses bytes.now e) }
+        ensures value { IfOk result (λ m. (envelope_codec I.codec).reads bytes.now tt (envelope_of I.seen m)) }
+        ensures fault { IfErr result (λ e. e ≢ Memory → (envelope_codec I.codec).refuses bytes.now tt e) }
         ensures memory { IfErr result (λ e. e ≡ Memory → little_number 2 (drop 4 bytes.now) ≢ 1) }
         // Memory is wanted only for bytes that have a message.
-        ensures wanted { IfErr result (λ e. e ≡ Memory → (m : Envelope I.codec.Value) × EnvelopeIs I.codec.reads bytes.now m) }
+        ensures wanted { IfErr result (λ e. e ≡ Memory → (m : Envelope I.codec.Value) × (envelope_codec I.codec).reads bytes.now tt m) }
     {
         let header = NetlinkHeader::from_prefix(bytes)?;
         let payload = NetlinkPayload::read(alloc, &header, &bytes[HEADER..header.length as usize])?;
@@ -208,7 +208,7 @@ impl<I: NetlinkDeserializable> NetlinkMessage<I> {
 impl<I: NetlinkSerializable> NetlinkMessage<I> {
     /// Sets the header's length to that of the message, and its type to the payload's.
     pub fn finalize(&mut self)
-        requires { EnvelopeFits I.codec.written I.codec.fits (envelope_of I.seen self.old) }
+        requires { (envelope_codec I.codec).fits (envelope_of I.seen self.old) }
         ensures header { self.new.header ≡ finalized I.codec.written I.type_written (envelope_of I.seen self.old) }
         ensures payload { self.new.payload ≡ self.old.payload }
     {
@@ -219,25 +219,25 @@ impl<I: NetlinkSerializable> NetlinkMessage<I> {
     /// Whether the message can be written: its inner message can be, and the whole has at most 4,294,967,295 bytes,
     /// the header's 16 among them.
     pub fn is_writable(&self) -> bool
-        ensures { IsTrue result ↔ EnvelopeFits I.codec.written I.codec.fits (envelope_of I.seen self.now) }
+        ensures { IsTrue result ↔ (envelope_codec I.codec).fits (envelope_of I.seen self.now) }
     {
         self.payload.is_writable() && self.payload.buffer_len() <= LONGEST - HEADER
     }
 
     /// How many bytes `serialize` writes.
     pub fn buffer_len(&self) -> usize
-        requires { EnvelopeFits I.codec.written I.codec.fits (envelope_of I.seen self.now) }
-        ensures { result ≡ length (envelope_bytes I.codec.written (envelope_of I.seen self.now)) }
+        requires { (envelope_codec I.codec).fits (envelope_of I.seen self.now) }
+        ensures { result ≡ length ((envelope_codec I.codec).written (envelope_of I.seen self.now)) }
     {
         HEADER + self.payload.buffer_len()
     }
 
     /// Writes the header as it stands and then the payload, and leaves the rest of the buffer.
     pub fn serialize(&self, buffer: &mut [u8])
-        requires writable { EnvelopeFits I.codec.written I.codec.fits (envelope_of I.seen self.now) }
-        requires room { length (envelope_bytes I.codec.written (envelope_of I.seen self.now)) ≤ length buffer.old }
-        ensures { buffer.new ≡ envelope_bytes I.codec.written (envelope_of I.seen self.now)
-            ++ drop (length (envelope_bytes I.codec.written (envelope_of I.seen self.now))) buffer.old }
+        requires writable { (envelope_codec I.codec).fits (envelope_of I.seen self.now) }
+        requires room { length ((envelope_codec I.codec).written (envelope_of I.seen self.now)) ≤ length buffer.old }
+        ensures { buffer.new ≡ (envelope_codec I.codec).written (envelope_of I.seen self.now)
+            ++ drop (length ((envelope_codec I.codec).written (envelope_of I.seen self.now))) buffer.old }
     {
         let (header, rest) = buffer.split_at_mut(HEADER);
         self.header.write(header);

@@ -4,4 +4,4 @@ use Rattle.netlink_core.proofs.laws.one_list_of_items.Goals as goal
 pub returns : goal.returns
 returns g c =
     let law = c.one_message_or_fault.ensures in
-    one_list g.I.Coded.codec.reads g.I.Coded.codec.refuses law.one_value law.one_answer law.one_fault
+    one_list g.I.Coded.codec law.one_value law.one_answer law.one_fault
