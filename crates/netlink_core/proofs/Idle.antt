@@ -110,7 +110,7 @@ module _ (C : Codec ℕ) where
       )
 
   -- the bytes of a finalized message are framed by its own header
-  finalized_frame : (type_of : C.Value → ℕ) (v : Envelope C.Value) → IsTypedHeader v.header → v.header ≡ finalized C.written type_of v → IsFramed ((envelope_codec C).written v) v.header (payload_bytes C.written v.payload)
+  pub finalized_frame : (type_of : C.Value → ℕ) (v : Envelope C.Value) → IsTypedHeader v.header → v.header ≡ finalized C.written type_of v → IsFramed ((envelope_codec C).written v) v.header (payload_bytes C.written v.payload)
   finalized_frame type_of v typed done = record { rest = []; parts = ap (λ (l : List ℕ). header_bytes v.header ++ l) (sym (append-nil (payload_bytes C.written v.payload))); typed = typed; size = ap (λ (h : NetlinkHeader). h.length) done }
 
   -- the bytes of a payload read back as it exactly where it is in normal form

@@ -11,10 +11,10 @@ use Rattle.netlink_core.specs.Header.{IsTypedHeader, header_bytes}
 use Rattle.netlink_core.specs.Seen.{envelope_of, payload_of}
 use Rattle.netlink_packet_sock_diag.specs.SeenMessage.{seen_destroy}
 use Rattle.netlink_packet_sock_diag.specs.declared.message.SockDiagDestroy.{SockDiagDestroy}
-use Rattle.netlink_core.specs.Envelope.{Payload, done_with, error_with, no_payload, overrun_with, inner, Envelope, IsInnerType, EnvelopeFault, EnvelopeFits, OfInner, envelope_bytes, finalized, payload_type, IsNormalEnvelope}
+use Rattle.netlink_core.specs.Envelope.{Payload, done_with, error_with, no_payload, overrun_with, inner, Envelope, IsInnerType, OfInner, finalized, payload_type, envelope_codec}
 use Rattle.netlink_core.proofs.Equality.{apart, same_test}
 use Rattle.netlink_core.proofs.Idle.{finalized_frame}
-use Rattle.netlink_packet_sock_diag.specs.Message.{MessageKind, inet_request, inet_response, unix_request, unix_response, Message, message_kind, MessageIs, MessageFault, MessageFits, IsNormalMessage, message_bytes}
+use Rattle.netlink_packet_sock_diag.specs.Message.{MessageKind, inet_request, inet_response, unix_request, unix_response, Message, message_kind, message_codec}
 use Rattle.netlink_packet_sock_diag.specs.MessageLaws.{length-message_bytes, type_told}
 
 -- whether two kinds are the same
@@ -51,41 +51,41 @@ one_kind m tests tell =
     subst (λ (test : MessageKind → Bool). count_by test Kinds ≡ 1) same (kind_counted own)
 
 -- the message stands framed under the type 21, which no message is read under
-pub destroy_is_refused : (h : NetlinkHeader) (m : Message) → IsTypedHeader h → EnvelopeFits message_bytes MessageFits (record { header = h; payload = inner m })
-    → EnvelopeFault MessageFault (envelope_bytes message_bytes (record { header = finalized message_bytes (λ _. 21) (record { header = h; payload = inner m }); payload = inner m })) (UnknownMessageType 21)
+pub destroy_is_refused : (h : NetlinkHeader) (m : Message) → IsTypedHeader h → (envelope_codec message_codec).fits (record { header = h; payload = inner m })
+    → (envelope_codec message_codec).refuses ((envelope_codec message_codec).written (record { header = finalized message_codec.written (λ _. 21) (record { header = h; payload = inner m }); payload = inner m })) tt (UnknownMessageType 21)
 destroy_is_refused h m typed fits =
-    let own = finalized message_bytes (λ _. 21) (record { header = h; payload = inner m }) in
+    let own = finalized message_codec.written (λ _. 21) (record { header = h; payload = inner m }) in
     let own-typed : IsTypedHeader own = record { length = let whole = fits.1 in omega arith; message_type = omega arith; flags = typed.flags; sequence_number = typed.sequence_number; port_number = typed.port_number } in
-    inr (own, message_bytes m, finalized_frame MessageIs message_bytes (λ _. 21) (record { header = own; payload = inner m }) own-typed (refl, refl), inr (omega arith), inl (type_told (message_bytes m) 21 (length-message_bytes m) (λ is. omega (arith, is))))
+    inr (own, message_codec.written m, finalized_frame message_codec (λ _. 21) (record { header = own; payload = inner m }) own-typed refl, inr (omega arith), inl (type_told (message_codec.written m) 21 (length-message_bytes m) (λ is. omega (arith, is))))
 
 -- and so it is with more bytes behind it
-destroy_before_is_refused : (h : NetlinkHeader) (m : Message) (rest : List ℕ) → IsTypedHeader h → EnvelopeFits message_bytes MessageFits (record { header = h; payload = inner m })
-    → EnvelopeFault MessageFault (envelope_bytes message_bytes (record { header = finalized message_bytes (λ _. 21) (record { header = h; payload = inner m }); payload = inner m }) ++ rest) (UnknownMessageType 21)
+destroy_before_is_refused : (h : NetlinkHeader) (m : Message) (rest : List ℕ) → IsTypedHeader h → (envelope_codec message_codec).fits (record { header = h; payload = inner m })
+    → (envelope_codec message_codec).refuses ((envelope_codec message_codec).written (record { header = finalized message_codec.written (λ _. 21) (record { header = h; payload = inner m }); payload = inner m }) ++ rest) tt (UnknownMessageType 21)
 destroy_before_is_refused h m rest typed fits =
-    let own = finalized message_bytes (λ _. 21) (record { header = h; payload = inner m }) in
+    let own = finalized message_codec.written (λ _. 21) (record { header = h; payload = inner m }) in
     let own-typed : IsTypedHeader own = record { length = let whole = fits.1 in omega arith; message_type = omega arith; flags = typed.flags; sequence_number = typed.sequence_number; port_number = typed.port_number } in
-    inr (own, message_bytes m, record { rest = rest; parts = append_assoc (header_bytes own) (message_bytes m) rest; typed = own-typed; size = refl }, inr (omega arith), inl (type_told (message_bytes m) 21 (length-message_bytes m) (λ is. omega (arith, is))))
+    inr (own, message_codec.written m, record { rest = rest; parts = append_assoc (header_bytes own) (message_codec.written m) rest; typed = own-typed; size = refl }, inr (omega arith), inl (type_told (message_codec.written m) 21 (length-message_bytes m) (λ is. omega (arith, is))))
 
 -- a message in hand that carries the request, its header finalized
 pub destroy_in_hand_is_refused : (message : NetlinkMessage SockDiagDestroy) (destroy : SockDiagDestroy) (rest : List ℕ) → message.payload ≡ InnerMessage destroy
-    → IsTypedHeader message.header → EnvelopeFits message_bytes MessageFits (envelope_of seen_destroy message)
-    → EnvelopeFault MessageFault (envelope_bytes message_bytes (envelope_of seen_destroy (record message { header = finalized message_bytes (λ _. 21) (envelope_of seen_destroy message) })) ++ rest) (UnknownMessageType 21)
+    → IsTypedHeader message.header → (envelope_codec message_codec).fits (envelope_of seen_destroy message)
+    → (envelope_codec message_codec).refuses ((envelope_codec message_codec).written (envelope_of seen_destroy (record message { header = finalized message_codec.written (λ _. 21) (envelope_of seen_destroy message) })) ++ rest) tt (UnknownMessageType 21)
 destroy_in_hand_is_refused message destroy rest is typed =
     subst
-    (λ (p : NetlinkPayload SockDiagDestroy). EnvelopeFits message_bytes MessageFits (record { header = message.header; payload = payload_of seen_destroy p })
-    → EnvelopeFault MessageFault
-    (envelope_bytes message_bytes (record { header = finalized message_bytes (λ _. 21) (record { header = message.header; payload = payload_of seen_destroy p }); payload = payload_of seen_destroy p }) ++ rest)
+    (λ (p : NetlinkPayload SockDiagDestroy). (envelope_codec message_codec).fits (record { header = message.header; payload = payload_of seen_destroy p })
+    → (envelope_codec message_codec).refuses
+    ((envelope_codec message_codec).written (record { header = finalized message_codec.written (λ _. 21) (record { header = message.header; payload = payload_of seen_destroy p }); payload = payload_of seen_destroy p }) ++ rest) tt
     (UnknownMessageType 21))
     (sym is)
     (destroy_before_is_refused message.header (seen_destroy destroy) rest typed)
 
 -- the type of a finalized inner message is 20, a type of inner messages
-normal_payload : (t : ℕ) (p : Payload Message) → t ≡ payload_type (λ _. 20) p → (OfInner (λ m. IsInnerType t × IsNormalMessage t m) p ↔ OfInner (IsNormalMessage 20) p)
+normal_payload : (t : ℕ) (p : Payload Message) → t ≡ payload_type (λ _. 20) p → (OfInner (λ m. IsInnerType t × message_codec.is_normal t m) p ↔ OfInner (message_codec.is_normal 20) p)
 normal_payload t no_payload e = (λ n. n, λ n. n)
 normal_payload t (done_with given) e = (λ n. n, λ n. n)
 normal_payload t (error_with given) e = (λ n. n, λ n. n)
 normal_payload t (overrun_with given) e = (λ n. n, λ n. n)
-normal_payload t (inner m) e = (λ n. subst (λ (k : ℕ). IsNormalMessage k m) e n.1, λ n. (inr (omega (arith, e)), subst (λ (k : ℕ). IsNormalMessage k m) (sym e) n))
+normal_payload t (inner m) e = (λ n. subst (λ (k : ℕ). message_codec.is_normal k m) e n.1, λ n. (inr (omega (arith, e)), subst (λ (k : ℕ). message_codec.is_normal k m) (sym e) n))
 
-pub normal_envelope : (v : Envelope Message) → v.header.message_type ≡ payload_type (λ _. 20) v.payload → (IsNormalEnvelope IsNormalMessage v ↔ OfInner (IsNormalMessage 20) v.payload)
+pub normal_envelope : (v : Envelope Message) → v.header.message_type ≡ payload_type (λ _. 20) v.payload → ((envelope_codec message_codec).is_normal tt v ↔ OfInner (message_codec.is_normal 20) v.payload)
 normal_envelope v e = normal_payload v.header.message_type v.payload e

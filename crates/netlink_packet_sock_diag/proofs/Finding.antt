@@ -7,7 +7,7 @@ use Rattle.netlink_core.specs.Bytes.{IsBytes}
 use Rattle.netlink_core.specs.Attribute.{Attribute, StartsWith, Cut, HeadIs, IsFramingFault, AttributesMean, AttributeFault, fill, unpadded}
 use Rattle.netlink_core.specs.Table.{number_in, little_endian}
 use Rattle.netlink_core.specs.Family.{says}
-use Rattle.netlink_core.specs.Reply.{Reply, MeansReply, RefusesReply}
+use Rattle.netlink_core.specs.Reply.{Reply, reply_codec}
 use Rattle.netlink_core.specs.FrontLaws.{word_is}
 use Rattle.netlink_core.proofs.TableLaws.{AreBytes-drop}
 use Rattle.netlink_core.proofs.Walking.{StartsWith-some, head_of_start, later_fault, fault_here}
@@ -122,7 +122,7 @@ module _ (R : Reply) (bytes part : List ℕ) (same : part ≡ drop R.size bytes)
   }
 
   -- a fault behind such a header is that of the bytes
-  pub behind_refused : (h : R.header.Value) (e : DecodeError) → R.header.reads tt bytes ≡ Ok h → AttributeFault (says R.family) part e → RefusesReply R bytes e
+  pub behind_refused : (h : R.header.Value) (e : DecodeError) → R.header.reads tt bytes ≡ Ok h → AttributeFault (says R.family) part e → (reply_codec R).refuses bytes tt e
   behind_refused h e good f = inr (h, good, subst (λ (b : List ℕ). AttributeFault (says R.family) b e) same f)
 
   -- behind the header of accepted bytes is no fault
@@ -132,11 +132,11 @@ module _ (R : Reply) (bytes part : List ℕ) (same : part ≡ drop R.size bytes)
   }
 
 -- accepted bytes mean the reply in them
-pub accepted_means : (R : Reply) (bytes : List ℕ) (accepted : IsAccepted R bytes) → IsBytes bytes → MeansReply R bytes (reply_in R bytes accepted)
-accepted_means R bytes accepted typed = record {
-  header = value_in_is (R.header.reads tt bytes) (λ e h. accepted.none e (inl h));
-  nlas = values_mean (says R.family) (drop R.size bytes) (AreBytes-drop R.size bytes typed) (behind_accepted R bytes (drop R.size bytes) refl accepted);
-}
+pub accepted_means : (R : Reply) (bytes : List ℕ) (accepted : IsAccepted R bytes) → IsBytes bytes → (reply_codec R).reads bytes tt (reply_in R bytes accepted)
+accepted_means R bytes accepted typed = (
+  value_in_is (R.header.reads tt bytes) (λ e h. accepted.none e (inl h)),
+  values_mean (says R.family) (drop R.size bytes) (AreBytes-drop R.size bytes typed) (behind_accepted R bytes (drop R.size bytes) refl accepted),
+)
 
 -- what a walk over bytes with no fault finds
 pub ruleset finding = (value_first, found_none, rest_has_no_fault, nothing_has_no_fault, no_framing_fault, front_says)

@@ -7,7 +7,7 @@ use Rattle.netlink_core.specs.declared.fault.DecodeError.{DecodeError}
 use Rattle.netlink_core.specs.Attribute.{Attribute, AttributeFault, fill}
 use Rattle.netlink_core.specs.Table.{number_in, little_endian}
 use Rattle.netlink_core.specs.Family.{says}
-use Rattle.netlink_core.specs.Reply.{Reply, ValueOf, RefusesReply}
+use Rattle.netlink_core.specs.Reply.{Reply, ValueOf, reply_codec}
 
 -- the attribute at the front of the bytes, by its two words
 abbrev pub front_attribute : List ℕ → Attribute
@@ -34,7 +34,7 @@ value_in (Err e) good = absurd (good e refl)
 
 -- nothing refuses the bytes as a reply
 pub record IsAccepted (R : Reply) (bytes : List ℕ) : Type 0 where
-  pub none : (e : DecodeError) → RefusesReply R bytes e → ⊥
+  pub none : (e : DecodeError) → (reply_codec R).refuses bytes tt e → ⊥
 
 -- the reply in bytes that nothing refuses: the header's value, and what each attribute behind it says
 abbrev pub reply_in : (R : Reply) (bytes : List ℕ) → IsAccepted R bytes → ValueOf R

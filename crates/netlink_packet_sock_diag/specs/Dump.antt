@@ -2,6 +2,7 @@
 use Rattle.std.specs.Prelude.{◌≡◌, ◌≢◌, ℕ, List, [], ◌∷◌, ◌++◌, ⊤, ◌⊎◌, Option, Some, None, Result, Ok, Err}
 use Rattle.std.specs.List.{AllByRecursion, AllZip, flat_map}
 use Rattle.netlink_core.specs.declared.fault.DecodeError.{DecodeError}
+use Rattle.netlink_core.specs.Codec.{Codec}
 use Rattle.netlink_core.specs.Datagram.{AreWholeMessages}
 use Rattle.netlink_core.specs.Envelope.{Payload, done_with, error_with, overrun_with, inner}
 use Rattle.netlink_core.specs.Items.{ItemsAre}
@@ -26,10 +27,6 @@ module _ {A : Type 0} where
   end_of (Err e) = Some (Err e)
   end_of _ = None
 
-  -- after each item the dump goes on
-  abbrev pub GoesOn : List (Result (Payload A) DecodeError) → Type 0
-  GoesOn items = AllByRecursion (λ item. end_of item ≡ None) items
-
   -- the first of the later items ends the dump; where there is none it is still read
   abbrev pub Ends : List (Result (Payload A) DecodeError) → Result DumpState DecodeError → Type 0
   Ends [] end = end ≡ Ok Reading
@@ -37,13 +34,10 @@ module _ {A : Type 0} where
 
   -- The inner messages of the longest beginning of the items that holds inner messages and messages of nothing alone
   -- follow those before, and the next item is the end.
-  pub record Dump (before : List A) (items : List (Result (Payload A) DecodeError)) (after : List A) (end : Result DumpState DecodeError) : Type 0 where
-    pub passed : List (Result (Payload A) DecodeError)
-    pub later : List (Result (Payload A) DecodeError)
-    pub parts : items ≡ passed ++ later
-    pub plain : GoesOn passed
-    pub keeps : after ≡ before ++ flat_map kept passed
-    pub ends : Ends later end
+  abbrev pub Dump : List A → List (Result (Payload A) DecodeError) → List A → Result DumpState DecodeError → Type 0
+  Dump before items after end = (passed later : List (Result (Payload A) DecodeError))
+      × (items ≡ passed ++ later) × AllByRecursion (λ item. end_of item ≡ None) passed
+      × (after ≡ before ++ flat_map kept passed) × Ends later end
 
   -- the dump over some first items is still read, and the next is an inner message, for which there was no memory
   abbrev pub DumpStopped : List A → List (Result (Payload A) DecodeError) → List A → Type 0
@@ -54,24 +48,27 @@ module _ {A : Type 0} where
 abbrev pub DumpGoesOn : {A : Type 0} → List A → Result DumpState DecodeError → List (Result (Payload A) DecodeError) → List A → Result DumpState DecodeError → Type 0
 DumpGoesOn middle state items after end = ((state ≡ Ok Reading) × Dump middle items after end) ⊎ ((state ≢ Ok Reading) × (after ≡ middle) × (end ≡ state))
 
--- the dump over the items of a datagram
-module _ {A : Type 0} (reads : List ℕ → ℕ → A → Type 0) (refuses : List ℕ → ℕ → DecodeError → Type 0) where
+-- the dump over the items of a datagram, by the codec of inner messages under a type
+module _ (C : Codec ℕ) where
   -- to its end
-  abbrev pub DatagramDump : List A → List ℕ → List A → Result DumpState DecodeError → Type 0
-  DatagramDump before datagram after end = (items : List (Result (Payload A) DecodeError)) × ItemsAre reads refuses datagram items × Dump before items after end
+  abbrev pub DatagramDump : List C.Value → List ℕ → List C.Value → Result DumpState DecodeError → Type 0
+  DatagramDump before datagram after end =
+      (items : List (Result (Payload C.Value) DecodeError)) × ItemsAre C datagram items × Dump before items after end
 
   -- up to a message for which there was no memory
-  abbrev pub DatagramStopped : List A → List ℕ → List A → Type 0
-  DatagramStopped before datagram after = (items : List (Result (Payload A) DecodeError)) × ItemsAre reads refuses datagram items × DumpStopped before items after
+  abbrev pub DatagramStopped : List C.Value → List ℕ → List C.Value → Type 0
+  DatagramStopped before datagram after =
+      (items : List (Result (Payload C.Value) DecodeError)) × ItemsAre C datagram items × DumpStopped before items after
 
   -- these are the items of the datagrams, in a row
-  abbrev pub HaveItems : List (List ℕ) → List (Result (Payload A) DecodeError) → Type 0
-  HaveItems datagrams row = (items : List (List (Result (Payload A) DecodeError)))
-      × AllZip (ItemsAre reads refuses) datagrams items × (row ≡ in_a_row items)
+  abbrev pub HaveItems : List (List ℕ) → List (Result (Payload C.Value) DecodeError) → Type 0
+  HaveItems datagrams row = (items : List (List (Result (Payload C.Value) DecodeError)))
+      × AllZip (ItemsAre C) datagrams items × (row ≡ in_a_row items)
 
   -- the dump over several datagrams, one after the other
-  abbrev pub DatagramsDump : List A → List (List ℕ) → List A → Result DumpState DecodeError → Type 0
-  DatagramsDump before datagrams after end = (row : List (Result (Payload A) DecodeError)) × HaveItems datagrams row × Dump before row after end
+  abbrev pub DatagramsDump : List C.Value → List (List ℕ) → List C.Value → Result DumpState DecodeError → Type 0
+  DatagramsDump before datagrams after end =
+      (row : List (Result (Payload C.Value) DecodeError)) × HaveItems datagrams row × Dump before row after end
 
 -- each datagram but the last one is whole messages alone, with all padding there
 abbrev pub AreSplit : List (List ℕ) → Type 0

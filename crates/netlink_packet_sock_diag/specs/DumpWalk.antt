@@ -7,7 +7,7 @@ use Rattle.netlink_core.specs.Header.{IsEnvelopeFault}
 use Rattle.netlink_core.specs.Items.{ItemIs}
 use Rattle.netlink_packet_sock_diag.specs.declared.dump.views.DumpViews.{DumpViews}
 use Rattle.netlink_packet_sock_diag.specs.declared.dump.views.PayloadView.{PayloadView}
-use Rattle.netlink_packet_sock_diag.specs.Message.{MessageIs, MessageFault}
+use Rattle.netlink_packet_sock_diag.specs.Message.{message_codec}
 use Rattle.netlink_packet_sock_diag.specs.ViewedPayload.{viewed_item}
 
 -- what the walk has not passed yet
@@ -19,5 +19,5 @@ views_left walk = datagram_left walk.messages
 abbrev pub GivesView : DumpViews → Option (Result PayloadView DecodeError) → DumpViews → Type 0
 GivesView old given new =
     MatchOption given ((views_left old ≡ []) × (views_left new ≡ []))
-    (λ item. ((message : List ℕ) × StartsWithMessage (views_left old) message (views_left new) × ItemIs MessageIs MessageFault message (viewed_item item))
+    (λ item. ((message : List ℕ) × StartsWithMessage (views_left old) message (views_left new) × ItemIs message_codec message (viewed_item item))
     ⊎ ((e : DecodeError) × (item ≡ Err e) × (views_left old ≢ []) × IsEnvelopeFault (views_left old) e × (views_left new ≡ [])))

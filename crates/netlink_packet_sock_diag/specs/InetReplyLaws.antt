@@ -2,7 +2,7 @@
 use Rattle.std.proofs.Common.{◌≡◌, ◌≢◌, ◌∙◌, ℕ, ◌≤◌, List, ◌++◌, length, slice_index, Ok, ap, subst, arith}
 use Rattle.std.proofs.lemmas.List.{get_or_append_left}
 use Rattle.netlink_core.specs.Format.{read}
-use Rattle.netlink_core.specs.Reply.{RefusesReply}
+use Rattle.netlink_core.specs.Reply.{reply_codec}
 use Rattle.netlink_core.specs.ShownLaws.{ReplyLaws}
 use Rattle.netlink_core.specs.declared.fault.DecodeError.{DecodeError}
 use Rattle.netlink_core.specs.declared.fault.DecodeError.TheVariants.{Memory}
@@ -40,5 +40,5 @@ inet_reply_laws = record {
 }
 
 -- no fault of such a reply is want of memory
-pub inet_named : (b : List ℕ) (e : DecodeError) → RefusesReply inet_reply b e → e ≢ Memory
-inet_named b e refused memory = (replies_keep_laws inet_reply inet_reply_laws).named_fault b tt (subst (RefusesReply inet_reply b) memory refused)
+pub inet_named : (b : List ℕ) (e : DecodeError) → (reply_codec inet_reply).refuses b tt e → e ≢ Memory
+inet_named b e refused memory = (replies_keep_laws inet_reply inet_reply_laws).named_fault b tt (subst ((reply_codec inet_reply).refuses b tt) memory refused)

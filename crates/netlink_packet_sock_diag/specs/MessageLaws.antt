@@ -19,7 +19,7 @@ use Rattle.netlink_packet_sock_diag.specs.InetReply.{InetReply, inet_reply}
 use Rattle.netlink_packet_sock_diag.specs.UnixReply.{unix_reply}
 use Rattle.netlink_packet_sock_diag.specs.InetReplyLaws.{inet_reply_laws}
 use Rattle.netlink_packet_sock_diag.specs.UnixReplyLaws.{unix_reply_laws}
-use Rattle.netlink_packet_sock_diag.specs.Message.{MessageKind, inet_request, inet_response, unix_request, unix_response, codec_of, Message, message_of, message_kind, message_codec, reply_kind, MessageIs, MessageFault, message_bytes, MessageFits, IdleMessages, IsTypedMessage, IsNormalMessage}
+use Rattle.netlink_packet_sock_diag.specs.Message.{MessageKind, inet_request, inet_response, unix_request, unix_response, codec_of, Message, message_of, message_kind, message_codec, reply_kind}
 
 -- each kind's codec keeps the laws
 laws_of : (kind : MessageKind) → KeepsLaws (codec_of kind)
@@ -72,7 +72,7 @@ tells b t told h =
     (λ e. eqb-true t 20 (not-false (t == 20) e)))
 
 -- what is read is a reply, under the type 20
-pub read_reply : (b : List ℕ) (t : ℕ) (m : Message) → MessageIs b t m
+pub read_reply : (b : List ℕ) (t : ℕ) (m : Message) → message_codec.reads b t m
     → (t ≡ 20) × ((message_kind m ≡ inet_response) ⊎ (message_kind m ≡ unix_response))
 read_reply b t (message_of kind v) r = tells b t (Ok kind) r.0
 
@@ -85,7 +85,7 @@ same_kind told k l h g = cc
 -- the message or the fault by the kind that is told, or its fault
 answered_as : (b : List ℕ) (t : ℕ) (told : Result MessageKind DecodeError) → IsBytes b
     → reply_kind b t ≡ told
-    → ((m : Message) × MessageIs b t m) ⊎ ((e : DecodeError) × MessageFault b t e)
+    → ((m : Message) × message_codec.reads b t m) ⊎ ((e : DecodeError) × message_codec.refuses b t e)
 answered_as b t (Err e) tb h = inr (e, inl h)
 answered_as b t (Ok kind) tb h = elim ((laws_of kind).answered b tt tb) [
   | inl answer ↦ inl (message_of kind answer.0, (h, answer.1))
@@ -100,13 +100,13 @@ refused_as b t e kind other told said refused =
     subst (λ (k : MessageKind). (codec_of k).refuses b tt e)
     (same_kind (reply_kind b t) other kind said told) refused
 
-one_answer : (b : List ℕ) (t : ℕ) (m : Message) (e : DecodeError) → MessageIs b t m
-    → MessageFault b t e → ⊥
+one_answer : (b : List ℕ) (t : ℕ) (m : Message) (e : DecodeError) → message_codec.reads b t m
+    → message_codec.refuses b t e → ⊥
 one_answer b t (message_of kind v) e (told, r) (inl none) = cc
 one_answer b t (message_of kind v) e (told, r) (inr (other, said, refused)) =
     (laws_of kind).one_answer b tt v e r (refused_as b t e kind other told said refused)
 
-one_fault : (b : List ℕ) (t : ℕ) (e f : DecodeError) → MessageFault b t e → MessageFault b t f
+one_fault : (b : List ℕ) (t : ℕ) (e f : DecodeError) → message_codec.refuses b t e → message_codec.refuses b t f
     → e ≡ f
 one_fault b t e f (inl h) (inl k) = cc
 one_fault b t e f (inl h) (inr (kind, told, refused)) = absurd cc
@@ -114,7 +114,7 @@ one_fault b t e f (inr (kind, told, refused)) (inl k) = absurd cc
 one_fault b t e f (inr (kind, told, refused)) (inr (other, said, also)) =
     (laws_of kind).one_fault b tt e f refused (refused_as b t f kind other told said also)
 
-named_fault : (b : List ℕ) (t : ℕ) → MessageFault b t Memory → ⊥
+named_fault : (b : List ℕ) (t : ℕ) → message_codec.refuses b t Memory → ⊥
 named_fault b t (inl none) = tells b t (Err Memory) none refl
 named_fault b t (inr (kind, told, refused)) = (laws_of kind).named_fault b tt refused
 
@@ -122,14 +122,14 @@ named_fault b t (inr (kind, told, refused)) = (laws_of kind).named_fault b tt re
 
 -- strings that one message belongs to are idle
 idle_of : (b c : List ℕ) (t : ℕ) (m : Message) → IsBytes b → IsBytes c
-    → MessageIs b t m → MessageIs c t m → IdleMessages t b c
+    → message_codec.reads b t m → message_codec.reads c t m → message_codec.idle t b c
 idle_of b c t (message_of kind v) tb tc r s =
     let law = (laws_of kind).same_value b c tt v v tb tc r.1 s.1 in
     (kind, r.0, s.0, law.0 refl)
 
 -- what belongs to a string that tells a kind is of that kind
 of_kind : (b : List ℕ) (t : ℕ) (kind : MessageKind) (m : Message) → reply_kind b t ≡ Ok kind
-    → MessageIs b t m
+    → message_codec.reads b t m
     → (v : (codec_of kind).Value) × (m ≡ message_of kind v) × (codec_of kind).reads b tt v
 of_kind b t kind (message_of other v) told r =
     subst
@@ -139,9 +139,9 @@ of_kind b t kind (message_of other v) told r =
     (same_kind (reply_kind b t) other kind r.0 told) (v, refl, r.1)
 
 same_value : (b c : List ℕ) (t : ℕ) (m n : Message) → IsBytes b → IsBytes c
-    → MessageIs b t m → MessageIs c t n → ((m ≡ n) ↔ IdleMessages t b c)
+    → message_codec.reads b t m → message_codec.reads c t n → ((m ≡ n) ↔ message_codec.idle t b c)
 same_value b c t m n tb tc r s = (
-  λ e. idle_of b c t n tb tc (subst (MessageIs b t) e r) s,
+  λ e. idle_of b c t n tb tc (subst (message_codec.reads b t) e r) s,
   λ (kind, left, right, idle).
       let x = of_kind b t kind m left r in
       let y = of_kind c t kind n right s in
@@ -151,14 +151,14 @@ same_value b c t m n tb tc r s = (
 
 -- ---- what is read and written
 
-reads_normal : (b : List ℕ) (t : ℕ) (m : Message) → IsBytes b → MessageIs b t m
-    → IsTypedMessage m × IsNormalMessage t m
+reads_normal : (b : List ℕ) (t : ℕ) (m : Message) → IsBytes b → message_codec.reads b t m
+    → message_codec.is_typed m × message_codec.is_normal t m
 reads_normal b t (message_of kind v) tb (told, r) =
     let reply = tells b t (Ok kind) told in
     let parts = (laws_of kind).reads_normal b tt v tb r in
     (parts.0, (reply.0, reply.1, parts.1))
 
-written_bytes : (m : Message) → IsTypedMessage m → IsBytes (message_bytes m)
+written_bytes : (m : Message) → message_codec.is_typed m → IsBytes (message_codec.written m)
 written_bytes (message_of kind v) typed = (laws_of kind).written_bytes v typed
 
 -- an internet reply is written with its family in front
@@ -179,8 +179,8 @@ family_known family kinds h = elim (cases_eq family 2) [
 ]
 
 -- a message in normal form is written as a reply of its kind
-kind_written : (t : ℕ) (m : Message) → IsNormalMessage t m
-    → reply_kind (message_bytes m) t ≡ Ok (message_kind m)
+kind_written : (t : ℕ) (m : Message) → message_codec.is_normal t m
+    → reply_kind (message_codec.written m) t ≡ Ok (message_kind m)
 unfolding inet_response_header
 kind_written t (message_of inet_request v) (is, reply, normal) =
     elim reply [ inl other ↦ absurd cc | inr other ↦ absurd cc ]
@@ -193,8 +193,8 @@ kind_written t (message_of inet_response v) (is, reply, normal) =
 kind_written t (message_of unix_response v) (is, reply, normal) =
     unix_told (reply_bytes unix_reply v) t (omega arith) is refl
 
-reads_back : (t : ℕ) (m : Message) → IsTypedMessage m → IsNormalMessage t m → MessageFits m
-    → MessageIs (message_bytes m) t m
+reads_back : (t : ℕ) (m : Message) → message_codec.is_typed m → message_codec.is_normal t m → message_codec.fits m
+    → message_codec.reads (message_codec.written m) t m
 reads_back t (message_of kind v) typed normal fits = (
   kind_written t (message_of kind v) normal,
   (laws_of kind).reads_back tt v typed normal.2 fits,
@@ -213,7 +213,7 @@ message_laws = record {
 }
 
 -- a message is written as two bytes and more
-pub length-message_bytes : (m : Message) → 2 ≤ length (message_bytes m)
+pub length-message_bytes : (m : Message) → 2 ≤ length (message_codec.written m)
 unfolding inet_request_format
 length-message_bytes (message_of inet_request v) = omega arith
 length-message_bytes (message_of unix_request v) = omega arith

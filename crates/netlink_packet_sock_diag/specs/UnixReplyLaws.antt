@@ -1,6 +1,6 @@
 -- The laws of replies about UNIX sockets.
 use Rattle.std.proofs.Common.{◌≢◌, ℕ, List, refl, subst}
-use Rattle.netlink_core.specs.Reply.{RefusesReply}
+use Rattle.netlink_core.specs.Reply.{reply_codec}
 use Rattle.netlink_core.specs.ShownLaws.{ReplyLaws}
 use Rattle.netlink_core.specs.declared.fault.DecodeError.{DecodeError}
 use Rattle.netlink_core.specs.declared.fault.DecodeError.TheVariants.{Memory}
@@ -20,5 +20,5 @@ unix_reply_laws = record {
 }
 
 -- no fault of such a reply is want of memory
-pub unix_named : (b : List ℕ) (e : DecodeError) → RefusesReply unix_reply b e → e ≢ Memory
-unix_named b e refused memory = (replies_keep_laws unix_reply unix_reply_laws).named_fault b tt (subst (RefusesReply unix_reply b) memory refused)
+pub unix_named : (b : List ℕ) (e : DecodeError) → (reply_codec unix_reply).refuses b tt e → e ≢ Memory
+unix_named b e refused memory = (replies_keep_laws unix_reply unix_reply_laws).named_fault b tt (subst ((reply_codec unix_reply).refuses b tt) memory refused)

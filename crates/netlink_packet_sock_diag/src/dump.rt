@@ -56,11 +56,11 @@ fn take_messages<I: NetlinkDeserializable + Drop>(
     messages: &mut Vec<I>,
     datagram: &[u8],
 ) -> Result<DumpState, DecodeError>
-    ensures state { IfOk result (λ state. DatagramDump I.codec.reads I.codec.refuses
+    ensures state { IfOk result (λ state. DatagramDump I.codec
         (map I.seen messages.old.items) datagram.now (map I.seen messages.new.items) (ok state)) }
-    ensures fault { IfErr result (λ e. e ≢ Memory → DatagramDump I.codec.reads I.codec.refuses
+    ensures fault { IfErr result (λ e. e ≢ Memory → DatagramDump I.codec
         (map I.seen messages.old.items) datagram.now (map I.seen messages.new.items) (err e)) }
-    ensures memory { IfErr result (λ e. e ≡ Memory → DatagramStopped I.codec.reads I.codec.refuses
+    ensures memory { IfErr result (λ e. e ≡ Memory → DatagramStopped I.codec
         (map I.seen messages.old.items) datagram.now (map I.seen messages.new.items)) }
 {
     for item in MessageStrings::new(datagram) {
@@ -91,7 +91,7 @@ pub struct DumpReader {
 }
 
 impl DumpReader {
-    ghost use Rattle.netlink_packet_sock_diag.specs.Message.{MessageIs, MessageFault};
+    ghost use Rattle.netlink_packet_sock_diag.specs.Message.{message_codec};
     ghost use Rattle.netlink_packet_sock_diag.specs.Feed.{FeedLeaves};
     ghost use Rattle.netlink_packet_sock_diag.specs.SeenMessage.{seen_message};
     ghost use Rattle.netlink_packet_sock_diag.specs.SeenDump.{kept_messages, dump_state};
@@ -112,7 +112,7 @@ impl DumpReader {
     /// Takes the messages of a datagram of whole messages, up to the end of the dump. At a fault, and where memory runs
     /// out, the messages in front are kept and the dump has failed. Once the dump has ended nothing changes.
     pub fn feed(&mut self, datagram: &[u8]) -> Result<(), DumpError>
-        ensures { FeedLeaves MessageIs MessageFault (kept_messages self.old) (dump_state self.old) datagram.now
+        ensures { FeedLeaves message_codec (kept_messages self.old) (dump_state self.old) datagram.now
             (kept_messages self.new) (dump_state self.new) result }
     {
         if self.state != DumpState::Reading {

@@ -8,12 +8,12 @@ ghost use Rattle.netlink_core.specs.declared.fault.DecodeError.{DecodeError};
 ghost use Rattle.netlink_core.specs.declared.fault.DecodeError.TheVariants.{Memory, UnknownMessageType};
 ghost use Rattle.netlink_core.specs.declared.header.NetlinkHeader.{NetlinkHeader};
 ghost use Rattle.netlink_core.specs.Header.{IsTypedHeader};
-ghost use Rattle.netlink_core.specs.Envelope.{Payload, Envelope, inner, EnvelopeIs, EnvelopeFault, EnvelopeFits, OfInner, envelope_bytes, finalized, IdleEnvelopes, IsTypedEnvelope, IsFinalized};
+ghost use Rattle.netlink_core.specs.Envelope.{Payload, Envelope, inner, OfInner, finalized, envelope_codec};
 ghost use Rattle.netlink_core.specs.declared.message.NetlinkMessage.{NetlinkMessage};
 ghost use Rattle.netlink_core.specs.declared.message.NetlinkPayload.TheVariants.{InnerMessage};
 ghost use Rattle.netlink_core.specs.Items.{ItemsAre};
 ghost use Rattle.netlink_core.specs.Seen.{envelope_of};
-ghost use Rattle.netlink_core.specs.Reply.{IsTypedReply, reply_bytes};
+ghost use Rattle.netlink_core.specs.Reply.{reply_bytes, reply_codec};
 ghost use Rattle.netlink_packet_sock_diag.specs.SeenMessage.{seen_destroy};
 ghost use Rattle.netlink_packet_sock_diag.specs.declared.message.SockDiagDestroy.{SockDiagDestroy};
 ghost use Rattle.netlink_packet_sock_diag.specs.declared.dump.DumpState.{DumpState};
@@ -29,7 +29,7 @@ ghost use Rattle.netlink_packet_sock_diag.specs.InetReply.{InetReply, inet_reply
 ghost use Rattle.netlink_packet_sock_diag.specs.ViewedInetReply.{viewed_response as viewed_inet};
 ghost use Rattle.netlink_packet_sock_diag.specs.ViewedMessage.{viewed_message};
 ghost use Rattle.netlink_packet_sock_diag.specs.ViewedUnixReply.{viewed_response as viewed_unix};
-ghost use Rattle.netlink_packet_sock_diag.specs.Message.{Message, MessageIs, MessageFault, MessageFits, IdleMessages, IsTypedMessage, IsNormalMessage, message_bytes, MessageKind, message_kind, inet_request, inet_response, unix_request, unix_response};
+ghost use Rattle.netlink_packet_sock_diag.specs.Message.{Message, MessageKind, message_kind, inet_request, inet_response, unix_request, unix_response, message_codec};
 
 use crate::dump::{DumpError, DumpViews as Views, PayloadView as View};
 use crate::inet::InetResponseView;
@@ -40,8 +40,8 @@ use std::alloc::AllocError;
 
 /// The number of bytes that a reply is written as, `buffer_len`, is a multiple of 4, for both families.
 pub fn reply_lengths_are_multiples_of_four()
-    ensures unix { (v : UnixReply) → IsTypedReply unix_reply v → length (reply_bytes unix_reply v) % 4 ≡ 0 }
-    ensures inet { (v : InetReply) → IsTypedReply inet_reply v → length (reply_bytes inet_reply v) % 4 ≡ 0 }
+    ensures unix { (v : UnixReply) → (reply_codec unix_reply).is_typed v → length (reply_bytes unix_reply v) % 4 ≡ 0 }
+    ensures inet { (v : InetReply) → (reply_codec inet_reply).is_typed v → length (reply_bytes inet_reply v) % 4 ≡ 0 }
 {}
 
 /// Exactly one of four tests, each for one kind, is true of a message.
@@ -52,7 +52,7 @@ pub fn one_kind()
 
 /// A message that was read is a reply.
 pub fn read_messages_are_replies()
-    ensures { (b : List ℕ) (t : ℕ) (m : Message) → MessageIs b t m
+    ensures { (b : List ℕ) (t : ℕ) (m : Message) → message_codec.reads b t m
         → (message_kind m ≡ inet_response) ⊎ (message_kind m ≡ unix_response) }
 {}
 
@@ -60,12 +60,12 @@ pub fn read_messages_are_replies()
 /// are read under 20 alone.
 pub fn finalized_destroy_is_refused()
     ensures { (h : NetlinkHeader) (m : Message) → IsTypedHeader h
-        → EnvelopeFits message_bytes MessageFits (record { header = h; payload = inner m })
-        → EnvelopeFault MessageFault
-        (envelope_bytes message_bytes (record {
-          header = finalized message_bytes (λ _. 21) (record { header = h; payload = inner m });
+        → (envelope_codec message_codec).fits (record { header = h; payload = inner m })
+        → (envelope_codec message_codec).refuses
+        ((envelope_codec message_codec).written (record {
+          header = finalized message_codec.written (λ _. 21) (record { header = h; payload = inner m });
           payload = inner m;
-        }))
+        })) tt
         (UnknownMessageType 21) }
 {}
 
@@ -73,23 +73,23 @@ pub fn finalized_destroy_is_refused()
 /// buffer, is refused by the reader of the request.
 pub fn finalized_destroy_in_hand_is_refused()
     ensures { (message : NetlinkMessage SockDiagDestroy) (destroy : SockDiagDestroy) (rest : List ℕ) → message.payload ≡ InnerMessage destroy
-        → IsTypedHeader message.header → EnvelopeFits message_bytes MessageFits (envelope_of seen_destroy message)
-        → EnvelopeFault MessageFault
-        (envelope_bytes message_bytes (envelope_of seen_destroy (record message { header = finalized message_bytes (λ _. 21) (envelope_of seen_destroy message) })) ++ rest)
+        → IsTypedHeader message.header → (envelope_codec message_codec).fits (envelope_of seen_destroy message)
+        → (envelope_codec message_codec).refuses
+        ((envelope_codec message_codec).written (envelope_of seen_destroy (record message { header = finalized message_codec.written (λ _. 21) (envelope_of seen_destroy message) })) ++ rest) tt
         (UnknownMessageType 21) }
 {}
 
 /// Bytes have one netlink message of sock_diag(7) at their front or one fault, which has a name.
 pub fn one_message_or_fault()
     ensures answered { (b : List ℕ) → IsBytes b
-        → ((v : Envelope Message) × EnvelopeIs MessageIs b v) ⊎ ((e : DecodeError) × EnvelopeFault MessageFault b e) }
+        → ((v : Envelope Message) × (envelope_codec message_codec).reads b tt v) ⊎ ((e : DecodeError) × (envelope_codec message_codec).refuses b tt e) }
     ensures one_value { (b : List ℕ) (v w : Envelope Message) → IsBytes b
-        → EnvelopeIs MessageIs b v → EnvelopeIs MessageIs b w → v ≡ w }
+        → (envelope_codec message_codec).reads b tt v → (envelope_codec message_codec).reads b tt w → v ≡ w }
     ensures one_answer { (b : List ℕ) (v : Envelope Message) (e : DecodeError)
-        → EnvelopeIs MessageIs b v → EnvelopeFault MessageFault b e → ⊥ }
+        → (envelope_codec message_codec).reads b tt v → (envelope_codec message_codec).refuses b tt e → ⊥ }
     ensures one_fault { (b : List ℕ) (e f : DecodeError)
-        → EnvelopeFault MessageFault b e → EnvelopeFault MessageFault b f → e ≡ f }
-    ensures named_fault { (b : List ℕ) → EnvelopeFault MessageFault b Memory → ⊥ }
+        → (envelope_codec message_codec).refuses b tt e → (envelope_codec message_codec).refuses b tt f → e ≡ f }
+    ensures named_fault { (b : List ℕ) → (envelope_codec message_codec).refuses b tt Memory → ⊥ }
 {
     laws::one_message_or_fault::<SockDiagMessage>();
 }
@@ -97,7 +97,7 @@ pub fn one_message_or_fault()
 /// Two accepted strings give equal netlink messages exactly where they are idle.
 pub fn equal_messages_where_idle()
     ensures { (b c : List ℕ) (v w : Envelope Message) → IsBytes b → IsBytes c
-        → EnvelopeIs MessageIs b v → EnvelopeIs MessageIs c w → ((v ≡ w) ↔ IdleEnvelopes IdleMessages b c) }
+        → (envelope_codec message_codec).reads b tt v → (envelope_codec message_codec).reads c tt w → ((v ≡ w) ↔ (envelope_codec message_codec).idle tt b c) }
 {
     laws::equal_messages_where_idle::<SockDiagMessage>();
 }
@@ -106,9 +106,9 @@ pub fn equal_messages_where_idle()
 /// where they are idle.
 pub fn messages_written_alike()
     ensures { (b c : List ℕ) (v w : Envelope Message) → IsBytes b → IsBytes c
-        → EnvelopeIs MessageIs b v → EnvelopeIs MessageIs c w
-        → EnvelopeFits message_bytes MessageFits v → EnvelopeFits message_bytes MessageFits w
-        → ((envelope_bytes message_bytes v ≡ envelope_bytes message_bytes w) ↔ IdleEnvelopes IdleMessages b c) }
+        → (envelope_codec message_codec).reads b tt v → (envelope_codec message_codec).reads c tt w
+        → (envelope_codec message_codec).fits v → (envelope_codec message_codec).fits w
+        → (((envelope_codec message_codec).written v ≡ (envelope_codec message_codec).written w) ↔ (envelope_codec message_codec).idle tt b c) }
 {
     laws::messages_written_alike::<SockDiagMessage>();
 }
@@ -116,9 +116,9 @@ pub fn messages_written_alike()
 /// The bytes of a writable netlink message whose header has its own length and type, as `finalize` sets them, read back
 /// as itself exactly where it carries nothing or bytes that are kept, or a message in normal form under the type 20.
 pub fn finalized_message_reads_back()
-    ensures { (v : Envelope Message) → IsTypedEnvelope IsTypedMessage v → EnvelopeFits message_bytes MessageFits v
-        → IsFinalized message_bytes (λ _. 20) v
-        → (EnvelopeIs MessageIs (envelope_bytes message_bytes v) v ↔ OfInner (IsNormalMessage 20) v.payload) }
+    ensures { (v : Envelope Message) → (envelope_codec message_codec).is_typed v → (envelope_codec message_codec).fits v
+        → (v.header ≡ finalized message_codec.written (λ _. 20) v)
+        → ((envelope_codec message_codec).reads ((envelope_codec message_codec).written v) tt v ↔ OfInner (message_codec.is_normal 20) v.payload) }
 {
     laws::finalized_message_reads_back::<SockDiagMessage>();
 }
@@ -141,9 +141,9 @@ pub fn dump_over_items_in_a_row()
 /// Datagrams with the same items in a row have the same dump.
 pub fn same_items_have_one_dump()
     ensures { (datagrams others : List (List ℕ)) (xs ys : List (List (Result (Payload Message) DecodeError))) → AllByRecursion IsBytes datagrams
-        → AllZip (ItemsAre MessageIs MessageFault) datagrams xs → AllZip (ItemsAre MessageIs MessageFault) others ys → in_a_row xs ≡ in_a_row ys
+        → AllZip (ItemsAre message_codec) datagrams xs → AllZip (ItemsAre message_codec) others ys → in_a_row xs ≡ in_a_row ys
         → (before after : List Message) (end : Result DumpState DecodeError)
-        → DatagramsDump MessageIs MessageFault before datagrams after end → DatagramsDump MessageIs MessageFault before others after end }
+        → DatagramsDump message_codec before datagrams after end → DatagramsDump message_codec before others after end }
 {
     laws::one_list_of_items::<SockDiagMessage>();
 }
@@ -154,7 +154,7 @@ pub fn split_changes_no_dump()
     ensures { (datagrams others : List (List ℕ)) → AllByRecursion IsBytes datagrams → AllByRecursion IsBytes others
         → AreSplit datagrams → AreSplit others → in_a_row datagrams ≡ in_a_row others
         → (before after : List Message) (end : Result DumpState DecodeError)
-        → DatagramsDump MessageIs MessageFault before datagrams after end → DatagramsDump MessageIs MessageFault before others after end }
+        → DatagramsDump message_codec before datagrams after end → DatagramsDump message_codec before others after end }
 {
     laws::datagram_has_items::<SockDiagMessage>();
     laws::one_list_of_items::<SockDiagMessage>();
@@ -166,7 +166,7 @@ pub fn split_changes_no_feed()
     ensures { (datagrams others : List (List ℕ)) → AllByRecursion IsBytes datagrams → AllByRecursion IsBytes others
         → AreSplit datagrams → AreSplit others → in_a_row datagrams ≡ in_a_row others
         → (messages same : List Message) (state end : DumpState)
-        → FeedsLeave MessageIs MessageFault [] Reading datagrams messages state → FeedsLeave MessageIs MessageFault [] Reading others same end
+        → FeedsLeave message_codec [] Reading datagrams messages state → FeedsLeave message_codec [] Reading others same end
         → (messages ≡ same) × (state ≡ end) }
 {
     laws::datagram_has_items::<SockDiagMessage>();
@@ -177,7 +177,7 @@ pub fn split_changes_no_feed()
 /// of what is no message, if there is one.
 pub fn whole_views_are_the_datagram()
     ensures { (walk : DumpViews) (given : List (Result PayloadView DecodeError)) → Drains GivesView walk given
-        → ItemsAre MessageIs MessageFault (views_left walk) (map viewed_item given) }
+        → ItemsAre message_codec (views_left walk) (map viewed_item given) }
 {}
 
 /// `==` says whether two errors of a dump are the same.

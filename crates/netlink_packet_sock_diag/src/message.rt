@@ -4,7 +4,7 @@ ghost use Rattle.std.specs.Prelude.{◌≡◌, ◌≢◌, ◌<◌, ◌↔◌, tr
 ghost use Rattle.netlink_core.specs.declared.fault.DecodeError.TheVariants.{Memory};
 ghost use Rattle.netlink_core.specs.Spare.{WantsMemory};
 ghost use Rattle.netlink_core.specs.declared.message.NetlinkPayload.TheVariants.{InnerMessage};
-ghost use Rattle.netlink_packet_sock_diag.specs.Message.{MessageIs, MessageFault, MessageFits, message_bytes, message_kind, inet_request, inet_response, unix_request, unix_response};
+ghost use Rattle.netlink_packet_sock_diag.specs.Message.{message_kind, inet_request, inet_response, unix_request, unix_response, message_codec};
 
 use crate::constants::{AF_INET, AF_INET6, AF_UNIX, SOCK_DESTROY, SOCK_DIAG_BY_FAMILY};
 use crate::inet::{InetRequest, InetResponse, InetResponseView};
@@ -92,10 +92,10 @@ impl SockDiagMessage {
         payload: &[u8],
         message_type: u16,
     ) -> Result<SockDiagMessage, DecodeError>
-        ensures value { IfOk result (λ m. MessageIs payload.now message_type (seen_message m)) }
-        ensures fault { IfErr result (λ e. e ≢ Memory → MessageFault payload.now message_type e) }
+        ensures value { IfOk result (λ m. message_codec.reads payload.now message_type (seen_message m)) }
+        ensures fault { IfErr result (λ e. e ≢ Memory → message_codec.refuses payload.now message_type e) }
         // Memory is wanted only for bytes that have a message.
-        ensures wanted { IfErr result (λ e. e ≡ Memory → WantsMemory (MessageIs payload.now message_type) (λ m. ⊥)) }
+        ensures wanted { IfErr result (λ e. e ≡ Memory → WantsMemory (message_codec.reads payload.now message_type) (λ m. ⊥)) }
     {
         Ok(SockDiagView::parse(payload, message_type)?.to_owned(alloc)?)
     }
@@ -118,8 +118,8 @@ impl<'a> SockDiagView<'a> {
     /// `MessageTooShort`; then a type but `SOCK_DIAG_BY_FAMILY` is `UnknownMessageType`; then a first byte but
     /// `AF_UNIX`, `AF_INET` and `AF_INET6` is `UnknownFamily`; then the view of that family's replies decides.
     pub fn parse(payload: &'a [u8], message_type: u16) -> Result<SockDiagView<'a>, DecodeError>
-        ensures value { IfOk result (λ view. MessageIs payload.entry.now message_type (viewed_message view)) }
-        ensures fault { IfErr result (MessageFault payload.entry.now message_type) }
+        ensures value { IfOk result (λ view. message_codec.reads payload.entry.now message_type (viewed_message view)) }
+        ensures fault { IfErr result (message_codec.refuses payload.entry.now message_type) }
     {
         if payload.len() < 2 {
             return Err(DecodeError::MessageTooShort { got: payload.len() });
@@ -176,9 +176,9 @@ impl<'a> ParseableParametrized<&'a [u8], u16> for SockDiagMessage {
 impl Emitable for SockDiagMessage {
     ghost use Rattle.netlink_packet_sock_diag.specs.SeenMessage.{seen_message};
 
-    ghost bytes = { λ v. message_bytes (seen_message v) };
+    ghost bytes = { λ v. message_codec.written (seen_message v) };
 
-    ghost writable = { λ v. MessageFits (seen_message v) };
+    ghost writable = { λ v. message_codec.fits (seen_message v) };
 
     fn is_writable(&self) -> bool {
         match self {

@@ -2,7 +2,7 @@
 
 ghost use Rattle.std.specs.Prelude.{◌≡◌, ◌↔◌, Some, IsTrue, IfOk, IfErr};
 ghost use Rattle.netlink_core.specs.Family.{content};
-ghost use Rattle.netlink_core.specs.Reply.{MeansReply, RefusesReply};
+ghost use Rattle.netlink_core.specs.Reply.{reply_codec};
 ghost use Rattle.sock_diag_attributes.specs.Name.{pathname};
 ghost use Rattle.sock_diag_attributes.specs.UnixAttributes.{unix};
 ghost use Rattle.netlink_packet_sock_diag.specs.UnixGetters.{first_of};
@@ -14,9 +14,9 @@ use netlink_packet_sock_diag::unix::nlas::NameView;
 
 /// Whether a reply about a UNIX socket tells that it is bound to this path.
 pub fn is_bound_to(reply: &[u8], path: &[u8]) -> Result<bool, DecodeError>
-    ensures value { IfOk result (λ bound. (v : UnixReply) × MeansReply unix_reply reply.now v
+    ensures value { IfOk result (λ bound. (v : UnixReply) × (reply_codec unix_reply).reads reply.now tt v
         × (IsTrue bound ↔ (first_of (content unix 0) v.nlas ≡ Some (pathname path.now)))) }
-    ensures fault { IfErr result (RefusesReply unix_reply reply.now) }
+    ensures fault { IfErr result ((reply_codec unix_reply).refuses reply.now tt) }
 {
     let view = UnixResponseView::parse(reply)?;
     Ok(view.name() == Some(NameView::Pathname(path)))

@@ -10,11 +10,11 @@ use Rattle.netlink_core.specs.declared.fault.DecodeError.{DecodeError}
 use Rattle.netlink_core.specs.declared.header.NetlinkHeader.{NetlinkHeader}
 use Rattle.netlink_core.specs.Header.{IsTypedHeader}
 use Rattle.netlink_core.specs.Datagram.{AreWholeMessages, IsMessageString, StartsWithMessage}
-use Rattle.netlink_core.specs.Envelope.{Envelope, Payload, done_with, inner, EnvelopeFits, EnvelopeIs, IsFinalized, IsTypedEnvelope, OfInner, envelope_bytes, payload_bytes, payload_type}
+use Rattle.netlink_core.specs.Envelope.{Envelope, Payload, done_with, inner, IsFinalized, OfInner, payload_bytes, payload_type, envelope_codec}
 use Rattle.netlink_core.specs.Items.{ItemIs, ItemsAre}
-use Rattle.netlink_core.specs.Reply.{IsTypedReply, reply_bytes}
+use Rattle.netlink_core.specs.Reply.{reply_bytes, reply_codec}
 use Rattle.netlink_packet_sock_diag.specs.Dump.{GoesOn, kept}
-use Rattle.netlink_packet_sock_diag.specs.Message.{Message, MessageIs, MessageFault, MessageFits, IsNormalMessage, IsTypedMessage, message_bytes, message_of, unix_response}
+use Rattle.netlink_packet_sock_diag.specs.Message.{Message, message_of, unix_response, message_codec}
 use Rattle.netlink_packet_sock_diag.specs.UnixReply.{UnixReply, unix_reply}
 use Rattle.sock_diag_uses.specs.TestKernel.{CanBeTold, IsAnswer, IsWholeDump, end_under, message_under, reply_under}
 
@@ -53,7 +53,7 @@ module _ (reads : List ℕ → ℕ → Message → Type 0) (refuses : List ℕ �
 
 abbrev header_under : ℕ → Payload Message → NetlinkHeader
 header_under n payload = record {
-  length = 16 + length (payload_bytes message_bytes payload);
+  length = 16 + length (payload_bytes message_codec.written payload);
   message_type = payload_type (λ _. 20) payload;
   flags = 2;
   sequence_number = n;
@@ -63,7 +63,7 @@ header_under n payload = record {
 abbrev envelope_under : ℕ → Payload Message → Envelope Message
 envelope_under n payload = record { header = header_under n payload; payload = payload }
 
-typed_header : (n : ℕ) (payload : Payload Message) → n < 2 ^ 32 → 16 + length (payload_bytes message_bytes payload) ≤ 4294967295 → payload_type (λ _. 20) payload < 2 ^ 16 → IsTypedHeader (header_under n payload)
+typed_header : (n : ℕ) (payload : Payload Message) → n < 2 ^ 32 → 16 + length (payload_bytes message_codec.written payload) ≤ 4294967295 → payload_type (λ _. 20) payload < 2 ^ 16 → IsTypedHeader (header_under n payload)
 typed_header n carried small short kind = record {
   length = omega arith;
   message_type = kind;
@@ -73,22 +73,22 @@ typed_header n carried small short kind = record {
 }
 
 -- it is as long as its length word says
-whole_message : (n : ℕ) (payload : Payload Message) → 16 + length (payload_bytes message_bytes payload) ≤ 4294967295 → IsMessageString (message_under n payload)
+whole_message : (n : ℕ) (payload : Payload Message) → 16 + length (payload_bytes message_codec.written payload) ≤ 4294967295 → IsMessageString (message_under n payload)
 unfolding message_under
 whole_message n payload short =
-    let size = 16 + length (payload_bytes message_bytes payload) in
-    let word : little_number 4 (message_under n payload) ≡ 16 + length (payload_bytes message_bytes payload) = little_number-reads_back 4 (16 + length (payload_bytes message_bytes payload)) [] (omega arith) in
+    let size = 16 + length (payload_bytes message_codec.written payload) in
+    let word : little_number 4 (message_under n payload) ≡ 16 + length (payload_bytes message_codec.written payload) = little_number-reads_back 4 (16 + length (payload_bytes message_codec.written payload)) [] (omega arith) in
     record { low = omega arith; word = word ∙ omega arith }
 
 -- and a multiple of four, where its payload is
-even_message : (n : ℕ) (payload : Payload Message) → length (payload_bytes message_bytes payload) % 4 ≡ 0 → length (message_under n payload) % 4 ≡ 0
+even_message : (n : ℕ) (payload : Payload Message) → length (payload_bytes message_codec.written payload) % 4 ≡ 0 → length (message_under n payload) % 4 ≡ 0
 unfolding message_under
 even_message n carried even = omega arith
 
-module _ (reads_back : (v : Envelope Message) → IsTypedEnvelope IsTypedMessage v → EnvelopeFits message_bytes MessageFits v → IsFinalized message_bytes (λ _. 20) v
-    → (EnvelopeIs MessageIs (envelope_bytes message_bytes v) v ↔ OfInner (IsNormalMessage 20) v.payload)) where
-  carries_payload : (n : ℕ) (payload : Payload Message) → IsTypedEnvelope IsTypedMessage (envelope_under n payload) → EnvelopeFits message_bytes MessageFits (envelope_under n payload)
-      → OfInner (IsNormalMessage 20) payload → length (payload_bytes message_bytes payload) % 4 ≡ 0 → Carries MessageIs MessageFault (message_under n payload) (Ok payload)
+module _ (reads_back : (v : Envelope Message) → (envelope_codec message_codec).is_typed v → (envelope_codec message_codec).fits v → IsFinalized message_codec.written (λ _. 20) v
+    → ((envelope_codec message_codec).reads ((envelope_codec message_codec).written v) tt v ↔ OfInner (message_codec.is_normal 20) v.payload)) where
+  carries_payload : (n : ℕ) (payload : Payload Message) → (envelope_codec message_codec).is_typed (envelope_under n payload) → (envelope_codec message_codec).fits (envelope_under n payload)
+      → OfInner (message_codec.is_normal 20) payload → length (payload_bytes message_codec.written payload) % 4 ≡ 0 → Carries message_codec (message_under n payload) (Ok payload)
   unfolding message_under
   carries_payload n payload typed fits normal even = record {
     whole = whole_message n payload fits.1;
@@ -96,16 +96,16 @@ module _ (reads_back : (v : Envelope Message) → IsTypedEnvelope IsTypedMessage
     is = (header_under n payload, (reads_back (envelope_under n payload) typed fits (refl, refl)).1 normal);
   }
 
-  carries_reply : ((v : UnixReply) → IsTypedReply unix_reply v → length (reply_bytes unix_reply v) % 4 ≡ 0)
-      → (n : ℕ) → n < 2 ^ 32 → (r : UnixReply) → CanBeTold r → Carries MessageIs MessageFault (reply_under n r) (Ok (inner (message_of unix_response r)))
+  carries_reply : ((v : UnixReply) → (reply_codec unix_reply).is_typed v → length (reply_bytes unix_reply v) % 4 ≡ 0)
+      → (n : ℕ) → n < 2 ^ 32 → (r : UnixReply) → CanBeTold r → Carries message_codec (reply_under n r) (Ok (inner (message_of unix_response r)))
   carries_reply even n small r told = carries_payload n (inner (message_of unix_response r)) (typed_header n (inner (message_of unix_response r)) small told.short (omega arith), told.typed) (told.fits, told.short) (refl, inr refl, told.normal) (even r told.typed)
 
-  carries_all : ((v : UnixReply) → IsTypedReply unix_reply v → length (reply_bytes unix_reply v) % 4 ≡ 0)
-      → (n : ℕ) → n < 2 ^ 32 → (rs : List UnixReply) → AllByRecursion CanBeTold rs → AllByRecursion (λ r. Carries MessageIs MessageFault (reply_under n r) (Ok (inner (message_of unix_response r)))) rs
+  carries_all : ((v : UnixReply) → (reply_codec unix_reply).is_typed v → length (reply_bytes unix_reply v) % 4 ≡ 0)
+      → (n : ℕ) → n < 2 ^ 32 → (rs : List UnixReply) → AllByRecursion CanBeTold rs → AllByRecursion (λ r. Carries message_codec (reply_under n r) (Ok (inner (message_of unix_response r)))) rs
   carries_all even n small [] told = tt
   carries_all even n small (r ∷ rs) told = (carries_reply even n small r told.0, carries_all even n small rs told.1)
 
-  carries_end : (n : ℕ) → n < 2 ^ 32 → Carries MessageIs MessageFault (end_under n) (Ok (done_with (0 ∷ 0 ∷ 0 ∷ 0 ∷ [])))
+  carries_end : (n : ℕ) → n < 2 ^ 32 → Carries message_codec (end_under n) (Ok (done_with (0 ∷ 0 ∷ 0 ∷ 0 ∷ [])))
   carries_end n small = carries_payload n (done_with (0 ∷ 0 ∷ 0 ∷ 0 ∷ [])) (typed_header n (done_with (0 ∷ 0 ∷ 0 ∷ 0 ∷ [])) small (omega arith) (omega arith), tt) (tt, omega arith) tt refl
 
 -- ---- the dump
@@ -118,22 +118,22 @@ keeps_all : (rs : List UnixReply) → map (message_of unix_response) rs ≡ flat
 keeps_all [] = refl
 keeps_all (r ∷ rs) = ap (λ (ms : List Message). message_of unix_response r ∷ ms) (keeps_all rs)
 
-pub whole_dump : ((v : Envelope Message) → IsTypedEnvelope IsTypedMessage v → EnvelopeFits message_bytes MessageFits v → IsFinalized message_bytes (λ _. 20) v
-    → (EnvelopeIs MessageIs (envelope_bytes message_bytes v) v ↔ OfInner (IsNormalMessage 20) v.payload))
-    → ((v : UnixReply) → IsTypedReply unix_reply v → length (reply_bytes unix_reply v) % 4 ≡ 0)
+pub whole_dump : ((v : Envelope Message) → (envelope_codec message_codec).is_typed v → (envelope_codec message_codec).fits v → IsFinalized message_codec.written (λ _. 20) v
+    → ((envelope_codec message_codec).reads ((envelope_codec message_codec).written v) tt v ↔ OfInner (message_codec.is_normal 20) v.payload))
+    → ((v : UnixReply) → (reply_codec unix_reply).is_typed v → length (reply_bytes unix_reply v) % 4 ≡ 0)
     → ((front back : List ℕ) (messages : List (List ℕ)) (xs ys : List (Result (Payload Message) DecodeError)) → AreWholeMessages front messages
-    → ItemsAre MessageIs MessageFault front xs → ItemsAre MessageIs MessageFault back ys → ItemsAre MessageIs MessageFault (front ++ back) (xs ++ ys))
+    → ItemsAre message_codec front xs → ItemsAre message_codec back ys → ItemsAre message_codec (front ++ back) (xs ++ ys))
     → (request : List ℕ) (replies : List UnixReply) (datagram : List ℕ) → IsAnswer request replies datagram → AllByRecursion CanBeTold replies → IsWholeDump datagram replies
 whole_dump reads_back even in_a_row request replies datagram answer told =
     let n = answer.header.sequence_number in
     let small = answer.framed.1.typed.sequence_number in
-    let ends = one_item MessageIs MessageFault (end_under n) (Ok (done_with (0 ∷ 0 ∷ 0 ∷ 0 ∷ []))) (carries_end reads_back n small) in
+    let ends = one_item message_codec (end_under n) (Ok (done_with (0 ∷ 0 ∷ 0 ∷ 0 ∷ []))) (carries_end reads_back n small) in
     let items = map (λ (r : UnixReply). Ok (inner (message_of unix_response r))) replies ++ (Ok (done_with (0 ∷ 0 ∷ 0 ∷ 0 ∷ [])) ∷ []) in
-    let all = items_of_all MessageIs MessageFault in_a_row (reply_under n) (λ r. Ok (inner (message_of unix_response r))) (end_under n) (Ok (done_with (0 ∷ 0 ∷ 0 ∷ 0 ∷ [])) ∷ []) replies (carries_all reads_back even n small replies told) ends in
+    let all = items_of_all message_codec in_a_row (reply_under n) (λ r. Ok (inner (message_of unix_response r))) (end_under n) (Ok (done_with (0 ∷ 0 ∷ 0 ∷ 0 ∷ [])) ∷ []) replies (carries_all reads_back even n small replies told) ends in
     record {
       dump = (
         items,
-        subst (λ (bytes : List ℕ). ItemsAre MessageIs MessageFault bytes items) (sym answer.written) all,
+        subst (λ (bytes : List ℕ). ItemsAre message_codec bytes items) (sym answer.written) all,
         record {
           passed = map (λ (r : UnixReply). Ok (inner (message_of unix_response r))) replies;
           later = Ok (done_with (0 ∷ 0 ∷ 0 ∷ 0 ∷ [])) ∷ [];

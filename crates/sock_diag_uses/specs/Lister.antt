@@ -4,7 +4,7 @@ use Rattle.std.specs.List.{filter_map}
 use Rattle.netlink_core.specs.declared.fault.DecodeError.{DecodeError}
 use Rattle.netlink_core.specs.Envelope.{Payload, done_with, error_with, no_payload, overrun_with, inner}
 use Rattle.netlink_core.specs.Items.{ItemsAre}
-use Rattle.netlink_packet_sock_diag.specs.Message.{Message, MessageIs, MessageFault, message_of, inet_request, inet_response, unix_request, unix_response}
+use Rattle.netlink_packet_sock_diag.specs.Message.{Message, message_of, inet_request, inet_response, unix_request, unix_response, message_codec}
 use Rattle.sock_diag_uses.specs.declared.lister.Line.{Line}
 use Rattle.sock_diag_uses.specs.declared.lister.Line.TheVariants.{Socket, End, Failure, Refused}
 
@@ -27,5 +27,5 @@ line_of (Err e) = Some (Refused e)
 -- the lines of a datagram's items, in order
 pub record AreLinesOf (datagram : List ℕ) (lines : List Line) : Type 0 where
   pub items : List (Result (Payload Message) DecodeError)
-  pub are : ItemsAre MessageIs MessageFault datagram items
+  pub are : ItemsAre message_codec datagram items
   pub told : lines ≡ filter_map line_of items

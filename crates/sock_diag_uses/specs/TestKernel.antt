@@ -5,23 +5,23 @@ use Rattle.netlink_core.specs.declared.header.NetlinkHeader.{NetlinkHeader}
 use Rattle.netlink_core.specs.declared.fault.DecodeError.{DecodeError}
 use Rattle.netlink_core.specs.declared.fault.DecodeError.TheVariants.{UnknownMessageType}
 use Rattle.netlink_core.specs.Header.{HasHeader, IsEnvelopeFault}
-use Rattle.netlink_core.specs.Envelope.{Payload, OfInner, done_with, inner, envelope_bytes, payload_bytes, payload_type}
+use Rattle.netlink_core.specs.Envelope.{Payload, OfInner, done_with, inner, payload_bytes, payload_type, envelope_codec}
 use Rattle.netlink_core.specs.Format.{read}
 use Rattle.sock_diag_records.specs.declared.unix.request.UnixRequest.{UnixRequest}
 use Rattle.sock_diag_records.specs.UnixRequest.{unix_request}
-use Rattle.netlink_core.specs.Reply.{IsNormalReply, IsTypedReply, ReplyFits, reply_bytes}
+use Rattle.netlink_core.specs.Reply.{reply_bytes, reply_codec}
 use Rattle.netlink_packet_sock_diag.specs.declared.dump.DumpState.TheVariants.{Done}
 use Rattle.netlink_packet_sock_diag.specs.Dump.{DatagramDump}
-use Rattle.netlink_packet_sock_diag.specs.Message.{Message, MessageIs, MessageFault, MessageFits, message_of, unix_response, message_bytes}
+use Rattle.netlink_packet_sock_diag.specs.Message.{Message, message_of, unix_response, message_codec}
 use Rattle.netlink_packet_sock_diag.specs.UnixReply.{UnixReply, unix_reply}
 use Rattle.sock_diag_uses.specs.declared.test_kernel.AnswerError.{AnswerError}
 use Rattle.sock_diag_uses.specs.declared.test_kernel.AnswerError.TheVariants.{Request, Unwritable, Memory}
 
 -- the written bytes of a message that is one of several (flags 2), with its own length and type, from port 0
 unfoldable pub message_under : ℕ → Payload Message → List ℕ
-message_under sequence_number payload = envelope_bytes message_bytes (record {
+message_under sequence_number payload = (envelope_codec message_codec).written (record {
   header = record {
-    length = 16 + length (payload_bytes message_bytes payload);
+    length = 16 + length (payload_bytes message_codec.written payload);
     message_type = payload_type (λ _. 20) payload;
     flags = 2;
     sequence_number = sequence_number;
@@ -56,7 +56,7 @@ pub data RefusesRequest (request : List ℕ) (e : DecodeError) : Type 0 where
 
 -- a message with this payload can be written
 abbrev pub HasRoom : Payload Message → Type 0
-HasRoom payload = OfInner MessageFits payload × (16 + length (payload_bytes message_bytes payload) ≤ 4294967295)
+HasRoom payload = OfInner message_codec.fits payload × (16 + length (payload_bytes message_codec.written payload) ≤ 4294967295)
 
 -- a message of its own for the reply can be written
 abbrev pub ReplyHasRoom : UnixReply → Type 0
@@ -75,11 +75,11 @@ GivesNoAnswer request replies other = FailsFor (¬ AllByRecursion ReplyHasRoom r
 
 -- a reply as readers give it, whose message can be written
 pub record CanBeTold (reply : UnixReply) : Type 0 where
-  pub typed : IsTypedReply unix_reply reply
-  pub normal : IsNormalReply unix_reply reply
-  pub fits : ReplyFits unix_reply reply
+  pub typed : (reply_codec unix_reply).is_typed reply
+  pub normal : (reply_codec unix_reply).is_normal tt reply
+  pub fits : (reply_codec unix_reply).fits reply
   pub short : 16 + length (reply_bytes unix_reply reply) ≤ 4294967295
 
 -- the dump over the datagram is done, and has these replies
 pub record IsWholeDump (datagram : List ℕ) (replies : List UnixReply) : Type 0 where
-  pub dump : DatagramDump MessageIs MessageFault [] datagram (map (message_of unix_response) replies) (Ok Done)
+  pub dump : DatagramDump message_codec [] datagram (map (message_of unix_response) replies) (Ok Done)

@@ -3,8 +3,8 @@
 ghost use Rattle.std.specs.Prelude.{◌≡◌, [], ◌∷◌, ◌++◌, replicate};
 ghost use Rattle.byteorder.specs.Endian.{little_bytes};
 ghost use Rattle.netlink_core.specs.Seen.{envelope_of};
-ghost use Rattle.netlink_core.specs.Envelope.{envelope_bytes};
-ghost use Rattle.netlink_packet_sock_diag.specs.Message.{message_bytes};
+ghost use Rattle.netlink_core.specs.Envelope.{envelope_codec};
+ghost use Rattle.netlink_packet_sock_diag.specs.Message.{message_codec};
 ghost use Rattle.netlink_packet_sock_diag.specs.SeenMessage.{seen_message};
 ghost use Rattle.sock_diag_uses.specs.ListeningTcp.{family_number, listening_request};
 
@@ -56,7 +56,7 @@ pub fn listening_tcp(family: Family, sequence_number: u32) -> NetlinkMessage<Soc
 /// The bytes of [`listening_tcp`], as they are sent. No memory is taken.
 #[tactic(auto, unfolding(sock_diag_records::specs::InetRequest::inet_request))]
 pub fn listening_tcp_bytes(family: Family, sequence_number: u32) -> [u8; REQUEST_LENGTH]
-    ensures written { result ≡ envelope_bytes message_bytes (listening_request family sequence_number) }
+    ensures written { result ≡ (envelope_codec message_codec).written (listening_request family sequence_number) }
     // Length 72, type 20, flags 0x301, the sequence number and port 0; the family, protocol 6, no extensions, a pad, the
     // state LISTEN; and the identity of no socket.
     ensures bytes { result ≡ (72 ∷ 0 ∷ 0 ∷ 0 ∷ 20 ∷ 0 ∷ 1 ∷ 3 ∷ [])

@@ -15,7 +15,7 @@ use Rattle.netlink_core.specs.Bytes.{IsBytes}
 use Rattle.netlink_core.specs.Envelope.{Payload}
 use Rattle.netlink_core.specs.declared.fault.DecodeError.{DecodeError}
 use Rattle.netlink_packet_sock_diag.specs.Dump.{AreSplit, HaveItems, in_a_row}
-use Rattle.netlink_packet_sock_diag.specs.Message.{Message as MessageValue, MessageIs, MessageFault}
+use Rattle.netlink_packet_sock_diag.specs.Message.{Message as MessageValue, message_codec}
 use Rattle.sockdiag.specs.Answer.{IsAnswerOf, IsRequest, row_of}
 use Rattle.sockdiag.specs.AskedSteps.{IsAnswerTo, IsNoRequest, IsReadAs}
 use Rattle.sockdiag.specs.DumpLine.{IsDumpRequest, TellsDump, shown_dump}
@@ -439,7 +439,7 @@ answers_apart name all line other bytes bytes' text text' h k asked asked' ok ok
 -- dumps over the same items have one answer
 pub dumps_alike : (line other text text' : List ℕ) (datagrams datagrams' : List (List ℕ)) (row : List (Result (Payload MessageValue) DecodeError))
     → IsAnswerOf line text → IsAnswerOf other text' → IsDumpRequest line datagrams → IsDumpRequest other datagrams'
-    → HaveItems MessageIs MessageFault datagrams row → HaveItems MessageIs MessageFault datagrams' row → text ≡ text'
+    → HaveItems message_codec datagrams row → HaveItems message_codec datagrams' row → text ≡ text'
 dumps_alike line other text text' datagrams datagrams' row h k dump dump' have have' =
     one_dump_text datagrams' (datagrams_typed other datagrams' dump') text text'
     (tells_same_items datagrams datagrams' row (datagrams_typed line datagrams dump) have have' text (h.dumped datagrams dump)) (k.dumped datagrams' dump')

@@ -13,7 +13,7 @@ use Rattle.netlink_packet_sock_diag.specs.declared.dump.DumpState.TheVariants.{R
 use Rattle.netlink_packet_sock_diag.specs.declared.dump.DumpError.TheVariants.{Ended, Fault}
 use Rattle.netlink_packet_sock_diag.specs.Feed.{FeedLeaves}
 use Rattle.netlink_packet_sock_diag.specs.Dump.{AreSplit, Dump, DatagramDump, DatagramsDump, HaveItems, in_a_row}
-use Rattle.netlink_packet_sock_diag.specs.Message.{Message, MessageIs, MessageFault}
+use Rattle.netlink_packet_sock_diag.specs.Message.{Message, message_codec}
 use Rattle.netlink_packet_sock_diag.specs.MessageLaws.{message_laws}
 use Rattle.netlink_packet_sock_diag.proofs.DumpRows.{dump_of_split, has_dump, items_of_each, joined, one_dump, one_row, same_dump, split_of_dump}
 use Rattle.sockdiag.specs.DumpLine.{TellsDump, ToldDump, shown_dump}
@@ -25,28 +25,28 @@ use Rattle.sockdiag.proofs.FieldLaws.{IsBytes-field}
 use Rattle.sockdiag.proofs.Telling.{one_telling, tells_value}
 
 -- each datagram has items
-some_items : (b : List ℕ) → IsBytes b → (items : List (Result (Payload Message) DecodeError)) × ItemsAre MessageIs MessageFault b items
-some_items = items_of MessageIs MessageFault message_laws.answered
+some_items : (b : List ℕ) → IsBytes b → (items : List (Result (Payload Message) DecodeError)) × ItemsAre message_codec b items
+some_items = items_of message_codec message_laws.answered
 
 -- and no others
-one_items : (b : List ℕ) → IsBytes b → (xs ys : List (Result (Payload Message) DecodeError)) → ItemsAre MessageIs MessageFault b xs → ItemsAre MessageIs MessageFault b ys → xs ≡ ys
-one_items = one_list MessageIs MessageFault envelope_laws.one_value envelope_laws.one_answer envelope_laws.one_fault
+one_items : (b : List ℕ) → IsBytes b → (xs ys : List (Result (Payload Message) DecodeError)) → ItemsAre message_codec b xs → ItemsAre message_codec b ys → xs ≡ ys
+one_items = one_list message_codec envelope_laws.one_value envelope_laws.one_answer envelope_laws.one_fault
 
 -- ---- one dump
 
 -- datagrams have a dump
 has_dumps : (before : List Message) (datagrams : List (List ℕ)) → AllByRecursion IsBytes datagrams
-    → (after : List Message) × (end : Result DumpState DecodeError) × DatagramsDump MessageIs MessageFault before datagrams after end
+    → (after : List Message) × (end : Result DumpState DecodeError) × DatagramsDump message_codec before datagrams after end
 has_dumps before datagrams typed =
-    let parts = items_of_each MessageIs MessageFault some_items datagrams typed in
+    let parts = items_of_each message_codec some_items datagrams typed in
     let dump = has_dump before (in_a_row parts.0) in
     (dump.0, dump.1, (in_a_row parts.0, (parts.0, parts.1, refl), dump.2))
 
 -- and no other
 one_dumps : (before : List Message) (datagrams : List (List ℕ)) → AllByRecursion IsBytes datagrams → (a b : List Message) (e f : Result DumpState DecodeError)
-    → DatagramsDump MessageIs MessageFault before datagrams a e → DatagramsDump MessageIs MessageFault before datagrams b f → (a ≡ b) × (e ≡ f)
+    → DatagramsDump message_codec before datagrams a e → DatagramsDump message_codec before datagrams b f → (a ≡ b) × (e ≡ f)
 one_dumps before datagrams typed a b e f (row, items, d) t =
-    let rows : t.0 ≡ row = t.1.2 ∙ ap (λ (parts : List (List (Result (Payload Message) DecodeError))). in_a_row parts) (one_row MessageIs MessageFault one_items datagrams typed t.1.0 items.0 t.1.1 items.1) ∙ sym items.2 in
+    let rows : t.0 ≡ row = t.1.2 ∙ ap (λ (parts : List (List (Result (Payload Message) DecodeError))). in_a_row parts) (one_row message_codec one_items datagrams typed t.1.0 items.0 t.1.1 items.1) ∙ sym items.2 in
     one_dump before row a b e f d (subst (λ (l : List (Result (Payload Message) DecodeError)). Dump before l b f) rows t.2)
 
 -- ---- one text
@@ -80,26 +80,26 @@ tells_others datagrams others same text (inr (inr (fault, never, e))) = absurd n
 
 -- the same items
 pub tells_same_items : (datagrams others : List (List ℕ)) (row : List (Result (Payload Message) DecodeError))
-    → AllByRecursion IsBytes datagrams → HaveItems MessageIs MessageFault datagrams row → HaveItems MessageIs MessageFault others row
+    → AllByRecursion IsBytes datagrams → HaveItems message_codec datagrams row → HaveItems message_codec others row
     → (text : List ℕ) → TellsDump datagrams text → TellsDump others text
 tells_same_items datagrams others row typed h k =
     tells_others datagrams others
-    (λ d. same_dump MessageIs MessageFault one_items datagrams others h.0 k.0 typed h.1 k.1
+    (λ d. same_dump message_codec one_items datagrams others h.0 k.0 typed h.1 k.1
     (sym h.2 ∙ k.2) [] d.messages d.end)
 
 -- another split
 pub tells_split : (datagrams others : List (List ℕ)) → AllByRecursion IsBytes datagrams → AllByRecursion IsBytes others → AreSplit datagrams → AreSplit others
     → in_a_row datagrams ≡ in_a_row others → (text : List ℕ) → TellsDump datagrams text → TellsDump others text
 tells_split datagrams others typed fits split cut same =
-    tells_others datagrams others (λ d is. split_of_dump MessageIs MessageFault some_items one_items others fits cut [] d.messages d.end
-    (subst (λ (bytes : List ℕ). DatagramDump MessageIs MessageFault [] bytes d.messages d.end) same
-    (dump_of_split MessageIs MessageFault datagrams split [] d.messages d.end is)))
+    tells_others datagrams others (λ d is. split_of_dump message_codec some_items one_items others fits cut [] d.messages d.end
+    (subst (λ (bytes : List ℕ). DatagramDump message_codec [] bytes d.messages d.end) same
+    (dump_of_split message_codec datagrams split [] d.messages d.end is)))
 
 -- ---- one datagram more
 
 -- what a further datagram makes of a dump
 Next : List Message → Result DumpState DecodeError → List ℕ → List Message → Result DumpState DecodeError → Type 0
-Next middle state datagram after end = ((state ≡ Ok Reading) × DatagramDump MessageIs MessageFault middle datagram after end) ⊎ ((state ≢ Ok Reading) × (after ≡ middle) × (end ≡ state))
+Next middle state datagram after end = ((state ≡ Ok Reading) × DatagramDump message_codec middle datagram after end) ⊎ ((state ≢ Ok Reading) × (after ≡ middle) × (end ≡ state))
 
 -- the items of datagrams and of one more
 in_a_row-push : (parts : List (List (Result (Payload Message) DecodeError))) (items : List (Result (Payload Message) DecodeError)) → in_a_row (parts ++ items ∷ []) ≡ in_a_row parts ++ items
@@ -108,16 +108,16 @@ in_a_row-push (part ∷ parts) items = ap (λ (l : List (Result (Payload Message
 
 -- and their row
 grown : (datagrams : List (List ℕ)) (datagram : List ℕ) (row items : List (Result (Payload Message) DecodeError))
-    → HaveItems MessageIs MessageFault datagrams row → ItemsAre MessageIs MessageFault datagram items → HaveItems MessageIs MessageFault (datagrams ++ datagram ∷ []) (row ++ items)
+    → HaveItems message_codec datagrams row → ItemsAre message_codec datagram items → HaveItems message_codec (datagrams ++ datagram ∷ []) (row ++ items)
 grown datagrams datagram row items have are = (
   have.0 ++ items ∷ [],
-  zip_append (ItemsAre MessageIs MessageFault) datagrams (datagram ∷ []) have.0 (items ∷ []) have.1 (are, tt),
+  zip_append (ItemsAre message_codec) datagrams (datagram ∷ []) have.0 (items ∷ []) have.1 (are, tt),
   ap (λ (l : List (Result (Payload Message) DecodeError)). l ++ items) have.2 ∙ sym (in_a_row-push have.0 items),
 )
 
 one_more : (datagrams : List (List ℕ)) (datagram : List ℕ) → IsBytes datagram → (before middle after : List Message) (state end : Result DumpState DecodeError)
-    → DatagramsDump MessageIs MessageFault before datagrams middle state → Next middle state datagram after end
-    → DatagramsDump MessageIs MessageFault before (datagrams ++ datagram ∷ []) after end
+    → DatagramsDump message_codec before datagrams middle state → Next middle state datagram after end
+    → DatagramsDump message_codec before (datagrams ++ datagram ∷ []) after end
 unfolding Next
 one_more datagrams datagram typed before middle after state end (row, have, d) (inl (reading, (items, are, dump))) =
     (row ++ items, grown datagrams datagram row items have are, joined before middle after state end row items d (inl (reading, dump)))
@@ -136,20 +136,20 @@ over_at state None over = λ e. over (bare state e)
 over_at state (Some fault) over = λ e. cc
 
 module _ (datagrams : List (List ℕ)) (datagram : List ℕ) (typed : IsBytes datagram) (before after : List Message) (state left : DumpState) (fault : Option DecodeError)
-    (d : DatagramsDump MessageIs MessageFault [] datagrams before (ended_with state fault)) (none : state ≡ Reading → fault ≡ None) where
+    (d : DatagramsDump message_codec [] datagrams before (ended_with state fault)) (none : state ≡ Reading → fault ≡ None) where
   -- the datagram was taken without a fault
-  pub took : FeedLeaves MessageIs MessageFault before state datagram after left (Ok tt)
-      → DatagramsDump MessageIs MessageFault [] (datagrams ++ datagram ∷ []) after (ended_with left fault) × (left ≡ Reading → fault ≡ None)
+  pub took : FeedLeaves message_codec before state datagram after left (Ok tt)
+      → DatagramsDump message_codec [] (datagrams ++ datagram ∷ []) after (ended_with left fault) × (left ≡ Reading → fault ≡ None)
   unfolding Next
   took fed = (
     one_more datagrams datagram typed [] before after (ended_with state fault) (ended_with left fault) d
-        (inl (reading_at state fault none fed.0, subst (λ (e : Result DumpState DecodeError). DatagramDump MessageIs MessageFault before datagram after e) (sym (ap (ended_with left) (none fed.0))) fed.1)),
+        (inl (reading_at state fault none fed.0, subst (λ (e : Result DumpState DecodeError). DatagramDump message_codec before datagram after e) (sym (ap (ended_with left) (none fed.0))) fed.1)),
     λ still. none fed.0,
   )
 
   -- it was not, since the dump had ended
-  pub left_as_it_was : FeedLeaves MessageIs MessageFault before state datagram after left (Err Ended)
-      → DatagramsDump MessageIs MessageFault [] (datagrams ++ datagram ∷ []) after (ended_with left fault) × (left ≡ Reading → fault ≡ None)
+  pub left_as_it_was : FeedLeaves message_codec before state datagram after left (Err Ended)
+      → DatagramsDump message_codec [] (datagrams ++ datagram ∷ []) after (ended_with left fault) × (left ≡ Reading → fault ≡ None)
   unfolding Next
   left_as_it_was fed = (
     one_more datagrams datagram typed [] before after (ended_with state fault) (ended_with left fault) d
@@ -158,8 +158,8 @@ module _ (datagrams : List (List ℕ)) (datagram : List ℕ) (typed : IsBytes da
   )
 
   -- it has a fault
-  pub failed_at : (e : DecodeError) → e ≢ Memory → FeedLeaves MessageIs MessageFault before state datagram after left (Err (Fault e))
-      → DatagramsDump MessageIs MessageFault [] (datagrams ++ datagram ∷ []) after (Err e) × (left ≡ Reading → Some e ≡ None)
+  pub failed_at : (e : DecodeError) → e ≢ Memory → FeedLeaves message_codec before state datagram after left (Err (Fault e))
+      → DatagramsDump message_codec [] (datagrams ++ datagram ∷ []) after (Err e) × (left ≡ Reading → Some e ≡ None)
   unfolding Next
   failed_at e named fed = (
     one_more datagrams datagram typed [] before after (ended_with state fault) (Err e) d (inl (reading_at state fault none fed.0, fed.2 named)),

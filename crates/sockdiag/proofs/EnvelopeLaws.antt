@@ -2,10 +2,10 @@
 use Rattle.std.proofs.Common.{◌≡◌, ◌↔◌, ℕ, ◌<◌, ◌^◌, List, decimal, refl, sym, ap, subst, arith}
 use Rattle.std.proofs.lemmas.Fmt.{decimal_injective}
 use Rattle.netlink_core.specs.Bytes.{IsBytes}
-use Rattle.netlink_core.specs.Envelope.{Payload, done_with, error_with, no_payload, overrun_with, inner, Envelope, PayloadIs, EnvelopeIs, EnvelopeFits, IdleEnvelopes, payload_bytes}
+use Rattle.netlink_core.specs.Envelope.{Payload, done_with, error_with, no_payload, overrun_with, inner, Envelope, PayloadIs, payload_bytes, envelope_codec}
 use Rattle.netlink_core.proofs.Framing.{envelope_or_fault, envelope_or_fault_apart, one_envelope_fault, payload_typed}
 use Rattle.netlink_core.proofs.Idle.{equal_where_idle, payloads_alike}
-use Rattle.netlink_packet_sock_diag.specs.Message.{message_codec, Message, MessageIs, MessageFault, MessageFits, IdleMessages, message_bytes}
+use Rattle.netlink_packet_sock_diag.specs.Message.{message_codec, Message}
 use Rattle.netlink_packet_sock_diag.specs.MessageLaws.{message_laws}
 use Rattle.sockdiag.proofs.CanonicalLaws.{same_written}
 use Rattle.sockdiag.proofs.Deciding.{envelope_fits_or_not}
@@ -25,7 +25,7 @@ word-same m n rest other hm hn e =
 -- ---- payloads
 
 -- what is written of a payload that was read is bytes
-payload_written : (t : ℕ) (x : List ℕ) (p : Payload Message) → IsBytes x → PayloadIs MessageIs x t p → IsBytes (payload_bytes message_bytes p)
+payload_written : (t : ℕ) (x : List ℕ) (p : Payload Message) → IsBytes x → PayloadIs message_codec.reads x t p → IsBytes (payload_bytes message_codec.written p)
 payload_written t x no_payload hx r = λ i. omega arith
 payload_written t x (error_with given) hx r = subst IsBytes (sym r.1) hx
 payload_written t x (done_with given) hx r = subst IsBytes (sym r.1) hx
@@ -34,13 +34,13 @@ payload_written t x (inner m) hx r = message_laws.written_bytes m (message_laws.
 
 -- ---- messages
 
-equal_idle : (b c : List ℕ) (v w : Envelope Message) → IsBytes b → IsBytes c → EnvelopeIs MessageIs b v → EnvelopeIs MessageIs c w → ((v ≡ w) ↔ IdleEnvelopes IdleMessages b c)
+equal_idle : (b c : List ℕ) (v w : Envelope Message) → IsBytes b → IsBytes c → (envelope_codec message_codec).reads b tt v → (envelope_codec message_codec).reads c tt w → ((v ≡ w) ↔ (envelope_codec message_codec).idle tt b c)
 equal_idle b c v w hb hc r s =
-    equal_where_idle MessageIs IdleMessages message_laws.same_value b c v w hb hc r s
+    equal_where_idle message_codec message_laws.same_value b c v w hb hc r s
 
 -- messages of which the same is shown are equal
-same_shown : (b c : List ℕ) (v w : Envelope Message) → IsBytes b → IsBytes c → EnvelopeIs MessageIs b v → EnvelopeIs MessageIs c w
-    → EnvelopeFits message_bytes MessageFits v → EnvelopeFits message_bytes MessageFits w → shown_envelope v ≡ shown_envelope w → v ≡ w
+same_shown : (b c : List ℕ) (v w : Envelope Message) → IsBytes b → IsBytes c → (envelope_codec message_codec).reads b tt v → (envelope_codec message_codec).reads c tt w
+    → (envelope_codec message_codec).fits v → (envelope_codec message_codec).fits w → shown_envelope v ≡ shown_envelope w → v ≡ w
 same_shown b c v w hb hc (x, framed, r) (y, other, s) f g e =
     let h = framed.typed in
     let k = other.typed in
@@ -53,10 +53,10 @@ same_shown b c v w hb hc (x, framed, r) (y, other, s) f g e =
     let hy = payload_typed c y w.header hc other in
     let p = payload_written v.header.message_type x v.payload hx r in
     let q = payload_written w.header.message_type y w.payload hy s in
-    let written = field_of-same (payload_bytes message_bytes v.payload) (payload_bytes message_bytes w.payload) p q ports.1 in
-    let same_type = subst (λ (t : ℕ). PayloadIs MessageIs y t w.payload) (sym types.0) s in
+    let written = field_of-same (payload_bytes message_codec.written v.payload) (payload_bytes message_codec.written w.payload) p q ports.1 in
+    let same_type = subst (λ (t : ℕ). PayloadIs message_codec.reads y t w.payload) (sym types.0) s in
     let t = v.header.message_type in
-    let payloads = payloads_alike MessageIs message_bytes MessageFits t x y (λ m n. same_written message_codec message_laws t x y m n hx hy) v.payload w.payload r same_type f.0 g.0 written in
+    let payloads = payloads_alike message_codec.reads message_codec.written message_codec.fits t x y (λ m n. same_written message_codec message_laws t x y m n hx hy) v.payload w.payload r same_type f.0 g.0 written in
     λ i. record {
       header = record { length = lengths.0 i; message_type = types.0 i; flags = flags.0 i; sequence_number = sequences.0 i; port_number = ports.0 i };
       payload = payloads i;
@@ -64,10 +64,10 @@ same_shown b c v w hb hc (x, framed, r) (y, other, s) f g e =
 
 pub envelope_laws : LawsOf envelope_subject
 envelope_laws = record {
-  answered = λ b h. envelope_or_fault MessageIs MessageFault b h message_laws.answered;
+  answered = λ b h. envelope_or_fault message_codec b h message_laws.answered;
   one_value = λ b v w h r s. (equal_idle b b v w h h r s).1 ((equal_idle b b v v h h r r).0 refl);
-  one_answer = λ b v e. envelope_or_fault_apart MessageIs MessageFault b v e (λ x t m. message_laws.one_answer x t m e);
-  one_fault = λ b e f. one_envelope_fault MessageFault b e f (λ x t. message_laws.one_fault x t e f);
+  one_answer = λ b v e. envelope_or_fault_apart message_codec b v e (λ x t m. message_laws.one_answer x t m e);
+  one_fault = λ b e f. one_envelope_fault message_codec.refuses b e f (λ x t. message_laws.one_fault x t e f);
   fits_or_not = envelope_fits_or_not;
   shown_alike = λ b c v w hb hc r s i. ap shown_envelope ((equal_idle b c v w hb hc r s).1 i);
 }

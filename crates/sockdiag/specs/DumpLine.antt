@@ -6,7 +6,7 @@ use Rattle.netlink_core.specs.Faults.{number_of}
 use Rattle.netlink_packet_sock_diag.specs.declared.dump.DumpState.{DumpState}
 use Rattle.netlink_packet_sock_diag.specs.declared.dump.DumpState.TheVariants.{Reading, Done, Error, Overrun, Failed}
 use Rattle.netlink_packet_sock_diag.specs.Dump.{DatagramsDump}
-use Rattle.netlink_packet_sock_diag.specs.Message.{Message, MessageIs, MessageFault, MessageFits, message_bytes}
+use Rattle.netlink_packet_sock_diag.specs.Message.{Message, message_codec}
 use Rattle.sockdiag.specs.HexField.{IsHexField, field_of}
 use Rattle.sockdiag.specs.Told.{Tells}
 
@@ -32,11 +32,11 @@ end_word (Err fault) = codes "failed:" ++ decimal (number_of fault)
 -- how it ends, a space, how many messages it keeps, and a space and a hex field for each of them
 abbrev pub shown_dump : ToldDump → List ℕ
 shown_dump dump = end_word dump.end ++ 32 ∷ decimal (length dump.messages)
-    ++ flat_map (λ message. 32 ∷ field_of (message_bytes message)) dump.messages
+    ++ flat_map (λ message. 32 ∷ field_of (message_codec.written message)) dump.messages
 
 -- The text tells of the dump over the datagrams, which is never refused. It can be written where
 -- each message that it keeps can be.
 abbrev pub TellsDump : List (List ℕ) → List ℕ → Type 0
 TellsDump datagrams text =
-    Tells (λ dump. DatagramsDump MessageIs MessageFault [] datagrams dump.messages dump.end)
-    (λ fault. ⊥) (λ dump. AllByRecursion MessageFits dump.messages) shown_dump text
+    Tells (λ dump. DatagramsDump message_codec [] datagrams dump.messages dump.end)
+    (λ fault. ⊥) (λ dump. AllByRecursion message_codec.fits dump.messages) shown_dump text

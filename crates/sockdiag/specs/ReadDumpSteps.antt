@@ -7,7 +7,7 @@ use Rattle.netlink_packet_sock_diag.specs.SeenDump.{dump_state, kept_messages}
 use Rattle.sockdiag.specs.declared.dump_line.ReadDump.{ReadDump}
 use Rattle.std.specs.List.{AllByRecursion, AllZip, slice_split}
 use Rattle.netlink_packet_sock_diag.specs.Dump.{DatagramsDump}
-use Rattle.netlink_packet_sock_diag.specs.Message.{Message, MessageIs, MessageFault, MessageFits, message_bytes}
+use Rattle.netlink_packet_sock_diag.specs.Message.{Message, message_codec}
 use Rattle.sockdiag.specs.DumpLine.{ToldDump}
 use Rattle.sockdiag.specs.HexField.{IsHexField, field_of}
 
@@ -17,15 +17,15 @@ AreHexFields text datagrams = AllZip IsHexField (slice_split (λ c. c == 32) tex
 
 -- the dump over the datagrams
 abbrev pub IsDumpOf : List (List ℕ) → ToldDump → Type 0
-IsDumpOf datagrams dump = DatagramsDump MessageIs MessageFault [] datagrams dump.messages dump.end
+IsDumpOf datagrams dump = DatagramsDump message_codec [] datagrams dump.messages dump.end
 
 -- each message that it keeps can be written
 abbrev pub IsWritable : ToldDump → Type 0
-IsWritable dump = AllByRecursion MessageFits dump.messages
+IsWritable dump = AllByRecursion message_codec.fits dump.messages
 
 -- a space and the bytes of a message as a hex field
 abbrev pub shown_message : Message → List ℕ
-shown_message message = 32 ∷ field_of (message_bytes message)
+shown_message message = 32 ∷ field_of (message_codec.written message)
 
 -- the fault at which it failed, or else its state
 abbrev pub ended_with : DumpState → Option DecodeError → Result DumpState DecodeError

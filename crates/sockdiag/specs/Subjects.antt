@@ -1,8 +1,8 @@
 -- The subjects of the program's lines.
 use Rattle.std.specs.Prelude.{⊤}
 use Rattle.netlink_core.specs.Codec.{Codec}
-use Rattle.netlink_core.specs.Envelope.{Envelope, EnvelopeIs, EnvelopeFault, EnvelopeFits, IdleEnvelopes}
-use Rattle.netlink_packet_sock_diag.specs.Message.{Message, MessageIs, MessageFault, MessageFits, IdleMessages, message_bytes}
+use Rattle.netlink_core.specs.Envelope.{Envelope, EnvelopeIs, EnvelopeFault, envelope_codec}
+use Rattle.netlink_packet_sock_diag.specs.Message.{Message, message_codec}
 use Rattle.netlink_core.specs.Reply.{reply_codec}
 use Rattle.netlink_packet_sock_diag.specs.UnixReply.{unix_reply}
 use Rattle.sockdiag.specs.EnvelopeLine.{shown_envelope}
@@ -23,14 +23,7 @@ subject C p = record {
 
 -- a netlink message; the fields of its header as they were read and the written bytes of its payload are shown
 abbrev pub envelope_subject : Subject
-envelope_subject = record {
-  Value = Envelope Message;
-  reads = EnvelopeIs MessageIs;
-  refuses = EnvelopeFault MessageFault;
-  fits = EnvelopeFits message_bytes MessageFits;
-  shown = shown_envelope;
-  idle = IdleEnvelopes IdleMessages;
-}
+envelope_subject = record (subject (envelope_codec message_codec) tt) { shown = shown_envelope }
 
 -- a reply about a UNIX socket, of which thirteen words are shown whether or not it can be written
 abbrev pub view_subject : Subject

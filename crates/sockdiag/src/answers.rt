@@ -3,11 +3,11 @@
 ghost use Rattle.sockdiag.specs.declared.answers.Name.{Name};
 ghost use Rattle.sockdiag.specs.declared.answers.Name.TheVariants.{UnixView};
 ghost use Rattle.std.specs.Prelude.{◌≡◌, ◌≢◌, ◌↔◌, ◌++◌, ◌∷◌, [], ℕ, List, codes, decimal, Result, IfOk, OnOk, MatchOption};
-ghost use Rattle.netlink_core.specs.Envelope.{EnvelopeFits, Payload, inner as of_inner};
+ghost use Rattle.netlink_core.specs.Envelope.{Payload, inner as of_inner, envelope_codec};
 ghost use Rattle.netlink_core.specs.Seen.{envelope_of};
 ghost use Rattle.netlink_core.specs.declared.fault.DecodeError.{DecodeError};
 ghost use Rattle.netlink_packet_sock_diag.specs.Dump.{AreSplit, HaveItems, in_a_row};
-ghost use Rattle.netlink_packet_sock_diag.specs.Message.{Message, MessageIs, MessageFault, MessageFits, message_bytes};
+ghost use Rattle.netlink_packet_sock_diag.specs.Message.{Message, message_codec};
 ghost use Rattle.netlink_packet_sock_diag.specs.SeenMessage.{seen_message};
 ghost use Rattle.sockdiag.specs.Answer.{IsAnswerOf, IsRequest, row_of};
 ghost use Rattle.sockdiag.specs.AskedSteps.{IsAnswerTo, IsReadAs};
@@ -88,7 +88,7 @@ pub fn answer(alloc: Global, line: &[u8]) -> Result<Vec<u8>, AllocError>
     ensures dumps { IfOk result (λ text. (other text' : List ℕ) (datagrams datagrams' : List (List ℕ))
         (row : List (Result (Payload Message) DecodeError))
         → IsDumpRequest line.now datagrams → IsDumpRequest other datagrams'
-        → HaveItems MessageIs MessageFault datagrams row → HaveItems MessageIs MessageFault datagrams' row
+        → HaveItems message_codec datagrams row → HaveItems message_codec datagrams' row
         → IsAnswerOf other text' → text.items ≡ text') }
     // So have two dumps of the same bytes, of which each datagram but the last is whole messages.
     ensures split { IfOk result (λ text. (other text' : List ℕ) (datagrams datagrams' : List (List ℕ))
@@ -226,7 +226,7 @@ fn push_shown(
     message: NetlinkMessage<SockDiagMessage>,
 ) -> Result<(), AllocError>
     ensures { OnOk result (Adds text.old.items text.new.items
-        (Tells (λ e. e ≡ envelope_of seen_message message) (λ fault. ⊥) (EnvelopeFits message_bytes MessageFits) shown_envelope)) }
+        (Tells (λ e. e ≡ envelope_of seen_message message) (λ fault. ⊥) (envelope_codec message_codec).fits shown_envelope)) }
 {
     if !message.is_writable() {
         return text.extend_from_slice(UNWRITABLE);
@@ -248,7 +248,7 @@ fn push_inner(
     header: &NetlinkHeader,
     inner: SockDiagMessage,
 ) -> Result<(), AllocError>
-    requires { MessageFits (seen_message inner) }
+    requires { message_codec.fits (seen_message inner) }
     ensures { OnOk result (text.new.items ≡ text.old.items ++ accepted
         (shown_envelope (record { header = header.now; payload = of_inner (seen_message inner) }))) }
 {

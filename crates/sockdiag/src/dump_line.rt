@@ -2,7 +2,7 @@
 
 ghost use Rattle.std.specs.Prelude.{◌≡◌, ◌↔◌, ◌++◌, ℕ, List, map, IsTrue, IfOk, OnOk, MatchBool, MatchOption, Ok};
 ghost use Rattle.std.specs.List.{AllByRecursion, flat_map};
-ghost use Rattle.netlink_packet_sock_diag.specs.Message.{MessageFits};
+ghost use Rattle.netlink_packet_sock_diag.specs.Message.{message_codec};
 ghost use Rattle.netlink_packet_sock_diag.specs.SeenMessage.{seen_message};
 ghost use Rattle.sockdiag.specs.DumpLine.{end_word, shown_dump};
 ghost use Rattle.sockdiag.specs.HexField.{IsHexField};
@@ -129,7 +129,7 @@ fn state_word(state: DumpState) -> &'static [u8]
 
 /// Whether each message can be written.
 fn are_writable(messages: &[SockDiagMessage]) -> bool
-    ensures { IsTrue result ↔ AllByRecursion MessageFits (map seen_message messages.now) }
+    ensures { IsTrue result ↔ AllByRecursion message_codec.fits (map seen_message messages.now) }
 {
     for message in messages {
         if !message.is_writable() {
@@ -145,7 +145,7 @@ fn push_messages(
     text: &mut Vec<u8>,
     messages: &[SockDiagMessage],
 ) -> Result<(), AllocError>
-    requires { AllByRecursion MessageFits (map seen_message messages.now) }
+    requires { AllByRecursion message_codec.fits (map seen_message messages.now) }
     ensures { OnOk result (text.new.items ≡ text.old.items ++ flat_map shown_message (map seen_message messages.now)) }
 {
     for message in messages {
@@ -160,7 +160,7 @@ fn push_message(
     text: &mut Vec<u8>,
     message: &SockDiagMessage,
 ) -> Result<(), AllocError>
-    requires { MessageFits (seen_message message.now) }
+    requires { message_codec.fits (seen_message message.now) }
     ensures { OnOk result (text.new.items ≡ text.old.items ++ shown_message (seen_message message.now)) }
 {
     let mut bytes = vec![in alloc; 0; message.buffer_len()]?;

@@ -8,7 +8,7 @@ use Rattle.netlink_core.specs.Faults.{number_of}
 use Rattle.netlink_core.proofs.Datagrams.{one_cut_into_messages}
 use Rattle.netlink_core.proofs.Framing.{one_framing_fault}
 use Rattle.netlink_core.proofs.Items.{items_of, rest_typed}
-use Rattle.netlink_packet_sock_diag.specs.Message.{MessageFault, MessageIs}
+use Rattle.netlink_packet_sock_diag.specs.Message.{message_codec}
 use Rattle.netlink_packet_sock_diag.specs.MessageLaws.{message_laws}
 use Rattle.sockdiag_c.specs.declared.walks.Cursor.{Cursor}
 use Rattle.sockdiag_c.specs.declared.walks.MessagePart.{MessagePart}
@@ -18,7 +18,7 @@ use Rattle.sockdiag_c.specs.Walks.{IsTold, NextMessage, left_of}
 cut_with_step : (bytes : List ℕ) (old new : Cursor) (now : MessagePart) (answer : ℕ) → IsBytes (left_of bytes old) → IsTold bytes old new now answer
     → (message : List ℕ) × (later : List (List ℕ)) × (end : Option DecodeError) × CutIntoMessages (left_of bytes new) later end × CutIntoMessages (left_of bytes old) (message ∷ later) end
 cut_with_step bytes old new now answer typed s =
-    let items = (items_of MessageIs MessageFault message_laws.answered (left_of bytes new) (rest_typed (left_of bytes old) s.0 (left_of bytes new) s.1 typed)).1 in
+    let items = (items_of message_codec message_laws.answered (left_of bytes new) (rest_typed (left_of bytes old) s.0 (left_of bytes new) s.1 typed)).1 in
     (s.0, items.messages, items.end, items.cut, (left_of bytes new, s.1, items.cut))
 
 -- a step tells the first message, and leaves what the others are cut from

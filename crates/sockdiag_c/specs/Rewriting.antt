@@ -3,7 +3,7 @@ use Rattle.std.specs.Prelude.{◌≡◌, ℕ, ◌<◌, ◌≤◌, ◌↔◌, ◌
 use Rattle.netlink_core.specs.Bytes.{IsBytes}
 use Rattle.netlink_core.specs.declared.fault.DecodeError.{DecodeError}
 use Rattle.netlink_core.specs.Faults.{number_of}
-use Rattle.netlink_core.specs.Reply.{AreIdleReplies, MeansReply, Reply, ReplyFits, ValueOf, reply_bytes}
+use Rattle.netlink_core.specs.Reply.{Reply, ValueOf, reply_bytes, reply_codec}
 use Rattle.sockdiag_c.specs.declared.rewriting.Outcome.{Outcome}
 
 -- a fault by its number, or 0, and how many bytes are needed
@@ -32,5 +32,5 @@ Rewrites {V} reads refuses fits bytes old new outcome answer =
 -- value that can be written, exactly the idle ones are written so.
 abbrev pub IsCanonical : Reply → List ℕ → List ℕ → ℕ → Type 0
 IsCanonical R payload new answer =
-    0 < answer → (d : List ℕ) (w : ValueOf R) → IsBytes d → MeansReply R d w → ReplyFits R w
-    → ((reply_bytes R w ≡ take answer new) ↔ AreIdleReplies R payload d)
+    0 < answer → (d : List ℕ) (w : ValueOf R) → IsBytes d → (reply_codec R).reads d tt w → (reply_codec R).fits w
+    → ((reply_bytes R w ≡ take answer new) ↔ (reply_codec R).idle tt payload d)

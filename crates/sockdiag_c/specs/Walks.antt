@@ -7,7 +7,7 @@ use Rattle.netlink_core.specs.declared.header.NetlinkHeader.{NetlinkHeader}
 use Rattle.netlink_core.specs.Envelope.{IsInnerType, Payload, PayloadIs}
 use Rattle.netlink_core.specs.Faults.{number_of}
 use Rattle.netlink_core.specs.Header.{IsEnvelopeFault, IsFramed}
-use Rattle.netlink_packet_sock_diag.specs.Message.{Message, MessageFault, MessageIs}
+use Rattle.netlink_packet_sock_diag.specs.Message.{Message, message_codec}
 use Rattle.sockdiag_c.specs.declared.walks.AttributePart.{AttributePart}
 use Rattle.sockdiag_c.specs.declared.walks.Cursor.{Cursor}
 use Rattle.sockdiag_c.specs.declared.walks.MessagePart.{MessagePart}
@@ -59,8 +59,8 @@ payload_in bytes part = take part.length (drop part.offset bytes)
 -- and the answer is the number of its first fault.
 abbrev pub Carries : List ℕ → ℕ → ℕ → Type 0
 Carries payload t answer =
-    ((answer ≡ 1) × ((carried : Payload Message) × PayloadIs MessageIs payload t carried))
-    ⊎ ((e : DecodeError) × IsInnerType t × MessageFault payload t e × (answer ≡ number_of e))
+    ((answer ≡ 1) × ((carried : Payload Message) × PayloadIs message_codec.reads payload t carried))
+    ⊎ ((e : DecodeError) × IsInnerType t × message_codec.refuses payload t e × (answer ≡ number_of e))
 
 -- The message at the front of what was left is told, its payload behind the header, and what it carries; and the walk
 -- passes it and its padding.

@@ -1,8 +1,8 @@
 //! Checks of replies in place.
 
-ghost use Rattle.netlink_core.specs.Reply.{MeansReply, RefusesReply};
+ghost use Rattle.netlink_core.specs.Reply.{reply_codec};
 ghost use Rattle.netlink_packet_sock_diag.specs.InetReply.{inet_reply};
-ghost use Rattle.netlink_packet_sock_diag.specs.Message.{MessageFault, MessageIs};
+ghost use Rattle.netlink_packet_sock_diag.specs.Message.{message_codec};
 ghost use Rattle.netlink_packet_sock_diag.specs.UnixReply.{unix_reply};
 ghost use Rattle.sockdiag_c.specs.Answers.{Tells};
 ghost use Rattle.sockdiag_c.specs.Headers.{inet_header_of, reply_of, unix_header_of};
@@ -16,7 +16,7 @@ use netlink_packet_sock_diag::unix::UnixResponseView;
 /// or the number of the first fault, and then the header is left as it was.
 #[unsafe(no_mangle)]
 pub extern "C" fn sockdiag_check_unix_reply(payload: &[u8], header: &mut UnixHeader) -> u32
-    ensures { Tells (MeansReply unix_reply payload.now) (RefusesReply unix_reply payload.now)
+    ensures { Tells ((reply_codec unix_reply).reads payload.now tt) ((reply_codec unix_reply).refuses payload.now tt)
         (λ v. unix_header_of v.header) header.old header.new result }
 {
     match UnixResponseView::parse(payload) {
@@ -31,7 +31,7 @@ pub extern "C" fn sockdiag_check_unix_reply(payload: &[u8], header: &mut UnixHea
 /// The same of a reply about an IPv4 or IPv6 socket.
 #[unsafe(no_mangle)]
 pub extern "C" fn sockdiag_check_inet_reply(payload: &[u8], header: &mut InetHeader) -> u32
-    ensures { Tells (MeansReply inet_reply payload.now) (RefusesReply inet_reply payload.now)
+    ensures { Tells ((reply_codec inet_reply).reads payload.now tt) ((reply_codec inet_reply).refuses payload.now tt)
         (λ v. inet_header_of v.header) header.old header.new result }
 {
     match InetResponseView::parse(payload) {
@@ -51,7 +51,7 @@ pub extern "C" fn sockdiag_check_message(
     message_type: u16,
     reply: &mut Reply,
 ) -> u32
-    ensures { Tells (MessageIs payload.now message_type) (MessageFault payload.now message_type)
+    ensures { Tells (message_codec.reads payload.now message_type) (message_codec.refuses payload.now message_type)
         (reply_of reply.old) reply.old reply.new result }
 {
     match SockDiagView::parse(payload, message_type) {

@@ -3,7 +3,7 @@
 ghost use Rattle.std.specs.Prelude.{◌≡◌, ◌≢◌, ◌+◌, ◌<◌, ◌≤◌, ◌⊎◌, ◌++◌, length, drop};
 ghost use Rattle.netlink_core.specs.Format.{bytes};
 ghost use Rattle.netlink_core.specs.Header.{header_bytes};
-ghost use Rattle.netlink_packet_sock_diag.specs.Message.{MessageFits, message_bytes};
+ghost use Rattle.netlink_packet_sock_diag.specs.Message.{message_codec};
 ghost use Rattle.netlink_packet_sock_diag.specs.SeenMessage.{seen_message};
 ghost use Rattle.sock_diag_records.specs.InetRequest.{inet_request};
 ghost use Rattle.sock_diag_records.specs.UnixRequest.{unix_request};
@@ -161,10 +161,10 @@ fn address_in(family: u8, octets: &[u8; 16]) -> IpAddr
 
 // Writes a request behind its netlink header at the front of the buffer, and leaves the rest.
 fn write_request(header: &RequestHeader, message: SockDiagMessage, buffer: &mut [u8]) -> usize
-    requires fits { MessageFits (seen_message message) }
-    requires small { 16 + length (message_bytes (seen_message message)) ≤ 4294967295 }
-    requires room { 16 + length (message_bytes (seen_message message)) ≤ length buffer.old }
-    ensures { IsWritten (header_bytes (header_of (16 + length (message_bytes (seen_message message))) header.now) ++ message_bytes (seen_message message))
+    requires fits { message_codec.fits (seen_message message) }
+    requires small { 16 + length (message_codec.written (seen_message message)) ≤ 4294967295 }
+    requires room { 16 + length (message_codec.written (seen_message message)) ≤ length buffer.old }
+    ensures { IsWritten (header_bytes (header_of (16 + length (message_codec.written (seen_message message))) header.now) ++ message_codec.written (seen_message message))
         buffer.old buffer.new result }
 {
     let header = NetlinkHeader {

@@ -2,7 +2,7 @@
 
 ghost use Rattle.std.specs.Prelude.{◌≡◌};
 ghost use Rattle.netlink_core.specs.Faults.{number_of};
-ghost use Rattle.netlink_core.specs.Reply.{MeansReply, RefusesReply, ReplyFits, reply_bytes};
+ghost use Rattle.netlink_core.specs.Reply.{reply_bytes, reply_codec};
 ghost use Rattle.netlink_packet_sock_diag.specs.InetReply.{inet_reply};
 ghost use Rattle.netlink_packet_sock_diag.specs.UnixReply.{unix_reply};
 ghost use Rattle.sockdiag_c.specs.Rewriting.{IsCanonical, Rewrites, Writes, outcome_of};
@@ -30,7 +30,7 @@ pub extern "C" fn sockdiag_rewrite_unix_reply(
     buffer: &mut [u8],
     outcome: &mut Outcome,
 ) -> usize
-    ensures rewrites { Rewrites (MeansReply unix_reply payload.now) (RefusesReply unix_reply payload.now) (ReplyFits unix_reply) (reply_bytes unix_reply)
+    ensures rewrites { Rewrites ((reply_codec unix_reply).reads payload.now tt) ((reply_codec unix_reply).refuses payload.now tt) (reply_codec unix_reply).fits (reply_bytes unix_reply)
         buffer.old buffer.new outcome.new result }
     ensures canonical { IsCanonical unix_reply payload.now buffer.new result }
 {
@@ -47,7 +47,7 @@ pub extern "C" fn sockdiag_rewrite_inet_reply(
     buffer: &mut [u8],
     outcome: &mut Outcome,
 ) -> usize
-    ensures rewrites { Rewrites (MeansReply inet_reply payload.now) (RefusesReply inet_reply payload.now) (ReplyFits inet_reply) (reply_bytes inet_reply)
+    ensures rewrites { Rewrites ((reply_codec inet_reply).reads payload.now tt) ((reply_codec inet_reply).refuses payload.now tt) (reply_codec inet_reply).fits (reply_bytes inet_reply)
         buffer.old buffer.new outcome.new result }
     ensures canonical { IsCanonical inet_reply payload.now buffer.new result }
 {

@@ -9,7 +9,7 @@ use Rattle.sslist.specs.Cooked.{IsOfSockDiag}
 use Rattle.netlink_core.specs.declared.fault.DecodeError.TheVariants.{UnknownFamily}
 use Rattle.netlink_core.specs.Envelope.{Payload, done_with, error_with, no_payload, overrun_with, inner}
 use Rattle.netlink_core.specs.Items.{ItemsAre}
-use Rattle.netlink_packet_sock_diag.specs.Message.{Message, MessageIs, MessageFault}
+use Rattle.netlink_packet_sock_diag.specs.Message.{Message, message_codec}
 use Rattle.sslist.specs.Table.{message_lines}
 use Rattle.sslist.specs.declared.list.Complaint.{Complaint}
 use Rattle.sslist.specs.declared.list.Complaint.TheVariants.{Refused, Answered, Lost}
@@ -48,7 +48,7 @@ item_complaint (Ok (inner message)) = None
 
 -- the datagram carries the items
 abbrev pub Carries : List ℕ → List Item → Type 0
-Carries datagram items = ItemsAre MessageIs MessageFault datagram items
+Carries datagram items = ItemsAre message_codec datagram items
 
 -- nothing is told of an item
 abbrev pub IsPlain : Item → Type 0

@@ -2,7 +2,7 @@
 
 ghost use Rattle.std.specs.Prelude.{◌≡◌};
 ghost use Rattle.netlink_core.specs.Items.{ItemIs};
-ghost use Rattle.netlink_packet_sock_diag.specs.Message.{MessageIs, MessageFault};
+ghost use Rattle.netlink_packet_sock_diag.specs.Message.{message_codec};
 
 use super::HEADER;
 use crate::message::SockDiagView;
@@ -31,7 +31,7 @@ impl<'a> PayloadView<'a> {
     // What the message in these bytes carries, or the first fault.
     #[inline(always)]
     fn read(message: &'a [u8]) -> Result<PayloadView<'a>, DecodeError>
-        ensures { ItemIs MessageIs MessageFault message.entry.now (viewed_item result) }
+        ensures { ItemIs message_codec message.entry.now (viewed_item result) }
     {
         let header = NetlinkHeader::from_prefix(message)?;
         let payload = &message[HEADER..header.length as usize];

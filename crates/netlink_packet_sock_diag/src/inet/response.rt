@@ -4,7 +4,7 @@ ghost use Rattle.netlink_packet_sock_diag.specs.EqualReplyLaws.{replies_equal};
 ghost use Rattle.sock_diag_attributes.specs.contracts.inet.coded.NlaCoded.TheImpl.Laws.{eq_is_seen-law as same_nla};
 ghost use Rattle.sock_diag_records.specs.contracts.inet.exact.InetResponseHeaderExact.TheImpl.Laws.{equal-law as same_header};
 ghost use Rattle.std.specs.Prelude.{◌≡◌, IfOk, IsOk, true, refl};
-ghost use Rattle.netlink_core.specs.Reply.{IsSpareReply, ReplyFits, reply_bytes, reply_codec};
+ghost use Rattle.netlink_core.specs.Reply.{reply_bytes, reply_codec};
 ghost use Rattle.netlink_core.proofs.Replies.{replies_keep_laws};
 ghost use Rattle.netlink_packet_sock_diag.specs.InetReply.{inet_reply};
 ghost use Rattle.netlink_packet_sock_diag.specs.InetReplyLaws.{inet_reply_laws};
@@ -33,7 +33,7 @@ impl InetResponse {
     /// An equal reply. It fails only for want of memory, which up to eight attributes that need none do not want.
     pub fn clone(&self, alloc: Global) -> Result<Self, AllocError>
         ensures equal { IfOk result (λ copy. seen_response copy ≡ seen_response self.now) }
-        ensures spare { IsSpareReply inet_reply (seen_response self.now) → IsOk result }
+        ensures spare { (reply_codec inet_reply).is_spare (seen_response self.now) → IsOk result }
     {
         let nlas = copy_nlas(alloc, self.nlas.as_slice())?;
         Ok(InetResponse {
@@ -71,7 +71,7 @@ impl Emitable for InetResponse {
 
     ghost bytes = { λ v. reply_bytes inet_reply (seen_response v) };
 
-    ghost writable = { λ v. ReplyFits inet_reply (seen_response v) };
+    ghost writable = { λ v. (reply_codec inet_reply).fits (seen_response v) };
 
     fn is_writable(&self) -> bool {
         self.writable_len().is_some()

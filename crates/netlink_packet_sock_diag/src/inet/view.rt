@@ -7,7 +7,7 @@ ghost use Rattle.std.specs.Iterator.SizeHint.{IsWithinCount};
 ghost use Rattle.netlink_core.specs.declared.fault.DecodeError.TheVariants.{Memory};
 ghost use Rattle.netlink_core.specs.Family.{says};
 ghost use Rattle.netlink_core.specs.Walk.{bytes_left};
-ghost use Rattle.netlink_core.specs.Reply.{MeansReply, RefusesReply, IsSpareReply, ReplyFits, reply_bytes};
+ghost use Rattle.netlink_core.specs.Reply.{reply_bytes, reply_codec};
 ghost use Rattle.sock_diag_attributes.specs.InetAttributes.{inet};
 ghost use Rattle.sock_diag_attributes.specs.EqualInetLaws.{inet_tests, view_tests};
 ghost use Rattle.sock_diag_attributes.specs.SeenInet.{seen_nla, viewed_nla};
@@ -129,8 +129,8 @@ impl<'a> InetResponseView<'a> {
     #[inline(never)]
     #[tactic(auto, using(crate::specs::InetReplyLaws::header_enough))]
     pub fn parse(bytes: &'a [u8]) -> Result<InetResponseView<'a>, DecodeError>
-        ensures value { IfOk result (λ view. MeansReply inet_reply bytes.entry.now (viewed_response view)) }
-        ensures fault { IfErr result (RefusesReply inet_reply bytes.entry.now) }
+        ensures value { IfOk result (λ view. (reply_codec inet_reply).reads bytes.entry.now tt (viewed_response view)) }
+        ensures fault { IfErr result ((reply_codec inet_reply).refuses bytes.entry.now tt) }
         ensures named { IfErr result (λ fault. fault ≢ Memory) }
     {
         let _header = InetResponseHeader::from_prefix(bytes)?;
@@ -162,7 +162,7 @@ impl<'a> InetResponseView<'a> {
     /// The reply with memory of its own. It fails only for want of memory.
     pub fn to_owned(&self, alloc: Global) -> Result<InetResponse, AllocError>
         ensures equal { IfOk result (λ reply. seen_response reply ≡ viewed_response self.now) }
-        ensures spare { IsSpareReply inet_reply (viewed_response self.now) → IsOk result }
+        ensures spare { (reply_codec inet_reply).is_spare (viewed_response self.now) → IsOk result }
     {
         let mut nlas = SmallVec::new(alloc);
         self.own_into(alloc, &mut nlas)?;
@@ -193,14 +193,14 @@ impl<'a> InetResponseView<'a> {
     ) -> Result<(), AllocError>
         requires { nlas.old.items ≡ [] }
         ensures equal { OnOk result (map seen_nla nlas.new.items ≡ (viewed_response self.now).nlas) }
-        ensures spare { nlas.old.capacity ≡ 8 → IsSpareReply inet_reply (viewed_response self.now) → IsOk result }
+        ensures spare { nlas.old.capacity ≡ 8 → (reply_codec inet_reply).is_spare (viewed_response self.now) → IsOk result }
     {
         own_nlas::<NlaView<'a>>(alloc, self.attribute_bytes(), self.count, nlas)
     }
 
     // How many bytes the reply is written as, where each value and the whole fit their lengths.
     fn written_len(&self) -> Option<usize>
-        ensures fits { IsSome result ↔ ReplyFits inet_reply (viewed_response self.now) }
+        ensures fits { IsSome result ↔ (reply_codec inet_reply).fits (viewed_response self.now) }
         ensures len { IfSome result (λ len. len ≡ length (reply_bytes inet_reply (viewed_response self.now))) }
     {
         viewed_reply_len::<_, NlaView<'a>>(&self.header(), self.attribute_bytes())
@@ -242,7 +242,7 @@ impl Emitable for InetResponseView<'_> {
 
     ghost bytes = { λ v. reply_bytes inet_reply (viewed_response v) };
 
-    ghost writable = { λ v. ReplyFits inet_reply (viewed_response v) };
+    ghost writable = { λ v. (reply_codec inet_reply).fits (viewed_response v) };
 
     fn is_writable(&self) -> bool {
         self.written_len().is_some()

@@ -7,7 +7,7 @@ ghost use Rattle.std.specs.Iterator.SizeHint.{IsWithinCount};
 ghost use Rattle.netlink_core.specs.declared.fault.DecodeError.TheVariants.{Memory};
 ghost use Rattle.netlink_core.specs.Family.{says};
 ghost use Rattle.netlink_core.specs.Walk.{bytes_left};
-ghost use Rattle.netlink_core.specs.Reply.{MeansReply, RefusesReply, IsSpareReply, ReplyFits, reply_bytes};
+ghost use Rattle.netlink_core.specs.Reply.{reply_bytes, reply_codec};
 ghost use Rattle.sock_diag_attributes.specs.UnixAttributes.{unix};
 ghost use Rattle.sock_diag_attributes.specs.EqualUnixLaws.{unix_tests, view_tests};
 ghost use Rattle.sock_diag_attributes.specs.SeenUnix.{seen_nla, viewed_nla};
@@ -128,8 +128,8 @@ impl<'a> UnixResponseView<'a> {
     // It stands apart: its walk takes no time where a list is made.
     #[inline(never)]
     pub fn parse(bytes: &'a [u8]) -> Result<UnixResponseView<'a>, DecodeError>
-        ensures value { IfOk result (λ view. MeansReply unix_reply bytes.entry.now (viewed_response view)) }
-        ensures fault { IfErr result (RefusesReply unix_reply bytes.entry.now) }
+        ensures value { IfOk result (λ view. (reply_codec unix_reply).reads bytes.entry.now tt (viewed_response view)) }
+        ensures fault { IfErr result ((reply_codec unix_reply).refuses bytes.entry.now tt) }
         ensures named { IfErr result (λ fault. fault ≢ Memory) }
     {
         let _header = UnixResponseHeader::from_prefix(bytes)?;
@@ -161,7 +161,7 @@ impl<'a> UnixResponseView<'a> {
     /// The reply with memory of its own. It fails only for want of memory.
     pub fn to_owned(&self, alloc: Global) -> Result<UnixResponse, AllocError>
         ensures equal { IfOk result (λ reply. seen_response reply ≡ viewed_response self.now) }
-        ensures spare { IsSpareReply unix_reply (viewed_response self.now) → IsOk result }
+        ensures spare { (reply_codec unix_reply).is_spare (viewed_response self.now) → IsOk result }
     {
         let mut nlas = SmallVec::new(alloc);
         self.own_into(alloc, &mut nlas)?;
@@ -192,14 +192,14 @@ impl<'a> UnixResponseView<'a> {
     ) -> Result<(), AllocError>
         requires { nlas.old.items ≡ [] }
         ensures equal { OnOk result (map seen_nla nlas.new.items ≡ (viewed_response self.now).nlas) }
-        ensures spare { nlas.old.capacity ≡ 8 → IsSpareReply unix_reply (viewed_response self.now) → IsOk result }
+        ensures spare { nlas.old.capacity ≡ 8 → (reply_codec unix_reply).is_spare (viewed_response self.now) → IsOk result }
     {
         own_nlas::<NlaView<'a>>(alloc, self.attribute_bytes(), self.count, nlas)
     }
 
     // How many bytes the reply is written as, where each value and the whole fit their lengths.
     fn written_len(&self) -> Option<usize>
-        ensures fits { IsSome result ↔ ReplyFits unix_reply (viewed_response self.now) }
+        ensures fits { IsSome result ↔ (reply_codec unix_reply).fits (viewed_response self.now) }
         ensures len { IfSome result (λ len. len ≡ length (reply_bytes unix_reply (viewed_response self.now))) }
     {
         viewed_reply_len::<_, NlaView<'a>>(&self.header(), self.attribute_bytes())
@@ -241,7 +241,7 @@ impl Emitable for UnixResponseView<'_> {
 
     ghost bytes = { λ v. reply_bytes unix_reply (viewed_response v) };
 
-    ghost writable = { λ v. ReplyFits unix_reply (viewed_response v) };
+    ghost writable = { λ v. (reply_codec unix_reply).fits (viewed_response v) };
 
     fn is_writable(&self) -> bool {
         self.written_len().is_some()

@@ -1,7 +1,7 @@
 //! A reply is read in place.
 
 ghost use Rattle.std.specs.Prelude.{◌≡◌, IfOk, IfErr};
-ghost use Rattle.netlink_packet_sock_diag.specs.Message.{Message, MessageIs, MessageFault};
+ghost use Rattle.netlink_packet_sock_diag.specs.Message.{Message, message_codec};
 ghost use Rattle.sock_diag_uses.specs.Readme.{path_of, path_bytes};
 
 use netlink_core::DecodeError;
@@ -10,9 +10,9 @@ use netlink_packet_sock_diag::unix::nlas::NameView;
 
 /// The path that a UNIX socket is bound to, where the payload of a message of this type tells one.
 pub fn path<'a>(payload: &'a [u8], message_type: u16) -> Result<Option<&'a [u8]>, DecodeError>
-    ensures value { IfOk result (λ path. (m : Message) × MessageIs payload.entry.now message_type m
+    ensures value { IfOk result (λ path. (m : Message) × message_codec.reads payload.entry.now message_type m
         × (path_bytes path ≡ path_of m)) }
-    ensures fault { IfErr result (MessageFault payload.entry.now message_type) }
+    ensures fault { IfErr result (message_codec.refuses payload.entry.now message_type) }
 {
     match SockDiagView::parse(payload, message_type)? {
         SockDiagView::UnixResponse(reply) => match reply.name() {

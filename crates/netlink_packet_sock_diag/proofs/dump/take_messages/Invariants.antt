@@ -6,5 +6,5 @@ use Rattle.netlink_packet_sock_diag.proofs.dump.take_messages.Given as goal
 -- the dump goes on with what is left
 abbrev pub invariant-loop-item : goal.invariant-loop-item
 invariant-loop-item g l =
-    Passing g.I.Coded.codec.reads g.I.Coded.codec.refuses l.datagram (datagram_left l.item-iterator)
+    Passing g.I.Coded.codec l.datagram (datagram_left l.item-iterator)
     (map g.I.Coded.seen l.fn.messages.items) (map g.I.Coded.seen l.messages.items)

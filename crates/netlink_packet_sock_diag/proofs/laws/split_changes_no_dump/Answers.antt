@@ -1,5 +1,5 @@
 use Rattle.std.proofs.Common.{List, ℕ, subst}
-use Rattle.netlink_packet_sock_diag.specs.Message.{MessageIs, MessageFault}
+use Rattle.netlink_packet_sock_diag.specs.Message.{message_codec}
 use Rattle.netlink_packet_sock_diag.specs.Dump.{DatagramDump}
 use Rattle.netlink_packet_sock_diag.proofs.DumpRows.{dump_of_split, split_of_dump}
 use Rattle.netlink_packet_sock_diag.proofs.laws.split_changes_no_dump.Goals as goal
@@ -8,5 +8,5 @@ pub returns : goal.returns
 returns c = λ datagrams others typed fits split cut same before after end d.
     let some = c.datagram_has_items.ensures in
     let one = c.one_list_of_items.ensures in
-    split_of_dump MessageIs MessageFault some one others fits cut before after end
-    (subst (λ (bytes : List ℕ). DatagramDump MessageIs MessageFault before bytes after end) same (dump_of_split MessageIs MessageFault datagrams split before after end d))
+    split_of_dump message_codec some one others fits cut before after end
+    (subst (λ (bytes : List ℕ). DatagramDump message_codec before bytes after end) same (dump_of_split message_codec datagrams split before after end d))

@@ -6,7 +6,7 @@ use Rattle.netlink_core.specs.Items.{ItemsAre}
 use Rattle.netlink_core.specs.declared.fault.DecodeError.{DecodeError}
 use Rattle.netlink_packet_sock_diag.specs.declared.dump.views.PayloadView.{PayloadView}
 use Rattle.netlink_packet_sock_diag.specs.DumpWalk.{GivesView}
-use Rattle.netlink_packet_sock_diag.specs.Message.{MessageIs, MessageFault}
+use Rattle.netlink_packet_sock_diag.specs.Message.{message_codec}
 use Rattle.netlink_packet_sock_diag.specs.ViewedPayload.{viewed_item}
 use Rattle.sock_diag_uses.specs.Lister.{AreLinesOf, line_of}
 use Rattle.sock_diag_uses.proofs.lister.list.Goals as goal
@@ -23,7 +23,7 @@ returns c = on_ok
     c.lines_of.result
     (λ lines h. record {
       items = map viewed_item h.0;
-      are = subst (λ (bytes : List ℕ). ItemsAre MessageIs MessageFault bytes (map viewed_item h.0)) c.new.ensures (c.whole_views_are_the_datagram.ensures c.new.result h.0 h.1);
+      are = subst (λ (bytes : List ℕ). ItemsAre message_codec bytes (map viewed_item h.0)) c.new.ensures (c.whole_views_are_the_datagram.ensures c.new.result h.0 h.1);
       told = h.2;
     })
     c.lines_of.ensures
