@@ -39,49 +39,32 @@ reply_kind b t =
     else if (slice_index b 0 == 2) || (slice_index b 0 == 10) then Ok inet_response
     else Err (UnknownFamily (slice_index b 0))
 
--- the message belongs to the bytes under the type: it is of their reply's kind, and so read
-abbrev pub MessageIs : List ℕ → ℕ → Message → Type 0
-MessageIs b t (message_of kind v) = (reply_kind b t ≡ Ok kind) × (codec_of kind).reads b tt v
-
--- the first fault: the bytes are no reply, or the reply of their kind is refused
-abbrev pub MessageFault : List ℕ → ℕ → DecodeError → Type 0
-MessageFault b t e =
-    (reply_kind b t ≡ Err e)
-    ⊎ ((kind : MessageKind) × (reply_kind b t ≡ Ok kind) × (codec_of kind).refuses b tt e)
+-- a message is so, by its kind and what it holds
+abbrev pub OfMessage : ((kind : MessageKind) → (codec_of kind).Value → Type 0) → Message → Type 0
+OfMessage is (message_of kind v) = is kind v
 
 -- the bytes of what the message holds
 abbrev pub message_bytes : Message → List ℕ
 message_bytes (message_of kind v) = (codec_of kind).written v
 
--- what the message holds has room for its lengths; a request has in any case
-abbrev pub MessageFits : Message → Type 0
-MessageFits (message_of kind v) = (codec_of kind).fits v
-
--- both are replies of one kind under the type, and idle
-abbrev pub IdleMessages : ℕ → List ℕ → List ℕ → Type 0
-IdleMessages t b c =
-    (kind : MessageKind) × (reply_kind b t ≡ Ok kind) × (reply_kind c t ≡ Ok kind)
-    × (codec_of kind).idle tt b c
-
--- what the message holds is typed
-abbrev pub IsTypedMessage : Message → Type 0
-IsTypedMessage (message_of kind v) = (codec_of kind).is_typed v
-
--- a reply in normal form, under the type 20
-abbrev pub IsNormalMessage : ℕ → Message → Type 0
-IsNormalMessage t (message_of kind v) =
-    (t ≡ 20) × ((kind ≡ inet_response) ⊎ (kind ≡ unix_response)) × (codec_of kind).is_normal tt v
-
 -- a message under the type of its header, of 16 bits
 abbrev pub message_codec : Codec ℕ
 message_codec = record {
   Value = Message;
-  is_typed = IsTypedMessage;
-  reads = MessageIs;
-  refuses = MessageFault;
-  is_spare = λ v. ⊥;
-  idle = IdleMessages;
-  is_normal = IsNormalMessage;
+  is_typed = OfMessage (λ kind v. (codec_of kind).is_typed v);
+  -- it is of the kind of reply that the bytes are under the type, and so read
+  reads = λ b t m. OfMessage (λ kind v. (reply_kind b t ≡ Ok kind) × (codec_of kind).reads b tt v) m;
+  -- the bytes are no reply, or the reply of their kind is refused
+  refuses = λ b t e. (reply_kind b t ≡ Err e)
+      ⊎ ((kind : MessageKind) × (reply_kind b t ≡ Ok kind) × (codec_of kind).refuses b tt e);
+  is_spare = λ m. ⊥;
+  -- both are replies of one kind under the type, and idle
+  idle = λ t b c. (kind : MessageKind) × (reply_kind b t ≡ Ok kind) × (reply_kind c t ≡ Ok kind)
+      × (codec_of kind).idle tt b c;
+  -- a reply in normal form, under the type 20
+  is_normal = λ t m. OfMessage (λ kind v. (t ≡ 20) × ((kind ≡ inet_response) ⊎ (kind ≡ unix_response))
+      × (codec_of kind).is_normal tt v) m;
   written = message_bytes;
-  fits = MessageFits;
+  -- what it holds has room for its lengths; a request has in any case
+  fits = OfMessage (λ kind v. (codec_of kind).fits v);
 }
