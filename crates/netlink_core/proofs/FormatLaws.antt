@@ -80,8 +80,12 @@ pub not_both : {T : Type 0} (r : Result T DecodeError) (v : T) (e : DecodeError)
 not_both r v e h k = cc
 
 module _ {Param Tag Value : Type 0} (format : Format Param Tag Value) (sound : IsSound format) where
-  table_is : (tag : Tag) → IsTable 0 (format.table tag) (format.size tag)
-  table_is tag = table_from_test 0 (format.table tag) (format.size tag) (sound.tables tag)
+  -- the table that a string tells, and that of a value
+  table_is : (param : Param) (tag : Tag) (left : List ℕ) → format.tag_at param left ≡ Ok tag → IsTable 0 (format.table tag) (format.size tag)
+  table_is param tag left told = table_from_test 0 (format.table tag) (format.size tag) (sound.tables param tag left told)
+
+  own_table_is : (value : Value) → IsTable 0 (format.table (format.tag_of value)) (format.size (format.tag_of value))
+  own_table_is value = table_from_test 0 (format.table (format.tag_of value)) (format.size (format.tag_of value)) (sound.own_table value)
 
   -- no fault is want of memory
   pub named : (param : Param) (left : List ℕ) → read format param left ≡ Err Memory → ⊥
@@ -93,15 +97,15 @@ module _ {Param Tag Value : Type 0} (format : Format Param Tag Value) (sound : I
   -- the same value, so the same live bits
   idle_from_equal : (param : Param) (left right : List ℕ) (value : Value) → IsBytes left → IsBytes right → Accepts format param left value → Accepts format param right value → AreIdle format param left right
   idle_from_equal param left right value hl hr a b =
-      let tags : a.tag ≡ b.tag = sym (sound.tagged a.tag left) ∙ ap format.tag_of (sym a.is ∙ b.is) ∙ sound.tagged b.tag right in
+      let tags : a.tag ≡ b.tag = sym (sound.tagged param a.tag left a.told) ∙ ap format.tag_of (sym a.is ∙ b.is) ∙ sound.tagged param b.tag right b.told in
       let told : format.tag_at param right ≡ Ok a.tag = b.told ∙ ap (λ (tag : Tag). ok tag) (sym tags) in
-      let own : format.values value ≡ values_of (format.table a.tag) left = ap format.values a.is ∙ sound.kept a.tag left hl in
-      let other : format.values value ≡ values_of (format.table a.tag) right = subst (λ (tag : Tag). format.values value ≡ values_of (format.table tag) right) (sym tags) (ap format.values b.is ∙ sound.kept b.tag right hr) in
-      (a.long, b.long, a.tag, a.told, told, same_live 0 (format.table a.tag) (format.size a.tag) left right (table_is a.tag) hl hr (sound.room param a.tag left a.long a.told) (sound.room param a.tag right b.long told) (sym own ∙ other))
+      let own : format.values value ≡ values_of (format.table a.tag) left = ap format.values a.is ∙ sound.kept param a.tag left hl a.told in
+      let other : format.values value ≡ values_of (format.table a.tag) right = subst (λ (tag : Tag). format.values value ≡ values_of (format.table tag) right) (sym tags) (ap format.values b.is ∙ sound.kept param b.tag right hr b.told) in
+      (a.long, b.long, a.tag, a.told, told, same_live 0 (format.table a.tag) (format.size a.tag) left right (table_is param a.tag left a.told) hl hr (sound.room param a.tag left a.long a.told) (sound.room param a.tag right b.long told) (sym own ∙ other))
 
   equal_from_idle : (param : Param) (left right : List ℕ) → IsBytes left → IsBytes right → AreIdle format param left right → read format param left ≡ read format param right
   equal_from_idle param left right hl hr (left_long, right_long, tag, left_tag, right_tag, bits) =
-      let read_values = same_values 0 (format.table tag) (format.size tag) left right (table_is tag) hl hr (sound.room param tag left left_long left_tag) (sound.room param tag right right_long right_tag) bits in
+      let read_values = same_values 0 (format.table tag) (format.size tag) left right (table_is param tag left left_tag) hl hr (sound.room param tag left left_long left_tag) (sound.room param tag right right_long right_tag) bits in
       long_enough format param left left_long ∙ accepts format param left tag left_tag
       ∙ ap (λ (vs : List ℕ). ok (format.value tag vs)) read_values
       ∙ sym (long_enough format param right right_long ∙ accepts format param right tag right_tag)
@@ -109,8 +113,8 @@ module _ {Param Tag Value : Type 0} (format : Format Param Tag Value) (sound : I
   -- a value in normal form is read back
   pub reads_back : (param : Param) (value : Value) → IsTyped format value → IsNormal format param value → read format param (bytes format value) ≡ Ok value
   reads_back param value t n =
-      let same : values_of (format.table (format.tag_of value)) (bytes format value) ≡ format.values value = values-bytes_of 0 (format.table (format.tag_of value)) (format.size (format.tag_of value)) (format.values value) (bytes format value) [] (table_is (format.tag_of value)) t.fit n.flags (sym (append-nil (bytes format value))) in
-      long_enough format param (bytes format value) (let enough = sound.enough (format.tag_of value) in let size = sound.long value in omega arith)
+      let same : values_of (format.table (format.tag_of value)) (bytes format value) ≡ format.values value = values-bytes_of 0 (format.table (format.tag_of value)) (format.size (format.tag_of value)) (format.values value) (bytes format value) [] (own_table_is value) t.fit n.flags (sym (append-nil (bytes format value))) in
+      long_enough format param (bytes format value) (let enough = sound.enough value in let size = sound.long value in omega arith)
       ∙ accepts format param (bytes format value) (format.tag_of value) (sound.told param value t n)
       ∙ ap (λ (vs : List ℕ). ok (format.value (format.tag_of value) vs)) same
       ∙ ap (λ (v : Value). ok v) (sound.back param value t n)
@@ -119,13 +123,13 @@ module _ {Param Tag Value : Type 0} (format : Format Param Tag Value) (sound : I
   normal_read : (param : Param) (left : List ℕ) (value : Value) → IsBytes left → read format param left ≡ Ok value → IsTyped format value × IsNormal format param value
   normal_read param left value h e =
       let a = accepted format param left value e in
-      let kept = sound.kept a.tag left h in
-      let same = sound.tagged a.tag left in
+      let kept = sound.kept param a.tag left h a.told in
+      let same = sound.tagged param a.tag left a.told in
       let fit = subst (λ (vs : List ℕ). Fit (format.table a.tag) vs) (sym kept) (values-fit (format.table a.tag) left h) in
       let defined = subst (λ (vs : List ℕ). AreDefined (format.table a.tag) vs) (sym kept) (values-defined (format.table a.tag) left) in
       subst (λ (v : Value). IsTyped format v × IsNormal format param v) (sym a.is) (
         record {
-          shaped = sound.shaped a.tag left h;
+          shaped = sound.shaped param a.tag left h a.told;
           fit = subst (λ (t : Tag). Fit (format.table t) (format.values (format.value a.tag (values_of (format.table a.tag) left)))) (sym same) fit;
         },
         record {
@@ -139,11 +143,11 @@ module _ {Param Tag Value : Type 0} (format : Format Param Tag Value) (sound : I
   stands_where_read param left value h = (
     λ e.
         let a = accepted format param left value e in
-        let tag = sym (sound.tagged a.tag left) ∙ ap format.tag_of (sym a.is) in
+        let tag = sym (sound.tagged param a.tag left a.told) ∙ ap format.tag_of (sym a.is) in
         let parts = normal_read param left value h e in (
           a.long,
           a.told ∙ ap (λ (t : Tag). ok t) tag,
-          ap (λ (t : Tag). values_of (format.table t) left) (sym tag) ∙ sym (ap format.values a.is ∙ sound.kept a.tag left h),
+          ap (λ (t : Tag). values_of (format.table t) left) (sym tag) ∙ sym (ap format.values a.is ∙ sound.kept param a.tag left h a.told),
           parts.0,
           parts.1,
         ),
@@ -156,7 +160,7 @@ module _ {Param Tag Value : Type 0} (format : Format Param Tag Value) (sound : I
 
   -- a typed value is written as bytes
   pub written_bytes : (value : Value) → IsTyped format value → IsBytes (bytes format value)
-  written_bytes value t = bytes_of-bytes 0 (format.table (format.tag_of value)) (format.size (format.tag_of value)) (format.values value) (table_is (format.tag_of value)) t.fit
+  written_bytes value t = bytes_of-bytes 0 (format.table (format.tag_of value)) (format.size (format.tag_of value)) (format.values value) (own_table_is value) t.fit
 
   -- the laws together
   pub keeps_laws : KeepsLaws (record_codec format)
@@ -187,14 +191,15 @@ pub plain_sound : {Value : Type 0} {name : RecordName} {size : ℕ} {rows : List
     → ((v : Value) → is_shaped v → value (values v) ≡ v)
     → IsSound (plain name size rows values value is_shaped)
 plain_sound table long kept shaped back = record {
-  tables = λ tag. table;
-  enough = λ tag. omega arith;
+  tables = λ param tag left told. table;
+  own_table = λ value. table;
+  enough = λ value. omega arith;
   room = λ param tag left enough told. enough;
   long = long;
   named = λ param left e. cc;
-  kept = λ tag left h. kept left;
-  tagged = λ tag left. refl;
-  shaped = λ tag left h. shaped left;
+  kept = λ param tag left h told. kept left;
+  tagged = λ param tag left told. refl;
+  shaped = λ param tag left h told. shaped left;
   owned = λ param tag left h told. tt;
   back = λ param v t n. back v t.shaped;
   told = λ param v t n. refl;

@@ -28,9 +28,9 @@ module _ {Tag Value : Type 0} (format : Format (Unit {0}) Tag Value) (sound : Is
   -- a value's bytes tell its tag and its values also where others follow
   reads_in_front : ((tag : Tag) (left rest : List ℕ) → format.least ≤ length left → format.tag_at tt left ≡ Ok tag → format.tag_at tt (left ++ rest) ≡ Ok tag) → (v : Value) (rest : List ℕ) → IsTyped format v → IsNormal format tt v → read format tt (bytes format v ++ rest) ≡ Ok v
   reads_in_front goes_on v rest typed normal =
-      let enough = sound.enough (format.tag_of v) in
+      let enough = sound.enough v in
       let size = sound.long v in
-      let same : values_of (format.table (format.tag_of v)) (bytes format v ++ rest) ≡ format.values v = values-bytes_of 0 (format.table (format.tag_of v)) (format.size (format.tag_of v)) (format.values v) (bytes format v ++ rest) rest (table_from_test 0 (format.table (format.tag_of v)) (format.size (format.tag_of v)) (sound.tables (format.tag_of v))) typed.fit normal.flags refl in
+      let same : values_of (format.table (format.tag_of v)) (bytes format v ++ rest) ≡ format.values v = values-bytes_of 0 (format.table (format.tag_of v)) (format.size (format.tag_of v)) (format.values v) (bytes format v ++ rest) rest (table_from_test 0 (format.table (format.tag_of v)) (format.size (format.tag_of v)) (sound.own_table v)) typed.fit normal.flags refl in
       long_enough format tt (bytes format v ++ rest) (omega (arith, length-append (bytes format v) rest))
       ∙ accepts format tt (bytes format v ++ rest) (format.tag_of v) (goes_on (format.tag_of v) (bytes format v) rest (omega arith) (sound.told tt v typed normal))
       ∙ ap (λ (vs : List ℕ). answered (format.value (format.tag_of v) vs)) same

@@ -68,14 +68,15 @@ request_length value = let identity = length-bytes value.socket_id in ap length 
 pub inet_request_sound : IsSound inet_request
 unfolding inet_request
 inet_request_sound = record {
-  tables = λ kinds. tables_are kinds.source kinds.destination;
-  enough = λ kinds. omega arith;
+  tables = λ param kinds left e. tables_are kinds.source kinds.destination;
+  own_table = λ value. tables_are (kind_of value.socket_id.source_address) (kind_of value.socket_id.destination_address);
+  enough = λ value. omega arith;
   room = λ param kinds left enough e. enough;
   long = request_length;
   named = λ param left e. kinds_named (slice_index left 0) e;
-  kept = λ kinds left h. ap (with_values (slice_index left 0 ∷ slice_index left 1 ∷ slice_index left 2 ∷ slice_index (values_of (inet_request_rows kinds) left) 3 ∷ [])) (kept_is 8 kinds.source kinds.destination left);
-  tagged = λ kinds left. kinds_are kinds.source kinds.destination (drop 4 (values_of (inet_request_rows kinds) left));
-  shaped = λ kinds left h. shaped_is 8 kinds.source kinds.destination left;
+  kept = λ param kinds left h e. ap (with_values (slice_index left 0 ∷ slice_index left 1 ∷ slice_index left 2 ∷ slice_index (values_of (inet_request_rows kinds) left) 3 ∷ [])) (kept_is 8 kinds.source kinds.destination left);
+  tagged = λ param kinds left e. kinds_are kinds.source kinds.destination (drop 4 (values_of (inet_request_rows kinds) left));
+  shaped = λ param kinds left h e. shaped_is 8 kinds.source kinds.destination left;
   owned = λ param kinds left h e. e ∙ ap told_kinds (sym (kinds_are kinds.source kinds.destination (drop 4 (values_of (inet_request_rows kinds) left))));
   back = λ param value t n. ap (with_identity value) (ap (socket_id_of (kinds_of value.socket_id)) (sym (append-nil (socket_id_values value.socket_id))) ∙ socket_id_back value.socket_id [] t.shaped);
   told = λ param value t n. n.own;

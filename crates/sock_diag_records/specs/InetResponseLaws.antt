@@ -267,14 +267,15 @@ header_length value = ap length (header_pieces value) ∙ length_after value.fam
 pub header_sound : IsSound inet_response_header
 unfolding inet_response_header
 header_sound = record {
-  tables = tables_are;
-  enough = λ t. omega arith;
+  tables = λ param t left e. tables_are t;
+  own_table = λ value. tables_are (tag_of value);
+  enough = λ value. omega arith;
   room = λ param t left enough e. enough;
   long = header_length;
   named = λ param left e. class_named (class_of_byte (slice_index left 2)) (kinds_of_family (slice_index left 0)) (kinds_named (slice_index left 0)) e;
-  kept = kept_are;
-  tagged = λ t left. tag_read t (values_of (header_rows t) left);
-  shaped = λ t left h. shaped_read t left;
+  kept = λ param t left h e. kept_are t left h;
+  tagged = λ param t left e. tag_read t (values_of (header_rows t) left);
+  shaped = λ param t left h e. shaped_read t left;
   owned = λ param t left h e.
       let parts = told_parts (class_of_byte (slice_index left 2)) (kinds_of_family (slice_index left 0)) t e in
       (parts.0 ∙ ap (λ (u : Tag). let r : Result Kinds DecodeError = Ok u.kinds in r) (sym (tag_read t (values_of (header_rows t) left))), whole_read t left h);

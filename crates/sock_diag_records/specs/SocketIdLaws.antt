@@ -160,14 +160,15 @@ kinds_named family h = not_memory (family == 2) (family == 10) (both ipv4) (both
 pub socket_id_sound : IsSound socket_id
 unfolding socket_id
 socket_id_sound = record {
-  tables = λ kinds. tables_are kinds.source kinds.destination;
-  enough = λ kinds. omega arith;
+  tables = λ family kinds left e. tables_are kinds.source kinds.destination;
+  own_table = λ value. tables_are (kind_of value.source_address) (kind_of value.destination_address);
+  enough = λ value. omega arith;
   room = λ family kinds left enough e. enough;
   long = length-bytes;
   named = λ family left e. kinds_named family e;
-  kept = λ kinds left h. kept_is 0 kinds.source kinds.destination left;
-  tagged = λ kinds left. kinds_are kinds.source kinds.destination (values_of (socket_id_rows 0 kinds) left);
-  shaped = λ kinds left h. shaped_is 0 kinds.source kinds.destination left;
+  kept = λ family kinds left h e. kept_is 0 kinds.source kinds.destination left;
+  tagged = λ family kinds left e. kinds_are kinds.source kinds.destination (values_of (socket_id_rows 0 kinds) left);
+  shaped = λ family kinds left h e. shaped_is 0 kinds.source kinds.destination left;
   owned = λ family kinds left h e. e ∙ ap (λ (k : Kinds). let r : Result Kinds DecodeError = Ok k in r) (sym (kinds_are kinds.source kinds.destination (values_of (socket_id_rows 0 kinds) left)));
   back = λ family value t n. ap (socket_id_of (kinds_of value)) (sym (append-nil (socket_id_values value))) ∙ socket_id_back value [] t.shaped;
   told = λ family value t n. n.own;

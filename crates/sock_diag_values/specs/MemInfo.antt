@@ -9,27 +9,17 @@ use Rattle.sock_diag_values.specs.declared.inet.mem_info.MemInfoBytes.{MemInfoBy
 use Rattle.sock_diag_values.specs.declared.inet.mem_info.MemInfoBytes.TheVariants.{Seven, Eight, Nine}
 use Rattle.sock_diag_values.specs.declared.inet.mem_info.MemInfoBuffer.{MemInfoBuffer}
 
--- how many words there are
-pub data Words : Type 0 where
-  seven eight nine : Words
+-- how many whole words stand in so many bytes, 28 or more: nine at most
+abbrev pub words_in : ℕ → ℕ
+words_in bytes = if nat_lt bytes 32 then 7 else if nat_lt bytes 36 then 8 else 9
 
--- the number of those
-abbrev pub count_of : Words → ℕ
-count_of seven = 7
-count_of eight = 8
-count_of nine = 9
+-- with how many words a value of this backlog and these drops is written
+abbrev pub words_of : Option ℕ → Option ℕ → ℕ
+words_of backlog (Some drops) = 9
+words_of (Some backlog) None = 8
+words_of None None = 7
 
--- those that so many bytes have whole, 28 or more: nine at most
-abbrev pub words_in : ℕ → Words
-words_in bytes = if nat_lt bytes 32 then seven else if nat_lt bytes 36 then eight else nine
-
--- those by which a backlog and drops are written
-abbrev pub words_of : Option ℕ → Option ℕ → Words
-words_of backlog (Some drops) = nine
-words_of (Some backlog) None = eight
-words_of None None = seven
-
--- the last of them; in front of drops an absent backlog is 0
+-- the words behind the seventh; in front of drops an absent backlog is 0
 abbrev pub last_words : Option ℕ → Option ℕ → List ℕ
 last_words backlog (Some drops) = unwrap_or backlog 0 ∷ drops ∷ []
 last_words (Some backlog) None = backlog ∷ []
@@ -43,14 +33,14 @@ words_before value others =
     others
 
 -- the words at 0, 4, .. as many as there are; in normal form drops come behind a backlog
-abbrev pub mem_info : Format (Unit {0}) Words MemInfo
+abbrev pub mem_info : Format (Unit {0}) ℕ MemInfo
 mem_info = record {
   name = name.MemInfo;
   least = 28;
-  size = λ words. 4 * count_of words;
+  size = λ words. 4 * words;
   tag_at = λ param left. Ok (words_in (length left));
   tag_of = λ value. words_of value.backlog_queue_length value.drops;
-  table = λ words. numbers 0 4 little_endian (count_of words);
+  table = λ words. numbers 0 4 little_endian words;
   values = λ value. words_before value (last_words value.backlog_queue_length value.drops);
   value = λ words values. mem_info_of values;
   is_shaped = λ value. ⊤;

@@ -1,21 +1,35 @@
 -- The record of a socket's memory is sound.
-use Rattle.std.proofs.Common.{◌≡◌, ◌∙◌, inl, inr, ℕ, ◌*◌, ◌≤◌, Option, Some, None, Result, Ok, length, refl, ap, ap₂, subst, arith, le-ltb, lt-ltb}
-use Rattle.std.specs.Prelude.{slice_get, IfSome, IsSome}
+use Rattle.std.proofs.Common.{◌≡◌, ◌∙◌, inl, inr, ℕ, ◌*◌, ◌≤◌, Bool, true, false, if◌then◌else◌, IsTrue, List, Option, Some, None, Result, Ok, length, refl, ap, ap₂, subst, arith, le-ltb, lt-ltb}
+use Rattle.std.specs.Prelude.{nat_lt, slice_get, IfSome, IsSome}
 use Rattle.std.proofs.lemmas.Bool.{cases_lt}
-use Rattle.netlink_core.specs.Table.{numbers, little_endian, bytes_of}
-use Rattle.netlink_core.specs.SoundLaws.{IsSound}
+use Rattle.netlink_core.specs.Table.{numbers, little_endian, bytes_of, values_of}
+use Rattle.netlink_core.specs.SoundLaws.{is_table, IsSound}
 use Rattle.netlink_core.specs.declared.fault.DecodeError.{DecodeError}
 use Rattle.sock_diag_values.specs.declared.inet.mem_info.MemInfo.{MemInfo}
-use Rattle.sock_diag_values.specs.MemInfo.{Words, seven, eight, nine, count_of, words_in, words_of, last_words, words_before, mem_info}
+use Rattle.sock_diag_values.specs.MemInfo.{words_in, words_of, last_words, words_before, mem_info}
 
--- what holds of seven, of eight and of nine words
-each : (P : Words → Type 0) → P seven → P eight → P nine → (w : Words) → P w
-each P p q r seven = p
-each P p q r eight = q
-each P p q r nine = r
+-- what holds of 7, of 8 and of 9 holds of the words that a string tells
+chosen : (P : ℕ → Type 0) → P 7 → P 8 → P 9 → (under_eight under_nine : Bool) → P (if under_eight then 7 else if under_nine then 8 else 9)
+chosen P p q r true under_nine = p
+chosen P p q r false true = q
+chosen P p q r false false = r
+
+abbrev told : ℕ → Result ℕ DecodeError
+told words = Ok words
+
+each : (P : ℕ → Type 0) → P 7 → P 8 → P 9 → (left : List ℕ) (words : ℕ) → told (words_in (length left)) ≡ Ok words → P words
+each P p q r left words e =
+    let same : words_in (length left) ≡ words = cc in
+    subst P same (chosen P p q r (nat_lt (length left) 32) (nat_lt (length left) 36))
+
+-- and of those that a value is written by
+each_written : (P : ℕ → Type 0) → P 7 → P 8 → P 9 → (backlog drops : Option ℕ) → P (words_of backlog drops)
+each_written P p q r backlog (Some drops) = r
+each_written P p q r (Some backlog) None = q
+each_written P p q r None None = p
 
 -- a string has the words that it tells
-room_for : (bytes : ℕ) → 28 ≤ bytes → 4 * count_of (words_in bytes) ≤ bytes
+room_for : (bytes : ℕ) → 28 ≤ bytes → 4 * words_in bytes ≤ bytes
 room_for bytes least = elim (cases_lt bytes 32) [
   | inl under ↦ rw (lt-ltb bytes 32 under) least
   | inr eighth ↦ elim (cases_lt bytes 36) [
@@ -24,7 +38,7 @@ room_for bytes least = elim (cases_lt bytes 32) [
   ]
 ]
 
-length_is : (value : MemInfo) (backlog drops : Option ℕ) → length (bytes_of (numbers 0 4 little_endian (count_of (words_of backlog drops))) (words_before value (last_words backlog drops))) ≡ 4 * count_of (words_of backlog drops)
+length_is : (value : MemInfo) (backlog drops : Option ℕ) → length (bytes_of (numbers 0 4 little_endian (words_of backlog drops)) (words_before value (last_words backlog drops))) ≡ 4 * words_of backlog drops
 length_is value backlog (Some drops) = refl
 length_is value (Some backlog) None = refl
 length_is value None None = refl
@@ -43,23 +57,21 @@ drops_back value None None = refl
 abbrev with_last : MemInfo → Option ℕ → Option ℕ → MemInfo
 with_last value backlog drops = record value { backlog_queue_length = backlog; drops = drops }
 
-words_told : (w : Words) → words_in (4 * count_of w) ≡ w
-words_told = each _ refl refl refl
-
-abbrev told : Words → Result Words DecodeError
-told w = Ok w
+words_told : (backlog drops : Option ℕ) → words_in (4 * words_of backlog drops) ≡ words_of backlog drops
+words_told = each_written (λ words. words_in (4 * words) ≡ words) refl refl refl
 
 pub mem_info_sound : IsSound mem_info
 mem_info_sound = record {
-  tables = each _ refl refl refl;
-  enough = each _ (omega arith) (omega arith) (omega arith);
-  room = λ param w left least e. let same : words_in (length left) ≡ w = cc in subst (λ (words : Words). 4 * count_of words ≤ length left) same (room_for (length left) least);
+  tables = λ param words left e. each (λ (w : ℕ). IsTrue (is_table 0 (numbers 0 4 little_endian w) (4 * w))) refl refl refl left words e;
+  own_table = λ value. each_written (λ (w : ℕ). IsTrue (is_table 0 (numbers 0 4 little_endian w) (4 * w))) refl refl refl value.backlog_queue_length value.drops;
+  enough = λ value. each_written (λ (w : ℕ). 28 ≤ 4 * w) (omega arith) (omega arith) (omega arith) value.backlog_queue_length value.drops;
+  room = λ param words left least e. let same : words_in (length left) ≡ words = cc in subst (λ (w : ℕ). 4 * w ≤ length left) same (room_for (length left) least);
   long = λ value. length_is value value.backlog_queue_length value.drops;
   named = λ param left e. cc;
-  kept = each _ (λ left h. refl) (λ left h. refl) (λ left h. refl);
-  tagged = each _ (λ left. refl) (λ left. refl) (λ left. refl);
-  shaped = λ w left h. tt;
-  owned = λ param. each _ (λ left h e. tt) (λ left h e. tt) (λ left h e. refl);
+  kept = λ param words left h e. each (λ (w : ℕ). mem_info.values (mem_info.value w (values_of (mem_info.table w) left)) ≡ values_of (mem_info.table w) left) refl refl refl left words e;
+  tagged = λ param words left e. each (λ (w : ℕ). mem_info.tag_of (mem_info.value w (values_of (mem_info.table w) left)) ≡ w) refl refl refl left words e;
+  shaped = λ param words left h e. tt;
+  owned = λ param words left h e. each (λ (w : ℕ). mem_info.is_own param (mem_info.value w (values_of (mem_info.table w) left))) tt tt refl left words e;
   back = λ param value t n. ap₂ (with_last value) (backlog_back value value.backlog_queue_length value.drops n.own) (drops_back value value.backlog_queue_length value.drops);
-  told = λ param value t n. ap (λ (bytes : ℕ). told (words_in bytes)) (length_is value value.backlog_queue_length value.drops) ∙ ap told (words_told (words_of value.backlog_queue_length value.drops));
+  told = λ param value t n. ap (λ (bytes : ℕ). told (words_in bytes)) (length_is value value.backlog_queue_length value.drops) ∙ ap told (words_told value.backlog_queue_length value.drops);
 }

@@ -1,11 +1,11 @@
 //! What INET_DIAG_SKMEMINFO tells: the memory of a socket.
 
-ghost use Rattle.std.specs.Prelude.{[], ◌≡◌, ◌≤◌, ◌+◌, ◌↔◌, ◌<◌, ◌^◌, length, take, drop, SomeIff, IfSome, IsSome};
+ghost use Rattle.std.specs.Prelude.{ℕ, [], ◌≡◌, ◌≤◌, ◌+◌, ◌↔◌, ◌<◌, ◌^◌, length, take, drop, SomeIff, IfSome, IsSome};
 ghost use Rattle.std.proofs.Common.{rules};
 ghost use Rattle.netlink_core.specs.Format.{read, bytes};
 ghost use Rattle.netlink_core.proofs.FormatLaws.{record_laws};
 ghost use Rattle.netlink_core.specs.Table.{Fit, numbers, little_endian};
-ghost use Rattle.sock_diag_values.specs.MemInfo.{words_before, Words, words_in, mem_info, held_bytes, buffer_bytes};
+ghost use Rattle.sock_diag_values.specs.MemInfo.{words_before, words_in, mem_info, held_bytes, buffer_bytes};
 ghost use Rattle.sock_diag_values.specs.MemInfoLaws.{mem_info_sound};
 ghost use Rattle.sock_diag_values.specs.MemInfoEqualLaws.{buffer_equal, bytes_equal, mem_info_equal};
 ghost use Rattle.byteorder.specs.Endian.{little_number};
@@ -84,7 +84,7 @@ impl Exact for MemInfoBuffer {
 impl Record for MemInfo {
     type Told = ();
 
-    ghost Tag = { Words };
+    ghost Tag = { ℕ };
 
     ghost format = { mem_info };
 
