@@ -10,10 +10,10 @@ use Rattle.netlink_core.specs.declared.fault.DecodeError.{DecodeError}
 use Rattle.netlink_core.specs.declared.header.NetlinkHeader.{NetlinkHeader}
 use Rattle.netlink_core.specs.Header.{IsTypedHeader}
 use Rattle.netlink_core.specs.Datagram.{AreWholeMessages, IsMessageString, StartsWithMessage}
-use Rattle.netlink_core.specs.Envelope.{Envelope, Payload, done_with, inner, IsFinalized, OfInner, payload_bytes, payload_type, envelope_codec}
+use Rattle.netlink_core.specs.Envelope.{Envelope, Payload, done_with, inner, finalized, OfInner, payload_bytes, payload_type, envelope_codec}
 use Rattle.netlink_core.specs.Items.{ItemIs, ItemsAre}
 use Rattle.netlink_core.specs.Reply.{reply_bytes, reply_codec}
-use Rattle.netlink_packet_sock_diag.specs.Dump.{GoesOn, kept}
+use Rattle.netlink_packet_sock_diag.specs.Dump.{end_of, kept}
 use Rattle.netlink_packet_sock_diag.specs.Message.{Message, message_of, unix_response, message_codec}
 use Rattle.netlink_packet_sock_diag.specs.UnixReply.{UnixReply, unix_reply}
 use Rattle.sock_diag_uses.specs.TestKernel.{CanBeTold, IsAnswer, IsWholeDump, end_under, message_under, reply_under}
@@ -24,30 +24,29 @@ no_fill message even = rw even refl
 
 -- ---- messages one after the other
 
-module _ (reads : List ℕ → ℕ → Message → Type 0) (refuses : List ℕ → ℕ → DecodeError → Type 0) where
-  -- a message that is carried whole
-  pub record Carries (message : List ℕ) (item : Result (Payload Message) DecodeError) : Type 0 where
-    pub whole : IsMessageString message
-    pub even : length message % 4 ≡ 0
-    pub is : ItemIs reads refuses message item
+-- a message that is carried whole
+pub record Carries (message : List ℕ) (item : Result (Payload Message) DecodeError) : Type 0 where
+  pub whole : IsMessageString message
+  pub even : length message % 4 ≡ 0
+  pub is : ItemIs message_codec message item
 
-  -- it has its item alone
-  pub one_item : (message : List ℕ) (item : Result (Payload Message) DecodeError) → Carries message item → ItemsAre reads refuses message (item ∷ [])
-  one_item message item c =
-      let starts : StartsWithMessage message message [] = record { padding = []; parts = sym (append-nil message); whole = c.whole; filled = inl (no_fill message c.even) } in
-      record { messages = message ∷ []; end = None; carried = item ∷ []; cut = ([], starts, refl); each = (c.is, tt); parts = refl }
+-- it has its item alone
+pub one_item : (message : List ℕ) (item : Result (Payload Message) DecodeError) → Carries message item → ItemsAre message_codec message (item ∷ [])
+one_item message item c =
+    let starts : StartsWithMessage message message [] = record { padding = []; parts = sym (append-nil message); whole = c.whole; filled = inl (no_fill message c.even) } in
+    record { messages = message ∷ []; end = None; carried = item ∷ []; cut = ([], starts, refl); each = (c.is, tt); parts = refl }
 
-  -- and those of messages stand in a row
-  pub items_of_all : ((front back : List ℕ) (messages : List (List ℕ)) (xs ys : List (Result (Payload Message) DecodeError)) → AreWholeMessages front messages
-      → ItemsAre reads refuses front xs → ItemsAre reads refuses back ys → ItemsAre reads refuses (front ++ back) (xs ++ ys))
-      → {A : Type 0} (bytes : A → List ℕ) (item : A → Result (Payload Message) DecodeError) (last : List ℕ) (ends : List (Result (Payload Message) DecodeError))
-      → (xs : List A) → AllByRecursion (λ x. Carries (bytes x) (item x)) xs → ItemsAre reads refuses last ends
-      → ItemsAre reads refuses (flat_map bytes xs ++ last) (map item xs ++ ends)
-  items_of_all law bytes item last ends [] all are = are
-  items_of_all law bytes item last ends (x ∷ xs) all are =
-      rw append_assoc (law (bytes x) (flat_map bytes xs ++ last) (bytes x ∷ []) (item x ∷ []) (map item xs ++ ends)
-      ([], [], sym (append-nil (bytes x)), all.0.whole, no_fill (bytes x) all.0.even, refl)
-      (one_item (bytes x) (item x) all.0) (items_of_all law bytes item last ends xs all.1 are))
+-- and those of messages stand in a row
+pub items_of_all : ((front back : List ℕ) (messages : List (List ℕ)) (xs ys : List (Result (Payload Message) DecodeError)) → AreWholeMessages front messages
+    → ItemsAre message_codec front xs → ItemsAre message_codec back ys → ItemsAre message_codec (front ++ back) (xs ++ ys))
+    → {A : Type 0} (bytes : A → List ℕ) (item : A → Result (Payload Message) DecodeError) (last : List ℕ) (ends : List (Result (Payload Message) DecodeError))
+    → (xs : List A) → AllByRecursion (λ x. Carries (bytes x) (item x)) xs → ItemsAre message_codec last ends
+    → ItemsAre message_codec (flat_map bytes xs ++ last) (map item xs ++ ends)
+items_of_all law bytes item last ends [] all are = are
+items_of_all law bytes item last ends (x ∷ xs) all are =
+    rw append_assoc (law (bytes x) (flat_map bytes xs ++ last) (bytes x ∷ []) (item x ∷ []) (map item xs ++ ends)
+    ([], [], sym (append-nil (bytes x)), all.0.whole, no_fill (bytes x) all.0.even, refl)
+    (one_item (bytes x) (item x) all.0) (items_of_all law bytes item last ends xs all.1 are))
 
 -- ---- the messages of an answer
 
@@ -85,32 +84,32 @@ even_message : (n : ℕ) (payload : Payload Message) → length (payload_bytes m
 unfolding message_under
 even_message n carried even = omega arith
 
-module _ (reads_back : (v : Envelope Message) → (envelope_codec message_codec).is_typed v → (envelope_codec message_codec).fits v → IsFinalized message_codec.written (λ _. 20) v
+module _ (reads_back : (v : Envelope Message) → (envelope_codec message_codec).is_typed v → (envelope_codec message_codec).fits v → v.header ≡ finalized message_codec.written (λ _. 20) v
     → ((envelope_codec message_codec).reads ((envelope_codec message_codec).written v) tt v ↔ OfInner (message_codec.is_normal 20) v.payload)) where
   carries_payload : (n : ℕ) (payload : Payload Message) → (envelope_codec message_codec).is_typed (envelope_under n payload) → (envelope_codec message_codec).fits (envelope_under n payload)
-      → OfInner (message_codec.is_normal 20) payload → length (payload_bytes message_codec.written payload) % 4 ≡ 0 → Carries message_codec (message_under n payload) (Ok payload)
+      → OfInner (message_codec.is_normal 20) payload → length (payload_bytes message_codec.written payload) % 4 ≡ 0 → Carries (message_under n payload) (Ok payload)
   unfolding message_under
   carries_payload n payload typed fits normal even = record {
     whole = whole_message n payload fits.1;
     even = even_message n payload even;
-    is = (header_under n payload, (reads_back (envelope_under n payload) typed fits (refl, refl)).1 normal);
+    is = (header_under n payload, (reads_back (envelope_under n payload) typed fits refl).1 normal);
   }
 
   carries_reply : ((v : UnixReply) → (reply_codec unix_reply).is_typed v → length (reply_bytes unix_reply v) % 4 ≡ 0)
-      → (n : ℕ) → n < 2 ^ 32 → (r : UnixReply) → CanBeTold r → Carries message_codec (reply_under n r) (Ok (inner (message_of unix_response r)))
+      → (n : ℕ) → n < 2 ^ 32 → (r : UnixReply) → CanBeTold r → Carries (reply_under n r) (Ok (inner (message_of unix_response r)))
   carries_reply even n small r told = carries_payload n (inner (message_of unix_response r)) (typed_header n (inner (message_of unix_response r)) small told.short (omega arith), told.typed) (told.fits, told.short) (refl, inr refl, told.normal) (even r told.typed)
 
   carries_all : ((v : UnixReply) → (reply_codec unix_reply).is_typed v → length (reply_bytes unix_reply v) % 4 ≡ 0)
-      → (n : ℕ) → n < 2 ^ 32 → (rs : List UnixReply) → AllByRecursion CanBeTold rs → AllByRecursion (λ r. Carries message_codec (reply_under n r) (Ok (inner (message_of unix_response r)))) rs
+      → (n : ℕ) → n < 2 ^ 32 → (rs : List UnixReply) → AllByRecursion CanBeTold rs → AllByRecursion (λ r. Carries (reply_under n r) (Ok (inner (message_of unix_response r)))) rs
   carries_all even n small [] told = tt
   carries_all even n small (r ∷ rs) told = (carries_reply even n small r told.0, carries_all even n small rs told.1)
 
-  carries_end : (n : ℕ) → n < 2 ^ 32 → Carries message_codec (end_under n) (Ok (done_with (0 ∷ 0 ∷ 0 ∷ 0 ∷ [])))
+  carries_end : (n : ℕ) → n < 2 ^ 32 → Carries (end_under n) (Ok (done_with (0 ∷ 0 ∷ 0 ∷ 0 ∷ [])))
   carries_end n small = carries_payload n (done_with (0 ∷ 0 ∷ 0 ∷ 0 ∷ [])) (typed_header n (done_with (0 ∷ 0 ∷ 0 ∷ 0 ∷ [])) small (omega arith) (omega arith), tt) (tt, omega arith) tt refl
 
 -- ---- the dump
 
-plain_all : (rs : List UnixReply) → GoesOn {A = Message} (map (λ r. Ok (inner (message_of unix_response r))) rs)
+plain_all : (rs : List UnixReply) → AllByRecursion (λ item. end_of {A = Message} item ≡ None) (map (λ r. Ok (inner (message_of unix_response r))) rs)
 plain_all [] = tt
 plain_all (r ∷ rs) = (refl, plain_all rs)
 
@@ -118,7 +117,7 @@ keeps_all : (rs : List UnixReply) → map (message_of unix_response) rs ≡ flat
 keeps_all [] = refl
 keeps_all (r ∷ rs) = ap (λ (ms : List Message). message_of unix_response r ∷ ms) (keeps_all rs)
 
-pub whole_dump : ((v : Envelope Message) → (envelope_codec message_codec).is_typed v → (envelope_codec message_codec).fits v → IsFinalized message_codec.written (λ _. 20) v
+pub whole_dump : ((v : Envelope Message) → (envelope_codec message_codec).is_typed v → (envelope_codec message_codec).fits v → v.header ≡ finalized message_codec.written (λ _. 20) v
     → ((envelope_codec message_codec).reads ((envelope_codec message_codec).written v) tt v ↔ OfInner (message_codec.is_normal 20) v.payload))
     → ((v : UnixReply) → (reply_codec unix_reply).is_typed v → length (reply_bytes unix_reply v) % 4 ≡ 0)
     → ((front back : List ℕ) (messages : List (List ℕ)) (xs ys : List (Result (Payload Message) DecodeError)) → AreWholeMessages front messages
@@ -127,20 +126,13 @@ pub whole_dump : ((v : Envelope Message) → (envelope_codec message_codec).is_t
 whole_dump reads_back even in_a_row request replies datagram answer told =
     let n = answer.header.sequence_number in
     let small = answer.framed.1.typed.sequence_number in
-    let ends = one_item message_codec (end_under n) (Ok (done_with (0 ∷ 0 ∷ 0 ∷ 0 ∷ []))) (carries_end reads_back n small) in
+    let ends = one_item (end_under n) (Ok (done_with (0 ∷ 0 ∷ 0 ∷ 0 ∷ []))) (carries_end reads_back n small) in
     let items = map (λ (r : UnixReply). Ok (inner (message_of unix_response r))) replies ++ (Ok (done_with (0 ∷ 0 ∷ 0 ∷ 0 ∷ [])) ∷ []) in
-    let all = items_of_all message_codec in_a_row (reply_under n) (λ r. Ok (inner (message_of unix_response r))) (end_under n) (Ok (done_with (0 ∷ 0 ∷ 0 ∷ 0 ∷ [])) ∷ []) replies (carries_all reads_back even n small replies told) ends in
+    let all = items_of_all in_a_row (reply_under n) (λ r. Ok (inner (message_of unix_response r))) (end_under n) (Ok (done_with (0 ∷ 0 ∷ 0 ∷ 0 ∷ [])) ∷ []) replies (carries_all reads_back even n small replies told) ends in
     record {
       dump = (
         items,
         subst (λ (bytes : List ℕ). ItemsAre message_codec bytes items) (sym answer.written) all,
-        record {
-          passed = map (λ (r : UnixReply). Ok (inner (message_of unix_response r))) replies;
-          later = Ok (done_with (0 ∷ 0 ∷ 0 ∷ 0 ∷ [])) ∷ [];
-          parts = refl;
-          plain = plain_all replies;
-          keeps = keeps_all replies;
-          ends = refl;
-        },
+        (map (λ (r : UnixReply). Ok (inner (message_of unix_response r))) replies, Ok (done_with (0 ∷ 0 ∷ 0 ∷ 0 ∷ [])) ∷ [], refl, plain_all replies, keeps_all replies, refl),
       );
     }

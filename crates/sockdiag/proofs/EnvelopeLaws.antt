@@ -67,7 +67,7 @@ envelope_laws = record {
   answered = λ b h. envelope_or_fault message_codec b h message_laws.answered;
   one_value = λ b v w h r s. (equal_idle b b v w h h r s).1 ((equal_idle b b v v h h r r).0 refl);
   one_answer = λ b v e. envelope_or_fault_apart message_codec b v e (λ x t m. message_laws.one_answer x t m e);
-  one_fault = λ b e f. one_envelope_fault message_codec.refuses b e f (λ x t. message_laws.one_fault x t e f);
+  one_fault = λ b e f. one_envelope_fault message_codec b e f (λ x t. message_laws.one_fault x t e f);
   fits_or_not = envelope_fits_or_not;
   shown_alike = λ b c v w hb hc r s i. ap shown_envelope ((equal_idle b c v w hb hc r s).1 i);
 }

@@ -1,8 +1,8 @@
 -- The subjects of the program's lines.
 use Rattle.std.specs.Prelude.{⊤}
 use Rattle.netlink_core.specs.Codec.{Codec}
-use Rattle.netlink_core.specs.Envelope.{Envelope, EnvelopeIs, EnvelopeFault, envelope_codec}
-use Rattle.netlink_packet_sock_diag.specs.Message.{Message, message_codec}
+use Rattle.netlink_core.specs.Envelope.{envelope_codec}
+use Rattle.netlink_packet_sock_diag.specs.Message.{message_codec}
 use Rattle.netlink_core.specs.Reply.{reply_codec}
 use Rattle.netlink_packet_sock_diag.specs.UnixReply.{unix_reply}
 use Rattle.sockdiag.specs.EnvelopeLine.{shown_envelope}

@@ -14,7 +14,7 @@ fields-init c = record {
   split = refl;
   each = tt;
   read = record {
-    is = ([], ([], tt, refl), record { passed = []; later = []; parts = refl; plain = tt; keeps = c.new.ensures.messages; ends = ap Ok c.new.ensures.state });
+    is = ([], ([], tt, refl), ([], [], refl, tt, c.new.ensures.messages, ap Ok c.new.ensures.state));
     faultless = λ _. refl;
   };
 }
