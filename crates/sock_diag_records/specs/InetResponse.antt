@@ -8,13 +8,13 @@ use Rattle.netlink_core.specs.Faults.{said_as}
 use Rattle.netlink_core.specs.declared.fault.RecordName.TheVariants as name
 use Rattle.sock_diag_records.specs.Kinds.{kinds_of, kinds_of_family}
 use Rattle.sock_diag_records.specs.SocketId.{IsShaped, socket_id_rows, socket_id_values}
-use Rattle.sock_diag_records.specs.Timer.{class_of_byte, byte_of_class, class_of, retransmits_row, expires_row, retransmits_values, expires_values, IsWholeTimer, Tag}
+use Rattle.sock_diag_records.specs.Timer.{class_of_byte, class_of, retransmits_row, expires_row, retransmits_values, expires_values, IsWholeTimer, Tag}
 use Rattle.sock_diag_records.specs.InetResponseInverse.{header_of}
 
 -- the bytes at 0 and 1, the timer, the identity at 4 and the words at 56, 60, 64 and 68
 abbrev pub header_rows : Tag → List Row
 header_rows tag =
-    byte 0 ∷ byte 1 ∷ unread 2 (byte_of_class tag.class ∷ []) ∷ retransmits_row tag.class
+    byte 0 ∷ byte 1 ∷ unread 2 (tag.class ∷ []) ∷ retransmits_row tag.class
     ∷ (socket_id_rows 4 tag.kinds ++ expires_row tag.class ∷ numbers 56 4 little_endian 4)
 
 -- the values in the rows

@@ -1,32 +1,32 @@
 -- The header of a reply about an IPv4 or IPv6 socket with the numbers of its rows.
-use Rattle.std.specs.Prelude.{ℕ, ◌+◌, ◌*◌, ◌/◌, ◌%◌, if◌then◌else◌, List, drop, slice_index, Option, Some, None}
+use Rattle.std.specs.Prelude.{ℕ, ◌+◌, ◌*◌, ◌/◌, ◌%◌, ◌==◌, ◌||◌, if◌then◌else◌, List, drop, slice_index, Option, Some, None}
 use Rattle.std.specs.declared.time.Duration.{Duration}
 use Rattle.sock_diag_records.specs.declared.inet.response.Timer.{Timer}
 use Rattle.sock_diag_records.specs.declared.inet.response.Timer.TheVariants.{Retransmit, KeepAlive, TimeWait, Probe}
 use Rattle.sock_diag_records.specs.declared.inet.response.InetResponseHeader.{InetResponseHeader}
 use Rattle.sock_diag_records.specs.Kinds.{Kinds}
 use Rattle.sock_diag_records.specs.SocketIdInverse.{count_of, socket_id_of}
-use Rattle.sock_diag_records.specs.Timer.{Class, retransmits, keeps_alive, waits, probes, none, told_by, Tag}
+use Rattle.sock_diag_records.specs.Timer.{Tag}
 
 -- so many milliseconds
 abbrev pub duration : ℕ → Duration
 duration milliseconds = record { secs = milliseconds / 1_000; nanos = milliseconds % 1_000 * 1_000_000 }
 
 -- how many values the byte at 3 has
-abbrev pub retransmits_count : Class → ℕ
-retransmits_count class = if (told_by class).1 then 1 else 0
+abbrev pub retransmits_count : ℕ → ℕ
+retransmits_count class = if class == 1 then 1 else 0
 
 -- how many values the word at 52 has
-abbrev pub expires_count : Class → ℕ
-expires_count class = if (told_by class).2 then 1 else 0
+abbrev pub expires_count : ℕ → ℕ
+expires_count class = if class == 0 || class == 3 then 0 else 1
 
 -- the timer of a class, with the byte at 3 and the word at 52
-abbrev pub timer_of : Class → ℕ → ℕ → Option Timer
-timer_of retransmits count expires = Some (Retransmit (duration expires) count)
-timer_of keeps_alive count expires = Some (KeepAlive (duration expires))
-timer_of waits count expires = Some TimeWait
-timer_of probes count expires = Some (Probe (duration expires))
-timer_of none count expires = None
+abbrev pub timer_of : ℕ → ℕ → ℕ → Option Timer
+timer_of class count expires =
+    if class == 1 then Some (Retransmit (duration expires) count)
+    else if class == 2 then Some (KeepAlive (duration expires))
+    else if class == 3 then Some TimeWait
+    else if class == 4 then Some (Probe (duration expires)) else None
 
 -- how many values a socket's identity has
 abbrev pub socket_id_count : Kinds → ℕ

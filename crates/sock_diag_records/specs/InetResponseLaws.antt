@@ -1,5 +1,6 @@
 -- The format of the header of a reply is sound.
-use Rattle.std.proofs.Common.{◌≡◌, ℕ, ◌*◌, ◌/◌, ◌%◌, ◌^◌, ◌<◌, List, [], ◌∷◌, ◌++◌, length, drop, replicate, slice_index, Option, Some, None, Result, Ok, Err, refl, sym, ap, ap₂, ◌∙◌, subst, IsTrue, arith}
+use Rattle.std.proofs.Common.{◌≡◌, inl, inr, ℕ, zero, suc, ◌*◌, ◌/◌, ◌%◌, ◌^◌, ◌<◌, Bool, if◌then◌else◌, le-ltb, lt-ltb, List, [], ◌∷◌, ◌++◌, length, drop, replicate, slice_index, Option, Some, None, Result, Ok, Err, refl, sym, ap, ap₂, ◌∙◌, subst, IsTrue, arith}
+use Rattle.std.proofs.lemmas.Bool.{cases_lt}
 use Rattle.std.proofs.lemmas.List.{drop_at, length-append}
 use Rattle.std.specs.Duration.{as_nanos}
 use Rattle.std.specs.List.{flat_map}
@@ -26,7 +27,7 @@ use Rattle.sock_diag_records.specs.Kinds.{Kind, ipv4, ipv6, Kinds, kinds_of, kin
 use Rattle.sock_diag_records.specs.SocketId as identity
 use Rattle.sock_diag_records.specs.InetResponse.{header_rows, header_values, inet_response_header}
 use Rattle.sock_diag_records.specs.InetResponseInverse.{duration, retransmits_count, expires_count, timer_of, header_of, socket_id_count}
-use Rattle.sock_diag_records.specs.Timer.{milliseconds, IsWholeMilliseconds, Class, retransmits, keeps_alive, waits, probes, none, class_of_byte, byte_of_class, class_of, retransmits_row, expires_row, retransmits_values, expires_values, IsWholeTimer, Tag}
+use Rattle.sock_diag_records.specs.Timer.{milliseconds, IsWholeMilliseconds, class_of_byte, class_of, retransmits_row, expires_row, retransmits_values, expires_values, IsWholeTimer, Tag}
 use Rattle.sock_diag_records.specs.TablesInARowLaws.{is_table-append, values_of-append}
 use Rattle.sock_diag_records.specs.SocketIdLaws.{pair, kept_is, shaped_is, read_before, length-values, socket_id_back, socket_id_next, kinds_are, kinds_named, length-socket_id, length-bytes, fit_inside}
 
@@ -49,19 +50,41 @@ duration-milliseconds time whole =
 
 -- ---- the rows before the identity, and those behind it
 
-abbrev before : Class → List Row
-before class = byte 0 ∷ byte 1 ∷ unread 2 (byte_of_class class ∷ []) ∷ retransmits_row class ∷ []
+abbrev before : ℕ → List Row
+before class = byte 0 ∷ byte 1 ∷ unread 2 (class ∷ []) ∷ retransmits_row class ∷ []
 
-abbrev behind : Class → List Row
+abbrev behind : ℕ → List Row
 behind class = expires_row class ∷ numbers 56 4 little_endian 4
 
+-- what holds of 0 to 4 holds of each class
+each : (P : ℕ → Type 0) → P 0 → P 1 → P 2 → P 3 → P 4 → (class : ℕ) → class < 5 → P class
+each P none retransmits keeps_alive waits probes zero h = none
+each P none retransmits keeps_alive waits probes (suc zero) h = retransmits
+each P none retransmits keeps_alive waits probes (suc (suc zero)) h = keeps_alive
+each P none retransmits keeps_alive waits probes (suc (suc (suc zero))) h = waits
+each P none retransmits keeps_alive waits probes (suc (suc (suc (suc zero)))) h = probes
+each P none retransmits keeps_alive waits probes (suc (suc (suc (suc (suc n))))) h = absurd (omega arith)
+
+-- a byte tells a class, and a timer has one
+pub class_lt : (timer : ℕ) → class_of_byte timer < 5
+class_lt timer = elim (cases_lt timer 5) [
+  | inl under ↦ rw (lt-ltb timer 5 under) under
+  | inr over ↦ rw (le-ltb timer 5 over) (omega arith)
+]
+
+class_of_lt : (timer : Option Timer) → class_of timer < 5
+class_of_lt (Some (Retransmit expires n)) = omega arith
+class_of_lt (Some (KeepAlive expires)) = omega arith
+class_of_lt (Some TimeWait) = omega arith
+class_of_lt (Some (Probe expires)) = omega arith
+class_of_lt None = omega arith
+
 -- where the rows of each class stand
-of_class : (class : Class) → IsTrue (is_table 0 (before class) 4) × IsTrue (is_table 52 (behind class) 72)
-of_class retransmits = (refl, refl)
-of_class keeps_alive = (refl, refl)
-of_class waits = (refl, refl)
-of_class probes = (refl, refl)
-of_class none = (refl, refl)
+abbrev Stands : ℕ → Type 0
+Stands class = IsTrue (is_table 0 (before class) 4) × IsTrue (is_table 52 (behind class) 72)
+
+of_class : (class : ℕ) → class < 5 → Stands class
+of_class = each Stands (refl, refl) (refl, refl) (refl, refl) (refl, refl) (refl, refl)
 
 identity_is_table : (s d : Kind) → IsTrue (is_table 4 (socket_id_rows 4 (pair s d)) 52)
 identity_is_table ipv4 ipv4 = refl
@@ -69,10 +92,10 @@ identity_is_table ipv4 ipv6 = refl
 identity_is_table ipv6 ipv4 = refl
 identity_is_table ipv6 ipv6 = refl
 
-tables_are : (t : Tag) → IsTrue (is_table 0 (header_rows t) 72)
-tables_are t =
-    is_table-append 0 (before t.class) 4 (socket_id_rows 4 t.kinds ++ behind t.class) 72 (of_class t.class).0
-    (is_table-append 4 (socket_id_rows 4 t.kinds) 52 (behind t.class) 72 (identity_is_table t.kinds.source t.kinds.destination) (of_class t.class).1)
+tables_are : (t : Tag) → t.class < 5 → IsTrue (is_table 0 (header_rows t) 72)
+tables_are t below =
+    is_table-append 0 (before t.class) 4 (socket_id_rows 4 t.kinds ++ behind t.class) 72 (of_class t.class below).0
+    (is_table-append 4 (socket_id_rows 4 t.kinds) 52 (behind t.class) 72 (identity_is_table t.kinds.source t.kinds.destination) (of_class t.class below).1)
 
 -- ---- what is read
 
@@ -97,41 +120,39 @@ header_with family state timer socket last = record {
 }
 
 -- a header of its fields, the word at 52 and the last four in a list
-abbrev pub header_read : Class → ℕ → ℕ → ℕ → SocketId → List ℕ → InetResponseHeader
+abbrev pub header_read : ℕ → ℕ → ℕ → ℕ → SocketId → List ℕ → InetResponseHeader
 header_read class family state count socket words = header_with family state (timer_of class count (slice_index words 0)) socket (drop 1 words)
 
 -- what each class reads: the values behind the count, the timer, the last four words, and the count alone
-read_of_class : (class : Class) (rows : List Row) (left : List ℕ) → (drop (retransmits_count class) (values_of (retransmits_row class ∷ rows) left) ≡ values_of rows left)
+abbrev IsRead : List Row → List ℕ → ℕ → Type 0
+IsRead rows left class = (drop (retransmits_count class) (values_of (retransmits_row class ∷ rows) left) ≡ values_of rows left)
     × (timer_of class (slice_index (values_of (retransmits_row class ∷ rows) left) 0) (slice_index (values_of (behind class) left) 0) ≡ timer_of class (slice_index left 3) (expires_at left))
     × (drop (expires_count class) (values_of (behind class) left) ≡ values_of (numbers 56 4 little_endian 4) left)
     × (retransmits_values (timer_of class (slice_index left 3) (expires_at left)) ≡ values_of (retransmits_row class ∷ []) left)
-read_of_class retransmits rows left = (refl, refl, refl, refl)
-read_of_class keeps_alive rows left = (refl, refl, refl, refl)
-read_of_class waits rows left = (refl, refl, refl, refl)
-read_of_class probes rows left = (refl, refl, refl, refl)
-read_of_class none rows left = (refl, refl, refl, refl)
 
-pub header_is : (t : Tag) (left : List ℕ) → header_of t (values_of (header_rows t) left) ≡ header_read t.class (slice_index left 0) (slice_index left 1) (slice_index left 3) (socket_id_of t.kinds (values_of (socket_id_rows 4 t.kinds) left)) (values_of (numbers 52 4 little_endian 5) left)
-header_is t left =
+read_of_class : (class : ℕ) (rows : List Row) (left : List ℕ) → class < 5 → IsRead rows left class
+read_of_class class rows left below = each (IsRead rows left) (refl, refl, refl, refl) (refl, refl, refl, refl) (refl, refl, refl, refl) (refl, refl, refl, refl) (refl, refl, refl, refl) class below
+
+pub header_is : (t : Tag) (left : List ℕ) → t.class < 5 → header_of t (values_of (header_rows t) left) ≡ header_read t.class (slice_index left 0) (slice_index left 1) (slice_index left 3) (socket_id_of t.kinds (values_of (socket_id_rows 4 t.kinds) left)) (values_of (numbers 52 4 little_endian 5) left)
+header_is t left below =
     let rest = socket_id_rows 4 t.kinds ++ behind t.class in
     let own = values_of (socket_id_rows 4 t.kinds) left in
     let last = values_of (behind t.class) left in
     let front = slice_index (values_of (retransmits_row t.class ∷ (socket_id_rows 4 t.kinds ++ behind t.class)) left) 0 in
-    let socket = (read_of_class t.class rest left).0 ∙ values_of-append (socket_id_rows 4 t.kinds) (behind t.class) left in
+    let socket = (read_of_class t.class rest left below).0 ∙ values_of-append (socket_id_rows 4 t.kinds) (behind t.class) left in
     let others = ap (drop (socket_id_count t.kinds)) socket ∙ drop_at own last (socket_id_count t.kinds) (length-values 4 t.kinds.source t.kinds.destination left) in
-    ap (header_with (slice_index left 0) (slice_index left 1)) (ap (λ (values : List ℕ). timer_of t.class front (slice_index values 0)) others ∙ (read_of_class t.class rest left).1)
+    ap (header_with (slice_index left 0) (slice_index left 1)) (ap (λ (values : List ℕ). timer_of t.class front (slice_index values 0)) others ∙ (read_of_class t.class rest left below).1)
     ⊛ (ap (socket_id_of t.kinds) socket ∙ read_before 4 t.kinds.source t.kinds.destination left last)
-    ⊛ (ap (drop (expires_count t.class)) others ∙ (read_of_class t.class rest left).2)
+    ⊛ (ap (drop (expires_count t.class)) others ∙ (read_of_class t.class rest left below).2)
 
 expires_is : (left : List ℕ) → IsBytes left → milliseconds (duration (expires_at left)) ∷ values_of (numbers 56 4 little_endian 4) left ≡ values_of (numbers 52 4 little_endian 5) left
 expires_is left h = ap (λ (expires : ℕ). expires ∷ values_of (numbers 56 4 little_endian 4) left) (milliseconds-duration (expires_at left) (expires-lt left h))
 
-expires_kept : (class : Class) (left : List ℕ) → IsBytes left → expires_values (timer_of class (slice_index left 3) (expires_at left)) ++ values_of (numbers 56 4 little_endian 4) left ≡ values_of (behind class) left
-expires_kept retransmits left h = expires_is left h
-expires_kept keeps_alive left h = expires_is left h
-expires_kept waits left h = refl
-expires_kept probes left h = expires_is left h
-expires_kept none left h = refl
+abbrev IsKept : List ℕ → ℕ → Type 0
+IsKept left class = expires_values (timer_of class (slice_index left 3) (expires_at left)) ++ values_of (numbers 56 4 little_endian 4) left ≡ values_of (behind class) left
+
+expires_kept : (class : ℕ) (left : List ℕ) → class < 5 → IsBytes left → IsKept left class
+expires_kept class left below h = each (IsKept left) refl (expires_is left h) (expires_is left h) refl (expires_is left h) class below
 
 -- the values behind the first two
 abbrev with_two : List ℕ → List ℕ → List ℕ → List ℕ → List ℕ
@@ -142,56 +163,48 @@ values_are t left = ap (λ (values : List ℕ). slice_index left 0 ∷ slice_ind
     (values_of-append (retransmits_row t.class ∷ []) (socket_id_rows 4 t.kinds ++ behind t.class) left
     ∙ ap (λ (values : List ℕ). values_of (retransmits_row t.class ∷ []) left ++ values) (values_of-append (socket_id_rows 4 t.kinds) (behind t.class) left))
 
-kept_are : (t : Tag) (left : List ℕ) → IsBytes left → header_values (header_of t (values_of (header_rows t) left)) ≡ values_of (header_rows t) left
-kept_are t left h =
-    ap header_values (header_is t left)
-    ∙ (ap (with_two left) (read_of_class t.class [] left).3 ⊛ kept_is 4 t.kinds.source t.kinds.destination left ⊛ expires_kept t.class left h)
+kept_are : (t : Tag) (left : List ℕ) → t.class < 5 → IsBytes left → header_values (header_of t (values_of (header_rows t) left)) ≡ values_of (header_rows t) left
+kept_are t left below h =
+    ap header_values (header_is t left below)
+    ∙ (ap (with_two left) (read_of_class t.class [] left below).3 ⊛ kept_is 4 t.kinds.source t.kinds.destination left ⊛ expires_kept t.class left below h)
     ∙ sym (values_are t left)
 
-class_is : (c : Class) (count expires : ℕ) → class_of (timer_of c count expires) ≡ c
-class_is retransmits count expires = refl
-class_is keeps_alive count expires = refl
-class_is waits count expires = refl
-class_is probes count expires = refl
-class_is none count expires = refl
+class_is : (count expires class : ℕ) → class < 5 → class_of (timer_of class count expires) ≡ class
+class_is count expires = each (λ class. class_of (timer_of class count expires) ≡ class) refl refl refl refl refl
 
-whole_is : (c : Class) (count expires : ℕ) → expires < 2 ^ 32 → IsWholeTimer (timer_of c count expires)
-whole_is retransmits count expires h = (expires, h, omega arith)
-whole_is keeps_alive count expires h = (expires, h, omega arith)
-whole_is waits count expires h = tt
-whole_is probes count expires h = (expires, h, omega arith)
-whole_is none count expires h = tt
+whole_is : (count expires : ℕ) → expires < 2 ^ 32 → (class : ℕ) → class < 5 → IsWholeTimer (timer_of class count expires)
+whole_is count expires h = each (λ class. IsWholeTimer (timer_of class count expires)) tt (expires, h, omega arith) (expires, h, omega arith) tt (expires, h, omega arith)
 
-whole_read : (t : Tag) (left : List ℕ) → IsBytes left → IsWholeTimer (header_of t (values_of (header_rows t) left)).timer
-whole_read t left h = subst (λ (value : InetResponseHeader). IsWholeTimer value.timer) (sym (header_is t left)) (whole_is t.class (slice_index left 3) (expires_at left) (expires-lt left h))
+whole_read : (t : Tag) (left : List ℕ) → t.class < 5 → IsBytes left → IsWholeTimer (header_of t (values_of (header_rows t) left)).timer
+whole_read t left below h = subst (λ (value : InetResponseHeader). IsWholeTimer value.timer) (sym (header_is t left below)) (whole_is (slice_index left 3) (expires_at left) (expires-lt left h) t.class below)
 
-shaped_read : (t : Tag) (left : List ℕ) → identity.IsShaped (header_of t (values_of (header_rows t) left)).socket_id
-shaped_read t left = subst (λ (value : InetResponseHeader). identity.IsShaped value.socket_id) (sym (header_is t left)) (shaped_is 4 t.kinds.source t.kinds.destination left)
+shaped_read : (t : Tag) (left : List ℕ) → t.class < 5 → identity.IsShaped (header_of t (values_of (header_rows t) left)).socket_id
+shaped_read t left below = subst (λ (value : InetResponseHeader). identity.IsShaped value.socket_id) (sym (header_is t left below)) (shaped_is 4 t.kinds.source t.kinds.destination left)
 
 -- by which rows a header is written
 abbrev tag_of : InetResponseHeader → Tag
 tag_of value = record { kinds = kinds_of value.socket_id; class = class_of value.timer }
 
-abbrev the_tag : Kinds → Class → Tag
+abbrev the_tag : Kinds → ℕ → Tag
 the_tag kinds class = record { kinds = kinds; class = class }
 
 -- the class beside what the family tells, or the family's fault
-abbrev pub with_class : Class → Result Kinds DecodeError → Result Tag DecodeError
+abbrev pub with_class : ℕ → Result Kinds DecodeError → Result Tag DecodeError
 with_class class told = said_as (λ kinds. the_tag kinds class) told
 
 -- what the tag tells
-told_parts : (class : Class) (kinds : Result Kinds DecodeError) (told : Tag) → with_class class kinds ≡ Ok told → (kinds ≡ Ok told.kinds) × (class ≡ told.class)
+told_parts : (class : ℕ) (kinds : Result Kinds DecodeError) (told : Tag) → with_class class kinds ≡ Ok told → (kinds ≡ Ok told.kinds) × (class ≡ told.class)
 told_parts class (Ok kinds) told e =
     let same : record { kinds = kinds; class = class } ≡ told = cc in
     (ap (λ (t : Tag). let r : Result Kinds DecodeError = Ok t.kinds in r) same, ap (λ (t : Tag). t.class) same)
 told_parts class (Err fault) told e = cc
 
-class_told : (c : Class) → class_of_byte (byte_of_class c) ≡ c
-class_told retransmits = refl
-class_told keeps_alive = refl
-class_told waits = refl
-class_told probes = refl
-class_told none = refl
+-- its class is one
+told_lt : (at_two : ℕ) (kinds : Result Kinds DecodeError) (told : Tag) → with_class (class_of_byte at_two) kinds ≡ Ok told → told.class < 5
+told_lt at_two kinds told e = subst (λ (class : ℕ). class < 5) (told_parts (class_of_byte at_two) kinds told e).1 (class_lt at_two)
+
+class_told : (timer : Option Timer) → class_of_byte (class_of timer) ≡ class_of timer
+class_told timer = ap (λ (below : Bool). if below then class_of timer else 0) (lt-ltb (class_of timer) 5 (class_of_lt timer))
 
 -- ---- a header is that of its values
 
@@ -229,13 +242,13 @@ header_back value shaped whole =
     ⊛ (ap (drop (expires_count (class_of value.timer))) behind_is ∙ drop_expires value.timer last)
 
 -- a header has the tag under which it was read
-tag_read : (t : Tag) (values : List ℕ) → tag_of (header_of t values) ≡ t
-tag_read t values =
+tag_read : (t : Tag) (values : List ℕ) → t.class < 5 → tag_of (header_of t values) ≡ t
+tag_read t values below =
     let socket = drop (retransmits_count t.class) (drop 2 values) in
     ap the_tag (kinds_are t.kinds.source t.kinds.destination socket)
-    ⊛ class_is t.class (slice_index values 2) (slice_index (drop (socket_id_count t.kinds) socket) 0)
+    ⊛ class_is (slice_index values 2) (slice_index (drop (socket_id_count t.kinds) socket) 0) t.class below
 
-class_named : (class : Class) (kinds : Result Kinds DecodeError) → (kinds ≡ Err Memory → ⊥) → with_class class kinds ≡ Err Memory → ⊥
+class_named : (class : ℕ) (kinds : Result Kinds DecodeError) → (kinds ≡ Err Memory → ⊥) → with_class class kinds ≡ Err Memory → ⊥
 class_named class (Ok kinds) named e = cc
 class_named class (Err fault) named e = let same : fault ≡ Memory = cc in named (ap (λ (f : DecodeError). let r : Result Kinds DecodeError = Err f in r) same)
 
@@ -246,7 +259,7 @@ abbrev last_words : InetResponseHeader → List ℕ
 last_words value = value.recv_queue ∷ value.send_queue ∷ value.uid ∷ value.inode ∷ []
 
 pieces : (value : InetResponseHeader) (timer : Option Timer) → bytes_of (header_rows (the_tag (kinds_of value.socket_id) (class_of timer))) (value.family ∷ value.state ∷ (retransmits_values timer ++ (socket_id_values value.socket_id ++ (expires_values timer ++ last_words value))))
-    ≡ (value.family ∷ value.state ∷ byte_of_class (class_of timer) ∷ slice_index (retransmits_values timer) 0 ∷ []) ++ (bytes socket_id value.socket_id ++ flat_map (little_bytes 4) (slice_index (expires_values timer) 0 ∷ last_words value))
+    ≡ (value.family ∷ value.state ∷ class_of timer ∷ slice_index (retransmits_values timer) 0 ∷ []) ++ (bytes socket_id value.socket_id ++ flat_map (little_bytes 4) (slice_index (expires_values timer) 0 ∷ last_words value))
 pieces value (Some (Retransmit expires n)) = ap (λ (b : List ℕ). value.family ∷ value.state ∷ 1 ∷ n ∷ b) (socket_id_next 4 value.socket_id (number 52 4 little_endian ∷ numbers 56 4 little_endian 4) (milliseconds expires ∷ last_words value))
 pieces value (Some (KeepAlive expires)) = ap (λ (b : List ℕ). value.family ∷ value.state ∷ 2 ∷ 0 ∷ b) (socket_id_next 4 value.socket_id (number 52 4 little_endian ∷ numbers 56 4 little_endian 4) (milliseconds expires ∷ last_words value))
 pieces value (Some TimeWait) = ap (λ (b : List ℕ). value.family ∷ value.state ∷ 3 ∷ 0 ∷ b) (socket_id_next 4 value.socket_id (unread 52 (replicate 4 0) ∷ numbers 56 4 little_endian 4) (last_words value))
@@ -254,7 +267,7 @@ pieces value (Some (Probe expires)) = ap (λ (b : List ℕ). value.family ∷ va
 pieces value None = ap (λ (b : List ℕ). value.family ∷ value.state ∷ 0 ∷ 0 ∷ b) (socket_id_next 4 value.socket_id (unread 52 (replicate 4 0) ∷ numbers 56 4 little_endian 4) (last_words value))
 
 pub header_pieces : (value : InetResponseHeader) → bytes inet_response_header value
-    ≡ (value.family ∷ value.state ∷ byte_of_class (class_of value.timer) ∷ slice_index (retransmits_values value.timer) 0 ∷ []) ++ (bytes socket_id value.socket_id ++ flat_map (little_bytes 4) (slice_index (expires_values value.timer) 0 ∷ value.recv_queue ∷ value.send_queue ∷ value.uid ∷ value.inode ∷ []))
+    ≡ (value.family ∷ value.state ∷ class_of value.timer ∷ slice_index (retransmits_values value.timer) 0 ∷ []) ++ (bytes socket_id value.socket_id ++ flat_map (little_bytes 4) (slice_index (expires_values value.timer) 0 ∷ value.recv_queue ∷ value.send_queue ∷ value.uid ∷ value.inode ∷ []))
 unfolding inet_response_header
 header_pieces value = pieces value value.timer
 
@@ -262,25 +275,26 @@ length_after : (a b c d : ℕ) (words identity : List ℕ) → length identity �
 length_after a b c d words identity e h = simp length-append (omega arith)
 
 pub header_length : (value : InetResponseHeader) → length (bytes inet_response_header value) ≡ 72
-header_length value = ap length (header_pieces value) ∙ length_after value.family value.state (byte_of_class (class_of value.timer)) (slice_index (retransmits_values value.timer) 0) (flat_map (little_bytes 4) (slice_index (expires_values value.timer) 0 ∷ value.recv_queue ∷ value.send_queue ∷ value.uid ∷ value.inode ∷ [])) (bytes socket_id value.socket_id) (length-bytes value.socket_id) refl
+header_length value = ap length (header_pieces value) ∙ length_after value.family value.state (class_of value.timer) (slice_index (retransmits_values value.timer) 0) (flat_map (little_bytes 4) (slice_index (expires_values value.timer) 0 ∷ value.recv_queue ∷ value.send_queue ∷ value.uid ∷ value.inode ∷ [])) (bytes socket_id value.socket_id) (length-bytes value.socket_id) refl
 
 pub header_sound : IsSound inet_response_header
 unfolding inet_response_header
 header_sound = record {
-  tables = λ param t left e. tables_are t;
-  own_table = λ value. tables_are (tag_of value);
+  tables = λ param t left e. tables_are t (told_lt (slice_index left 2) (kinds_of_family (slice_index left 0)) t e);
+  own_table = λ value. tables_are (tag_of value) (class_of_lt value.timer);
   enough = λ value. omega arith;
   room = λ param t left enough e. enough;
   long = header_length;
   named = λ param left e. class_named (class_of_byte (slice_index left 2)) (kinds_of_family (slice_index left 0)) (kinds_named (slice_index left 0)) e;
-  kept = λ param t left h e. kept_are t left h;
-  tagged = λ param t left e. tag_read t (values_of (header_rows t) left);
-  shaped = λ param t left h e. shaped_read t left;
+  kept = λ param t left h e. kept_are t left (told_lt (slice_index left 2) (kinds_of_family (slice_index left 0)) t e) h;
+  tagged = λ param t left e. tag_read t (values_of (header_rows t) left) (told_lt (slice_index left 2) (kinds_of_family (slice_index left 0)) t e);
+  shaped = λ param t left h e. shaped_read t left (told_lt (slice_index left 2) (kinds_of_family (slice_index left 0)) t e);
   owned = λ param t left h e.
+      let below = told_lt (slice_index left 2) (kinds_of_family (slice_index left 0)) t e in
       let parts = told_parts (class_of_byte (slice_index left 2)) (kinds_of_family (slice_index left 0)) t e in
-      (parts.0 ∙ ap (λ (u : Tag). let r : Result Kinds DecodeError = Ok u.kinds in r) (sym (tag_read t (values_of (header_rows t) left))), whole_read t left h);
+      (parts.0 ∙ ap (λ (u : Tag). let r : Result Kinds DecodeError = Ok u.kinds in r) (sym (tag_read t (values_of (header_rows t) left) below)), whole_read t left below h);
   back = λ param value t n. header_back value t.shaped n.own.1;
-  told = λ param value t n. ap with_class (class_told (class_of value.timer)) ⊛ n.own.0;
+  told = λ param value t n. ap with_class (class_told value.timer) ⊛ n.own.0;
 }
 
 pub header_size : IsFixed inet_response_header 72

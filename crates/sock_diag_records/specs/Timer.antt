@@ -1,5 +1,6 @@
--- The timer of an IPv4 or IPv6 socket. Its class is told by a byte, and with it whether two rows of its numbers are read.
-use Rattle.std.specs.Prelude.{◌≡◌, ℕ, Bool, true, false, ◌*◌, ◌/◌, ◌%◌, ◌^◌, ◌<◌, ◌==◌, if◌then◌else◌, List, [], ◌∷◌, replicate, Option, Some, None, IfSome, option_map, unwrap_or}
+-- The timer of an IPv4 or IPv6 socket. Its class is the kernel's `idiag_timer`, the byte at 2: 0 no timer, 1 retransmit,
+-- 2 keep-alive, 3 time-wait, 4 probe. With it two rows of its numbers are read or not.
+use Rattle.std.specs.Prelude.{◌≡◌, ℕ, ◌*◌, ◌/◌, ◌%◌, ◌^◌, ◌<◌, ◌==◌, ◌||◌, nat_lt, if◌then◌else◌, List, [], ◌∷◌, replicate, Option, Some, None, IfSome, option_map, unwrap_or}
 use Rattle.std.specs.Duration.{as_nanos}
 use Rattle.std.specs.declared.time.Duration.{Duration}
 use Rattle.netlink_core.specs.Table.{Row, byte, number, unread, little_endian}
@@ -15,45 +16,29 @@ milliseconds time = as_nanos time / 1_000_000 % 2 ^ 32
 abbrev pub IsWholeMilliseconds : Duration → Type 0
 IsWholeMilliseconds time = (n : ℕ) × (n < 2 ^ 32) × (as_nanos time ≡ n * 1_000_000)
 
--- the classes of the timer byte: 1, 2, 3, 4, and all others
-pub data Class : Type 0 where
-  retransmits keeps_alive waits probes none : Class
-
--- the class of a byte
-abbrev pub class_of_byte : ℕ → Class
-class_of_byte timer = if timer == 1 then retransmits else if timer == 2 then keeps_alive else if timer == 3 then waits else if timer == 4 then probes else none
-
--- of each class the byte that is written, whether the byte at 3 is read under it, and whether the word at 52 is
-abbrev pub told_by : Class → ℕ × Bool × Bool
-told_by retransmits = (1, true, true)
-told_by keeps_alive = (2, false, true)
-told_by waits = (3, false, false)
-told_by probes = (4, false, true)
-told_by none = (0, false, false)
-
--- what is written for a class
-abbrev pub byte_of_class : Class → ℕ
-byte_of_class class = (told_by class).0
+-- the class that the byte at 2 tells: each number below 5 itself, and every other 0
+abbrev pub class_of_byte : ℕ → ℕ
+class_of_byte timer = if nat_lt timer 5 then timer else 0
 
 -- of each timer its class, its count for the byte at 3, and its time for the word at 52
-abbrev pub told_of : Option Timer → Class × Option ℕ × Option Duration
-told_of (Some (Retransmit expires count)) = (retransmits, Some count, Some expires)
-told_of (Some (KeepAlive expires)) = (keeps_alive, None, Some expires)
-told_of (Some TimeWait) = (waits, None, None)
-told_of (Some (Probe expires)) = (probes, None, Some expires)
-told_of None = (none, None, None)
+abbrev pub told_of : Option Timer → ℕ × Option ℕ × Option Duration
+told_of (Some (Retransmit expires count)) = (1, Some count, Some expires)
+told_of (Some (KeepAlive expires)) = (2, None, Some expires)
+told_of (Some TimeWait) = (3, None, None)
+told_of (Some (Probe expires)) = (4, None, Some expires)
+told_of None = (0, None, None)
 
 -- the class of a timer
-abbrev pub class_of : Option Timer → Class
+abbrev pub class_of : Option Timer → ℕ
 class_of timer = (told_of timer).0
 
--- the byte at 3, read, or else written 0
-abbrev pub retransmits_row : Class → Row
-retransmits_row class = if (told_by class).1 then byte 3 else unread 3 (0 ∷ [])
+-- the byte at 3: read under retransmit, and else written 0
+abbrev pub retransmits_row : ℕ → Row
+retransmits_row c = if c == 1 then byte 3 else unread 3 (0 ∷ [])
 
--- the word at 52, read, or else written 0
-abbrev pub expires_row : Class → Row
-expires_row class = if (told_by class).2 then number 52 4 little_endian else unread 52 (replicate 4 0)
+-- the word at 52: written 0 under no timer and time-wait, and else read
+abbrev pub expires_row : ℕ → Row
+expires_row c = if c == 0 || c == 3 then unread 52 (replicate 4 0) else number 52 4 little_endian
 
 -- what a timer keeps for the byte at 3
 abbrev pub retransmits_values : Option Timer → List ℕ
@@ -70,4 +55,4 @@ IsWholeTimer timer = IfSome (told_of timer).2 IsWholeMilliseconds
 -- what chooses the rows of a reply's header: the kinds of the addresses, and the class of the timer
 pub record Tag : Type 0 where
   pub kinds : Kinds
-  pub class : Class
+  pub class : ℕ

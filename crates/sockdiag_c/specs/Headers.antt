@@ -2,7 +2,7 @@
 use Rattle.std.specs.Prelude.{slice_index}
 use Rattle.sock_diag_records.specs.declared.inet.response.InetResponseHeader.{InetResponseHeader}
 use Rattle.sock_diag_records.specs.declared.unix.response.UnixResponseHeader.{UnixResponseHeader}
-use Rattle.sock_diag_records.specs.Timer.{byte_of_class, class_of, expires_values, retransmits_values}
+use Rattle.sock_diag_records.specs.Timer.{class_of, expires_values, retransmits_values}
 use Rattle.sock_diag_records.specs.SocketId.{address_bytes}
 use Rattle.netlink_packet_sock_diag.specs.Message.{Message, message_of, inet_request, inet_response, unix_request, unix_response}
 use Rattle.sockdiag_c.specs.declared.headers.InetHeader.{InetHeader}
@@ -19,7 +19,7 @@ abbrev pub inet_header_of : InetResponseHeader → InetHeader
 inet_header_of h = record {
   family = h.family;
   state = h.state;
-  timer = byte_of_class (class_of h.timer);
+  timer = class_of h.timer;
   retransmits = slice_index (retransmits_values h.timer) 0;
   expires = slice_index (expires_values h.timer) 0;
   source_port = h.socket_id.source_port;

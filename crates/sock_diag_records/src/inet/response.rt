@@ -8,7 +8,7 @@ ghost use Rattle.netlink_core.specs.Table.{Fit};
 ghost use Rattle.netlink_core.proofs.FormatLaws.{record_laws};
 ghost use Rattle.sock_diag_records.specs.InetResponse.{inet_response_header};
 ghost use Rattle.sock_diag_records.specs.InetResponseInverse.{timer_of};
-ghost use Rattle.sock_diag_records.specs.Timer.{Tag, class_of_byte, class_of, byte_of_class, milliseconds, retransmits_row, retransmits_values, expires_values};
+ghost use Rattle.sock_diag_records.specs.Timer.{Tag, class_of_byte, class_of, milliseconds, retransmits_row, retransmits_values, expires_values};
 ghost use Rattle.sock_diag_records.specs.InetResponseLaws.{header_sound, header_size};
 
 use super::SocketId;
@@ -163,7 +163,7 @@ fn wrapped_milliseconds(time: Duration) -> u32
 
 // The byte of a timer, and its count and its milliseconds or else zeros.
 fn timer_words(timer: &Option<Timer>) -> (u8, u8, u32)
-    ensures byte { result.0 ≡ byte_of_class (class_of timer.now) }
+    ensures byte { result.0 ≡ class_of timer.now }
     ensures retransmits { result.1 ≡ slice_index (retransmits_values timer.now) 0 }
     ensures expires { result.2 ≡ slice_index (expires_values timer.now) 0 }
 {

@@ -9,7 +9,7 @@ use Rattle.sock_diag_records.specs.SocketIdInverse.{socket_id_of}
 use Rattle.sock_diag_records.specs.InetResponse.{inet_response_header}
 use Rattle.sock_diag_records.specs.InetResponseInverse.{timer_of}
 use Rattle.sock_diag_records.specs.Timer.{Tag, class_of_byte}
-use Rattle.sock_diag_records.specs.InetResponseLaws.{header_is, with_class}
+use Rattle.sock_diag_records.specs.InetResponseLaws.{class_lt, header_is, with_class}
 use Rattle.sock_diag_records.specs.SocketIdLaws.{values-inside}
 use Rattle.sock_diag_records.specs.declared.inet.response.Timer.{Timer}
 use Rattle.sock_diag_records.specs.declared.inet.response.InetResponseHeader.{InetResponseHeader}
@@ -41,5 +41,5 @@ returns c =
     let tag : Tag = record { kinds = h.0; class = class } in
     let timer = c.timer_from.ensures ∙ ap (λ (words : List ℕ). timer_of class (slice_index payload 3) (slice_index words 0)) c.words_at.ensures in
     (ap (found (slice_index payload 0) (slice_index payload 1)) timer ⊛ (h.2 ∙ ap (socket_id_of h.0) (values-inside h.0 payload)) ⊛ c.words_at.ensures)
-    ∙ sym (ap ok (header_is tag payload))
+    ∙ sym (ap ok (header_is tag payload (class_lt (slice_index payload 2))))
     ∙ sym (accepts inet_response_header tt payload tag (ap (with_class class) h.1))
