@@ -142,8 +142,7 @@ module _ (R : Reply) (laws : ReplyLaws R) where
   reply_reads_back : (v : ValueOf R) → (reply_codec R).is_typed v → (reply_codec R).is_normal tt v → (reply_codec R).fits v → (reply_codec R).reads (reply_bytes R v) tt v
   reply_reads_back v typed normal fits =
       let nlas : List ℕ = flat_map written (map (attribute_said R.family) v.nlas) in
-      let behind : drop R.size (reply_bytes R v) ≡ nlas = drop_at (R.header.bytes v.header) nlas R.size (laws.in_front.bytes_long v.header typed.0) in
-      (
+      let behind : drop R.size (reply_bytes R v) ≡ nlas = drop_at (R.header.bytes v.header) nlas R.size (laws.in_front.bytes_long v.header typed.0) in (
         laws.in_front.reads_in_front v.header nlas typed.0 normal.0,
         subst (λ (part : List ℕ). AttributesMean (says R.family) part v.nlas) (sym behind)
             (written_values_are_read (says R.family) (map (attribute_said R.family) v.nlas) v.nlas (list_fits_words R.family laws.family v.nlas typed.1 fits.0) (list_reads_back R.family laws.family v.nlas typed.1 normal.1)),

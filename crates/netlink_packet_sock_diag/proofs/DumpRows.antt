@@ -93,8 +93,7 @@ module _ {A : Type 0} where
   pub joined : (before middle after : List A) (state end : Result DumpState DecodeError) (xs ys : List (Result (Payload A) DecodeError)) → Dump before xs middle state → DumpGoesOn middle state ys after end → Dump before (xs ++ ys) after end
   joined before middle after state end xs ys d (inl on) =
       let t = on.1 in
-      let all : xs ≡ d.0 = d.2 ∙ ap (λ (l : List (Result (Payload A) DecodeError)). d.0 ++ l) (none_later d.1 state d.5 on.0) ∙ append-nil d.0 in
-      (
+      let all : xs ≡ d.0 = d.2 ∙ ap (λ (l : List (Result (Payload A) DecodeError)). d.0 ++ l) (none_later d.1 state d.5 on.0) ∙ append-nil d.0 in (
         d.0 ++ t.0,
         t.1,
         ap (λ (l : List (Result (Payload A) DecodeError)). l ++ ys) all ∙ ap (λ (l : List (Result (Payload A) DecodeError)). d.0 ++ l) t.2 ∙ sym (append_assoc d.0 t.0 t.1),
