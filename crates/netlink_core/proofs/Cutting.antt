@@ -71,7 +71,7 @@ cut_typed bytes (x ∷ xs) typed h =
     let head : IsBytes (unpadded x) = IsBytes-left (unpadded x) (h.1.padding ++ h.0) whole in
     let behind : IsBytes (h.1.padding ++ h.0) = IsBytes-right (unpadded x) (h.1.padding ++ h.0) whole in
     let value : IsBytes x.value = IsBytes-right (little_bytes 2 x.type_word) x.value (IsBytes-right (little_bytes 2 (4 + length x.value)) (little_bytes 2 x.type_word ++ x.value) head) in
-    (record { type_word = h.1.fits.type_word; value = value }, cut_typed h.0 xs (IsBytes-right h.1.padding h.0 behind) h.2)
+    ((h.1.fits.0, value), cut_typed h.0 xs (IsBytes-right h.1.padding h.0 behind) h.2)
 
 -- ---- no fault where bytes are cut
 

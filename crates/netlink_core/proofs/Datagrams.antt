@@ -49,7 +49,7 @@ starts_with_message bytes message rest h end head message-is end-is rest-is =
     record {
       padding = take n tail;
       parts = rw message-is (sym (take-append-drop h.length bytes) ∙ ap (λ (t : List ℕ). take h.length bytes ++ t) tail-is);
-      whole = record { low = omega arith; word = own ∙ word ∙ sym len };
+      whole = (omega arith, own ∙ word ∙ sym len);
       filled = rw len (elim (cases_lt (length tail) (fill h.length)) [
         | inl short ↦ inr (omega (arith, length-take n tail, length-drop h.length bytes), rest-at ∙ drop_all n tail (omega (arith, length-drop h.length bytes)))
         | inr full ↦ inl (omega (arith, length-take n tail, length-drop h.length bytes))
@@ -59,14 +59,14 @@ starts_with_message bytes message rest h end head message-is end-is rest-is =
 -- the length word of the bytes is the message's
 message_word : (bytes message rest : List ℕ) → StartsWithMessage bytes message rest → (little_number 4 bytes ≡ length message) × (16 ≤ length message) × (length message ≤ length bytes)
 message_word bytes message rest s =
-    let low : 16 ≤ length message = s.whole.low in
+    let low : 16 ≤ length message = s.whole.0 in
     let front : take (length message) bytes ≡ message = ap (take (length message)) s.parts ∙ take_at message (s.padding ++ rest) (length message) refl in
     let own : little_number 4 bytes ≡ little_number 4 message = sym (word_in_front (length message) bytes (omega arith)) ∙ ap (little_number 4) front in
-    (own ∙ s.whole.word, low, omega (arith, ap length s.parts ∙ length-append message (s.padding ++ rest)))
+    (own ∙ s.whole.1, low, omega (arith, ap length s.parts ∙ length-append message (s.padding ++ rest)))
 
 -- what stands behind a message is shorter
 pub shorter-rest : (bytes message rest : List ℕ) → StartsWithMessage bytes message rest → length rest < length bytes
-shorter-rest bytes message rest s = let low = s.whole.low in omega (arith, ap length s.parts ∙ length-append message (s.padding ++ rest), length-append s.padding rest)
+shorter-rest bytes message rest s = let low = s.whole.0 in omega (arith, ap length s.parts ∙ length-append message (s.padding ++ rest), length-append s.padding rest)
 
 no_fault_at_message : (bytes message rest : List ℕ) (e : DecodeError) → StartsWithMessage bytes message rest → IsEnvelopeFault bytes e → ⊥
 no_fault_at_message bytes message rest (EnvelopeCut got) s f = omega (arith, message_word bytes message rest s)

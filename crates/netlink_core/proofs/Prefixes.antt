@@ -3,8 +3,8 @@ use Rattle.std.proofs.Common.{◌≡◌, ◌∙◌, ℕ, ◌≤◌, List, ◌++�
 use Rattle.std.proofs.lemmas.List.{length-append}
 use Rattle.netlink_core.specs.declared.fault.DecodeError.{DecodeError}
 use Rattle.netlink_core.specs.Table.{values_of}
-use Rattle.netlink_core.specs.Format.{Format, read, bytes, IsTyped, IsNormal, IsFixed}
-use Rattle.netlink_core.specs.SoundLaws.{IsSound}
+use Rattle.netlink_core.specs.Format.{Format, read, bytes, IsTyped, IsNormal}
+use Rattle.netlink_core.specs.SoundLaws.{IsSound, IsFixed}
 use Rattle.netlink_core.specs.Codec.{KeepsLaws, prefix_codec}
 use Rattle.netlink_core.specs.FrontLaws.{value_or_reason}
 use Rattle.netlink_core.specs.Prefix.{Prefix, prefix_of}

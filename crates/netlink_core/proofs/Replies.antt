@@ -55,7 +55,7 @@ module _ (F : Family) (laws : FamilyLaws F) where
 
   list_fits_words : (vs : List (Said F)) → AllByRecursion (IsTypedSaid F) vs → AllByRecursion HasFittingValue (map (attribute_said F) vs) → AllByRecursion FitsWords (map (attribute_said F) vs)
   list_fits_words [] t f = tt
-  list_fits_words (v ∷ vs) t f = (record { type_word = (writes_typed F laws v t.0).type_word; value = f.0 }, list_fits_words vs t.1 f.1)
+  list_fits_words (v ∷ vs) t f = (((writes_typed F laws v t.0).0, f.0), list_fits_words vs t.1 f.1)
 
   list_reads_back : (vs : List (Said F)) → AllByRecursion (IsTypedSaid F) vs → AllByRecursion (IsNormalSaid F) vs → Say (map (attribute_said F) vs) vs
   list_reads_back [] t n = tt

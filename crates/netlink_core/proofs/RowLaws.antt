@@ -1,5 +1,5 @@
 -- The laws of the usual kinds of attributes.
-use Rattle.std.proofs.Common.{Result, Ok, Err, ◌≡◌, ◌∙◌, inl, inr, ℕ, ◌^◌, ◌<◌, List, [], length, refl, ap, sym, subst, arith}
+use Rattle.std.proofs.Common.{Some, Result, Ok, Err, ◌≡◌, ◌∙◌, inl, inr, ℕ, ◌^◌, ◌<◌, List, [], length, refl, ap, sym, subst, arith}
 use Rattle.std.specs.Prelude.{⊤, bit_and}
 use Rattle.std.proofs.lemmas.Bool.{cases_eq, eq-eqb, ne_eqb}
 use Rattle.std.proofs.lemmas.List.{append-nil, take_all}
@@ -12,7 +12,6 @@ use Rattle.netlink_core.specs.ByteLaws.{IsBytes-number}
 use Rattle.netlink_core.specs.Prefix.{Prefix}
 use Rattle.netlink_core.specs.ShownLaws.{PrefixLaws, KindLaws}
 use Rattle.netlink_core.specs.Rows.{exact_value, kind, memory_kind, number_kind}
-use Rattle.netlink_core.specs.Faults.{under_kind}
 use Rattle.netlink_core.specs.Parse.{exact_number}
 use Rattle.netlink_core.specs.Table.{little_endian}
 use Rattle.netlink_core.proofs.Numbers.{number-same}
@@ -42,7 +41,7 @@ exact_laws reads bytes is_typed is_normal named exact bytes_typed back = record 
 
 module _ (k width : ℕ) where
   abbrev read_number : List ℕ → Result ℕ DecodeError
-  read_number x = under_kind k (exact_number width x)
+  read_number x = exact_number (Some k) width x
 
   -- where a number that fills its bytes was read
   number_said : (x : List ℕ) (n : ℕ) → read_number x ≡ Ok n → (length x ≡ width) × (little_number width x ≡ n)

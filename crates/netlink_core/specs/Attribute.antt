@@ -16,14 +16,12 @@ abbrev pub kind_of : Attribute → ℕ
 kind_of a = bit_and a.type_word 0x3fff
 
 -- a type word of 16 bits, and a value of bytes
-pub record IsTypedAttribute (a : Attribute) : Type 0 where
-  pub type_word : a.type_word < 2 ^ 16
-  pub value : IsBytes a.value
+abbrev pub IsTypedAttribute : Attribute → Type 0
+IsTypedAttribute a = (a.type_word < 2 ^ 16) × IsBytes a.value
 
 -- a type word of 16 bits, and a value whose length word is one of 16 bits
-pub record FitsWords (a : Attribute) : Type 0 where
-  pub type_word : a.type_word < 2 ^ 16
-  pub value : length a.value ≤ 65531
+abbrev pub FitsWords : Attribute → Type 0
+FitsWords a = (a.type_word < 2 ^ 16) × (length a.value ≤ 65531)
 
 -- the number from 0 to 3 that brings a length to a multiple of four
 abbrev pub fill : ℕ → ℕ

@@ -6,9 +6,8 @@ use Rattle.netlink_core.specs.Attribute.{fill}
 use Rattle.netlink_core.specs.Header.{IsEnvelopeFault}
 
 -- a message is as long as its own length word says, which counts the header
-pub record IsMessageString (message : List ℕ) : Type 0 where
-  pub low : 16 ≤ length message
-  pub word : little_number 4 message ≡ length message
+abbrev pub IsMessageString : List ℕ → Type 0
+IsMessageString message = (16 ≤ length message) × (little_number 4 message ≡ length message)
 
 -- The bytes are the message, its padding and the rest. Where nothing follows, the padding may be short.
 pub record StartsWithMessage (bytes message rest : List ℕ) : Type 0 where

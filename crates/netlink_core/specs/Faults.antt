@@ -30,10 +30,6 @@ abbrev pub of_kind : ℕ → DecodeError → DecodeError
 of_kind k (WrongLength None got need) = WrongLength (Some k) got need
 of_kind k other = other
 
--- an answer whose fault tells the kind
-abbrev pub under_kind : {A : Type 0} → ℕ → Result A DecodeError → Result A DecodeError
-under_kind k answer = result_map_both (λ value. value) (of_kind k) answer
-
 -- what was read, said as something else; a fault stays
 abbrev pub said_as : {A B : Type 0} → (A → B) → Result A DecodeError → Result B DecodeError
 said_as made answer = result_map_both made (λ fault. fault) answer

@@ -72,7 +72,3 @@ module _ {Param Tag Value : Type 0} (format : Format Param Tag Value) where
   abbrev pub StandsIn : List ℕ → Param → Value → Type 0
   StandsIn b param value = (format.least ≤ length b) × (format.tag_at param b ≡ Ok (format.tag_of value))
       × (values_of (format.table (format.tag_of value)) b ≡ format.values value) × IsTyped value × IsNormal param value
-
-  -- all tables are of one size, which is the least
-  abbrev pub IsFixed : ℕ → Type 0
-  IsFixed size = (format.least ≡ size) × ((tag : Tag) → format.size tag ≡ size)

@@ -31,7 +31,7 @@ head_is (a ∷ b ∷ c ∷ d ∷ tail) word type_word fits word-is type-given lo
     let c-is : c ≡ type_word % 256 = omega arith in
     let d-is : d ≡ type_word / 256 % 256 = omega arith in
     let tail-is : tail ≡ take (word - 4) tail ++ drop (word - 4) tail = sym (take-append-drop (word - 4) tail) in
-    (drop (word - 4) tail, cc, record { type_word = omega arith; value = omega arith })
+    (drop (word - 4) tail, cc, (omega arith, omega arith))
 
 -- two lists with fronts of one length are equal in both parts
 pub same_parts : (xs ys s t : List ℕ) → length xs ≡ length ys → xs ++ s ≡ ys ++ t → (xs ≡ ys) × (s ≡ t)
@@ -49,8 +49,8 @@ one_head a b s t a-fits b-fits e =
     let high : (4 + length a.value) / 256 % 256 ≡ (4 + length b.value) / 256 % 256 = cc in
     let type-low : a.type_word % 256 ≡ b.type_word % 256 = cc in
     let type-high : a.type_word / 256 % 256 ≡ b.type_word / 256 % 256 = cc in
-    let type-fits : (a.type_word < 2 ^ 16) × (b.type_word < 2 ^ 16) = (a-fits.type_word, b-fits.type_word) in
-    let fits : (length a.value ≤ 65531) × (length b.value ≤ 65531) = (a-fits.value, b-fits.value) in
+    let type-fits : (a.type_word < 2 ^ 16) × (b.type_word < 2 ^ 16) = (a-fits.0, b-fits.0) in
+    let fits : (length a.value ≤ 65531) × (length b.value ≤ 65531) = (a-fits.1, b-fits.1) in
     let types : a.type_word ≡ b.type_word = omega arith in
     let len : length a.value ≡ length b.value = omega arith in
     let values = same_parts a.value b.value s t len cc in
@@ -61,7 +61,7 @@ pub head_typed : (b : List ℕ) (a : Attribute) → IsBytes b → HeadIs b a →
 head_typed b a typed h =
     let whole : IsBytes (unpadded a) = IsBytes-left (unpadded a) h.0 (subst IsBytes h.1 typed) in
     let behind : IsBytes (little_bytes 2 a.type_word ++ a.value) = IsBytes-right (little_bytes 2 (4 + length a.value)) (little_bytes 2 a.type_word ++ a.value) whole in
-    record { type_word = h.2.type_word; value = IsBytes-right (little_bytes 2 a.type_word) a.value behind }
+    (h.2.0, IsBytes-right (little_bytes 2 a.type_word) a.value behind)
 
 -- one attribute stands at the front
 pub one_attribute : (b : List ℕ) (x y : Attribute) → HeadIs b x → HeadIs b y → x ≡ y
@@ -72,7 +72,7 @@ pub written_typed : (a : Attribute) → IsTypedAttribute a → IsBytes (written 
 written_typed a typed =
     IsBytes-append (unpadded a) (replicate (fill (length a.value)) 0)
     (IsBytes-append (little_bytes 2 (4 + length a.value)) (little_bytes 2 a.type_word ++ a.value) (IsBytes-number 0 2 (4 + length a.value))
-    (IsBytes-append (little_bytes 2 a.type_word) a.value (IsBytes-number 0 2 a.type_word) typed.value))
+    (IsBytes-append (little_bytes 2 a.type_word) a.value (IsBytes-number 0 2 a.type_word) typed.1))
     (IsBytes-zeros (fill (length a.value)))
 
 -- ---- an attribute or a fault
@@ -80,7 +80,7 @@ written_typed a typed =
 -- the length word of an attribute at the front
 pub word_is : (bytes : List ℕ) (a : Attribute) → HeadIs bytes a → (little_number 2 bytes ≡ 4 + length a.value) × (4 + length a.value ≤ length bytes)
 word_is bytes a head =
-    let fits : length a.value ≤ 65531 = head.2.value in
+    let fits : length a.value ≤ 65531 = head.2.1 in
     let len : length bytes ≡ 4 + length a.value + length head.0 = ap length head.1 ∙ simp length-append (omega arith) in
     (ap (little_number 2) head.1 ∙ omega arith, omega arith)
 

@@ -67,7 +67,7 @@ module _ (F : Family) (laws : FamilyLaws F) where
   head_reads_back : (v : Said F) → IsTypedSaid F v → IsNormalSaid F v → HasFittingValue (attribute_said F v) → MeansHead F (written (attribute_said F v)) v
   head_reads_back v typed normal fits =
       let a : Attribute = attribute_said F v in
-      (a, (replicate (fill (length a.value)) 0, refl, record { type_word = (writes_typed F laws v typed).type_word; value = fits }), reads_back F laws v typed normal)
+      (a, (replicate (fill (length a.value)) 0, refl, ((writes_typed F laws v typed).0, fits)), reads_back F laws v typed normal)
 
   -- the laws together
   pub heads_keep_laws : KeepsLaws (head_codec F)

@@ -1,13 +1,14 @@
 -- Numbers and texts that fill their bytes.
-use Rattle.std.specs.Prelude.{ℕ, zero, ◌==◌, if◌then◌else◌, List, [], ◌∷◌, length, None, Result, Ok, Err}
+use Rattle.std.specs.Prelude.{ℕ, zero, ◌==◌, if◌then◌else◌, List, [], ◌∷◌, length, Option, Result, Ok, Err}
 use Rattle.std.specs.Str.{is_utf8}
 use Rattle.byteorder.specs.Endian.{little_number}
 use Rattle.netlink_core.specs.declared.fault.DecodeError.{DecodeError}
 use Rattle.netlink_core.specs.declared.fault.DecodeError.TheVariants.{WrongLength, NotUtf8}
 
--- the number in exactly so many bytes, the low byte first
-abbrev pub exact_number : ℕ → List ℕ → Result ℕ DecodeError
-exact_number width bytes = if length bytes == width then Ok (little_number width bytes) else Err (WrongLength None (length bytes) width)
+-- the number in exactly so many bytes, the low byte first; the fault of another length tells a kind, where there is one
+abbrev pub exact_number : Option ℕ → ℕ → List ℕ → Result ℕ DecodeError
+exact_number kind width bytes =
+    if length bytes == width then Ok (little_number width bytes) else Err (WrongLength kind (length bytes) width)
 
 -- the bytes without a zero at their end, of which at most one is taken off
 abbrev pub without_end_zero : List ℕ → List ℕ

@@ -1,8 +1,7 @@
 -- The usual kinds of attributes.
-use Rattle.std.specs.Prelude.{◌≡◌, ℕ, ◌<◌, ◌^◌, List, Result, ⊤}
+use Rattle.std.specs.Prelude.{◌≡◌, ℕ, ◌<◌, ◌^◌, List, Some, Result, ⊤}
 use Rattle.byteorder.specs.Endian.{little_bytes}
 use Rattle.netlink_core.specs.declared.fault.DecodeError.{DecodeError}
-use Rattle.netlink_core.specs.Faults.{under_kind}
 use Rattle.netlink_core.specs.Parse.{exact_number}
 use Rattle.netlink_core.specs.Prefix.{Prefix}
 use Rattle.netlink_core.specs.Family.{Kind}
@@ -28,4 +27,5 @@ exact_value {A} reads bytes is_typed is_normal = record {
 
 -- a kind of numbers of exactly so many bytes; the fault of another length tells the kind
 abbrev pub number_kind : ℕ → ℕ → Kind
-number_kind k width = kind k (exact_value (λ x. under_kind k (exact_number width x)) (little_bytes width) (λ n. n < 256 ^ width) (λ n. ⊤))
+number_kind k width =
+    kind k (exact_value (exact_number (Some k) width) (little_bytes width) (λ n. n < 256 ^ width) (λ n. ⊤))

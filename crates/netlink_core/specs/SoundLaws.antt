@@ -40,3 +40,7 @@ module _ {Param Tag Value : Type 0} (format : Format Param Tag Value) where
     -- a typed value in normal form is that of its values, and its bytes tell its tag
     pub back : (param : Param) (value : Value) → IsTyped format value → IsNormal format param value → format.value (format.tag_of value) (format.values value) ≡ value
     pub told : (param : Param) (value : Value) → IsTyped format value → IsNormal format param value → format.tag_at param (bytes format value) ≡ Ok (format.tag_of value)
+
+  -- all tables are of one size, which is the least
+  abbrev pub IsFixed : ℕ → Type 0
+  IsFixed size = (format.least ≡ size) × ((tag : Tag) → format.size tag ≡ size)

@@ -1,6 +1,6 @@
 //! Numbers and texts that fill their bytes.
 
-ghost use Rattle.std.specs.Prelude.{◌≡◌, ◌≢◌, ◌≤◌, ◌++◌, length, drop, string_bytes, IsOk, IfOk, IfErr};
+ghost use Rattle.std.specs.Prelude.{◌≡◌, ◌≢◌, ◌≤◌, ◌++◌, length, drop, string_bytes, None, IsOk, IfOk, IfErr};
 ghost use Rattle.byteorder.specs.Endian.{little_bytes};
 ghost use Rattle.netlink_core.specs.declared.fault.DecodeError.TheVariants.{Memory};
 ghost use Rattle.netlink_core.specs.Parse.{exact_number, without_end_zero, text_in};
@@ -12,7 +12,7 @@ use std::str;
 
 /// The number in exactly one byte. Any other length is `WrongLength` with no kind.
 pub fn parse_u8(payload: &[u8]) -> Result<u8, DecodeError>
-    ensures { result ≡ exact_number 1 payload.now }
+    ensures { result ≡ exact_number None 1 payload.now }
 {
     match payload {
         [byte] => Ok(*byte),
@@ -22,7 +22,7 @@ pub fn parse_u8(payload: &[u8]) -> Result<u8, DecodeError>
 
 /// The number in exactly four bytes, the low byte first. Any other length is `WrongLength` with no kind.
 pub fn parse_u32(payload: &[u8]) -> Result<u32, DecodeError>
-    ensures { result ≡ exact_number 4 payload.now }
+    ensures { result ≡ exact_number None 4 payload.now }
 {
     if payload.len() != 4 {
         return Err(wrong_length(payload, 4));

@@ -1,7 +1,7 @@
 //! Records: what each is read from and written as, and all that follows from it.
 
 ghost use Rattle.std.specs.Prelude.{◌≡◌, ◌≢◌, ◌≤◌, IfErr, ℕ, List, length, take, SomeIff, false, ⊤, refl};
-ghost use Rattle.netlink_core.specs.Format.{Format, read, read_row, bytes, IsFixed, IsTyped};
+ghost use Rattle.netlink_core.specs.Format.{Format, read, read_row, bytes, IsTyped};
 ghost use Rattle.netlink_core.specs.declared.fault.DecodeError.TheVariants.{Memory};
 ghost use Rattle.netlink_core.specs.Codec.{record_codec, RecordLaws};
 
@@ -130,7 +130,8 @@ impl<T: Record> Wire for T {
 
 /// A record whose values are `N` bytes each.
 pub trait Fills<const N: usize>: Record {
-    ghost fills: { IsFixed Self.format N };
+    // All its tables are of one size, which is the least.
+    ghost fills: { (Self.format.least ≡ N) × ((tag : Self.Tag) → Self.format.size tag ≡ N) };
 }
 
 /// The bytes of a record, in the order that they came, those too that no reader looks at.

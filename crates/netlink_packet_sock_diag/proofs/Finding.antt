@@ -27,7 +27,7 @@ front_is : (bytes : List ℕ) (a : Attribute) → HeadIs bytes a → front_attri
 front_is bytes a head =
     let fits : length a.value ≤ 65531 = head.2.value in
     let word : number_in little_endian 2 bytes ≡ 4 + length a.value = (word_is bytes a head).0 in
-    let types : number_in little_endian 2 (drop 2 bytes) ≡ a.type_word = ap (λ (b : List ℕ). number_in little_endian 2 (drop 2 b)) head.1 ∙ omega (arith, head.2.type_word) in
+    let types : number_in little_endian 2 (drop 2 bytes) ≡ a.type_word = ap (λ (b : List ℕ). number_in little_endian 2 (drop 2 b)) head.1 ∙ omega (arith, head.2.0) in
     let long : number_in little_endian 2 bytes - 4 ≡ length a.value = omega arith in
     let behind : drop 4 bytes ≡ a.value ++ head.0 = ap (drop 4) head.1 in
     let value : take (number_in little_endian 2 bytes - 4) (drop 4 bytes) ≡ a.value = ap (λ (k : ℕ). take k (drop 4 bytes)) long ∙ ap (take (length a.value)) behind ∙ take_at a.value head.0 (length a.value) refl in

@@ -10,14 +10,12 @@ use Rattle.netlink_packet_sock_diag.specs.declared.dump.views.PayloadView.{Paylo
 use Rattle.netlink_packet_sock_diag.specs.Message.{message_codec}
 use Rattle.netlink_packet_sock_diag.specs.ViewedPayload.{viewed_item}
 
--- what the walk has not passed yet
-abbrev pub views_left : DumpViews → List ℕ
-views_left walk = datagram_left walk.messages
-
 -- What the message at the front of what was left carries, or its fault, and the rest then stands behind its padding. Or
 -- the fault where there is no message, and then nothing is left. None only where nothing was left.
 abbrev pub GivesView : DumpViews → Option (Result PayloadView DecodeError) → DumpViews → Type 0
 GivesView old given new =
-    MatchOption given ((views_left old ≡ []) × (views_left new ≡ []))
-    (λ item. ((message : List ℕ) × StartsWithMessage (views_left old) message (views_left new) × ItemIs message_codec message (viewed_item item))
-    ⊎ ((e : DecodeError) × (item ≡ Err e) × (views_left old ≢ []) × IsEnvelopeFault (views_left old) e × (views_left new ≡ [])))
+    let left = datagram_left old.messages in
+    let later = datagram_left new.messages in
+    MatchOption given ((left ≡ []) × (later ≡ []))
+    (λ item. ((message : List ℕ) × StartsWithMessage left message later × ItemIs message_codec message (viewed_item item))
+    ⊎ ((e : DecodeError) × (item ≡ Err e) × (left ≢ []) × IsEnvelopeFault left e × (later ≡ [])))

@@ -1,5 +1,5 @@
 -- What the getters of a reply about a UNIX socket answer.
-use Rattle.std.specs.Prelude.{ℕ, ◌==◌, if◌then◌else◌, List, Option, None, slice_get, option_map}
+use Rattle.std.specs.Prelude.{ℕ, ◌==◌, if◌then◌else◌, List, Option, None, slice_get}
 use Rattle.std.specs.List.{filter_map}
 use Rattle.netlink_core.specs.Family.{content}
 use Rattle.sock_diag_attributes.specs.UnixAttributes.{unix}
@@ -16,11 +16,3 @@ listening_queue_of v = if v.header.state == 10 then first_of (content unix 4) v.
 -- those of any other socket
 abbrev pub other_queue_of : UnixReply → Option (ℕ × ℕ)
 other_queue_of v = if v.header.state == 10 then None else first_of (content unix 4) v.nlas
-
--- the first of two numbers, where there are two
-abbrev pub first_number : Option (ℕ × ℕ) → Option ℕ
-first_number numbers = option_map (λ ns. ns.0) numbers
-
--- the second of them
-abbrev pub second_number : Option (ℕ × ℕ) → Option ℕ
-second_number numbers = option_map (λ ns. ns.1) numbers

@@ -94,13 +94,13 @@ impl DumpReader {
     ghost use Rattle.netlink_packet_sock_diag.specs.Message.{message_codec};
     ghost use Rattle.netlink_packet_sock_diag.specs.Feed.{FeedLeaves};
     ghost use Rattle.netlink_packet_sock_diag.specs.SeenMessage.{seen_message};
-    ghost use Rattle.netlink_packet_sock_diag.specs.SeenDump.{kept_messages, dump_state};
+    ghost use Rattle.netlink_packet_sock_diag.specs.SeenDump.{kept_messages};
     ghost use Rattle.netlink_packet_sock_diag.specs.declared.dump.DumpState.TheVariants.{Reading};
 
     /// A dump of which nothing has come. The allocator is kept.
     pub fn new(alloc: Global) -> Self
         ensures messages { kept_messages result ≡ [] }
-        ensures state { dump_state result ≡ Reading }
+        ensures state { result.state ≡ Reading }
     {
         DumpReader {
             alloc,
@@ -112,8 +112,8 @@ impl DumpReader {
     /// Takes the messages of a datagram of whole messages, up to the end of the dump. At a fault, and where memory runs
     /// out, the messages in front are kept and the dump has failed. Once the dump has ended nothing changes.
     pub fn feed(&mut self, datagram: &[u8]) -> Result<(), DumpError>
-        ensures { FeedLeaves message_codec (kept_messages self.old) (dump_state self.old) datagram.now
-            (kept_messages self.new) (dump_state self.new) result }
+        ensures { FeedLeaves message_codec (kept_messages self.old) self.old.state datagram.now
+            (kept_messages self.new) self.new.state result }
     {
         if self.state != DumpState::Reading {
             return Err(DumpError::Ended);
@@ -139,7 +139,7 @@ impl DumpReader {
 
     /// How far the dump is.
     pub fn state(&self) -> DumpState
-        ensures { result ≡ dump_state self.now }
+        ensures { result ≡ self.now.state }
     {
         self.state
     }

@@ -22,7 +22,8 @@ ghost use Rattle.netlink_packet_sock_diag.specs.Dump.{in_a_row, Dump, DumpGoesOn
 ghost use Rattle.netlink_packet_sock_diag.specs.Feed.{FeedsLeave};
 ghost use Rattle.netlink_packet_sock_diag.specs.declared.dump.views.DumpViews.{DumpViews};
 ghost use Rattle.netlink_packet_sock_diag.specs.declared.dump.views.PayloadView.{PayloadView};
-ghost use Rattle.netlink_packet_sock_diag.specs.DumpWalk.{views_left, GivesView};
+ghost use Rattle.netlink_core.specs.DatagramWalk.{datagram_left};
+ghost use Rattle.netlink_packet_sock_diag.specs.DumpWalk.{GivesView};
 ghost use Rattle.netlink_packet_sock_diag.specs.ViewedPayload.{viewed_payload, viewed_item};
 ghost use Rattle.netlink_packet_sock_diag.specs.UnixReply.{UnixReply, unix_reply};
 ghost use Rattle.netlink_packet_sock_diag.specs.InetReply.{InetReply, inet_reply};
@@ -177,7 +178,7 @@ pub fn split_changes_no_feed()
 /// of what is no message, if there is one.
 pub fn whole_views_are_the_datagram()
     ensures { (walk : DumpViews) (given : List (Result PayloadView DecodeError)) → Drains GivesView walk given
-        → ItemsAre message_codec (views_left walk) (map viewed_item given) }
+        → ItemsAre message_codec (datagram_left walk.messages) (map viewed_item given) }
 {}
 
 /// `==` says whether two errors of a dump are the same.
@@ -198,7 +199,7 @@ pub fn copied_dump_error(v: &DumpError) -> Result<DumpError, AllocError>
 /// The copy of a walk has the same bytes left.
 pub fn copied_views<'a>(walk: &Views<'a>) -> Result<Views<'a>, AllocError>
     ensures ok { IsOk result }
-    ensures same { IfOk result (λ copy. views_left copy ≡ views_left walk.now) }
+    ensures same { IfOk result (λ copy. datagram_left copy.messages ≡ datagram_left walk.now.messages) }
 {
     walk.clone()
 }

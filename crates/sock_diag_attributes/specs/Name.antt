@@ -12,10 +12,6 @@ use Rattle.netlink_core.specs.declared.fault.DecodeError.TheVariants.{NameEmpty,
 pub data SocketName : Type 0 where
   pathname abstract : List ℕ → SocketName
 
--- no byte is a zero
-abbrev pub HasNoZero : List ℕ → Type 0
-HasNoZero bytes = All (λ byte. byte ≢ 0) bytes
-
 -- a path and its end zero, or a zero in front of an address
 abbrev pub name_bytes : SocketName → List ℕ
 name_bytes (pathname path) = path ++ 0 ∷ []
@@ -23,7 +19,7 @@ name_bytes (abstract address) = 0 ∷ address
 
 -- a path is not empty and holds no zero
 abbrev pub IsNormalName : SocketName → Type 0
-IsNormalName (pathname path) = HasNoZero path × (path ≢ [])
+IsNormalName (pathname path) = All (λ byte. byte ≢ 0) path × (path ≢ [])
 IsNormalName (abstract address) = ⊤
 
 -- a name whose text is bytes

@@ -5,6 +5,7 @@ use Rattle.netlink_core.specs.ShownLaws.{PrefixLaws}
 use Rattle.netlink_core.proofs.RowLaws.{exact_laws}
 use Rattle.sock_diag_attributes.specs.Name.{name_value}
 use Rattle.std.proofs.Common.{Result, Ok, Err, IsOk, ◌≡◌, ◌≢◌, ◌∙◌, ℕ, zero, suc, ◌+◌, ◌<◌, ◌≤◌, false, cond, ltb, ◌==◌, Option, Some, None, position, List, [], ◌∷◌, ◌++◌, length, take, get_or, refl, ap, sym, subst, arith}
+use Rattle.std.specs.Prelude.{All}
 use Rattle.std.proofs.lemmas.Bool.{eqb-true, eqb-false, eq-eqb, ne_eqb}
 use Rattle.std.proofs.lemmas.List.{drop_all, get_or-take, length-append, length-take, length-take-le, take_all, take-append-le}
 use Rattle.std.proofs.lemmas.List.Quantifiers.{position-Some}
@@ -16,7 +17,11 @@ use Rattle.netlink_core.specs.Bytes.{IsBytes}
 use Rattle.netlink_core.specs.declared.fault.DecodeError.{DecodeError}
 use Rattle.netlink_core.specs.declared.fault.DecodeError.TheVariants.{Memory, NameInnerZero, NameWithoutEnd}
 use Rattle.netlink_core.specs.ByteLaws.{IsBytes-left, IsBytes-append, IsBytes-cons, IsBytes-nil}
-use Rattle.sock_diag_attributes.specs.Name.{SocketName, pathname, abstract, HasNoZero, name_bytes, IsNormalName, IsTypedName, path_in, read_name, name_codec}
+use Rattle.sock_diag_attributes.specs.Name.{SocketName, pathname, abstract, name_bytes, IsNormalName, IsTypedName, path_in, read_name, name_codec}
+
+-- no byte is a zero
+abbrev pub HasNoZero : List ℕ → Type 0
+HasNoZero bytes = All (λ byte. byte ≢ 0) bytes
 
 -- no fault of a name is want of memory
 pub name_named : (x : List ℕ) → read_name x ≡ Err Memory → ⊥

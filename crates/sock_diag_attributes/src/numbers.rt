@@ -5,7 +5,6 @@ ghost use Rattle.std.specs.Prelude.{◌≡◌, ◌<◌, ◌^◌, ◌≤◌, ◌�
 ghost use Rattle.std.specs.Iterator.{UpTo, YieldsFirst, item_count};
 ghost use Rattle.std.specs.Iterator.SizeHint.{IsWithinCount};
 ghost use Rattle.netlink_core.specs.Bytes.{IsBytes};
-ghost use Rattle.netlink_core.specs.Faults.{under_kind};
 ghost use Rattle.netlink_core.specs.Parse.{exact_number};
 ghost use Rattle.sock_diag_attributes.specs.Flag.{read_flag};
 ghost use Rattle.sock_diag_attributes.specs.Numbers.{two_numbers, bytes_of_two, read_numbers, bytes_of_numbers};
@@ -16,14 +15,14 @@ use std::alloc::{AllocError, Global};
 
 /// The number in exactly one byte. Any other length is `WrongLength` with the kind.
 pub(crate) fn exact_u8(kind: u16, value: &[u8]) -> Result<u8, DecodeError>
-    ensures { result ≡ under_kind kind (exact_number 1 value.now) }
+    ensures { result ≡ exact_number (Some kind) 1 value.now }
 {
     parse_u8(value).map_err(|fault| fault.with_kind(kind))
 }
 
 /// The number in exactly four bytes, the low byte first. Any other length is `WrongLength` with the kind.
 pub(crate) fn exact_u32(kind: u16, value: &[u8]) -> Result<u32, DecodeError>
-    ensures { result ≡ under_kind kind (exact_number 4 value.now) }
+    ensures { result ≡ exact_number (Some kind) 4 value.now }
 {
     parse_u32(value).map_err(|fault| fault.with_kind(kind))
 }

@@ -1,11 +1,11 @@
 -- What an attribute says, row by row of its family.
-use Rattle.std.proofs.Common.{Result, Ok, Err, ◌≡◌, ◌⊎◌, inl, inr, ℕ, List, length}
+use Rattle.std.proofs.Common.{Some, Result, Ok, Err, ◌≡◌, ◌⊎◌, inl, inr, ℕ, List, length}
 use Rattle.std.proofs.lemmas.Bool.{cases_eq, eq-eqb, ne_eqb}
 use Rattle.byteorder.specs.Endian.{little_number}
 use Rattle.netlink_core.specs.declared.fault.DecodeError.{DecodeError}
 use Rattle.netlink_core.specs.Attribute.{Attribute, kind_of}
 use Rattle.netlink_core.specs.Family.{said, says}
-use Rattle.netlink_core.specs.Faults.{said_as, under_kind}
+use Rattle.netlink_core.specs.Faults.{said_as}
 use Rattle.netlink_core.specs.Parse.{exact_number}
 use Rattle.sock_diag_attributes.specs.UnixAttributes.{unix}
 
@@ -36,7 +36,7 @@ module _ {A B : Type 0} where
   not_other (Err e) x h = cc
 
 -- a number of so many bytes
-number_there : (k width n : ℕ) (value : List ℕ) → under_kind k (exact_number width value) ≡ Ok n → (length value ≡ width) × (n ≡ little_number width value)
+number_there : (k width n : ℕ) (value : List ℕ) → exact_number (Some k) width value ≡ Ok n → (length value ≡ width) × (n ≡ little_number width value)
 number_there k width n value h = elim (cases_eq (length value) width) [
   | inl same ↦ (same, let read : Ok (little_number width value) ≡ Ok n = rw (eq-eqb (length value) width same) at h in cc)
   | inr differs ↦ absurd (let refused = rw (ne_eqb (length value) width differs) at h in cc)

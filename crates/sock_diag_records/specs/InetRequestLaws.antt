@@ -1,8 +1,8 @@
 -- The request for IPv4 or IPv6 sockets keeps the laws.
 use Rattle.std.proofs.Common.{◌≡◌, ◌∙◌, ℕ, List, [], ◌∷◌, ◌++◌, length, drop, slice_index, true, Result, Ok, refl, sym, ap, subst, arith, append-nil}
 use Rattle.netlink_core.specs.Table.{Row, values_of, bytes_of, Fit}
-use Rattle.netlink_core.specs.SoundLaws.{is_table, IsSound}
-use Rattle.netlink_core.specs.Format.{bytes, IsFixed, IsTyped}
+use Rattle.netlink_core.specs.SoundLaws.{is_table, IsSound, IsFixed}
+use Rattle.netlink_core.specs.Format.{bytes, IsTyped}
 use Rattle.netlink_core.proofs.Congruence.{◌⊛◌}
 use Rattle.netlink_core.proofs.RowReads.{moved, values-moved, fit-moved}
 use Rattle.netlink_core.specs.declared.fault.DecodeError.{DecodeError}

@@ -7,10 +7,10 @@ use Rattle.std.specs.List.{flat_map}
 use Rattle.byteorder.specs.Endian.{little_bytes}
 use Rattle.std.specs.declared.time.Duration.{Duration}
 use Rattle.netlink_core.specs.Table.{Row, byte, values_of, bytes_of, number, unread, numbers, little_endian, Fit}
-use Rattle.netlink_core.specs.SoundLaws.{is_table, IsSound}
+use Rattle.netlink_core.specs.SoundLaws.{is_table, IsSound, IsFixed}
 use Rattle.netlink_core.specs.Bytes.{IsBytes}
 use Rattle.netlink_core.specs.Faults.{said_as}
-use Rattle.netlink_core.specs.Format.{IsFixed, IsTyped, bytes}
+use Rattle.netlink_core.specs.Format.{IsTyped, bytes}
 use Rattle.netlink_core.proofs.RowReads.{fit-append}
 use Rattle.netlink_core.proofs.Numbers.{number-fits}
 use Rattle.netlink_core.proofs.TableLaws.{AreBytes-drop}

@@ -10,9 +10,9 @@ use Rattle.std.specs.declared.net.ip_addr.IpAddr.{IpAddr}
 use Rattle.std.specs.declared.net.ip_addr.IpAddr.TheVariants.{V4, V6}
 use Rattle.netlink_core.specs.Bytes.{IsBytes}
 use Rattle.netlink_core.specs.Table.{Row, number, bytes_at, little_endian, bytes_of, values_of, first, Fit}
-use Rattle.netlink_core.specs.SoundLaws.{is_table, IsSound}
+use Rattle.netlink_core.specs.SoundLaws.{is_table, IsSound, IsFixed}
 use Rattle.netlink_core.specs.declared.fault.DecodeError.TheVariants.{Memory, UnsupportedFamily}
-use Rattle.netlink_core.specs.Format.{IsFixed, IsTyped, bytes}
+use Rattle.netlink_core.specs.Format.{IsTyped, bytes}
 use Rattle.netlink_core.proofs.Congruence.{◌⊛◌}
 use Rattle.sock_diag_records.specs.declared.inet.socket_id.SocketId.{SocketId}
 use Rattle.netlink_core.specs.declared.fault.DecodeError.{DecodeError}

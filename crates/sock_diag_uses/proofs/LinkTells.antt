@@ -30,10 +30,10 @@ tells_name a name kind text = rw (kind, text) refl
 pub refuses_name : (a : Attribute) (e : DecodeError) → kind_of a ≡ 3 → text_in a.value ≡ Err e → told_by a ≡ Err e
 refuses_name a e kind text = rw (kind, text) refl
 
-pub tells_mtu : (a : Attribute) (mtu : ℕ) → kind_of a ≡ 4 → exact_number 4 a.value ≡ Ok mtu → told_by a ≡ Ok (mtu_told mtu)
+pub tells_mtu : (a : Attribute) (mtu : ℕ) → kind_of a ≡ 4 → exact_number None 4 a.value ≡ Ok mtu → told_by a ≡ Ok (mtu_told mtu)
 tells_mtu a mtu kind number = rw (kind, number) refl
 
-pub refuses_mtu : (a : Attribute) (e : DecodeError) → kind_of a ≡ 4 → exact_number 4 a.value ≡ Err e → told_by a ≡ Err e
+pub refuses_mtu : (a : Attribute) (e : DecodeError) → kind_of a ≡ 4 → exact_number None 4 a.value ≡ Err e → told_by a ≡ Err e
 refuses_mtu a e kind number = rw (kind, number) refl
 
 pub tells_nothing : (a : Attribute) → kind_of a ≢ 3 → kind_of a ≢ 4 → told_by a ≡ Ok nothing_told

@@ -23,7 +23,7 @@ told_as made (Err e) = Err e
 abbrev pub told_by : Attribute → Result Told DecodeError
 told_by a =
     if kind_of a == 3 then told_as name_told (text_in a.value)
-    else if kind_of a == 4 then told_as mtu_told (exact_number 4 a.value)
+    else if kind_of a == 4 then told_as mtu_told (exact_number None 4 a.value)
     else Ok nothing_told
 
 -- the name, where one is told

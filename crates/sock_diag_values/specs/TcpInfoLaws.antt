@@ -2,8 +2,7 @@
 use Rattle.std.proofs.Common.{◌≡◌, ◌++◌, ℕ, List, length, refl, subst}
 use Rattle.netlink_core.specs.Bytes.{IsBytes}
 use Rattle.netlink_core.specs.Table.{bytes_at, numbers, little_endian, Fit}
-use Rattle.netlink_core.specs.Format.{IsFixed}
-use Rattle.netlink_core.specs.SoundLaws.{IsSound}
+use Rattle.netlink_core.specs.SoundLaws.{IsSound, IsFixed}
 use Rattle.netlink_core.proofs.FormatLaws.{plain_sound}
 use Rattle.netlink_core.proofs.RowReads.{fit-append, fit-bytes}
 use Rattle.sock_diag_values.specs.declared.inet.tcp_info.TcpInfo.{TcpInfo}

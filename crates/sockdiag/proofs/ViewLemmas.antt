@@ -8,7 +8,7 @@ use Rattle.netlink_core.specs.Family.{content}
 use Rattle.sock_diag_attributes.specs.Name.{SocketName}
 use Rattle.sock_diag_attributes.specs.UnixAttributes.{unix}
 use Rattle.sock_diag_records.specs.declared.unix.response.UnixResponseHeader.{UnixResponseHeader}
-use Rattle.netlink_packet_sock_diag.specs.UnixGetters.{first_number, first_of, listening_queue_of, other_queue_of, second_number}
+use Rattle.netlink_packet_sock_diag.specs.UnixGetters.{first_of, listening_queue_of, other_queue_of}
 use Rattle.netlink_packet_sock_diag.specs.UnixReply.{UnixReply}
 use Rattle.sockdiag.specs.TextSteps.{accepted}
 use Rattle.sockdiag.specs.ViewLine.{comma_list, name_word, or_none, shown_reply}
@@ -83,10 +83,10 @@ pub reply_told : (v : UnixReply) (h : UnixResponseHeader) (peer : Option ℕ) (n
     → name ≡ first_of (content unix 0) v.nlas
     → pending ≡ first_of (content unix 3) v.nlas
     → shutdown ≡ first_of (content unix 6) v.nlas
-    → waiting ≡ first_number (listening_queue_of v)
-    → limit ≡ second_number (listening_queue_of v)
-    → received ≡ first_number (other_queue_of v)
-    → sent ≡ second_number (other_queue_of v)
+    → waiting ≡ option_map (λ ns. ns.0) (listening_queue_of v)
+    → limit ≡ option_map (λ ns. ns.1) (listening_queue_of v)
+    → received ≡ option_map (λ ns. ns.0) (other_queue_of v)
+    → sent ≡ option_map (λ ns. ns.1) (other_queue_of v)
     → datagram ≡ option_map (λ info. info.max_datagram_size) (first_of (content unix 5) v.nlas)
     → memory ≡ option_map (λ info. info.alloc) (first_of (content unix 5) v.nlas)
     → t0 ≡ old ++ codes "ok "
@@ -109,10 +109,10 @@ reply_told v h peer name pending shutdown waiting limit received sent datagram m
     let j3 = then_word _ _ _ t2 t3 _ _ j2 e3 (ap (or_none name_word) name_is) in
     let j4 = then_word _ _ _ t3 t4 _ _ j3 e4 (ap (or_none comma_list) pending_is) in
     let j5 = then_word _ _ _ t4 t5 _ _ j4 e5 (ap (or_none decimal) shutdown_is) in
-    let j6 = then_word _ _ _ t5 t6 _ _ j5 e6 (ap (or_none decimal) waiting_is) in
-    let j7 = then_word _ _ _ t6 t7 _ _ j6 e7 (ap (or_none decimal) limit_is) in
-    let j8 = then_word _ _ _ t7 t8 _ _ j7 e8 (ap (or_none decimal) received_is) in
-    let j9 = then_word _ _ _ t8 t9 _ _ j8 e9 (ap (or_none decimal) sent_is) in
+    let j6 = then_word _ _ _ t5 t6 _ _ j5 e6 (ap (or_none decimal) waiting_is ∙ or_none-map decimal (λ (ns : ℕ × ℕ). ns.0) _) in
+    let j7 = then_word _ _ _ t6 t7 _ _ j6 e7 (ap (or_none decimal) limit_is ∙ or_none-map decimal (λ (ns : ℕ × ℕ). ns.1) _) in
+    let j8 = then_word _ _ _ t7 t8 _ _ j7 e8 (ap (or_none decimal) received_is ∙ or_none-map decimal (λ (ns : ℕ × ℕ). ns.0) _) in
+    let j9 = then_word _ _ _ t8 t9 _ _ j8 e9 (ap (or_none decimal) sent_is ∙ or_none-map decimal (λ (ns : ℕ × ℕ). ns.1) _) in
     let j10 = then_word _ _ _ t9 t10 _ _ j9 e10
     (ap (or_none decimal) datagram_is ∙ or_none-map decimal (λ info. info.max_datagram_size) _) in
     let j11 = then_word _ _ _ t10 t11 _ _ j10 e11

@@ -3,7 +3,7 @@ use Rattle.std.specs.Prelude.{◌≡◌, ◌==◌, ℕ, List, [], ◌∷◌, ◌
 use Rattle.netlink_core.specs.declared.fault.DecodeError.{DecodeError}
 use Rattle.netlink_packet_sock_diag.specs.declared.dump.DumpState.{DumpState}
 use Rattle.netlink_packet_sock_diag.specs.declared.dump.DumpState.TheVariants.{Reading}
-use Rattle.netlink_packet_sock_diag.specs.SeenDump.{dump_state, kept_messages}
+use Rattle.netlink_packet_sock_diag.specs.SeenDump.{kept_messages}
 use Rattle.sockdiag.specs.declared.dump_line.ReadDump.{ReadDump}
 use Rattle.std.specs.List.{AllByRecursion, AllZip, slice_split}
 use Rattle.netlink_packet_sock_diag.specs.Dump.{DatagramsDump}
@@ -34,7 +34,7 @@ ended_with state (Some fault) = Err fault
 
 -- how it ends
 abbrev pub end_of : ReadDump → Result DumpState DecodeError
-end_of dump = ended_with (dump_state dump.reader) dump.fault
+end_of dump = ended_with dump.reader.state dump.fault
 
 -- what is told of it
 abbrev pub told_dump : ReadDump → ToldDump
@@ -43,7 +43,7 @@ told_dump dump = record { messages = kept_messages dump.reader; end = end_of dum
 -- it is the dump over these datagrams, and has no fault while it is read
 pub record IsReadDump (datagrams : List (List ℕ)) (dump : ReadDump) : Type 0 where
   pub is : IsDumpOf datagrams (told_dump dump)
-  pub faultless : dump_state dump.reader ≡ Reading → dump.fault ≡ None
+  pub faultless : dump.reader.state ≡ Reading → dump.fault ≡ None
 
 -- whatever datagrams were read, this one was read behind them
 abbrev pub TakesDatagram : ReadDump → List ℕ → ReadDump → Type 0

@@ -4,7 +4,7 @@ use Rattle.std.specs.List.{join_with_byte}
 use Rattle.netlink_core.specs.Family.{content}
 use Rattle.sock_diag_attributes.specs.Name.{SocketName, abstract, pathname}
 use Rattle.sock_diag_attributes.specs.UnixAttributes.{unix}
-use Rattle.netlink_packet_sock_diag.specs.UnixGetters.{first_number, first_of, listening_queue_of, other_queue_of, second_number}
+use Rattle.netlink_packet_sock_diag.specs.UnixGetters.{first_of, listening_queue_of, other_queue_of}
 use Rattle.netlink_packet_sock_diag.specs.UnixReply.{UnixReply}
 use Rattle.sockdiag.specs.HexField.{field_of}
 
@@ -33,10 +33,10 @@ shown_reply v =
     or_none decimal (told 2) ∷ or_none name_word (told 0) ∷
     or_none comma_list (told 3) ∷ or_none decimal (told 6) ∷
     -- the queues of a listening socket, and those of any other
-    or_none decimal (first_number (listening_queue_of v)) ∷
-    or_none decimal (second_number (listening_queue_of v)) ∷
-    or_none decimal (first_number (other_queue_of v)) ∷
-    or_none decimal (second_number (other_queue_of v)) ∷
+    or_none (λ queue. decimal queue.0) (listening_queue_of v) ∷
+    or_none (λ queue. decimal queue.1) (listening_queue_of v) ∷
+    or_none (λ queue. decimal queue.0) (other_queue_of v) ∷
+    or_none (λ queue. decimal queue.1) (other_queue_of v) ∷
     -- the memory
     or_none (λ info. decimal info.max_datagram_size) (told 5) ∷
     or_none (λ info. decimal info.alloc) (told 5) ∷ [])

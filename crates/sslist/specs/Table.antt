@@ -1,5 +1,5 @@
 -- The lines of the table.
-use Rattle.std.specs.Prelude.{ℕ, ◌-◌, ◌==◌, nat_le, if◌then◌else◌, Bool, true, false, ◌&&◌, List, [], ◌∷◌, ◌++◌, length, replicate, flat_map, codes, decimal, Option, None, Some, slice_get, unwrap_or}
+use Rattle.std.specs.Prelude.{ℕ, ◌-◌, ◌==◌, nat_le, if◌then◌else◌, Bool, true, false, ◌&&◌, List, [], ◌∷◌, ◌++◌, length, replicate, flat_map, codes, decimal, Option, None, Some, slice_get, unwrap_or, option_map}
 use Rattle.std.specs.declared.net.ip_addr.IpAddr.{IpAddr}
 use Rattle.std.specs.declared.net.ip_addr.IpAddr.TheVariants.{V4, V6}
 use Rattle.std.specs.Net.Text.{ip_text, scope_text}
@@ -13,7 +13,7 @@ use Rattle.sock_diag_attributes.specs.UnixAttributes.{unix}
 use Rattle.netlink_packet_sock_diag.specs.InetReply.{InetReply}
 use Rattle.netlink_packet_sock_diag.specs.Message.{Message, message_of, inet_request, inet_response, unix_request, unix_response}
 use Rattle.netlink_packet_sock_diag.specs.UnixReply.{UnixReply}
-use Rattle.netlink_packet_sock_diag.specs.UnixGetters.{first_number, first_of, second_number}
+use Rattle.netlink_packet_sock_diag.specs.UnixGetters.{first_of}
 
 -- ---- cells
 
@@ -108,8 +108,8 @@ unix_line v =
     line (record {
       kind = unix_kind v.header.kind;
       state = v.header.state;
-      receive_queue = first_number queues;
-      send_queue = second_number queues;
+      receive_queue = option_map (λ ns. ns.0) queues;
+      send_queue = option_map (λ ns. ns.1) queues;
       inode = v.header.inode;
       uid = None;
     }) (name_cell (first_of (content unix 0) v.nlas)) (peer_cell (first_of (content unix 2) v.nlas))

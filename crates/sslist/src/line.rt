@@ -1,7 +1,7 @@
 //! The lines that replies tell of.
 
-ghost use Rattle.std.specs.Prelude.{◌≡◌, ◌++◌, flat_map, None, Some, OnOk};
-ghost use Rattle.netlink_packet_sock_diag.specs.UnixGetters.{first_number, first_of, second_number};
+ghost use Rattle.std.specs.Prelude.{◌≡◌, ◌++◌, flat_map, None, Some, OnOk, option_map};
+ghost use Rattle.netlink_packet_sock_diag.specs.UnixGetters.{first_of};
 ghost use Rattle.netlink_core.specs.Family.{content};
 ghost use Rattle.sock_diag_attributes.specs.UnixAttributes.{unix};
 ghost use Rattle.netlink_packet_sock_diag.specs.ViewedInetReply as viewed_inet;
@@ -81,8 +81,8 @@ fn unix_cells(reply: &UnixResponseView<'_>) -> Cells
         shown_cells result ≡ record {
           kind = unix_kind v.header.kind;
           state = v.header.state;
-          receive_queue = first_number queues;
-          send_queue = second_number queues;
+          receive_queue = option_map (λ ns. ns.0) queues;
+          send_queue = option_map (λ ns. ns.1) queues;
           inode = v.header.inode;
           uid = None;
         } }

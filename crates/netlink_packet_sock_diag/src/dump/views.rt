@@ -55,11 +55,11 @@ pub struct DumpViews<'a> {
 }
 
 impl<'a> DumpViews<'a> {
-    ghost use Rattle.netlink_packet_sock_diag.specs.DumpWalk.{views_left};
+    ghost use Rattle.netlink_core.specs.DatagramWalk.{datagram_left};
 
     /// The walk over this datagram.
     pub fn new(datagram: &'a [u8]) -> DumpViews<'a>
-        ensures { views_left result ≡ datagram.entry.now }
+        ensures { datagram_left result.messages ≡ datagram.entry.now }
     {
         DumpViews {
             messages: MessageStrings::new(datagram),
@@ -70,14 +70,15 @@ impl<'a> DumpViews<'a> {
 impl<'a> Iterator for DumpViews<'a> {
     ghost use Rattle.std.specs.Prelude.{length, ◌+◌, ◌/◌};
     ghost use Rattle.std.specs.Iterator.{at_most};
-    ghost use Rattle.netlink_packet_sock_diag.specs.DumpWalk.{GivesView, views_left};
+    ghost use Rattle.netlink_core.specs.DatagramWalk.{datagram_left};
+    ghost use Rattle.netlink_packet_sock_diag.specs.DumpWalk.{GivesView};
 
     type Item = Result<PayloadView<'a>, DecodeError>;
 
     ghost next_gives = { GivesView };
 
     // At most one item for each sixteen bytes, rounded up.
-    ghost remaining = { λ walk. at_most ((length (views_left walk) + 15) / 16) };
+    ghost remaining = { λ walk. at_most ((length (datagram_left walk.messages) + 15) / 16) };
 
     /// What the next message carries, or its fault. At what is no message the faults are those of
     /// [`NetlinkHeader::from_prefix`], over the bytes that are left.

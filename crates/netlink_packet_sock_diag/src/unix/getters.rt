@@ -5,7 +5,7 @@ ghost use Rattle.netlink_core.specs.Family.{content};
 ghost use Rattle.sock_diag_attributes.specs.UnixAttributes.{unix};
 ghost use Rattle.sock_diag_attributes.specs.SeenName.{seen_name};
 ghost use Rattle.sock_diag_attributes.specs.SeenUnix.{seen_nla};
-ghost use Rattle.netlink_packet_sock_diag.specs.UnixGetters.{first_of, first_number, second_number};
+ghost use Rattle.netlink_packet_sock_diag.specs.UnixGetters.{first_of};
 
 use crate::unix::UnixResponse;
 use crate::unix::nlas::{MemInfo, Nla, UnixDiagName};
@@ -53,9 +53,8 @@ impl UnixResponse {
     /// Where this is told, [`receive_queue_size`](Self::receive_queue_size) and
     /// [`send_queue_size`](Self::send_queue_size) are not.
     pub fn number_of_pending_connection(&self) -> Option<u32>
-        ensures value { result ≡ first_number (listening_queue_of (seen_response self.now)) }
-        ensures alone { IsSome result → (first_number (other_queue_of (seen_response self.now)) ≡ None)
-            × (second_number (other_queue_of (seen_response self.now)) ≡ None) }
+        ensures value { result ≡ option_map (λ ns. ns.0) (listening_queue_of (seen_response self.now)) }
+        ensures alone { IsSome result → other_queue_of (seen_response self.now) ≡ None }
     {
         let (waiting, _) = self.listening_queue()?;
         Some(waiting)
@@ -64,7 +63,7 @@ impl UnixResponse {
     /// How many connections may wait to be accepted, of a listening socket: the second number of the first
     /// `ReceiveQueueLength`.
     pub fn max_number_of_pending_connection(&self) -> Option<u32>
-        ensures { result ≡ second_number (listening_queue_of (seen_response self.now)) }
+        ensures { result ≡ option_map (λ ns. ns.1) (listening_queue_of (seen_response self.now)) }
     {
         let (_, limit) = self.listening_queue()?;
         Some(limit)
@@ -73,7 +72,7 @@ impl UnixResponse {
     /// How many bytes wait to be read, of a socket that does not listen: the first number of the first
     /// `ReceiveQueueLength`.
     pub fn receive_queue_size(&self) -> Option<u32>
-        ensures { result ≡ first_number (other_queue_of (seen_response self.now)) }
+        ensures { result ≡ option_map (λ ns. ns.0) (other_queue_of (seen_response self.now)) }
     {
         let (received, _) = self.other_queue()?;
         Some(received)
@@ -82,7 +81,7 @@ impl UnixResponse {
     /// How many bytes of memory are taken by what was sent and is not yet read, of a socket that does not listen: the
     /// second number of the first `ReceiveQueueLength`.
     pub fn send_queue_size(&self) -> Option<u32>
-        ensures { result ≡ second_number (other_queue_of (seen_response self.now)) }
+        ensures { result ≡ option_map (λ ns. ns.1) (other_queue_of (seen_response self.now)) }
     {
         let (_, sent) = self.other_queue()?;
         Some(sent)

@@ -17,12 +17,12 @@ returns-in_err-parse-clause-wanted c =
 pub returns-in_err-to_owned-clause-wanted : goal.returns-in_err-to_owned-clause-wanted
 returns-in_err-to_owned-clause-wanted c =
     let a : Attribute = attribute_of c.args.buf in
-    let fits : FitsWords a = record { type_word = c.args.buf.word_fits; value = c.args.buf.value_fits } in
+    let fits : FitsWords a = (c.args.buf.word_fits, c.args.buf.value_fits) in
     let p = err_from_is_err_and c.from_residual-in_err-to_owned.result c.from_residual-in_err-to_owned.ensures.1 in
     rw (p.1, p.2) (λ memory. (viewed_nla c.in_ok-parse.field-0, said_is_read unix a fits (viewed_nla c.in_ok-parse.field-0) c.in_ok-parse.ensures, λ spare. let none = rw c.in_err-to_owned.was at (c.to_owned.ensures.spare spare) in cc))
 
 pub returns-clause-value : goal.returns-clause-value
 returns-clause-value c =
     let a : Attribute = attribute_of c.args.buf in
-    let fits : FitsWords a = record { type_word = c.args.buf.word_fits; value = c.args.buf.value_fits } in
+    let fits : FitsWords a = (c.args.buf.word_fits, c.args.buf.value_fits) in
     said_is_read unix a fits (seen_nla c.in_ok-to_owned.field-0) (c.in_ok-parse.ensures ∙ ap Ok (sym c.in_ok-to_owned.ensures.equal))
