@@ -19,13 +19,13 @@ use Rattle.netlink_core.proofs.Headers.{AreBytes-take, header_or_fault, one_head
 
 -- the length word is the header's
 pub framed_length : (b x : List ℕ) (h : NetlinkHeader) → IsFramed b h x → little_number 4 b ≡ h.length
-framed_length b x h f = ap (little_number 4) f.parts ∙ little_number-reads_back 4 h.length [] f.typed.length
+framed_length b x h f = ap (little_number 4) f.1 ∙ little_number-reads_back 4 h.length [] f.2.0
 
 -- the payload stands where the header says
 pub framed_payload : (b x : List ℕ) (h : NetlinkHeader) → IsFramed b h x → take (h.length - 16) (drop 16 b) ≡ x
 framed_payload b x h f =
-    let size : h.length - 16 ≡ length x = omega (arith, f.size) in
-    ap (λ (n : ℕ). take n (drop 16 b)) size ∙ ap (λ (l : List ℕ). take (length x) (drop 16 l)) f.parts ∙ take_at x f.rest (length x) refl
+    let size : h.length - 16 ≡ length x = omega (arith, f.3) in
+    ap (λ (n : ℕ). take n (drop 16 b)) size ∙ ap (λ (l : List ℕ). take (length x) (drop 16 l)) f.1 ∙ take_at x f.0 (length x) refl
 
 -- and where the length word says
 pub payload_there : (b x : List ℕ) (h : NetlinkHeader) → IsFramed b h x → payload_at b ≡ x
@@ -33,16 +33,16 @@ payload_there b x h f = ap (λ (n : ℕ). take (n - 16) (drop 16 b)) (framed_len
 
 -- the type is the header's
 pub framed_type : (b x : List ℕ) (h : NetlinkHeader) → IsFramed b h x → little_number 2 (drop 4 b) ≡ h.message_type
-framed_type b x h f = ap (λ (l : List ℕ). little_number 2 (drop 4 l)) f.parts ∙ little_number-reads_back 2 h.message_type [] f.typed.message_type
+framed_type b x h f = ap (λ (l : List ℕ). little_number 2 (drop 4 l)) f.1 ∙ little_number-reads_back 2 h.message_type [] f.2.1
 
 -- the first sixteen bytes are the header's
 pub framed_front : (b x : List ℕ) (h : NetlinkHeader) → IsFramed b h x → take 16 b ≡ header_bytes h
-framed_front b x h f = ap (take 16) f.parts
+framed_front b x h f = ap (take 16) f.1
 
 -- bytes frame one header and one payload
 pub one_frame : (b x y : List ℕ) (h k : NetlinkHeader) → IsFramed b h x → IsFramed b k y → (h ≡ k) × (x ≡ y)
 one_frame b x y h k f g =
-    let header : h ≡ k = one_header h k f.typed g.typed (sym (framed_front b x h f) ∙ framed_front b y k g) in
+    let header : h ≡ k = one_header h k f.2 g.2 (sym (framed_front b x h f) ∙ framed_front b y k g) in
     (header, sym (framed_payload b x h f) ∙ ap (λ (l : NetlinkHeader). take (l.length - 16) (drop 16 b)) header ∙ framed_payload b y k g)
 
 -- a payload of bytes is bytes
@@ -62,8 +62,8 @@ fault_within C bytes h e head fault = inr (h, take (h.length - 16) (drop 16 byte
 
 -- a framed message has no fault of framing
 no_fault_where_framed : (b x : List ℕ) (h : NetlinkHeader) (e : DecodeError) → IsFramed b h x → IsEnvelopeFault b e → ⊥
-no_fault_where_framed b x h (EnvelopeCut got) f k = omega (arith, f.size, (framed_bounds b x h f).1, k.1)
-no_fault_where_framed b x h (EnvelopeLengthUnder16 word) f k = omega (arith, f.size, framed_length b x h f, k.0, k.2)
+no_fault_where_framed b x h (EnvelopeCut got) f k = omega (arith, f.3, (framed_bounds b x h f).1, k.1)
+no_fault_where_framed b x h (EnvelopeLengthUnder16 word) f k = omega (arith, f.3, framed_length b x h f, k.0, k.2)
 no_fault_where_framed b x h (EnvelopeLengthPast word got) f k = omega (arith, (framed_bounds b x h f).1, framed_length b x h f, k.0, k.4)
 no_fault_where_framed b x h _ f k = k
 

@@ -54,23 +54,23 @@ header_read bytes h fits long length-is type-is flags-is sequence-is port-is low
     let of_sequence = number_behind 8 4 h.sequence_number bytes fits (omega arith) sequence-is in
     let of_port = number_behind 12 4 h.port_number bytes fits (omega arith) port-is in (
       take (h.length - 16) (drop 16 bytes),
-      record {
-        rest = drop (h.length - 16) (drop 16 bytes);
-        parts = of_length ∙ ap (λ (t : List ℕ). little_bytes 4 h.length ++ t) (of_type ∙ ap (λ (t : List ℕ). little_bytes 2 h.message_type ++ t) (of_flags ∙ ap (λ (t : List ℕ). little_bytes 2 h.flags ++ t) (of_sequence ∙ ap (λ (t : List ℕ). little_bytes 4 h.sequence_number ++ t) of_port))) ∙ ap (λ (t : List ℕ). header_bytes h ++ t) (sym (take-append-drop (h.length - 16) (drop 16 bytes)));
-        typed = record {
-          length = subst (λ (k : ℕ). k < 2 ^ 32) (sym length-is) (number-fits little_endian 4 bytes fits);
-          message_type = fits_behind 4 2 h.message_type bytes fits type-is;
-          flags = fits_behind 6 2 h.flags bytes fits flags-is;
-          sequence_number = fits_behind 8 4 h.sequence_number bytes fits sequence-is;
-          port_number = fits_behind 12 4 h.port_number bytes fits port-is;
-        };
-        size = omega (arith, length-take (h.length - 16) (drop 16 bytes), length-drop 16 bytes);
-      },
+      (
+        drop (h.length - 16) (drop 16 bytes),
+        of_length ∙ ap (λ (t : List ℕ). little_bytes 4 h.length ++ t) (of_type ∙ ap (λ (t : List ℕ). little_bytes 2 h.message_type ++ t) (of_flags ∙ ap (λ (t : List ℕ). little_bytes 2 h.flags ++ t) (of_sequence ∙ ap (λ (t : List ℕ). little_bytes 4 h.sequence_number ++ t) of_port))) ∙ ap (λ (t : List ℕ). header_bytes h ++ t) (sym (take-append-drop (h.length - 16) (drop 16 bytes))),
+        (
+          subst (λ (k : ℕ). k < 2 ^ 32) (sym length-is) (number-fits little_endian 4 bytes fits),
+          fits_behind 4 2 h.message_type bytes fits type-is,
+          fits_behind 6 2 h.flags bytes fits flags-is,
+          fits_behind 8 4 h.sequence_number bytes fits sequence-is,
+          fits_behind 12 4 h.port_number bytes fits port-is,
+        ),
+        omega (arith, length-take (h.length - 16) (drop 16 bytes), length-drop 16 bytes),
+      ),
     )
 
 -- the header counts itself, and its length is within the bytes
 pub framed_bounds : (b x : List ℕ) (h : NetlinkHeader) → IsFramed b h x → (16 ≤ h.length) × (h.length ≤ length b)
-framed_bounds b x h f = (omega (arith, f.size), omega (arith, f.size, ap length f.parts ∙ length-append (header_bytes h) (x ++ f.rest), length-append x f.rest))
+framed_bounds b x h f = (omega (arith, f.3), omega (arith, f.3, ap length f.1 ∙ length-append (header_bytes h) (x ++ f.0), length-append x f.0))
 
 -- a header stands at the front, or a fault tells why not
 pub header_or_fault : (bytes : List ℕ) → IsBytes bytes → ((h : NetlinkHeader) × HasHeader bytes h) ⊎ ((e : DecodeError) × IsEnvelopeFault bytes e)
@@ -97,9 +97,9 @@ header_or_fault bytes fits = elim (cases_lt (length bytes) 16) [
 -- a header is known by its bytes
 pub one_header : (h k : NetlinkHeader) → IsTypedHeader h → IsTypedHeader k → header_bytes h ≡ header_bytes k → h ≡ k
 one_header h k th tk e =
-    let lengths : h.length ≡ k.length = sym (little_number-reads_back 4 h.length [] th.length) ∙ ap (little_number 4) e ∙ little_number-reads_back 4 k.length [] tk.length in
-    let types : h.message_type ≡ k.message_type = sym (little_number-reads_back 2 h.message_type [] th.message_type) ∙ ap (λ (l : List ℕ). little_number 2 (drop 4 l)) e ∙ little_number-reads_back 2 k.message_type [] tk.message_type in
-    let flags : h.flags ≡ k.flags = sym (little_number-reads_back 2 h.flags [] th.flags) ∙ ap (λ (l : List ℕ). little_number 2 (drop 6 l)) e ∙ little_number-reads_back 2 k.flags [] tk.flags in
-    let sequences : h.sequence_number ≡ k.sequence_number = sym (little_number-reads_back 4 h.sequence_number [] th.sequence_number) ∙ ap (λ (l : List ℕ). little_number 4 (drop 8 l)) e ∙ little_number-reads_back 4 k.sequence_number [] tk.sequence_number in
-    let ports : h.port_number ≡ k.port_number = sym (little_number-reads_back 4 h.port_number [] th.port_number) ∙ ap (λ (l : List ℕ). little_number 4 (drop 12 l)) e ∙ little_number-reads_back 4 k.port_number [] tk.port_number in
+    let lengths : h.length ≡ k.length = sym (little_number-reads_back 4 h.length [] th.0) ∙ ap (little_number 4) e ∙ little_number-reads_back 4 k.length [] tk.0 in
+    let types : h.message_type ≡ k.message_type = sym (little_number-reads_back 2 h.message_type [] th.1) ∙ ap (λ (l : List ℕ). little_number 2 (drop 4 l)) e ∙ little_number-reads_back 2 k.message_type [] tk.1 in
+    let flags : h.flags ≡ k.flags = sym (little_number-reads_back 2 h.flags [] th.2) ∙ ap (λ (l : List ℕ). little_number 2 (drop 6 l)) e ∙ little_number-reads_back 2 k.flags [] tk.2 in
+    let sequences : h.sequence_number ≡ k.sequence_number = sym (little_number-reads_back 4 h.sequence_number [] th.3) ∙ ap (λ (l : List ℕ). little_number 4 (drop 8 l)) e ∙ little_number-reads_back 4 k.sequence_number [] tk.3 in
+    let ports : h.port_number ≡ k.port_number = sym (little_number-reads_back 4 h.port_number [] th.4) ∙ ap (λ (l : List ℕ). little_number 4 (drop 12 l)) e ∙ little_number-reads_back 4 k.port_number [] tk.4 in
     λ z. record { length = lengths z; message_type = types z; flags = flags z; sequence_number = sequences z; port_number = ports z }

@@ -81,7 +81,7 @@ module _ (C : Codec ℕ) where
       → (b c : List ℕ) (v w : Envelope C.Value) → IsBytes b → IsBytes c → (envelope_codec C).reads b tt v → (envelope_codec C).reads c tt w → OfInner C.fits v.payload → OfInner C.fits w.payload
       → (envelope_codec C).written v ≡ (envelope_codec C).written w → v ≡ w
   equal_where_alike law b c v w tb tc r s fv fw e =
-      let headers : v.header ≡ w.header = one_header v.header w.header r.1.typed s.1.typed (ap (take 16) e) in
+      let headers : v.header ≡ w.header = one_header v.header w.header r.1.2 s.1.2 (ap (take 16) e) in
       let read : PayloadIs C.reads s.0 v.header.message_type w.payload = subst (λ (h : NetlinkHeader). PayloadIs C.reads s.0 h.message_type w.payload) (sym headers) s.2 in
       let same : v.payload ≡ w.payload = payloads_alike C.reads C.written C.fits v.header.message_type r.0 s.0
       (λ m n. law r.0 s.0 v.header.message_type m n (payload_typed b r.0 v.header tb r.1) (payload_typed c s.0 w.header tc s.1))
@@ -104,14 +104,14 @@ module _ (C : Codec ℕ) where
             let headers : v.header ≡ w.header = ap (λ (m : Envelope C.Value). m.header) e in
             (fronts ∙ ap header_bytes headers ∙ sym others, subst (λ (X : Type 0). X) (sym there) ((payloads headers).0 (ap (λ (m : Envelope C.Value). m.payload) e))),
         λ idle_bytes.
-            let headers : v.header ≡ w.header = one_header v.header w.header r.1.typed s.1.typed (sym fronts ∙ idle_bytes.0 ∙ others) in
+            let headers : v.header ≡ w.header = one_header v.header w.header r.1.2 s.1.2 (sym fronts ∙ idle_bytes.0 ∙ others) in
             let same : v.payload ≡ w.payload = (payloads headers).1 (subst (λ (X : Type 0). X) there idle_bytes.1) in
             λ z. record { header = headers z; payload = same z },
       )
 
   -- the bytes of a finalized message are framed by its own header
   pub finalized_frame : (type_of : C.Value → ℕ) (v : Envelope C.Value) → IsTypedHeader v.header → v.header ≡ finalized C.written type_of v → IsFramed ((envelope_codec C).written v) v.header (payload_bytes C.written v.payload)
-  finalized_frame type_of v typed done = record { rest = []; parts = ap (λ (l : List ℕ). header_bytes v.header ++ l) (sym (append-nil (payload_bytes C.written v.payload))); typed = typed; size = ap (λ (h : NetlinkHeader). h.length) done }
+  finalized_frame type_of v typed done = ([], ap (λ (l : List ℕ). header_bytes v.header ++ l) (sym (append-nil (payload_bytes C.written v.payload))), typed, ap (λ (h : NetlinkHeader). h.length) done)
 
   -- the bytes of a payload read back as it exactly where it is in normal form
   payload_itself : (type_of : C.Value → ℕ) (t : ℕ) (p : Payload C.Value) → t ≡ payload_type type_of p → OfInner (λ m. C.reads (C.written m) t m ↔ C.is_normal t m) p

@@ -51,22 +51,16 @@ module _ (C : Codec ℕ) where
   -- the item of a message in front of others
   pub item_in_front : (bytes message rest : List ℕ) (item : Result (Payload C.Value) DecodeError) (later : List (Result (Payload C.Value) DecodeError))
       → StartsWithMessage bytes message rest → ItemIs C message item → ItemsAre C rest later → ItemsAre C bytes (item ∷ later)
-  item_in_front bytes message rest item later s is all = record {
-    messages = message ∷ all.messages;
-    end = all.end;
-    carried = item ∷ all.carried;
-    cut = (rest, s, all.cut);
-    each = (is, all.each);
-    parts = ap (λ (t : List (Result (Payload C.Value) DecodeError)). item ∷ t) all.parts;
-  }
+  item_in_front bytes message rest item later s is (messages, end, carried, cut, each, parts) =
+    (message ∷ messages, end, item ∷ carried, (rest, s, cut), (is, each), ap (λ (t : List (Result (Payload C.Value) DecodeError)). item ∷ t) parts)
 
   -- no bytes have no items
   pub no_items : ItemsAre C [] []
-  no_items = record { messages = []; end = None; carried = []; cut = refl; each = tt; parts = refl }
+  no_items = ([], None, [], refl, tt, refl)
 
   -- bytes with no message in front have the fault alone
   pub fault_alone : (bytes : List ℕ) (e : DecodeError) → bytes ≢ [] → IsEnvelopeFault bytes e → ItemsAre C bytes (Err e ∷ [])
-  fault_alone bytes e some f = record { messages = []; end = Some e; carried = []; cut = (some, f); each = tt; parts = refl }
+  fault_alone bytes e some f = ([], Some e, [], (some, f), tt, refl)
 
   -- each datagram has items, by its length
   items_within : ((b : List ℕ) (t : ℕ) → IsBytes b → ((m : C.Value) × C.reads b t m) ⊎ ((e : DecodeError) × C.refuses b t e))
@@ -92,16 +86,16 @@ module _ (C : Codec ℕ) where
       → ItemsAre C front xs → ItemsAre C back ys → ItemsAre C (front ++ back) (xs ++ ys)
   items_in_a_row front back messages xs ys whole a b =
       let cut : CutIntoMessages front messages None = rw (append-nil front, append-nil messages) at (messages_in_a_row front [] messages [] None whole refl) in
-      let same = one_cut_into_messages front a.messages messages a.end None a.cut cut in
-      let all : xs ≡ a.carried = a.parts ∙ ap (λ (e : Option DecodeError). a.carried ++ option_to_list (option_map Err e)) same.1 ∙ append-nil a.carried in
-      record {
-        messages = messages ++ b.messages;
-        end = b.end;
-        carried = a.carried ++ b.carried;
-        cut = messages_in_a_row front back messages b.messages b.end whole b.cut;
-        each = zip_append (ItemIs C) messages b.messages a.carried b.carried (subst (λ (s : List (List ℕ)). AllZip (ItemIs C) s a.carried) same.0 a.each) b.each;
-        parts = ap (λ (l : List (Result (Payload C.Value) DecodeError)). l ++ ys) all ∙ ap (λ (l : List (Result (Payload C.Value) DecodeError)). a.carried ++ l) b.parts ∙ sym (append_assoc a.carried b.carried (option_to_list (option_map Err b.end)));
-      }
+      let same = one_cut_into_messages front a.0 messages a.1 None a.3 cut in
+      let all : xs ≡ a.2 = a.5 ∙ ap (λ (e : Option DecodeError). a.2 ++ option_to_list (option_map Err e)) same.1 ∙ append-nil a.2 in
+      (
+        messages ++ b.0,
+        b.1,
+        a.2 ++ b.2,
+        messages_in_a_row front back messages b.0 b.1 whole b.3,
+        zip_append (ItemIs C) messages b.0 a.2 b.2 (subst (λ (s : List (List ℕ)). AllZip (ItemIs C) s a.2) same.0 a.4) b.4,
+        ap (λ (l : List (Result (Payload C.Value) DecodeError)). l ++ ys) all ∙ ap (λ (l : List (Result (Payload C.Value) DecodeError)). a.2 ++ l) b.5 ∙ sym (append_assoc a.2 b.2 (option_to_list (option_map Err b.1))),
+      )
 
   -- ---- the walk
 
@@ -160,6 +154,6 @@ module _ (C : Codec ℕ)
   -- one list of items
   pub one_list : (b : List ℕ) → IsBytes b → (xs ys : List (Result (Payload C.Value) DecodeError)) → ItemsAre C b xs → ItemsAre C b ys → xs ≡ ys
   one_list b typed xs ys h k =
-      let same = one_cut_into_messages b h.messages k.messages h.end k.end h.cut k.cut in
-      let carried = one_carried b typed k.messages k.end k.cut h.carried k.carried (subst (λ (s : List (List ℕ)). AllZip (ItemIs C) s h.carried) same.0 h.each) k.each in
-      h.parts ∙ ap (λ (c : List (Result (Payload C.Value) DecodeError)). c ++ option_to_list (option_map Err h.end)) carried ∙ ap (λ (e : Option DecodeError). k.carried ++ option_to_list (option_map Err e)) same.1 ∙ sym k.parts
+      let same = one_cut_into_messages b h.0 k.0 h.1 k.1 h.3 k.3 in
+      let carried = one_carried b typed k.0 k.1 k.3 h.2 k.2 (subst (λ (s : List (List ℕ)). AllZip (ItemIs C) s h.2) same.0 h.4) k.4 in
+      h.5 ∙ ap (λ (c : List (Result (Payload C.Value) DecodeError)). c ++ option_to_list (option_map Err h.1)) carried ∙ ap (λ (e : Option DecodeError). k.2 ++ option_to_list (option_map Err e)) same.1 ∙ sym k.5

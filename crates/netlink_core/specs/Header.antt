@@ -6,23 +6,20 @@ use Rattle.netlink_core.specs.declared.fault.DecodeError.TheVariants.{EnvelopeCu
 use Rattle.netlink_core.specs.declared.header.NetlinkHeader.{NetlinkHeader}
 
 -- each field is within its type
-pub record IsTypedHeader (h : NetlinkHeader) : Type 0 where
-  pub length : h.length < 2 ^ 32
-  pub message_type : h.message_type < 2 ^ 16
-  pub flags : h.flags < 2 ^ 16
-  pub sequence_number : h.sequence_number < 2 ^ 32
-  pub port_number : h.port_number < 2 ^ 32
+abbrev pub IsTypedHeader : NetlinkHeader → Type 0
+IsTypedHeader h = (h.length < 2 ^ 32) × (h.message_type < 2 ^ 16) × (h.flags < 2 ^ 16)
+    × (h.sequence_number < 2 ^ 32) × (h.port_number < 2 ^ 32)
 
 -- the five fields in 4, 2, 2, 4 and 4 bytes
 abbrev pub header_bytes : NetlinkHeader → List ℕ
-header_bytes h = little_bytes 4 h.length ++ little_bytes 2 h.message_type ++ little_bytes 2 h.flags ++ little_bytes 4 h.sequence_number ++ little_bytes 4 h.port_number
+header_bytes h =
+    little_bytes 4 h.length ++ little_bytes 2 h.message_type ++ little_bytes 2 h.flags
+    ++ little_bytes 4 h.sequence_number ++ little_bytes 4 h.port_number
 
 -- The header stands at the front, its length counts itself and the payload, and what follows is unread.
-pub record IsFramed (bytes : List ℕ) (h : NetlinkHeader) (payload : List ℕ) : Type 0 where
-  pub rest : List ℕ
-  pub parts : bytes ≡ header_bytes h ++ (payload ++ rest)
-  pub typed : IsTypedHeader h
-  pub size : h.length ≡ 16 + length payload
+abbrev pub IsFramed : List ℕ → NetlinkHeader → List ℕ → Type 0
+IsFramed bytes h payload = (rest : List ℕ) × (bytes ≡ header_bytes h ++ (payload ++ rest))
+    × IsTypedHeader h × (h.length ≡ 16 + length payload)
 
 -- the bytes begin with the header and the payload that its length counts
 abbrev pub HasHeader : List ℕ → NetlinkHeader → Type 0

@@ -17,10 +17,7 @@ module _ (C : Codec ℕ) where
   ItemIs message (Err e) = (envelope_codec C).refuses message tt e
 
   -- the messages of a datagram in order, and last the fault of what stands behind them, if there is one
-  pub record ItemsAre (bytes : List ℕ) (items : List (Result (Payload C.Value) DecodeError)) : Type 0 where
-    pub messages : List (List ℕ)
-    pub end : Option DecodeError
-    pub carried : List (Result (Payload C.Value) DecodeError)
-    pub cut : CutIntoMessages bytes messages end
-    pub each : AllZip ItemIs messages carried
-    pub parts : items ≡ carried ++ option_to_list (option_map Err end)
+  abbrev pub ItemsAre : List ℕ → List (Result (Payload C.Value) DecodeError) → Type 0
+  ItemsAre bytes items = (messages : List (List ℕ)) × (end : Option DecodeError)
+      × (carried : List (Result (Payload C.Value) DecodeError)) × CutIntoMessages bytes messages end
+      × AllZip ItemIs messages carried × (items ≡ carried ++ option_to_list (option_map Err end))

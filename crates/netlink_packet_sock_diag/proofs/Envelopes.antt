@@ -55,7 +55,7 @@ pub destroy_is_refused : (h : NetlinkHeader) (m : Message) → IsTypedHeader h �
     → (envelope_codec message_codec).refuses ((envelope_codec message_codec).written (record { header = finalized message_codec.written (λ _. 21) (record { header = h; payload = inner m }); payload = inner m })) tt (UnknownMessageType 21)
 destroy_is_refused h m typed fits =
     let own = finalized message_codec.written (λ _. 21) (record { header = h; payload = inner m }) in
-    let own-typed : IsTypedHeader own = record { length = let whole = fits.1 in omega arith; message_type = omega arith; flags = typed.flags; sequence_number = typed.sequence_number; port_number = typed.port_number } in
+    let own-typed : IsTypedHeader own = (let whole = fits.1 in omega arith, omega arith, typed.2, typed.3, typed.4) in
     inr (own, message_codec.written m, finalized_frame message_codec (λ _. 21) (record { header = own; payload = inner m }) own-typed refl, inr (omega arith), inl (type_told (message_codec.written m) 21 (length-message_bytes m) (λ is. omega (arith, is))))
 
 -- and so it is with more bytes behind it
@@ -63,8 +63,8 @@ destroy_before_is_refused : (h : NetlinkHeader) (m : Message) (rest : List ℕ) 
     → (envelope_codec message_codec).refuses ((envelope_codec message_codec).written (record { header = finalized message_codec.written (λ _. 21) (record { header = h; payload = inner m }); payload = inner m }) ++ rest) tt (UnknownMessageType 21)
 destroy_before_is_refused h m rest typed fits =
     let own = finalized message_codec.written (λ _. 21) (record { header = h; payload = inner m }) in
-    let own-typed : IsTypedHeader own = record { length = let whole = fits.1 in omega arith; message_type = omega arith; flags = typed.flags; sequence_number = typed.sequence_number; port_number = typed.port_number } in
-    inr (own, message_codec.written m, record { rest = rest; parts = append_assoc (header_bytes own) (message_codec.written m) rest; typed = own-typed; size = refl }, inr (omega arith), inl (type_told (message_codec.written m) 21 (length-message_bytes m) (λ is. omega (arith, is))))
+    let own-typed : IsTypedHeader own = (let whole = fits.1 in omega arith, omega arith, typed.2, typed.3, typed.4) in
+    inr (own, message_codec.written m, (rest, append_assoc (header_bytes own) (message_codec.written m) rest, own-typed, refl), inr (omega arith), inl (type_told (message_codec.written m) 21 (length-message_bytes m) (λ is. omega (arith, is))))
 
 -- a message in hand that carries the request, its header finalized
 pub destroy_in_hand_is_refused : (message : NetlinkMessage SockDiagDestroy) (destroy : SockDiagDestroy) (rest : List ℕ) → message.payload ≡ InnerMessage destroy

@@ -39,7 +39,7 @@ rows_moved ipv6 ipv4 = refl
 rows_moved ipv6 ipv6 = refl
 
 pub values-inside : (kinds : Kinds) (left : List ℕ) → values_of (socket_id_rows 0 kinds) (drop 8 left) ≡ values_of (socket_id_rows 8 kinds) left
-values-inside kinds left = sym (values-moved 8 (socket_id_rows 0 kinds) left) ∙ sym (ap (λ (rows : List Row). values_of rows left) (rows_moved kinds.source kinds.destination))
+values-inside kinds left = sym (values-moved 8 (socket_id_rows 0 kinds) left) ∙ sym (ap (λ (rows : List Row). values_of rows left) (rows_moved kinds.0 kinds.1))
 
 pub identity_read : (kinds : Kinds) (left : List ℕ) → socket_id_of kinds (drop 4 (values_of (inet_request_rows kinds) left)) ≡ socket_id_of kinds (values_of (socket_id_rows 0 kinds) (drop 8 left))
 identity_read kinds left = ap (socket_id_of kinds) (sym (values-inside kinds left))
@@ -68,16 +68,16 @@ request_length value = let identity = length-bytes value.socket_id in ap length 
 pub inet_request_sound : IsSound inet_request
 unfolding inet_request
 inet_request_sound = record {
-  tables = λ param kinds left e. tables_are kinds.source kinds.destination;
+  tables = λ param kinds left e. tables_are kinds.0 kinds.1;
   own_table = λ value. tables_are (kind_of value.socket_id.source_address) (kind_of value.socket_id.destination_address);
   enough = λ value. omega arith;
   room = λ param kinds left enough e. enough;
   long = request_length;
   named = λ param left e. kinds_named (slice_index left 0) e;
-  kept = λ param kinds left h e. ap (with_values (slice_index left 0 ∷ slice_index left 1 ∷ slice_index left 2 ∷ slice_index (values_of (inet_request_rows kinds) left) 3 ∷ [])) (kept_is 8 kinds.source kinds.destination left);
-  tagged = λ param kinds left e. kinds_are kinds.source kinds.destination (drop 4 (values_of (inet_request_rows kinds) left));
-  shaped = λ param kinds left h e. shaped_is 8 kinds.source kinds.destination left;
-  owned = λ param kinds left h e. e ∙ ap told_kinds (sym (kinds_are kinds.source kinds.destination (drop 4 (values_of (inet_request_rows kinds) left))));
+  kept = λ param kinds left h e. ap (with_values (slice_index left 0 ∷ slice_index left 1 ∷ slice_index left 2 ∷ slice_index (values_of (inet_request_rows kinds) left) 3 ∷ [])) (kept_is 8 kinds.0 kinds.1 left);
+  tagged = λ param kinds left e. kinds_are kinds.0 kinds.1 (drop 4 (values_of (inet_request_rows kinds) left));
+  shaped = λ param kinds left h e. shaped_is 8 kinds.0 kinds.1 left;
+  owned = λ param kinds left h e. e ∙ ap told_kinds (sym (kinds_are kinds.0 kinds.1 (drop 4 (values_of (inet_request_rows kinds) left))));
   back = λ param value t n. ap (with_identity value) (ap (socket_id_of (kinds_of value.socket_id)) (sym (append-nil (socket_id_values value.socket_id))) ∙ socket_id_back value.socket_id [] t.shaped);
   told = λ param value t n. n.own;
 }

@@ -6,7 +6,6 @@ use Rattle.sock_diag_records.specs.declared.inet.response.Timer.TheVariants.{Ret
 use Rattle.sock_diag_records.specs.declared.inet.response.InetResponseHeader.{InetResponseHeader}
 use Rattle.sock_diag_records.specs.Kinds.{Kinds}
 use Rattle.sock_diag_records.specs.SocketIdInverse.{count_of, socket_id_of}
-use Rattle.sock_diag_records.specs.Timer.{Tag}
 
 -- so many milliseconds
 abbrev pub duration : ℕ → Duration
@@ -30,19 +29,19 @@ timer_of class count expires =
 
 -- how many values a socket's identity has
 abbrev pub socket_id_count : Kinds → ℕ
-socket_id_count kinds = 2 + count_of kinds.source + count_of kinds.destination + 9
+socket_id_count kinds = 2 + count_of kinds.0 + count_of kinds.1 + 9
 
 -- the header with these values
-abbrev pub header_of : Tag → List ℕ → InetResponseHeader
+abbrev pub header_of : Kinds × ℕ → List ℕ → InetResponseHeader
 header_of tag values =
-    let socket = drop (retransmits_count tag.class) (drop 2 values) in
-    let behind = drop (socket_id_count tag.kinds) socket in
-    let last = drop (expires_count tag.class) behind in
+    let socket = drop (retransmits_count tag.1) (drop 2 values) in
+    let behind = drop (socket_id_count tag.0) socket in
+    let last = drop (expires_count tag.1) behind in
     record {
       family = slice_index values 0;
       state = slice_index values 1;
-      timer = timer_of tag.class (slice_index values 2) (slice_index behind 0);
-      socket_id = socket_id_of tag.kinds socket;
+      timer = timer_of tag.1 (slice_index values 2) (slice_index behind 0);
+      socket_id = socket_id_of tag.0 socket;
       recv_queue = slice_index last 0;
       send_queue = slice_index last 1;
       uid = slice_index last 2;

@@ -1,5 +1,6 @@
 -- The format of the header of a reply is sound.
 use Rattle.std.proofs.Common.{◌≡◌, inl, inr, ℕ, zero, suc, ◌*◌, ◌/◌, ◌%◌, ◌^◌, ◌<◌, Bool, if◌then◌else◌, le-ltb, lt-ltb, List, [], ◌∷◌, ◌++◌, length, drop, replicate, slice_index, Option, Some, None, Result, Ok, Err, refl, sym, ap, ap₂, ◌∙◌, subst, IsTrue, arith}
+use Rattle.std.specs.Prelude.{IfSome}
 use Rattle.std.proofs.lemmas.Bool.{cases_lt}
 use Rattle.std.proofs.lemmas.List.{drop_at, length-append}
 use Rattle.std.specs.Duration.{as_nanos}
@@ -27,9 +28,17 @@ use Rattle.sock_diag_records.specs.Kinds.{Kind, ipv4, ipv6, Kinds, kinds_of, kin
 use Rattle.sock_diag_records.specs.SocketId as identity
 use Rattle.sock_diag_records.specs.InetResponse.{header_rows, header_values, inet_response_header}
 use Rattle.sock_diag_records.specs.InetResponseInverse.{duration, retransmits_count, expires_count, timer_of, header_of, socket_id_count}
-use Rattle.sock_diag_records.specs.Timer.{milliseconds, IsWholeMilliseconds, class_of_byte, class_of, retransmits_row, expires_row, retransmits_values, expires_values, IsWholeTimer, Tag}
+use Rattle.sock_diag_records.specs.Timer.{milliseconds, IsWholeMilliseconds, class_of_byte, class_of, retransmits_row, expires_row, retransmits_values, expires_values, told_of}
 use Rattle.sock_diag_records.specs.TablesInARowLaws.{is_table-append, values_of-append}
 use Rattle.sock_diag_records.specs.SocketIdLaws.{pair, kept_is, shaped_is, read_before, length-values, socket_id_back, socket_id_next, kinds_are, kinds_named, length-socket_id, length-bytes, fit_inside}
+
+-- by which rows a header is read and written: the kinds of the addresses, and the class of the timer
+abbrev Tag : Type 0
+Tag = Kinds × ℕ
+
+-- a timer's time is whole milliseconds
+abbrev IsWholeTimer : Option Timer → Type 0
+IsWholeTimer timer = IfSome (told_of timer).2 IsWholeMilliseconds
 
 -- ---- durations
 
@@ -92,10 +101,10 @@ identity_is_table ipv4 ipv6 = refl
 identity_is_table ipv6 ipv4 = refl
 identity_is_table ipv6 ipv6 = refl
 
-tables_are : (t : Tag) → t.class < 5 → IsTrue (is_table 0 (header_rows t) 72)
+tables_are : (t : Tag) → t.1 < 5 → IsTrue (is_table 0 (header_rows t) 72)
 tables_are t below =
-    is_table-append 0 (before t.class) 4 (socket_id_rows 4 t.kinds ++ behind t.class) 72 (of_class t.class below).0
-    (is_table-append 4 (socket_id_rows 4 t.kinds) 52 (behind t.class) 72 (identity_is_table t.kinds.source t.kinds.destination) (of_class t.class below).1)
+    is_table-append 0 (before t.1) 4 (socket_id_rows 4 t.0 ++ behind t.1) 72 (of_class t.1 below).0
+    (is_table-append 4 (socket_id_rows 4 t.0) 52 (behind t.1) 72 (identity_is_table t.0.0 t.0.1) (of_class t.1 below).1)
 
 -- ---- what is read
 
@@ -133,17 +142,17 @@ IsRead rows left class = (drop (retransmits_count class) (values_of (retransmits
 read_of_class : (class : ℕ) (rows : List Row) (left : List ℕ) → class < 5 → IsRead rows left class
 read_of_class class rows left below = each (IsRead rows left) (refl, refl, refl, refl) (refl, refl, refl, refl) (refl, refl, refl, refl) (refl, refl, refl, refl) (refl, refl, refl, refl) class below
 
-pub header_is : (t : Tag) (left : List ℕ) → t.class < 5 → header_of t (values_of (header_rows t) left) ≡ header_read t.class (slice_index left 0) (slice_index left 1) (slice_index left 3) (socket_id_of t.kinds (values_of (socket_id_rows 4 t.kinds) left)) (values_of (numbers 52 4 little_endian 5) left)
+pub header_is : (t : Tag) (left : List ℕ) → t.1 < 5 → header_of t (values_of (header_rows t) left) ≡ header_read t.1 (slice_index left 0) (slice_index left 1) (slice_index left 3) (socket_id_of t.0 (values_of (socket_id_rows 4 t.0) left)) (values_of (numbers 52 4 little_endian 5) left)
 header_is t left below =
-    let rest = socket_id_rows 4 t.kinds ++ behind t.class in
-    let own = values_of (socket_id_rows 4 t.kinds) left in
-    let last = values_of (behind t.class) left in
-    let front = slice_index (values_of (retransmits_row t.class ∷ (socket_id_rows 4 t.kinds ++ behind t.class)) left) 0 in
-    let socket = (read_of_class t.class rest left below).0 ∙ values_of-append (socket_id_rows 4 t.kinds) (behind t.class) left in
-    let others = ap (drop (socket_id_count t.kinds)) socket ∙ drop_at own last (socket_id_count t.kinds) (length-values 4 t.kinds.source t.kinds.destination left) in
-    ap (header_with (slice_index left 0) (slice_index left 1)) (ap (λ (values : List ℕ). timer_of t.class front (slice_index values 0)) others ∙ (read_of_class t.class rest left below).1)
-    ⊛ (ap (socket_id_of t.kinds) socket ∙ read_before 4 t.kinds.source t.kinds.destination left last)
-    ⊛ (ap (drop (expires_count t.class)) others ∙ (read_of_class t.class rest left below).2)
+    let rest = socket_id_rows 4 t.0 ++ behind t.1 in
+    let own = values_of (socket_id_rows 4 t.0) left in
+    let last = values_of (behind t.1) left in
+    let front = slice_index (values_of (retransmits_row t.1 ∷ (socket_id_rows 4 t.0 ++ behind t.1)) left) 0 in
+    let socket = (read_of_class t.1 rest left below).0 ∙ values_of-append (socket_id_rows 4 t.0) (behind t.1) left in
+    let others = ap (drop (socket_id_count t.0)) socket ∙ drop_at own last (socket_id_count t.0) (length-values 4 t.0.0 t.0.1 left) in
+    ap (header_with (slice_index left 0) (slice_index left 1)) (ap (λ (values : List ℕ). timer_of t.1 front (slice_index values 0)) others ∙ (read_of_class t.1 rest left below).1)
+    ⊛ (ap (socket_id_of t.0) socket ∙ read_before 4 t.0.0 t.0.1 left last)
+    ⊛ (ap (drop (expires_count t.1)) others ∙ (read_of_class t.1 rest left below).2)
 
 expires_is : (left : List ℕ) → IsBytes left → milliseconds (duration (expires_at left)) ∷ values_of (numbers 56 4 little_endian 4) left ≡ values_of (numbers 52 4 little_endian 5) left
 expires_is left h = ap (λ (expires : ℕ). expires ∷ values_of (numbers 56 4 little_endian 4) left) (milliseconds-duration (expires_at left) (expires-lt left h))
@@ -158,15 +167,15 @@ expires_kept class left below h = each (IsKept left) refl (expires_is left h) (e
 abbrev with_two : List ℕ → List ℕ → List ℕ → List ℕ → List ℕ
 with_two left count socket last = slice_index left 0 ∷ slice_index left 1 ∷ (count ++ (socket ++ last))
 
-values_are : (t : Tag) (left : List ℕ) → values_of (header_rows t) left ≡ with_two left (values_of (retransmits_row t.class ∷ []) left) (values_of (socket_id_rows 4 t.kinds) left) (values_of (behind t.class) left)
+values_are : (t : Tag) (left : List ℕ) → values_of (header_rows t) left ≡ with_two left (values_of (retransmits_row t.1 ∷ []) left) (values_of (socket_id_rows 4 t.0) left) (values_of (behind t.1) left)
 values_are t left = ap (λ (values : List ℕ). slice_index left 0 ∷ slice_index left 1 ∷ values)
-    (values_of-append (retransmits_row t.class ∷ []) (socket_id_rows 4 t.kinds ++ behind t.class) left
-    ∙ ap (λ (values : List ℕ). values_of (retransmits_row t.class ∷ []) left ++ values) (values_of-append (socket_id_rows 4 t.kinds) (behind t.class) left))
+    (values_of-append (retransmits_row t.1 ∷ []) (socket_id_rows 4 t.0 ++ behind t.1) left
+    ∙ ap (λ (values : List ℕ). values_of (retransmits_row t.1 ∷ []) left ++ values) (values_of-append (socket_id_rows 4 t.0) (behind t.1) left))
 
-kept_are : (t : Tag) (left : List ℕ) → t.class < 5 → IsBytes left → header_values (header_of t (values_of (header_rows t) left)) ≡ values_of (header_rows t) left
+kept_are : (t : Tag) (left : List ℕ) → t.1 < 5 → IsBytes left → header_values (header_of t (values_of (header_rows t) left)) ≡ values_of (header_rows t) left
 kept_are t left below h =
     ap header_values (header_is t left below)
-    ∙ (ap (with_two left) (read_of_class t.class [] left below).3 ⊛ kept_is 4 t.kinds.source t.kinds.destination left ⊛ expires_kept t.class left below h)
+    ∙ (ap (with_two left) (read_of_class t.1 [] left below).3 ⊛ kept_is 4 t.0.0 t.0.1 left ⊛ expires_kept t.1 left below h)
     ∙ sym (values_are t left)
 
 class_is : (count expires class : ℕ) → class < 5 → class_of (timer_of class count expires) ≡ class
@@ -175,32 +184,32 @@ class_is count expires = each (λ class. class_of (timer_of class count expires)
 whole_is : (count expires : ℕ) → expires < 2 ^ 32 → (class : ℕ) → class < 5 → IsWholeTimer (timer_of class count expires)
 whole_is count expires h = each (λ class. IsWholeTimer (timer_of class count expires)) tt (expires, h, omega arith) (expires, h, omega arith) tt (expires, h, omega arith)
 
-whole_read : (t : Tag) (left : List ℕ) → t.class < 5 → IsBytes left → IsWholeTimer (header_of t (values_of (header_rows t) left)).timer
-whole_read t left below h = subst (λ (value : InetResponseHeader). IsWholeTimer value.timer) (sym (header_is t left below)) (whole_is (slice_index left 3) (expires_at left) (expires-lt left h) t.class below)
+whole_read : (t : Tag) (left : List ℕ) → t.1 < 5 → IsBytes left → IsWholeTimer (header_of t (values_of (header_rows t) left)).timer
+whole_read t left below h = subst (λ (value : InetResponseHeader). IsWholeTimer value.timer) (sym (header_is t left below)) (whole_is (slice_index left 3) (expires_at left) (expires-lt left h) t.1 below)
 
-shaped_read : (t : Tag) (left : List ℕ) → t.class < 5 → identity.IsShaped (header_of t (values_of (header_rows t) left)).socket_id
-shaped_read t left below = subst (λ (value : InetResponseHeader). identity.IsShaped value.socket_id) (sym (header_is t left below)) (shaped_is 4 t.kinds.source t.kinds.destination left)
+shaped_read : (t : Tag) (left : List ℕ) → t.1 < 5 → identity.IsShaped (header_of t (values_of (header_rows t) left)).socket_id
+shaped_read t left below = subst (λ (value : InetResponseHeader). identity.IsShaped value.socket_id) (sym (header_is t left below)) (shaped_is 4 t.0.0 t.0.1 left)
 
 -- by which rows a header is written
 abbrev tag_of : InetResponseHeader → Tag
-tag_of value = record { kinds = kinds_of value.socket_id; class = class_of value.timer }
+tag_of value = (kinds_of value.socket_id, class_of value.timer)
 
 abbrev the_tag : Kinds → ℕ → Tag
-the_tag kinds class = record { kinds = kinds; class = class }
+the_tag kinds class = (kinds, class)
 
 -- the class beside what the family tells, or the family's fault
 abbrev pub with_class : ℕ → Result Kinds DecodeError → Result Tag DecodeError
 with_class class told = said_as (λ kinds. the_tag kinds class) told
 
 -- what the tag tells
-told_parts : (class : ℕ) (kinds : Result Kinds DecodeError) (told : Tag) → with_class class kinds ≡ Ok told → (kinds ≡ Ok told.kinds) × (class ≡ told.class)
+told_parts : (class : ℕ) (kinds : Result Kinds DecodeError) (told : Tag) → with_class class kinds ≡ Ok told → (kinds ≡ Ok told.0) × (class ≡ told.1)
 told_parts class (Ok kinds) told e =
-    let same : record { kinds = kinds; class = class } ≡ told = cc in
-    (ap (λ (t : Tag). let r : Result Kinds DecodeError = Ok t.kinds in r) same, ap (λ (t : Tag). t.class) same)
+    let same : (kinds, class) ≡ told = cc in
+    (ap (λ (t : Tag). let r : Result Kinds DecodeError = Ok t.0 in r) same, ap (λ (t : Tag). t.1) same)
 told_parts class (Err fault) told e = cc
 
 -- its class is one
-told_lt : (at_two : ℕ) (kinds : Result Kinds DecodeError) (told : Tag) → with_class (class_of_byte at_two) kinds ≡ Ok told → told.class < 5
+told_lt : (at_two : ℕ) (kinds : Result Kinds DecodeError) (told : Tag) → with_class (class_of_byte at_two) kinds ≡ Ok told → told.1 < 5
 told_lt at_two kinds told e = subst (λ (class : ℕ). class < 5) (told_parts (class_of_byte at_two) kinds told e).1 (class_lt at_two)
 
 class_told : (timer : Option Timer) → class_of_byte (class_of timer) ≡ class_of timer
@@ -242,11 +251,11 @@ header_back value shaped whole =
     ⊛ (ap (drop (expires_count (class_of value.timer))) behind_is ∙ drop_expires value.timer last)
 
 -- a header has the tag under which it was read
-tag_read : (t : Tag) (values : List ℕ) → t.class < 5 → tag_of (header_of t values) ≡ t
+tag_read : (t : Tag) (values : List ℕ) → t.1 < 5 → tag_of (header_of t values) ≡ t
 tag_read t values below =
-    let socket = drop (retransmits_count t.class) (drop 2 values) in
-    ap the_tag (kinds_are t.kinds.source t.kinds.destination socket)
-    ⊛ class_is (slice_index values 2) (slice_index (drop (socket_id_count t.kinds) socket) 0) t.class below
+    let socket = drop (retransmits_count t.1) (drop 2 values) in
+    ap the_tag (kinds_are t.0.0 t.0.1 socket)
+    ⊛ class_is (slice_index values 2) (slice_index (drop (socket_id_count t.0) socket) 0) t.1 below
 
 class_named : (class : ℕ) (kinds : Result Kinds DecodeError) → (kinds ≡ Err Memory → ⊥) → with_class class kinds ≡ Err Memory → ⊥
 class_named class (Ok kinds) named e = cc
@@ -292,7 +301,7 @@ header_sound = record {
   owned = λ param t left h e.
       let below = told_lt (slice_index left 2) (kinds_of_family (slice_index left 0)) t e in
       let parts = told_parts (class_of_byte (slice_index left 2)) (kinds_of_family (slice_index left 0)) t e in
-      (parts.0 ∙ ap (λ (u : Tag). let r : Result Kinds DecodeError = Ok u.kinds in r) (sym (tag_read t (values_of (header_rows t) left) below)), whole_read t left below h);
+      (parts.0 ∙ ap (λ (u : Tag). let r : Result Kinds DecodeError = Ok u.0 in r) (sym (tag_read t (values_of (header_rows t) left) below)), whole_read t left below h);
   back = λ param value t n. header_back value t.shaped n.own.1;
   told = λ param value t n. ap with_class (class_told value.timer) ⊛ n.own.0;
 }

@@ -11,17 +11,14 @@ pub data Kind : Type 0 where
   ipv4 ipv6 : Kind
 
 -- the kinds of the source's and the destination's address
-pub record Kinds : Type 0 where
-  pub source : Kind
-  pub destination : Kind
-
--- both addresses of one kind
-abbrev pub both : Kind → Kinds
-both kind = record { source = kind; destination = kind }
+abbrev pub Kinds : Type 0
+Kinds = Kind × Kind
 
 -- what a family tells: AF_INET is 2 and AF_INET6 is 10
 abbrev pub kinds_of_family : ℕ → Result Kinds DecodeError
-kinds_of_family family = if family == 2 then Ok (both ipv4) else if family == 10 then Ok (both ipv6) else Err (UnsupportedFamily family)
+kinds_of_family family =
+    if family == 2 then Ok (ipv4, ipv4)
+    else if family == 10 then Ok (ipv6, ipv6) else Err (UnsupportedFamily family)
 
 -- of which kind an address is
 abbrev pub kind_of : IpAddr → Kind
@@ -30,4 +27,4 @@ kind_of (V6 ip) = ipv6
 
 -- of which kinds the addresses of an identity are
 abbrev pub kinds_of : SocketId → Kinds
-kinds_of value = record { source = kind_of value.source_address; destination = kind_of value.destination_address }
+kinds_of value = (kind_of value.source_address, kind_of value.destination_address)

@@ -33,8 +33,8 @@ address_bytes (V6 ip) = flat_map (big_bytes 2) (first 8 ip.segments)
 abbrev pub socket_id_rows : ℕ → Kinds → List Row
 socket_id_rows place kinds =
     numbers place 2 big_endian 2
-    ++ (address_rows (place + 4) kinds.source
-    ++ (address_rows (place + 20) kinds.destination
+    ++ (address_rows (place + 4) kinds.0
+    ++ (address_rows (place + 20) kinds.1
     ++ (number (place + 36) 4 little_endian ∷ bytes_at (place + 40) 8)))
 
 -- the values in the rows

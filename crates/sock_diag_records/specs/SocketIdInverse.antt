@@ -30,5 +30,5 @@ socket_id_with source_port destination_port source destination rest = record {
 abbrev pub socket_id_of : Kinds → List ℕ → SocketId
 socket_id_of kinds values =
     let addresses = drop 2 values in
-    let destination = drop (count_of kinds.source) addresses in
-    socket_id_with (slice_index values 0) (slice_index values 1) (address_of kinds.source addresses) (address_of kinds.destination destination) (drop (count_of kinds.destination) destination)
+    let destination = drop (count_of kinds.0) addresses in
+    socket_id_with (slice_index values 0) (slice_index values 1) (address_of kinds.0 addresses) (address_of kinds.1 destination) (drop (count_of kinds.1) destination)

@@ -52,7 +52,7 @@ length-socket_id value =
 -- ---- for each of the four pairs of kinds
 
 abbrev pub pair : Kind → Kind → Kinds
-pair s d = record { source = s; destination = d }
+pair s d = (s, d)
 
 tables_are : (s d : Kind) → is_table 0 (socket_id_rows 0 (pair s d)) 48 ≡ true
 tables_are ipv4 ipv4 = refl
@@ -155,21 +155,21 @@ not_memory false true one other family h = cc
 not_memory false false one other family h = cc
 
 pub kinds_named : (family : ℕ) → kinds_of_family family ≡ Err Memory → ⊥
-kinds_named family h = not_memory (family == 2) (family == 10) (both ipv4) (both ipv6) family h
+kinds_named family h = not_memory (family == 2) (family == 10) (ipv4, ipv4) (ipv6, ipv6) family h
 
 pub socket_id_sound : IsSound socket_id
 unfolding socket_id
 socket_id_sound = record {
-  tables = λ family kinds left e. tables_are kinds.source kinds.destination;
+  tables = λ family kinds left e. tables_are kinds.0 kinds.1;
   own_table = λ value. tables_are (kind_of value.source_address) (kind_of value.destination_address);
   enough = λ value. omega arith;
   room = λ family kinds left enough e. enough;
   long = length-bytes;
   named = λ family left e. kinds_named family e;
-  kept = λ family kinds left h e. kept_is 0 kinds.source kinds.destination left;
-  tagged = λ family kinds left e. kinds_are kinds.source kinds.destination (values_of (socket_id_rows 0 kinds) left);
-  shaped = λ family kinds left h e. shaped_is 0 kinds.source kinds.destination left;
-  owned = λ family kinds left h e. e ∙ ap (λ (k : Kinds). let r : Result Kinds DecodeError = Ok k in r) (sym (kinds_are kinds.source kinds.destination (values_of (socket_id_rows 0 kinds) left)));
+  kept = λ family kinds left h e. kept_is 0 kinds.0 kinds.1 left;
+  tagged = λ family kinds left e. kinds_are kinds.0 kinds.1 (values_of (socket_id_rows 0 kinds) left);
+  shaped = λ family kinds left h e. shaped_is 0 kinds.0 kinds.1 left;
+  owned = λ family kinds left h e. e ∙ ap (λ (k : Kinds). let r : Result Kinds DecodeError = Ok k in r) (sym (kinds_are kinds.0 kinds.1 (values_of (socket_id_rows 0 kinds) left)));
   back = λ family value t n. ap (socket_id_of (kinds_of value)) (sym (append-nil (socket_id_values value))) ∙ socket_id_back value [] t.shaped;
   told = λ family value t n. n.own;
 }
@@ -188,7 +188,7 @@ rows_moved ipv6 ipv6 = refl
 
 -- what is read four places on
 pub values-inside : (kinds : Kinds) (left : List ℕ) → values_of (socket_id_rows 0 kinds) (drop 4 left) ≡ values_of (socket_id_rows 4 kinds) left
-values-inside kinds left = sym (values-moved 4 (socket_id_rows 0 kinds) left) ∙ sym (ap (λ (rows : List Row). values_of rows left) (rows_moved kinds.source kinds.destination))
+values-inside kinds left = sym (values-moved 4 (socket_id_rows 0 kinds) left) ∙ sym (ap (λ (rows : List Row). values_of rows left) (rows_moved kinds.0 kinds.1))
 
 -- ---- an identity in hand is typed
 

@@ -1,12 +1,11 @@
 -- The timer of an IPv4 or IPv6 socket. Its class is the kernel's `idiag_timer`, the byte at 2: 0 no timer, 1 retransmit,
 -- 2 keep-alive, 3 time-wait, 4 probe. With it two rows of its numbers are read or not.
-use Rattle.std.specs.Prelude.{◌≡◌, ℕ, ◌*◌, ◌/◌, ◌%◌, ◌^◌, ◌<◌, ◌==◌, ◌||◌, nat_lt, if◌then◌else◌, List, [], ◌∷◌, replicate, Option, Some, None, IfSome, option_map, unwrap_or}
+use Rattle.std.specs.Prelude.{◌≡◌, ℕ, ◌*◌, ◌/◌, ◌%◌, ◌^◌, ◌<◌, ◌==◌, ◌||◌, nat_lt, if◌then◌else◌, List, [], ◌∷◌, replicate, Option, Some, None, option_map, unwrap_or}
 use Rattle.std.specs.Duration.{as_nanos}
 use Rattle.std.specs.declared.time.Duration.{Duration}
 use Rattle.netlink_core.specs.Table.{Row, byte, number, unread, little_endian}
 use Rattle.sock_diag_records.specs.declared.inet.response.Timer.{Timer}
 use Rattle.sock_diag_records.specs.declared.inet.response.Timer.TheVariants.{Retransmit, KeepAlive, TimeWait, Probe}
-use Rattle.sock_diag_records.specs.Kinds.{Kinds}
 
 -- the whole milliseconds of a duration, in 32 bits
 abbrev pub milliseconds : Duration → ℕ
@@ -47,12 +46,3 @@ retransmits_values timer = unwrap_or (option_map (λ count. count ∷ []) (told_
 -- what a timer keeps for the word at 52
 abbrev pub expires_values : Option Timer → List ℕ
 expires_values timer = unwrap_or (option_map (λ time. milliseconds time ∷ []) (told_of timer).2) []
-
--- a timer's time is whole milliseconds
-abbrev pub IsWholeTimer : Option Timer → Type 0
-IsWholeTimer timer = IfSome (told_of timer).2 IsWholeMilliseconds
-
--- what chooses the rows of a reply's header: the kinds of the addresses, and the class of the timer
-pub record Tag : Type 0 where
-  pub kinds : Kinds
-  pub class : ℕ

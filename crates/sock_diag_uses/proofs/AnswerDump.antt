@@ -34,7 +34,7 @@ pub record Carries (message : List ℕ) (item : Result (Payload Message) DecodeE
 pub one_item : (message : List ℕ) (item : Result (Payload Message) DecodeError) → Carries message item → ItemsAre message_codec message (item ∷ [])
 one_item message item c =
     let starts : StartsWithMessage message message [] = record { padding = []; parts = sym (append-nil message); whole = c.whole; filled = inl (no_fill message c.even) } in
-    record { messages = message ∷ []; end = None; carried = item ∷ []; cut = ([], starts, refl); each = (c.is, tt); parts = refl }
+    (message ∷ [], None, item ∷ [], ([], starts, refl), (c.is, tt), refl)
 
 -- and those of messages stand in a row
 pub items_of_all : ((front back : List ℕ) (messages : List (List ℕ)) (xs ys : List (Result (Payload Message) DecodeError)) → AreWholeMessages front messages
@@ -63,13 +63,7 @@ abbrev envelope_under : ℕ → Payload Message → Envelope Message
 envelope_under n payload = record { header = header_under n payload; payload = payload }
 
 typed_header : (n : ℕ) (payload : Payload Message) → n < 2 ^ 32 → 16 + length (payload_bytes message_codec.written payload) ≤ 4294967295 → payload_type (λ _. 20) payload < 2 ^ 16 → IsTypedHeader (header_under n payload)
-typed_header n carried small short kind = record {
-  length = omega arith;
-  message_type = kind;
-  flags = omega arith;
-  sequence_number = small;
-  port_number = omega arith;
-}
+typed_header n carried small short kind = (omega arith, kind, omega arith, small, omega arith)
 
 -- it is as long as its length word says
 whole_message : (n : ℕ) (payload : Payload Message) → 16 + length (payload_bytes message_codec.written payload) ≤ 4294967295 → IsMessageString (message_under n payload)
@@ -77,7 +71,7 @@ unfolding message_under
 whole_message n payload short =
     let size = 16 + length (payload_bytes message_codec.written payload) in
     let word : little_number 4 (message_under n payload) ≡ 16 + length (payload_bytes message_codec.written payload) = little_number-reads_back 4 (16 + length (payload_bytes message_codec.written payload)) [] (omega arith) in
-    record { low = omega arith; word = word ∙ omega arith }
+    (omega arith, word ∙ omega arith)
 
 -- and a multiple of four, where its payload is
 even_message : (n : ℕ) (payload : Payload Message) → length (payload_bytes message_codec.written payload) % 4 ≡ 0 → length (message_under n payload) % 4 ≡ 0
@@ -125,7 +119,7 @@ pub whole_dump : ((v : Envelope Message) → (envelope_codec message_codec).is_t
     → (request : List ℕ) (replies : List UnixReply) (datagram : List ℕ) → IsAnswer request replies datagram → AllByRecursion CanBeTold replies → IsWholeDump datagram replies
 whole_dump reads_back even in_a_row request replies datagram answer told =
     let n = answer.header.sequence_number in
-    let small = answer.framed.1.typed.sequence_number in
+    let small = answer.framed.1.2.3 in
     let ends = one_item (end_under n) (Ok (done_with (0 ∷ 0 ∷ 0 ∷ 0 ∷ []))) (carries_end reads_back n small) in
     let items = map (λ (r : UnixReply). Ok (inner (message_of unix_response r))) replies ++ (Ok (done_with (0 ∷ 0 ∷ 0 ∷ 0 ∷ [])) ∷ []) in
     let all = items_of_all in_a_row (reply_under n) (λ r. Ok (inner (message_of unix_response r))) (end_under n) (Ok (done_with (0 ∷ 0 ∷ 0 ∷ 0 ∷ [])) ∷ []) replies (carries_all reads_back even n small replies told) ends in

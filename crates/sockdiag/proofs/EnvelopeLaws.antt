@@ -42,13 +42,13 @@ equal_idle b c v w hb hc r s =
 same_shown : (b c : List ℕ) (v w : Envelope Message) → IsBytes b → IsBytes c → (envelope_codec message_codec).reads b tt v → (envelope_codec message_codec).reads c tt w
     → (envelope_codec message_codec).fits v → (envelope_codec message_codec).fits w → shown_envelope v ≡ shown_envelope w → v ≡ w
 same_shown b c v w hb hc (x, framed, r) (y, other, s) f g e =
-    let h = framed.typed in
-    let k = other.typed in
-    let lengths = word-same v.header.length w.header.length _ _ h.length k.length e in
-    let types = word-same v.header.message_type w.header.message_type _ _ (omega (arith, h.message_type)) (omega (arith, k.message_type)) lengths.1 in
-    let flags = word-same v.header.flags w.header.flags _ _ (omega (arith, h.flags)) (omega (arith, k.flags)) types.1 in
-    let sequences = word-same v.header.sequence_number w.header.sequence_number _ _ h.sequence_number k.sequence_number flags.1 in
-    let ports = word-same v.header.port_number w.header.port_number _ _ h.port_number k.port_number sequences.1 in
+    let h = framed.2 in
+    let k = other.2 in
+    let lengths = word-same v.header.length w.header.length _ _ h.0 k.0 e in
+    let types = word-same v.header.message_type w.header.message_type _ _ (omega (arith, h.1)) (omega (arith, k.1)) lengths.1 in
+    let flags = word-same v.header.flags w.header.flags _ _ (omega (arith, h.2)) (omega (arith, k.2)) types.1 in
+    let sequences = word-same v.header.sequence_number w.header.sequence_number _ _ h.3 k.3 flags.1 in
+    let ports = word-same v.header.port_number w.header.port_number _ _ h.4 k.4 sequences.1 in
     let hx = payload_typed b x v.header hb framed in
     let hy = payload_typed c y w.header hc other in
     let p = payload_written v.header.message_type x v.payload hx r in

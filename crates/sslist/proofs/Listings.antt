@@ -53,9 +53,9 @@ module _ (C : Codec ℕ)
   -- no bytes carry nothing
   no_more : (later : List (Result (Payload C.Value) DecodeError)) → ItemsAre C [] later → later ≡ []
   no_more later all =
-      let same = one_cut_into_messages [] all.messages [] all.end None all.cut refl in
-      let carried = none_carried all.carried (subst (λ (s : List (List ℕ)). AllZip (ItemIs C) s all.carried) same.0 all.each) in
-      all.parts ∙ ap (λ (c : List (Result (Payload C.Value) DecodeError)). c ++ option_to_list (option_map Err all.end)) carried ∙ ap (λ (e : Option DecodeError). option_to_list (option_map Err e)) same.1
+      let same = one_cut_into_messages [] all.0 [] all.1 None all.3 refl in
+      let carried = none_carried all.2 (subst (λ (s : List (List ℕ)). AllZip (ItemIs C) s all.2) same.0 all.4) in
+      all.5 ∙ ap (λ (c : List (Result (Payload C.Value) DecodeError)). c ++ option_to_list (option_map Err all.1)) carried ∙ ap (λ (e : Option DecodeError). option_to_list (option_map Err e)) same.1
 
   -- the walk goes on with the rest behind the item
   follows : (datagram rest next : List ℕ) (passed : List (Result (Payload C.Value) DecodeError)) (item : Result (Payload C.Value) DecodeError) → Following C datagram passed rest

@@ -3,7 +3,7 @@
 ghost use Rattle.std.proofs.Common.{rules};
 ghost use Rattle.std.specs.Prelude.{◌≡◌, suc, ◌<◌, ◌≤◌, ◌++◌, length, take, drop, slice_index, IfOk, IsOk, MatchOption, MatchResult, Ok, Err, true, refl};
 ghost use Rattle.sock_diag_attributes.specs.Name.{read_name, name_bytes, name_codec};
-ghost use Rattle.sock_diag_attributes.specs.NameLaws.{name_keeps_laws};
+ghost use Rattle.sock_diag_attributes.specs.NameLaws.{HasNoZero, name_keeps_laws};
 
 use netlink_core::{Coded, DecodeError, Emitable, Parseable, Readable, Wire, bytes_typed};
 use std::alloc::{AllocError, Global};

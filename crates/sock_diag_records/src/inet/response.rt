@@ -1,14 +1,15 @@
 //! The header of a reply about an IPv4 or IPv6 socket.
 
 ghost use Rattle.std.proofs.Common.{rules};
-ghost use Rattle.std.specs.Prelude.{[], ◌∷◌, ◌≡◌, ◌≢◌, slice_index, IfErr};
+ghost use Rattle.std.specs.Prelude.{ℕ, [], ◌∷◌, ◌≡◌, ◌≢◌, slice_index, IfErr};
 ghost use Rattle.netlink_core.specs.declared.fault.DecodeError.TheVariants.{Memory};
 ghost use Rattle.netlink_core.specs.Format.{read};
 ghost use Rattle.netlink_core.specs.Table.{Fit};
 ghost use Rattle.netlink_core.proofs.FormatLaws.{record_laws};
+ghost use Rattle.sock_diag_records.specs.Kinds.{Kinds};
 ghost use Rattle.sock_diag_records.specs.InetResponse.{inet_response_header};
 ghost use Rattle.sock_diag_records.specs.InetResponseInverse.{timer_of};
-ghost use Rattle.sock_diag_records.specs.Timer.{Tag, class_of_byte, class_of, milliseconds, retransmits_row, retransmits_values, expires_values};
+ghost use Rattle.sock_diag_records.specs.Timer.{class_of_byte, class_of, milliseconds, retransmits_row, retransmits_values, expires_values};
 ghost use Rattle.sock_diag_records.specs.InetResponseLaws.{header_sound, header_size};
 
 use super::SocketId;
@@ -71,7 +72,7 @@ impl Exact for Timer {
 impl Record for InetResponseHeader {
     type Told = ();
 
-    ghost Tag = { Tag };
+    ghost Tag = { Kinds × ℕ };
 
     ghost format = { inet_response_header };
 

@@ -8,7 +8,8 @@ use Rattle.sock_diag_records.specs.SocketId.{socket_id}
 use Rattle.sock_diag_records.specs.SocketIdInverse.{socket_id_of}
 use Rattle.sock_diag_records.specs.InetResponse.{inet_response_header}
 use Rattle.sock_diag_records.specs.InetResponseInverse.{timer_of}
-use Rattle.sock_diag_records.specs.Timer.{Tag, class_of_byte}
+use Rattle.sock_diag_records.specs.Kinds.{Kinds}
+use Rattle.sock_diag_records.specs.Timer.{class_of_byte}
 use Rattle.sock_diag_records.specs.InetResponseLaws.{class_lt, header_is, with_class}
 use Rattle.sock_diag_records.specs.SocketIdLaws.{values-inside}
 use Rattle.sock_diag_records.specs.declared.inet.response.Timer.{Timer}
@@ -38,7 +39,7 @@ returns c =
     let read : read_row socket_id (slice_index payload 0) (drop 4 payload) ≡ Ok c.in_ok-socket_id.socket_id = subst (λ (b : List ℕ). read_row socket_id (slice_index payload 0) b ≡ Ok c.in_ok-socket_id.socket_id) (take_rest payload 4) (sym c.in_ok-socket_id.ensures) in
     let h = accepted_row socket_id (slice_index payload 0) (drop 4 payload) c.in_ok-socket_id.socket_id read in
     let class = class_of_byte (slice_index payload 2) in
-    let tag : Tag = record { kinds = h.0; class = class } in
+    let tag : Kinds × ℕ = (h.0, class) in
     let timer = c.timer_from.ensures ∙ ap (λ (words : List ℕ). timer_of class (slice_index payload 3) (slice_index words 0)) c.words_at.ensures in
     (ap (found (slice_index payload 0) (slice_index payload 1)) timer ⊛ (h.2 ∙ ap (socket_id_of h.0) (values-inside h.0 payload)) ⊛ c.words_at.ensures)
     ∙ sym (ap ok (header_is tag payload (class_lt (slice_index payload 2))))
