@@ -30,11 +30,7 @@ pub struct LegacyMemInfo {
 pub type LegacyMemInfoBuffer = RecordBuffer<LegacyMemInfo, 16>;
 
 impl Exact for LegacyMemInfo {
-    ghost equal = { Prim.search rules };
-
-    ghost copied = { Prim.search rules };
-
-    ghost unfailing = { Prim.search rules };
+    ghost exact = { Prim.search rules };
 }
 
 impl Record for LegacyMemInfo {

@@ -30,11 +30,7 @@ pub struct MemInfo {
 pub type MemInfoBuffer = RecordBuffer<MemInfo, 36>;
 
 impl Exact for MemInfo {
-    ghost equal = { Prim.search rules };
-
-    ghost copied = { Prim.search rules };
-
-    ghost unfailing = { Prim.search rules };
+    ghost exact = { Prim.search rules };
 }
 
 impl Record for MemInfo {

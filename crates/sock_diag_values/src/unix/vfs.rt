@@ -25,11 +25,7 @@ pub struct Vfs {
 pub type VfsBuffer = RecordBuffer<Vfs, 8>;
 
 impl Exact for Vfs {
-    ghost equal = { Prim.search rules };
-
-    ghost copied = { Prim.search rules };
-
-    ghost unfailing = { Prim.search rules };
+    ghost exact = { Prim.search rules };
 }
 
 impl Record for Vfs {
