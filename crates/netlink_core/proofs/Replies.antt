@@ -100,7 +100,7 @@ module _ (R : Reply) (laws : ReplyLaws R) where
   reply_named_fault : (b : List ℕ) → (reply_codec R).refuses b tt Memory → ⊥
   reply_named_fault b h =
       elim h [
-        | inl refused ↦ laws.header.named b refused
+        | inl refused ↦ laws.header.named_fault b tt refused
         | inr later ↦ elim later.2.1.5 [
           | inl framing ↦ framing
           | inr refused ↦ family_named R.family laws.family refused.0 refused.2
@@ -110,7 +110,7 @@ module _ (R : Reply) (laws : ReplyLaws R) where
   -- two strings have equal values exactly where they are idle
   reply_same_value : (b c : List ℕ) (v w : ValueOf R) → IsBytes b → IsBytes c → (reply_codec R).reads b tt v → (reply_codec R).reads c tt w → ((v ≡ w) ↔ (reply_codec R).idle tt b c)
   reply_same_value b c v w b-typed c-typed h k =
-      let headers = laws.header.same_value b c v.header w.header b-typed c-typed h.0 k.0 in
+      let headers = laws.header.same_value b c tt v.header w.header b-typed c-typed h.0 k.0 in
       let left-typed = cut_typed (drop R.size b) h.1.0 (AreBytes-drop R.size b b-typed) h.1.1 in
       let right-typed = cut_typed (drop R.size c) k.1.0 (AreBytes-drop R.size c c-typed) k.1.1 in
       let lists = lists_same_value R.family laws.family h.1.0 k.1.0 v.nlas w.nlas left-typed right-typed h.1.2 k.1.2 in (
@@ -128,14 +128,14 @@ module _ (R : Reply) (laws : ReplyLaws R) where
   -- what is read is typed and in normal form
   reply_gives_normal : (b : List ℕ) (v : ValueOf R) → IsBytes b → (reply_codec R).reads b tt v → (reply_codec R).is_typed v × (reply_codec R).is_normal tt v
   reply_gives_normal b v typed h =
-      let header = laws.header.gives_normal b v.header typed h.0 in
+      let header = laws.header.reads_normal b tt v.header typed h.0 in
       let nlas = list_gives_normal R.family laws.family h.1.0 v.nlas (cut_typed (drop R.size b) h.1.0 (AreBytes-drop R.size b typed) h.1.1) h.1.2 in
       ((header.0, nlas.0), (header.1, nlas.1))
 
   -- a typed value is written as bytes
   reply_written_bytes : (v : ValueOf R) → (reply_codec R).is_typed v → IsBytes (reply_bytes R v)
   reply_written_bytes v typed =
-      IsBytes-append (R.header.bytes v.header) (flat_map written (map (attribute_said R.family) v.nlas)) (laws.header.bytes_typed v.header typed.0)
+      IsBytes-append (R.header.bytes v.header) (flat_map written (map (attribute_said R.family) v.nlas)) (laws.header.written_bytes v.header typed.0)
       (all_written_typed (map (attribute_said R.family) v.nlas) (list_writes_typed R.family laws.family v.nlas typed.1))
 
   -- a writable value in normal form reads back as itself

@@ -10,7 +10,9 @@ use Rattle.netlink_core.specs.declared.fault.DecodeError.TheVariants.{Memory}
 use Rattle.netlink_core.specs.Bytes.{IsBytes}
 use Rattle.netlink_core.specs.ByteLaws.{IsBytes-number}
 use Rattle.netlink_core.specs.Prefix.{Prefix}
-use Rattle.netlink_core.specs.ShownLaws.{PrefixLaws, KindLaws}
+use Rattle.netlink_core.specs.Codec.{KeepsLaws, prefix_codec}
+use Rattle.netlink_core.specs.FrontLaws.{value_or_reason}
+use Rattle.netlink_core.specs.ShownLaws.{KindLaws}
 use Rattle.netlink_core.specs.Rows.{exact_value, kind, memory_kind, number_kind}
 use Rattle.netlink_core.specs.Parse.{exact_number}
 use Rattle.netlink_core.specs.Table.{little_endian}
@@ -27,16 +29,19 @@ pub exact_laws : {A : Type 0} (reads : List ℕ → Result A DecodeError) (bytes
     → ((x : List ℕ) (u : A) → IsBytes x → reads x ≡ Ok u → (x ≡ bytes u) × is_typed u × is_normal u)
     → ((u : A) → is_typed u → IsBytes (bytes u))
     → ((u : A) → is_typed u → is_normal u → reads (bytes u) ≡ Ok u)
-    → PrefixLaws (exact_value reads bytes is_typed is_normal)
+    → KeepsLaws (prefix_codec (exact_value reads bytes is_typed is_normal))
 exact_laws reads bytes is_typed is_normal named exact bytes_typed back = record {
-  named = named;
-  same_value = λ b c v w b-typed c-typed h k. (
+  answered = λ b p typed. value_or_reason (reads b);
+  one_answer = λ b p v e h k. cc;
+  one_fault = λ b p e f h k. cc;
+  named_fault = λ b p h. named b h;
+  same_value = λ b c p v w b-typed c-typed h k. (
     λ e. (exact b v b-typed h).0 ∙ ap bytes e ∙ sym (exact c w c-typed k).0,
     λ e. let also = ap reads e ∙ k in cc,
   );
-  gives_normal = λ b v typed h. let read = exact b v typed h in (read.1, read.2);
-  bytes_typed = bytes_typed;
-  reads_back = back;
+  reads_normal = λ b p v typed h. let read = exact b v typed h in (read.1, read.2);
+  written_bytes = bytes_typed;
+  reads_back = λ p v typed normal room. back v typed normal;
 }
 
 module _ (k width : ℕ) where
@@ -78,10 +83,10 @@ module _ (k width : ℕ) where
   }
 
 -- a kind of values that keep the laws
-pub kind_laws : (k : ℕ) {P : Prefix (Unit {0})} → bit_and k 0x3fff ≡ k → PrefixLaws P → KindLaws (kind k P)
+pub kind_laws : (k : ℕ) {P : Prefix (Unit {0})} → bit_and k 0x3fff ≡ k → KeepsLaws (prefix_codec P) → KindLaws (kind k P)
 kind_laws k plain value = record { plain = plain; value = value }
 
-pub memory_kind_laws : (k : ℕ) {P : Prefix (Unit {0})} → bit_and k 0x3fff ≡ k → PrefixLaws P → KindLaws (memory_kind k P)
+pub memory_kind_laws : (k : ℕ) {P : Prefix (Unit {0})} → bit_and k 0x3fff ≡ k → KeepsLaws (prefix_codec P) → KindLaws (memory_kind k P)
 memory_kind_laws k plain value = record { plain = plain; value = value }
 
 -- the laws of a family: those of its first kind and those of the others

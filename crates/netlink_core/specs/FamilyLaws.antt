@@ -30,7 +30,7 @@ there row rows a differs = rw (ne_eqb (kind_of a) row.number differs) refl
 pub family_named : (F : Family) → FamilyLaws F → (a : Attribute) → says F a ≡ Err Memory → ⊥
 family_named [] laws a h = cc
 family_named (row ∷ rows) laws a h = elim (cases_eq (kind_of a) row.number) [
-  | inl same ↦ laws.0.value.named a.value (said_fault inl (row.value.reads tt a.value) Memory (sym (here row rows a same) ∙ h))
+  | inl same ↦ laws.0.value.named_fault a.value tt (said_fault inl (row.value.reads tt a.value) Memory (sym (here row rows a same) ∙ h))
   | inr differs ↦ family_named rows laws.1 a (said_fault inr (says rows a) Memory (sym (there row rows a differs) ∙ h))
 ]
 
@@ -52,7 +52,7 @@ family_gives_normal [] laws a v typed h = let same : a ≡ v = cc in (subst IsTy
 family_gives_normal (row ∷ rows) laws a v typed h = elim (cases_eq (kind_of a) row.number) [
   | inl same ↦
       let read = said_value inl (row.value.reads tt a.value) v (sym (here row rows a same) ∙ h) in
-      subst (λ (w : Said (row ∷ rows)). IsTypedSaid (row ∷ rows) w × IsNormalSaid (row ∷ rows) w) read.2 (laws.0.value.gives_normal a.value read.0 typed.1 read.1)
+      subst (λ (w : Said (row ∷ rows)). IsTypedSaid (row ∷ rows) w × IsNormalSaid (row ∷ rows) w) read.2 (laws.0.value.reads_normal a.value tt read.0 typed.1 read.1)
   | inr differs ↦
       let read = said_value inr (says rows a) v (sym (there row rows a differs) ∙ h) in
       let good = family_gives_normal rows laws.1 a read.0 typed read.1 in
@@ -86,7 +86,7 @@ family_same_value (row ∷ rows) laws a b v w s t h k = elim (cases_eq (kind_of 
       elim (cases_eq (kind_of b) row.number) [
         | inl b_here ↦
             let y = said_value inl (row.value.reads tt b.value) w (sym (here row rows b b_here) ∙ k) in
-            let same = laws.0.value.same_value a.value b.value x.0 y.0 s.1 t.1 x.1 y.1 in (
+            let same = laws.0.value.same_value a.value b.value tt x.0 y.0 s.1 t.1 x.1 y.1 in (
               λ e. inl (a_here, b_here, same.0 (same_left x.0 y.0 (x.2 ∙ e ∙ sym y.2))),
               λ idle. elim idle [
                 | inl own ↦ sym x.2 ∙ ap inl (same.1 own.2) ∙ y.2
@@ -126,7 +126,7 @@ small n plain = let masked = and_mask n 14 in omega (arith, masked, plain)
 -- a typed value is written as a typed attribute
 pub writes_typed : (F : Family) → FamilyLaws F → (v : Said F) → IsTypedSaid F v → IsTypedAttribute (attribute_said F v)
 writes_typed [] laws a t = t
-writes_typed (row ∷ rows) laws (inl x) t = (small row.number laws.0.plain, laws.0.value.bytes_typed x t)
+writes_typed (row ∷ rows) laws (inl x) t = (small row.number laws.0.plain, laws.0.value.written_bytes x t)
 writes_typed (row ∷ rows) laws (inr v) t = writes_typed rows laws.1 v t
 
 -- one in normal form is said by its own attribute
@@ -134,7 +134,7 @@ pub reads_back : (F : Family) → FamilyLaws F → (v : Said F) → IsTypedSaid 
 reads_back [] laws a t n = refl
 reads_back (row ∷ rows) laws (inl x) t n =
     here row rows (record { type_word = row.number; value = row.value.bytes x }) laws.0.plain
-    ∙ ap (said_as inl) (laws.0.value.reads_back x t n)
+    ∙ ap (said_as inl) (laws.0.value.reads_back tt x t n tt)
 reads_back (row ∷ rows) laws (inr v) t n =
     there row rows (attribute_said rows v) n.0
     ∙ ap (said_as inr) (reads_back rows laws.1 v t n.1)

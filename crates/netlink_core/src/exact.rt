@@ -7,33 +7,18 @@ use crate::{NetlinkHeader, RecordBuffer, RecordName};
 
 /// A type whose `==` says whether two values are the same, and whose `clone` gives the same value, without fail.
 pub trait Exact: PartialEq + Clone {
-    ghost equal: { (v w : Self) → IsTrue (Self.eq v w) ↔ (v ≡ w) };
-
-    ghost copied: { (v w : Self) → Self.is_clone v w → w ≡ v };
-
-    ghost unfailing: { (v : Self) → Self.is_infallible v };
+    ghost exact: { ((v w : Self) → IsTrue (Self.eq v w) ↔ (v ≡ w)) × ((v w : Self) → Self.is_clone v w → w ≡ v)
+        × ((v : Self) → Self.is_infallible v) };
 }
 
 impl Exact for RecordName {
-    ghost equal = { Prim.search rules };
-
-    ghost copied = { Prim.search rules };
-
-    ghost unfailing = { Prim.search rules };
+    ghost exact = { Prim.search rules };
 }
 
 impl Exact for NetlinkHeader {
-    ghost equal = { Prim.search rules };
-
-    ghost copied = { Prim.search rules };
-
-    ghost unfailing = { Prim.search rules };
+    ghost exact = { Prim.search rules };
 }
 
 impl<T: PartialEq + Clone, const N: usize> Exact for RecordBuffer<T, N> {
-    ghost equal = { Prim.search rules };
-
-    ghost copied = { Prim.search rules };
-
-    ghost unfailing = { Prim.search rules };
+    ghost exact = { Prim.search rules };
 }

@@ -113,7 +113,7 @@ impl<T: Record> Coded for T {
         self.row_typed();
     }
 
-    ghost eq_is_seen = { T.equal };
+    ghost eq_is_seen = { T.exact.0 };
 
     ghost laws = { T.Record.laws.codec };
 }

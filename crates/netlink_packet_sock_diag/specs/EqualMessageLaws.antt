@@ -1,8 +1,8 @@
 -- Messages are equal where the same is seen of them.
 use Rattle.std.proofs.Common.{◌≡◌, ◌↔◌, Bool, IsTrue, ap}
 use Rattle.netlink_core.proofs.Equality.{apart}
-use Rattle.sock_diag_records.specs.contracts.inet.exact.InetRequestExact.TheImpl.Laws.{equal-law as same_inet_request}
-use Rattle.sock_diag_records.specs.contracts.unix.request.UnixRequestExact.TheImpl.Laws.{equal-law as same_unix_request}
+use Rattle.sock_diag_records.specs.contracts.inet.exact.InetRequestExact.TheImpl.Laws.{exact-law as exact_inet_request}
+use Rattle.sock_diag_records.specs.contracts.unix.request.UnixRequestExact.TheImpl.Laws.{exact-law as exact_unix_request}
 use Rattle.netlink_packet_sock_diag.specs.contracts.inet.response.InetResponseCoded.TheImpl.Laws.{eq_is_seen-law as same_inet_response}
 use Rattle.netlink_packet_sock_diag.specs.contracts.unix.response.UnixResponseCoded.TheImpl.Laws.{eq_is_seen-law as same_unix_response}
 use Rattle.netlink_packet_sock_diag.specs.declared.message.SockDiagMessage.{SockDiagMessage}
@@ -42,11 +42,11 @@ by_held kind is v w same =
 
 pub message_equal : (v w : SockDiagMessage) → IsTrue (ghosts.eq v w) ↔ (seen_message v ≡ seen_message w)
 message_equal (InetRequest a) (InetRequest x) =
-    by_held inet_request _ _ _ (same_inet_request a x)
+    by_held inet_request _ _ _ (exact_inet_request.0 a x)
 message_equal (InetResponse a) (InetResponse x) =
     by_held inet_response _ _ _ (same_inet_response a.value x.value)
 message_equal (UnixRequest a) (UnixRequest x) =
-    by_held unix_request _ _ _ (same_unix_request a x)
+    by_held unix_request _ _ _ (exact_unix_request.0 a x)
 message_equal (UnixResponse a) (UnixResponse x) =
     by_held unix_response _ _ _ (same_unix_response a.value x.value)
 message_equal v w = apart (λ e. let kinds = ap message_kind e in cc)

@@ -6,8 +6,8 @@ use Rattle.netlink_core.specs.Reply.{reply_codec}
 use Rattle.netlink_core.specs.ShownLaws.{ReplyLaws}
 use Rattle.netlink_core.specs.declared.fault.DecodeError.{DecodeError}
 use Rattle.netlink_core.specs.declared.fault.DecodeError.TheVariants.{Memory}
-use Rattle.netlink_core.proofs.FormatLaws.{accepted}
-use Rattle.netlink_core.proofs.Prefixes.{prefix_laws, stands_in_front}
+use Rattle.netlink_core.proofs.FormatLaws.{accepted, keeps_laws}
+use Rattle.netlink_core.proofs.Prefixes.{stands_in_front}
 use Rattle.netlink_core.proofs.Replies.{replies_keep_laws}
 use Rattle.sock_diag_records.specs.declared.inet.response.InetResponseHeader.{InetResponseHeader}
 use Rattle.sock_diag_records.specs.Kinds.{kinds_of_family}
@@ -34,7 +34,7 @@ header_enough b h e = let long = (accepted inet_response_header tt b h e).long i
 -- the laws of header and attributes
 pub inet_reply_laws : ReplyLaws inet_reply
 inet_reply_laws = record {
-  header = prefix_laws inet_response_header header_sound;
+  header = keeps_laws inet_response_header header_sound;
   in_front = stands_in_front inet_response_header header_sound header_size goes_on;
   family = inet_laws;
 }

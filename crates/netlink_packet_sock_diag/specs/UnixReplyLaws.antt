@@ -4,7 +4,8 @@ use Rattle.netlink_core.specs.Reply.{reply_codec}
 use Rattle.netlink_core.specs.ShownLaws.{ReplyLaws}
 use Rattle.netlink_core.specs.declared.fault.DecodeError.{DecodeError}
 use Rattle.netlink_core.specs.declared.fault.DecodeError.TheVariants.{Memory}
-use Rattle.netlink_core.proofs.Prefixes.{prefix_laws, stands_in_front}
+use Rattle.netlink_core.proofs.FormatLaws.{keeps_laws}
+use Rattle.netlink_core.proofs.Prefixes.{stands_in_front}
 use Rattle.netlink_core.proofs.Replies.{replies_keep_laws}
 use Rattle.sock_diag_records.specs.UnixResponseHeader.{unix_response_header}
 use Rattle.sock_diag_records.specs.UnixResponseHeaderLaws.{unix_response_header_sound}
@@ -14,7 +15,7 @@ use Rattle.netlink_packet_sock_diag.specs.UnixReply.{unix_reply}
 -- the laws of header and attributes
 pub unix_reply_laws : ReplyLaws unix_reply
 unix_reply_laws = record {
-  header = prefix_laws unix_response_header unix_response_header_sound;
+  header = keeps_laws unix_response_header unix_response_header_sound;
   in_front = stands_in_front unix_response_header unix_response_header_sound (refl, λ tag. refl) (λ tag left rest long e. e);
   family = unix_laws;
 }

@@ -43,11 +43,7 @@ pub enum DumpError {
 }
 
 impl Exact for DumpState {
-    ghost equal = { Prim.search rules };
-
-    ghost copied = { Prim.search rules };
-
-    ghost unfailing = { Prim.search rules };
+    ghost exact = { Prim.search rules };
 }
 
 // Takes the messages of a datagram up to the end of the dump. The type of each is looked at before memory is taken.

@@ -5,11 +5,11 @@ use lib.Pointwise.{pointwise, bytes_decides}
 use Rattle.netlink_core.proofs.Equality.{numbers_equal}
 use Rattle.netlink_core.proofs.RowLaws.{◌⊕◌}
 use Rattle.netlink_core.proofs.SaidTests.{Tests, TestLaws, said_test, said_test_says}
-use Rattle.sock_diag_values.specs.contracts.inet.legacy_mem_info.LegacyMemInfoExact.TheImpl.Laws.{equal-law as same_legacy}
+use Rattle.sock_diag_values.specs.contracts.inet.legacy_mem_info.LegacyMemInfoExact.TheImpl.Laws.{exact-law as exact_legacy}
 use Rattle.sock_diag_values.specs.contracts.inet.legacy_mem_info.LegacyMemInfoPartialEq.TheImpl.{ghosts as legacy}
-use Rattle.sock_diag_values.specs.contracts.inet.tcp_info.TcpInfoExact.TheImpl.Laws.{equal-law as same_tcp}
+use Rattle.sock_diag_values.specs.contracts.inet.tcp_info.TcpInfoExact.TheImpl.Laws.{exact-law as exact_tcp}
 use Rattle.sock_diag_values.specs.contracts.inet.tcp_info.TcpInfoPartialEq.TheImpl.{ghosts as tcp}
-use Rattle.sock_diag_values.specs.contracts.inet.mem_info.MemInfoExact.TheImpl.Laws.{equal-law as same_memory}
+use Rattle.sock_diag_values.specs.contracts.inet.mem_info.MemInfoExact.TheImpl.Laws.{exact-law as exact_memory}
 use Rattle.sock_diag_values.specs.contracts.inet.mem_info.MemInfoPartialEq.TheImpl.{ghosts as memory}
 use Rattle.sock_diag_attributes.specs.InetAttributes.{inet}
 use Rattle.sock_diag_attributes.specs.SeenInet.{seen_nla, viewed_nla}
@@ -28,7 +28,7 @@ abbrev pub inet_tests : Tests inet
 inet_tests = legacy.eq ⊕ tcp.eq ⊕ pointwise eqb ⊕ eqb ⊕ eqb ⊕ memory.eq ⊕ eqb ⊕ eqb ⊕ beq ⊕ eqb ⊕ eqb ⊕ tt
 
 pub inet_tests_say : TestLaws inet inet_tests
-inet_tests_say = same_legacy ⊕ same_tcp ⊕ bytes_decides ⊕ numbers_equal ⊕ numbers_equal ⊕ same_memory ⊕ numbers_equal ⊕ numbers_equal ⊕ truth ⊕ numbers_equal ⊕ numbers_equal ⊕ tt
+inet_tests_say = exact_legacy.0 ⊕ exact_tcp.0 ⊕ bytes_decides ⊕ numbers_equal ⊕ numbers_equal ⊕ exact_memory.0 ⊕ numbers_equal ⊕ numbers_equal ⊕ truth ⊕ numbers_equal ⊕ numbers_equal ⊕ tt
 
 tests : (v w : Nla) → ghosts.eq v w ≡ said_test inet inet_tests (seen_nla v) (seen_nla w)
 tests (LegacyMemInfo a) (LegacyMemInfo x) = refl

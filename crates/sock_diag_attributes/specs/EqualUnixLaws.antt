@@ -4,9 +4,9 @@ use lib.Pointwise.{pointwise, bytes_decides}
 use Rattle.netlink_core.proofs.Equality.{numbers_equal, apart, same_test}
 use Rattle.netlink_core.proofs.RowLaws.{◌⊕◌}
 use Rattle.netlink_core.proofs.SaidTests.{Tests, TestLaws, said_test, said_test_says}
-use Rattle.sock_diag_values.specs.contracts.unix.vfs.VfsExact.TheImpl.Laws.{equal-law as same_vfs}
+use Rattle.sock_diag_values.specs.contracts.unix.vfs.VfsExact.TheImpl.Laws.{exact-law as exact_vfs}
 use Rattle.sock_diag_values.specs.contracts.unix.vfs.VfsPartialEq.TheImpl.{ghosts as vfs}
-use Rattle.sock_diag_values.specs.contracts.unix.mem_info.MemInfoExact.TheImpl.Laws.{equal-law as same_memory}
+use Rattle.sock_diag_values.specs.contracts.unix.mem_info.MemInfoExact.TheImpl.Laws.{exact-law as exact_memory}
 use Rattle.sock_diag_values.specs.contracts.unix.mem_info.MemInfoPartialEq.TheImpl.{ghosts as memory}
 use Rattle.sock_diag_attributes.specs.Name.{SocketName, pathname, abstract}
 use Rattle.sock_diag_attributes.specs.SeenName.{seen_name, viewed_name}
@@ -53,7 +53,7 @@ abbrev pub unix_tests : Tests unix
 unix_tests = name_test ⊕ vfs.eq ⊕ eqb ⊕ pointwise eqb ⊕ two_test ⊕ memory.eq ⊕ eqb ⊕ tt
 
 pub unix_tests_say : TestLaws unix unix_tests
-unix_tests_say = name_test_says ⊕ same_vfs ⊕ numbers_equal ⊕ bytes_decides ⊕ two_test_says ⊕ same_memory ⊕ numbers_equal ⊕ tt
+unix_tests_say = name_test_says ⊕ exact_vfs.0 ⊕ numbers_equal ⊕ bytes_decides ⊕ two_test_says ⊕ exact_memory.0 ⊕ numbers_equal ⊕ tt
 
 same_names : (a x : UnixDiagName) → names.eq a x ≡ name_test (seen_name a) (seen_name x)
 same_names (Pathname a) (Pathname x) = refl

@@ -3,7 +3,8 @@ use Rattle.std.proofs.Common.{Ok, ◌≡◌, ◌∙◌, ◌↔◌, inl, inr, ℕ
 use Rattle.std.specs.Prelude.{if◌then◌else◌, not, ◌==◌}
 use Rattle.std.proofs.lemmas.Bool.{cases_eq, eq-eqb, ne_eqb}
 use Rattle.netlink_core.specs.ByteLaws.{IsBytes-cons, IsBytes-nil}
-use Rattle.netlink_core.specs.ShownLaws.{PrefixLaws}
+use Rattle.netlink_core.specs.Codec.{KeepsLaws, prefix_codec}
+use Rattle.netlink_core.specs.FrontLaws.{value_or_reason}
 use Rattle.netlink_core.specs.declared.fault.DecodeError.TheVariants.{Memory}
 use Rattle.sock_diag_attributes.specs.ChoiceLaws.{if_equal, if_equal_err}
 use Rattle.sock_diag_attributes.specs.Flag.{read_flag, flag_value}
@@ -23,17 +24,20 @@ says_same m n =
     ]
 
 -- a flag keeps the laws
-pub flag_laws : (k : ℕ) → PrefixLaws (flag_value k)
+pub flag_laws : (k : ℕ) → KeepsLaws (prefix_codec (flag_value k))
 flag_laws k = record {
-  named = λ b h. let no = if_equal_err (length b) 1 _ _ Memory h in cc;
-  same_value = λ b c v w b-typed c-typed h g.
+  answered = λ b p typed. value_or_reason (read_flag k b);
+  one_answer = λ b p v e h g. cc;
+  one_fault = λ b p e f h g. cc;
+  named_fault = λ b p h. let no = if_equal_err (length b) 1 _ _ Memory h in cc;
+  same_value = λ b c p v w b-typed c-typed h g.
       let left = (if_equal (length b) 1 _ v _ h).1 in
       let right = (if_equal (length c) 1 _ w _ g).1 in
       let same = says_same (slice_index b 0) (slice_index c 0) in
       (λ e. same.0 (left ∙ e ∙ sym right), λ idle. sym left ∙ same.1 idle ∙ right);
-  gives_normal = λ b v typed h. (tt, tt);
-  bytes_typed = λ v typed. IsBytes-cons ((if v then 1 else 0)) [] (small v) IsBytes-nil;
-  reads_back = λ v typed normal. back v;
+  reads_normal = λ b p v typed h. (tt, tt);
+  written_bytes = λ v typed. IsBytes-cons ((if v then 1 else 0)) [] (small v) IsBytes-nil;
+  reads_back = λ p v typed normal room. back v;
 }
   where
     small : (v : Bool) → (if v then 1 else 0) < 256

@@ -1,7 +1,5 @@
 -- The laws of the name of a UNIX socket.
-use Rattle.netlink_core.specs.Codec.{KeepsLaws}
-use Rattle.netlink_core.proofs.Prefixes.{codec_laws}
-use Rattle.netlink_core.specs.ShownLaws.{PrefixLaws}
+use Rattle.netlink_core.specs.Codec.{KeepsLaws, prefix_codec}
 use Rattle.netlink_core.proofs.RowLaws.{exact_laws}
 use Rattle.sock_diag_attributes.specs.Name.{name_value}
 use Rattle.std.proofs.Common.{Result, Ok, Err, IsOk, ◌≡◌, ◌≢◌, ◌∙◌, ℕ, zero, suc, ◌+◌, ◌<◌, ◌≤◌, false, cond, ltb, ◌==◌, Option, Some, None, position, List, [], ◌∷◌, ◌++◌, length, take, get_or, refl, ap, sym, subst, arith}
@@ -113,7 +111,7 @@ name_bytes_typed (pathname path) typed = IsBytes-append path (0 ∷ []) typed (I
 name_bytes_typed (abstract address) typed = IsBytes-cons 0 address (omega arith) typed
 
 -- a name as the value of an attribute: its reader, its bytes, equal strings alone being idle, and its normal form
-pub name_laws : PrefixLaws name_value
+pub name_laws : KeepsLaws (prefix_codec name_value)
 name_laws = exact_laws read_name name_bytes IsTypedName IsNormalName name_named
     (λ x u typed h. let exact = name_exact x u h in (exact.0, name_typed u (subst IsBytes exact.0 typed), exact.1))
     name_bytes_typed
@@ -121,4 +119,13 @@ name_laws = exact_laws read_name name_bytes IsTypedName IsNormalName name_named
 
 -- and by itself
 pub name_keeps_laws : KeepsLaws name_codec
-name_keeps_laws = codec_laws (λ v. ⊥) (λ v. length (name_bytes v) ≤ 4294967295) name_laws
+name_keeps_laws = record {
+  answered = name_laws.answered;
+  one_answer = name_laws.one_answer;
+  one_fault = name_laws.one_fault;
+  named_fault = name_laws.named_fault;
+  same_value = name_laws.same_value;
+  reads_normal = name_laws.reads_normal;
+  written_bytes = name_laws.written_bytes;
+  reads_back = λ p v typed normal room. name_laws.reads_back p v typed normal tt;
+}

@@ -10,7 +10,7 @@ use Rattle.netlink_core.specs.declared.fault.DecodeError.TheVariants.{Memory, No
 use Rattle.netlink_core.specs.Bytes.{IsBytes}
 use Rattle.netlink_core.specs.ByteLaws.{IsBytes-append, IsBytes-left, IsBytes-nil, IsBytes-number, IsBytes-right}
 use Rattle.netlink_core.proofs.RowLaws.{same_bytes, exact_laws}
-use Rattle.netlink_core.specs.ShownLaws.{PrefixLaws}
+use Rattle.netlink_core.specs.Codec.{KeepsLaws, prefix_codec}
 use Rattle.std.specs.Prelude.{⊤, slice_index}
 use Rattle.sock_diag_attributes.specs.ChoiceLaws.{if_equal, if_equal_err}
 use Rattle.sock_diag_attributes.specs.Numbers.{two_numbers, bytes_of_two, numbers_in, read_numbers, bytes_of_numbers, two_value, numbers_value}
@@ -122,13 +122,13 @@ places (a ∷ b ∷ c ∷ d ∷ rest) (n ∷ u) long each =
     λ i. first i ∷ later i
 
 -- both keep the laws of the value of an attribute
-pub two_laws : (k : ℕ) → PrefixLaws (two_value k)
+pub two_laws : (k : ℕ) → KeepsLaws (prefix_codec (two_value k))
 two_laws k = exact_laws (two_numbers k) bytes_of_two (λ ns. (ns.0 < 2 ^ 32) × (ns.1 < 2 ^ 32)) (λ ns. ⊤) (two_named k)
     (λ x u typed h. let exact = two_exact k x u typed h in (exact.0, (exact.1, exact.2), tt))
     (λ u fits. two_typed u)
     (λ u fits normal. two_read_back k u fits.0 fits.1)
 
-pub numbers_laws : PrefixLaws numbers_value
+pub numbers_laws : KeepsLaws (prefix_codec numbers_value)
 numbers_laws = exact_laws read_numbers bytes_of_numbers (AllByRecursion (λ n. n < 2 ^ 32)) (λ ns. ⊤) numbers_named
     (λ x u typed h. let exact = numbers_exact x u typed h in (exact.0, exact.1, tt))
     (λ u fits. numbers_typed u)

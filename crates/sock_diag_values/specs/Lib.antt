@@ -1,12 +1,9 @@
 pub mod VfsInverse
 pub mod Vfs
-pub mod VfsLaws
 pub mod UnixMemInfoInverse
 pub mod UnixMemInfo
-pub mod UnixMemInfoLaws
 pub mod LegacyMemInfoInverse
 pub mod LegacyMemInfo
-pub mod LegacyMemInfoLaws
 pub mod MemInfoInverse
 pub mod MemInfo
 pub mod MemInfoLaws

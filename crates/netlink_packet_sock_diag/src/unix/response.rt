@@ -2,7 +2,7 @@
 
 ghost use Rattle.netlink_packet_sock_diag.specs.EqualReplyLaws.{replies_equal};
 ghost use Rattle.sock_diag_attributes.specs.contracts.unix.coded.NlaCoded.TheImpl.Laws.{eq_is_seen-law as same_nla};
-ghost use Rattle.sock_diag_records.specs.contracts.unix.response.UnixResponseHeaderExact.TheImpl.Laws.{equal-law as same_header};
+ghost use Rattle.sock_diag_records.specs.contracts.unix.response.UnixResponseHeaderExact.TheImpl.Laws.{exact-law as exact_header};
 ghost use Rattle.std.specs.Prelude.{◌≡◌, IfOk, IsOk, true, refl};
 ghost use Rattle.netlink_core.specs.Reply.{reply_bytes, reply_codec};
 ghost use Rattle.netlink_core.proofs.Replies.{replies_keep_laws};
@@ -106,7 +106,7 @@ impl Coded for UnixResponse {
         nlas_typed(self.nlas.as_slice());
     }
 
-    ghost eq_is_seen = { λ v w. replies_equal _ _ seen_nla same_header same_nla v.header w.header v.nlas.items w.nlas.items };
+    ghost eq_is_seen = { λ v w. replies_equal _ _ seen_nla exact_header.0 same_nla v.header w.header v.nlas.items w.nlas.items };
 
     ghost laws = { replies_keep_laws unix_reply unix_reply_laws };
 }

@@ -2,24 +2,16 @@
 
 ghost use Rattle.std.proofs.Common.{rules};
 ghost use Rattle.sock_diag_records.specs.EqualRecordLaws.{request_equal, header_equal};
-ghost use Rattle.sock_diag_records.specs.contracts.inet.socket_id.SocketIdExact.TheImpl.Laws.{equal-law as same_socket};
-ghost use Rattle.sock_diag_records.specs.contracts.inet.response.TimerExact.TheImpl.Laws.{equal-law as same_timer};
+ghost use Rattle.sock_diag_records.specs.contracts.inet.socket_id.SocketIdExact.TheImpl.Laws.{exact-law as exact_socket};
+ghost use Rattle.sock_diag_records.specs.contracts.inet.response.TimerExact.TheImpl.Laws.{exact-law as exact_timer};
 
 use super::{InetRequest, InetResponseHeader};
 use netlink_core::Exact;
 
 impl Exact for InetRequest {
-    ghost equal = { request_equal _ same_socket };
-
-    ghost copied = { Prim.search rules };
-
-    ghost unfailing = { Prim.search rules depth 12 };
+    ghost exact = { (request_equal _ exact_socket.0, Prim.search rules, Prim.search rules depth 12) };
 }
 
 impl Exact for InetResponseHeader {
-    ghost equal = { header_equal _ same_socket _ same_timer };
-
-    ghost copied = { Prim.search rules };
-
-    ghost unfailing = { Prim.search rules };
+    ghost exact = { (header_equal _ exact_socket.0 _ exact_timer.0, Prim.search rules, Prim.search rules) };
 }

@@ -99,11 +99,7 @@ impl BitOr for StateFlags {
 }
 
 impl Exact for StateFlags {
-    ghost equal = { Prim.search rules };
-
-    ghost copied = { Prim.search rules };
-
-    ghost unfailing = { Prim.search rules };
+    ghost exact = { Prim.search rules };
 }
 
 impl Flags for StateFlags {
@@ -199,11 +195,7 @@ impl BitOr for ExtensionFlags {
 }
 
 impl Exact for ExtensionFlags {
-    ghost equal = { Prim.search rules };
-
-    ghost copied = { Prim.search rules };
-
-    ghost unfailing = { Prim.search rules };
+    ghost exact = { Prim.search rules };
 }
 
 impl Flags for ExtensionFlags {

@@ -62,11 +62,7 @@ pub struct InetResponseHeader {
 pub type InetResponseBuffer = RecordBuffer<InetResponseHeader, 72>;
 
 impl Exact for Timer {
-    ghost equal = { Prim.search rules };
-
-    ghost copied = { Prim.search rules };
-
-    ghost unfailing = { Prim.search rules };
+    ghost exact = { Prim.search rules };
 }
 
 impl Record for InetResponseHeader {

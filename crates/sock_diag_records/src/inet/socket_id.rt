@@ -114,11 +114,7 @@ fn write_address(address: IpAddr, row: &mut [u8])
 }
 
 impl Exact for SocketId {
-    ghost equal = { Prim.search rules };
-
-    ghost copied = { Prim.search rules };
-
-    ghost unfailing = { Prim.search rules depth 12 };
+    ghost exact = { (Prim.search rules, Prim.search rules, Prim.search rules depth 12) };
 }
 
 impl Record for SocketId {

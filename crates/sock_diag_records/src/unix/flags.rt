@@ -45,11 +45,7 @@ impl BitOr for StateFlags {
 }
 
 impl Exact for StateFlags {
-    ghost equal = { Prim.search rules };
-
-    ghost copied = { Prim.search rules };
-
-    ghost unfailing = { Prim.search rules };
+    ghost exact = { Prim.search rules };
 }
 
 impl Flags for StateFlags {
@@ -133,11 +129,7 @@ impl BitOr for ShowFlags {
 }
 
 impl Exact for ShowFlags {
-    ghost equal = { Prim.search rules };
-
-    ghost copied = { Prim.search rules };
-
-    ghost unfailing = { Prim.search rules };
+    ghost exact = { Prim.search rules };
 }
 
 impl Flags for ShowFlags {

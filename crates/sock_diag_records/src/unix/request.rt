@@ -32,11 +32,7 @@ pub struct UnixRequest {
 pub type UnixRequestBuffer = RecordBuffer<UnixRequest, 24>;
 
 impl Exact for UnixRequest {
-    ghost equal = { Prim.search rules };
-
-    ghost copied = { Prim.search rules };
-
-    ghost unfailing = { Prim.search rules };
+    ghost exact = { Prim.search rules };
 }
 
 impl Record for UnixRequest {

@@ -32,11 +32,7 @@ pub struct UnixResponseHeader {
 pub type UnixResponseBuffer = RecordBuffer<UnixResponseHeader, 16>;
 
 impl Exact for UnixResponseHeader {
-    ghost equal = { Prim.search rules };
-
-    ghost copied = { Prim.search rules };
-
-    ghost unfailing = { Prim.search rules };
+    ghost exact = { Prim.search rules };
 }
 
 impl Record for UnixResponseHeader {

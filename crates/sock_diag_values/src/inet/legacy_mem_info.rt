@@ -3,9 +3,8 @@
 ghost use Rattle.std.specs.Prelude.{◌≡◌, refl};
 ghost use Rattle.std.proofs.Common.{rules};
 ghost use Rattle.netlink_core.specs.Format.{read};
-ghost use Rattle.netlink_core.proofs.FormatLaws.{record_laws};
+ghost use Rattle.netlink_core.proofs.FormatLaws.{plain_sound, record_laws};
 ghost use Rattle.sock_diag_values.specs.LegacyMemInfo.{legacy_mem_info};
-ghost use Rattle.sock_diag_values.specs.LegacyMemInfoLaws.{legacy_mem_info_sound};
 
 use crate::rows::words_at;
 use byteorder::{ByteOrder, LittleEndian};
@@ -30,11 +29,7 @@ pub struct LegacyMemInfo {
 pub type LegacyMemInfoBuffer = RecordBuffer<LegacyMemInfo, 16>;
 
 impl Exact for LegacyMemInfo {
-    ghost equal = { Prim.search rules };
-
-    ghost copied = { Prim.search rules };
-
-    ghost unfailing = { Prim.search rules };
+    ghost exact = { Prim.search rules };
 }
 
 impl Record for LegacyMemInfo {
@@ -79,7 +74,7 @@ impl Record for LegacyMemInfo {
         let _send_queue = self.send_queue;
     }
 
-    ghost laws = { record_laws legacy_mem_info legacy_mem_info_sound };
+    ghost laws = { record_laws legacy_mem_info (plain_sound refl (λ _. refl) (λ _. refl) (λ _. tt) (λ _ _. refl)) };
 }
 
 impl Fills<16> for LegacyMemInfo {

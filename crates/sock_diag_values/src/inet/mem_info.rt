@@ -58,27 +58,15 @@ pub enum MemInfoBytes {
 }
 
 impl Exact for MemInfo {
-    ghost equal = { mem_info_equal };
-
-    ghost copied = { Prim.search rules };
-
-    ghost unfailing = { Prim.search rules };
+    ghost exact = { (mem_info_equal, Prim.search rules, Prim.search rules) };
 }
 
 impl Exact for MemInfoBytes {
-    ghost equal = { bytes_equal };
-
-    ghost copied = { Prim.search rules };
-
-    ghost unfailing = { Prim.search rules };
+    ghost exact = { (bytes_equal, Prim.search rules, Prim.search rules) };
 }
 
 impl Exact for MemInfoBuffer {
-    ghost equal = { buffer_equal };
-
-    ghost copied = { Prim.search rules };
-
-    ghost unfailing = { Prim.search rules };
+    ghost exact = { (buffer_equal, Prim.search rules, Prim.search rules) };
 }
 
 impl Record for MemInfo {

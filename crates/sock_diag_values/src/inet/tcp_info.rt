@@ -143,11 +143,7 @@ pub struct TcpInfo {
 pub type TcpInfoBuffer = RecordBuffer<TcpInfo, 232>;
 
 impl Exact for TcpInfo {
-    ghost equal = { tcp_info_equal };
-
-    ghost copied = { Prim.search rules };
-
-    ghost unfailing = { λ _. unfailing 53 };
+    ghost exact = { (tcp_info_equal, Prim.search rules, λ _. unfailing 53) };
 }
 
 impl Record for TcpInfo {

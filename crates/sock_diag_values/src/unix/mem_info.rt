@@ -3,9 +3,8 @@
 ghost use Rattle.std.specs.Prelude.{◌≡◌, refl};
 ghost use Rattle.std.proofs.Common.{rules};
 ghost use Rattle.netlink_core.specs.Format.{read};
-ghost use Rattle.netlink_core.proofs.FormatLaws.{record_laws};
+ghost use Rattle.netlink_core.proofs.FormatLaws.{plain_sound, record_laws};
 ghost use Rattle.sock_diag_values.specs.UnixMemInfo.{unix_mem_info};
-ghost use Rattle.sock_diag_values.specs.UnixMemInfoLaws.{unix_mem_info_sound};
 
 use crate::rows::words_at;
 use byteorder::{ByteOrder, LittleEndian};
@@ -30,11 +29,7 @@ pub struct MemInfo {
 pub type MemInfoBuffer = RecordBuffer<MemInfo, 36>;
 
 impl Exact for MemInfo {
-    ghost equal = { Prim.search rules };
-
-    ghost copied = { Prim.search rules };
-
-    ghost unfailing = { Prim.search rules };
+    ghost exact = { Prim.search rules };
 }
 
 impl Record for MemInfo {
@@ -80,7 +75,7 @@ impl Record for MemInfo {
         let _alloc = self.alloc;
     }
 
-    ghost laws = { record_laws unix_mem_info unix_mem_info_sound };
+    ghost laws = { record_laws unix_mem_info (plain_sound refl (λ _. refl) (λ _. refl) (λ _. tt) (λ _ _. refl)) };
 }
 
 impl Fills<36> for MemInfo {

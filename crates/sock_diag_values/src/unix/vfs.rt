@@ -3,9 +3,8 @@
 ghost use Rattle.std.specs.Prelude.{◌≡◌, refl};
 ghost use Rattle.std.proofs.Common.{rules};
 ghost use Rattle.netlink_core.specs.Format.{read};
-ghost use Rattle.netlink_core.proofs.FormatLaws.{record_laws};
+ghost use Rattle.netlink_core.proofs.FormatLaws.{plain_sound, record_laws};
 ghost use Rattle.sock_diag_values.specs.Vfs.{vfs};
-ghost use Rattle.sock_diag_values.specs.VfsLaws.{vfs_sound};
 
 use crate::rows::words_at;
 use byteorder::{ByteOrder, LittleEndian};
@@ -25,11 +24,7 @@ pub struct Vfs {
 pub type VfsBuffer = RecordBuffer<Vfs, 8>;
 
 impl Exact for Vfs {
-    ghost equal = { Prim.search rules };
-
-    ghost copied = { Prim.search rules };
-
-    ghost unfailing = { Prim.search rules };
+    ghost exact = { Prim.search rules };
 }
 
 impl Record for Vfs {
@@ -59,7 +54,7 @@ impl Record for Vfs {
         let _device = self.device;
     }
 
-    ghost laws = { record_laws vfs vfs_sound };
+    ghost laws = { record_laws vfs (plain_sound refl (λ _. refl) (λ _. refl) (λ _. tt) (λ _ _. refl)) };
 }
 
 impl Fills<8> for Vfs {
