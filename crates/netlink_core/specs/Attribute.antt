@@ -47,7 +47,8 @@ AreWritable attributes limit = AllByRecursion HasFittingValue attributes × (len
 abbrev pub HeadIs : List ℕ → Attribute → Type 0
 HeadIs bytes a = (tail : List ℕ) × (bytes ≡ unpadded a ++ tail) × FitsWords a
 
--- The bytes are the attribute, its padding and the rest. Where nothing follows, the padding may be short.
+-- The bytes are the attribute, its padding and the rest. Where nothing follows, the padding may be
+-- short.
 pub record StartsWith (bytes : List ℕ) (a : Attribute) (rest : List ℕ) : Type 0 where
   pub padding : List ℕ
   pub parts : bytes ≡ unpadded a ++ (padding ++ rest)

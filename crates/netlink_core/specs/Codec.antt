@@ -6,9 +6,9 @@ use Rattle.netlink_core.specs.Prefix.{Prefix, prefix_of}
 use Rattle.netlink_core.specs.declared.fault.DecodeError.{DecodeError}
 use Rattle.netlink_core.specs.declared.fault.DecodeError.TheVariants.{Memory}
 
--- Values that are read under a parameter, and written: which values are typed, what a string's value or first fault is,
--- which values are kept without memory (their strings are spare), which strings are idle, which values are in normal
--- form, what is written, and whether that has room.
+-- Values that are read under a parameter, and written: which values are typed, what a string's
+-- value or first fault is, which values are kept without memory (their strings are spare), which
+-- strings are idle, which values are in normal form, what is written, and whether that has room.
 pub record Codec (Param : Type 0) : Type 1 where
   pub Value : Type 0
   pub is_typed : Value → Type 0
@@ -31,7 +31,8 @@ pub record KeepsLaws {Param : Type 0} (C : Codec Param) : Type 0 where
   pub same_value : (b c : List ℕ) (p : Param) (v w : C.Value) → IsBytes b → IsBytes c → C.reads b p v → C.reads c p w → ((v ≡ w) ↔ C.idle p b c)
   -- what is read is typed and in normal form
   pub reads_normal : (b : List ℕ) (p : Param) (v : C.Value) → IsBytes b → C.reads b p v → C.is_typed v × C.is_normal p v
-  -- what a typed value is written as is bytes, and a writable one in normal form reads back as itself
+  -- what a typed value is written as is bytes, and a writable one in normal form reads back as
+  -- itself
   pub written_bytes : (v : C.Value) → C.is_typed v → IsBytes (C.written v)
   pub reads_back : (p : Param) (v : C.Value) → C.is_typed v → C.is_normal p v → C.fits v → C.reads (C.written v) p v
 
@@ -53,8 +54,8 @@ prefix_codec P = record {
 abbrev pub record_codec : {Param Tag Value : Type 0} → Format Param Tag Value → Codec Param
 record_codec format = prefix_codec (prefix_of format)
 
--- the laws of a record: its codec's, each value has as many bytes as its table, and what is read is what stands in a
--- string
+-- the laws of a record: its codec's, each value has as many bytes as its table, and what is read is
+-- what stands in a string
 pub record RecordLaws {Param Tag Value : Type 0} (format : Format Param Tag Value) : Type 0 where
   pub codec : KeepsLaws (record_codec format)
   pub long : (value : Value) → length (bytes format value) ≡ format.size (format.tag_of value)

@@ -1,4 +1,5 @@
--- Messages one after the other: into which messages a datagram is cut, and at which fault the cutting stops.
+-- Messages one after the other: into which messages a datagram is cut, and at which fault the
+-- cutting stops.
 use Rattle.std.specs.Prelude.{◌≡◌, ◌≢◌, ℕ, ◌<◌, ◌≤◌, ◌⊎◌, List, [], ◌∷◌, ◌++◌, length, Option, Some, None}
 use Rattle.byteorder.specs.Endian.{little_number}
 use Rattle.netlink_core.specs.declared.fault.DecodeError.{DecodeError}
@@ -9,7 +10,8 @@ use Rattle.netlink_core.specs.Header.{IsEnvelopeFault}
 abbrev pub IsMessageString : List ℕ → Type 0
 IsMessageString message = (16 ≤ length message) × (little_number 4 message ≡ length message)
 
--- The bytes are the message, its padding and the rest. Where nothing follows, the padding may be short.
+-- The bytes are the message, its padding and the rest. Where nothing follows, the padding may be
+-- short.
 pub record StartsWithMessage (bytes message rest : List ℕ) : Type 0 where
   pub padding : List ℕ
   pub parts : bytes ≡ message ++ (padding ++ rest)

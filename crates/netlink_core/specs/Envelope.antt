@@ -20,7 +20,8 @@ pub record Envelope (A : Type 0) : Type 0 where
 abbrev pub IsInnerType : ℕ → Type 0
 IsInnerType t = (t ≡ 0) ⊎ (5 ≤ t)
 
--- the payload that belongs to its bytes under the message's type, where this is what belongs to those of an inner message
+-- the payload that belongs to its bytes under the message's type, where this is what belongs to
+-- those of an inner message
 abbrev pub PayloadIs : {A : Type 0} → (List ℕ → ℕ → A → Type 0) → List ℕ → ℕ → Payload A → Type 0
 PayloadIs reads bytes t no_payload = t ≡ 1
 PayloadIs reads bytes t (error_with given) = (t ≡ 2) × (given ≡ bytes)
@@ -60,7 +61,8 @@ finalized bytes type_of e = record e.header {
 
 -- ---- the codec
 
--- by the type: any payloads of nothing, equal ones that are kept as bytes, and idle ones of inner messages
+-- by the type: any payloads of nothing, equal ones that are kept as bytes, and idle ones of inner
+-- messages
 abbrev pub IdlePayloads : (ℕ → List ℕ → List ℕ → Type 0) → ℕ → List ℕ → List ℕ → Type 0
 IdlePayloads idle t x y = (t ≡ 1) ⊎ (((2 ≤ t) × (t ≤ 4) × (x ≡ y)) ⊎ (IsInnerType t × idle t x y))
 

@@ -1,5 +1,5 @@
--- Families of attributes: a list of kinds, and what follows from it: what each attribute says, which say the same,
--- and what is written.
+-- Families of attributes: a list of kinds, and what follows from it: what each attribute says,
+-- which say the same, and what is written.
 use Rattle.std.specs.Prelude.{◌≡◌, ◌≢◌, ℕ, ◌⊎◌, ◌==◌, if◌then◌else◌, Bool, true, false, List, [], ◌∷◌, Option, Some, None, Result, Ok, ⊤}
 use Rattle.std.proofs.Common.{inl, inr}
 use Rattle.netlink_core.specs.declared.fault.DecodeError.{DecodeError}
@@ -7,7 +7,8 @@ use Rattle.netlink_core.specs.Attribute.{Attribute, IsTypedAttribute, kind_of}
 use Rattle.netlink_core.specs.Faults.{said_as}
 use Rattle.netlink_core.specs.Prefix.{Prefix}
 
--- one kind: its number, how its values are read and written, and whether they are kept without memory
+-- one kind: its number, how its values are read and written, and whether they are kept without
+-- memory
 pub record Kind : Type 1 where
   pub number : ℕ
   pub value : Prefix (Unit {0})
@@ -27,7 +28,8 @@ abbrev pub says : (F : Family) → Attribute → Result (Said F) DecodeError
 says [] a = Ok a
 says (row ∷ rows) a = if kind_of a == row.number then said_as inl (row.value.reads tt a.value) else said_as inr (says rows a)
 
--- the attribute that is written: the kind without flag bits and the value's bytes, or else the attribute itself
+-- the attribute that is written: the kind without flag bits and the value's bytes, or else the
+-- attribute itself
 abbrev pub attribute_said : (F : Family) → Said F → Attribute
 attribute_said [] a = a
 attribute_said (row ∷ rows) (inl x) = record { type_word = row.number; value = row.value.bytes x }

@@ -6,10 +6,11 @@ use Rattle.netlink_core.specs.declared.fault.DecodeError.{DecodeError}
 use Rattle.netlink_core.specs.declared.fault.DecodeError.TheVariants.{BufferTooSmall}
 use Rattle.netlink_core.specs.declared.fault.RecordName.{RecordName}
 
--- How a record stands in bytes: its name in faults, the fewest bytes that it is read from, and the tables of its rows. A
--- tag chooses between tables, each of its size: a string that is long enough tells by which it is read, or the fault that
--- refuses it, and a value by which it is written. Beside the rows, a shape says that arrays are as long as their type
--- tells, and `is_own` what normal form asks. `value` is the inverse of `values`: `StandsIn` says what belongs to a string
+-- How a record stands in bytes: its name in faults, the fewest bytes that it is read from, and the
+-- tables of its rows. A tag chooses between tables, each of its size: a string that is long enough
+-- tells by which it is read, or the fault that refuses it, and a value by which it is written.
+-- Beside the rows, a shape says that arrays are as long as their type tells, and `is_own` what
+-- normal form asks. `value` is the inverse of `values`: `StandsIn` says what belongs to a string
 -- without it, and the law `read_where_it_stands` that this is the same.
 pub record Format (Param Tag Value : Type 0) : Type 1 where
   pub name : RecordName
@@ -39,7 +40,8 @@ plain name size rows values value is_shaped = record {
 }
 
 module _ {Param Tag Value : Type 0} (format : Format Param Tag Value) where
-  -- the value in a string that is long enough, by the table that it tells, or the fault of what it tells
+  -- the value in a string that is long enough, by the table that it tells, or the fault of what it
+  -- tells
   abbrev pub read_row : Param → List ℕ → Result Value DecodeError
   read_row param left = said_as (λ tag. format.value tag (values_of (format.table tag) left)) (format.tag_at param left)
 
@@ -67,8 +69,8 @@ module _ {Param Tag Value : Type 0} (format : Format Param Tag Value) where
     pub flags : AreDefined (format.table (format.tag_of value)) (format.values value)
     pub own : format.is_own param value
 
-  -- What belongs to a string, said without `value`: the string is long enough and tells the value's table, its numbers
-  -- are those of the value, and the value is typed and in normal form.
+  -- What belongs to a string, said without `value`: the string is long enough and tells the value's
+  -- table, its numbers are those of the value, and the value is typed and in normal form.
   abbrev pub StandsIn : List ℕ → Param → Value → Type 0
   StandsIn b param value = (format.least ≤ length b) × (format.tag_at param b ≡ Ok (format.tag_of value))
       × (values_of (format.table (format.tag_of value)) b ≡ format.values value) × IsTyped value × IsNormal param value

@@ -16,7 +16,8 @@ header_bytes h =
     little_bytes 4 h.length ++ little_bytes 2 h.message_type ++ little_bytes 2 h.flags
     ++ little_bytes 4 h.sequence_number ++ little_bytes 4 h.port_number
 
--- The header stands at the front, its length counts itself and the payload, and what follows is unread.
+-- The header stands at the front, its length counts itself and the payload, and what follows is
+-- unread.
 abbrev pub IsFramed : List ℕ → NetlinkHeader → List ℕ → Type 0
 IsFramed bytes h payload = (rest : List ℕ) × (bytes ≡ header_bytes h ++ (payload ++ rest))
     × IsTypedHeader h × (h.length ≡ 16 + length payload)

@@ -4,8 +4,8 @@ use Rattle.netlink_core.specs.Attribute.{Attribute, HasFittingValue, HeadIs, Fau
 use Rattle.netlink_core.specs.Family.{Family, Said, says, attribute_said, IsTypedSaid, IsNormalSaid, IsSpareSaid, AreIdleAttributes}
 use Rattle.netlink_core.specs.Codec.{Codec}
 
--- What the attribute in front says, and nothing of what follows it. It is refused for its framing or its value, and is idle
--- with another that stands in front.
+-- What the attribute in front says, and nothing of what follows it. It is refused for its framing
+-- or its value, and is idle with another that stands in front.
 abbrev pub head_codec : Family → Codec (Unit {0})
 head_codec F = record {
   Value = Said F;

@@ -16,7 +16,8 @@ module _ (C : Codec ℕ) where
       (h : NetlinkHeader) × (envelope_codec C).reads message tt (record { header = h; payload = payload })
   ItemIs message (Err e) = (envelope_codec C).refuses message tt e
 
-  -- the messages of a datagram in order, and last the fault of what stands behind them, if there is one
+  -- the messages of a datagram in order, and last the fault of what stands behind them, if there is
+  -- one
   abbrev pub ItemsAre : List ℕ → List (Result (Payload C.Value) DecodeError) → Type 0
   ItemsAre bytes items = (messages : List (List ℕ)) × (end : Option DecodeError)
       × (carried : List (Result (Payload C.Value) DecodeError)) × CutIntoMessages bytes messages end

@@ -6,7 +6,8 @@ use Rattle.netlink_core.specs.Parse.{exact_number}
 use Rattle.netlink_core.specs.Prefix.{Prefix}
 use Rattle.netlink_core.specs.Family.{Kind}
 
--- a kind whose values are read and written so: a record and whatever follows it, or what is all of the value
+-- a kind whose values are read and written so: a record and whatever follows it, or what is all of
+-- the value
 abbrev pub kind : ℕ → Prefix (Unit {0}) → Kind
 kind k value = record { number = k; value = value; is_spare = ⊤ }
 

@@ -1,5 +1,5 @@
--- Records of a fixed length, as tables: rows one after the other, each with its place. A list of bytes
--- is a list of numbers below 256.
+-- Records of a fixed length, as tables: rows one after the other, each with its place. A list of
+-- bytes is a list of numbers below 256.
 use Rattle.std.specs.Prelude.{◌≡◌, ◌<◌, ℕ, zero, suc, ◌+◌, ◌^◌, List, [], ◌∷◌, ◌++◌, length, drop, replicate, slice_index, bit_and}
 use Rattle.byteorder.specs.Endian.{little_number, big_number, little_bytes, big_bytes}
 
@@ -7,8 +7,8 @@ use Rattle.byteorder.specs.Endian.{little_number, big_number, little_bytes, big_
 pub data Order : Type 0 where
   little_endian big_endian : Order
 
--- What stands at a place: a byte; a number of so many bytes; a little-endian number of which only the bits of
--- the mask are defined; or bytes that no reader looks at, with what is written there.
+-- What stands at a place: a byte; a number of so many bytes; a little-endian number of which only
+-- the bits of the mask are defined; or bytes that no reader looks at, with what is written there.
 pub data Row : Type 0 where
   byte : (place : ℕ) → Row
   number : (place width : ℕ) → Order → Row

@@ -36,6 +36,7 @@ value_in (Err e) good = absurd (good e refl)
 pub record IsAccepted (R : Reply) (bytes : List ℕ) : Type 0 where
   pub none : (e : DecodeError) → (reply_codec R).refuses bytes tt e → ⊥
 
--- the reply in bytes that nothing refuses: the header's value, and what each attribute behind it says
+-- the reply in bytes that nothing refuses: the header's value, and what each attribute behind it
+-- says
 abbrev pub reply_in : (R : Reply) (bytes : List ℕ) → IsAccepted R bytes → ValueOf R
 reply_in R bytes accepted = record { header = value_in (R.header.reads tt bytes) (λ e h. accepted.none e (inl h)); nlas = values_in (says R.family) (drop R.size bytes) }

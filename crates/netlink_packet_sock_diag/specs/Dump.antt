@@ -19,7 +19,8 @@ module _ {A : Type 0} where
   kept (Ok (inner value)) = value ∷ []
   kept _ = []
 
-  -- how the item ends a dump: in a state, or with a fault; after a message, or one of nothing, it goes on
+  -- how the item ends a dump: in a state, or with a fault; after a message, or one of nothing, it
+  -- goes on
   abbrev pub end_of : Result (Payload A) DecodeError → Option (Result DumpState DecodeError)
   end_of (Ok (done_with given)) = Some (Ok Done)
   end_of (Ok (error_with given)) = Some (Ok Error)
@@ -32,14 +33,15 @@ module _ {A : Type 0} where
   Ends [] end = end ≡ Ok Reading
   Ends (item ∷ later) end = end_of item ≡ Some end
 
-  -- The inner messages of the longest beginning of the items that holds inner messages and messages of nothing alone
-  -- follow those before, and the next item is the end.
+  -- The inner messages of the longest beginning of the items that holds inner messages and messages
+  -- of nothing alone follow those before, and the next item is the end.
   abbrev pub Dump : List A → List (Result (Payload A) DecodeError) → List A → Result DumpState DecodeError → Type 0
   Dump before items after end = (passed later : List (Result (Payload A) DecodeError))
       × (items ≡ passed ++ later) × AllByRecursion (λ item. end_of item ≡ None) passed
       × (after ≡ before ++ flat_map kept passed) × Ends later end
 
-  -- the dump over some first items is still read, and the next is an inner message, for which there was no memory
+  -- the dump over some first items is still read, and the next is an inner message, for which there
+  -- was no memory
   abbrev pub DumpStopped : List A → List (Result (Payload A) DecodeError) → List A → Type 0
   DumpStopped before items after = (passed later : List (Result (Payload A) DecodeError)) × (next : A)
       × (items ≡ passed ++ (Ok (inner next) ∷ later)) × Dump before passed after (Ok Reading)

@@ -10,8 +10,9 @@ use Rattle.netlink_packet_sock_diag.specs.declared.dump.views.PayloadView.{Paylo
 use Rattle.netlink_packet_sock_diag.specs.Message.{message_codec}
 use Rattle.netlink_packet_sock_diag.specs.ViewedPayload.{viewed_item}
 
--- What the message at the front of what was left carries, or its fault, and the rest then stands behind its padding. Or
--- the fault where there is no message, and then nothing is left. None only where nothing was left.
+-- What the message at the front of what was left carries, or its fault, and the rest then stands
+-- behind its padding. Or the fault where there is no message, and then nothing is left. None only
+-- where nothing was left.
 abbrev pub GivesView : DumpViews → Option (Result PayloadView DecodeError) → DumpViews → Type 0
 GivesView old given new =
     let left = datagram_left old.messages in

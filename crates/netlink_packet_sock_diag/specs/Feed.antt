@@ -10,7 +10,8 @@ use Rattle.netlink_packet_sock_diag.specs.Dump.{DatagramDump, DatagramStopped}
 
 -- by the codec of inner messages under a type
 module _ (C : Codec ℕ) where
-  -- Of a dump that was read: its end in the datagram, or its fault, or that memory ran out. Of one that had ended: nothing.
+  -- Of a dump that was read: its end in the datagram, or its fault, or that memory ran out. Of one
+  -- that had ended: nothing.
   abbrev pub FeedLeaves : List C.Value → DumpState → List ℕ → List C.Value → DumpState → Result Unit DumpError → Type 0
   FeedLeaves before state datagram after left (Ok _) = (state ≡ Reading) × DatagramDump C before datagram after (Ok left)
   FeedLeaves before state datagram after left (Err Ended) = (state ≢ Reading) × (after ≡ before) × (left ≡ state)

@@ -29,8 +29,9 @@ pub data Message : Type 0 where
 abbrev pub message_kind : Message → MessageKind
 message_kind (message_of kind v) = kind
 
--- The kind of the reply that bytes are under a type, or the fault of bytes that are none. The type 20
--- is SOCK_DIAG_BY_FAMILY, and the first byte is 1 for AF_UNIX, 2 for AF_INET and 10 for AF_INET6.
+-- The kind of the reply that bytes are under a type, or the fault of bytes that are none. The type
+-- 20 is SOCK_DIAG_BY_FAMILY, and the first byte is 1 for AF_UNIX, 2 for AF_INET and 10 for
+-- AF_INET6.
 abbrev pub reply_kind : List ℕ → ℕ → Result MessageKind DecodeError
 reply_kind b t =
     if nat_lt (length b) 2 then Err (MessageTooShort (length b))

@@ -9,7 +9,8 @@ use Rattle.netlink_core.specs.declared.fault.DecodeError.TheVariants.{WrongLengt
 abbrev pub read_flag : ℕ → List ℕ → Result Bool DecodeError
 read_flag k value = if length value == 1 then Ok (not (slice_index value 0 == 0)) else Err (WrongLength (Some k) (length value) 1)
 
--- a flag of the kind k: yes is written as 1, and no as 0; two bytes are idle where both are zero or both are not
+-- a flag of the kind k: yes is written as 1, and no as 0; two bytes are idle where both are zero or
+-- both are not
 abbrev pub flag_value : ℕ → Prefix (Unit {0})
 flag_value k = record (exact_value (read_flag k) (λ flag. (if flag then 1 else 0) ∷ []) (λ flag. ⊤) (λ flag. ⊤)) {
   idle = λ p left right. (slice_index left 0 ≡ 0) ↔ (slice_index right 0 ≡ 0);

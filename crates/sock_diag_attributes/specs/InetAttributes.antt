@@ -9,8 +9,9 @@ use Rattle.sock_diag_values.specs.TcpInfo.{tcp_info}
 use Rattle.sock_diag_attributes.specs.Text.{text_value}
 use Rattle.sock_diag_attributes.specs.Flag.{flag_value}
 
--- the memory as older kernels tell it, the TCP connection, the congestion control algorithm, the type of service, the
--- traffic class, the memory, the directions that are shut down, the protocol, whether for IPv6 alone, mark and class
+-- the memory as older kernels tell it, the TCP connection, the congestion control algorithm, the
+-- type of service, the traffic class, the memory, the directions that are shut down, the protocol,
+-- whether for IPv6 alone, mark and class
 abbrev pub inet : Family
 inet =
     kind 1 (prefix_of legacy_mem_info)

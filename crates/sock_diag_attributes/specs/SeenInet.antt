@@ -8,7 +8,8 @@ use Rattle.sock_diag_attributes.specs.declared.inet.nlas.NlaView.TheVariants as 
 use Rattle.netlink_core.specs.Family.{Said, said}
 use Rattle.sock_diag_attributes.specs.InetAttributes.{inet}
 
--- the same value; lists and texts by their elements, records as they are; 0xffff is the number of no kind
+-- the same value; lists and texts by their elements, records as they are; 0xffff is the number of
+-- no kind
 abbrev pub seen_nla : Nla → Said inet
 seen_nla (LegacyMemInfo m) = said inet 1 m
 seen_nla (TcpInfo t) = said inet 2 t

@@ -9,7 +9,8 @@ use Rattle.sock_diag_attributes.specs.SeenNumbers.{viewed_numbers}
 use Rattle.netlink_core.specs.Family.{Said, said}
 use Rattle.sock_diag_attributes.specs.UnixAttributes.{unix}
 
--- the same value; lists and texts by their elements, records as they are; 0xffff is the number of no kind
+-- the same value; lists and texts by their elements, records as they are; 0xffff is the number of
+-- no kind
 abbrev pub seen_nla : Nla → Said unix
 seen_nla (Name n) = said unix 0 (seen_name n)
 seen_nla (Vfs v) = said unix 1 v

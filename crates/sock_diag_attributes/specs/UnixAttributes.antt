@@ -8,8 +8,8 @@ use Rattle.sock_diag_values.specs.UnixMemInfo.{unix_mem_info}
 use Rattle.sock_diag_attributes.specs.Name.{name_value}
 use Rattle.sock_diag_attributes.specs.Numbers.{two_value, numbers_value}
 
--- the name, the file, the peer, the pending connections, the lengths of the queues, the memory, and the directions that
--- are shut down
+-- the name, the file, the peer, the pending connections, the lengths of the queues, the memory, and
+-- the directions that are shut down
 abbrev pub unix : Family
 unix =
     memory_kind 0 name_value

@@ -1,5 +1,5 @@
--- The record of a request for IPv4 or IPv6 sockets: 56 bytes, that at 3 not read, and from 8 on the identity
--- of a socket, with addresses of the kind that the byte at 0 tells.
+-- The record of a request for IPv4 or IPv6 sockets: 56 bytes, that at 3 not read, and from 8 on the
+-- identity of a socket, with addresses of the kind that the byte at 0 tells.
 use Rattle.std.specs.Prelude.{◌≡◌, List, [], ◌∷◌, slice_index, Ok}
 use Rattle.netlink_core.specs.Table.{Row, byte, flags, unread}
 use Rattle.netlink_core.specs.Format.{Format}
@@ -13,7 +13,8 @@ use Rattle.sock_diag_records.specs.InetRequestInverse.{inet_request_of}
 abbrev pub inet_request_rows : Kinds → List Row
 inet_request_rows kinds = byte 0 ∷ byte 1 ∷ byte 2 ∷ unread 3 (0 ∷ []) ∷ flags 4 4 0xffe ∷ socket_id_rows 8 kinds
 
--- 56 bytes. A string of as many is refused where its family is another; in normal form the addresses are of its kind
+-- 56 bytes. A string of as many is refused where its family is another; in normal form the
+-- addresses are of its kind
 unfoldable pub inet_request : Format (Unit {0}) Kinds InetRequest
 inet_request = record {
   name = name.InetRequest;

@@ -1,5 +1,5 @@
--- The header of a reply about an IPv4 or IPv6 socket: 72 bytes. The byte at 2 tells the timer, and with it
--- whether the byte at 3 and the word at 52 are read.
+-- The header of a reply about an IPv4 or IPv6 socket: 72 bytes. The byte at 2 tells the timer, and
+-- with it whether the byte at 3 and the word at 52 are read.
 use Rattle.std.specs.Prelude.{◌≡◌, ℕ, List, [], ◌∷◌, ◌++◌, slice_index, IfSome, Ok}
 use Rattle.netlink_core.specs.Table.{Row, byte, unread, numbers, little_endian}
 use Rattle.netlink_core.specs.Format.{Format}
@@ -11,8 +11,8 @@ use Rattle.sock_diag_records.specs.SocketId.{IsShaped, socket_id_rows, socket_id
 use Rattle.sock_diag_records.specs.Timer.{class_of_byte, class_of, retransmits_row, expires_row, retransmits_values, expires_values, told_of, IsWholeMilliseconds}
 use Rattle.sock_diag_records.specs.InetResponseInverse.{header_of}
 
--- by the kinds of the addresses and the timer's class: the bytes at 0 and 1, the timer, the identity at 4 and the words
--- at 56, 60, 64 and 68
+-- by the kinds of the addresses and the timer's class: the bytes at 0 and 1, the timer, the
+-- identity at 4 and the words at 56, 60, 64 and 68
 abbrev pub header_rows : Kinds × ℕ → List Row
 header_rows tag =
     byte 0 ∷ byte 1 ∷ unread 2 (tag.1 ∷ []) ∷ retransmits_row tag.1
@@ -26,8 +26,9 @@ header_values value =
     ++ (socket_id_values value.socket_id
     ++ (expires_values value.timer ++ value.recv_queue ∷ value.send_queue ∷ value.uid ∷ value.inode ∷ [])))
 
--- 72 bytes. A string of as many is refused where its family is another. In normal form the addresses are of the family's
--- kind, and the timer's duration is whole milliseconds of 32 bits; one with 10^9 nanoseconds or more never is.
+-- 72 bytes. A string of as many is refused where its family is another. In normal form the
+-- addresses are of the family's kind, and the timer's duration is whole milliseconds of 32 bits;
+-- one with 10^9 nanoseconds or more never is.
 unfoldable pub inet_response_header : Format (Unit {0}) (Kinds × ℕ) InetResponseHeader
 inet_response_header = record {
   name = name.InetResponseHeader;

@@ -1,4 +1,5 @@
--- The record of a request for UNIX sockets: 24 bytes, the first four not read and written 1, 0, 0, 0.
+-- The record of a request for UNIX sockets: 24 bytes, the first four not read and written 1, 0, 0,
+-- 0.
 use Rattle.std.specs.Prelude.{◌≡◌, [], ◌∷◌, length}
 use Rattle.netlink_core.specs.Table.{number, flags, unread, bytes_at, little_endian, first}
 use Rattle.netlink_core.specs.Format.{Format, plain}

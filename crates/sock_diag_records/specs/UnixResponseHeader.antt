@@ -1,4 +1,5 @@
--- The record of a reply about a UNIX socket: 16 bytes, the byte at 0 not read and written 1, that at 3 not read and written 0.
+-- The record of a reply about a UNIX socket: 16 bytes, the byte at 0 not read and written 1, that
+-- at 3 not read and written 0.
 use Rattle.std.specs.Prelude.{◌≡◌, [], ◌∷◌, length}
 use Rattle.netlink_core.specs.Table.{byte, number, unread, bytes_at, little_endian, first}
 use Rattle.netlink_core.specs.Format.{Format, plain}

@@ -1,4 +1,5 @@
--- The memory of a socket, as older kernels tell it: 16 bytes, four words of 32 bits, low byte first.
+-- The memory of a socket, as older kernels tell it: 16 bytes, four words of 32 bits, low byte
+-- first.
 use Rattle.std.specs.Prelude.{⊤, [], ◌∷◌}
 use Rattle.netlink_core.specs.Table.{numbers, little_endian}
 use Rattle.netlink_core.specs.Format.{Format, plain}

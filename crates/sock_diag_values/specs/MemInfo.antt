@@ -1,4 +1,5 @@
--- The memory of a socket: seven, eight or nine words of 32 bits, low byte first. Kernels added the last two in turn.
+-- The memory of a socket: seven, eight or nine words of 32 bits, low byte first. Kernels added the
+-- last two in turn.
 use Rattle.std.specs.Prelude.{⊤, ℕ, ◌*◌, List, [], ◌∷◌, Option, Some, None, Ok, nat_lt, if◌then◌else◌, length, unwrap_or, IfSome, IsSome}
 use Rattle.netlink_core.specs.Table.{numbers, little_endian}
 use Rattle.netlink_core.specs.Format.{Format}

@@ -1,4 +1,5 @@
--- The memory of a UNIX socket: 36 bytes, nine words of 32 bits, low byte first, of which three are read.
+-- The memory of a UNIX socket: 36 bytes, nine words of 32 bits, low byte first, of which three are
+-- read.
 use Rattle.std.specs.Prelude.{⊤, [], ◌∷◌, replicate}
 use Rattle.netlink_core.specs.Table.{number, unread, little_endian}
 use Rattle.netlink_core.specs.Format.{Format, plain}

@@ -1,4 +1,5 @@
--- What is shown of a netlink message: the five fields of its header in decimal, and its payload's bytes as a hex field.
+-- What is shown of a netlink message: the five fields of its header in decimal, and its payload's
+-- bytes as a hex field.
 use Rattle.std.specs.Prelude.{ℕ, List, [], ◌∷◌, ◌++◌, map, decimal}
 use Rattle.std.specs.List.{join_with_byte}
 use Rattle.netlink_core.specs.Envelope.{Envelope, payload_bytes}

@@ -21,7 +21,8 @@ subject C p = record {
   idle = C.idle p;
 }
 
--- a netlink message; the fields of its header as they were read and the written bytes of its payload are shown
+-- a netlink message; the fields of its header as they were read and the written bytes of its
+-- payload are shown
 abbrev pub envelope_subject : Subject
 envelope_subject = record (subject (envelope_codec message_codec) tt) { shown = shown_envelope }
 

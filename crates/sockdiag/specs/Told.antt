@@ -5,15 +5,16 @@ use Rattle.netlink_core.specs.declared.fault.DecodeError.{DecodeError}
 
 -- The text tells of bytes: `reads` says which values belong to them, `refuses` which faults refuse
 -- them, `fits` whether a value can be written, and `shown` what is shown of it. The text is `ok`
--- and that; `unwritable`, for a value that can't be written; or `refused` and the number of a fault.
+-- and that; `unwritable`, for a value that can't be written; or `refused` and the number of a
+-- fault.
 abbrev pub Tells : {Value : Type 0} → (Value → Type 0) → (DecodeError → Type 0) → (Value → Type 0) → (Value → List ℕ) → List ℕ → Type 0
 Tells {Value} reads refuses fits shown text =
     ((value : Value) × reads value × fits value × (text ≡ codes "ok " ++ shown value))
     ⊎ (((value : Value) × reads value × ¬ fits value × (text ≡ codes "unwritable"))
     ⊎ ((e : DecodeError) × refuses e × (text ≡ codes "refused " ++ decimal (number_of e))))
 
--- What bytes are read as: which values belong to them and which faults refuse them, which values can be written and what
--- is shown of them, and which bytes differ in idle details alone.
+-- What bytes are read as: which values belong to them and which faults refuse them, which values
+-- can be written and what is shown of them, and which bytes differ in idle details alone.
 pub record Subject : Type 1 where
   pub Value : Type 0
   pub reads : List ℕ → Value → Type 0
