@@ -25,7 +25,7 @@ behind_is (suc n) (b ∷ bs) = behind_is n bs
 -- the two words tell the attribute in front
 front_is : (bytes : List ℕ) (a : Attribute) → HeadIs bytes a → front_attribute bytes ≡ a
 front_is bytes a head =
-    let fits : length a.value ≤ 65531 = head.2.value in
+    let fits : length a.value ≤ 65531 = head.2.1 in
     let word : number_in little_endian 2 bytes ≡ 4 + length a.value = (word_is bytes a head).0 in
     let types : number_in little_endian 2 (drop 2 bytes) ≡ a.type_word = ap (λ (b : List ℕ). number_in little_endian 2 (drop 2 b)) head.1 ∙ omega (arith, head.2.0) in
     let long : number_in little_endian 2 bytes - 4 ≡ length a.value = omega arith in

@@ -18,7 +18,7 @@ use Rattle.sock_diag_attributes.specs.InetAttributeLaws.{inet_laws}
 use Rattle.netlink_packet_sock_diag.specs.InetReply.{inet_reply}
 
 -- bytes behind a header change nothing of what it tells
-goes_on : (tag : Tag) (left rest : List ℕ) → inet_response_header.least ≤ length left → inet_response_header.tag_at tt left ≡ Ok tag → inet_response_header.tag_at tt (left ++ rest) ≡ Ok tag
+goes_on : (tag : Kinds × ℕ) (left rest : List ℕ) → inet_response_header.least ≤ length left → inet_response_header.tag_at tt left ≡ Ok tag → inet_response_header.tag_at tt (left ++ rest) ≡ Ok tag
 unfolding inet_response_header
 goes_on tag left rest long e =
     let family : slice_index (left ++ rest) 0 ≡ slice_index left 0 = get_or_append_left left rest 0 0 (omega arith) in

@@ -18,7 +18,7 @@ use Rattle.sock_diag_records.specs.declared.inet.socket_id.SocketId.{SocketId}
 use Rattle.netlink_core.specs.declared.fault.DecodeError.{DecodeError}
 use Rattle.sock_diag_records.specs.SocketId.{address_values, address_rows, address_bytes, socket_id_rows, socket_id_values, socket_id, IsAddress, IsShaped}
 use Rattle.sock_diag_records.specs.SocketIdInverse.{count_of, address_of, socket_id_with, socket_id_of}
-use Rattle.sock_diag_records.specs.Kinds.{Kind, ipv4, ipv6, both, Kinds, kinds_of_family, kind_of, kinds_of}
+use Rattle.sock_diag_records.specs.Kinds.{Kind, ipv4, ipv6, Kinds, kinds_of_family, kind_of, kinds_of}
 
 -- an address is that of its values, and the values behind it are left
 length-address : (address : IpAddr) → length (address_values address) ≡ count_of (kind_of address)

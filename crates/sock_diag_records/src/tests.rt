@@ -12,7 +12,6 @@ use std::net::{IpAddr, Ipv4Addr};
 use std::test::Fail;
 use std::time::Duration;
 
-mod hostile;
 mod odd_values;
 mod shown;
 

@@ -1,4 +1,4 @@
-//! Each cut and each changed byte of four replies.
+//! Each cut and each changed byte of two requests and four replies.
 
 use super::read_twice::{ReadTwice, read_twice};
 use super::{
@@ -7,12 +7,23 @@ use super::{
 };
 use crate::SockDiagMessage;
 use crate::constants::SOCK_DIAG_BY_FAMILY;
-use crate::inet::InetResponse;
-use crate::unix::UnixResponse;
+use crate::inet::{InetRequest, InetResponse};
+use crate::unix::{UnixRequest, UnixResponse};
 use netlink_core::{DecodeError, canonical};
 use std::alloc::{AllocError, Global};
 use std::process::Abort;
 use std::test::Fail;
+
+// A request for UNIX sockets: all states that are known, inode 0x1234, the peer, a cookie of eight ff.
+const UNIX_REQUEST: [u8; 24] = [
+    1, 0, 0, 0, 2, 4, 0, 0, 0x34, 0x12, 0, 0, 4, 0, 0, 0, 255, 255, 255, 255, 255, 255, 255, 255,
+];
+
+// A request for the IPv4 sockets of UDP that are established.
+const INET_REQUEST: [u8; 56] = [
+    2, 0x11, 0, 0, 2, 0, 0, 0, 0, 0, 0, 0, 0, 0, 0, 0, 0, 0, 0, 0, 0, 0, 0, 0, 0, 0, 0, 0, 0, 0, 0,
+    0, 0, 0, 0, 0, 0, 0, 0, 0, 0, 0, 0, 0, 0, 0, 0, 0, 0, 0, 0, 0, 0, 0, 0, 0,
+];
 
 /// How many of some strings were accepted, how many of these with the value of the string that they were made from,
 /// and how many were refused by the fault of each number.
@@ -115,6 +126,37 @@ fn read_changes<T: ReadTwice>(
         }
     }
     Ok(tally)
+}
+
+#[test]
+fn each_cut_of_a_request(rt: HostRuntime) -> Result<(), Fail> {
+    assert_eq!(rt;
+        read_cuts::<UnixRequest>(&rt, rt.alloc(), &UNIX_REQUEST, ())?,
+        counted(0, 0, &[(2, 24)])
+    );
+    assert_eq!(rt;
+        read_cuts::<InetRequest>(&rt, rt.alloc(), &INET_REQUEST, ())?,
+        counted(0, 0, &[(2, 56)])
+    );
+    Ok(())
+}
+
+#[test]
+fn each_changed_byte_of_a_unix_request(rt: HostRuntime) -> Result<(), Fail> {
+    assert_eq!(rt;
+        read_changes::<UnixRequest>(&rt, rt.alloc(), &UNIX_REQUEST, ())?,
+        counted(6_120, 2_552, &[])
+    );
+    Ok(())
+}
+
+#[test]
+fn each_changed_byte_of_an_inet_request(rt: HostRuntime) -> Result<(), Fail> {
+    assert_eq!(rt;
+        read_changes::<InetRequest>(&rt, rt.alloc(), &INET_REQUEST, ())?,
+        counted(14_026, 6_901, &[(3, 254)])
+    );
+    Ok(())
 }
 
 #[test]

@@ -1,9 +1,9 @@
-//! Replies read with memory of their own and in place.
+//! What has two readers: a reply with memory of its own and in place, a request by each of its traits.
 
-use crate::inet::{InetResponse, InetResponseView};
-use crate::unix::{UnixResponse, UnixResponseView};
+use crate::inet::{InetRequest, InetResponse, InetResponseView};
+use crate::unix::{UnixRequest, UnixResponse, UnixResponseView};
 use crate::{SockDiagMessage, SockDiagView};
-use netlink_core::{DecodeError, Wire};
+use netlink_core::{DecodeError, Parseable, Wire};
 use smallvec::SmallVec;
 use std::alloc::{AllocError, Global};
 use std::fmt::Debug;
@@ -11,8 +11,8 @@ use std::process::Abort;
 
 /// A value with two readers.
 pub(crate) trait ReadTwice: Wire + Debug + Drop {
-    /// What is read in place, with memory of its own.
-    fn read_in_place(alloc: Global, bytes: &[u8], param: Self::Param) -> Result<Self, DecodeError>;
+    /// What the other reader reads, with memory of its own.
+    fn read_again(alloc: Global, bytes: &[u8], param: Self::Param) -> Result<Self, DecodeError>;
 
     /// A copy of the value.
     fn copied(&self, alloc: Global) -> Result<Self, AllocError>;
@@ -26,7 +26,7 @@ pub(crate) fn read_twice<T: ReadTwice>(
     param: T::Param,
 ) -> Result<T, DecodeError> {
     let owned = T::read(alloc, bytes, param);
-    assert_eq!(rt; T::read_in_place(alloc, bytes, param), owned, "{bytes:?}");
+    assert_eq!(rt; T::read_again(alloc, bytes, param), owned, "{bytes:?}");
     if let Ok(value) = &owned {
         assert!(rt;
             value.copied(alloc).is_ok_and(|copy| copy == *value),
@@ -37,7 +37,7 @@ pub(crate) fn read_twice<T: ReadTwice>(
 }
 
 impl ReadTwice for UnixResponse {
-    fn read_in_place(alloc: Global, bytes: &[u8], _param: ()) -> Result<Self, DecodeError> {
+    fn read_again(alloc: Global, bytes: &[u8], _param: ()) -> Result<Self, DecodeError> {
         let view = UnixResponseView::parse(bytes)?;
         let mut nlas = SmallVec::new(alloc);
         for nla in view.attributes() {
@@ -55,7 +55,7 @@ impl ReadTwice for UnixResponse {
 }
 
 impl ReadTwice for InetResponse {
-    fn read_in_place(alloc: Global, bytes: &[u8], _param: ()) -> Result<Self, DecodeError> {
+    fn read_again(alloc: Global, bytes: &[u8], _param: ()) -> Result<Self, DecodeError> {
         let view = InetResponseView::parse(bytes)?;
         let mut nlas = SmallVec::new(alloc);
         for nla in view.attributes() {
@@ -73,11 +73,31 @@ impl ReadTwice for InetResponse {
 }
 
 impl ReadTwice for SockDiagMessage {
-    fn read_in_place(alloc: Global, bytes: &[u8], message_type: u16) -> Result<Self, DecodeError> {
+    fn read_again(alloc: Global, bytes: &[u8], message_type: u16) -> Result<Self, DecodeError> {
         Ok(SockDiagView::parse(bytes, message_type)?.to_owned(alloc)?)
     }
 
     fn copied(&self, alloc: Global) -> Result<Self, AllocError> {
         self.clone(alloc)
+    }
+}
+
+impl ReadTwice for UnixRequest {
+    fn read_again(alloc: Global, bytes: &[u8], _param: ()) -> Result<Self, DecodeError> {
+        UnixRequest::parse(alloc, bytes)
+    }
+
+    fn copied(&self, _alloc: Global) -> Result<Self, AllocError> {
+        self.clone()
+    }
+}
+
+impl ReadTwice for InetRequest {
+    fn read_again(alloc: Global, bytes: &[u8], _param: ()) -> Result<Self, DecodeError> {
+        InetRequest::parse(alloc, bytes)
+    }
+
+    fn copied(&self, _alloc: Global) -> Result<Self, AllocError> {
+        self.clone()
     }
 }

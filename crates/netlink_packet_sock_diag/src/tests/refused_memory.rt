@@ -42,7 +42,7 @@ fn reads_or_wants_memory<T: ReadTwice>(
     written: &[u8],
 ) {
     let owned = T::read(alloc, bytes, param);
-    let in_place = T::read_in_place(alloc, bytes, param);
+    let in_place = T::read_again(alloc, bytes, param);
     assert!(rt; agree(owned, in_place));
     match canonical::<T>(alloc, bytes, param) {
         Ok(form) => assert_eq!(rt; form.as_slice(), written),

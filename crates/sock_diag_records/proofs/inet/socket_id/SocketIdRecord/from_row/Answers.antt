@@ -4,7 +4,7 @@ use Rattle.std.specs.declared.net.ip_addr.IpAddr.TheVariants.{V4, V6}
 use Rattle.netlink_core.proofs.FormatLaws.{accepts}
 use Rattle.netlink_core.proofs.Congruence.{◌⊛◌}
 use Rattle.sock_diag_records.specs.SocketId.{socket_id}
-use Rattle.sock_diag_records.specs.Kinds.{both, ipv4, ipv6, kinds_of_family}
+use Rattle.sock_diag_records.specs.Kinds.{ipv4, ipv6, kinds_of_family}
 use Rattle.sock_diag_records.specs.declared.inet.socket_id.SocketId.{SocketId}
 use Rattle.netlink_core.specs.declared.fault.DecodeError.{DecodeError}
 use Rattle.sock_diag_records.proofs.inet.socket_id.SocketIdRecord.from_row.Goals as goal
