@@ -13,11 +13,7 @@ use netlink_core::{
     DecodeError, DefaultNla, Emitable, Nla as NlaTrait, NlaBuffer, Parseable, Readable, Wire,
     WireNla, emit_nla, emit_u32, nla_len,
 };
-use sock_diag_records::constants::{
-    INET_DIAG_CLASS_ID, INET_DIAG_CONG, INET_DIAG_INFO, INET_DIAG_MARK, INET_DIAG_MEMINFO,
-    INET_DIAG_PROTOCOL, INET_DIAG_SHUTDOWN, INET_DIAG_SKMEMINFO, INET_DIAG_SKV6ONLY,
-    INET_DIAG_TCLASS, INET_DIAG_TOS,
-};
+use sock_diag_records::constants::*;
 pub use sock_diag_records::inet::nlas::{
     LegacyMemInfo, LegacyMemInfoBuffer, MemInfo, MemInfoBuffer, MemInfoBytes, TcpInfo,
     TcpInfoBuffer,

@@ -13,10 +13,7 @@ use netlink_core::{
     DecodeError, DefaultNla, Emitable, Nla as NlaTrait, NlaBuffer, Parseable, Readable, Wire,
     WireNla, emit_nla, emit_u32, nla_len,
 };
-use sock_diag_records::constants::{
-    UNIX_DIAG_ICONS, UNIX_DIAG_MEMINFO, UNIX_DIAG_NAME, UNIX_DIAG_PEER, UNIX_DIAG_RQLEN,
-    UNIX_DIAG_SHUTDOWN, UNIX_DIAG_VFS,
-};
+use sock_diag_records::constants::*;
 pub use sock_diag_records::unix::nlas::{MemInfo, MemInfoBuffer, Vfs, VfsBuffer};
 use std::alloc::{AllocError, Global};
 use std::default::MadeWith;
