@@ -27,4 +27,6 @@ CutIntoMessages bytes (message ∷ later) end = (rest : List ℕ) × StartsWithM
 -- the bytes are these messages alone, with all padding there
 abbrev pub AreWholeMessages : List ℕ → List (List ℕ) → Type 0
 AreWholeMessages bytes [] = bytes ≡ []
-AreWholeMessages bytes (message ∷ later) = (padding rest : List ℕ) × (bytes ≡ message ++ (padding ++ rest)) × IsMessageString message × (length padding ≡ fill (length message)) × AreWholeMessages rest later
+AreWholeMessages bytes (message ∷ later) = (padding rest : List ℕ)
+    × (bytes ≡ message ++ (padding ++ rest)) × IsMessageString message
+    × (length padding ≡ fill (length message)) × AreWholeMessages rest later

@@ -8,17 +8,21 @@ use Rattle.netlink_core.specs.Datagram.{CutIntoMessages}
 use Rattle.netlink_core.specs.Codec.{Codec}
 use Rattle.netlink_core.specs.Envelope.{Payload, envelope_codec}
 
+-- an item of a datagram: what a message carries, or its fault
+abbrev pub Item : Type 0 → Type 0
+Item A = Result (Payload A) DecodeError
+
 -- What belongs to a datagram, by the codec of inner messages under a type.
 module _ (C : Codec ℕ) where
   -- a message as what it carries, or as its fault
-  abbrev pub ItemIs : List ℕ → Result (Payload C.Value) DecodeError → Type 0
+  abbrev pub ItemIs : List ℕ → Item C.Value → Type 0
   ItemIs message (Ok payload) =
       (h : NetlinkHeader) × (envelope_codec C).reads message tt (record { header = h; payload = payload })
   ItemIs message (Err e) = (envelope_codec C).refuses message tt e
 
   -- the messages of a datagram in order, and last the fault of what stands behind them, if there is
   -- one
-  abbrev pub ItemsAre : List ℕ → List (Result (Payload C.Value) DecodeError) → Type 0
+  abbrev pub ItemsAre : List ℕ → List (Item C.Value) → Type 0
   ItemsAre bytes items = (messages : List (List ℕ)) × (end : Option DecodeError)
-      × (carried : List (Result (Payload C.Value) DecodeError)) × CutIntoMessages bytes messages end
+      × (carried : List (Item C.Value)) × CutIntoMessages bytes messages end
       × AllZip ItemIs messages carried × (items ≡ carried ++ option_to_list (option_map Err end))

@@ -16,7 +16,8 @@ front_attribute bytes = record { type_word = number_in little_endian 2 (drop 2 b
 -- those behind the next so many bytes, each at the next multiple of four
 unfoldable pub attributes_behind : ℕ → List ℕ → List Attribute
 attributes_behind n [] = []
-attributes_behind zero (byte ∷ bytes) = front_attribute (byte ∷ bytes) ∷ attributes_behind (number_in little_endian 2 (byte ∷ bytes) + fill (number_in little_endian 2 (byte ∷ bytes)) - 1) bytes
+attributes_behind zero (byte ∷ bytes) =
+    front_attribute (byte ∷ bytes) ∷ attributes_behind (number_in little_endian 2 (byte ∷ bytes) + fill (number_in little_endian 2 (byte ∷ bytes)) - 1) bytes
 attributes_behind (suc n) (byte ∷ bytes) = attributes_behind n bytes
 
 -- no fault is in the bytes

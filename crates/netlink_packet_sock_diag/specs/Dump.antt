@@ -4,8 +4,8 @@ use Rattle.std.specs.List.{AllByRecursion, AllZip, flat_map}
 use Rattle.netlink_core.specs.declared.fault.DecodeError.{DecodeError}
 use Rattle.netlink_core.specs.Codec.{Codec}
 use Rattle.netlink_core.specs.Datagram.{AreWholeMessages}
-use Rattle.netlink_core.specs.Envelope.{Payload, done_with, error_with, overrun_with, inner}
-use Rattle.netlink_core.specs.Items.{ItemsAre}
+use Rattle.netlink_core.specs.Envelope.{done_with, error_with, overrun_with, inner}
+use Rattle.netlink_core.specs.Items.{Item, ItemsAre}
 use Rattle.netlink_packet_sock_diag.specs.declared.dump.DumpState.{DumpState}
 use Rattle.netlink_packet_sock_diag.specs.declared.dump.DumpState.TheVariants.{Reading, Done, Error, Overrun}
 
@@ -15,13 +15,13 @@ in_a_row lists = flat_map (λ one. one) lists
 
 module _ {A : Type 0} where
   -- what is kept of the item
-  abbrev pub kept : Result (Payload A) DecodeError → List A
+  abbrev pub kept : Item A → List A
   kept (Ok (inner value)) = value ∷ []
   kept _ = []
 
   -- how the item ends a dump: in a state, or with a fault; after a message, or one of nothing, it
   -- goes on
-  abbrev pub end_of : Result (Payload A) DecodeError → Option (Result DumpState DecodeError)
+  abbrev pub end_of : Item A → Option (Result DumpState DecodeError)
   end_of (Ok (done_with given)) = Some (Ok Done)
   end_of (Ok (error_with given)) = Some (Ok Error)
   end_of (Ok (overrun_with given)) = Some (Ok Overrun)
@@ -29,50 +29,53 @@ module _ {A : Type 0} where
   end_of _ = None
 
   -- the first of the later items ends the dump; where there is none it is still read
-  abbrev pub Ends : List (Result (Payload A) DecodeError) → Result DumpState DecodeError → Type 0
+  abbrev pub Ends : List (Item A) → Result DumpState DecodeError → Type 0
   Ends [] end = end ≡ Ok Reading
   Ends (item ∷ later) end = end_of item ≡ Some end
 
   -- The inner messages of the longest beginning of the items that holds inner messages and messages
   -- of nothing alone follow those before, and the next item is the end.
-  abbrev pub Dump : List A → List (Result (Payload A) DecodeError) → List A → Result DumpState DecodeError → Type 0
-  Dump before items after end = (passed later : List (Result (Payload A) DecodeError))
+  abbrev pub Dump : List A → List (Item A) → List A → Result DumpState DecodeError → Type 0
+  Dump before items after end = (passed later : List (Item A))
       × (items ≡ passed ++ later) × AllByRecursion (λ item. end_of item ≡ None) passed
       × (after ≡ before ++ flat_map kept passed) × Ends later end
 
   -- the dump over some first items is still read, and the next is an inner message, for which there
   -- was no memory
-  abbrev pub DumpStopped : List A → List (Result (Payload A) DecodeError) → List A → Type 0
-  DumpStopped before items after = (passed later : List (Result (Payload A) DecodeError)) × (next : A)
+  abbrev pub DumpStopped : List A → List (Item A) → List A → Type 0
+  DumpStopped before items after = (passed later : List (Item A)) × (next : A)
       × (items ≡ passed ++ (Ok (inner next) ∷ later)) × Dump before passed after (Ok Reading)
 
 -- the dump goes on, if it was still read; else its list and its end stay
-abbrev pub DumpGoesOn : {A : Type 0} → List A → Result DumpState DecodeError → List (Result (Payload A) DecodeError) → List A → Result DumpState DecodeError → Type 0
-DumpGoesOn middle state items after end = ((state ≡ Ok Reading) × Dump middle items after end) ⊎ ((state ≢ Ok Reading) × (after ≡ middle) × (end ≡ state))
+abbrev pub DumpGoesOn : {A : Type 0} → List A → Result DumpState DecodeError
+    → List (Item A) → List A → Result DumpState DecodeError → Type 0
+DumpGoesOn middle state items after end = ((state ≡ Ok Reading) × Dump middle items after end)
+    ⊎ ((state ≢ Ok Reading) × (after ≡ middle) × (end ≡ state))
 
 -- the dump over the items of a datagram, by the codec of inner messages under a type
 module _ (C : Codec ℕ) where
   -- to its end
   abbrev pub DatagramDump : List C.Value → List ℕ → List C.Value → Result DumpState DecodeError → Type 0
   DatagramDump before datagram after end =
-      (items : List (Result (Payload C.Value) DecodeError)) × ItemsAre C datagram items × Dump before items after end
+      (items : List (Item C.Value)) × ItemsAre C datagram items × Dump before items after end
 
   -- up to a message for which there was no memory
   abbrev pub DatagramStopped : List C.Value → List ℕ → List C.Value → Type 0
   DatagramStopped before datagram after =
-      (items : List (Result (Payload C.Value) DecodeError)) × ItemsAre C datagram items × DumpStopped before items after
+      (items : List (Item C.Value)) × ItemsAre C datagram items × DumpStopped before items after
 
   -- these are the items of the datagrams, in a row
-  abbrev pub HaveItems : List (List ℕ) → List (Result (Payload C.Value) DecodeError) → Type 0
-  HaveItems datagrams row = (items : List (List (Result (Payload C.Value) DecodeError)))
+  abbrev pub HaveItems : List (List ℕ) → List (Item C.Value) → Type 0
+  HaveItems datagrams row = (items : List (List (Item C.Value)))
       × AllZip (ItemsAre C) datagrams items × (row ≡ in_a_row items)
 
   -- the dump over several datagrams, one after the other
   abbrev pub DatagramsDump : List C.Value → List (List ℕ) → List C.Value → Result DumpState DecodeError → Type 0
   DatagramsDump before datagrams after end =
-      (row : List (Result (Payload C.Value) DecodeError)) × HaveItems datagrams row × Dump before row after end
+      (row : List (Item C.Value)) × HaveItems datagrams row × Dump before row after end
 
 -- each datagram but the last one is whole messages alone, with all padding there
 abbrev pub AreSplit : List (List ℕ) → Type 0
 AreSplit [] = ⊤
-AreSplit (datagram ∷ later) = ((later ≡ []) ⊎ ((messages : List (List ℕ)) × AreWholeMessages datagram messages)) × AreSplit later
+AreSplit (datagram ∷ later) =
+    ((later ≡ []) ⊎ ((messages : List (List ℕ)) × AreWholeMessages datagram messages)) × AreSplit later

@@ -10,9 +10,9 @@ use Rattle.netlink_core.proofs.FormatLaws.{accepted, keeps_laws}
 use Rattle.netlink_core.proofs.Prefixes.{stands_in_front}
 use Rattle.netlink_core.proofs.Replies.{replies_keep_laws}
 use Rattle.sock_diag_records.specs.declared.inet.response.InetResponseHeader.{InetResponseHeader}
-use Rattle.sock_diag_records.specs.Kinds.{kinds_of_family}
+use Rattle.sock_diag_records.specs.Kinds.{Kinds, kinds_of_family}
 use Rattle.sock_diag_records.specs.InetResponse.{inet_response_header}
-use Rattle.sock_diag_records.specs.Timer.{Tag, class_of_byte}
+use Rattle.sock_diag_records.specs.Timer.{class_of_byte}
 use Rattle.sock_diag_records.specs.InetResponseLaws.{header_sound, header_size, with_class}
 use Rattle.sock_diag_attributes.specs.InetAttributeLaws.{inet_laws}
 use Rattle.netlink_packet_sock_diag.specs.InetReply.{inet_reply}

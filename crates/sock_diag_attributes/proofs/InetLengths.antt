@@ -4,7 +4,7 @@ use Rattle.netlink_core.specs.Format.{bytes}
 use Rattle.sock_diag_values.specs.TcpInfo as connection
 use Rattle.sock_diag_values.specs.declared.inet.tcp_info.TcpInfo.{TcpInfo as Connection}
 use Rattle.sock_diag_values.specs.MemInfo as memory
-use Rattle.sock_diag_values.specs.MemInfoLaws.{mem_info_sound}
+use Rattle.sock_diag_values.specs.MemInfoLaws.{mem_info_sound, words_of}
 use Rattle.sock_diag_values.specs.declared.inet.mem_info.MemInfo.{MemInfo as Memory}
 
 -- a TCP connection is told in 232 bytes
@@ -12,7 +12,7 @@ pub tcp_info_long : (t : Connection) → length (bytes connection.tcp_info t) �
 unfolding connection.tcp_info
 tcp_info_long t = refl
 
-words_fit : (backlog drops : Option ℕ) → 4 * memory.words_of backlog drops ≤ 36
+words_fit : (backlog drops : Option ℕ) → 4 * words_of backlog drops ≤ 36
 words_fit backlog (Some drops) = omega arith
 words_fit (Some backlog) None = omega arith
 words_fit None None = omega arith

@@ -1,6 +1,6 @@
 -- The memory of a socket: seven, eight or nine words of 32 bits, low byte first. Kernels added the
 -- last two in turn.
-use Rattle.std.specs.Prelude.{⊤, ℕ, ◌*◌, List, [], ◌∷◌, Option, Some, None, Ok, nat_lt, if◌then◌else◌, length, unwrap_or, IfSome, IsSome}
+use Rattle.std.specs.Prelude.{⊤, ℕ, ◌+◌, ◌*◌, List, [], ◌∷◌, Option, Some, None, Ok, nat_lt, if◌then◌else◌, length, unwrap_or, IfSome, IsSome}
 use Rattle.netlink_core.specs.Table.{numbers, little_endian}
 use Rattle.netlink_core.specs.Format.{Format}
 use Rattle.netlink_core.specs.declared.fault.RecordName.TheVariants as name
@@ -13,12 +13,6 @@ use Rattle.sock_diag_values.specs.declared.inet.mem_info.MemInfoBuffer.{MemInfoB
 -- how many whole words stand in so many bytes, 28 or more: nine at most
 abbrev pub words_in : ℕ → ℕ
 words_in bytes = if nat_lt bytes 32 then 7 else if nat_lt bytes 36 then 8 else 9
-
--- with how many words a value of this backlog and these drops is written
-abbrev pub words_of : Option ℕ → Option ℕ → ℕ
-words_of backlog (Some drops) = 9
-words_of (Some backlog) None = 8
-words_of None None = 7
 
 -- the words behind the seventh; in front of drops an absent backlog is 0
 abbrev pub last_words : Option ℕ → Option ℕ → List ℕ
@@ -40,7 +34,7 @@ mem_info = record {
   least = 28;
   size = λ words. 4 * words;
   tag_at = λ param left. Ok (words_in (length left));
-  tag_of = λ value. words_of value.backlog_queue_length value.drops;
+  tag_of = λ value. 7 + length (last_words value.backlog_queue_length value.drops);
   table = λ words. numbers 0 4 little_endian words;
   values = λ value. words_before value (last_words value.backlog_queue_length value.drops);
   value = λ words values. mem_info_of values;

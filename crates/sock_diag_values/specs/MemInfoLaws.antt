@@ -1,12 +1,12 @@
 -- The record of a socket's memory is sound.
-use Rattle.std.proofs.Common.{◌≡◌, ◌∙◌, inl, inr, ℕ, ◌*◌, ◌≤◌, Bool, true, false, if◌then◌else◌, IsTrue, List, Option, Some, None, Result, Ok, length, refl, ap, ap₂, subst, arith, le-ltb, lt-ltb}
+use Rattle.std.proofs.Common.{◌≡◌, ◌∙◌, inl, inr, ℕ, ◌+◌, ◌*◌, ◌≤◌, Bool, true, false, if◌then◌else◌, IsTrue, List, Option, Some, None, Result, Ok, length, refl, ap, ap₂, subst, arith, le-ltb, lt-ltb}
 use Rattle.std.specs.Prelude.{nat_lt, slice_get, IfSome, IsSome}
 use Rattle.std.proofs.lemmas.Bool.{cases_lt}
 use Rattle.netlink_core.specs.Table.{numbers, little_endian, bytes_of, values_of}
 use Rattle.netlink_core.specs.SoundLaws.{is_table, IsSound}
 use Rattle.netlink_core.specs.declared.fault.DecodeError.{DecodeError}
 use Rattle.sock_diag_values.specs.declared.inet.mem_info.MemInfo.{MemInfo}
-use Rattle.sock_diag_values.specs.MemInfo.{words_in, words_of, last_words, words_before, mem_info}
+use Rattle.sock_diag_values.specs.MemInfo.{words_in, last_words, words_before, mem_info}
 
 -- what holds of 7, of 8 and of 9 holds of the words that a string tells
 chosen : (P : ℕ → Type 0) → P 7 → P 8 → P 9 → (under_eight under_nine : Bool) → P (if under_eight then 7 else if under_nine then 8 else 9)
@@ -21,6 +21,10 @@ each : (P : ℕ → Type 0) → P 7 → P 8 → P 9 → (left : List ℕ) (words
 each P p q r left words e =
     let same : words_in (length left) ≡ words = cc in
     subst P same (chosen P p q r (nat_lt (length left) 32) (nat_lt (length left) 36))
+
+-- with how many words a value of this backlog and these drops is written
+abbrev pub words_of : Option ℕ → Option ℕ → ℕ
+words_of backlog drops = 7 + length (last_words backlog drops)
 
 -- and of those that a value is written by
 each_written : (P : ℕ → Type 0) → P 7 → P 8 → P 9 → (backlog drops : Option ℕ) → P (words_of backlog drops)

@@ -16,9 +16,9 @@ use Rattle.netlink_packet_sock_diag.specs.Dump.{AreSplit, Dump, DatagramDump, Da
 use Rattle.netlink_packet_sock_diag.specs.Message.{Message, message_codec}
 use Rattle.netlink_packet_sock_diag.specs.MessageLaws.{message_laws}
 use Rattle.netlink_packet_sock_diag.proofs.DumpRows.{dump_of_split, has_dump, items_of_each, joined, one_dump, one_row, same_dump, split_of_dump}
-use Rattle.sockdiag.specs.DumpLine.{TellsDump, ToldDump, shown_dump}
+use Rattle.sockdiag.specs.DumpLine.{TellsDump, shown_dump}
 use Rattle.sockdiag.specs.HexField.{IsHexField}
-use Rattle.sockdiag.specs.ReadDumpSteps.{IsDumpOf, IsWritable, ended_with}
+use Rattle.sockdiag.specs.ReadDumpSteps.{ToldDump, IsDumpOf, IsWritable, ended_with}
 use Rattle.sockdiag.proofs.Deciding.{each_or_not, message_fits_or_not}
 use Rattle.sockdiag.proofs.EnvelopeLaws.{envelope_laws}
 use Rattle.sockdiag.proofs.FieldLaws.{IsBytes-field}
@@ -62,7 +62,7 @@ fields_typed (f ∷ fields) (d ∷ datagrams) each = (IsBytes-field f d each.0, 
 pub has_dump_text : (datagrams : List (List ℕ)) → AllByRecursion IsBytes datagrams → (text : List ℕ) × TellsDump datagrams text
 has_dump_text datagrams typed =
     let dump = has_dumps [] datagrams typed in
-    tells_value IsWritable shown_dump (λ d. IsDumpOf datagrams d) (λ fault. ⊥) (record { messages = dump.0; end = dump.1 }) dump.2
+    tells_value IsWritable shown_dump (λ d. IsDumpOf datagrams d) (λ fault. ⊥) (dump.0, dump.1) dump.2
     (each_or_not _ message_fits_or_not dump.0)
 
 -- and no other
@@ -70,7 +70,7 @@ pub one_dump_text : (datagrams : List (List ℕ)) → AllByRecursion IsBytes dat
 one_dump_text datagrams typed = one_telling IsWritable shown_dump (λ d. IsDumpOf datagrams d) (λ fault. ⊥) one (λ d fault is never. never) (λ fault other never also. absurd never)
   where
     one : (d e : ToldDump) → IsDumpOf datagrams d → IsDumpOf datagrams e → d ≡ e
-    one d e is also = let same = one_dumps [] datagrams typed d.messages e.messages d.end e.end is also in λ i. record { messages = same.0 i; end = same.1 i }
+    one d e is also = let same = one_dumps [] datagrams typed d.0 e.0 d.1 e.1 is also in λ i. (same.0 i, same.1 i)
 
 -- what tells of datagrams tells of others that have the same dumps
 tells_others : (datagrams others : List (List ℕ)) → ((d : ToldDump) → IsDumpOf datagrams d → IsDumpOf others d) → (text : List ℕ) → TellsDump datagrams text → TellsDump others text
@@ -85,15 +85,15 @@ pub tells_same_items : (datagrams others : List (List ℕ)) (row : List (Result 
 tells_same_items datagrams others row typed h k =
     tells_others datagrams others
     (λ d. same_dump message_codec one_items datagrams others h.0 k.0 typed h.1 k.1
-    (sym h.2 ∙ k.2) [] d.messages d.end)
+    (sym h.2 ∙ k.2) [] d.0 d.1)
 
 -- another split
 pub tells_split : (datagrams others : List (List ℕ)) → AllByRecursion IsBytes datagrams → AllByRecursion IsBytes others → AreSplit datagrams → AreSplit others
     → in_a_row datagrams ≡ in_a_row others → (text : List ℕ) → TellsDump datagrams text → TellsDump others text
 tells_split datagrams others typed fits split cut same =
-    tells_others datagrams others (λ d is. split_of_dump message_codec some_items one_items others fits cut [] d.messages d.end
-    (subst (λ (bytes : List ℕ). DatagramDump message_codec [] bytes d.messages d.end) same
-    (dump_of_split message_codec datagrams split [] d.messages d.end is)))
+    tells_others datagrams others (λ d is. split_of_dump message_codec some_items one_items others fits cut [] d.0 d.1
+    (subst (λ (bytes : List ℕ). DatagramDump message_codec [] bytes d.0 d.1) same
+    (dump_of_split message_codec datagrams split [] d.0 d.1 is)))
 
 -- ---- one datagram more
 

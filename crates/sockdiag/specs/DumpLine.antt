@@ -15,11 +15,6 @@ abbrev pub IsDumpRequest : List ℕ → List (List ℕ) → Type 0
 IsDumpRequest line datagrams = (fields : List ℕ) × (line ≡ codes "dump" ++ 32 ∷ fields)
     × AllZip IsHexField (slice_split (λ c. c == 32) fields) datagrams
 
--- the messages that a dump keeps, and how it ends
-pub record ToldDump : Type 0 where
-  pub messages : List Message
-  pub end : Result DumpState DecodeError
-
 -- the word for the state, or `failed:` and the number of the fault
 abbrev pub end_word : Result DumpState DecodeError → List ℕ
 end_word (Ok Reading) = codes "reading"
@@ -29,14 +24,15 @@ end_word (Ok Overrun) = codes "overrun"
 end_word (Ok Failed) = codes "failed"
 end_word (Err fault) = codes "failed:" ++ decimal (number_of fault)
 
--- how it ends, a space, how many messages it keeps, and a space and a hex field for each of them
-abbrev pub shown_dump : ToldDump → List ℕ
-shown_dump dump = end_word dump.end ++ 32 ∷ decimal (length dump.messages)
-    ++ flat_map (λ message. 32 ∷ field_of (message_codec.written message)) dump.messages
+-- of a dump's messages and its end: how it ends, a space, how many messages it keeps, and a space
+-- and a hex field for each of them
+abbrev pub shown_dump : List Message × Result DumpState DecodeError → List ℕ
+shown_dump dump = end_word dump.1 ++ 32 ∷ decimal (length dump.0)
+    ++ flat_map (λ message. 32 ∷ field_of (message_codec.written message)) dump.0
 
 -- The text tells of the dump over the datagrams, which is never refused. It can be written where
 -- each message that it keeps can be.
 abbrev pub TellsDump : List (List ℕ) → List ℕ → Type 0
 TellsDump datagrams text =
-    Tells (λ dump. DatagramsDump message_codec [] datagrams dump.messages dump.end)
-    (λ fault. ⊥) (λ dump. AllByRecursion message_codec.fits dump.messages) shown_dump text
+    Tells (λ dump. DatagramsDump message_codec [] datagrams dump.0 dump.1)
+    (λ fault. ⊥) (λ dump. AllByRecursion message_codec.fits dump.0) shown_dump text

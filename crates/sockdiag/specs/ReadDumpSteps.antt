@@ -8,20 +8,23 @@ use Rattle.sockdiag.specs.declared.dump_line.ReadDump.{ReadDump}
 use Rattle.std.specs.List.{AllByRecursion, AllZip, slice_split}
 use Rattle.netlink_packet_sock_diag.specs.Dump.{DatagramsDump}
 use Rattle.netlink_packet_sock_diag.specs.Message.{Message, message_codec}
-use Rattle.sockdiag.specs.DumpLine.{ToldDump}
 use Rattle.sockdiag.specs.HexField.{IsHexField, field_of}
 
 -- the parts of the text between spaces, 32, are hex fields of these datagrams
 abbrev pub AreHexFields : List ℕ → List (List ℕ) → Type 0
 AreHexFields text datagrams = AllZip IsHexField (slice_split (λ c. c == 32) text) datagrams
 
+-- the messages that a dump keeps, and how it ends
+abbrev pub ToldDump : Type 0
+ToldDump = List Message × Result DumpState DecodeError
+
 -- the dump over the datagrams
 abbrev pub IsDumpOf : List (List ℕ) → ToldDump → Type 0
-IsDumpOf datagrams dump = DatagramsDump message_codec [] datagrams dump.messages dump.end
+IsDumpOf datagrams dump = DatagramsDump message_codec [] datagrams dump.0 dump.1
 
 -- each message that it keeps can be written
 abbrev pub IsWritable : ToldDump → Type 0
-IsWritable dump = AllByRecursion message_codec.fits dump.messages
+IsWritable dump = AllByRecursion message_codec.fits dump.0
 
 -- a space and the bytes of a message as a hex field
 abbrev pub shown_message : Message → List ℕ
@@ -38,7 +41,7 @@ end_of dump = ended_with dump.reader.state dump.fault
 
 -- what is told of it
 abbrev pub told_dump : ReadDump → ToldDump
-told_dump dump = record { messages = kept_messages dump.reader; end = end_of dump }
+told_dump dump = (kept_messages dump.reader, end_of dump)
 
 -- it is the dump over these datagrams, and has no fault while it is read
 pub record IsReadDump (datagrams : List (List ℕ)) (dump : ReadDump) : Type 0 where
