@@ -52,7 +52,7 @@ module _ (C : Codec ℕ) where
   pub item_in_front : (bytes message rest : List ℕ) (item : Result (Payload C.Value) DecodeError) (later : List (Result (Payload C.Value) DecodeError))
       → StartsWithMessage bytes message rest → ItemIs C message item → ItemsAre C rest later → ItemsAre C bytes (item ∷ later)
   item_in_front bytes message rest item later s is (messages, end, carried, cut, each, parts) =
-    (message ∷ messages, end, item ∷ carried, (rest, s, cut), (is, each), ap (λ (t : List (Result (Payload C.Value) DecodeError)). item ∷ t) parts)
+      (message ∷ messages, end, item ∷ carried, (rest, s, cut), (is, each), ap (λ (t : List (Result (Payload C.Value) DecodeError)). item ∷ t) parts)
 
   -- no bytes have no items
   pub no_items : ItemsAre C [] []
@@ -87,8 +87,7 @@ module _ (C : Codec ℕ) where
   items_in_a_row front back messages xs ys whole a b =
       let cut : CutIntoMessages front messages None = rw (append-nil front, append-nil messages) at (messages_in_a_row front [] messages [] None whole refl) in
       let same = one_cut_into_messages front a.0 messages a.1 None a.3 cut in
-      let all : xs ≡ a.2 = a.5 ∙ ap (λ (e : Option DecodeError). a.2 ++ option_to_list (option_map Err e)) same.1 ∙ append-nil a.2 in
-      (
+      let all : xs ≡ a.2 = a.5 ∙ ap (λ (e : Option DecodeError). a.2 ++ option_to_list (option_map Err e)) same.1 ∙ append-nil a.2 in (
         messages ++ b.0,
         b.1,
         a.2 ++ b.2,
