@@ -73,12 +73,6 @@ module _ {Param Tag Value : Type 0} (format : Format Param Tag Value) where
 same_tag : {T : Type 0} (r : Result T DecodeError) (s t : T) → r ≡ Ok s → r ≡ Ok t → s ≡ t
 same_tag r s t e f = cc
 
-pub same_fault : {T : Type 0} (r : Result T DecodeError) (e f : DecodeError) → r ≡ Err e → r ≡ Err f → e ≡ f
-same_fault r e f h k = cc
-
-pub not_both : {T : Type 0} (r : Result T DecodeError) (v : T) (e : DecodeError) → r ≡ Ok v → r ≡ Err e → ⊥
-not_both r v e h k = cc
-
 module _ {Param Tag Value : Type 0} (format : Format Param Tag Value) (sound : IsSound format) where
   -- the table that a string tells, and that of a value
   table_is : (param : Param) (tag : Tag) (left : List ℕ) → format.tag_at param left ≡ Ok tag → IsTable 0 (format.table tag) (format.size tag)
@@ -166,8 +160,8 @@ module _ {Param Tag Value : Type 0} (format : Format Param Tag Value) (sound : I
   pub keeps_laws : KeepsLaws (record_codec format)
   keeps_laws = record {
     answered = λ b p tb. value_or_reason (read format p b);
-    one_answer = λ b p v e h k. not_both (read format p b) v e h k;
-    one_fault = λ b p e f h k. same_fault (read format p b) e f h k;
+    one_answer = λ b p v e h k. cc;
+    one_fault = λ b p e f h k. cc;
     named_fault = λ b p h. named p b h;
     same_value = λ b c p v w tb tc r s. (
       λ e. idle_from_equal p b c v tb tc (accepted format p b v r) (accepted format p c v (s ∙ ap (λ (x : Value). ok x) (sym e))),

@@ -35,18 +35,7 @@ pub enum RecordName {
 
 impl fmt::Display for RecordName {
     fn fmt<W: fmt::Write>(&self, f: &mut fmt::Formatter<W>) -> fmt::Result {
-        f.write_str(match self {
-            RecordName::SocketId => "SocketId",
-            RecordName::InetRequest => "InetRequest",
-            RecordName::InetResponseHeader => "InetResponseHeader",
-            RecordName::UnixRequest => "UnixRequest",
-            RecordName::UnixResponseHeader => "UnixResponseHeader",
-            RecordName::LegacyMemInfo => "LegacyMemInfo",
-            RecordName::MemInfo => "MemInfo",
-            RecordName::TcpInfo => "TcpInfo",
-            RecordName::Vfs => "Vfs",
-            RecordName::UnixMemInfo => "UnixMemInfo",
-        })
+        write!(f, "{self:?}")
     }
 }
 

@@ -9,7 +9,6 @@ use Rattle.sock_diag_values.specs.LegacyMemInfoInverse.{legacy_mem_info_of}
 
 -- the words at 0, 4, 8 and 12
 abbrev pub legacy_mem_info : Format (Unit {0}) (Unit {0}) LegacyMemInfo
-legacy_mem_info = plain name.LegacyMemInfo 16
-    (numbers 0 4 little_endian 4)
+legacy_mem_info = plain name.LegacyMemInfo 16 (numbers 0 4 little_endian 4)
     (λ value. value.receive_queue ∷ value.bottom_send_queue ∷ value.cache ∷ value.send_queue ∷ [])
     legacy_mem_info_of (λ value. ⊤)

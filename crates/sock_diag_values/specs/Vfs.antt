@@ -8,7 +8,5 @@ use Rattle.sock_diag_values.specs.VfsInverse.{vfs_of}
 
 -- the inode at 0 and the device at 4
 abbrev pub vfs : Format (Unit {0}) (Unit {0}) Vfs
-vfs = plain name.Vfs 8
-    (numbers 0 4 little_endian 2)
-    (λ value. value.inode ∷ value.device ∷ [])
-    vfs_of (λ value. ⊤)
+vfs = plain name.Vfs 8 (numbers 0 4 little_endian 2)
+    (λ value. value.inode ∷ value.device ∷ []) vfs_of (λ value. ⊤)

@@ -48,8 +48,7 @@ impl Record for UnixRequest {
         24
     }
 
-    /// Reads the first 24 bytes. What follows them is ignored, and fewer are
-    /// [`DecodeError::BufferTooSmall`].
+    /// Reads the first 24 bytes. What follows them is ignored, and fewer are [`DecodeError::BufferTooSmall`].
     fn from_row(payload: &[u8], _told: ()) -> Result<Self, DecodeError> {
         let [state_flags, inode, show_flags] = words_at::<3>(payload, 4);
         Ok(UnixRequest {
@@ -72,9 +71,7 @@ impl Record for UnixRequest {
     }
 
     fn row_typed(&self) {
-        let _state_flags = self.state_flags.bits();
-        let _inode = self.inode;
-        let _show_flags = self.show_flags.bits();
+        let _words = (self.state_flags.bits(), self.inode, self.show_flags.bits());
         bytes_typed(&self.cookie);
     }
 

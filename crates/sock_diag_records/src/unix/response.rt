@@ -48,8 +48,7 @@ impl Record for UnixResponseHeader {
         16
     }
 
-    /// Reads the first 16 bytes. What follows them is ignored, and fewer are
-    /// [`DecodeError::BufferTooSmall`].
+    /// Reads the first 16 bytes. What follows them is ignored, and fewer are [`DecodeError::BufferTooSmall`].
     fn from_row(payload: &[u8], _told: ()) -> Result<Self, DecodeError> {
         let [inode] = words_at::<1>(payload, 4);
         Ok(UnixResponseHeader {
@@ -69,9 +68,7 @@ impl Record for UnixResponseHeader {
     }
 
     fn row_typed(&self) {
-        let _kind = self.kind;
-        let _state = self.state;
-        let _inode = self.inode;
+        let _numbers = (self.kind, self.state, self.inode);
         bytes_typed(&self.cookie);
     }
 

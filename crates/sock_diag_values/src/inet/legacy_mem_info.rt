@@ -68,10 +68,12 @@ impl Record for LegacyMemInfo {
     }
 
     fn row_typed(&self) {
-        let _receive_queue = self.receive_queue;
-        let _bottom_send_queue = self.bottom_send_queue;
-        let _cache = self.cache;
-        let _send_queue = self.send_queue;
+        let LegacyMemInfo {
+            receive_queue: _a,
+            bottom_send_queue: _b,
+            cache: _c,
+            send_queue: _d,
+        } = *self;
     }
 
     ghost laws = { record_laws legacy_mem_info (plain_sound refl (λ _. refl) (λ _. refl) (λ _. tt) (λ _ _. refl)) };
@@ -82,8 +84,7 @@ impl Fills<16> for LegacyMemInfo {
 }
 
 impl LegacyMemInfo {
-    /// Reads the first 16 bytes. What follows them is ignored, and fewer are
-    /// [`DecodeError::BufferTooSmall`].
+    /// Reads the first 16 bytes. What follows them is ignored, and fewer are [`DecodeError::BufferTooSmall`].
     pub fn parse(payload: &[u8]) -> Result<Self, DecodeError>
         ensures { result ≡ read legacy_mem_info tt payload.now }
     {

@@ -281,8 +281,7 @@ impl Fills<232> for TcpInfo {
 }
 
 impl TcpInfo {
-    /// Reads the first 232 bytes. What follows them is ignored, and fewer are
-    /// [`DecodeError::BufferTooSmall`].
+    /// Reads the first 232 bytes. What follows them is ignored, and fewer are [`DecodeError::BufferTooSmall`].
     #[inline(always)]
     pub fn parse(payload: &[u8]) -> Result<Self, DecodeError>
         ensures { result ≡ read tcp_info tt payload.now }

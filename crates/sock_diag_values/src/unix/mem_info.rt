@@ -70,9 +70,11 @@ impl Record for MemInfo {
     }
 
     fn row_typed(&self) {
-        let _so_rcvbuf = self.so_rcvbuf;
-        let _max_datagram_size = self.max_datagram_size;
-        let _alloc = self.alloc;
+        let MemInfo {
+            so_rcvbuf: _a,
+            max_datagram_size: _b,
+            alloc: _c,
+        } = *self;
     }
 
     ghost laws = { record_laws unix_mem_info (plain_sound refl (λ _. refl) (λ _. refl) (λ _. tt) (λ _ _. refl)) };
@@ -83,8 +85,7 @@ impl Fills<36> for MemInfo {
 }
 
 impl MemInfo {
-    /// Reads the first 36 bytes. What follows them is ignored, and fewer are
-    /// [`DecodeError::BufferTooSmall`].
+    /// Reads the first 36 bytes. What follows them is ignored, and fewer are [`DecodeError::BufferTooSmall`].
     pub fn parse(payload: &[u8]) -> Result<Self, DecodeError>
         ensures { result ≡ read unix_mem_info tt payload.now }
     {

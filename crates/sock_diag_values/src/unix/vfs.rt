@@ -50,8 +50,7 @@ impl Record for Vfs {
     }
 
     fn row_typed(&self) {
-        let _inode = self.inode;
-        let _device = self.device;
+        let (_inode, _device) = (self.inode, self.device);
     }
 
     ghost laws = { record_laws vfs (plain_sound refl (λ _. refl) (λ _. refl) (λ _. tt) (λ _ _. refl)) };
@@ -62,8 +61,7 @@ impl Fills<8> for Vfs {
 }
 
 impl Vfs {
-    /// Reads the first 8 bytes. What follows them is ignored, and fewer are
-    /// [`DecodeError::BufferTooSmall`].
+    /// Reads the first 8 bytes. What follows them is ignored, and fewer are [`DecodeError::BufferTooSmall`].
     pub fn parse(payload: &[u8]) -> Result<Self, DecodeError>
         ensures { result ≡ read vfs tt payload.now }
     {
