@@ -15,5 +15,6 @@ pub mod FlagLaws
 pub mod InetAttributes
 pub mod InetAttributeLaws
 pub mod SeenInet
+pub mod ValueSteps
 pub mod EqualUnixLaws
 pub mod EqualInetLaws

@@ -110,13 +110,12 @@ impl<'a> NumbersView<'a> {
         NumbersIterator { rest: *self }
     }
 
-    // Writes the numbers one after the other at the front, and leaves the rest.
-    pub(crate) fn emit(&self, buffer: &mut [u8])
-        requires { length (bytes_of_numbers (viewed_numbers self.now)) ≤ length buffer.old }
-        ensures { buffer.new ≡ bytes_of_numbers (viewed_numbers self.now)
-            ++ drop (length (bytes_of_numbers (viewed_numbers self.now))) buffer.old }
+    // The bytes in which they stand, as which they are written.
+    #[tactic(auto, using(crate::specs::NumberLaws::numbers_are_bytes))]
+    pub(crate) fn bytes(&self) -> &'a [u8]
+        ensures { result.now ≡ bytes_of_numbers (viewed_numbers self.now) }
     {
-        buffer[..self.bytes.len()].copy_from_slice(self.bytes);
+        self.bytes
     }
 
     /// The numbers in a list. It fails only for want of memory.

@@ -1,8 +1,9 @@
 //! Texts that fill the value of an attribute, read in place.
 
-ghost use Rattle.std.specs.Prelude.{◌≡◌, Ok, Err, IfOk, IfErr, IsUtf8};
+ghost use Rattle.std.specs.Prelude.{◌≡◌, ◌≤◌, ◌++◌, length, drop, Ok, Err, IfOk, IfErr, IsUtf8};
 ghost use Rattle.netlink_core.specs.Bytes.{IsBytes};
 ghost use Rattle.netlink_core.specs.Parse.{text_in, without_end_zero};
+ghost use Rattle.sock_diag_attributes.specs.Text.{text_bytes};
 
 use netlink_core::DecodeError;
 use std::str;
@@ -28,6 +29,15 @@ fn text_bytes(value: &[u8]) -> &[u8]
         Some((last, text)) => if *last == 0 { text } else { value },
         None => value,
     }
+}
+
+/// Writes the text and an end zero at the front, and leaves the rest.
+pub(crate) fn emit_text(text: &str, buffer: &mut [u8])
+    requires { length (text_bytes text.now) ≤ length buffer.old }
+    ensures { buffer.new ≡ text_bytes text.now ++ drop (length (text_bytes text.now)) buffer.old }
+{
+    buffer[..text.len()].copy_from_slice(text.as_bytes());
+    buffer[text.len()] = 0;
 }
 
 /// Tells the prover that a text is UTF-8. It does nothing.

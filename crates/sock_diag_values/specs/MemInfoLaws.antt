@@ -23,7 +23,7 @@ each P p q r left words e =
     subst P same (chosen P p q r (nat_lt (length left) 32) (nat_lt (length left) 36))
 
 -- with how many words a value of this backlog and these drops is written
-abbrev pub words_of : Option ℕ → Option ℕ → ℕ
+abbrev words_of : Option ℕ → Option ℕ → ℕ
 words_of backlog drops = 7 + length (last_words backlog drops)
 
 -- and of those that a value is written by

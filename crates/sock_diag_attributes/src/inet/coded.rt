@@ -8,9 +8,7 @@ ghost use Rattle.sock_diag_attributes.specs.SeenInet.{seen_nla};
 ghost use Rattle.sock_diag_attributes.specs.EqualInetLaws.{nla_equal};
 
 use super::nlas::Nla;
-use crate::numbers::byte_typed;
-use crate::text::text_typed;
-use netlink_core::{Coded, word_typed};
+use netlink_core::Coded;
 
 impl Coded for Nla {
     type Param = ();
@@ -22,18 +20,7 @@ impl Coded for Nla {
     ghost type_written = { λ _. 0 };
 
     fn typed(&self) {
-        match self {
-            Nla::LegacyMemInfo(info) => info.typed(),
-            Nla::TcpInfo(info) => info.typed(),
-            Nla::Congestion(text) => text_typed(text),
-            Nla::Tos(number) | Nla::Tc(number) | Nla::Shutdown(number) | Nla::Protocol(number) => {
-                byte_typed(*number)
-            }
-            Nla::MemInfo(info) => info.typed(),
-            Nla::SkV6Only(_) => {}
-            Nla::Mark(number) | Nla::ClassId(number) => word_typed(*number),
-            Nla::Other(nla) => nla.typed(),
-        }
+        self.parts().1.typed();
     }
 
     ghost eq_is_seen = { nla_equal };

@@ -1,17 +1,18 @@
 //! The attributes of a reply about an IPv4 or IPv6 socket, and what they carry.
 
-ghost use Rattle.std.specs.Prelude.{◌≡◌, ◌≤◌, ◌++◌, length, drop, Ok, Err, IsOk, IfOk, MatchResult, true, refl};
+ghost use Rattle.std.specs.Prelude.{◌≡◌, Ok, Err, IsOk, IfOk, MatchResult, true, refl};
 ghost use Rattle.netlink_core.specs.Attribute.{HasFittingValue, written};
-ghost use Rattle.netlink_core.specs.Family.{says, attribute_said, IsSpareSaid};
+ghost use Rattle.netlink_core.specs.Family.{says, attribute_said, IsSpareSaid, IsTypedSaid};
 ghost use Rattle.netlink_core.specs.Walk.{attribute_of};
-ghost use Rattle.sock_diag_attributes.specs.Text.{text_bytes};
+ghost use Rattle.sock_diag_attributes.specs.ValueSteps.{value_bytes, IsTypedValue};
 
 use crate::MAX_VALUE;
 use crate::numbers::{exact_flag, exact_u8, exact_u32};
 use crate::text::read_text;
+use crate::value::Value;
 use netlink_core::{
     DecodeError, DefaultNla, Emitable, Nla as NlaTrait, NlaBuffer, Parseable, Readable, Wire,
-    WireNla, emit_nla, emit_u32, nla_len,
+    WireNla, emit_nla, nla_len,
 };
 use sock_diag_records::constants::*;
 pub use sock_diag_records::inet::nlas::{
@@ -88,6 +89,29 @@ impl Nla {
             Nla::ClassId(class) => Nla::ClassId(*class),
             Nla::Other(nla) => Nla::Other(nla.clone(alloc)?),
         })
+    }
+
+    // The kind and the value.
+    #[inline(always)]
+    pub(super) fn parts(&self) -> (u16, Value<'_>)
+        ensures kind { result.0 ≡ (attribute_said inet (seen_nla self.now)).type_word }
+        ensures value { value_bytes result.1 ≡ (attribute_said inet (seen_nla self.now)).value }
+        ensures typed { IsTypedValue result.1 → IsTypedSaid inet (seen_nla self.now) }
+    {
+        match self {
+            Nla::LegacyMemInfo(info) => (INET_DIAG_MEMINFO, Value::LegacyMemInfo(info)),
+            Nla::TcpInfo(info) => (INET_DIAG_INFO, Value::TcpInfo(info)),
+            Nla::Congestion(text) => (INET_DIAG_CONG, Value::Text(text)),
+            Nla::Tos(tos) => (INET_DIAG_TOS, Value::Byte(*tos)),
+            Nla::Tc(class) => (INET_DIAG_TCLASS, Value::Byte(*class)),
+            Nla::MemInfo(info) => (INET_DIAG_SKMEMINFO, Value::MemInfo(info)),
+            Nla::Shutdown(state) => (INET_DIAG_SHUTDOWN, Value::Byte(*state)),
+            Nla::Protocol(protocol) => (INET_DIAG_PROTOCOL, Value::Byte(*protocol)),
+            Nla::SkV6Only(only) => (INET_DIAG_SKV6ONLY, Value::Byte(u8::from(*only))),
+            Nla::Mark(mark) => (INET_DIAG_MARK, Value::Word(*mark)),
+            Nla::ClassId(class) => (INET_DIAG_CLASS_ID, Value::Word(*class)),
+            Nla::Other(nla) => (nla.kind(), Value::Bytes(nla.value())),
+        }
     }
 }
 
@@ -191,6 +215,28 @@ impl<'a> NlaView<'a> {
             }
         })
     }
+
+    // The kind and the value.
+    #[inline(always)]
+    fn parts(&self) -> (u16, Value<'_>)
+        ensures kind { result.0 ≡ (attribute_said inet (viewed_nla self.now)).type_word }
+        ensures value { value_bytes result.1 ≡ (attribute_said inet (viewed_nla self.now)).value }
+    {
+        match self {
+            NlaView::LegacyMemInfo(info) => (INET_DIAG_MEMINFO, Value::LegacyMemInfo(info)),
+            NlaView::TcpInfo(info) => (INET_DIAG_INFO, Value::TcpInfo(info)),
+            NlaView::Congestion(text) => (INET_DIAG_CONG, Value::Text(text)),
+            NlaView::Tos(tos) => (INET_DIAG_TOS, Value::Byte(*tos)),
+            NlaView::Tc(class) => (INET_DIAG_TCLASS, Value::Byte(*class)),
+            NlaView::MemInfo(info) => (INET_DIAG_SKMEMINFO, Value::MemInfo(info)),
+            NlaView::Shutdown(state) => (INET_DIAG_SHUTDOWN, Value::Byte(*state)),
+            NlaView::Protocol(protocol) => (INET_DIAG_PROTOCOL, Value::Byte(*protocol)),
+            NlaView::SkV6Only(only) => (INET_DIAG_SKV6ONLY, Value::Byte(u8::from(*only))),
+            NlaView::Mark(mark) => (INET_DIAG_MARK, Value::Word(*mark)),
+            NlaView::ClassId(class) => (INET_DIAG_CLASS_ID, Value::Word(*class)),
+            NlaView::Other { type_word, value } => (*type_word, Value::Bytes(value)),
+        }
+    }
 }
 
 impl Readable for Nla {
@@ -214,55 +260,19 @@ impl NlaTrait for Nla {
     ghost attribute = { λ v. attribute_said inet (seen_nla v) };
 
     fn value_fits(&self) -> bool {
-        match self {
-            Nla::Congestion(text) => text.len() < MAX_VALUE,
-            Nla::Other(nla) => nla.value_fits(),
-            _ => true,
-        }
+        self.parts().1.len() <= MAX_VALUE
     }
 
     fn value_len(&self) -> usize {
-        match self {
-            Nla::LegacyMemInfo(info) => info.buffer_len(),
-            Nla::TcpInfo(info) => info.buffer_len(),
-            Nla::Congestion(text) => text.len() + 1,
-            Nla::MemInfo(info) => info.buffer_len(),
-            Nla::Mark(_) | Nla::ClassId(_) => 4,
-            Nla::Other(nla) => nla.value_len(),
-            _ => 1,
-        }
+        self.parts().1.len()
     }
 
     fn kind(&self) -> u16 {
-        match self {
-            Nla::LegacyMemInfo(_) => INET_DIAG_MEMINFO,
-            Nla::TcpInfo(_) => INET_DIAG_INFO,
-            Nla::Congestion(_) => INET_DIAG_CONG,
-            Nla::Tos(_) => INET_DIAG_TOS,
-            Nla::Tc(_) => INET_DIAG_TCLASS,
-            Nla::MemInfo(_) => INET_DIAG_SKMEMINFO,
-            Nla::Shutdown(_) => INET_DIAG_SHUTDOWN,
-            Nla::Protocol(_) => INET_DIAG_PROTOCOL,
-            Nla::SkV6Only(_) => INET_DIAG_SKV6ONLY,
-            Nla::Mark(_) => INET_DIAG_MARK,
-            Nla::ClassId(_) => INET_DIAG_CLASS_ID,
-            Nla::Other(nla) => nla.kind(),
-        }
+        self.parts().0
     }
 
     fn emit_value(&self, buffer: &mut [u8]) {
-        match self {
-            Nla::LegacyMemInfo(info) => info.emit(buffer),
-            Nla::TcpInfo(info) => info.emit(buffer),
-            Nla::Congestion(text) => emit_text(text, buffer),
-            Nla::Tos(byte) | Nla::Tc(byte) | Nla::Shutdown(byte) | Nla::Protocol(byte) => {
-                buffer[0] = *byte;
-            }
-            Nla::MemInfo(info) => info.emit(buffer),
-            Nla::SkV6Only(only) => buffer[0] = u8::from(*only),
-            Nla::Mark(word) | Nla::ClassId(word) => emit_u32(buffer, *word),
-            Nla::Other(nla) => nla.emit_value(buffer),
-        }
+        self.parts().1.emit(buffer);
     }
 }
 
@@ -273,56 +283,19 @@ impl<'a> NlaTrait for NlaView<'a> {
     ghost attribute = { λ v. attribute_said inet (viewed_nla v) };
 
     fn value_fits(&self) -> bool {
-        match self {
-            NlaView::Congestion(text) => text.len() < MAX_VALUE,
-            NlaView::Other { value, .. } => value.len() <= MAX_VALUE,
-            _ => true,
-        }
+        self.parts().1.len() <= MAX_VALUE
     }
 
     fn value_len(&self) -> usize {
-        match self {
-            NlaView::LegacyMemInfo(info) => info.buffer_len(),
-            NlaView::TcpInfo(info) => info.buffer_len(),
-            NlaView::Congestion(text) => text.len() + 1,
-            NlaView::MemInfo(info) => info.buffer_len(),
-            NlaView::Mark(_) | NlaView::ClassId(_) => 4,
-            NlaView::Other { value, .. } => value.len(),
-            _ => 1,
-        }
+        self.parts().1.len()
     }
 
     fn kind(&self) -> u16 {
-        match self {
-            NlaView::LegacyMemInfo(_) => INET_DIAG_MEMINFO,
-            NlaView::TcpInfo(_) => INET_DIAG_INFO,
-            NlaView::Congestion(_) => INET_DIAG_CONG,
-            NlaView::Tos(_) => INET_DIAG_TOS,
-            NlaView::Tc(_) => INET_DIAG_TCLASS,
-            NlaView::MemInfo(_) => INET_DIAG_SKMEMINFO,
-            NlaView::Shutdown(_) => INET_DIAG_SHUTDOWN,
-            NlaView::Protocol(_) => INET_DIAG_PROTOCOL,
-            NlaView::SkV6Only(_) => INET_DIAG_SKV6ONLY,
-            NlaView::Mark(_) => INET_DIAG_MARK,
-            NlaView::ClassId(_) => INET_DIAG_CLASS_ID,
-            NlaView::Other { type_word, .. } => *type_word,
-        }
+        self.parts().0
     }
 
     fn emit_value(&self, buffer: &mut [u8]) {
-        match self {
-            NlaView::LegacyMemInfo(info) => info.emit(buffer),
-            NlaView::TcpInfo(info) => info.emit(buffer),
-            NlaView::Congestion(text) => emit_text(text, buffer),
-            NlaView::Tos(byte)
-            | NlaView::Tc(byte)
-            | NlaView::Shutdown(byte)
-            | NlaView::Protocol(byte) => buffer[0] = *byte,
-            NlaView::MemInfo(info) => info.emit(buffer),
-            NlaView::SkV6Only(only) => buffer[0] = u8::from(*only),
-            NlaView::Mark(word) | NlaView::ClassId(word) => emit_u32(buffer, *word),
-            NlaView::Other { value, .. } => buffer[..value.len()].copy_from_slice(value),
-        }
+        self.parts().1.emit(buffer);
     }
 }
 
@@ -361,13 +334,4 @@ impl WireNla for Nla {
     ghost emitted_is = { λ _. refl };
 
     ghost writable_is = { λ _. (λ h. h, λ h. h) };
-}
-
-// Writes the text and an end zero at the front, and leaves the rest.
-fn emit_text(text: &str, buffer: &mut [u8])
-    requires { length (text_bytes text.now) ≤ length buffer.old }
-    ensures { buffer.new ≡ text_bytes text.now ++ drop (length (text_bytes text.now)) buffer.old }
-{
-    buffer[..text.len()].copy_from_slice(text.as_bytes());
-    buffer[text.len()] = 0;
 }

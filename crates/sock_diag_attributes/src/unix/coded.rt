@@ -8,8 +8,7 @@ ghost use Rattle.sock_diag_attributes.specs.SeenUnix.{seen_nla};
 ghost use Rattle.sock_diag_attributes.specs.EqualUnixLaws.{nla_equal};
 
 use super::nlas::Nla;
-use crate::numbers::{byte_typed, words_typed};
-use netlink_core::{Coded, word_typed};
+use netlink_core::Coded;
 
 impl Coded for Nla {
     type Param = ();
@@ -21,19 +20,7 @@ impl Coded for Nla {
     ghost type_written = { λ _. 0 };
 
     fn typed(&self) {
-        match self {
-            Nla::Name(name) => name.typed(),
-            Nla::Vfs(vfs) => vfs.typed(),
-            Nla::Peer(inode) => word_typed(*inode),
-            Nla::PendingConnections(inodes) => words_typed(inodes),
-            Nla::ReceiveQueueLength(first, second) => {
-                word_typed(*first);
-                word_typed(*second);
-            }
-            Nla::MemInfo(info) => info.typed(),
-            Nla::Shutdown(state) => byte_typed(*state),
-            Nla::Other(nla) => nla.typed(),
-        }
+        self.parts().1.typed();
     }
 
     ghost eq_is_seen = { nla_equal };

@@ -2,7 +2,7 @@
 
 ghost use Rattle.std.proofs.Common.{rules};
 ghost use Rattle.std.specs.Prelude.{◌≡◌, suc, ◌<◌, ◌≤◌, ◌++◌, length, take, drop, slice_index, IfOk, IsOk, MatchOption, MatchResult, Ok, Err, true, refl};
-ghost use Rattle.sock_diag_attributes.specs.Name.{read_name, name_bytes, name_codec};
+ghost use Rattle.sock_diag_attributes.specs.Name.{IsTypedName, read_name, name_bytes, name_codec};
 ghost use Rattle.sock_diag_attributes.specs.NameLaws.{HasNoZero, name_keeps_laws};
 
 use netlink_core::{Coded, DecodeError, Emitable, Parseable, Readable, Wire, bytes_typed};
@@ -35,20 +35,13 @@ impl UnixDiagName {
     }
 
     // The same name, its bytes borrowed.
-    fn view(&self) -> NameView<'_>
+    pub(crate) fn view(&self) -> NameView<'_>
         ensures { viewed_name result ≡ seen_name self.now }
     {
         match self {
             UnixDiagName::Pathname(path) => NameView::Pathname(path),
             UnixDiagName::Abstract(address) => NameView::Abstract(address),
         }
-    }
-
-    // How many bytes stand beside the zero.
-    pub(crate) fn content_len(&self) -> usize
-        ensures { suc result ≡ length (name_bytes (seen_name self.now)) }
-    {
-        self.view().content_len()
     }
 }
 
@@ -102,13 +95,13 @@ impl<'a> NameView<'a> {
         NameView::Pathname(path)
     }
 
-    // How many bytes stand beside the zero.
-    pub(crate) fn content_len(&self) -> usize
-        ensures { suc result ≡ length (name_bytes (viewed_name self.now)) }
+    // How many bytes it is written as.
+    pub(crate) fn len(&self) -> usize
+        ensures { result ≡ length (name_bytes (viewed_name self.now)) }
     {
         match self {
-            NameView::Pathname(path) => path.len(),
-            NameView::Abstract(address) => address.len(),
+            NameView::Pathname(path) => path.len() + 1,
+            NameView::Abstract(address) => address.len() + 1,
         }
     }
 
@@ -127,6 +120,16 @@ impl<'a> NameView<'a> {
                 buffer[0] = 0;
                 buffer[1..1 + address.len()].copy_from_slice(address);
             }
+        }
+    }
+
+    // Tells the prover that its bytes are bytes. It does nothing.
+    pub(crate) fn typed(&self)
+        ensures { IsTypedName (viewed_name self.now) }
+    {
+        match self {
+            NameView::Pathname(path) => bytes_typed(path),
+            NameView::Abstract(address) => bytes_typed(address),
         }
     }
 
@@ -163,11 +166,11 @@ impl Emitable for UnixDiagName {
     ghost writable = { λ v. length (name_bytes (seen_name v)) ≤ 4294967295 };
 
     fn is_writable(&self) -> bool {
-        self.content_len() < u32::MAX as usize
+        self.view().len() <= u32::MAX as usize
     }
 
     fn buffer_len(&self) -> usize {
-        self.content_len() + 1
+        self.view().len()
     }
 
     fn emit(&self, buffer: &mut [u8]) {
@@ -187,10 +190,7 @@ impl Coded for UnixDiagName {
     ghost type_written = { λ _. 0 };
 
     fn typed(&self) {
-        match self {
-            UnixDiagName::Pathname(path) => bytes_typed(path),
-            UnixDiagName::Abstract(address) => bytes_typed(address),
-        }
+        self.view().typed();
     }
 
     ghost eq_is_seen = { Prim.search rules };

@@ -2,16 +2,18 @@
 
 ghost use Rattle.std.specs.Prelude.{◌≡◌, Ok, Err, IsOk, IfOk, MatchResult, true, refl};
 ghost use Rattle.netlink_core.specs.Attribute.{HasFittingValue, written};
-ghost use Rattle.netlink_core.specs.Family.{says, attribute_said, IsSpareSaid};
+ghost use Rattle.netlink_core.specs.Family.{says, attribute_said, IsSpareSaid, IsTypedSaid};
 ghost use Rattle.netlink_core.specs.Walk.{attribute_of};
+ghost use Rattle.sock_diag_attributes.specs.ValueSteps.{value_bytes, IsTypedValue};
 
 use crate::MAX_VALUE;
 pub use crate::numbers::NumbersView;
-use crate::numbers::{emit_numbers, emit_u32_pair, exact_u8, exact_u32, exact_u32_pair};
+use crate::numbers::{exact_u8, exact_u32, exact_u32_pair};
 pub use crate::unix::name::{NameView, UnixDiagName};
+use crate::value::Value;
 use netlink_core::{
     DecodeError, DefaultNla, Emitable, Nla as NlaTrait, NlaBuffer, Parseable, Readable, Wire,
-    WireNla, emit_nla, emit_u32, nla_len,
+    WireNla, emit_nla, nla_len,
 };
 use sock_diag_records::constants::*;
 pub use sock_diag_records::unix::nlas::{MemInfo, MemInfoBuffer, Vfs, VfsBuffer};
@@ -71,6 +73,27 @@ impl Nla {
             Nla::Shutdown(state) => Nla::Shutdown(*state),
             Nla::Other(nla) => Nla::Other(nla.clone(alloc)?),
         })
+    }
+
+    // The kind and the value.
+    #[inline(always)]
+    pub(super) fn parts(&self) -> (u16, Value<'_>)
+        ensures kind { result.0 ≡ (attribute_said unix (seen_nla self.now)).type_word }
+        ensures value { value_bytes result.1 ≡ (attribute_said unix (seen_nla self.now)).value }
+        ensures typed { IsTypedValue result.1 → IsTypedSaid unix (seen_nla self.now) }
+    {
+        match self {
+            Nla::Name(name) => (UNIX_DIAG_NAME, Value::Name(name.view())),
+            Nla::Vfs(vfs) => (UNIX_DIAG_VFS, Value::Vfs(vfs)),
+            Nla::Peer(inode) => (UNIX_DIAG_PEER, Value::Word(*inode)),
+            Nla::PendingConnections(inodes) => (UNIX_DIAG_ICONS, Value::Numbers(inodes)),
+            Nla::ReceiveQueueLength(first, second) => {
+                (UNIX_DIAG_RQLEN, Value::Pair(*first, *second))
+            }
+            Nla::MemInfo(info) => (UNIX_DIAG_MEMINFO, Value::UnixMemInfo(info)),
+            Nla::Shutdown(state) => (UNIX_DIAG_SHUTDOWN, Value::Byte(*state)),
+            Nla::Other(nla) => (nla.kind(), Value::Bytes(nla.value())),
+        }
     }
 }
 
@@ -164,6 +187,26 @@ impl<'a> NlaView<'a> {
             }
         })
     }
+
+    // The kind and the value.
+    #[inline(always)]
+    fn parts(&self) -> (u16, Value<'_>)
+        ensures kind { result.0 ≡ (attribute_said unix (viewed_nla self.now)).type_word }
+        ensures value { value_bytes result.1 ≡ (attribute_said unix (viewed_nla self.now)).value }
+    {
+        match self {
+            NlaView::Name(name) => (UNIX_DIAG_NAME, Value::Name(*name)),
+            NlaView::Vfs(vfs) => (UNIX_DIAG_VFS, Value::Vfs(vfs)),
+            NlaView::Peer(inode) => (UNIX_DIAG_PEER, Value::Word(*inode)),
+            NlaView::PendingConnections(inodes) => (UNIX_DIAG_ICONS, Value::Bytes(inodes.bytes())),
+            NlaView::ReceiveQueueLength(first, second) => {
+                (UNIX_DIAG_RQLEN, Value::Pair(*first, *second))
+            }
+            NlaView::MemInfo(info) => (UNIX_DIAG_MEMINFO, Value::UnixMemInfo(info)),
+            NlaView::Shutdown(state) => (UNIX_DIAG_SHUTDOWN, Value::Byte(*state)),
+            NlaView::Other { type_word, value } => (*type_word, Value::Bytes(value)),
+        }
+    }
 }
 
 impl Readable for Nla {
@@ -186,54 +229,20 @@ impl NlaTrait for Nla {
 
     ghost attribute = { λ v. attribute_said unix (seen_nla v) };
 
-    #[tactic(auto, using(crate::specs::NumberLaws::length_numbers))]
     fn value_fits(&self) -> bool {
-        match self {
-            Nla::Name(name) => name.content_len() < MAX_VALUE,
-            Nla::PendingConnections(inodes) => inodes.len() <= MAX_VALUE / 4,
-            Nla::Other(nla) => nla.value_fits(),
-            _ => true,
-        }
+        self.parts().1.len() <= MAX_VALUE
     }
 
-    #[tactic(auto, using(crate::specs::NumberLaws::length_numbers))]
     fn value_len(&self) -> usize {
-        match self {
-            Nla::Name(name) => name.content_len() + 1,
-            Nla::Vfs(vfs) => vfs.buffer_len(),
-            Nla::Peer(_) => 4,
-            Nla::PendingConnections(inodes) => 4 * inodes.len(),
-            Nla::ReceiveQueueLength(..) => 8,
-            Nla::MemInfo(info) => info.buffer_len(),
-            Nla::Shutdown(_) => 1,
-            Nla::Other(nla) => nla.value_len(),
-        }
+        self.parts().1.len()
     }
 
     fn kind(&self) -> u16 {
-        match self {
-            Nla::Name(_) => UNIX_DIAG_NAME,
-            Nla::Vfs(_) => UNIX_DIAG_VFS,
-            Nla::Peer(_) => UNIX_DIAG_PEER,
-            Nla::PendingConnections(_) => UNIX_DIAG_ICONS,
-            Nla::ReceiveQueueLength(..) => UNIX_DIAG_RQLEN,
-            Nla::MemInfo(_) => UNIX_DIAG_MEMINFO,
-            Nla::Shutdown(_) => UNIX_DIAG_SHUTDOWN,
-            Nla::Other(nla) => nla.kind(),
-        }
+        self.parts().0
     }
 
     fn emit_value(&self, buffer: &mut [u8]) {
-        match self {
-            Nla::Name(name) => name.emit(buffer),
-            Nla::Vfs(vfs) => vfs.emit(buffer),
-            Nla::Peer(inode) => emit_u32(buffer, *inode),
-            Nla::PendingConnections(inodes) => emit_numbers(inodes, buffer),
-            Nla::ReceiveQueueLength(first, second) => emit_u32_pair(*first, *second, buffer),
-            Nla::MemInfo(info) => info.emit(buffer),
-            Nla::Shutdown(state) => buffer[0] = *state,
-            Nla::Other(nla) => nla.emit_value(buffer),
-        }
+        self.parts().1.emit(buffer);
     }
 }
 
@@ -243,54 +252,20 @@ impl<'a> NlaTrait for NlaView<'a> {
 
     ghost attribute = { λ v. attribute_said unix (viewed_nla v) };
 
-    #[tactic(auto, using(crate::specs::NumberLaws::length_numbers))]
     fn value_fits(&self) -> bool {
-        match self {
-            NlaView::Name(name) => name.content_len() < MAX_VALUE,
-            NlaView::PendingConnections(inodes) => inodes.len() <= MAX_VALUE / 4,
-            NlaView::Other { value, .. } => value.len() <= MAX_VALUE,
-            _ => true,
-        }
+        self.parts().1.len() <= MAX_VALUE
     }
 
-    #[tactic(auto, using(crate::specs::NumberLaws::length_numbers))]
     fn value_len(&self) -> usize {
-        match self {
-            NlaView::Name(name) => name.content_len() + 1,
-            NlaView::Vfs(vfs) => vfs.buffer_len(),
-            NlaView::Peer(_) => 4,
-            NlaView::PendingConnections(inodes) => 4 * inodes.len(),
-            NlaView::ReceiveQueueLength(..) => 8,
-            NlaView::MemInfo(info) => info.buffer_len(),
-            NlaView::Shutdown(_) => 1,
-            NlaView::Other { value, .. } => value.len(),
-        }
+        self.parts().1.len()
     }
 
     fn kind(&self) -> u16 {
-        match self {
-            NlaView::Name(_) => UNIX_DIAG_NAME,
-            NlaView::Vfs(_) => UNIX_DIAG_VFS,
-            NlaView::Peer(_) => UNIX_DIAG_PEER,
-            NlaView::PendingConnections(_) => UNIX_DIAG_ICONS,
-            NlaView::ReceiveQueueLength(..) => UNIX_DIAG_RQLEN,
-            NlaView::MemInfo(_) => UNIX_DIAG_MEMINFO,
-            NlaView::Shutdown(_) => UNIX_DIAG_SHUTDOWN,
-            NlaView::Other { type_word, .. } => *type_word,
-        }
+        self.parts().0
     }
 
     fn emit_value(&self, buffer: &mut [u8]) {
-        match self {
-            NlaView::Name(name) => name.emit(buffer),
-            NlaView::Vfs(vfs) => vfs.emit(buffer),
-            NlaView::Peer(inode) => emit_u32(buffer, *inode),
-            NlaView::PendingConnections(inodes) => inodes.emit(buffer),
-            NlaView::ReceiveQueueLength(first, second) => emit_u32_pair(*first, *second, buffer),
-            NlaView::MemInfo(info) => info.emit(buffer),
-            NlaView::Shutdown(state) => buffer[0] = *state,
-            NlaView::Other { value, .. } => buffer[..value.len()].copy_from_slice(value),
-        }
+        self.parts().1.emit(buffer);
     }
 }
 

@@ -1,0 +1,97 @@
+//! What the value of an attribute is made of, whatever kind it is of.
+
+ghost use Rattle.std.specs.Prelude.{◌≡◌, ◌≤◌, ◌++◌, length, drop};
+ghost use Rattle.sock_diag_attributes.specs.ValueSteps.{value_bytes, IsTypedValue};
+
+use crate::numbers::{byte_typed, emit_numbers, emit_u32_pair, words_typed};
+use crate::text::{emit_text, text_typed};
+use crate::unix::nlas::NameView;
+use netlink_core::{Coded, Emitable, bytes_typed, emit_u32, word_typed};
+use sock_diag_records::inet::nlas::{LegacyMemInfo, MemInfo, TcpInfo};
+use sock_diag_records::unix::nlas::{MemInfo as UnixMemInfo, Vfs};
+
+/// The value of an attribute, borrowed.
+#[derive(Drop)]
+pub(crate) enum Value<'a> {
+    Byte(u8),
+    Word(u32),
+    Pair(u32, u32),
+    Numbers(&'a [u32]),
+    Text(&'a str),
+    Name(NameView<'a>),
+    LegacyMemInfo(&'a LegacyMemInfo),
+    TcpInfo(&'a TcpInfo),
+    MemInfo(&'a MemInfo),
+    UnixMemInfo(&'a UnixMemInfo),
+    Vfs(&'a Vfs),
+    Bytes(&'a [u8]),
+}
+
+impl Value<'_> {
+    /// How many bytes it is written as.
+    #[inline(always)]
+    #[tactic(auto, using(crate::specs::NumberLaws::length_numbers))]
+    pub(crate) fn len(&self) -> usize
+        ensures { result ≡ length (value_bytes self.now) }
+    {
+        match self {
+            Value::Byte(_) => 1,
+            Value::Word(_) => 4,
+            Value::Pair(..) => 8,
+            Value::Numbers(numbers) => 4 * numbers.len(),
+            Value::Text(text) => text.len() + 1,
+            Value::Name(name) => name.len(),
+            Value::LegacyMemInfo(info) => info.buffer_len(),
+            Value::TcpInfo(info) => info.buffer_len(),
+            Value::MemInfo(info) => info.buffer_len(),
+            Value::UnixMemInfo(info) => info.buffer_len(),
+            Value::Vfs(vfs) => vfs.buffer_len(),
+            Value::Bytes(bytes) => bytes.len(),
+        }
+    }
+
+    /// Writes it at the front of the buffer, and leaves the rest.
+    #[inline(always)]
+    pub(crate) fn emit(&self, buffer: &mut [u8])
+        requires { length (value_bytes self.now) ≤ length buffer.old }
+        ensures { buffer.new ≡ value_bytes self.now ++ drop (length (value_bytes self.now)) buffer.old }
+    {
+        match self {
+            Value::Byte(byte) => buffer[0] = *byte,
+            Value::Word(word) => emit_u32(buffer, *word),
+            Value::Pair(first, second) => emit_u32_pair(*first, *second, buffer),
+            Value::Numbers(numbers) => emit_numbers(numbers, buffer),
+            Value::Text(text) => emit_text(text, buffer),
+            Value::Name(name) => name.emit(buffer),
+            Value::LegacyMemInfo(info) => info.emit(buffer),
+            Value::TcpInfo(info) => info.emit(buffer),
+            Value::MemInfo(info) => info.emit(buffer),
+            Value::UnixMemInfo(info) => info.emit(buffer),
+            Value::Vfs(vfs) => vfs.emit(buffer),
+            Value::Bytes(bytes) => buffer[..bytes.len()].copy_from_slice(bytes),
+        }
+    }
+
+    /// Tells the prover that its numbers are within their types. It does nothing.
+    pub(crate) fn typed(&self)
+        ensures { IsTypedValue self.now }
+    {
+        match self {
+            Value::Byte(byte) => byte_typed(*byte),
+            Value::Word(word) => word_typed(*word),
+            Value::Pair(first, second) => {
+                word_typed(*first);
+                word_typed(*second);
+            }
+            Value::Numbers(numbers) => words_typed(numbers),
+            Value::Text(text) => text_typed(text),
+            Value::Name(name) => name.typed(),
+            Value::LegacyMemInfo(info) => info.typed(),
+            Value::TcpInfo(info) => info.typed(),
+            Value::MemInfo(info) => info.typed(),
+            Value::UnixMemInfo(info) => info.typed(),
+            Value::Vfs(vfs) => vfs.typed(),
+            Value::Bytes(bytes) => bytes_typed(bytes),
+        }
+    }
+}
