@@ -71,7 +71,9 @@ impl Record for UnixRequest {
     }
 
     fn row_typed(&self) {
-        let _words = (self.state_flags.bits(), self.inode, self.show_flags.bits());
+        let _state_flags = self.state_flags.bits();
+        let _inode = self.inode;
+        let _show_flags = self.show_flags.bits();
         bytes_typed(&self.cookie);
     }
 

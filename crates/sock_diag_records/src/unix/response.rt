@@ -68,7 +68,7 @@ impl Record for UnixResponseHeader {
     }
 
     fn row_typed(&self) {
-        let _numbers = (self.kind, self.state, self.inode);
+        let (_kind, _state, _inode) = (self.kind, self.state, self.inode);
         bytes_typed(&self.cookie);
     }
 
