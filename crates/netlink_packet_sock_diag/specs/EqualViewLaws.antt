@@ -4,8 +4,8 @@ use Rattle.std.specs.Cmp.{IsEquivalence}
 use lib.Pointwise.{pointwise}
 use Rattle.netlink_core.proofs.Equality.{equivalence}
 use Rattle.netlink_core.proofs.SaidTests.{said_test, said_test_says}
-use Rattle.sock_diag_attributes.specs.EqualInetLaws.{inet_tests, inet_tests_say}
-use Rattle.sock_diag_attributes.specs.EqualUnixLaws.{unix_tests, unix_tests_say}
+use Rattle.sock_diag_attributes.specs.EqualInetLaws.{inet_tests}
+use Rattle.sock_diag_attributes.specs.EqualUnixLaws.{unix_tests}
 use Rattle.sock_diag_attributes.specs.InetAttributes.{inet}
 use Rattle.sock_diag_attributes.specs.UnixAttributes.{unix}
 use Rattle.sock_diag_records.specs.contracts.inet.exact.InetResponseHeaderExact.TheImpl.Laws.{exact-law as exact_inet_header}
@@ -26,10 +26,10 @@ abbrev pub inet_test : InetReply → InetReply → Bool
 inet_test v w = inet_headers.eq v.header w.header && pointwise (said_test inet inet_tests) v.nlas w.nlas
 
 pub unix_test_says : (v w : UnixReply) → IsTrue (unix_test v w) ↔ (v ≡ w)
-unix_test_says = values_equal unix_headers.eq (said_test unix unix_tests) exact_unix_header.0 (said_test_says unix unix_tests unix_tests_say)
+unix_test_says = values_equal unix_headers.eq (said_test unix unix_tests) exact_unix_header.0 (said_test_says unix unix_tests)
 
 pub inet_test_says : (v w : InetReply) → IsTrue (inet_test v w) ↔ (v ≡ w)
-inet_test_says = values_equal inet_headers.eq (said_test inet inet_tests) exact_inet_header.0 (said_test_says inet inet_tests inet_tests_say)
+inet_test_says = values_equal inet_headers.eq (said_test inet inet_tests) exact_inet_header.0 (said_test_says inet inet_tests)
 
 -- and so are the views equal
 pub unix_equivalence : IsEquivalence (λ v w. unix_test (unix_view.viewed_response v) (unix_view.viewed_response w))

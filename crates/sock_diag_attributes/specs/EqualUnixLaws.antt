@@ -1,9 +1,9 @@
 -- Attributes of replies are equal where the same is seen of them.
 use Rattle.std.proofs.Common.{◌≡◌, ◌↔◌, ℕ, ◌&&◌, Bool, false, eqb, IsTrue, ap, refl, rules, subst, sym}
 use lib.Pointwise.{pointwise, bytes_decides}
-use Rattle.netlink_core.proofs.Equality.{numbers_equal, apart, same_test}
+use Rattle.netlink_core.proofs.Equality.{apart, same_test}
 use Rattle.netlink_core.proofs.RowLaws.{◌⊕◌}
-use Rattle.netlink_core.proofs.SaidTests.{Tests, TestLaws, said_test, said_test_says}
+use Rattle.netlink_core.proofs.SaidTests.{Tests, number_test, said_test, said_test_says}
 use Rattle.sock_diag_values.specs.contracts.unix.vfs.VfsExact.TheImpl.Laws.{exact-law as exact_vfs}
 use Rattle.sock_diag_values.specs.contracts.unix.vfs.VfsPartialEq.TheImpl.{ghosts as vfs}
 use Rattle.sock_diag_values.specs.contracts.unix.mem_info.MemInfoExact.TheImpl.Laws.{exact-law as exact_memory}
@@ -36,7 +36,7 @@ name_test (pathname x) (abstract y) = false
 name_test (abstract x) (pathname y) = false
 name_test (abstract x) (abstract y) = pointwise eqb x y
 
-name_test_says : (n m : SocketName) → IsTrue (name_test n m) ↔ (n ≡ m)
+pub name_test_says : (n m : SocketName) → IsTrue (name_test n m) ↔ (n ≡ m)
 name_test_says (pathname x) (pathname y) = (λ h. ap pathname ((bytes_decides x y).0 h), λ e. (bytes_decides x y).1 cc)
 name_test_says (pathname x) (abstract y) = apart (λ e. cc)
 name_test_says (abstract x) (pathname y) = apart (λ e. cc)
@@ -45,15 +45,14 @@ name_test_says (abstract x) (abstract y) = (λ h. ap abstract ((bytes_decides x 
 abbrev two_test : ℕ × ℕ → ℕ × ℕ → Bool
 two_test a b = eqb a.0 b.0 && eqb a.1 b.1
 
-two_test_says : (a b : ℕ × ℕ) → IsTrue (two_test a b) ↔ (a ≡ b)
+pub two_test_says : (a b : ℕ × ℕ) → IsTrue (two_test a b) ↔ (a ≡ b)
 two_test_says a b = (λ h. search rules, λ e. search rules)
 
 -- the test of each kind's values
 abbrev pub unix_tests : Tests unix
-unix_tests = name_test ⊕ vfs.eq ⊕ eqb ⊕ pointwise eqb ⊕ two_test ⊕ memory.eq ⊕ eqb ⊕ tt
-
-pub unix_tests_say : TestLaws unix unix_tests
-unix_tests_say = name_test_says ⊕ exact_vfs.0 ⊕ numbers_equal ⊕ bytes_decides ⊕ two_test_says ⊕ exact_memory.0 ⊕ numbers_equal ⊕ tt
+unix_tests =
+    (name_test, name_test_says) ⊕ (vfs.eq, exact_vfs.0) ⊕ number_test ⊕ (pointwise eqb, bytes_decides)
+    ⊕ (two_test, two_test_says) ⊕ (memory.eq, exact_memory.0) ⊕ number_test ⊕ tt
 
 same_names : (a x : UnixDiagName) → names.eq a x ≡ name_test (seen_name a) (seen_name x)
 same_names (Pathname a) (Pathname x) = refl
@@ -68,7 +67,7 @@ tests v (nla.Name x) = refl
 tests v w = refl
 
 pub nla_equal : (v w : Nla) → IsTrue (ghosts.eq v w) ↔ (seen_nla v ≡ seen_nla w)
-nla_equal v w = subst (λ (t : Bool). IsTrue t ↔ (seen_nla v ≡ seen_nla w)) (sym (tests v w)) (said_test_says unix unix_tests unix_tests_say (seen_nla v) (seen_nla w))
+nla_equal v w = subst (λ (t : Bool). IsTrue t ↔ (seen_nla v ≡ seen_nla w)) (sym (tests v w)) (said_test_says unix unix_tests (seen_nla v) (seen_nla w))
 
 -- ---- read in place
 
@@ -98,4 +97,4 @@ view_tests v (view.Name x) = refl
 view_tests v w = refl
 
 pub views_equal : (v w : NlaView) → IsTrue (views.eq v w) ↔ (viewed_nla v ≡ viewed_nla w)
-views_equal v w = subst (λ (t : Bool). IsTrue t ↔ (viewed_nla v ≡ viewed_nla w)) (sym (view_tests v w)) (said_test_says unix unix_tests unix_tests_say (viewed_nla v) (viewed_nla w))
+views_equal v w = subst (λ (t : Bool). IsTrue t ↔ (viewed_nla v ≡ viewed_nla w)) (sym (view_tests v w)) (said_test_says unix unix_tests (viewed_nla v) (viewed_nla w))

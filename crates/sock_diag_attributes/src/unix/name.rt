@@ -1,7 +1,7 @@
 //! The name of a UNIX socket.
 
 ghost use Rattle.std.proofs.Common.{rules};
-ghost use Rattle.std.specs.Prelude.{◌≡◌, suc, ◌<◌, ◌≤◌, ◌++◌, length, take, drop, slice_index, IfOk, IsOk, MatchOption, MatchResult, Ok, Err, true, refl};
+ghost use Rattle.std.specs.Prelude.{◌≡◌, ◌<◌, ◌≤◌, ◌++◌, length, take, drop, slice_index, IfOk, IsOk, MatchOption, MatchResult, Ok, Err, true, refl};
 ghost use Rattle.sock_diag_attributes.specs.Name.{IsTypedName, read_name, name_bytes, name_codec};
 ghost use Rattle.sock_diag_attributes.specs.NameLaws.{HasNoZero, name_keeps_laws};
 
