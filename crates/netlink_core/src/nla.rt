@@ -19,13 +19,8 @@ pub trait Nla {
     // The attribute that is written.
     ghost attribute: { Self → Attribute };
 
-    /// Whether the value has at most 65,531 bytes, so that its length word can count them.
-    fn value_fits(&self) -> bool
-        ensures { IsTrue result ↔ HasFittingValue (attribute self.now) };
-
     /// How many bytes the value has, without header and padding.
     fn value_len(&self) -> usize
-        requires { HasFittingValue (attribute self.now) }
         ensures { result ≡ length (attribute self.now).value };
 
     /// The type word that is written.
@@ -38,6 +33,13 @@ pub trait Nla {
         requires room { length (attribute self.now).value ≤ length buffer.old }
         ensures { buffer.new ≡ (attribute self.now).value
             ++ drop (length (attribute self.now).value) buffer.old };
+
+    /// Whether the value has at most 65,531 bytes, so that its length word can count them.
+    fn value_fits(&self) -> bool
+        ensures { IsTrue result ↔ HasFittingValue (attribute self.now) }
+    {
+        self.value_len() <= MAX_VALUE
+    }
 }
 
 /// A value that is read and written as one attribute: what `emit` writes is the attribute, where its value fits.
@@ -213,10 +215,6 @@ impl Nla for DefaultNla {
     ghost use Rattle.netlink_core.specs.DefaultNla.{kept_attribute};
 
     ghost attribute = { kept_attribute };
-
-    fn value_fits(&self) -> bool {
-        self.value.len() <= MAX_VALUE
-    }
 
     fn value_len(&self) -> usize {
         self.value.len()

@@ -9,6 +9,3 @@ mod tests;
 mod text;
 pub mod unix;
 mod value;
-
-/// The most bytes that the value of an attribute has, so that its length word can count them.
-pub(crate) const MAX_VALUE: usize = 65531;

@@ -6,7 +6,6 @@ ghost use Rattle.netlink_core.specs.Family.{says, attribute_said, IsSpareSaid, I
 ghost use Rattle.netlink_core.specs.Walk.{attribute_of};
 ghost use Rattle.sock_diag_attributes.specs.ValueSteps.{value_bytes, IsTypedValue};
 
-use crate::MAX_VALUE;
 use crate::numbers::{exact_flag, exact_u8, exact_u32};
 use crate::text::read_text;
 use crate::value::Value;
@@ -259,10 +258,6 @@ impl NlaTrait for Nla {
 
     ghost attribute = { λ v. attribute_said inet (seen_nla v) };
 
-    fn value_fits(&self) -> bool {
-        self.parts().1.len() <= MAX_VALUE
-    }
-
     fn value_len(&self) -> usize {
         self.parts().1.len()
     }
@@ -281,10 +276,6 @@ impl<'a> NlaTrait for NlaView<'a> {
     ghost use Rattle.sock_diag_attributes.specs.SeenInet.{viewed_nla};
 
     ghost attribute = { λ v. attribute_said inet (viewed_nla v) };
-
-    fn value_fits(&self) -> bool {
-        self.parts().1.len() <= MAX_VALUE
-    }
 
     fn value_len(&self) -> usize {
         self.parts().1.len()

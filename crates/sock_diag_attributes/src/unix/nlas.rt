@@ -6,7 +6,6 @@ ghost use Rattle.netlink_core.specs.Family.{says, attribute_said, IsSpareSaid, I
 ghost use Rattle.netlink_core.specs.Walk.{attribute_of};
 ghost use Rattle.sock_diag_attributes.specs.ValueSteps.{value_bytes, IsTypedValue};
 
-use crate::MAX_VALUE;
 pub use crate::numbers::NumbersView;
 use crate::numbers::{exact_u8, exact_u32, exact_u32_pair};
 pub use crate::unix::name::{NameView, UnixDiagName};
@@ -229,10 +228,6 @@ impl NlaTrait for Nla {
 
     ghost attribute = { λ v. attribute_said unix (seen_nla v) };
 
-    fn value_fits(&self) -> bool {
-        self.parts().1.len() <= MAX_VALUE
-    }
-
     fn value_len(&self) -> usize {
         self.parts().1.len()
     }
@@ -251,10 +246,6 @@ impl<'a> NlaTrait for NlaView<'a> {
     ghost use Rattle.sock_diag_attributes.specs.SeenUnix.{viewed_nla};
 
     ghost attribute = { λ v. attribute_said unix (viewed_nla v) };
-
-    fn value_fits(&self) -> bool {
-        self.parts().1.len() <= MAX_VALUE
-    }
 
     fn value_len(&self) -> usize {
         self.parts().1.len()
