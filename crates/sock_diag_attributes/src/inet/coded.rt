@@ -1,5 +1,6 @@
 //! How an attribute stands in bytes.
 
+ghost use Rattle.std.specs.Prelude.{refl};
 ghost use Rattle.netlink_core.specs.Heads.{head_codec};
 ghost use Rattle.netlink_core.specs.HeadLaws.{heads_keep_laws};
 ghost use Rattle.sock_diag_attributes.specs.InetAttributes.{inet};
@@ -7,8 +8,9 @@ ghost use Rattle.sock_diag_attributes.specs.InetAttributeLaws.{inet_laws};
 ghost use Rattle.sock_diag_attributes.specs.SeenInet.{seen_nla};
 ghost use Rattle.sock_diag_attributes.specs.EqualInetLaws.{nla_equal};
 
-use super::nlas::Nla;
-use netlink_core::Coded;
+use super::nlas::{Nla, NlaView};
+use netlink_core::{Coded, DecodeError, NlaBuffer, Wire, WireNla};
+use std::alloc::Global;
 
 impl Coded for Nla {
     type Param = ();
@@ -26,4 +28,20 @@ impl Coded for Nla {
     ghost eq_is_seen = { nla_equal };
 
     ghost laws = { heads_keep_laws inet inet_laws };
+}
+
+impl Wire for Nla {
+    fn read(alloc: Global, bytes: &[u8], _param: ()) -> Result<Self, DecodeError> {
+        Ok(NlaView::parse(&NlaBuffer::new_checked(bytes)?)?.to_owned(alloc)?)
+    }
+
+    ghost written_is = { λ _. refl };
+
+    ghost fits_is = { λ _. (λ h. h, λ h. h) };
+}
+
+impl WireNla for Nla {
+    ghost emitted_is = { λ _. refl };
+
+    ghost writable_is = { λ _. (λ h. h, λ h. h) };
 }

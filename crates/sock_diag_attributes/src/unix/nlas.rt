@@ -1,6 +1,6 @@
 //! The attributes of a reply about a UNIX socket, and what they carry.
 
-ghost use Rattle.std.specs.Prelude.{◌≡◌, Ok, Err, IsOk, IfOk, MatchResult, true, refl};
+ghost use Rattle.std.specs.Prelude.{◌≡◌, Ok, Err, IsOk, IfOk, MatchResult, true};
 ghost use Rattle.netlink_core.specs.Attribute.{HasFittingValue, written};
 ghost use Rattle.netlink_core.specs.Family.{says, attribute_said, IsSpareSaid, IsTypedSaid};
 ghost use Rattle.netlink_core.specs.Walk.{attribute_of};
@@ -11,8 +11,8 @@ use crate::numbers::{exact_u8, exact_u32, exact_u32_pair};
 pub use crate::unix::name::{NameView, UnixDiagName};
 use crate::value::Value;
 use netlink_core::{
-    DecodeError, DefaultNla, Emitable, Nla as NlaTrait, NlaBuffer, Parseable, Readable, Wire,
-    WireNla, emit_nla, nla_len,
+    DecodeError, DefaultNla, Emitable, Nla as NlaTrait, NlaBuffer, Parseable, Readable, emit_nla,
+    nla_len,
 };
 use sock_diag_records::constants::*;
 pub use sock_diag_records::unix::nlas::{MemInfo, MemInfoBuffer, Vfs, VfsBuffer};
@@ -279,20 +279,4 @@ impl Emitable for Nla {
     fn emit(&self, buffer: &mut [u8]) {
         emit_nla(self, buffer);
     }
-}
-
-impl Wire for Nla {
-    fn read(alloc: Global, bytes: &[u8], _param: ()) -> Result<Self, DecodeError> {
-        Ok(NlaView::parse(&NlaBuffer::new_checked(bytes)?)?.to_owned(alloc)?)
-    }
-
-    ghost written_is = { λ _. refl };
-
-    ghost fits_is = { λ _. (λ h. h, λ h. h) };
-}
-
-impl WireNla for Nla {
-    ghost emitted_is = { λ _. refl };
-
-    ghost writable_is = { λ _. (λ h. h, λ h. h) };
 }

@@ -5,7 +5,7 @@ use Rattle.netlink_core.specs.Walk.{attribute_of}
 use Rattle.sock_diag_attributes.specs.InetAttributes.{inet}
 use Rattle.sock_diag_attributes.specs.InetAttributeLaws.{inet_laws}
 use Rattle.sock_diag_attributes.specs.SeenInet.{viewed_nla}
-use Rattle.sock_diag_attributes.proofs.inet.nlas.NlaWire.read.Goals as goal
+use Rattle.sock_diag_attributes.proofs.inet.coded.NlaWire.read.Goals as goal
 
 pub returns-in_err-parse-clause-wanted : goal.returns-in_err-parse-clause-wanted
 returns-in_err-parse-clause-wanted c =

@@ -5,7 +5,7 @@ use Rattle.netlink_core.specs.Walk.{attribute_of}
 use Rattle.sock_diag_attributes.specs.UnixAttributes.{unix}
 use Rattle.sock_diag_attributes.specs.UnixAttributeLaws.{unix_laws}
 use Rattle.sock_diag_attributes.specs.SeenUnix.{viewed_nla}
-use Rattle.sock_diag_attributes.proofs.unix.nlas.NlaWire.read.Goals as goal
+use Rattle.sock_diag_attributes.proofs.unix.coded.NlaWire.read.Goals as goal
 
 pub returns-in_err-parse-clause-wanted : goal.returns-in_err-parse-clause-wanted
 returns-in_err-parse-clause-wanted c =
