@@ -39,7 +39,7 @@ LEMMAS, STEPS = "Laws", "Steps"
 # `read_where_it_stands` says what is read without it.
 INVERSE = "Inverse"
 # Definitions of the tests.
-OF_TESTS = {"Rattle.netlink_core.specs.Kept"}
+OF_TESTS = set()
 # Words of the language, and what needs no import.
 BUILT_IN = set("record data module let in if then else Type Unit tt absurd abbrev unfoldable pub where _".split())
 RUST = set("Ok Err Some None self Self result".split())

@@ -79,9 +79,9 @@ sweep() {
     echo "$what: refused each of $((first - 1)) requests, by itself and with all behind it"
 }
 
-crate=$top/crates/netlink_packet_sock_diag
+crate=$top/crates/netlink_packet_sock_diag_tests
 (cd "$crate" && rt test >"$work/build" 2>&1) || { cat "$work/build" >&2; exit 1; }
-tests=$crate/out/netlink_packet_sock_diag_tests
+tests=$crate/out/netlink_packet_sock_diag_tests_tests
 : >"$work/in"
 look() { [ "$status" -eq 0 ] || fail "the test failed"; }
 for what in $("$tests" --list | sed -n 's/^\(.*::refused_memory::.*\): test$/\1/p'); do

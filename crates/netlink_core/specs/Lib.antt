@@ -29,4 +29,3 @@ pub mod DatagramWalk
 pub mod Items
 pub mod Seen
 pub mod Spare
-pub mod Kept

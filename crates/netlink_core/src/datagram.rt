@@ -65,6 +65,3 @@ impl<'a> Iterator for MessageStrings<'a> {
         }
     }
 }
-
-#[cfg(test)]
-mod tests;

@@ -244,6 +244,3 @@ impl<I: NetlinkSerializable> NetlinkMessage<I> {
         self.payload.serialize(rest);
     }
 }
-
-#[cfg(test)]
-mod tests;

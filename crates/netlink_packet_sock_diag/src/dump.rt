@@ -140,6 +140,3 @@ impl DumpReader {
         self.state
     }
 }
-
-#[cfg(test)]
-mod tests;

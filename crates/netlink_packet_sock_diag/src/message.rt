@@ -314,6 +314,3 @@ impl From<SockDiagDestroy> for NetlinkPayload<SockDiagDestroy> {
         NetlinkPayload::InnerMessage(destroy)
     }
 }
-
-#[cfg(test)]
-mod tests;

@@ -3,6 +3,4 @@
 
 pub mod constants;
 pub mod inet;
-#[cfg(test)]
-mod tests;
 pub mod unix;

@@ -1,5 +1,5 @@
 -- Two TCP connections are equal by each of their numbers.
-use Rattle.std.proofs.Common.{◌≡◌, ◌↔◌, ◌&&◌, ℕ, zero, suc, List, [], ◌∷◌, Bool, false, eqb, IsTrue, drop, refl, ap, rules}
+use Rattle.std.proofs.Common.{◌≡◌, ◌↔◌, ◌&&◌, ℕ, List, [], ◌∷◌, Bool, false, eqb, IsTrue, drop, refl, ap, rules}
 use Rattle.netlink_core.proofs.Equality.{parts, both, numbers_equal}
 use Rattle.sock_diag_values.specs.declared.inet.tcp_info.TcpInfo.{TcpInfo}
 use Rattle.sock_diag_values.specs.TcpInfo.{tcp_info_values}
@@ -30,12 +30,3 @@ tcp_info_equal v w = (
   λ h. ap tcp_info_of (same_from v.state w.state (drop 1 (tcp_info_values v)) (drop 1 (tcp_info_values w)) h),
   λ e. rw e (itself_from w.state (drop 1 (tcp_info_values w))),
 )
-
--- for each number that is copied, that this does not fail
-abbrev pub Unfailing : ℕ → Type 0
-Unfailing zero = Unit {0}
-Unfailing (suc n) = Unit {0} × Unfailing n
-
-pub unfailing : (n : ℕ) → Unfailing n
-unfailing zero = tt
-unfailing (suc n) = (tt, unfailing n)

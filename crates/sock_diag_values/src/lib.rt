@@ -3,6 +3,4 @@
 
 pub mod inet;
 pub mod rows;
-#[cfg(test)]
-mod tests;
 pub mod unix;
