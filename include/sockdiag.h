@@ -22,6 +22,9 @@
 #include <stddef.h>
 #include <stdint.h>
 
+/* The version of this header and of the library that it is shipped with. */
+#define SOCKDIAG_VERSION "0.6.0"
+
 #ifdef __cplusplus
 extern "C" {
 #endif

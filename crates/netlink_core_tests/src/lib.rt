@@ -2,8 +2,6 @@
 #![tactic(auto)]
 
 #[cfg(test)]
-mod datagram;
-#[cfg(test)]
-mod message;
+mod kept;
 #[cfg(test)]
 mod tests;

@@ -2,8 +2,4 @@
 #![tactic(auto)]
 
 #[cfg(test)]
-mod dump;
-#[cfg(test)]
-mod message;
-#[cfg(test)]
 mod tests;

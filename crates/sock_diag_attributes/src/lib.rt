@@ -4,8 +4,6 @@
 pub mod inet;
 pub mod laws;
 mod numbers;
-#[cfg(test)]
-mod tests;
 mod text;
 pub mod unix;
 mod value;

@@ -7,5 +7,3 @@ pub mod framing;
 pub mod listeners;
 pub mod peers;
 pub mod reading_back;
-#[cfg(test)]
-mod tests;

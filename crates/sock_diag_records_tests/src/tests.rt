@@ -1,21 +1,18 @@
 use bitflags::Flags;
 use netlink_core::{
-    DecodeError, Emitable, Parseable, ParseableParametrized, RecordName, Wire, canonical,
+    DecodeError, Emitable, Fills, Parseable, ParseableParametrized, Record, RecordBuffer, Wire,
+    canonical,
 };
-use sock_diag_records::constants;
-use sock_diag_records::inet::{
-    self, ExtensionFlags, InetRequest, InetResponseBuffer, InetResponseHeader, SocketId,
-    SocketIdBuffer, Timer,
-};
-use sock_diag_records::unix::{
-    self, ShowFlags, UnixRequest, UnixRequestBuffer, UnixResponseHeader,
-};
-use std::net::{IpAddr, Ipv4Addr};
+use sock_diag_records::inet::nlas::{LegacyMemInfo, MemInfo, MemInfoBuffer, TcpInfo};
+use sock_diag_records::inet::{InetRequest, InetResponseHeader, SocketId, Timer};
+use sock_diag_records::unix::nlas::{self as unix_nlas, Vfs};
+use sock_diag_records::unix::{StateFlags, UnixRequest, UnixResponseHeader};
+use std::alloc::Global;
+use std::fmt::Debug;
+use std::net::{IpAddr, Ipv6Addr};
+use std::process::Abort;
 use std::test::Fail;
 use std::time::Duration;
-
-mod odd_values;
-mod shown;
 
 // A reply about a socket with a timer that keeps it alive.
 const HEADER: [u8; 72] = [
@@ -24,229 +21,297 @@ const HEADER: [u8; 72] = [
     0, 0x80, 0x60, 0, 0, 0, 0, 0, 0, 0, 0, 0, 0, 0xe8, 3, 0, 0, 0xa8, 0xda, 0x29, 0,
 ];
 
+// A request for IPv4 sockets with other bytes in its pad, its undefined flag bits and behind the
+// first address. Its identity has ports 53 and 54321 at 127.0.0.1.
+const LOOSE_INET: [u8; 56] = [
+    2, 0x11, 0, 0xee, 255, 255, 255, 255, 0, 0x35, 0xd4, 0x31, 127, 0, 0, 1, 238, 238, 238, 238,
+    238, 238, 238, 238, 238, 238, 238, 238, 127, 0, 0, 1, 0, 0, 0, 0, 0, 0, 0, 0, 0, 0, 0, 0, 1, 0,
+    0, 0, 0, 1, 2, 3, 4, 5, 6, 7,
+];
+
 // A request with undefined flag bits, other bytes in its pads, and three bytes more.
-const LOOSE_REQUEST: [u8; 27] = [
+const LOOSE_UNIX: [u8; 27] = [
     7, 9, 255, 255, 255, 255, 255, 255, 0x34, 0x12, 0, 0, 255, 255, 255, 255, 255, 255, 255, 255,
     255, 255, 255, 255, 0xaa, 0xbb, 0xcc,
 ];
 
-// Ports 53 and 54321 at 127.0.0.1, with other bytes behind the first address.
-const LOOSE_IDENTITY: [u8; 48] = [
-    0, 0x35, 0xd4, 0x31, 127, 0, 0, 1, 238, 238, 238, 238, 238, 238, 238, 238, 238, 238, 238, 238,
-    127, 0, 0, 1, 0, 0, 0, 0, 0, 0, 0, 0, 0, 0, 0, 0, 1, 0, 0, 0, 0, 1, 2, 3, 4, 5, 6, 7,
+const UNIX: [u8; 24] = [
+    1, 0, 0, 0, 2, 4, 0, 0, 0x34, 0x12, 0, 0, 0x3f, 0, 0, 0, 255, 255, 255, 255, 255, 255, 255, 255,
 ];
 
-fn header_with(timer: u8, retransmits: u8) -> [u8; 72] {
-    let mut bytes = HEADER;
-    bytes[2] = timer;
-    bytes[3] = retransmits;
+// Each byte tells its own place.
+fn places() -> [u8; 232] {
+    let mut bytes = [0; 232];
+    let mut place = 0_u8;
+    for byte in &mut bytes {
+        *byte = place;
+        place = place.wrapping_add(1);
+    }
     bytes
 }
 
-#[test]
-fn replies_about_inet_sockets(rt: HostRuntime) -> Result<(), Fail> {
-    let header = InetResponseHeader::parse(rt.alloc(), HEADER.as_slice())?;
-    assert_eq!(rt; header.family, constants::AF_INET);
-    assert_eq!(rt; header.state, constants::TCP_ESTABLISHED);
-    assert_eq!(rt;
-        header.timer,
-        Some(Timer::KeepAlive(Duration::from_millis(24_704)))
-    );
-    assert_eq!(rt; header.socket_id.source_port, 60_180);
-    assert_eq!(rt; header.socket_id.destination_port, 443);
-    let source = IpAddr::V4(Ipv4Addr::new(192, 168, 178, 60));
-    assert_eq!(rt; header.socket_id.source_address, source);
-    let destination = IpAddr::V4(Ipv4Addr::new(172, 217, 23, 131));
-    assert_eq!(rt; header.socket_id.destination_address, destination);
-    assert_eq!(rt; header.socket_id.interface_id, 0);
-    assert_eq!(rt; header.socket_id.cookie, [0x52, 3, 0, 0, 0, 0, 0, 0]);
-    assert_eq!(rt; header.recv_queue, 0);
-    assert_eq!(rt; header.send_queue, 0);
-    assert_eq!(rt; header.uid, 1_000);
-    assert_eq!(rt; header.inode, 0x0029_daa8);
-    assert_eq!(rt; InetResponseBuffer::from(&header).to_bytes(), HEADER);
+fn shows<T: Debug>(rt: &impl Abort, alloc: Global, value: &T, text: &str) -> Result<(), Fail> {
+    let shown = format!(in alloc; "{value:?}")?;
+    assert_eq!(rt; shown.as_str(), text);
     Ok(())
+}
+
+fn same(rt: &impl Abort, bytes: &[u8], wanted: &[u8]) {
+    assert_eq!(rt; bytes, wanted);
+}
+
+// The bytes are read as the value that is shown like this, and it is written as `written`.
+fn reads<T: Fills<N> + Debug + Drop, const N: usize>(
+    rt: &impl Abort,
+    alloc: Global,
+    name: &str,
+    bytes: &[u8],
+    told: T::Told,
+    text: &str,
+    written: &[u8],
+) -> Result<(), Fail> {
+    let value = T::read(alloc, bytes, told)?;
+    shows(rt, alloc, &value, text)?;
+    same(rt, &RecordBuffer::<T, N>::from(&value).to_bytes(), written);
+    let raw = RecordBuffer::<T, N>::read_prefix(bytes).ok_or("short")?;
+    same(rt, &raw.to_bytes(), bytes.get(..N).ok_or("short")?);
+    cuts::<T, N>(rt, alloc, name, bytes, told)
+}
+
+// The value is written as these bytes.
+fn is_written<T: Fills<N>, const N: usize>(rt: &impl Abort, value: &T, bytes: [u8; N]) {
+    assert!(rt; value.is_writable());
+    same(rt, &RecordBuffer::from(value).to_bytes(), &bytes);
+}
+
+// Bytes that are too few are refused, and the record is named.
+fn cuts<T: Fills<N> + Drop, const N: usize>(
+    rt: &impl Abort,
+    alloc: Global,
+    name: &str,
+    bytes: &[u8],
+    told: T::Told,
+) -> Result<(), Fail> {
+    let (which, need) = T::name_and_least();
+    shows(rt, alloc, &which, name)?;
+    for got in 0..N {
+        let cut = bytes.get(..got).ok_or("short")?;
+        let fault = DecodeError::BufferTooSmall { which, got, need };
+        assert_eq!(rt; T::read(alloc, cut, told).err(), Some(fault));
+    }
+    Ok(())
+}
+
+// What is read of a UNIX socket's memory, without the words that nothing is told of.
+const UNIX_MEMORY: [u8; 36] = [
+    0, 0, 0, 0, 4, 5, 6, 7, 0, 0, 0, 0, 12, 13, 14, 15, 0, 0, 0, 0, 20, 21, 22, 23, 0, 0, 0, 0, 0,
+    0, 0, 0, 0, 0, 0, 0,
+];
+
+#[test]
+fn values_of_attributes(rt: HostRuntime) -> Result<(), Fail> {
+    let alloc = rt.alloc();
+    let bytes = places();
+    let text = "Vfs { inode: 50462976, device: 117835012 }";
+    reads::<Vfs, 8>(&rt, alloc, "Vfs", &bytes, (), text, &bytes[..8])?;
+    let text = "MemInfo { so_rcvbuf: 117835012, max_datagram_size: 252579084, alloc: 387323156 }";
+    reads::<unix_nlas::MemInfo, 36>(&rt, alloc, "UnixMemInfo", &bytes, (), text, &UNIX_MEMORY)?;
+    let text = "LegacyMemInfo { receive_queue: 50462976, bottom_send_queue: 117835012, \
+        cache: 185207048, send_queue: 252579084 }";
+    reads::<LegacyMemInfo, 16>(&rt, alloc, "LegacyMemInfo", &bytes, (), text, &bytes[..16])?;
+    reads::<TcpInfo, 232>(&rt, alloc, "TcpInfo", &bytes, (), CONNECTION, &bytes)
+}
+
+const CONNECTION: &str = "TcpInfo { state: 0, ca_state: 1, retransmits: 2, probes: 3, backoff: 4, \
+options: 5, wscale: 6, delivery_rate_app_limited: 7, rto: 185207048, ato: 252579084, \
+snd_mss: 319951120, rcv_mss: 387323156, unacked: 454695192, sacked: 522067228, lost: 589439264, \
+retrans: 656811300, fackets: 724183336, last_data_sent: 791555372, last_ack_sent: 858927408, \
+last_data_recv: 926299444, last_ack_recv: 993671480, pmtu: 1061043516, rcv_ssthresh: 1128415552, \
+rtt: 1195787588, rttvar: 1263159624, snd_ssthresh: 1330531660, snd_cwnd: 1397903696, \
+advmss: 1465275732, reordering: 1532647768, rcv_rtt: 1600019804, rcv_space: 1667391840, \
+total_retrans: 1734763876, pacing_rate: 8029475498074204520, \
+max_pacing_rate: 8608196880778817904, bytes_acked: 9186918263483431288, \
+bytes_received: 9765639646188044672, segs_out: 2341112200, segs_in: 2408484236, \
+notsent_bytes: 2475856272, min_rtt: 2543228308, data_segs_in: 2610600344, \
+data_segs_out: 2677972380, delivery_rate: 12080525177006498208, \
+busy_time: 12659246559711111592, rwnd_limited: 13237967942415724976, \
+sndbuf_limited: 13816689325120338360, delivered: 3284320704, delivered_ce: 3351692740, \
+bytes_sent: 14974132090529565128, bytes_retrans: 15552853473234178512, dsack_dups: 3688552920, \
+reord_seen: 3755924956, rcv_ooopack: 3823296992, snd_wnd: 3890669028 }";
+
+// The bytes are read as seven words and what is shown behind them, and kept up to the last whole
+// word; the value is written as what is kept.
+fn memory(
+    rt: &impl Abort,
+    alloc: Global,
+    bytes: &[u8],
+    back: &str,
+    kept: &[u8],
+) -> Result<(), Fail> {
+    let value = MemInfo::parse(bytes)?;
+    let raw = MemInfoBuffer::read_prefix(bytes).ok_or("short")?;
+    same(rt, MemInfoBuffer::from(&value).to_bytes().as_slice(), kept);
+    let text = format!(in alloc;
+        "(MemInfo {{ receive_queue: 50462976, receive_queue_max: 117835012, \
+            bottom_send_queues: 185207048, send_queue_max: 252579084, cache: 319951120, \
+            send_queue: 387323156, options: 454695192, {back}({kept:?}) }})"
+    )?;
+    shows(rt, alloc, &(value, raw), &text)
+}
+
+#[test]
+fn memory_of_seven_to_nine_words(rt: HostRuntime) -> Result<(), Fail> {
+    let bytes = places();
+    let seven = "backlog_queue_length: None, drops: None }, MemInfoBuffer { bytes: Seven";
+    let eight =
+        "backlog_queue_length: Some(522067228), drops: None }, MemInfoBuffer { bytes: Eight";
+    let nine = "backlog_queue_length: Some(522067228), drops: Some(589439264) }, \
+        MemInfoBuffer { bytes: Nine";
+    for (given, back, kept) in [
+        (&bytes[..28], seven, &bytes[..28]),
+        (&bytes[..31], seven, &bytes[..28]),
+        (&bytes[..32], eight, &bytes[..32]),
+        (&bytes[..35], eight, &bytes[..32]),
+        (&bytes[..36], nine, &bytes[..36]),
+        (&bytes[..40], nine, &bytes[..36]),
+    ] {
+        memory(&rt, rt.alloc(), given, back, kept)?;
+    }
+    let short = &bytes[..27];
+    let text = "(Err(BufferTooSmall { which: MemInfo, got: 27, need: 28 }), None)";
+    let refused = (MemInfo::parse(short), MemInfoBuffer::read_prefix(short));
+    shows(&rt, rt.alloc(), &refused, text)
+}
+
+#[test]
+fn headers_of_replies(rt: HostRuntime) -> Result<(), Fail> {
+    let alloc = rt.alloc();
+    let loose = [9, 1, 10, 7, 0x0e, 0x4f, 0, 0, 0xa0, 2, 0, 0, 0, 0, 0, 0];
+    let written = [1, 1, 10, 0, 0x0e, 0x4f, 0, 0, 0xa0, 2, 0, 0, 0, 0, 0, 0];
+    let text = "UnixResponseHeader { kind: 1, state: 10, inode: 20238, \
+        cookie: [160, 2, 0, 0, 0, 0, 0, 0] }";
+    reads::<UnixResponseHeader, 16>(&rt, alloc, "UnixResponseHeader", &loose, (), text, &written)?;
+    let text = "InetResponseHeader { family: 2, state: 1, timer: Some(KeepAlive(24.704s)), \
+        socket_id: SocketId { source_port: 60180, destination_port: 443, \
+        source_address: 192.168.178.60, destination_address: 172.217.23.131, interface_id: 0, \
+        cookie: [82, 3, 0, 0, 0, 0, 0, 0] }, recv_queue: 0, send_queue: 0, uid: 1000, \
+        inode: 2742952 }";
+    reads::<InetResponseHeader, 72>(&rt, alloc, "InetResponseHeader", &HEADER, (), text, &HEADER)
 }
 
 #[test]
 fn timers(rt: HostRuntime) -> Result<(), Fail> {
-    let bytes = header_with(1, 7);
-    let header = InetResponseHeader::parse(rt.alloc(), bytes.as_slice())?;
-    let timer = Timer::Retransmit(Duration::from_millis(24_704), 7);
-    assert_eq!(rt; header.timer, Some(timer));
-    assert_eq!(rt; InetResponseBuffer::from(&header).to_bytes(), bytes);
-    let header = InetResponseHeader::parse(rt.alloc(), header_with(3, 0).as_slice())?;
-    assert_eq!(rt; header.timer, Some(Timer::TimeWait));
-    let mut wanted = header_with(3, 0);
-    wanted[52] = 0;
-    wanted[53] = 0;
-    assert_eq!(rt; InetResponseBuffer::from(&header).to_bytes(), wanted);
+    for (given, text, written) in [
+        ([0, 0], "None", [0, 0, 0, 0]),
+        ([9, 7], "None", [0, 0, 0, 0]),
+        ([1, 7], "Some(Retransmit(24.704s, 7))", [1, 7, 0x80, 0x60]),
+        ([2, 7], "Some(KeepAlive(24.704s))", [2, 0, 0x80, 0x60]),
+        ([3, 0], "Some(TimeWait)", [3, 0, 0, 0]),
+        ([4, 0], "Some(Probe(24.704s))", [4, 0, 0x80, 0x60]),
+    ] {
+        let mut bytes = HEADER;
+        [bytes[2], bytes[3]] = given;
+        let header = InetResponseHeader::parse(rt.alloc(), bytes.as_slice())?;
+        shows(&rt, rt.alloc(), &header.timer, text)?;
+        [bytes[2], bytes[3], bytes[52], bytes[53]] = written;
+        is_written(&rt, &header, bytes);
+    }
     Ok(())
 }
 
-#[test]
-fn no_timers(rt: HostRuntime) -> Result<(), Fail> {
-    let zero = InetResponseHeader::parse(rt.alloc(), header_with(0, 0).as_slice())?;
-    let nine = InetResponseHeader::parse(rt.alloc(), header_with(9, 7).as_slice())?;
-    assert_eq!(rt; zero.timer, None);
-    assert_eq!(rt; zero, nine);
-    Ok(())
-}
+const FOUR: &str = "SocketId { source_port: 53, destination_port: 54321, \
+source_address: 127.0.0.1, destination_address: 127.0.0.1, interface_id: 1, \
+cookie: [0, 1, 2, 3, 4, 5, 6, 7] }";
 
-#[test]
-fn times_past_their_word(rt: HostRuntime) -> Result<(), Fail> {
-    let mut header = InetResponseHeader::parse(rt.alloc(), HEADER.as_slice())?;
-    header.timer = Some(Timer::KeepAlive(Duration::from_millis(4_294_967_301)));
-    let bytes = InetResponseBuffer::from(&header).to_bytes();
-    let expires = [bytes[52], bytes[53], bytes[54], bytes[55]];
-    assert_eq!(rt; expires, [5, 0, 0, 0]);
-    let read = InetResponseHeader::parse(rt.alloc(), bytes.as_slice())?;
-    assert_eq!(rt;
-        read.timer,
-        Some(Timer::KeepAlive(Duration::from_millis(5)))
-    );
-    Ok(())
-}
+const SIX: &str = "SocketId { source_port: 53, destination_port: 54321, \
+source_address: 7f00:1:eeee:eeee:eeee:eeee:eeee:eeee, destination_address: 7f00:1::, \
+interface_id: 1, cookie: [0, 1, 2, 3, 4, 5, 6, 7] }";
 
 #[test]
 fn identities(rt: HostRuntime) -> Result<(), Fail> {
-    let four = SocketId::parse_with_param(rt.alloc(), LOOSE_IDENTITY.as_slice(), 2)?;
-    assert_eq!(rt; four.source_port, 53);
-    assert_eq!(rt; four.destination_port, 54_321);
-    assert_eq!(rt;
-        four.source_address,
-        IpAddr::V4(Ipv4Addr::new(127, 0, 0, 1))
-    );
-    assert_eq!(rt; four.interface_id, 1);
-    assert_eq!(rt; four.cookie, [0, 1, 2, 3, 4, 5, 6, 7]);
-    let mut wanted = LOOSE_IDENTITY;
-    wanted[8..20].fill(0);
-    assert_eq!(rt; SocketIdBuffer::from(&four).to_bytes(), wanted);
-    let six = SocketId::parse_with_param(rt.alloc(), LOOSE_IDENTITY.as_slice(), 10)?;
-    assert_eq!(rt; SocketIdBuffer::from(&six).to_bytes(), LOOSE_IDENTITY);
+    let alloc = rt.alloc();
+    let mut written = LOOSE_INET;
+    written[16..28].fill(0);
+    let loose = &LOOSE_INET[8..];
+    reads::<SocketId, 48>(&rt, alloc, "SocketId", loose, 2, FOUR, &written[8..])?;
+    reads::<SocketId, 48>(&rt, alloc, "SocketId", loose, 10, SIX, loose)?;
+    let other = SocketId::parse_with_param(alloc, loose, 1);
+    shows(&rt, alloc, &other, "Err(UnsupportedFamily { family: 1 })")
+}
+
+#[test]
+fn requests(rt: HostRuntime) -> Result<(), Fail> {
+    let alloc = rt.alloc();
+    let text = "UnixRequest { state_flags: StateFlags(1026), inode: 4660, \
+        show_flags: ShowFlags(63), cookie: [255, 255, 255, 255, 255, 255, 255, 255] }";
+    reads::<UnixRequest, 24>(&rt, alloc, "UnixRequest", &LOOSE_UNIX, (), text, &UNIX)?;
+    let mut written = LOOSE_INET;
+    written[3..8].copy_from_slice(&[0, 0xfe, 0x0f, 0, 0]);
+    written[16..28].fill(0);
+    let text = "InetRequest { family: 2, protocol: 17, extensions: ExtensionFlags(0), \
+        states: StateFlags(4094), socket_id: SocketId { source_port: 53, \
+        destination_port: 54321, source_address: 127.0.0.1, destination_address: 127.0.0.1, \
+        interface_id: 1, cookie: [0, 1, 2, 3, 4, 5, 6, 7] } }";
+    reads::<InetRequest, 56>(&rt, alloc, "InetRequest", &LOOSE_INET, (), text, &written)
+}
+
+// Each byte but the first may be another one: the string has a form, and that is its own.
+fn takes_changes<T: Fills<N, Told = ()> + Drop, const N: usize>(
+    rt: &impl Abort,
+    alloc: Global,
+    string: [u8; N],
+) -> Result<(), Fail> {
+    for place in 1..N {
+        let mut bytes = string;
+        bytes[place] ^= 0xff;
+        let form = canonical::<T>(alloc, &bytes, ()).ok().ok_or("refused")?;
+        let again = canonical::<T>(alloc, &form, ()).ok().ok_or("refused")?;
+        same(rt, &again, &form);
+    }
     Ok(())
 }
 
 #[test]
-fn identities_that_are_refused(rt: HostRuntime) -> Result<(), Fail> {
-    let short = SocketId::parse_with_param(rt.alloc(), [0u8; 47].as_slice(), 1);
-    let fault = DecodeError::BufferTooSmall {
-        which: RecordName::SocketId,
-        got: 47,
-        need: 48,
-    };
-    assert_eq!(rt; short, Err(fault));
-    let other = SocketId::parse_with_param(rt.alloc(), [0u8; 48].as_slice(), 1);
-    assert_eq!(rt; other, Err(DecodeError::UnsupportedFamily { family: 1 }));
+fn changed_requests(rt: HostRuntime) -> Result<(), Fail> {
+    takes_changes::<UnixRequest, 24>(&rt, rt.alloc(), UNIX)?;
+    takes_changes::<InetRequest, 56>(&rt, rt.alloc(), LOOSE_INET)?;
+    let other = InetRequest::parse(rt.alloc(), [1; 56].as_slice());
+    let text = "Err(UnsupportedFamily { family: 1 })";
+    shows(&rt, rt.alloc(), &other, text)
+}
+
+#[test]
+fn durations_that_are_no_milliseconds_of_a_word(rt: HostRuntime) -> Result<(), Fail> {
+    for (duration, expires) in [
+        (Duration::from_nanos(1_500_000), [1, 0, 0, 0]),
+        (Duration::from_millis(4_294_967_301), [5, 0, 0, 0]),
+        (Duration::MAX, [255, 255, 255, 255]),
+    ] {
+        let mut header = InetResponseHeader::parse(rt.alloc(), HEADER.as_slice())?;
+        header.timer = Some(Timer::KeepAlive(duration));
+        let mut wanted = HEADER;
+        wanted[52..56].copy_from_slice(&expires);
+        is_written(&rt, &header, wanted);
+    }
     Ok(())
 }
 
 #[test]
-fn identities_of_zeros(rt: HostRuntime) -> Result<(), Fail> {
-    let four = SocketId::parse_with_param(rt.alloc(), [0u8; 48].as_slice(), constants::AF_INET)?;
-    assert_eq!(rt; SocketId::new_v4(), four);
-    let six = SocketId::parse_with_param(rt.alloc(), [0u8; 48].as_slice(), constants::AF_INET6)?;
-    assert_eq!(rt; SocketId::new_v6(), six);
-    Ok(())
-}
-
-#[test]
-fn requests_for_inet_sockets(rt: HostRuntime) -> Result<(), Fail> {
-    let mut loose = [0u8; 56];
-    loose[..8].copy_from_slice(&[2, 0x11, 0, 0xee, 255, 255, 255, 255]);
-    let request = InetRequest::parse(rt.alloc(), loose.as_slice())?;
-    assert_eq!(rt; request.protocol, constants::IPPROTO_UDP);
-    assert_eq!(rt; request.extensions, ExtensionFlags::empty());
-    assert_eq!(rt; request.states, inet::StateFlags::all());
-    assert_eq!(rt; request.socket_id, SocketId::new_v4());
-    let mut wanted = [0u8; 56];
-    wanted[..8].copy_from_slice(&[2, 0x11, 0, 0, 0xfe, 0x0f, 0, 0]);
-    let form = canonical::<InetRequest>(rt.alloc(), loose.as_slice(), ());
-    assert_eq!(rt; form.ok().ok_or("refused")?.as_slice(), wanted.as_slice());
-    loose[0] = 1;
-    let refused = InetRequest::read(rt.alloc(), loose.as_slice(), ());
-    assert_eq!(rt; refused, Err(DecodeError::UnsupportedFamily { family: 1 }));
-    Ok(())
-}
-
-#[test]
-fn requests_for_unix_sockets(rt: HostRuntime) -> Result<(), Fail> {
-    let request = UnixRequest::parse(rt.alloc(), LOOSE_REQUEST.as_slice())?;
-    assert_eq!(rt; request.state_flags, unix::StateFlags::all());
-    assert_eq!(rt; request.inode, 0x1234);
-    assert_eq!(rt; request.show_flags, ShowFlags::all());
-    assert_eq!(rt; request.cookie, [255; 8]);
-    let mut written = [0xee; 25];
-    request.emit(&mut written);
-    let wanted = [
-        1, 0, 0, 0, 2, 4, 0, 0, 0x34, 0x12, 0, 0, 0x3f, 0, 0, 0, 255, 255, 255, 255, 255, 255, 255,
-        255, 0xee,
-    ];
-    assert_eq!(rt; written, wanted);
-    let raw = UnixRequestBuffer::read_prefix(LOOSE_REQUEST.as_slice()).ok_or("short")?;
-    assert_eq!(rt; raw.to_bytes().as_slice(), &LOOSE_REQUEST[..24]);
-    Ok(())
-}
-
-#[test]
-fn replies_about_unix_sockets(rt: HostRuntime) -> Result<(), Fail> {
-    let loose = [9u8, 1, 10, 7, 0x0e, 0x4f, 0, 0, 0xa0, 2, 0, 0, 0, 0, 0, 0];
-    let header = UnixResponseHeader::parse(rt.alloc(), loose.as_slice())?;
-    assert_eq!(rt; header.kind, constants::SOCK_STREAM);
-    assert_eq!(rt; header.state, constants::TCP_LISTEN);
-    assert_eq!(rt; header.inode, 0x4f0e);
-    assert_eq!(rt; header.cookie, [0xa0, 2, 0, 0, 0, 0, 0, 0]);
-    let mut written = [0xee; 16];
-    header.emit(&mut written);
-    assert_eq!(rt;
-        written,
-        [1, 1, 10, 0, 0x0e, 0x4f, 0, 0, 0xa0, 2, 0, 0, 0, 0, 0, 0]
-    );
-    Ok(())
-}
-
-#[test]
-fn flags(rt: HostRuntime) -> Result<(), Fail> {
-    assert_eq!(rt; inet::StateFlags::all().bits(), 0xffe);
-    assert_eq!(rt; inet::StateFlags::empty().bits(), 0);
-    assert_eq!(rt; inet::StateFlags::CLOSING.bits(), 0x800);
-    assert_eq!(rt; inet::StateFlags::from_bits(1).is_none(), true);
-    assert_eq!(rt; ExtensionFlags::all().bits(), 0xff);
-    assert_eq!(rt; ExtensionFlags::SHUTDOWN.bits(), 0x80);
-    assert_eq!(rt; ExtensionFlags::from_bits(0xff).is_some(), true);
-    assert_eq!(rt; unix::StateFlags::all().bits(), 0x402);
-    assert_eq!(rt;
-        unix::StateFlags::from_bits_truncate(0xffff_ffff).bits(),
-        0x402
-    );
-    assert_eq!(rt; unix::StateFlags::from_bits(4).is_none(), true);
-    assert_eq!(rt; ShowFlags::all().bits(), 0x3f);
-    assert_eq!(rt;
-        ShowFlags::PEER.union(ShowFlags::NAME).complement().bits(),
-        0x3a
-    );
-    let mut shown = ShowFlags::VFS;
-    shown.set(ShowFlags::RQLEN, true);
-    shown.toggle(ShowFlags::VFS);
-    assert_eq!(rt; shown, ShowFlags::RQLEN);
-    let text = format!(in rt.alloc(); "{:?}", shown)?;
-    assert_eq!(rt; text.as_str(), "ShowFlags(16)");
-    Ok(())
-}
-
-#[test]
-fn numbers_of_constants(rt: HostRuntime) -> Result<(), Fail> {
-    assert_eq!(rt; constants::SOCK_DESTROY, 21);
-    assert_eq!(rt; constants::AF_INET6, 10);
-    assert_eq!(rt; constants::IPPROTO_RAW, 255);
-    assert_eq!(rt; constants::INET_DIAG_MD5SIG, 18);
-    assert_eq!(rt; constants::TCP_CLOSING, 11);
-    assert_eq!(rt; constants::UDIAG_SHOW_MEMINFO, 32);
-    assert_eq!(rt; constants::UNIX_DIAG_SHUTDOWN, 6);
-    assert_eq!(rt; constants::SOCK_PACKET, 10);
-    assert_eq!(rt; constants::TCP_CA_LOSS, 4);
-    assert_eq!(rt; constants::TCPF_CA_LOSS, 16);
-    assert_eq!(rt; constants::TCPI_OPT_SYN_DATA, 32);
-    assert_eq!(rt; constants::SHUT_RDWR, 2);
-    Ok(())
+fn values_that_no_reader_gives(rt: HostRuntime) -> Result<(), Fail> {
+    let octets = [1, 2, 3, 4, 5, 6, 7, 8, 9, 10, 11, 12, 13, 14, 15, 16];
+    let mut identity = SocketId::new_v4();
+    identity.source_address = IpAddr::V6(Ipv6Addr::from(octets));
+    let mut wanted = [0; 48];
+    wanted[4..20].copy_from_slice(&octets);
+    is_written(&rt, &identity, wanted);
+    let mut request = UnixRequest::parse(rt.alloc(), UNIX.as_slice())?;
+    request.state_flags = StateFlags::from_bits_retain(0xffff_ffff);
+    let mut wanted = UNIX;
+    wanted[4..8].fill(255);
+    is_written(&rt, &request, wanted);
+    let mut memory = MemInfo::parse(&places())?;
+    memory.backlog_queue_length = None;
+    let again = MemInfo::parse(MemInfoBuffer::from(&memory).to_bytes().as_slice())?;
+    let drops = (again.backlog_queue_length, again.drops);
+    shows(&rt, rt.alloc(), &drops, "(Some(0), Some(589439264))")
 }

@@ -7,5 +7,3 @@ pub mod lister;
 pub mod readme;
 pub mod stored;
 pub mod test_kernel;
-#[cfg(test)]
-mod tests;

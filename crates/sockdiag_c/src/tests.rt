@@ -1,4 +1,5 @@
-//! Calls of the library by value. The bytes are worked out by hand from the layouts of sock_diag(7) and netlink(7).
+//! Calls of the library by value. The bytes are worked out by hand from the layouts of sock_diag(7)
+//! and netlink(7).
 //! `tests/c_face.c` makes the same calls from C.
 
 use crate::check::{sockdiag_check_inet_reply, sockdiag_check_message, sockdiag_check_unix_reply};
@@ -13,13 +14,15 @@ use crate::walks::{
 };
 use std::process::Abort;
 
-// A stream that listens, inode 0x11223344, with the name "/a" and its peer. The byte at 3 and that at 23 are idle.
+// A stream that listens, inode 0x11223344, with the name "/a" and its peer. The bytes at 3 and 23
+// are idle.
 const UNIX_REPLY: [u8; 32] = [
     1, 1, 10, 0xee, 0x44, 0x33, 0x22, 0x11, 1, 2, 3, 4, 5, 6, 7, 8, 7, 0, 0, 0, b'/', b'a', 0,
     0xff, 8, 0, 2, 0, 0x78, 0x56, 0x34, 0x12,
 ];
 
-// From 127.0.0.1 port 80 to 10.0.0.2 port 49152, the timer 1 with 3 retransmits and 200 milliseconds.
+// From 127.0.0.1 port 80 to 10.0.0.2 port 49152, the timer 1 with 3 retransmits and 200
+// milliseconds.
 const INET_REPLY: [u8; 72] = [
     2, 1, 1, 3, 0, 80, 0xc0, 0, 127, 0, 0, 1, 9, 9, 9, 9, 9, 9, 9, 9, 9, 9, 9, 9, 10, 0, 0, 2, 9,
     9, 9, 9, 9, 9, 9, 9, 9, 9, 9, 9, 4, 0, 0, 0, 8, 7, 6, 5, 4, 3, 2, 1, 200, 0, 0, 0, 1, 0, 0, 0,
@@ -32,161 +35,173 @@ const DATAGRAM: [u8; 42] = [
     0, 0, 0, 0, 0, 0, 17, 0, 0, 0, 5, 5,
 ];
 
-fn no_unix_header() -> UnixHeader {
-    UnixHeader {
-        kind: 0,
-        state: 0,
-        inode: 0,
-        cookie: [0; 8],
+// A header of nothing but zeros.
+const NO_UNIX_HEADER: UnixHeader = UnixHeader {
+    kind: 0,
+    state: 0,
+    inode: 0,
+    cookie: [0; 8],
+};
+
+// A header of nothing but zeros.
+const NO_INET_HEADER: InetHeader = InetHeader {
+    family: 0,
+    state: 0,
+    timer: 0,
+    retransmits: 0,
+    expires: 0,
+    source_port: 0,
+    destination_port: 0,
+    source_address: [0; 16],
+    destination_address: [0; 16],
+    interface_id: 0,
+    cookie: [0; 8],
+    recv_queue: 0,
+    send_queue: 0,
+    uid: 0,
+    inode: 0,
+};
+
+#[test]
+fn headers_of_unix_replies(rt: HostRuntime) {
+    for (payload, answer, kind, inode, cookie) in [
+        (&UNIX_REPLY[..22], 9, 0, 0, [0; 8]),
+        (&UNIX_REPLY[..], 0, 1, 0x11223344, [1, 2, 3, 4, 5, 6, 7, 8]),
+    ] {
+        let mut header = NO_UNIX_HEADER;
+        assert_eq!(rt; sockdiag_check_unix_reply(payload, &mut header), answer);
+        assert_eq!(rt;
+            (header.kind, header.inode, header.cookie),
+            (kind, inode, cookie)
+        );
     }
 }
 
-fn no_inet_header() -> InetHeader {
-    InetHeader {
-        family: 0,
-        state: 0,
-        timer: 0,
-        retransmits: 0,
-        expires: 0,
-        source_port: 0,
-        destination_port: 0,
-        source_address: [0; 16],
-        destination_address: [0; 16],
-        interface_id: 0,
-        cookie: [0; 8],
-        recv_queue: 0,
-        send_queue: 0,
-        uid: 0,
-        inode: 0,
+// The numbers of a header that stand in words, and those of its timer.
+fn words(header: &InetHeader) -> [u32; 8] {
+    let timer = u32::from(header.timer);
+    let retransmits = u32::from(header.retransmits);
+    [
+        timer,
+        retransmits,
+        header.expires,
+        header.interface_id,
+        header.recv_queue,
+        header.send_queue,
+        header.uid,
+        header.inode,
+    ]
+}
+
+#[test]
+fn headers_of_internet_replies(rt: HostRuntime) {
+    for (payload, answer, numbers, ports, octets) in [
+        (&UNIX_REPLY[..], 2, [0; 8], (0, 0), (0, 0)),
+        (
+            &INET_REPLY[..],
+            0,
+            [1, 3, 200, 4, 1, 2, 1000, 12345],
+            (80, 49152),
+            (127, 2),
+        ),
+    ] {
+        let mut header = NO_INET_HEADER;
+        assert_eq!(rt; sockdiag_check_inet_reply(payload, &mut header), answer);
+        assert_eq!(rt; words(&header), numbers);
+        assert_eq!(rt; (header.source_port, header.destination_port), ports);
+        assert_eq!(rt;
+            (header.source_address[0], header.destination_address[3]),
+            octets
+        );
+        assert_eq!(rt; &header.destination_address[4..], [0; 12].as_slice());
     }
 }
 
 #[test]
-fn tells_the_header_of_a_unix_reply(rt: HostRuntime) {
-    let mut header = no_unix_header();
-    assert_eq!(rt;
-        sockdiag_check_unix_reply(&UNIX_REPLY[..22], &mut header),
-        9
-    );
-    assert_eq!(rt; header.inode, 0);
-    assert_eq!(rt; sockdiag_check_unix_reply(&UNIX_REPLY, &mut header), 0);
-    assert_eq!(rt;
-        (header.kind, header.state, header.inode),
-        (1, 10, 0x11223344)
-    );
-    assert_eq!(rt; header.cookie, [1, 2, 3, 4, 5, 6, 7, 8]);
-}
-
-#[test]
-fn tells_the_header_of_an_internet_reply(rt: HostRuntime) {
-    let mut header = no_inet_header();
-    assert_eq!(rt; sockdiag_check_inet_reply(&UNIX_REPLY, &mut header), 2);
-    assert_eq!(rt; sockdiag_check_inet_reply(&INET_REPLY, &mut header), 0);
-    assert_eq!(rt;
-        (header.timer, header.retransmits, header.expires),
-        (1, 3, 200)
-    );
-    assert_eq!(rt; (header.source_port, header.destination_port), (80, 49152));
-    assert_eq!(rt;
-        header.source_address,
-        [127, 0, 0, 1, 0, 0, 0, 0, 0, 0, 0, 0, 0, 0, 0, 0]
-    );
-    assert_eq!(rt;
-        header.destination_address,
-        [10, 0, 0, 2, 0, 0, 0, 0, 0, 0, 0, 0, 0, 0, 0, 0]
-    );
-    assert_eq!(rt; (header.uid, header.inode), (1000, 12345));
-}
-
-#[test]
-fn tells_which_reply_a_message_is(rt: HostRuntime) {
+fn replies_in_messages(rt: HostRuntime) {
     let mut reply = Reply {
         kind: 0,
-        unix_header: no_unix_header(),
-        inet_header: no_inet_header(),
+        unix_header: NO_UNIX_HEADER,
+        inet_header: NO_INET_HEADER,
     };
-    assert_eq!(rt; sockdiag_check_message(&UNIX_REPLY, 21, &mut reply), 6);
-    assert_eq!(rt; sockdiag_check_message(&UNIX_REPLY, 20, &mut reply), 0);
-    assert_eq!(rt; (reply.kind, reply.unix_header.inode), (1, 0x11223344));
-    assert_eq!(rt; sockdiag_check_message(&INET_REPLY, 20, &mut reply), 0);
-    assert_eq!(rt; (reply.kind, reply.inet_header.inode), (2, 12345));
+    for (payload, message_type, answer, kind) in [
+        (&UNIX_REPLY[..], 21, 6, 0),
+        (&UNIX_REPLY[..], 20, 0, 1),
+        (&INET_REPLY[..], 20, 0, 2),
+    ] {
+        assert_eq!(rt;
+            sockdiag_check_message(payload, message_type, &mut reply),
+            answer
+        );
+        assert_eq!(rt; reply.kind, kind);
+    }
+    assert_eq!(rt;
+        (reply.unix_header.inode, reply.inet_header.inode),
+        (0x11223344, 12345)
+    );
 }
 
+// Where a walk is, what it answers there, where it is then, and the attribute.
 #[test]
 fn walks_over_attributes(rt: HostRuntime) {
-    let mut cursor = Cursor { place: 16 };
-    let mut attribute = AttributePart {
-        offset: 0,
-        length: 0,
-        type_word: 9,
-    };
-    assert_eq!(rt;
-        sockdiag_next_attribute(&UNIX_REPLY, &mut cursor, &mut attribute),
-        1
-    );
-    assert_eq!(rt;
-        (attribute.type_word, attribute.offset, attribute.length),
-        (0, 20, 3)
-    );
-    assert_eq!(rt;
-        sockdiag_next_attribute(&UNIX_REPLY, &mut cursor, &mut attribute),
-        1
-    );
-    assert_eq!(rt;
-        (attribute.type_word, attribute.offset, attribute.length),
-        (2, 28, 4)
-    );
-    assert_eq!(rt;
-        sockdiag_next_attribute(&UNIX_REPLY, &mut cursor, &mut attribute),
-        0
-    );
-    cursor.place = usize::MAX;
-    assert_eq!(rt;
-        sockdiag_next_attribute(&UNIX_REPLY, &mut cursor, &mut attribute),
-        0
-    );
+    let last = usize::MAX;
+    for (place, answer, next, type_word, offset, length) in [
+        (16, 1, 24, 0, 20, 3),
+        (24, 1, 32, 2, 28, 4),
+        (32, 0, 32, 9, 0, 0),
+        (last, 0, last, 9, 0, 0),
+    ] {
+        let mut cursor = Cursor { place };
+        let mut part = AttributePart {
+            offset: 0,
+            length: 0,
+            type_word: 9,
+        };
+        assert_eq!(rt;
+            sockdiag_next_attribute(&UNIX_REPLY, &mut cursor, &mut part),
+            answer
+        );
+        assert_eq!(rt; (cursor.place, part.type_word), (next, type_word));
+        assert_eq!(rt; (part.offset, part.length), (offset, length));
+    }
 }
 
+// The same of messages.
 #[test]
 fn walks_over_messages(rt: HostRuntime) {
-    let mut cursor = Cursor { place: 0 };
-    let mut message = MessagePart {
-        offset: 0,
-        length: 0,
-        message_type: 0,
-        flags: 0,
-        sequence_number: 0,
-        port_number: 0,
-    };
-    assert_eq!(rt;
-        sockdiag_next_message(&DATAGRAM, &mut cursor, &mut message),
-        1
-    );
-    assert_eq!(rt;
-        (message.message_type, message.offset, message.length),
-        (1, 16, 1)
-    );
-    assert_eq!(rt;
-        (message.flags, message.sequence_number, message.port_number),
-        (2, 7, 9)
-    );
-    assert_eq!(rt;
-        sockdiag_next_message(&DATAGRAM, &mut cursor, &mut message),
-        5
-    );
-    assert_eq!(rt;
-        (message.message_type, message.offset, message.length),
-        (20, 36, 2)
-    );
-    assert_eq!(rt;
-        sockdiag_next_message(&DATAGRAM, &mut cursor, &mut message),
-        16
-    );
-    assert_eq!(rt; message.offset, 36);
-    assert_eq!(rt;
-        sockdiag_next_message(&DATAGRAM, &mut cursor, &mut message),
-        0
-    );
+    for (place, answer, next, header, offset, length) in [
+        (0, 1, 20, (1, 2, 7, 9), 16, 1),
+        (20, 5, 40, (20, 0, 8, 0), 36, 2),
+        (40, 16, 42, (0, 0, 0, 0), 0, 0),
+        (42, 0, 42, (0, 0, 0, 0), 0, 0),
+    ] {
+        let mut cursor = Cursor { place };
+        let mut part = MessagePart {
+            offset: 0,
+            length: 0,
+            message_type: 0,
+            flags: 0,
+            sequence_number: 0,
+            port_number: 0,
+        };
+        assert_eq!(rt;
+            sockdiag_next_message(&DATAGRAM, &mut cursor, &mut part),
+            answer
+        );
+        assert_eq!(rt;
+            (
+                part.message_type,
+                part.flags,
+                part.sequence_number,
+                part.port_number
+            ),
+            header
+        );
+        assert_eq!(rt;
+            (cursor.place, part.offset, part.length),
+            (next, offset, length)
+        );
+    }
 }
 
 #[test]
@@ -246,37 +261,45 @@ fn writes_an_internet_request(rt: HostRuntime) {
 }
 
 #[test]
-fn rewrites_replies(rt: HostRuntime) {
-    let mut buffer = [0xaa; 73];
-    let mut outcome = Outcome {
-        fault: 9,
-        needed: 9,
-    };
-    assert_eq!(rt;
-        sockdiag_rewrite_unix_reply(&UNIX_REPLY, &mut buffer[..31], &mut outcome),
-        0
-    );
-    assert_eq!(rt; (outcome.fault, outcome.needed), (0, 32));
-    assert_eq!(rt; buffer, [0xaa; 73]);
-    assert_eq!(rt;
-        sockdiag_rewrite_unix_reply(&UNIX_REPLY, &mut buffer, &mut outcome),
-        32
-    );
-    assert_eq!(rt;
-        (buffer[3], buffer[20], buffer[23], buffer[32]),
-        (0, b'/', 0, 0xaa)
-    );
-    assert_eq!(rt;
-        sockdiag_rewrite_inet_reply(&UNIX_REPLY, &mut buffer, &mut outcome),
-        0
-    );
-    assert_eq!(rt; (outcome.fault, outcome.needed), (2, 0));
-    assert_eq!(rt;
-        sockdiag_rewrite_inet_reply(&INET_REPLY, &mut buffer, &mut outcome),
-        72
-    );
-    assert_eq!(rt;
-        (buffer[11], buffer[12], buffer[52], buffer[72]),
-        (1, 0, 200, 0xaa)
-    );
+fn rewrites_unix_replies(rt: HostRuntime) {
+    let mut want = [0xaa; 33];
+    want[..32].copy_from_slice(&UNIX_REPLY);
+    want[3] = 0;
+    want[23] = 0;
+    for (room, length, bytes) in [(31, 0, [0xaa; 33]), (33, 32, want)] {
+        let mut buffer = [0xaa; 33];
+        let mut outcome = Outcome {
+            fault: 9,
+            needed: 9,
+        };
+        assert_eq!(rt;
+            sockdiag_rewrite_unix_reply(&UNIX_REPLY, &mut buffer[..room], &mut outcome),
+            length
+        );
+        assert_eq!(rt; (outcome.fault, outcome.needed), (0, 32));
+        assert_eq!(rt; buffer, bytes);
+    }
+}
+
+#[test]
+fn rewrites_internet_replies(rt: HostRuntime) {
+    let mut want = INET_REPLY;
+    want[12..24].fill(0);
+    want[28..40].fill(0);
+    for (payload, length, fault, needed, bytes) in [
+        (&UNIX_REPLY[..], 0, 2, 0, [0xaa; 72]),
+        (&INET_REPLY[..], 72, 0, 72, want),
+    ] {
+        let mut buffer = [0xaa; 72];
+        let mut outcome = Outcome {
+            fault: 9,
+            needed: 9,
+        };
+        assert_eq!(rt;
+            sockdiag_rewrite_inet_reply(payload, &mut buffer, &mut outcome),
+            length
+        );
+        assert_eq!(rt; (outcome.fault, outcome.needed), (fault, needed));
+        assert_eq!(rt; buffer, bytes);
+    }
 }

@@ -1,124 +1,142 @@
-//! Memory is never wanted where there is some, and what a walk tells of its length, over lists of each size.
+//! Lists of each size, for which there is memory, long attributes, and replies made at random.
 
-use super::{CONNECTED, INET_HEADER};
-use netlink_core::{NetlinkMessage, NetlinkPayload, Wire, canonical};
-use netlink_packet_sock_diag::constants::SOCK_DIAG_BY_FAMILY;
-use netlink_packet_sock_diag::inet::{InetResponse, InetResponseView};
-use netlink_packet_sock_diag::unix::{UnixResponse, UnixResponseView};
-use netlink_packet_sock_diag::{SockDiagDestroy, SockDiagMessage, SockDiagView};
+use super::read_twice::{ReadTwice, read_twice, rewritten};
+use super::{CONNECTED, INET, LISTENING, bytes, shows};
+use netlink_core::CanonError;
+use netlink_packet_sock_diag::SockDiagMessage;
+use netlink_packet_sock_diag::inet::InetResponse;
+use netlink_packet_sock_diag::unix::UnixResponse;
+use rand_core::Rng;
+use rand_pcg::Pcg32;
 use std::alloc::Global;
 use std::process::Abort;
 use std::test::Fail;
 
-/// How many attributes a reply has: none, and then numbers of every size.
-const COUNTS: [usize; 19] = [
-    0, 1, 2, 4, 8, 9, 16, 32, 64, 128, 256, 512, 1024, 2048, 4096, 8192, 16_384, 65_536, 100_000,
+/// There is memory for the header and each number of attributes.
+fn has_room<T: ReadTwice<Param = ()>>(
+    rt: &impl Abort,
+    alloc: Global,
+    header: &str,
+    attribute: &str,
+) -> Result<(), Fail> {
+    for count in [0, 1, 2, 3, 4, 5, 6, 7, 8, 9, 100, 1000] {
+        let mut reply = bytes(alloc, &[header])?;
+        reply.extend_from_slice(&bytes(alloc, &[attribute])?.repeat(alloc, count)?)?;
+        assert!(rt; read_twice::<T>(rt, alloc, &reply, ()).is_ok());
+        assert!(rt; read_twice::<SockDiagMessage>(rt, alloc, &reply, 20).is_ok());
+    }
+    Ok(())
+}
+
+#[test]
+fn lists_of_attributes(rt: HostRuntime) -> Result<(), Fail> {
+    has_room::<UnixResponse>(&rt, rt.alloc(), CONNECTED, "0500060002000000")?;
+    has_room::<UnixResponse>(&rt, rt.alloc(), CONNECTED, "0600000061000000")?;
+    has_room::<InetResponse>(&rt, rt.alloc(), INET, "0500080002000000")?;
+    has_room::<InetResponse>(&rt, rt.alloc(), INET, "0600040061000000")
+}
+
+/// A header, the head of an attribute, a byte so many times and what follows; and how many bytes
+/// are written, or why none.
+const LONG: [(&str, &str, u8, usize, &str, &str); 7] = [
+    (LISTENING, "ffff0700", 1, 65_531, "", "Ok(65552)"),
+    (INET, "ffff0400", 97, 65_531, "", "Err(Unwritable)"),
+    (INET, "ffff0400", 97, 65_530, "00", "Ok(65608)"),
+    (INET, "ffff0400", 97, 65_530, "00000500080000", "Ok(65616)"),
+    (INET, "feff0400", 97, 65_530, "", "Ok(65608)"),
+    (INET, "ed000200", 0, 233, "aaaaaa0500084002", "Ok(316)"),
+    (INET, "eb000200", 0, 231, "", "got: 231, need: 232"),
 ];
 
-/// A header, and then the eight bytes of one attribute so many times.
-fn reply(alloc: Global, header: &[u8], attribute: [u8; 8], count: usize) -> Result<Vec<u8>, Fail> {
-    let mut bytes = Vec::from_slice(alloc, header)?;
-    for _ in 0..count {
-        bytes.extend_from_slice(&attribute)?;
-    }
-    Ok(bytes)
-}
-
-fn unix_reply(rt: &impl Abort, alloc: Global, bytes: &[u8]) -> Result<(), Fail> {
-    let reply = UnixResponse::read(alloc, bytes, ())?;
-    assert_eq!(rt; reply.clone(alloc)?, reply);
-    assert_eq!(rt; UnixResponseView::parse(bytes)?.to_owned(alloc)?, reply);
-    assert!(rt; canonical::<UnixResponse>(alloc, bytes, ()).is_ok());
-    message(rt, alloc, bytes)
-}
-
-fn inet_reply(rt: &impl Abort, alloc: Global, bytes: &[u8]) -> Result<(), Fail> {
-    let reply = InetResponse::read(alloc, bytes, ())?;
-    assert_eq!(rt; reply.clone(alloc)?, reply);
-    assert_eq!(rt; InetResponseView::parse(bytes)?.to_owned(alloc)?, reply);
-    assert!(rt; canonical::<InetResponse>(alloc, bytes, ()).is_ok());
-    message(rt, alloc, bytes)
-}
-
-fn message(rt: &impl Abort, alloc: Global, bytes: &[u8]) -> Result<(), Fail> {
-    let message = SockDiagMessage::read(alloc, bytes, SOCK_DIAG_BY_FAMILY)?;
-    let view = SockDiagView::parse(bytes, SOCK_DIAG_BY_FAMILY)?;
-    assert_eq!(rt; view.to_owned(alloc)?, message);
-    let destroy = SockDiagDestroy::new(message.clone(alloc)?);
-    assert_eq!(rt; destroy.clone(alloc)?, destroy);
-    let mut string = vec![in alloc; 0; 16]?;
-    string.extend_from_slice(bytes)?;
-    let Ok(length) = u32::try_from(string.len()) else {
-        return Err("a long message")?;
-    };
-    string[..4].copy_from_slice(&length.to_le_bytes());
-    string[4] = 20;
-    let read = NetlinkMessage::<SockDiagMessage>::deserialize(alloc, &string)?;
-    assert_eq!(rt; read.payload, NetlinkPayload::InnerMessage(message));
-    Ok(())
-}
-
 #[test]
-fn replies_about_unix_sockets(rt: HostRuntime) -> Result<(), Fail> {
+fn long_attributes(rt: HostRuntime) -> Result<(), Fail> {
     let alloc = rt.alloc();
-    for count in COUNTS {
-        let bytes = reply(alloc, &CONNECTED, [5, 0, 6, 0, 2, 0, 0, 0], count)?;
-        unix_reply(&rt, alloc, &bytes)?;
+    for (header, head, byte, count, back, part) in LONG {
+        let mut reply = bytes(alloc, &[header, head])?;
+        reply.resize(reply.len().saturating_add(count), byte)?;
+        reply.extend_from_slice(&bytes(alloc, &[back])?)?;
+        shows(
+            &rt,
+            alloc,
+            &rewritten::<SockDiagMessage>(&rt, alloc, &reply, 20),
+            part,
+        )?;
     }
     Ok(())
 }
 
-#[test]
-fn replies_about_unix_sockets_with_names(rt: HostRuntime) -> Result<(), Fail> {
-    let alloc = rt.alloc();
-    for count in [1, 8, 9, 1000, 100_000] {
-        let bytes = reply(alloc, &CONNECTED, [6, 0, 0, 0, 0x61, 0, 0, 0], count)?;
-        let reply = UnixResponse::read(alloc, &bytes, ())?;
-        assert_eq!(rt; reply.clone(alloc)?, reply);
-        assert!(rt; canonical::<UnixResponse>(alloc, &bytes, ()).is_ok());
+/// How many replies are made at random. Raise it for a longer search.
+const ROUNDS: u32 = 10_000;
+
+/// Headers, and attributes that some reply accepts.
+const HEADERS: [&str; 3] = [LISTENING, CONNECTED, INET];
+
+const ATTRIBUTES: &str =
+    "0500060000000000 05000680020000ee 0c0004000000000080000000 080002000100ff00 \
+06000000610000ee 0600000000610000 0c0003000500000006000000 04000300 \
+0c0001000100000002000000 0a000400637562696300eeee 05000800ff000000 05000b0002000000 \
+08000f0001020304 20000700010000000200000003000000040000000500000006000000070000ff \
+28000500010000000200000003000000040000000500000006000000070000000800000009000000 \
+0500074002000000";
+
+/// A number under the bound, or zero where that is zero.
+fn below(words: &mut Pcg32, bound: usize) -> usize {
+    (words.next_u32() as usize).checked_rem(bound).unwrap_or(0)
+}
+
+/// A header, some attributes, at times a longest text and a changed byte, and some last bytes off.
+fn reply(words: &mut Pcg32, alloc: Global) -> Result<Vec<u8>, Fail> {
+    let header = HEADERS.get(below(words, 3)).ok_or("no header")?;
+    let mut reply = bytes(alloc, &[*header])?;
+    for _ in 0..below(words, 5) {
+        let attribute = ATTRIBUTES
+            .split(' ')
+            .nth(below(words, 16))
+            .ok_or("no attribute")?;
+        reply.extend_from_slice(&bytes(alloc, &[attribute])?)?;
     }
-    Ok(())
-}
-
-#[test]
-fn replies_about_inet_sockets(rt: HostRuntime) -> Result<(), Fail> {
-    let alloc = rt.alloc();
-    for count in COUNTS {
-        let bytes = reply(alloc, &INET_HEADER, [5, 0, 8, 0, 2, 0, 0, 0], count)?;
-        inet_reply(&rt, alloc, &bytes)?;
+    if below(words, 100) == 0 {
+        reply.extend_from_slice(&[0xff, 0xff, 4, 0])?;
+        reply.resize(reply.len().saturating_add(65_531), b'a')?;
     }
-    Ok(())
+    let [byte, ..] = words.next_u32().to_le_bytes();
+    let place = below(words, 200);
+    if let Some(old) = reply.get_mut(place) {
+        *old = byte;
+    }
+    reply.truncate(reply.len().saturating_sub(below(words, 5)));
+    Ok(reply)
+}
+
+/// Whether the bytes have a canonical form. Both readers tell the same, and there is no other
+/// answer than that form, `Unwritable` and the reader's fault.
+fn is_written<T: ReadTwice>(rt: &impl Abort, alloc: Global, bytes: &[u8], param: T::Param) -> bool {
+    let read = read_twice::<T>(rt, alloc, bytes, param);
+    match (read, rewritten::<T>(rt, alloc, bytes, param)) {
+        (Ok(_), Ok(_)) => true,
+        (Ok(value), Err(CanonError::Unwritable)) if !value.is_writable() => false,
+        (Err(fault), Err(CanonError::Refused(found))) if found == fault => false,
+        _ => panic!(rt; "{bytes:?}"),
+    }
 }
 
 #[test]
-fn one_long_text(rt: HostRuntime) -> Result<(), Fail> {
+fn replies_at_random(rt: HostRuntime) -> Result<(), Fail> {
     let alloc = rt.alloc();
-    let mut bytes = Vec::from_slice(alloc, &INET_HEADER)?;
-    bytes.extend_from_slice(&[0xfe, 0xff, 4, 0])?;
-    bytes.resize(72 + 65_534, b'a')?;
-    inet_reply(&rt, alloc, &bytes)
-}
-
-#[test]
-fn what_the_walks_tell_of_their_lengths(rt: HostRuntime) -> Result<(), Fail> {
-    let alloc = rt.alloc();
-    for count in 0..20 {
-        let bytes = reply(alloc, &CONNECTED, [5, 0, 6, 0, 2, 0, 0, 0], count)?;
-        let mut walk = UnixResponseView::parse(bytes.as_slice())?.attributes();
-        let bytes = reply(alloc, &INET_HEADER, [5, 0, 8, 0, 2, 0, 0, 0], count)?;
-        let mut other = InetResponseView::parse(bytes.as_slice())?.attributes();
-        for given in 0..count {
-            assert_eq!(rt; walk.size_hint(), (count - given, Some(count - given)));
-            assert_eq!(rt; other.size_hint(), (count - given, Some(count - given)));
-            assert!(rt; walk.next().is_some());
-            assert!(rt; other.next().is_some());
+    let mut words = Pcg32::new(42, 54);
+    let mut written = 0_u32;
+    for _ in 0..ROUNDS {
+        let reply = reply(&mut words, alloc)?;
+        let unix = is_written::<UnixResponse>(&rt, alloc, &reply, ());
+        let internet = is_written::<InetResponse>(&rt, alloc, &reply, ());
+        if is_written::<SockDiagMessage>(&rt, alloc, &reply, 20) {
+            assert!(rt; unix || internet, "{reply:?}");
+            written = written.saturating_add(1);
         }
-        assert_eq!(rt; walk.size_hint(), (0, Some(0)));
-        assert_eq!(rt; other.size_hint(), (0, Some(0)));
-        assert!(rt; walk.next().is_none());
-        assert!(rt; other.next().is_none());
-        assert_eq!(rt; walk.size_hint(), (0, Some(0)));
-        assert_eq!(rt; other.size_hint(), (0, Some(0)));
     }
+    assert!(rt;
+        ROUNDS / 4 < written && written < ROUNDS / 4 * 3,
+        "{written}"
+    );
     Ok(())
 }

@@ -1,181 +1,163 @@
-//! Replies read in place: what they lend, what they are equal to, and what they write.
+//! What is read in place, replies and the messages of a datagram, and how far dumps are.
 
-use super::{ABSTRACT_NAME, CONNECTED, INET_HEADER, LISTENING, LISTENING_REPLY, SHUTDOWN, behind};
-use netlink_core::{DecodeError, Emitable, Parseable};
-use netlink_packet_sock_diag::inet::nlas::NlaView as InetNlaView;
+ghost use Rattle.std.specs.Iterator.{IsFinite};
+
+use super::{INET, PATH, SHUTDOWN, bytes, shows};
+use netlink_core::{Emitable, Parseable};
 use netlink_packet_sock_diag::inet::{InetResponse, InetResponseView};
-use netlink_packet_sock_diag::unix::nlas::{NameView, NlaView};
 use netlink_packet_sock_diag::unix::{UnixResponse, UnixResponseView};
-use netlink_packet_sock_diag::{DumpError, DumpState, SockDiagMessage, SockDiagView};
+use netlink_packet_sock_diag::{DumpReader, DumpState, DumpViews, SockDiagView};
+use std::alloc::Global;
+use std::fmt::Debug;
 use std::process::Abort;
 use std::test::Fail;
 
-// Five, six: the inodes of two connections that wait to be accepted.
-const PENDING: [u8; 12] = [12, 0, 3, 0, 5, 0, 0, 0, 6, 0, 0, 0];
+/// The answers of the walk, one after the other, are shown with these parts, which semicolons part.
+fn gives<I: Iterator + Drop>(
+    rt: &impl Abort,
+    alloc: Global,
+    mut walk: I,
+    parts: &str,
+) -> Result<(), Fail>
+where
+    I::Item: Debug + Drop,
+    requires { I.can_next walk × IsFinite (I.remaining walk) }
+{
+    for part in parts.split(';') {
+        shows(rt, alloc, &walk.next(), part)?;
+    }
+    Ok(())
+}
 
-#[test]
-fn a_name_is_lent_by_the_bytes(rt: HostRuntime) -> Result<(), Fail> {
-    let bytes = behind(rt.alloc(), &LISTENING, ABSTRACT_NAME)?;
-    let view = UnixResponseView::parse(bytes.as_slice())?;
-    let Some(NameView::Abstract(address)) = view.name() else {
-        return Err("no abstract name".into());
-    };
-    assert_eq!(rt; address, bytes.get(21..64).ok_or("short")?);
+/// The value is written as these bytes.
+fn writes<T: Emitable>(
+    rt: &impl Abort,
+    alloc: Global,
+    value: &T,
+    parts: &[&str],
+) -> Result<(), Fail> {
+    assert!(rt; value.is_writable());
+    let mut buffer = vec![in alloc; 0xee; value.buffer_len()]?;
+    value.emit(&mut buffer);
+    assert!(rt; buffer == bytes(alloc, parts)?, "{buffer:?}");
     Ok(())
 }
 
 #[test]
-fn numbers_are_lent_by_the_bytes(rt: HostRuntime) -> Result<(), Fail> {
-    let bytes = behind(rt.alloc(), &LISTENING, &PENDING)?;
-    let view = UnixResponseView::parse(bytes.as_slice())?;
-    let inodes = view.pending_connections().ok_or("no connections")?;
-    assert_eq!(rt; inodes.len(), 2);
-    assert!(rt; !inodes.is_empty());
-    assert_eq!(rt; inodes.get(0), Some(5));
-    assert_eq!(rt; inodes.get(1), Some(6));
-    assert_eq!(rt; inodes.get(2), None);
-    let mut walk = inodes.iter();
-    assert_eq!(rt; walk.size_hint(), (2, Some(2)));
-    assert_eq!(rt; walk.next(), Some(5));
-    assert_eq!(rt; walk.clone()?.next(), Some(6));
-    assert_eq!(rt; walk.next(), Some(6));
-    assert_eq!(rt; walk.next(), None);
-    assert_eq!(rt; inodes.to_owned(rt.alloc())?.as_slice(), [5, 6].as_slice());
-    assert_eq!(rt;
-        format!(in rt.alloc(); "{inodes:?}")?.as_str(),
-        "NumbersView { bytes: [5, 0, 0, 0, 6, 0, 0, 0] }"
-    );
-    Ok(())
-}
-
-#[test]
-fn attributes_come_in_order(rt: HostRuntime) -> Result<(), Fail> {
-    let view = UnixResponseView::parse(&LISTENING_REPLY)?;
-    let mut nlas = view.attributes();
-    assert_eq!(rt; nlas.size_hint(), (3, Some(3)));
-    let name = NameView::Pathname(b"/tmp/.ICE-unix/1151");
-    assert_eq!(rt; nlas.next(), Some(NlaView::Name(name)));
-    let mut others = nlas.clone()?;
-    assert_eq!(rt; nlas.next(), Some(NlaView::ReceiveQueueLength(0, 128)));
-    assert_eq!(rt; nlas.size_hint(), (1, Some(1)));
-    assert_eq!(rt; nlas.next(), Some(NlaView::Shutdown(0)));
-    assert_eq!(rt; nlas.next(), None);
-    assert_eq!(rt; others.next(), Some(NlaView::ReceiveQueueLength(0, 128)));
-    Ok(())
-}
-
-#[test]
-fn getters_of_both(rt: HostRuntime) -> Result<(), Fail> {
-    let queues = [12, 0, 4, 0, 3, 0, 0, 0, 7, 0, 0, 0];
-    let bytes = behind(rt.alloc(), &CONNECTED, &queues)?;
-    let view = UnixResponseView::parse(bytes.as_slice())?;
-    let owned = UnixResponse::parse(rt.alloc(), bytes.as_slice())?;
-    assert_eq!(rt; view.receive_queue_size(), Some(3));
-    assert_eq!(rt; view.send_queue_size(), Some(7));
-    assert_eq!(rt; view.number_of_pending_connection(), None);
-    assert_eq!(rt; view.max_number_of_pending_connection(), None);
-    assert_eq!(rt; view.peer(), owned.peer());
-    assert_eq!(rt; view.shutdown_state(), owned.shutdown_state());
-    assert_eq!(rt; view.max_datagram_size(), owned.max_datagram_size());
-    assert_eq!(rt;
-        view.memory_used_for_outgoing_data(),
-        owned.memory_used_for_outgoing_data()
-    );
-    assert_eq!(rt; view.header(), owned.header);
-    assert_eq!(rt; view.to_owned(rt.alloc())?, owned);
-    Ok(())
-}
-
-#[test]
-fn replies_that_differ_in_idle_details(rt: HostRuntime) -> Result<(), Fail> {
-    let short = UnixResponseView::parse(&LISTENING_REPLY[..57])?;
-    let whole = UnixResponseView::parse(&LISTENING_REPLY)?;
-    assert_eq!(rt; short, whole);
-    assert!(rt; short == short);
-    let other = UnixResponseView::parse(&LISTENING_REPLY[..52])?;
-    assert!(rt; other != whole);
-    assert!(rt; whole != other);
-    let mut written = [0xff; 62];
-    assert!(rt; short.is_writable());
-    assert_eq!(rt; short.buffer_len(), 60);
-    short.emit(&mut written);
-    assert!(rt; written.starts_with(&LISTENING_REPLY));
-    assert!(rt; written.ends_with(&[0xff, 0xff]));
-    Ok(())
+fn a_unix_reply_in_place(rt: HostRuntime) -> Result<(), Fail> {
+    let alloc = rt.alloc();
+    let parts = [PATH, "0c0003000500000006000000"];
+    let reply = bytes(alloc, &parts)?;
+    let view = UnixResponseView::parse(&reply)?;
+    let answers = "Some(Name(Pathname([47, 116, 109, 112, 47, 46, 73, 67, 69, 45, 117, 110, 105, \
+        120, 47, 49, 49, 53, 49])));Some(ReceiveQueueLength(0, 128));Some(Shutdown(0));\
+        Some(PendingConnections(NumbersView { bytes: [5, 0, 0, 0, 6, 0, 0, 0] }));None;None";
+    gives(&rt, alloc, view.attributes().clone()?, answers)?;
+    let shown = format!(in alloc; "{:?}", view.to_owned(alloc))?;
+    let parsed = UnixResponse::parse(alloc, reply.as_slice());
+    shows(&rt, alloc, &parsed, &shown)?;
+    writes(&rt, alloc, &view, &parts)
 }
 
 #[test]
 fn an_inet_reply_in_place(rt: HostRuntime) -> Result<(), Fail> {
-    let text = [9, 0, 4, 0, b'c', b'u', b'b', b'i', b'c', 0, 0, 0];
-    let attributes = behind(rt.alloc(), &text, &SHUTDOWN)?;
-    let bytes = behind(rt.alloc(), &INET_HEADER, attributes.as_slice())?;
-    let view = InetResponseView::parse(bytes.as_slice())?;
-    let mut nlas = view.attributes();
-    assert_eq!(rt; nlas.next(), Some(InetNlaView::Congestion("cubic")));
-    assert_eq!(rt; nlas.next(), Some(InetNlaView::Shutdown(0)));
-    assert_eq!(rt; nlas.next(), None);
-    assert_eq!(rt;
-        view.header(),
-        InetResponse::parse(rt.alloc(), bytes.as_slice())?.header
-    );
-    let mut written = [0xff; 92];
-    assert!(rt; view.is_writable());
-    assert_eq!(rt; view.buffer_len(), 92);
-    view.emit(&mut written);
-    let again = InetResponseView::parse(&written)?;
-    assert_eq!(rt; again, view);
-    assert_eq!(rt; written[72], 10);
-    assert_eq!(rt; again.to_owned(rt.alloc())?, view.to_owned(rt.alloc())?);
-    Ok(())
-}
-
-#[test]
-fn a_text_that_has_no_room_is_not_written(rt: HostRuntime) -> Result<(), Fail> {
-    let mut bytes = behind(rt.alloc(), &INET_HEADER, &[0xff, 0xff, 4, 0])?;
-    bytes.resize(72 + 65_535, b'a')?;
-    let view = InetResponseView::parse(bytes.as_slice())?;
-    assert!(rt; !view.is_writable());
-    Ok(())
-}
-
-#[test]
-fn messages_in_place(rt: HostRuntime) -> Result<(), Fail> {
-    let view = SockDiagView::parse(&LISTENING_REPLY, 20)?;
-    let SockDiagMessage::UnixResponse(reply) = view.to_owned(rt.alloc())? else {
-        return Err("no reply about a UNIX socket".into());
-    };
-    assert_eq!(rt; reply.header.inode, 20_238);
-    assert_eq!(rt; view, SockDiagView::parse(&LISTENING_REPLY[..57], 20)?);
-    assert!(rt; view != SockDiagView::parse(&INET_HEADER, 20)?);
-    Ok(())
-}
-
-#[test]
-fn replies_are_printed(rt: HostRuntime) -> Result<(), Fail> {
     let alloc = rt.alloc();
-    let bytes = behind(alloc, &LISTENING, &SHUTDOWN)?;
-    let view = SockDiagView::parse(bytes.as_slice(), 20)?;
-    assert_eq!(rt;
-        format!(in alloc; "{view:?}")?.as_str(),
-        "UnixResponse(UnixResponseView { bytes: [1, 1, 10, 0, 14, 79, 0, 0, 160, 2, 0, 0, 0, 0, 0, 0, 5, 0, 8, 0, 0, 0, 0, 0], count: 1 })"
-    );
-    assert_eq!(rt;
-        format!(in alloc; "{:?}", view.to_owned(alloc)?)?.as_str(),
-        "UnixResponse(UnixResponse { header: UnixResponseHeader { kind: 1, state: 10, inode: 20238, cookie: [160, 2, 0, 0, 0, 0, 0, 0] }, nlas: [Other(DefaultNla { kind: 8, value: [0] })] })"
-    );
-    let bytes = behind(alloc, &INET_HEADER, &SHUTDOWN)?;
-    let reply = InetResponse::parse(alloc, bytes.as_slice())?;
-    let text = format!(in alloc; "{reply:?}")?;
-    assert!(rt; text.starts_with("InetResponse { header: InetResponseHeader { family: 2, "));
-    assert!(rt; text.ends_with(" }, nlas: [Shutdown(0)] }"));
-    assert_eq!(rt;
-        format!(in alloc;
-            "{:?} {:?}",
-            DumpState::Reading,
-            DumpError::Fault(DecodeError::NotUtf8)
-        )?
-        .as_str(),
-        "Reading Fault(NotUtf8)"
-    );
+    let reply = bytes(alloc, &[INET, "090004006375626963000000", SHUTDOWN])?;
+    let text = "InetResponse(InetResponseView { bytes: [2, 1, 2, 0, 235, 20, 1, 187, 192, ";
+    shows(&rt, alloc, &SockDiagView::parse(&reply, 20)?, text)?;
+    let view = InetResponseView::parse(&reply)?;
+    let answers = "Some(Congestion(\"cubic\"));Some(Shutdown(0));None;None";
+    gives(&rt, alloc, view.attributes().clone()?, answers)?;
+    let shown = format!(in alloc; "{:?}", view.to_owned(alloc))?;
+    let parsed = InetResponse::parse(alloc, reply.as_slice());
+    shows(&rt, alloc, &parsed, &shown)?;
+    let parts = [INET, "0a0004006375626963000000", SHUTDOWN];
+    writes(&rt, alloc, &view, &parts)
+}
+
+/// The messages of a datagram, by their names. The odd one has 37 bytes. Digits are themselves.
+fn datagram(alloc: Global, names: &str) -> Result<Vec<u8>, Fail> {
+    let mut messages = Vec::new(alloc);
+    for name in names.split('+') {
+        let digits = match name {
+            "noop" => "10000000010000000000000000000000",
+            "reply" => "2000000014000200070000000000000001010a000e4f0000a002000000000000",
+            "unknown" => "2000000015000200070000000000000001010a000e4f0000a002000000000000",
+            "done" => "1400000003000200070000000000000000000000",
+            "error" => "14000000020002000700000000000000ee000000",
+            "lost" => "14000000040002000700000000000000ee000000",
+            "odd" => "2500000014000000000000000000000001010a000e4f0000a0020000000000000500060000",
+            digits => digits,
+        };
+        messages.extend_from_slice(&bytes(alloc, &[digits])?)?;
+    }
+    Ok(messages)
+}
+
+/// Datagrams, the answer to the last one, how far the dump is then, and how many messages it keeps.
+const DUMPS: &str = ": (Ok(()), Reading, 0)
+reply: (Ok(()), Reading, 1)
+reply done: (Ok(()), Done, 1)
+reply+done: (Ok(()), Done, 1)
+noop reply done: (Ok(()), Done, 1)
+reply+done+reply: (Ok(()), Done, 1)
+done reply: (Err(Ended), Done, 0)
+error: (Ok(()), Error, 0)
+error reply: (Err(Ended), Error, 0)
+reply lost: (Ok(()), Overrun, 1)
+reply lost reply: (Err(Ended), Overrun, 1)
+reply+20000000: (Err(Fault(EnvelopeCut { got: 4 })), Failed, 1)
+reply+00: (Err(Fault(EnvelopeCut { got: 1 })), Failed, 1)
+reply+00 reply: (Err(Ended), Failed, 1)
+unknown: (Err(Fault(UnknownMessageType { message_type: 21 })), Failed, 0)
+odd reply: (Ok(()), Reading, 2)
+odd+000000+reply: (Ok(()), Reading, 2)
+odd+reply: (Err(Fault(EnvelopeLengthPast { length: 33559552, got: 29 })), Failed, 1)";
+
+#[test]
+fn dumps_are_read(rt: HostRuntime) -> Result<(), Fail> {
+    let alloc = rt.alloc();
+    for row in DUMPS.lines() {
+        let (datagrams, part) = row.split_once(": ").ok_or("no part")?;
+        let mut reader = DumpReader::new(alloc);
+        let mut answer = Ok(());
+        for names in datagrams.split(' ') {
+            answer = reader.feed(&datagram(alloc, names)?);
+        }
+        let far = (answer, reader.state(), reader.messages().len());
+        shows(&rt, alloc, &far, part)?;
+    }
+    Ok(())
+}
+
+// Over a megabyte in a datagram.
+#[test]
+fn a_long_dump_keeps_all(rt: HostRuntime) -> Result<(), Fail> {
+    let many = datagram(rt.alloc(), "reply")?.repeat(rt.alloc(), 50_000)?;
+    let mut reader = DumpReader::new(rt.alloc());
+    reader.feed(&many)?;
+    reader.feed(&many)?;
+    assert!(rt; reader.messages().len() == 100_000 && reader.state() == DumpState::Reading);
+    Ok(())
+}
+
+/// A datagram, and the answers of the walk over it.
+const WALKS: &str = ": None;None
+reply: Some(Ok(InnerMessage(UnixResponse(UnixResponseView { bytes: [1, 1, 10, 0, 14, 79, 0, 0, \
+160, 2, 0, 0, 0, 0, 0, 0], count: 0 }))));None;None
+noop+reply+done+reply: Some(Ok(Noop));count: 0;Some(Ok(Done([0, 0, 0, 0])));count: 0;None;None
+error+lost: Some(Ok(Error([238, 0, 0, 0])));Some(Ok(Overrun([238, 0, 0, 0])));None
+unknown+reply: Some(Err(UnknownMessageType { message_type: 21 }));count: 0;None
+reply+20000000: count: 0;Some(Err(EnvelopeCut { got: 4 }));None;None
+odd+000000+reply: 0, 5, 0, 6, 0, 0], count: 1;count: 0;None
+odd+reply: count: 1;Some(Err(EnvelopeLengthPast { length: 33559552, got: 29 }));None";
+
+#[test]
+fn datagrams_are_walked(rt: HostRuntime) -> Result<(), Fail> {
+    for row in WALKS.lines() {
+        let (names, parts) = row.split_once(": ").ok_or("no part")?;
+        let bytes = datagram(rt.alloc(), names)?;
+        gives(&rt, rt.alloc(), DumpViews::new(&bytes).clone()?, parts)?;
+    }
     Ok(())
 }

@@ -1,4 +1,4 @@
-//! The tests of `sock_diag_values`.
+//! The tests of `sock_diag_attributes`.
 #![tactic(auto)]
 
 #[cfg(test)]

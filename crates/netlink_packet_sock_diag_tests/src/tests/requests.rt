@@ -1,0 +1,96 @@
+//! Requests, as they are made, shown and sent.
+
+use super::{ZEROS, bytes, shows};
+use netlink_core::{
+    NLM_F_DUMP, NLM_F_REQUEST, NetlinkHeader, NetlinkMessage, NetlinkPayload, NetlinkSerializable,
+    Parseable,
+};
+use netlink_packet_sock_diag::constants::{AF_INET, AF_UNIX, IPPROTO_TCP};
+use netlink_packet_sock_diag::inet::{ExtensionFlags, InetRequest, SocketId, StateFlags};
+use netlink_packet_sock_diag::unix::{self, ShowFlags, UnixRequest};
+use netlink_packet_sock_diag::{SockDiagDestroy, SockDiagMessage};
+use std::alloc::Global;
+use std::net::{IpAddr, Ipv6Addr};
+use std::process::Abort;
+use std::test::Fail;
+
+/// Behind a header that asks for a dump, the payload is sent as these bytes.
+fn sends<I: NetlinkSerializable + Drop>(
+    rt: &impl Abort,
+    alloc: Global,
+    payload: NetlinkPayload<I>,
+    parts: &[&str],
+) -> Result<(), Fail> {
+    let header = NetlinkHeader {
+        flags: NLM_F_REQUEST | NLM_F_DUMP,
+        ..NetlinkHeader::default()
+    };
+    let mut message = NetlinkMessage::new(header, payload);
+    assert!(rt; message.is_writable());
+    message.finalize();
+    assert!(rt; message.is_writable());
+    let mut buffer = vec![in alloc; 0xee; message.buffer_len()]?;
+    message.serialize(&mut buffer);
+    assert!(rt; buffer == bytes(alloc, parts)?, "{buffer:?}");
+    Ok(())
+}
+
+// Each family's requests are made of its own flags, as they are given again.
+#[test]
+fn a_unix_request(rt: HostRuntime) -> Result<(), Fail> {
+    let alloc = rt.alloc();
+    let request = SockDiagMessage::UnixRequest(UnixRequest {
+        state_flags: unix::StateFlags::LISTEN,
+        inode: 0x1234,
+        show_flags: ShowFlags::PEER,
+        cookie: [255; 8],
+    });
+    let text = "UnixRequest(UnixRequest { state_flags: StateFlags(1024), inode: 4660, show_flags: \
+        ShowFlags(4), cookie: [255, 255, 255, 255, 255, 255, 255, 255] })";
+    shows(&rt, alloc, &request.clone(alloc)?, text)?;
+    let wanted = "2800000014000103000000000000000001000000000400003412000004000000ffffffffffffffff";
+    sends(&rt, alloc, request.into(), &[wanted])
+}
+
+#[test]
+fn an_inet_request_and_one_to_close(rt: HostRuntime) -> Result<(), Fail> {
+    let alloc = rt.alloc();
+    let request = SockDiagMessage::InetRequest(InetRequest {
+        family: AF_INET,
+        protocol: IPPROTO_TCP,
+        extensions: ExtensionFlags::SHUTDOWN,
+        states: StateFlags::CLOSING,
+        socket_id: SocketId::new_v4(),
+    });
+    let destroy = SockDiagDestroy::new(request.clone(alloc)?);
+    let text = "SockDiagDestroy(InetRequest(InetRequest { family: 2, protocol: 6, extensions: \
+        ExtensionFlags(128), states: StateFlags(2048), socket_id: SocketId { source_port: 0, \
+        destination_port: 0, source_address: 0.0.0.0, destination_address: 0.0.0.0, \
+        interface_id: 0, cookie: [0, 0, 0, 0, 0, 0, 0, 0] } }))";
+    shows(&rt, alloc, &destroy.clone(alloc)?, text)?;
+    let front = "480000001400010300000000000000000206800000080000";
+    sends(&rt, alloc, request.into(), &[front, ZEROS, ZEROS, ZEROS])?;
+    let front = "480000001500010300000000000000000206800000080000";
+    sends(&rt, alloc, destroy.into(), &[front, ZEROS, ZEROS, ZEROS])
+}
+
+// A value that no reader gives: a request of the family of UNIX sockets, whose address holds the
+// header of an attribute.
+#[test]
+fn a_request_that_reads_as_a_reply(rt: HostRuntime) -> Result<(), Fail> {
+    let alloc = rt.alloc();
+    let fields = bytes(alloc, &["02010a0000000000", ZEROS, ZEROS, ZEROS])?;
+    let mut request = InetRequest::parse(alloc, fields.as_slice())?;
+    request.family = AF_UNIX;
+    let octets = [0, 0, 0, 0, 40, 0, 7, 0, 0, 0, 0, 0, 0, 0, 0, 0];
+    request.socket_id.source_address = IpAddr::V6(Ipv6Addr::from(octets));
+    request.socket_id.destination_address = IpAddr::V6(Ipv6Addr::UNSPECIFIED);
+    let front = "4800000014000103000000000000000001010a0000000000000000000000000028000700";
+    let request = SockDiagMessage::InetRequest(request);
+    sends(
+        &rt,
+        alloc,
+        request.into(),
+        &[front, ZEROS, ZEROS, "00000000"],
+    )
+}

@@ -1,0 +1,5 @@
+//! The tests of `sock_diag_uses` and `sock_diag_calls`: of what takes memory or has no contract.
+#![tactic(auto)]
+
+#[cfg(test)]
+mod tests;

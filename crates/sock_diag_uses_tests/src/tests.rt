@@ -1,0 +1,112 @@
+use netlink_core::Parseable;
+use netlink_packet_sock_diag::unix::UnixResponse;
+use sock_diag_calls::reading_back::copy_by_bytes;
+use sock_diag_uses::link::{attribute_key, parse_link};
+use sock_diag_uses::lister::list;
+use sock_diag_uses::readme::{listener, listening};
+use sock_diag_uses::stored::{key, same_reply};
+use sock_diag_uses::test_kernel::answer;
+use sock_diag_values::unix::Vfs;
+use std::alloc::Global;
+use std::fmt::Debug;
+use std::process::Abort;
+use std::test::Fail;
+
+// The reply about a listening UNIX socket, without attributes.
+const LISTENING: [u8; 16] = [1, 1, 10, 0, 0x0e, 0x4f, 0, 0, 0xa0, 2, 0, 0, 0, 0, 0, 0];
+
+// The reply about a socket at /run/x. No reader looks at the byte at 3 and at the padding.
+const NAMED: &[u8] = b"\x01\x01\x0a\x07\x0e\x4f\0\0\xa0\x02\0\0\0\0\0\0\x0b\0\0\0/run/x\0\x09";
+
+// That reply as it is written.
+const WRITTEN: &[u8] = b"\x01\x01\x0a\0\x0e\x4f\0\0\xa0\x02\0\0\0\0\0\0\x0b\0\0\0/run/x\0\0";
+
+// A listening socket in a message of its own, and the end of a dump.
+const DUMP: [u8; 52] = [
+    32, 0, 0, 0, 20, 0, 2, 0, 7, 0, 0, 0, 0, 0, 0, 0, 1, 1, 10, 0, 0x0e, 0x4f, 0, 0, 0xa0, 2, 0, 0,
+    0, 0, 0, 0, 20, 0, 0, 0, 3, 0, 2, 0, 7, 0, 0, 0, 0, 0, 0, 0, 0, 0, 0, 0,
+];
+
+// What rtnetlink(7) tells of eth0: an ethernet device that is up, its name, an attribute of kind 13
+// and its MTU.
+const ETH0: [u8; 44] = [
+    0, 0, 1, 0, 2, 0, 0, 0, 0x43, 0x10, 1, 0, 0, 0, 0, 0, 9, 0, 3, 0, 0x65, 0x74, 0x68, 0x30, 0, 0,
+    0, 0, 8, 0, 13, 0, 0xe8, 3, 0, 0, 8, 0, 4, 0, 0xdc, 5, 0, 0,
+];
+
+// A request for all UNIX sockets with their names, under the sequence number 7.
+const REQUEST: [u8; 40] = [
+    40, 0, 0, 0, 20, 0, 1, 3, 7, 0, 0, 0, 0, 0, 0, 0, 1, 0, 0, 0, 2, 4, 0, 0, 0, 0, 0, 0, 1, 0, 0,
+    0, 0, 0, 0, 0, 0, 0, 0, 0,
+];
+
+fn shows<T: Debug>(rt: &impl Abort, alloc: Global, value: &T, text: &str) -> Result<(), Fail> {
+    let shown = format!(in alloc; "{value:?}")?;
+    assert_eq!(rt; shown.as_str(), text);
+    Ok(())
+}
+
+#[test]
+fn replies_are_stored_by_what_they_tell(rt: HostRuntime) -> Result<(), Fail> {
+    let alloc = rt.alloc();
+    assert_eq!(rt; key(alloc, NAMED)?.as_slice(), WRITTEN);
+    for (other, same) in [(WRITTEN, true), (&LISTENING, false)] {
+        assert_eq!(rt; same_reply(alloc, NAMED, other)?, same);
+    }
+    Ok(())
+}
+
+#[test]
+fn datagrams_are_listed_and_counted(rt: HostRuntime) -> Result<(), Fail> {
+    let alloc = rt.alloc();
+    let mut failed = DUMP;
+    failed[48] = 0xfe;
+    for (datagram, lines, count) in [
+        (&DUMP[..], "[Socket { state: 10, inode: 20238 }, End]", "Ok(Some(1))"),
+        (&failed, "[Socket { state: 10, inode: 20238 }, End]", "Ok(None)"),
+        (&DUMP[48..], "[Refused(EnvelopeCut { got: 4 })]", "Err(EnvelopeCut { got: 4 })"),
+    ] {
+        shows(&rt, alloc, &list(alloc, datagram)?, lines)?;
+        shows(&rt, alloc, &listening(datagram), count)?;
+    }
+    Ok(())
+}
+
+#[test]
+fn links_have_their_name_and_their_mtu(rt: HostRuntime) -> Result<(), Fail> {
+    let alloc = rt.alloc();
+    let mut odd = ETH0;
+    odd[36] = 7;
+    for (payload, text) in [
+        (&ETH0[..], "Ok(Link { name: Some(\"eth0\"), mtu: Some(1500) })"),
+        (&ETH0[..15], "Err(TooShort { got: 15 })"),
+        (&odd, "Err(Attribute(WrongLength { kind: None, got: 3, need: 4 }))"),
+    ] {
+        shows(&rt, alloc, &parse_link(alloc, payload), text)?;
+    }
+    let key = attribute_key(alloc, b"\x09\0\x03\0eth0\0\x09\0\0").ok().ok_or("no key")?;
+    assert_eq!(rt; key.as_slice(), b"\x09\0\x03\0eth0\0\0\0\0".as_slice());
+    Ok(())
+}
+
+#[test]
+fn requests_are_answered(rt: HostRuntime) -> Result<(), Fail> {
+    let alloc = rt.alloc();
+    let reply = UnixResponse::parse(alloc, NAMED)?;
+    let answered = answer(alloc, &REQUEST, &[reply]).ok().ok_or("no answer")?;
+    let mut want = Vec::from_slice(alloc, &[44, 0, 0, 0, 20, 0, 2, 0, 7, 0, 0, 0, 0, 0, 0, 0])?;
+    want.extend_from_slice(WRITTEN)?;
+    want.extend_from_slice(&DUMP[32..])?;
+    assert_eq!(rt; answered.as_slice(), want.as_slice());
+    Ok(())
+}
+
+#[test]
+fn values_are_made_and_copied(rt: HostRuntime) -> Result<(), Fail> {
+    let alloc = rt.alloc();
+    let reply = listener(alloc, 0x4f0e, b"/run/x")?;
+    assert_eq!(rt; reply.nlas.len(), 1);
+    let vfs = Vfs::parse(&[4, 3, 2, 1, 7, 0, 0, 0])?;
+    assert_eq!(rt; copy_by_bytes(alloc, &vfs, ())?, vfs);
+    Ok(())
+}

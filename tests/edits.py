@@ -1,0 +1,199 @@
+#!/usr/bin/env python3
+"""edits.py [--list] [--jobs N] [NAME..]: tries the edits crates/CRATE/must-fail/*.edit and
+tests/edits/CRATE/*.edit. Each makes a function wrong, and the prover has to refuse it. A NAME is
+CRATE, EDIT or CRATE/EDIT; with none, all are tried.
+
+Edits of functions that don't call each other make a group. One check of a copy tries a group, over
+what the crate's own proof kept in out/. An edit is refused where the prover refuses the function
+that it changes, and not since that one calls another. What no group can hold or tell is tried
+alone, as rt ci tries it. --list prints the groups, and tries nothing. The exit status is 1 where
+an edit isn't refused, or can't be told."""
+import argparse
+import glob
+import importlib.machinery
+import importlib.util
+import os
+import re
+import shutil
+import signal
+import subprocess
+import sys
+import tempfile
+import time
+from collections import namedtuple
+
+TOP = os.path.dirname(os.path.dirname(os.path.realpath(__file__)))
+HEAD = re.compile(r'( *)(?:pub(?:\([^)]*\))? )?(?:const )?(?:unsafe )?(?:extern "C" )?fn (\w+)')
+# A function: its file in the crate, its name, the numbers of its lines, its text.
+Function = namedtuple("Function", "path name lines text")
+# An edit: its file, its name, the texts that it makes and the lines that differ, both by their
+# paths, and the functions that hold those lines: none where a line stands outside of each.
+Edit = namedtuple("Edit", "file name texts lines functions")
+
+
+def kit_command():
+    """Returns the kit's rt as a module: it reads edits and checks copies, as rt ci does."""
+    page = subprocess.run(["rt", "doc"], stdout=subprocess.PIPE, text=True, check=True).stdout
+    sys.dont_write_bytecode = True
+    file = f"{os.path.dirname(page.strip())}/bin/rt"
+    loader = importlib.machinery.SourceFileLoader("rt", file)
+    made = importlib.util.module_from_spec(importlib.util.spec_from_loader("rt", loader))
+    loader.exec_module(made)
+    return made
+
+
+rt = kit_command()
+
+
+def rows_of(file):
+    with open(file, encoding="utf-8") as it:
+        return it.read().split("\n")
+
+
+def functions_of(crate):
+    """Returns the functions of the crate's files, which stand in the layout of rt fmt."""
+    found = []
+    for file in sorted(glob.glob(f"{crate.folder}/src/**/*.rt", recursive=True)):
+        rows, path = rows_of(file), os.path.relpath(file, crate.folder)
+        for at, row in enumerate(rows):
+            head = HEAD.match(row)
+            if not head:
+                continue
+            # The next row that is no deeper ends it, unless that goes on with its head.
+            goes_on = re.compile(rf"{head[1]}( |where\b|[){{])|$")
+            end = next((n for n in range(at + 1, len(rows)) if not goes_on.match(rows[n])), at)
+            end = at if row.endswith(("}", ";")) else end
+            text = "\n".join(rows[at : end + 1])
+            found.append(Function(path, head[2], range(at + 1, end + 2), text))
+    return found
+
+
+def edit_of(file, crate, functions):
+    name = f"{crate.name}/{os.path.basename(file)[: -len('.edit')]}"
+    texts, why = rt.read_edit(file, crate.folder)
+    lines, holders = {}, [None] if why else []
+    for path, text in (texts or {}).items():
+        were, are = rows_of(f"{crate.folder}/{path}"), text.split("\n")
+        for number, (old, new) in enumerate(zip(were, are), 1):
+            if old != new:
+                lines[path, number] = new
+                inner = [it for it in functions if it.path == path and number in it.lines]
+                holders.append(inner[-1] if inner and len(were) == len(are) else None)
+    return Edit(file, name, texts, lines, [] if None in holders else [*dict.fromkeys(holders)])
+
+
+def groups_of(edits, functions):
+    """Returns the edits in groups, of which none has two of one function, nor one of a function
+    that calls the other's, and those that stay alone."""
+    call = re.compile(r"\b(\w+)(?:::<[^(]*>)?\(")
+    calls = {it: {*call.findall(it.text.partition("(")[2])} for it in functions}
+    meet = lambda a, b: a == b or b.name in calls[a] or a.name in calls[b]
+    groups = []
+    for edit in [it for it in edits if it.functions]:
+        for group in groups:
+            others = [it for other in group for it in other.functions]
+            if not any(meet(a, b) for a in others for b in edit.functions):
+                group.append(edit)
+                break
+        else:
+            groups.append([edit])
+    return groups, [it for it in edits if not it.functions]
+
+
+def is_told(said, crate, edit, functions):
+    """Returns whether a check's output refuses each function of the edit for its own sake."""
+    for it in edit.functions:
+        module = re.sub(r"^src/|(/mod)?\.rt$", "", it.path).replace("/", "::")
+        inner = "" if module in ("lib", "main") else f"{module}::"
+        name = rf"{crate.name}::{inner}(?:\w+::)*{it.name}(?:::\S+)?"
+        ends = re.findall(rf"^fn {name}: ((?:not proved|no proof).*)$", said, re.M)
+        twins = [other for other in functions if (other.path, other.name) == (it.path, it.name)]
+        place = rf"^(?:note: )?(?:\./)?{re.escape(it.path)}:(\d+):\d+: (?!warning)"
+        is_here = any(int(number) in it.lines for number in re.findall(place, said, re.M))
+        if not ends or any(" it " in end for end in ends) or len(twins) > 1 and not is_here:
+            return False
+    return True
+
+
+def try_group(crate, group, functions, flags, kept):
+    """Checks a copy with all edits of the group, and returns those that it refuses."""
+    rows = {path: rows_of(f"{crate.folder}/{path}") for it in group for path in it.texts}
+    for edit in group:
+        for (path, number), row in edit.lines.items():
+            rows[path][number - 1] = row
+    texts = {path: "\n".join(it) for path, it in rows.items()}
+    ran = rt.checked(crate, texts, flags, kept)
+    lines = ran.stdout.rstrip("\n").split("\n")
+    if ran.returncode != 1 or not lines[-1].startswith("logic=not-proved"):
+        return []
+    if any(rt.unread(it, texts) for it in lines):
+        return []
+    return [it for it in group if is_told(ran.stdout, crate, it, functions)]
+
+
+def is_proved(crate):
+    """Proves the crate as it stands, unless that is done."""
+    with open(f"{crate.folder}/stdin" if crate.is_program else os.devnull, "rb") as stdin:
+        how = {"stdin": stdin, "stdout": subprocess.PIPE, "stderr": subprocess.STDOUT}
+        words = ["rt", "run" if crate.is_program else "lib"]
+        ran = subprocess.run(words, cwd=crate.folder, errors="replace", **how)
+    print(f"{crate.name}: not proved:\n{ran.stdout[-2000:]}" if ran.returncode else "", end="")
+    return not ran.returncode
+
+
+def try_crate(crate, edits, functions, flags):
+    """Tries the edits of a crate, and returns how many aren't refused."""
+    began, failed = time.time(), 0
+    if not is_proved(crate):
+        return len(edits)
+    groups, alone = groups_of(edits, functions)
+    with tempfile.TemporaryDirectory(prefix="edits-") as room:
+        kept, own = f"{room}/kept", f"{crate.folder}/out/incremental"
+        shutil.copytree(own, kept) if os.path.isdir(own) else os.mkdir(kept)
+        for group in groups:
+            told = try_group(crate, group, functions, flags, kept)
+            for it in told:
+                by = " and ".join(f"{held.name} of {held.path}" for held in it.functions)
+                print(f"{it.name}: refused, by {by}", flush=True)
+            alone += [it for it in group if it not in told]
+        for it in alone:
+            is_refused, text = rt.must_fail(crate, it.file, flags, kept)
+            failed += not is_refused
+            print(f"{it.name}: alone, {text.partition('.edit: ')[2]}", flush=True)
+    checks, spent = len(groups) + len(alone), time.time() - began
+    print(f"{crate.name}: {len(edits)} edits, {checks} checks, {spent:.0f} s", flush=True)
+    return failed
+
+
+def main():
+    words = argparse.ArgumentParser(usage=__doc__)
+    words.add_argument("--list", action="store_true")
+    words.add_argument("--jobs", default="2")
+    words.add_argument("names", nargs="*")
+    given = words.parse_args()
+    began, tried, failed = time.time(), 0, 0
+    # A run that is told to end removes its copies.
+    signal.signal(signal.SIGTERM, lambda number, _: sys.exit(128 + number))
+    rt.rtlib.guarded()
+    for crate in rt.rtlib.crates_below(TOP):
+        folders = [f"{crate.folder}/must-fail", f"{TOP}/tests/edits/{crate.name}"]
+        files = [file for folder in folders for file in glob.glob(f"{folder}/*.edit")]
+        functions = functions_of(crate)
+        edits = [edit_of(it, crate, functions) for it in sorted(files, key=os.path.basename)]
+        if given.names:
+            edits = [it for it in edits if {it.name, *it.name.split("/")} & {*given.names}]
+        tried += len(edits)
+        if given.list:
+            groups, alone = groups_of(edits, functions)
+            for at, group in enumerate([*groups, *[[it] for it in alone]], 1):
+                print(f"{crate.name} {at}:", *[it.name.partition("/")[2] for it in group])
+        elif edits:
+            failed += try_crate(crate, edits, functions, ["--jobs", given.jobs])
+    if not given.list:
+        result = f"{failed} NOT REFUSED" if failed else "all refused"
+        print(f"{tried} edits: {result}, {time.time() - began:.0f} s")
+    return 1 if failed or not tried else 0
+
+
+if __name__ == "__main__":
+    sys.exit(main())

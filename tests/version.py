@@ -1,0 +1,32 @@
+#!/usr/bin/env python3
+"""Fails, with status 1, where CHANGELOG.md or the C header tells another version than VERSION."""
+import os
+import re
+import sys
+
+TOP = os.path.dirname(os.path.dirname(os.path.realpath(__file__)))
+# What tells the version in each file; the first match counts.
+TOLD = {
+    "CHANGELOG.md": r"(?m)^## \[?([^\]\s]+)",
+    "include/sockdiag.h": r'(?m)^#define SOCKDIAG_VERSION "([^"]*)"$',
+}
+
+
+def text_of(name):
+    with open(f"{TOP}/{name}", encoding="utf-8") as it:
+        return it.read()
+
+
+def main():
+    version, status = text_of("VERSION").strip(), 0
+    for name, pattern in TOLD.items():
+        found = re.search(pattern, text_of(name))
+        told = found[1] if found else "no version"
+        if told != version:
+            print(f"{name} tells {told}, and VERSION {version}")
+            status = 1
+    return status
+
+
+if __name__ == "__main__":
+    sys.exit(main())
