@@ -9,7 +9,7 @@ use crate::{DecodeError, Wire};
 use std::alloc::{AllocError, Global};
 
 /// Why a string has no canonical form in hand.
-#[derive(Clone, Debug, Drop, PartialEq, Eq)]
+#[derive(Clone, Copy, Debug, PartialEq, Eq)]
 pub enum CanonError {
     /// The reader refused it.
     Refused(DecodeError),

@@ -40,7 +40,7 @@ impl fmt::Display for RecordName {
 }
 
 /// Why a reader refused its bytes, or that memory ran out. The variants are numbered from 1, in this order.
-#[derive(Clone, Debug, Drop, PartialEq, Eq, Error)]
+#[derive(Clone, Copy, Debug, PartialEq, Eq, Error)]
 pub enum DecodeError {
     /// Memory ran out.
     #[error("out of memory")]

@@ -10,3 +10,4 @@ mod Emitting
 pub mod Dumping
 pub mod DumpRows
 pub mod WholeViews
+mod Elements

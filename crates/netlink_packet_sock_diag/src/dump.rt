@@ -34,7 +34,7 @@ pub enum DumpState {
 }
 
 /// Why not all of a datagram was taken.
-#[derive(Clone, Debug, Drop, PartialEq, Eq)]
+#[derive(Clone, Copy, Debug, PartialEq, Eq)]
 pub enum DumpError {
     /// A message was refused, or memory ran out. The messages in front of it are kept.
     Fault(DecodeError),

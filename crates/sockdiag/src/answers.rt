@@ -291,16 +291,25 @@ fn find_name(word: &[u8]) -> Option<Name>
     ensures { MatchOption result ((name : Name) → word.now ≢ (row_of name).0)
         (λ name. word.now ≡ (row_of name).0) }
 {
-    match word {
-        b"unixreq" => Some(Name::UnixRequest),
-        b"unix" => Some(Name::UnixResponse),
-        b"inet" => Some(Name::InetResponse),
-        b"inetreq" => Some(Name::InetRequest),
-        b"sockid4" => Some(Name::SocketId4),
-        b"sockid6" => Some(Name::SocketId6),
-        b"message" => Some(Name::Message),
-        b"netlink" => Some(Name::NetlinkMessage),
-        b"unixview" => Some(Name::UnixView),
-        _ => None,
+    if word == b"unixreq".as_slice() {
+        Some(Name::UnixRequest)
+    } else if word == b"unix".as_slice() {
+        Some(Name::UnixResponse)
+    } else if word == b"inet".as_slice() {
+        Some(Name::InetResponse)
+    } else if word == b"inetreq".as_slice() {
+        Some(Name::InetRequest)
+    } else if word == b"sockid4".as_slice() {
+        Some(Name::SocketId4)
+    } else if word == b"sockid6".as_slice() {
+        Some(Name::SocketId6)
+    } else if word == b"message".as_slice() {
+        Some(Name::Message)
+    } else if word == b"netlink".as_slice() {
+        Some(Name::NetlinkMessage)
+    } else if word == b"unixview".as_slice() {
+        Some(Name::UnixView)
+    } else {
+        None
     }
 }
