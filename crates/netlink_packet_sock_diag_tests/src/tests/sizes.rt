@@ -114,8 +114,14 @@ fn is_written<T: ReadTwice>(rt: &impl Abort, alloc: Global, bytes: &[u8], param:
     let read = read_twice::<T>(rt, alloc, bytes, param);
     match (read, rewritten::<T>(rt, alloc, bytes, param)) {
         (Ok(_), Ok(_)) => true,
-        (Ok(value), Err(CanonError::Unwritable)) if !value.is_writable() => false,
-        (Err(fault), Err(CanonError::Refused(found))) if found == fault => false,
+        (Ok(value), Err(CanonError::Unwritable)) => {
+            assert!(rt; !value.is_writable(), "{bytes:?}");
+            false
+        }
+        (Err(fault), Err(CanonError::Refused(found))) => {
+            assert!(rt; found == fault, "{bytes:?}");
+            false
+        }
         _ => panic!(rt; "{bytes:?}"),
     }
 }
