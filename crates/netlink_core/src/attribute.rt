@@ -3,7 +3,7 @@
 //! An attribute is a length word (4 and the value's bytes), a type word, the value, and padding to a multiple of 4.
 //! Both words have 16 bits, the low byte first.
 
-ghost use Rattle.std.specs.Prelude.{◌≡◌, ◌+◌, ◌/◌, ◌≤◌, ◌<◌, ◌^◌, ◌↔◌, length, IsTrue, IsBitSet, MatchResult};
+ghost use Rattle.std.specs.Prelude.{◌≡◌, ◌+◌, ◌/◌, ◌≤◌, ◌<◌, ◌^◌, ◌↔◌, length, IsTrue, IsBitSet, MatchResult, IfSome, None};
 ghost use Rattle.netlink_core.specs.Attribute.{HeadIs, IsFramingFault, fill, kind_of, written};
 
 use crate::codec::Holds;
@@ -137,7 +137,8 @@ impl<'a> NlasIterator<'a> {
 }
 
 impl<'a> Iterator for NlasIterator<'a> {
-    ghost use Rattle.std.specs.Iterator.{at_most};
+    ghost use Rattle.std.specs.Iterator.{at_most, UpTo};
+    ghost use Rattle.std.specs.Iterator.SizeHint.{IsWithinCount};
     ghost use Rattle.netlink_core.specs.Walk.{GivesAttribute, bytes_left};
 
     type Item = Result<NlaBuffer<'a>, DecodeError>;
@@ -161,6 +162,15 @@ impl<'a> Iterator for NlasIterator<'a> {
                 Some(Err(fault))
             }
         }
+    }
+
+    /// How many are left is told by the walk alone.
+    fn size_hint(&self) -> (usize, Option<usize>)
+        ensures lower { IsWithinCount result.0 (at_most ((length (bytes_left self.now) + 3) / 4)) }
+        ensures upper { IfSome result.1 (UpTo (at_most ((length (bytes_left self.now) + 3) / 4))) }
+        ensures unknown { result ≡ (0, None) }
+    {
+        (0, None)
     }
 }
 

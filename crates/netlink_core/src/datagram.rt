@@ -33,8 +33,9 @@ impl<'a> MessageStrings<'a> {
 }
 
 impl<'a> Iterator for MessageStrings<'a> {
-    ghost use Rattle.std.specs.Prelude.{◌+◌, ◌/◌, length};
-    ghost use Rattle.std.specs.Iterator.{at_most};
+    ghost use Rattle.std.specs.Prelude.{◌+◌, ◌/◌, length, IfSome, None};
+    ghost use Rattle.std.specs.Iterator.{at_most, UpTo};
+    ghost use Rattle.std.specs.Iterator.SizeHint.{IsWithinCount};
     ghost use Rattle.netlink_core.specs.DatagramWalk.{GivesMessage, datagram_left};
 
     type Item = Result<&'a [u8], DecodeError>;
@@ -63,5 +64,14 @@ impl<'a> Iterator for MessageStrings<'a> {
                 Some(Err(fault))
             }
         }
+    }
+
+    /// How many are left is told by the walk alone.
+    fn size_hint(&self) -> (usize, Option<usize>)
+        ensures lower { IsWithinCount result.0 (at_most ((length (datagram_left self.now) + 15) / 16)) }
+        ensures upper { IfSome result.1 (UpTo (at_most ((length (datagram_left self.now) + 15) / 16))) }
+        ensures unknown { result ≡ (0, None) }
+    {
+        (0, None)
     }
 }

@@ -68,8 +68,9 @@ impl<'a> DumpViews<'a> {
 }
 
 impl<'a> Iterator for DumpViews<'a> {
-    ghost use Rattle.std.specs.Prelude.{length, ◌+◌, ◌/◌};
-    ghost use Rattle.std.specs.Iterator.{at_most};
+    ghost use Rattle.std.specs.Prelude.{length, ◌+◌, ◌/◌, IfSome, None};
+    ghost use Rattle.std.specs.Iterator.{at_most, UpTo};
+    ghost use Rattle.std.specs.Iterator.SizeHint.{IsWithinCount};
     ghost use Rattle.netlink_core.specs.DatagramWalk.{datagram_left};
     ghost use Rattle.netlink_packet_sock_diag.specs.DumpWalk.{GivesView};
 
@@ -88,5 +89,14 @@ impl<'a> Iterator for DumpViews<'a> {
             Ok(message) => Some(PayloadView::read(message)),
             Err(fault) => Some(Err(fault)),
         }
+    }
+
+    /// How many are left is told by the walk alone.
+    fn size_hint(&self) -> (usize, Option<usize>)
+        ensures lower { IsWithinCount result.0 (at_most ((length (datagram_left self.now.messages) + 15) / 16)) }
+        ensures upper { IfSome result.1 (UpTo (at_most ((length (datagram_left self.now.messages) + 15) / 16))) }
+        ensures unknown { result ≡ (0, None) }
+    {
+        (0, None)
     }
 }
