@@ -85,53 +85,27 @@ fn unix_told(
     shows(rt, alloc, &view, viewed)
 }
 
+// The bytes, what they are written as, and what is shown of the value.
+const UNIX: [&str; 7] = [
+    "060000006100 0600000061000000 Name(Pathname([97]))",
+    "090000000007000707 090000000007000707000000 Name(Abstract([7, 0, 7, 7]))",
+    "0d0001000102000003040000ee 0c0001000102000003040000 Vfs(Vfs { inode: 513, device: 1027 })",
+    "0800024056790000 0800020056790000 Peer(31062)",
+    "0c0004000000000080000000 0c0004000000000080000000 ReceiveQueueLength(0, 128)",
+    "28000500010000000200000003000000040000000500000006000000070000000800000009000000 \
+     28000500000000000200000000000000040000000000000006000000000000000000000000000000 \
+     MemInfo(MemInfo { so_rcvbuf: 2, max_datagram_size: 4, alloc: 6 })",
+    "0500068002 0500060002000000 Shutdown(2)",
+];
+
 #[test]
 fn attributes_of_unix_sockets(rt: HostRuntime) -> Result<(), Fail> {
     let alloc = rt.alloc();
-    for (bytes, written, text) in [
-        (
-            b"\x06\0\0\0a\0".as_slice(),
-            b"\x06\0\0\0a\0\0\0".as_slice(),
-            "Name(Pathname([97]))",
-        ),
-        (
-            &[9, 0, 0, 0, 0, 7, 0, 7, 7],
-            &[9, 0, 0, 0, 0, 7, 0, 7, 7, 0, 0, 0],
-            "Name(Abstract([7, 0, 7, 7]))",
-        ),
-        (
-            &[13, 0, 1, 0, 1, 2, 0, 0, 3, 4, 0, 0, 0xee],
-            &[12, 0, 1, 0, 1, 2, 0, 0, 3, 4, 0, 0],
-            "Vfs(Vfs { inode: 513, device: 1027 })",
-        ),
-        (
-            &[8, 0, 2, 0x40, 0x56, 0x79, 0, 0],
-            &[8, 0, 2, 0, 0x56, 0x79, 0, 0],
-            "Peer(31062)",
-        ),
-        (
-            &[12, 0, 4, 0, 0, 0, 0, 0, 0x80, 0, 0, 0],
-            &[12, 0, 4, 0, 0, 0, 0, 0, 0x80, 0, 0, 0],
-            "ReceiveQueueLength(0, 128)",
-        ),
-        (
-            &[
-                40, 0, 5, 0, 1, 0, 0, 0, 2, 0, 0, 0, 3, 0, 0, 0, 4, 0, 0, 0, 5, 0, 0, 0, 6, 0, 0,
-                0, 7, 0, 0, 0, 8, 0, 0, 0, 9, 0, 0, 0,
-            ],
-            &[
-                40, 0, 5, 0, 0, 0, 0, 0, 2, 0, 0, 0, 0, 0, 0, 0, 4, 0, 0, 0, 0, 0, 0, 0, 6, 0, 0,
-                0, 0, 0, 0, 0, 0, 0, 0, 0, 0, 0, 0, 0,
-            ],
-            "MemInfo(MemInfo { so_rcvbuf: 2, max_datagram_size: 4, alloc: 6 })",
-        ),
-        (
-            &[5, 0, 6, 0x80, 2],
-            &[5, 0, 6, 0, 2, 0, 0, 0],
-            "Shutdown(2)",
-        ),
-    ] {
-        unix_told(&rt, alloc, (bytes, written), text, text)?;
+    for row in UNIX {
+        let (bytes, rest) = row.split_once(' ').ok_or("no bytes")?;
+        let (written, text) = rest.split_once(' ').ok_or("no text")?;
+        let forms = (hex::decode(alloc, bytes)?, hex::decode(alloc, written)?);
+        unix_told(&rt, alloc, (&forms.0, &forms.1), text, text)?;
     }
     for (bytes, written, owned, viewed) in [
         (
@@ -192,61 +166,31 @@ fn inet_told(
     shows(rt, alloc, &view, viewed)
 }
 
+// The bytes, what they are written as, and what is shown of the value.
+const INET: [&str; 13] = [
+    "090004006375626963 0a0004006375626963000000 Congestion(\"cubic\")",
+    "0a000400637562696300 0a0004006375626963000000 Congestion(\"cubic\")",
+    "0b00040063756269630000 0b0004006375626963000000 Congestion(\"cubic\\0\")",
+    "04000400 0500040000000000 Congestion(\"\")",
+    "0500040000 0500040000000000 Congestion(\"\")",
+    "0500050010 0500050010000000 Tos(16)",
+    "0500060011 0500060011000000 Tc(17)",
+    "0500088002 0500080002000000 Shutdown(2)",
+    "05000a0006 05000a0006000000 Protocol(6)",
+    "05000b0000 05000b0000000000 SkV6Only(false)",
+    "05000b0002 05000b0001000000 SkV6Only(true)",
+    "08000f0004030201 08000f0004030201 Mark(16909060)",
+    "0800110004030201 0800110004030201 ClassId(16909060)",
+];
+
 #[test]
 fn attributes_of_inet_sockets(rt: HostRuntime) -> Result<(), Fail> {
     let alloc = rt.alloc();
-    for (bytes, written, text) in [
-        (
-            b"\x09\0\x04\0cubic".as_slice(),
-            b"\x0a\0\x04\0cubic\0\0\0".as_slice(),
-            "Congestion(\"cubic\")",
-        ),
-        (
-            b"\x0a\0\x04\0cubic\0",
-            b"\x0a\0\x04\0cubic\0\0\0",
-            "Congestion(\"cubic\")",
-        ),
-        (
-            b"\x0b\0\x04\0cubic\0\0",
-            b"\x0b\0\x04\0cubic\0\0\0",
-            "Congestion(\"cubic\\0\")",
-        ),
-        (b"\x04\0\x04\0", b"\x05\0\x04\0\0\0\0\0", "Congestion(\"\")"),
-        (
-            b"\x05\0\x04\0\0",
-            b"\x05\0\x04\0\0\0\0\0",
-            "Congestion(\"\")",
-        ),
-        (&[5, 0, 5, 0, 16], &[5, 0, 5, 0, 16, 0, 0, 0], "Tos(16)"),
-        (&[5, 0, 6, 0, 17], &[5, 0, 6, 0, 17, 0, 0, 0], "Tc(17)"),
-        (
-            &[5, 0, 8, 0x80, 2],
-            &[5, 0, 8, 0, 2, 0, 0, 0],
-            "Shutdown(2)",
-        ),
-        (&[5, 0, 10, 0, 6], &[5, 0, 10, 0, 6, 0, 0, 0], "Protocol(6)"),
-        (
-            &[5, 0, 11, 0, 0],
-            &[5, 0, 11, 0, 0, 0, 0, 0],
-            "SkV6Only(false)",
-        ),
-        (
-            &[5, 0, 11, 0, 2],
-            &[5, 0, 11, 0, 1, 0, 0, 0],
-            "SkV6Only(true)",
-        ),
-        (
-            &[8, 0, 15, 0, 4, 3, 2, 1],
-            &[8, 0, 15, 0, 4, 3, 2, 1],
-            "Mark(16909060)",
-        ),
-        (
-            &[8, 0, 17, 0, 4, 3, 2, 1],
-            &[8, 0, 17, 0, 4, 3, 2, 1],
-            "ClassId(16909060)",
-        ),
-    ] {
-        inet_told(&rt, alloc, (bytes, written), text, text)?;
+    for row in INET {
+        let (bytes, rest) = row.split_once(' ').ok_or("no bytes")?;
+        let (written, text) = rest.split_once(' ').ok_or("no text")?;
+        let forms = (hex::decode(alloc, bytes)?, hex::decode(alloc, written)?);
+        inet_told(&rt, alloc, (&forms.0, &forms.1), text, text)?;
     }
     inet_told(
         &rt,

@@ -2,7 +2,6 @@ use crate::stream::RunError;
 use std::alloc::{AllocError, Global};
 use std::test::Fail;
 
-mod generated;
 mod long_lines;
 mod streams;
 
