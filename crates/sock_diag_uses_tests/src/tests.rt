@@ -62,9 +62,21 @@ fn datagrams_are_listed_and_counted(rt: HostRuntime) -> Result<(), Fail> {
     let mut failed = DUMP;
     failed[48] = 0xfe;
     for (datagram, lines, count) in [
-        (&DUMP[..], "[Socket { state: 10, inode: 20238 }, End]", "Ok(Some(1))"),
-        (&failed, "[Socket { state: 10, inode: 20238 }, End]", "Ok(None)"),
-        (&DUMP[48..], "[Refused(EnvelopeCut { got: 4 })]", "Err(EnvelopeCut { got: 4 })"),
+        (
+            &DUMP[..],
+            "[Socket { state: 10, inode: 20238 }, End]",
+            "Ok(Some(1))",
+        ),
+        (
+            &failed,
+            "[Socket { state: 10, inode: 20238 }, End]",
+            "Ok(None)",
+        ),
+        (
+            &DUMP[48..],
+            "[Refused(EnvelopeCut { got: 4 })]",
+            "Err(EnvelopeCut { got: 4 })",
+        ),
     ] {
         shows(&rt, alloc, &list(alloc, datagram)?, lines)?;
         shows(&rt, alloc, &listening(datagram), count)?;
@@ -78,13 +90,21 @@ fn links_have_their_name_and_their_mtu(rt: HostRuntime) -> Result<(), Fail> {
     let mut odd = ETH0;
     odd[36] = 7;
     for (payload, text) in [
-        (&ETH0[..], "Ok(Link { name: Some(\"eth0\"), mtu: Some(1500) })"),
+        (
+            &ETH0[..],
+            "Ok(Link { name: Some(\"eth0\"), mtu: Some(1500) })",
+        ),
         (&ETH0[..15], "Err(TooShort { got: 15 })"),
-        (&odd, "Err(Attribute(WrongLength { kind: None, got: 3, need: 4 }))"),
+        (
+            &odd,
+            "Err(Attribute(WrongLength { kind: None, got: 3, need: 4 }))",
+        ),
     ] {
         shows(&rt, alloc, &parse_link(alloc, payload), text)?;
     }
-    let key = attribute_key(alloc, b"\x09\0\x03\0eth0\0\x09\0\0").ok().ok_or("no key")?;
+    let key = attribute_key(alloc, b"\x09\0\x03\0eth0\0\x09\0\0")
+        .ok()
+        .ok_or("no key")?;
     assert_eq!(rt; key.as_slice(), b"\x09\0\x03\0eth0\0\0\0\0".as_slice());
     Ok(())
 }
