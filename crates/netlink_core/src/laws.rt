@@ -12,7 +12,7 @@ ghost use Rattle.netlink_core.specs.Walk.{attribute_of, bytes_left, GivesAttribu
 ghost use Rattle.netlink_core.specs.Datagram.{CutIntoMessages, AreWholeMessages};
 ghost use Rattle.netlink_core.specs.DatagramWalk.{datagram_left, GivesMessage};
 ghost use Rattle.netlink_core.specs.Items.{ItemsAre};
-ghost use Rattle.netlink_core.specs.Seen.{envelope_of};
+ghost use Rattle.netlink_core.specs.Seen.{envelope_of, payload_of};
 ghost use Rattle.netlink_core.specs.declared.attribute.NlaBuffer.{NlaBuffer};
 ghost use Rattle.netlink_core.specs.declared.attribute.NlasIterator.{NlasIterator};
 ghost use Rattle.netlink_core.specs.declared.datagram.MessageStrings.{MessageStrings};
@@ -26,7 +26,7 @@ use crate::datagram::MessageStrings;
 use crate::exact::Exact;
 use crate::fault::DecodeError as Fault;
 use crate::header::NetlinkHeader;
-use crate::message::NetlinkMessage;
+use crate::message::{NetlinkMessage, NetlinkPayload};
 use crate::record::Record;
 use crate::wire::Coded;
 use crate::{NLM_F_DUMP, NLM_F_REQUEST, NLMSG_DONE, NLMSG_ERROR, NLMSG_NOOP, NLMSG_OVERRUN};
@@ -114,6 +114,13 @@ pub fn copies_are_the_same<T: Exact>(v: &T) -> Result<T, AllocError>
 /// `==` says whether two messages have the same header and carry the same.
 pub fn equal_messages<I: Coded>(v: &NetlinkMessage<I>, w: &NetlinkMessage<I>) -> bool
     ensures { IsTrue result ↔ (envelope_of I.seen v.now ≡ envelope_of I.seen w.now) }
+{
+    v == w
+}
+
+/// `==` says whether two payloads carry the same.
+pub fn equal_payloads<I: Coded>(v: &NetlinkPayload<I>, w: &NetlinkPayload<I>) -> bool
+    ensures { IsTrue result ↔ (payload_of I.seen v.now ≡ payload_of I.seen w.now) }
 {
     v == w
 }

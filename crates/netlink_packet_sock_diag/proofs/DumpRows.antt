@@ -289,3 +289,18 @@ module _ (C : Codec ℕ) where
       let whole : DatagramDump C before (in_a_row others) after a.0 = subst (λ (bytes : List ℕ). DatagramDump C before bytes after a.0) same (dump_of_split datagrams split before after a.0 a.1) in
       let ends = one_datagram_dump one (in_a_row others) (bytes-in_a_row others fits) before after also a.0 b.0 whole (dump_of_split others cut before also b.0 b.1) in
       (ends.0, a.2 ∙ ap state_left ends.1 ∙ sym b.2)
+
+  -- feeding datagrams with the same items in a row leaves the same messages and state
+  pub same_items_feeds : ((b : List ℕ) → IsBytes b → (items : List (Result (Payload C.Value) DecodeError)) × ItemsAre C b items)
+      → ((b : List ℕ) → IsBytes b → (xs ys : List (Result (Payload C.Value) DecodeError)) → ItemsAre C b xs → ItemsAre C b ys → xs ≡ ys)
+      → (datagrams others : List (List ℕ)) (xs ys : List (List (Result (Payload C.Value) DecodeError))) → AllByRecursion IsBytes datagrams → AllByRecursion IsBytes others
+      → AllZip (ItemsAre C) datagrams xs → AllZip (ItemsAre C) others ys → in_a_row xs ≡ in_a_row ys
+      → (before after also : List C.Value) (left state : DumpState) → FeedsLeave C before Reading datagrams after left → FeedsLeave C before Reading others also state
+      → (after ≡ also) × (left ≡ state)
+  same_items_feeds some one datagrams others xs ys typed fits each them same before after also left state f g =
+      let a = feeds_dump some datagrams typed before after left f in
+      let b = feeds_dump some others fits before also state g in
+      let moved = same_dump one datagrams others xs ys typed each them same before after a.0 a.1 in
+      let rows : moved.0 ≡ b.1.0 = moved.1.2 ∙ ap (λ (parts : List (List (Result (Payload C.Value) DecodeError))). in_a_row parts) (one_row one others fits moved.1.0 b.1.1.0 moved.1.1 b.1.1.1) ∙ sym b.1.1.2 in
+      let ends = one_dump before b.1.0 after also a.0 b.0 (subst (λ (l : List (Result (Payload C.Value) DecodeError)). Dump before l after a.0) rows moved.2) b.1.2 in
+      (ends.0, a.2 ∙ ap state_left ends.1 ∙ sym b.2)

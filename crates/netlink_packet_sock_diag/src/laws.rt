@@ -34,9 +34,9 @@ ghost use Rattle.netlink_packet_sock_diag.specs.Message.{Message, MessageKind, m
 
 use crate::dump::{DumpError, DumpViews as Views, PayloadView as View};
 use crate::inet::InetResponseView;
-use crate::message::{SockDiagMessage, SockDiagView};
+use crate::message::{SockDiagDestroy as SockDiagDestroyed, SockDiagMessage, SockDiagView};
 use crate::unix::UnixResponseView;
-use netlink_core::laws;
+use netlink_core::{NetlinkSerializable, laws};
 use std::alloc::AllocError;
 
 /// The number of bytes that a reply is written as, `buffer_len`, is a multiple of 4, for both families.
@@ -56,6 +56,16 @@ pub fn read_messages_are_replies()
     ensures { (b : List ℕ) (t : ℕ) (m : Message) → message_codec.reads b t m
         → (message_kind m ≡ inet_response) ⊎ (message_kind m ≡ unix_response) }
 {}
+
+/// A request to close sockets is written under the type 21, `SOCK_DESTROY`, and a message under 20, `SOCK_DIAG_BY_FAMILY`.
+pub fn types_that_are_written(destroy: &SockDiagDestroyed, message: &SockDiagMessage) -> (u16, u16)
+    ensures { result ≡ (21, 20) }
+{
+    (
+        NetlinkSerializable::message_type(destroy),
+        NetlinkSerializable::message_type(message),
+    )
+}
 
 /// A finalized request to close sockets is refused by its own reader: it is written under the type 21, and messages
 /// are read under 20 alone.
@@ -166,6 +176,20 @@ pub fn split_changes_no_dump()
 pub fn split_changes_no_feed()
     ensures { (datagrams others : List (List ℕ)) → AllByRecursion IsBytes datagrams → AllByRecursion IsBytes others
         → AreSplit datagrams → AreSplit others → in_a_row datagrams ≡ in_a_row others
+        → (messages same : List Message) (state end : DumpState)
+        → FeedsLeave message_codec [] Reading datagrams messages state → FeedsLeave message_codec [] Reading others same end
+        → (messages ≡ same) × (state ≡ end) }
+{
+    laws::datagram_has_items::<SockDiagMessage>();
+    laws::one_list_of_items::<SockDiagMessage>();
+}
+
+/// Nor does it where datagrams have the same items in a row, as where one of them lacks the padding behind its last message:
+/// fed to two new readers, and with memory for all, they leave the same messages and the same state.
+pub fn same_items_change_no_feed()
+    ensures { (datagrams others : List (List ℕ)) (xs ys : List (List (Result (Payload Message) DecodeError)))
+        → AllByRecursion IsBytes datagrams → AllByRecursion IsBytes others
+        → AllZip (ItemsAre message_codec) datagrams xs → AllZip (ItemsAre message_codec) others ys → in_a_row xs ≡ in_a_row ys
         → (messages same : List Message) (state end : DumpState)
         → FeedsLeave message_codec [] Reading datagrams messages state → FeedsLeave message_codec [] Reading others same end
         → (messages ≡ same) × (state ≡ end) }

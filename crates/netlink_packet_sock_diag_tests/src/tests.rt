@@ -5,6 +5,7 @@ use std::fmt::Debug;
 use std::process::Abort;
 use std::test::Fail;
 
+mod buffers;
 mod hostile;
 mod read_twice;
 mod refused_memory;
