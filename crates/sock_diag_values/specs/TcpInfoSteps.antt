@@ -1,5 +1,7 @@
 -- The fields of each of the rows.
-use Rattle.std.specs.Prelude.{ℕ, List, take, drop}
+use Rattle.std.specs.Prelude.{ℕ, List, ◌++◌, take, drop}
+use Rattle.std.specs.List.{flat_map}
+use Rattle.byteorder.specs.Endian.{little_bytes}
 use Rattle.sock_diag_values.specs.declared.inet.tcp_info.TcpInfo.{TcpInfo}
 use Rattle.sock_diag_values.specs.TcpInfo.{tcp_info_values}
 
@@ -46,3 +48,18 @@ totals value = take 2 (drop 48 (tcp_info_values value))
 -- the words at 216
 abbrev pub reorderings : TcpInfo → List ℕ
 reorderings value = take 4 (drop 50 (tcp_info_values value))
+
+-- the bytes from 0 to 92
+abbrev pub front : TcpInfo → List ℕ
+front value = states value ++ (flat_map (little_bytes 4) (counts value)
+    ++ (flat_map (little_bytes 4) (ages value) ++ flat_map (little_bytes 4) (metrics value)))
+
+-- the bytes from 92 to 192
+abbrev pub middle : TcpInfo → List ℕ
+middle value = flat_map (little_bytes 4) (receiver value) ++ (flat_map (little_bytes 8) (rates value)
+    ++ (flat_map (little_bytes 4) (segments value) ++ flat_map (little_bytes 8) (limits value)))
+
+-- the bytes from 192 on
+abbrev pub back : TcpInfo → List ℕ
+back value = flat_map (little_bytes 4) (deliveries value)
+    ++ (flat_map (little_bytes 8) (totals value) ++ flat_map (little_bytes 4) (reorderings value))

@@ -1,11 +1,11 @@
 //! What INET_DIAG_INFO tells: a TCP connection.
 
-ghost use Rattle.std.specs.Prelude.{◌≡◌, ⊤};
+ghost use Rattle.std.specs.Prelude.{◌≡◌, ⊤, length};
 ghost use Rattle.std.proofs.Common.{rules};
 ghost use Rattle.netlink_core.specs.Format.{read};
 ghost use Rattle.netlink_core.proofs.FormatLaws.{record_laws};
 ghost use Rattle.sock_diag_values.specs.TcpInfo.{tcp_info};
-ghost use Rattle.sock_diag_values.specs.TcpInfoSteps.{states, counts, ages, metrics, receiver, rates, segments, limits, deliveries, totals, reorderings};
+ghost use Rattle.sock_diag_values.specs.TcpInfoSteps.{states, counts, ages, metrics, receiver, rates, segments, limits, deliveries, totals, reorderings, front, middle, back};
 ghost use Rattle.sock_diag_values.specs.TcpInfoEqualLaws.{tcp_info_equal};
 ghost use Rattle.sock_diag_values.specs.TcpInfoLaws.{tcp_info_sound};
 
@@ -246,27 +246,11 @@ impl Record for TcpInfo {
 
     #[tactic(auto, unfolding(crate::specs::TcpInfo::tcp_info))]
     fn write_row(&self, row: &mut [u8]) {
-        let (states, rest) = row.split_at_mut(8);
-        let (counts, rest) = rest.split_at_mut(36);
-        let (ages, rest) = rest.split_at_mut(16);
-        let (metrics, rest) = rest.split_at_mut(32);
-        let (receiver, rest) = rest.split_at_mut(12);
-        let (rates, rest) = rest.split_at_mut(32);
-        let (segments, rest) = rest.split_at_mut(24);
-        let (limits, rest) = rest.split_at_mut(32);
-        let (deliveries, rest) = rest.split_at_mut(8);
-        let (totals, reorderings) = rest.split_at_mut(16);
-        states.copy_from_slice(&self.states());
-        LittleEndian::write_u32_into(&self.counts(), counts);
-        LittleEndian::write_u32_into(&self.ages(), ages);
-        LittleEndian::write_u32_into(&self.metrics(), metrics);
-        LittleEndian::write_u32_into(&self.receiver(), receiver);
-        LittleEndian::write_u64_into(&self.rates(), rates);
-        LittleEndian::write_u32_into(&self.segments(), segments);
-        LittleEndian::write_u64_into(&self.limits(), limits);
-        LittleEndian::write_u32_into(&self.deliveries(), deliveries);
-        LittleEndian::write_u64_into(&self.totals(), totals);
-        LittleEndian::write_u32_into(&self.reorderings(), reorderings);
+        let (front, rest) = row.split_at_mut(92);
+        let (middle, back) = rest.split_at_mut(100);
+        self.write_front(front);
+        self.write_middle(middle);
+        self.write_back(back);
     }
 
     fn row_typed(&self) {
@@ -299,6 +283,46 @@ impl TcpInfo {
         ensures { result ≡ read tcp_info tt payload.now }
     {
         read_record(payload, ())
+    }
+
+    // Writes the rows at 0 to 60.
+    fn write_front(&self, row: &mut [u8])
+        requires { length row.old ≡ 92 }
+        ensures { row.new ≡ front self.now }
+    {
+        let (states, rest) = row.split_at_mut(8);
+        let (counts, rest) = rest.split_at_mut(36);
+        let (ages, metrics) = rest.split_at_mut(16);
+        states.copy_from_slice(&self.states());
+        LittleEndian::write_u32_into(&self.counts(), counts);
+        LittleEndian::write_u32_into(&self.ages(), ages);
+        LittleEndian::write_u32_into(&self.metrics(), metrics);
+    }
+
+    // Writes the rows at 92 to 160.
+    fn write_middle(&self, row: &mut [u8])
+        requires { length row.old ≡ 100 }
+        ensures { row.new ≡ middle self.now }
+    {
+        let (receiver, rest) = row.split_at_mut(12);
+        let (rates, rest) = rest.split_at_mut(32);
+        let (segments, limits) = rest.split_at_mut(24);
+        LittleEndian::write_u32_into(&self.receiver(), receiver);
+        LittleEndian::write_u64_into(&self.rates(), rates);
+        LittleEndian::write_u32_into(&self.segments(), segments);
+        LittleEndian::write_u64_into(&self.limits(), limits);
+    }
+
+    // Writes the rows at 192 to 216.
+    fn write_back(&self, row: &mut [u8])
+        requires { length row.old ≡ 40 }
+        ensures { row.new ≡ back self.now }
+    {
+        let (deliveries, rest) = row.split_at_mut(8);
+        let (totals, reorderings) = rest.split_at_mut(16);
+        LittleEndian::write_u32_into(&self.deliveries(), deliveries);
+        LittleEndian::write_u64_into(&self.totals(), totals);
+        LittleEndian::write_u32_into(&self.reorderings(), reorderings);
     }
 
     // The bytes at 0.
