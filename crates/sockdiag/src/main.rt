@@ -2,29 +2,8 @@
 //! one answer line for each of them.
 #![tactic(auto)]
 
-ghost use Rattle.std.specs.Prelude.{◌≡◌, ◌↔◌, ℕ, List, Result, IfSome, IsOk, IsErr};
-ghost use Rattle.std.specs.Process.{exit_status};
-ghost use Rattle.std.specs.Io.KnownBytes.{Appends, IsAtEnd, Keeps};
-ghost use Rattle.sockdiag.specs.Answer.{IsAnswerOf};
-ghost use Rattle.sockdiag.specs.Lines.{Splits, with_rest};
-ghost use Rattle.sockdiag.specs.Run.{Answers, answer_lines};
-ghost use Rattle.sockdiag.specs.declared.stream.RunError.{RunError};
-
-mod answers;
-mod dump_line;
-mod fields;
-mod prompt;
-mod stream;
-#[cfg(test)]
-mod tests;
-mod view_line;
-mod words;
-
-pub use answers::answer;
-use std::alloc::Global;
-use std::io::{Read, Write};
+use sock_diag_lines::run_to_status;
 use std::process::ExitCode;
-pub use stream::{RunError, run};
 
 fn main(rt: HostRuntime) -> ExitCode {
     run_to_status(
@@ -33,43 +12,4 @@ fn main(rt: HostRuntime) -> ExitCode {
         &mut rt.stdout(),
         &mut rt.stderr(),
     )
-}
-
-/// `run`, which tells on `errors` why it failed. The status is 0 where it came to the end of its input,
-/// and 1 where it failed.
-pub fn run_to_status<R: Read, W: Write, E: Write>(
-    alloc: Global,
-    input: &mut R,
-    output: &mut W,
-    errors: &mut E,
-) -> ExitCode
-    ensures ended { exit_status result ≡ 0 → IsAtEnd (R.remaining input.new) }
-    ensures complete { exit_status result ≡ 0 → IfSome (R.remaining input.old) (λ text.
-        (answer : List ℕ → List ℕ) (whole : List (List ℕ)) (rest : List ℕ)
-        → ((line : List ℕ) → IsAnswerOf line (answer line)) → Splits text whole rest
-        → Appends (W.contents output.old) (W.contents output.new) (answer_lines answer (with_rest whole rest))) }
-    ensures silent { exit_status result ≡ 0 → Keeps (E.contents errors.old) (E.contents errors.new) }
-    ensures answered { (answer : List ℕ → List ℕ) → ((line : List ℕ) → IsAnswerOf line (answer line))
-        → (outcome : Result Unit RunError)
-        × ((exit_status result ≡ 0) ↔ IsOk outcome) × ((exit_status result ≡ 1) ↔ IsErr outcome)
-        × Answers answer (R.remaining input.old) (R.remaining input.new)
-        (W.contents output.old) (W.contents output.new) outcome }
-{
-    let outcome = run(alloc, input, output);
-    if let Err(error) = &outcome {
-        // Where this can't be written either, the exit status alone tells of the failure.
-        let _ = writeln!(errors, "sockdiag: {error}");
-    }
-    exit_code(&outcome)
-}
-
-/// Status 0 where the run came to the end of its input, and 1 where it failed.
-fn exit_code(outcome: &Result<(), RunError>) -> ExitCode
-    ensures ended { (exit_status result ≡ 0) ↔ IsOk outcome.now }
-    ensures failed { (exit_status result ≡ 1) ↔ IsErr outcome.now }
-{
-    match outcome {
-        Ok(()) => ExitCode::SUCCESS,
-        Err(_) => ExitCode::FAILURE,
-    }
 }

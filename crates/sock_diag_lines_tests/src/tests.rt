@@ -1,0 +1,38 @@
+use sock_diag_lines::RunError;
+use std::alloc::{AllocError, Global};
+use std::test::Fail;
+
+mod long_lines;
+mod streams;
+
+const INPUT: &str = "unixreq 01000000020400003412000004000000ffffffffffffffff\n\
+unixreq 0709ffffffffffff34120000ffffffffffffffffffffffffaabbcc\n\
+unixreq 01000000020400003412000004000000ffffffffffffff\n";
+
+const OUTPUT: &str = "ok 01000000020400003412000004000000ffffffffffffffff\n\
+ok 0100000002040000341200003f000000ffffffffffffffff\n\
+refused 2\n";
+
+/// A front, a piece, how often it stands in a row, and a back.
+type Repeated = (&'static str, &'static str, usize, &'static str);
+
+fn repeated(alloc: Global, text: Repeated) -> Result<Vec<u8>, AllocError> {
+    let (front, piece, times, back) = text;
+    let mut bytes = Vec::from_slice(alloc, front.as_bytes())?;
+    bytes.extend_from_slice(&piece.as_bytes().repeat(alloc, times)?)?;
+    bytes.extend_from_slice(back.as_bytes())?;
+    Ok(bytes)
+}
+
+#[test]
+fn errors_of_a_run_have_words(rt: HostRuntime) -> Result<(), Fail> {
+    for (error, want) in [
+        (RunError::Read, "Read: reading failed"),
+        (RunError::Write, "Write: writing failed"),
+        (RunError::Memory, "Memory: out of memory"),
+    ] {
+        let text = format!(in rt.alloc(); "{error:?}: {error}")?;
+        assert_eq!(rt; text.as_str(), want);
+    }
+    Ok(())
+}
