@@ -13,6 +13,7 @@ mod message;
 mod nla;
 mod parse;
 mod record;
+pub mod rows;
 mod wire;
 
 pub use crate::attribute::{NlaBuffer, NlasIterator};

@@ -7,8 +7,8 @@ use crate::numbers::{byte_typed, emit_numbers, emit_u32_pair, words_typed};
 use crate::text::{emit_text, text_typed};
 use crate::unix::nlas::NameView;
 use netlink_core::{Coded, Emitable, bytes_typed, emit_u32, word_typed};
-use sock_diag_records::inet::nlas::{LegacyMemInfo, MemInfo, TcpInfo};
-use sock_diag_records::unix::nlas::{MemInfo as UnixMemInfo, Vfs};
+use sock_diag_values::inet::{LegacyMemInfo, MemInfo, TcpInfo};
+use sock_diag_values::unix::{MemInfo as UnixMemInfo, Vfs};
 
 /// The value of an attribute, borrowed.
 #[derive(Drop)]

@@ -3,10 +3,10 @@ use netlink_core::{
     DecodeError, Emitable, Fills, Parseable, ParseableParametrized, Record, RecordBuffer, Wire,
     canonical,
 };
-use sock_diag_records::inet::nlas::{LegacyMemInfo, MemInfo, MemInfoBuffer, TcpInfo};
 use sock_diag_records::inet::{InetRequest, InetResponseHeader, SocketId, Timer};
-use sock_diag_records::unix::nlas::{self as unix_nlas, Vfs};
 use sock_diag_records::unix::{StateFlags, UnixRequest, UnixResponseHeader};
+use sock_diag_values::inet::{LegacyMemInfo, MemInfo, MemInfoBuffer, TcpInfo};
+use sock_diag_values::unix::{self as unix_nlas, Vfs};
 use std::alloc::Global;
 use std::fmt::Debug;
 use std::net::{IpAddr, Ipv6Addr};

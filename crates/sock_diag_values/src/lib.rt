@@ -2,5 +2,4 @@
 #![tactic(auto)]
 
 pub mod inet;
-pub mod rows;
 pub mod unix;

@@ -14,7 +14,7 @@ use netlink_core::{
     nla_len,
 };
 use sock_diag_records::constants::*;
-pub use sock_diag_records::inet::nlas::{
+pub use sock_diag_values::inet::{
     LegacyMemInfo, LegacyMemInfoBuffer, MemInfo, MemInfoBuffer, MemInfoBytes, TcpInfo,
     TcpInfoBuffer,
 };

@@ -8,8 +8,8 @@ ghost use Rattle.sock_diag_records.specs.InetRequestLaws.{inet_request_sound, in
 use super::{ExtensionFlags, SocketId, StateFlags};
 use bitflags::Flags;
 use byteorder::{ByteOrder, LittleEndian};
+use netlink_core::rows::words_at;
 use netlink_core::{DecodeError, Fills, Record, RecordBuffer, RecordName};
-use sock_diag_values::rows::words_at;
 
 /// The request for IPv4 or IPv6 sockets: `struct inet_diag_req_v2` of sock_diag(7), 56 bytes. The byte at 3 is not
 /// read, and is written 0.

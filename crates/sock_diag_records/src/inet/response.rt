@@ -14,8 +14,8 @@ ghost use Rattle.sock_diag_records.specs.InetResponseLaws.{header_sound, header_
 
 use super::SocketId;
 use byteorder::{ByteOrder, LittleEndian};
+use netlink_core::rows::words_at;
 use netlink_core::{DecodeError, Exact, Fills, Record, RecordBuffer, RecordName, read_record};
-use sock_diag_values::rows::words_at;
 use std::time::Duration;
 
 /// The timer that runs for a TCP socket, `idiag_timer` of sock_diag(7), with the time until it ends.

@@ -16,10 +16,10 @@ ghost use Rattle.sock_diag_records.specs.SocketIdLaws.{socket_id_sound, socket_i
 
 use crate::constants::{AF_INET, AF_INET6};
 use byteorder::{BigEndian, ByteOrder, LittleEndian};
+use netlink_core::rows::{array_at, big_shorts_at, words_at};
 use netlink_core::{
     DecodeError, Exact, Fills, Record, RecordBuffer, RecordName, bytes_typed, read_record,
 };
-use sock_diag_values::rows::{array_at, big_shorts_at, words_at};
 use std::net::{IpAddr, Ipv4Addr, Ipv6Addr};
 
 /// The identity of an IPv4 or IPv6 socket: `struct inet_diag_sockid` of sock_diag(7), 48 bytes.

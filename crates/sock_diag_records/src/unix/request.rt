@@ -10,8 +10,8 @@ use super::{ShowFlags, StateFlags};
 use crate::constants::AF_UNIX;
 use bitflags::Flags;
 use byteorder::{ByteOrder, LittleEndian};
+use netlink_core::rows::{array_at, words_at};
 use netlink_core::{DecodeError, Exact, Fills, Record, RecordBuffer, RecordName, bytes_typed};
-use sock_diag_values::rows::{array_at, words_at};
 
 /// The request for UNIX sockets: `struct unix_diag_req` of sock_diag(7), 24 bytes, numbers low byte first. The
 /// bytes at 0 to 3 are not read, and are written AF_UNIX (1), 0, 0, 0.

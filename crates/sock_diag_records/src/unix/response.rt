@@ -9,10 +9,10 @@ ghost use Rattle.sock_diag_records.specs.UnixResponseHeaderLaws.{unix_response_h
 
 use crate::constants::AF_UNIX;
 use byteorder::{ByteOrder, LittleEndian};
+use netlink_core::rows::{array_at, words_at};
 use netlink_core::{
     DecodeError, Exact, Fills, Record, RecordBuffer, RecordName, bytes_typed, read_record,
 };
-use sock_diag_values::rows::{array_at, words_at};
 
 /// The header of a reply about a UNIX socket: `struct unix_diag_msg` of sock_diag(7), 16 bytes. The bytes at 0 and 3
 /// are not read, and are written AF_UNIX (1) and 0.

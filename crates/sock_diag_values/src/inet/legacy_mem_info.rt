@@ -6,8 +6,8 @@ ghost use Rattle.netlink_core.specs.Format.{read};
 ghost use Rattle.netlink_core.proofs.FormatLaws.{plain_sound, record_laws};
 ghost use Rattle.sock_diag_values.specs.LegacyMemInfo.{legacy_mem_info};
 
-use crate::rows::words_at;
 use byteorder::{ByteOrder, LittleEndian};
+use netlink_core::rows::words_at;
 use netlink_core::{DecodeError, Exact, Fills, Record, RecordBuffer, RecordName, read_record};
 
 /// The memory of a socket, as the attribute `INET_DIAG_MEMINFO` tells it: `struct inet_diag_meminfo` of

@@ -10,8 +10,8 @@ ghost use Rattle.sock_diag_values.specs.MemInfoLaws.{mem_info_sound};
 ghost use Rattle.sock_diag_values.specs.MemInfoEqualLaws.{buffer_equal, bytes_equal, mem_info_equal};
 ghost use Rattle.byteorder.specs.Endian.{little_number};
 
-use crate::rows::words_at;
 use byteorder::{ByteOrder, LittleEndian};
+use netlink_core::rows::words_at;
 use netlink_core::{DecodeError, Exact, Record, RecordName, read_record, word_typed};
 
 /// The memory of a socket, as the attribute `INET_DIAG_SKMEMINFO` tells it: the nine words `SK_MEMINFO_..` of

@@ -9,8 +9,8 @@ ghost use Rattle.sock_diag_values.specs.TcpInfoSteps.{states, counts, ages, metr
 ghost use Rattle.sock_diag_values.specs.TcpInfoEqualLaws.{tcp_info_equal};
 ghost use Rattle.sock_diag_values.specs.TcpInfoLaws.{tcp_info_sound};
 
-use crate::rows::{array_at, long_words_at, long_words_typed, words_at, words_typed};
 use byteorder::{ByteOrder, LittleEndian};
+use netlink_core::rows::{array_at, long_words_at, long_words_typed, words_at, words_typed};
 use netlink_core::{
     DecodeError, Exact, Fills, Record, RecordBuffer, RecordName, bytes_typed, read_record,
 };

@@ -6,8 +6,8 @@ ghost use Rattle.netlink_core.specs.Format.{read};
 ghost use Rattle.netlink_core.proofs.FormatLaws.{plain_sound, record_laws};
 ghost use Rattle.sock_diag_values.specs.Vfs.{vfs};
 
-use crate::rows::words_at;
 use byteorder::{ByteOrder, LittleEndian};
+use netlink_core::rows::words_at;
 use netlink_core::{DecodeError, Exact, Fills, Record, RecordBuffer, RecordName, read_record};
 
 /// The file that a UNIX socket is bound to, as the attribute `UNIX_DIAG_VFS` tells it: `struct unix_diag_vfs` of

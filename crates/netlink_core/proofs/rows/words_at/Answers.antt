@@ -2,7 +2,7 @@ use Rattle.std.proofs.Common.{◌≡◌, ◌+◌, ◌-◌, ◌*◌, take, drop, 
 use Rattle.std.proofs.lemmas.List.{length-replicate}
 use Rattle.netlink_core.specs.Table.{little_endian}
 use Rattle.netlink_core.proofs.RowReads.{row_read}
-use Rattle.sock_diag_values.proofs.rows.words_at.Goals as goal
+use Rattle.netlink_core.proofs.rows.words_at.Goals as goal
 
 pub returns : goal.returns
 returns g c =

@@ -1,5 +1,4 @@
-//! The rows of a record's table, read from its bytes and written to them. The records of this crate and of
-//! `sock_diag_records` are made of them.
+//! The rows of a record's table, read from its bytes. Records are made of them.
 
 ghost use Rattle.std.specs.Prelude.{◌≡◌, ◌≤◌, ◌+◌, ◌*◌, ℕ, length};
 ghost use Rattle.netlink_core.specs.Table.{bytes_at, numbers, little_endian, big_endian, values_of, Fit};
@@ -47,13 +46,13 @@ pub fn big_shorts_at<const N: usize>(bytes: &[u8], place: usize) -> [u16; N]
 }
 
 /// Tells the prover that words are numbers of four bytes, wherever they stand. It does nothing.
-#[tactic(auto, using(netlink_core::proofs::RowReads::fit_numbers))]
+#[tactic(auto, using(crate::proofs::RowReads::fit_numbers))]
 pub fn words_typed(_words: &[u32])
     ensures { (place : ℕ) → Fit (numbers place 4 little_endian (length _words.now)) _words.now }
 {}
 
 /// Tells the prover that long words are numbers of eight bytes, wherever they stand. It does nothing.
-#[tactic(auto, using(netlink_core::proofs::RowReads::fit_numbers))]
+#[tactic(auto, using(crate::proofs::RowReads::fit_numbers))]
 pub fn long_words_typed(_words: &[u64])
     ensures { (place : ℕ) → Fit (numbers place 8 little_endian (length _words.now)) _words.now }
 {}

@@ -1,6 +1,6 @@
 use Rattle.std.proofs.Common.{◌≡◌, ◌+◌, ◌-◌, take, drop, arith, ap, ◌∙◌}
 use Rattle.netlink_core.proofs.RowReads.{bytes_read}
-use Rattle.sock_diag_values.proofs.rows.array_at.Goals as goal
+use Rattle.netlink_core.proofs.rows.array_at.Goals as goal
 
 pub returns : goal.returns
 returns g c =
