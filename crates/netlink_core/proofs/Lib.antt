@@ -19,5 +19,6 @@ pub mod Items
 pub mod Idle
 pub mod Equality
 pub mod SaidTests
+pub mod Rewriting
 mod WholeWalk
 mod WholeDatagram

@@ -60,18 +60,5 @@ pub fn canonical<T: Wire + Drop>(
     // The first fault, which is named; or the string is accepted and its value can't be written; or memory ran out.
     ensures err { IfErr result (GivesUp (T.codec.reads bytes.now param) (T.codec.refuses bytes.now param) T.codec.fits) }
 {
-    // The value stays where it was read to: a large one takes longer to move than to write.
-    let read = T::read(alloc, bytes, param);
-    if let Ok(value) = &read {
-        let Some(len) = value.writable_len() else {
-            return Err(CanonError::Unwritable);
-        };
-        let mut written = vec![in alloc; 0; len]?;
-        value.emit(&mut written);
-        return Ok(written);
-    }
-    match read {
-        Ok(_) => unreachable!(),
-        Err(fault) => Err(CanonError::from(fault)),
-    }
+    T::rewrite(alloc, bytes, param)
 }

@@ -33,4 +33,4 @@ pub use crate::nla::{
 };
 pub use crate::parse::{emit_u32, parse_string, parse_u8, parse_u32};
 pub use crate::record::{Fills, Record, RecordBuffer, read_record};
-pub use crate::wire::{Coded, Wire, bytes_typed, word_typed};
+pub use crate::wire::{Coded, Wire, bytes_typed, word_typed, write_new};

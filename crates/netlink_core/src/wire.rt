@@ -3,11 +3,12 @@
 ghost use Rattle.std.specs.Prelude.{◌≡◌, ◌≢◌, ◌<◌, ◌^◌, ◌↔◌, ℕ, List, IfOk, IfErr, IsTrue, refl};
 ghost use Rattle.std.proofs.Common.{sym, ap, ◌∙◌, subst};
 ghost use Rattle.netlink_core.specs.Bytes.{IsBytes};
+ghost use Rattle.netlink_core.specs.Canonical.{GivesUp};
 ghost use Rattle.netlink_core.specs.Codec.{Codec, KeepsLaws};
 ghost use Rattle.netlink_core.specs.Spare.{WantsMemory};
 ghost use Rattle.netlink_core.specs.declared.fault.DecodeError.TheVariants.{Memory};
 
-use crate::{DecodeError, Emitable, Readable};
+use crate::{CanonError, DecodeError, Emitable, Readable};
 use std::alloc::Global;
 
 /// A value that stands in bytes: how it is read and written, what is compared of it, and the laws between them.
@@ -96,10 +97,48 @@ pub trait Wire: Coded + Readable + Emitable {
         // Memory is wanted only where the string has a value, and one that is not spare.
         ensures wanted { IfErr result (λ e. e ≡ Memory → WantsMemory (Self.codec.reads bytes.now param) Self.codec.is_spare) };
 
+    /// The bytes that the value in the bytes is written as: what [`canonical`](crate::canonical)
+    /// answers. It makes a value, and a type that has a view writes from that instead.
+    fn rewrite(alloc: Global, bytes: &[u8], param: Self::Param) -> Result<Vec<u8>, CanonError>
+    where
+        Self: Drop,
+        ensures typed { IsBytes bytes.now }
+        ensures written { IfOk result (λ c.
+            (v : Self.codec.Value) × Self.codec.reads bytes.now param v × Self.codec.fits v
+            × (c.items ≡ Self.codec.written v)) }
+        ensures err { IfErr result (GivesUp (Self.codec.reads bytes.now param)
+            (Self.codec.refuses bytes.now param) Self.codec.fits) }
+    {
+        // The value stays where it was read to: a large one takes longer to move than to write.
+        let read = Self::read(alloc, bytes, param);
+        if let Ok(value) = &read {
+            return write_new(alloc, value);
+        }
+        match read {
+            Ok(_) => unreachable!(),
+            Err(fault) => Err(CanonError::from(fault)),
+        }
+    }
+
     // The writer is that of `Emitable`.
     ghost written_is: { (v : Self) → Self.bytes v ≡ Self.codec.written (Self.seen v) };
 
     ghost fits_is: { (v : Self) → (Self.writable v ↔ Self.codec.fits (Self.seen v)) };
+}
+
+/// The bytes of a value that can be written, in a list of their own.
+///
+/// It fails with `Unwritable` where the value can't be written, and with `Memory`.
+pub fn write_new<T: Emitable>(alloc: Global, value: &T) -> Result<Vec<u8>, CanonError>
+    ensures written { IfOk result (λ c. T.writable value.now × (c.items ≡ T.bytes value.now)) }
+    ensures err { IfErr result (GivesUp (λ v. v ≡ value.now) (λ fault. ⊥) T.writable) }
+{
+    let Some(len) = value.writable_len() else {
+        return Err(CanonError::Unwritable);
+    };
+    let mut written = vec![in alloc; 0; len]?;
+    value.emit(&mut written);
+    Ok(written)
 }
 
 /// Tells the prover that bytes are numbers below 256. Like [`word_typed`] it is for a type's own [`Coded::typed`], and

@@ -1,6 +1,7 @@
 //! The messages of sock_diag(7): requests and replies, and the request to close sockets.
 
 ghost use Rattle.std.specs.Prelude.{◌≡◌, ◌≢◌, ◌<◌, ◌↔◌, true, refl, IsTrue, IfOk, IfErr};
+ghost use Rattle.netlink_core.specs.Canonical.{GivesUp};
 ghost use Rattle.netlink_core.specs.declared.fault.DecodeError.TheVariants.{Memory};
 ghost use Rattle.netlink_core.specs.Spare.{WantsMemory};
 ghost use Rattle.netlink_core.specs.declared.message.NetlinkPayload.TheVariants.{InnerMessage};
@@ -10,8 +11,8 @@ use crate::constants::{AF_INET, AF_INET6, AF_UNIX, SOCK_DESTROY, SOCK_DIAG_BY_FA
 use crate::inet::{InetRequest, InetResponse, InetResponseView};
 use crate::unix::{UnixRequest, UnixResponse, UnixResponseView};
 use netlink_core::{
-    DecodeError, Emitable, NetlinkDeserializable, NetlinkHeader, NetlinkPayload,
-    NetlinkSerializable, ParseableParametrized, Readable, Wire,
+    CanonError, DecodeError, Emitable, NetlinkDeserializable, NetlinkHeader, NetlinkPayload,
+    NetlinkSerializable, ParseableParametrized, Readable, Wire, write_new,
 };
 use std::alloc::{AllocError, Global};
 
@@ -154,6 +155,43 @@ impl<'a> SockDiagView<'a> {
     }
 }
 
+/// Writes the bytes of the message's canonical form, and takes no memory.
+impl Emitable for SockDiagView<'_> {
+    ghost use Rattle.netlink_packet_sock_diag.specs.ViewedMessage.{viewed_message};
+
+    ghost bytes = { λ v. message_codec.written (viewed_message v) };
+
+    ghost writable = { λ v. message_codec.fits (viewed_message v) };
+
+    fn is_writable(&self) -> bool {
+        match self {
+            SockDiagView::InetResponse(reply) => reply.is_writable(),
+            SockDiagView::UnixResponse(reply) => reply.is_writable(),
+        }
+    }
+
+    fn buffer_len(&self) -> usize {
+        match self {
+            SockDiagView::InetResponse(reply) => reply.buffer_len(),
+            SockDiagView::UnixResponse(reply) => reply.buffer_len(),
+        }
+    }
+
+    fn writable_len(&self) -> Option<usize> {
+        match self {
+            SockDiagView::InetResponse(reply) => reply.writable_len(),
+            SockDiagView::UnixResponse(reply) => reply.writable_len(),
+        }
+    }
+
+    fn emit(&self, buffer: &mut [u8]) {
+        match self {
+            SockDiagView::InetResponse(reply) => reply.emit(buffer),
+            SockDiagView::UnixResponse(reply) => reply.emit(buffer),
+        }
+    }
+}
+
 impl Readable for SockDiagMessage {
     const TAKES_MEMORY: bool = true;
 
@@ -210,6 +248,14 @@ impl Emitable for SockDiagMessage {
 impl Wire for SockDiagMessage {
     fn read(alloc: Global, bytes: &[u8], param: u16) -> Result<Self, DecodeError> {
         SockDiagMessage::read_under(alloc, bytes, param)
+    }
+
+    // Written from the view: no value with memory of its own is made.
+    fn rewrite(alloc: Global, bytes: &[u8], param: u16) -> Result<Vec<u8>, CanonError> {
+        match SockDiagView::parse(bytes, param) {
+            Ok(view) => write_new(alloc, &view),
+            Err(fault) => Err(CanonError::Refused(fault)),
+        }
     }
 
     ghost written_is = { λ v. refl };

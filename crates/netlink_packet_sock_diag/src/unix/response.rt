@@ -4,6 +4,7 @@ ghost use Rattle.netlink_packet_sock_diag.specs.EqualReplyLaws.{replies_equal};
 ghost use Rattle.sock_diag_attributes.specs.contracts.unix.coded.NlaCoded.TheImpl.Laws.{eq_is_seen-law as same_nla};
 ghost use Rattle.sock_diag_records.specs.contracts.unix.response.UnixResponseHeaderExact.TheImpl.Laws.{exact-law as exact_header};
 ghost use Rattle.std.specs.Prelude.{◌≡◌, IfOk, IsOk, true, refl};
+ghost use Rattle.netlink_core.specs.Canonical.{GivesUp};
 ghost use Rattle.netlink_core.specs.Reply.{reply_bytes, reply_codec};
 ghost use Rattle.netlink_core.proofs.Replies.{replies_keep_laws};
 ghost use Rattle.netlink_packet_sock_diag.specs.UnixReply.{unix_reply};
@@ -14,7 +15,7 @@ use crate::reply::{
 };
 use crate::unix::nlas::Nla;
 use crate::unix::{UnixResponseHeader, UnixResponseView};
-use netlink_core::{Coded, DecodeError, Emitable, Parseable, Readable, Wire};
+use netlink_core::{CanonError, Coded, DecodeError, Emitable, Parseable, Readable, Wire, write_new};
 use smallvec::SmallVec;
 use std::alloc::{AllocError, Global};
 
@@ -114,6 +115,14 @@ impl Coded for UnixResponse {
 impl Wire for UnixResponse {
     fn read(alloc: Global, bytes: &[u8], _param: ()) -> Result<Self, DecodeError> {
         UnixResponse::parse(alloc, bytes)
+    }
+
+    // Written from the view: no value with memory of its own is made.
+    fn rewrite(alloc: Global, bytes: &[u8], _param: ()) -> Result<Vec<u8>, CanonError> {
+        match UnixResponseView::parse(bytes) {
+            Ok(view) => write_new(alloc, &view),
+            Err(fault) => Err(CanonError::Refused(fault)),
+        }
     }
 
     ghost written_is = { λ _. refl };

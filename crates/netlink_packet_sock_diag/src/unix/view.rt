@@ -254,6 +254,10 @@ impl Emitable for UnixResponseView<'_> {
         len
     }
 
+    fn writable_len(&self) -> Option<usize> {
+        self.written_len()
+    }
+
     fn emit(&self, buffer: &mut [u8]) {
         emit_viewed_reply::<_, NlaView<'_>>(&self.header(), self.attribute_bytes(), buffer);
     }

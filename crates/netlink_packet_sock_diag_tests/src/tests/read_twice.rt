@@ -44,21 +44,15 @@ pub(crate) fn rewritten<T: ReadTwice>(
 
 impl ReadTwice for UnixResponse {
     fn read_again(alloc: Global, bytes: &[u8], _param: ()) -> Result<Self, DecodeError> {
-        Ok(
-            UnixResponseView::parse(bytes)?
-                .to_owned(alloc)?
-                .clone(alloc)?,
-        )
+        let view = UnixResponseView::parse(bytes)?;
+        Ok(view.to_owned(alloc)?.clone(alloc)?)
     }
 }
 
 impl ReadTwice for InetResponse {
     fn read_again(alloc: Global, bytes: &[u8], _param: ()) -> Result<Self, DecodeError> {
-        Ok(
-            InetResponseView::parse(bytes)?
-                .to_owned(alloc)?
-                .clone(alloc)?,
-        )
+        let view = InetResponseView::parse(bytes)?;
+        Ok(view.to_owned(alloc)?.clone(alloc)?)
     }
 }
 

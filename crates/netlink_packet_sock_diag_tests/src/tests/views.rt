@@ -58,7 +58,8 @@ fn a_unix_reply_in_place(rt: HostRuntime) -> Result<(), Fail> {
     let shown = format!(in alloc; "{:?}", view.to_owned(alloc))?;
     let parsed = UnixResponse::parse(alloc, reply.as_slice());
     shows(&rt, alloc, &parsed, &shown)?;
-    writes(&rt, alloc, &view, &parts)
+    writes(&rt, alloc, &view, &parts)?;
+    writes(&rt, alloc, &SockDiagView::parse(&reply, 20)?, &parts)
 }
 
 #[test]
@@ -66,7 +67,8 @@ fn an_inet_reply_in_place(rt: HostRuntime) -> Result<(), Fail> {
     let alloc = rt.alloc();
     let reply = bytes(alloc, &[INET, "090004006375626963000000", SHUTDOWN])?;
     let text = "InetResponse(InetResponseView { bytes: [2, 1, 2, 0, 235, 20, 1, 187, 192, ";
-    shows(&rt, alloc, &SockDiagView::parse(&reply, 20)?, text)?;
+    let message = SockDiagView::parse(&reply, 20)?;
+    shows(&rt, alloc, &message, text)?;
     let view = InetResponseView::parse(&reply)?;
     let answers = "Congestion(\"cubic\");Shutdown(0)";
     gives(&rt, alloc, view.attributes().clone()?, answers)?;
@@ -74,7 +76,8 @@ fn an_inet_reply_in_place(rt: HostRuntime) -> Result<(), Fail> {
     let parsed = InetResponse::parse(alloc, reply.as_slice());
     shows(&rt, alloc, &parsed, &shown)?;
     let parts = [INET, "0a0004006375626963000000", SHUTDOWN];
-    writes(&rt, alloc, &view, &parts)
+    writes(&rt, alloc, &view, &parts)?;
+    writes(&rt, alloc, &message, &parts)
 }
 
 /// The messages of a datagram, by their names. The odd one has 37 bytes. Digits are themselves.

@@ -1,0 +1,16 @@
+-- When what was read isn't written.
+use Rattle.std.proofs.Common.{◌≡◌, sym, subst}
+use Rattle.netlink_core.specs.declared.fault.DecodeError.{DecodeError}
+use Rattle.netlink_core.specs.declared.canon.CanonError.{CanonError}
+use Rattle.netlink_core.specs.declared.canon.CanonError.TheVariants.{Refused, Unwritable, Memory}
+use Rattle.netlink_core.specs.Canonical.{GivesUp}
+
+-- a value in hand that isn't written, where it is what a string is read as
+pub gives_up : {W V : Type 0} (seen : W → V) (reads : V → Type 0) (refuses : DecodeError → Type 0)
+    (fits : V → Type 0) (writable : W → Type 0) (w : W) → reads (seen w)
+    → ((x : W) → fits (seen x) → writable x) → (e : CanonError)
+    → GivesUp (λ x. x ≡ w) (λ _. ⊥) writable e → GivesUp reads refuses fits e
+gives_up seen reads refuses fits writable w r f (Refused e) h = absurd h.0
+gives_up seen reads refuses fits writable w r f Unwritable (x, same, not) =
+    (seen x, subst (λ (y : _). reads (seen y)) (sym same) r, λ fit. not (f x fit))
+gives_up seen reads refuses fits writable w r f Memory h = (seen w, r)
