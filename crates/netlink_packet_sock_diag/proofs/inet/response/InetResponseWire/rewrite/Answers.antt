@@ -7,7 +7,8 @@ use Rattle.netlink_packet_sock_diag.proofs.inet.response.InetResponseWire.rewrit
 
 pub returns-in-Ok-clause-written : goal.returns-in-Ok-clause-written
 returns-in-Ok-clause-written g c =
-    IfOk-weaker c.write_new.result _ _ (λ w (fits, written). (_, c.in-Ok.ensures.value, fits, written))
+    IfOk-weaker c.write_new.result _ _
+    (λ w (fits, written). (_, c.in-Ok.ensures.value, fits, written))
     c.write_new.ensures.written
 
 pub returns-in-Ok-clause-err : goal.returns-in-Ok-clause-err
