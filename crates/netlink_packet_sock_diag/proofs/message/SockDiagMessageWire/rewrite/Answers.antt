@@ -17,7 +17,7 @@ returns-in-Ok-clause-err g c =
     let param = c.args.param in
     IfErr-weaker c.write_new.result _ _
     (gives_up viewed_message (message_codec.reads bytes param) (message_codec.refuses bytes param)
-      message_codec.fits _ c.in-Ok.view c.in-Ok.ensures.value (λ _ h. h))
+    message_codec.fits _ c.in-Ok.view c.in-Ok.ensures.value (λ _ h. h))
     c.write_new.ensures.err
 
 pub returns-in-Err-clause-err : goal.returns-in-Err-clause-err

@@ -16,5 +16,5 @@ returns-in-Ok-clause-err g c =
     let codec = reply_codec unix_reply in
     IfErr-weaker c.write_new.result _ _
     (gives_up viewed_response (codec.reads c.args.bytes.now tt) (codec.refuses c.args.bytes.now tt)
-      codec.fits _ c.in-Ok.view c.in-Ok.ensures.value (λ _ h. h))
+    codec.fits _ c.in-Ok.view c.in-Ok.ensures.value (λ _ h. h))
     c.write_new.ensures.err
