@@ -15,7 +15,9 @@ use crate::inet::{InetResponseHeader, InetResponseView};
 use crate::reply::{
     copy_nlas, emit_reply, fitting_reply_len, nlas_typed, reply_len, without_memory,
 };
-use netlink_core::{CanonError, Coded, DecodeError, Emitable, Parseable, Readable, Wire, write_new};
+use netlink_core::{
+    CanonError, Coded, DecodeError, Emitable, Parseable, Readable, Wire, write_new,
+};
 use smallvec::SmallVec;
 use std::alloc::{AllocError, Global};
 

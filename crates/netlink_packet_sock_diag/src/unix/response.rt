@@ -15,7 +15,9 @@ use crate::reply::{
 };
 use crate::unix::nlas::Nla;
 use crate::unix::{UnixResponseHeader, UnixResponseView};
-use netlink_core::{CanonError, Coded, DecodeError, Emitable, Parseable, Readable, Wire, write_new};
+use netlink_core::{
+    CanonError, Coded, DecodeError, Emitable, Parseable, Readable, Wire, write_new,
+};
 use smallvec::SmallVec;
 use std::alloc::{AllocError, Global};
 

@@ -7,7 +7,8 @@ use Rattle.netlink_packet_sock_diag.proofs.inet.response.InetResponseWire.rewrit
 
 pub returns-in-Ok-clause-written : goal.returns-in-Ok-clause-written
 returns-in-Ok-clause-written g c =
-    IfOk-weaker c.write_new.result _ _ (λ w (fits, written). (_, c.in-Ok.ensures.value, fits, written))
+    IfOk-weaker c.write_new.result _ _
+    (λ w (fits, written). (_, c.in-Ok.ensures.value, fits, written))
     c.write_new.ensures.written
 
 pub returns-in-Ok-clause-err : goal.returns-in-Ok-clause-err
@@ -15,5 +16,5 @@ returns-in-Ok-clause-err g c =
     let codec = reply_codec inet_reply in
     IfErr-weaker c.write_new.result _ _
     (gives_up viewed_response (codec.reads c.args.bytes.now tt) (codec.refuses c.args.bytes.now tt)
-      codec.fits _ c.in-Ok.view c.in-Ok.ensures.value (λ _ h. h))
+    codec.fits _ c.in-Ok.view c.in-Ok.ensures.value (λ _ h. h))
     c.write_new.ensures.err
