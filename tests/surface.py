@@ -190,7 +190,7 @@ def main():
         LIST.write_text("\n".join(lines) + "\n", encoding="utf-8")
     listed = LIST.read_text(encoding="utf-8").splitlines()
     if lines != listed:
-        print(*difflib.unified_diff(listed, lines, "listed", "declared", n=0, lineterm=""), sep="\n")
+        print(*difflib.unified_diff(listed, lines, "list", "crates", n=0, lineterm=""), sep="\n")
         print("Where that is meant, run tests/surface.py --write.")
     return int(lines != listed)
 
