@@ -3,7 +3,9 @@
 
 From the Rattle source follow the header's structs, field by field in order, its prototypes and its
 numbers. Where there is a C compiler, `$CC` or `cc`, the header has to fit the calls in C too: what
-calls it is compiled, not linked. tests/c_face.sh links the library and runs it.
+calls it is compiled. Where the library takes seconds to build, since those below it are built here
+and its own proof is kept, tests/c_face.sh builds it and runs the calls. Each part that is left out
+is told.
 """
 
 import difflib
@@ -13,6 +15,10 @@ import shutil
 import subprocess
 import sys
 from pathlib import Path
+
+# Nothing is written beside the scripts.
+sys.dont_write_bytecode = True
+from edits import rt
 
 TOP = Path(__file__).resolve().parent.parent
 HEADER = TOP / "include" / "sockdiag.h"
@@ -105,21 +111,32 @@ def told():
     yield from (it.strip() for it in re.sub(known, "", text).split(";") if it.strip(" }"))
 
 
-def compile_callers():
-    """Compiles what calls the header from C, and links nothing."""
+def is_soon_built():
+    """Whether the library takes seconds to build here."""
+    crate = next(it for it in rt.rtlib.crates_below(str(TOP)) if it.name == "sockdiag_c")
+    return all(it.is_built() for it in crate.below()) and crate.has_kept()
+
+
+def call():
+    """Compiles the calls from C, and runs them where the library is soon built."""
     compiler = os.environ.get("CC", "cc")
     if not shutil.which(compiler):
-        print(f"no C compiler {compiler}: the calls from C are not compiled")
+        print(f"no C compiler {compiler}: the calls from C are neither compiled nor run")
         return 0
     words = [compiler, *"-std=c11 -Wall -Wextra -Wpedantic -Werror -fsyntax-only -Iinclude".split()]
-    return subprocess.run([*words, *CALLERS], cwd=TOP).returncode
+    status = subprocess.run([*words, *CALLERS], cwd=TOP).returncode
+    if status == 0 and not is_soon_built():
+        print("the calls from C are compiled and not run: tests/c_face.sh runs them")
+    elif status == 0:
+        status = subprocess.run([TOP / "tests" / "c_face.sh"]).returncode
+    return status
 
 
 def main():
     source, header = sorted(declared()), sorted(told())
     for line in difflib.unified_diff(header, source, "header", "source", n=0, lineterm=""):
         print(line)
-    return int(compile_callers() != 0 or source != header)
+    return int(source != header or call() != 0)
 
 
 if __name__ == "__main__":
