@@ -16,10 +16,6 @@ import subprocess
 import sys
 from pathlib import Path
 
-# Nothing is written beside the scripts.
-sys.dont_write_bytecode = True
-from edits import rt
-
 TOP = Path(__file__).resolve().parent.parent
 HEADER = TOP / "include" / "sockdiag.h"
 CALLERS = ["tests/c_face.c", "examples/list_sockets.c"]
@@ -113,6 +109,10 @@ def told():
 
 def is_soon_built():
     """Whether the library takes seconds to build here."""
+    # Nothing is written beside the scripts.
+    sys.dont_write_bytecode = True
+    from edits import rt
+
     crate = next(it for it in rt.rtlib.crates_below(str(TOP)) if it.name == "sockdiag_c")
     return all(it.is_built() for it in crate.below()) and crate.has_kept()
 
