@@ -1,7 +1,7 @@
 #!/bin/sh
 # Builds the static library of include/sockdiag.h, and calls it from C: tests/c_face.c checks each call by value, and
-# examples/list_sockets.c lists this machine's sockets where the kernel lets it ask. It stands outside the gate, which
-# runs no C, and needs the kit's rt and a C compiler.
+# examples/list_sockets.c lists this machine's sockets where the kernel lets it ask. It needs the kit's rt and a C
+# compiler. tools/release runs it, and tests/c_header.py, of the gate, where the library takes seconds to build.
 set -eu
 top=$(CDPATH='' cd -- "$(dirname -- "$0")/.." && pwd)
 work=$(mktemp -d)

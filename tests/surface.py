@@ -1,0 +1,199 @@
+#!/usr/bin/env python3
+"""Compares the public items of the port's crates with the list tests/surface.txt.
+
+    tests/surface.py             prints what differs, and fails, with status 1, where something does
+    tests/surface.py --write     writes the list anew
+
+A line is an item, its path first: where it is declared. Listed are functions, methods and what
+traits ask for, by their signatures without the clauses; types with their fields or variants and
+their attributes; impls with their associated types and constants, but those of private traits or
+for private types; constants with their numbers; public modules; each name of a `pub use`; macros
+and their calls outside of functions, whole; and each `cfg` with what it stands over.
+"""
+
+import difflib
+import re
+import sys
+from itertools import accumulate, islice
+from pathlib import Path
+
+CRATES = """netlink_core sock_diag_values sock_diag_records sock_diag_attributes
+    netlink_packet_sock_diag""".split()
+TOP = Path(__file__).resolve().parent.parent
+LIST = TOP / "tests" / "surface.txt"
+# Comments, texts, characters, words, blanks, and any other sign alone.
+TOKEN = r"""//[^\n]*|/\*.*?\*/|b?"(?:\\.|[^"\\])*"|b?'(?:\\[^']+|[^\\'\s])'|[\w']+|\s+|."""
+# What an item begins with: whether it is public, its kind, its name.
+ITEM = re.compile(
+    r"(pub(?:\([^)]*\))? )?(?:(?:async|unsafe|const(?= (?:unsafe )?fn\b)|extern \"\w+\") )*"
+    r"(mod|use|fn|struct|enum|union|trait|type|const|static|impl|ghost|extern|[\w:]+!)\s*(\w*)"
+)
+# The trait and the type of an impl, and the last name of such a path.
+IMPL = re.compile(r"(?:unsafe )?impl(?:<(?:[^<>]|<[^<>]*>)*>)? (?:(\S.*) for )?(.*)")
+NAME = re.compile(r"(?:&|'\w+ |mut )*(?:\w+::)*([^<]+)")
+# What stands before a brace that opens no body: a clause, or an item that ends with a semicolon.
+CLAUSE = r" (?:ghost|requires|ensures)\*?(?: \w+)?"
+PUB = r"(?:pub(?:\(.*?\))? )?"
+GOES_ON = re.compile(rf"{CLAUSE}$|^{PUB}(?:use|type|static|ghost|const(?! (?:unsafe )?fn\b))\b")
+DECLARED = re.compile(r"^\s*(pub )?(?:pub\(.*?\) )?(?:trait|struct|enum|union) (\w+)", re.M)
+# A macro cfg, or an attribute cfg and what it stands over.
+OVER = rf"(?: ?#\[.*?\])* (?:{PUB}use [^;]*|[^{{;,=]*)"
+CFG = re.compile(rf"\bcfg!\([^{{;]*|#!?\[cfg(?:_attr)?\b.*?\]{OVER}")
+# Attributes that change nothing for a caller, or are listed in another way.
+QUIET = re.compile(r"#!?\[(?:tactic|inline|cold|doc|allow|expect|cfg|derive)\b.*")
+
+
+def tokens_of(path):
+    """The tokens of a file. A comment, as a run of blanks, is one blank."""
+    found = re.findall(TOKEN, path.read_text(encoding="utf-8"), re.S)
+    return [" " if it.isspace() or it.startswith(("//", "/*")) else it for it in found]
+
+
+def text_of(tokens):
+    """The tokens on one line, written alike wherever lines break."""
+    text = re.sub(r"([(\[<]) ", r"\1", " ".join("".join(tokens).split()))
+    return re.sub(r",? ([)\]>])", r"\1", text.replace(", }", " }")).rstrip(",")
+
+
+def closing(tokens, at):
+    """The place of the bracket that closes the one at that place."""
+    signs = ((it in set("([{")) - (it in set(")]}")) for it in islice(tokens, at, None))
+    return at + next(place for place, depth in enumerate(accumulate(signs)) if depth == 0)
+
+
+def without_attributes(tokens):
+    """The attributes in front, as texts, and the tokens behind them."""
+    attributes, at = [], 0
+    while at < len(tokens) and tokens[at] in " #":
+        if tokens[at] == "#":
+            end = closing(tokens, tokens.index("[", at))
+            attributes.append(text_of(tokens[at : end + 1]))
+            at = end
+        at += 1
+    return attributes, tokens[at:]
+
+
+def items(tokens):
+    """Of each item its attributes, its tokens up to its body, and those in its body, or None."""
+    start = at = 0
+    while at < len(tokens):
+        end = closing(tokens, at) if tokens[at] in set("([{") else at
+        if tokens[at] in set(";{"):
+            attributes, head = without_attributes(tokens[start:at])
+            if end == at or not GOES_ON.search(text_of(head)):
+                yield attributes, head, tokens[at + 1 : end] if end > at else None
+                start = end + 1
+        at = end + 1
+
+
+def parts(tokens):
+    """The attributes and the tokens of what commas outside of brackets set apart."""
+    start = at = depth = 0
+    while at <= len(tokens):
+        sign = tokens[at] if at < len(tokens) else ","
+        depth += (sign == "<") - (sign == ">" and tokens[at - 1] not in "-=")
+        if sign in set("([{"):
+            at = closing(tokens, at)
+        elif sign == "," and (depth == 0 or at == len(tokens)):
+            if text_of(tokens[start:at]):
+                yield without_attributes(tokens[start:at])
+            start = at + 1
+        at += 1
+
+
+def names_of_use(tokens, before=""):
+    """Of each name that a use gives the name, and the path that it stands for."""
+    head = before + text_of(tokens).partition("{")[0].strip()
+    if "{" not in tokens:
+        path, _, name = head.removesuffix("::self").partition(" as ")
+        yield name or path.rpartition("::")[2], path
+    else:
+        for _, part in parts(tokens[tokens.index("{") + 1 : closing(tokens, tokens.index("{"))]):
+            yield from names_of_use(part, head)
+
+
+class Surface:
+    """The lines of a crate."""
+
+    def __init__(self, crate):
+        folder, self.lines = TOP / "crates" / crate / "src", []
+        texts = [path.read_text(encoding="utf-8") for path in folder.rglob("*.rt")]
+        declared = {found for text in texts for found in DECLARED.findall(text)}
+        self.private = {name for public, name in declared if ("pub ", name) not in declared}
+        self.read(tokens_of(folder / "lib.rt"), folder, crate)
+
+    def read(self, tokens, folder, module):
+        self.lines += [f"{module}: {cfg}" for cfg in CFG.findall(text_of(tokens))]
+        for attributes, head, body in items(tokens):
+            text = text_of(head)
+            found = ITEM.match(text) or sys.exit(f"{module}: what is {text[:80]}?")
+            public, kind, path = found[1] == "pub ", found[2], f"{module}::{found[3]}"
+            if kind == "mod":
+                self.lines += [f"{path}: pub mod"] * public
+                inner, file = folder / found[3], folder / f"{found[3]}.rt"
+                file = file if file.exists() else inner / "mod.rt"
+                self.read(tokens_of(file) if body is None else body, inner, path)
+            elif kind == "impl":
+                self.read_impl(module, text, body)
+            elif kind == "use" and public:
+                names = names_of_use(head[head.index("use") + 1 :])
+                self.lines += [f"{module}::{name}: pub use {whole}" for name, whole in names]
+            elif kind == "extern" or kind.endswith("!"):
+                self.lines.append(f"{module}: {text} {text_of(body or [])}".rstrip())
+            elif public:
+                self.read_public(path, kind, attributes, text, body or [])
+
+    def read_public(self, path, kind, attributes, text, body=()):
+        """An item that is public itself, or one of a public trait."""
+        told = {re.split(rf"{CLAUSE} {{", text)[0]}
+        for it in attributes:
+            derived = re.findall(r"[\w:]+", it.partition("derive(")[2])
+            told |= {f"derives {name}" for name in derived} | {it} - set(QUIET.findall(it))
+        inner = [" ".join([text_of(it), *of]) for of, it in parts(body) if kind != "trait"]
+        if kind == "enum":
+            self.lines += [f"{path}::{it}" for it in inner]
+        elif kind in ("struct", "union"):
+            self.lines += [f"{path}.{it[4:]}" for it in inner if it.startswith("pub ")]
+            told |= {"has private fields" for it in inner if not it.startswith(("pub ", "ghost "))}
+        elif kind == "trait":
+            for of, head, given in items(body):
+                text = text_of(head)
+                asked, name = ITEM.match(text).group(2, 3)
+                if asked == "ghost":
+                    given, text = re.search(r"\} = \{|^ghost \w+ = ", text), "ghost"
+                if name != "use":
+                    text = f"provided {text}" if given is not None else text
+                    self.read_public(f"{path}::{name}", asked, of, text)
+        self.lines += [f"{path}: {it}" for it in told]
+
+    def read_impl(self, module, head, body):
+        """A trait's impl with its types and constants, or the public members of a type."""
+        of, over = IMPL.match(head).groups()
+        name, trait = NAME.match(over)[1], NAME.match(of or "-")[1]
+        if {name, trait} & self.private:
+            return
+        path = f"{module}::{name}"
+        self.lines += [f"{path}: {head}"] * bool(of)
+        for attributes, inner, _ in items(body):
+            text = text_of(inner)
+            public, kind, member = ITEM.match(text).groups()
+            if of and kind in ("type", "const"):
+                self.lines.append(f"{path}: {head}: {text}")
+            elif public == "pub " and not of:
+                text = re.split(rf"{CLAUSE} {{", text)[0] + f" in {head}" * (": " in head)
+                self.read_public(f"{path}::{member}", kind, attributes, text)
+
+
+def main():
+    lines = sorted(line for crate in CRATES for line in Surface(crate).lines)
+    if "--write" in sys.argv[1:]:
+        LIST.write_text("\n".join(lines) + "\n", encoding="utf-8")
+    listed = LIST.read_text(encoding="utf-8").splitlines()
+    if lines != listed:
+        print(*difflib.unified_diff(listed, lines, "list", "crates", n=0, lineterm=""), sep="\n")
+        print("Where that is meant, run tests/surface.py --write.")
+    return int(lines != listed)
+
+
+if __name__ == "__main__":
+    sys.exit(main())
