@@ -25,6 +25,7 @@ ROOT = Path(__file__).resolve().parent.parent / "crates"
 MOST = 1100
 # Ghost members that say something: their types and their bodies are read.
 MEANING = set("""codec seen type_written bytes writable held TAKES_MEMORY attribute format Tag Value view inverse is_clone
+    is_made_with
     is_infallible from_gives bitor_gives next_gives remaining table set_of family viewed contents answer left reads failed""".split())
 # Ghost members that are laws: the type that a trait declares is read, and their bodies are proofs. `eq` and `tests` are
 # among them: what `==` answers is computed there, and said in the words of contracts by `eq_is_seen` and in laws.rt.

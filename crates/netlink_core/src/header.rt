@@ -1,7 +1,7 @@
 //! The header of a netlink message.
 
 ghost use Rattle.std.specs.Prelude.{◌≡◌, ◌≤◌, ◌++◌, length, drop, MatchResult};
-ghost use Rattle.netlink_core.specs.Header.{HasHeader, IsEnvelopeFault, header_bytes};
+ghost use Rattle.netlink_core.specs.Header.{HasHeader, IsEnvelopeFault, IsTypedHeader, header_bytes};
 
 use crate::fault::DecodeError;
 use byteorder::{ByteOrder, LittleEndian};
@@ -54,6 +54,19 @@ impl NetlinkHeader {
             sequence_number: LittleEndian::read_u32(&bytes[8..]),
             port_number: LittleEndian::read_u32(&bytes[12..]),
         })
+    }
+
+    /// Tells the prover that its numbers are within their types. It does nothing.
+    pub fn typed(&self)
+        ensures { IsTypedHeader self.now }
+    {
+        let NetlinkHeader {
+            length: _length,
+            message_type: _message_type,
+            flags: _flags,
+            sequence_number: _sequence_number,
+            port_number: _port_number,
+        } = *self;
     }
 
     // Writes the five fields at the front of the buffer, and leaves the rest.

@@ -1,6 +1,6 @@
 //! Laws of the framing of attributes and of messages. The functions do nothing: their contracts are the laws.
 
-ghost use Rattle.std.specs.Prelude.{◌≡◌, ◌↔◌, ◌⊎◌, ◌<◌, ◌++◌, ℕ, List, [], map, Option, Some, None, Result, Ok, Err, IsTrue, IfOk, IsOk};
+ghost use Rattle.std.specs.Prelude.{◌≡◌, ◌↔◌, ◌⊎◌, ◌<◌, ◌++◌, ℕ, List, [], map, Option, Some, None, Result, Ok, Err, IsTrue, IfOk, IsOk, true, false};
 ghost use Rattle.std.specs.Borrow.{Bor};
 ghost use Rattle.std.specs.Iterator.{Drains, YieldsThen};
 ghost use Rattle.std.specs.List.{AllByRecursion, flat_map};
@@ -22,11 +22,13 @@ ghost use Rattle.netlink_core.specs.Envelope.{Payload, Envelope, finalized, enve
 
 use crate::attribute::{NlaBuffer, NlasIterator};
 use crate::canon::CanonError;
+use crate::codec::Readable;
 use crate::datagram::MessageStrings;
 use crate::exact::Exact;
 use crate::fault::DecodeError as Fault;
 use crate::header::NetlinkHeader;
 use crate::message::{NetlinkMessage, NetlinkPayload};
+use crate::nla::DefaultNla;
 use crate::record::Record;
 use crate::wire::Coded;
 use crate::{NLM_F_DUMP, NLM_F_REQUEST, NLMSG_DONE, NLMSG_ERROR, NLMSG_NOOP, NLMSG_OVERRUN};
@@ -55,6 +57,20 @@ pub fn read_where_it_stands<T: Record>()
     ensures { (bytes : List ℕ) (told : T.Told) (value : T) → IsBytes bytes
         → (read T.format told bytes ≡ Ok value) ↔ StandsIn T.format bytes told value }
 {}
+
+/// Whether reading a record takes memory: of none it does.
+pub fn records_take_memory<T: Record>() -> bool
+    ensures { result ≡ false }
+{
+    T::TAKES_MEMORY
+}
+
+/// Whether reading an attribute of any kind takes memory: it does.
+pub fn attributes_take_memory() -> bool
+    ensures { result ≡ true }
+{
+    DefaultNla::TAKES_MEMORY
+}
 
 /// A walk that ends without a fault gave the attributes into which the bytes are cut, and one that ends with a fault
 /// those that stand in front of it.

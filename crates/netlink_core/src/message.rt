@@ -186,6 +186,19 @@ impl<I> NetlinkMessage<I> {
     }
 }
 
+impl<I: Coded<Param = u16>> NetlinkMessage<I> {
+    /// Tells the prover that its numbers are within their types, so that the laws of messages hold of it. It does
+    /// nothing.
+    pub fn typed(&self)
+        ensures { (envelope_codec I.codec).is_typed (envelope_of I.seen self.now) }
+    {
+        self.header.typed();
+        if let NetlinkPayload::InnerMessage(message) = &self.payload {
+            message.typed();
+        }
+    }
+}
+
 impl<I: NetlinkDeserializable> NetlinkMessage<I> {
     /// Reads the message at the front of the bytes. What follows its length is unread.
     ///

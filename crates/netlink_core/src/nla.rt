@@ -1,6 +1,6 @@
 //! Attributes that are written, and the attribute of any kind.
 
-ghost use Rattle.std.specs.Prelude.{◌≡◌, ◌≤◌, ◌<◌, ◌↔◌, replicate, ◌++◌, length, drop, [], map, true, refl, IsTrue, IfOk, SomeIff};
+ghost use Rattle.std.specs.Prelude.{◌≡◌, ◌≤◌, ◌<◌, ◌↔◌, replicate, ◌++◌, length, drop, [], map, true, refl, IsTrue, IsOk, IfOk, SomeIff};
 ghost use Rattle.std.specs.List.{flat_map};
 ghost use Rattle.std.proofs.Common.{rules};
 ghost use Rattle.netlink_core.specs.Attribute.{Attribute, HasFittingValue, AreWritable, written};
@@ -169,7 +169,7 @@ impl DefaultNla {
     {
         Ok(DefaultNla {
             kind: nla.type_word(),
-            value: Vec::from_slice(alloc, nla.value())?,
+            value: copy_bytes(alloc, nla.value())?,
         })
     }
 
@@ -187,15 +187,27 @@ impl DefaultNla {
         self.value.as_slice()
     }
 
-    /// An equal attribute. It fails only for want of memory.
+    /// An equal attribute. It fails only for want of memory, which only a value that has bytes needs.
     pub fn clone(&self, alloc: Global) -> Result<Self, AllocError>
-        ensures { IfOk result (λ copy. kept_attribute copy ≡ kept_attribute self.now) }
+        ensures equal { IfOk result (λ copy. kept_attribute copy ≡ kept_attribute self.now) }
+        ensures spare { (kept_attribute self.now).value ≡ [] → IsOk result }
     {
         Ok(DefaultNla {
             kind: self.kind,
-            value: Vec::from_slice(alloc, &self.value)?,
+            value: copy_bytes(alloc, &self.value)?,
         })
     }
+}
+
+// The bytes with memory of their own, which no bytes need.
+fn copy_bytes(alloc: Global, bytes: &[u8]) -> Result<Vec<u8>, AllocError>
+    ensures equal { IfOk result (λ copy. copy.items ≡ bytes.now) }
+    ensures spare { bytes.now ≡ [] → IsOk result }
+{
+    if bytes.is_empty() {
+        return Ok(Vec::new(alloc));
+    }
+    Vec::from_slice(alloc, bytes)
 }
 
 impl Readable for DefaultNla {

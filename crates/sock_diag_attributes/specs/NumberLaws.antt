@@ -89,6 +89,14 @@ pub length_numbers : (u : List ℕ) → length (bytes_of_numbers u) ≡ 4 * leng
 length_numbers [] = refl
 length_numbers (n ∷ u) = omega (arith, length_numbers u)
 
+-- no bytes are those of no numbers
+pub no_numbers : (u : List ℕ) → bytes_of_numbers u ≡ [] → u ≡ []
+no_numbers [] none = refl
+no_numbers (n ∷ u) none =
+    let long : length (bytes_of_numbers (n ∷ u)) ≡ 4 * length (n ∷ u) = length_numbers (n ∷ u) in
+    let short : length (bytes_of_numbers (n ∷ u)) ≡ 0 = ap length none in
+    absurd (omega arith)
+
 -- the numbers in the bytes of numbers
 back : (u : List ℕ) → AllByRecursion (λ n. n < 2 ^ 32) u → numbers_in (bytes_of_numbers u) ≡ u
 back [] fit = refl

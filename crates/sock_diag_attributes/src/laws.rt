@@ -1,15 +1,28 @@
 //! Laws of attributes that are read in place.
 
-ghost use Rattle.std.specs.Prelude.{◌≡◌, ◌↔◌, IsTrue, IsOk, IfOk};
+ghost use Rattle.std.specs.Prelude.{◌≡◌, ◌↔◌, IsTrue, IsOk, IfOk, true};
 ghost use Rattle.sock_diag_attributes.specs.SeenName.{viewed_name};
 ghost use Rattle.sock_diag_attributes.specs.SeenNumbers.{viewed_numbers, numbers_left};
 ghost use Rattle.sock_diag_attributes.specs.SeenInet.{viewed_nla as viewed_inet};
 ghost use Rattle.sock_diag_attributes.specs.SeenUnix.{viewed_nla as viewed_unix};
 
-use crate::inet::nlas::NlaView as InetNlaView;
-use crate::numbers::NumbersIterator;
-use crate::unix::nlas::{NameView, NlaView as UnixNlaView, NumbersView};
+use crate::inet::nlas::{Nla as InetNla, NlaView as InetNlaView};
+use crate::unix::nlas::{
+    NameView, Nla as UnixNla, NlaView as UnixNlaView, NumbersIterator, NumbersView, UnixDiagName,
+};
+use netlink_core::Readable;
 use std::alloc::AllocError;
+
+/// Whether reading an attribute or a name takes memory: of both families and of a name it does.
+pub fn readers_take_memory() -> (bool, bool, bool)
+    ensures { result ≡ (true, true, true) }
+{
+    (
+        UnixNla::TAKES_MEMORY,
+        InetNla::TAKES_MEMORY,
+        UnixDiagName::TAKES_MEMORY,
+    )
+}
 
 /// `==` says whether two names in place are the same name.
 #[tactic(auto, using(crate::specs::EqualUnixLaws::name_views_equal))]

@@ -1,7 +1,7 @@
 //! Numbers that fill the value of an attribute.
 
 ghost use Rattle.std.specs.List.{AllByRecursion};
-ghost use Rattle.std.specs.Prelude.{◌≡◌, ◌<◌, ◌^◌, ◌≤◌, ◌↔◌, ◌++◌, ◌%◌, [], length, drop, slice_get, IsTrue, IfOk, IfSome, MatchResult, Ok, Err, Some};
+ghost use Rattle.std.specs.Prelude.{◌≡◌, ◌<◌, ◌^◌, ◌≤◌, ◌↔◌, ◌++◌, ◌%◌, [], length, drop, slice_get, IsTrue, IsOk, IfOk, IfSome, MatchResult, Ok, Err, Some};
 ghost use Rattle.std.specs.Iterator.{UpTo, YieldsFirst, item_count};
 ghost use Rattle.std.specs.Iterator.SizeHint.{IsWithinCount};
 ghost use Rattle.netlink_core.specs.Bytes.{IsBytes};
@@ -118,10 +118,14 @@ impl<'a> NumbersView<'a> {
         self.bytes
     }
 
-    /// The numbers in a list. It fails only for want of memory.
+    /// The numbers in a list. It fails only for want of memory, which no numbers need.
     pub fn to_owned(&self, alloc: Global) -> Result<Vec<u32>, AllocError>
-        ensures { IfOk result (λ numbers. numbers.items ≡ viewed_numbers self.now) }
+        ensures equal { IfOk result (λ numbers. numbers.items ≡ viewed_numbers self.now) }
+        ensures spare { viewed_numbers self.now ≡ [] → IsOk result }
     {
+        if self.is_empty() {
+            return Ok(Vec::new(alloc));
+        }
         let mut numbers = vec![in alloc; 0; self.bytes.len() / 4]?;
         LittleEndian::read_u32_into(self.bytes, &mut numbers);
         Ok(numbers)
@@ -178,6 +182,17 @@ pub(crate) fn emit_numbers(numbers: &[u32], buffer: &mut [u8])
     ensures { buffer.new ≡ bytes_of_numbers numbers.now ++ drop (length (bytes_of_numbers numbers.now)) buffer.old }
 {
     LittleEndian::write_u32_into(numbers, &mut buffer[..4 * numbers.len()]);
+}
+
+/// The list with memory of its own, which an empty one doesn't need.
+pub(crate) fn copy_list<T: Copy>(alloc: Global, items: &[T]) -> Result<Vec<T>, AllocError>
+    ensures equal { IfOk result (λ copy. copy.items ≡ items.now) }
+    ensures spare { items.now ≡ [] → IsOk result }
+{
+    if items.is_empty() {
+        return Ok(Vec::new(alloc));
+    }
+    Vec::from_slice(alloc, items)
 }
 
 /// Tells the prover that a byte is below 256. It does nothing.

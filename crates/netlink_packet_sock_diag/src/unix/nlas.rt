@@ -2,5 +2,6 @@
 
 pub use crate::unix::view::NlaViews;
 pub use sock_diag_attributes::unix::nlas::{
-    MemInfo, MemInfoBuffer, NameView, Nla, NlaView, NumbersView, UnixDiagName, Vfs, VfsBuffer,
+    MemInfo, MemInfoBuffer, NameView, Nla, NlaView, NumbersIterator, NumbersView, UnixDiagName,
+    Vfs, VfsBuffer,
 };

@@ -1,12 +1,12 @@
 //! The attributes of a reply about an IPv4 or IPv6 socket, and what they carry.
 
-ghost use Rattle.std.specs.Prelude.{◌≡◌, Ok, Err, IsOk, IfOk, MatchResult, true};
+ghost use Rattle.std.specs.Prelude.{◌≡◌, [], Ok, Err, IsOk, IfOk, MatchResult, true};
 ghost use Rattle.netlink_core.specs.Attribute.{HasFittingValue, written};
 ghost use Rattle.netlink_core.specs.Family.{says, attribute_said, IsSpareSaid, IsTypedSaid};
 ghost use Rattle.netlink_core.specs.Walk.{attribute_of};
 ghost use Rattle.sock_diag_attributes.specs.ValueSteps.{value_bytes, IsTypedValue};
 
-use crate::numbers::{exact_flag, exact_u8, exact_u32};
+use crate::numbers::{copy_list, exact_flag, exact_u8, exact_u32};
 use crate::text::read_text;
 use crate::value::Value;
 use netlink_core::{
@@ -53,6 +53,11 @@ pub enum Nla {
 // What stands in the places of a small vector that are not used. It takes no memory, and all of it is zeros, as memory
 // is before: so to fill the places costs nothing.
 impl MadeWith<Global> for Nla {
+    ghost use Rattle.sock_diag_attributes.specs.InetAttributes.{inet};
+    ghost use Rattle.sock_diag_attributes.specs.SeenInet.{seen_nla};
+
+    ghost is_made_with = { λ nla. IsSpareSaid inet (seen_nla nla) };
+
     #[inline(always)]
     fn made_with(_alloc: Global) -> Self {
         Nla::LegacyMemInfo(LegacyMemInfo {
@@ -68,11 +73,12 @@ impl Nla {
     ghost use Rattle.sock_diag_attributes.specs.InetAttributes.{inet};
     ghost use Rattle.sock_diag_attributes.specs.SeenInet.{seen_nla};
 
-    /// An equal attribute. It fails only for want of memory, which only a text and an attribute of another
-    /// kind need.
+    /// An equal attribute. It fails only for want of memory, which only a text, and an attribute of another
+    /// kind that has bytes, need.
     pub fn clone(&self, alloc: Global) -> Result<Self, AllocError>
         ensures equal { IfOk result (λ copy. seen_nla copy ≡ seen_nla self.now) }
         ensures spare { IsSpareSaid inet (seen_nla self.now) → IsOk result }
+        ensures empty { (attribute_said inet (seen_nla self.now)).value ≡ [] → IsOk result }
     {
         Ok(match self {
             Nla::LegacyMemInfo(info) => Nla::LegacyMemInfo(info.clone()?),
@@ -196,6 +202,7 @@ impl<'a> NlaView<'a> {
     pub fn to_owned(&self, alloc: Global) -> Result<Nla, AllocError>
         ensures equal { IfOk result (λ nla. seen_nla nla ≡ viewed_nla self.now) }
         ensures spare { IsSpareSaid inet (viewed_nla self.now) → IsOk result }
+        ensures empty { (attribute_said inet (viewed_nla self.now)).value ≡ [] → IsOk result }
     {
         Ok(match self {
             NlaView::LegacyMemInfo(info) => Nla::LegacyMemInfo(info.clone()?),
@@ -210,7 +217,7 @@ impl<'a> NlaView<'a> {
             NlaView::Mark(mark) => Nla::Mark(*mark),
             NlaView::ClassId(class) => Nla::ClassId(*class),
             NlaView::Other { type_word, value } => {
-                Nla::Other(DefaultNla::new(*type_word, Vec::from_slice(alloc, value)?))
+                Nla::Other(DefaultNla::new(*type_word, copy_list(alloc, value)?))
             }
         })
     }

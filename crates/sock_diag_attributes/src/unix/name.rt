@@ -5,6 +5,7 @@ ghost use Rattle.std.specs.Prelude.{◌≡◌, ◌<◌, ◌≤◌, ◌++◌, len
 ghost use Rattle.sock_diag_attributes.specs.Name.{IsTypedName, read_name, name_bytes, name_codec};
 ghost use Rattle.sock_diag_attributes.specs.NameLaws.{HasNoZero, name_keeps_laws};
 
+use crate::numbers::copy_list;
 use netlink_core::{Coded, DecodeError, Emitable, Parseable, Readable, Wire, bytes_typed};
 use std::alloc::{AllocError, Global};
 
@@ -22,16 +23,12 @@ pub enum UnixDiagName {
 impl UnixDiagName {
     ghost use Rattle.sock_diag_attributes.specs.SeenName.{seen_name, viewed_name};
 
-    /// An equal name. It fails only for want of memory.
+    /// An equal name. It fails only for want of memory, which a name of one byte doesn't need.
     pub fn clone(&self, alloc: Global) -> Result<Self, AllocError>
-        ensures { IfOk result (λ name. seen_name name ≡ seen_name self.now) }
+        ensures equal { IfOk result (λ name. seen_name name ≡ seen_name self.now) }
+        ensures spare { length (name_bytes (seen_name self.now)) ≤ 1 → IsOk result }
     {
-        Ok(match self {
-            UnixDiagName::Pathname(path) => UnixDiagName::Pathname(Vec::from_slice(alloc, path)?),
-            UnixDiagName::Abstract(address) => {
-                UnixDiagName::Abstract(Vec::from_slice(alloc, address)?)
-            }
-        })
+        self.view().to_owned(alloc)
     }
 
     // The same name, its bytes borrowed.
@@ -133,13 +130,14 @@ impl<'a> NameView<'a> {
         }
     }
 
-    /// The name with bytes of its own. It fails only for want of memory.
+    /// The name with bytes of its own. It fails only for want of memory, which a name of one byte doesn't need.
     pub fn to_owned(&self, alloc: Global) -> Result<UnixDiagName, AllocError>
-        ensures { IfOk result (λ name. seen_name name ≡ viewed_name self.now) }
+        ensures equal { IfOk result (λ name. seen_name name ≡ viewed_name self.now) }
+        ensures spare { length (name_bytes (viewed_name self.now)) ≤ 1 → IsOk result }
     {
         Ok(match self {
-            NameView::Pathname(path) => UnixDiagName::Pathname(Vec::from_slice(alloc, path)?),
-            NameView::Abstract(address) => UnixDiagName::Abstract(Vec::from_slice(alloc, address)?),
+            NameView::Pathname(path) => UnixDiagName::Pathname(copy_list(alloc, path)?),
+            NameView::Abstract(address) => UnixDiagName::Abstract(copy_list(alloc, address)?),
         })
     }
 }

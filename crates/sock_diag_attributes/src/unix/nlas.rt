@@ -1,13 +1,13 @@
 //! The attributes of a reply about a UNIX socket, and what they carry.
 
-ghost use Rattle.std.specs.Prelude.{◌≡◌, Ok, Err, IsOk, IfOk, MatchResult, true};
+ghost use Rattle.std.specs.Prelude.{◌≡◌, [], Ok, Err, IsOk, IfOk, MatchResult, true};
 ghost use Rattle.netlink_core.specs.Attribute.{HasFittingValue, written};
 ghost use Rattle.netlink_core.specs.Family.{says, attribute_said, IsSpareSaid, IsTypedSaid};
 ghost use Rattle.netlink_core.specs.Walk.{attribute_of};
 ghost use Rattle.sock_diag_attributes.specs.ValueSteps.{value_bytes, IsTypedValue};
 
-pub use crate::numbers::NumbersView;
-use crate::numbers::{exact_u8, exact_u32, exact_u32_pair};
+pub use crate::numbers::{NumbersIterator, NumbersView};
+use crate::numbers::{copy_list, exact_u8, exact_u32, exact_u32_pair};
 pub use crate::unix::name::{NameView, UnixDiagName};
 use crate::value::Value;
 use netlink_core::{
@@ -45,6 +45,11 @@ pub enum Nla {
 
 // What stands in the places of a small vector that are not used. It takes no memory.
 impl MadeWith<Global> for Nla {
+    ghost use Rattle.sock_diag_attributes.specs.UnixAttributes.{unix};
+    ghost use Rattle.sock_diag_attributes.specs.SeenUnix.{seen_nla};
+
+    ghost is_made_with = { λ nla. IsSpareSaid unix (seen_nla nla) };
+
     fn made_with(_alloc: Global) -> Self {
         Nla::Peer(0)
     }
@@ -54,18 +59,20 @@ impl Nla {
     ghost use Rattle.sock_diag_attributes.specs.UnixAttributes.{unix};
     ghost use Rattle.sock_diag_attributes.specs.SeenUnix.{seen_nla};
 
-    /// An equal attribute. It fails only for want of memory, which only a name, a list and an attribute of another
-    /// kind need.
+    /// An equal attribute. It fails only for want of memory, which only a name, and a list and an attribute of another
+    /// kind that aren't empty, need.
+    #[tactic(auto, using(crate::specs::NumberLaws::no_numbers))]
     pub fn clone(&self, alloc: Global) -> Result<Self, AllocError>
         ensures equal { IfOk result (λ copy. seen_nla copy ≡ seen_nla self.now) }
         ensures spare { IsSpareSaid unix (seen_nla self.now) → IsOk result }
+        ensures empty { (attribute_said unix (seen_nla self.now)).value ≡ [] → IsOk result }
     {
         Ok(match self {
             Nla::Name(name) => Nla::Name(name.clone(alloc)?),
             Nla::Vfs(vfs) => Nla::Vfs(vfs.clone()?),
             Nla::Peer(inode) => Nla::Peer(*inode),
             Nla::PendingConnections(inodes) => {
-                Nla::PendingConnections(Vec::from_slice(alloc, inodes)?)
+                Nla::PendingConnections(copy_list(alloc, inodes)?)
             }
             Nla::ReceiveQueueLength(first, second) => Nla::ReceiveQueueLength(*first, *second),
             Nla::MemInfo(info) => Nla::MemInfo(*info),
@@ -169,9 +176,11 @@ impl<'a> NlaView<'a> {
     }
 
     /// The attribute with a name, numbers and bytes of its own. It fails only for want of memory.
+    #[tactic(auto, using(crate::specs::NumberLaws::no_numbers))]
     pub fn to_owned(&self, alloc: Global) -> Result<Nla, AllocError>
         ensures equal { IfOk result (λ nla. seen_nla nla ≡ viewed_nla self.now) }
         ensures spare { IsSpareSaid unix (viewed_nla self.now) → IsOk result }
+        ensures empty { (attribute_said unix (viewed_nla self.now)).value ≡ [] → IsOk result }
     {
         Ok(match self {
             NlaView::Name(name) => Nla::Name(name.to_owned(alloc)?),
@@ -182,7 +191,7 @@ impl<'a> NlaView<'a> {
             NlaView::MemInfo(info) => Nla::MemInfo(*info),
             NlaView::Shutdown(state) => Nla::Shutdown(*state),
             NlaView::Other { type_word, value } => {
-                Nla::Other(DefaultNla::new(*type_word, Vec::from_slice(alloc, value)?))
+                Nla::Other(DefaultNla::new(*type_word, copy_list(alloc, value)?))
             }
         })
     }

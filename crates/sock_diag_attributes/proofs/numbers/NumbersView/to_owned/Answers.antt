@@ -3,8 +3,8 @@ use Rattle.std.proofs.lemmas.List.{take_at}
 use Rattle.sock_diag_attributes.specs.NumberLaws.{places}
 use Rattle.sock_diag_attributes.proofs.numbers.NumbersView.to_owned.Goals as goal
 
-pub returns : goal.returns
-returns c =
+pub returns-clause-equal : goal.returns-clause-equal
+returns-clause-equal c =
     let numbers = c.read_u32_into.new.dst in
     let long : length numbers ≡ c.in_ok-numbers.numbers.len = c.read_u32_into.auto.dst ∙ c.deref_mut.ensures.len in
     let count = c.in_ok-numbers.ensures.len in
