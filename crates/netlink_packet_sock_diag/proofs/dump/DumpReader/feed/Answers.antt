@@ -11,10 +11,21 @@ pub invariant_of-self : goal.invariant_of-self
 invariant_of-self c =
     let reader = c.args.self.now in
     let read : reader.state ≡ Reading = first_of (search rules, grind (arith, common_steps)) in
-    record { fed = fed_on message_codec (map seen_message reader.messages.items) (map seen_message c.take_messages.new.messages.items) reader.state c.in-Ok.state c.args.datagram.now (Ok tt) reader.fed (read, c.in-Ok.ensures.state) }
+    let before = map seen_message reader.messages.items in
+    let after = map seen_message c.take_messages.new.messages.items in
+    record {
+      fed = fed_on message_codec before after reader.state c.in-Ok.state c.args.datagram.now (Ok tt)
+          reader.fed (read, c.in-Ok.ensures.state);
+    }
 
 pub invariant_of-self-in-Err : goal.invariant_of-self-in-Err
 invariant_of-self-in-Err c =
     let reader = c.args.self.now in
     let read : reader.state ≡ Reading = first_of (search rules, grind (arith, common_steps)) in
-    record { fed = fed_on message_codec (map seen_message reader.messages.items) (map seen_message c.take_messages.new.messages.items) reader.state Failed c.args.datagram.now (Err (Fault c.in-Err.fault)) reader.fed (read, refl, c.in-Err.ensures.fault, c.in-Err.ensures.memory) }
+    let before = map seen_message reader.messages.items in
+    let after = map seen_message c.take_messages.new.messages.items in
+    record {
+      fed = fed_on message_codec before after reader.state Failed c.args.datagram.now
+          (Err (Fault c.in-Err.fault)) reader.fed
+          (read, refl, c.in-Err.ensures.fault, c.in-Err.ensures.memory);
+    }
