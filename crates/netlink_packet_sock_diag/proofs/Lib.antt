@@ -9,5 +9,6 @@ pub mod FirstViews
 mod Emitting
 pub mod Dumping
 pub mod DumpRows
+pub mod Feeding
 pub mod WholeViews
 mod Elements

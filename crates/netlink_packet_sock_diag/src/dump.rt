@@ -1,9 +1,15 @@
 //! Dumps: the messages of several datagrams, up to the one that ends them.
 
-ghost use Rattle.std.specs.Prelude.{◌≡◌, ◌≢◌, [], map, Ok as ok, Err as err, IfOk, IfErr};
+ghost use Rattle.std.specs.Prelude.{◌≡◌, ◌≢◌, ◌⊎◌, ℕ, List, [], map, Result, Ok as ok, Err as err, IfOk, IfErr};
 ghost use Rattle.std.proofs.Common.{rules};
 ghost use Rattle.netlink_core.specs.declared.fault.DecodeError.TheVariants.{Memory};
 ghost use Rattle.netlink_packet_sock_diag.specs.Dump.{DatagramDump, DatagramStopped};
+ghost use Rattle.netlink_packet_sock_diag.specs.Feed.{FeedLeaves, FeedsLeave};
+ghost use Rattle.netlink_packet_sock_diag.specs.Message.{Message, message_codec};
+ghost use Rattle.netlink_packet_sock_diag.specs.SeenMessage.{seen_message};
+ghost use Rattle.netlink_packet_sock_diag.specs.declared.dump.DumpError.{DumpError as Refusal};
+ghost use Rattle.netlink_packet_sock_diag.specs.declared.dump.DumpState.{DumpState as State};
+ghost use Rattle.netlink_packet_sock_diag.specs.declared.dump.DumpState.TheVariants.{Reading, Failed};
 
 mod views;
 
@@ -84,14 +90,18 @@ pub struct DumpReader {
     alloc: Global,
     messages: Vec<SockDiagMessage>,
     state: DumpState,
+    // Datagrams were fed, with memory for all, and left these messages and this state; or one more
+    // was, and the dump has failed.
+    ghost fed: { ∥ ((datagrams : List (List ℕ)) × (before : List Message) × (was : State)
+        × FeedsLeave message_codec [] Reading datagrams before was
+        × (((map seen_message messages.items ≡ before) × (state ≡ was))
+        ⊎ ((state ≡ Failed) × (last : List ℕ) × (answer : Result Unit Refusal)
+        × FeedLeaves message_codec before was last
+        (map seen_message messages.items) state answer))) ∥₁ },
 }
 
 impl DumpReader {
-    ghost use Rattle.netlink_packet_sock_diag.specs.Message.{message_codec};
-    ghost use Rattle.netlink_packet_sock_diag.specs.Feed.{FeedLeaves};
-    ghost use Rattle.netlink_packet_sock_diag.specs.SeenMessage.{seen_message};
     ghost use Rattle.netlink_packet_sock_diag.specs.SeenDump.{kept_messages};
-    ghost use Rattle.netlink_packet_sock_diag.specs.declared.dump.DumpState.TheVariants.{Reading};
 
     /// A dump of which nothing has come. The allocator is kept.
     pub fn new(alloc: Global) -> Self

@@ -1,6 +1,6 @@
 //! Laws of replies and of messages. The functions do nothing: their contracts are the laws.
 
-ghost use Rattle.std.specs.Prelude.{Bool, ◌≡◌, ◌%◌, ◌↔◌, ◌⊎◌, ◌++◌, ℕ, List, [], ◌∷◌, length, count_by, IsTrue, Result, IfOk, IsOk, map};
+ghost use Rattle.std.specs.Prelude.{Bool, true, ◌≡◌, ◌%◌, ◌↔◌, ◌⊎◌, ◌++◌, ℕ, List, [], ◌∷◌, length, count_by, IsTrue, Result, IfOk, IsOk, map};
 ghost use Rattle.std.specs.Iterator.{Drains};
 ghost use Rattle.std.specs.List.{AllByRecursion, AllZip};
 ghost use Rattle.netlink_core.specs.Bytes.{IsBytes};
@@ -15,6 +15,12 @@ ghost use Rattle.netlink_core.specs.Items.{ItemsAre};
 ghost use Rattle.netlink_core.specs.Seen.{envelope_of};
 ghost use Rattle.netlink_core.specs.Reply.{reply_bytes, reply_codec};
 ghost use Rattle.netlink_packet_sock_diag.specs.SeenMessage.{seen_destroy};
+ghost use Rattle.netlink_packet_sock_diag.specs.contracts.unix.response.UnixResponseEmitable.TheImpl.{ghosts as unix_replies};
+ghost use Rattle.netlink_packet_sock_diag.specs.contracts.unix.view.UnixResponseViewEmitable.TheImpl.{ghosts as unix_views};
+ghost use Rattle.netlink_packet_sock_diag.specs.contracts.inet.response.InetResponseEmitable.TheImpl.{ghosts as inet_replies};
+ghost use Rattle.netlink_packet_sock_diag.specs.contracts.inet.view.InetResponseViewEmitable.TheImpl.{ghosts as inet_views};
+ghost use Rattle.netlink_packet_sock_diag.specs.contracts.coded.SockDiagDestroyCoded.TheImpl.{ghosts as destroys};
+ghost use Rattle.netlink_packet_sock_diag.specs.contracts.coded.SockDiagMessageCoded.TheImpl.{ghosts as messages};
 ghost use Rattle.netlink_packet_sock_diag.specs.declared.message.SockDiagDestroy.{SockDiagDestroy};
 ghost use Rattle.netlink_packet_sock_diag.specs.declared.dump.DumpState.{DumpState};
 ghost use Rattle.netlink_packet_sock_diag.specs.declared.dump.DumpState.TheVariants.{Reading};
@@ -33,11 +39,11 @@ ghost use Rattle.netlink_packet_sock_diag.specs.ViewedUnixReply.{viewed_response
 ghost use Rattle.netlink_packet_sock_diag.specs.Message.{Message, MessageKind, message_kind, inet_request, inet_response, unix_request, unix_response, message_codec};
 
 use crate::dump::{DumpError, DumpViews as Views, PayloadView as View};
-use crate::inet::InetResponseView;
+use crate::inet::{InetResponse, InetResponseView};
 use crate::message::{SockDiagDestroy as SockDiagDestroyed, SockDiagMessage, SockDiagView};
-use crate::unix::UnixResponseView;
-use netlink_core::{NetlinkSerializable, laws};
-use std::alloc::AllocError;
+use crate::unix::{UnixResponse, UnixResponseView};
+use netlink_core::{NetlinkSerializable, Readable, laws};
+use std::alloc::{AllocError, Global};
 
 /// The number of bytes that a reply is written as, `buffer_len`, is a multiple of 4, for both families.
 pub fn reply_lengths_are_multiples_of_four()
@@ -67,17 +73,29 @@ pub fn types_that_are_written(destroy: &SockDiagDestroyed, message: &SockDiagMes
     )
 }
 
-/// A finalized request to close sockets is refused by its own reader: it is written under the type 21, and messages
-/// are read under 20 alone.
+/// Readers of replies and of messages may want memory.
+pub fn readers_take_memory() -> (bool, bool, bool)
+    ensures { result ≡ (true, true, true) }
+{
+    (
+        UnixResponse::TAKES_MEMORY,
+        InetResponse::TAKES_MEMORY,
+        SockDiagMessage::TAKES_MEMORY,
+    )
+}
+
+/// A finalized request to close sockets is refused by its own reader: it is written under a type of
+/// its own, and messages are read under 20 alone.
 pub fn finalized_destroy_is_refused()
     ensures { (h : NetlinkHeader) (m : Message) → IsTypedHeader h
         → (envelope_codec message_codec).fits (record { header = h; payload = inner m })
         → (envelope_codec message_codec).refuses
         ((envelope_codec message_codec).written (record {
-          header = finalized message_codec.written (λ _. 21) (record { header = h; payload = inner m });
+          header = finalized message_codec.written destroys.type_written
+              (record { header = h; payload = inner m });
           payload = inner m;
         })) tt
-        (UnknownMessageType 21) }
+        (UnknownMessageType (destroys.type_written m)) }
 {}
 
 /// So it is of a request in hand: what `serialize` writes of its message behind `finalize`, with whatever follows in the
@@ -86,8 +104,11 @@ pub fn finalized_destroy_in_hand_is_refused()
     ensures { (message : NetlinkMessage SockDiagDestroy) (destroy : SockDiagDestroy) (rest : List ℕ) → message.payload ≡ InnerMessage destroy
         → IsTypedHeader message.header → (envelope_codec message_codec).fits (envelope_of seen_destroy message)
         → (envelope_codec message_codec).refuses
-        ((envelope_codec message_codec).written (envelope_of seen_destroy (record message { header = finalized message_codec.written (λ _. 21) (envelope_of seen_destroy message) })) ++ rest) tt
-        (UnknownMessageType 21) }
+        ((envelope_codec message_codec).written (envelope_of seen_destroy (record message {
+          header = finalized message_codec.written destroys.type_written
+              (envelope_of seen_destroy message);
+        })) ++ rest) tt
+        (UnknownMessageType (destroys.type_written (seen_destroy destroy))) }
 {}
 
 /// Bytes have one netlink message of sock_diag(7) at their front or one fault, which has a name.
@@ -128,7 +149,7 @@ pub fn messages_written_alike()
 /// as itself exactly where it carries nothing or bytes that are kept, or a message in normal form under the type 20.
 pub fn finalized_message_reads_back()
     ensures { (v : Envelope Message) → (envelope_codec message_codec).is_typed v → (envelope_codec message_codec).fits v
-        → (v.header ≡ finalized message_codec.written (λ _. 20) v)
+        → (v.header ≡ finalized message_codec.written messages.type_written v)
         → ((envelope_codec message_codec).reads ((envelope_codec message_codec).written v) tt v ↔ OfInner (message_codec.is_normal 20) v.payload) }
 {
     laws::finalized_message_reads_back::<SockDiagMessage>();
@@ -288,4 +309,28 @@ pub fn copied_payload_view<'a>(view: &View<'a>) -> Result<View<'a>, AllocError>
     ensures same { IfOk result (λ copy. viewed_payload copy ≡ viewed_payload view.now) }
 {
     view.clone()
+}
+
+/// A reply in place, about a UNIX socket, is written as the reply with memory of its own.
+pub fn owned_unix_view(
+    view: &UnixResponseView<'_>,
+    alloc: Global,
+) -> Result<UnixResponse, AllocError>
+    ensures bytes { IfOk result (λ reply. unix_replies.bytes reply ≡ unix_views.bytes view.now) }
+    ensures writable { IfOk result (λ reply.
+        unix_replies.writable reply ↔ unix_views.writable view.now) }
+{
+    view.to_owned(alloc)
+}
+
+/// A reply in place, about an IPv4 or IPv6 socket, is written as the reply with memory of its own.
+pub fn owned_inet_view(
+    view: &InetResponseView<'_>,
+    alloc: Global,
+) -> Result<InetResponse, AllocError>
+    ensures bytes { IfOk result (λ reply. inet_replies.bytes reply ≡ inet_views.bytes view.now) }
+    ensures writable { IfOk result (λ reply.
+        inet_replies.writable reply ↔ inet_views.writable view.now) }
+{
+    view.to_owned(alloc)
 }

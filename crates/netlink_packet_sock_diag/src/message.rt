@@ -1,6 +1,6 @@
 //! The messages of sock_diag(7): requests and replies, and the request to close sockets.
 
-ghost use Rattle.std.specs.Prelude.{◌≡◌, ◌≢◌, ◌<◌, ◌↔◌, true, refl, IsTrue, IfOk, IfErr};
+ghost use Rattle.std.specs.Prelude.{◌≡◌, ◌≢◌, ◌<◌, ◌↔◌, ◌⊎◌, true, refl, IsTrue, IfOk, IfErr, IsOk};
 ghost use Rattle.netlink_core.specs.Canonical.{GivesUp};
 ghost use Rattle.netlink_core.specs.declared.fault.DecodeError.TheVariants.{Memory};
 ghost use Rattle.netlink_core.specs.Spare.{WantsMemory};
@@ -67,9 +67,11 @@ impl SockDiagMessage {
         SOCK_DIAG_BY_FAMILY
     }
 
-    /// An equal message. It fails only for want of memory.
+    /// An equal message. It fails only for want of memory, and a request never does.
     pub fn clone(&self, alloc: Global) -> Result<Self, AllocError>
-        ensures { IfOk result (λ copy. seen_message copy ≡ seen_message self.now) }
+        ensures equal { IfOk result (λ copy. seen_message copy ≡ seen_message self.now) }
+        ensures spare { let kind = message_kind (seen_message self.now) in
+            (kind ≡ inet_request) ⊎ (kind ≡ unix_request) → IsOk result }
     {
         Ok(match self {
             SockDiagMessage::InetRequest(request) => {
@@ -316,9 +318,11 @@ impl SockDiagDestroy {
         SockDiagDestroy(message)
     }
 
-    /// An equal request. It fails only for want of memory.
+    /// An equal request. It fails only for want of memory, and not where it holds a request.
     pub fn clone(&self, alloc: Global) -> Result<Self, AllocError>
-        ensures { IfOk result (λ copy. seen_destroy copy ≡ seen_destroy self.now) }
+        ensures equal { IfOk result (λ copy. seen_destroy copy ≡ seen_destroy self.now) }
+        ensures spare { let kind = message_kind (seen_destroy self.now) in
+            (kind ≡ inet_request) ⊎ (kind ≡ unix_request) → IsOk result }
     {
         Ok(SockDiagDestroy(self.0.clone(alloc)?))
     }

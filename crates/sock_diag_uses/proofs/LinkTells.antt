@@ -1,12 +1,15 @@
 -- What the attributes of a message about an interface tell, one after the other.
-use Rattle.std.proofs.Common.{◌≡◌, ◌≢◌, ℕ, List, [], ◌∷◌, ◌++◌, Option, Some, None, Ok, Err, refl, ap, ◌∙◌}
+use Rattle.std.proofs.Common.{◌≡◌, ◌≢◌, ◌==◌, ℕ, List, [], ◌∷◌, ◌++◌, Bool, true, false, length, Option, Some, None, Result, Ok, Err, if◌then◌else◌, refl, subst, ap, ◌∙◌}
+use Rattle.std.specs.Prelude.{IsOk}
 use Rattle.std.specs.List.{filter_map, last_or}
 use Rattle.std.proofs.lemmas.Bool.{ne_eqb}
 use Rattle.netlink_core.specs.declared.fault.DecodeError.{DecodeError}
-use Rattle.netlink_core.specs.Attribute.{Attribute, kind_of}
+use Rattle.netlink_core.specs.declared.fault.DecodeError.TheVariants.{Memory, WrongLength}
+use Rattle.netlink_core.specs.Attribute.{Attribute, IsFramingFault, StartsWith, kind_of}
 use Rattle.netlink_core.specs.Parse.{exact_number, text_in}
+use Rattle.netlink_core.proofs.Walking.{StartsWith-some, cut_off_behind, head_of_start}
 use Rattle.sock_diag_uses.proofs.Pushing.{none_more, one_more}
-use Rattle.sock_diag_uses.specs.Link.{name_told, mtu_told, nothing_told, told_by}
+use Rattle.sock_diag_uses.specs.Link.{HasName, NameAtFront, Told, name_told, mtu_told, nothing_told, told_by}
 
 -- ---- the last of a list
 
@@ -38,3 +41,47 @@ refuses_mtu a e kind number = rw (kind, number) refl
 
 pub tells_nothing : (a : Attribute) → kind_of a ≢ 3 → kind_of a ≢ 4 → told_by a ≡ Ok nothing_told
 tells_nothing a not_name not_mtu = rw (ne_eqb (kind_of a) 3 not_name, ne_eqb (kind_of a) 4 not_mtu) refl
+
+-- ---- where memory is wanted
+
+-- a name behind an attribute that tells something
+pub later_name : (bytes rest : List ℕ) (a : Attribute) (t : Told) → StartsWith bytes a rest
+    → told_by a ≡ Ok t → HasName rest → HasName bytes
+later_name bytes rest a t s tells w = (
+  a ∷ w.0,
+  cut_off_behind (λ left _. NameAtFront left) bytes rest a w.0 Memory s w.1,
+  (rw tells refl, w.2),
+)
+
+named : {E : Type 0} (r : Result (List ℕ) E) → IsOk r → (name : List ℕ) × (r ≡ Ok name)
+named (Ok name) ok = (name, refl)
+named (Err e) ok = absurd cc
+
+-- a name here
+pub name_here : (rest after : List ℕ) (a : Attribute) → StartsWith rest a after → kind_of a ≡ 3
+    → IsOk (text_in a.value) → HasName rest
+name_here rest after a s kind ok =
+    let name = named (text_in a.value) ok in (
+      [],
+      (
+        [],
+        rest,
+        refl,
+        refl,
+        StartsWith-some rest after a s,
+        (a, head_of_start rest after a s, name.0, tells_name a name.0 kind name.1),
+      ),
+      tt,
+    )
+
+-- no fault of an attribute's frame or of a number is want of memory
+pub frame_named : (rest : List ℕ) (e : DecodeError) → IsFramingFault rest e → e ≢ Memory
+frame_named rest e fault memory = subst (IsFramingFault rest) memory fault
+
+chosen : (is : Bool) (n : ℕ) (e f : DecodeError) → (if is then Ok n else Err f) ≡ Err e → e ≡ f
+chosen true n e f h = absurd cc
+chosen false n e f h = cc
+
+pub number_named : (bytes : List ℕ) (e : DecodeError) → exact_number None 4 bytes ≡ Err e → e ≢ Memory
+number_named bytes e h memory =
+    let same = chosen (length bytes == 4) _ e (WrongLength None (length bytes) 4) h in cc

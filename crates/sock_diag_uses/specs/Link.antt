@@ -1,9 +1,10 @@
 -- What the attributes of a message about an interface tell.
-use Rattle.std.specs.Prelude.{◌≡◌, ◌≢◌, ℕ, ◌<◌, ◌≤◌, ◌==◌, if◌then◌else◌, List, length, drop, Option, Some, None, Result, Ok, Err, String, string_bytes, option_map}
+use Rattle.std.specs.Prelude.{◌≡◌, ◌≢◌, ℕ, ◌<◌, ◌≤◌, ◌==◌, if◌then◌else◌, List, length, drop, Option, Some, None, Result, Ok, Err, IsOk, String, string_bytes, option_map}
+use Rattle.std.specs.List.{AllByRecursion}
 use Rattle.std.specs.declared.alloc.Global.{Global}
 use Rattle.netlink_core.specs.declared.fault.DecodeError.{DecodeError}
 use Rattle.netlink_core.specs.declared.fault.DecodeError.TheVariants.{Memory}
-use Rattle.netlink_core.specs.Attribute.{Attribute, AttributeFault, kind_of}
+use Rattle.netlink_core.specs.Attribute.{Attribute, AttributeFault, CutOff, HeadIs, kind_of}
 use Rattle.netlink_core.specs.Parse.{exact_number, text_in}
 use Rattle.sock_diag_uses.specs.declared.link.LinkError.{LinkError}
 use Rattle.sock_diag_uses.specs.declared.link.LinkError.TheVariants as errors
@@ -46,7 +47,20 @@ text_of text = option_map string_bytes text
 abbrev pub from_fault : DecodeError → LinkError
 from_fault fault = errors.Attribute fault
 
--- fewer than 16 bytes; or behind them the first fault of the attributes, or want of memory
+-- an attribute that tells a name stands at the front of the bytes
+abbrev pub NameAtFront : List ℕ → Type 0
+NameAtFront bytes = (a : Attribute) × HeadIs bytes a × (name : List ℕ) × (told_by a ≡ Ok (name_told name))
+
+-- behind attributes that tell something stands one that tells a name
+abbrev pub HasName : List ℕ → Type 0
+HasName bytes =
+    (attributes : List Attribute) × CutOff (λ left _. NameAtFront left) bytes attributes Memory
+    × AllByRecursion (λ a. IsOk (told_by a)) attributes
+
+-- fewer than 16 bytes; or behind them the first fault of the attributes, or want of memory for a
+-- name, which is there
 abbrev pub GivesUp : List ℕ → LinkError → Type 0
 GivesUp payload (errors.TooShort got) = (got ≡ length payload) × (length payload < 16)
-GivesUp payload (errors.Attribute e) = (16 ≤ length payload) × (e ≢ Memory → AttributeFault told_by (drop 16 payload) e)
+GivesUp payload (errors.Attribute e) =
+    (16 ≤ length payload) × (e ≢ Memory → AttributeFault told_by (drop 16 payload) e)
+    × (e ≡ Memory → HasName (drop 16 payload))
