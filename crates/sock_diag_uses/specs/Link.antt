@@ -1,9 +1,11 @@
 -- What the attributes of a message about an interface tell.
 use Rattle.std.specs.Prelude.{◌≡◌, ◌≢◌, ℕ, ◌<◌, ◌≤◌, ◌==◌, if◌then◌else◌, List, length, drop, Option, Some, None, Result, Ok, Err, String, string_bytes, option_map}
+use Rattle.std.specs.Prelude.{IsOk}
+use Rattle.std.specs.List.{AllByRecursion}
 use Rattle.std.specs.declared.alloc.Global.{Global}
 use Rattle.netlink_core.specs.declared.fault.DecodeError.{DecodeError}
 use Rattle.netlink_core.specs.declared.fault.DecodeError.TheVariants.{Memory}
-use Rattle.netlink_core.specs.Attribute.{Attribute, AttributeFault, kind_of}
+use Rattle.netlink_core.specs.Attribute.{Attribute, AttributeFault, CutOff, HeadIs, kind_of}
 use Rattle.netlink_core.specs.Parse.{exact_number, text_in}
 use Rattle.sock_diag_uses.specs.declared.link.LinkError.{LinkError}
 use Rattle.sock_diag_uses.specs.declared.link.LinkError.TheVariants as errors
@@ -46,7 +48,19 @@ text_of text = option_map string_bytes text
 abbrev pub from_fault : DecodeError → LinkError
 from_fault fault = errors.Attribute fault
 
+-- the bytes begin with an attribute that tells a name
+abbrev pub NameAtFront : List ℕ → Type 0
+NameAtFront bytes = (a : Attribute) × HeadIs bytes a × (kind_of a ≡ 3) × IsOk (text_in a.value)
+
+-- memory is wanted for a name alone: it stands behind attributes that can be read
+abbrev pub WantsMemory : List ℕ → Type 0
+WantsMemory bytes = (given : List Attribute)
+    × CutOff (λ after e. NameAtFront after) bytes given Memory
+    × AllByRecursion (λ a. IsOk (told_by a)) given
+
 -- fewer than 16 bytes; or behind them the first fault of the attributes, or want of memory
 abbrev pub GivesUp : List ℕ → LinkError → Type 0
 GivesUp payload (errors.TooShort got) = (got ≡ length payload) × (length payload < 16)
-GivesUp payload (errors.Attribute e) = (16 ≤ length payload) × (e ≢ Memory → AttributeFault told_by (drop 16 payload) e)
+GivesUp payload (errors.Attribute e) = (16 ≤ length payload)
+    × (e ≢ Memory → AttributeFault told_by (drop 16 payload) e)
+    × (e ≡ Memory → WantsMemory (drop 16 payload))

@@ -2,16 +2,17 @@ use Rattle.std.proofs.Common.{◌≢◌, rules, [], ◌∷◌, ◌++◌, refl, s
 use Rattle.std.specs.Prelude.{string_bytes}
 use Rattle.std.proofs.lemmas.List.{take_rest}
 use Rattle.std.proofs.lemmas.Result.{err_from_is_err_and}
-use Rattle.netlink_core.specs.Walk.{attribute_of}
+use Rattle.netlink_core.specs.Walk.{attribute_of, bytes_left}
 use Rattle.sock_diag_uses.specs.Link.{told_by, name_told, mtu_told, nothing_told, name_in, mtu_in}
 use Rattle.netlink_core.proofs.Walking.{walk_begins, walk_ends, walk_goes_on, walk_is_cut_off, walk_is_refused}
-use Rattle.sock_diag_uses.proofs.LinkTells.{last_told, none_told, refuses_mtu, refuses_name, tells_mtu, tells_name, tells_nothing}
+use Rattle.sock_diag_uses.proofs.LinkTells.{last_told, leads_begin, leads_on, name_in_front, none_told, not_for_framing, not_for_number, refuses_mtu, refuses_name, tells_mtu, tells_name, tells_nothing}
 use Rattle.sock_diag_uses.proofs.link.parse_link.Goals as goal
 
 pub loop-item-init : goal.loop-item-init
 loop-item-init c = record {
   told = [];
   walk = rw (c.into_iter-item-iterator.ensures.into_iter_gives, c.new-item-items.ensures, take_rest c.args.payload.now 16) (walk_begins told_by _);
+  leads = rw (c.into_iter-item-iterator.ensures.into_iter_gives, c.new-item-items.ensures, take_rest c.args.payload.now 16) (leads_begin _);
   name = refl;
   mtu = refl;
 }
@@ -21,7 +22,7 @@ returns-in_err-attribute-clause-fault c =
     let stop = rw c.in_err-attribute.was at c.in-Some.ensures.steps in
     let p = err_from_is_err_and c.from_residual.result c.from_residual.ensures.1 in
     let inv = c.loop-item.invariant in
-    rw (p.1, p.2) (c.if-payload-lt-HEADER.false, λ _. walk_is_cut_off told_by _ _ inv.told _ inv.walk stop.0 stop.1)
+    rw (p.1, p.2) (c.if-payload-lt-HEADER.false, λ _. walk_is_cut_off told_by _ _ inv.told _ inv.walk stop.0 stop.1, not_for_framing (bytes_left c.loop-item.item-iterator) _ c.in_err-attribute.field-0.0 stop.1)
 
 pub returns-in_err-parse_string-in-3-clause-fault : goal.returns-in_err-parse_string-in-3-clause-fault
 returns-in_err-parse_string-in-3-clause-fault c =
@@ -29,8 +30,14 @@ returns-in_err-parse_string-in-3-clause-fault c =
     let a = attribute_of c.in_ok-attribute.attribute in
     let start = rw c.in_ok-attribute.was at c.in-Some.ensures.steps in
     let fault = rw c.value.ensures at c.in_err-parse_string-in-3.ensures.fault in
+    let memory = rw c.value.ensures at c.in_err-parse_string-in-3.ensures.memory in
     let p = err_from_is_err_and c.from_residual-in_err-parse_string-in-3.result c.from_residual-in_err-parse_string-in-3.ensures.1 in
-    rw (p.1, p.2) (c.if-payload-lt-HEADER.false, λ named. walk_is_refused told_by _ _ _ inv.told a _ inv.walk start (refuses_name a _ (sym c.kind.ensures ∙ c.in-3.is) (fault named)))
+    let kind = sym c.kind.ensures ∙ c.in-3.is in
+    rw (p.1, p.2) (
+      c.if-payload-lt-HEADER.false,
+      λ named. walk_is_refused told_by _ _ _ inv.told a _ inv.walk start (refuses_name a _ kind (fault named)),
+      λ wanted. name_in_front _ _ _ a inv.leads start kind (memory wanted),
+    )
 
 pub loop-item-preserved-in_ok-parse_string-in-3 : goal.loop-item-preserved-in_ok-parse_string-in-3
 loop-item-preserved-in_ok-parse_string-in-3 c =
@@ -42,6 +49,7 @@ loop-item-preserved-in_ok-parse_string-in-3 c =
     record {
       told = inv.told ++ name_told name ∷ [];
       walk = walk_goes_on told_by _ _ _ inv.told a (name_told name) inv.walk start tells;
+      leads = leads_on _ _ _ a (name_told name) inv.leads start tells;
       name = sym (last_told name_in inv.told (name_told name) name refl);
       mtu = inv.mtu ∙ sym (none_told mtu_in inv.told (name_told name) refl);
     }
@@ -56,6 +64,7 @@ loop-item-preserved-in_ok-parse_string-in-3-2 c =
     record {
       told = inv.told ++ name_told name ∷ [];
       walk = walk_goes_on told_by _ _ _ inv.told a (name_told name) inv.walk start tells;
+      leads = leads_on _ _ _ a (name_told name) inv.leads start tells;
       name = sym (last_told name_in inv.told (name_told name) name refl);
       mtu = inv.mtu ∙ sym (none_told mtu_in inv.told (name_told name) refl);
     }
@@ -67,7 +76,11 @@ returns-in_err-parse_u32-in-4-clause-fault c =
     let start = rw c.in_ok-attribute.was at c.in-Some.ensures.steps in
     let fault = rw c.value-in-4.ensures at c.in_err-parse_u32-in-4.ensures in
     let p = err_from_is_err_and c.from_residual-in_err-parse_u32-in-4.result c.from_residual-in_err-parse_u32-in-4.ensures.1 in
-    rw (p.1, p.2) (c.if-payload-lt-HEADER.false, λ _. walk_is_refused told_by _ _ _ inv.told a _ inv.walk start (refuses_mtu a _ (sym c.kind.ensures ∙ c.in-4.is) (sym fault)))
+    rw (p.1, p.2) (
+      c.if-payload-lt-HEADER.false,
+      λ _. walk_is_refused told_by _ _ _ inv.told a _ inv.walk start (refuses_mtu a _ (sym c.kind.ensures ∙ c.in-4.is) (sym fault)),
+      not_for_number a.value _ _ (sym fault),
+    )
 
 pub loop-item-preserved-in-4 : goal.loop-item-preserved-in-4
 loop-item-preserved-in-4 c =
@@ -80,6 +93,7 @@ loop-item-preserved-in-4 c =
     record {
       told = inv.told ++ mtu_told mtu ∷ [];
       walk = walk_goes_on told_by _ _ _ inv.told a (mtu_told mtu) inv.walk start tells;
+      leads = leads_on _ _ _ a (mtu_told mtu) inv.leads start tells;
       name = inv.name ∙ sym (none_told name_in inv.told (mtu_told mtu) refl);
       mtu = sym (last_told mtu_in inv.told (mtu_told mtu) mtu refl);
     }
@@ -95,6 +109,7 @@ loop-item-preserved c =
     record {
       told = inv.told ++ nothing_told ∷ [];
       walk = walk_goes_on told_by _ _ _ inv.told a nothing_told inv.walk start tells;
+      leads = leads_on _ _ _ a nothing_told inv.leads start tells;
       name = inv.name ∙ sym (none_told name_in inv.told nothing_told refl);
       mtu = inv.mtu ∙ sym (none_told mtu_in inv.told nothing_told refl);
     }
