@@ -1,6 +1,4 @@
-use crate::stream::RunError;
 use std::alloc::{AllocError, Global};
-use std::test::Fail;
 
 mod long_lines;
 mod streams;
@@ -22,17 +20,4 @@ fn repeated(alloc: Global, text: Repeated) -> Result<Vec<u8>, AllocError> {
     bytes.extend_from_slice(&piece.as_bytes().repeat(alloc, times)?)?;
     bytes.extend_from_slice(back.as_bytes())?;
     Ok(bytes)
-}
-
-#[test]
-fn errors_of_a_run_have_words(rt: HostRuntime) -> Result<(), Fail> {
-    for (error, want) in [
-        (RunError::Read, "Read: reading failed"),
-        (RunError::Write, "Write: writing failed"),
-        (RunError::Memory, "Memory: out of memory"),
-    ] {
-        let text = format!(in rt.alloc(); "{error:?}: {error}")?;
-        assert_eq!(rt; text.as_str(), want);
-    }
-    Ok(())
 }
