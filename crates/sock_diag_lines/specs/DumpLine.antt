@@ -1,0 +1,38 @@
+-- A line that asks for the dump over some datagrams, and what is shown of it.
+use Rattle.std.specs.Prelude.{◌≡◌, ◌==◌, ℕ, List, [], ◌∷◌, ◌++◌, length, codes, decimal, Result, Ok, Err}
+use Rattle.std.specs.List.{AllByRecursion, AllZip, flat_map, slice_split}
+use Rattle.netlink_core.specs.declared.fault.DecodeError.{DecodeError}
+use Rattle.netlink_core.specs.Faults.{number_of}
+use Rattle.netlink_packet_sock_diag.specs.declared.dump.DumpState.{DumpState}
+use Rattle.netlink_packet_sock_diag.specs.declared.dump.DumpState.TheVariants.{Reading, Done, Error, Overrun, Failed}
+use Rattle.netlink_packet_sock_diag.specs.Dump.{DatagramsDump}
+use Rattle.netlink_packet_sock_diag.specs.Message.{Message, message_codec}
+use Rattle.sock_diag_lines.specs.HexField.{IsHexField, field_of}
+use Rattle.sock_diag_lines.specs.Told.{Tells}
+
+-- the line is `dump`, a space, and hex fields of these datagrams with one space, 32, between
+abbrev pub IsDumpRequest : List ℕ → List (List ℕ) → Type 0
+IsDumpRequest line datagrams = (fields : List ℕ) × (line ≡ codes "dump" ++ 32 ∷ fields)
+    × AllZip IsHexField (slice_split (λ c. c == 32) fields) datagrams
+
+-- the word for the state, or `failed:` and the number of the fault
+abbrev pub end_word : Result DumpState DecodeError → List ℕ
+end_word (Ok Reading) = codes "reading"
+end_word (Ok Done) = codes "done"
+end_word (Ok Error) = codes "error"
+end_word (Ok Overrun) = codes "overrun"
+end_word (Ok Failed) = codes "failed"
+end_word (Err fault) = codes "failed:" ++ decimal (number_of fault)
+
+-- of a dump's messages and its end: how it ends, a space, how many messages it keeps, and a space
+-- and a hex field for each of them
+abbrev pub shown_dump : List Message × Result DumpState DecodeError → List ℕ
+shown_dump dump = end_word dump.1 ++ 32 ∷ decimal (length dump.0)
+    ++ flat_map (λ message. 32 ∷ field_of (message_codec.written message)) dump.0
+
+-- The text tells of the dump over the datagrams, which is never refused. It can be written where
+-- each message that it keeps can be.
+abbrev pub TellsDump : List (List ℕ) → List ℕ → Type 0
+TellsDump datagrams text =
+    Tells (λ dump. DatagramsDump message_codec [] datagrams dump.0 dump.1)
+    (λ fault. ⊥) (λ dump. AllByRecursion message_codec.fits dump.0) shown_dump text

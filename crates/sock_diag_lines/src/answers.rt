@@ -1,0 +1,315 @@
+//! The answer to one line.
+
+ghost use Rattle.sock_diag_lines.specs.declared.answers.Name.{Name};
+ghost use Rattle.sock_diag_lines.specs.declared.answers.Name.TheVariants.{UnixView};
+ghost use Rattle.std.specs.Prelude.{◌≡◌, ◌≢◌, ◌↔◌, ◌++◌, ◌∷◌, [], ℕ, List, codes, decimal, Result, IfOk, OnOk, MatchOption};
+ghost use Rattle.netlink_core.specs.Envelope.{Payload, inner as of_inner, envelope_codec};
+ghost use Rattle.netlink_core.specs.Seen.{envelope_of};
+ghost use Rattle.netlink_core.specs.declared.fault.DecodeError.{DecodeError};
+ghost use Rattle.netlink_packet_sock_diag.specs.Dump.{AreSplit, HaveItems, in_a_row};
+ghost use Rattle.netlink_packet_sock_diag.specs.Message.{Message, message_codec};
+ghost use Rattle.netlink_packet_sock_diag.specs.SeenMessage.{seen_message};
+ghost use Rattle.sock_diag_lines.specs.Answer.{IsAnswerOf, IsRequest, row_of};
+ghost use Rattle.sock_diag_lines.specs.AskedSteps.{IsAnswerTo, IsReadAs};
+ghost use Rattle.sock_diag_lines.specs.DumpLine.{IsDumpRequest};
+ghost use Rattle.sock_diag_lines.specs.EnvelopeLine.{shown_envelope};
+ghost use Rattle.sock_diag_lines.specs.HexField.{field_of};
+ghost use Rattle.sock_diag_lines.specs.Subjects.{envelope_subject};
+ghost use Rattle.sock_diag_lines.specs.Told.{IsAccepted, Tells, TellsOf};
+ghost use Rattle.sock_diag_lines.specs.TextSteps.{Adds, accepted, word};
+
+use crate::dump_line::{ReadDump, push_dump, read_dump};
+use crate::fields::{find_space, read_field};
+use crate::view_line::push_view;
+use crate::words::{OK, UNWRITABLE, push_accepted, push_field, push_number, push_refused};
+use netlink_core::{
+    CanonError, Emitable, NetlinkHeader, NetlinkMessage, NetlinkPayload, Wire, canonical,
+};
+use netlink_packet_sock_diag::SockDiagMessage;
+use netlink_packet_sock_diag::constants::{AF_INET, AF_INET6, SOCK_DIAG_BY_FAMILY};
+use netlink_packet_sock_diag::inet::{InetRequest, InetResponse, SocketId};
+use netlink_packet_sock_diag::unix::{UnixRequest, UnixResponse};
+use std::alloc::{AllocError, Global};
+
+/// The name at the front of a line, which says what the bytes are.
+#[derive(Clone, Copy, Debug, PartialEq, Eq)]
+pub(crate) enum Name {
+    UnixRequest,
+    UnixResponse,
+    InetRequest,
+    InetResponse,
+    /// A socket's identity with IPv4 addresses.
+    SocketId4,
+    /// A socket's identity with IPv6 addresses.
+    SocketId6,
+    /// A message of sock_diag(7) without its netlink header.
+    Message,
+    /// The same with its netlink header.
+    NetlinkMessage,
+    /// A reply about a UNIX socket, which is looked at in place.
+    UnixView,
+}
+
+/// What a line asks for.
+#[derive(Drop)]
+pub(crate) enum Asked {
+    /// What the bytes of its field are, under its name.
+    Field(Name),
+    /// The dump over its datagrams.
+    Dump(ReadDump),
+    /// Nothing: the line is of another form.
+    Nothing,
+}
+
+/// The word before the datagrams of a dump.
+const DUMP: &[u8] = b"dump";
+
+/// The answer to a line of another form.
+const BAD_LINE: &[u8] = b"bad line";
+
+/// The answer to a line, without its line feed: `ok` and what is shown of the value that was read,
+/// `unwritable`, `refused` and the number of the first fault, or `bad line`. Shown are the bytes written back,
+/// for `netlink` behind the five fields of the header, and for `unixview` thirteen words.
+pub fn answer(alloc: Global, line: &[u8]) -> Result<Vec<u8>, AllocError>
+    ensures answers { IfOk result (λ text. IsAnswerOf line.now text.items) }
+
+    // Two fields of one name whose values can be written have one answer exactly where they differ in idle
+    // details alone. Only `unixview` shows less than that.
+    ensures same { IfOk result (λ text. (name : Name) → name ≢ UnixView → (other bytes bytes' text' : List ℕ)
+        → IsRequest line.now name bytes → IsRequest other name bytes'
+        → IsAccepted (row_of name).1 bytes → IsAccepted (row_of name).1 bytes'
+        → IsAnswerOf other text' → ((text.items ≡ text') ↔ (row_of name).1.idle bytes bytes')) }
+    // Two fields of any name that differ in idle details alone have one answer.
+    ensures alike { IfOk result (λ text. (name : Name) (other bytes bytes' text' : List ℕ)
+        → IsRequest line.now name bytes → IsRequest other name bytes'
+        → IsAccepted (row_of name).1 bytes → IsAccepted (row_of name).1 bytes'
+        → IsAnswerOf other text' → (row_of name).1.idle bytes bytes' → text.items ≡ text') }
+    // Two dumps whose datagrams have the same items in a row have one answer.
+    ensures dumps { IfOk result (λ text. (other text' : List ℕ) (datagrams datagrams' : List (List ℕ))
+        (row : List (Result (Payload Message) DecodeError))
+        → IsDumpRequest line.now datagrams → IsDumpRequest other datagrams'
+        → HaveItems message_codec datagrams row → HaveItems message_codec datagrams' row
+        → IsAnswerOf other text' → text.items ≡ text') }
+    // So have two dumps of the same bytes, of which each datagram but the last is whole messages.
+    ensures split { IfOk result (λ text. (other text' : List ℕ) (datagrams datagrams' : List (List ℕ))
+        → IsDumpRequest line.now datagrams → IsDumpRequest other datagrams'
+        → AreSplit datagrams → AreSplit datagrams' → in_a_row datagrams ≡ in_a_row datagrams'
+        → IsAnswerOf other text' → text.items ≡ text') }
+{
+    let mut text = Vec::new(alloc);
+    push_answer(alloc, &mut Vec::new(alloc), &mut text, line)?;
+    Ok(text)
+}
+
+/// Each line has one answer. It does nothing: its contract is the law.
+pub fn each_line_has_one_answer()
+    ensures some { (answer : List ℕ → List ℕ) × ((line : List ℕ) → IsAnswerOf line (answer line)) }
+    ensures one { (line text other : List ℕ) → IsAnswerOf line text → IsAnswerOf line other → text ≡ other }
+{}
+
+/// Adds the answer to a line to the text. Where memory runs out the text may have a part of it. `bytes` is
+/// room for the bytes of the field.
+pub(crate) fn push_answer(
+    alloc: Global,
+    bytes: &mut Vec<u8>,
+    text: &mut Vec<u8>,
+    line: &[u8],
+) -> Result<(), AllocError>
+    ensures { OnOk result (Adds text.old.items text.new.items (IsAnswerOf line.now)) }
+{
+    let asked = read_request(alloc, bytes, line)?;
+    push_told(alloc, text, asked, bytes.as_slice())
+}
+
+/// What a line asks for. The bytes of its last field are put in place of what `bytes` held.
+pub(crate) fn read_request(
+    alloc: Global,
+    bytes: &mut Vec<u8>,
+    line: &[u8],
+) -> Result<Asked, AllocError>
+    ensures { IfOk result (λ asked. IsReadAs line.now asked bytes.new.items) }
+{
+    let Some(space) = find_space(line) else {
+        return Ok(Asked::Nothing);
+    };
+    if &line[..space] == DUMP {
+        return read_dump_request(alloc, bytes, &line[space + 1..]);
+    }
+    let Some(name) = find_name(&line[..space]) else {
+        return Ok(Asked::Nothing);
+    };
+    if read_field(bytes, &line[space + 1..])? {
+        Ok(Asked::Field(name))
+    } else {
+        Ok(Asked::Nothing)
+    }
+}
+
+/// What a line asks for whose name is `dump`, by the text behind the space.
+fn read_dump_request(alloc: Global, bytes: &mut Vec<u8>, fields: &[u8]) -> Result<Asked, AllocError>
+    ensures { IfOk result (λ asked. IsReadAs (codes "dump" ++ 32 ∷ fields.now) asked bytes.new.items) }
+{
+    match read_dump(alloc, bytes, fields)? {
+        Some(dump) => Ok(Asked::Dump(dump)),
+        None => Ok(Asked::Nothing),
+    }
+}
+
+/// Adds the answer to what a line asks for, which may be about the bytes of its field.
+pub(crate) fn push_told(
+    alloc: Global,
+    text: &mut Vec<u8>,
+    asked: Asked,
+    bytes: &[u8],
+) -> Result<(), AllocError>
+    ensures { OnOk result (Adds text.old.items text.new.items (IsAnswerTo asked bytes.now)) }
+{
+    match asked {
+        Asked::Field(name) => push_named(alloc, text, name, bytes),
+        Asked::Dump(dump) => push_dump(alloc, text, &dump),
+        Asked::Nothing => text.extend_from_slice(BAD_LINE),
+    }
+}
+
+/// Adds the answer to a name and the bytes of its field.
+fn push_named(alloc: Global, text: &mut Vec<u8>, name: Name, bytes: &[u8]) -> Result<(), AllocError>
+    ensures { OnOk result (Adds text.old.items text.new.items (TellsOf (row_of name).1 bytes.now)) }
+{
+    match name {
+        Name::UnixRequest => push_canonical::<UnixRequest>(alloc, text, bytes, ()),
+        Name::UnixResponse => push_canonical::<UnixResponse>(alloc, text, bytes, ()),
+        Name::InetRequest => push_canonical::<InetRequest>(alloc, text, bytes, ()),
+        Name::InetResponse => push_canonical::<InetResponse>(alloc, text, bytes, ()),
+        Name::SocketId4 => push_canonical::<SocketId>(alloc, text, bytes, AF_INET),
+        Name::SocketId6 => push_canonical::<SocketId>(alloc, text, bytes, AF_INET6),
+        Name::Message => {
+            push_canonical::<SockDiagMessage>(alloc, text, bytes, SOCK_DIAG_BY_FAMILY)
+        }
+        Name::NetlinkMessage => push_netlink_message(alloc, text, bytes),
+        Name::UnixView => push_view(text, bytes),
+    }
+}
+
+/// Adds `ok` and the canonical form, `unwritable`, or `refused` and the number of the fault.
+fn push_canonical<T: Wire + Drop>(
+    alloc: Global,
+    text: &mut Vec<u8>,
+    bytes: &[u8],
+    param: T::Param,
+) -> Result<(), AllocError>
+    ensures { OnOk result (Adds text.old.items text.new.items
+        (Tells (T.codec.reads bytes.now param) (T.codec.refuses bytes.now param) T.codec.fits
+        (λ v. field_of (T.codec.written v)))) }
+{
+    match canonical::<T>(alloc, bytes, param) {
+        Ok(written) => push_accepted(text, written.as_slice()),
+        Err(CanonError::Refused(fault)) => push_refused(text, &fault),
+        Err(CanonError::Unwritable) => text.extend_from_slice(UNWRITABLE),
+        Err(CanonError::Memory) => Err(AllocError),
+    }
+}
+
+/// Adds `ok` and what is shown of a netlink message, `unwritable`, or `refused` and the number of the fault.
+fn push_netlink_message(alloc: Global, text: &mut Vec<u8>, bytes: &[u8]) -> Result<(), AllocError>
+    ensures { OnOk result (Adds text.old.items text.new.items (TellsOf envelope_subject bytes.now)) }
+{
+    match NetlinkMessage::<SockDiagMessage>::deserialize(alloc, bytes) {
+        Ok(message) => push_shown(alloc, text, message),
+        Err(fault) => push_refused(text, &fault),
+    }
+}
+
+/// Adds `ok`, the five fields of the header and the payload as it is written back, or `unwritable`.
+fn push_shown(
+    alloc: Global,
+    text: &mut Vec<u8>,
+    message: NetlinkMessage<SockDiagMessage>,
+) -> Result<(), AllocError>
+    ensures { OnOk result (Adds text.old.items text.new.items
+        (Tells (λ e. e ≡ envelope_of seen_message message) (λ fault. ⊥) (envelope_codec message_codec).fits shown_envelope)) }
+{
+    if !message.is_writable() {
+        return text.extend_from_slice(UNWRITABLE);
+    }
+    let NetlinkMessage { header, payload } = message;
+    match payload {
+        NetlinkPayload::Noop => push_envelope(text, &header, &[]),
+        NetlinkPayload::Error(bytes) => push_envelope(text, &header, bytes.as_slice()),
+        NetlinkPayload::Done(bytes) => push_envelope(text, &header, bytes.as_slice()),
+        NetlinkPayload::Overrun(bytes) => push_envelope(text, &header, bytes.as_slice()),
+        NetlinkPayload::InnerMessage(inner) => push_inner(alloc, text, &header, inner),
+    }
+}
+
+/// Adds `ok`, the five fields of a header and an inner message as it is written back.
+fn push_inner(
+    alloc: Global,
+    text: &mut Vec<u8>,
+    header: &NetlinkHeader,
+    inner: SockDiagMessage,
+) -> Result<(), AllocError>
+    requires { message_codec.fits (seen_message inner) }
+    ensures { OnOk result (text.new.items ≡ text.old.items ++ accepted
+        (shown_envelope (record { header = header.now; payload = of_inner (seen_message inner) }))) }
+{
+    let mut bytes = vec![in alloc; 0; inner.buffer_len()]?;
+    inner.emit(&mut bytes);
+    // The message's memory is let go before the text takes any.
+    drop(inner);
+    push_envelope(text, header, &bytes)
+}
+
+/// Adds `ok`, the five fields of a header and a payload.
+fn push_envelope(
+    text: &mut Vec<u8>,
+    header: &NetlinkHeader,
+    payload: &[u8],
+) -> Result<(), AllocError>
+    ensures { OnOk result (text.new.items ≡ text.old.items ++ accepted
+        (word header.now.length (word header.now.message_type (word header.now.flags
+        (word header.now.sequence_number (word header.now.port_number (field_of payload.now))))))) }
+{
+    text.extend_from_slice(OK)?;
+    push_word(text, header.length)?;
+    push_word(text, header.message_type.into())?;
+    push_word(text, header.flags.into())?;
+    push_word(text, header.sequence_number)?;
+    push_word(text, header.port_number)?;
+    push_field(text, payload)
+}
+
+/// Adds a number in decimal and a space to the text.
+fn push_word(text: &mut Vec<u8>, number: u32) -> Result<(), AllocError>
+    ensures { OnOk result (text.new.items ≡ text.old.items ++ (decimal number ++ 32 ∷ [])) }
+{
+    push_number(text, number.into())?;
+    Ok(text.push(b' ')?)
+}
+
+/// The name that a word is.
+fn find_name(word: &[u8]) -> Option<Name>
+    ensures { MatchOption result ((name : Name) → word.now ≢ (row_of name).0)
+        (λ name. word.now ≡ (row_of name).0) }
+{
+    if word == b"unixreq".as_slice() {
+        Some(Name::UnixRequest)
+    } else if word == b"unix".as_slice() {
+        Some(Name::UnixResponse)
+    } else if word == b"inet".as_slice() {
+        Some(Name::InetResponse)
+    } else if word == b"inetreq".as_slice() {
+        Some(Name::InetRequest)
+    } else if word == b"sockid4".as_slice() {
+        Some(Name::SocketId4)
+    } else if word == b"sockid6".as_slice() {
+        Some(Name::SocketId6)
+    } else if word == b"message".as_slice() {
+        Some(Name::Message)
+    } else if word == b"netlink".as_slice() {
+        Some(Name::NetlinkMessage)
+    } else if word == b"unixview".as_slice() {
+        Some(Name::UnixView)
+    } else {
+        None
+    }
+}

@@ -1,0 +1,170 @@
+//! The answer to a line that asks for the dump over some datagrams.
+
+ghost use Rattle.std.specs.Prelude.{◌≡◌, ◌↔◌, ◌++◌, ℕ, List, map, IsTrue, IfOk, OnOk, MatchBool, MatchOption, Ok};
+ghost use Rattle.std.specs.List.{AllByRecursion, flat_map};
+ghost use Rattle.netlink_packet_sock_diag.specs.Message.{message_codec};
+ghost use Rattle.netlink_packet_sock_diag.specs.SeenMessage.{seen_message};
+ghost use Rattle.sock_diag_lines.specs.DumpLine.{end_word, shown_dump};
+ghost use Rattle.sock_diag_lines.specs.HexField.{IsHexField};
+ghost use Rattle.sock_diag_lines.specs.ReadDumpSteps.{AreHexFields, IsReadDump, IsWritable, TakesDatagram};
+ghost use Rattle.sock_diag_lines.specs.ReadDumpSteps.{end_of, shown_message, told_dump};
+ghost use Rattle.sock_diag_lines.specs.Told.{Tells};
+ghost use Rattle.sock_diag_lines.specs.TextSteps.{Adds};
+
+use crate::fields::{find_space, read_field};
+use crate::words::{OK, UNWRITABLE, push_field, push_number};
+use netlink_core::{DecodeError, Emitable};
+use netlink_packet_sock_diag::{DumpError, DumpReader, DumpState, SockDiagMessage};
+use std::alloc::{AllocError, Global};
+
+/// A dump whose datagrams were read.
+#[derive(Drop)]
+pub(crate) struct ReadDump {
+    reader: DumpReader,
+    /// The fault at which it failed.
+    fault: Option<DecodeError>,
+}
+
+/// The dump over the datagrams that hex fields stand for, with one space between the fields. None where one is
+/// no hex field. `bytes` is room for the bytes of a field.
+pub(crate) fn read_dump(
+    alloc: Global,
+    bytes: &mut Vec<u8>,
+    fields: &[u8],
+) -> Result<Option<ReadDump>, AllocError>
+    ensures { IfOk result (λ read. MatchOption read ((datagrams : List (List ℕ)) → ¬ AreHexFields fields.now datagrams)
+        (λ dump. (datagrams : List (List ℕ)) × AreHexFields fields.now datagrams × IsReadDump datagrams dump)) }
+{
+    let mut dump = ReadDump {
+        reader: DumpReader::new(alloc),
+        fault: None,
+    };
+    let mut rest = fields;
+    'fields: while let Some(space) = find_space(rest) {
+        if !take_field(&mut dump, bytes, &rest[..space])? {
+            return Ok(None);
+        }
+        rest = &rest[space + 1..];
+    }
+    if take_field(&mut dump, bytes, rest)? {
+        Ok(Some(dump))
+    } else {
+        Ok(None)
+    }
+}
+
+/// Takes the datagram that a hex field stands for, and answers whether it is one.
+fn take_field(dump: &mut ReadDump, bytes: &mut Vec<u8>, field: &[u8]) -> Result<bool, AllocError>
+    ensures { IfOk result (λ is_field. MatchBool is_field
+        ((datagram : List ℕ) × IsHexField field.now datagram × TakesDatagram dump.old datagram dump.new)
+        ((content : List ℕ) → ¬ IsHexField field.now content)) }
+{
+    if !read_field(bytes, field)? {
+        return Ok(false);
+    }
+    take_datagram(dump, bytes.as_slice())?;
+    Ok(true)
+}
+
+/// Feeds a datagram. A dump that has ended stays as it is.
+fn take_datagram(dump: &mut ReadDump, datagram: &[u8]) -> Result<(), AllocError>
+    ensures { OnOk result (TakesDatagram dump.old datagram.now dump.new) }
+{
+    match dump.reader.feed(datagram) {
+        Ok(()) => Ok(()),
+        Err(DumpError::Ended) => Ok(()),
+        Err(DumpError::Fault(fault)) => match fault {
+            DecodeError::Memory => Err(AllocError),
+            named => {
+                dump.fault = Some(named);
+                Ok(())
+            }
+        },
+    }
+}
+
+/// Adds `ok`, how the dump ended, the number of its messages and the bytes of each, or `unwritable`.
+pub(crate) fn push_dump(
+    alloc: Global,
+    text: &mut Vec<u8>,
+    dump: &ReadDump,
+) -> Result<(), AllocError>
+    ensures { OnOk result (Adds text.old.items text.new.items
+        (Tells (λ d. d ≡ told_dump dump.now) (λ fault. ⊥) IsWritable shown_dump)) }
+{
+    let messages = dump.reader.messages();
+    if !are_writable(messages) {
+        return text.extend_from_slice(UNWRITABLE);
+    }
+    text.extend_from_slice(OK)?;
+    push_end(text, dump)?;
+    text.push(b' ')?;
+    push_number(text, messages.len() as u64)?;
+    push_messages(alloc, text, messages)
+}
+
+/// Adds the word for the state, or `failed:` and the number of the fault.
+fn push_end(text: &mut Vec<u8>, dump: &ReadDump) -> Result<(), AllocError>
+    ensures { OnOk result (text.new.items ≡ text.old.items ++ end_word (end_of dump.now)) }
+{
+    let Some(fault) = &dump.fault else {
+        return text.extend_from_slice(state_word(dump.reader.state()));
+    };
+    text.extend_from_slice(b"failed:")?;
+    push_number(text, fault.number().into())
+}
+
+/// The word for a state.
+fn state_word(state: DumpState) -> &'static [u8]
+    ensures { result.now ≡ end_word (Ok state) }
+{
+    match state {
+        DumpState::Reading => b"reading",
+        DumpState::Done => b"done",
+        DumpState::Error => b"error",
+        DumpState::Overrun => b"overrun",
+        DumpState::Failed => b"failed",
+    }
+}
+
+/// Whether each message can be written.
+fn are_writable(messages: &[SockDiagMessage]) -> bool
+    ensures { IsTrue result ↔ AllByRecursion message_codec.fits (map seen_message messages.now) }
+{
+    for message in messages {
+        if !message.is_writable() {
+            return false;
+        }
+    }
+    true
+}
+
+/// Adds a space and the bytes as a hex field, for each message.
+fn push_messages(
+    alloc: Global,
+    text: &mut Vec<u8>,
+    messages: &[SockDiagMessage],
+) -> Result<(), AllocError>
+    requires { AllByRecursion message_codec.fits (map seen_message messages.now) }
+    ensures { OnOk result (text.new.items ≡ text.old.items ++ flat_map shown_message (map seen_message messages.now)) }
+{
+    for message in messages {
+        push_message(alloc, text, message)?;
+    }
+    Ok(())
+}
+
+/// Adds a space and the bytes of a message as a hex field.
+fn push_message(
+    alloc: Global,
+    text: &mut Vec<u8>,
+    message: &SockDiagMessage,
+) -> Result<(), AllocError>
+    requires { message_codec.fits (seen_message message.now) }
+    ensures { OnOk result (text.new.items ≡ text.old.items ++ shown_message (seen_message message.now)) }
+{
+    let mut bytes = vec![in alloc; 0; message.buffer_len()]?;
+    message.emit(&mut bytes);
+    text.push(b' ')?;
+    push_field(text, bytes.as_slice())
+}

@@ -1,0 +1,31 @@
+//! The fields of a line.
+
+ghost use Rattle.std.specs.Prelude.{◌≡◌, ◌<◌, ◌==◌, ℕ, List, length, position, IfSome, IfOk, MatchBool};
+ghost use Rattle.sock_diag_lines.specs.HexField.{IsHexField};
+
+use memchr::memchr;
+use std::alloc::AllocError;
+
+/// The place of the first space.
+pub(crate) fn find_space(line: &[u8]) -> Option<usize>
+    ensures place { result ≡ position (λ c. c == 32) line.now }
+    ensures within { IfSome result (λ i. i < length line.now) }
+{
+    memchr(b' ', line)
+}
+
+/// Puts the bytes that a hex field stands for in place of what `bytes` held, and answers whether it is one.
+pub(crate) fn read_field(bytes: &mut Vec<u8>, field: &[u8]) -> Result<bool, AllocError>
+    ensures { IfOk result (λ is_field. MatchBool is_field (IsHexField field.now bytes.new.items)
+        ((content : List ℕ) → ¬ IsHexField field.now content)) }
+{
+    bytes.clear();
+    if field.is_empty() {
+        return Ok(false);
+    }
+    if field == b"-".as_slice() {
+        return Ok(true);
+    }
+    bytes.resize(field.len() / 2, 0)?;
+    Ok(hex::decode_to_slice(field, bytes.as_mut_slice()).is_ok())
+}

@@ -1,0 +1,59 @@
+//! The answer to a line that looks at a reply about a UNIX socket without a copy of it.
+
+ghost use Rattle.std.specs.Prelude.{◌≡◌, ◌∷◌, ◌++◌, decimal, OnOk};
+ghost use Rattle.netlink_packet_sock_diag.specs.ViewedUnixReply.{viewed_response};
+ghost use Rattle.sock_diag_lines.specs.Subjects.{view_subject};
+ghost use Rattle.sock_diag_lines.specs.Told.{TellsOf};
+ghost use Rattle.sock_diag_lines.specs.TextSteps.{Adds, accepted};
+ghost use Rattle.sock_diag_lines.specs.ViewLine.{shown_reply};
+
+use crate::words::{
+    OK, push_name_word, push_number, push_number_word, push_numbers_word, push_refused,
+};
+use netlink_packet_sock_diag::unix::{UnixResponseHeader, UnixResponseView};
+use std::alloc::AllocError;
+
+/// Adds `ok` and thirteen words of a reply that is read in place, or `refused` and the number of the fault.
+pub(crate) fn push_view(text: &mut Vec<u8>, bytes: &[u8]) -> Result<(), AllocError>
+    ensures { OnOk result (Adds text.old.items text.new.items (TellsOf view_subject bytes.now)) }
+{
+    match UnixResponseView::parse(bytes) {
+        Ok(view) => push_reply(text, &view),
+        Err(fault) => push_refused(text, &fault),
+    }
+}
+
+/// Adds `ok` and the words of a reply.
+fn push_reply(text: &mut Vec<u8>, view: &UnixResponseView<'_>) -> Result<(), AllocError>
+    ensures { OnOk result (text.new.items ≡ text.old.items ++ accepted (shown_reply (viewed_response view.now))) }
+{
+    text.extend_from_slice(OK)?;
+    push_header(text, &view.header())?;
+    push_number_word(text, view.peer())?;
+    push_name_word(text, view.name())?;
+    push_numbers_word(text, view.pending_connections())?;
+    push_number_word(text, widened(view.shutdown_state()))?;
+    push_number_word(text, view.number_of_pending_connection())?;
+    push_number_word(text, view.max_number_of_pending_connection())?;
+    push_number_word(text, view.receive_queue_size())?;
+    push_number_word(text, view.send_queue_size())?;
+    push_number_word(text, view.max_datagram_size())?;
+    push_number_word(text, view.memory_used_for_outgoing_data())
+}
+
+/// Adds the kind, the state and the inode.
+fn push_header(text: &mut Vec<u8>, header: &UnixResponseHeader) -> Result<(), AllocError>
+    ensures { OnOk result (text.new.items ≡ text.old.items
+        ++ decimal header.now.kind ++ 32 ∷ decimal header.now.state ++ 32 ∷ decimal header.now.inode) }
+{
+    push_number(text, header.kind.into())?;
+    push_number_word(text, Some(header.state.into()))?;
+    push_number_word(text, Some(header.inode))
+}
+
+/// The same number, where there is one.
+fn widened(byte: Option<u8>) -> Option<u32>
+    ensures { result ≡ byte }
+{
+    byte.map(u32::from)
+}

@@ -1,0 +1,148 @@
+//! The words that answers are made of. None takes memory but the text itself.
+
+ghost use Rattle.std.specs.Prelude.{◌≡◌, ◌≢◌, ◌∷◌, ◌++◌, decimal, OnOk, option_map};
+ghost use Rattle.hex.specs.Hex.{encode_lower};
+ghost use Rattle.netlink_core.specs.declared.fault.DecodeError.TheVariants.{Memory};
+ghost use Rattle.sock_diag_attributes.specs.SeenName.{viewed_name};
+ghost use Rattle.sock_diag_attributes.specs.SeenNumbers.{viewed_numbers};
+ghost use Rattle.sock_diag_lines.specs.HexField.{field_of};
+ghost use Rattle.sock_diag_lines.specs.TextSteps.{accepted, refused};
+ghost use Rattle.sock_diag_lines.specs.ViewLine.{comma_list, name_word, or_none};
+
+use netlink_core::DecodeError;
+use netlink_packet_sock_diag::unix::nlas::{NameView, NumbersView};
+use std::alloc::AllocError;
+use std::io::Write;
+
+/// What stands before what is shown of a value.
+pub(crate) const OK: &[u8] = b"ok ";
+
+/// The answer to bytes whose value can't be written.
+pub(crate) const UNWRITABLE: &[u8] = b"unwritable";
+
+/// The word for what a reply does not tell, behind a space.
+const NONE: &[u8] = b" none";
+
+/// Adds a number in decimal.
+pub(crate) fn push_number(text: &mut Vec<u8>, number: u64) -> Result<(), AllocError>
+    ensures { OnOk result (text.new.items ≡ text.old.items ++ decimal number) }
+{
+    match write!(text, "{number}") {
+        Ok(()) => Ok(()),
+        Err(_) => Err(AllocError),
+    }
+}
+
+/// Adds the hex field of some bytes.
+pub(crate) fn push_field(text: &mut Vec<u8>, bytes: &[u8]) -> Result<(), AllocError>
+    ensures { OnOk result (text.new.items ≡ text.old.items ++ field_of bytes.now) }
+{
+    if bytes.is_empty() {
+        return Ok(text.push(b'-')?);
+    }
+    push_digits(text, bytes)
+}
+
+/// Adds two digits for each byte.
+fn push_digits(text: &mut Vec<u8>, bytes: &[u8]) -> Result<(), AllocError>
+    ensures { OnOk result (text.new.items ≡ text.old.items ++ encode_lower bytes.now) }
+{
+    let start = text.len();
+    let Some(count) = bytes.len().checked_mul(2) else {
+        return Err(AllocError);
+    };
+    let Some(end) = start.checked_add(count) else {
+        return Err(AllocError);
+    };
+    text.resize(end, 0)?;
+    match hex::encode_to_slice(bytes, &mut text[start..]) {
+        Ok(()) => Ok(()),
+        Err(_) => unreachable!(),
+    }
+}
+
+/// Adds `ok` and the hex field of some bytes.
+pub(crate) fn push_accepted(text: &mut Vec<u8>, written: &[u8]) -> Result<(), AllocError>
+    ensures { OnOk result (text.new.items ≡ text.old.items ++ accepted (field_of written.now)) }
+{
+    text.extend_from_slice(OK)?;
+    push_field(text, written)
+}
+
+/// Adds `refused` and the number of a fault. Want of memory is none, and is handed on.
+pub(crate) fn push_refused(text: &mut Vec<u8>, fault: &DecodeError) -> Result<(), AllocError>
+    ensures { OnOk result ((fault.now ≢ Memory) × (text.new.items ≡ text.old.items ++ refused fault.now)) }
+{
+    match fault {
+        DecodeError::Memory => Err(AllocError),
+        named => {
+            text.extend_from_slice(b"refused ")?;
+            push_number(text, named.number().into())
+        }
+    }
+}
+
+/// Adds a space and a number, or `none`.
+pub(crate) fn push_number_word(text: &mut Vec<u8>, number: Option<u32>) -> Result<(), AllocError>
+    ensures { OnOk result (text.new.items ≡ text.old.items ++ 32 ∷ or_none decimal number) }
+{
+    let Some(number) = number else {
+        return text.extend_from_slice(NONE);
+    };
+    text.push(b' ')?;
+    push_number(text, number.into())
+}
+
+/// Adds a space, the sort of a name and its bytes as a hex field, or `none`.
+pub(crate) fn push_name_word(
+    text: &mut Vec<u8>,
+    name: Option<NameView<'_>>,
+) -> Result<(), AllocError>
+    ensures { OnOk result (text.new.items
+        ≡ text.old.items ++ 32 ∷ or_none name_word (option_map viewed_name name.entry)) }
+{
+    match name {
+        Some(NameView::Pathname(path)) => {
+            text.extend_from_slice(b" path:")?;
+            push_field(text, path)
+        }
+        Some(NameView::Abstract(address)) => {
+            text.extend_from_slice(b" abstract:")?;
+            push_field(text, address)
+        }
+        None => text.extend_from_slice(NONE),
+    }
+}
+
+/// Adds a space and numbers with commas between, or `none`.
+pub(crate) fn push_numbers_word(
+    text: &mut Vec<u8>,
+    numbers: Option<NumbersView<'_>>,
+) -> Result<(), AllocError>
+    ensures { OnOk result (text.new.items
+        ≡ text.old.items ++ 32 ∷ or_none comma_list (option_map viewed_numbers numbers.entry)) }
+{
+    let Some(numbers) = numbers else {
+        return text.extend_from_slice(NONE);
+    };
+    text.push(b' ')?;
+    push_numbers(text, numbers)
+}
+
+/// Adds numbers with commas between, or `-` for none.
+fn push_numbers(text: &mut Vec<u8>, numbers: NumbersView<'_>) -> Result<(), AllocError>
+    ensures { OnOk result (text.new.items ≡ text.old.items ++ comma_list (viewed_numbers numbers.entry)) }
+{
+    let Some(first) = numbers.get(0) else {
+        return Ok(text.push(b'-')?);
+    };
+    push_number(text, first.into())?;
+    'rest: for index in 1..numbers.len() {
+        let Some(number) = numbers.get(index) else {
+            unreachable!();
+        };
+        text.push(b',')?;
+        push_number(text, number.into())?;
+    }
+    Ok(())
+}

@@ -1,0 +1,5 @@
+//! Tests of the lines.
+#![tactic(auto)]
+
+#[cfg(test)]
+mod tests;

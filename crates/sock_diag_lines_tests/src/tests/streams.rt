@@ -1,0 +1,303 @@
+//! Runs over readers and writers that move few bytes a call, fail at a call, or go on for long.
+
+use super::{INPUT, OUTPUT, Repeated, repeated};
+use sock_diag_lines::{RunError, run, run_to_status};
+use std::alloc::{AllocError, Global};
+use std::cell::Cell;
+use std::io;
+use std::io::{ErrorKind, Read, Write};
+use std::process::Abort;
+use std::test::Fail;
+
+/// The number of a call that does not come.
+const NEVER: usize = usize::MAX;
+
+/// Stands for the flush among the numbers of calls.
+const FLUSH: usize = usize::MAX - 1;
+
+/// How many bytes a stream moves a call at most, and which of its calls fails.
+#[derive(Clone, Copy)]
+struct Pace {
+    most: usize,
+    fails_at: usize,
+}
+
+/// Moves at most so many bytes a call, and does not fail.
+fn steady(most: usize) -> Pace {
+    Pace {
+        most,
+        fails_at: NEVER,
+    }
+}
+
+fn line_count(text: &[u8]) -> usize {
+    text.iter().filter(|byte| **byte == b'\n').count()
+}
+
+/// The first lines of a text, so many of them.
+fn first_lines(text: &[u8], count: usize) -> &[u8] {
+    let mut left = count;
+    for (i, byte) in text.iter().enumerate() {
+        if left == 0 {
+            return &text[..i];
+        }
+        if *byte == b'\n' {
+            left -= 1;
+        }
+    }
+    text
+}
+
+/// Gives its bytes at a pace, and notes where an answer that was due had not come.
+#[derive(Drop)]
+struct PacedReader<'a> {
+    rest: &'a [u8],
+    pace: Pace,
+    calls: usize,
+    /// How many bytes the last call asked for.
+    asked: usize,
+    lines: usize,
+    answered: &'a Cell<usize>,
+    is_late: bool,
+}
+
+impl<'a> PacedReader<'a> {
+    fn new(rest: &'a [u8], pace: Pace, answered: &'a Cell<usize>) -> PacedReader<'a> {
+        PacedReader {
+            rest,
+            pace,
+            calls: 0,
+            asked: 0,
+            lines: 0,
+            answered,
+            is_late: false,
+        }
+    }
+}
+
+impl Read for PacedReader<'_> {
+    fn read(&mut self, buf: &mut [u8]) -> io::Result<usize> {
+        let call = self.calls;
+        self.calls = call.saturating_add(1);
+        self.asked = buf.len();
+        if self.answered.get() != self.lines {
+            self.is_late = true;
+        }
+        if call == self.pace.fails_at {
+            return Err(io::Error::from(ErrorKind::Interrupted));
+        }
+        let count = self.pace.most.min(self.rest.len()).min(buf.len());
+        let (given, rest) = self.rest.split_at(count);
+        buf[..count].copy_from_slice(given);
+        self.lines = self.lines.saturating_add(line_count(given));
+        self.rest = rest;
+        Ok(count)
+    }
+}
+
+/// Takes bytes at a pace, and counts the lines.
+#[derive(Drop)]
+struct PacedWriter<'a> {
+    taken: Vec<u8>,
+    pace: Pace,
+    calls: usize,
+    answered: &'a Cell<usize>,
+    flushes: usize,
+}
+
+impl<'a> PacedWriter<'a> {
+    fn new(alloc: Global, pace: Pace, answered: &'a Cell<usize>) -> PacedWriter<'a> {
+        PacedWriter {
+            taken: Vec::new(alloc),
+            pace,
+            calls: 0,
+            answered,
+            flushes: 0,
+        }
+    }
+}
+
+impl Write for PacedWriter<'_> {
+    fn write(&mut self, buf: &[u8]) -> io::Result<usize> {
+        let call = self.calls;
+        self.calls = call.saturating_add(1);
+        if call == self.pace.fails_at {
+            return Err(io::Error::from(ErrorKind::Interrupted));
+        }
+        let count = self.pace.most.min(buf.len());
+        let taken = &buf[..count];
+        self.taken.extend_from_slice(taken)?;
+        let lines = self.answered.get().saturating_add(line_count(taken));
+        self.answered.set(lines);
+        Ok(count)
+    }
+
+    fn flush(&mut self) -> io::Result<()> {
+        self.flushes = self.flushes.saturating_add(1);
+        if self.pace.fails_at == FLUSH {
+            return Err(io::Error::from(ErrorKind::Other));
+        }
+        Ok(())
+    }
+}
+
+/// A run ends so and has written so much, in so many reads and writes. Before each read all answers
+/// that are due are written. A read asks for 8 KiB. One flush comes, where nothing has failed.
+fn ends(
+    rt: &impl Abort,
+    alloc: Global,
+    text: &[u8],
+    paces: (Pace, Pace),
+    outcome: Result<(), RunError>,
+    written: &[u8],
+) -> (usize, usize) {
+    let (reads, writes) = paces;
+    let answered = Cell::new(0);
+    let mut input = PacedReader::new(text, reads, &answered);
+    let mut output = PacedWriter::new(alloc, writes, &answered);
+    assert_eq!(rt; run(alloc, &mut input, &mut output), outcome);
+    assert!(rt; output.taken.as_slice() == written);
+    assert!(rt; !input.is_late && input.asked == 8192);
+    let is_flushed = outcome.is_ok() || writes.fails_at == FLUSH;
+    assert_eq!(rt; output.flushes, if is_flushed { 1 } else { 0 });
+    (input.calls, output.calls)
+}
+
+#[test]
+fn each_read_fails(rt: HostRuntime) {
+    let text = INPUT.as_bytes();
+    for most in 1..10 {
+        for fails_at in 0..=text.len().div_ceil(most) {
+            let read = most.saturating_mul(fails_at).min(text.len());
+            let written = first_lines(OUTPUT.as_bytes(), line_count(&text[..read]));
+            let paces = (Pace { most, fails_at }, steady(most));
+            let failed = Err(RunError::Read);
+            let (reads, _) = ends(&rt, rt.alloc(), text, paces, failed, written);
+            assert_eq!(rt; reads, fails_at.saturating_add(1));
+        }
+    }
+}
+
+#[test]
+fn each_write_fails(rt: HostRuntime) {
+    let whole = OUTPUT.as_bytes();
+    for most in 1..10 {
+        let read = if most == 1 { 1 } else { NEVER };
+        for fails_at in 0..whole.len().div_ceil(most) {
+            let written = &whole[..most.saturating_mul(fails_at).min(whole.len())];
+            let paces = (steady(read), Pace { most, fails_at });
+            let failed = Err(RunError::Write);
+            let (_, writes) = ends(&rt, rt.alloc(), INPUT.as_bytes(), paces, failed, written);
+            assert_eq!(rt; writes, fails_at.saturating_add(1));
+        }
+    }
+}
+
+/// A flush fails, a write takes no bytes, and a last line has no line feed.
+#[test]
+fn ends_of_a_run(rt: HostRuntime) {
+    let unended = INPUT.strip_suffix('\n').unwrap_or("");
+    let failed = Err(RunError::Write);
+    for (text, most, fails_at, outcome, written) in [
+        (INPUT, NEVER, FLUSH, failed, OUTPUT),
+        (INPUT, 1, FLUSH, failed, OUTPUT),
+        (INPUT, 0, NEVER, failed, ""),
+        ("", NEVER, FLUSH, failed, ""),
+        ("", NEVER, NEVER, Ok(()), ""),
+        (unended, NEVER, NEVER, Ok(()), OUTPUT),
+        (unended, 1, NEVER, Ok(()), OUTPUT),
+    ] {
+        let paces = (steady(NEVER), Pace { most, fails_at });
+        let (text, written) = (text.as_bytes(), written.as_bytes());
+        ends(&rt, rt.alloc(), text, paces, outcome, written);
+    }
+}
+
+/// The whole answer comes, whether reads, writes or both move at most so many bytes a call. Where a
+/// write takes all, there is one for each read, and one more at most.
+fn answers_in_pieces(rt: &impl Abort, alloc: Global, text: &[u8], written: &[u8], most: usize) {
+    for (read, write) in [(most, NEVER), (NEVER, most), (most, most)] {
+        let paces = (steady(read), steady(write));
+        let (reads, writes) = ends(rt, alloc, text, paces, Ok(()), written);
+        assert!(rt; write != NEVER || writes <= reads.saturating_add(1));
+    }
+}
+
+/// A netlink message that ends a dump and carries 70,000 bytes, as far as these bytes.
+const DONE: &str = "netlink 80110100030000000000000000000000";
+
+/// The shortest lines, which have the longest answers for their length, a line that is longer than
+/// the memory that is kept, and one with a long answer.
+const LONG: [(Repeated, Repeated); 3] = [
+    (
+        ("", "\n", 30_000, ""),
+        ("", "bad line\n", 30_000, "bad line"),
+    ),
+    (("unixreq ", "00", 70_000, ""), ("ok 01", "00", 23, "")),
+    (
+        (DONE, "5a", 70_000, ""),
+        ("ok 70016 3 0 0 0 ", "5a", 70_000, ""),
+    ),
+];
+
+/// Many lines, one that may be longer than any read, and three lines behind it.
+fn among_lines(alloc: Global, lines: &str, long: Repeated) -> Result<Vec<u8>, AllocError> {
+    let mut text = lines.as_bytes().repeat(alloc, 100)?;
+    text.extend_from_slice(&repeated(alloc, long)?)?;
+    text.push(b'\n')?;
+    text.extend_from_slice(lines.as_bytes())?;
+    Ok(text)
+}
+
+#[test]
+fn pieces_of_any_size(rt: HostRuntime) -> Result<(), Fail> {
+    let alloc = rt.alloc();
+    for (long, answered) in LONG {
+        let text = among_lines(alloc, INPUT, long)?;
+        let written = among_lines(alloc, OUTPUT, answered)?;
+        for most in [
+            1, 2, 3, 7, 64, 1_000, 4_095, 4_096, 4_097, 5_003, 8_191, 8_192, 8_193, 100_003,
+        ] {
+            answers_in_pieces(&rt, alloc, &text, &written, most);
+        }
+    }
+    Ok(())
+}
+
+/// A hundred thousand lines, and a million reads of one byte.
+#[test]
+fn many_lines_and_reads(rt: HostRuntime) -> Result<(), Fail> {
+    let alloc = rt.alloc();
+    for (times, most) in [(33_334, NEVER), (6_000, 1)] {
+        let text = INPUT.as_bytes().repeat(alloc, times)?;
+        let written = OUTPUT.as_bytes().repeat(alloc, times)?;
+        let paces = (steady(most), steady(NEVER));
+        ends(&rt, alloc, &text, paces, Ok(()), &written);
+    }
+    Ok(())
+}
+
+/// A run tells so on its errors why it failed, and nothing else.
+fn tells(rt: &impl Abort, alloc: Global, read_fails: usize, write_fails: usize, want: &str) {
+    let answered = Cell::new(0);
+    let (mut reads, mut writes) = (steady(1), steady(1));
+    reads.fails_at = read_fails;
+    writes.fails_at = write_fails;
+    let mut input = PacedReader::new(INPUT.as_bytes(), reads, &answered);
+    let mut output = PacedWriter::new(alloc, writes, &answered);
+    let mut errors = Vec::new(alloc);
+    let _status = run_to_status(alloc, &mut input, &mut output, &mut errors);
+    assert_eq!(rt; errors.as_slice(), want.as_bytes());
+}
+
+#[test]
+fn tells_on_errors_why_it_failed(rt: HostRuntime) {
+    for (read_fails, write_fails, want) in [
+        (0, NEVER, "sockdiag: reading failed\n"),
+        (30, NEVER, "sockdiag: reading failed\n"),
+        (NEVER, FLUSH, "sockdiag: writing failed\n"),
+        (NEVER, NEVER, ""),
+    ] {
+        tells(&rt, rt.alloc(), read_fails, write_fails, want);
+    }
+}

@@ -1,9 +1,0 @@
-use Rattle.std.proofs.lemmas.Result.{on_ok_weaker}
-use Rattle.sockdiag.proofs.AnswerLemmas.{read_answer}
-use Rattle.sockdiag.proofs.answers.push_answer.Goals as goal
-
-pub returns : goal.returns
-returns c =
-    on_ok_weaker c.push_told.result
-    (λ a. (a.0, a.1, read_answer c.args.line.now c.in_ok-asked.asked c.read_request.new.bytes.items a.0 c.in_ok-asked.ensures (rw c.as_slice.ensures.value at a.2)))
-    c.push_told.ensures

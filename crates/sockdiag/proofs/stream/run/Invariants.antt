@@ -1,5 +1,0 @@
-use Rattle.sockdiag.proofs.AnswerLemmas.{answer_of}
-use Rattle.sockdiag.proofs.stream.run.Given as goal
-
-abbrev pub ghosts-serve : goal.ghosts-serve
-ghosts-serve g a = record { remaining = g.R.Read.remaining a.input.now; contents = g.W.Write.contents a.output.now; answer = answer_of }

@@ -1,8 +1,0 @@
-use Rattle.std.proofs.Common.{◌≡◌, ◌++◌, take}
-use Rattle.sock_diag_attributes.specs.SeenNumbers.{viewed_numbers}
-use Rattle.sockdiag.specs.ViewLine.{comma_list}
-use Rattle.sockdiag.proofs.words.push_numbers.Given as goal
-
--- the numbers before this place were added
-abbrev pub invariant-rest : goal.invariant-rest
-invariant-rest l = l.text.items ≡ l.fn.text.items ++ comma_list (take l.index (viewed_numbers l.numbers))
