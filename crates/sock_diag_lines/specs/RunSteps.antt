@@ -1,5 +1,5 @@
 -- What the steps of a run keep.
-use Rattle.std.specs.Prelude.{◌≡◌, ◌≢◌, ℕ, List, [], ◌∷◌, ◌++◌, Option, Result, Ok, Err}
+use Rattle.std.specs.Prelude.{◌≡◌, ◌≢◌, ℕ, List, [], ◌∷◌, ◌++◌, codes, Option, Result, Ok, Err}
 use Rattle.std.specs.List.{All}
 use Rattle.std.specs.Io.KnownBytes.{Appends, Keeps}
 use Rattle.sock_diag_lines.specs.Lines.{Splits}
@@ -18,6 +18,12 @@ fed text = text ++ 10 ∷ []
 -- front is a beginning of the text
 abbrev pub IsBeginning : List ℕ → List ℕ → Type 0
 IsBeginning front text = (more : List ℕ) × (text ≡ front ++ more)
+
+-- the line that tells of a failure
+abbrev pub failure_line : RunError → List ℕ
+failure_line Read = codes "sockdiag: reading failed" ++ 10 ∷ []
+failure_line Write = codes "sockdiag: writing failed" ++ 10 ∷ []
+failure_line Memory = codes "sockdiag: out of memory" ++ 10 ∷ []
 
 -- the text was written, or a beginning of it where a write failed, or nothing where memory ran out
 abbrev pub Writes : Option (List ℕ) → Option (List ℕ) → List ℕ → Result Unit RunError → Type 0

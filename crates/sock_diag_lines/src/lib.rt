@@ -2,7 +2,8 @@
 //! one answer line for each of them.
 #![tactic(auto)]
 
-ghost use Rattle.std.specs.Prelude.{◌≡◌, ◌↔◌, ℕ, List, Result, IfSome, IsOk, IsErr};
+ghost use Rattle.std.specs.Prelude.{◌≡◌, ◌↔◌, ◌++◌, ◌∷◌, [], ℕ, List, Result, codes};
+ghost use Rattle.std.specs.Prelude.{IfSome, IfErr, IsOk, IsErr};
 ghost use Rattle.std.specs.Process.{exit_status};
 ghost use Rattle.std.specs.Io.KnownBytes.{Appends, IsAtEnd, Keeps};
 ghost use Rattle.sock_diag_lines.specs.Answer.{IsAnswerOf};
@@ -22,10 +23,11 @@ pub use answers::answer;
 use std::alloc::Global;
 use std::io::{Read, Write};
 use std::process::ExitCode;
+use stream::tell;
 pub use stream::{RunError, run};
 
-/// `run`, which tells on `errors` why it failed. The status is 0 where it came to the end of its input,
-/// and 1 where it failed.
+/// `run`, which tells on `errors` in one line why it failed. The status is 0 where it came to the
+/// end of its input, and 1 where it failed.
 pub fn run_to_status<R: Read, W: Write, E: Write>(
     alloc: Global,
     input: &mut R,
@@ -38,17 +40,20 @@ pub fn run_to_status<R: Read, W: Write, E: Write>(
         → ((line : List ℕ) → IsAnswerOf line (answer line)) → Splits text whole rest
         → Appends (W.contents output.old) (W.contents output.new) (answer_lines answer (with_rest whole rest))) }
     ensures silent { exit_status result ≡ 0 → Keeps (E.contents errors.old) (E.contents errors.new) }
+    // How it ended. One line names a failure on `errors`, or its beginning where a write fails.
     ensures answered { (answer : List ℕ → List ℕ) → ((line : List ℕ) → IsAnswerOf line (answer line))
         → (outcome : Result Unit RunError)
         × ((exit_status result ≡ 0) ↔ IsOk outcome) × ((exit_status result ≡ 1) ↔ IsErr outcome)
         × Answers answer (R.remaining input.old) (R.remaining input.new)
-        (W.contents output.old) (W.contents output.new) outcome }
+        (W.contents output.old) (W.contents output.new) outcome
+        × IfErr outcome (λ e. (told more : List ℕ)
+        × Appends (E.contents errors.old) (E.contents errors.new) told
+        × (e ≡ RunError.Read → told ++ more ≡ codes "sockdiag: reading failed" ++ 10 ∷ [])
+        × (e ≡ RunError.Write → told ++ more ≡ codes "sockdiag: writing failed" ++ 10 ∷ [])
+        × (e ≡ RunError.Memory → told ++ more ≡ codes "sockdiag: out of memory" ++ 10 ∷ [])) }
 {
     let outcome = run(alloc, input, output);
-    if let Err(error) = &outcome {
-        // Where this can't be written either, the exit status alone tells of the failure.
-        let _ = writeln!(errors, "sockdiag: {error}");
-    }
+    tell(errors, &outcome);
     exit_code(&outcome)
 }
 

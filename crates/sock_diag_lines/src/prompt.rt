@@ -1,11 +1,13 @@
 //! The one way in which a run reads, and the one in which it writes.
 
-ghost use Rattle.std.specs.Prelude.{◌≡◌, ◌<◌, ◌≤◌, ◌+◌, ℕ, List, Option, length, IfOk, IfErr, ⊤};
+ghost use Rattle.std.specs.Prelude.{◌≡◌, ◌==◌, ◌<◌, ◌≤◌, ◌+◌, if◌then◌else◌, ℕ, List, Option};
+ghost use Rattle.std.specs.Prelude.{length, IfOk, IfErr, MatchResult, ⊤};
 ghost use Rattle.std.specs.Io.KnownBytes.{Keeps, ReadConsumes, WriteAppends};
 ghost use Rattle.std.specs.Io.{ReadsAtMost};
 ghost use Rattle.sock_diag_lines.specs.Run.{CaughtUp};
 
 use crate::stream::{RunError, Start};
+use std::io;
 use std::io::{Read, Write};
 
 /// What can be read only where the answers to all whole lines that were read stand on the output. Who has
@@ -48,10 +50,17 @@ impl<R: Read> PromptRead for R {
         _line: &[u8],
         piece: &mut [u8],
     ) -> Result<usize, RunError> {
-        match self.read(piece) {
-            Ok(count) => Ok(count),
-            Err(_) => Err(RunError::Read),
-        }
+        read_outcome(self.read(piece))
+    }
+}
+
+/// What a read came to. It failed where the call did.
+fn read_outcome(outcome: io::Result<usize>) -> Result<usize, RunError>
+    ensures { MatchResult outcome (λ n. result ≡ Ok n) (λ _. result ≡ Err RunError.Read) }
+{
+    match outcome {
+        Ok(count) => Ok(count),
+        Err(_) => Err(RunError::Read),
     }
 }
 
@@ -82,16 +91,31 @@ impl<W: Write> AnswerWrite for W {
     ghost failed = { λ _. ⊤ };
 
     fn write_some(&mut self, bytes: &[u8]) -> Result<usize, RunError> {
-        match self.write(bytes) {
-            Ok(0) | Err(_) => Err(RunError::Write),
-            Ok(count) => Ok(count),
-        }
+        write_outcome(self.write(bytes))
     }
 
     fn flush_answers(&mut self) -> Result<(), RunError> {
-        match self.flush() {
-            Ok(()) => Ok(()),
-            Err(_) => Err(RunError::Write),
-        }
+        flush_outcome(self.flush())
+    }
+}
+
+/// What a write came to. It failed where the call did, or took no bytes.
+fn write_outcome(outcome: io::Result<usize>) -> Result<usize, RunError>
+    ensures { MatchResult outcome (λ n. result ≡ (if n == 0 then Err RunError.Write else Ok n))
+        (λ _. result ≡ Err RunError.Write) }
+{
+    match outcome {
+        Ok(0) | Err(_) => Err(RunError::Write),
+        Ok(count) => Ok(count),
+    }
+}
+
+/// What a flush came to. It failed where the call did.
+fn flush_outcome(outcome: io::Result<()>) -> Result<(), RunError>
+    ensures { MatchResult outcome (λ _. result ≡ Ok tt) (λ _. result ≡ Err RunError.Write) }
+{
+    match outcome {
+        Ok(()) => Ok(()),
+        Err(_) => Err(RunError::Write),
     }
 }

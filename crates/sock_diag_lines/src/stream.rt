@@ -1,11 +1,13 @@
 //! Answers the lines of a reader on a writer.
 ghost use Rattle.std.specs.Prelude.{◌≡◌, ◌≤◌, ◌⊎◌, ◌-◌, ◌^◌, ℕ, List, [], ◌++◌, OnOk, OnErr, IfOk, IfErr, IfSome, Option, None, vec_capacity};
-ghost use Rattle.std.specs.Io.KnownBytes.{Appends, IsAtEnd};
+ghost use Rattle.std.specs.Prelude.{IsOk};
+ghost use Rattle.std.specs.Io.KnownBytes.{Appends, IsAtEnd, Keeps};
 ghost use Rattle.sock_diag_lines.specs.Answer.{IsAnswerOf};
 ghost use Rattle.sock_diag_lines.specs.AskedSteps.{IsReadAs};
 ghost use Rattle.sock_diag_lines.specs.Lines.{Splits, with_rest};
 ghost use Rattle.sock_diag_lines.specs.Run.{Answers, answer_lines};
 ghost use Rattle.sock_diag_lines.specs.RunSteps.{AnswersPiece, IsLine, Writes, fed};
+ghost use Rattle.sock_diag_lines.specs.RunSteps.{IsBeginning, failure_line};
 ghost use Rattle.sock_diag_lines.specs.declared.stream.RunError.TheVariants.{Memory};
 
 use crate::answers::{Asked, push_told, read_request};
@@ -185,8 +187,10 @@ fn take_piece<S: Start>(alloc: Global, kept: &mut Kept, piece: &[u8]) -> Result<
 /// before its answer takes any.
 fn end_line<S: Start>(alloc: Global, kept: &mut Kept, end: &[u8]) -> Result<(), AllocError>
     requires { (line : List ℕ) → IsAnswerOf line (S.answer line) }
-    ensures { OnOk result ((kept.new.line.items ≡ [])
+    ensures added { OnOk result ((kept.new.line.items ≡ [])
         × (kept.new.answers.items ≡ kept.old.answers.items ++ fed (S.answer (kept.old.line.items ++ end.now)))) }
+    ensures rooms { OnOk result ((vec_capacity kept.new.line ≤ KEPT)
+        × (vec_capacity kept.new.bytes ≤ KEPT)) }
 {
     let asked = read_line(alloc, kept, end)?;
     empty(alloc, &mut kept.line);
@@ -246,4 +250,26 @@ fn send<W: AnswerWrite>(output: &mut W, bytes: &[u8]) -> Result<(), RunError>
         rest = &rest[count..];
     }
     Ok(())
+}
+
+/// Tells why a run failed. Where this can't be written either, the exit status alone tells of it.
+pub(crate) fn tell<E: AnswerWrite>(errors: &mut E, outcome: &Result<(), RunError>)
+    ensures silent { IsOk outcome.now → Keeps (E.held errors.old) (E.held errors.new) }
+    ensures told { IfErr outcome.now (λ e. (told : List ℕ) × IsBeginning told (failure_line e)
+        × Appends (E.held errors.old) (E.held errors.new) told) }
+{
+    if let Err(error) = outcome {
+        let _ = send(errors, failure_line(*error));
+    }
+}
+
+/// The line that tells of a failure.
+fn failure_line(error: RunError) -> &'static [u8]
+    ensures { result.now ≡ failure_line error }
+{
+    match error {
+        RunError::Read => b"sockdiag: reading failed\n",
+        RunError::Write => b"sockdiag: writing failed\n",
+        RunError::Memory => b"sockdiag: out of memory\n",
+    }
 }

@@ -1,3 +1,4 @@
 pub mod Pushing
 pub mod LinkTells
 pub mod AnswerDump
+pub mod CountingListeners

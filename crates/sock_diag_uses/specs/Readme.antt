@@ -1,11 +1,19 @@
 -- What the examples of the README tell.
-use Rattle.std.specs.Prelude.{ℕ, List, Option, Some, None}
+use Rattle.std.specs.Prelude.{◌≡◌, ◌==◌, Bool, false, ℕ, List, [], ◌∷◌, ◌++◌, count_by}
+use Rattle.std.specs.Prelude.{Option, Some, None, Result, Ok, Err}
 use Rattle.std.specs.Borrow.{Bor}
+use Rattle.std.specs.Bool.{then_some}
+use Rattle.std.specs.List.{AllByRecursion, starts_with}
 use Rattle.std.specs.Option.{option_and_then}
+use Rattle.netlink_core.specs.declared.fault.DecodeError.{DecodeError}
+use Rattle.netlink_core.specs.Envelope.{done_with, error_with, overrun_with, inner}
 use Rattle.netlink_core.specs.Family.{content}
+use Rattle.netlink_core.specs.Items.{Item, ItemsAre}
 use Rattle.sock_diag_attributes.specs.Name.{SocketName, pathname, abstract}
 use Rattle.sock_diag_attributes.specs.UnixAttributes.{unix}
+use Rattle.netlink_packet_sock_diag.specs.Dump.{end_of}
 use Rattle.netlink_packet_sock_diag.specs.Message.{Message, message_of, inet_request, inet_response, unix_request, unix_response}
+use Rattle.netlink_packet_sock_diag.specs.Message.{message_codec}
 use Rattle.netlink_packet_sock_diag.specs.UnixGetters.{first_of}
 
 -- the bytes of a path that is lent
@@ -24,3 +32,27 @@ path_of (message_of inet_request v) = None
 path_of (message_of inet_response v) = None
 path_of (message_of unix_request v) = None
 path_of (message_of unix_response v) = option_and_then path_in (first_of (content unix 0) v.nlas)
+
+-- it is a reply about a UNIX socket that listens, state 10
+abbrev pub listens : Item Message → Bool
+listens (Ok (inner (message_of unix_response v))) = v.header.state == 10
+listens _ = false
+
+-- What is answered where so many were counted and these items are left. Nothing is, or the first of
+-- them ends the dump: well, by a number 0 in front; or with a failure, or with a fault.
+abbrev pub EndsWith : ℕ → List (Item Message) → Result (Option ℕ) DecodeError → Type 0
+EndsWith count [] answer = answer ≡ Ok (Some count)
+EndsWith count (Ok (done_with status) ∷ later) answer =
+    answer ≡ Ok (then_some (starts_with ◌==◌ status (0 ∷ 0 ∷ 0 ∷ 0 ∷ [])) count)
+EndsWith count (Ok (error_with status) ∷ later) answer = answer ≡ Ok None
+EndsWith count (Ok (overrun_with status) ∷ later) answer = answer ≡ Ok None
+EndsWith count (Err e ∷ later) answer = answer ≡ Err e
+EndsWith count (_ ∷ later) answer = ⊥
+
+-- counted are the listening sockets in front of the first end of the datagram's items
+pub record IsCounted (datagram : List ℕ) (answer : Result (Option ℕ) DecodeError) : Type 0 where
+  pub passed : List (Item Message)
+  pub later : List (Item Message)
+  pub are : ItemsAre message_codec datagram (passed ++ later)
+  pub go_on : AllByRecursion (λ item. end_of item ≡ None) passed
+  pub ends : EndsWith (count_by listens passed) later answer

@@ -68,10 +68,18 @@ FailsFor reason (Request e) = ⊥
 FailsFor reason Unwritable = reason
 FailsFor reason Memory = ⊤
 
--- why there is no answer: the request is refused, or some reply can't be written
+-- the first bytes are a message of type 20 that asks for UNIX sockets
+abbrev pub Asks : List ℕ → Type 0
+Asks request = (h : NetlinkHeader) × (asked : UnixRequest)
+    × HasHeader request h × (h.message_type ≡ 20)
+    × (read unix_request tt (take (h.length - 16) (drop 16 request)) ≡ Ok asked)
+
+-- why there is no answer: the request is refused; or it is one, and some reply can't be written or
+-- memory is wanted
 abbrev pub GivesNoAnswer : List ℕ → List UnixReply → AnswerError → Type 0
 GivesNoAnswer request replies (Request e) = RefusesRequest request e
-GivesNoAnswer request replies other = FailsFor (¬ AllByRecursion ReplyHasRoom replies) other
+GivesNoAnswer request replies Unwritable = Asks request × ¬ AllByRecursion ReplyHasRoom replies
+GivesNoAnswer request replies Memory = Asks request
 
 -- a reply as readers give it, whose message can be written
 pub record CanBeTold (reply : UnixReply) : Type 0 where

@@ -1,6 +1,6 @@
 //! A listing of what a datagram of a dump tells, read in place.
 
-ghost use Rattle.std.specs.Prelude.{◌≡◌, List, Result, Some, IfOk, map};
+ghost use Rattle.std.specs.Prelude.{◌≡◌, ◌↔◌, List, Result, Some, IfOk, IsTrue, map};
 ghost use Rattle.std.specs.Iterator.{Drains};
 ghost use Rattle.std.specs.List.{filter_map};
 ghost use Rattle.netlink_core.specs.declared.fault.DecodeError.{DecodeError as Fault};
@@ -39,6 +39,13 @@ pub fn list(alloc: Global, datagram: &[u8]) -> Result<Vec<Line>, AllocError>
 {
     laws::whole_views_are_the_datagram();
     lines_of(alloc, DumpViews::new(datagram))
+}
+
+/// `==` says whether two lines are the same.
+pub fn equal_lines(v: &Line, w: &Line) -> bool
+    ensures { IsTrue result ↔ (v.now ≡ w.now) }
+{
+    v == w
 }
 
 // The lines of what a walk gives.

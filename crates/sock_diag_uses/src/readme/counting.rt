@@ -1,26 +1,30 @@
 //! A datagram of a dump is gone over in place.
 
+ghost use Rattle.sock_diag_uses.specs.Readme.{IsCounted};
+
 use netlink_core::DecodeError;
 use netlink_packet_sock_diag::constants::TCP_LISTEN;
 use netlink_packet_sock_diag::{DumpViews, PayloadView, SockDiagView};
 
 /// How many replies of a datagram are about UNIX sockets that listen, or `None` where the kernel says that its dump
 /// failed or that data was lost. No memory is taken.
-pub fn listening(datagram: &[u8]) -> Result<Option<usize>, DecodeError> {
+pub fn listening(datagram: &[u8]) -> Result<Option<usize>, DecodeError>
+    ensures { IsCounted datagram.now result }
+{
     let mut count = 0usize;
     for item in DumpViews::new(datagram) {
         match item? {
             PayloadView::InnerMessage(SockDiagView::UnixResponse(reply)) => {
                 if reply.header().state == TCP_LISTEN {
-                    count = count.saturating_add(1);
+                    count += 1;
                 }
             }
-            PayloadView::InnerMessage(_) | PayloadView::Noop => {}
+            PayloadView::InnerMessage(SockDiagView::InetResponse(_)) => {}
+            PayloadView::Noop => {}
             // An end begins with a number, 0 where all went well and else -errno.
-            PayloadView::Done(status) if status.first_chunk() == Some(&[0u8; 4]) => break,
-            PayloadView::Done(_) | PayloadView::Error(_) | PayloadView::Overrun(_) => {
-                return Ok(None);
-            }
+            PayloadView::Done(status) => return Ok(status.starts_with(&[0; 4]).then_some(count)),
+            PayloadView::Error(_) => return Ok(None),
+            PayloadView::Overrun(_) => return Ok(None),
         }
     }
     Ok(Some(count))

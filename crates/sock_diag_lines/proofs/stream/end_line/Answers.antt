@@ -2,8 +2,8 @@ use Rattle.std.proofs.Common.{◌++◌, ap, ◌∙◌}
 use Rattle.sock_diag_lines.specs.RunSteps.{fed}
 use Rattle.sock_diag_lines.proofs.stream.end_line.Goals as goal
 
-pub returns : goal.returns
-returns g c =
+pub returns-clause-added : goal.returns-clause-added
+returns-clause-added g c =
     let line = c.args.kept.now.line.items ++ c.args.end.now in
     let is_read = rw (← c.as_slice.ensures.value) at c.in_ok-asked.ensures.0 in (
       c.empty.ensures.emptied,

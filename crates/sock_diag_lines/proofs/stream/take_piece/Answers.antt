@@ -20,7 +20,7 @@ lines-preserved g c =
     let base = piece_line f (start ++ front) c.lines.kept.line.items (take n rest) answers c.lines.kept.answers.items p before in (
       front ++ more,
       split ∙ ap (λ t. front ++ t) (cut ∙ ap (λ t. more ++ t) (sym (take_rest rest (n + 1)))) ∙ sym (append_assoc front more left),
-      rw (c.in_ok-end_line.ensures.0, c.in_ok-end_line.ensures.1, ← append_assoc start front more) base,
+      rw (c.in_ok-end_line.ensures.added.0, c.in_ok-end_line.ensures.added.1, ← append_assoc start front more) base,
     )
 
 pub returns : goal.returns
