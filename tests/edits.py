@@ -157,8 +157,8 @@ def try_crate(crate, edits, functions, flags):
                 print(f"{it.name}: refused, by {by}", flush=True)
             alone += [it for it in group if it not in told]
         for it in alone:
-            is_refused, text = rt.must_fail(crate, it.file, flags, kept)
-            failed += not is_refused
+            kind, text = rt.must_fail(crate, it.file, flags, kept)
+            failed += kind not in (rt.REFUSED, rt.AT_LIMIT)
             print(f"{it.name}: alone, {text.partition('.edit: ')[2]}", flush=True)
     checks, spent = len(groups) + len(alone), time.time() - began
     print(f"{crate.name}: {len(edits)} edits, {checks} checks, {spent:.0f} s", flush=True)
