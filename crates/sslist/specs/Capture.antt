@@ -1,10 +1,14 @@
 -- Captures: the classic pcap format of netlink traffic.
-use Rattle.std.specs.Prelude.{◌≡◌, ◌≢◌, ℕ, ◌≤◌, ◌⊎◌, ◌==◌, nat_lt, if◌then◌else◌, List, length, drop}
+use Rattle.std.specs.Prelude.{◌≡◌, ◌≢◌, ℕ, ◌+◌, ◌<◌, ◌≤◌, ◌⊎◌, ◌==◌, nat_lt, if◌then◌else◌, List}
+use Rattle.std.specs.Prelude.{◌++◌, length, drop, Option}
+use Rattle.std.specs.Io.KnownBytes.{IsAtEnd}
 use Rattle.byteorder.specs.Endian.{big_number, little_number}
 use Rattle.sslist.specs.declared.capture.ByteOrder.{ByteOrder}
 use Rattle.sslist.specs.declared.capture.ByteOrder.TheVariants.{LowFirst, HighFirst}
 use Rattle.sslist.specs.declared.capture.CaptureError.{CaptureError}
-use Rattle.sslist.specs.declared.capture.CaptureError.TheVariants.{NoCapture, OtherVersion, OtherLinkType}
+use Rattle.sslist.specs.declared.capture.CaptureError.TheVariants.{Read, Memory, Cut, NoCapture}
+use Rattle.sslist.specs.declared.capture.CaptureError.TheVariants.{OtherVersion, OtherLinkType}
+use Rattle.sslist.specs.declared.capture.CaptureError.TheVariants.{PacketTooLong}
 use Rattle.sslist.specs.declared.capture.FileHeader.{FileHeader}
 
 -- the number of so many bytes at a place, in the order of the file
@@ -44,3 +48,36 @@ pub record IsRecord (file : FileHeader) (header packet : List ℕ) : Type 0 wher
   pub whole : length header ≡ 16
   pub length_word : number_at file.order 4 8 header ≡ length packet
   pub within : length packet ≤ file.limit
+
+-- ---- where reading stops
+
+-- the input is at its end, or a read failed
+abbrev pub IsStop : Option (List ℕ) → Type 0 → CaptureError → Type 0
+IsStop left failed Cut = IsAtEnd left
+IsStop left failed Read = failed
+IsStop left failed _ = ⊥
+
+-- Why no header of a capture was read, but these bytes: too few were left, a read failed, or they
+-- are no such header.
+abbrev pub IsHeaderStop : Option (List ℕ) → Type 0 → List ℕ → CaptureError → Type 0
+IsHeaderStop left failed part e =
+    ((length part < 24) × IsStop left failed e) ⊎ ((length part ≡ 24) × IsFileHeaderFault part e)
+
+-- a beginning of a packet behind its header, and not all of it
+abbrev pub IsUnfinished : FileHeader → List ℕ → Type 0
+IsUnfinished file part =
+    (length part < 16)
+    ⊎ ((header : List ℕ) × (front : List ℕ) × (part ≡ header ++ front) × (length header ≡ 16)
+    × (length front < number_at file.order 4 8 header))
+
+-- Why no packet was read, but these bytes: the input ends within it, a read failed, memory ran out
+-- for one that is within the limit, or its header tells a number that is past the limit.
+abbrev pub IsPacketStop : FileHeader → Option (List ℕ) → Type 0 → List ℕ → CaptureError → Type 0
+IsPacketStop file left failed part Cut = (0 < length part) × IsUnfinished file part × IsAtEnd left
+IsPacketStop file left failed part Read = IsUnfinished file part × failed
+IsPacketStop file left failed part Memory = (length part ≡ 16)
+    × (number_at file.order 4 8 part ≤ file.limit)
+IsPacketStop file left failed part (PacketTooLong told most) =
+    (length part ≡ 16) × (told ≡ number_at file.order 4 8 part) × (most ≡ file.limit)
+    × (file.limit < told)
+IsPacketStop file left failed part _ = ⊥

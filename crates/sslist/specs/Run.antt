@@ -1,8 +1,12 @@
 -- What a whole capture is listed as.
-use Rattle.std.specs.Prelude.{◌≡◌, ◌↔◌, ℕ, List, [], ◌∷◌, ◌++◌, length, flat_map, Bool, IsTrue}
+use Rattle.std.specs.Prelude.{◌≡◌, ◌↔◌, ℕ, ◌+◌, ◌-◌, ◌^◌, ◌⊎◌, List, [], ◌∷◌, ◌++◌, length}
+use Rattle.std.specs.Prelude.{flat_map, Bool, IsTrue, Option, Result, Ok, Err}
+use Rattle.std.specs.Io.KnownBytes.{Appends, Consumes, IsAtEnd, Keeps}
 use Rattle.std.specs.List.{AllByRecursion, AllZip}
 use Rattle.sslist.specs.declared.capture.FileHeader.{FileHeader}
-use Rattle.sslist.specs.Capture.{IsFileHeader, IsRecord}
+use Rattle.sslist.specs.declared.stream.RunError.{RunError}
+use Rattle.sslist.specs.declared.stream.RunError.TheVariants.{Header, Packet, Write, Memory}
+use Rattle.sslist.specs.Capture.{IsFileHeader, IsHeaderStop, IsPacketStop, IsRecord}
 use Rattle.sslist.specs.Listing.{ListsPacket}
 
 -- the lines of a packet, and whether it was listed whole
@@ -42,3 +46,45 @@ pub record IsTable (bytes lines : List ℕ) (is_whole : Bool) : Type 0 where
   pub listed : AllZip IsListed packets told
   pub written : lines ≡ flat_map lines_told told
   pub whole : IsTrue is_whole ↔ AllByRecursion IsWhole told
+
+-- Of a run: the bytes that are left to read and held as written, before and after it, where they
+-- are known, and the heading.
+module _ (left left' held held' : Option (List ℕ)) (heading : List ℕ) where
+  -- A capture of so many packets was read, and `more` behind it. The heading and the lines of these
+  -- packets were written.
+  pub record Stands (file : FileHeader) (packets : ℕ) (more : List ℕ) : Type 0 where
+    pub bytes : List ℕ
+    pub lines : List ℕ
+    pub is_whole : Bool
+    pub table : IsTable bytes lines is_whole
+    pub of_file : table.file ≡ file
+    pub counted : length table.packets ≡ packets
+    pub read : Consumes left left' (bytes ++ more)
+    pub appended : Appends held held' (heading ++ lines)
+
+  -- What a run that fails so has read and written. At a header that can't be read nothing is
+  -- written; at a packet, of which the number is told, and where memory runs out, the lines of all
+  -- packets before; where a write fails, a beginning. `unread`: a read failed.
+  abbrev pub Fails : Type 0 → RunError → Type 0
+  Fails unread (Header fault) =
+      (part : List ℕ) × Consumes left left' part × IsHeaderStop left' unread part fault
+      × Keeps held held'
+  Fails unread (Packet number fault) =
+      (file : FileHeader) × (packets : ℕ) × (part : List ℕ) × Stands file packets part
+      × (number ≡ packets + 1) × IsPacketStop file left' (unread ⊎ (number ≡ 2 ^ 64 - 1)) part fault
+  Fails unread Memory =
+      (file : FileHeader) × (packets : ℕ) × (header : List ℕ) × (packet : List ℕ)
+      × IsRecord file header packet × Stands file packets (header ++ packet)
+  Fails unread Write =
+      (bytes : List ℕ) × (lines : List ℕ) × (is_whole : Bool) × IsTable bytes lines is_whole
+      × Consumes left left' bytes × (front : List ℕ) × (rest : List ℕ)
+      × (heading ++ lines ≡ front ++ rest) × Appends held held' front
+
+  -- a whole capture was read to the end of the input, and all of its table written
+  pub record Finishes (is_whole : Bool) : Type 0 where
+    pub bytes : List ℕ
+    pub lines : List ℕ
+    pub table : IsTable bytes lines is_whole
+    pub read : Consumes left left' bytes
+    pub ended : IsAtEnd left'
+    pub appended : Appends held held' (heading ++ lines)

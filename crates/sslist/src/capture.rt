@@ -1,13 +1,15 @@
 //! Captures of netlink traffic, as tcpdump writes them: the classic pcap format with the link type LINKTYPE_NETLINK.
 
-ghost use Rattle.std.specs.Prelude.{◌≡◌, ◌↔◌, ◌+◌, ◌<◌, ◌≤◌, ◌++◌, ℕ, List, length, IfOk, OnOk, IsTrue, MatchBool, MatchOption, MatchResult};
+ghost use Rattle.std.specs.Prelude.{◌≡◌, ◌↔◌, ◌+◌, ◌<◌, ◌≤◌, ◌++◌, ◌⊎◌, ℕ, List, [], length, IfOk};
+ghost use Rattle.std.specs.Prelude.{IfErr, OnOk, IsTrue, MatchBool, MatchOption, MatchResult};
 ghost use Rattle.std.specs.Io.KnownBytes.{Consumes, IsAtEnd, Keeps};
-ghost use Rattle.sslist.specs.Capture.{IsFileHeader, IsFileHeaderFault, IsMagic, IsRecord, limit_of, number_at};
+ghost use Rattle.sslist.specs.Capture.{IsFileHeader, IsFileHeaderFault, IsHeaderStop, IsMagic};
+ghost use Rattle.sslist.specs.Capture.{IsPacketStop, IsRecord, IsStop, limit_of, number_at};
 ghost use Rattle.sslist.specs.declared.capture.CaptureError.TheVariants.{Memory};
 
+use crate::streams::Source;
 use byteorder::{BigEndian, ByteOrder as _, LittleEndian};
 use std::alloc::AllocError;
-use std::io::{ErrorKind, Read};
 use thiserror::Error;
 
 /// The first number of a capture whose times are in microseconds.
@@ -169,9 +171,13 @@ impl FileHeader {
     }
 
     /// Reads the header of a capture.
-    pub fn read<R: Read>(input: &mut R) -> Result<FileHeader, CaptureError>
-        ensures { IfOk result (λ file. (bytes : List ℕ) × (length bytes ≡ 24) × IsFileHeader bytes file
-            × Consumes (R.remaining input.old) (R.remaining input.new) bytes) }
+    pub fn read<R: Source>(input: &mut R) -> Result<FileHeader, CaptureError>
+        ensures read { IfOk result (λ file. (bytes : List ℕ) × (length bytes ≡ 24)
+            × IsFileHeader bytes file
+            × Consumes (R.left input.old) (R.left input.new) bytes) }
+        ensures stopped { IfErr result (λ e. (part : List ℕ)
+            × Consumes (R.left input.old) (R.left input.new) part
+            × IsHeaderStop (R.left input.new) (R.failed input.new) part e) }
     {
         let mut bytes = [0u8; FILE_HEADER];
         fill(input, &mut bytes)?;
@@ -180,15 +186,18 @@ impl FileHeader {
 
     /// Reads the next packet in place of what `packet` held, and answers whether there is one. It takes memory for the
     /// packet alone, and none for one that is longer than packets of this capture may be.
-    pub fn read_packet<R: Read>(
+    pub fn read_packet<R: Source>(
         &self,
         input: &mut R,
         packet: &mut Vec<u8>,
     ) -> Result<bool, CaptureError>
-        ensures { IfOk result (λ is_read. MatchBool is_read
+        ensures read { IfOk result (λ is_read. MatchBool is_read
             ((header : List ℕ) × IsRecord self.now header packet.new.items
-            × Consumes (R.remaining input.old) (R.remaining input.new) (header ++ packet.new.items))
-            (IsAtEnd (R.remaining input.new) × Keeps (R.remaining input.old) (R.remaining input.new))) }
+            × Consumes (R.left input.old) (R.left input.new) (header ++ packet.new.items))
+            (IsAtEnd (R.left input.new) × Keeps (R.left input.old) (R.left input.new))) }
+        ensures stopped { IfErr result (λ e. (part : List ℕ)
+            × Consumes (R.left input.old) (R.left input.new) part
+            × IsPacketStop self.now (R.left input.new) (R.failed input.new) part e) }
     {
         let mut header = [0u8; RECORD_HEADER];
         if !fill_or_end(input, &mut header)? {
@@ -201,10 +210,10 @@ impl FileHeader {
                 limit: self.limit,
             });
         }
-        packet.clear();
-        packet.resize(length as usize, 0)?;
-        fill(input, packet.as_mut_slice())?;
-        Ok(true)
+        match read_bytes(input, packet, length as usize) {
+            Ok(()) => Ok(true),
+            Err(fault) => Err(fault),
+        }
     }
 }
 
@@ -215,32 +224,62 @@ fn packet_limit(told: u32) -> u32
     if told == 0 || told > MOST { MOST } else { told }
 }
 
-/// Fills the bytes from a reader.
-fn fill<R: Read>(input: &mut R, bytes: &mut [u8]) -> Result<(), CaptureError>
-    ensures { OnOk result (Consumes (R.remaining input.old) (R.remaining input.new) bytes.new) }
+/// Reads so many bytes in place of what `packet` held.
+fn read_bytes<R: Source>(
+    input: &mut R,
+    packet: &mut Vec<u8>,
+    count: usize,
+) -> Result<(), CaptureError>
+    ensures read { OnOk result ((length packet.new.items ≡ count)
+        × Consumes (R.left input.old) (R.left input.new) packet.new.items) }
+    ensures stopped { IfErr result (λ e. (part : List ℕ)
+        × Consumes (R.left input.old) (R.left input.new) part
+        × (((e ≡ Memory) × (part ≡ []))
+        ⊎ ((length part < count) × IsStop (R.left input.new) (R.failed input.new) e))) }
 {
-    match input.read_exact(bytes) {
-        Ok(()) => Ok(()),
-        Err(error) if error.kind() == ErrorKind::UnexpectedEof => Err(CaptureError::Cut),
-        Err(_) => Err(CaptureError::Read),
-    }
+    packet.clear();
+    packet.resize(count, 0)?;
+    fill(input, packet.as_mut_slice())
 }
 
-/// Fills the bytes, at least one, or answers that none is left.
-fn fill_or_end<R: Read>(input: &mut R, bytes: &mut [u8]) -> Result<bool, CaptureError>
+/// Fills the bytes from a reader. No read that failed is made again.
+fn fill<R: Source>(input: &mut R, bytes: &mut [u8]) -> Result<(), CaptureError>
+    ensures filled { OnOk result (Consumes (R.left input.old) (R.left input.new) bytes.new) }
+    ensures stopped { IfErr result (λ e. (part : List ℕ) × (length part < length bytes.old)
+        × Consumes (R.left input.old) (R.left input.new) part
+        × IsStop (R.left input.new) (R.failed input.new) e) }
+{
+    let mut at = 0;
+    'reads: while at < bytes.len() {
+        match input.read_some(&mut bytes[at..]) {
+            Ok(0) => return Err(CaptureError::Cut),
+            Ok(count) => at += count,
+            Err(fault) => return Err(fault),
+        }
+    }
+    Ok(())
+}
+
+/// Fills the bytes, at least one, or answers that none is left. The input is not cut off in front
+/// of them.
+fn fill_or_end<R: Source>(input: &mut R, bytes: &mut [u8]) -> Result<bool, CaptureError>
     requires { 0 < length bytes.old }
-    ensures { IfOk result (λ is_filled. MatchBool is_filled
-        (Consumes (R.remaining input.old) (R.remaining input.new) bytes.new)
-        (IsAtEnd (R.remaining input.new) × Keeps (R.remaining input.old) (R.remaining input.new))) }
+    ensures filled { IfOk result (λ is_filled. MatchBool is_filled
+        (Consumes (R.left input.old) (R.left input.new) bytes.new)
+        (IsAtEnd (R.left input.new) × Keeps (R.left input.old) (R.left input.new))) }
+    ensures stopped { IfErr result (λ e. (part : List ℕ) × (length part < length bytes.old)
+        × (e ≡ CaptureError.Cut → 0 < length part)
+        × Consumes (R.left input.old) (R.left input.new) part
+        × IsStop (R.left input.new) (R.failed input.new) e) }
 {
     let (first, rest) = bytes.split_at_mut(1);
-    match input.read(first) {
+    match input.read_some(first) {
         Ok(0) => Ok(false),
-        Ok(_) => {
-            fill(input, rest)?;
-            Ok(true)
-        }
-        Err(_) => Err(CaptureError::Read),
+        Ok(_) => match fill(input, rest) {
+            Ok(()) => Ok(true),
+            Err(fault) => Err(fault),
+        },
+        Err(fault) => Err(fault),
     }
 }
 

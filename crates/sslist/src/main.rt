@@ -1,15 +1,19 @@
 //! Lists the sockets that a capture of netlink traffic tells, one a line, as ss(8) does of a running system.
 #![tactic(auto)]
 
-ghost use Rattle.std.specs.Prelude.{◌≡◌, ◌↔◌, IsTrue, IsOkAnd};
+ghost use Rattle.std.specs.Prelude.{◌≡◌, ◌↔◌, ◌++◌, ℕ, Bool, true, IsOkAnd, IsTrue, List};
+ghost use Rattle.std.specs.Prelude.{MatchResult, Result, ⊤};
 ghost use Rattle.std.specs.Process.{exit_status};
-ghost use Rattle.std.specs.Io.KnownBytes.{IsAtEnd};
+ghost use Rattle.std.specs.Io.KnownBytes.{Appends, Consumes, IsAtEnd};
+ghost use Rattle.sslist.specs.Run.{Fails, Finishes, IsTable};
+ghost use Rattle.sslist.specs.declared.stream.RunError.{RunError};
 
 mod capture;
 mod cells;
 mod line;
 mod list;
 mod stream;
+mod streams;
 #[cfg(test)]
 mod tests;
 
@@ -37,6 +41,17 @@ pub fn run_to_status<R: Read, W: Write, E: Write>(
     errors: &mut E,
 ) -> ExitCode
     ensures ended { exit_status result ≡ 0 → IsAtEnd (R.remaining input.new) }
+    ensures whole { exit_status result ≡ 0 → (bytes lines : List ℕ) × IsTable bytes lines true
+        × Consumes (R.remaining input.old) (R.remaining input.new) bytes
+        × Appends (W.contents output.old) (W.contents output.new) (HEADING.now ++ lines) }
+    // 0 exactly where the whole capture was listed whole.
+    ensures outcome { (outcome : Result Bool RunError)
+        × ((exit_status result ≡ 0) ↔ (outcome ≡ Ok true))
+        × MatchResult outcome
+        (Finishes (R.remaining input.old) (R.remaining input.new) (W.contents output.old)
+        (W.contents output.new) HEADING.now)
+        (Fails (R.remaining input.old) (R.remaining input.new) (W.contents output.old)
+        (W.contents output.new) HEADING.now ⊤) }
 {
     let outcome = run(alloc, input, output, errors);
     if let Err(error) = &outcome {

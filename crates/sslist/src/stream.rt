@@ -1,13 +1,16 @@
 //! The table of a capture, read as it comes.
 
-ghost use Rattle.std.specs.Prelude.{◌≡◌, ◌++◌, ℕ, List, length, OnOk, IfOk, MatchBool};
+ghost use Rattle.std.specs.Prelude.{◌≡◌, ◌++◌, ℕ, List, length, OnOk, IfErr, IfOk, MatchBool, ⊤};
 ghost use Rattle.std.specs.Io.KnownBytes.{Appends, Consumes, IsAtEnd, Keeps};
-ghost use Rattle.sslist.specs.Capture.{IsFileHeader, IsRecord};
-ghost use Rattle.sslist.specs.Run.{IsTable};
+ghost use Rattle.sslist.specs.Capture.{IsFileHeader, IsHeaderStop, IsPacketStop, IsRecord};
+ghost use Rattle.sslist.specs.declared.capture.CaptureError.{CaptureError};
+ghost use Rattle.sslist.specs.declared.stream.RunError.TheVariants.{Memory};
+ghost use Rattle.sslist.specs.Run.{Fails, IsTable};
 
 use crate::capture::{CaptureError, FileHeader};
 use crate::line::HEADING;
 use crate::list::{Written, list_packet};
+use crate::streams::{Sink, Source};
 use std::alloc::{AllocError, Global};
 use std::io::{Read, Write};
 use thiserror::Error;
@@ -35,6 +38,8 @@ pub enum RunError {
 }
 
 impl From<AllocError> for RunError {
+    ghost from_gives = { λ _ e. e ≡ Memory };
+
     fn from(_e: AllocError) -> RunError {
         RunError::Memory
     }
@@ -53,6 +58,27 @@ pub fn run<R: Read, W: Write, E: Write>(
     ensures table { IfOk result (λ is_whole. (bytes lines : List ℕ) × IsTable bytes lines is_whole
         × Consumes (R.remaining input.old) (R.remaining input.new) bytes
         × Appends (W.contents output.old) (W.contents output.new) (HEADING.now ++ lines)) }
+    ensures failed { IfErr result (Fails (R.remaining input.old) (R.remaining input.new)
+        (W.contents output.old) (W.contents output.new) HEADING.now ⊤) }
+{
+    write_table(alloc, input, output, errors)
+}
+
+/// `run`, which knows which calls failed.
+fn write_table<R: Source, W: Sink, E: Write>(
+    alloc: Global,
+    input: &mut R,
+    output: &mut W,
+    errors: &mut E,
+) -> Result<bool, RunError>
+    ensures ended { OnOk result (IsAtEnd (R.left input.new)) }
+    ensures flushed { OnOk result (W.flushed output.new) }
+    ensures table { IfOk result (λ is_whole. (bytes lines : List ℕ) × IsTable bytes lines is_whole
+        × Consumes (R.left input.old) (R.left input.new) bytes
+        × Appends (W.held output.old) (W.held output.new) (HEADING.now ++ lines)) }
+    ensures failed { IfErr result (Fails (R.left input.old) (R.left input.new)
+        (W.held output.old) (W.held output.new) HEADING.now (R.failed input.new)) }
+    ensures cause { IfErr result (λ e. e ≡ RunError.Write → W.failed output.new) }
 {
     let file = read_header(input)?;
     send(output, HEADING)?;
@@ -64,7 +90,7 @@ pub fn run<R: Read, W: Write, E: Write>(
     let mut is_whole = true;
     'packets: for number in 1..u64::MAX {
         if !read_packet(&file, input, number, &mut packet)? {
-            flush(output)?;
+            output.flush_all()?;
             return Ok(is_whole);
         }
         written.lines.clear();
@@ -81,9 +107,14 @@ pub fn run<R: Read, W: Write, E: Write>(
 }
 
 /// Reads the header of the capture.
-fn read_header<R: Read>(input: &mut R) -> Result<FileHeader, RunError>
-    ensures { IfOk result (λ file. (bytes : List ℕ) × (length bytes ≡ 24) × IsFileHeader bytes file
-        × Consumes (R.remaining input.old) (R.remaining input.new) bytes) }
+fn read_header<R: Source>(input: &mut R) -> Result<FileHeader, RunError>
+    ensures read { IfOk result (λ file. (bytes : List ℕ) × (length bytes ≡ 24)
+        × IsFileHeader bytes file
+        × Consumes (R.left input.old) (R.left input.new) bytes) }
+    ensures stopped { IfErr result (λ e. (fault : CaptureError) × (e ≡ RunError.Header fault)
+        × (part : List ℕ)
+        × Consumes (R.left input.old) (R.left input.new) part
+        × IsHeaderStop (R.left input.new) (R.failed input.new) part fault) }
 {
     match FileHeader::read(input) {
         Ok(file) => Ok(file),
@@ -92,16 +123,20 @@ fn read_header<R: Read>(input: &mut R) -> Result<FileHeader, RunError>
 }
 
 /// Reads the packet of a number in place of what `packet` held, and answers whether there is one.
-fn read_packet<R: Read>(
+fn read_packet<R: Source>(
     file: &FileHeader,
     input: &mut R,
     number: u64,
     packet: &mut Vec<u8>,
 ) -> Result<bool, RunError>
-    ensures { IfOk result (λ is_read. MatchBool is_read
+    ensures read { IfOk result (λ is_read. MatchBool is_read
         ((header : List ℕ) × IsRecord file.now header packet.new.items
-        × Consumes (R.remaining input.old) (R.remaining input.new) (header ++ packet.new.items))
-        (IsAtEnd (R.remaining input.new) × Keeps (R.remaining input.old) (R.remaining input.new))) }
+        × Consumes (R.left input.old) (R.left input.new) (header ++ packet.new.items))
+        (IsAtEnd (R.left input.new) × Keeps (R.left input.old) (R.left input.new))) }
+    ensures stopped { IfErr result (λ e. (fault : CaptureError) × (e ≡ RunError.Packet number fault)
+        × (part : List ℕ)
+        × Consumes (R.left input.old) (R.left input.new) part
+        × IsPacketStop file.now (R.left input.new) (R.failed input.new) part fault) }
 {
     match file.read_packet(input, packet) {
         Ok(is_read) => Ok(is_read),
@@ -112,22 +147,19 @@ fn read_packet<R: Read>(
     }
 }
 
-/// Writes all the bytes.
-fn send<W: Write>(output: &mut W, bytes: &[u8]) -> Result<(), RunError>
-    ensures { OnOk result (Appends (W.contents output.old) (W.contents output.new) bytes.now) }
+/// Writes all the bytes. No write that failed is made again.
+fn send<W: Sink>(output: &mut W, bytes: &[u8]) -> Result<(), RunError>
+    ensures written { OnOk result (Appends (W.held output.old) (W.held output.new) bytes.now) }
+    ensures stopped { IfErr result (λ e. (e ≡ RunError.Write) × W.failed output.new
+        × (front : List ℕ) × (rest : List ℕ)
+        × (bytes.now ≡ front ++ rest) × Appends (W.held output.old) (W.held output.new) front) }
 {
-    match output.write_all(bytes) {
-        Ok(()) => Ok(()),
-        Err(_) => Err(RunError::Write),
+    let mut rest = bytes;
+    'writes: while !rest.is_empty() {
+        match output.write_part(rest) {
+            Ok(count) => rest = &rest[count..],
+            Err(fault) => return Err(fault),
+        }
     }
-}
-
-/// Flushes what was written.
-fn flush<W: Write>(output: &mut W) -> Result<(), RunError>
-    ensures { Keeps (W.contents output.old) (W.contents output.new) }
-{
-    match output.flush() {
-        Ok(()) => Ok(()),
-        Err(_) => Err(RunError::Write),
-    }
+    Ok(())
 }

@@ -4,6 +4,7 @@ use crate::run_to_status;
 use crate::stream::{RunError, run};
 use byteorder::{BigEndian, ByteOrder as _, LittleEndian};
 use std::alloc::{AllocError, Global};
+use std::io::{self, Write};
 use std::process::Abort;
 use std::test::Fail;
 
@@ -18,9 +19,6 @@ const UNIX: &str =
 /// A dump ends.
 const DONE: &str = "1400000003000200070000000000000000000000";
 
-/// A dump ends with the error 2.
-const DONE_WITH_ERROR: &str = "14000000030002000700000000000000feffffff";
-
 /// A reply about a UNIX socket with 12 bytes of the 16 of its header.
 const SHORT_REPLY: &str = "1c00000014000200070000000000000001010a000e4f0000a0020000";
 
@@ -31,10 +29,8 @@ const OTHER_FAMILY: &str = "20000000140002000700000000000000100101000e4f0000a002
 const REQUEST: &str =
     "2800000014000103010000000000000001000000ffffffff000000003f000000ffffffffffffffff";
 
-/// The protocol of sock_diag(7), and another one.
+/// The protocol of sock_diag(7). 0 is another one.
 const SOCK_DIAG: u16 = 4;
-
-const ROUTE: u16 = 0;
 
 /// Adds a number of two or four bytes.
 fn push_word(capture: &mut Vec<u8>, order: ByteOrder, number: u32) -> Result<(), AllocError> {
@@ -90,16 +86,41 @@ fn push_packet(
     Ok(())
 }
 
-/// What a run over a capture ends with, writes on its output and tells on its errors.
+/// Takes bytes, and notes whether a flush came last.
+#[derive(Drop)]
+struct Flushed {
+    taken: Vec<u8>,
+    is_flushed: bool,
+}
+
+impl Write for Flushed {
+    fn write(&mut self, buf: &[u8]) -> io::Result<usize> {
+        self.is_flushed = false;
+        self.taken.extend_from_slice(buf)?;
+        Ok(buf.len())
+    }
+
+    fn flush(&mut self) -> io::Result<()> {
+        self.is_flushed = true;
+        Ok(())
+    }
+}
+
+/// What a run over a capture ends with, writes on its output and tells on its errors. A flush ends it.
 fn listed(
+    rt: &impl Abort,
     alloc: Global,
     capture: &[u8],
 ) -> Result<(Result<bool, RunError>, Vec<u8>, Vec<u8>), AllocError> {
     let mut input = capture;
-    let mut output = Vec::new(alloc);
+    let mut output = Flushed {
+        taken: Vec::new(alloc),
+        is_flushed: false,
+    };
     let mut errors = Vec::new(alloc);
     let outcome = run(alloc, &mut input, &mut output, &mut errors);
-    Ok((outcome, output, errors))
+    assert!(rt; output.is_flushed || outcome.is_err());
+    Ok((outcome, output.taken, errors))
 }
 
 /// A heading and some lines.
@@ -126,40 +147,18 @@ fn lists_captures_of_both_orders(rt: HostRuntime) -> Result<(), Fail> {
         for magic in [0xa1b2_c3d4, 0xa1b2_3c4d] {
             let mut capture = Vec::new(alloc);
             push_header(&mut capture, order, magic, 253)?;
-            push_packet(alloc, &mut capture, order, ROUTE, UNIX)?;
+            push_packet(alloc, &mut capture, order, 0, UNIX)?;
             push_packet(alloc, &mut capture, order, SOCK_DIAG, REQUEST)?;
             push_packet(alloc, &mut capture, order, SOCK_DIAG, UNIX)?;
             push_packet(alloc, &mut capture, order, SOCK_DIAG, OTHER_FAMILY)?;
             push_packet(alloc, &mut capture, order, SOCK_DIAG, INET6)?;
             push_packet(alloc, &mut capture, order, SOCK_DIAG, DONE)?;
-            let (outcome, output, errors) = listed(alloc, &capture)?;
+            let (outcome, output, errors) = listed(&rt, alloc, &capture)?;
             assert_eq!(rt; outcome, Ok(true));
             assert_eq!(rt; output.as_slice(), want.as_slice());
             assert!(rt; errors.is_empty());
         }
     }
-    Ok(())
-}
-
-/// A refused message and an error at the end of a dump are told, and the lines around them stand.
-#[test]
-fn tells_what_is_refused(rt: HostRuntime) -> Result<(), Fail> {
-    let alloc = rt.alloc();
-    let order = ByteOrder::LowFirst;
-    let mut capture = Vec::new(alloc);
-    push_header(&mut capture, order, 0xa1b2_c3d4, 253)?;
-    push_packet(alloc, &mut capture, order, SOCK_DIAG, SHORT_REPLY)?;
-    push_packet(alloc, &mut capture, order, SOCK_DIAG, UNIX)?;
-    push_packet(alloc, &mut capture, order, SOCK_DIAG, DONE_WITH_ERROR)?;
-    let (outcome, output, errors) = listed(alloc, &capture)?;
-    assert_eq!(rt; outcome, Ok(false));
-    assert_eq!(rt; output.as_slice(), table(alloc, UNIX_LINE)?.as_slice());
-    assert_eq!(rt;
-        errors.as_slice(),
-        b"sslist: packet 1, message 1: UnixResponseHeader: buffer of 12 bytes, at least 16 needed\n\
-sslist: packet 3, message 1: the kernel answers error 2\n"
-            .as_slice()
-    );
     Ok(())
 }
 
@@ -174,7 +173,7 @@ fn tells_where_a_capture_is_cut(rt: HostRuntime) -> Result<(), Fail> {
     let whole = capture.len();
     push_packet(alloc, &mut capture, order, SOCK_DIAG, INET6)?;
     for len in 0..capture.len() {
-        let (outcome, output, errors) = listed(alloc, &capture[..len])?;
+        let (outcome, output, errors) = listed(&rt, alloc, &capture[..len])?;
         let fault = CaptureError::Cut;
         let want = match len {
             0..24 => Err(RunError::Header(fault)),
@@ -192,36 +191,74 @@ fn tells_where_a_capture_is_cut(rt: HostRuntime) -> Result<(), Fail> {
     Ok(())
 }
 
-/// Files that are no captures of netlink traffic are refused before anything is written, and a long packet where it stands.
-#[test]
-fn refuses_other_captures(rt: HostRuntime) -> Result<(), Fail> {
-    let alloc = rt.alloc();
-    let order = ByteOrder::LowFirst;
-    let mut other = Vec::new(alloc);
-    push_header(&mut other, order, 0xa1b2_c3d4, 1)?;
-    let mut errors = Vec::new(alloc);
-    let mut output = Vec::new(alloc);
-    let _status = run_to_status(alloc, &mut other.as_slice(), &mut output, &mut errors);
-    assert!(rt; output.is_empty());
-    assert_eq!(rt;
-        errors.as_slice(),
-        b"sslist: packets of link type 1, not 253 (netlink)\n".as_slice()
-    );
-    let (outcome, _, _) = listed(alloc, b"\x0a\x0d\x0d\x0a and a text of twenty bytes")?;
-    assert_eq!(rt;
-        outcome,
-        Err(RunError::Header(CaptureError::NoCapture(0x0a0d_0d0a)))
-    );
-    let mut long = Vec::new(alloc);
-    push_header(&mut long, order, 0xa1b2_c3d4, 253)?;
-    for word in [0, 0, 4097, 4097] {
-        push_word(&mut long, order, word)?;
+/// The front of the header of a capture.
+const FRONT: &str = "d4c3b2a1020004000000000000000000";
+
+/// The end of that of a capture whose packets have at most 72 bytes.
+const OF_72: &str = "48000000fd000000";
+
+/// The headers of a packet of 72 bytes.
+const OF_SOCK_DIAG: &str = "0700000009000000480000004800000000040338000000000000000000000004";
+
+/// A packet of another protocol, and one of 15 bytes.
+const OTHER_AND_SHORT: &str = "0700000009000000100000001000000000000000000000000000000000000000\
+07000000090000000f0000000f000000000403380000000000000000000000";
+
+/// A packet whose message tells that data was lost.
+const LOST: &str =
+    "07000000090000002000000020000000000403380000000000000000000000041000000004000000\
+0700000000000000";
+
+/// A packet whose message ends a dump with the error 2.
+const FAILED: &str =
+    "07000000090000002400000024000000000403380000000000000000000000041400000003000200\
+0700000000000000feffffff";
+
+/// What a run tells of a capture that is given in hex, part by part.
+fn tells(rt: &impl Abort, alloc: Global, parts: &[&str], want: &str) -> Result<(), Fail> {
+    let mut capture = Vec::new(alloc);
+    for part in parts {
+        capture.extend_from_slice(&hex::decode(alloc, part)?)?;
     }
-    let (outcome, _, _) = listed(alloc, &long)?;
-    let fault = CaptureError::PacketTooLong {
-        length: 4097,
-        limit: 4096,
-    };
-    assert_eq!(rt; outcome, Err(RunError::Packet { packet: 1, fault }));
+    let (mut output, mut errors) = (Vec::new(alloc), Vec::new(alloc));
+    let _status = run_to_status(alloc, &mut capture.as_slice(), &mut output, &mut errors);
+    assert_eq!(rt; std::str::from_utf8(&errors)?, want);
     Ok(())
+}
+
+/// The texts on standard error, with the numbers in them.
+#[test]
+fn tells_why(rt: HostRuntime) -> Result<(), Fail> {
+    let alloc = rt.alloc();
+    let parts = [FRONT, OF_72, OF_SOCK_DIAG, SHORT_REPLY, SHORT_REPLY];
+    let want =
+        "sslist: packet 1, message 1: UnixResponseHeader: buffer of 12 bytes, at least 16 needed\n\
+sslist: packet 1, message 2: UnixResponseHeader: buffer of 12 bytes, at least 16 needed\n";
+    tells(&rt, alloc, &parts, want)?;
+    let parts = [FRONT, OF_72, OTHER_AND_SHORT, LOST, FAILED, "00"];
+    let want = "sslist: packet 2: fewer than 16 bytes\n\
+sslist: packet 3, message 1: the kernel lost data\n\
+sslist: packet 4, message 1: the kernel answers error 2\n\
+sslist: packet 5: the capture is cut off\n";
+    tells(&rt, alloc, &parts, want)?;
+    let want = "sslist: the capture is cut off\n";
+    tells(&rt, alloc, &[FRONT, "48000000"], want)?;
+    let want = "sslist: packets of link type 1, not 253 (netlink)\n";
+    tells(&rt, alloc, &[FRONT, "4800000001000000"], want)?;
+    let want = "sslist: pcap of version 3, not 2\n";
+    tells(
+        &rt,
+        alloc,
+        &["d4c3b2a1030005000000000000000000", OF_72],
+        want,
+    )?;
+    let want = "sslist: no pcap capture: it begins with 0a0d0d0a\n";
+    tells(
+        &rt,
+        alloc,
+        &["0a0d0d0a200000004d3c2b1a01000000", OF_72],
+        want,
+    )?;
+    let want = "sslist: packet 1: a packet of 72 bytes, at most 71 expected\n";
+    tells(&rt, alloc, &[FRONT, "47000000fd000000", OF_SOCK_DIAG], want)
 }
