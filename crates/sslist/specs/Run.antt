@@ -1,6 +1,6 @@
 -- What a whole capture is listed as.
 use Rattle.std.specs.Prelude.{◌≡◌, ◌↔◌, ℕ, ◌+◌, ◌-◌, ◌^◌, ◌⊎◌, List, [], ◌∷◌, ◌++◌, length}
-use Rattle.std.specs.Prelude.{flat_map, Bool, IsTrue, Option, Result, Ok, Err}
+use Rattle.std.specs.Prelude.{flat_map, Bool, IsTrue, Option}
 use Rattle.std.specs.Io.KnownBytes.{Appends, Consumes, IsAtEnd, Keeps}
 use Rattle.std.specs.List.{AllByRecursion, AllZip}
 use Rattle.sslist.specs.declared.capture.FileHeader.{FileHeader}
