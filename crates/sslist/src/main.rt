@@ -1,57 +1,13 @@
 //! Lists the sockets that a capture of netlink traffic tells, one a line, as ss(8) does of a running system.
 #![tactic(auto)]
 
-ghost use Rattle.std.specs.Prelude.{◌≡◌, ◌↔◌, IsTrue, IsOkAnd};
-ghost use Rattle.std.specs.Process.{exit_status};
-ghost use Rattle.std.specs.Io.KnownBytes.{IsAtEnd};
-
-mod capture;
-mod cells;
-mod line;
-mod list;
-mod stream;
-#[cfg(test)]
-mod tests;
-
-pub use capture::{ByteOrder, CaptureError, FileHeader, Packet};
-pub use line::{HEADING, push_socket};
-pub use list::{Complaint, Written, list_packet};
-use std::alloc::Global;
-use std::io::{BufReader, Read, Write};
+use sock_diag_captures::run_to_status;
+use std::io::BufReader;
 use std::process::ExitCode;
-pub use stream::{RunError, run};
 
 fn main(rt: HostRuntime) -> ExitCode {
     match BufReader::new(rt.alloc(), rt.stdin()) {
         Ok(mut input) => run_to_status(rt.alloc(), &mut input, &mut rt.stdout(), &mut rt.stderr()),
         Err(_) => ExitCode::FAILURE,
-    }
-}
-
-/// `run`, which tells on `errors` why it failed. The status is 0 where the whole capture was listed, and 1 where reading
-/// or writing failed, or where something was told of a packet.
-pub fn run_to_status<R: Read, W: Write, E: Write>(
-    alloc: Global,
-    input: &mut R,
-    output: &mut W,
-    errors: &mut E,
-) -> ExitCode
-    ensures ended { exit_status result ≡ 0 → IsAtEnd (R.remaining input.new) }
-{
-    let outcome = run(alloc, input, output, errors);
-    if let Err(error) = &outcome {
-        // Where this can't be written either, the exit status alone tells of the failure.
-        let _ = writeln!(errors, "sslist: {error}");
-    }
-    exit_code(&outcome)
-}
-
-/// Status 0 where all was listed, and 1 where it was not.
-fn exit_code(outcome: &Result<bool, RunError>) -> ExitCode
-    ensures { (exit_status result ≡ 0) ↔ IsOkAnd outcome.now (λ is_whole. IsTrue is_whole) }
-{
-    match outcome {
-        Ok(true) => ExitCode::SUCCESS,
-        Ok(false) | Err(_) => ExitCode::FAILURE,
     }
 }

@@ -1,0 +1,206 @@
+-- What a run that fails has read and written.
+use Rattle.std.proofs.Common.{◌≡◌, ◌⊎◌, inl, inr, ℕ, ◌+◌, ◌-◌, ◌^◌, List, [], ◌∷◌, ◌++◌, length}
+use Rattle.std.proofs.Common.{Bool, true, false, refl, sym, ap, subst, ◌∙◌, append_assoc}
+use Rattle.std.proofs.Common.{append-nil, arith}
+use Rattle.std.specs.Prelude.{Option, None, Some, flat_map}
+use Rattle.std.specs.Io.KnownBytes.{Appends, Consumes, Keeps, append_known}
+use Rattle.std.proofs.KnownBytes.{Appends-kept, Appends-trans, Consumes-nil, Consumes-trans}
+use Rattle.std.proofs.KnownBytes.{Keeps-refl}
+use Rattle.sock_diag_captures.specs.Capture.{IsFileHeader, IsHeaderStop, IsPacketStop, IsRecord}
+use Rattle.sock_diag_captures.specs.declared.capture.CaptureError.{CaptureError}
+use Rattle.sock_diag_captures.specs.declared.capture.CaptureError.TheVariants.{Cut, NoCapture, OtherVersion}
+use Rattle.sock_diag_captures.specs.declared.capture.CaptureError.TheVariants.{OtherLinkType, PacketTooLong}
+use Rattle.sock_diag_captures.specs.declared.capture.CaptureError.TheVariants.{Read, Memory as NoMemory}
+use Rattle.sock_diag_captures.specs.declared.capture.FileHeader.{FileHeader}
+use Rattle.sock_diag_captures.specs.declared.stream.RunError.{RunError}
+use Rattle.sock_diag_captures.specs.declared.stream.RunError.TheVariants.{Header, Packet, Write, Memory}
+use Rattle.sock_diag_captures.specs.Run.{Fails, IsListed, IsTable, Stands, Told, lines_told}
+use Rattle.sock_diag_captures.proofs.Progress.{Progress, goes_on_part, goes_on_whole, lines_push}
+use Rattle.sock_diag_captures.proofs.Progress.{progress_begins}
+
+-- a stop for one cause is a stop for one of two
+stop_weaker : (file : FileHeader) (left : Option (List ℕ)) (A B : Type 0) (part : List ℕ)
+    (fault : CaptureError)
+    → IsPacketStop file left A part fault → IsPacketStop file left (A ⊎ B) part fault
+stop_weaker file left A B part Cut h = h
+stop_weaker file left A B part Read h = (h.0, inl h.1)
+stop_weaker file left A B part NoMemory h = h
+stop_weaker file left A B part (PacketTooLong told most) h = h
+stop_weaker file left A B part (NoCapture n) h = h
+stop_weaker file left A B part (OtherVersion n) h = h
+stop_weaker file left A B part (OtherLinkType n) h = h
+
+bool_cases : (b : Bool) → (b ≡ true) ⊎ (b ≡ false)
+bool_cases true = inl refl
+bool_cases false = inr refl
+
+appended_known : (held : Option (List ℕ)) (more : List ℕ)
+    → Appends held (append_known held more) more
+appended_known None more = tt
+appended_known (Some xs) more = refl
+
+-- the header could not be read
+pub fails_at_header : (a d x : Option (List ℕ)) (heading : List ℕ) (unread : Type 0) (e : RunError)
+    → ((fault : CaptureError) × (e ≡ Header fault) × (part : List ℕ) × Consumes a d part
+    × IsHeaderStop d unread part fault)
+    → Fails a d x x heading unread e
+fails_at_header a d x heading unread e (fault, is, part, read, stop) =
+    subst (λ (e : RunError). Fails a d x x heading unread e) (sym is)
+    (part, read, stop, Keeps-refl x)
+
+-- the heading could not be written, or the table of what was read
+pub fails_at_write : (a d x z : Option (List ℕ)) (heading bytes lines : List ℕ) (whole : Bool)
+    (unread : Type 0) (e : RunError)
+    → e ≡ Write → IsTable bytes lines whole → Consumes a d bytes
+    → (front rest : List ℕ) → heading ++ lines ≡ front ++ rest → Appends x z front
+    → Fails a d x z heading unread e
+fails_at_write a d x z heading bytes lines whole unread e is table read front rest split appended =
+    subst (λ (e : RunError). Fails a d x z heading unread e) (sym is)
+    (bytes, lines, whole, table, read, front, rest, split, appended)
+
+module _ (file : FileHeader) (header : List ℕ) (long : length header ≡ 24)
+    (is : IsFileHeader header file) where
+  -- the table of the packets so far
+  abbrev pub table_of : (b c y z : Option (List ℕ)) (whole : Bool) (number : ℕ)
+      (p : Progress (IsRecord file) IsListed b c y z whole number)
+      → IsTable (header ++ p.records) (flat_map lines_told p.told) whole
+  table_of b c y z whole number p = record {
+    file = file;
+    header = header;
+    records = p.records;
+    packets = p.packets;
+    told = p.told;
+    parts = refl;
+    long = long;
+    is_header = is;
+    are_packets = p.are_packets;
+    listed = p.listed;
+    written = refl;
+    whole = (p.flagged, p.whole_only);
+  }
+
+  -- the packets so far stand, and more was read
+  stands : (a b c d x y z : Option (List ℕ)) (heading more : List ℕ) (whole : Bool) (number : ℕ)
+      (p : Progress (IsRecord file) IsListed b c y z whole number)
+      → Consumes a b header → Consumes c d more → Appends x y heading
+      → Stands a d x z heading file (length p.packets) more
+  stands a b c d x y z heading more whole number p first last begun = record {
+    bytes = header ++ p.records;
+    lines = flat_map lines_told p.told;
+    is_whole = whole;
+    table = table_of b c y z whole number p;
+    of_file = refl;
+    counted = refl;
+    read = Consumes-trans a c d (header ++ p.records) more
+        (Consumes-trans a b c header p.records first p.read) last;
+    appended = Appends-trans x y z heading (flat_map lines_told p.told) begun p.appended;
+  }
+
+  -- the heading could not be written
+  pub fails_at_heading : (a b x z : Option (List ℕ)) (heading : List ℕ) (unread : Type 0)
+      (e : RunError) → e ≡ Write
+      → Consumes a b header → (front rest : List ℕ) → heading ≡ front ++ rest → Appends x z front
+      → Fails a b x z heading unread e
+  fails_at_heading a b x z heading unread e write first front rest split appended =
+      fails_at_write a b x z heading (header ++ []) [] true unread e write
+      (table_of b b x x true 1 (progress_begins (IsRecord file) IsListed b x))
+      (Consumes-trans a b b header [] first (Consumes-nil b)) front rest (append-nil heading
+      ∙ split) appended
+
+  module _ (a b c x y z : Option (List ℕ)) (heading : List ℕ) (whole : Bool) (number : ℕ)
+      (p : Progress (IsRecord file) IsListed b c y z whole number)
+      (first : Consumes a b header) (begun : Appends x y heading) where
+    -- a packet could not be read
+    pub fails_at_packet : (d : Option (List ℕ)) (unread : Type 0) (e : RunError)
+        → ((fault : CaptureError) × (e ≡ Packet number fault) × (part : List ℕ) × Consumes c d part
+        × IsPacketStop file d unread part fault)
+        → Fails a d x z heading unread e
+    fails_at_packet d unread e (fault, same, part, read, stop) =
+        subst (λ (e : RunError). Fails a d x z heading unread e) (sym same) (
+          file,
+          length p.packets,
+          part,
+          stands a b c d x y z heading part whole number p first read begun,
+          p.next,
+          stop_weaker file d unread (number ≡ 2 ^ 64 - 1) part fault stop,
+        )
+
+    -- no number is left for the next packet
+    pub fails_past_numbers : (unread : Type 0) → number ≡ 2 ^ 64 - 1
+        → Fails a c x z heading unread (Packet (2 ^ 64 - 1) Read)
+    fails_past_numbers unread last = (
+      file,
+      length p.packets,
+      [],
+      stands a b c c x y z heading [] whole number p first (Consumes-nil c) begun,
+      sym last ∙ p.next,
+      (inl (omega arith), inr refl),
+    )
+
+    -- memory ran out for the lines of a packet
+    pub fails_at_memory : (d : Option (List ℕ)) (unread : Type 0) (e : RunError)
+        (head packet : List ℕ) → e ≡ Memory
+        → IsRecord file head packet → Consumes c d (head ++ packet) → Fails a d x z heading unread e
+    fails_at_memory d unread e head packet memory record_of read =
+        subst (λ (e : RunError). Fails a d x z heading unread e) (sym memory) (
+          file,
+          length p.packets,
+          head,
+          packet,
+          record_of,
+          stands a b c d x y z heading (head ++ packet) whole number p first read begun,
+        )
+
+    -- the last flush failed
+    pub fails_at_flush : (d z' : Option (List ℕ)) (unread : Type 0) (e : RunError) → e ≡ Write
+        → Consumes c d [] → Keeps z z'
+        → Fails a d x z' heading unread e
+    fails_at_flush d z' unread e write last kept =
+        let lines = flat_map lines_told p.told in
+        let read : Consumes a d (header ++ p.records) =
+        subst (Consumes a d) (append-nil (header ++ p.records))
+        (Consumes-trans a c d (header ++ p.records) []
+        (Consumes-trans a b c header p.records first p.read) last) in
+        fails_at_write a d x z' heading (header ++ p.records) lines whole unread e write
+        (table_of b c y z whole number p)
+        read (heading ++ lines) [] (sym (append-nil (heading ++ lines)))
+        (Appends-kept x z z' (heading ++ lines)
+        (Appends-trans x y z heading lines begun p.appended) kept)
+
+    -- the lines of a packet could not be written
+    pub fails_at_lines : (d z' : Option (List ℕ)) (unread : Type 0) (e : RunError)
+        (head packet lines : List ℕ) (one : Bool) → e ≡ Write
+        → IsRecord file head packet → IsListed packet (record { lines = lines; whole = one })
+        → Consumes c d (head ++ packet)
+        → (front rest : List ℕ) → lines ≡ front ++ rest → Appends z z' front
+        → Fails a d x z' heading unread e
+    fails_at_lines d z' unread e head packet lines one write record_of listed read front rest split
+        appended =
+        let before = flat_map lines_told p.told in
+        let new : Told = record { lines = lines; whole = one } in
+        let w = append_known z lines in
+        let wrote = appended_known z lines in
+        let joined : heading ++ flat_map lines_told (p.told ++ new ∷ []) ≡ ((heading ++ before)
+        ++ front) ++ rest =
+        ap (λ (t : List ℕ). heading ++ t) (lines_push p.told new)
+        ∙ sym (append_assoc heading before lines)
+        ∙ ap (λ (t : List ℕ). (heading ++ before) ++ t) split
+        ∙ sym (append_assoc (heading ++ before) front rest) in
+        let all : Appends x z' ((heading ++ before) ++ front) =
+        Appends-trans x z z' (heading ++ before) front
+        (Appends-trans x y z heading before begun p.appended) appended in
+        let bytes : Consumes a d (header ++ (p.records ++ (head ++ packet))) =
+        Consumes-trans a b d header (p.records ++ (head ++ packet)) first
+        (Consumes-trans b c d p.records (head ++ packet) p.read read) in
+        elim (bool_cases whole) [
+          | inl t ↦ fails_at_write a d x z' heading _ _ one unread e write
+              (table_of b d y w one (number + 1)
+              (goes_on_whole (IsRecord file) IsListed b c d y z w head packet lines one whole
+              number t p record_of listed read wrote))
+              bytes ((heading ++ before) ++ front) rest joined all
+          | inr f ↦ fails_at_write a d x z' heading _ _ whole unread e write
+              (table_of b d y w whole (number + 1)
+              (goes_on_part (IsRecord file) IsListed b c d y z w head packet lines one whole
+              number f p record_of listed read wrote))
+              bytes ((heading ++ before) ++ front) rest joined all
+        ]

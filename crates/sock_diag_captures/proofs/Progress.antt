@@ -1,0 +1,115 @@
+-- How far a capture is listed.
+use Rattle.std.proofs.Common.{◌≡◌, ℕ, ◌+◌, List, [], ◌∷◌, ◌++◌, length, Bool, true, false, refl}
+use Rattle.std.proofs.Common.{sym, ap, subst, ◌∙◌, append_assoc, append-nil, arith}
+use Rattle.std.proofs.lemmas.List.{length-append}
+use Rattle.std.specs.Prelude.{IsTrue, Option, flat_map}
+use Rattle.std.specs.List.{AllByRecursion, AllZip}
+use Rattle.std.specs.Io.KnownBytes.{Appends, Consumes}
+use Rattle.std.proofs.KnownBytes.{Appends-nil, Appends-trans, Consumes-nil, Consumes-trans}
+use Rattle.std.proofs.lemmas.Grind.{flat_map-append}
+use Rattle.sock_diag_captures.specs.Run.{ArePackets, IsWhole, Told, lines_told}
+
+pub not_both : (b : Bool) → b ≡ false → b ≡ true → ⊥
+not_both b is_false is_true = cc
+
+pub whole_push : (xs : List Told) (x : Told) → AllByRecursion IsWhole xs → IsWhole x
+    → AllByRecursion IsWhole (xs ++ x ∷ [])
+whole_push [] x h is = (is, tt)
+whole_push (y ∷ xs) x h is = (h.0, whole_push xs x h.1 is)
+
+pub whole_front : (xs : List Told) (x : Told) → AllByRecursion IsWhole (xs ++ x ∷ [])
+    → AllByRecursion IsWhole xs
+whole_front [] x h = tt
+whole_front (y ∷ xs) x h = (h.0, whole_front xs x h.1)
+
+pub whole_last : (xs : List Told) (x : Told) → AllByRecursion IsWhole (xs ++ x ∷ []) → IsWhole x
+whole_last [] x h = h.0
+whole_last (y ∷ xs) x h = whole_last xs x h.1
+
+pub lines_push : (xs : List Told) (x : Told)
+    → flat_map lines_told (xs ++ x ∷ []) ≡ flat_map lines_told xs ++ x.lines
+lines_push xs x = flat_map-append lines_told xs (x ∷ []) ∙ ap (λ (t : List ℕ). flat_map lines_told xs ++ t) (append-nil x.lines)
+
+module _ (R : List ℕ → List ℕ → Type 0) (L : List ℕ → Told → Type 0) where
+  pub listed_push : (ps : List (List ℕ)) (xs : List Told) (p : List ℕ) (x : Told) → AllZip L ps xs
+      → L p x → AllZip L (ps ++ p ∷ []) (xs ++ x ∷ [])
+  listed_push [] [] p x h is = (is, tt)
+  listed_push [] (y ∷ xs) p x h is = absurd h
+  listed_push (q ∷ ps) [] p x h is = absurd h
+  listed_push (q ∷ ps) (y ∷ xs) p x h is = (h.0, listed_push ps xs p x h.1 is)
+
+  pub packets_push : (bytes : List ℕ) (ps : List (List ℕ)) (header p : List ℕ)
+      → ArePackets R bytes ps → R header p → ArePackets R (bytes ++ (header ++ p)) (ps ++ p ∷ [])
+  packets_push bytes [] header p h is = (header, [], is, ap (λ (b : List ℕ). b ++ (header ++ p)) h ∙ sym (append-nil (header ++ p)), refl)
+  packets_push bytes (q ∷ ps) header p h is =
+      (h.0, h.1 ++ (header ++ p), h.2, ap (λ (b : List ℕ). b ++ (header ++ p)) h.3 ∙ append_assoc (h.0 ++ q) h.1 (header ++ p), packets_push h.1 ps header p h.4 is)
+
+  -- these packets were read and listed, and the next one has this number
+  pub record Progress (remaining remaining' contents contents' : Option (List ℕ)) (is_whole : Bool)
+      (number : ℕ) : Type 0 where
+    pub records : List ℕ
+    pub packets : List (List ℕ)
+    pub told : List Told
+    pub read : Consumes remaining remaining' records
+    pub are_packets : ArePackets R records packets
+    pub listed : AllZip L packets told
+    pub appended : Appends contents contents' (flat_map lines_told told)
+    pub flagged : IsTrue is_whole → AllByRecursion IsWhole told
+    pub whole_only : AllByRecursion IsWhole told → IsTrue is_whole
+    pub next : number ≡ length packets + 1
+
+  abbrev pub progress_begins : (remaining contents : Option (List ℕ))
+      → Progress remaining remaining contents contents true 1
+  progress_begins remaining contents = record {
+    records = [];
+    packets = [];
+    told = [];
+    read = Consumes-nil remaining;
+    are_packets = refl;
+    listed = tt;
+    appended = Appends-nil contents;
+    flagged = λ _. tt;
+    whole_only = λ _. refl;
+    next = refl;
+  }
+
+  -- one more packet is read and listed
+  abbrev pub progress_goes_on : (a b c x y z : Option (List ℕ)) (header p lines : List ℕ)
+      (one whole whole' : Bool) (number : ℕ) → Progress a b x y whole number
+      → R header p → L p (record { lines = lines; whole = one }) → Consumes b c (header ++ p) → Appends y z lines
+      → (IsTrue whole' → IsTrue whole) → (IsTrue whole' → IsTrue one) → (IsTrue whole → IsTrue one → IsTrue whole')
+      → Progress a c x z whole' (number + 1)
+  progress_goes_on a b c x y z header p lines one whole whole' number so_far is listed read appended
+      front last both =
+      let new : Told = record { lines = lines; whole = one } in record {
+        records = so_far.records ++ (header ++ p);
+        packets = so_far.packets ++ p ∷ [];
+        told = so_far.told ++ new ∷ [];
+        read = Consumes-trans a b c so_far.records (header ++ p) so_far.read read;
+        are_packets = packets_push so_far.records so_far.packets header p so_far.are_packets is;
+        listed = listed_push so_far.packets so_far.told p new so_far.listed listed;
+        appended = subst (λ (t : List ℕ). Appends x z t) (sym (lines_push so_far.told new)) (Appends-trans x y z (flat_map lines_told so_far.told) lines so_far.appended appended);
+        flagged = λ h. whole_push so_far.told new (so_far.flagged (front h)) (last h);
+        whole_only = λ h. both (so_far.whole_only (whole_front so_far.told new h)) (whole_last so_far.told new h);
+        next = omega (arith, so_far.next, length-append so_far.packets (p ∷ []));
+      }
+
+  -- all packets before were listed whole
+  abbrev pub goes_on_whole : (a b c x y z : Option (List ℕ)) (header p lines : List ℕ)
+      (one whole : Bool) (number : ℕ) → whole ≡ true → Progress a b x y whole number
+      → R header p → L p (record { lines = lines; whole = one }) → Consumes b c (header ++ p)
+      → Appends y z lines → Progress a c x z one (number + 1)
+  goes_on_whole a b c x y z header p lines one whole number is_whole so_far is listed read appended
+      =
+      progress_goes_on a b c x y z header p lines one whole one number so_far is listed read
+      appended (λ _. is_whole) (λ h. h) (λ _ h. h)
+
+  -- one of those before was not
+  abbrev pub goes_on_part : (a b c x y z : Option (List ℕ)) (header p lines : List ℕ)
+      (one whole : Bool) (number : ℕ) → whole ≡ false → Progress a b x y whole number
+      → R header p → L p (record { lines = lines; whole = one }) → Consumes b c (header ++ p)
+      → Appends y z lines → Progress a c x z whole (number + 1)
+  goes_on_part a b c x y z header p lines one whole number is_part so_far is listed read appended =
+      progress_goes_on a b c x y z header p lines one whole whole number so_far is listed read
+      appended
+      (λ h. h) (λ h. absurd (not_both whole is_part h)) (λ h _. h)

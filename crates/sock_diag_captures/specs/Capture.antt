@@ -1,0 +1,83 @@
+-- Captures: the classic pcap format of netlink traffic.
+use Rattle.std.specs.Prelude.{◌≡◌, ◌≢◌, ℕ, ◌<◌, ◌≤◌, ◌⊎◌, ◌==◌, nat_lt, if◌then◌else◌, List}
+use Rattle.std.specs.Prelude.{◌++◌, length, drop, Option}
+use Rattle.std.specs.Io.KnownBytes.{IsAtEnd}
+use Rattle.byteorder.specs.Endian.{big_number, little_number}
+use Rattle.sock_diag_captures.specs.declared.capture.ByteOrder.{ByteOrder}
+use Rattle.sock_diag_captures.specs.declared.capture.ByteOrder.TheVariants.{LowFirst, HighFirst}
+use Rattle.sock_diag_captures.specs.declared.capture.CaptureError.{CaptureError}
+use Rattle.sock_diag_captures.specs.declared.capture.CaptureError.TheVariants.{Read, Memory, Cut, NoCapture}
+use Rattle.sock_diag_captures.specs.declared.capture.CaptureError.TheVariants.{OtherVersion, OtherLinkType}
+use Rattle.sock_diag_captures.specs.declared.capture.CaptureError.TheVariants.{PacketTooLong}
+use Rattle.sock_diag_captures.specs.declared.capture.FileHeader.{FileHeader}
+
+-- the number of so many bytes at a place, in the order of the file
+abbrev pub number_at : ByteOrder → ℕ → ℕ → List ℕ → ℕ
+number_at LowFirst count place bytes = little_number count (drop place bytes)
+number_at HighFirst count place bytes = big_number count (drop place bytes)
+
+-- a capture whose times are in microseconds or in nanoseconds begins so, in the order of the file
+abbrev pub IsMagic : ℕ → Type 0
+IsMagic n = (n ≡ 0xa1b2c3d4) ⊎ (n ≡ 0xa1b23c4d)
+
+-- the most bytes of a packet: what the file says, or 262144 where it says none or more
+abbrev pub limit_of : ℕ → ℕ
+limit_of told = if told == 0 then 262144 else (if nat_lt 262144 told then 262144 else told)
+
+-- The file header, 24 bytes: the magic number at 0, the version at 4 and 6, of which the first number is 2, the most bytes
+-- of a packet at 16, and the type of the link at 20, 253 for netlink.
+pub record IsFileHeader (bytes : List ℕ) (h : FileHeader) : Type 0 where
+  pub magic : IsMagic (number_at h.order 4 0 bytes)
+  pub version : number_at h.order 2 4 bytes ≡ 2
+  pub limit : h.limit ≡ limit_of (number_at h.order 4 16 bytes)
+  pub link_type : number_at h.order 4 20 bytes ≡ 253
+
+-- why the bytes are no file header; of several faults it is the first
+abbrev pub IsFileHeaderFault : List ℕ → CaptureError → Type 0
+IsFileHeaderFault bytes (NoCapture magic) =
+    (magic ≡ number_at HighFirst 4 0 bytes) × ¬ IsMagic (number_at HighFirst 4 0 bytes) × ¬ IsMagic (number_at LowFirst 4 0 bytes)
+IsFileHeaderFault bytes (OtherVersion version) =
+    (order : ByteOrder) × IsMagic (number_at order 4 0 bytes) × (version ≡ number_at order 2 4 bytes) × (version ≢ 2)
+IsFileHeaderFault bytes (OtherLinkType link_type) =
+    (order : ByteOrder) × IsMagic (number_at order 4 0 bytes) × (number_at order 2 4 bytes ≡ 2)
+    × (link_type ≡ number_at order 4 20 bytes) × (link_type ≢ 253)
+IsFileHeaderFault bytes _ = ⊥
+
+-- a packet behind its header of 16 bytes, which has the number of the packet's bytes at 8
+pub record IsRecord (file : FileHeader) (header packet : List ℕ) : Type 0 where
+  pub whole : length header ≡ 16
+  pub length_word : number_at file.order 4 8 header ≡ length packet
+  pub within : length packet ≤ file.limit
+
+-- ---- where reading stops
+
+-- the input is at its end, or a read failed
+abbrev pub IsStop : Option (List ℕ) → Type 0 → CaptureError → Type 0
+IsStop left failed Cut = IsAtEnd left
+IsStop left failed Read = failed
+IsStop left failed _ = ⊥
+
+-- Why no header of a capture was read, but these bytes: too few were left, a read failed, or they
+-- are no such header.
+abbrev pub IsHeaderStop : Option (List ℕ) → Type 0 → List ℕ → CaptureError → Type 0
+IsHeaderStop left failed part e =
+    ((length part < 24) × IsStop left failed e) ⊎ ((length part ≡ 24) × IsFileHeaderFault part e)
+
+-- a beginning of a packet behind its header, and not all of it
+abbrev pub IsUnfinished : FileHeader → List ℕ → Type 0
+IsUnfinished file part =
+    (length part < 16)
+    ⊎ ((header : List ℕ) × (front : List ℕ) × (part ≡ header ++ front) × (length header ≡ 16)
+    × (length front < number_at file.order 4 8 header))
+
+-- Why no packet was read, but these bytes: the input ends within it, a read failed, memory ran out
+-- for one that is within the limit, or its header tells a number that is past the limit.
+abbrev pub IsPacketStop : FileHeader → Option (List ℕ) → Type 0 → List ℕ → CaptureError → Type 0
+IsPacketStop file left failed part Cut = (0 < length part) × IsUnfinished file part × IsAtEnd left
+IsPacketStop file left failed part Read = IsUnfinished file part × failed
+IsPacketStop file left failed part Memory = (length part ≡ 16)
+    × (number_at file.order 4 8 part ≤ file.limit)
+IsPacketStop file left failed part (PacketTooLong told most) =
+    (length part ≡ 16) × (told ≡ number_at file.order 4 8 part) × (most ≡ file.limit)
+    × (file.limit < told)
+IsPacketStop file left failed part _ = ⊥

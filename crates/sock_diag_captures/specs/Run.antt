@@ -1,0 +1,90 @@
+-- What a whole capture is listed as.
+use Rattle.std.specs.Prelude.{◌≡◌, ◌↔◌, ℕ, ◌+◌, ◌-◌, ◌^◌, ◌⊎◌, List, [], ◌∷◌, ◌++◌, length}
+use Rattle.std.specs.Prelude.{flat_map, Bool, IsTrue, Option}
+use Rattle.std.specs.Io.KnownBytes.{Appends, Consumes, IsAtEnd, Keeps}
+use Rattle.std.specs.List.{AllByRecursion, AllZip}
+use Rattle.sock_diag_captures.specs.declared.capture.FileHeader.{FileHeader}
+use Rattle.sock_diag_captures.specs.declared.stream.RunError.{RunError}
+use Rattle.sock_diag_captures.specs.declared.stream.RunError.TheVariants.{Header, Packet, Write, Memory}
+use Rattle.sock_diag_captures.specs.Capture.{IsFileHeader, IsHeaderStop, IsPacketStop, IsRecord}
+use Rattle.sock_diag_captures.specs.Listing.{ListsPacket}
+
+-- the lines of a packet, and whether it was listed whole
+pub record Told : Type 0 where
+  pub lines : List ℕ
+  pub whole : Bool
+
+-- the lines
+abbrev pub lines_told : Told → List ℕ
+lines_told told = told.lines
+
+-- the packet was listed whole
+abbrev pub IsWhole : Told → Type 0
+IsWhole told = IsTrue told.whole
+
+-- a packet by itself is listed so
+abbrev pub IsListed : List ℕ → Told → Type 0
+IsListed packet told = ListsPacket packet [] told.lines told.whole
+
+-- the bytes are these packets one after the other, each behind its header; R says which header a packet may have
+abbrev pub ArePackets : (List ℕ → List ℕ → Type 0) → List ℕ → List (List ℕ) → Type 0
+ArePackets R bytes [] = bytes ≡ []
+ArePackets R bytes (packet ∷ later) = (header rest : List ℕ) × R header packet × (bytes ≡ (header ++ packet) ++ rest) × ArePackets R rest later
+
+-- The bytes are a capture: its header, and packets. The lines are those of each packet in order, and the capture counts as
+-- listed whole exactly where each packet does.
+pub record IsTable (bytes lines : List ℕ) (is_whole : Bool) : Type 0 where
+  pub file : FileHeader
+  pub header : List ℕ
+  pub records : List ℕ
+  pub packets : List (List ℕ)
+  pub told : List Told
+  pub parts : bytes ≡ header ++ records
+  pub long : length header ≡ 24
+  pub is_header : IsFileHeader header file
+  pub are_packets : ArePackets (IsRecord file) records packets
+  pub listed : AllZip IsListed packets told
+  pub written : lines ≡ flat_map lines_told told
+  pub whole : IsTrue is_whole ↔ AllByRecursion IsWhole told
+
+-- Of a run: the bytes that are left to read and held as written, before and after it, where they
+-- are known, and the heading.
+module _ (left left' held held' : Option (List ℕ)) (heading : List ℕ) where
+  -- A capture of so many packets was read, and `more` behind it. The heading and the lines of these
+  -- packets were written.
+  pub record Stands (file : FileHeader) (packets : ℕ) (more : List ℕ) : Type 0 where
+    pub bytes : List ℕ
+    pub lines : List ℕ
+    pub is_whole : Bool
+    pub table : IsTable bytes lines is_whole
+    pub of_file : table.file ≡ file
+    pub counted : length table.packets ≡ packets
+    pub read : Consumes left left' (bytes ++ more)
+    pub appended : Appends held held' (heading ++ lines)
+
+  -- What a run that fails so has read and written. At a header that can't be read nothing is
+  -- written; at a packet, of which the number is told, and where memory runs out, the lines of all
+  -- packets before; where a write fails, a beginning. `unread`: a read failed.
+  abbrev pub Fails : Type 0 → RunError → Type 0
+  Fails unread (Header fault) =
+      (part : List ℕ) × Consumes left left' part × IsHeaderStop left' unread part fault
+      × Keeps held held'
+  Fails unread (Packet number fault) =
+      (file : FileHeader) × (packets : ℕ) × (part : List ℕ) × Stands file packets part
+      × (number ≡ packets + 1) × IsPacketStop file left' (unread ⊎ (number ≡ 2 ^ 64 - 1)) part fault
+  Fails unread Memory =
+      (file : FileHeader) × (packets : ℕ) × (header : List ℕ) × (packet : List ℕ)
+      × IsRecord file header packet × Stands file packets (header ++ packet)
+  Fails unread Write =
+      (bytes : List ℕ) × (lines : List ℕ) × (is_whole : Bool) × IsTable bytes lines is_whole
+      × Consumes left left' bytes × (front : List ℕ) × (rest : List ℕ)
+      × (heading ++ lines ≡ front ++ rest) × Appends held held' front
+
+  -- a whole capture was read to the end of the input, and all of its table written
+  pub record Finishes (is_whole : Bool) : Type 0 where
+    pub bytes : List ℕ
+    pub lines : List ℕ
+    pub table : IsTable bytes lines is_whole
+    pub read : Consumes left left' bytes
+    pub ended : IsAtEnd left'
+    pub appended : Appends held held' (heading ++ lines)

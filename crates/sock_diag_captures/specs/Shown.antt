@@ -1,0 +1,14 @@
+-- What contracts see of the first columns of a line.
+use Rattle.sock_diag_captures.specs.declared.line.Cells.{Cells}
+use Rattle.sock_diag_captures.specs.Table.{FirstColumns}
+
+-- the same cells, the kind by its bytes alone
+abbrev pub shown_cells : Cells → FirstColumns
+shown_cells c = record {
+  kind = c.kind.now;
+  state = c.state;
+  receive_queue = c.receive_queue;
+  send_queue = c.send_queue;
+  inode = c.inode;
+  uid = c.uid;
+}

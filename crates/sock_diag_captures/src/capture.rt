@@ -1,0 +1,316 @@
+//! Captures of netlink traffic, as tcpdump writes them: the classic pcap format with the link type LINKTYPE_NETLINK.
+
+ghost use Rattle.std.specs.Prelude.{◌≡◌, ◌↔◌, ◌+◌, ◌<◌, ◌≤◌, ◌++◌, ◌⊎◌, ℕ, List, [], length, IfOk};
+ghost use Rattle.std.specs.Prelude.{IfErr, OnOk, IsTrue, MatchBool, MatchOption, MatchResult};
+ghost use Rattle.std.specs.Io.KnownBytes.{Consumes, IsAtEnd, Keeps};
+ghost use Rattle.sock_diag_captures.specs.Capture.{IsFileHeader, IsFileHeaderFault, IsHeaderStop, IsMagic};
+ghost use Rattle.sock_diag_captures.specs.Capture.{IsPacketStop, IsRecord, IsStop, limit_of, number_at};
+ghost use Rattle.sock_diag_captures.specs.declared.capture.CaptureError.TheVariants.{Memory};
+
+use crate::streams::Source;
+use byteorder::{BigEndian, ByteOrder as _, LittleEndian};
+use std::alloc::AllocError;
+use thiserror::Error;
+
+/// The first number of a capture whose times are in microseconds.
+const MICROSECONDS: u32 = 0xa1b2_c3d4;
+
+/// The first number of a capture whose times are in nanoseconds.
+const NANOSECONDS: u32 = 0xa1b2_3c4d;
+
+/// The first number of the format's version.
+const MAJOR_VERSION: u16 = 2;
+
+/// LINKTYPE_NETLINK, the type of the link of nlmon(4) devices.
+const LINK_TYPE: u32 = 253;
+
+/// How many bytes the file header has.
+const FILE_HEADER: usize = 24;
+
+/// How many bytes the header of a packet has.
+const RECORD_HEADER: usize = 16;
+
+/// How many bytes stand in front of the datagram of a packet: the cooked header.
+const COOKED_HEADER: usize = 16;
+
+/// The most bytes that a packet may have, whatever the file says: the default of tcpdump.
+const MOST: u32 = 262_144;
+
+/// ARPHRD_NETLINK, the hardware type of a netlink packet.
+const HARDWARE_TYPE: u16 = 824;
+
+/// NETLINK_SOCK_DIAG, the netlink protocol of sock_diag(7).
+const SOCK_DIAG: u16 = 4;
+
+/// Why no packet could be read.
+#[derive(Clone, Copy, Debug, PartialEq, Eq, Error)]
+pub enum CaptureError {
+    /// A read failed.
+    #[error("reading failed")]
+    Read,
+    /// Memory ran out.
+    #[error("out of memory")]
+    Memory,
+    /// The capture ends within a header or a packet.
+    #[error("the capture is cut off")]
+    Cut,
+    /// The first four bytes are those of no pcap file. They are told high byte first.
+    #[error("no pcap capture: it begins with {0:08x}")]
+    NoCapture(u32),
+    /// The format is of another version than 2.
+    #[error("pcap of version {0}, not 2")]
+    OtherVersion(u16),
+    /// The packets are not those of a netlink device.
+    #[error("packets of link type {0}, not 253 (netlink)")]
+    OtherLinkType(u32),
+    /// A packet is longer than the file says that packets are, or than 262144 bytes.
+    #[error("a packet of {length} bytes, at most {limit} expected")]
+    PacketTooLong {
+        /// How many bytes it says to have.
+        length: u32,
+        /// The most that a packet of this capture may have.
+        limit: u32,
+    },
+}
+
+impl From<AllocError> for CaptureError {
+    ghost from_gives = { λ _ e. e ≡ Memory };
+
+    fn from(_e: AllocError) -> CaptureError {
+        CaptureError::Memory
+    }
+}
+
+/// Which byte of a number stands first in the headers of a capture.
+#[derive(Clone, Copy, Debug, PartialEq, Eq)]
+pub enum ByteOrder {
+    /// The low byte.
+    LowFirst,
+    /// The high byte.
+    HighFirst,
+}
+
+impl ByteOrder {
+    /// The number of two bytes at a place.
+    fn short_at(self, bytes: &[u8], place: usize) -> u16
+        requires { place + 2 ≤ length bytes.now }
+        ensures { result ≡ number_at self 2 place bytes.now }
+    {
+        match self {
+            ByteOrder::LowFirst => LittleEndian::read_u16(&bytes[place..]),
+            ByteOrder::HighFirst => BigEndian::read_u16(&bytes[place..]),
+        }
+    }
+
+    /// The number of four bytes at a place.
+    fn word_at(self, bytes: &[u8], place: usize) -> u32
+        requires { place + 4 ≤ length bytes.now }
+        ensures { result ≡ number_at self 4 place bytes.now }
+    {
+        match self {
+            ByteOrder::LowFirst => LittleEndian::read_u32(&bytes[place..]),
+            ByteOrder::HighFirst => BigEndian::read_u32(&bytes[place..]),
+        }
+    }
+
+    /// The order in which the first four bytes are the first number of a capture.
+    fn find(bytes: &[u8]) -> Option<ByteOrder>
+        requires { 4 ≤ length bytes.now }
+        ensures { MatchOption result
+            (¬ IsMagic (number_at ByteOrder.HighFirst 4 0 bytes.now) × ¬ IsMagic (number_at ByteOrder.LowFirst 4 0 bytes.now))
+            (λ order. IsMagic (number_at order 4 0 bytes.now)) }
+    {
+        if is_magic(ByteOrder::LowFirst.word_at(bytes, 0)) {
+            Some(ByteOrder::LowFirst)
+        } else if is_magic(ByteOrder::HighFirst.word_at(bytes, 0)) {
+            Some(ByteOrder::HighFirst)
+        } else {
+            None
+        }
+    }
+}
+
+/// Whether a capture begins with this number.
+fn is_magic(number: u32) -> bool
+    ensures { IsTrue result ↔ IsMagic number }
+{
+    number == MICROSECONDS || number == NANOSECONDS
+}
+
+/// What the header of a capture says of its packets.
+#[derive(Clone, Copy, Debug, PartialEq, Eq)]
+pub struct FileHeader {
+    /// The order of the bytes of numbers in headers.
+    order: ByteOrder,
+    /// The most bytes that a packet may have.
+    limit: u32,
+}
+
+impl FileHeader {
+    /// The header in the first 24 bytes. Refused are other first numbers as `NoCapture`, then a version but 2 as
+    /// `OtherVersion`, then a type of the link but 253 as `OtherLinkType`.
+    pub fn parse(bytes: &[u8]) -> Result<FileHeader, CaptureError>
+        requires { 24 ≤ length bytes.now }
+        ensures { MatchResult result (IsFileHeader bytes.now) (IsFileHeaderFault bytes.now) }
+    {
+        let Some(order) = ByteOrder::find(bytes) else {
+            return Err(CaptureError::NoCapture(ByteOrder::HighFirst.word_at(bytes, 0)));
+        };
+        let version = order.short_at(bytes, 4);
+        if version != MAJOR_VERSION {
+            return Err(CaptureError::OtherVersion(version));
+        }
+        let link_type = order.word_at(bytes, 20);
+        if link_type != LINK_TYPE {
+            return Err(CaptureError::OtherLinkType(link_type));
+        }
+        Ok(FileHeader {
+            order,
+            limit: packet_limit(order.word_at(bytes, 16)),
+        })
+    }
+
+    /// Reads the header of a capture.
+    pub fn read<R: Source>(input: &mut R) -> Result<FileHeader, CaptureError>
+        ensures read { IfOk result (λ file. (bytes : List ℕ) × (length bytes ≡ 24)
+            × IsFileHeader bytes file
+            × Consumes (R.left input.old) (R.left input.new) bytes) }
+        ensures stopped { IfErr result (λ e. (part : List ℕ)
+            × Consumes (R.left input.old) (R.left input.new) part
+            × IsHeaderStop (R.left input.new) (R.failed input.new) part e) }
+    {
+        let mut bytes = [0u8; FILE_HEADER];
+        fill(input, &mut bytes)?;
+        FileHeader::parse(&bytes)
+    }
+
+    /// Reads the next packet in place of what `packet` held, and answers whether there is one. It takes memory for the
+    /// packet alone, and none for one that is longer than packets of this capture may be.
+    pub fn read_packet<R: Source>(
+        &self,
+        input: &mut R,
+        packet: &mut Vec<u8>,
+    ) -> Result<bool, CaptureError>
+        ensures read { IfOk result (λ is_read. MatchBool is_read
+            ((header : List ℕ) × IsRecord self.now header packet.new.items
+            × Consumes (R.left input.old) (R.left input.new) (header ++ packet.new.items))
+            (IsAtEnd (R.left input.new) × Keeps (R.left input.old) (R.left input.new))) }
+        ensures stopped { IfErr result (λ e. (part : List ℕ)
+            × Consumes (R.left input.old) (R.left input.new) part
+            × IsPacketStop self.now (R.left input.new) (R.failed input.new) part e) }
+    {
+        let mut header = [0u8; RECORD_HEADER];
+        if !fill_or_end(input, &mut header)? {
+            return Ok(false);
+        }
+        let length = self.order.word_at(&header, 8);
+        if length > self.limit {
+            return Err(CaptureError::PacketTooLong {
+                length,
+                limit: self.limit,
+            });
+        }
+        match read_bytes(input, packet, length as usize) {
+            Ok(()) => Ok(true),
+            Err(fault) => Err(fault),
+        }
+    }
+}
+
+/// The most bytes of a packet, where the file tells so many.
+fn packet_limit(told: u32) -> u32
+    ensures { result ≡ limit_of told }
+{
+    if told == 0 || told > MOST { MOST } else { told }
+}
+
+/// Reads so many bytes in place of what `packet` held.
+fn read_bytes<R: Source>(
+    input: &mut R,
+    packet: &mut Vec<u8>,
+    count: usize,
+) -> Result<(), CaptureError>
+    ensures read { OnOk result ((length packet.new.items ≡ count)
+        × Consumes (R.left input.old) (R.left input.new) packet.new.items) }
+    ensures stopped { IfErr result (λ e. (part : List ℕ)
+        × Consumes (R.left input.old) (R.left input.new) part
+        × (((e ≡ Memory) × (part ≡ []))
+        ⊎ ((length part < count) × IsStop (R.left input.new) (R.failed input.new) e))) }
+{
+    packet.clear();
+    packet.resize(count, 0)?;
+    fill(input, packet.as_mut_slice())
+}
+
+/// Fills the bytes from a reader. No read that failed is made again.
+fn fill<R: Source>(input: &mut R, bytes: &mut [u8]) -> Result<(), CaptureError>
+    ensures filled { OnOk result (Consumes (R.left input.old) (R.left input.new) bytes.new) }
+    ensures stopped { IfErr result (λ e. (part : List ℕ) × (length part < length bytes.old)
+        × Consumes (R.left input.old) (R.left input.new) part
+        × IsStop (R.left input.new) (R.failed input.new) e) }
+{
+    let mut at = 0;
+    'reads: while at < bytes.len() {
+        match input.read_some(&mut bytes[at..]) {
+            Ok(0) => return Err(CaptureError::Cut),
+            Ok(count) => at += count,
+            Err(fault) => return Err(fault),
+        }
+    }
+    Ok(())
+}
+
+/// Fills the bytes, at least one, or answers that none is left. The input is not cut off in front
+/// of them.
+fn fill_or_end<R: Source>(input: &mut R, bytes: &mut [u8]) -> Result<bool, CaptureError>
+    requires { 0 < length bytes.old }
+    ensures filled { IfOk result (λ is_filled. MatchBool is_filled
+        (Consumes (R.left input.old) (R.left input.new) bytes.new)
+        (IsAtEnd (R.left input.new) × Keeps (R.left input.old) (R.left input.new))) }
+    ensures stopped { IfErr result (λ e. (part : List ℕ) × (length part < length bytes.old)
+        × (e ≡ CaptureError.Cut → 0 < length part)
+        × Consumes (R.left input.old) (R.left input.new) part
+        × IsStop (R.left input.new) (R.failed input.new) e) }
+{
+    let (first, rest) = bytes.split_at_mut(1);
+    match input.read_some(first) {
+        Ok(0) => Ok(false),
+        Ok(_) => match fill(input, rest) {
+            Ok(()) => Ok(true),
+            Err(fault) => Err(fault),
+        },
+        Err(fault) => Err(fault),
+    }
+}
+
+/// What a packet holds.
+#[derive(Clone, Copy, Debug, PartialEq, Eq)]
+pub enum Packet<'a> {
+    /// A datagram of sock_diag(7).
+    SockDiag(&'a [u8]),
+    /// What is of another protocol.
+    Other,
+    /// Fewer than the 16 bytes of the cooked header.
+    Short,
+}
+
+impl<'a> Packet<'a> {
+    ghost use Rattle.sock_diag_captures.specs.Cooked.{IsPacketOf};
+
+    /// Looks at the cooked header: of its 16 bytes the two at 2 are the hardware type, 824, and the two at 14 the
+    /// netlink protocol, each with its high byte first.
+    pub fn parse(bytes: &'a [u8]) -> Packet<'a>
+        ensures { IsPacketOf bytes.entry.now result }
+    {
+        if bytes.len() < COOKED_HEADER {
+            return Packet::Short;
+        }
+        if BigEndian::read_u16(&bytes[2..]) == HARDWARE_TYPE
+            && BigEndian::read_u16(&bytes[14..]) == SOCK_DIAG
+        {
+            Packet::SockDiag(&bytes[COOKED_HEADER..])
+        } else {
+            Packet::Other
+        }
+    }
+}

@@ -1,0 +1,196 @@
+//! The cells of a line. None takes memory but the text itself.
+
+ghost use Rattle.std.specs.Prelude.{◌≡◌, ◌++◌, ◌∷◌, [], ◌+◌, ◌-◌, ◌≤◌, decimal, replicate, flat_map, vec_len, OnOk, option_map};
+ghost use Rattle.sock_diag_attributes.specs.SeenName.{viewed_name};
+ghost use Rattle.sock_diag_captures.specs.Table.{column, endpoint, escaped, host, name_cell, number_cell, peer_cell, port_text, state_name};
+
+use netlink_packet_sock_diag::unix::nlas::NameView;
+use std::alloc::AllocError;
+use std::io::Write;
+use std::net::IpAddr;
+
+/// The name of a state, as ss(8) prints it.
+pub(crate) fn name_of_state(state: u8) -> &'static [u8]
+    ensures { result.now ≡ state_name state }
+{
+    match state {
+        1 => b"ESTAB",
+        2 => b"SYN-SENT",
+        3 => b"SYN-RECV",
+        4 => b"FIN-WAIT-1",
+        5 => b"FIN-WAIT-2",
+        6 => b"TIME-WAIT",
+        7 => b"UNCONN",
+        8 => b"CLOSE-WAIT",
+        9 => b"LAST-ACK",
+        10 => b"LISTEN",
+        11 => b"CLOSING",
+        _ => b"UNKNOWN",
+    }
+}
+
+/// Adds a number in decimal.
+pub(crate) fn push_number(text: &mut Vec<u8>, number: u64) -> Result<(), AllocError>
+    ensures { OnOk result (text.new.items ≡ text.old.items ++ decimal number) }
+{
+    match write!(text, "{number}") {
+        Ok(()) => Ok(()),
+        Err(_) => Err(AllocError),
+    }
+}
+
+/// Fills what was added since `start` up with spaces to a width, and adds one more.
+fn end_column(text: &mut Vec<u8>, start: usize, width: usize) -> Result<(), AllocError>
+    requires { start ≤ vec_len text.old }
+    ensures { OnOk result (text.new.items
+        ≡ text.old.items ++ replicate (width - (vec_len text.old - start)) 32 ++ 32 ∷ []) }
+{
+    let Some(end) = start.checked_add(width) else {
+        return Err(AllocError);
+    };
+    text.resize(end.max(text.len()), b' ')?;
+    Ok(text.push(b' ')?)
+}
+
+/// Adds a column that holds a text.
+pub(crate) fn push_column(
+    text: &mut Vec<u8>,
+    width: usize,
+    content: &[u8],
+) -> Result<(), AllocError>
+    ensures { OnOk result (text.new.items ≡ text.old.items ++ column width content.now) }
+{
+    let start = text.len();
+    text.extend_from_slice(content)?;
+    end_column(text, start, width)
+}
+
+/// Adds a column that holds a number, or `-` where none is told.
+pub(crate) fn push_number_column(
+    text: &mut Vec<u8>,
+    width: usize,
+    number: Option<u32>,
+) -> Result<(), AllocError>
+    ensures { OnOk result (text.new.items ≡ text.old.items ++ column width (number_cell number)) }
+{
+    let Some(number) = number else {
+        return push_column(text, width, b"-");
+    };
+    let start = text.len();
+    push_number(text, number.into())?;
+    end_column(text, start, width)
+}
+
+/// Adds a column that holds the name of a UNIX socket, or `*` where none is told.
+pub(crate) fn push_name_column(
+    text: &mut Vec<u8>,
+    width: usize,
+    name: Option<NameView<'_>>,
+) -> Result<(), AllocError>
+    ensures { OnOk result (text.new.items ≡ text.old.items ++ column width (name_cell (option_map viewed_name name.entry))) }
+{
+    let start = text.len();
+    match name {
+        Some(NameView::Pathname(path)) => push_escaped(text, path)?,
+        Some(NameView::Abstract(address)) => {
+            text.push(b'@')?;
+            push_escaped(text, address)?;
+        }
+        None => text.push(b'*')?,
+    }
+    end_column(text, start, width)
+}
+
+/// Adds bytes, those that are not plain as `\x` and two digits.
+fn push_escaped(text: &mut Vec<u8>, bytes: &[u8]) -> Result<(), AllocError>
+    ensures { OnOk result (text.new.items ≡ text.old.items ++ flat_map escaped bytes.now) }
+{
+    for byte in bytes {
+        push_escaped_byte(text, *byte)?;
+    }
+    Ok(())
+}
+
+/// Adds a byte from `!` to `~` but the backslash as it is, and any other as `\x` and two digits.
+fn push_escaped_byte(text: &mut Vec<u8>, byte: u8) -> Result<(), AllocError>
+    ensures { OnOk result (text.new.items ≡ text.old.items ++ escaped byte) }
+{
+    if (b'!'..=b'~').contains(&byte) && byte != b'\\' {
+        return Ok(text.push(byte)?);
+    }
+    let mut digits = [0u8; 2];
+    if hex::encode_to_slice(&[byte], &mut digits).is_err() {
+        unreachable!();
+    }
+    text.extend_from_slice(b"\\x")?;
+    text.extend_from_slice(&digits)
+}
+
+/// Adds the inode of a UNIX socket's peer, or `*` where none is told.
+pub(crate) fn push_peer(text: &mut Vec<u8>, inode: Option<u32>) -> Result<(), AllocError>
+    ensures { OnOk result (text.new.items ≡ text.old.items ++ peer_cell inode) }
+{
+    match inode {
+        Some(inode) => push_number(text, inode.into()),
+        None => Ok(text.push(b'*')?),
+    }
+}
+
+/// Adds a column that holds an endpoint.
+pub(crate) fn push_endpoint_column(
+    text: &mut Vec<u8>,
+    width: usize,
+    address: IpAddr,
+    interface: u32,
+    port: u16,
+) -> Result<(), AllocError>
+    ensures { OnOk result (text.new.items ≡ text.old.items ++ column width (endpoint address interface port)) }
+{
+    let start = text.len();
+    push_endpoint(text, address, interface, port)?;
+    end_column(text, start, width)
+}
+
+/// Adds an address, an IPv6 address in brackets and in its short form (RFC 5952), then `%` and the number of the
+/// interface where it is not 0, then `:` and the port, or `*` for 0.
+pub(crate) fn push_endpoint(
+    text: &mut Vec<u8>,
+    address: IpAddr,
+    interface: u32,
+    port: u16,
+) -> Result<(), AllocError>
+    ensures { OnOk result (text.new.items ≡ text.old.items ++ endpoint address interface port) }
+{
+    push_host(text, address)?;
+    if interface != 0 {
+        text.push(b'%')?;
+        push_number(text, interface.into())?;
+    }
+    text.push(b':')?;
+    push_port(text, port)
+}
+
+/// Adds an address, in brackets where it is one of IPv6.
+fn push_host(text: &mut Vec<u8>, address: IpAddr) -> Result<(), AllocError>
+    ensures { OnOk result (text.new.items ≡ text.old.items ++ host address) }
+{
+    let written = match address {
+        IpAddr::V4(_) => write!(text, "{address}"),
+        IpAddr::V6(_) => write!(text, "[{address}]"),
+    };
+    match written {
+        Ok(()) => Ok(()),
+        Err(_) => Err(AllocError),
+    }
+}
+
+/// Adds a port, or `*` for 0.
+fn push_port(text: &mut Vec<u8>, port: u16) -> Result<(), AllocError>
+    ensures { OnOk result (text.new.items ≡ text.old.items ++ port_text port) }
+{
+    if port == 0 {
+        Ok(text.push(b'*')?)
+    } else {
+        push_number(text, port.into())
+    }
+}

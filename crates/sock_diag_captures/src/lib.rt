@@ -1,0 +1,63 @@
+//! Lists the sockets that a capture of netlink traffic tells, one a line, as ss(8) does of a running system.
+#![tactic(auto)]
+
+ghost use Rattle.std.specs.Prelude.{◌≡◌, ◌↔◌, ◌++◌, ℕ, Bool, true, IsOkAnd, IsTrue, List};
+ghost use Rattle.std.specs.Prelude.{MatchResult, Result, ⊤};
+ghost use Rattle.std.specs.Process.{exit_status};
+ghost use Rattle.std.specs.Io.KnownBytes.{Appends, Consumes, IsAtEnd};
+ghost use Rattle.sock_diag_captures.specs.Run.{Fails, Finishes, IsTable};
+ghost use Rattle.sock_diag_captures.specs.declared.stream.RunError.{RunError};
+
+mod capture;
+mod cells;
+mod line;
+mod list;
+mod stream;
+mod streams;
+
+pub use capture::{ByteOrder, CaptureError, FileHeader, Packet};
+pub use line::{HEADING, push_socket};
+pub use list::{Complaint, Written, list_packet};
+use std::alloc::Global;
+use std::io::{Read, Write};
+use std::process::ExitCode;
+pub use stream::{RunError, run};
+
+/// `run`, which tells on `errors` why it failed. The status is 0 where the whole capture was listed, and 1 where reading
+/// or writing failed, or where something was told of a packet.
+pub fn run_to_status<R: Read, W: Write, E: Write>(
+    alloc: Global,
+    input: &mut R,
+    output: &mut W,
+    errors: &mut E,
+) -> ExitCode
+    ensures ended { exit_status result ≡ 0 → IsAtEnd (R.remaining input.new) }
+    ensures whole { exit_status result ≡ 0 → (bytes lines : List ℕ) × IsTable bytes lines true
+        × Consumes (R.remaining input.old) (R.remaining input.new) bytes
+        × Appends (W.contents output.old) (W.contents output.new) (HEADING.now ++ lines) }
+    // 0 exactly where the whole capture was listed whole.
+    ensures outcome { (outcome : Result Bool RunError)
+        × ((exit_status result ≡ 0) ↔ (outcome ≡ Ok true))
+        × MatchResult outcome
+        (Finishes (R.remaining input.old) (R.remaining input.new) (W.contents output.old)
+        (W.contents output.new) HEADING.now)
+        (Fails (R.remaining input.old) (R.remaining input.new) (W.contents output.old)
+        (W.contents output.new) HEADING.now ⊤) }
+{
+    let outcome = run(alloc, input, output, errors);
+    if let Err(error) = &outcome {
+        // Where this can't be written either, the exit status alone tells of the failure.
+        let _ = writeln!(errors, "sslist: {error}");
+    }
+    exit_code(&outcome)
+}
+
+/// Status 0 where all was listed, and 1 where it was not.
+fn exit_code(outcome: &Result<bool, RunError>) -> ExitCode
+    ensures { (exit_status result ≡ 0) ↔ IsOkAnd outcome.now (λ is_whole. IsTrue is_whole) }
+{
+    match outcome {
+        Ok(true) => ExitCode::SUCCESS,
+        Ok(false) | Err(_) => ExitCode::FAILURE,
+    }
+}

@@ -1,0 +1,192 @@
+//! The sockets that the packets of a capture tell, line by line, and what is told of a packet that can't be listed whole.
+
+ghost use Rattle.std.specs.Prelude.{◌≡◌, ◌↔◌, ◌++◌, IfOk, OnOk, IsTrue};
+ghost use Rattle.netlink_packet_sock_diag.specs.ViewedPayload.{viewed_item};
+ghost use Rattle.sock_diag_captures.specs.Listing.{IsPlain, IsRequest, Lists, ListsPacket, error_complaint, error_number, fault_complaint, item_complaint, item_lines};
+
+use crate::capture::Packet;
+use crate::line::push_socket;
+use byteorder::{ByteOrder, LittleEndian};
+use netlink_core::{DecodeError, NLM_F_REQUEST, NetlinkHeader};
+use netlink_packet_sock_diag::{DumpViews, PayloadView};
+use std::alloc::AllocError;
+use std::io::Write;
+use thiserror::Error;
+
+/// What is told of a packet on standard error.
+#[derive(Debug, Drop, PartialEq, Eq, Error)]
+pub enum Complaint {
+    /// A message was refused.
+    #[error("{0}")]
+    Refused(DecodeError),
+    /// The kernel answered an error, whose number is one of errno(3), or ended a dump with it.
+    #[error("the kernel answers error {0}")]
+    Answered(u32),
+    /// The kernel told that data was lost.
+    #[error("the kernel lost data")]
+    Lost,
+}
+
+/// Where something is told of: the place of the packet in the capture and of the message in the packet, from 1 on.
+#[derive(Clone, Copy, Debug, PartialEq, Eq)]
+struct Place {
+    packet: u64,
+    message: u64,
+}
+
+/// What is written of packets.
+#[derive(Drop)]
+pub struct Written {
+    /// The lines of the table.
+    pub lines: Vec<u8>,
+    /// The lines for standard error.
+    pub complaints: Vec<u8>,
+}
+
+/// Adds the lines of the sockets that a packet of this number tells, and what is told of it. It answers whether the
+/// packet was listed whole: none of its messages was refused, tells an error or tells that data was lost.
+pub fn list_packet(written: &mut Written, number: u64, packet: &[u8]) -> Result<bool, AllocError>
+    ensures { IfOk result (ListsPacket packet.now written.old.lines.items written.new.lines.items) }
+{
+    match Packet::parse(packet) {
+        Packet::SockDiag(datagram) if !is_request(datagram) => {
+            list_datagram(written, number, datagram)
+        }
+        Packet::SockDiag(_) | Packet::Other => Ok(true),
+        Packet::Short => {
+            push_short(&mut written.complaints, number)?;
+            Ok(false)
+        }
+    }
+}
+
+/// Whether a datagram begins with a request, as programs send them to the kernel.
+fn is_request(datagram: &[u8]) -> bool
+    ensures { IsTrue result ↔ IsRequest datagram.now }
+{
+    match NetlinkHeader::from_prefix(datagram) {
+        Ok(header) => header.flags & NLM_F_REQUEST != 0,
+        Err(_) => false,
+    }
+}
+
+/// Adds the lines of the sockets that a datagram tells, and what is told of it, and answers whether it was listed whole.
+fn list_datagram(written: &mut Written, number: u64, datagram: &[u8]) -> Result<bool, AllocError>
+    ensures { IfOk result (Lists datagram.now written.old.lines.items written.new.lines.items) }
+{
+    let mut is_clean = true;
+    let mut place = Place {
+        packet: number,
+        message: 0,
+    };
+    for item in DumpViews::new(datagram) {
+        place.message = place.message.saturating_add(1);
+        let is_plain = list_item(written, place, item)?;
+        is_clean = is_clean && is_plain;
+    }
+    Ok(is_clean)
+}
+
+/// Adds the lines of a message, or what is told of it, and answers whether nothing is.
+fn list_item(
+    written: &mut Written,
+    place: Place,
+    item: Result<PayloadView<'_>, DecodeError>,
+) -> Result<bool, AllocError>
+    ensures lines { OnOk result (written.new.lines.items ≡ written.old.lines.items ++ item_lines (viewed_item item.entry)) }
+    ensures plain { IfOk result (λ is_plain. IsTrue is_plain ↔ IsPlain (viewed_item item.entry)) }
+{
+    push_lines(&mut written.lines, &item)?;
+    match complaint_about(item) {
+        Some(complaint) => {
+            push_complaint(&mut written.complaints, place, &complaint)?;
+            Ok(false)
+        }
+        None => Ok(true),
+    }
+}
+
+/// Adds the lines of a message, where it is a reply.
+fn push_lines(
+    lines: &mut Vec<u8>,
+    item: &Result<PayloadView<'_>, DecodeError>,
+) -> Result<(), AllocError>
+    ensures { OnOk result (lines.new.items ≡ lines.old.items ++ item_lines (viewed_item item.now)) }
+{
+    match item {
+        Ok(PayloadView::InnerMessage(view)) => push_socket(lines, view),
+        _ => Ok(()),
+    }
+}
+
+/// What is told of a message: that it is refused, that it tells an error, or that data was lost. A socket of another
+/// family than those that are listed is passed over.
+#[tactic(auto, unfolding(crate::specs::Listing::item_complaint))]
+fn complaint_about(item: Result<PayloadView<'_>, DecodeError>) -> Option<Complaint>
+    ensures { result ≡ item_complaint (viewed_item item.entry) }
+{
+    match item {
+        Err(fault) => complaint_about_fault(fault),
+        Ok(PayloadView::Done(payload)) | Ok(PayloadView::Error(payload)) => {
+            complaint_about_error(error_of(payload))
+        }
+        Ok(PayloadView::Overrun(_)) => Some(Complaint::Lost),
+        Ok(PayloadView::Noop) | Ok(PayloadView::InnerMessage(_)) => None,
+    }
+}
+
+/// What is told of a fault.
+fn complaint_about_fault(fault: DecodeError) -> Option<Complaint>
+    ensures { result ≡ fault_complaint fault }
+{
+    match fault {
+        DecodeError::UnknownFamily { .. } => None,
+        fault => Some(Complaint::Refused(fault)),
+    }
+}
+
+/// What is told of an error of this number, 0 for none.
+fn complaint_about_error(number: u32) -> Option<Complaint>
+    ensures { result ≡ error_complaint number }
+{
+    if number == 0 {
+        None
+    } else {
+        Some(Complaint::Answered(number))
+    }
+}
+
+/// The number of the error that the payload of an error or of the end of a dump begins with. The kernel writes it as a
+/// negative number of four bytes. 0 is none, and stands for fewer bytes too.
+fn error_of(payload: &[u8]) -> u32
+    ensures { result ≡ error_number payload.now }
+{
+    if payload.len() < 4 {
+        return 0;
+    }
+    LittleEndian::read_u32(payload).wrapping_neg()
+}
+
+/// Adds a line about a message.
+fn push_complaint(
+    complaints: &mut Vec<u8>,
+    place: Place,
+    complaint: &Complaint,
+) -> Result<(), AllocError> {
+    let Place { packet, message } = place;
+    match writeln!(
+        complaints,
+        "sslist: packet {packet}, message {message}: {complaint}"
+    ) {
+        Ok(()) => Ok(()),
+        Err(_) => Err(AllocError),
+    }
+}
+
+/// Adds a line about a packet that is too short to be one of a netlink device.
+fn push_short(complaints: &mut Vec<u8>, packet: u64) -> Result<(), AllocError> {
+    match writeln!(complaints, "sslist: packet {packet}: fewer than 16 bytes") {
+        Ok(()) => Ok(()),
+        Err(_) => Err(AllocError),
+    }
+}

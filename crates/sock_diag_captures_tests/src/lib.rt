@@ -1,0 +1,5 @@
+//! Tests of the lister of captures.
+#![tactic(auto)]
+
+#[cfg(test)]
+mod tests;

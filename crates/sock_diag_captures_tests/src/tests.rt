@@ -1,0 +1,264 @@
+use sock_diag_captures::{ByteOrder, CaptureError};
+use sock_diag_captures::HEADING;
+use sock_diag_captures::run_to_status;
+use sock_diag_captures::{RunError, run};
+use byteorder::{BigEndian, ByteOrder as _, LittleEndian};
+use std::alloc::{AllocError, Global};
+use std::io::{self, Write};
+use std::process::Abort;
+use std::test::Fail;
+
+/// A reply about an IPv6 socket in TIME-WAIT: `[fe80::1]` and interface 3, port 22, to `[2001:db8::ff]`, port 40000.
+const INET6: &str =
+    "580000001400020007000000000000000a06030000169c40fe80000000000000000000000000000120010db80000000000000000000000ff030000000000000000000000000000000000000000000000e803000000000000";
+
+/// A reply about a listening stream socket with the abstract name `a b\`.
+const UNIX: &str =
+    "3800000014000200070000000000000001010a000e4f0000a00200000000000009000000006120625c0000000c0004000200000080000000";
+
+/// A dump ends.
+const DONE: &str = "1400000003000200070000000000000000000000";
+
+/// A reply about a UNIX socket with 12 bytes of the 16 of its header.
+const SHORT_REPLY: &str = "1c00000014000200070000000000000001010a000e4f0000a0020000";
+
+/// A reply about a netlink socket, of the family 16.
+const OTHER_FAMILY: &str = "20000000140002000700000000000000100101000e4f0000a002000000000000";
+
+/// A request for UNIX sockets.
+const REQUEST: &str =
+    "2800000014000103010000000000000001000000ffffffff000000003f000000ffffffffffffffff";
+
+/// The protocol of sock_diag(7). 0 is another one.
+const SOCK_DIAG: u16 = 4;
+
+/// Adds a number of two or four bytes.
+fn push_word(capture: &mut Vec<u8>, order: ByteOrder, number: u32) -> Result<(), AllocError> {
+    let mut bytes = [0u8; 4];
+    match order {
+        ByteOrder::LowFirst => LittleEndian::write_u32(&mut bytes, number),
+        ByteOrder::HighFirst => BigEndian::write_u32(&mut bytes, number),
+    }
+    capture.extend_from_slice(&bytes)
+}
+
+/// Adds the header of a capture.
+fn push_header(
+    capture: &mut Vec<u8>,
+    order: ByteOrder,
+    magic: u32,
+    link_type: u32,
+) -> Result<(), AllocError> {
+    push_word(capture, order, magic)?;
+    let version: &[u8] = match order {
+        ByteOrder::LowFirst => &[2, 0, 4, 0],
+        ByteOrder::HighFirst => &[0, 2, 0, 4],
+    };
+    capture.extend_from_slice(version)?;
+    for word in [0, 0, 4096, link_type] {
+        push_word(capture, order, word)?;
+    }
+    Ok(())
+}
+
+/// Adds a packet of a protocol, whose datagram is given in hex.
+fn push_packet(
+    alloc: Global,
+    capture: &mut Vec<u8>,
+    order: ByteOrder,
+    protocol: u16,
+    datagram: &str,
+) -> Result<(), Fail> {
+    let bytes = hex::decode(alloc, datagram)?;
+    let length = u32::try_from(bytes.len())
+        .ok()
+        .ok_or("a datagram that is too long")?;
+    for word in [7, 9, length.saturating_add(16), 0] {
+        push_word(capture, order, word)?;
+    }
+    let mut cooked = [0u8; 16];
+    cooked[1] = 4;
+    cooked[2] = 3;
+    cooked[3] = 0x38;
+    BigEndian::write_u16(&mut cooked[14..], protocol);
+    capture.extend_from_slice(&cooked)?;
+    capture.extend_from_slice(&bytes)?;
+    Ok(())
+}
+
+/// Takes bytes, and notes whether a flush came last.
+#[derive(Drop)]
+struct Flushed {
+    taken: Vec<u8>,
+    is_flushed: bool,
+}
+
+impl Write for Flushed {
+    fn write(&mut self, buf: &[u8]) -> io::Result<usize> {
+        self.is_flushed = false;
+        self.taken.extend_from_slice(buf)?;
+        Ok(buf.len())
+    }
+
+    fn flush(&mut self) -> io::Result<()> {
+        self.is_flushed = true;
+        Ok(())
+    }
+}
+
+/// What a run over a capture ends with, writes on its output and tells on its errors. A flush ends it.
+fn listed(
+    rt: &impl Abort,
+    alloc: Global,
+    capture: &[u8],
+) -> Result<(Result<bool, RunError>, Vec<u8>, Vec<u8>), AllocError> {
+    let mut input = capture;
+    let mut output = Flushed {
+        taken: Vec::new(alloc),
+        is_flushed: false,
+    };
+    let mut errors = Vec::new(alloc);
+    let outcome = run(alloc, &mut input, &mut output, &mut errors);
+    assert!(rt; output.is_flushed || outcome.is_err());
+    Ok((outcome, output.taken, errors))
+}
+
+/// A heading and some lines.
+fn table(alloc: Global, lines: &str) -> Result<Vec<u8>, AllocError> {
+    let mut text = Vec::from_slice(alloc, HEADING)?;
+    text.extend_from_slice(lines.as_bytes())?;
+    Ok(text)
+}
+
+const INET6_LINE: &str =
+    "inet6 TIME-WAIT  0      0      0          1000  [fe80::1]%3:22                 [2001:db8::ff]:40000\n";
+
+const UNIX_LINE: &str =
+    "u_str LISTEN     2      128    20238      -     @a\\x20b\\x5c                    *\n";
+
+/// Captures of both orders and both magic numbers, with packets of other protocols and a request.
+#[test]
+fn lists_captures_of_both_orders(rt: HostRuntime) -> Result<(), Fail> {
+    let alloc = rt.alloc();
+    let mut lines = Vec::from_slice(alloc, UNIX_LINE.as_bytes())?;
+    lines.extend_from_slice(INET6_LINE.as_bytes())?;
+    let want = table(alloc, std::str::from_utf8(&lines)?)?;
+    for order in [ByteOrder::LowFirst, ByteOrder::HighFirst] {
+        for magic in [0xa1b2_c3d4, 0xa1b2_3c4d] {
+            let mut capture = Vec::new(alloc);
+            push_header(&mut capture, order, magic, 253)?;
+            push_packet(alloc, &mut capture, order, 0, UNIX)?;
+            push_packet(alloc, &mut capture, order, SOCK_DIAG, REQUEST)?;
+            push_packet(alloc, &mut capture, order, SOCK_DIAG, UNIX)?;
+            push_packet(alloc, &mut capture, order, SOCK_DIAG, OTHER_FAMILY)?;
+            push_packet(alloc, &mut capture, order, SOCK_DIAG, INET6)?;
+            push_packet(alloc, &mut capture, order, SOCK_DIAG, DONE)?;
+            let (outcome, output, errors) = listed(&rt, alloc, &capture)?;
+            assert_eq!(rt; outcome, Ok(true));
+            assert_eq!(rt; output.as_slice(), want.as_slice());
+            assert!(rt; errors.is_empty());
+        }
+    }
+    Ok(())
+}
+
+/// A capture that is cut at any byte gives the lines of its whole packets, and says where it is cut.
+#[test]
+fn tells_where_a_capture_is_cut(rt: HostRuntime) -> Result<(), Fail> {
+    let alloc = rt.alloc();
+    let order = ByteOrder::HighFirst;
+    let mut capture = Vec::new(alloc);
+    push_header(&mut capture, order, 0xa1b2_c3d4, 253)?;
+    push_packet(alloc, &mut capture, order, SOCK_DIAG, UNIX)?;
+    let whole = capture.len();
+    push_packet(alloc, &mut capture, order, SOCK_DIAG, INET6)?;
+    for len in 0..capture.len() {
+        let (outcome, output, errors) = listed(&rt, alloc, &capture[..len])?;
+        let fault = CaptureError::Cut;
+        let want = match len {
+            0..24 => Err(RunError::Header(fault)),
+            24 => Ok(true),
+            _ if len < whole => Err(RunError::Packet { packet: 1, fault }),
+            _ if len == whole => Ok(true),
+            _ => Err(RunError::Packet { packet: 2, fault }),
+        };
+        assert_eq!(rt; outcome, want, "at {len}");
+        assert!(rt; errors.is_empty());
+        if len >= whole {
+            assert_eq!(rt; output.as_slice(), table(alloc, UNIX_LINE)?.as_slice());
+        }
+    }
+    Ok(())
+}
+
+/// The front of the header of a capture.
+const FRONT: &str = "d4c3b2a1020004000000000000000000";
+
+/// The end of that of a capture whose packets have at most 72 bytes.
+const OF_72: &str = "48000000fd000000";
+
+/// The headers of a packet of 72 bytes.
+const OF_SOCK_DIAG: &str = "0700000009000000480000004800000000040338000000000000000000000004";
+
+/// A packet of another protocol, and one of 15 bytes.
+const OTHER_AND_SHORT: &str = "0700000009000000100000001000000000000000000000000000000000000000\
+07000000090000000f0000000f000000000403380000000000000000000000";
+
+/// A packet whose message tells that data was lost.
+const LOST: &str =
+    "07000000090000002000000020000000000403380000000000000000000000041000000004000000\
+0700000000000000";
+
+/// A packet whose message ends a dump with the error 2.
+const FAILED: &str =
+    "07000000090000002400000024000000000403380000000000000000000000041400000003000200\
+0700000000000000feffffff";
+
+/// What a run tells of a capture that is given in hex, part by part.
+fn tells(rt: &impl Abort, alloc: Global, parts: &[&str], want: &str) -> Result<(), Fail> {
+    let mut capture = Vec::new(alloc);
+    for part in parts {
+        capture.extend_from_slice(&hex::decode(alloc, part)?)?;
+    }
+    let (mut output, mut errors) = (Vec::new(alloc), Vec::new(alloc));
+    let _status = run_to_status(alloc, &mut capture.as_slice(), &mut output, &mut errors);
+    assert_eq!(rt; std::str::from_utf8(&errors)?, want);
+    Ok(())
+}
+
+/// The texts on standard error, with the numbers in them.
+#[test]
+fn tells_why(rt: HostRuntime) -> Result<(), Fail> {
+    let alloc = rt.alloc();
+    let parts = [FRONT, OF_72, OF_SOCK_DIAG, SHORT_REPLY, SHORT_REPLY];
+    let want =
+        "sslist: packet 1, message 1: UnixResponseHeader: buffer of 12 bytes, at least 16 needed\n\
+sslist: packet 1, message 2: UnixResponseHeader: buffer of 12 bytes, at least 16 needed\n";
+    tells(&rt, alloc, &parts, want)?;
+    let parts = [FRONT, OF_72, OTHER_AND_SHORT, LOST, FAILED, "00"];
+    let want = "sslist: packet 2: fewer than 16 bytes\n\
+sslist: packet 3, message 1: the kernel lost data\n\
+sslist: packet 4, message 1: the kernel answers error 2\n\
+sslist: packet 5: the capture is cut off\n";
+    tells(&rt, alloc, &parts, want)?;
+    let want = "sslist: the capture is cut off\n";
+    tells(&rt, alloc, &[FRONT, "48000000"], want)?;
+    let want = "sslist: packets of link type 1, not 253 (netlink)\n";
+    tells(&rt, alloc, &[FRONT, "4800000001000000"], want)?;
+    let want = "sslist: pcap of version 3, not 2\n";
+    tells(
+        &rt,
+        alloc,
+        &["d4c3b2a1030005000000000000000000", OF_72],
+        want,
+    )?;
+    let want = "sslist: no pcap capture: it begins with 0a0d0d0a\n";
+    tells(
+        &rt,
+        alloc,
+        &["0a0d0d0a200000004d3c2b1a01000000", OF_72],
+        want,
+    )?;
+    let want = "sslist: packet 1: a packet of 72 bytes, at most 71 expected\n";
+    tells(&rt, alloc, &[FRONT, "47000000fd000000", OF_SOCK_DIAG], want)
+}

@@ -1,4 +1,0 @@
-pub mod Adding
-pub mod Listings
-pub mod Steps
-pub mod Progress
