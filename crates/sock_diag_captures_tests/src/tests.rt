@@ -1,8 +1,5 @@
-use sock_diag_captures::{ByteOrder, CaptureError};
-use sock_diag_captures::HEADING;
-use sock_diag_captures::run_to_status;
-use sock_diag_captures::{RunError, run};
 use byteorder::{BigEndian, ByteOrder as _, LittleEndian};
+use sock_diag_captures::{ByteOrder, CaptureError, HEADING, RunError, run, run_to_status};
 use std::alloc::{AllocError, Global};
 use std::io::{self, Write};
 use std::process::Abort;
