@@ -28,7 +28,7 @@ pub use crate::message::{
     NetlinkDeserializable, NetlinkMessage, NetlinkPayload, NetlinkSerializable,
 };
 pub use crate::nla::{
-    DefaultNla, Nla, WireNla, emit_nla, emit_nlas, nla_len, nlas_len, nlas_len_within,
+    DefaultNla, Nla, WireNla, copy_list, emit_nla, emit_nlas, nla_len, nlas_len, nlas_len_within,
     nlas_writable,
 };
 pub use crate::parse::{emit_u32, parse_string, parse_u8, parse_u32};

@@ -169,7 +169,7 @@ impl DefaultNla {
     {
         Ok(DefaultNla {
             kind: nla.type_word(),
-            value: copy_bytes(alloc, nla.value())?,
+            value: copy_list(alloc, nla.value())?,
         })
     }
 
@@ -194,20 +194,22 @@ impl DefaultNla {
     {
         Ok(DefaultNla {
             kind: self.kind,
-            value: copy_bytes(alloc, &self.value)?,
+            value: copy_list(alloc, &self.value)?,
         })
     }
 }
 
-// The bytes with memory of their own, which no bytes need.
-fn copy_bytes(alloc: Global, bytes: &[u8]) -> Result<Vec<u8>, AllocError>
-    ensures equal { IfOk result (λ copy. copy.items ≡ bytes.now) }
-    ensures spare { bytes.now ≡ [] → IsOk result }
+/// The list with memory of its own, which an empty one doesn't need.
+///
+/// It fails only for want of memory.
+pub fn copy_list<T: Copy>(alloc: Global, items: &[T]) -> Result<Vec<T>, AllocError>
+    ensures equal { IfOk result (λ copy. copy.items ≡ items.now) }
+    ensures spare { items.now ≡ [] → IsOk result }
 {
-    if bytes.is_empty() {
+    if items.is_empty() {
         return Ok(Vec::new(alloc));
     }
-    Vec::from_slice(alloc, bytes)
+    Vec::from_slice(alloc, items)
 }
 
 impl Readable for DefaultNla {

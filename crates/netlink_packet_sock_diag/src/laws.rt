@@ -19,6 +19,8 @@ ghost use Rattle.netlink_packet_sock_diag.specs.contracts.unix.response.UnixResp
 ghost use Rattle.netlink_packet_sock_diag.specs.contracts.unix.view.UnixResponseViewEmitable.TheImpl.{ghosts as unix_views};
 ghost use Rattle.netlink_packet_sock_diag.specs.contracts.inet.response.InetResponseEmitable.TheImpl.{ghosts as inet_replies};
 ghost use Rattle.netlink_packet_sock_diag.specs.contracts.inet.view.InetResponseViewEmitable.TheImpl.{ghosts as inet_views};
+ghost use Rattle.netlink_packet_sock_diag.specs.contracts.message.SockDiagMessageEmitable.TheImpl.{ghosts as owned_messages};
+ghost use Rattle.netlink_packet_sock_diag.specs.contracts.message.SockDiagViewEmitable.TheImpl.{ghosts as message_views};
 ghost use Rattle.netlink_packet_sock_diag.specs.contracts.coded.SockDiagDestroyCoded.TheImpl.{ghosts as destroys};
 ghost use Rattle.netlink_packet_sock_diag.specs.contracts.coded.SockDiagMessageCoded.TheImpl.{ghosts as messages};
 ghost use Rattle.netlink_packet_sock_diag.specs.declared.message.SockDiagDestroy.{SockDiagDestroy};
@@ -331,6 +333,19 @@ pub fn owned_inet_view(
     ensures bytes { IfOk result (λ reply. inet_replies.bytes reply ≡ inet_views.bytes view.now) }
     ensures writable { IfOk result (λ reply.
         inet_replies.writable reply ↔ inet_views.writable view.now) }
+{
+    view.to_owned(alloc)
+}
+
+/// A message in place is written as the message with memory of its own.
+pub fn owned_message_view(
+    view: &SockDiagView<'_>,
+    alloc: Global,
+) -> Result<SockDiagMessage, AllocError>
+    ensures bytes { IfOk result (λ message.
+        owned_messages.bytes message ≡ message_views.bytes view.now) }
+    ensures writable { IfOk result (λ message.
+        owned_messages.writable message ↔ message_views.writable view.now) }
 {
     view.to_owned(alloc)
 }

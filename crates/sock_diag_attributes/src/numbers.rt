@@ -184,17 +184,6 @@ pub(crate) fn emit_numbers(numbers: &[u32], buffer: &mut [u8])
     LittleEndian::write_u32_into(numbers, &mut buffer[..4 * numbers.len()]);
 }
 
-/// The list with memory of its own, which an empty one doesn't need.
-pub(crate) fn copy_list<T: Copy>(alloc: Global, items: &[T]) -> Result<Vec<T>, AllocError>
-    ensures equal { IfOk result (λ copy. copy.items ≡ items.now) }
-    ensures spare { items.now ≡ [] → IsOk result }
-{
-    if items.is_empty() {
-        return Ok(Vec::new(alloc));
-    }
-    Vec::from_slice(alloc, items)
-}
-
 /// Tells the prover that a byte is below 256. It does nothing.
 pub(crate) fn byte_typed(_byte: u8)
     ensures { _byte < 256 }

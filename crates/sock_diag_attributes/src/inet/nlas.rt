@@ -6,12 +6,12 @@ ghost use Rattle.netlink_core.specs.Family.{says, attribute_said, IsSpareSaid, I
 ghost use Rattle.netlink_core.specs.Walk.{attribute_of};
 ghost use Rattle.sock_diag_attributes.specs.ValueSteps.{value_bytes, IsTypedValue};
 
-use crate::numbers::{copy_list, exact_flag, exact_u8, exact_u32};
+use crate::numbers::{exact_flag, exact_u8, exact_u32};
 use crate::text::read_text;
 use crate::value::Value;
 use netlink_core::{
-    DecodeError, DefaultNla, Emitable, Nla as NlaTrait, NlaBuffer, Parseable, Readable, emit_nla,
-    nla_len,
+    DecodeError, DefaultNla, Emitable, Nla as NlaTrait, NlaBuffer, Parseable, Readable, copy_list,
+    emit_nla, nla_len,
 };
 use sock_diag_records::constants::*;
 pub use sock_diag_values::inet::{

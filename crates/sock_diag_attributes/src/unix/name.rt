@@ -5,8 +5,9 @@ ghost use Rattle.std.specs.Prelude.{◌≡◌, ◌<◌, ◌≤◌, ◌++◌, len
 ghost use Rattle.sock_diag_attributes.specs.Name.{IsTypedName, read_name, name_bytes, name_codec};
 ghost use Rattle.sock_diag_attributes.specs.NameLaws.{HasNoZero, name_keeps_laws};
 
-use crate::numbers::copy_list;
-use netlink_core::{Coded, DecodeError, Emitable, Parseable, Readable, Wire, bytes_typed};
+use netlink_core::{
+    Coded, DecodeError, Emitable, Parseable, Readable, Wire, bytes_typed, copy_list,
+};
 use std::alloc::{AllocError, Global};
 
 /// The name that a UNIX socket is bound to, as the attribute `UNIX_DIAG_NAME` tells it.

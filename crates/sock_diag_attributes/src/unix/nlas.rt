@@ -7,12 +7,12 @@ ghost use Rattle.netlink_core.specs.Walk.{attribute_of};
 ghost use Rattle.sock_diag_attributes.specs.ValueSteps.{value_bytes, IsTypedValue};
 
 pub use crate::numbers::{NumbersIterator, NumbersView};
-use crate::numbers::{copy_list, exact_u8, exact_u32, exact_u32_pair};
+use crate::numbers::{exact_u8, exact_u32, exact_u32_pair};
 pub use crate::unix::name::{NameView, UnixDiagName};
 use crate::value::Value;
 use netlink_core::{
-    DecodeError, DefaultNla, Emitable, Nla as NlaTrait, NlaBuffer, Parseable, Readable, emit_nla,
-    nla_len,
+    DecodeError, DefaultNla, Emitable, Nla as NlaTrait, NlaBuffer, Parseable, Readable, copy_list,
+    emit_nla, nla_len,
 };
 use sock_diag_records::constants::*;
 pub use sock_diag_values::unix::{MemInfo, MemInfoBuffer, Vfs, VfsBuffer};
