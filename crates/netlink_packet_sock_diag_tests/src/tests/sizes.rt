@@ -1,13 +1,10 @@
-//! Lists of each size, for which there is memory, long attributes, and replies made at random.
+//! Lists of each size, for which there is memory, and long attributes.
 
 use super::read_twice::{ReadTwice, read_twice, rewritten};
 use super::{CONNECTED, INET, LISTENING, bytes, shows};
-use netlink_core::CanonError;
 use netlink_packet_sock_diag::SockDiagMessage;
 use netlink_packet_sock_diag::inet::InetResponse;
 use netlink_packet_sock_diag::unix::UnixResponse;
-use rand_core::Rng;
-use rand_pcg::Pcg32;
 use std::alloc::Global;
 use std::process::Abort;
 use std::test::Fail;
@@ -62,87 +59,5 @@ fn long_attributes(rt: HostRuntime) -> Result<(), Fail> {
             part,
         )?;
     }
-    Ok(())
-}
-
-/// How many replies are made at random. Raise it for a longer search.
-const ROUNDS: u32 = 10_000;
-
-/// Headers, and attributes that some reply accepts.
-const HEADERS: [&str; 3] = [LISTENING, CONNECTED, INET];
-
-const ATTRIBUTES: &str =
-    "0500060000000000 05000680020000ee 0c0004000000000080000000 080002000100ff00 \
-06000000610000ee 0600000000610000 0c0003000500000006000000 04000300 \
-0c0001000100000002000000 0a000400637562696300eeee 05000800ff000000 05000b0002000000 \
-08000f0001020304 20000700010000000200000003000000040000000500000006000000070000ff \
-28000500010000000200000003000000040000000500000006000000070000000800000009000000 \
-0500074002000000";
-
-/// A number under the bound, or zero where that is zero.
-fn below(words: &mut Pcg32, bound: usize) -> usize {
-    (words.next_u32() as usize).checked_rem(bound).unwrap_or(0)
-}
-
-/// A header, some attributes, at times a longest text and a changed byte, and some last bytes off.
-fn reply(words: &mut Pcg32, alloc: Global) -> Result<Vec<u8>, Fail> {
-    let header = HEADERS.get(below(words, 3)).ok_or("no header")?;
-    let mut reply = bytes(alloc, &[*header])?;
-    for _ in 0..below(words, 5) {
-        let attribute = ATTRIBUTES
-            .split(' ')
-            .nth(below(words, 16))
-            .ok_or("no attribute")?;
-        reply.extend_from_slice(&bytes(alloc, &[attribute])?)?;
-    }
-    if below(words, 100) == 0 {
-        reply.extend_from_slice(&[0xff, 0xff, 4, 0])?;
-        reply.resize(reply.len().saturating_add(65_531), b'a')?;
-    }
-    let [byte, ..] = words.next_u32().to_le_bytes();
-    let place = below(words, 200);
-    if let Some(old) = reply.get_mut(place) {
-        *old = byte;
-    }
-    reply.truncate(reply.len().saturating_sub(below(words, 5)));
-    Ok(reply)
-}
-
-/// Whether the bytes have a canonical form. Both readers tell the same, and there is no other
-/// answer than that form, `Unwritable` and the reader's fault.
-fn is_written<T: ReadTwice>(rt: &impl Abort, alloc: Global, bytes: &[u8], param: T::Param) -> bool {
-    let read = read_twice::<T>(rt, alloc, bytes, param);
-    match (read, rewritten::<T>(rt, alloc, bytes, param)) {
-        (Ok(_), Ok(_)) => true,
-        (Ok(value), Err(CanonError::Unwritable)) => {
-            assert!(rt; !value.is_writable(), "{bytes:?}");
-            false
-        }
-        (Err(fault), Err(CanonError::Refused(found))) => {
-            assert!(rt; found == fault, "{bytes:?}");
-            false
-        }
-        _ => panic!(rt; "{bytes:?}"),
-    }
-}
-
-#[test]
-fn replies_at_random(rt: HostRuntime) -> Result<(), Fail> {
-    let alloc = rt.alloc();
-    let mut words = Pcg32::new(42, 54);
-    let mut written = 0_u32;
-    for _ in 0..ROUNDS {
-        let reply = reply(&mut words, alloc)?;
-        let unix = is_written::<UnixResponse>(&rt, alloc, &reply, ());
-        let internet = is_written::<InetResponse>(&rt, alloc, &reply, ());
-        if is_written::<SockDiagMessage>(&rt, alloc, &reply, 20) {
-            assert!(rt; unix || internet, "{reply:?}");
-            written = written.saturating_add(1);
-        }
-    }
-    assert!(rt;
-        ROUNDS / 4 < written && written < ROUNDS / 4 * 3,
-        "{written}"
-    );
     Ok(())
 }
