@@ -19,6 +19,7 @@ pub mod Items
 pub mod Idle
 pub mod Equality
 pub mod SaidTests
+pub mod FaultEquality
 pub mod Rewriting
 mod WholeWalk
 mod WholeDatagram

@@ -1,0 +1,5 @@
+use Rattle.netlink_core.proofs.FaultEquality.{fault_equal}
+use Rattle.netlink_core.proofs.laws.equal_faults.Goals as goal
+
+pub returns : goal.returns
+returns c = rw c.eq.ensures (fault_equal c.args.v.now c.args.w.now)
