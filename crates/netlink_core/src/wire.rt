@@ -132,6 +132,7 @@ pub trait Wire: Coded + Readable + Emitable {
 pub fn write_new<T: Emitable>(alloc: Global, value: &T) -> Result<Vec<u8>, CanonError>
     ensures written { IfOk result (λ c. T.writable value.now × (c.items ≡ T.bytes value.now)) }
     ensures err { IfErr result (GivesUp (λ v. v ≡ value.now) (λ fault. ⊥) T.writable) }
+    ensures memory { IfErr result (λ e. e ≡ CanonError.Memory → T.writable value.now) }
 {
     let Some(len) = value.writable_len() else {
         return Err(CanonError::Unwritable);
