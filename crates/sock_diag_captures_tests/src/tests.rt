@@ -259,3 +259,22 @@ sslist: packet 5: the capture is cut off\n";
     let want = "sslist: packet 1: a packet of 72 bytes, at most 71 expected\n";
     tells(&rt, alloc, &[FRONT, "47000000fd000000", OF_SOCK_DIAG], want)
 }
+
+#[test]
+fn errors_of_a_run_have_words(rt: HostRuntime) -> Result<(), Fail> {
+    let header = RunError::Header(CaptureError::Memory);
+    let (packet, fault) = (2, CaptureError::Read);
+    for (error, want) in [
+        (RunError::Write, "writing failed"),
+        (RunError::Memory, "out of memory"),
+        (header, "out of memory"),
+        (
+            RunError::Packet { packet, fault },
+            "packet 2: reading failed",
+        ),
+    ] {
+        let text = format!(in rt.alloc(); "{error}")?;
+        assert_eq!(rt; text.as_str(), want);
+    }
+    Ok(())
+}
