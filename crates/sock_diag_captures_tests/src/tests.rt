@@ -83,23 +83,36 @@ fn push_packet(
     Ok(())
 }
 
-/// Takes bytes, and notes whether a flush came last.
+/// Takes nine bytes a call at most, and notes whether a flush came last.
 #[derive(Drop)]
 struct Flushed {
     taken: Vec<u8>,
     is_flushed: bool,
+    flush_fails: bool,
 }
 
 impl Write for Flushed {
     fn write(&mut self, buf: &[u8]) -> io::Result<usize> {
         self.is_flushed = false;
-        self.taken.extend_from_slice(buf)?;
-        Ok(buf.len())
+        let part = &buf[..buf.len().min(9)];
+        self.taken.extend_from_slice(part)?;
+        Ok(part.len())
     }
 
     fn flush(&mut self) -> io::Result<()> {
+        if self.flush_fails {
+            return Err(io::Error::from(io::ErrorKind::Other));
+        }
         self.is_flushed = true;
         Ok(())
+    }
+}
+
+fn taker(alloc: Global) -> Flushed {
+    Flushed {
+        taken: Vec::new(alloc),
+        is_flushed: false,
+        flush_fails: false,
     }
 }
 
@@ -110,14 +123,10 @@ fn listed(
     capture: &[u8],
 ) -> Result<(Result<bool, RunError>, Vec<u8>, Vec<u8>), AllocError> {
     let mut input = capture;
-    let mut output = Flushed {
-        taken: Vec::new(alloc),
-        is_flushed: false,
-    };
-    let mut errors = Vec::new(alloc);
+    let (mut output, mut errors) = (taker(alloc), taker(alloc));
     let outcome = run(alloc, &mut input, &mut output, &mut errors);
     assert!(rt; output.is_flushed || outcome.is_err());
-    Ok((outcome, output.taken, errors))
+    Ok((outcome, output.taken, errors.taken))
 }
 
 /// A heading and some lines.
@@ -191,11 +200,11 @@ fn tells_where_a_capture_is_cut(rt: HostRuntime) -> Result<(), Fail> {
 /// The front of the header of a capture.
 const FRONT: &str = "d4c3b2a1020004000000000000000000";
 
-/// The end of that of a capture whose packets have at most 72 bytes.
-const OF_72: &str = "48000000fd000000";
+/// The end of that of a capture whose packets have at most 100 bytes.
+const OF_100: &str = "64000000fd000000";
 
-/// The headers of a packet of 72 bytes.
-const OF_SOCK_DIAG: &str = "0700000009000000480000004800000000040338000000000000000000000004";
+/// The headers of a packet of 100 bytes.
+const OF_SOCK_DIAG: &str = "0700000009000000640000006400000000040338000000000000000000000004";
 
 /// A packet of another protocol, and one of 15 bytes.
 const OTHER_AND_SHORT: &str = "0700000009000000100000001000000000000000000000000000000000000000\
@@ -217,9 +226,9 @@ fn tells(rt: &impl Abort, alloc: Global, parts: &[&str], want: &str) -> Result<(
     for part in parts {
         capture.extend_from_slice(&hex::decode(alloc, part)?)?;
     }
-    let (mut output, mut errors) = (Vec::new(alloc), Vec::new(alloc));
+    let (mut output, mut errors) = (taker(alloc), taker(alloc));
     let _status = run_to_status(alloc, &mut capture.as_slice(), &mut output, &mut errors);
-    assert_eq!(rt; std::str::from_utf8(&errors)?, want);
+    assert_eq!(rt; std::str::from_utf8(&errors.taken)?, want);
     Ok(())
 }
 
@@ -227,12 +236,20 @@ fn tells(rt: &impl Abort, alloc: Global, parts: &[&str], want: &str) -> Result<(
 #[test]
 fn tells_why(rt: HostRuntime) -> Result<(), Fail> {
     let alloc = rt.alloc();
-    let parts = [FRONT, OF_72, OF_SOCK_DIAG, SHORT_REPLY, SHORT_REPLY];
+    let parts = [
+        FRONT,
+        OF_100,
+        OF_SOCK_DIAG,
+        SHORT_REPLY,
+        SHORT_REPLY,
+        SHORT_REPLY,
+    ];
     let want =
         "sslist: packet 1, message 1: UnixResponseHeader: buffer of 12 bytes, at least 16 needed\n\
-sslist: packet 1, message 2: UnixResponseHeader: buffer of 12 bytes, at least 16 needed\n";
+sslist: packet 1, message 2: UnixResponseHeader: buffer of 12 bytes, at least 16 needed\n\
+sslist: packet 1, message 3: UnixResponseHeader: buffer of 12 bytes, at least 16 needed\n";
     tells(&rt, alloc, &parts, want)?;
-    let parts = [FRONT, OF_72, OTHER_AND_SHORT, LOST, FAILED, "00"];
+    let parts = [FRONT, OF_100, OTHER_AND_SHORT, LOST, FAILED, "00"];
     let want = "sslist: packet 2: fewer than 16 bytes\n\
 sslist: packet 3, message 1: the kernel lost data\n\
 sslist: packet 4, message 1: the kernel answers error 2\n\
@@ -246,18 +263,18 @@ sslist: packet 5: the capture is cut off\n";
     tells(
         &rt,
         alloc,
-        &["d4c3b2a1030005000000000000000000", OF_72],
+        &["d4c3b2a1030005000000000000000000", OF_100],
         want,
     )?;
     let want = "sslist: no pcap capture: it begins with 0a0d0d0a\n";
     tells(
         &rt,
         alloc,
-        &["0a0d0d0a200000004d3c2b1a01000000", OF_72],
+        &["0a0d0d0a200000004d3c2b1a01000000", OF_100],
         want,
     )?;
-    let want = "sslist: packet 1: a packet of 72 bytes, at most 71 expected\n";
-    tells(&rt, alloc, &[FRONT, "47000000fd000000", OF_SOCK_DIAG], want)
+    let want = "sslist: packet 1: a packet of 100 bytes, at most 99 expected\n";
+    tells(&rt, alloc, &[FRONT, "63000000fd000000", OF_SOCK_DIAG], want)
 }
 
 #[test]
@@ -276,5 +293,28 @@ fn errors_of_a_run_have_words(rt: HostRuntime) -> Result<(), Fail> {
         let text = format!(in rt.alloc(); "{error}")?;
         assert_eq!(rt; text.as_str(), want);
     }
+    Ok(())
+}
+
+/// A packet of the most bytes, of another protocol, is passed over; and a flush fails.
+#[test]
+fn ends_of_a_run(rt: HostRuntime) -> Result<(), Fail> {
+    let alloc = rt.alloc();
+    let headers = [
+        FRONT,
+        "00000400fd000000",
+        "07000000090000000000040000000400",
+    ];
+    let mut capture = Vec::new(alloc);
+    for part in headers {
+        capture.extend_from_slice(&hex::decode(alloc, part)?)?;
+    }
+    capture.resize(40 + 262_144, 0)?;
+    let (outcome, _, _) = listed(&rt, alloc, &capture)?;
+    assert_eq!(rt; outcome, Ok(true));
+    let (mut output, mut errors) = (taker(alloc), taker(alloc));
+    output.flush_fails = true;
+    let outcome = run(alloc, &mut capture.as_slice(), &mut output, &mut errors);
+    assert_eq!(rt; outcome, Err(RunError::Write));
     Ok(())
 }

@@ -16,7 +16,7 @@ fn has_room<T: ReadTwice<Param = ()>>(
     header: &str,
     attribute: &str,
 ) -> Result<(), Fail> {
-    for count in [0, 1, 2, 3, 4, 5, 6, 7, 8, 9, 100, 1000] {
+    for count in [0, 1, 2, 3, 4, 5, 6, 7, 8, 9, 100, 10_000] {
         let mut reply = bytes(alloc, &[header])?;
         reply.extend_from_slice(&bytes(alloc, &[attribute])?.repeat(alloc, count)?)?;
         assert!(rt; read_twice::<T>(rt, alloc, &reply, ()).is_ok());
