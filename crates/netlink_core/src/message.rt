@@ -140,7 +140,7 @@ impl<I: NetlinkSerializable> NetlinkPayload<I> {
 }
 
 impl<I: NetlinkDeserializable> NetlinkPayload<I> {
-    // The payload under the header's type. A payload of nothing takes no memory.
+    // The payload under the header's type. A payload of nothing never wants memory.
     fn read(alloc: Global, header: &NetlinkHeader, bytes: &[u8]) -> Result<Self, DecodeError>
         ensures value { IfOk result (λ p. PayloadIs I.codec.reads bytes.now header.now.message_type (payload_of I.seen p)) }
         ensures fault { IfErr result (λ e. e ≢ Memory
@@ -204,7 +204,7 @@ impl<I: NetlinkDeserializable> NetlinkMessage<I> {
     ///
     /// Refused are fewer than 16 bytes as `EnvelopeCut`, then a length under 16 as `EnvelopeLengthUnder16`, then one
     /// past the bytes as `EnvelopeLengthPast`, then what the inner message's reader refuses. A message of type
-    /// `NLMSG_NOOP` takes no memory, and its payload is dropped.
+    /// `NLMSG_NOOP` never wants memory, and its payload is dropped.
     pub fn deserialize(alloc: Global, bytes: &[u8]) -> Result<Self, DecodeError>
         ensures value { IfOk result (λ m. (envelope_codec I.codec).reads bytes.now tt (envelope_of I.seen m)) }
         ensures fault { IfErr result (λ e. e ≢ Memory → (envelope_codec I.codec).refuses bytes.now tt e) }

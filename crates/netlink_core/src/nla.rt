@@ -163,9 +163,10 @@ impl DefaultNla {
         DefaultNla { kind, value }
     }
 
-    // The attribute with memory of its own.
+    // The attribute with memory of its own, which one without a value doesn't need.
     fn keep(alloc: Global, nla: &NlaBuffer<'_>) -> Result<DefaultNla, AllocError>
-        ensures { IfOk result (λ kept. kept_attribute kept ≡ attribute_of nla.now) }
+        ensures equal { IfOk result (λ kept. kept_attribute kept ≡ attribute_of nla.now) }
+        ensures spare { (attribute_of nla.now).value ≡ [] → IsOk result }
     {
         Ok(DefaultNla {
             kind: nla.type_word(),

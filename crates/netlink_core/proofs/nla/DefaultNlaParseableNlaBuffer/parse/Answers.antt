@@ -16,4 +16,4 @@ pub returns-clause-value : goal.returns-clause-value
 returns-clause-value c =
     let a : Attribute = attribute_of c.args.buf in
     let fits : FitsWords a = (c.args.buf.word_fits, c.args.buf.value_fits) in
-    kept_is_read a _ fits c.in_ok-keep.ensures
+    kept_is_read a _ fits c.in_ok-keep.ensures.equal

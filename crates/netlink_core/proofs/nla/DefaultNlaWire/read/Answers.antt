@@ -8,4 +8,4 @@ returns-in_err-keep-clause-wanted c =
     rw (p.1, p.2) (λ memory. (_, (_, c.in_ok-new_checked.ensures, refl), λ spare. spare))
 
 pub returns-clause-value : goal.returns-clause-value
-returns-clause-value c = (_, c.in_ok-new_checked.ensures, ap Ok (sym c.in_ok-keep.ensures))
+returns-clause-value c = (_, c.in_ok-new_checked.ensures, ap Ok (sym c.in_ok-keep.ensures.equal))
