@@ -14,7 +14,7 @@ import sys
 from pathlib import Path
 
 TOP = Path(__file__).resolve().parent.parent
-DOCUMENTS = ["README.md", "crates/*/README.md", "crates/*/CALLING.md", "docs/*.md"]
+DOCUMENTS = ["*.md", "crates/*/README.md", "crates/*/CALLING.md", "docs/*.md"]
 SOURCES = ["crates/*/src/**/*.rt", "crates/*/proofs/**/*.antt", "crates/*/specs/**/*.antt"]
 FENCE = "```"
 

@@ -189,8 +189,8 @@ fn end_line<S: Start>(alloc: Global, kept: &mut Kept, end: &[u8]) -> Result<(), 
     requires { (line : List ℕ) → IsAnswerOf line (S.answer line) }
     ensures added { OnOk result ((kept.new.line.items ≡ [])
         × (kept.new.answers.items ≡ kept.old.answers.items ++ fed (S.answer (kept.old.line.items ++ end.now)))) }
-    ensures rooms { OnOk result ((vec_capacity kept.new.line ≤ KEPT)
-        × (vec_capacity kept.new.bytes ≤ KEPT)) }
+    ensures rooms { OnOk result ((vec_capacity kept.new.line ≤ 131072)
+        × (vec_capacity kept.new.bytes ≤ 131072)) }
 {
     let asked = read_line(alloc, kept, end)?;
     empty(alloc, &mut kept.line);
@@ -229,8 +229,8 @@ fn add_answer_line<S: Start>(
 /// Makes room empty, and keeps its memory unless a long line needed it.
 fn empty(alloc: Global, room: &mut Vec<u8>)
     ensures emptied { room.new.items ≡ [] }
-    ensures bound { vec_capacity room.new ≤ KEPT }
-    ensures keeps { vec_capacity room.old ≤ KEPT → vec_capacity room.new ≡ vec_capacity room.old }
+    ensures bound { vec_capacity room.new ≤ 131072 }
+    ensures keeps { vec_capacity room.old ≤ 131072 → vec_capacity room.new ≡ vec_capacity room.old }
 {
     if room.capacity() > KEPT {
         *room = Vec::new(alloc);

@@ -1,3 +1,4 @@
+use crate::ported::add_paths;
 use netlink_core::Parseable;
 use netlink_packet_sock_diag::unix::UnixResponse;
 use sock_diag_calls::reading_back::copy_by_bytes;
@@ -80,6 +81,16 @@ fn datagrams_are_listed_and_counted(rt: HostRuntime) -> Result<(), Fail> {
         shows(&rt, alloc, &listening(datagram), count)?;
     }
     Ok(())
+}
+
+#[test]
+fn paths_of_a_dump_are_listed(rt: HostRuntime) -> Result<(), Fail> {
+    let alloc = rt.alloc();
+    let reply = UnixResponse::parse(alloc, NAMED)?;
+    let dump = answer(alloc, &REQUEST, &[reply]).ok().ok_or("no answer")?;
+    let mut paths = Vec::new(alloc);
+    assert!(rt; add_paths(alloc, &dump, &mut paths)?);
+    shows(&rt, alloc, &paths, "[[47, 114, 117, 110, 47, 120]]")
 }
 
 #[test]

@@ -61,14 +61,13 @@ pub extern "C" fn sockdiag_rewrite_inet_reply(
 fn write_value<V: Emitable>(value: &V, buffer: &mut [u8], outcome: &mut Outcome) -> usize
     ensures { Writes (V.writable value.now) (V.bytes value.now) buffer.old buffer.new outcome.new result }
 {
-    if !value.is_writable() {
+    let Some(needed) = value.writable_len() else {
         *outcome = Outcome {
             fault: 0,
             needed: 0,
         };
         return 0;
-    }
-    let needed = value.buffer_len();
+    };
     *outcome = Outcome { fault: 0, needed };
     if buffer.len() < needed {
         return 0;
