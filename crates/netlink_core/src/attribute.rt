@@ -11,7 +11,7 @@ use crate::fault::DecodeError;
 use byteorder::{ByteOrder, LittleEndian};
 
 /// How many bytes the two words in front of a value have.
-pub(crate) const HEADER: usize = 4;
+pub const NLA_HEADER_SIZE: usize = 4;
 
 /// The most bytes that a value has: its length word counts the header too.
 pub(crate) const MAX_VALUE: usize = 65531;
@@ -47,12 +47,12 @@ impl<'a> NlaBuffer<'a> {
             (IsFramingFault bytes.entry.now) }
     {
         let left = bytes.len();
-        if left < HEADER {
+        if left < NLA_HEADER_SIZE {
             return Err(DecodeError::AttributeHeaderCut { left });
         }
         let length = LittleEndian::read_u16(bytes);
         let end = length as usize;
-        if end < HEADER {
+        if end < NLA_HEADER_SIZE {
             return Err(DecodeError::AttributeLengthUnder4 { length });
         }
         if end > left {
@@ -60,7 +60,7 @@ impl<'a> NlaBuffer<'a> {
         }
         Ok(NlaBuffer {
             type_word: LittleEndian::read_u16(&bytes[2..]),
-            value: &bytes[HEADER..end],
+            value: &bytes[NLA_HEADER_SIZE..end],
         })
     }
 
@@ -68,7 +68,7 @@ impl<'a> NlaBuffer<'a> {
     pub fn length(&self) -> u16
         ensures { result ≡ 4 + length (attribute_of self.now).value }
     {
-        (HEADER + self.value.len()) as u16
+        (NLA_HEADER_SIZE + self.value.len()) as u16
     }
 
     /// The type word, with its two flag bits.
@@ -174,8 +174,8 @@ impl<'a> Iterator for NlasIterator<'a> {
     }
 }
 
-// The length with the padding that brings it to a multiple of 4.
-pub(crate) fn padded(length: usize) -> usize
+/// The length with the padding that brings it to a multiple of 4.
+pub fn padded(length: usize) -> usize
     requires { length < 2 ^ 32 }
     ensures { result ≡ length + fill length }
 {

@@ -6,8 +6,8 @@ ghost use Rattle.netlink_core.specs.Header.{HasHeader, IsEnvelopeFault, IsTypedH
 use crate::fault::DecodeError;
 use byteorder::{ByteOrder, LittleEndian};
 
-/// How many bytes a header has.
-pub(crate) const HEADER: usize = 16;
+/// How many bytes the header of a netlink message has.
+pub const NETLINK_HEADER_LEN: usize = 16;
 
 /// The header of a netlink message, `nlmsghdr` in netlink(7): 16 bytes, each number with its low byte first.
 ///
@@ -37,11 +37,11 @@ impl NetlinkHeader {
         ensures { MatchResult result (HasHeader bytes.now) (IsEnvelopeFault bytes.now) }
     {
         let got = bytes.len();
-        if got < HEADER {
+        if got < NETLINK_HEADER_LEN {
             return Err(DecodeError::EnvelopeCut { got });
         }
         let length = LittleEndian::read_u32(bytes);
-        if (length as usize) < HEADER {
+        if (length as usize) < NETLINK_HEADER_LEN {
             return Err(DecodeError::EnvelopeLengthUnder16 { length });
         }
         if length as usize > got {
@@ -74,7 +74,7 @@ impl NetlinkHeader {
         requires { 16 ≤ length buffer.old }
         ensures { buffer.new ≡ header_bytes self.now ++ drop 16 buffer.old }
     {
-        buffer[..HEADER].copy_from_slice(&self.to_bytes());
+        buffer[..NETLINK_HEADER_LEN].copy_from_slice(&self.to_bytes());
     }
 
     // The five fields.

@@ -31,7 +31,10 @@ use crate::message::{NetlinkMessage, NetlinkPayload};
 use crate::nla::DefaultNla;
 use crate::record::Record;
 use crate::wire::Coded;
-use crate::{NLM_F_DUMP, NLM_F_REQUEST, NLMSG_DONE, NLMSG_ERROR, NLMSG_NOOP, NLMSG_OVERRUN};
+use crate::{
+    NETLINK_HEADER_LEN, NLA_HEADER_SIZE, NLM_F_DUMP, NLM_F_REQUEST, NLMSG_DONE, NLMSG_ERROR,
+    NLMSG_NOOP, NLMSG_OVERRUN,
+};
 use std::alloc::AllocError;
 
 /// A string is cut into attributes exactly as stated: after each, either its padding is whole and the rest is cut on,
@@ -247,7 +250,7 @@ pub fn items_in_a_row<I: Coded<Param = u16>>()
         → ItemsAre I.codec (front ++ back) (xs ++ ys) }
 {}
 
-/// The types and flags of messages, as they stand at the root, have the numbers of netlink(7).
+/// The types, flags and lengths at the root have the numbers of netlink(7).
 pub fn message_constants_have_their_numbers()
     ensures noop { NLMSG_NOOP ≡ 1 }
     ensures error { NLMSG_ERROR ≡ 2 }
@@ -255,4 +258,6 @@ pub fn message_constants_have_their_numbers()
     ensures overrun { NLMSG_OVERRUN ≡ 4 }
     ensures request { NLM_F_REQUEST ≡ 1 }
     ensures dump { NLM_F_DUMP ≡ 0x300 }
+    ensures header { NETLINK_HEADER_LEN ≡ 16 }
+    ensures attribute { NLA_HEADER_SIZE ≡ 4 }
 {}

@@ -16,13 +16,13 @@ mod record;
 pub mod rows;
 mod wire;
 
-pub use crate::attribute::{NlaBuffer, NlasIterator};
+pub use crate::attribute::{NLA_HEADER_SIZE, NlaBuffer, NlasIterator, padded};
 pub use crate::canon::{CanonError, canonical};
 pub use crate::codec::{Emitable, Holds, Parseable, ParseableParametrized, Readable};
 pub use crate::datagram::MessageStrings;
 pub use crate::exact::Exact;
 pub use crate::fault::{DecodeError, RecordName};
-pub use crate::header::NetlinkHeader;
+pub use crate::header::{NETLINK_HEADER_LEN, NetlinkHeader};
 pub use crate::message::{
     NLM_F_DUMP, NLM_F_REQUEST, NLMSG_DONE, NLMSG_ERROR, NLMSG_NOOP, NLMSG_OVERRUN,
     NetlinkDeserializable, NetlinkMessage, NetlinkPayload, NetlinkSerializable,
@@ -31,6 +31,6 @@ pub use crate::nla::{
     DefaultNla, Nla, WireNla, copy_list, emit_nla, emit_nlas, nla_len, nlas_len, nlas_len_within,
     nlas_writable,
 };
-pub use crate::parse::{emit_u32, parse_string, parse_u8, parse_u32};
+pub use crate::parse::{emit_u32, parse_str, parse_string, parse_u8, parse_u32};
 pub use crate::record::{Fills, Record, RecordBuffer, read_record};
 pub use crate::wire::{Coded, Wire, bytes_typed, word_typed, write_new};

@@ -7,7 +7,7 @@ ghost use Rattle.netlink_core.specs.Envelope.{Payload, Envelope, PayloadIs, IsIn
 ghost use Rattle.netlink_core.specs.Seen.{payload_of, envelope_of};
 
 use crate::fault::DecodeError;
-use crate::header::{HEADER, NetlinkHeader};
+use crate::header::{NETLINK_HEADER_LEN, NetlinkHeader};
 use crate::wire::Coded;
 use std::alloc::Global;
 
@@ -213,7 +213,8 @@ impl<I: NetlinkDeserializable> NetlinkMessage<I> {
         ensures wanted { IfErr result (λ e. e ≡ Memory → (m : Envelope I.codec.Value) × (envelope_codec I.codec).reads bytes.now tt m) }
     {
         let header = NetlinkHeader::from_prefix(bytes)?;
-        let payload = NetlinkPayload::read(alloc, &header, &bytes[HEADER..header.length as usize])?;
+        let payload = &bytes[NETLINK_HEADER_LEN..header.length as usize];
+        let payload = NetlinkPayload::read(alloc, &header, payload)?;
         Ok(NetlinkMessage { header, payload })
     }
 }
@@ -234,7 +235,7 @@ impl<I: NetlinkSerializable> NetlinkMessage<I> {
     pub fn is_writable(&self) -> bool
         ensures { IsTrue result ↔ (envelope_codec I.codec).fits (envelope_of I.seen self.now) }
     {
-        self.payload.is_writable() && self.payload.buffer_len() <= LONGEST - HEADER
+        self.payload.is_writable() && self.payload.buffer_len() <= LONGEST - NETLINK_HEADER_LEN
     }
 
     /// How many bytes `serialize` writes.
@@ -242,7 +243,7 @@ impl<I: NetlinkSerializable> NetlinkMessage<I> {
         requires { (envelope_codec I.codec).fits (envelope_of I.seen self.now) }
         ensures { result ≡ length ((envelope_codec I.codec).written (envelope_of I.seen self.now)) }
     {
-        HEADER + self.payload.buffer_len()
+        NETLINK_HEADER_LEN + self.payload.buffer_len()
     }
 
     /// Writes the header as it stands and then the payload, and leaves the rest of the buffer.
@@ -252,7 +253,7 @@ impl<I: NetlinkSerializable> NetlinkMessage<I> {
         ensures { buffer.new ≡ (envelope_codec I.codec).written (envelope_of I.seen self.now)
             ++ drop (length ((envelope_codec I.codec).written (envelope_of I.seen self.now))) buffer.old }
     {
-        let (header, rest) = buffer.split_at_mut(HEADER);
+        let (header, rest) = buffer.split_at_mut(NETLINK_HEADER_LEN);
         self.header.write(header);
         self.payload.serialize(rest);
     }

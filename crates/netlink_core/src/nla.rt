@@ -7,7 +7,7 @@ ghost use Rattle.netlink_core.specs.Attribute.{Attribute, HasFittingValue, AreWr
 ghost use Rattle.netlink_core.specs.Heads.{head_codec};
 ghost use Rattle.netlink_core.specs.HeadLaws.{heads_keep_laws};
 
-use crate::attribute::{HEADER, MAX_VALUE, NlaBuffer, padded};
+use crate::attribute::{MAX_VALUE, NLA_HEADER_SIZE, NlaBuffer, padded};
 use crate::codec::{Emitable, Parseable, Readable};
 use crate::fault::DecodeError;
 use crate::wire::{Coded, Wire, bytes_typed};
@@ -54,7 +54,7 @@ pub fn nla_len<T: Nla>(nla: &T) -> usize
     requires { HasFittingValue (T.attribute nla.now) }
     ensures { result ≡ length (written (T.attribute nla.now)) }
 {
-    padded(HEADER + nla.value_len())
+    padded(NLA_HEADER_SIZE + nla.value_len())
 }
 
 /// Writes the attribute at the front of the buffer, with zeros as its padding, and leaves the rest.
@@ -65,8 +65,8 @@ pub fn emit_nla<T: Nla>(nla: &T, buffer: &mut [u8])
         ++ drop (length (written (T.attribute nla.now))) buffer.old }
 {
     let len = nla.value_len();
-    let end = HEADER + len;
-    let (header, rest) = buffer.split_at_mut(HEADER);
+    let end = NLA_HEADER_SIZE + len;
+    let (header, rest) = buffer.split_at_mut(NLA_HEADER_SIZE);
     let (value, rest) = rest.split_at_mut(len);
     let (padding, _) = rest.split_at_mut(padded(end) - end);
     LittleEndian::write_u16(header, end as u16);

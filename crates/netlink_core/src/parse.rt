@@ -44,21 +44,30 @@ fn wrong_length(payload: &[u8], need: usize) -> DecodeError
 /// The text in the bytes, without the one zero that may stand at their end.
 ///
 /// What is not UTF-8 is `NotUtf8`, before any memory is taken.
-#[tactic(auto, using(crate::proofs::Texts::text_there, crate::proofs::Texts::no_text))]
 pub fn parse_string(alloc: Global, payload: &[u8]) -> Result<String, DecodeError>
     ensures value { IfOk result (λ text. text_in payload.now ≡ Ok (string_bytes text)) }
     ensures fault { IfErr result (λ e. e ≢ Memory → text_in payload.now ≡ Err e) }
     ensures memory { IfErr result (λ e. e ≡ Memory → IsOk (text_in payload.now)) }
 {
+    Ok(String::from_str(alloc, parse_str(payload)?)?)
+}
+
+/// The text in the bytes, in place, without the one zero that may stand at their end. What is not UTF-8 is `NotUtf8`.
+#[tactic(auto, using(crate::proofs::Texts::text_there, crate::proofs::Texts::no_text))]
+#[inline(always)]
+pub fn parse_str(payload: &[u8]) -> Result<&str, DecodeError>
+    ensures value { IfOk result (λ text. text_in payload.entry.now ≡ Ok text.now) }
+    ensures fault { IfErr result (λ e. text_in payload.entry.now ≡ Err e) }
+{
     match str::from_utf8(text_bytes(payload)) {
-        Ok(text) => Ok(String::from_str(alloc, text)?),
+        Ok(text) => Ok(text),
         Err(_) => Err(DecodeError::NotUtf8),
     }
 }
 
 // The bytes without the zero at their end.
 fn text_bytes(payload: &[u8]) -> &[u8]
-    ensures { result.now ≡ without_end_zero payload.now }
+    ensures { result.now ≡ without_end_zero payload.entry.now }
 {
     match payload.split_last() {
         Some((last, text)) => if *last == 0 { text } else { payload },

@@ -16,13 +16,10 @@ mod views;
 pub use self::views::{DumpViews, PayloadView};
 use crate::message::SockDiagMessage;
 use netlink_core::{
-    DecodeError, Exact, MessageStrings, NLMSG_DONE, NLMSG_ERROR, NLMSG_NOOP, NLMSG_OVERRUN,
-    NetlinkDeserializable, NetlinkHeader,
+    DecodeError, Exact, MessageStrings, NETLINK_HEADER_LEN, NLMSG_DONE, NLMSG_ERROR, NLMSG_NOOP,
+    NLMSG_OVERRUN, NetlinkDeserializable, NetlinkHeader,
 };
 use std::alloc::Global;
-
-/// How many bytes the header of a netlink message has.
-const HEADER: usize = 16;
 
 /// How far a dump is.
 #[derive(Clone, Copy, Debug, PartialEq, Eq)]
@@ -76,7 +73,7 @@ fn take_messages<I: NetlinkDeserializable + Drop>(
             _ => messages.push(I::deserialize(
                 alloc,
                 &header,
-                &message[HEADER..header.length as usize],
+                &message[NETLINK_HEADER_LEN..header.length as usize],
             )?)?,
         }
     }

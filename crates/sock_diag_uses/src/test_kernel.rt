@@ -9,7 +9,9 @@ ghost use Rattle.netlink_packet_sock_diag.specs.UnixReply.{UnixReply};
 ghost use Rattle.sock_diag_uses.specs.TestKernel.{CanBeTold, FailsFor, GivesNoAnswer, HasRoom, IsAnswer, IsWholeDump, ReplyHasRoom, message_under, reply_under};
 ghost use Rattle.sock_diag_uses.specs.declared.test_kernel.AnswerError.TheVariants.{Request, Memory};
 
-use netlink_core::{DecodeError, NetlinkHeader, NetlinkMessage, NetlinkPayload, Parseable};
+use netlink_core::{
+    DecodeError, NETLINK_HEADER_LEN, NetlinkHeader, NetlinkMessage, NetlinkPayload, Parseable,
+};
 use netlink_packet_sock_diag::constants::SOCK_DIAG_BY_FAMILY;
 use netlink_packet_sock_diag::unix::{UnixRequest, UnixResponse};
 use netlink_packet_sock_diag::{SockDiagMessage, laws};
@@ -17,9 +19,6 @@ use std::alloc::{AllocError, AllocFailed, Global};
 
 /// The flag of a header that says that the message is one of several, `NLM_F_MULTI` of netlink(7).
 pub const NLM_F_MULTI: u16 = 2;
-
-/// How many bytes the header of a netlink message has.
-const HEADER: usize = 16;
 
 /// Why there is no answer.
 #[derive(Debug, Drop, PartialEq, Eq)]
@@ -72,7 +71,8 @@ pub fn answer(
             message_type: header.message_type,
         }));
     }
-    let _asked = UnixRequest::parse(alloc, &request[HEADER..header.length as usize])?;
+    let payload = &request[NETLINK_HEADER_LEN..header.length as usize];
+    let _asked = UnixRequest::parse(alloc, payload)?;
     let mut datagram = Vec::new(alloc);
     push_replies(alloc, &mut datagram, header.sequence_number, replies)?;
     let end = NetlinkPayload::Done(vec![in alloc; 0; 4]?);

@@ -1,11 +1,11 @@
 //! Walks over the attributes of a reply and over the messages of a datagram, in place.
 
 ghost use Rattle.std.specs.Prelude.{◌≡◌, ◌+◌, ◌<◌, ◌^◌};
-ghost use Rattle.netlink_core.specs.Attribute.{fill};
 ghost use Rattle.sockdiag_c.specs.Walks.{Carries, NextAttribute, NextMessage};
 
 use netlink_core::{
-    NLMSG_DONE, NLMSG_ERROR, NLMSG_NOOP, NLMSG_OVERRUN, NetlinkHeader, NlasIterator,
+    NETLINK_HEADER_LEN, NLA_HEADER_SIZE, NLMSG_DONE, NLMSG_ERROR, NLMSG_NOOP, NLMSG_OVERRUN,
+    NetlinkHeader, NlasIterator, padded,
 };
 use netlink_packet_sock_diag::SockDiagView;
 
@@ -14,12 +14,6 @@ const END: u32 = 0;
 
 /// The answer of a walk that tells an item. It is no fault's number here: want of memory doesn't occur.
 const ITEM: u32 = 1;
-
-/// How many bytes the two words in front of an attribute's value have.
-const WORDS: usize = 4;
-
-/// How many bytes the header of a netlink message has.
-const HEADER: usize = 16;
 
 /// How far a walk is: `struct sockdiag_cursor` of `include/sockdiag.h`.
 #[repr(C)]
@@ -79,10 +73,10 @@ pub extern "C" fn sockdiag_next_attribute(
     match walk.next() {
         None => END,
         Some(Ok(nla)) => {
-            attribute.offset = place + WORDS;
+            attribute.offset = place + NLA_HEADER_SIZE;
             attribute.length = nla.value().len();
             attribute.type_word = nla.type_word();
-            cursor.place = place + padded(WORDS + attribute.length);
+            cursor.place = place + padded(NLA_HEADER_SIZE + attribute.length);
             ITEM
         }
         Some(Err(fault)) => {
@@ -113,15 +107,15 @@ pub extern "C" fn sockdiag_next_message(
         Ok(header) => {
             let end = header.length as usize;
             *message = MessagePart {
-                offset: place + HEADER,
-                length: end - HEADER,
+                offset: place + NETLINK_HEADER_LEN,
+                length: end - NETLINK_HEADER_LEN,
                 message_type: header.message_type,
                 flags: header.flags,
                 sequence_number: header.sequence_number,
                 port_number: header.port_number,
             };
             cursor.place = place + padded(end);
-            check_payload(&left[HEADER..end], header.message_type)
+            check_payload(&left[NETLINK_HEADER_LEN..end], header.message_type)
         }
         Err(fault) => {
             cursor.place = datagram.len();
@@ -144,12 +138,4 @@ fn check_payload(payload: &[u8], message_type: u16) -> u32
             Err(fault) => u32::from(fault.number()),
         },
     }
-}
-
-// The length with the padding that brings it to a multiple of 4.
-fn padded(length: usize) -> usize
-    requires { length < 2 ^ 32 }
-    ensures { result ≡ length + fill length }
-{
-    (length + 3) / 4 * 4
 }

@@ -4,10 +4,10 @@ ghost use Rattle.std.specs.Prelude.{◌≡◌};
 ghost use Rattle.netlink_core.specs.Items.{ItemIs};
 ghost use Rattle.netlink_packet_sock_diag.specs.Message.{message_codec};
 
-use super::HEADER;
 use crate::message::SockDiagView;
 use netlink_core::{
-    DecodeError, MessageStrings, NLMSG_DONE, NLMSG_ERROR, NLMSG_NOOP, NLMSG_OVERRUN, NetlinkHeader,
+    DecodeError, MessageStrings, NETLINK_HEADER_LEN, NLMSG_DONE, NLMSG_ERROR, NLMSG_NOOP,
+    NLMSG_OVERRUN, NetlinkHeader,
 };
 
 /// What a message carries, read in place: a [`netlink_core::NetlinkPayload`] whose bytes are borrowed.
@@ -34,7 +34,7 @@ impl<'a> PayloadView<'a> {
         ensures { ItemIs message_codec message.entry.now (viewed_item result) }
     {
         let header = NetlinkHeader::from_prefix(message)?;
-        let payload = &message[HEADER..header.length as usize];
+        let payload = &message[NETLINK_HEADER_LEN..header.length as usize];
         Ok(match header.message_type {
             NLMSG_NOOP => PayloadView::Noop,
             NLMSG_ERROR => PayloadView::Error(payload),

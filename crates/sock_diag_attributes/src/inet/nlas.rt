@@ -7,11 +7,10 @@ ghost use Rattle.netlink_core.specs.Walk.{attribute_of};
 ghost use Rattle.sock_diag_attributes.specs.ValueSteps.{value_bytes, IsTypedValue};
 
 use crate::numbers::{exact_flag, exact_u8, exact_u32};
-use crate::text::read_text;
 use crate::value::Value;
 use netlink_core::{
     DecodeError, DefaultNla, Emitable, Nla as NlaTrait, NlaBuffer, Parseable, Readable, copy_list,
-    emit_nla, nla_len,
+    emit_nla, nla_len, parse_str,
 };
 use sock_diag_records::constants::*;
 pub use sock_diag_values::inet::{
@@ -170,7 +169,7 @@ impl<'a> NlaView<'a> {
         Ok(match nla.kind() {
             INET_DIAG_MEMINFO => NlaView::LegacyMemInfo(LegacyMemInfo::parse(value)?),
             INET_DIAG_INFO => NlaView::TcpInfo(TcpInfo::parse(value)?),
-            INET_DIAG_CONG => NlaView::Congestion(read_text(value)?),
+            INET_DIAG_CONG => NlaView::Congestion(parse_str(value)?),
             INET_DIAG_TOS => NlaView::Tos(exact_u8(INET_DIAG_TOS, value)?),
             INET_DIAG_TCLASS => NlaView::Tc(exact_u8(INET_DIAG_TCLASS, value)?),
             INET_DIAG_SKMEMINFO => NlaView::MemInfo(MemInfo::parse(value)?),
