@@ -20,7 +20,7 @@ use netlink_core::{
 pub struct UnixResponseHeader {
     /// The type of the socket, one of `SOCK_..`, `udiag_type`, at 1.
     pub kind: u8,
-    /// The state, TCP_ESTABLISHED or TCP_LISTEN, `udiag_state`, at 2.
+    /// The state, `TCP_ESTABLISHED`, `TCP_LISTEN`, or 7 of a socket without a peer, `udiag_state`, at 2.
     pub state: u8,
     /// The inode of the socket, `udiag_ino`, at 4, low byte first.
     pub inode: u32,

@@ -21,7 +21,8 @@ pub struct MemInfo {
     pub so_rcvbuf: u32,
     /// The limit on a datagram that is sent, `SK_MEMINFO_SNDBUF`, at 12, in bytes.
     pub max_datagram_size: u32,
-    /// The memory that is taken by what was sent and not yet read, `SK_MEMINFO_WMEM_QUEUED`, at 20, in bytes.
+    /// The memory of what is queued to be sent, `SK_MEMINFO_WMEM_QUEUED`, at 20, in bytes. Linux counts what a UNIX
+    /// socket sent and its peer has not yet read in the word at 8, and this one is 0.
     pub alloc: u32,
 }
 
