@@ -5,7 +5,6 @@ use std::fmt::Debug;
 use std::process::Abort;
 use std::test::Fail;
 
-mod buffers;
 mod hostile;
 mod read_twice;
 mod refused_memory;
@@ -47,9 +46,15 @@ fn bytes(alloc: Global, parts: &[&str]) -> Result<Vec<u8>, Fail> {
     Ok(hex::decode(alloc, parts.concat(alloc)?.as_str())?)
 }
 
+/// The bytes and the text of a row: behind a front the bytes' digits, and behind a space the text.
+fn cells<'a>(alloc: Global, front: &str, row: &'a str) -> Result<(Vec<u8>, &'a str), Fail> {
+    let (digits, text) = row.split_once(' ').ok_or("no text")?;
+    Ok((bytes(alloc, &[front, digits])?, text))
+}
+
 /// What `Debug` shows of the value has this part.
 fn shows<T: Debug>(rt: &impl Abort, alloc: Global, value: &T, part: &str) -> Result<(), Fail> {
     let shown = format!(in alloc; "{value:?}")?;
-    assert!(rt; shown.contains(part), "{shown}: {part}");
+    assert!(rt; shown.contains(part), "{shown}");
     Ok(())
 }

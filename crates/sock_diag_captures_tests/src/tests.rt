@@ -1,6 +1,5 @@
-use byteorder::{BigEndian, ByteOrder as _, LittleEndian};
 use sock_diag_captures::{ByteOrder, CaptureError, HEADING, RunError, run, run_to_status};
-use std::alloc::{AllocError, Global};
+use std::alloc::Global;
 use std::io::{self, Write};
 use std::process::Abort;
 use std::test::Fail;
@@ -26,62 +25,65 @@ const OTHER_FAMILY: &str = "20000000140002000700000000000000100101000e4f0000a002
 const REQUEST: &str =
     "2800000014000103010000000000000001000000ffffffff000000003f000000ffffffffffffffff";
 
-/// The protocol of sock_diag(7). 0 is another one.
-const SOCK_DIAG: u16 = 4;
+/// The headers of a packet of sock_diag(7), and of one of another protocol.
+const SOCK_DIAG: &str = "00040338000000000000000000000004";
 
-/// Adds a number of two or four bytes.
-fn push_word(capture: &mut Vec<u8>, order: ByteOrder, number: u32) -> Result<(), AllocError> {
-    let mut bytes = [0u8; 4];
-    match order {
-        ByteOrder::LowFirst => LittleEndian::write_u32(&mut bytes, number),
-        ByteOrder::HighFirst => BigEndian::write_u32(&mut bytes, number),
-    }
-    capture.extend_from_slice(&bytes)
-}
+const OTHER: &str = "00040338000000000000000000000000";
 
-/// Adds the header of a capture.
-fn push_header(
-    capture: &mut Vec<u8>,
-    order: ByteOrder,
-    magic: u32,
-    link_type: u32,
-) -> Result<(), AllocError> {
-    push_word(capture, order, magic)?;
-    let version: &[u8] = match order {
-        ByteOrder::LowFirst => &[2, 0, 4, 0],
-        ByteOrder::HighFirst => &[0, 2, 0, 4],
-    };
-    capture.extend_from_slice(version)?;
-    for word in [0, 0, 4096, link_type] {
-        push_word(capture, order, word)?;
-    }
-    Ok(())
-}
-
-/// Adds a packet of a protocol, whose datagram is given in hex.
+/// Adds a packet, whose header and datagram are given in hex, and whose length in this order.
 fn push_packet(
     alloc: Global,
     capture: &mut Vec<u8>,
     order: ByteOrder,
-    protocol: u16,
-    datagram: &str,
+    digits: &[&str],
 ) -> Result<(), Fail> {
-    let bytes = hex::decode(alloc, datagram)?;
+    let bytes = hex::decode(alloc, digits.concat(alloc)?.as_str())?;
     let length = u32::try_from(bytes.len())
         .ok()
         .ok_or("a datagram that is too long")?;
-    for word in [7, 9, length.saturating_add(16), 0] {
-        push_word(capture, order, word)?;
+    for word in [7, 9, length, 0] {
+        let word: [u8; 4] = match order {
+            ByteOrder::LowFirst => word.to_le_bytes(),
+            ByteOrder::HighFirst => word.to_be_bytes(),
+        };
+        capture.extend_from_slice(&word)?;
     }
-    let mut cooked = [0u8; 16];
-    cooked[1] = 4;
-    cooked[2] = 3;
-    cooked[3] = 0x38;
-    BigEndian::write_u16(&mut cooked[14..], protocol);
-    capture.extend_from_slice(&cooked)?;
     capture.extend_from_slice(&bytes)?;
     Ok(())
 }
+
+/// A capture with this header.
+fn captured(
+    alloc: Global,
+    (order, header): (ByteOrder, &str),
+    packets: &[[&str; 2]],
+) -> Result<Vec<u8>, Fail> {
+    let mut capture = hex::decode(alloc, header)?;
+    for digits in packets {
+        push_packet(alloc, &mut capture, order, digits)?;
+    }
+    Ok(capture)
+}
+
+/// The header of a capture in both orders and under both magic numbers.
+const HEADERS: [(ByteOrder, &str); 4] = [
+    (
+        ByteOrder::LowFirst,
+        "d4c3b2a102000400000000000000000000100000fd000000",
+    ),
+    (
+        ByteOrder::LowFirst,
+        "4d3cb2a102000400000000000000000000100000fd000000",
+    ),
+    (
+        ByteOrder::HighFirst,
+        "a1b23c4d00020004000000000000000000001000000000fd",
+    ),
+    (
+        ByteOrder::HighFirst,
+        "a1b2c3d400020004000000000000000000001000000000fd",
+    ),
+];
 
 /// Takes nine bytes a call at most, and notes whether a flush came last.
 #[derive(Drop)]
@@ -116,24 +118,26 @@ fn taker(alloc: Global) -> Flushed {
     }
 }
 
-/// What a run over a capture ends with, writes on its output and tells on its errors. A flush ends it.
-fn listed(
+/// A run over a capture ends so, writes a heading and these lines, where some are given, and tells
+/// nothing on its errors. A flush ends it.
+fn lists(
     rt: &impl Abort,
     alloc: Global,
     capture: &[u8],
-) -> Result<(Result<bool, RunError>, Vec<u8>, Vec<u8>), AllocError> {
+    want: Result<bool, RunError>,
+    lines: Option<&[&str]>,
+) -> Result<(), Fail> {
     let mut input = capture;
     let (mut output, mut errors) = (taker(alloc), taker(alloc));
     let outcome = run(alloc, &mut input, &mut output, &mut errors);
-    assert!(rt; output.is_flushed || outcome.is_err());
-    Ok((outcome, output.taken, errors.taken))
-}
-
-/// A heading and some lines.
-fn table(alloc: Global, lines: &str) -> Result<Vec<u8>, AllocError> {
-    let mut text = Vec::from_slice(alloc, HEADING)?;
-    text.extend_from_slice(lines.as_bytes())?;
-    Ok(text)
+    assert!(rt; outcome == want, "{outcome:?}");
+    assert!(rt; errors.taken.is_empty() && (output.is_flushed || want.is_err()));
+    if let Some(lines) = lines {
+        let mut table = Vec::from_slice(alloc, HEADING)?;
+        table.extend_from_slice(lines.concat(alloc)?.as_bytes())?;
+        assert!(rt; output.taken.as_slice() == table.as_slice());
+    }
+    Ok(())
 }
 
 const INET6_LINE: &str =
@@ -145,25 +149,18 @@ const UNIX_LINE: &str =
 /// Captures of both orders and both magic numbers, with packets of other protocols and a request.
 #[test]
 fn lists_captures_of_both_orders(rt: HostRuntime) -> Result<(), Fail> {
-    let alloc = rt.alloc();
-    let mut lines = Vec::from_slice(alloc, UNIX_LINE.as_bytes())?;
-    lines.extend_from_slice(INET6_LINE.as_bytes())?;
-    let want = table(alloc, std::str::from_utf8(&lines)?)?;
-    for order in [ByteOrder::LowFirst, ByteOrder::HighFirst] {
-        for magic in [0xa1b2_c3d4, 0xa1b2_3c4d] {
-            let mut capture = Vec::new(alloc);
-            push_header(&mut capture, order, magic, 253)?;
-            push_packet(alloc, &mut capture, order, 0, UNIX)?;
-            push_packet(alloc, &mut capture, order, SOCK_DIAG, REQUEST)?;
-            push_packet(alloc, &mut capture, order, SOCK_DIAG, UNIX)?;
-            push_packet(alloc, &mut capture, order, SOCK_DIAG, OTHER_FAMILY)?;
-            push_packet(alloc, &mut capture, order, SOCK_DIAG, INET6)?;
-            push_packet(alloc, &mut capture, order, SOCK_DIAG, DONE)?;
-            let (outcome, output, errors) = listed(&rt, alloc, &capture)?;
-            assert_eq!(rt; outcome, Ok(true));
-            assert_eq!(rt; output.as_slice(), want.as_slice());
-            assert!(rt; errors.is_empty());
-        }
+    let packets = [
+        [OTHER, UNIX],
+        [SOCK_DIAG, REQUEST],
+        [SOCK_DIAG, UNIX],
+        [SOCK_DIAG, OTHER_FAMILY],
+        [SOCK_DIAG, INET6],
+        [SOCK_DIAG, DONE],
+    ];
+    for header in HEADERS {
+        let capture = captured(rt.alloc(), header, &packets)?;
+        let lines = [UNIX_LINE, INET6_LINE];
+        lists(&rt, rt.alloc(), &capture, Ok(true), Some(&lines))?;
     }
     Ok(())
 }
@@ -172,14 +169,10 @@ fn lists_captures_of_both_orders(rt: HostRuntime) -> Result<(), Fail> {
 #[test]
 fn tells_where_a_capture_is_cut(rt: HostRuntime) -> Result<(), Fail> {
     let alloc = rt.alloc();
-    let order = ByteOrder::HighFirst;
-    let mut capture = Vec::new(alloc);
-    push_header(&mut capture, order, 0xa1b2_c3d4, 253)?;
-    push_packet(alloc, &mut capture, order, SOCK_DIAG, UNIX)?;
-    let whole = capture.len();
-    push_packet(alloc, &mut capture, order, SOCK_DIAG, INET6)?;
+    let packets = [[SOCK_DIAG, UNIX], [SOCK_DIAG, INET6]];
+    let capture = captured(alloc, HEADERS[3], &packets)?;
+    let whole = captured(alloc, HEADERS[3], &packets[..1])?.len();
     for len in 0..capture.len() {
-        let (outcome, output, errors) = listed(&rt, alloc, &capture[..len])?;
         let fault = CaptureError::Cut;
         let want = match len {
             0..24 => Err(RunError::Header(fault)),
@@ -188,11 +181,9 @@ fn tells_where_a_capture_is_cut(rt: HostRuntime) -> Result<(), Fail> {
             _ if len == whole => Ok(true),
             _ => Err(RunError::Packet { packet: 2, fault }),
         };
-        assert_eq!(rt; outcome, want, "at {len}");
-        assert!(rt; errors.is_empty());
-        if len >= whole {
-            assert_eq!(rt; output.as_slice(), table(alloc, UNIX_LINE)?.as_slice());
-        }
+        let line = [UNIX_LINE];
+        let lines: Option<&[&str]> = if len >= whole { Some(&line) } else { None };
+        lists(&rt, alloc, &capture[..len], want, lines)?;
     }
     Ok(())
 }
@@ -222,13 +213,10 @@ const FAILED: &str =
 
 /// What a run tells of a capture that is given in hex, part by part.
 fn tells(rt: &impl Abort, alloc: Global, parts: &[&str], want: &str) -> Result<(), Fail> {
-    let mut capture = Vec::new(alloc);
-    for part in parts {
-        capture.extend_from_slice(&hex::decode(alloc, part)?)?;
-    }
+    let capture = hex::decode(alloc, parts.concat(alloc)?.as_str())?;
     let (mut output, mut errors) = (taker(alloc), taker(alloc));
     let _status = run_to_status(alloc, &mut capture.as_slice(), &mut output, &mut errors);
-    assert_eq!(rt; std::str::from_utf8(&errors.taken)?, want);
+    assert!(rt; errors.taken.as_slice() == want.as_bytes());
     Ok(())
 }
 
@@ -260,19 +248,11 @@ sslist: packet 5: the capture is cut off\n";
     let want = "sslist: packets of link type 1, not 253 (netlink)\n";
     tells(&rt, alloc, &[FRONT, "4800000001000000"], want)?;
     let want = "sslist: pcap of version 3, not 2\n";
-    tells(
-        &rt,
-        alloc,
-        &["d4c3b2a1030005000000000000000000", OF_100],
-        want,
-    )?;
+    let parts = ["d4c3b2a1030005000000000000000000", OF_100];
+    tells(&rt, alloc, &parts, want)?;
     let want = "sslist: no pcap capture: it begins with 0a0d0d0a\n";
-    tells(
-        &rt,
-        alloc,
-        &["0a0d0d0a200000004d3c2b1a01000000", OF_100],
-        want,
-    )?;
+    let parts = ["0a0d0d0a200000004d3c2b1a01000000", OF_100];
+    tells(&rt, alloc, &parts, want)?;
     let want = "sslist: packet 1: a packet of 100 bytes, at most 99 expected\n";
     tells(&rt, alloc, &[FRONT, "63000000fd000000", OF_SOCK_DIAG], want)
 }
@@ -291,7 +271,7 @@ fn errors_of_a_run_have_words(rt: HostRuntime) -> Result<(), Fail> {
         ),
     ] {
         let text = format!(in rt.alloc(); "{error}")?;
-        assert_eq!(rt; text.as_str(), want);
+        assert!(rt; text.as_str() == want, "{text}");
     }
     Ok(())
 }
@@ -300,21 +280,14 @@ fn errors_of_a_run_have_words(rt: HostRuntime) -> Result<(), Fail> {
 #[test]
 fn ends_of_a_run(rt: HostRuntime) -> Result<(), Fail> {
     let alloc = rt.alloc();
-    let headers = [
-        FRONT,
-        "00000400fd000000",
-        "07000000090000000000040000000400",
-    ];
-    let mut capture = Vec::new(alloc);
-    for part in headers {
-        capture.extend_from_slice(&hex::decode(alloc, part)?)?;
-    }
+    let headers = "d4c3b2a102000400000000000000000000000400fd000000\
+07000000090000000000040000000400";
+    let mut capture = hex::decode(alloc, headers)?;
     capture.resize(40 + 262_144, 0)?;
-    let (outcome, _, _) = listed(&rt, alloc, &capture)?;
-    assert_eq!(rt; outcome, Ok(true));
+    lists(&rt, alloc, &capture, Ok(true), None)?;
     let (mut output, mut errors) = (taker(alloc), taker(alloc));
     output.flush_fails = true;
     let outcome = run(alloc, &mut capture.as_slice(), &mut output, &mut errors);
-    assert_eq!(rt; outcome, Err(RunError::Write));
+    assert!(rt; outcome == Err(RunError::Write));
     Ok(())
 }

@@ -32,7 +32,7 @@ fn errors_of_a_run_have_words(rt: HostRuntime) -> Result<(), Fail> {
         (RunError::Memory, "Memory: out of memory"),
     ] {
         let text = format!(in rt.alloc(); "{error:?}: {error}")?;
-        assert_eq!(rt; text.as_str(), want);
+        assert!(rt; text.as_str() == want, "{text}");
     }
     Ok(())
 }

@@ -1,7 +1,6 @@
 use bitflags::Flags;
 use netlink_core::{
-    DecodeError, Emitable, Fills, Parseable, ParseableParametrized, Record, RecordBuffer, Wire,
-    canonical,
+    Fills, Parseable, ParseableParametrized, Record, RecordBuffer, Wire, canonical,
 };
 use sock_diag_records::inet::{InetRequest, InetResponseHeader, SocketId, Timer};
 use sock_diag_records::unix::{StateFlags, UnixRequest, UnixResponseHeader};
@@ -40,66 +39,51 @@ const UNIX: [u8; 24] = [
 ];
 
 // Each byte tells its own place.
-fn places() -> [u8; 232] {
-    let mut bytes = [0; 232];
-    let mut place = 0_u8;
-    for byte in &mut bytes {
-        *byte = place;
-        place = place.wrapping_add(1);
-    }
-    bytes
-}
+const PLACES: [u8; 232] = [
+    0, 1, 2, 3, 4, 5, 6, 7, 8, 9, 10, 11, 12, 13, 14, 15, 16, 17, 18, 19, 20, 21, 22, 23, 24, 25,
+    26, 27, 28, 29, 30, 31, 32, 33, 34, 35, 36, 37, 38, 39, 40, 41, 42, 43, 44, 45, 46, 47, 48, 49,
+    50, 51, 52, 53, 54, 55, 56, 57, 58, 59, 60, 61, 62, 63, 64, 65, 66, 67, 68, 69, 70, 71, 72, 73,
+    74, 75, 76, 77, 78, 79, 80, 81, 82, 83, 84, 85, 86, 87, 88, 89, 90, 91, 92, 93, 94, 95, 96, 97,
+    98, 99, 100, 101, 102, 103, 104, 105, 106, 107, 108, 109, 110, 111, 112, 113, 114, 115, 116,
+    117, 118, 119, 120, 121, 122, 123, 124, 125, 126, 127, 128, 129, 130, 131, 132, 133, 134, 135,
+    136, 137, 138, 139, 140, 141, 142, 143, 144, 145, 146, 147, 148, 149, 150, 151, 152, 153, 154,
+    155, 156, 157, 158, 159, 160, 161, 162, 163, 164, 165, 166, 167, 168, 169, 170, 171, 172, 173,
+    174, 175, 176, 177, 178, 179, 180, 181, 182, 183, 184, 185, 186, 187, 188, 189, 190, 191, 192,
+    193, 194, 195, 196, 197, 198, 199, 200, 201, 202, 203, 204, 205, 206, 207, 208, 209, 210, 211,
+    212, 213, 214, 215, 216, 217, 218, 219, 220, 221, 222, 223, 224, 225, 226, 227, 228, 229, 230,
+    231,
+];
 
 fn shows<T: Debug>(rt: &impl Abort, alloc: Global, value: &T, text: &str) -> Result<(), Fail> {
     let shown = format!(in alloc; "{value:?}")?;
-    assert_eq!(rt; shown.as_str(), text);
+    assert!(rt; shown.as_str() == text, "{shown}");
     Ok(())
 }
 
 fn same(rt: &impl Abort, bytes: &[u8], wanted: &[u8]) {
-    assert_eq!(rt; bytes, wanted);
+    assert!(rt; bytes == wanted, "{bytes:?}");
 }
 
-// The bytes are read as the value that is shown like this, and it is written as `written`.
+// The bytes are read as the value that is shown like this, and it is written as `written`. One byte
+// less is refused as `short` tells.
 fn reads<T: Fills<N> + Debug + Drop, const N: usize>(
     rt: &impl Abort,
     alloc: Global,
-    name: &str,
     bytes: &[u8],
     told: T::Told,
-    text: &str,
+    (text, short): (&str, &str),
     written: &[u8],
 ) -> Result<(), Fail> {
-    let value = T::read(alloc, bytes, told)?;
-    shows(rt, alloc, &value, text)?;
-    same(rt, &RecordBuffer::<T, N>::from(&value).to_bytes(), written);
-    let raw = RecordBuffer::<T, N>::read_prefix(bytes).ok_or("short")?;
-    same(rt, &raw.to_bytes(), bytes.get(..N).ok_or("short")?);
-    cuts::<T, N>(rt, alloc, name, bytes, told)
+    shows(rt, alloc, &T::read(alloc, bytes, told)?, text)?;
+    let form = canonical::<T>(alloc, bytes, told).ok().ok_or("refused")?;
+    same(rt, &form, written);
+    let cut = bytes.get(..N.saturating_sub(1)).ok_or("short")?;
+    shows(rt, alloc, &T::read(alloc, cut, told), short)
 }
 
 // The value is written as these bytes.
 fn is_written<T: Fills<N>, const N: usize>(rt: &impl Abort, value: &T, bytes: [u8; N]) {
-    assert!(rt; value.is_writable());
     same(rt, &RecordBuffer::from(value).to_bytes(), &bytes);
-}
-
-// Bytes that are too few are refused, and the record is named.
-fn cuts<T: Fills<N> + Drop, const N: usize>(
-    rt: &impl Abort,
-    alloc: Global,
-    name: &str,
-    bytes: &[u8],
-    told: T::Told,
-) -> Result<(), Fail> {
-    let (which, need) = T::name_and_least();
-    shows(rt, alloc, &which, name)?;
-    for got in 0..N {
-        let cut = bytes.get(..got).ok_or("short")?;
-        let fault = DecodeError::BufferTooSmall { which, got, need };
-        assert_eq!(rt; T::read(alloc, cut, told).err(), Some(fault));
-    }
-    Ok(())
 }
 
 // What is read of a UNIX socket's memory, without the words that nothing is told of.
@@ -111,15 +95,18 @@ const UNIX_MEMORY: [u8; 36] = [
 #[test]
 fn values_of_attributes(rt: HostRuntime) -> Result<(), Fail> {
     let alloc = rt.alloc();
-    let bytes = places();
     let text = "Vfs { inode: 50462976, device: 117835012 }";
-    reads::<Vfs, 8>(&rt, alloc, "Vfs", &bytes, (), text, &bytes[..8])?;
+    let short = "Err(BufferTooSmall { which: Vfs, got: 7, need: 8 })";
+    reads::<Vfs, 8>(&rt, alloc, &PLACES, (), (text, short), &PLACES[..8])?;
     let text = "MemInfo { so_rcvbuf: 117835012, max_datagram_size: 252579084, alloc: 387323156 }";
-    reads::<unix_nlas::MemInfo, 36>(&rt, alloc, "UnixMemInfo", &bytes, (), text, &UNIX_MEMORY)?;
+    let short = "Err(BufferTooSmall { which: UnixMemInfo, got: 35, need: 36 })";
+    reads::<unix_nlas::MemInfo, 36>(&rt, alloc, &PLACES, (), (text, short), &UNIX_MEMORY)?;
     let text = "LegacyMemInfo { receive_queue: 50462976, bottom_send_queue: 117835012, \
         cache: 185207048, send_queue: 252579084 }";
-    reads::<LegacyMemInfo, 16>(&rt, alloc, "LegacyMemInfo", &bytes, (), text, &bytes[..16])?;
-    reads::<TcpInfo, 232>(&rt, alloc, "TcpInfo", &bytes, (), CONNECTION, &bytes)
+    let short = "Err(BufferTooSmall { which: LegacyMemInfo, got: 15, need: 16 })";
+    reads::<LegacyMemInfo, 16>(&rt, alloc, &PLACES, (), (text, short), &PLACES[..16])?;
+    let short = "Err(BufferTooSmall { which: TcpInfo, got: 231, need: 232 })";
+    reads::<TcpInfo, 232>(&rt, alloc, &PLACES, (), (CONNECTION, short), &PLACES)
 }
 
 const CONNECTION: &str = "TcpInfo { state: 0, ca_state: 1, retransmits: 2, probes: 3, backoff: 4, \
@@ -139,8 +126,8 @@ sndbuf_limited: 13816689325120338360, delivered: 3284320704, delivered_ce: 33516
 bytes_sent: 14974132090529565128, bytes_retrans: 15552853473234178512, dsack_dups: 3688552920, \
 reord_seen: 3755924956, rcv_ooopack: 3823296992, snd_wnd: 3890669028 }";
 
-// The bytes are read as seven words and what is shown behind them, and kept up to the last whole
-// word; the value is written as what is kept.
+// The bytes are read as seven words and what is shown behind them, and the value is written as what
+// is kept: up to the last whole word.
 fn memory(
     rt: &impl Abort,
     alloc: Global,
@@ -149,35 +136,33 @@ fn memory(
     kept: &[u8],
 ) -> Result<(), Fail> {
     let value = MemInfo::parse(bytes)?;
-    let raw = MemInfoBuffer::read_prefix(bytes).ok_or("short")?;
-    same(rt, MemInfoBuffer::from(&value).to_bytes().as_slice(), kept);
+    let written = MemInfoBuffer::from(&value);
     let text = format!(in alloc;
         "(MemInfo {{ receive_queue: 50462976, receive_queue_max: 117835012, \
             bottom_send_queues: 185207048, send_queue_max: 252579084, cache: 319951120, \
             send_queue: 387323156, options: 454695192, {back}({kept:?}) }})"
     )?;
-    shows(rt, alloc, &(value, raw), &text)
+    shows(rt, alloc, &(value, written), &text)
 }
 
 #[test]
 fn memory_of_seven_to_nine_words(rt: HostRuntime) -> Result<(), Fail> {
-    let bytes = places();
     let seven = "backlog_queue_length: None, drops: None }, MemInfoBuffer { bytes: Seven";
     let eight =
         "backlog_queue_length: Some(522067228), drops: None }, MemInfoBuffer { bytes: Eight";
     let nine = "backlog_queue_length: Some(522067228), drops: Some(589439264) }, \
         MemInfoBuffer { bytes: Nine";
     for (given, back, kept) in [
-        (&bytes[..28], seven, &bytes[..28]),
-        (&bytes[..31], seven, &bytes[..28]),
-        (&bytes[..32], eight, &bytes[..32]),
-        (&bytes[..35], eight, &bytes[..32]),
-        (&bytes[..36], nine, &bytes[..36]),
-        (&bytes[..40], nine, &bytes[..36]),
+        (28, seven, 28),
+        (31, seven, 28),
+        (32, eight, 32),
+        (35, eight, 32),
+        (36, nine, 36),
+        (40, nine, 36),
     ] {
-        memory(&rt, rt.alloc(), given, back, kept)?;
+        memory(&rt, rt.alloc(), &PLACES[..given], back, &PLACES[..kept])?;
     }
-    let short = &bytes[..27];
+    let short = &[0; 27];
     let text = "(Err(BufferTooSmall { which: MemInfo, got: 27, need: 28 }), None)";
     let refused = (MemInfo::parse(short), MemInfoBuffer::read_prefix(short));
     shows(&rt, rt.alloc(), &refused, text)
@@ -190,31 +175,39 @@ fn headers_of_replies(rt: HostRuntime) -> Result<(), Fail> {
     let written = [1, 1, 10, 0, 0x0e, 0x4f, 0, 0, 0xa0, 2, 0, 0, 0, 0, 0, 0];
     let text = "UnixResponseHeader { kind: 1, state: 10, inode: 20238, \
         cookie: [160, 2, 0, 0, 0, 0, 0, 0] }";
-    reads::<UnixResponseHeader, 16>(&rt, alloc, "UnixResponseHeader", &loose, (), text, &written)?;
+    let short = "Err(BufferTooSmall { which: UnixResponseHeader, got: 15, need: 16 })";
+    reads::<UnixResponseHeader, 16>(&rt, alloc, &loose, (), (text, short), &written)?;
     let text = "InetResponseHeader { family: 2, state: 1, timer: Some(KeepAlive(24.704s)), \
         socket_id: SocketId { source_port: 60180, destination_port: 443, \
         source_address: 192.168.178.60, destination_address: 172.217.23.131, interface_id: 0, \
         cookie: [82, 3, 0, 0, 0, 0, 0, 0] }, recv_queue: 0, send_queue: 0, uid: 1000, \
         inode: 2742952 }";
-    reads::<InetResponseHeader, 72>(&rt, alloc, "InetResponseHeader", &HEADER, (), text, &HEADER)
+    let short = "Err(BufferTooSmall { which: InetResponseHeader, got: 71, need: 72 })";
+    reads::<InetResponseHeader, 72>(&rt, alloc, &HEADER, (), (text, short), &HEADER)
+}
+
+// The header with another timer, another number of retransmits and another time.
+fn with_timer(timer: [u8; 2], expires: [u8; 4]) -> [u8; 72] {
+    let mut bytes = HEADER;
+    bytes[2..4].copy_from_slice(&timer);
+    bytes[52..56].copy_from_slice(&expires);
+    bytes
 }
 
 #[test]
 fn timers(rt: HostRuntime) -> Result<(), Fail> {
-    for (given, text, written) in [
-        ([0, 0], "None", [0, 0, 0, 0]),
-        ([9, 7], "None", [0, 0, 0, 0]),
-        ([1, 7], "Some(Retransmit(24.704s, 7))", [1, 7, 0x80, 0x60]),
-        ([2, 7], "Some(KeepAlive(24.704s))", [2, 0, 0x80, 0x60]),
-        ([3, 0], "Some(TimeWait)", [3, 0, 0, 0]),
-        ([4, 0], "Some(Probe(24.704s))", [4, 0, 0x80, 0x60]),
+    let time = [0x80, 0x60, 0, 0];
+    for (given, text, timer, expires) in [
+        ([0, 0], "None", [0, 0], [0; 4]),
+        ([9, 7], "None", [0, 0], [0; 4]),
+        ([1, 7], "Some(Retransmit(24.704s, 7))", [1, 7], time),
+        ([2, 7], "Some(KeepAlive(24.704s))", [2, 0], time),
+        ([3, 0], "Some(TimeWait)", [3, 0], [0; 4]),
+        ([4, 0], "Some(Probe(24.704s))", [4, 0], time),
     ] {
-        let mut bytes = HEADER;
-        [bytes[2], bytes[3]] = given;
-        let header = InetResponseHeader::parse(rt.alloc(), bytes.as_slice())?;
+        let header = InetResponseHeader::parse(rt.alloc(), with_timer(given, time).as_slice())?;
         shows(&rt, rt.alloc(), &header.timer, text)?;
-        [bytes[2], bytes[3], bytes[52], bytes[53]] = written;
-        is_written(&rt, &header, bytes);
+        is_written(&rt, &header, with_timer(timer, expires));
     }
     Ok(())
 }
@@ -233,10 +226,15 @@ fn identities(rt: HostRuntime) -> Result<(), Fail> {
     let mut written = LOOSE_INET;
     written[16..28].fill(0);
     let loose = &LOOSE_INET[8..];
-    reads::<SocketId, 48>(&rt, alloc, "SocketId", loose, 2, FOUR, &written[8..])?;
-    reads::<SocketId, 48>(&rt, alloc, "SocketId", loose, 10, SIX, loose)?;
-    let other = SocketId::parse_with_param(alloc, loose, 1);
-    shows(&rt, alloc, &other, "Err(UnsupportedFamily { family: 1 })")
+    let short = "Err(BufferTooSmall { which: SocketId, got: 47, need: 48 })";
+    reads::<SocketId, 48>(&rt, alloc, loose, 2, (FOUR, short), &written[8..])?;
+    reads::<SocketId, 48>(&rt, alloc, loose, 10, (SIX, short), loose)?;
+    let others = (
+        SocketId::parse_with_param(alloc, loose, 1),
+        InetRequest::parse(alloc, [1; 56].as_slice()),
+    );
+    let text = "(Err(UnsupportedFamily { family: 1 }), Err(UnsupportedFamily { family: 1 }))";
+    shows(&rt, alloc, &others, text)
 }
 
 #[test]
@@ -244,7 +242,8 @@ fn requests(rt: HostRuntime) -> Result<(), Fail> {
     let alloc = rt.alloc();
     let text = "UnixRequest { state_flags: StateFlags(1026), inode: 4660, \
         show_flags: ShowFlags(63), cookie: [255, 255, 255, 255, 255, 255, 255, 255] }";
-    reads::<UnixRequest, 24>(&rt, alloc, "UnixRequest", &LOOSE_UNIX, (), text, &UNIX)?;
+    let short = "Err(BufferTooSmall { which: UnixRequest, got: 23, need: 24 })";
+    reads::<UnixRequest, 24>(&rt, alloc, &LOOSE_UNIX, (), (text, short), &UNIX)?;
     let mut written = LOOSE_INET;
     written[3..8].copy_from_slice(&[0, 0xfe, 0x0f, 0, 0]);
     written[16..28].fill(0);
@@ -252,32 +251,8 @@ fn requests(rt: HostRuntime) -> Result<(), Fail> {
         states: StateFlags(4094), socket_id: SocketId { source_port: 53, \
         destination_port: 54321, source_address: 127.0.0.1, destination_address: 127.0.0.1, \
         interface_id: 1, cookie: [0, 1, 2, 3, 4, 5, 6, 7] } }";
-    reads::<InetRequest, 56>(&rt, alloc, "InetRequest", &LOOSE_INET, (), text, &written)
-}
-
-// Each byte but the first may be another one: the string has a form, and that is its own.
-fn takes_changes<T: Fills<N, Told = ()> + Drop, const N: usize>(
-    rt: &impl Abort,
-    alloc: Global,
-    string: [u8; N],
-) -> Result<(), Fail> {
-    for place in 1..N {
-        let mut bytes = string;
-        bytes[place] ^= 0xff;
-        let form = canonical::<T>(alloc, &bytes, ()).ok().ok_or("refused")?;
-        let again = canonical::<T>(alloc, &form, ()).ok().ok_or("refused")?;
-        same(rt, &again, &form);
-    }
-    Ok(())
-}
-
-#[test]
-fn changed_requests(rt: HostRuntime) -> Result<(), Fail> {
-    takes_changes::<UnixRequest, 24>(&rt, rt.alloc(), UNIX)?;
-    takes_changes::<InetRequest, 56>(&rt, rt.alloc(), LOOSE_INET)?;
-    let other = InetRequest::parse(rt.alloc(), [1; 56].as_slice());
-    let text = "Err(UnsupportedFamily { family: 1 })";
-    shows(&rt, rt.alloc(), &other, text)
+    let short = "Err(BufferTooSmall { which: InetRequest, got: 55, need: 56 })";
+    reads::<InetRequest, 56>(&rt, alloc, &LOOSE_INET, (), (text, short), &written)
 }
 
 #[test]
@@ -289,9 +264,7 @@ fn durations_that_are_no_milliseconds_of_a_word(rt: HostRuntime) -> Result<(), F
     ] {
         let mut header = InetResponseHeader::parse(rt.alloc(), HEADER.as_slice())?;
         header.timer = Some(Timer::KeepAlive(duration));
-        let mut wanted = HEADER;
-        wanted[52..56].copy_from_slice(&expires);
-        is_written(&rt, &header, wanted);
+        is_written(&rt, &header, with_timer([2, 0], expires));
     }
     Ok(())
 }
@@ -309,7 +282,7 @@ fn values_that_no_reader_gives(rt: HostRuntime) -> Result<(), Fail> {
     let mut wanted = UNIX;
     wanted[4..8].fill(255);
     is_written(&rt, &request, wanted);
-    let mut memory = MemInfo::parse(&places())?;
+    let mut memory = MemInfo::parse(&PLACES)?;
     memory.backlog_queue_length = None;
     let again = MemInfo::parse(MemInfoBuffer::from(&memory).to_bytes().as_slice())?;
     let drops = (again.backlog_queue_length, again.drops);

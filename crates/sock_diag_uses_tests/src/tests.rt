@@ -22,6 +22,10 @@ const NAMED: &[u8] = b"\x01\x01\x0a\x07\x0e\x4f\0\0\xa0\x02\0\0\0\0\0\0\x0b\0\0\
 // That reply as it is written.
 const WRITTEN: &[u8] = b"\x01\x01\x0a\0\x0e\x4f\0\0\xa0\x02\0\0\0\0\0\0\x0b\0\0\0/run/x\0\0";
 
+// And in a message that answers the request below.
+const MESSAGE: &[u8] = b"\x2c\0\0\0\x14\0\x02\0\x07\0\0\0\0\0\0\0\
+\x01\x01\x0a\0\x0e\x4f\0\0\xa0\x02\0\0\0\0\0\0\x0b\0\0\0/run/x\0\0";
+
 // A listening socket in a message of its own, and the end of a dump.
 const DUMP: [u8; 52] = [
     32, 0, 0, 0, 20, 0, 2, 0, 7, 0, 0, 0, 0, 0, 0, 0, 1, 1, 10, 0, 0x0e, 0x4f, 0, 0, 0xa0, 2, 0, 0,
@@ -42,14 +46,14 @@ const REQUEST: [u8; 40] = [
 
 fn shows<T: Debug>(rt: &impl Abort, alloc: Global, value: &T, text: &str) -> Result<(), Fail> {
     let shown = format!(in alloc; "{value:?}")?;
-    assert_eq!(rt; shown.as_str(), text);
+    assert!(rt; shown.as_str() == text, "{shown}");
     Ok(())
 }
 
 #[test]
 fn replies_are_stored_by_what_they_tell(rt: HostRuntime) -> Result<(), Fail> {
     let alloc = rt.alloc();
-    assert_eq!(rt; key(alloc, NAMED)?.as_slice(), WRITTEN);
+    assert!(rt; key(alloc, NAMED)?.as_slice() == WRITTEN);
     assert!(rt; same_reply(alloc, NAMED, WRITTEN)?);
     assert!(rt; !same_reply(alloc, NAMED, &LISTENING)?);
     Ok(())
@@ -114,19 +118,28 @@ fn links_have_their_name_and_their_mtu(rt: HostRuntime) -> Result<(), Fail> {
     let key = attribute_key(alloc, b"\x09\0\x03\0eth0\0\x09\0\0")
         .ok()
         .ok_or("no key")?;
-    assert_eq!(rt; key.as_slice(), b"\x09\0\x03\0eth0\0\0\0\0".as_slice());
+    assert!(rt; key.as_slice() == b"\x09\0\x03\0eth0\0\0\0\0".as_slice());
+    Ok(())
+}
+
+// So many replies are answered in as many messages, and then the dump ends.
+fn answers(rt: &impl Abort, alloc: Global, count: usize) -> Result<(), Fail> {
+    let mut replies = Vec::new(alloc);
+    for _ in 0..count {
+        replies.push(UnixResponse::parse(alloc, NAMED)?)?;
+    }
+    let mut want = MESSAGE.repeat(alloc, count)?;
+    want.extend_from_slice(&DUMP[32..])?;
+    let answered = answer(alloc, &REQUEST, &replies).ok().ok_or("no answer")?;
+    assert!(rt; answered.as_slice() == want.as_slice());
     Ok(())
 }
 
 #[test]
 fn requests_are_answered(rt: HostRuntime) -> Result<(), Fail> {
-    let alloc = rt.alloc();
-    let reply = UnixResponse::parse(alloc, NAMED)?;
-    let answered = answer(alloc, &REQUEST, &[reply]).ok().ok_or("no answer")?;
-    let mut want = Vec::from_slice(alloc, &[44, 0, 0, 0, 20, 0, 2, 0, 7, 0, 0, 0, 0, 0, 0, 0])?;
-    want.extend_from_slice(WRITTEN)?;
-    want.extend_from_slice(&DUMP[32..])?;
-    assert_eq!(rt; answered.as_slice(), want.as_slice());
+    for count in [0, 1, 9] {
+        answers(&rt, rt.alloc(), count)?;
+    }
     Ok(())
 }
 
@@ -138,6 +151,6 @@ fn values_are_made_and_copied(rt: HostRuntime) -> Result<(), Fail> {
         answer(alloc, &REQUEST, &replies).ok().ok_or("no answer")?;
     }
     let vfs = Vfs::parse(&[4, 3, 2, 1, 7, 0, 0, 0])?;
-    assert_eq!(rt; copy_by_bytes(alloc, &vfs, ())?, vfs);
+    assert!(rt; copy_by_bytes(alloc, &vfs, ())? == vfs);
     Ok(())
 }

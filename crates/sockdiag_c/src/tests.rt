@@ -69,11 +69,8 @@ fn headers_of_unix_replies(rt: HostRuntime) {
         (&UNIX_REPLY[..], 0, 1, 0x11223344, [1, 2, 3, 4, 5, 6, 7, 8]),
     ] {
         let mut header = NO_UNIX_HEADER;
-        assert_eq!(rt; sockdiag_check_unix_reply(payload, &mut header), answer);
-        assert_eq!(rt;
-            (header.kind, header.inode, header.cookie),
-            (kind, inode, cookie)
-        );
+        assert!(rt; sockdiag_check_unix_reply(payload, &mut header) == answer);
+        assert!(rt; (header.kind, header.inode, header.cookie) == (kind, inode, cookie));
     }
 }
 
@@ -106,14 +103,11 @@ fn headers_of_internet_replies(rt: HostRuntime) {
         ),
     ] {
         let mut header = NO_INET_HEADER;
-        assert_eq!(rt; sockdiag_check_inet_reply(payload, &mut header), answer);
-        assert_eq!(rt; words(&header), numbers);
-        assert_eq!(rt; (header.source_port, header.destination_port), ports);
-        assert_eq!(rt;
-            (header.source_address[0], header.destination_address[3]),
-            octets
-        );
-        assert_eq!(rt; &header.destination_address[4..], [0; 12].as_slice());
+        assert!(rt; sockdiag_check_inet_reply(payload, &mut header) == answer);
+        assert!(rt; words(&header) == numbers);
+        assert!(rt; (header.source_port, header.destination_port) == ports);
+        assert!(rt; (header.source_address[0], header.destination_address[3]) == octets);
+        assert!(rt; &header.destination_address[4..] == [0; 12].as_slice());
     }
 }
 
@@ -129,16 +123,10 @@ fn replies_in_messages(rt: HostRuntime) {
         (&UNIX_REPLY[..], 20, 0, 1),
         (&INET_REPLY[..], 20, 0, 2),
     ] {
-        assert_eq!(rt;
-            sockdiag_check_message(payload, message_type, &mut reply),
-            answer
-        );
-        assert_eq!(rt; reply.kind, kind);
+        assert!(rt; sockdiag_check_message(payload, message_type, &mut reply) == answer);
+        assert!(rt; reply.kind == kind);
     }
-    assert_eq!(rt;
-        (reply.unix_header.inode, reply.inet_header.inode),
-        (0x11223344, 12345)
-    );
+    assert!(rt; (reply.unix_header.inode, reply.inet_header.inode) == (0x11223344, 12345));
 }
 
 // Where a walk is, what it answers there, where it is then, and the attribute.
@@ -157,12 +145,9 @@ fn walks_over_attributes(rt: HostRuntime) {
             length: 0,
             type_word: 9,
         };
-        assert_eq!(rt;
-            sockdiag_next_attribute(&UNIX_REPLY, &mut cursor, &mut part),
-            answer
-        );
-        assert_eq!(rt; (cursor.place, part.type_word), (next, type_word));
-        assert_eq!(rt; (part.offset, part.length), (offset, length));
+        assert!(rt; sockdiag_next_attribute(&UNIX_REPLY, &mut cursor, &mut part) == answer);
+        assert!(rt; (cursor.place, part.type_word) == (next, type_word));
+        assert!(rt; (part.offset, part.length) == (offset, length));
     }
 }
 
@@ -184,23 +169,16 @@ fn walks_over_messages(rt: HostRuntime) {
             sequence_number: 0,
             port_number: 0,
         };
-        assert_eq!(rt;
-            sockdiag_next_message(&DATAGRAM, &mut cursor, &mut part),
-            answer
-        );
-        assert_eq!(rt;
+        assert!(rt; sockdiag_next_message(&DATAGRAM, &mut cursor, &mut part) == answer);
+        assert!(rt;
             (
                 part.message_type,
                 part.flags,
                 part.sequence_number,
                 part.port_number
-            ),
-            header
+            ) == header
         );
-        assert_eq!(rt;
-            (cursor.place, part.offset, part.length),
-            (next, offset, length)
-        );
+        assert!(rt; (cursor.place, part.offset, part.length) == (next, offset, length));
     }
 }
 
@@ -218,14 +196,14 @@ fn writes_a_unix_request(rt: HostRuntime) {
         cookie: [1, 2, 3, 4, 5, 6, 7, 8],
     };
     let mut buffer = [0xaa; 41];
-    assert_eq!(rt; sockdiag_write_unix_request(&request, &mut buffer[..39]), 0);
-    assert_eq!(rt; buffer, [0xaa; 41]);
-    assert_eq!(rt; sockdiag_write_unix_request(&request, &mut buffer), 40);
+    assert!(rt; sockdiag_write_unix_request(&request, &mut buffer[..39]) == 0);
+    assert!(rt; buffer == [0xaa; 41]);
+    assert!(rt; sockdiag_write_unix_request(&request, &mut buffer) == 40);
     let want = [
         40, 0, 0, 0, 20, 0, 1, 3, 5, 0, 0, 0, 0, 0, 0, 0, 1, 0, 0, 0, 0xff, 0xff, 0xff, 0xff, 6, 0,
         0, 0, 0x3f, 0, 0, 0, 1, 2, 3, 4, 5, 6, 7, 8, 0xaa,
     ];
-    assert_eq!(rt; buffer, want);
+    assert!(rt; buffer == want);
 }
 
 #[test]
@@ -248,16 +226,16 @@ fn writes_an_internet_request(rt: HostRuntime) {
         cookie: [8, 7, 6, 5, 4, 3, 2, 1],
     };
     let mut buffer = [0; 72];
-    assert_eq!(rt; sockdiag_write_inet_request(&request, &mut buffer[..71]), 0);
-    assert_eq!(rt; sockdiag_write_inet_request(&request, &mut buffer), 72);
+    assert!(rt; sockdiag_write_inet_request(&request, &mut buffer[..71]) == 0);
+    assert!(rt; sockdiag_write_inet_request(&request, &mut buffer) == 72);
     let want = [
         72, 0, 0, 0, 20, 0, 1, 3, 6, 0, 0, 0, 1, 0, 0, 0, 10, 6, 0x41, 0, 0, 4, 0, 0, 0, 80, 0x1f,
         0x90, 0xfe, 0x80, 0, 0, 0, 0, 0, 0, 0, 0, 0, 0, 0, 0, 0, 1, 0, 0, 0, 0, 0, 0, 0, 0, 0, 0,
         0, 0, 0, 0, 0, 2, 3, 0, 0, 0, 8, 7, 6, 5, 4, 3, 2, 1,
     ];
-    assert_eq!(rt; buffer, want);
+    assert!(rt; buffer == want);
     request.family = 1;
-    assert_eq!(rt; sockdiag_write_inet_request(&request, &mut buffer), 0);
+    assert!(rt; sockdiag_write_inet_request(&request, &mut buffer) == 0);
 }
 
 #[test]
@@ -272,12 +250,11 @@ fn rewrites_unix_replies(rt: HostRuntime) {
             fault: 9,
             needed: 9,
         };
-        assert_eq!(rt;
-            sockdiag_rewrite_unix_reply(&UNIX_REPLY, &mut buffer[..room], &mut outcome),
-            length
+        assert!(rt;
+            sockdiag_rewrite_unix_reply(&UNIX_REPLY, &mut buffer[..room], &mut outcome) == length
         );
-        assert_eq!(rt; (outcome.fault, outcome.needed), (0, 32));
-        assert_eq!(rt; buffer, bytes);
+        assert!(rt; (outcome.fault, outcome.needed) == (0, 32));
+        assert!(rt; buffer == bytes);
     }
 }
 
@@ -295,11 +272,8 @@ fn rewrites_internet_replies(rt: HostRuntime) {
             fault: 9,
             needed: 9,
         };
-        assert_eq!(rt;
-            sockdiag_rewrite_inet_reply(payload, &mut buffer, &mut outcome),
-            length
-        );
-        assert_eq!(rt; (outcome.fault, outcome.needed), (fault, needed));
-        assert_eq!(rt; buffer, bytes);
+        assert!(rt; sockdiag_rewrite_inet_reply(payload, &mut buffer, &mut outcome) == length);
+        assert!(rt; (outcome.fault, outcome.needed) == (fault, needed));
+        assert!(rt; buffer == bytes);
     }
 }

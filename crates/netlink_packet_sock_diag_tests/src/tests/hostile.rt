@@ -1,8 +1,8 @@
 //! Each cut and each changed byte of two requests and four replies.
 
 use super::read_twice::{ReadTwice, read_twice};
-use super::{ABSTRACT, INET, PATH, PEER, SHUTDOWN, ZEROS, bytes};
-use netlink_core::{DecodeError, canonical};
+use super::{ABSTRACT, INET, PATH, PEER, SHUTDOWN, ZEROS, bytes, shows};
+use netlink_core::DecodeError;
 use netlink_packet_sock_diag::SockDiagMessage;
 use netlink_packet_sock_diag::inet::{InetRequest, InetResponse};
 use netlink_packet_sock_diag::unix::{UnixRequest, UnixResponse};
@@ -42,8 +42,7 @@ fn cuts<T: ReadTwice>(
     Ok(tally)
 }
 
-/// Reads the bytes by both readers with each byte in turn changed to each other one. What is read
-/// as the same value is written as the same bytes, and nothing else is.
+/// Reads the bytes by both readers with each byte in turn changed to each other one.
 fn changes<T: ReadTwice<Param = ()>>(
     rt: &impl Abort,
     alloc: Global,
@@ -51,18 +50,12 @@ fn changes<T: ReadTwice<Param = ()>>(
 ) -> Result<Tally, Fail> {
     let whole = bytes(alloc, parts)?;
     let value = T::read(alloc, &whole, ())?;
-    let form = canonical::<T>(alloc, &whole, ())?;
     let mut tally = [0; 11];
     for place in 0..whole.len() {
         for change in 1..=u8::MAX {
             let mut changed = Vec::from_slice(alloc, &whole)?;
             changed[place] ^= change;
-            let read = read_twice::<T>(rt, alloc, &changed, ());
-            if let Ok(other) = &read {
-                let written = canonical::<T>(alloc, &changed, ())?;
-                assert_eq!(rt; written == form, *other == value, "{changed:?}");
-            }
-            count(&mut tally, read, &value);
+            count(&mut tally, read_twice::<T>(rt, alloc, &changed, ()), &value);
         }
     }
     Ok(tally)
@@ -73,47 +66,72 @@ fn requests(rt: HostRuntime) -> Result<(), Fail> {
     let alloc = rt.alloc();
     let unix = ["01000000020400003412000004000000ffffffffffffffff"];
     let cut = cuts::<UnixRequest>(&rt, alloc, &unix, ())?;
-    assert_eq!(rt; cut, [0, 0, 24, 0, 0, 0, 0, 0, 0, 0, 0]);
+    shows(&rt, alloc, &cut, "[0, 0, 24, 0, 0, 0, 0, 0, 0, 0, 0]")?;
     let changed = changes::<UnixRequest>(&rt, alloc, &unix)?;
-    assert_eq!(rt; changed, [2_552, 3_568, 0, 0, 0, 0, 0, 0, 0, 0, 0]);
+    shows(
+        &rt,
+        alloc,
+        &changed,
+        "[2552, 3568, 0, 0, 0, 0, 0, 0, 0, 0, 0]",
+    )?;
     let internet = ["0211000002000000", ZEROS, ZEROS, ZEROS];
     let cut = cuts::<InetRequest>(&rt, alloc, &internet, ())?;
-    assert_eq!(rt; cut, [0, 0, 56, 0, 0, 0, 0, 0, 0, 0, 0]);
+    shows(&rt, alloc, &cut, "[0, 0, 56, 0, 0, 0, 0, 0, 0, 0, 0]")?;
     let changed = changes::<InetRequest>(&rt, alloc, &internet)?;
-    assert_eq!(rt; changed, [6_901, 7_125, 0, 254, 0, 0, 0, 0, 0, 0, 0]);
-    Ok(())
+    shows(
+        &rt,
+        alloc,
+        &changed,
+        "[6901, 7125, 0, 254, 0, 0, 0, 0, 0, 0, 0]",
+    )
 }
 
-/// Replies about UNIX sockets, their cuts, and how many of their changes are of no account.
-const UNIX: [(&str, Tally, u32); 3] = [
-    (PATH, [3, 3, 16, 0, 0, 0, 0, 9, 0, 29, 0], 1_284),
-    (PEER, [3, 5, 16, 0, 0, 0, 0, 12, 0, 32, 0], 1_542),
-    (ABSTRACT, [3, 3, 16, 0, 0, 0, 0, 9, 0, 53, 0], 1_284),
+/// Replies about UNIX sockets, their cuts, those of the message, which is refused by another fault
+/// where it has not even its first two bytes, and how many of their changes are of no account.
+const UNIX: [(&str, &str, &str, &str); 3] = [
+    (
+        PATH,
+        "[3, 3, 16, 0, 0, 0, 0, 9, 0, 29, 0]",
+        "[3, 3, 14, 0, 2, 0, 0, 9, 0, 29, 0]",
+        "[1284, ",
+    ),
+    (
+        PEER,
+        "[3, 5, 16, 0, 0, 0, 0, 12, 0, 32, 0]",
+        "[3, 5, 14, 0, 2, 0, 0, 12, 0, 32, 0]",
+        "[1542, ",
+    ),
+    (
+        ABSTRACT,
+        "[3, 3, 16, 0, 0, 0, 0, 9, 0, 53, 0]",
+        "[3, 3, 14, 0, 2, 0, 0, 9, 0, 53, 0]",
+        "[1284, ",
+    ),
 ];
 
-// A message is refused by another fault where it has not even its first two bytes.
-#[test]
-fn unix_replies(rt: HostRuntime) -> Result<(), Fail> {
-    let alloc = rt.alloc();
-    for (reply, mut cut, same) in UNIX {
-        assert_eq!(rt; cuts::<UnixResponse>(&rt, alloc, &[reply], ())?, cut);
-        assert_eq!(rt; changes::<UnixResponse>(&rt, alloc, &[reply])?[0], same);
-        cut[2] = 14;
-        cut[4] = 2;
-        assert_eq!(rt; cuts::<SockDiagMessage>(&rt, alloc, &[reply], 20)?, cut);
-    }
-    Ok(())
+/// The counts over a reply.
+fn tallies<T: ReadTwice<Param = ()>>(
+    rt: &impl Abort,
+    alloc: Global,
+    reply: &[&str],
+    (cut, message_cut, changed): (&str, &str, &str),
+) -> Result<(), Fail> {
+    shows(rt, alloc, &cuts::<T>(rt, alloc, reply, ())?, cut)?;
+    let cut = cuts::<SockDiagMessage>(rt, alloc, reply, 20)?;
+    shows(rt, alloc, &cut, message_cut)?;
+    shows(rt, alloc, &changes::<T>(rt, alloc, reply)?, changed)
 }
 
 #[test]
-fn inet_replies(rt: HostRuntime) -> Result<(), Fail> {
-    let alloc = rt.alloc();
-    let reply = [INET, SHUTDOWN];
-    let cut = cuts::<InetResponse>(&rt, alloc, &reply, ())?;
-    assert_eq!(rt; cut, [3, 1, 72, 0, 0, 0, 0, 3, 0, 1, 0]);
-    let cut = cuts::<SockDiagMessage>(&rt, alloc, &reply, 20)?;
-    assert_eq!(rt; cut, [3, 1, 70, 0, 2, 0, 0, 3, 0, 1, 0]);
-    let changed = changes::<InetResponse>(&rt, alloc, &reply)?;
-    assert_eq!(rt; changed, [7_143, 12_488, 3, 254, 0, 0, 0, 0, 4, 502, 6]);
-    Ok(())
+fn replies(rt: HostRuntime) -> Result<(), Fail> {
+    for (reply, cut, message_cut, changed) in UNIX {
+        let wanted = (cut, message_cut, changed);
+        tallies::<UnixResponse>(&rt, rt.alloc(), &[reply], wanted)?;
+    }
+    let wanted = (
+        "[3, 1, 72, 0, 0, 0, 0, 3, 0, 1, 0]",
+        "[3, 1, 70, 0, 2, 0, 0, 3, 0, 1, 0]",
+        "[7143, 12488, 3, 254, 0, 0, 0, 0, 4, 502, 6]",
+    );
+    tallies::<InetResponse>(&rt, rt.alloc(), &[INET, SHUTDOWN], wanted)
 }

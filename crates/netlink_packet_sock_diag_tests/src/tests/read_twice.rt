@@ -1,6 +1,6 @@
 //! What has two readers: replies and messages are read with memory of their own and in place.
 
-use netlink_core::{CanonError, DecodeError, Parseable, ParseableParametrized, Wire, canonical};
+use netlink_core::{DecodeError, Parseable, ParseableParametrized, Wire};
 use netlink_packet_sock_diag::SockDiagMessage;
 use netlink_packet_sock_diag::inet::{InetRequest, InetResponse, InetResponseView};
 use netlink_packet_sock_diag::unix::{UnixRequest, UnixResponse, UnixResponseView};
@@ -24,22 +24,6 @@ pub(crate) fn read_twice<T: ReadTwice>(
     let read = T::read(alloc, bytes, param);
     assert!(rt; T::read_again(alloc, bytes, param) == read, "{bytes:?}");
     read
-}
-
-/// How long the canonical form is, which is its own and reads as the same value.
-pub(crate) fn rewritten<T: ReadTwice>(
-    rt: &impl Abort,
-    alloc: Global,
-    bytes: &[u8],
-    param: T::Param,
-) -> Result<usize, CanonError> {
-    let form = canonical::<T>(alloc, bytes, param)?;
-    assert!(rt;
-        T::read(alloc, &form, param) == T::read(alloc, bytes, param),
-        "{bytes:?}"
-    );
-    assert!(rt; canonical::<T>(alloc, &form, param)? == form, "{bytes:?}");
-    Ok(form.len())
 }
 
 impl ReadTwice for UnixResponse {

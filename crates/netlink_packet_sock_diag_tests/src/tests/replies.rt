@@ -2,7 +2,7 @@
 //! each row stand the digits of the bytes behind those of a table, and behind a space that part.
 
 use super::read_twice::{ReadTwice, read_twice};
-use super::{ABSTRACT, INET, LISTENING, PATH, PEER, ZEROS, bytes, shows};
+use super::{ABSTRACT, INET, LISTENING, PATH, PEER, cells, shows};
 use netlink_core::{NetlinkDeserializable, NetlinkMessage};
 use netlink_packet_sock_diag::inet::InetResponse;
 use netlink_packet_sock_diag::unix::UnixResponse;
@@ -17,13 +17,11 @@ fn tell<T: ReadTwice>(
     rt: &impl Abort,
     alloc: Global,
     param: T::Param,
-    front: &[&str],
+    front: &str,
     rows: &str,
 ) -> Result<(), Fail> {
     for row in rows.lines() {
-        let (digits, part) = row.split_once(' ').ok_or("no part")?;
-        let mut reply = bytes(alloc, front)?;
-        reply.extend_from_slice(&bytes(alloc, &[digits])?)?;
+        let (reply, part) = cells(alloc, front, row)?;
         shows(rt, alloc, &read_twice::<T>(rt, alloc, &reply, param), part)?;
     }
     Ok(())
@@ -80,7 +78,7 @@ fn unix_replies(rt: HostRuntime) -> Result<(), Fail> {
         (LISTENING, UNIX),
         ("", SHORT),
     ] {
-        tell::<UnixResponse>(&rt, rt.alloc(), (), &[front], rows)?;
+        tell::<UnixResponse>(&rt, rt.alloc(), (), front, rows)?;
     }
     Ok(())
 }
@@ -110,15 +108,18 @@ backlog_queue_length: Some(8), drops: None })] })
 1f00070000000000000000000000000000000000000000000000000000000000 Err(BufferTooSmall { which: \
 MemInfo, got: 27, need: 28 })";
 
-/// Behind seventy bytes that tell a UNIX socket.
-const OTHER: &str = "00 Err(BufferTooSmall { which: InetResponseHeader, got: 71, need: 72 })
-0000 Err(UnsupportedFamily { family: 1 })";
+/// Behind the family of UNIX sockets.
+const OTHER: &str = "\
+000000000000000000000000000000000000000000000000000000000000000000000000000000000000000000000000\
+00000000000000000000000000000000000000000000 Err(BufferTooSmall { which: InetResponseHeader, \
+got: 71, need: 72 })
+0000000000000000000000000000000000000000000000000000000000000000000000000000000000000000000000000\
+000000000000000000000000000000000000000000000 Err(UnsupportedFamily { family: 1 })";
 
 #[test]
 fn inet_replies(rt: HostRuntime) -> Result<(), Fail> {
-    tell::<InetResponse>(&rt, rt.alloc(), (), &[INET], INTERNET)?;
-    let other = [LISTENING, ZEROS, ZEROS, ZEROS, "000000000000"];
-    tell::<InetResponse>(&rt, rt.alloc(), (), &other, OTHER)
+    tell::<InetResponse>(&rt, rt.alloc(), (), INET, INTERNET)?;
+    tell::<InetResponse>(&rt, rt.alloc(), (), "01", OTHER)
 }
 
 /// Messages of type 20. The last one is a request of a value that no reader gives.
@@ -142,8 +143,8 @@ const UNDER_21: &str = "01 Err(MessageTooShort { got: 1 })
 
 #[test]
 fn messages(rt: HostRuntime) -> Result<(), Fail> {
-    tell::<SockDiagMessage>(&rt, rt.alloc(), 20, &[], MESSAGES)?;
-    tell::<SockDiagMessage>(&rt, rt.alloc(), 21, &[], UNDER_21)
+    tell::<SockDiagMessage>(&rt, rt.alloc(), 20, "", MESSAGES)?;
+    tell::<SockDiagMessage>(&rt, rt.alloc(), 21, "", UNDER_21)
 }
 
 /// What is told of each message in its envelope.
@@ -153,9 +154,9 @@ fn tell_envelopes<I: NetlinkDeserializable + Debug + Drop>(
     rows: &str,
 ) -> Result<(), Fail> {
     for row in rows.lines() {
-        let (digits, part) = row.split_once(' ').ok_or("no part")?;
-        let message = NetlinkMessage::<I>::deserialize(alloc, &bytes(alloc, &[digits])?);
-        shows(rt, alloc, &message, part)?;
+        let (message, part) = cells(alloc, "", row)?;
+        let read = NetlinkMessage::<I>::deserialize(alloc, &message);
+        shows(rt, alloc, &read, part)?;
     }
     Ok(())
 }
@@ -172,6 +173,9 @@ message_type: 1, flags: 0, sequence_number: 0, port_number: 0 }, payload: Noop }
 port_number: 0 }, payload: Done([0, 0, 0, 0]) })
 10000000030002000700000000000000 payload: Done([]) })
 10000000020002000700000000000000 payload: Error([]) })
+120000000400010307000080443322110900 Ok(NetlinkMessage { header: NetlinkHeader { length: 18, \
+message_type: 4, flags: 769, sequence_number: 2147483655, port_number: 287454020 }, payload: \
+Overrun([9, 0]) })
 200000001400020007000000000000 Err(EnvelopeCut { got: 15 })
 0f00000014000200070000000000000001010a000e4f0000 Err(EnvelopeLengthUnder16 { length: 15 })
 1900000014000200070000000000000001010a000e4f0000 Err(EnvelopeLengthPast { length: 25, got: 24 })

@@ -3,32 +3,31 @@
 ghost use Rattle.std.specs.Iterator.{IsFinite};
 
 use super::{INET, PATH, SHUTDOWN, bytes, shows};
-use netlink_core::{Emitable, Parseable};
-use netlink_packet_sock_diag::inet::{InetResponse, InetResponseView};
-use netlink_packet_sock_diag::unix::{UnixResponse, UnixResponseView};
-use netlink_packet_sock_diag::{DumpReader, DumpState, DumpViews, SockDiagView};
+use netlink_core::{Emitable, write_new};
+use netlink_packet_sock_diag::inet::InetResponseView;
+use netlink_packet_sock_diag::unix::UnixResponseView;
+use netlink_packet_sock_diag::{DumpError, DumpReader, DumpState, DumpViews, SockDiagView};
 use std::alloc::Global;
 use std::fmt::Debug;
 use std::process::Abort;
 use std::test::Fail;
 
-/// The answers of the walk, one after the other, are shown with these parts, which semicolons part.
+/// The answers of the walk, one after the other, are shown like this.
 fn gives<I: Iterator + Drop>(
     rt: &impl Abort,
     alloc: Global,
     walk: I,
-    parts: &str,
+    text: &str,
 ) -> Result<(), Fail>
 where
     I::Item: Debug + Drop,
     requires { I.can_next walk × IsFinite (I.remaining walk) }
 {
-    let mut parts = parts.split(';');
-    for item in walk {
-        shows(rt, alloc, &item, parts.next().ok_or("one item more")?)?;
+    let mut answers = Vec::new(alloc);
+    for answer in walk {
+        answers.push(answer)?;
     }
-    assert!(rt; parts.next().is_none());
-    Ok(())
+    shows(rt, alloc, &answers, text)
 }
 
 /// The value is written as these bytes.
@@ -38,10 +37,8 @@ fn writes<T: Emitable>(
     value: &T,
     parts: &[&str],
 ) -> Result<(), Fail> {
-    assert!(rt; value.is_writable());
-    let mut buffer = vec![in alloc; 0xee; value.buffer_len()]?;
-    value.emit(&mut buffer);
-    assert!(rt; buffer == bytes(alloc, parts)?, "{buffer:?}");
+    let written = write_new(alloc, value).ok().ok_or("unwritable")?;
+    assert!(rt; written == bytes(alloc, parts)?, "{written:?}");
     Ok(())
 }
 
@@ -51,13 +48,10 @@ fn a_unix_reply_in_place(rt: HostRuntime) -> Result<(), Fail> {
     let parts = [PATH, "0c0003000500000006000000"];
     let reply = bytes(alloc, &parts)?;
     let view = UnixResponseView::parse(&reply)?;
-    let answers = "Name(Pathname([47, 116, 109, 112, 47, 46, 73, 67, 69, 45, 117, 110, 105, \
-        120, 47, 49, 49, 53, 49]));ReceiveQueueLength(0, 128);Shutdown(0);\
-        PendingConnections(NumbersView { bytes: [5, 0, 0, 0, 6, 0, 0, 0] })";
+    let answers = "[Name(Pathname([47, 116, 109, 112, 47, 46, 73, 67, 69, 45, 117, 110, 105, \
+        120, 47, 49, 49, 53, 49])), ReceiveQueueLength(0, 128), Shutdown(0), \
+        PendingConnections(NumbersView { bytes: [5, 0, 0, 0, 6, 0, 0, 0] })]";
     gives(&rt, alloc, view.attributes().clone()?, answers)?;
-    let shown = format!(in alloc; "{:?}", view.to_owned(alloc))?;
-    let parsed = UnixResponse::parse(alloc, reply.as_slice());
-    shows(&rt, alloc, &parsed, &shown)?;
     writes(&rt, alloc, &view, &parts)?;
     writes(&rt, alloc, &SockDiagView::parse(&reply, 20)?, &parts)
 }
@@ -70,11 +64,8 @@ fn an_inet_reply_in_place(rt: HostRuntime) -> Result<(), Fail> {
     let message = SockDiagView::parse(&reply, 20)?;
     shows(&rt, alloc, &message, text)?;
     let view = InetResponseView::parse(&reply)?;
-    let answers = "Congestion(\"cubic\");Shutdown(0)";
+    let answers = "[Congestion(\"cubic\"), Shutdown(0)]";
     gives(&rt, alloc, view.attributes().clone()?, answers)?;
-    let shown = format!(in alloc; "{:?}", view.to_owned(alloc))?;
-    let parsed = InetResponse::parse(alloc, reply.as_slice());
-    shows(&rt, alloc, &parsed, &shown)?;
     let parts = [INET, "0a0004006375626963000000", SHUTDOWN];
     writes(&rt, alloc, &view, &parts)?;
     writes(&rt, alloc, &message, &parts)
@@ -119,18 +110,21 @@ odd reply: (Ok(()), Reading, 2)
 odd+000000+reply: (Ok(()), Reading, 2)
 odd+reply: (Err(Fault(EnvelopeLengthPast { length: 33559552, got: 29 })), Failed, 1)";
 
+/// What a reader tells of these datagrams.
+fn fed(alloc: Global, datagrams: &str) -> Result<(Result<(), DumpError>, DumpState, usize), Fail> {
+    let mut reader = DumpReader::new(alloc);
+    let mut answer = Ok(());
+    for names in datagrams.split(' ') {
+        answer = reader.feed(&datagram(alloc, names)?);
+    }
+    Ok((answer, reader.state(), reader.messages().len()))
+}
+
 #[test]
 fn dumps_are_read(rt: HostRuntime) -> Result<(), Fail> {
-    let alloc = rt.alloc();
     for row in DUMPS.lines() {
         let (datagrams, part) = row.split_once(": ").ok_or("no part")?;
-        let mut reader = DumpReader::new(alloc);
-        let mut answer = Ok(());
-        for names in datagrams.split(' ') {
-            answer = reader.feed(&datagram(alloc, names)?);
-        }
-        let far = (answer, reader.state(), reader.messages().len());
-        shows(&rt, alloc, &far, part)?;
+        shows(&rt, rt.alloc(), &fed(rt.alloc(), datagrams)?, part)?;
     }
     Ok(())
 }
@@ -147,14 +141,25 @@ fn a_long_dump_keeps_all(rt: HostRuntime) -> Result<(), Fail> {
 }
 
 /// A datagram, and the answers of the walk over it.
-const WALKS: &str = "reply: Ok(InnerMessage(UnixResponse(UnixResponseView { bytes: [1, 1, 10, 0, \
-14, 79, 0, 0, 160, 2, 0, 0, 0, 0, 0, 0], count: 0 })))
-noop+reply+done+reply: Ok(Noop);count: 0;Ok(Done([0, 0, 0, 0]));count: 0
-error+lost: Ok(Error([238, 0, 0, 0]));Ok(Overrun([238, 0, 0, 0]))
-unknown+reply: Err(UnknownMessageType { message_type: 21 });count: 0
-reply+20000000: count: 0;Err(EnvelopeCut { got: 4 })
-odd+000000+reply: 0, 5, 0, 6, 0, 0], count: 1;count: 0
-odd+reply: count: 1;Err(EnvelopeLengthPast { length: 33559552, got: 29 })";
+const WALKS: &str = "reply: [Ok(InnerMessage(UnixResponse(UnixResponseView { bytes: [1, 1, 10, \
+0, 14, 79, 0, 0, 160, 2, 0, 0, 0, 0, 0, 0], count: 0 })))]
+noop+reply+done+reply: [Ok(Noop), Ok(InnerMessage(UnixResponse(UnixResponseView { bytes: [1, 1, \
+10, 0, 14, 79, 0, 0, 160, 2, 0, 0, 0, 0, 0, 0], count: 0 }))), Ok(Done([0, 0, 0, 0])), \
+Ok(InnerMessage(UnixResponse(UnixResponseView { bytes: [1, 1, 10, 0, 14, 79, 0, 0, 160, 2, 0, 0, \
+0, 0, 0, 0], count: 0 })))]
+error+lost: [Ok(Error([238, 0, 0, 0])), Ok(Overrun([238, 0, 0, 0]))]
+unknown+reply: [Err(UnknownMessageType { message_type: 21 }), \
+Ok(InnerMessage(UnixResponse(UnixResponseView { bytes: [1, 1, 10, 0, 14, 79, 0, 0, 160, 2, 0, 0, \
+0, 0, 0, 0], count: 0 })))]
+reply+20000000: [Ok(InnerMessage(UnixResponse(UnixResponseView { bytes: [1, 1, 10, 0, 14, 79, 0, \
+0, 160, 2, 0, 0, 0, 0, 0, 0], count: 0 }))), Err(EnvelopeCut { got: 4 })]
+odd+000000+reply: [Ok(InnerMessage(UnixResponse(UnixResponseView { bytes: [1, 1, 10, 0, 14, 79, \
+0, 0, 160, 2, 0, 0, 0, 0, 0, 0, 5, 0, 6, 0, 0], count: 1 }))), \
+Ok(InnerMessage(UnixResponse(UnixResponseView { bytes: [1, 1, 10, 0, 14, 79, 0, 0, 160, 2, 0, 0, \
+0, 0, 0, 0], count: 0 })))]
+odd+reply: [Ok(InnerMessage(UnixResponse(UnixResponseView { bytes: [1, 1, 10, 0, 14, 79, 0, 0, \
+160, 2, 0, 0, 0, 0, 0, 0, 5, 0, 6, 0, 0], count: 1 }))), Err(EnvelopeLengthPast { length: \
+33559552, got: 29 })]";
 
 #[test]
 fn datagrams_are_walked(rt: HostRuntime) -> Result<(), Fail> {

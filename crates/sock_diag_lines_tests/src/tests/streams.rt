@@ -141,8 +141,14 @@ impl Write for PacedWriter<'_> {
     }
 }
 
-/// A run ends so and has written so much, in so many reads and writes. Before each read all answers
-/// that are due are written. A read asks for 8 KiB. One flush comes, where nothing has failed.
+/// Whether the call that fails came last, where one does.
+fn ended_at(calls: usize, fails_at: usize) -> bool {
+    fails_at >= FLUSH || calls == fails_at.saturating_add(1)
+}
+
+/// A run ends so and has written so much. Before each read all answers that are due are written. A
+/// read asks for 8 KiB. No call that failed is made again. Where a write takes all, there is one
+/// for each read, and one more at most. One flush comes, where nothing has failed.
 fn ends(
     rt: &impl Abort,
     alloc: Global,
@@ -150,17 +156,18 @@ fn ends(
     paces: (Pace, Pace),
     outcome: Result<(), RunError>,
     written: &[u8],
-) -> (usize, usize) {
+) {
     let (reads, writes) = paces;
     let answered = Cell::new(0);
     let mut input = PacedReader::new(text, reads, &answered);
     let mut output = PacedWriter::new(alloc, writes, &answered);
-    assert_eq!(rt; run(alloc, &mut input, &mut output), outcome);
+    assert!(rt; run(alloc, &mut input, &mut output) == outcome);
     assert!(rt; output.taken.as_slice() == written);
     assert!(rt; !input.is_late && input.asked == 8192);
+    assert!(rt; ended_at(input.calls, reads.fails_at) && ended_at(output.calls, writes.fails_at));
+    assert!(rt; writes.most != NEVER || output.calls <= input.calls.saturating_add(1));
     let is_flushed = outcome.is_ok() || writes.fails_at == FLUSH;
-    assert_eq!(rt; output.flushes, if is_flushed { 1 } else { 0 });
-    (input.calls, output.calls)
+    assert!(rt; (output.flushes == 1) == is_flushed && output.flushes <= 1);
 }
 
 #[test]
@@ -172,8 +179,7 @@ fn each_read_fails(rt: HostRuntime) {
             let written = first_lines(OUTPUT.as_bytes(), line_count(&text[..read]));
             let paces = (Pace { most, fails_at }, steady(most));
             let failed = Err(RunError::Read);
-            let (reads, _) = ends(&rt, rt.alloc(), text, paces, failed, written);
-            assert_eq!(rt; reads, fails_at.saturating_add(1));
+            ends(&rt, rt.alloc(), text, paces, failed, written);
         }
     }
 }
@@ -187,8 +193,7 @@ fn each_write_fails(rt: HostRuntime) {
             let written = &whole[..most.saturating_mul(fails_at).min(whole.len())];
             let paces = (steady(read), Pace { most, fails_at });
             let failed = Err(RunError::Write);
-            let (_, writes) = ends(&rt, rt.alloc(), INPUT.as_bytes(), paces, failed, written);
-            assert_eq!(rt; writes, fails_at.saturating_add(1));
+            ends(&rt, rt.alloc(), INPUT.as_bytes(), paces, failed, written);
         }
     }
 }
@@ -213,13 +218,17 @@ fn ends_of_a_run(rt: HostRuntime) {
     }
 }
 
-/// The whole answer comes, whether reads, writes or both move at most so many bytes a call. Where a
-/// write takes all, there is one for each read, and one more at most.
+/// The whole answer comes, whether reads, writes or both move at most so many bytes a call.
 fn answers_in_pieces(rt: &impl Abort, alloc: Global, text: &[u8], written: &[u8], most: usize) {
     for (read, write) in [(most, NEVER), (NEVER, most), (most, most)] {
-        let paces = (steady(read), steady(write));
-        let (reads, writes) = ends(rt, alloc, text, paces, Ok(()), written);
-        assert!(rt; write != NEVER || writes <= reads.saturating_add(1));
+        ends(
+            rt,
+            alloc,
+            text,
+            (steady(read), steady(write)),
+            Ok(()),
+            written,
+        );
     }
 }
 
@@ -287,7 +296,7 @@ fn tells(rt: &impl Abort, alloc: Global, read_fails: usize, write_fails: usize, 
     let mut output = PacedWriter::new(alloc, writes, &answered);
     let mut errors = Vec::new(alloc);
     let _status = run_to_status(alloc, &mut input, &mut output, &mut errors);
-    assert_eq!(rt; errors.as_slice(), want.as_bytes());
+    assert!(rt; errors.as_slice() == want.as_bytes());
 }
 
 #[test]
