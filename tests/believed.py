@@ -26,12 +26,13 @@ MOST = 1100
 # Ghost members that say something: their types and their bodies are read.
 MEANING = set("""codec seen type_written bytes writable held TAKES_MEMORY attribute format Tag Value view inverse is_clone
     is_made_with
-    is_infallible from_gives bitor_gives next_gives remaining table set_of family viewed contents answer left reads failed""".split())
+    is_infallible from_gives bitor_gives next_gives remaining table set_of family viewed contents answer left reads failed
+    reply told""".split())
 # Ghost members that are laws: the type that a trait declares is read, and their bodies are proofs. `eq` and `tests` are
 # among them: what `==` answers is computed there, and said in the words of contracts by `eq_is_seen` and in laws.rt.
 LAWS = set("""laws fills exact eq_is_seen written_is fits_is emitted_is writable_is written_as
     compared idle_reflexive idle_symmetric idle_transitive one_value equal_by_bytes idle_with_written reads_back_exactly
-    written_alike eq tests""".split())
+    written_alike eq tests test enough named same written fits""".split())
 # Private functions whose clauses docs/PROMISES.md cites.
 CITED = {"serve", "read_prompt"}
 # A module of specs/ with this ending holds lemmas and what they stand on, and one with that the words of private functions.

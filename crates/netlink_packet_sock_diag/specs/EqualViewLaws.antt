@@ -1,8 +1,6 @@
 -- Replies that are read in place are equal where they tell the same.
 use Rattle.std.proofs.Common.{◌≡◌, ◌↔◌, ◌&&◌, Bool, IsTrue}
-use Rattle.std.specs.Cmp.{IsEquivalence}
 use lib.Pointwise.{pointwise}
-use Rattle.netlink_core.proofs.Equality.{equivalence}
 use Rattle.netlink_core.proofs.SaidTests.{said_test, said_test_says}
 use Rattle.sock_diag_attributes.specs.EqualInetLaws.{inet_tests}
 use Rattle.sock_diag_attributes.specs.EqualUnixLaws.{unix_tests}
@@ -15,8 +13,6 @@ use Rattle.sock_diag_records.specs.contracts.unix.response.UnixResponseHeaderPar
 use Rattle.netlink_packet_sock_diag.specs.InetReply.{InetReply}
 use Rattle.netlink_packet_sock_diag.specs.UnixReply.{UnixReply}
 use Rattle.netlink_packet_sock_diag.specs.EqualReplyLaws.{values_equal}
-use Rattle.netlink_packet_sock_diag.specs.ViewedInetReply as inet_view
-use Rattle.netlink_packet_sock_diag.specs.ViewedUnixReply as unix_view
 
 -- equal headers, and the same attributes
 abbrev pub unix_test : UnixReply → UnixReply → Bool
@@ -30,10 +26,3 @@ unix_test_says = values_equal unix_headers.eq (said_test unix unix_tests) exact_
 
 pub inet_test_says : (v w : InetReply) → IsTrue (inet_test v w) ↔ (v ≡ w)
 inet_test_says = values_equal inet_headers.eq (said_test inet inet_tests) exact_inet_header.0 (said_test_says inet inet_tests)
-
--- and so are the views equal
-pub unix_equivalence : IsEquivalence (λ v w. unix_test (unix_view.viewed_response v) (unix_view.viewed_response w))
-unix_equivalence = equivalence _ unix_view.viewed_response (λ v w. unix_test_says (unix_view.viewed_response v) (unix_view.viewed_response w))
-
-pub inet_equivalence : IsEquivalence (λ v w. inet_test (inet_view.viewed_response v) (inet_view.viewed_response w))
-inet_equivalence = equivalence _ inet_view.viewed_response (λ v w. inet_test_says (inet_view.viewed_response v) (inet_view.viewed_response w))

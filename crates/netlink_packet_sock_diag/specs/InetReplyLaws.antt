@@ -1,14 +1,10 @@
 -- The laws of replies about IPv4 and IPv6 sockets.
-use Rattle.std.proofs.Common.{◌≡◌, ◌≢◌, ◌∙◌, ℕ, ◌≤◌, List, ◌++◌, length, slice_index, Ok, ap, subst, arith}
+use Rattle.std.proofs.Common.{◌≡◌, ◌∙◌, ℕ, ◌≤◌, List, ◌++◌, length, slice_index, Ok, ap, arith}
 use Rattle.std.proofs.lemmas.List.{get_or_append_left}
 use Rattle.netlink_core.specs.Format.{read}
-use Rattle.netlink_core.specs.Reply.{reply_codec}
 use Rattle.netlink_core.specs.ShownLaws.{ReplyLaws}
-use Rattle.netlink_core.specs.declared.fault.DecodeError.{DecodeError}
-use Rattle.netlink_core.specs.declared.fault.DecodeError.TheVariants.{Memory}
 use Rattle.netlink_core.proofs.FormatLaws.{accepted, keeps_laws}
 use Rattle.netlink_core.proofs.Prefixes.{stands_in_front}
-use Rattle.netlink_core.proofs.Replies.{replies_keep_laws}
 use Rattle.sock_diag_records.specs.declared.inet.response.InetResponseHeader.{InetResponseHeader}
 use Rattle.sock_diag_records.specs.Kinds.{Kinds, kinds_of_family}
 use Rattle.sock_diag_records.specs.InetResponse.{inet_response_header}
@@ -38,7 +34,3 @@ inet_reply_laws = record {
   in_front = stands_in_front inet_response_header header_sound header_size goes_on;
   family = inet_laws;
 }
-
--- no fault of such a reply is want of memory
-pub inet_named : (b : List ℕ) (e : DecodeError) → (reply_codec inet_reply).refuses b tt e → e ≢ Memory
-inet_named b e refused memory = (replies_keep_laws inet_reply inet_reply_laws).named_fault b tt (subst ((reply_codec inet_reply).refuses b tt) memory refused)

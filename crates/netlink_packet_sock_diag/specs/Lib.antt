@@ -9,6 +9,7 @@ pub mod Message
 pub mod MessageLaws
 pub mod SeenMessage
 pub mod AttributesIn
+pub mod Viewed
 pub mod ViewedUnixReply
 pub mod ViewedInetReply
 pub mod ViewedMessage

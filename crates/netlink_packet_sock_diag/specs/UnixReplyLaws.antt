@@ -1,16 +1,18 @@
 -- The laws of replies about UNIX sockets.
-use Rattle.std.proofs.Common.{◌≢◌, ℕ, List, refl, subst}
-use Rattle.netlink_core.specs.Reply.{reply_codec}
+use Rattle.std.proofs.Common.{◌≡◌, ◌≤◌, ℕ, List, length, Ok, refl}
+use Rattle.netlink_core.specs.Format.{read}
 use Rattle.netlink_core.specs.ShownLaws.{ReplyLaws}
-use Rattle.netlink_core.specs.declared.fault.DecodeError.{DecodeError}
-use Rattle.netlink_core.specs.declared.fault.DecodeError.TheVariants.{Memory}
-use Rattle.netlink_core.proofs.FormatLaws.{keeps_laws}
+use Rattle.netlink_core.proofs.FormatLaws.{accepted, keeps_laws}
 use Rattle.netlink_core.proofs.Prefixes.{stands_in_front}
-use Rattle.netlink_core.proofs.Replies.{replies_keep_laws}
+use Rattle.sock_diag_records.specs.declared.unix.response.UnixResponseHeader.{UnixResponseHeader}
 use Rattle.sock_diag_records.specs.UnixResponseHeader.{unix_response_header}
 use Rattle.sock_diag_records.specs.UnixResponseHeaderLaws.{unix_response_header_sound}
 use Rattle.sock_diag_attributes.specs.UnixAttributeLaws.{unix_laws}
 use Rattle.netlink_packet_sock_diag.specs.UnixReply.{unix_reply}
+
+-- a string with a header has all its bytes
+pub header_enough : (b : List ℕ) (h : UnixResponseHeader) → read unix_response_header tt b ≡ Ok h → 16 ≤ length b
+header_enough b h e = (accepted unix_response_header tt b h e).long
 
 -- the laws of header and attributes
 pub unix_reply_laws : ReplyLaws unix_reply
@@ -19,7 +21,3 @@ unix_reply_laws = record {
   in_front = stands_in_front unix_response_header unix_response_header_sound (refl, λ tag. refl) (λ tag left rest long e. e);
   family = unix_laws;
 }
-
--- no fault of such a reply is want of memory
-pub unix_named : (b : List ℕ) (e : DecodeError) → (reply_codec unix_reply).refuses b tt e → e ≢ Memory
-unix_named b e refused memory = (replies_keep_laws unix_reply unix_reply_laws).named_fault b tt (subst ((reply_codec unix_reply).refuses b tt) memory refused)

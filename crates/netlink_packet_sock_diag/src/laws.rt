@@ -16,9 +16,7 @@ ghost use Rattle.netlink_core.specs.Seen.{envelope_of};
 ghost use Rattle.netlink_core.specs.Reply.{reply_bytes, reply_codec};
 ghost use Rattle.netlink_packet_sock_diag.specs.SeenMessage.{seen_destroy};
 ghost use Rattle.netlink_packet_sock_diag.specs.contracts.unix.response.UnixResponseEmitable.TheImpl.{ghosts as unix_replies};
-ghost use Rattle.netlink_packet_sock_diag.specs.contracts.unix.view.UnixResponseViewEmitable.TheImpl.{ghosts as unix_views};
 ghost use Rattle.netlink_packet_sock_diag.specs.contracts.inet.response.InetResponseEmitable.TheImpl.{ghosts as inet_replies};
-ghost use Rattle.netlink_packet_sock_diag.specs.contracts.inet.view.InetResponseViewEmitable.TheImpl.{ghosts as inet_views};
 ghost use Rattle.netlink_packet_sock_diag.specs.contracts.message.SockDiagMessageEmitable.TheImpl.{ghosts as owned_messages};
 ghost use Rattle.netlink_packet_sock_diag.specs.contracts.message.SockDiagViewEmitable.TheImpl.{ghosts as message_views};
 ghost use Rattle.netlink_packet_sock_diag.specs.contracts.coded.SockDiagDestroyCoded.TheImpl.{ghosts as destroys};
@@ -318,9 +316,10 @@ pub fn owned_unix_view(
     view: &UnixResponseView<'_>,
     alloc: Global,
 ) -> Result<UnixResponse, AllocError>
-    ensures bytes { IfOk result (λ reply. unix_replies.bytes reply ≡ unix_views.bytes view.now) }
+    ensures bytes { IfOk result (λ reply.
+        unix_replies.bytes reply ≡ reply_bytes unix_reply (viewed_unix view.now)) }
     ensures writable { IfOk result (λ reply.
-        unix_replies.writable reply ↔ unix_views.writable view.now) }
+        unix_replies.writable reply ↔ (reply_codec unix_reply).fits (viewed_unix view.now)) }
 {
     view.to_owned(alloc)
 }
@@ -330,9 +329,10 @@ pub fn owned_inet_view(
     view: &InetResponseView<'_>,
     alloc: Global,
 ) -> Result<InetResponse, AllocError>
-    ensures bytes { IfOk result (λ reply. inet_replies.bytes reply ≡ inet_views.bytes view.now) }
+    ensures bytes { IfOk result (λ reply.
+        inet_replies.bytes reply ≡ reply_bytes inet_reply (viewed_inet view.now)) }
     ensures writable { IfOk result (λ reply.
-        inet_replies.writable reply ↔ inet_views.writable view.now) }
+        inet_replies.writable reply ↔ (reply_codec inet_reply).fits (viewed_inet view.now)) }
 {
     view.to_owned(alloc)
 }

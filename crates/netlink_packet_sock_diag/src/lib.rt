@@ -14,6 +14,7 @@ pub mod laws;
 pub mod message;
 mod reply;
 pub mod unix;
+mod view;
 mod views;
 
 pub use dump::DumpError;

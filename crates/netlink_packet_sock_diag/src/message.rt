@@ -14,6 +14,7 @@ use netlink_core::{
     CanonError, DecodeError, Emitable, NetlinkDeserializable, NetlinkHeader, NetlinkPayload,
     NetlinkSerializable, ParseableParametrized, Readable, Wire, write_new,
 };
+use smallvec::SmallVec;
 use std::alloc::{AllocError, Global};
 
 /// A message of sock_diag(7). Replies alone are read; requests are only written.
@@ -144,12 +145,20 @@ impl<'a> SockDiagView<'a> {
         // The attributes are built where they stay.
         match self {
             SockDiagView::InetResponse(reply) => {
-                let mut owned = Box::new(alloc, reply.without_attributes(alloc))?;
+                let empty = InetResponse {
+                    header: reply.header(),
+                    nlas: SmallVec::new(alloc),
+                };
+                let mut owned = Box::new(alloc, empty)?;
                 reply.own_into(alloc, &mut owned.nlas)?;
                 Ok(SockDiagMessage::InetResponse(owned))
             }
             SockDiagView::UnixResponse(reply) => {
-                let mut owned = Box::new(alloc, reply.without_attributes(alloc))?;
+                let empty = UnixResponse {
+                    header: reply.header(),
+                    nlas: SmallVec::new(alloc),
+                };
+                let mut owned = Box::new(alloc, empty)?;
                 reply.own_into(alloc, &mut owned.nlas)?;
                 Ok(SockDiagMessage::UnixResponse(owned))
             }

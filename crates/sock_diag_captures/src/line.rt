@@ -3,7 +3,9 @@
 ghost use Rattle.std.specs.Prelude.{◌≡◌, ◌++◌, flat_map, None, Some, OnOk, option_map};
 ghost use Rattle.netlink_packet_sock_diag.specs.UnixGetters.{first_of};
 ghost use Rattle.netlink_core.specs.Family.{content};
+ghost use Rattle.sock_diag_attributes.specs.InetAttributes.{inet};
 ghost use Rattle.sock_diag_attributes.specs.UnixAttributes.{unix};
+ghost use Rattle.netlink_packet_sock_diag.specs.Viewed.{left_in};
 ghost use Rattle.netlink_packet_sock_diag.specs.ViewedInetReply as viewed_inet;
 ghost use Rattle.netlink_packet_sock_diag.specs.ViewedUnixReply as viewed_unix;
 ghost use Rattle.sock_diag_captures.specs.Shown.{shown_cells};
@@ -170,7 +172,7 @@ fn inet_cells(header: &InetResponseHeader) -> Cells
 
 /// Adds a line for each attribute that tells of a TCP connection.
 fn push_details(text: &mut Vec<u8>, attributes: NlaViews<'_>) -> Result<(), AllocError>
-    ensures { OnOk result (text.new.items ≡ text.old.items ++ flat_map details_of (viewed_inet.values_left attributes.entry)) }
+    ensures { OnOk result (text.new.items ≡ text.old.items ++ flat_map details_of (left_in inet attributes.entry)) }
 {
     for attribute in attributes {
         push_attribute(text, &attribute)?;

@@ -1,26 +1,20 @@
 //! The reply about one IPv4 or IPv6 socket, read in place.
 
-ghost use Rattle.std.specs.Prelude.{◌≡◌, ◌≤◌, length, drop, map, [], IfOk, OnOk, IfErr, IsOk, IsSome, IfSome, Some, refl, ⊤, ◌↔◌, ◌≢◌};
-ghost use Rattle.std.specs.Cmp.{partial_equiv_from_equiv};
-ghost use Rattle.std.specs.Iterator.{UpTo, YieldsFirstBy, item_count};
-ghost use Rattle.std.specs.Iterator.SizeHint.{IsWithinCount};
-ghost use Rattle.netlink_core.specs.declared.fault.DecodeError.TheVariants.{Memory};
-ghost use Rattle.netlink_core.specs.Family.{says};
-ghost use Rattle.netlink_core.specs.Walk.{bytes_left};
-ghost use Rattle.netlink_core.specs.Reply.{reply_bytes, reply_codec};
+ghost use Rattle.std.specs.Prelude.{◌≡◌, map, IfOk, IsOk, refl};
+ghost use Rattle.netlink_core.specs.Reply.{reply_codec};
+ghost use Rattle.netlink_core.proofs.Replies.{replies_keep_laws};
 ghost use Rattle.sock_diag_attributes.specs.InetAttributes.{inet};
 ghost use Rattle.sock_diag_attributes.specs.EqualInetLaws.{inet_tests, view_tests};
 ghost use Rattle.sock_diag_attributes.specs.SeenInet.{seen_nla, viewed_nla};
-ghost use Rattle.netlink_packet_sock_diag.specs.AttributesIn.{HasNoFault, IsAccepted, values_in};
+ghost use Rattle.netlink_packet_sock_diag.specs.EqualViewLaws.{inet_test, inet_test_says};
 ghost use Rattle.netlink_packet_sock_diag.specs.InetReply.{inet_reply};
-ghost use Rattle.netlink_packet_sock_diag.specs.declared.inet.view.TheConstants.{LENGTH};
+ghost use Rattle.netlink_packet_sock_diag.specs.InetReplyLaws.{header_enough, inet_reply_laws};
 
 use crate::inet::nlas::{Nla, NlaView};
 use crate::inet::{InetResponse, InetResponseHeader};
-use crate::views::{
-    FamilyView, check_nlas, emit_viewed_reply, next_view, own_nlas, same_views, viewed_reply_len,
-};
-use netlink_core::{DecodeError, Emitable, NlaBuffer, NlasIterator};
+use crate::view::{AttributeViews, ReplyHeader, ReplyView, ReplyViews};
+use crate::views::{FamilyView, same_views};
+use netlink_core::{DecodeError, NlaBuffer};
 use smallvec::SmallVec;
 use std::alloc::{AllocError, Global};
 
@@ -57,107 +51,60 @@ impl<'a> FamilyView<'a> for NlaView<'a> {
     }
 }
 
-/// The attributes of a reply about an IPv4 or IPv6 socket, read in place, in the order that they came.
-#[derive(Drop)]
-pub struct NlaViews<'a> {
-    walk: NlasIterator<'a>,
-    // How many are left.
-    count: usize,
-    ghost clean: { HasNoFault (says inet) (bytes_left walk) },
-    ghost counted: { count ≡ length (values_in (says inet) (bytes_left walk)) },
-}
+impl ReplyHeader for InetResponseHeader {
+    const VIEW: &'static str = "InetResponseView";
 
-impl Clone for NlaViews<'_> {
-    ghost use Rattle.netlink_packet_sock_diag.specs.ViewedInetReply.{values_left};
+    ghost reply = { inet_reply };
 
-    ghost is_clone = { λ walk copy. values_left copy ≡ values_left walk };
+    ghost told = { λ header. header };
 
-    ghost is_infallible = { λ _. ⊤ };
-
-    fn clone(&self) -> Result<Self, AllocError> {
-        Ok(NlaViews {
-            walk: self.walk.clone()?,
-            count: self.count,
-        })
-    }
-}
-
-impl<'a> Iterator for NlaViews<'a> {
-    ghost use Rattle.netlink_packet_sock_diag.specs.ViewedInetReply.{values_left};
-
-    type Item = NlaView<'a>;
-
-    ghost next_gives = { YieldsFirstBy viewed_nla values_left };
-
-    ghost remaining = { item_count values_left };
+    ghost test = { inet_test };
 
     #[inline(always)]
-    fn next(&mut self) -> Option<NlaView<'a>> {
-        let view = next_view(&mut self.walk)?;
-        self.count -= 1;
-        Some(view)
+    fn length() -> usize {
+        LENGTH
     }
 
-    /// How many attributes are left, exactly.
-    fn size_hint(&self) -> (usize, Option<usize>)
-        ensures lower { IsWithinCount result.0 (item_count values_left self.now) }
-        ensures upper { IfSome result.1 (UpTo (item_count values_left self.now)) }
-        ensures exact { result ≡ (length (values_left self.now), Some (length (values_left self.now))) }
-    {
-        (self.count, Some(self.count))
+    #[inline(always)]
+    fn read_header(bytes: &[u8]) -> Result<Self, DecodeError> {
+        InetResponseHeader::from_prefix(bytes)
     }
+
+    fn is_same(&self, left: &[u8], other: &Self, right: &[u8]) -> bool {
+        self == other && same_views::<NlaView<'_>>(left, right)
+    }
+
+    ghost enough = { header_enough };
+
+    ghost named = { λ b. (replies_keep_laws inet_reply inet_reply_laws).named_fault b tt };
+
+    ghost compared = { inet_test_says };
 }
 
-/// The reply about one IPv4 or IPv6 socket, read in place: a [`InetResponse`] whose bytes are borrowed.
-#[derive(Clone, Copy, Debug)]
-pub struct InetResponseView<'a> {
-    bytes: &'a [u8],
-    // How many attributes there are.
-    count: usize,
-    ghost long: { LENGTH ≤ length bytes.now },
-    ghost accepted: { IsAccepted inet_reply bytes.now },
-    ghost counted: { count ≡ length (values_in (says inet) (drop inet_reply.size bytes.now)) },
+impl<'a> ReplyViews<'a> for InetResponseHeader {
+    type View = NlaView<'a>;
+
+    ghost same = { (λ _ _ h. h, λ _. (λ h. h, λ h. h), λ _. refl, λ _. refl) };
+
+    ghost written = { λ _. refl };
+
+    ghost fits = { λ _. tt };
 }
+
+/// The attributes of a reply about an IPv4 or IPv6 socket, read in place, in the order that they
+/// came.
+pub type NlaViews<'a> = AttributeViews<'a, InetResponseHeader>;
+
+/// The reply about one IPv4 or IPv6 socket, read in place: a [`InetResponse`] whose bytes are
+/// borrowed.
+///
+/// Of `parse`, fewer than 72 bytes are `BufferTooSmall`; then a family but AF_INET and AF_INET6 is
+/// `UnsupportedFamily`; else the first fault of an attribute is told.
+pub type InetResponseView<'a> = ReplyView<'a, InetResponseHeader>;
 
 impl<'a> InetResponseView<'a> {
-    ghost use Rattle.netlink_packet_sock_diag.specs.ViewedInetReply.{viewed_response, values_left};
+    ghost use Rattle.netlink_packet_sock_diag.specs.ViewedInetReply.{viewed_response};
     ghost use Rattle.netlink_packet_sock_diag.specs.SeenInetReply.{seen_response};
-
-    /// Checks the whole of the bytes, and takes no memory. Fewer than 72 bytes are `BufferTooSmall`; then a family
-    /// but AF_INET and AF_INET6 is `UnsupportedFamily`; else the first fault of an attribute is told.
-    // It stands apart: its walk takes no time where a list is made.
-    #[inline(never)]
-    #[tactic(auto, using(crate::specs::InetReplyLaws::header_enough))]
-    pub fn parse(bytes: &'a [u8]) -> Result<InetResponseView<'a>, DecodeError>
-        ensures value { IfOk result (λ view. (reply_codec inet_reply).reads bytes.entry.now tt (viewed_response view)) }
-        ensures fault { IfErr result ((reply_codec inet_reply).refuses bytes.entry.now tt) }
-        ensures named { IfErr result (λ fault. fault ≢ Memory) }
-    {
-        let _header = InetResponseHeader::from_prefix(bytes)?;
-        let count = check_nlas::<NlaView<'a>>(&bytes[LENGTH..])?;
-        Ok(InetResponseView { bytes, count })
-    }
-
-    /// The header, which tells the socket.
-    #[inline(always)]
-    pub fn header(&self) -> InetResponseHeader
-        ensures { result ≡ (viewed_response self.now).header }
-    {
-        let Ok(header) = InetResponseHeader::from_prefix(self.bytes) else {
-            unreachable!();
-        };
-        header
-    }
-
-    /// The attributes, in the order that they came.
-    pub fn attributes(&self) -> NlaViews<'a>
-        ensures { values_left result ≡ (viewed_response self.now).nlas }
-    {
-        NlaViews {
-            walk: NlasIterator::new(self.attribute_bytes()),
-            count: self.count,
-        }
-    }
 
     /// The reply with memory of its own. It fails only for want of memory.
     pub fn to_owned(&self, alloc: Global) -> Result<InetResponse, AllocError>
@@ -170,96 +117,5 @@ impl<'a> InetResponseView<'a> {
             header: self.header(),
             nlas,
         })
-    }
-
-    // The reply's header alone.
-    #[inline(always)]
-    pub(crate) fn without_attributes(&self, alloc: Global) -> InetResponse
-        ensures header { result.header ≡ (viewed_response self.now).header }
-        ensures empty { result.nlas.items ≡ [] }
-    {
-        InetResponse {
-            header: self.header(),
-            nlas: SmallVec::new(alloc),
-        }
-    }
-
-    // Puts the attributes, with memory of their own, into the empty list. They are not moved again where the list is
-    // already in its place.
-    pub(crate) fn own_into(
-        &self,
-        alloc: Global,
-        nlas: &mut SmallVec<Nla, 8>,
-    ) -> Result<(), AllocError>
-        requires { nlas.old.items ≡ [] }
-        ensures equal { OnOk result (map seen_nla nlas.new.items ≡ (viewed_response self.now).nlas) }
-        ensures spare { nlas.old.capacity ≡ 8 → (reply_codec inet_reply).is_spare (viewed_response self.now) → IsOk result }
-    {
-        own_nlas::<NlaView<'a>>(alloc, self.attribute_bytes(), self.count, nlas)
-    }
-
-    // How many bytes the reply is written as, where each value and the whole fit their lengths.
-    fn written_len(&self) -> Option<usize>
-        ensures fits { IsSome result ↔ (reply_codec inet_reply).fits (viewed_response self.now) }
-        ensures len { IfSome result (λ len. len ≡ length (reply_bytes inet_reply (viewed_response self.now))) }
-    {
-        viewed_reply_len::<_, NlaView<'a>>(&self.header(), self.attribute_bytes())
-    }
-
-    // The bytes behind the header.
-    fn attribute_bytes(&self) -> &'a [u8]
-        ensures part { result.now ≡ drop inet_reply.size self.now.bytes.now }
-        ensures clean { HasNoFault (says inet) result.now }
-    {
-        &self.bytes[LENGTH..]
-    }
-}
-
-/// Two replies are equal where they tell the same: equal headers, and the same attributes in the same order.
-impl PartialEq for InetResponseView<'_> {
-    ghost use Rattle.netlink_packet_sock_diag.specs.ViewedInetReply.{viewed_response};
-    ghost use Rattle.netlink_packet_sock_diag.specs.EqualViewLaws.{inet_test, inet_equivalence};
-
-    ghost eq = { λ v w. inet_test (viewed_response v) (viewed_response w) };
-
-    ghost laws = { partial_equiv_from_equiv inet_equivalence };
-
-    fn eq(&self, other: &Self) -> bool {
-        self.header() == other.header()
-            && same_views::<NlaView<'_>>(self.attribute_bytes(), other.attribute_bytes())
-    }
-}
-
-impl Eq for InetResponseView<'_> {
-    ghost use Rattle.netlink_packet_sock_diag.specs.EqualViewLaws.{inet_equivalence};
-
-    ghost laws = { inet_equivalence };
-}
-
-/// Writes the bytes of the reply's canonical form, and takes no memory.
-impl Emitable for InetResponseView<'_> {
-    ghost use Rattle.netlink_packet_sock_diag.specs.ViewedInetReply.{viewed_response};
-
-    ghost bytes = { λ v. reply_bytes inet_reply (viewed_response v) };
-
-    ghost writable = { λ v. (reply_codec inet_reply).fits (viewed_response v) };
-
-    fn is_writable(&self) -> bool {
-        self.written_len().is_some()
-    }
-
-    fn buffer_len(&self) -> usize {
-        let Some(len) = self.written_len() else {
-            unreachable!();
-        };
-        len
-    }
-
-    fn writable_len(&self) -> Option<usize> {
-        self.written_len()
-    }
-
-    fn emit(&self, buffer: &mut [u8]) {
-        emit_viewed_reply::<_, NlaView<'_>>(&self.header(), self.attribute_bytes(), buffer);
     }
 }

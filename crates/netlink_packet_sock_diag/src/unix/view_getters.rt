@@ -3,7 +3,7 @@
 ghost use Rattle.std.specs.Prelude.{◌≡◌, None, IsSome, option_map};
 ghost use Rattle.sock_diag_attributes.specs.SeenName.{viewed_name};
 ghost use Rattle.sock_diag_attributes.specs.SeenNumbers.{viewed_numbers};
-ghost use Rattle.netlink_packet_sock_diag.specs.ViewedUnixReply.{values_left};
+ghost use Rattle.netlink_packet_sock_diag.specs.Viewed.{left_in};
 ghost use Rattle.netlink_packet_sock_diag.specs.UnixGetters.{first_of};
 ghost use Rattle.netlink_core.specs.Family.{content};
 ghost use Rattle.sock_diag_attributes.specs.UnixAttributes.{unix};
@@ -132,7 +132,7 @@ impl<'a> UnixResponseView<'a> {
 
 // The content of the first `Peer`.
 fn first_peer(nlas: NlaViews<'_>) -> Option<u32>
-    ensures { result ≡ first_of (content unix 2) (values_left nlas.entry) }
+    ensures { result ≡ first_of (content unix 2) (left_in unix nlas.entry) }
 {
     for nla in nlas {
         if let NlaView::Peer(inode) = nla {
@@ -144,7 +144,7 @@ fn first_peer(nlas: NlaViews<'_>) -> Option<u32>
 
 // The content of the first `Name`.
 fn first_name<'a>(nlas: NlaViews<'a>) -> Option<NameView<'a>>
-    ensures { option_map viewed_name result ≡ first_of (content unix 0) (values_left nlas.entry) }
+    ensures { option_map viewed_name result ≡ first_of (content unix 0) (left_in unix nlas.entry) }
 {
     for nla in nlas {
         if let NlaView::Name(name) = nla {
@@ -156,7 +156,7 @@ fn first_name<'a>(nlas: NlaViews<'a>) -> Option<NameView<'a>>
 
 // The content of the first `PendingConnections`.
 fn first_pending<'a>(nlas: NlaViews<'a>) -> Option<NumbersView<'a>>
-    ensures { option_map viewed_numbers result ≡ first_of (content unix 3) (values_left nlas.entry) }
+    ensures { option_map viewed_numbers result ≡ first_of (content unix 3) (left_in unix nlas.entry) }
 {
     for nla in nlas {
         if let NlaView::PendingConnections(inodes) = nla {
@@ -168,7 +168,7 @@ fn first_pending<'a>(nlas: NlaViews<'a>) -> Option<NumbersView<'a>>
 
 // The content of the first `Shutdown`.
 fn first_shutdown(nlas: NlaViews<'_>) -> Option<u8>
-    ensures { result ≡ first_of (content unix 6) (values_left nlas.entry) }
+    ensures { result ≡ first_of (content unix 6) (left_in unix nlas.entry) }
 {
     for nla in nlas {
         if let NlaView::Shutdown(state) = nla {
@@ -180,7 +180,7 @@ fn first_shutdown(nlas: NlaViews<'_>) -> Option<u8>
 
 // The content of the first `ReceiveQueueLength`.
 fn first_queue(nlas: NlaViews<'_>) -> Option<(u32, u32)>
-    ensures { result ≡ first_of (content unix 4) (values_left nlas.entry) }
+    ensures { result ≡ first_of (content unix 4) (left_in unix nlas.entry) }
 {
     for nla in nlas {
         if let NlaView::ReceiveQueueLength(first, second) = nla {
@@ -192,7 +192,7 @@ fn first_queue(nlas: NlaViews<'_>) -> Option<(u32, u32)>
 
 // The content of the first `MemInfo`.
 fn first_memory(nlas: NlaViews<'_>) -> Option<MemInfo>
-    ensures { result ≡ first_of (content unix 5) (values_left nlas.entry) }
+    ensures { result ≡ first_of (content unix 5) (left_in unix nlas.entry) }
 {
     for nla in nlas {
         if let NlaView::MemInfo(info) = nla {

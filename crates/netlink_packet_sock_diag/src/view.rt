@@ -1,0 +1,309 @@
+//! A reply of any family, read in place.
+
+ghost use Rattle.std.specs.Prelude.{◌≡◌, ◌≢◌, ◌≤◌, ◌↔◌, ⊤, ℕ, List, Bool, [], length, drop, map, Ok, Err, OnOk, IfOk, IfErr, IsOk, IsTrue, IsSome, Some, IfSome};
+ghost use Rattle.std.specs.Cmp.{partial_equiv_from_equiv};
+ghost use Rattle.std.specs.Iterator.{UpTo, YieldsFirstBy, item_count};
+ghost use Rattle.std.specs.Iterator.SizeHint.{IsWithinCount};
+ghost use Rattle.std.specs.List.{AllByRecursion};
+ghost use Rattle.netlink_core.specs.declared.fault.DecodeError.TheVariants.{Memory};
+ghost use Rattle.netlink_core.specs.declared.fault.DecodeError.{DecodeError};
+ghost use Rattle.netlink_core.specs.Attribute.{AttributeFault};
+ghost use Rattle.netlink_core.specs.Family.{says, attribute_said, IsSpareSaid};
+ghost use Rattle.netlink_core.specs.Reply.{Reply, ValueOf, reply_bytes, reply_codec};
+ghost use Rattle.netlink_core.specs.Walk.{bytes_left};
+ghost use Rattle.netlink_core.proofs.Equality.{equivalence};
+ghost use Rattle.netlink_packet_sock_diag.specs.AttributesIn.{HasNoFault, IsAccepted, values_in};
+
+use crate::views::{
+    FamilyView, check_nlas, emit_viewed_reply, next_view, own_nlas, viewed_reply_len,
+};
+use netlink_core::{DecodeError, Emitable, NlasIterator};
+use smallvec::SmallVec;
+use std::alloc::{AllocError, Global};
+use std::fmt::{self, Debug, Formatter};
+use std::marker::PhantomData;
+
+/// The header of the replies of one family.
+pub trait ReplyHeader: Drop + Sized {
+    /// The name of the view of such a reply, as `Debug` prints it.
+    const VIEW: &'static str;
+
+    // The replies, what a header says in them, and how two of them are compared.
+    ghost reply: { Reply };
+
+    ghost told: { Self → reply.header.Value };
+
+    ghost test: { ValueOf reply → ValueOf reply → Bool };
+
+    /// The number of the header's bytes.
+    fn length() -> usize
+        ensures { result ≡ reply.size };
+
+    /// Reads the header.
+    fn read_header(bytes: &[u8]) -> Result<Self, DecodeError>
+        ensures value { IfOk result (λ header. reply.header.reads tt bytes.now ≡ Ok (told header)) }
+        ensures fault { IfErr result (λ fault. reply.header.reads tt bytes.now ≡ Err fault) };
+
+    /// Whether the headers are equal, and the same attributes stand in both places.
+    fn is_same(&self, left: &[u8], other: &Self, right: &[u8]) -> bool
+        requires left { HasNoFault (says reply.family) left.now }
+        requires right { HasNoFault (says reply.family) right.now }
+        ensures { result ≡ test
+            (record { header = told self.now; nlas = values_in (says reply.family) left.now })
+            (record { header = told other.now; nlas = values_in (says reply.family) right.now }) };
+
+    // A string with a header has all its bytes, no fault is want of memory, and equal replies pass
+    // the test.
+    ghost enough: { (b : List ℕ) (h : reply.header.Value) → reply.header.reads tt b ≡ Ok h
+        → reply.size ≤ length b };
+
+    ghost named: { (b : List ℕ) → (reply_codec reply).refuses b tt Memory → ⊥ };
+
+    ghost compared: { (v w : ValueOf reply) → IsTrue (test v w) ↔ (v ≡ w) };
+}
+
+/// The same header, and what the attributes behind it are read as.
+pub trait ReplyViews<'a>: ReplyHeader + Emitable {
+    /// An attribute, read in place.
+    type View: FamilyView<'a> + Drop;
+
+    // The attributes are those of the reply's family, and the header is written as what it says.
+    ghost same: { let viewed = Self.View.FamilyView.family in
+        let family = Self.ReplyHeader.reply.family in
+        ((b : List ℕ) (e : DecodeError)
+        → AttributeFault (says viewed) b e → AttributeFault (says family) b e)
+        × ((b : List ℕ) → HasNoFault (says viewed) b ↔ HasNoFault (says family) b)
+        × ((b : List ℕ) → length (values_in (says viewed) b) ≡ length (values_in (says family) b))
+        × ((b : List ℕ) → map (attribute_said viewed) (values_in (says viewed) b)
+        ≡ map (attribute_said family) (values_in (says family) b)) };
+
+    ghost written: { (header : Self) → Self.Emitable.bytes header
+        ≡ Self.ReplyHeader.reply.header.bytes (Self.ReplyHeader.told header) };
+
+    ghost fits: { (header : Self) → Self.Emitable.writable header };
+}
+
+/// A reply, read in place: its bytes, of which all were checked.
+pub struct ReplyView<'a, H: ReplyHeader> {
+    bytes: &'a [u8],
+    // How many attributes there are.
+    count: usize,
+    header: PhantomData<H>,
+    ghost long: { H.reply.size ≤ length bytes.now },
+    ghost accepted: { IsAccepted H.reply bytes.now },
+    ghost counted: { count
+        ≡ length (values_in (says H.reply.family) (drop H.reply.size bytes.now)) },
+}
+
+impl<H: ReplyHeader> Copy for ReplyView<'_, H> {}
+
+impl<H: ReplyHeader> Clone for ReplyView<'_, H> {
+    ghost is_clone = { λ view copy. copy ≡ view };
+
+    ghost is_infallible = { λ _. ⊤ };
+
+    fn clone(&self) -> Result<Self, AllocError> {
+        Ok(*self)
+    }
+}
+
+impl<H: ReplyHeader> Debug for ReplyView<'_, H> {
+    fn fmt<W: fmt::Write>(&self, f: &mut Formatter<W>) -> fmt::Result {
+        f.debug_struct(H::VIEW)
+            .field("bytes", &self.bytes)
+            .field("count", &self.count)
+            .finish()
+    }
+}
+
+impl<'a, H: ReplyHeader> ReplyView<'a, H> {
+    ghost use Rattle.netlink_packet_sock_diag.specs.Viewed.{viewed};
+
+    /// The header, which tells the socket.
+    #[inline(always)]
+    pub fn header(&self) -> H
+        ensures { H.told result ≡ (viewed self.now).header }
+    {
+        let Ok(header) = H::read_header(self.bytes) else {
+            unreachable!();
+        };
+        header
+    }
+
+    // The bytes behind the header.
+    fn attribute_bytes(&self) -> &'a [u8]
+        ensures part { result.now ≡ drop H.reply.size self.now.bytes.now }
+        ensures clean { HasNoFault (says H.reply.family) result.now }
+    {
+        &self.bytes[H::length()..]
+    }
+}
+
+impl<'a, H: ReplyViews<'a>> ReplyView<'a, H> {
+    ghost use Rattle.netlink_packet_sock_diag.specs.Viewed.{viewed, said_in, left_in};
+
+    /// Checks the whole of the bytes, and takes no memory. A fault of the header is told, or else
+    /// the first fault of an attribute. Fewer bytes than the header has are `BufferTooSmall`.
+    // It stands apart: its walk takes no time where a list is made.
+    #[inline(never)]
+    pub fn parse(bytes: &'a [u8]) -> Result<ReplyView<'a, H>, DecodeError>
+        ensures value { IfOk result (λ view.
+            (reply_codec H.reply).reads bytes.entry.now tt (viewed view)) }
+        ensures fault { IfErr result ((reply_codec H.reply).refuses bytes.entry.now tt) }
+        ensures named { IfErr result (λ fault. fault ≢ Memory) }
+    {
+        let _header = H::read_header(bytes)?;
+        let count = check_nlas::<H::View>(&bytes[H::length()..])?;
+        Ok(ReplyView {
+            bytes,
+            count,
+            header: PhantomData,
+        })
+    }
+
+    /// The attributes, in the order that they came.
+    pub fn attributes(&self) -> AttributeViews<'a, H>
+        ensures { left_in H.View.FamilyView.family result
+            ≡ said_in H.View.FamilyView.family self.now }
+    {
+        AttributeViews {
+            walk: NlasIterator::new(self.attribute_bytes()),
+            count: self.count,
+            header: PhantomData,
+        }
+    }
+
+    // Puts the attributes, with memory of their own, into the empty list. They are not moved again
+    // where the list is already in its place.
+    pub(crate) fn own_into(
+        &self,
+        alloc: Global,
+        nlas: &mut SmallVec<<H::View as FamilyView<'a>>::Owned, 8>,
+    ) -> Result<(), AllocError>
+        requires { nlas.old.items ≡ [] }
+        ensures equal { OnOk result (map H.View.FamilyView.seen nlas.new.items
+            ≡ said_in H.View.FamilyView.family self.now) }
+        ensures spare { let family = H.View.FamilyView.family in
+            let said = said_in family self.now in nlas.old.capacity ≡ 8
+            → (length said ≤ 8) × AllByRecursion (IsSpareSaid family) said → IsOk result }
+    {
+        own_nlas::<H::View>(alloc, self.attribute_bytes(), self.count, nlas)
+    }
+
+    // How many bytes the reply is written as, where each value and the whole fit their lengths.
+    fn written_len(&self) -> Option<usize>
+        ensures fits { IsSome result ↔ (reply_codec H.reply).fits (viewed self.now) }
+        ensures len { IfSome result (λ len. len ≡ length (reply_bytes H.reply (viewed self.now))) }
+    {
+        viewed_reply_len::<_, H::View>(&self.header(), self.attribute_bytes())
+    }
+}
+
+/// Two replies are equal where they tell the same: equal headers, and the same attributes in the
+/// same order.
+impl<H: ReplyHeader> PartialEq for ReplyView<'_, H> {
+    ghost use Rattle.netlink_packet_sock_diag.specs.Viewed.{viewed};
+
+    ghost eq = { λ v w. H.test (viewed v) (viewed w) };
+
+    ghost laws = { partial_equiv_from_equiv (equivalence _ viewed (λ v w. H.compared _ _)) };
+
+    fn eq(&self, other: &Self) -> bool {
+        self.header().is_same(
+            self.attribute_bytes(),
+            &other.header(),
+            other.attribute_bytes(),
+        )
+    }
+}
+
+impl<H: ReplyHeader> Eq for ReplyView<'_, H> {
+    ghost use Rattle.netlink_packet_sock_diag.specs.Viewed.{viewed};
+
+    ghost laws = { equivalence _ viewed (λ v w. H.compared _ _) };
+}
+
+/// Writes the bytes of the reply's canonical form, and takes no memory.
+impl<'a, H: ReplyViews<'a>> Emitable for ReplyView<'a, H> {
+    ghost use Rattle.netlink_packet_sock_diag.specs.Viewed.{viewed};
+
+    ghost bytes = { λ v. reply_bytes H.reply (viewed v) };
+
+    ghost writable = { λ v. (reply_codec H.reply).fits (viewed v) };
+
+    fn is_writable(&self) -> bool {
+        self.written_len().is_some()
+    }
+
+    fn buffer_len(&self) -> usize {
+        let Some(len) = self.written_len() else {
+            unreachable!();
+        };
+        len
+    }
+
+    fn writable_len(&self) -> Option<usize> {
+        self.written_len()
+    }
+
+    fn emit(&self, buffer: &mut [u8]) {
+        emit_viewed_reply::<_, H::View>(&self.header(), self.attribute_bytes(), buffer);
+    }
+}
+
+/// The attributes of a reply, read in place, in the order that they came.
+#[derive(Drop)]
+pub struct AttributeViews<'a, H: ReplyHeader> {
+    walk: NlasIterator<'a>,
+    // How many are left.
+    count: usize,
+    header: PhantomData<H>,
+    ghost clean: { HasNoFault (says H.reply.family) (bytes_left walk) },
+    ghost counted: { count ≡ length (values_in (says H.reply.family) (bytes_left walk)) },
+}
+
+impl<H: ReplyHeader> Clone for AttributeViews<'_, H> {
+    ghost use Rattle.netlink_packet_sock_diag.specs.Viewed.{left_in};
+
+    ghost is_clone = { λ views copy. left_in H.reply.family copy ≡ left_in H.reply.family views };
+
+    ghost is_infallible = { λ _. ⊤ };
+
+    fn clone(&self) -> Result<Self, AllocError> {
+        Ok(AttributeViews {
+            walk: self.walk.clone()?,
+            count: self.count,
+            header: PhantomData,
+        })
+    }
+}
+
+impl<'a, H: ReplyViews<'a>> Iterator for AttributeViews<'a, H> {
+    ghost use Rattle.netlink_packet_sock_diag.specs.Viewed.{left_in};
+
+    type Item = H::View;
+
+    ghost next_gives = { YieldsFirstBy H.View.FamilyView.viewed
+        (left_in H.View.FamilyView.family) };
+
+    ghost remaining = { item_count (left_in H.View.FamilyView.family) };
+
+    #[inline(always)]
+    fn next(&mut self) -> Option<H::View> {
+        let view = next_view(&mut self.walk)?;
+        self.count -= 1;
+        Some(view)
+    }
+
+    /// How many attributes are left, exactly.
+    fn size_hint(&self) -> (usize, Option<usize>)
+        ensures lower { IsWithinCount result.0
+            (item_count (left_in H.View.FamilyView.family) self.now) }
+        ensures upper { IfSome result.1
+            (UpTo (item_count (left_in H.View.FamilyView.family) self.now)) }
+        ensures exact { let left = length (left_in H.View.FamilyView.family self.now) in
+            result ≡ (left, Some left) }
+    {
+        (self.count, Some(self.count))
+    }
+}
