@@ -140,7 +140,7 @@ impl<'a, H: ReplyHeader> ReplyView<'a, H> {
 }
 
 impl<'a, H: ReplyViews<'a>> ReplyView<'a, H> {
-    ghost use Rattle.netlink_packet_sock_diag.specs.Viewed.{viewed, said_in, left_in};
+    ghost use Rattle.netlink_packet_sock_diag.specs.Viewed.{viewed, left_in};
 
     /// Checks the whole of the bytes, and takes no memory. A fault of the header is told, or else
     /// the first fault of an attribute. Fewer bytes than the header has are `BufferTooSmall`.
@@ -164,7 +164,7 @@ impl<'a, H: ReplyViews<'a>> ReplyView<'a, H> {
     /// The attributes, in the order that they came.
     pub fn attributes(&self) -> AttributeViews<'a, H>
         ensures { left_in H.View.FamilyView.family result
-            ≡ said_in H.View.FamilyView.family self.now }
+            ≡ values_in (says H.View.FamilyView.family) (drop H.reply.size self.now.bytes.now) }
     {
         AttributeViews {
             walk: NlasIterator::new(self.attribute_bytes()),
@@ -182,9 +182,10 @@ impl<'a, H: ReplyViews<'a>> ReplyView<'a, H> {
     ) -> Result<(), AllocError>
         requires { nlas.old.items ≡ [] }
         ensures equal { OnOk result (map H.View.FamilyView.seen nlas.new.items
-            ≡ said_in H.View.FamilyView.family self.now) }
+            ≡ values_in (says H.View.FamilyView.family) (drop H.reply.size self.now.bytes.now)) }
         ensures spare { let family = H.View.FamilyView.family in
-            let said = said_in family self.now in nlas.old.capacity ≡ 8
+            let said = values_in (says family) (drop H.reply.size self.now.bytes.now) in
+            nlas.old.capacity ≡ 8
             → (length said ≤ 8) × AllByRecursion (IsSpareSaid family) said → IsOk result }
     {
         own_nlas::<H::View>(alloc, self.attribute_bytes(), self.count, nlas)

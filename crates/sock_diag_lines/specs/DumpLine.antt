@@ -33,6 +33,5 @@ shown_dump dump = end_word dump.1 ++ 32 ∷ decimal (length dump.0)
 -- The text tells of the dump over the datagrams, which is never refused. It can be written where
 -- each message that it keeps can be.
 abbrev pub TellsDump : List (List ℕ) → List ℕ → Type 0
-TellsDump datagrams text =
-    Tells (λ dump. DatagramsDump message_codec [] datagrams dump.0 dump.1)
+TellsDump datagrams text = Tells (λ dump. DatagramsDump message_codec [] datagrams dump.0 dump.1)
     (λ fault. ⊥) (λ dump. AllByRecursion message_codec.fits dump.0) shown_dump text
