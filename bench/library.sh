@@ -20,7 +20,9 @@ trap 'rm -rf "$crate"' EXIT
 trap 'exit 1' HUP INT TERM
 rm -rf "$crate"
 mkdir -p "$crate/src"
-cp bench/replies/lib.rt.in "$crate/src/lib.rt"
+for source in lib read_inet read_unix; do
+    cp "bench/replies/$source.rt.in" "$crate/src/$source.rt"
+done
 cat > "$crate/BUILD.bazel" <<'BUILD'
 rattle_crate(
     name = "reply_bench",
