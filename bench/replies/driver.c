@@ -12,8 +12,10 @@
 
 size_t read_unix_reply(const uint8_t *bytes, size_t length);
 size_t read_inet_reply(const uint8_t *bytes, size_t length);
-size_t rewrite_unix_reply(const uint8_t *bytes, size_t length, uint8_t *buffer, size_t room);
-size_t rewrite_inet_reply(const uint8_t *bytes, size_t length, uint8_t *buffer, size_t room);
+size_t rewrite_unix_reply(const uint8_t *bytes, size_t length, uint8_t *buffer, size_t room,
+                          uint64_t again);
+size_t rewrite_inet_reply(const uint8_t *bytes, size_t length, uint8_t *buffer, size_t room,
+                          uint64_t again);
 
 /* The linker puts these in the place of the C library's functions (-Wl,--wrap), to count the memory requests. */
 void *__real_malloc(size_t size);
@@ -50,7 +52,7 @@ struct attribute {
 struct family {
     const char *name;
     size_t (*read)(const uint8_t *, size_t);
-    size_t (*rewrite)(const uint8_t *, size_t, uint8_t *, size_t);
+    size_t (*rewrite)(const uint8_t *, size_t, uint8_t *, size_t, uint64_t);
     uint8_t header[72];
     size_t header_length;
     struct attribute attributes[11];
@@ -129,7 +131,7 @@ static double measure(const struct family *family, const uint8_t *bytes, size_t 
         double start = now();
         for (int i = 0; i < REPLIES; i++) {
             if (buffer)
-                family->rewrite(bytes, length, buffer, room);
+                family->rewrite(bytes, length, buffer, room, 0);
             else
                 family->read(bytes, length);
         }
@@ -147,7 +149,7 @@ static void print_row(const struct family *family, size_t attributes)
     unsigned long before = requests;
     size_t found = family->read(bytes, length);
     unsigned long taken = requests - before;
-    size_t written = family->rewrite(bytes, length, buffer, sizeof buffer);
+    size_t written = family->rewrite(bytes, length, buffer, sizeof buffer, 0);
     if (found != attributes || written != length || memcmp(bytes, buffer, length)) {
         fprintf(stderr, "%s reply of %zu attributes: read %zu of them, wrote %zu of %zu bytes\n", family->name,
                 attributes, found, written, length);
