@@ -14,9 +14,9 @@ pub fn add_paths(
 ) -> Result<bool, DecodeError> {
     for bytes in MessageStrings::new(datagram) {
         let message = NetlinkMessage::<SockDiagMessage>::deserialize(alloc, bytes?)?;
-        match message.payload {
+        match &message.payload {
             NetlinkPayload::InnerMessage(SockDiagMessage::UnixResponse(reply)) => {
-                add_path(alloc, &reply, paths)?;
+                add_path(alloc, reply, paths)?;
             }
             NetlinkPayload::Done(_) => return Ok(true),
             _ => {}
