@@ -165,6 +165,17 @@ fn lists_captures_of_both_orders(rt: HostRuntime) -> Result<(), Fail> {
     Ok(())
 }
 
+/// A packet of a thousand messages.
+#[test]
+fn lists_a_long_datagram(rt: HostRuntime) -> Result<(), Fail> {
+    let many = UNIX.repeat(rt.alloc(), 1_000)?;
+    let header = "d4c3b2a102000400000000000000000000000400fd000000";
+    let packets = [[SOCK_DIAG, many.as_str()]];
+    let capture = captured(rt.alloc(), (ByteOrder::LowFirst, header), &packets)?;
+    let lines = UNIX_LINE.repeat(rt.alloc(), 1_000)?;
+    lists(&rt, rt.alloc(), &capture, Ok(true), Some(&[lines.as_str()]))
+}
+
 /// A capture that is cut at any byte gives the lines of its whole packets, and says where it is cut.
 #[test]
 fn tells_where_a_capture_is_cut(rt: HostRuntime) -> Result<(), Fail> {

@@ -84,6 +84,8 @@ fn datagrams_are_listed_and_counted(rt: HostRuntime) -> Result<(), Fail> {
         shows(&rt, alloc, &list(alloc, datagram)?, lines)?;
         shows(&rt, alloc, &listening(datagram), count)?;
     }
+    let many = MESSAGE.repeat(alloc, 10_000)?;
+    assert!(rt; list(alloc, &many)?.len() == 10_000);
     Ok(())
 }
 
@@ -137,10 +139,13 @@ fn answers(rt: &impl Abort, alloc: Global, count: usize) -> Result<(), Fail> {
 
 #[test]
 fn requests_are_answered(rt: HostRuntime) -> Result<(), Fail> {
-    for count in [0, 1, 9] {
+    for count in [0, 1, 9, 1_000] {
         answers(&rt, rt.alloc(), count)?;
     }
-    Ok(())
+    let path = vec![in rt.alloc(); 97; 65_531]?;
+    let long = [listener(rt.alloc(), 7, &path)?];
+    let why = answer(rt.alloc(), &REQUEST, &long).err();
+    shows(&rt, rt.alloc(), &why, "Some(Unwritable)")
 }
 
 #[test]

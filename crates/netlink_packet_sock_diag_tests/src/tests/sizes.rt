@@ -2,7 +2,7 @@
 
 use super::read_twice::{ReadTwice, read_twice};
 use super::{CONNECTED, INET, LISTENING, bytes, shows};
-use netlink_core::{CanonError, canonical};
+use netlink_core::{CanonError, NetlinkMessage, canonical};
 use netlink_packet_sock_diag::SockDiagMessage;
 use netlink_packet_sock_diag::inet::InetResponse;
 use netlink_packet_sock_diag::unix::UnixResponse;
@@ -32,6 +32,19 @@ fn lists_of_attributes(rt: HostRuntime) -> Result<(), Fail> {
     has_room::<UnixResponse>(&rt, rt.alloc(), CONNECTED, "0600000061000000")?;
     has_room::<InetResponse>(&rt, rt.alloc(), INET, "0500080002000000")?;
     has_room::<InetResponse>(&rt, rt.alloc(), INET, "0600040061000000")
+}
+
+/// There is memory for a long payload of each type of netlink(7).
+#[test]
+fn long_payloads(rt: HostRuntime) -> Result<(), Fail> {
+    let alloc = rt.alloc();
+    for kind in ["0200", "0300", "0400"] {
+        let mut message = bytes(alloc, &["80110100", kind, "00000000000000000000"])?;
+        message.resize(70_016, 7)?;
+        let read = NetlinkMessage::<SockDiagMessage>::deserialize(alloc, &message);
+        assert!(rt; read.is_ok());
+    }
+    Ok(())
 }
 
 /// A header, the head of an attribute, a byte so many times and what follows; and how many bytes
