@@ -4,7 +4,6 @@ use Rattle.std.specs.Prelude.{Option, Some, None}
 use Rattle.std.proofs.lemmas.List.{take-append-drop, take-take, take_at, drop_all, drop-drop, length-take, length-drop, length-append}
 use Rattle.std.proofs.lemmas.Bool.{cases_lt}
 use Rattle.byteorder.specs.Endian.{little_number}
-use Rattle.byteorder.specs.Numbers.{little_number-reads_back}
 use Rattle.netlink_core.specs.declared.header.NetlinkHeader.{NetlinkHeader}
 use Rattle.netlink_core.specs.declared.fault.DecodeError.{DecodeError}
 use Rattle.netlink_core.specs.declared.fault.DecodeError.TheVariants.{EnvelopeCut, EnvelopeLengthUnder16, EnvelopeLengthPast}
@@ -14,7 +13,7 @@ use Rattle.netlink_core.specs.Header.{HasHeader, IsEnvelopeFault}
 use Rattle.netlink_core.specs.Datagram.{StartsWithMessage, CutIntoMessages, AreWholeMessages}
 use Rattle.netlink_core.proofs.Numbers.{number-take}
 use Rattle.netlink_core.proofs.Framing.{one_framing_fault}
-use Rattle.netlink_core.proofs.Headers.{framed_bounds}
+use Rattle.netlink_core.proofs.Headers.{header_length}
 
 -- the front parts of equal bytes, of one length, are equal, and so is what follows them
 same_parts : (xs ys s t : List ℕ) → length xs ≡ length ys → xs ++ s ≡ ys ++ t → (xs ≡ ys) × (s ≡ t)
@@ -36,11 +35,10 @@ word_in_front n bytes long =
 pub starts_with_message : (bytes message rest : List ℕ) (h : NetlinkHeader) (end : ℕ) → HasHeader bytes h → message ≡ take h.length bytes
     → end ≡ h.length + fill h.length → rest ≡ drop end bytes → StartsWithMessage bytes message rest
 starts_with_message bytes message rest h end head message-is end-is rest-is =
-    let bounds = framed_bounds bytes head.0 h head.1 in
-    let low : 16 ≤ h.length = bounds.0 in
-    let high : h.length ≤ length bytes = bounds.1 in
+    let low : 16 ≤ h.length = head.2 in
+    let high : h.length ≤ length bytes = head.3 in
     let len : length message ≡ h.length = ap length message-is ∙ omega (arith, length-take h.length bytes) in
-    let word : little_number 4 bytes ≡ h.length = ap (little_number 4) head.1.1 ∙ little_number-reads_back 4 h.length [] head.1.2.0 in
+    let word : little_number 4 bytes ≡ h.length = header_length bytes h head in
     let own : little_number 4 message ≡ little_number 4 bytes = ap (little_number 4) message-is ∙ word_in_front h.length bytes (omega arith) in
     let n : ℕ = end - h.length in
     let tail : List ℕ = drop h.length bytes in

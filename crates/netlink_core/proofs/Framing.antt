@@ -1,71 +1,41 @@
 -- A message at the front of bytes: one of it, or one fault.
-use Rattle.std.proofs.Common.{cond, ltb, ◌≡◌, ◌∙◌, ℕ, ◌-◌, ◌<◌, ◌≤◌, ◌⊎◌, inl, inr, List, [], length, take, drop, refl, sym, ap, subst, arith}
+use Rattle.std.proofs.Common.{cond, ltb, ◌≡◌, ◌∙◌, ℕ, ◌-◌, ◌<◌, ◌≤◌, ◌⊎◌, inl, inr, List, length, take, drop, refl, sym, ap, subst, arith}
 use Rattle.std.specs.Prelude.{Option, Some, None}
 use Rattle.std.proofs.lemmas.Bool.{cases_eq, lt-ltb, le-ltb}
-use Rattle.std.proofs.lemmas.List.{take_at}
 use Rattle.byteorder.specs.Endian.{little_number}
-use Rattle.byteorder.specs.Numbers.{little_number-reads_back}
 use Rattle.netlink_core.specs.declared.fault.DecodeError.{DecodeError}
 use Rattle.netlink_core.specs.declared.fault.DecodeError.TheVariants.{Memory, EnvelopeCut, EnvelopeLengthUnder16, EnvelopeLengthPast}
 use Rattle.netlink_core.specs.declared.header.NetlinkHeader.{NetlinkHeader}
 use Rattle.netlink_core.specs.Bytes.{IsBytes}
-use Rattle.netlink_core.specs.Header.{HasHeader, IsFramed, IsEnvelopeFault, header_bytes}
+use Rattle.netlink_core.specs.Header.{HasHeader, IsEnvelopeFault}
 use Rattle.netlink_core.specs.Envelope.{Payload, done_with, error_with, no_payload, overrun_with, inner, Envelope, IsInnerType, PayloadIs, payload_at, envelope_codec}
 use Rattle.netlink_core.specs.Codec.{Codec}
 use Rattle.netlink_core.proofs.TableLaws.{AreBytes-drop}
-use Rattle.netlink_core.proofs.Headers.{AreBytes-take, header_or_fault, one_header, framed_bounds}
+use Rattle.netlink_core.proofs.Headers.{AreBytes-take, header_or_fault, header_length, one_header}
 
--- ---- what stands in a framed message
+-- ---- what stands behind a header
 
--- the length word is the header's
-pub framed_length : (b x : List ℕ) (h : NetlinkHeader) → IsFramed b h x → little_number 4 b ≡ h.length
-framed_length b x h f = ap (little_number 4) f.1 ∙ little_number-reads_back 4 h.length [] f.2.0
+-- the payload stands where the length word says
+pub payload_there : (b : List ℕ) (h : NetlinkHeader) → HasHeader b h → payload_at b ≡ take (h.length - 16) (drop 16 b)
+payload_there b h head = ap (λ (n : ℕ). take (n - 16) (drop 16 b)) (header_length b h head)
 
--- the payload stands where the header says
-pub framed_payload : (b x : List ℕ) (h : NetlinkHeader) → IsFramed b h x → take (h.length - 16) (drop 16 b) ≡ x
-framed_payload b x h f =
-    let size : h.length - 16 ≡ length x = omega (arith, f.3) in
-    ap (λ (n : ℕ). take n (drop 16 b)) size ∙ ap (λ (l : List ℕ). take (length x) (drop 16 l)) f.1 ∙ take_at x f.0 (length x) refl
-
--- and where the length word says
-pub payload_there : (b x : List ℕ) (h : NetlinkHeader) → IsFramed b h x → payload_at b ≡ x
-payload_there b x h f = ap (λ (n : ℕ). take (n - 16) (drop 16 b)) (framed_length b x h f) ∙ framed_payload b x h f
-
--- the type is the header's
-pub framed_type : (b x : List ℕ) (h : NetlinkHeader) → IsFramed b h x → little_number 2 (drop 4 b) ≡ h.message_type
-framed_type b x h f = ap (λ (l : List ℕ). little_number 2 (drop 4 l)) f.1 ∙ little_number-reads_back 2 h.message_type [] f.2.1
-
--- the first sixteen bytes are the header's
-pub framed_front : (b x : List ℕ) (h : NetlinkHeader) → IsFramed b h x → take 16 b ≡ header_bytes h
-framed_front b x h f = ap (take 16) f.1
-
--- bytes frame one header and one payload
-pub one_frame : (b x y : List ℕ) (h k : NetlinkHeader) → IsFramed b h x → IsFramed b k y → (h ≡ k) × (x ≡ y)
-one_frame b x y h k f g =
-    let header : h ≡ k = one_header h k f.2 g.2 (sym (framed_front b x h f) ∙ framed_front b y k g) in
-    (header, sym (framed_payload b x h f) ∙ ap (λ (l : NetlinkHeader). take (l.length - 16) (drop 16 b)) header ∙ framed_payload b y k g)
-
--- a payload of bytes is bytes
-pub payload_typed : (b x : List ℕ) (h : NetlinkHeader) → IsBytes b → IsFramed b h x → IsBytes x
-payload_typed b x h tb f = subst IsBytes (framed_payload b x h f) (AreBytes-take (h.length - 16) (drop 16 b) (AreBytes-drop 16 b tb))
-
--- the payload that a header frames
-pub framed : (bytes : List ℕ) (h : NetlinkHeader) → HasHeader bytes h → IsFramed bytes h (take (h.length - 16) (drop 16 bytes))
-framed bytes h head = subst (λ (x : List ℕ). IsFramed bytes h x) (sym (framed_payload bytes head.0 h head.1)) head.1
+-- in bytes it is bytes
+pub payload_typed : (n : ℕ) (b : List ℕ) → IsBytes b → IsBytes (take (n - 16) (drop 16 b))
+payload_typed n b tb = AreBytes-take (n - 16) (drop 16 b) (AreBytes-drop 16 b tb)
 
 -- a fault of the inner message is one of the whole message
 pub fault_within : (C : Codec ℕ) (bytes : List ℕ) (h : NetlinkHeader) (e : DecodeError) → HasHeader bytes h
     → IsInnerType h.message_type × C.refuses (take (h.length - 16) (drop 16 bytes)) h.message_type e → (envelope_codec C).refuses bytes tt e
-fault_within C bytes h e head fault = inr (h, take (h.length - 16) (drop 16 bytes), framed bytes h head, fault.0, fault.1)
+fault_within C bytes h e head fault = inr (h, head, fault.0, fault.1)
 
 -- ---- one message or one fault
 
--- a framed message has no fault of framing
-no_fault_where_framed : (b x : List ℕ) (h : NetlinkHeader) (e : DecodeError) → IsFramed b h x → IsEnvelopeFault b e → ⊥
-no_fault_where_framed b x h (EnvelopeCut got) f k = omega (arith, f.3, (framed_bounds b x h f).1, k.1)
-no_fault_where_framed b x h (EnvelopeLengthUnder16 word) f k = omega (arith, f.3, framed_length b x h f, k.0, k.2)
-no_fault_where_framed b x h (EnvelopeLengthPast word got) f k = omega (arith, (framed_bounds b x h f).1, framed_length b x h f, k.0, k.4)
-no_fault_where_framed b x h _ f k = k
+-- where a header stands is no fault of framing
+no_fault_at_header : (b : List ℕ) (h : NetlinkHeader) (e : DecodeError) → HasHeader b h → IsEnvelopeFault b e → ⊥
+no_fault_at_header b h (EnvelopeCut got) head k = omega (arith, head.2, head.3, k.1)
+no_fault_at_header b h (EnvelopeLengthUnder16 word) head k = omega (arith, head.2, header_length b h head, k.0, k.2)
+no_fault_at_header b h (EnvelopeLengthPast word got) head k = omega (arith, head.3, header_length b h head, k.0, k.4)
+no_fault_at_header b h _ head k = k
 
 -- the first fault of framing, computed
 first_fault : List ℕ → Option DecodeError
@@ -118,12 +88,11 @@ module _ (C : Codec ℕ) where
     | inl found ↦
         let h : NetlinkHeader = found.0 in
         let x : List ℕ = take (h.length - 16) (drop 16 b) in
-        let frame = framed b h found.1 in
         elim (of_kept_type C.reads x h.message_type) [
-          | inr kept ↦ inl (record { header = h; payload = kept.0 }, (x, frame, kept.1))
-          | inl kind ↦ elim (law x h.message_type (AreBytes-take (h.length - 16) (drop 16 b) (AreBytes-drop 16 b tb))) [
-            | inl answer ↦ inl (record { header = h; payload = inner answer.0 }, (x, frame, (kind, answer.1)))
-            | inr fault ↦ inr (fault.0, inr (h, x, frame, kind, fault.1))
+          | inr kept ↦ inl (record { header = h; payload = kept.0 }, (found.1, kept.1))
+          | inl kind ↦ elim (law x h.message_type (payload_typed h.length b tb)) [
+            | inl answer ↦ inl (record { header = h; payload = inner answer.0 }, (found.1, (kind, answer.1)))
+            | inr fault ↦ inr (fault.0, inr (h, found.1, kind, fault.1))
           ]
         ]
   ]
@@ -143,10 +112,10 @@ module _ (C : Codec ℕ) where
   -- not both
   pub envelope_or_fault_apart : (b : List ℕ) (v : Envelope C.Value) (e : DecodeError) → ((x : List ℕ) (t : ℕ) (m : C.Value) → C.reads x t m → C.refuses x t e → ⊥)
       → (envelope_codec C).reads b tt v → (envelope_codec C).refuses b tt e → ⊥
-  envelope_or_fault_apart b v e law r (inl fault) = no_fault_where_framed b r.0 v.header e r.1 fault
-  envelope_or_fault_apart b v e law r (inr (h, x, frame, kind, fault)) =
-      let same = one_frame b r.0 x v.header h r.1 frame in
-      let read : PayloadIs C.reads x h.message_type v.payload = subst (λ (y : List ℕ). PayloadIs C.reads y h.message_type v.payload) same.1 (subst (λ (k : NetlinkHeader). PayloadIs C.reads r.0 k.message_type v.payload) same.0 r.2) in
+  envelope_or_fault_apart b v e law r (inl fault) = no_fault_at_header b v.header e r.0 fault
+  envelope_or_fault_apart b v e law r (inr (h, head, kind, fault)) =
+      let x : List ℕ = take (h.length - 16) (drop 16 b) in
+      let read : PayloadIs C.reads x h.message_type v.payload = subst (λ (k : NetlinkHeader). PayloadIs C.reads (take (k.length - 16) (drop 16 b)) k.message_type v.payload) (one_header b v.header h r.0 head) r.1 in
       let answer = inner_payload x h.message_type v.payload kind read in
       law x h.message_type answer.0 answer.1 fault
 
@@ -154,13 +123,13 @@ module _ (C : Codec ℕ) where
 pub one_envelope_fault : (C : Codec ℕ) (b : List ℕ) (e f : DecodeError) → ((x : List ℕ) (t : ℕ) → C.refuses x t e → C.refuses x t f → e ≡ f)
     → (envelope_codec C).refuses b tt e → (envelope_codec C).refuses b tt f → e ≡ f
 one_envelope_fault C b e f law (inl fault) (inl other) = one_framing_fault b e f fault other
-one_envelope_fault C b e f law (inl fault) (inr (h, x, frame, kind, other)) = absurd (no_fault_where_framed b x h e frame fault)
-one_envelope_fault C b e f law (inr (h, x, frame, kind, fault)) (inl other) = absurd (no_fault_where_framed b x h f frame other)
-one_envelope_fault C b e f law (inr (h, x, frame, kind, fault)) (inr (k, y, also, _, other)) =
-    let same = one_frame b y x k h also frame in
-    law x h.message_type fault (subst (λ (z : List ℕ). C.refuses z h.message_type f) same.1 (subst (λ (l : NetlinkHeader). C.refuses y l.message_type f) same.0 other))
+one_envelope_fault C b e f law (inl fault) (inr (h, head, kind, other)) = absurd (no_fault_at_header b h e head fault)
+one_envelope_fault C b e f law (inr (h, head, kind, fault)) (inl other) = absurd (no_fault_at_header b h f head other)
+one_envelope_fault C b e f law (inr (h, head, kind, fault)) (inr (k, also, _, other)) =
+    law (take (h.length - 16) (drop 16 b)) h.message_type fault
+    (subst (λ (l : NetlinkHeader). C.refuses (take (l.length - 16) (drop 16 b)) l.message_type f) (one_header b k h also head) other)
 
 -- no fault is want of memory
 pub envelope_fault_named : (C : Codec ℕ) (b : List ℕ) → ((x : List ℕ) (t : ℕ) → C.refuses x t Memory → ⊥) → (envelope_codec C).refuses b tt Memory → ⊥
 envelope_fault_named C b law (inl fault) = fault
-envelope_fault_named C b law (inr (h, x, frame, kind, fault)) = law x h.message_type fault
+envelope_fault_named C b law (inr (h, head, kind, fault)) = law (take (h.length - 16) (drop 16 b)) h.message_type fault

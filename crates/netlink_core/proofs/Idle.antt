@@ -1,14 +1,14 @@
 -- Messages are equal exactly where their bytes are idle, and read back as themselves exactly where they are in normal form.
-use Rattle.std.proofs.Common.{◌≡◌, ◌↔◌, ◌∙◌, ℕ, zero, suc, ◌≤◌, inl, inr, List, [], ◌++◌, take, drop, refl, sym, ap, subst, arith}
+use Rattle.std.proofs.Common.{◌≡◌, ◌↔◌, ◌∙◌, ℕ, zero, suc, ◌≤◌, inl, inr, List, [], ◌++◌, take, drop, ◌-◌, refl, sym, ap, subst, arith}
 use Rattle.std.proofs.lemmas.List.{append-nil}
 use Rattle.netlink_core.specs.declared.header.NetlinkHeader.{NetlinkHeader}
 use Rattle.byteorder.specs.Endian.{little_number}
 use Rattle.netlink_core.specs.Bytes.{IsBytes}
-use Rattle.netlink_core.specs.Header.{IsTypedHeader, IsFramed, header_bytes}
+use Rattle.netlink_core.specs.Header.{IsTypedHeader, HasHeader, header_bytes}
 use Rattle.netlink_core.specs.Envelope.{Payload, done_with, error_with, no_payload, overrun_with, inner, Envelope, IsInnerType, PayloadIs, payload_bytes, payload_type, OfInner, finalized, payload_at, IdlePayloads, envelope_codec}
 use Rattle.netlink_core.specs.Codec.{Codec}
-use Rattle.netlink_core.proofs.Headers.{one_header}
-use Rattle.netlink_core.proofs.Framing.{framed_front, framed_payload, framed_type, payload_there, payload_typed}
+use Rattle.netlink_core.proofs.Headers.{header_stands, header_type, known_by_bytes, same_front}
+use Rattle.netlink_core.proofs.Framing.{payload_there, payload_typed}
 
 -- the type where one payload alone belongs to it, or 0 where an inner message does
 abbrev kind_under : ℕ → ℕ
@@ -81,11 +81,13 @@ module _ (C : Codec ℕ) where
       → (b c : List ℕ) (v w : Envelope C.Value) → IsBytes b → IsBytes c → (envelope_codec C).reads b tt v → (envelope_codec C).reads c tt w → OfInner C.fits v.payload → OfInner C.fits w.payload
       → (envelope_codec C).written v ≡ (envelope_codec C).written w → v ≡ w
   equal_where_alike law b c v w tb tc r s fv fw e =
-      let headers : v.header ≡ w.header = one_header v.header w.header r.1.2 s.1.2 (ap (take 16) e) in
-      let read : PayloadIs C.reads s.0 v.header.message_type w.payload = subst (λ (h : NetlinkHeader). PayloadIs C.reads s.0 h.message_type w.payload) (sym headers) s.2 in
-      let same : v.payload ≡ w.payload = payloads_alike C.reads C.written C.fits v.header.message_type r.0 s.0
-      (λ m n. law r.0 s.0 v.header.message_type m n (payload_typed b r.0 v.header tb r.1) (payload_typed c s.0 w.header tc s.1))
-      v.payload w.payload r.2 read fv fw (ap (drop 16) e) in
+      let headers : v.header ≡ w.header = known_by_bytes v.header w.header r.0.1 s.0.1 (ap (take 16) e) in
+      let x : List ℕ = take (v.header.length - 16) (drop 16 b) in
+      let y : List ℕ = take (w.header.length - 16) (drop 16 c) in
+      let read : PayloadIs C.reads y v.header.message_type w.payload = subst (λ (h : NetlinkHeader). PayloadIs C.reads y h.message_type w.payload) (sym headers) s.1 in
+      let same : v.payload ≡ w.payload = payloads_alike C.reads C.written C.fits v.header.message_type x y
+      (λ m n. law x y v.header.message_type m n (payload_typed v.header.length b tb) (payload_typed w.header.length c tc))
+      v.payload w.payload r.1 read fv fw (ap (drop 16) e) in
       λ z. record { header = headers z; payload = same z }
 
   -- messages are equal exactly where their strings are idle
@@ -93,25 +95,29 @@ module _ (C : Codec ℕ) where
       → (b c : List ℕ) (v w : Envelope C.Value) → IsBytes b → IsBytes c → (envelope_codec C).reads b tt v → (envelope_codec C).reads c tt w → ((v ≡ w) ↔ (envelope_codec C).idle tt b c)
   equal_where_idle law b c v w tb tc r s =
       let t : ℕ = v.header.message_type in
-      let read : v.header ≡ w.header → PayloadIs C.reads s.0 t w.payload = λ e. subst (λ (h : NetlinkHeader). PayloadIs C.reads s.0 h.message_type w.payload) (sym e) s.2 in
-      let payloads = λ (e : v.header ≡ w.header). payloads_idle C.reads C.idle t r.0 s.0 (λ m n. law r.0 s.0 t m n (payload_typed b r.0 v.header tb r.1) (payload_typed c s.0 w.header tc s.1)) v.payload w.payload r.2 (read e) in
-      let type_is : little_number 2 (drop 4 b) ≡ t = framed_type b r.0 v.header r.1 in
-      let there : IdlePayloads C.idle (little_number 2 (drop 4 b)) (payload_at b) (payload_at c) ≡ IdlePayloads C.idle t r.0 s.0 =
-      λ i. IdlePayloads C.idle (type_is i) (payload_there b r.0 v.header r.1 i) (payload_there c s.0 w.header s.1 i) in
-      let fronts = framed_front b r.0 v.header r.1 in
-      let others = framed_front c s.0 w.header s.1 in (
+      let x : List ℕ = take (v.header.length - 16) (drop 16 b) in
+      let y : List ℕ = take (w.header.length - 16) (drop 16 c) in
+      let read : v.header ≡ w.header → PayloadIs C.reads y t w.payload = λ e. subst (λ (h : NetlinkHeader). PayloadIs C.reads y h.message_type w.payload) (sym e) s.1 in
+      let payloads = λ (e : v.header ≡ w.header). payloads_idle C.reads C.idle t x y (λ m n. law x y t m n (payload_typed v.header.length b tb) (payload_typed w.header.length c tc)) v.payload w.payload r.1 (read e) in
+      let there : IdlePayloads C.idle (little_number 2 (drop 4 b)) (payload_at b) (payload_at c) ≡ IdlePayloads C.idle t x y =
+      λ i. IdlePayloads C.idle (header_type b v.header r.0 i) (payload_there b v.header r.0 i) (payload_there c w.header s.0 i) in
+      let fronts = same_front b c v.header w.header tb tc r.0 s.0 in (
         λ e.
             let headers : v.header ≡ w.header = ap (λ (m : Envelope C.Value). m.header) e in
-            (fronts ∙ ap header_bytes headers ∙ sym others, subst (λ (X : Type 0). X) (sym there) ((payloads headers).0 (ap (λ (m : Envelope C.Value). m.payload) e))),
+            (fronts.0 headers, subst (λ (X : Type 0). X) (sym there) ((payloads headers).0 (ap (λ (m : Envelope C.Value). m.payload) e))),
         λ idle_bytes.
-            let headers : v.header ≡ w.header = one_header v.header w.header r.1.2 s.1.2 (sym fronts ∙ idle_bytes.0 ∙ others) in
+            let headers : v.header ≡ w.header = fronts.1 idle_bytes.0 in
             let same : v.payload ≡ w.payload = (payloads headers).1 (subst (λ (X : Type 0). X) there idle_bytes.1) in
             λ z. record { header = headers z; payload = same z },
       )
 
-  -- the bytes of a finalized message are framed by its own header
-  pub finalized_frame : (type_of : C.Value → ℕ) (v : Envelope C.Value) → IsTypedHeader v.header → v.header ≡ finalized C.written type_of v → IsFramed ((envelope_codec C).written v) v.header (payload_bytes C.written v.payload)
-  finalized_frame type_of v typed done = ([], ap (λ (l : List ℕ). header_bytes v.header ++ l) (sym (append-nil (payload_bytes C.written v.payload))), typed, ap (λ (h : NetlinkHeader). h.length) done)
+  -- the bytes of a finalized message begin with its own header, and behind it its payload
+  finalized_stands : (type_of : C.Value → ℕ) (v : Envelope C.Value) → IsTypedHeader v.header → v.header ≡ finalized C.written type_of v
+      → HasHeader ((envelope_codec C).written v) v.header × (take (v.header.length - 16) (drop 16 ((envelope_codec C).written v)) ≡ payload_bytes C.written v.payload)
+  finalized_stands type_of v typed done =
+      let payload : List ℕ = payload_bytes C.written v.payload in
+      subst (λ (tail : List ℕ). HasHeader (header_bytes v.header ++ tail) v.header × (take (v.header.length - 16) (drop 16 (header_bytes v.header ++ tail)) ≡ payload)) (append-nil payload)
+      (header_stands v.header payload [] typed (ap (λ (h : NetlinkHeader). h.length) done))
 
   -- the bytes of a payload read back as it exactly where it is in normal form
   payload_itself : (type_of : C.Value → ℕ) (t : ℕ) (p : Payload C.Value) → t ≡ payload_type type_of p → OfInner (λ m. C.reads (C.written m) t m ↔ C.is_normal t m) p
@@ -127,11 +133,10 @@ module _ (C : Codec ℕ) where
       → OfInner (λ m. C.reads (C.written m) v.header.message_type m ↔ C.is_normal v.header.message_type m) v.payload
       → ((envelope_codec C).reads ((envelope_codec C).written v) tt v ↔ (envelope_codec C).is_normal tt v)
   reads_back_exactly type_of v typed done law =
-      let written = (envelope_codec C).written v in
-      let frame = finalized_frame type_of v typed done in
+      let stands = finalized_stands type_of v typed done in
       let itself = payload_itself type_of v.header.message_type v.payload (ap (λ (h : NetlinkHeader). h.message_type) done) law in (
-        λ r. itself.0 (subst (λ (x : List ℕ). PayloadIs C.reads x v.header.message_type v.payload) (sym (framed_payload written r.0 v.header r.1) ∙ framed_payload written (payload_bytes C.written v.payload) v.header frame) r.2),
-        λ n. (payload_bytes C.written v.payload, frame, itself.1 n),
+        λ r. itself.0 (subst (λ (x : List ℕ). PayloadIs C.reads x v.header.message_type v.payload) stands.1 r.1),
+        λ n. (stands.0, subst (λ (x : List ℕ). PayloadIs C.reads x v.header.message_type v.payload) (sym stands.1) (itself.1 n)),
       )
 
 -- what holds of typed inner messages that fit holds of the payload's

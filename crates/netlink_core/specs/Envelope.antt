@@ -2,7 +2,7 @@
 use Rattle.std.specs.Prelude.{◌≡◌, ℕ, ◌+◌, ◌-◌, ◌≤◌, ◌⊎◌, List, [], ◌++◌, length, take, drop, ⊤}
 use Rattle.byteorder.specs.Endian.{little_number}
 use Rattle.netlink_core.specs.declared.header.NetlinkHeader.{NetlinkHeader}
-use Rattle.netlink_core.specs.Header.{IsTypedHeader, header_bytes, IsFramed, IsEnvelopeFault}
+use Rattle.netlink_core.specs.Header.{IsTypedHeader, header_bytes, HasHeader, IsEnvelopeFault}
 use Rattle.netlink_core.specs.Codec.{Codec}
 
 -- what a message carries, without where it lies in memory
@@ -75,12 +75,12 @@ abbrev pub envelope_codec : Codec ℕ → Codec (Unit {0})
 envelope_codec C = record {
   Value = Envelope C.Value;
   is_typed = λ e. IsTypedHeader e.header × OfInner C.is_typed e.payload;
-  -- the bytes begin with its header and the payload that its length counts
-  reads = λ b p e. (payload : List ℕ) × IsFramed b e.header payload
-      × PayloadIs C.reads payload e.header.message_type e.payload;
-  -- no message is framed, or the framed one has an inner message that is refused
-  refuses = λ b p e. IsEnvelopeFault b e ⊎ ((h : NetlinkHeader) × (payload : List ℕ) × IsFramed b h payload
-      × IsInnerType h.message_type × C.refuses payload h.message_type e);
+  -- the bytes begin with its header, and with the payload that the header's length counts
+  reads = λ b p e. HasHeader b e.header
+      × PayloadIs C.reads (take (e.header.length - 16) (drop 16 b)) e.header.message_type e.payload;
+  -- they begin with no message, or with an inner message that is refused
+  refuses = λ b p e. IsEnvelopeFault b e ⊎ ((h : NetlinkHeader) × HasHeader b h × IsInnerType h.message_type
+      × C.refuses (take (h.length - 16) (drop 16 b)) h.message_type e);
   is_spare = λ e. ⊥;
   -- equal first sixteen bytes, and payloads that are idle by the type, the number at 4
   idle = λ p b c. (take 16 b ≡ take 16 c)

@@ -1,30 +1,31 @@
 -- The netlink header at the front of a message, and why none stands there.
-use Rattle.std.specs.Prelude.{◌≡◌, ℕ, ◌+◌, ◌^◌, ◌<◌, ◌≤◌, List, ◌++◌, length}
-use Rattle.byteorder.specs.Endian.{little_bytes, little_number}
+use Rattle.std.specs.Prelude.{◌≡◌, ℕ, ◌<◌, ◌≤◌, List, [], ◌∷◌, ◌++◌, length}
+use Rattle.byteorder.specs.Endian.{little_number}
+use Rattle.netlink_core.specs.Table.{Row, number, numbers, little_endian, values_of, bytes_of, Fit}
 use Rattle.netlink_core.specs.declared.fault.DecodeError.{DecodeError}
 use Rattle.netlink_core.specs.declared.fault.DecodeError.TheVariants.{EnvelopeCut, EnvelopeLengthUnder16, EnvelopeLengthPast}
 use Rattle.netlink_core.specs.declared.header.NetlinkHeader.{NetlinkHeader}
 
+-- the length at 0, the type at 4, the flags at 6, the sender's number at 8 and its port at 12
+abbrev pub header_rows : List Row
+header_rows = number 0 4 little_endian ∷ (numbers 4 2 little_endian 2 ++ numbers 8 4 little_endian 2)
+
+-- the five fields, in this order
+abbrev pub header_values : NetlinkHeader → List ℕ
+header_values h = h.length ∷ h.message_type ∷ h.flags ∷ h.sequence_number ∷ h.port_number ∷ []
+
 -- each field is within its type
 abbrev pub IsTypedHeader : NetlinkHeader → Type 0
-IsTypedHeader h = (h.length < 2 ^ 32) × (h.message_type < 2 ^ 16) × (h.flags < 2 ^ 16)
-    × (h.sequence_number < 2 ^ 32) × (h.port_number < 2 ^ 32)
+IsTypedHeader h = Fit header_rows (header_values h)
 
--- the five fields in 4, 2, 2, 4 and 4 bytes
+-- the bytes of the five fields
 abbrev pub header_bytes : NetlinkHeader → List ℕ
-header_bytes h =
-    little_bytes 4 h.length ++ little_bytes 2 h.message_type ++ little_bytes 2 h.flags
-    ++ little_bytes 4 h.sequence_number ++ little_bytes 4 h.port_number
+header_bytes h = bytes_of header_rows (header_values h)
 
--- The header stands at the front, its length counts itself and the payload, and what follows is
--- unread.
-abbrev pub IsFramed : List ℕ → NetlinkHeader → List ℕ → Type 0
-IsFramed bytes h payload = (rest : List ℕ) × (bytes ≡ header_bytes h ++ (payload ++ rest))
-    × IsTypedHeader h × (h.length ≡ 16 + length payload)
-
--- the bytes begin with the header and the payload that its length counts
+-- the header stands at the front, and its length counts itself and bytes that are there
 abbrev pub HasHeader : List ℕ → NetlinkHeader → Type 0
-HasHeader bytes h = (payload : List ℕ) × IsFramed bytes h payload
+HasHeader bytes h = (values_of header_rows bytes ≡ header_values h) × IsTypedHeader h
+    × (16 ≤ h.length) × (h.length ≤ length bytes)
 
 -- No message stands at the front of the bytes, and why. Of several faults it is the first.
 abbrev pub IsEnvelopeFault : List ℕ → DecodeError → Type 0

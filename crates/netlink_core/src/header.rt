@@ -1,6 +1,6 @@
 //! The header of a netlink message.
 
-ghost use Rattle.std.specs.Prelude.{◌≡◌, ◌≤◌, ◌++◌, length, drop, MatchResult};
+ghost use Rattle.std.specs.Prelude.{◌≡◌, length, MatchResult};
 ghost use Rattle.netlink_core.specs.Header.{HasHeader, IsEnvelopeFault, IsTypedHeader, header_bytes};
 
 use crate::fault::DecodeError;
@@ -69,25 +69,15 @@ impl NetlinkHeader {
         } = *self;
     }
 
-    // Writes the five fields at the front of the buffer, and leaves the rest.
-    pub(crate) fn write(&self, buffer: &mut [u8])
-        requires { 16 ≤ length buffer.old }
-        ensures { buffer.new ≡ header_bytes self.now ++ drop 16 buffer.old }
+    // Writes the five fields over sixteen bytes of any content.
+    pub(crate) fn write_row(&self, row: &mut [u8])
+        requires { length row.old ≡ 16 }
+        ensures { row.new ≡ header_bytes self.now }
     {
-        buffer[..NETLINK_HEADER_LEN].copy_from_slice(&self.to_bytes());
-    }
-
-    // The five fields.
-    fn to_bytes(&self) -> [u8; 16]
-        ensures value { result ≡ header_bytes self.now }
-        ensures size { length result ≡ 16 }
-    {
-        let mut bytes = [0; 16];
-        let (length, rest) = bytes.split_at_mut(4);
+        let (length, rest) = row.split_at_mut(4);
         let (kind, numbers) = rest.split_at_mut(4);
         LittleEndian::write_u32_into(&[self.length], length);
         LittleEndian::write_u16_into(&[self.message_type, self.flags], kind);
         LittleEndian::write_u32_into(&[self.sequence_number, self.port_number], numbers);
-        bytes
     }
 }

@@ -254,7 +254,7 @@ impl<I: NetlinkSerializable> NetlinkMessage<I> {
             ++ drop (length ((envelope_codec I.codec).written (envelope_of I.seen self.now))) buffer.old }
     {
         let (header, rest) = buffer.split_at_mut(NETLINK_HEADER_LEN);
-        self.header.write(header);
+        self.header.write_row(header);
         self.payload.serialize(rest);
     }
 }

@@ -12,7 +12,6 @@ use Rattle.netlink_core.specs.Header.{HasHeader, IsEnvelopeFault}
 use Rattle.netlink_core.specs.Datagram.{StartsWithMessage}
 use Rattle.netlink_core.specs.Envelope.{Payload, no_payload, inner, PayloadIs}
 use Rattle.netlink_core.specs.Items.{ItemIs, ItemsAre}
-use Rattle.netlink_core.proofs.Framing.{framed}
 use Rattle.netlink_core.proofs.Items.{Following, items_begin, items_go_on, items_with, no_items, fault_alone}
 use Rattle.netlink_packet_sock_diag.specs.declared.dump.DumpState.{DumpState}
 use Rattle.netlink_packet_sock_diag.specs.declared.dump.DumpState.TheVariants.{Reading}
@@ -38,7 +37,7 @@ module _ (C : Codec ℕ) where
 
   -- what a message carries, by its header
   pub carries : (message : List ℕ) (h : NetlinkHeader) (carried : Payload C.Value) → HasHeader message h → PayloadIs C.reads (take (h.length - 16) (drop 16 message)) h.message_type carried → ItemIs C message (Ok carried)
-  carries message h carried head is = (h, (take (h.length - 16) (drop 16 message), framed message h head, is))
+  carries message h carried head is = (h, (head, is))
 
   passes : (datagram rest next message : List ℕ) (before after : List C.Value) (item : Result (Payload C.Value) DecodeError) → end_of item ≡ None
       → Passing datagram rest before after → StartsWithMessage rest message next → ItemIs C message item → Passing datagram next before (after ++ kept item)

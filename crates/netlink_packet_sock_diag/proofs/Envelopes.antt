@@ -1,19 +1,19 @@
 -- Laws of netlink messages that carry messages of sock_diag(7).
 use Rattle.std.proofs.Common.{◌≡◌, ◌↔◌, inl, inr, ℕ, Bool, true, false, List, [], ◌∷◌, ◌++◌, refl, sym, subst, arith}
-use Rattle.std.proofs.lemmas.List.{append_assoc}
+use Rattle.std.proofs.lemmas.List.{append-nil}
 use Rattle.std.specs.Prelude.{IsTrue, count_by}
 use Rattle.netlink_core.specs.declared.fault.DecodeError.TheVariants.{UnknownMessageType}
 use Rattle.netlink_core.specs.declared.header.NetlinkHeader.{NetlinkHeader}
 use Rattle.netlink_core.specs.declared.message.NetlinkMessage.{NetlinkMessage}
 use Rattle.netlink_core.specs.declared.message.NetlinkPayload.{NetlinkPayload}
 use Rattle.netlink_core.specs.declared.message.NetlinkPayload.TheVariants.{InnerMessage}
-use Rattle.netlink_core.specs.Header.{IsTypedHeader, header_bytes}
+use Rattle.netlink_core.specs.Header.{IsTypedHeader}
 use Rattle.netlink_core.specs.Seen.{envelope_of, payload_of}
 use Rattle.netlink_packet_sock_diag.specs.SeenMessage.{seen_destroy}
 use Rattle.netlink_packet_sock_diag.specs.declared.message.SockDiagDestroy.{SockDiagDestroy}
 use Rattle.netlink_core.specs.Envelope.{Payload, done_with, error_with, no_payload, overrun_with, inner, Envelope, IsInnerType, OfInner, finalized, payload_type, envelope_codec}
 use Rattle.netlink_core.proofs.Equality.{apart, same_test}
-use Rattle.netlink_core.proofs.Idle.{finalized_frame}
+use Rattle.netlink_core.proofs.Headers.{header_stands}
 use Rattle.netlink_packet_sock_diag.specs.Message.{MessageKind, inet_request, inet_response, unix_request, unix_response, Message, message_kind, message_codec}
 use Rattle.netlink_packet_sock_diag.specs.MessageLaws.{length-message_bytes, type_told}
 
@@ -50,21 +50,21 @@ one_kind m tests tell =
     λ i kind. same_test (is_kind own kind) (tests kind) (kind_is own kind) (tell kind) i in
     subst (λ (test : MessageKind → Bool). count_by test Kinds ≡ 1) same (kind_counted own)
 
--- the message stands framed under the type 21, which no message is read under
-pub destroy_is_refused : (h : NetlinkHeader) (m : Message) → IsTypedHeader h → (envelope_codec message_codec).fits (record { header = h; payload = inner m })
-    → (envelope_codec message_codec).refuses ((envelope_codec message_codec).written (record { header = finalized message_codec.written (λ _. 21) (record { header = h; payload = inner m }); payload = inner m })) tt (UnknownMessageType 21)
-destroy_is_refused h m typed fits =
-    let own = finalized message_codec.written (λ _. 21) (record { header = h; payload = inner m }) in
-    let own-typed : IsTypedHeader own = (let whole = fits.1 in omega arith, omega arith, typed.2, typed.3, typed.4) in
-    inr (own, message_codec.written m, finalized_frame message_codec (λ _. 21) (record { header = own; payload = inner m }) own-typed refl, inr (omega arith), inl (type_told (message_codec.written m) 21 (length-message_bytes m) (λ is. omega (arith, is))))
-
--- and so it is with more bytes behind it
+-- the message stands under the type 21, which no message is read under, and so it does with more bytes behind it
 destroy_before_is_refused : (h : NetlinkHeader) (m : Message) (rest : List ℕ) → IsTypedHeader h → (envelope_codec message_codec).fits (record { header = h; payload = inner m })
     → (envelope_codec message_codec).refuses ((envelope_codec message_codec).written (record { header = finalized message_codec.written (λ _. 21) (record { header = h; payload = inner m }); payload = inner m }) ++ rest) tt (UnknownMessageType 21)
 destroy_before_is_refused h m rest typed fits =
     let own = finalized message_codec.written (λ _. 21) (record { header = h; payload = inner m }) in
-    let own-typed : IsTypedHeader own = (let whole = fits.1 in omega arith, omega arith, typed.2, typed.3, typed.4) in
-    inr (own, message_codec.written m, (rest, append_assoc (header_bytes own) (message_codec.written m) rest, own-typed, refl), inr (omega arith), inl (type_told (message_codec.written m) 21 (length-message_bytes m) (λ is. omega (arith, is))))
+    let own-typed : IsTypedHeader own = (let whole = fits.1 in omega arith, (omega arith, typed.1.1)) in
+    let stands = header_stands own (message_codec.written m) rest own-typed refl in
+    let refused : message_codec.refuses (message_codec.written m) 21 (UnknownMessageType 21) = inl (type_told (message_codec.written m) 21 (length-message_bytes m) (λ is. omega (arith, is))) in
+    inr (own, stands.0, inr (omega arith), subst (λ (x : List ℕ). message_codec.refuses x 21 (UnknownMessageType 21)) (sym stands.1) refused)
+
+pub destroy_is_refused : (h : NetlinkHeader) (m : Message) → IsTypedHeader h → (envelope_codec message_codec).fits (record { header = h; payload = inner m })
+    → (envelope_codec message_codec).refuses ((envelope_codec message_codec).written (record { header = finalized message_codec.written (λ _. 21) (record { header = h; payload = inner m }); payload = inner m })) tt (UnknownMessageType 21)
+destroy_is_refused h m typed fits =
+    let written = (envelope_codec message_codec).written (record { header = finalized message_codec.written (λ _. 21) (record { header = h; payload = inner m }); payload = inner m }) in
+    subst (λ (bytes : List ℕ). (envelope_codec message_codec).refuses bytes tt (UnknownMessageType 21)) (append-nil written) (destroy_before_is_refused h m [] typed fits)
 
 -- a message in hand that carries the request, its header finalized
 pub destroy_in_hand_is_refused : (message : NetlinkMessage SockDiagDestroy) (destroy : SockDiagDestroy) (rest : List ℕ) → message.payload ≡ InnerMessage destroy

@@ -1,5 +1,5 @@
 -- What is shown of netlink messages, which is all of them.
-use Rattle.std.proofs.Common.{◌≡◌, ◌↔◌, ℕ, ◌<◌, ◌^◌, List, decimal, refl, sym, ap, subst, arith}
+use Rattle.std.proofs.Common.{◌≡◌, ◌↔◌, ℕ, ◌-◌, ◌<◌, ◌^◌, List, take, drop, decimal, refl, sym, ap, subst, arith}
 use Rattle.std.proofs.lemmas.Fmt.{decimal_injective}
 use Rattle.netlink_core.specs.Bytes.{IsBytes}
 use Rattle.netlink_core.specs.Envelope.{Payload, done_with, error_with, no_payload, overrun_with, inner, Envelope, PayloadIs, payload_bytes, envelope_codec}
@@ -41,16 +41,18 @@ equal_idle b c v w hb hc r s =
 -- messages of which the same is shown are equal
 same_shown : (b c : List ℕ) (v w : Envelope Message) → IsBytes b → IsBytes c → (envelope_codec message_codec).reads b tt v → (envelope_codec message_codec).reads c tt w
     → (envelope_codec message_codec).fits v → (envelope_codec message_codec).fits w → shown_envelope v ≡ shown_envelope w → v ≡ w
-same_shown b c v w hb hc (x, framed, r) (y, other, s) f g e =
-    let h = framed.2 in
-    let k = other.2 in
+same_shown b c v w hb hc (head, r) (other, s) f g e =
+    let h = head.1 in
+    let k = other.1 in
     let lengths = word-same v.header.length w.header.length _ _ h.0 k.0 e in
-    let types = word-same v.header.message_type w.header.message_type _ _ (omega (arith, h.1)) (omega (arith, k.1)) lengths.1 in
-    let flags = word-same v.header.flags w.header.flags _ _ (omega (arith, h.2)) (omega (arith, k.2)) types.1 in
-    let sequences = word-same v.header.sequence_number w.header.sequence_number _ _ h.3 k.3 flags.1 in
-    let ports = word-same v.header.port_number w.header.port_number _ _ h.4 k.4 sequences.1 in
-    let hx = payload_typed b x v.header hb framed in
-    let hy = payload_typed c y w.header hc other in
+    let types = word-same v.header.message_type w.header.message_type _ _ (omega (arith, h.1.0)) (omega (arith, k.1.0)) lengths.1 in
+    let flags = word-same v.header.flags w.header.flags _ _ (omega (arith, h.1.1.0)) (omega (arith, k.1.1.0)) types.1 in
+    let sequences = word-same v.header.sequence_number w.header.sequence_number _ _ h.1.1.1.0 k.1.1.1.0 flags.1 in
+    let ports = word-same v.header.port_number w.header.port_number _ _ h.1.1.1.1.0 k.1.1.1.1.0 sequences.1 in
+    let x : List ℕ = take (v.header.length - 16) (drop 16 b) in
+    let y : List ℕ = take (w.header.length - 16) (drop 16 c) in
+    let hx = payload_typed v.header.length b hb in
+    let hy = payload_typed w.header.length c hc in
     let p = payload_written v.header.message_type x v.payload hx r in
     let q = payload_written w.header.message_type y w.payload hy s in
     let written = field_of-same (payload_bytes message_codec.written v.payload) (payload_bytes message_codec.written w.payload) p q ports.1 in

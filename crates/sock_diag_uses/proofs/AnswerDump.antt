@@ -63,7 +63,7 @@ abbrev envelope_under : ℕ → Payload Message → Envelope Message
 envelope_under n payload = record { header = header_under n payload; payload = payload }
 
 typed_header : (n : ℕ) (payload : Payload Message) → n < 2 ^ 32 → 16 + length (payload_bytes message_codec.written payload) ≤ 4294967295 → payload_type (λ _. 20) payload < 2 ^ 16 → IsTypedHeader (header_under n payload)
-typed_header n carried small short kind = (omega arith, kind, omega arith, small, omega arith)
+typed_header n carried small short kind = (omega arith, (kind, (omega arith, (small, (omega arith, tt)))))
 
 -- it is as long as its length word says
 whole_message : (n : ℕ) (payload : Payload Message) → 16 + length (payload_bytes message_codec.written payload) ≤ 4294967295 → IsMessageString (message_under n payload)
@@ -119,7 +119,7 @@ pub whole_dump : ((v : Envelope Message) → (envelope_codec message_codec).is_t
     → (request : List ℕ) (replies : List UnixReply) (datagram : List ℕ) → IsAnswer request replies datagram → AllByRecursion CanBeTold replies → IsWholeDump datagram replies
 whole_dump reads_back even in_a_row request replies datagram answer told =
     let n = answer.header.sequence_number in
-    let small = answer.framed.1.2.3 in
+    let small = answer.framed.1.1.1.1.0 in
     let ends = one_item (end_under n) (Ok (done_with (0 ∷ 0 ∷ 0 ∷ 0 ∷ []))) (carries_end reads_back n small) in
     let items = map (λ (r : UnixReply). Ok (inner (message_of unix_response r))) replies ++ (Ok (done_with (0 ∷ 0 ∷ 0 ∷ 0 ∷ [])) ∷ []) in
     let all = items_of_all in_a_row (reply_under n) (λ r. Ok (inner (message_of unix_response r))) (end_under n) (Ok (done_with (0 ∷ 0 ∷ 0 ∷ 0 ∷ [])) ∷ []) replies (carries_all reads_back even n small replies told) ends in

@@ -5,12 +5,10 @@ use Rattle.netlink_core.specs.Attribute.{Attribute, Cut, StartsWith, fill}
 use Rattle.netlink_core.specs.Datagram.{StartsWithMessage}
 use Rattle.netlink_core.specs.declared.header.NetlinkHeader.{NetlinkHeader}
 use Rattle.netlink_core.specs.Envelope.{done_with, error_with, no_payload, overrun_with}
-use Rattle.netlink_core.specs.Header.{HasHeader, IsFramed}
+use Rattle.netlink_core.specs.Header.{HasHeader}
 use Rattle.netlink_core.specs.FrontLaws.{head_or_fault_apart}
 use Rattle.netlink_core.proofs.Cutting.{one_start}
 use Rattle.netlink_core.proofs.Datagrams.{starts_with_message}
-use Rattle.netlink_core.proofs.Framing.{framed}
-use Rattle.netlink_core.proofs.Headers.{framed_bounds}
 use Rattle.netlink_core.proofs.Front.{starts_with}
 use Rattle.netlink_core.proofs.Walking.{StartsWith-some, head_of_start}
 use Rattle.sockdiag_c.specs.declared.walks.AttributePart.{AttributePart}
@@ -51,17 +49,13 @@ payload_told bytes place h = ap (take (h.length - 16)) (drop-drop 16 place bytes
 -- the header that is told is the one that was read
 header_told : (bytes : List ℕ) (place : ℕ) (h : NetlinkHeader) → HasHeader bytes h → h ≡ header_in (part_of place h)
 header_told bytes place h head =
-    let low : 16 ≤ h.length = (framed_bounds bytes head.0 h head.1).0 in
+    let low : 16 ≤ h.length = head.2 in
     let all : h.length ≡ 16 + (h.length - 16) = omega arith in
     λ i. record h { length = all i }
 
--- the message at a place is framed by the header that is told
-pub message_framed : (bytes : List ℕ) (place : ℕ) (h : NetlinkHeader) → HasHeader (drop place bytes) h
-    → IsFramed (drop place bytes) (header_in (part_of place h)) (payload_in bytes (part_of place h))
-message_framed bytes place h head =
-    subst (λ (x : List ℕ). IsFramed (drop place bytes) (header_in (part_of place h)) x) (payload_told bytes place h)
-    (subst (λ (k : NetlinkHeader). IsFramed (drop place bytes) k (take (h.length - 16) (drop 16 (drop place bytes)))) (header_told (drop place bytes) place h head)
-    (framed (drop place bytes) h head))
+-- the header that is told stands at a place
+pub told_header_stands : (bytes : List ℕ) (place : ℕ) (h : NetlinkHeader) → HasHeader bytes h → HasHeader bytes (header_in (part_of place h))
+told_header_stands bytes place h head = subst (λ (k : NetlinkHeader). HasHeader bytes k) (header_told bytes place h head) head
 
 -- a step over a message, to the place behind its padding
 pub message_passed : (bytes : List ℕ) (place end : ℕ) (h : NetlinkHeader) → HasHeader (drop place bytes) h → end ≡ h.length + fill h.length

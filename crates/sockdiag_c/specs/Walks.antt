@@ -6,7 +6,7 @@ use Rattle.netlink_core.specs.declared.fault.DecodeError.{DecodeError}
 use Rattle.netlink_core.specs.declared.header.NetlinkHeader.{NetlinkHeader}
 use Rattle.netlink_core.specs.Envelope.{IsInnerType, Payload, PayloadIs}
 use Rattle.netlink_core.specs.Faults.{number_of}
-use Rattle.netlink_core.specs.Header.{IsEnvelopeFault, IsFramed}
+use Rattle.netlink_core.specs.Header.{HasHeader, IsEnvelopeFault}
 use Rattle.netlink_packet_sock_diag.specs.Message.{Message, message_codec}
 use Rattle.sockdiag_c.specs.declared.walks.AttributePart.{AttributePart}
 use Rattle.sockdiag_c.specs.declared.walks.Cursor.{Cursor}
@@ -67,7 +67,7 @@ Carries payload t answer =
 abbrev pub IsTold : List ℕ → Cursor → Cursor → MessagePart → ℕ → Type 0
 IsTold bytes old new now answer =
     (message : List ℕ) × StartsWithMessage (left_of bytes old) message (left_of bytes new)
-    × IsFramed (left_of bytes old) (header_in now) (payload_in bytes now) × (now.offset ≡ old.place + 16) × Carries (payload_in bytes now) now.message_type answer
+    × HasHeader (left_of bytes old) (header_in now) × (now.offset ≡ old.place + 16) × Carries (payload_in bytes now) now.message_type answer
 
 -- A message is told, or the walk ends, or fails.
 abbrev pub NextMessage : List ℕ → Cursor → Cursor → MessagePart → MessagePart → ℕ → Type 0

@@ -2,7 +2,7 @@ use Rattle.std.proofs.Common.{◌≡◌, ◌∙◌, ℕ, ◌-◌, inl, inr, List
 use Rattle.std.proofs.lemmas.List.{take_rest}
 use Rattle.netlink_core.specs.Header.{HasHeader}
 use Rattle.sockdiag_c.specs.Walks.{Carries, payload_in}
-use Rattle.sockdiag_c.proofs.Steps.{message_framed, message_passed, part_of, payload_told}
+use Rattle.sockdiag_c.proofs.Steps.{told_header_stands, message_passed, part_of, payload_told}
 use Rattle.sockdiag_c.proofs.walks.sockdiag_next_message.Goals as goal
 
 pub returns-in-Ok : goal.returns-in-Ok
@@ -15,4 +15,4 @@ returns-in-Ok c =
     let told = ap (λ (b : List ℕ). take (h.length - 16) (drop 16 b)) all ∙ payload_told bytes place h in
     let carried : Carries (payload_in bytes (part_of place h)) h.message_type c.check_payload.result =
     subst (λ (x : List ℕ). Carries x h.message_type c.check_payload.result) told c.check_payload.ensures in
-    inr (inl (take h.length (drop place bytes), message_passed bytes place c.padded.result h head c.padded.ensures, message_framed bytes place h head, refl, carried))
+    inr (inl (take h.length (drop place bytes), message_passed bytes place c.padded.result h head c.padded.ensures, told_header_stands (drop place bytes) place h head, refl, carried))
