@@ -1,5 +1,6 @@
 -- A message: its header, and its payload by its type.
-use Rattle.std.specs.Prelude.{◌≡◌, ℕ, ◌+◌, ◌-◌, ◌≤◌, ◌⊎◌, List, [], ◌++◌, length, take, drop, ⊤}
+use Rattle.std.specs.Prelude.{◌≡◌, ℕ, ℤ, ◌+◌, ◌-◌, ◌≤◌, ◌⊎◌, List, [], ◌++◌, length, take, drop, ⊤, nat_lt, if◌then◌else◌, Option, None, Some}
+use Rattle.std.specs.Int.{cast_signed, w32}
 use Rattle.byteorder.specs.Endian.{little_number}
 use Rattle.netlink_core.specs.declared.header.NetlinkHeader.{NetlinkHeader}
 use Rattle.netlink_core.specs.Header.{IsTypedHeader, header_bytes, HasHeader, IsEnvelopeFault}
@@ -51,6 +52,17 @@ payload_type type_of (inner value) = type_of value
 abbrev pub OfInner : {A : Type 0} → (A → Type 0) → Payload A → Type 0
 OfInner is (inner value) = is value
 OfInner is _ = ⊤
+
+-- the number of errno(3), with its sign, that an error or an end begins with: none where there are
+-- fewer than four bytes
+abbrev pub number_in_front : List ℕ → Option ℤ
+number_in_front given = if nat_lt (length given) 4 then None else Some (cast_signed w32 (little_number 4 given))
+
+-- that of a payload
+abbrev pub error_number_of : {A : Type 0} → Payload A → Option ℤ
+error_number_of (error_with given) = number_in_front given
+error_number_of (done_with given) = number_in_front given
+error_number_of _ = None
 
 -- the header with the message's own length and type, and else as it was
 abbrev pub finalized : {A : Type 0} → (A → List ℕ) → (A → ℕ) → Envelope A → NetlinkHeader

@@ -25,7 +25,7 @@ pub use crate::fault::{DecodeError, RecordName};
 pub use crate::header::{NETLINK_HEADER_LEN, NetlinkHeader};
 pub use crate::message::{
     NLM_F_DUMP, NLM_F_REQUEST, NLMSG_DONE, NLMSG_ERROR, NLMSG_NOOP, NLMSG_OVERRUN,
-    NetlinkDeserializable, NetlinkMessage, NetlinkPayload, NetlinkSerializable,
+    NetlinkDeserializable, NetlinkMessage, NetlinkPayload, NetlinkSerializable, error_number,
 };
 pub use crate::nla::{
     DefaultNla, Nla, WireNla, copy_list, emit_nla, emit_nlas, nla_len, nlas_len, nlas_len_within,

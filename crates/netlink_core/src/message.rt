@@ -3,12 +3,13 @@
 ghost use Rattle.std.specs.Prelude.{◌≡◌, ◌≢◌, ◌≤◌, ◌<◌, ◌++◌, ◌↔◌, length, drop, IfOk, IfErr, IsTrue};
 ghost use Rattle.byteorder.specs.Endian.{little_number};
 ghost use Rattle.netlink_core.specs.declared.fault.DecodeError.TheVariants.{Memory};
-ghost use Rattle.netlink_core.specs.Envelope.{Payload, Envelope, PayloadIs, IsInnerType, payload_bytes, payload_type, OfInner, finalized, envelope_codec};
+ghost use Rattle.netlink_core.specs.Envelope.{Payload, Envelope, number_in_front, error_number_of, PayloadIs, IsInnerType, payload_bytes, payload_type, OfInner, finalized, envelope_codec};
 ghost use Rattle.netlink_core.specs.Seen.{payload_of, envelope_of};
 
 use crate::fault::DecodeError;
 use crate::header::{NETLINK_HEADER_LEN, NetlinkHeader};
 use crate::wire::Coded;
+use byteorder::{ByteOrder, LittleEndian};
 use std::alloc::Global;
 
 /// The type of a message that says nothing, `NLMSG_NOOP` in netlink(7).
@@ -81,6 +82,31 @@ pub enum NetlinkPayload<I> {
     Overrun(Vec<u8>),
     /// A message of the protocol.
     InnerMessage(I),
+}
+
+/// The number that the payload of `NLMSG_ERROR` or `NLMSG_DONE` begins with: 0 for an
+/// acknowledgement or a dump that went well, else `-errno` (errno(3)). `None` where there are fewer
+/// than four bytes.
+pub fn error_number(payload: &[u8]) -> Option<i32>
+    ensures { result ≡ number_in_front payload.now }
+{
+    if payload.len() < 4 {
+        return None;
+    }
+    Some(LittleEndian::read_i32(payload))
+}
+
+impl<I: Coded> NetlinkPayload<I> {
+    /// The number that an error or an end tells, as [`error_number`] reads it, and `None` of any
+    /// other payload.
+    pub fn error_number(&self) -> Option<i32>
+        ensures { result ≡ error_number_of (payload_of I.seen self.now) }
+    {
+        match self {
+            NetlinkPayload::Done(bytes) | NetlinkPayload::Error(bytes) => error_number(bytes),
+            _ => None,
+        }
+    }
 }
 
 impl<I: NetlinkSerializable> NetlinkPayload<I> {

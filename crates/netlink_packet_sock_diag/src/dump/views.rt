@@ -7,7 +7,7 @@ ghost use Rattle.netlink_packet_sock_diag.specs.Message.{message_codec};
 use crate::message::SockDiagView;
 use netlink_core::{
     DecodeError, MessageStrings, NETLINK_HEADER_LEN, NLMSG_DONE, NLMSG_ERROR, NLMSG_NOOP,
-    NLMSG_OVERRUN, NetlinkHeader,
+    NLMSG_OVERRUN, NetlinkHeader, error_number,
 };
 
 /// What a message carries, read in place: a [`netlink_core::NetlinkPayload`] whose bytes are borrowed.
@@ -26,7 +26,19 @@ pub enum PayloadView<'a> {
 }
 
 impl<'a> PayloadView<'a> {
-    ghost use Rattle.netlink_packet_sock_diag.specs.ViewedPayload.{viewed_item};
+    ghost use Rattle.netlink_core.specs.Envelope.{error_number_of};
+    ghost use Rattle.netlink_packet_sock_diag.specs.ViewedPayload.{viewed_item, viewed_payload};
+
+    /// The number that an error or an end tells, as [`error_number`] reads it, and `None` of any
+    /// other payload.
+    pub fn error_number(&self) -> Option<i32>
+        ensures { result ≡ error_number_of (viewed_payload self.now) }
+    {
+        match self {
+            PayloadView::Done(bytes) | PayloadView::Error(bytes) => error_number(bytes),
+            _ => None,
+        }
+    }
 
     // What the message in these bytes carries, or the first fault.
     #[inline(always)]
