@@ -10,5 +10,3 @@ pub mod DumpLaws
 pub mod AnswerLemmas
 pub mod FieldLists
 pub mod ViewLemmas
-pub mod LinesLemmas
-pub mod RunLemmas

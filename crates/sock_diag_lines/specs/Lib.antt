@@ -1,4 +1,3 @@
-pub mod Lines
 pub mod HexField
 pub mod Told
 pub mod TextSteps
@@ -9,5 +8,4 @@ pub mod DumpLine
 pub mod Answer
 pub mod ReadDumpSteps
 pub mod AskedSteps
-pub mod Run
 pub mod RunSteps

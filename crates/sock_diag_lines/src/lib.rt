@@ -7,24 +7,24 @@ ghost use Rattle.std.specs.Prelude.{IfSome, IfErr, IsOk, IsErr};
 ghost use Rattle.std.specs.Process.{exit_status};
 ghost use Rattle.std.specs.Io.KnownBytes.{Appends, IsAtEnd, Keeps};
 ghost use Rattle.sock_diag_lines.specs.Answer.{IsAnswerOf};
-ghost use Rattle.sock_diag_lines.specs.Lines.{Splits, with_rest};
-ghost use Rattle.sock_diag_lines.specs.Run.{Answers, answer_lines};
-ghost use Rattle.sock_diag_lines.specs.declared.stream.RunError.{RunError};
+ghost use Rattle.line_server.specs.Lines.{Splits, with_rest};
+ghost use Rattle.line_server.specs.Run.{Answers, answer_lines};
+ghost use Rattle.line_server.specs.declared.stream.RunError.{RunError};
 
 mod answers;
 mod dump_line;
 mod fields;
-mod prompt;
 mod stream;
 mod view_line;
 mod words;
 
 pub use answers::answer;
+pub use line_server::RunError;
 use std::alloc::Global;
 use std::io::{Read, Write};
 use std::process::ExitCode;
+pub use stream::run;
 use stream::tell;
-pub use stream::{RunError, run};
 
 /// `run`, which tells on `errors` in one line why it failed. The status is 0 where it came to the
 /// end of its input, and 1 where it failed.

@@ -1,0 +1,39 @@
+-- What a run has read and written when it ends.
+use Rattle.std.specs.Prelude.{ℕ, List, [], ◌∷◌, ◌++◌, take, Option, Result, Ok, Err}
+use Rattle.std.specs.List.{flat_map}
+use Rattle.std.specs.Io.KnownBytes.{Appends, Consumes}
+use Rattle.line_server.specs.Lines.{Splits, with_rest}
+use Rattle.line_server.specs.declared.stream.RunError.{RunError}
+use Rattle.line_server.specs.declared.stream.RunError.TheVariants.{Read, Write, Memory}
+
+-- the answer lines of some lines, in order
+abbrev pub answer_lines : (List ℕ → List ℕ) → List (List ℕ) → List ℕ
+answer_lines answer lines = flat_map (λ line. answer line ++ 10 ∷ []) lines
+
+-- Of a run: what answers each line, and the bytes that are left to read and held as written, before
+-- and after it, where they are known.
+module _ (answer : List ℕ → List ℕ) (left left' held held' : Option (List ℕ)) where
+  -- a text of these whole lines and this rest was read, and this was written
+  pub record Exchange (whole : List (List ℕ)) (rest written : List ℕ) : Type 0 where
+    pub text : List ℕ
+    pub read : Consumes left left' text
+    pub splits : Splits text whole rest
+    pub appended : Appends held held' written
+
+  -- What is written when a run ends so: the answers to all lines; where a read failed, those to the
+  -- whole lines; where memory ran out, those to some first whole lines; and where a write failed, a
+  -- beginning of those to all lines.
+  abbrev pub Ended : Result Unit RunError → List (List ℕ) → List ℕ → Type 0
+  Ended (Ok done) whole rest = Exchange whole rest (answer_lines answer (with_rest whole rest))
+  Ended (Err Read) whole rest = Exchange whole rest (answer_lines answer whole)
+  Ended (Err Memory) whole rest = (k : ℕ) × Exchange whole rest (answer_lines answer (take k whole))
+  Ended (Err Write) whole rest =
+      (k : ℕ) × Exchange whole rest (take k (answer_lines answer (with_rest whole rest)))
+
+  -- what was read and what was written belong together as a run ends so
+  abbrev pub Answers : Result Unit RunError → Type 0
+  Answers result = (whole : List (List ℕ)) × (rest : List ℕ) × Ended result whole rest
+
+  -- the answers to all whole lines that were read are written, and `line` is what follows these
+  abbrev pub CaughtUp : List ℕ → Type 0
+  CaughtUp line = (whole : List (List ℕ)) × Exchange whole line (answer_lines answer whole)

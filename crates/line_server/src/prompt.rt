@@ -1,0 +1,121 @@
+//! The one way in which a run reads, and the one in which it writes.
+
+ghost use Rattle.std.specs.Prelude.{◌≡◌, ◌==◌, ◌<◌, ◌≤◌, ◌+◌, if◌then◌else◌, ℕ, List, Option};
+ghost use Rattle.std.specs.Prelude.{length, IfOk, IfErr, MatchResult, ⊤};
+ghost use Rattle.std.specs.Io.KnownBytes.{Keeps, ReadConsumes, WriteAppends};
+ghost use Rattle.std.specs.Io.{ReadsAtMost};
+ghost use Rattle.line_server.specs.Run.{CaughtUp};
+
+use crate::stream::{RunError, Start};
+use std::io;
+use std::io::{Read, Write};
+
+/// What can be read only where the answers to all whole lines that were read stand on the output. Who has
+/// no other bound than this one on a reader can read in no other way, and can't say that a read failed where
+/// none did.
+pub trait PromptRead {
+    // The bytes that are left, where they are known.
+    ghost left: { Self → Option (List ℕ) };
+
+    // So many reads were made.
+    ghost reads: { Self → ℕ → Type 0 };
+
+    // A read failed.
+    ghost failed: { Self → Type 0 };
+
+    /// Reads once.
+    fn read_prompt<S: Start, W: AnswerWrite>(
+        &mut self,
+        output: &W,
+        line: &[u8],
+        piece: &mut [u8],
+    ) -> Result<usize, RunError>
+        requires { CaughtUp S.answer S.remaining (left self.old) S.contents (W.held output.now) line.now }
+        ensures bound { ReadsAtMost result piece.new }
+        ensures bytes { ReadConsumes (left self.old) (left self.new) result piece.new }
+        ensures counted { (n : ℕ) → reads self.old n → reads self.new (n + 1) }
+        ensures cause { IfErr result (λ e. (e ≡ RunError.Read) × failed self.new) };
+}
+
+impl<R: Read> PromptRead for R {
+    ghost left = { λ r. R.remaining r };
+
+    ghost reads = { λ _ _. ⊤ };
+
+    ghost failed = { λ _. ⊤ };
+
+    fn read_prompt<S: Start, W: AnswerWrite>(
+        &mut self,
+        _output: &W,
+        _line: &[u8],
+        piece: &mut [u8],
+    ) -> Result<usize, RunError> {
+        read_outcome(self.read(piece))
+    }
+}
+
+/// What a read came to. It failed where the call did.
+fn read_outcome(outcome: io::Result<usize>) -> Result<usize, RunError>
+    ensures { MatchResult outcome (λ n. result ≡ Ok n) (λ _. result ≡ Err RunError.Read) }
+{
+    match outcome {
+        Ok(count) => Ok(count),
+        Err(_) => Err(RunError::Read),
+    }
+}
+
+/// What answers are written on. Who has no other bound than this one on a writer can't say that a write failed
+/// where none did.
+pub trait AnswerWrite {
+    // The bytes that it holds, where they are known.
+    ghost held: { Self → Option (List ℕ) };
+
+    // A write failed or took no bytes, or a flush failed.
+    ghost failed: { Self → Type 0 };
+
+    /// Writes once. To take no bytes is to fail.
+    fn write_some(&mut self, bytes: &[u8]) -> Result<usize, RunError>
+        ensures some { IfOk result (λ n. (0 < n) × (n ≤ length bytes.now)) }
+        ensures bytes { WriteAppends (held self.old) (held self.new) result bytes.now }
+        ensures cause { IfErr result (λ e. (e ≡ RunError.Write) × failed self.new) };
+
+    /// Flushes once.
+    fn flush_answers(&mut self) -> Result<(), RunError>
+        ensures bytes { Keeps (held self.old) (held self.new) }
+        ensures cause { IfErr result (λ e. (e ≡ RunError.Write) × failed self.new) };
+}
+
+impl<W: Write> AnswerWrite for W {
+    ghost held = { λ w. W.contents w };
+
+    ghost failed = { λ _. ⊤ };
+
+    fn write_some(&mut self, bytes: &[u8]) -> Result<usize, RunError> {
+        write_outcome(self.write(bytes))
+    }
+
+    fn flush_answers(&mut self) -> Result<(), RunError> {
+        flush_outcome(self.flush())
+    }
+}
+
+/// What a write came to. It failed where the call did, or took no bytes.
+fn write_outcome(outcome: io::Result<usize>) -> Result<usize, RunError>
+    ensures { MatchResult outcome (λ n. result ≡ (if n == 0 then Err RunError.Write else Ok n))
+        (λ _. result ≡ Err RunError.Write) }
+{
+    match outcome {
+        Ok(0) | Err(_) => Err(RunError::Write),
+        Ok(count) => Ok(count),
+    }
+}
+
+/// What a flush came to. It failed where the call did.
+fn flush_outcome(outcome: io::Result<()>) -> Result<(), RunError>
+    ensures { MatchResult outcome (λ _. result ≡ Ok tt) (λ _. result ≡ Err RunError.Write) }
+{
+    match outcome {
+        Ok(()) => Ok(()),
+        Err(_) => Err(RunError::Write),
+    }
+}

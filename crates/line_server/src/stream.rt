@@ -1,0 +1,283 @@
+//! Answers the lines of a reader on a writer.
+ghost use Rattle.std.specs.Prelude.{◌≡◌, ◌⊎◌, ◌-◌, ◌^◌, ◌≤◌, ℕ, List, [], ◌++◌, OnOk, OnErr, IfOk, IfErr, Option, None, vec_capacity};
+ghost use Rattle.std.specs.Io.KnownBytes.{Appends, IsAtEnd};
+ghost use Rattle.line_server.specs.Lines.{with_rest};
+ghost use Rattle.line_server.specs.Run.{Answers, answer_lines};
+ghost use Rattle.line_server.specs.RunSteps.{AnswersPiece, IsLine, Writes, fed};
+ghost use Rattle.line_server.specs.declared.stream.RunError.TheVariants.{Memory};
+
+use crate::prompt::{AnswerWrite, PromptRead};
+use memchr::memchr;
+use std::alloc::{AllocError, AllocFailed, Global};
+use std::marker::Brand;
+use thiserror::Error;
+
+/// Why a run ended before the end of its input.
+#[derive(Clone, Copy, Debug, PartialEq, Eq, Error)]
+pub enum RunError {
+    /// A read failed, or the end did not come within 2^64 - 1 reads.
+    #[error("reading failed")]
+    Read,
+    /// A write or the last flush failed, or a write took no bytes.
+    #[error("writing failed")]
+    Write,
+    /// Memory ran out.
+    #[error("out of memory")]
+    Memory,
+}
+
+impl From<AllocError> for RunError {
+    ghost from_gives = { λ _ e. e ≡ Memory };
+
+    fn from(_e: AllocError) -> RunError {
+        RunError::Memory
+    }
+}
+
+impl<T: Drop> From<AllocFailed<T>> for RunError {
+    ghost from_gives = { λ _ e. e ≡ Memory };
+
+    fn from(_e: AllocFailed<T>) -> RunError {
+        RunError::Memory
+    }
+}
+
+/// How many bytes a read asks for. An answer line is at most nine times as long as its line and the line feed,
+/// so what is gathered before a write is at most 72 KiB and the answer to one line that began earlier.
+const CHUNK: usize = 8192;
+
+/// How many bytes of memory a room keeps from line to line.
+const KEPT: usize = 131072;
+
+/// What a reader and a writer told when a run began, and the answer to each line.
+pub trait Start {
+    // What was left to read, where it is known.
+    ghost remaining: { Option (List ℕ) };
+
+    // What was held as written, where it is known.
+    ghost contents: { Option (List ℕ) };
+
+    // The answer to each line.
+    ghost answer: { List ℕ → List ℕ };
+}
+
+/// What answers lines.
+pub trait LineAnswers {
+    /// What a line asks for, beside bytes.
+    type Asked: Drop;
+
+    // The text answers the line.
+    ghost answers: { List ℕ → List ℕ → Type 0 };
+
+    // The line asks for this, about these bytes.
+    ghost asks: { List ℕ → Self.Asked → List ℕ → Type 0 };
+
+    /// What a line asks for. The bytes that it is about are put in place of what `bytes` held.
+    fn read_request(
+        alloc: Global,
+        bytes: &mut Vec<u8>,
+        line: &[u8],
+    ) -> Result<Self::Asked, AllocError>
+        ensures { IfOk result (λ asked. asks line.now asked bytes.new.items) };
+
+    /// Adds the answer to the text. Where memory runs out the text may have a part of it.
+    fn push_answer(
+        alloc: Global,
+        text: &mut Vec<u8>,
+        asked: Self::Asked,
+        bytes: &[u8],
+    ) -> Result<(), AllocError>
+        ensures { OnOk result ((line answer : List ℕ) → asks line asked bytes.now
+            → answers line answer → text.new.items ≡ text.old.items ++ answer) };
+}
+
+impl Start for Brand {
+    ghost remaining = { None };
+
+    ghost contents = { None };
+
+    ghost answer = { λ line. line };
+}
+
+/// What a run keeps from line to line, so that it takes memory only where a line is longer than those
+/// before.
+#[derive(Drop)]
+struct Kept {
+    /// The bytes since the last line feed.
+    line: Vec<u8>,
+    /// Room for the bytes of a field.
+    bytes: Vec<u8>,
+    /// The answer lines that are not written yet.
+    answers: Vec<u8>,
+}
+
+/// Writes the answer line of each line of `input`, and flushes. Before each read, the answers to
+/// all whole lines that were read stand on `output`. No call that failed is made again.
+pub fn serve<S: Start, A: LineAnswers, R: PromptRead, W: AnswerWrite>(
+    alloc: Global,
+    input: &mut R,
+    output: &mut W,
+) -> Result<(), RunError>
+    requires start { (S.remaining ≡ R.left input.old) × (S.contents ≡ W.held output.old) × R.reads input.old 0 }
+    requires right { (line : List ℕ) → A.answers line (S.answer line) }
+    ensures ended { OnOk result (IsAtEnd (R.left input.new)) }
+    ensures answered { Answers S.answer S.remaining (R.left input.new) S.contents (W.held output.new) result }
+    ensures read_cause { IfErr result (λ e. e ≡ RunError.Read
+        → R.failed input.new ⊎ R.reads input.new (2 ^ 64 - 1)) }
+    ensures write_cause { IfErr result (λ e. e ≡ RunError.Write → W.failed output.new) }
+{
+    let mut kept = Kept {
+        line: Vec::new(alloc),
+        bytes: Vec::new(alloc),
+        answers: Vec::new(alloc),
+    };
+    let mut chunk = [0u8; CHUNK];
+    'reads: for _made in 0..u64::MAX {
+        let count = input.read_prompt::<S, W>(output, kept.line.as_slice(), &mut chunk)?;
+        if count == 0 {
+            return finish::<S, A, W>(alloc, &mut kept, output);
+        }
+        take_piece::<S, A>(alloc, &mut kept, &chunk[..count])?;
+        send(output, kept.answers.as_slice())?;
+        empty(alloc, &mut kept.answers);
+    }
+    Err(RunError::Read)
+}
+
+/// Answers the last line, where it has bytes and no line feed, and flushes.
+fn finish<S: Start, A: LineAnswers, W: AnswerWrite>(
+    alloc: Global,
+    kept: &mut Kept,
+    output: &mut W,
+) -> Result<(), RunError>
+    requires { (kept.old.answers.items ≡ []) × ((line : List ℕ) → A.answers line (S.answer line)) }
+    ensures written { Writes (W.held output.old) (W.held output.new)
+        (answer_lines S.answer (with_rest [] kept.old.line.items)) result }
+    ensures cause { IfErr result (λ e. e ≡ RunError.Write → W.failed output.new) }
+{
+    send_last::<S, A, W>(alloc, kept, output)?;
+    output.flush_answers()
+}
+
+/// Answers the last line, where it has bytes and no line feed.
+fn send_last<S: Start, A: LineAnswers, W: AnswerWrite>(
+    alloc: Global,
+    kept: &mut Kept,
+    output: &mut W,
+) -> Result<(), RunError>
+    requires { (kept.old.answers.items ≡ []) × ((line : List ℕ) → A.answers line (S.answer line)) }
+    ensures written { Writes (W.held output.old) (W.held output.new)
+        (answer_lines S.answer (with_rest [] kept.old.line.items)) result }
+    ensures cause { IfErr result (λ e. e ≡ RunError.Write → W.failed output.new) }
+{
+    if kept.line.is_empty() {
+        return Ok(());
+    }
+    end_line::<S, A>(alloc, kept, &[])?;
+    send(output, kept.answers.as_slice())
+}
+
+/// Adds the answers to the lines that a piece of the input ends. What follows the last of them goes on the
+/// line that is kept.
+fn take_piece<S: Start, A: LineAnswers>(
+    alloc: Global,
+    kept: &mut Kept,
+    piece: &[u8],
+) -> Result<(), AllocError>
+    requires { IsLine kept.old.line.items × ((line : List ℕ) → A.answers line (S.answer line)) }
+    ensures { OnOk result (AnswersPiece S.answer (kept.old.line.items ++ piece.now) kept.new.line.items
+        kept.old.answers.items kept.new.answers.items) }
+{
+    let mut rest = piece;
+    'lines: while let Some(end) = memchr(b'\n', rest) {
+        end_line::<S, A>(alloc, kept, &rest[..end])?;
+        rest = &rest[end + 1..];
+    }
+    kept.line.extend_from_slice(rest)?;
+    Ok(())
+}
+
+/// Adds the answer to a line whose last bytes are `end`, and begins the next. A long line's memory is let go
+/// before its answer takes any.
+fn end_line<S: Start, A: LineAnswers>(
+    alloc: Global,
+    kept: &mut Kept,
+    end: &[u8],
+) -> Result<(), AllocError>
+    requires { (line : List ℕ) → A.answers line (S.answer line) }
+    ensures added { OnOk result ((kept.new.line.items ≡ [])
+        × (kept.new.answers.items ≡ kept.old.answers.items ++ fed (S.answer (kept.old.line.items ++ end.now)))) }
+    ensures rooms { OnOk result ((vec_capacity kept.new.line ≤ 131072)
+        × (vec_capacity kept.new.bytes ≤ 131072)) }
+{
+    let asked = read_line::<A>(alloc, kept, end)?;
+    empty(alloc, &mut kept.line);
+    add_answer_line::<S, A>(alloc, &mut kept.answers, asked, kept.bytes.as_slice())?;
+    empty(alloc, &mut kept.bytes);
+    Ok(())
+}
+
+/// Reads a line whose last bytes are `end`. One that began in no earlier piece is read where it lies.
+fn read_line<A: LineAnswers>(
+    alloc: Global,
+    kept: &mut Kept,
+    end: &[u8],
+) -> Result<A::Asked, AllocError>
+    ensures { IfOk result (λ asked. A.asks (kept.old.line.items ++ end.now) asked kept.new.bytes.items
+        × (kept.new.answers.items ≡ kept.old.answers.items)) }
+{
+    if kept.line.is_empty() {
+        return A::read_request(alloc, &mut kept.bytes, end);
+    }
+    kept.line.extend_from_slice(end)?;
+    A::read_request(alloc, &mut kept.bytes, kept.line.as_slice())
+}
+
+/// Adds the answer line of what a line was read as.
+fn add_answer_line<S: Start, A: LineAnswers>(
+    alloc: Global,
+    answers: &mut Vec<u8>,
+    asked: A::Asked,
+    bytes: &[u8],
+) -> Result<(), AllocError>
+    requires { (line : List ℕ) → A.answers line (S.answer line) }
+    ensures { OnOk result ((line : List ℕ) → A.asks line asked bytes.now
+        → answers.new.items ≡ answers.old.items ++ fed (S.answer line)) }
+{
+    A::push_answer(alloc, answers, asked, bytes)?;
+    Ok(answers.push(b'\n')?)
+}
+
+/// Makes room empty, and keeps its memory unless a long line needed it.
+fn empty(alloc: Global, room: &mut Vec<u8>)
+    ensures emptied { room.new.items ≡ [] }
+    ensures bound { vec_capacity room.new ≤ 131072 }
+    ensures keeps { vec_capacity room.old ≤ 131072 → vec_capacity room.new ≡ vec_capacity room.old }
+{
+    if room.capacity() > KEPT {
+        *room = Vec::new(alloc);
+    } else {
+        room.clear();
+    }
+}
+
+/// Writes all the bytes.
+fn send<W: AnswerWrite>(output: &mut W, bytes: &[u8]) -> Result<(), RunError>
+    ensures written { Writes (W.held output.old) (W.held output.new) bytes.now result }
+    ensures cause { OnErr result (W.failed output.new) }
+{
+    let mut rest = bytes;
+    'writes: while !rest.is_empty() {
+        let count = output.write_some(rest)?;
+        rest = &rest[count..];
+    }
+    Ok(())
+}
+
+/// Writes the text, or a beginning of it where a write fails.
+pub fn try_send<W: AnswerWrite>(output: &mut W, text: &[u8])
+    ensures { (sent : List ℕ) × ((more : List ℕ) × (text.now ≡ sent ++ more))
+        × Appends (W.held output.old) (W.held output.new) sent }
+{
+    let _ = send(output, text);
+}
