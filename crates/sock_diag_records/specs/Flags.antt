@@ -18,8 +18,7 @@ inet_extensions =
 
 -- the states of a UNIX socket, bit 1 and bit 10
 abbrev pub unix_states : List (List ℕ × ℕ)
-unix_states =
-    (codes "ESTABLISHED", 0x2) ∷ (codes "LISTEN", 0x400) ∷ []
+unix_states = (codes "ESTABLISHED", 0x2) ∷ (codes "LISTEN", 0x400) ∷ []
 
 -- what a request for UNIX sockets asks to be shown, bit 0 to bit 5
 abbrev pub unix_shown : List (List ℕ × ℕ)
