@@ -1,5 +1,6 @@
 -- How a text splits into lines as it grows.
-use Rattle.std.proofs.Common.{◌≡◌, ◌≢◌, ℕ, List, [], ◌∷◌, ◌++◌, ◌==◌, false, refl, sym, ap, ◌∙◌, append_assoc, append-nil, subst, ◌⊎◌, inl, inr}
+use Rattle.std.proofs.Common.{◌≡◌, ◌≢◌, ℕ, List, [], ◌∷◌, ◌++◌, ◌==◌, false, refl, sym, ap, ◌∙◌}
+use Rattle.std.proofs.Common.{append_assoc, append-nil, subst, ◌⊎◌, inl, inr}
 use Rattle.std.specs.List.{All, flat_map}
 use Rattle.std.proofs.lemmas.Bool.{cases_eq}
 use Rattle.std.proofs.lemmas.List.Concat.{flat_map-append}
@@ -26,7 +27,8 @@ Parts-nil = record { joined = refl; lines = All-nil IsLine; unended = All-nil No
 
 -- what follows the rest of a text splits together with that rest
 Parts-append : (text more : List ℕ) (whole next : List (List ℕ)) (rest last : List ℕ)
-    → Parts text whole rest → Parts (rest ++ more) next last → Parts (text ++ more) (whole ++ next) last
+    → Parts text whole rest → Parts (rest ++ more) next last
+    → Parts (text ++ more) (whole ++ next) last
 Parts-append text more whole next rest last p q =
     let front = flat_map fed whole in
     record {
@@ -65,18 +67,25 @@ record Parted (text : List ℕ) : Type 0 where
   parts : Parts text whole rest
 
 -- the split with a byte in front that is no line feed
-split_byte : (b : ℕ) (bs : List ℕ) → b ≢ 10 → (whole : List (List ℕ)) (rest : List ℕ) → Parts bs whole rest → Parted (b ∷ bs)
+split_byte : (b : ℕ) (bs : List ℕ) → b ≢ 10 → (whole : List (List ℕ)) (rest : List ℕ)
+    → Parts bs whole rest → Parted (b ∷ bs)
 split_byte b bs h [] rest p = record {
   whole = [];
   rest = b ∷ rest;
-  parts = record { joined = ap (λ t. b ∷ t) p.joined; lines = All-nil IsLine; unended = All-cons NotFeed b rest h p.unended };
+  parts = record {
+    joined = ap (λ t. b ∷ t) p.joined;
+    lines = All-nil IsLine;
+    unended = All-cons NotFeed b rest h p.unended;
+  };
 }
 split_byte b bs h (line ∷ whole) rest p = record {
   whole = (b ∷ line) ∷ whole;
   rest = rest;
   parts = record {
     joined = ap (λ t. b ∷ t) p.joined;
-    lines = All-cons IsLine (b ∷ line) whole (All-cons NotFeed b line h (All-head IsLine line whole p.lines)) (All-tail IsLine line whole p.lines);
+    lines = All-cons IsLine (b ∷ line) whole
+        (All-cons NotFeed b line h (All-head IsLine line whole p.lines))
+        (All-tail IsLine line whole p.lines);
     unended = p.unended;
   };
 }
@@ -104,8 +113,10 @@ fails_on : (line : List ℕ) → IsLine line → All (λ b. (b == 10) ≡ false)
 fails_on line h = λ k d below. ne_eqb _ 10 (h k d below)
 
 -- a line, its line feed and what follows
-fed_more : (line : List ℕ) (lines : List (List ℕ)) (rest : List ℕ) → flat_map fed (line ∷ lines) ++ rest ≡ line ++ 10 ∷ (flat_map fed lines ++ rest)
-fed_more line lines rest = append_assoc (fed line) (flat_map fed lines) rest ∙ append_assoc line (10 ∷ []) (flat_map fed lines ++ rest)
+fed_more : (line : List ℕ) (lines : List (List ℕ)) (rest : List ℕ) → flat_map fed (line ∷ lines)
+    ++ rest ≡ line ++ 10 ∷ (flat_map fed lines ++ rest)
+fed_more line lines rest = append_assoc (fed line) (flat_map fed lines) rest
+    ∙ append_assoc line (10 ∷ []) (flat_map fed lines ++ rest)
 
 joined_splits : (whole : List (List ℕ)) (rest : List ℕ) → All IsLine whole → IsLine rest
     → Splits (flat_map fed whole ++ rest) whole rest
@@ -122,7 +133,8 @@ splits_by text whole rest p =
     ap (slice_split (λ b. b == 10)) p.joined ∙ joined_splits whole rest p.lines p.unended
 
 -- a text splits in one way
-pub Splits-one_way : (text : List ℕ) (whole whole' : List (List ℕ)) (rest rest' : List ℕ) → Splits text whole rest → Splits text whole' rest'
+pub Splits-one_way : (text : List ℕ) (whole whole' : List (List ℕ)) (rest rest' : List ℕ)
+    → Splits text whole rest → Splits text whole' rest'
     → (whole ≡ whole') × (rest ≡ rest')
 Splits-one_way text whole whole' rest rest' p q = same_from_push whole whole' rest rest' (sym p ∙ q)
 
@@ -147,7 +159,8 @@ Splits-rest rest h = joined_splits [] rest (All-nil IsLine) h
 
 -- what follows the rest of a text splits together with that rest
 pub Splits-append : (text more : List ℕ) (whole next : List (List ℕ)) (rest last : List ℕ)
-    → Splits text whole rest → Splits (rest ++ more) next last → Splits (text ++ more) (whole ++ next) last
+    → Splits text whole rest → Splits (rest ++ more) next last
+    → Splits (text ++ more) (whole ++ next) last
 Splits-append text more whole next rest last p q =
     splits_by (text ++ more) (whole ++ next) last
     (Parts-append text more whole next rest last

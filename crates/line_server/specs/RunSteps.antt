@@ -24,10 +24,12 @@ abbrev pub Writes : Option (List ℕ) → Option (List ℕ) → List ℕ → Res
 Writes contents contents' text (Ok done) = Appends contents contents' text
 Writes contents contents' text (Err Read) = ⊥
 Writes contents contents' text (Err Memory) = Keeps contents contents'
-Writes contents contents' text (Err Write) = (front : List ℕ) × IsBeginning front text × Appends contents contents' front
+Writes contents contents' text (Err Write) = (front : List ℕ) × IsBeginning front text
+    × Appends contents contents' front
 
 -- the answers to the whole lines of the text were added, and `line` is what follows these
-pub record AnswersPiece (answer : List ℕ → List ℕ) (text line answers answers' : List ℕ) : Type 0 where
+pub record AnswersPiece (answer : List ℕ → List ℕ) (text line answers answers' : List ℕ) : Type
+    0 where
   pub whole : List (List ℕ)
   pub splits : Splits text whole line
   pub added : answers' ≡ answers ++ answer_lines answer whole

@@ -10,9 +10,9 @@ use crate::stream::{RunError, Start};
 use std::io;
 use std::io::{Read, Write};
 
-/// What can be read only where the answers to all whole lines that were read stand on the output. Who has
-/// no other bound than this one on a reader can read in no other way, and can't say that a read failed where
-/// none did.
+/// What can be read only where the answers to all whole lines that were read stand on the output.
+/// Who has no other bound than this one on a reader can read in no other way, and can't say that a
+/// read failed where none did.
 pub trait PromptRead {
     // The bytes that are left, where they are known.
     ghost left: { Self → Option (List ℕ) };
@@ -30,7 +30,8 @@ pub trait PromptRead {
         line: &[u8],
         piece: &mut [u8],
     ) -> Result<usize, RunError>
-        requires { CaughtUp S.answer S.remaining (left self.old) S.contents (W.held output.now) line.now }
+        requires { CaughtUp S.answer S.remaining (left self.old) S.contents (W.held output.now)
+            line.now }
         ensures bound { ReadsAtMost result piece.new }
         ensures bytes { ReadConsumes (left self.old) (left self.new) result piece.new }
         ensures counted { (n : ℕ) → reads self.old n → reads self.new (n + 1) }
@@ -64,8 +65,8 @@ fn read_outcome(outcome: io::Result<usize>) -> Result<usize, RunError>
     }
 }
 
-/// What answers are written on. Who has no other bound than this one on a writer can't say that a write failed
-/// where none did.
+/// What answers are written on. Who has no other bound than this one on a writer can't say that a
+/// write failed where none did.
 pub trait AnswerWrite {
     // The bytes that it holds, where they are known.
     ghost held: { Self → Option (List ℕ) };

@@ -1,5 +1,6 @@
 //! Answers the lines of a reader on a writer.
-ghost use Rattle.std.specs.Prelude.{◌≡◌, ◌⊎◌, ◌-◌, ◌^◌, ◌≤◌, ℕ, List, [], ◌++◌, OnOk, OnErr, IfOk, IfErr, Option, None, vec_capacity};
+ghost use Rattle.std.specs.Prelude.{◌≡◌, ◌⊎◌, ◌-◌, ◌^◌, ◌≤◌, ℕ, List, [], ◌++◌, OnOk, OnErr, IfOk};
+ghost use Rattle.std.specs.Prelude.{IfErr, Option, None, vec_capacity};
 ghost use Rattle.std.specs.Io.KnownBytes.{Appends, IsAtEnd};
 ghost use Rattle.line_server.specs.Lines.{with_rest};
 ghost use Rattle.line_server.specs.Run.{Answers, answer_lines};
@@ -42,8 +43,9 @@ impl<T: Drop> From<AllocFailed<T>> for RunError {
     }
 }
 
-/// How many bytes a read asks for. An answer line is at most nine times as long as its line and the line feed,
-/// so what is gathered before a write is at most 72 KiB and the answer to one line that began earlier.
+/// How many bytes a read asks for. An answer line is at most nine times as long as its line and the
+/// line feed, so what is gathered before a write is at most 72 KiB and the answer to one line that
+/// began earlier.
 const CHUNK: usize = 8192;
 
 /// How many bytes of memory a room keeps from line to line.
@@ -99,8 +101,8 @@ impl Start for Brand {
     ghost answer = { λ line. line };
 }
 
-/// What a run keeps from line to line, so that it takes memory only where a line is longer than those
-/// before.
+/// What a run keeps from line to line, so that it takes memory only where a line is longer than
+/// those before.
 #[derive(Drop)]
 struct Kept {
     /// The bytes since the last line feed.
@@ -118,10 +120,12 @@ pub fn serve<S: Start, A: LineAnswers, R: PromptRead, W: AnswerWrite>(
     input: &mut R,
     output: &mut W,
 ) -> Result<(), RunError>
-    requires start { (S.remaining ≡ R.left input.old) × (S.contents ≡ W.held output.old) × R.reads input.old 0 }
+    requires start { (S.remaining ≡ R.left input.old) × (S.contents ≡ W.held output.old)
+        × R.reads input.old 0 }
     requires right { (line : List ℕ) → A.answers line (S.answer line) }
     ensures ended { OnOk result (IsAtEnd (R.left input.new)) }
-    ensures answered { Answers S.answer S.remaining (R.left input.new) S.contents (W.held output.new) result }
+    ensures answered { Answers S.answer S.remaining (R.left input.new) S.contents
+        (W.held output.new) result }
     ensures read_cause { IfErr result (λ e. e ≡ RunError.Read
         → R.failed input.new ⊎ R.reads input.new (2 ^ 64 - 1)) }
     ensures write_cause { IfErr result (λ e. e ≡ RunError.Write → W.failed output.new) }
@@ -177,15 +181,16 @@ fn send_last<S: Start, A: LineAnswers, W: AnswerWrite>(
     send(output, kept.answers.as_slice())
 }
 
-/// Adds the answers to the lines that a piece of the input ends. What follows the last of them goes on the
-/// line that is kept.
+/// Adds the answers to the lines that a piece of the input ends. What follows the last of them goes
+/// on the line that is kept.
 fn take_piece<S: Start, A: LineAnswers>(
     alloc: Global,
     kept: &mut Kept,
     piece: &[u8],
 ) -> Result<(), AllocError>
     requires { IsLine kept.old.line.items × ((line : List ℕ) → A.answers line (S.answer line)) }
-    ensures { OnOk result (AnswersPiece S.answer (kept.old.line.items ++ piece.now) kept.new.line.items
+    ensures { OnOk result (AnswersPiece S.answer (kept.old.line.items ++ piece.now)
+        kept.new.line.items
         kept.old.answers.items kept.new.answers.items) }
 {
     let mut rest = piece;
@@ -197,8 +202,8 @@ fn take_piece<S: Start, A: LineAnswers>(
     Ok(())
 }
 
-/// Adds the answer to a line whose last bytes are `end`, and begins the next. A long line's memory is let go
-/// before its answer takes any.
+/// Adds the answer to a line whose last bytes are `end`, and begins the next. A long line's memory
+/// is let go before its answer takes any.
 fn end_line<S: Start, A: LineAnswers>(
     alloc: Global,
     kept: &mut Kept,
@@ -206,7 +211,8 @@ fn end_line<S: Start, A: LineAnswers>(
 ) -> Result<(), AllocError>
     requires { (line : List ℕ) → A.answers line (S.answer line) }
     ensures added { OnOk result ((kept.new.line.items ≡ [])
-        × (kept.new.answers.items ≡ kept.old.answers.items ++ fed (S.answer (kept.old.line.items ++ end.now)))) }
+        × (kept.new.answers.items ≡ kept.old.answers.items
+        ++ fed (S.answer (kept.old.line.items ++ end.now)))) }
     ensures rooms { OnOk result ((vec_capacity kept.new.line ≤ 131072)
         × (vec_capacity kept.new.bytes ≤ 131072)) }
 {
@@ -217,13 +223,15 @@ fn end_line<S: Start, A: LineAnswers>(
     Ok(())
 }
 
-/// Reads a line whose last bytes are `end`. One that began in no earlier piece is read where it lies.
+/// Reads a line whose last bytes are `end`. One that began in no earlier piece is read where it
+/// lies.
 fn read_line<A: LineAnswers>(
     alloc: Global,
     kept: &mut Kept,
     end: &[u8],
 ) -> Result<A::Asked, AllocError>
-    ensures { IfOk result (λ asked. A.asks (kept.old.line.items ++ end.now) asked kept.new.bytes.items
+    ensures { IfOk result (λ asked. A.asks (kept.old.line.items ++ end.now) asked
+        kept.new.bytes.items
         × (kept.new.answers.items ≡ kept.old.answers.items)) }
 {
     if kept.line.is_empty() {

@@ -1,5 +1,6 @@
 -- Tests of equality, put together from those of their parts.
-use Rattle.std.proofs.Common.{◌≡◌, ◌↔◌, ◌&&◌, ◌∙◌, ℕ, List, [], ◌∷◌, Option, Some, None, Bool, true, false, eqb, IsTrue, ap, map, refl, sym, rules}
+use Rattle.std.proofs.Common.{◌≡◌, ◌↔◌, ◌&&◌, ◌∙◌, ℕ, List, [], ◌∷◌, Option, Some, None, Bool, true}
+use Rattle.std.proofs.Common.{false, eqb, IsTrue, ap, map, refl, sym, rules}
 use Rattle.std.specs.Cmp.{IsEquivalence, both_ways}
 use Rattle.std.specs.Option.{option_eq}
 use lib.Pointwise.{pointwise}
@@ -13,7 +14,8 @@ both a b h k = search rules
 
 -- two facts, each of which a test says
 pub and_says : {P Q : Type 0} {a b : Bool} → IsTrue a ↔ P → IsTrue b ↔ Q → IsTrue (a && b) ↔ (P × Q)
-and_says {P} {Q} {a} {b} f g = (λ h. let p = parts a b h in (f.0 p.0, g.0 p.1), λ p. both a b (f.1 p.0) (g.1 p.1))
+and_says {P} {Q} {a} {b} f g =
+    (λ h. let p = parts a b h in (f.0 p.0, g.0 p.1), λ p. both a b (f.1 p.0) (g.1 p.1))
 
 pub numbers_equal : (x y : ℕ) → IsTrue (eqb x y) ↔ (x ≡ y)
 numbers_equal x y = (λ h. search rules, λ e. search rules)
@@ -34,7 +36,8 @@ module _ {T : Type 0} (test : T → T → Bool) (says : (a b : T) → IsTrue (te
   options_equal a b = (same_option a b, λ e. rw e (own_option b))
 
 -- lists, over a test of what is seen of their elements
-module _ {A V : Type 0} (test : A → A → Bool) (seen : A → V) (says : (a b : A) → IsTrue (test a b) ↔ (seen a ≡ seen b)) where
+module _ {A V : Type 0} (test : A → A → Bool) (seen : A → V) (says : (a b : A) → IsTrue (test a b)
+    ↔ (seen a ≡ seen b)) where
   same_list : (xs ys : List A) → IsTrue (pointwise test xs ys) → map seen xs ≡ map seen ys
   same_list [] [] h = search rules
   same_list [] (y ∷ ys) h = search rules
@@ -58,7 +61,9 @@ module _ {A V : Type 0} (test : A → A → Bool) (seen : A → V) (says : (a b 
   lists_equal xs ys = (same_list xs ys, list_test xs ys)
 
 -- values of one variant, from whose data what it is made of is found
-pub within : {A B : Type 0} (made : A → B) (inside : B → Option A) → ((a : A) → inside (made a) ≡ Some a) → {test : Bool} {x y : A} → IsTrue test ↔ (x ≡ y) → IsTrue test ↔ (made x ≡ made y)
+pub within : {A B : Type 0} (made : A → B) (inside : B → Option A)
+    → ((a : A) → inside (made a) ≡ Some a) → {test : Bool} {x y : A} → IsTrue test ↔ (x ≡ y)
+    → IsTrue test ↔ (made x ≡ made y)
 within made inside found {test} {x} {y} says = (
   λ h. ap made (says.0 h),
   λ e. says.1 (let f : Some x ≡ Some y = sym (found x) ∙ ap inside e ∙ found y in cc),
@@ -73,11 +78,14 @@ pub same_test : {P : Type 0} (a b : Bool) → IsTrue a ↔ P → IsTrue b ↔ P 
 same_test a b f g = both_ways a b (λ h. g.1 (f.0 h)) (λ h. f.1 (g.0 h))
 
 -- a test that compares what is seen is an equivalence
-pub equivalence : {K V : Type 0} (test : K → K → Bool) (seen : K → V) → ((x y : K) → IsTrue (test x y) ↔ (seen x ≡ seen y)) → IsEquivalence test
+pub equivalence : {K V : Type 0} (test : K → K → Bool) (seen : K → V)
+    → ((x y : K) → IsTrue (test x y) ↔ (seen x ≡ seen y)) → IsEquivalence test
 equivalence test seen says = record {
   refl = λ x. (says x x).1 refl;
-  symm = λ x y. both_ways (test x y) (test y x) (λ h. (says y x).1 (sym ((says x y).0 h))) (λ h. (says x y).1 (sym ((says y x).0 h)));
+  symm = λ x y. both_ways (test x y) (test y x) (λ h. (says y x).1 (sym ((says x y).0 h)))
+      (λ h. (says x y).1 (sym ((says y x).0 h)));
   congr = λ x y z e.
       let same = (says x y).0 e in
-      both_ways (test x z) (test y z) (λ h. (says y z).1 (sym same ∙ (says x z).0 h)) (λ h. (says x z).1 (same ∙ (says y z).0 h));
+      both_ways (test x z) (test y z) (λ h. (says y z).1 (sym same ∙ (says x z).0 h))
+      (λ h. (says x z).1 (same ∙ (says y z).0 h));
 }

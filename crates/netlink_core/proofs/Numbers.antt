@@ -1,19 +1,25 @@
--- A number fixes its bytes, in either order, and bits that are masked in a number are those that are
--- masked in its bytes.
-use Rattle.std.proofs.Common.{◌≡◌, ℕ, zero, suc, ◌+◌, ◌*◌, ◌/◌, ◌%◌, ◌^◌, ◌<◌, ◌≤◌, List, [], ◌∷◌, ◌++◌, length, take, replicate, slice_index, bit_and, refl, sym, ap, ap₂, ◌∙◌, arith}
+-- A number fixes its bytes, in either order, and bits that are masked in a number are those that
+-- are masked in its bytes.
+use Rattle.std.proofs.Common.{◌≡◌, ℕ, zero, suc, ◌+◌, ◌*◌, ◌/◌, ◌%◌, ◌^◌, ◌<◌, ◌≤◌, List, [], ◌∷◌}
+use Rattle.std.proofs.Common.{◌++◌, length, take, replicate, slice_index, bit_and, refl, sym, ap}
+use Rattle.std.proofs.Common.{ap₂, ◌∙◌, arith}
 use Rattle.std.proofs.lemmas.Nat.{and_block, and_mask, and_le_l, same_from_place}
 use Rattle.std.proofs.Math.Nat.{mul_comm, div-div-eq-div-mul, pow-suc, mod-lt, mod-eq_of_lt}
 use Rattle.std.specs.Int.{byte_at, bytes_low_first, bytes_high_first}
 use Rattle.std.specs.Int.Bits.{and_zero_l, and_zero_r}
 use Rattle.byteorder.specs.Endian.{little_from, big_from}
-use Rattle.byteorder.specs.Numbers.{little_from-cons, big_from-cons, little_from-take, big_from-take, little_from-lt, big_from-lt, little_number-reads_back, big_number-reads_back, length-bytes_low_first, length-bytes_high_first}
+use Rattle.byteorder.specs.Numbers.{little_from-cons, big_from-cons, little_from-take}
+use Rattle.byteorder.specs.Numbers.{big_from-take, little_from-lt, big_from-lt}
+use Rattle.byteorder.specs.Numbers.{little_number-reads_back, big_number-reads_back}
+use Rattle.byteorder.specs.Numbers.{length-bytes_low_first, length-bytes_high_first}
 use Rattle.netlink_core.specs.Table.{Order, little_endian, big_endian, number_in, bytes_in, masked}
 use Rattle.netlink_core.specs.Bytes.{IsBytes}
 use Rattle.netlink_core.specs.ByteLaws.{byte_at-lt, IsBytes-number}
 
 -- ---- a number fixes its bytes
 
-little-same : (n : ℕ) (xs ys : List ℕ) → IsBytes xs → IsBytes ys → n ≤ length xs → n ≤ length ys → little_from 0 n xs ≡ little_from 0 n ys → take n xs ≡ take n ys
+little-same : (n : ℕ) (xs ys : List ℕ) → IsBytes xs → IsBytes ys → n ≤ length xs → n ≤ length ys
+    → little_from 0 n xs ≡ little_from 0 n ys → take n xs ≡ take n ys
 little-same zero xs ys hx hy lx ly e = refl
 little-same (suc n) [] ys hx hy lx ly e = absurd (omega arith)
 little-same (suc n) (x ∷ xs) [] hx hy lx ly e = absurd (omega arith)
@@ -21,37 +27,47 @@ little-same (suc n) (x ∷ xs) (y ∷ ys) hx hy lx ly e =
     let below_x : x < 256 = hx 0 in
     let below_y : y < 256 = hy 0 in
     let sums : x + 256 * little_from 0 n xs ≡ y + 256 * little_from 0 n ys =
-    sym (ap (λ (r : ℕ). x + 256 * r) (little_from-cons 0 n x xs)) ∙ e ∙ ap (λ (r : ℕ). y + 256 * r) (little_from-cons 0 n y ys) in
+    sym (ap (λ (r : ℕ). x + 256 * r) (little_from-cons 0 n x xs)) ∙ e
+    ∙ ap (λ (r : ℕ). y + 256 * r) (little_from-cons 0 n y ys) in
     let first : x ≡ y = omega arith in
     let rest : little_from 0 n xs ≡ little_from 0 n ys = omega arith in
-    ap₂ (λ (a : ℕ) (others : List ℕ). a ∷ others) first (little-same n xs ys (λ i. hx (suc i)) (λ i. hy (suc i)) (omega arith) (omega arith) rest)
+    ap₂ (λ (a : ℕ) (others : List ℕ). a ∷ others) first (little-same n xs ys (λ i. hx (suc i))
+    (λ i. hy (suc i)) (omega arith) (omega arith) rest)
 
-big-same : (n : ℕ) (xs ys : List ℕ) → IsBytes xs → IsBytes ys → n ≤ length xs → n ≤ length ys → big_from 0 n xs ≡ big_from 0 n ys → take n xs ≡ take n ys
+big-same : (n : ℕ) (xs ys : List ℕ) → IsBytes xs → IsBytes ys → n ≤ length xs → n ≤ length ys
+    → big_from 0 n xs ≡ big_from 0 n ys → take n xs ≡ take n ys
 big-same zero xs ys hx hy lx ly e = refl
 big-same (suc n) [] ys hx hy lx ly e = absurd (omega arith)
 big-same (suc n) (x ∷ xs) [] hx hy lx ly e = absurd (omega arith)
 big-same (suc n) (x ∷ xs) (y ∷ ys) hx hy lx ly e =
     let sums : x * 256 ^ n + big_from 0 n xs ≡ y * 256 ^ n + big_from 0 n ys =
-    sym (ap (λ (r : ℕ). x * 256 ^ n + r) (big_from-cons 0 n x xs)) ∙ e ∙ ap (λ (r : ℕ). y * 256 ^ n + r) (big_from-cons 0 n y ys) in
-    let parts = same_from_place x (big_from 0 n xs) y (big_from 0 n ys) (256 ^ n) (big_from-lt 0 n xs (λ i. hx (suc i))) (big_from-lt 0 n ys (λ i. hy (suc i))) sums in
-    ap₂ (λ (a : ℕ) (others : List ℕ). a ∷ others) parts.0 (big-same n xs ys (λ i. hx (suc i)) (λ i. hy (suc i)) (omega arith) (omega arith) parts.1)
+    sym (ap (λ (r : ℕ). x * 256 ^ n + r) (big_from-cons 0 n x xs)) ∙ e
+    ∙ ap (λ (r : ℕ). y * 256 ^ n + r) (big_from-cons 0 n y ys) in
+    let parts = same_from_place x (big_from 0 n xs) y (big_from 0 n ys) (256 ^ n)
+    (big_from-lt 0 n xs (λ i. hx (suc i))) (big_from-lt 0 n ys (λ i. hy (suc i))) sums in
+    ap₂ (λ (a : ℕ) (others : List ℕ). a ∷ others) parts.0 (big-same n xs ys (λ i. hx (suc i))
+    (λ i. hy (suc i)) (omega arith) (omega arith) parts.1)
 
 -- equal numbers have equal bytes
-pub number-same : (order : Order) (n : ℕ) (xs ys : List ℕ) → IsBytes xs → IsBytes ys → n ≤ length xs → n ≤ length ys → number_in order n xs ≡ number_in order n ys → take n xs ≡ take n ys
+pub number-same : (order : Order) (n : ℕ) (xs ys : List ℕ) → IsBytes xs → IsBytes ys → n ≤ length xs
+    → n ≤ length ys → number_in order n xs ≡ number_in order n ys → take n xs ≡ take n ys
 number-same little_endian n xs ys hx hy lx ly e = little-same n xs ys hx hy lx ly e
 number-same big_endian n xs ys hx hy lx ly e = big-same n xs ys hx hy lx ly e
 
 -- equal bytes are equal numbers
-pub number-take : (order : Order) (n : ℕ) (xs : List ℕ) → number_in order n (take n xs) ≡ number_in order n xs
+pub number-take : (order : Order) (n : ℕ) (xs : List ℕ) → number_in order n (take n xs)
+    ≡ number_in order n xs
 number-take little_endian n xs = little_from-take 0 n n xs (omega arith)
 number-take big_endian n xs = big_from-take 0 n n xs (omega arith)
 
 -- a number of bytes fits them, and reads back from its own
-pub number-fits : (order : Order) (n : ℕ) (xs : List ℕ) → IsBytes xs → number_in order n xs < 256 ^ n
+pub number-fits : (order : Order) (n : ℕ) (xs : List ℕ) → IsBytes xs
+    → number_in order n xs < 256 ^ n
 number-fits little_endian n xs h = little_from-lt 0 n xs h
 number-fits big_endian n xs h = big_from-lt 0 n xs h
 
-pub number-reads_back : (order : Order) (n x : ℕ) (rest : List ℕ) → x < 256 ^ n → number_in order n (bytes_in order n x ++ rest) ≡ x
+pub number-reads_back : (order : Order) (n x : ℕ) (rest : List ℕ) → x < 256 ^ n
+    → number_in order n (bytes_in order n x ++ rest) ≡ x
 number-reads_back little_endian n x rest h = little_number-reads_back n x rest h
 number-reads_back big_endian n x rest h = big_number-reads_back n x rest h
 
@@ -84,10 +100,12 @@ masked-all (suc n) (x ∷ xs) h =
 pub masked-none : (n : ℕ) (xs : List ℕ) → n ≤ length xs → masked (replicate n 0) xs ≡ replicate n 0
 masked-none zero xs h = refl
 masked-none (suc n) [] h = absurd (omega arith)
-masked-none (suc n) (x ∷ xs) h = ap₂ (λ (a : ℕ) (others : List ℕ). a ∷ others) (and_zero_r x) (masked-none n xs (omega arith))
+masked-none (suc n) (x ∷ xs) h = ap₂ (λ (a : ℕ) (others : List ℕ). a ∷ others) (and_zero_r x)
+    (masked-none n xs (omega arith))
 
 -- as many bytes as masks
-pub length-masked : (masks xs : List ℕ) → length masks ≤ length xs → length (masked masks xs) ≡ length masks
+pub length-masked : (masks xs : List ℕ) → length masks ≤ length xs
+    → length (masked masks xs) ≡ length masks
 length-masked [] xs h = refl
 length-masked (m ∷ masks) [] h = absurd (omega arith)
 length-masked (m ∷ masks) (x ∷ xs) h = ap suc (length-masked masks xs (omega arith))
@@ -96,20 +114,25 @@ length-masked (m ∷ masks) (x ∷ xs) h = ap suc (length-masked masks xs (omega
 pub masked-bytes : (masks xs : List ℕ) (k : ℕ) → IsBytes xs → slice_index (masked masks xs) k < 256
 masked-bytes [] xs k h = omega arith
 masked-bytes (m ∷ masks) [] k h = omega arith
-masked-bytes (m ∷ masks) (x ∷ xs) zero h = let at_most = and_le_l x m in let below = h 0 in omega arith
+masked-bytes (m ∷ masks) (x ∷ xs) zero h = let at_most = and_le_l x m in let below = h 0 in
+    omega arith
 masked-bytes (m ∷ masks) (x ∷ xs) (suc k) h = masked-bytes masks xs k (λ i. h (suc i))
 
 -- the bytes of a number from the second on are those of what is left of it
 byte-shift : (i x : ℕ) → byte_at (suc i) x ≡ byte_at i (x / 256)
 byte-shift zero x = refl
-byte-shift (suc i) x = ap (λ (y : ℕ). y % 256) (ap (λ (p : ℕ). x / p) (pow-suc 256 (suc i) ∙ mul_comm (256 ^ suc i) 256) ∙ sym (div-div-eq-div-mul x 256 (256 ^ suc i)))
+byte-shift (suc i) x = ap (λ (y : ℕ). y % 256)
+    (ap (λ (p : ℕ). x / p) (pow-suc 256 (suc i) ∙ mul_comm (256 ^ suc i) 256)
+    ∙ sym (div-div-eq-div-mul x 256 (256 ^ suc i)))
 
 bytes-shift : (i n x : ℕ) → bytes_low_first (suc i) n x ≡ bytes_low_first i n (x / 256)
 bytes-shift i zero x = refl
-bytes-shift i (suc n) x = ap₂ (λ (a : ℕ) (others : List ℕ). a ∷ others) (byte-shift i x) (bytes-shift (suc i) n x)
+bytes-shift i (suc n) x = ap₂ (λ (a : ℕ) (others : List ℕ). a ∷ others) (byte-shift i x)
+    (bytes-shift (suc i) n x)
 
 -- a mask on a number is one on its bytes
-pub and_number : (n mask : ℕ) (xs : List ℕ) → IsBytes xs → n ≤ length xs → bit_and (little_from 0 n xs) mask ≡ little_from 0 n (masked (bytes_low_first 0 n mask) xs)
+pub and_number : (n mask : ℕ) (xs : List ℕ) → IsBytes xs → n ≤ length xs
+    → bit_and (little_from 0 n xs) mask ≡ little_from 0 n (masked (bytes_low_first 0 n mask) xs)
 and_number zero mask xs h l = and_zero_l mask
 and_number (suc n) mask [] h l = absurd (omega arith)
 and_number (suc n) mask (x ∷ xs) h l =
@@ -117,10 +140,17 @@ and_number (suc n) mask (x ∷ xs) h l =
     let rest = and_number n (mask / 256) xs (λ i. h (suc i)) (omega arith) in
     let below : x < 2 ^ 8 = h 0 in
     let low : mask % 256 < 2 ^ 8 = mod-lt mask (omega arith) in
-    let block : bit_and (little_from 0 n xs * 256 + x) (mask / 256 * 256 + mask % 256) ≡ bit_and (little_from 0 n xs) (mask / 256) * 256 + bit_and x (mask % 256) = and_block 8 (little_from 0 n xs) (mask / 256) x (mask % 256) below low in
-    let number : little_from 0 (suc n) (x ∷ xs) ≡ little_from 0 n xs * 256 + x = ap (λ (r : ℕ). x + 256 * r) (little_from-cons 0 n x xs) ∙ omega arith in
+    let block : bit_and (little_from 0 n xs * 256 + x) (mask / 256 * 256 + mask % 256)
+    ≡ bit_and (little_from 0 n xs) (mask / 256) * 256 + bit_and x (mask % 256) =
+    and_block 8 (little_from 0 n xs) (mask / 256) x (mask % 256) below low in
+    let number : little_from 0 (suc n) (x ∷ xs) ≡ little_from 0 n xs * 256 + x =
+    ap (λ (r : ℕ). x + 256 * r) (little_from-cons 0 n x xs) ∙ omega arith in
     let split : mask ≡ mask / 256 * 256 + mask % 256 = omega arith in
-    let shown : little_from 0 (suc n) (bit_and x (mask % 256) ∷ masked (bytes_low_first 1 n mask) xs) ≡ bit_and x (mask % 256) + 256 * little_from 0 n (masked ms xs) =
-    ap (λ (r : ℕ). bit_and x (mask % 256) + 256 * r) (little_from-cons 0 n (bit_and x (mask % 256)) (masked (bytes_low_first 1 n mask) xs))
-    ∙ ap (λ (b : List ℕ). bit_and x (mask % 256) + 256 * little_from 0 n (masked b xs)) (bytes-shift 0 n mask) in
-    ap₂ bit_and number split ∙ block ∙ (ap (λ (r : ℕ). r * 256 + bit_and x (mask % 256)) rest ∙ omega arith) ∙ sym shown
+    let shown : little_from 0 (suc n) (bit_and x (mask % 256) ∷ masked (bytes_low_first 1 n mask)
+    xs) ≡ bit_and x (mask % 256) + 256 * little_from 0 n (masked ms xs) =
+    ap (λ (r : ℕ). bit_and x (mask % 256) + 256 * r)
+    (little_from-cons 0 n (bit_and x (mask % 256)) (masked (bytes_low_first 1 n mask) xs))
+    ∙ ap (λ (b : List ℕ). bit_and x (mask % 256) + 256 * little_from 0 n (masked b xs))
+    (bytes-shift 0 n mask) in
+    ap₂ bit_and number split ∙ block ∙ (ap (λ (r : ℕ). r * 256 + bit_and x (mask % 256)) rest
+    ∙ omega arith) ∙ sym shown

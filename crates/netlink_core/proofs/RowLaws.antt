@@ -1,10 +1,12 @@
 -- The laws of the usual kinds of attributes.
-use Rattle.std.proofs.Common.{Some, Result, Ok, Err, ◌≡◌, ◌∙◌, inl, inr, ℕ, ◌^◌, ◌<◌, List, [], length, refl, ap, sym, subst, arith}
+use Rattle.std.proofs.Common.{Some, Result, Ok, Err, ◌≡◌, ◌∙◌, inl, inr, ℕ, ◌^◌, ◌<◌, List, []}
+use Rattle.std.proofs.Common.{length, refl, ap, sym, subst, arith}
 use Rattle.std.specs.Prelude.{⊤, bit_and}
 use Rattle.std.proofs.lemmas.Bool.{cases_eq, eq-eqb, ne_eqb}
 use Rattle.std.proofs.lemmas.List.{append-nil, take_all}
 use Rattle.byteorder.specs.Endian.{little_number, little_bytes}
-use Rattle.byteorder.specs.Numbers.{little_from-lt, little_number-reads_back, length-bytes_low_first}
+use Rattle.byteorder.specs.Numbers.{little_from-lt, little_number-reads_back}
+use Rattle.byteorder.specs.Numbers.{length-bytes_low_first}
 use Rattle.netlink_core.specs.declared.fault.DecodeError.{DecodeError}
 use Rattle.netlink_core.specs.declared.fault.DecodeError.TheVariants.{Memory}
 use Rattle.netlink_core.specs.Bytes.{IsBytes}
@@ -19,12 +21,15 @@ use Rattle.netlink_core.specs.Table.{little_endian}
 use Rattle.netlink_core.proofs.Numbers.{number-same}
 
 -- equal numbers of all bytes have equal bytes
-pub same_bytes : (n : ℕ) (x y : List ℕ) → IsBytes x → IsBytes y → length x ≡ n → length y ≡ n → little_number n x ≡ little_number n y → x ≡ y
+pub same_bytes : (n : ℕ) (x y : List ℕ) → IsBytes x → IsBytes y → length x ≡ n → length y ≡ n
+    → little_number n x ≡ little_number n y → x ≡ y
 same_bytes n x y x-typed y-typed s t e =
-    sym (take_all n x (omega arith)) ∙ number-same little_endian n x y x-typed y-typed (omega arith) (omega arith) e ∙ take_all n y (omega arith)
+    sym (take_all n x (omega arith)) ∙ number-same little_endian n x y x-typed y-typed (omega arith)
+    (omega arith) e ∙ take_all n y (omega arith)
 
 -- what is read of all bytes, each of which tells, keeps the laws
-pub exact_laws : {A : Type 0} (reads : List ℕ → Result A DecodeError) (bytes : A → List ℕ) (is_typed is_normal : A → Type 0)
+pub exact_laws : {A : Type 0} (reads : List ℕ → Result A DecodeError) (bytes : A → List ℕ)
+    (is_typed is_normal : A → Type 0)
     → ((x : List ℕ) → reads x ≡ Err Memory → ⊥)
     → ((x : List ℕ) (u : A) → IsBytes x → reads x ≡ Ok u → (x ≡ bytes u) × is_typed u × is_normal u)
     → ((u : A) → is_typed u → IsBytes (bytes u))
@@ -49,7 +54,8 @@ module _ (k width : ℕ) where
   read_number x = exact_number (Some k) width x
 
   -- where a number that fills its bytes was read
-  number_said : (x : List ℕ) (n : ℕ) → read_number x ≡ Ok n → (length x ≡ width) × (little_number width x ≡ n)
+  number_said : (x : List ℕ) (n : ℕ) → read_number x ≡ Ok n → (length x ≡ width)
+      × (little_number width x ≡ n)
   number_said x n h =
       elim (cases_eq (length x) width) [
         | inl same ↦ (same, let read = rw (eq-eqb (length x) width same) at h in cc)
@@ -64,13 +70,19 @@ module _ (k width : ℕ) where
       ]
 
   number_back : (n : ℕ) → n < 256 ^ width → little_number width (little_bytes width n) ≡ n
-  number_back n fits = ap (little_number width) (sym (append-nil (little_bytes width n))) ∙ little_number-reads_back width n [] fits
+  number_back n fits = ap (little_number width) (sym (append-nil (little_bytes width n)))
+      ∙ little_number-reads_back width n [] fits
 
-  number_exact : (x : List ℕ) (n : ℕ) → IsBytes x → read_number x ≡ Ok n → (x ≡ little_bytes width n) × (n < 256 ^ width)
+  number_exact : (x : List ℕ) (n : ℕ) → IsBytes x → read_number x ≡ Ok n
+      → (x ≡ little_bytes width n) × (n < 256 ^ width)
   number_exact x n typed h =
       let read = number_said x n h in
-      let fits : n < 256 ^ width = subst (λ (m : ℕ). m < 256 ^ width) read.1 (little_from-lt 0 width x typed) in
-      (same_bytes width x (little_bytes width n) typed (IsBytes-number 0 width n) read.0 (length-bytes_low_first 0 width n) (read.1 ∙ sym (number_back n fits)), fits)
+      let fits : n < 256 ^ width =
+      subst (λ (m : ℕ). m < 256 ^ width) read.1 (little_from-lt 0 width x typed) in (
+        same_bytes width x (little_bytes width n) typed (IsBytes-number 0 width n) read.0
+            (length-bytes_low_first 0 width n) (read.1 ∙ sym (number_back n fits)),
+        fits,
+      )
 
   -- a kind of numbers keeps the laws
   pub number_laws : bit_and k 0x3fff ≡ k → KindLaws (number_kind k width)
@@ -79,14 +91,20 @@ module _ (k width : ℕ) where
     value = exact_laws read_number (little_bytes width) (λ n. n < 256 ^ width) (λ n. ⊤) number_named
         (λ x n typed h. let exact = number_exact x n typed h in (exact.0, exact.1, tt))
         (λ n fits. IsBytes-number 0 width n)
-        (λ n fits normal. rw (eq-eqb (length (little_bytes width n)) width (length-bytes_low_first 0 width n), number_back n fits) refl);
+        (λ n fits normal. rw (
+          eq-eqb (length (little_bytes width n)) width
+              (length-bytes_low_first 0 width n),
+          number_back n fits,
+        ) refl);
   }
 
 -- a kind of values that keep the laws
-pub kind_laws : (k : ℕ) {P : Prefix (Unit {0})} → bit_and k 0x3fff ≡ k → KeepsLaws (prefix_codec P) → KindLaws (kind k P)
+pub kind_laws : (k : ℕ) {P : Prefix (Unit {0})} → bit_and k 0x3fff ≡ k → KeepsLaws (prefix_codec P)
+    → KindLaws (kind k P)
 kind_laws k plain value = record { plain = plain; value = value }
 
-pub memory_kind_laws : (k : ℕ) {P : Prefix (Unit {0})} → bit_and k 0x3fff ≡ k → KeepsLaws (prefix_codec P) → KindLaws (memory_kind k P)
+pub memory_kind_laws : (k : ℕ) {P : Prefix (Unit {0})} → bit_and k 0x3fff ≡ k
+    → KeepsLaws (prefix_codec P) → KindLaws (memory_kind k P)
 memory_kind_laws k plain value = record { plain = plain; value = value }
 
 -- the laws of a family: those of its first kind and those of the others

@@ -36,9 +36,12 @@ attribute_test_says a b =
       λ e. both.1 (ap (λ (x : Attribute). x.type_word) e, ap (λ (x : Attribute). x.value) e),
     )
 
-pub said_test_says : (F : Family) (tests : Tests F) (v w : Said F) → IsTrue (said_test F tests v w) ↔ (v ≡ w)
+pub said_test_says : (F : Family) (tests : Tests F) (v w : Said F) → IsTrue (said_test F tests v w)
+    ↔ (v ≡ w)
 said_test_says [] tests a b = attribute_test_says a b
-said_test_says (row ∷ rows) tests (inl x) (inl y) = (λ h. ap inl ((tests.0.1 x y).0 h), λ e. (tests.0.1 x y).1 cc)
+said_test_says (row ∷ rows) tests (inl x) (inl y) =
+    (λ h. ap inl ((tests.0.1 x y).0 h), λ e. (tests.0.1 x y).1 cc)
 said_test_says (row ∷ rows) tests (inl x) (inr w) = apart (λ e. cc)
 said_test_says (row ∷ rows) tests (inr v) (inl y) = apart (λ e. cc)
-said_test_says (row ∷ rows) tests (inr v) (inr w) = let later = said_test_says rows tests.1 v w in (λ h. ap inr (later.0 h), λ e. later.1 cc)
+said_test_says (row ∷ rows) tests (inr v) (inr w) = let later = said_test_says rows tests.1 v w in
+    (λ h. ap inr (later.0 h), λ e. later.1 cc)

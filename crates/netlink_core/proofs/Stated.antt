@@ -27,6 +27,20 @@ pub cut_from_stated : (bytes : List ℕ) (xs : List Attribute) → StatedCut byt
 cut_from_stated bytes [] h = h
 cut_from_stated bytes (x ∷ xs) h =
     elim h.4 [
-      | inl full ↦ (h.1, record { padding = h.0; parts = h.2; fits = h.3; filled = inl full.0 }, cut_from_stated h.1 xs full.1)
-      | inr short ↦ (h.1, record { padding = h.0; parts = h.2; fits = h.3; filled = inr (short.0, short.1) }, subst (λ (ys : List Attribute). Cut h.1 ys) (sym short.2) short.1)
+      | inl full ↦ (
+        h.1,
+        record { padding = h.0; parts = h.2; fits = h.3; filled = inl full.0 },
+        cut_from_stated h.1 xs full.1,
+      )
+      | inr short ↦ (
+        h.1,
+        record {
+          padding = h.0;
+          parts = h.2;
+          fits = h.3;
+          filled = inr (short.0, short.1);
+        },
+        subst (λ (ys : List Attribute). Cut h.1 ys)
+            (sym short.2) short.1,
+      )
     ]

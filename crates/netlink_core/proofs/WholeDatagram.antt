@@ -15,14 +15,19 @@ found given = map (λ (m : Bor (List ℕ)). Ok m) given
 abbrev messages_of : List (Bor (List ℕ)) → List (List ℕ)
 messages_of given = map (λ (m : Bor (List ℕ)). m.now) given
 
-pub whole_walk : (walk : MessageStrings) (given : List (Bor (List ℕ))) → Drains GivesMessage walk (found given) → CutIntoMessages (datagram_left walk) (messages_of given) None
+pub whole_walk : (walk : MessageStrings) (given : List (Bor (List ℕ)))
+    → Drains GivesMessage walk (found given)
+    → CutIntoMessages (datagram_left walk) (messages_of given) None
 whole_walk walk [] h = subst (λ (w : MessageStrings). datagram_left w ≡ []) (sym h.1.1) h.1.2.0
-whole_walk walk (g ∷ given) h = (datagram_left h.1.1.0, h.1.1.1, whole_walk h.1.1.0 given (h.0, (h.1.0, h.1.1.2, h.1.2)))
+whole_walk walk (g ∷ given) h =
+    (datagram_left h.1.1.0, h.1.1.1, whole_walk h.1.1.0 given (h.0, (h.1.0, h.1.1.2, h.1.2)))
 
-pub cut_off_walk : (walk last : MessageStrings) (given : List (Bor (List ℕ))) (e : DecodeError) → YieldsThen GivesMessage walk (found given) (Some (Err e)) last
+pub cut_off_walk : (walk last : MessageStrings) (given : List (Bor (List ℕ))) (e : DecodeError)
+    → YieldsThen GivesMessage walk (found given) (Some (Err e)) last
     → CutIntoMessages (datagram_left walk) (messages_of given) (Some e) × (datagram_left last ≡ [])
 cut_off_walk walk last [] e h =
-    let at : GivesMessage walk (Some (Err e)) last = subst (λ (w : MessageStrings). GivesMessage w (Some (Err e)) last) (sym h.1) h.2 in
+    let at : GivesMessage walk (Some (Err e)) last =
+    subst (λ (w : MessageStrings). GivesMessage w (Some (Err e)) last) (sym h.1) h.2 in
     ((at.0, at.1), at.2)
 cut_off_walk walk last (g ∷ given) e h =
     let later = cut_off_walk h.1.0 last given e (h.0, h.1.2, h.2) in

@@ -13,15 +13,22 @@ use Rattle.netlink_core.specs.Walk.{attribute_of, bytes_left, GivesAttribute}
 abbrev pub found : List NlaBuffer → List (Result NlaBuffer DecodeError)
 found given = map (λ (b : NlaBuffer). Ok b) given
 
-pub whole_walk : (walk : NlasIterator) (given : List NlaBuffer) → Drains GivesAttribute walk (found given) → Cut (bytes_left walk) (map attribute_of given)
+pub whole_walk : (walk : NlasIterator) (given : List NlaBuffer)
+    → Drains GivesAttribute walk (found given) → Cut (bytes_left walk) (map attribute_of given)
 whole_walk walk [] h = subst (λ (w : NlasIterator). bytes_left w ≡ []) (sym h.1.1) h.1.2.0
-whole_walk walk (g ∷ given) h = (bytes_left h.1.1.0, h.1.1.1, whole_walk h.1.1.0 given (h.0, (h.1.0, h.1.1.2, h.1.2)))
+whole_walk walk (g ∷ given) h =
+    (bytes_left h.1.1.0, h.1.1.1, whole_walk h.1.1.0 given (h.0, (h.1.0, h.1.1.2, h.1.2)))
 
-pub cut_off_walk : (walk last : NlasIterator) (given : List NlaBuffer) (e : DecodeError) → YieldsThen GivesAttribute walk (found given) (Some (Err e)) last
+pub cut_off_walk : (walk last : NlasIterator) (given : List NlaBuffer) (e : DecodeError)
+    → YieldsThen GivesAttribute walk (found given) (Some (Err e)) last
     → CutOff IsFramingFault (bytes_left walk) (map attribute_of given) e × (bytes_left last ≡ [])
 cut_off_walk walk last [] e h =
-    let at : GivesAttribute walk (Some (Err e)) last = subst (λ (w : NlasIterator). GivesAttribute w (Some (Err e)) last) (sym h.1) h.2 in
+    let at : GivesAttribute walk (Some (Err e)) last =
+    subst (λ (w : NlasIterator). GivesAttribute w (Some (Err e)) last) (sym h.1) h.2 in
     (([], bytes_left walk, refl, refl, at.0, at.1), at.2)
 cut_off_walk walk last (g ∷ given) e h =
-    let later = cut_off_walk h.1.0 last given e (h.0, h.1.2, h.2) in
-    (cut_off_behind IsFramingFault (bytes_left walk) _ (attribute_of g) (map attribute_of given) e h.1.1 later.0, later.1)
+    let later = cut_off_walk h.1.0 last given e (h.0, h.1.2, h.2) in (
+      cut_off_behind IsFramingFault (bytes_left walk) _ (attribute_of g) (map attribute_of given) e
+          h.1.1 later.0,
+      later.1,
+    )

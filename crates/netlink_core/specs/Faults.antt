@@ -2,7 +2,20 @@
 use Rattle.std.specs.Prelude.{ℕ, Some, None, Result}
 use Rattle.std.specs.Result.{result_map_both}
 use Rattle.netlink_core.specs.declared.fault.DecodeError.{DecodeError}
-use Rattle.netlink_core.specs.declared.fault.DecodeError.TheVariants.{Memory, BufferTooSmall, UnsupportedFamily, MessageTooShort, UnknownFamily, UnknownMessageType, AttributeHeaderCut, AttributeLengthUnder4, AttributeLengthPast, WrongLength, NotMultipleOfFour, NotUtf8, NameEmpty, NameInnerZero, NameWithoutEnd, EnvelopeCut, EnvelopeLengthUnder16, EnvelopeLengthPast}
+use Rattle.netlink_core.specs.declared.fault.DecodeError.TheVariants.{Memory, BufferTooSmall}
+use Rattle.netlink_core.specs.declared.fault.DecodeError.TheVariants.{UnsupportedFamily}
+use Rattle.netlink_core.specs.declared.fault.DecodeError.TheVariants.{MessageTooShort}
+use Rattle.netlink_core.specs.declared.fault.DecodeError.TheVariants.{UnknownFamily}
+use Rattle.netlink_core.specs.declared.fault.DecodeError.TheVariants.{UnknownMessageType}
+use Rattle.netlink_core.specs.declared.fault.DecodeError.TheVariants.{AttributeHeaderCut}
+use Rattle.netlink_core.specs.declared.fault.DecodeError.TheVariants.{AttributeLengthUnder4}
+use Rattle.netlink_core.specs.declared.fault.DecodeError.TheVariants.{AttributeLengthPast}
+use Rattle.netlink_core.specs.declared.fault.DecodeError.TheVariants.{WrongLength}
+use Rattle.netlink_core.specs.declared.fault.DecodeError.TheVariants.{NotMultipleOfFour, NotUtf8}
+use Rattle.netlink_core.specs.declared.fault.DecodeError.TheVariants.{NameEmpty, NameInnerZero}
+use Rattle.netlink_core.specs.declared.fault.DecodeError.TheVariants.{NameWithoutEnd, EnvelopeCut}
+use Rattle.netlink_core.specs.declared.fault.DecodeError.TheVariants.{EnvelopeLengthUnder16}
+use Rattle.netlink_core.specs.declared.fault.DecodeError.TheVariants.{EnvelopeLengthPast}
 
 -- the number of a fault
 abbrev pub number_of : DecodeError → ℕ

@@ -1,15 +1,22 @@
--- An attribute of a family, read at the front of a string, keeps the laws. Proved once, for every family.
-use Rattle.std.proofs.Common.{Ok, Err, ◌≡◌, ◌∙◌, ◌↔◌, ◌⊎◌, inl, inr, List, [], ℕ, length, replicate, refl, sym, ap, subst}
+-- An attribute of a family, read at the front of a string, keeps the laws. Proved once, for every
+-- family.
+use Rattle.std.proofs.Common.{Ok, Err, ◌≡◌, ◌∙◌, ◌↔◌, ◌⊎◌, inl, inr, List, [], ℕ, length, replicate}
+use Rattle.std.proofs.Common.{refl, sym, ap, subst}
 use Rattle.netlink_core.specs.declared.fault.DecodeError.{DecodeError}
 use Rattle.netlink_core.specs.declared.fault.DecodeError.TheVariants.{Memory}
 use Rattle.netlink_core.specs.Bytes.{IsBytes}
-use Rattle.netlink_core.specs.Attribute.{Attribute, FitsWords, HasFittingValue, HeadIs, fill, written}
-use Rattle.netlink_core.specs.Family.{Family, Said, says, attribute_said, IsTypedSaid, IsNormalSaid, AreIdleAttributes}
+use Rattle.netlink_core.specs.Attribute.{Attribute, FitsWords, HasFittingValue, HeadIs, fill}
+use Rattle.netlink_core.specs.Attribute.{written}
+use Rattle.netlink_core.specs.Family.{Family, Said, says, attribute_said, IsTypedSaid, IsNormalSaid}
+use Rattle.netlink_core.specs.Family.{AreIdleAttributes}
 use Rattle.netlink_core.specs.ShownLaws.{FamilyLaws}
 use Rattle.netlink_core.specs.Heads.{head_codec}
 use Rattle.netlink_core.specs.Codec.{KeepsLaws}
-use Rattle.netlink_core.specs.FrontLaws.{value_or_reason, head_or_fault, head_or_fault_apart, head_typed, one_attribute, one_fault_at_front, written_typed}
-use Rattle.netlink_core.specs.FamilyLaws.{family_named, family_gives_normal, family_same_value, writes_typed, reads_back}
+use Rattle.netlink_core.specs.FrontLaws.{value_or_reason, head_or_fault, head_or_fault_apart}
+use Rattle.netlink_core.specs.FrontLaws.{head_typed, one_attribute, one_fault_at_front}
+use Rattle.netlink_core.specs.FrontLaws.{written_typed}
+use Rattle.netlink_core.specs.FamilyLaws.{family_named, family_gives_normal, family_same_value}
+use Rattle.netlink_core.specs.FamilyLaws.{writes_typed, reads_back}
 
 module _ (F : Family) where
   -- what the codec reads, refuses and has as idle
@@ -23,7 +30,8 @@ module _ (F : Family) where
   AreIdleHeads b c = (head_codec F).idle tt b c
 
 module _ (F : Family) (laws : FamilyLaws F) where
-  head_answered : (b : List ℕ) → IsBytes b → ((v : Said F) × MeansHead F b v) ⊎ ((e : DecodeError) × RefusesHead F b e)
+  head_answered : (b : List ℕ) → IsBytes b → ((v : Said F) × MeansHead F b v)
+      ⊎ ((e : DecodeError) × RefusesHead F b e)
   head_answered b typed =
       elim (head_or_fault b typed) [
         | inr framing ↦ inr (framing.0, inl framing.1)
@@ -33,12 +41,15 @@ module _ (F : Family) (laws : FamilyLaws F) where
         ]
       ]
 
-  head_one_answer : (b : List ℕ) (v : Said F) (e : DecodeError) → MeansHead F b v → RefusesHead F b e → ⊥
+  head_one_answer : (b : List ℕ) (v : Said F) (e : DecodeError) → MeansHead F b v
+      → RefusesHead F b e → ⊥
   head_one_answer b v e h k =
       elim k [
         | inl framing ↦ head_or_fault_apart b h.0 e h.1 framing
         | inr refused ↦
-            let also : says F h.0 ≡ Err e = subst (λ (a : Attribute). says F a ≡ Err e) (one_attribute b refused.0 h.0 refused.1 h.1) refused.2 in
+            let also : says F h.0 ≡ Err e =
+            subst (λ (a : Attribute). says F a ≡ Err e)
+            (one_attribute b refused.0 h.0 refused.1 h.1) refused.2 in
             let clash : Ok v ≡ Err e = sym h.2 ∙ also in
             cc
       ]
@@ -47,27 +58,41 @@ module _ (F : Family) (laws : FamilyLaws F) where
   head_one_fault b e f h k = one_fault_at_front (says F) b e f h k
 
   head_named_fault : (b : List ℕ) → RefusesHead F b Memory → ⊥
-  head_named_fault b h = elim h [ inl framing ↦ framing | inr refused ↦ family_named F laws refused.0 refused.2 ]
+  head_named_fault b h = elim h [
+    | inl framing ↦ framing
+    | inr refused ↦
+        family_named F laws refused.0 refused.2
+  ]
 
-  head_same_value : (b c : List ℕ) (v w : Said F) → IsBytes b → IsBytes c → MeansHead F b v → MeansHead F c w → ((v ≡ w) ↔ AreIdleHeads F b c)
+  head_same_value : (b c : List ℕ) (v w : Said F) → IsBytes b → IsBytes c → MeansHead F b v
+      → MeansHead F c w → ((v ≡ w) ↔ AreIdleHeads F b c)
   head_same_value b c v w b-typed c-typed h k =
-      let same = family_same_value F laws h.0 k.0 v w (head_typed b h.0 b-typed h.1) (head_typed c k.0 c-typed k.1) h.2 k.2 in (
+      let same = family_same_value F laws h.0 k.0 v w (head_typed b h.0 b-typed h.1)
+      (head_typed c k.0 c-typed k.1) h.2 k.2 in (
         λ e. (h.0, k.0, h.1, k.1, same.0 e),
         λ idle.
-            let half : AreIdleAttributes F h.0 idle.1 = subst (λ (a : Attribute). AreIdleAttributes F a idle.1) (one_attribute b idle.0 h.0 idle.2 h.1) idle.4 in
-            same.1 (subst (λ (a : Attribute). AreIdleAttributes F h.0 a) (one_attribute c idle.1 k.0 idle.3 k.1) half),
+            let half : AreIdleAttributes F h.0 idle.1 =
+            subst (λ (a : Attribute). AreIdleAttributes F a idle.1)
+            (one_attribute b idle.0 h.0 idle.2 h.1) idle.4 in
+            same.1 (subst (λ (a : Attribute). AreIdleAttributes F h.0 a)
+            (one_attribute c idle.1 k.0 idle.3 k.1) half),
       )
 
-  head_gives_normal : (b : List ℕ) (v : Said F) → IsBytes b → MeansHead F b v → IsTypedSaid F v × IsNormalSaid F v
+  head_gives_normal : (b : List ℕ) (v : Said F) → IsBytes b → MeansHead F b v → IsTypedSaid F v
+      × IsNormalSaid F v
   head_gives_normal b v typed h = family_gives_normal F laws h.0 v (head_typed b h.0 typed h.1) h.2
 
   head_written_bytes : (v : Said F) → IsTypedSaid F v → IsBytes (written (attribute_said F v))
   head_written_bytes v typed = written_typed (attribute_said F v) (writes_typed F laws v typed)
 
-  head_reads_back : (v : Said F) → IsTypedSaid F v → IsNormalSaid F v → HasFittingValue (attribute_said F v) → MeansHead F (written (attribute_said F v)) v
+  head_reads_back : (v : Said F) → IsTypedSaid F v → IsNormalSaid F v
+      → HasFittingValue (attribute_said F v) → MeansHead F (written (attribute_said F v)) v
   head_reads_back v typed normal fits =
-      let a : Attribute = attribute_said F v in
-      (a, (replicate (fill (length a.value)) 0, refl, ((writes_typed F laws v typed).0, fits)), reads_back F laws v typed normal)
+      let a : Attribute = attribute_said F v in (
+        a,
+        (replicate (fill (length a.value)) 0, refl, ((writes_typed F laws v typed).0, fits)),
+        reads_back F laws v typed normal,
+      )
 
   -- the laws together
   pub heads_keep_laws : KeepsLaws (head_codec F)

@@ -1,7 +1,8 @@
 -- An attribute of a family at the front of a string.
 use Rattle.std.specs.Prelude.{◌≡◌, Ok}
 use Rattle.netlink_core.specs.Attribute.{Attribute, HasFittingValue, HeadIs, FaultAtFront, written}
-use Rattle.netlink_core.specs.Family.{Family, Said, says, attribute_said, IsTypedSaid, IsNormalSaid, IsSpareSaid, AreIdleAttributes}
+use Rattle.netlink_core.specs.Family.{Family, Said, says, attribute_said, IsTypedSaid, IsNormalSaid}
+use Rattle.netlink_core.specs.Family.{IsSpareSaid, AreIdleAttributes}
 use Rattle.netlink_core.specs.Codec.{Codec}
 
 -- What the attribute in front says, and nothing of what follows it. It is refused for its framing

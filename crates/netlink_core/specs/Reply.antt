@@ -1,9 +1,11 @@
 -- Replies: a header, and then attributes of one family.
 use Rattle.std.specs.Prelude.{◌≡◌, ℕ, ◌≤◌, ◌⊎◌, List, ◌++◌, length, drop, map, Ok, Err}
 use Rattle.std.specs.List.{AllByRecursion, AllZip, flat_map}
-use Rattle.netlink_core.specs.Attribute.{Attribute, HasFittingValue, Cut, AttributesMean, AttributeFault, written}
+use Rattle.netlink_core.specs.Attribute.{Attribute, HasFittingValue, Cut, AttributesMean}
+use Rattle.netlink_core.specs.Attribute.{AttributeFault, written}
 use Rattle.netlink_core.specs.Prefix.{Prefix}
-use Rattle.netlink_core.specs.Family.{Family, Said, says, attribute_said, IsTypedSaid, IsNormalSaid, IsSpareSaid, AreIdleAttributes}
+use Rattle.netlink_core.specs.Family.{Family, Said, says, attribute_said, IsTypedSaid, IsNormalSaid}
+use Rattle.netlink_core.specs.Family.{IsSpareSaid, AreIdleAttributes}
 use Rattle.netlink_core.specs.Codec.{Codec}
 
 -- a header, the number of its bytes, and the family of the attributes behind it

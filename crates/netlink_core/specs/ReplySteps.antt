@@ -9,4 +9,5 @@ framed header attributes = header ++ flat_map written attributes
 
 -- each attribute's value has at most 65,531 bytes, and the whole at most 4,294,967,295
 abbrev pub FramedFits : List ℕ → List Attribute → Type 0
-FramedFits header attributes = AllByRecursion HasFittingValue attributes × (length (framed header attributes) ≤ 4294967295)
+FramedFits header attributes = AllByRecursion HasFittingValue attributes
+    × (length (framed header attributes) ≤ 4294967295)

@@ -1,8 +1,10 @@
 -- What contracts see of a message.
 use Rattle.netlink_core.specs.declared.message.NetlinkPayload.{NetlinkPayload}
-use Rattle.netlink_core.specs.declared.message.NetlinkPayload.TheVariants.{Done, Error, Noop, Overrun, InnerMessage}
+use Rattle.netlink_core.specs.declared.message.NetlinkPayload.TheVariants.{Done, Error, Noop}
+use Rattle.netlink_core.specs.declared.message.NetlinkPayload.TheVariants.{Overrun, InnerMessage}
 use Rattle.netlink_core.specs.declared.message.NetlinkMessage.{NetlinkMessage}
-use Rattle.netlink_core.specs.Envelope.{Payload, done_with, error_with, no_payload, overrun_with, inner, Envelope}
+use Rattle.netlink_core.specs.Envelope.{Payload, done_with, error_with, no_payload, overrun_with}
+use Rattle.netlink_core.specs.Envelope.{inner, Envelope}
 
 -- what a message carries, by what is seen of an inner message
 abbrev pub payload_of : {I A : Type 0} → (I → A) → NetlinkPayload I → Payload A

@@ -1,6 +1,7 @@
 -- Records of a fixed length, as tables: rows one after the other, each with its place. A list of
 -- bytes is a list of numbers below 256.
-use Rattle.std.specs.Prelude.{◌≡◌, ◌<◌, ℕ, zero, suc, ◌+◌, ◌^◌, List, [], ◌∷◌, ◌++◌, length, drop, replicate, slice_index, bit_and}
+use Rattle.std.specs.Prelude.{◌≡◌, ◌<◌, ℕ, zero, suc, ◌+◌, ◌^◌, List, [], ◌∷◌, ◌++◌, length, drop}
+use Rattle.std.specs.Prelude.{replicate, slice_index, bit_and}
 use Rattle.byteorder.specs.Endian.{little_number, big_number, little_bytes, big_bytes}
 
 -- which byte of a number stands first

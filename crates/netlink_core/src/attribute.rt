@@ -1,9 +1,10 @@
 //! Attributes in bytes, read in place.
 //!
-//! An attribute is a length word (4 and the value's bytes), a type word, the value, and padding to a multiple of 4.
-//! Both words have 16 bits, the low byte first.
+//! An attribute is a length word (4 and the value's bytes), a type word, the value, and padding to
+//! a multiple of 4. Both words have 16 bits, the low byte first.
 
-ghost use Rattle.std.specs.Prelude.{◌≡◌, ◌+◌, ◌/◌, ◌≤◌, ◌<◌, ◌^◌, ◌↔◌, length, IsTrue, IsBitSet, MatchResult, IfSome, None};
+ghost use Rattle.std.specs.Prelude.{◌≡◌, ◌+◌, ◌/◌, ◌≤◌, ◌<◌, ◌^◌, ◌↔◌, length, IsTrue, IsBitSet};
+ghost use Rattle.std.specs.Prelude.{MatchResult, IfSome, None};
 ghost use Rattle.netlink_core.specs.Attribute.{HeadIs, IsFramingFault, fill, kind_of, written};
 
 use crate::codec::Holds;
@@ -19,7 +20,8 @@ pub(crate) const MAX_VALUE: usize = 65531;
 /// The bit of the type word that says that attributes are nested in the value, `NLA_F_NESTED`.
 const NESTED: u16 = 0x8000;
 
-/// The bit of the type word that says that the value is in network byte order, `NLA_F_NET_BYTEORDER`.
+/// The bit of the type word that says that the value is in network byte order,
+/// `NLA_F_NET_BYTEORDER`.
 const NETWORK_BYTE_ORDER: u16 = 0x4000;
 
 /// The bits of the type word that are the kind, `NLA_TYPE_MASK`.
@@ -116,12 +118,13 @@ impl Holds for NlaBuffer<'_> {
 
 /// The walk over attributes that stand one after the other, each at a multiple of 4.
 ///
-/// It ends where no bytes are left. Behind the last attribute the padding may be missing, in whole or in part. After
-/// a fault it gives nothing more.
+/// It ends where no bytes are left. Behind the last attribute the padding may be missing, in whole
+/// or in part. After a fault it gives nothing more.
 #[derive(Clone, Drop)]
 pub struct NlasIterator<'a> {
     bytes: &'a [u8],
-    // Where the next attribute stands. A place at the end of the bytes or behind it says that none is left.
+    // Where the next attribute stands. A place at the end of the bytes or behind it says that none
+    // is left.
     at: usize,
 }
 

@@ -38,10 +38,11 @@ impl From<AllocError> for CanonError {
     }
 }
 
-/// The written bytes of the value that is read from the bytes: one string for all strings that differ from these in
-/// idle details alone.
+/// The written bytes of the value that is read from the bytes: one string for all strings that
+/// differ from these in idle details alone.
 ///
-/// It is refused with the reader's first fault, and `Unwritable` where a length of the value that was read has no room.
+/// It is refused with the reader's first fault, and `Unwritable` where a length of the value that
+/// was read has no room.
 pub fn canonical<T: Wire + Drop>(
     alloc: Global,
     bytes: &[u8],
@@ -49,16 +50,20 @@ pub fn canonical<T: Wire + Drop>(
 ) -> Result<Vec<u8>, CanonError>
     // The string is accepted, its value is writable, and these are the value's bytes.
     ensures written { IfOk result (λ c.
-        (v : T.codec.Value) × T.codec.reads bytes.now param v × T.codec.fits v × (c.items ≡ T.codec.written v)) }
+        (v : T.codec.Value) × T.codec.reads bytes.now param v × T.codec.fits v
+        × (c.items ≡ T.codec.written v)) }
     // A string with a writable value is written alike exactly where the two are idle.
     ensures same { IfOk result (λ c.
         (d : List ℕ) (w : T.codec.Value) → IsBytes d → T.codec.reads d param w → T.codec.fits w
         → ((T.codec.written w ≡ c.items) ↔ T.codec.idle param bytes.now d)) }
     // The canonical form is accepted, and is its own.
     ensures again { IfOk result (λ c.
-        IsBytes c.items × ((w : T.codec.Value) × T.codec.reads c.items param w × T.codec.fits w × (T.codec.written w ≡ c.items))) }
-    // The first fault, which is named; or the string is accepted and its value can't be written; or memory ran out.
-    ensures err { IfErr result (GivesUp (T.codec.reads bytes.now param) (T.codec.refuses bytes.now param) T.codec.fits) }
+        IsBytes c.items × ((w : T.codec.Value) × T.codec.reads c.items param w × T.codec.fits w
+        × (T.codec.written w ≡ c.items))) }
+    // The first fault, which is named; or the string is accepted and its value can't be written; or
+    // memory ran out.
+    ensures err { IfErr result
+        (GivesUp (T.codec.reads bytes.now param) (T.codec.refuses bytes.now param) T.codec.fits) }
 {
     T::rewrite(alloc, bytes, param)
 }

@@ -5,9 +5,11 @@ ghost use Rattle.std.proofs.Common.{rules};
 
 use crate::{NetlinkHeader, RecordBuffer, RecordName};
 
-/// A type whose `==` says whether two values are the same, and whose `clone` gives the same value, without fail.
+/// A type whose `==` says whether two values are the same, and whose `clone` gives the same value,
+/// without fail.
 pub trait Exact: PartialEq + Clone {
-    ghost exact: { ((v w : Self) → IsTrue (Self.eq v w) ↔ (v ≡ w)) × ((v w : Self) → Self.is_clone v w → w ≡ v)
+    ghost exact: { ((v w : Self) → IsTrue (Self.eq v w) ↔ (v ≡ w))
+        × ((v w : Self) → Self.is_clone v w → w ≡ v)
         × ((v : Self) → Self.is_infallible v) };
 }
 

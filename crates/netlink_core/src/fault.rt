@@ -39,7 +39,8 @@ impl fmt::Display for RecordName {
     }
 }
 
-/// Why a reader refused its bytes, or that memory ran out. The variants are numbered from 1, in this order.
+/// Why a reader refused its bytes, or that memory ran out. The variants are numbered from 1, in
+/// this order.
 #[derive(Clone, Copy, Debug, PartialEq, Eq, Error)]
 pub enum DecodeError {
     /// Memory ran out.
@@ -72,7 +73,8 @@ pub enum DecodeError {
     UnknownMessageType {
         message_type: u16,
     },
-    /// So many bytes are left where an attribute would begin, and they are fewer than its header's 4.
+    /// So many bytes are left where an attribute would begin, and they are fewer than its header's
+    /// 4.
     #[error("attribute header cut: {left} bytes left")]
     AttributeHeaderCut {
         left: usize,
@@ -88,7 +90,8 @@ pub enum DecodeError {
         length: u16,
         left: usize,
     },
-    /// A value has another length than its kind. The kind is missing where the value was read by itself.
+    /// A value has another length than its kind. The kind is missing where the value was read by
+    /// itself.
     #[error("value of {got} bytes, {need} needed")]
     WrongLength {
         kind: Option<u16>,

@@ -1,7 +1,8 @@
 //! The header of a netlink message.
 
 ghost use Rattle.std.specs.Prelude.{◌≡◌, length, MatchResult};
-ghost use Rattle.netlink_core.specs.Header.{HasHeader, IsEnvelopeFault, IsTypedHeader, header_bytes};
+ghost use Rattle.netlink_core.specs.Header.{HasHeader, IsEnvelopeFault, IsTypedHeader};
+ghost use Rattle.netlink_core.specs.Header.{header_bytes};
 
 use crate::fault::DecodeError;
 use byteorder::{ByteOrder, LittleEndian};
@@ -9,14 +10,16 @@ use byteorder::{ByteOrder, LittleEndian};
 /// How many bytes the header of a netlink message has.
 pub const NETLINK_HEADER_LEN: usize = 16;
 
-/// The header of a netlink message, `nlmsghdr` in netlink(7): 16 bytes, each number with its low byte first.
+/// The header of a netlink message, `nlmsghdr` in netlink(7): 16 bytes, each number with its low
+/// byte first.
 ///
 /// A default header has zeros.
 #[derive(Clone, Debug, Default, Drop, PartialEq, Eq)]
 pub struct NetlinkHeader {
     /// How many bytes the message has, with these 16. At place 0, 4 bytes.
     pub length: u32,
-    /// What the payload is: one of the `NLMSG_` types, or a type of the protocol. At place 4, 2 bytes.
+    /// What the payload is: one of the `NLMSG_` types, or a type of the protocol. At place 4, 2
+    /// bytes.
     pub message_type: u16,
     /// The `NLM_F_` flags. At place 6, 2 bytes.
     pub flags: u16,
@@ -27,11 +30,11 @@ pub struct NetlinkHeader {
 }
 
 impl NetlinkHeader {
-    /// The header at the front of the bytes, which hold the whole message. What follows the header is not looked at,
-    /// and no memory is taken.
+    /// The header at the front of the bytes, which hold the whole message. What follows the header
+    /// is not looked at, and no memory is taken.
     ///
-    /// Refused are fewer than 16 bytes as `EnvelopeCut`, then a length under 16 as `EnvelopeLengthUnder16`, then one
-    /// past the bytes as `EnvelopeLengthPast`.
+    /// Refused are fewer than 16 bytes as `EnvelopeCut`, then a length under 16 as
+    /// `EnvelopeLengthUnder16`, then one past the bytes as `EnvelopeLengthPast`.
     #[inline(always)]
     pub fn from_prefix(bytes: &[u8]) -> Result<Self, DecodeError>
         ensures { MatchResult result (HasHeader bytes.now) (IsEnvelopeFault bytes.now) }

@@ -1,10 +1,13 @@
-//! Laws of the framing of attributes and of messages. The functions do nothing: their contracts are the laws.
+//! Laws of the framing of attributes and of messages. The functions do nothing: their contracts are
+//! the laws.
 
-ghost use Rattle.std.specs.Prelude.{◌≡◌, ◌↔◌, ◌⊎◌, ◌<◌, ◌++◌, ℕ, List, [], map, Option, Some, None, Result, Ok, Err, IsTrue, IfOk, IsOk, true, false};
+ghost use Rattle.std.specs.Prelude.{◌≡◌, ◌↔◌, ◌⊎◌, ◌<◌, ◌++◌, ℕ, List, [], map, Option, Some, None};
+ghost use Rattle.std.specs.Prelude.{Result, Ok, Err, IsTrue, IfOk, IsOk, true, false};
 ghost use Rattle.std.specs.Borrow.{Bor};
 ghost use Rattle.std.specs.Iterator.{Drains, YieldsThen};
 ghost use Rattle.std.specs.List.{AllByRecursion, flat_map};
-ghost use Rattle.netlink_core.specs.Attribute.{Attribute, FitsWords, Cut, CutInFull, CutOff, IsFramingFault, written};
+ghost use Rattle.netlink_core.specs.Attribute.{Attribute, FitsWords, Cut, CutInFull, CutOff};
+ghost use Rattle.netlink_core.specs.Attribute.{IsFramingFault, written};
 ghost use Rattle.netlink_core.specs.StatedCut.{StatedCut};
 ghost use Rattle.netlink_core.specs.Format.{read, StandsIn};
 ghost use Rattle.netlink_core.specs.Bytes.{IsBytes};
@@ -37,8 +40,8 @@ use crate::{
 };
 use std::alloc::AllocError;
 
-/// A string is cut into attributes exactly as stated: after each, either its padding is whole and the rest is cut on,
-/// or its padding is short and nothing follows.
+/// A string is cut into attributes exactly as stated: after each, either its padding is whole and
+/// the rest is cut on, or its padding is short and nothing follows.
 pub fn cut_is_as_stated()
     ensures { (bytes : List ℕ) (xs : List Attribute) → Cut bytes xs ↔ StatedCut bytes xs }
 {}
@@ -48,14 +51,15 @@ pub fn one_list_of_attributes()
     ensures { (bytes : List ℕ) (xs ys : List Attribute) → Cut bytes xs → Cut bytes ys → xs ≡ ys }
 {}
 
-/// The written bytes of attributes that fit their words are cut into those attributes, with all padding there.
+/// The written bytes of attributes that fit their words are cut into those attributes, with all
+/// padding there.
 pub fn written_attributes_are_cut()
     ensures { (xs : List Attribute) → AllByRecursion FitsWords xs
         → CutInFull (flat_map written xs) xs × Cut (flat_map written xs) xs }
 {}
 
-/// A record is read exactly where it stands: a string that is long enough, tells the value's table and has its numbers is
-/// read as the typed value in normal form with these, and as no other.
+/// A record is read exactly where it stands: a string that is long enough, tells the value's table
+/// and has its numbers is read as the typed value in normal form with these, and as no other.
 pub fn read_where_it_stands<T: Record>()
     ensures { (bytes : List ℕ) (told : T.Told) (value : T) → IsBytes bytes
         → (read T.format told bytes ≡ Ok value) ↔ StandsIn T.format bytes told value }
@@ -75,14 +79,16 @@ pub fn attributes_take_memory() -> bool
     DefaultNla::TAKES_MEMORY
 }
 
-/// A walk that ends without a fault gave the attributes into which the bytes are cut, and one that ends with a fault
-/// those that stand in front of it.
+/// A walk that ends without a fault gave the attributes into which the bytes are cut, and one that
+/// ends with a fault those that stand in front of it.
 pub fn whole_walk_is_the_cut()
-    ensures ended { (walk : NlasIterator) (given : List NlaBuffer) → Drains GivesAttribute walk (map (λ (b : NlaBuffer). Ok b) given)
+    ensures ended { (walk : NlasIterator) (given : List NlaBuffer)
+        → Drains GivesAttribute walk (map (λ (b : NlaBuffer). Ok b) given)
         → Cut (bytes_left walk) (map attribute_of given) }
     ensures fault { (walk last : NlasIterator) (given : List NlaBuffer) (e : DecodeError)
         → YieldsThen GivesAttribute walk (map (λ (b : NlaBuffer). Ok b) given) (Some (Err e)) last
-        → CutOff IsFramingFault (bytes_left walk) (map attribute_of given) e × (bytes_left last ≡ []) }
+        → CutOff IsFramingFault (bytes_left walk) (map attribute_of given) e
+        × (bytes_left last ≡ []) }
 {}
 
 /// `==` says whether two values are the same.
@@ -170,7 +176,13 @@ pub fn copied_messages<'a>(walk: &MessageStrings<'a>) -> Result<MessageStrings<'
 
 /// A default header has zeros.
 pub fn default_header() -> NetlinkHeader
-    ensures { result ≡ record { length = 0; message_type = 0; flags = 0; sequence_number = 0; port_number = 0 } }
+    ensures { result ≡ record {
+      length = 0;
+      message_type = 0;
+      flags = 0;
+      sequence_number = 0;
+      port_number = 0;
+    } }
 {
     NetlinkHeader::default()
 }
@@ -178,47 +190,55 @@ pub fn default_header() -> NetlinkHeader
 /// Bytes have one message at their front or one fault, which has a name.
 pub fn one_message_or_fault<I: Coded<Param = u16>>()
     ensures answered { (b : List ℕ) → IsBytes b
-        → ((v : Envelope I.codec.Value) × (envelope_codec I.codec).reads b tt v) ⊎ ((e : DecodeError) × (envelope_codec I.codec).refuses b tt e) }
+        → ((v : Envelope I.codec.Value) × (envelope_codec I.codec).reads b tt v)
+        ⊎ ((e : DecodeError) × (envelope_codec I.codec).refuses b tt e) }
     ensures one_value { (b : List ℕ) (v w : Envelope I.codec.Value) → IsBytes b
         → (envelope_codec I.codec).reads b tt v → (envelope_codec I.codec).reads b tt w → v ≡ w }
     ensures one_answer { (b : List ℕ) (v : Envelope I.codec.Value) (e : DecodeError)
         → (envelope_codec I.codec).reads b tt v → (envelope_codec I.codec).refuses b tt e → ⊥ }
     ensures one_fault { (b : List ℕ) (e f : DecodeError)
-        → (envelope_codec I.codec).refuses b tt e → (envelope_codec I.codec).refuses b tt f → e ≡ f }
+        → (envelope_codec I.codec).refuses b tt e → (envelope_codec I.codec).refuses b tt f
+        → e ≡ f }
     ensures named_fault { (b : List ℕ) → (envelope_codec I.codec).refuses b tt Memory → ⊥ }
 {}
 
 /// Two accepted strings give equal messages exactly where they are idle.
 pub fn equal_messages_where_idle<I: Coded<Param = u16>>()
     ensures { (b c : List ℕ) (v w : Envelope I.codec.Value) → IsBytes b → IsBytes c
-        → (envelope_codec I.codec).reads b tt v → (envelope_codec I.codec).reads c tt w → ((v ≡ w) ↔ (envelope_codec I.codec).idle tt b c) }
+        → (envelope_codec I.codec).reads b tt v → (envelope_codec I.codec).reads c tt w
+        → ((v ≡ w) ↔ (envelope_codec I.codec).idle tt b c) }
 {}
 
-/// Two accepted strings whose messages can be written are written alike, their headers as they stand, exactly where
-/// they are idle.
+/// Two accepted strings whose messages can be written are written alike, their headers as they
+/// stand, exactly where they are idle.
 pub fn messages_written_alike<I: Coded<Param = u16>>()
     ensures { (b c : List ℕ) (v w : Envelope I.codec.Value) → IsBytes b → IsBytes c
         → (envelope_codec I.codec).reads b tt v → (envelope_codec I.codec).reads c tt w
         → (envelope_codec I.codec).fits v → (envelope_codec I.codec).fits w
-        → (((envelope_codec I.codec).written v ≡ (envelope_codec I.codec).written w) ↔ (envelope_codec I.codec).idle tt b c) }
+        → (((envelope_codec I.codec).written v ≡ (envelope_codec I.codec).written w)
+        ↔ (envelope_codec I.codec).idle tt b c) }
 {}
 
-/// The bytes of a writable message whose header has its own length and type, as `finalize` sets them, read back as
-/// itself exactly where it is in normal form.
+/// The bytes of a writable message whose header has its own length and type, as `finalize` sets
+/// them, read back as itself exactly where it is in normal form.
 pub fn finalized_message_reads_back<I: Coded<Param = u16>>()
     ensures { (type_of : I.codec.Value → ℕ) (v : Envelope I.codec.Value)
-        → (envelope_codec I.codec).is_typed v → (envelope_codec I.codec).fits v → (v.header ≡ finalized I.codec.written type_of v)
-        → ((envelope_codec I.codec).reads ((envelope_codec I.codec).written v) tt v ↔ (envelope_codec I.codec).is_normal tt v) }
+        → (envelope_codec I.codec).is_typed v → (envelope_codec I.codec).fits v
+        → (v.header ≡ finalized I.codec.written type_of v)
+        → ((envelope_codec I.codec).reads ((envelope_codec I.codec).written v) tt v
+        ↔ (envelope_codec I.codec).is_normal tt v) }
 {}
 
-/// A walk that ends without a fault gave the messages into which the datagram is cut, and one that ends with a fault
-/// those that stand in front of it.
+/// A walk that ends without a fault gave the messages into which the datagram is cut, and one that
+/// ends with a fault those that stand in front of it.
 pub fn whole_walk_is_the_datagram()
-    ensures ended { (walk : MessageStrings) (given : List (Bor (List ℕ))) → Drains GivesMessage walk (map (λ (m : Bor (List ℕ)). Ok m) given)
+    ensures ended { (walk : MessageStrings) (given : List (Bor (List ℕ)))
+        → Drains GivesMessage walk (map (λ (m : Bor (List ℕ)). Ok m) given)
         → CutIntoMessages (datagram_left walk) (map (λ (m : Bor (List ℕ)). m.now) given) None }
     ensures fault { (walk last : MessageStrings) (given : List (Bor (List ℕ))) (e : DecodeError)
         → YieldsThen GivesMessage walk (map (λ (m : Bor (List ℕ)). Ok m) given) (Some (Err e)) last
-        → CutIntoMessages (datagram_left walk) (map (λ (m : Bor (List ℕ)). m.now) given) (Some e) × (datagram_left last ≡ []) }
+        → CutIntoMessages (datagram_left walk) (map (λ (m : Bor (List ℕ)). m.now) given) (Some e)
+        × (datagram_left last ≡ []) }
 {}
 
 /// A datagram is cut into at most one list of messages, with one end.
@@ -230,7 +250,8 @@ pub fn one_list_of_messages()
 /// Each datagram has items.
 pub fn datagram_has_items<I: Coded<Param = u16>>()
     ensures { (bytes : List ℕ) → IsBytes bytes
-        → (items : List (Result (Payload I.codec.Value) DecodeError)) × ItemsAre I.codec bytes items }
+        → (items : List (Result (Payload I.codec.Value) DecodeError))
+        × ItemsAre I.codec bytes items }
 {}
 
 /// Each datagram has one list of items.
@@ -242,9 +263,11 @@ pub fn one_list_of_items<I: Coded<Param = u16>>()
     one_message_or_fault::<I>();
 }
 
-/// Messages with all their padding, and then more bytes, have the items of those messages and then those of the others.
+/// Messages with all their padding, and then more bytes, have the items of those messages and then
+/// those of the others.
 pub fn items_in_a_row<I: Coded<Param = u16>>()
-    ensures { (front back : List ℕ) (messages : List (List ℕ)) (xs ys : List (Result (Payload I.codec.Value) DecodeError))
+    ensures { (front back : List ℕ) (messages : List (List ℕ))
+        (xs ys : List (Result (Payload I.codec.Value) DecodeError))
         → AreWholeMessages front messages
         → ItemsAre I.codec front xs → ItemsAre I.codec back ys
         → ItemsAre I.codec (front ++ back) (xs ++ ys) }

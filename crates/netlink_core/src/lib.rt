@@ -1,4 +1,5 @@
-//! What every netlink message crate stands on: faults, the framing of attributes, and readers joined with writers by laws.
+//! What every netlink message crate stands on: faults, the framing of attributes, and readers
+//! joined with writers by laws.
 #![tactic(auto)]
 
 mod attribute;

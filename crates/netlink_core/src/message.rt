@@ -1,9 +1,12 @@
 //! Netlink messages: a header, and what it frames.
 
-ghost use Rattle.std.specs.Prelude.{◌≡◌, ◌≢◌, ◌≤◌, ◌<◌, ◌++◌, ◌↔◌, length, drop, IfOk, IfErr, IsTrue};
+ghost use Rattle.std.specs.Prelude.{◌≡◌, ◌≢◌, ◌≤◌, ◌<◌, ◌++◌, ◌↔◌, length, drop, IfOk, IfErr};
+ghost use Rattle.std.specs.Prelude.{IsTrue};
 ghost use Rattle.byteorder.specs.Endian.{little_number};
 ghost use Rattle.netlink_core.specs.declared.fault.DecodeError.TheVariants.{Memory};
-ghost use Rattle.netlink_core.specs.Envelope.{Payload, Envelope, number_in_front, error_number_of, PayloadIs, IsInnerType, payload_bytes, payload_type, OfInner, finalized, envelope_codec};
+ghost use Rattle.netlink_core.specs.Envelope.{Payload, Envelope, number_in_front, error_number_of};
+ghost use Rattle.netlink_core.specs.Envelope.{PayloadIs, IsInnerType, payload_bytes, payload_type};
+ghost use Rattle.netlink_core.specs.Envelope.{OfInner, finalized, envelope_codec};
 ghost use Rattle.netlink_core.specs.Seen.{payload_of, envelope_of};
 
 use crate::fault::DecodeError;
@@ -52,21 +55,27 @@ pub trait NetlinkSerializable: Coded<Param = u16> {
     fn serialize(&self, buffer: &mut [u8])
         requires writable { Self.codec.fits (Self.seen self.now) }
         requires room { length (Self.codec.written (Self.seen self.now)) ≤ length buffer.old }
-        ensures { buffer.new ≡ Self.codec.written (Self.seen self.now) ++ drop (length (Self.codec.written (Self.seen self.now))) buffer.old };
+        ensures { buffer.new ≡ Self.codec.written (Self.seen self.now)
+            ++ drop (length (Self.codec.written (Self.seen self.now))) buffer.old };
 }
 
-/// A message of a protocol that is read from a payload under the type that the netlink header tells.
+/// A message of a protocol that is read from a payload under the type that the netlink header
+/// tells.
 pub trait NetlinkDeserializable: Coded<Param = u16> {
-    /// Reads a message under the header's type, or tells the first fault. No other field of the header is looked at.
+    /// Reads a message under the header's type, or tells the first fault. No other field of the
+    /// header is looked at.
     fn deserialize(
         alloc: Global,
         header: &NetlinkHeader,
         payload: &[u8],
     ) -> Result<Self, DecodeError>
-        ensures value { IfOk result (λ m. Self.codec.reads payload.now header.now.message_type (Self.seen m)) }
-        ensures fault { IfErr result (λ e. e ≢ Memory → Self.codec.refuses payload.now header.now.message_type e) }
+        ensures value { IfOk result
+            (λ m. Self.codec.reads payload.now header.now.message_type (Self.seen m)) }
+        ensures fault { IfErr result (λ e. e ≢ Memory
+            → Self.codec.refuses payload.now header.now.message_type e) }
         // Memory is wanted only for a payload that has a message.
-        ensures wanted { IfErr result (λ e. e ≡ Memory → (m : Self.codec.Value) × Self.codec.reads payload.now header.now.message_type m) };
+        ensures wanted { IfErr result (λ e. e ≡ Memory → (m : Self.codec.Value)
+            × Self.codec.reads payload.now header.now.message_type m) };
 }
 
 /// What a message carries, by its type.
@@ -110,8 +119,8 @@ impl<I: Coded> NetlinkPayload<I> {
 }
 
 impl<I: NetlinkSerializable> NetlinkPayload<I> {
-    /// The type that the message's header is to tell: `NLMSG_DONE`, `NLMSG_ERROR`, `NLMSG_NOOP`, `NLMSG_OVERRUN`, or
-    /// that of the inner message.
+    /// The type that the message's header is to tell: `NLMSG_DONE`, `NLMSG_ERROR`, `NLMSG_NOOP`,
+    /// `NLMSG_OVERRUN`, or that of the inner message.
     pub fn message_type(&self) -> u16
         ensures { result ≡ payload_type I.type_written (payload_of I.seen self.now) }
     {
@@ -151,9 +160,11 @@ impl<I: NetlinkSerializable> NetlinkPayload<I> {
     // Writes the payload at the front of the buffer, and leaves the rest.
     fn serialize(&self, buffer: &mut [u8])
         requires writable { OfInner I.codec.fits (payload_of I.seen self.now) }
-        requires room { length (payload_bytes I.codec.written (payload_of I.seen self.now)) ≤ length buffer.old }
+        requires room { length (payload_bytes I.codec.written (payload_of I.seen self.now))
+            ≤ length buffer.old }
         ensures { buffer.new ≡ payload_bytes I.codec.written (payload_of I.seen self.now)
-            ++ drop (length (payload_bytes I.codec.written (payload_of I.seen self.now))) buffer.old }
+            ++ drop (length (payload_bytes I.codec.written (payload_of I.seen self.now)))
+            buffer.old }
     {
         match self {
             NetlinkPayload::Done(bytes)
@@ -168,11 +179,14 @@ impl<I: NetlinkSerializable> NetlinkPayload<I> {
 impl<I: NetlinkDeserializable> NetlinkPayload<I> {
     // The payload under the header's type. A payload of nothing never wants memory.
     fn read(alloc: Global, header: &NetlinkHeader, bytes: &[u8]) -> Result<Self, DecodeError>
-        ensures value { IfOk result (λ p. PayloadIs I.codec.reads bytes.now header.now.message_type (payload_of I.seen p)) }
+        ensures value { IfOk result (λ p. PayloadIs I.codec.reads bytes.now header.now.message_type
+            (payload_of I.seen p)) }
         ensures fault { IfErr result (λ e. e ≢ Memory
-            → IsInnerType header.now.message_type × I.codec.refuses bytes.now header.now.message_type e) }
+            → IsInnerType header.now.message_type
+            × I.codec.refuses bytes.now header.now.message_type e) }
         ensures memory { IfErr result (λ e. header.now.message_type ≢ 1) }
-        ensures wanted { IfErr result (λ e. e ≡ Memory → (p : Payload I.codec.Value) × PayloadIs I.codec.reads bytes.now header.now.message_type p) }
+        ensures wanted { IfErr result (λ e. e ≡ Memory → (p : Payload I.codec.Value)
+            × PayloadIs I.codec.reads bytes.now header.now.message_type p) }
     {
         Ok(match header.message_type {
             NLMSG_NOOP => NetlinkPayload::Noop,
@@ -187,7 +201,8 @@ impl<I: NetlinkDeserializable> NetlinkPayload<I> {
 /// A netlink message: a header and a payload.
 #[derive(Debug, Drop, PartialEq, Eq)]
 pub struct NetlinkMessage<I> {
-    /// The header, whose length and type are those that were read or given until `finalize` sets them.
+    /// The header, whose length and type are those that were read or given until `finalize` sets
+    /// them.
     pub header: NetlinkHeader,
     /// What the message carries.
     pub payload: NetlinkPayload<I>,
@@ -213,8 +228,8 @@ impl<I> NetlinkMessage<I> {
 }
 
 impl<I: Coded<Param = u16>> NetlinkMessage<I> {
-    /// Tells the prover that its numbers are within their types, so that the laws of messages hold of it. It does
-    /// nothing.
+    /// Tells the prover that its numbers are within their types, so that the laws of messages hold
+    /// of it. It does nothing.
     pub fn typed(&self)
         ensures { (envelope_codec I.codec).is_typed (envelope_of I.seen self.now) }
     {
@@ -228,15 +243,19 @@ impl<I: Coded<Param = u16>> NetlinkMessage<I> {
 impl<I: NetlinkDeserializable> NetlinkMessage<I> {
     /// Reads the message at the front of the bytes. What follows its length is unread.
     ///
-    /// Refused are fewer than 16 bytes as `EnvelopeCut`, then a length under 16 as `EnvelopeLengthUnder16`, then one
-    /// past the bytes as `EnvelopeLengthPast`, then what the inner message's reader refuses. A message of type
-    /// `NLMSG_NOOP` never wants memory, and its payload is dropped.
+    /// Refused are fewer than 16 bytes as `EnvelopeCut`, then a length under 16 as
+    /// `EnvelopeLengthUnder16`, then one past the bytes as `EnvelopeLengthPast`, then what the
+    /// inner message's reader refuses. A message of type `NLMSG_NOOP` never wants memory, and its
+    /// payload is dropped.
     pub fn deserialize(alloc: Global, bytes: &[u8]) -> Result<Self, DecodeError>
-        ensures value { IfOk result (λ m. (envelope_codec I.codec).reads bytes.now tt (envelope_of I.seen m)) }
-        ensures fault { IfErr result (λ e. e ≢ Memory → (envelope_codec I.codec).refuses bytes.now tt e) }
+        ensures value { IfOk result
+            (λ m. (envelope_codec I.codec).reads bytes.now tt (envelope_of I.seen m)) }
+        ensures fault { IfErr result (λ e. e ≢ Memory
+            → (envelope_codec I.codec).refuses bytes.now tt e) }
         ensures memory { IfErr result (λ e. e ≡ Memory → little_number 2 (drop 4 bytes.now) ≢ 1) }
         // Memory is wanted only for bytes that have a message.
-        ensures wanted { IfErr result (λ e. e ≡ Memory → (m : Envelope I.codec.Value) × (envelope_codec I.codec).reads bytes.now tt m) }
+        ensures wanted { IfErr result (λ e. e ≡ Memory → (m : Envelope I.codec.Value)
+            × (envelope_codec I.codec).reads bytes.now tt m) }
     {
         let header = NetlinkHeader::from_prefix(bytes)?;
         let payload = &bytes[NETLINK_HEADER_LEN..header.length as usize];
@@ -249,15 +268,16 @@ impl<I: NetlinkSerializable> NetlinkMessage<I> {
     /// Sets the header's length to that of the message, and its type to the payload's.
     pub fn finalize(&mut self)
         requires { (envelope_codec I.codec).fits (envelope_of I.seen self.old) }
-        ensures header { self.new.header ≡ finalized I.codec.written I.type_written (envelope_of I.seen self.old) }
+        ensures header { self.new.header ≡ finalized I.codec.written I.type_written
+            (envelope_of I.seen self.old) }
         ensures payload { self.new.payload ≡ self.old.payload }
     {
         self.header.length = self.buffer_len() as u32;
         self.header.message_type = self.payload.message_type();
     }
 
-    /// Whether the message can be written: its inner message can be, and the whole has at most 4,294,967,295 bytes,
-    /// the header's 16 among them.
+    /// Whether the message can be written: its inner message can be, and the whole has at most
+    /// 4,294,967,295 bytes, the header's 16 among them.
     pub fn is_writable(&self) -> bool
         ensures { IsTrue result ↔ (envelope_codec I.codec).fits (envelope_of I.seen self.now) }
     {
@@ -275,9 +295,11 @@ impl<I: NetlinkSerializable> NetlinkMessage<I> {
     /// Writes the header as it stands and then the payload, and leaves the rest of the buffer.
     pub fn serialize(&self, buffer: &mut [u8])
         requires writable { (envelope_codec I.codec).fits (envelope_of I.seen self.now) }
-        requires room { length ((envelope_codec I.codec).written (envelope_of I.seen self.now)) ≤ length buffer.old }
+        requires room { length ((envelope_codec I.codec).written (envelope_of I.seen self.now))
+            ≤ length buffer.old }
         ensures { buffer.new ≡ (envelope_codec I.codec).written (envelope_of I.seen self.now)
-            ++ drop (length ((envelope_codec I.codec).written (envelope_of I.seen self.now))) buffer.old }
+            ++ drop (length ((envelope_codec I.codec).written (envelope_of I.seen self.now)))
+            buffer.old }
     {
         let (header, rest) = buffer.split_at_mut(NETLINK_HEADER_LEN);
         self.header.write_row(header);

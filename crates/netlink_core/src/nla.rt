@@ -1,6 +1,7 @@
 //! Attributes that are written, and the attribute of any kind.
 
-ghost use Rattle.std.specs.Prelude.{◌≡◌, ◌≤◌, ◌<◌, ◌↔◌, replicate, ◌++◌, length, drop, [], map, true, refl, IsTrue, IsOk, IfOk, SomeIff};
+ghost use Rattle.std.specs.Prelude.{◌≡◌, ◌≤◌, ◌<◌, ◌↔◌, replicate, ◌++◌, length, drop, [], map};
+ghost use Rattle.std.specs.Prelude.{true, refl, IsTrue, IsOk, IfOk, SomeIff};
 ghost use Rattle.std.specs.List.{flat_map};
 ghost use Rattle.std.proofs.Common.{rules};
 ghost use Rattle.netlink_core.specs.Attribute.{Attribute, HasFittingValue, AreWritable, written};
@@ -42,7 +43,8 @@ pub trait Nla {
     }
 }
 
-/// A value that is read and written as one attribute: what `emit` writes is the attribute, where its value fits.
+/// A value that is read and written as one attribute: what `emit` writes is the attribute, where
+/// its value fits.
 pub trait WireNla: Nla + Wire {
     ghost emitted_is: { (v : Self) → Self.bytes v ≡ written (Self.attribute v) };
 
@@ -93,9 +95,11 @@ fn zero_padding(padding: &mut [u8])
     }
 }
 
-/// How many bytes the attributes have, one after the other, where each value fits and they have at most so many.
+/// How many bytes the attributes have, one after the other, where each value fits and they have at
+/// most so many.
 pub fn nlas_len_within<T: Nla>(nlas: &[T], limit: usize) -> Option<usize>
-    ensures { SomeIff result (AreWritable (map T.attribute nlas.now) limit) (length (flat_map written (map T.attribute nlas.now))) }
+    ensures { SomeIff result (AreWritable (map T.attribute nlas.now) limit)
+        (length (flat_map written (map T.attribute nlas.now))) }
 {
     let mut room = limit;
     for nla in nlas {
@@ -188,7 +192,8 @@ impl DefaultNla {
         self.value.as_slice()
     }
 
-    /// An equal attribute. It fails only for want of memory, which only a value that has bytes needs.
+    /// An equal attribute. It fails only for want of memory, which only a value that has bytes
+    /// needs.
     pub fn clone(&self, alloc: Global) -> Result<Self, AllocError>
         ensures equal { IfOk result (λ copy. kept_attribute copy ≡ kept_attribute self.now) }
         ensures spare { (kept_attribute self.now).value ≡ [] → IsOk result }

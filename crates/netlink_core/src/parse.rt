@@ -1,6 +1,7 @@
 //! Numbers and texts that fill their bytes.
 
-ghost use Rattle.std.specs.Prelude.{◌≡◌, ◌≢◌, ◌≤◌, ◌++◌, length, drop, string_bytes, None, IsOk, IfOk, IfErr};
+ghost use Rattle.std.specs.Prelude.{◌≡◌, ◌≢◌, ◌≤◌, ◌++◌, length, drop, string_bytes, None, IsOk};
+ghost use Rattle.std.specs.Prelude.{IfOk, IfErr};
 ghost use Rattle.byteorder.specs.Endian.{little_bytes};
 ghost use Rattle.netlink_core.specs.declared.fault.DecodeError.TheVariants.{Memory};
 ghost use Rattle.netlink_core.specs.Parse.{exact_number, without_end_zero, text_in};
@@ -20,7 +21,8 @@ pub fn parse_u8(payload: &[u8]) -> Result<u8, DecodeError>
     }
 }
 
-/// The number in exactly four bytes, the low byte first. Any other length is `WrongLength` with no kind.
+/// The number in exactly four bytes, the low byte first. Any other length is `WrongLength` with no
+/// kind.
 pub fn parse_u32(payload: &[u8]) -> Result<u32, DecodeError>
     ensures { result ≡ exact_number None 4 payload.now }
 {
@@ -52,7 +54,8 @@ pub fn parse_string(alloc: Global, payload: &[u8]) -> Result<String, DecodeError
     Ok(String::from_str(alloc, parse_str(payload)?)?)
 }
 
-/// The text in the bytes, in place, without the one zero that may stand at their end. What is not UTF-8 is `NotUtf8`.
+/// The text in the bytes, in place, without the one zero that may stand at their end. What is not
+/// UTF-8 is `NotUtf8`.
 #[tactic(auto, using(crate::proofs::Texts::text_there, crate::proofs::Texts::no_text))]
 #[inline(always)]
 pub fn parse_str(payload: &[u8]) -> Result<&str, DecodeError>

@@ -1,6 +1,7 @@
 //! Records: what each is read from and written as, and all that follows from it.
 
-ghost use Rattle.std.specs.Prelude.{◌≡◌, ◌≢◌, ◌≤◌, IfErr, ℕ, List, length, take, SomeIff, false, ⊤, refl};
+ghost use Rattle.std.specs.Prelude.{◌≡◌, ◌≢◌, ◌≤◌, IfErr, ℕ, List, length, take, SomeIff, false, ⊤};
+ghost use Rattle.std.specs.Prelude.{refl};
 ghost use Rattle.netlink_core.specs.Format.{Format, read, read_row, bytes, IsTyped};
 ghost use Rattle.netlink_core.specs.declared.fault.DecodeError.TheVariants.{Memory};
 ghost use Rattle.netlink_core.specs.Codec.{record_codec, RecordLaws};

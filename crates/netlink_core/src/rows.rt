@@ -1,7 +1,8 @@
 //! The rows of a record's table, read from its bytes. Records are made of them.
 
 ghost use Rattle.std.specs.Prelude.{◌≡◌, ◌≤◌, ◌+◌, ◌*◌, ℕ, length};
-ghost use Rattle.netlink_core.specs.Table.{bytes_at, numbers, little_endian, big_endian, values_of, Fit};
+ghost use Rattle.netlink_core.specs.Table.{bytes_at, numbers, little_endian, big_endian, values_of};
+ghost use Rattle.netlink_core.specs.Table.{Fit};
 
 use byteorder::{BigEndian, ByteOrder, LittleEndian};
 
@@ -51,7 +52,8 @@ pub fn words_typed(_words: &[u32])
     ensures { (place : ℕ) → Fit (numbers place 4 little_endian (length _words.now)) _words.now }
 {}
 
-/// Tells the prover that long words are numbers of eight bytes, wherever they stand. It does nothing.
+/// Tells the prover that long words are numbers of eight bytes, wherever they stand. It does
+/// nothing.
 #[tactic(auto, using(crate::proofs::RowReads::fit_numbers))]
 pub fn long_words_typed(_words: &[u64])
     ensures { (place : ℕ) → Fit (numbers place 8 little_endian (length _words.now)) _words.now }

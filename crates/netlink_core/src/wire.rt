@@ -11,12 +11,14 @@ ghost use Rattle.netlink_core.specs.declared.fault.DecodeError.TheVariants.{Memo
 use crate::{CanonError, DecodeError, Emitable, Readable};
 use std::alloc::Global;
 
-/// A value that stands in bytes: how it is read and written, what is compared of it, and the laws between them.
+/// A value that stands in bytes: how it is read and written, what is compared of it, and the laws
+/// between them.
 pub trait Coded: PartialEq + Sized {
     /// What the reader is told beside the bytes.
     type Param: Copy;
 
-    // How it stands in bytes, and what is compared of a value: each field, and lists by their elements.
+    // How it stands in bytes, and what is compared of a value: each field, and lists by their
+    // elements.
     ghost codec: { Codec Self.Param };
 
     ghost seen: { Self → codec.Value };
@@ -38,52 +40,73 @@ pub trait Coded: PartialEq + Sized {
     // `==` compares what is seen.
     ghost eq_is_seen: { (v w : Self) → IsTrue (Self.eq v w) ↔ (seen v ≡ seen w) };
 
-    // A string has one value or one fault, idle strings have equal values, and a value in normal form reads back.
+    // A string has one value or one fault, idle strings have equal values, and a value in normal
+    // form reads back.
     ghost laws: { KeepsLaws codec };
 
     // What follows holds by these laws, for every type.
     // On accepted strings idle is reflexive, symmetric and transitive.
-    ghost idle_reflexive: { (b : List ℕ) (p : Self.Param) (v : codec.Value) → IsBytes b → codec.reads b p v → codec.idle p b b } = { λ b p v tb r. (laws.same_value b b p v v tb tb r r).0 refl };
+    ghost idle_reflexive: { (b : List ℕ) (p : Self.Param) (v : codec.Value) → IsBytes b
+        → codec.reads b p v
+        → codec.idle p b b } = { λ b p v tb r. (laws.same_value b b p v v tb tb r r).0 refl };
 
-    ghost idle_symmetric: { (b c : List ℕ) (p : Self.Param) (v w : codec.Value) → IsBytes b → IsBytes c
-        → codec.reads b p v → codec.reads c p w → codec.idle p b c → codec.idle p c b } = { λ b c p v w tb tc r s h.
-            (laws.same_value c b p w v tc tb s r).0 (sym ((laws.same_value b c p v w tb tc r s).1 h)) };
+    ghost idle_symmetric: { (b c : List ℕ) (p : Self.Param) (v w : codec.Value) → IsBytes b
+        → IsBytes c
+        → codec.reads b p v → codec.reads c p w → codec.idle p b c
+        → codec.idle p c b } = { λ b c p v w tb tc r s h.
+            (laws.same_value c b p w v tc tb s r).0
+            (sym ((laws.same_value b c p v w tb tc r s).1 h)) };
 
-    ghost idle_transitive: { (b c d : List ℕ) (p : Self.Param) (v w x : codec.Value) → IsBytes b → IsBytes c → IsBytes d
-        → codec.reads b p v → codec.reads c p w → codec.reads d p x → codec.idle p b c → codec.idle p c d → codec.idle p b d } = { λ b c d p v w x tb tc td r s t h k.
+    ghost idle_transitive: { (b c d : List ℕ) (p : Self.Param) (v w x : codec.Value) → IsBytes b
+        → IsBytes c → IsBytes d
+        → codec.reads b p v → codec.reads c p w → codec.reads d p x → codec.idle p b c
+        → codec.idle p c d → codec.idle p b d } = { λ b c d p v w x tb tc td r s t h k.
             (laws.same_value b d p v x tb td r t).0
-            ((laws.same_value b c p v w tb tc r s).1 h ∙ (laws.same_value c d p w x tc td s t).1 k) };
+            ((laws.same_value b c p v w tb tc r s).1 h
+            ∙ (laws.same_value c d p w x tc td s t).1 k) };
 
     // A string has one value.
     ghost one_value: { (b : List ℕ) (p : Self.Param) (v w : codec.Value) → IsBytes b
         → codec.reads b p v → codec.reads b p w → v ≡ w } = { λ b p v w tb r s.
-            (laws.same_value b b p v w tb tb r s).1 ((laws.same_value b b p v v tb tb r r).0 refl) };
+            (laws.same_value b b p v w tb tb r s).1
+            ((laws.same_value b b p v v tb tb r r).0 refl) };
 
     // Writable values in normal form with equal bytes are equal.
-    ghost equal_by_bytes: { (p : Self.Param) (v w : codec.Value) → codec.is_typed v → codec.is_typed w → codec.is_normal p v → codec.is_normal p w
-        → codec.fits v → codec.fits w → codec.written v ≡ codec.written w → v ≡ w } = { λ p v w tv tw nv nw fv fw e.
+    ghost equal_by_bytes: { (p : Self.Param) (v w : codec.Value) → codec.is_typed v
+        → codec.is_typed w → codec.is_normal p v → codec.is_normal p w
+        → codec.fits v → codec.fits w → codec.written v ≡ codec.written w
+        → v ≡ w } = { λ p v w tv tw nv nw fv fw e.
             one_value (codec.written w) p v w (laws.written_bytes w tw)
             (subst (λ (b : List ℕ). codec.reads b p v) e (laws.reads_back p v tv nv fv))
             (laws.reads_back p w tw nw fw) };
 
     // The bytes of a writable value that was read are idle with the string.
-    ghost idle_with_written: { (b : List ℕ) (p : Self.Param) (v : codec.Value) → IsBytes b → codec.reads b p v → codec.fits v
+    ghost idle_with_written: { (b : List ℕ) (p : Self.Param) (v : codec.Value) → IsBytes b
+        → codec.reads b p v → codec.fits v
         → codec.idle p b (codec.written v) } = { λ b p v tb r f.
             let n = laws.reads_normal b p v tb r in
-            (laws.same_value b (codec.written v) p v v tb (laws.written_bytes v n.0) r (laws.reads_back p v n.0 n.1 f)).0 refl };
+            (laws.same_value b (codec.written v) p v v tb (laws.written_bytes v n.0) r
+            (laws.reads_back p v n.0 n.1 f)).0 refl };
 
     // A writable typed value reads back as itself exactly where it is in normal form.
     ghost reads_back_exactly: { (p : Self.Param) (v : codec.Value) → codec.is_typed v → codec.fits v
-        → (codec.reads (codec.written v) p v ↔ codec.is_normal p v) } = { λ p v tv f.
-            (λ r. (laws.reads_normal (codec.written v) p v (laws.written_bytes v tv) r).1, λ n. laws.reads_back p v tv n f) };
+        → (codec.reads (codec.written v) p v ↔ codec.is_normal p v) } = { λ p v tv f. (
+          λ r. (laws.reads_normal (codec.written v) p v (laws.written_bytes v tv) r).1,
+          λ n. laws.reads_back p v tv n f,
+        ) };
 
     // Accepted strings with writable values are written alike exactly where they are idle.
-    ghost written_alike: { (b c : List ℕ) (p : Self.Param) (v w : codec.Value) → IsBytes b → IsBytes c
-        → codec.reads b p v → codec.reads c p w → codec.fits v → codec.fits w → ((codec.written v ≡ codec.written w) ↔ codec.idle p b c) } = { λ b c p v w tb tc r s fv fw.
+    ghost written_alike: { (b c : List ℕ) (p : Self.Param) (v w : codec.Value) → IsBytes b
+        → IsBytes c
+        → codec.reads b p v → codec.reads c p w → codec.fits v → codec.fits w
+        → ((codec.written v ≡ codec.written w)
+        ↔ codec.idle p b c) } = { λ b c p v w tb tc r s fv fw.
             let same = laws.same_value b c p v w tb tc r s in
             let n = laws.reads_normal b p v tb r in
-            let m = laws.reads_normal c p w tc s in
-            (λ e. same.0 (equal_by_bytes p v w n.0 m.0 n.1 m.1 fv fw e), λ i. ap codec.written (same.1 i)) };
+            let m = laws.reads_normal c p w tc s in (
+              λ e. same.0 (equal_by_bytes p v w n.0 m.0 n.1 m.1 fv fw e),
+              λ i. ap codec.written (same.1 i),
+            ) };
 }
 
 /// A type whose reader and writer are those of its codec.
@@ -95,7 +118,8 @@ pub trait Wire: Coded + Readable + Emitable {
         ensures fault { IfErr result (λ e. e ≢ Memory → Self.codec.refuses bytes.now param e) }
         ensures memory { IfErr result (λ e. e ≡ Memory → IsTrue Self.TAKES_MEMORY) }
         // Memory is wanted only where the string has a value, and one that is not spare.
-        ensures wanted { IfErr result (λ e. e ≡ Memory → WantsMemory (Self.codec.reads bytes.now param) Self.codec.is_spare) };
+        ensures wanted { IfErr result (λ e. e ≡ Memory
+            → WantsMemory (Self.codec.reads bytes.now param) Self.codec.is_spare) };
 
     /// The bytes that the value in the bytes is written as: what [`canonical`](crate::canonical)
     /// answers. It makes a value, and a type that has a view writes from that instead.
@@ -142,8 +166,8 @@ pub fn write_new<T: Emitable>(alloc: Global, value: &T) -> Result<Vec<u8>, Canon
     Ok(written)
 }
 
-/// Tells the prover that bytes are numbers below 256. Like [`word_typed`] it is for a type's own [`Coded::typed`], and
-/// does nothing.
+/// Tells the prover that bytes are numbers below 256. Like [`word_typed`] it is for a type's own
+/// [`Coded::typed`], and does nothing.
 pub fn bytes_typed(_bytes: &[u8])
     ensures { IsBytes _bytes.now }
 {}

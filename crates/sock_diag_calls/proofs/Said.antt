@@ -27,7 +27,8 @@ module _ {A B : Type 0} where
   not_one (Err e) y h = cc
 
   -- what is left to the later rows was read by them
-  was_other : (read : Result B DecodeError) (y : B) → said_as other read ≡ Ok (other y) → read ≡ Ok y
+  was_other : (read : Result B DecodeError) (y : B) → said_as other read ≡ Ok (other y)
+      → read ≡ Ok y
   was_other (Ok u) y h = cc
   was_other (Err e) y h = absurd cc
 
@@ -36,14 +37,20 @@ module _ {A B : Type 0} where
   not_other (Err e) x h = cc
 
 -- a number of so many bytes
-number_there : (k width n : ℕ) (value : List ℕ) → exact_number (Some k) width value ≡ Ok n → (length value ≡ width) × (n ≡ little_number width value)
+number_there : (k width n : ℕ) (value : List ℕ) → exact_number (Some k) width value ≡ Ok n
+    → (length value ≡ width) × (n ≡ little_number width value)
 number_there k width n value h = elim (cases_eq (length value) width) [
-  | inl same ↦ (same, let read : Ok (little_number width value) ≡ Ok n = rw (eq-eqb (length value) width same) at h in cc)
+  | inl same ↦ (
+    same,
+    let read : Ok (little_number width value)
+        ≡ Ok n = rw (eq-eqb (length value) width same) at h in cc,
+  )
   | inr differs ↦ absurd (let refused = rw (ne_eqb (length value) width differs) at h in cc)
 ]
 
 -- an attribute that says a peer is of the kind 2, and its value is the peer's number
-pub peer_said : (a : Attribute) (n : ℕ) → says unix a ≡ Ok (said unix 2 n) → (kind_of a ≡ 2) × (length a.value ≡ 4) × (n ≡ little_number 4 a.value)
+pub peer_said : (a : Attribute) (n : ℕ) → says unix a ≡ Ok (said unix 2 n) → (kind_of a ≡ 2)
+    × (length a.value ≡ 4) × (n ≡ little_number 4 a.value)
 peer_said a n h =
     elim (cases_eq (kind_of a) 0) [
       | inl zero ↦ absurd (not_one _ _ (rw (eq-eqb (kind_of a) 0 zero) at h))
@@ -55,7 +62,8 @@ peer_said a n h =
                 let at_2 = was_other _ _ (rw (ne_eqb (kind_of a) 1 not_1) at at_1) in
                 elim (cases_eq (kind_of a) 2) [
                   | inl two ↦
-                      let number = number_there 2 4 n a.value (was_one _ _ (rw (eq-eqb (kind_of a) 2 two) at at_2)) in
+                      let number = number_there 2 4 n a.value
+                      (was_one _ _ (rw (eq-eqb (kind_of a) 2 two) at at_2)) in
                       (two, number.0, number.1)
                   | inr not_2 ↦ absurd (not_other _ _ (rw (ne_eqb (kind_of a) 2 not_2) at at_2))
                 ]

@@ -14,7 +14,8 @@ use netlink_packet_sock_diag::unix::nlas::NameView;
 
 /// Whether a reply about a UNIX socket tells that it is bound to this path.
 pub fn is_bound_to(reply: &[u8], path: &[u8]) -> Result<bool, DecodeError>
-    ensures value { IfOk result (λ bound. (v : UnixReply) × (reply_codec unix_reply).reads reply.now tt v
+    ensures value { IfOk result (λ bound. (v : UnixReply) × (reply_codec unix_reply).reads reply.now
+        tt v
         × (IsTrue bound ↔ (first_of (content unix 0) v.nlas ≡ Some (pathname path.now)))) }
     ensures fault { IfErr result ((reply_codec unix_reply).refuses reply.now tt) }
 {

@@ -5,12 +5,14 @@ ghost use Rattle.netlink_core.specs.Attribute.{Attribute, Cut, CutOff, IsFraming
 
 use netlink_core::{DecodeError, NlasIterator};
 
-/// How many attributes stand in the bytes, one after the other and nothing else, or the first fault of their framing.
+/// How many attributes stand in the bytes, one after the other and nothing else, or the first fault
+/// of their framing.
 #[tactic(auto, using(crate::proofs::Counted::counting))]
 pub fn count_attributes(bytes: &[u8]) -> Result<usize, DecodeError>
     ensures count { IfOk result (λ count. (attributes : List Attribute)
         × Cut bytes.now attributes × (length attributes ≡ count)) }
-    ensures fault { IfErr result (λ fault. (before : List Attribute) × CutOff IsFramingFault bytes.now before fault) }
+    ensures fault { IfErr result (λ fault. (before : List Attribute)
+        × CutOff IsFramingFault bytes.now before fault) }
 {
     let mut count = 0;
     for item in NlasIterator::new(bytes) {

@@ -1,4 +1,5 @@
-//! The callers that the pages CALLING.md of the five libraries show, one module for each page, and two for that of `netlink_core`.
+//! The callers that the pages CALLING.md of the five libraries show, one module for each page, and
+//! two for that of `netlink_core`.
 #![tactic(auto)]
 
 pub mod bound_sockets;

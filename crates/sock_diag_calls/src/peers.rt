@@ -8,7 +8,8 @@ ghost use Rattle.netlink_core.specs.Walk.{attribute_of};
 use netlink_core::NlaBuffer;
 use sock_diag_attributes::unix::nlas::NlaView;
 
-/// The inode of the peer, where an attribute of a UNIX socket's reply is `UNIX_DIAG_PEER` and has four bytes.
+/// The inode of the peer, where an attribute of a UNIX socket's reply is `UNIX_DIAG_PEER` and has
+/// four bytes.
 pub fn peer(nla: &NlaBuffer<'_>) -> Option<u32>
     ensures { SomeIff result
         ((kind_of (attribute_of nla.now) ≡ 2) × (length (attribute_of nla.now).value ≡ 4))

@@ -6,8 +6,8 @@ ghost use Rattle.netlink_core.specs.declared.fault.DecodeError.TheVariants.{Memo
 use netlink_core::{DecodeError, Wire};
 use std::alloc::Global;
 
-/// A copy of a writable value in normal form: what is read from the bytes that it is written as. It fails only for
-/// want of memory.
+/// A copy of a writable value in normal form: what is read from the bytes that it is written as. It
+/// fails only for want of memory.
 pub fn copy_by_bytes<T: Wire + Drop>(
     alloc: Global,
     value: &T,

@@ -3,4 +3,5 @@ use Rattle.std.proofs.Common.{◌≡◌, ℕ, List, ◌++◌, ap, ◌∙◌, app
 
 -- two parts one after the other
 pub adds : (old mid new x y : List ℕ) → mid ≡ old ++ x → new ≡ mid ++ y → new ≡ old ++ (x ++ y)
-adds old mid new x y first second = second ∙ ap (λ (t : List ℕ). t ++ y) first ∙ append_assoc old x y
+adds old mid new x y first second = second ∙ ap (λ (t : List ℕ). t ++ y) first
+    ∙ append_assoc old x y

@@ -8,12 +8,16 @@ use Rattle.std.proofs.KnownBytes.{Appends-kept, Appends-trans, Consumes-nil, Con
 use Rattle.std.proofs.KnownBytes.{Keeps-refl}
 use Rattle.sock_diag_captures.specs.Capture.{IsFileHeader, IsHeaderStop, IsPacketStop, IsRecord}
 use Rattle.sock_diag_captures.specs.declared.capture.CaptureError.{CaptureError}
-use Rattle.sock_diag_captures.specs.declared.capture.CaptureError.TheVariants.{Cut, NoCapture, OtherVersion}
-use Rattle.sock_diag_captures.specs.declared.capture.CaptureError.TheVariants.{OtherLinkType, PacketTooLong}
-use Rattle.sock_diag_captures.specs.declared.capture.CaptureError.TheVariants.{Read, Memory as NoMemory}
+use Rattle.sock_diag_captures.specs.declared.capture.CaptureError.TheVariants.{Cut, NoCapture}
+use Rattle.sock_diag_captures.specs.declared.capture.CaptureError.TheVariants.{OtherVersion}
+use Rattle.sock_diag_captures.specs.declared.capture.CaptureError.TheVariants.{OtherLinkType}
+use Rattle.sock_diag_captures.specs.declared.capture.CaptureError.TheVariants.{PacketTooLong}
+use Rattle.sock_diag_captures.specs.declared.capture.CaptureError.TheVariants.{Read}
+use Rattle.sock_diag_captures.specs.declared.capture.CaptureError.TheVariants.{Memory as NoMemory}
 use Rattle.sock_diag_captures.specs.declared.capture.FileHeader.{FileHeader}
 use Rattle.sock_diag_captures.specs.declared.stream.RunError.{RunError}
-use Rattle.sock_diag_captures.specs.declared.stream.RunError.TheVariants.{Header, Packet, Write, Memory}
+use Rattle.sock_diag_captures.specs.declared.stream.RunError.TheVariants.{Header, Packet, Write}
+use Rattle.sock_diag_captures.specs.declared.stream.RunError.TheVariants.{Memory}
 use Rattle.sock_diag_captures.specs.Run.{Fails, IsListed, IsTable, Stands, Told, lines_told}
 use Rattle.sock_diag_captures.proofs.Progress.{Progress, goes_on_part, goes_on_whole, lines_push}
 use Rattle.sock_diag_captures.proofs.Progress.{progress_begins}

@@ -28,7 +28,8 @@ whole_last (y ∷ xs) x h = whole_last xs x h.1
 
 pub lines_push : (xs : List Told) (x : Told)
     → flat_map lines_told (xs ++ x ∷ []) ≡ flat_map lines_told xs ++ x.lines
-lines_push xs x = flat_map-append lines_told xs (x ∷ []) ∙ ap (λ (t : List ℕ). flat_map lines_told xs ++ t) (append-nil x.lines)
+lines_push xs x = flat_map-append lines_told xs (x ∷ [])
+    ∙ ap (λ (t : List ℕ). flat_map lines_told xs ++ t) (append-nil x.lines)
 
 module _ (R : List ℕ → List ℕ → Type 0) (L : List ℕ → Told → Type 0) where
   pub listed_push : (ps : List (List ℕ)) (xs : List Told) (p : List ℕ) (x : Told) → AllZip L ps xs
@@ -40,9 +41,22 @@ module _ (R : List ℕ → List ℕ → Type 0) (L : List ℕ → Told → Type 
 
   pub packets_push : (bytes : List ℕ) (ps : List (List ℕ)) (header p : List ℕ)
       → ArePackets R bytes ps → R header p → ArePackets R (bytes ++ (header ++ p)) (ps ++ p ∷ [])
-  packets_push bytes [] header p h is = (header, [], is, ap (λ (b : List ℕ). b ++ (header ++ p)) h ∙ sym (append-nil (header ++ p)), refl)
-  packets_push bytes (q ∷ ps) header p h is =
-      (h.0, h.1 ++ (header ++ p), h.2, ap (λ (b : List ℕ). b ++ (header ++ p)) h.3 ∙ append_assoc (h.0 ++ q) h.1 (header ++ p), packets_push h.1 ps header p h.4 is)
+  packets_push bytes [] header p h is = (
+    header,
+    [],
+    is,
+    ap (λ (b : List ℕ). b ++ (header ++ p)) h
+        ∙ sym (append-nil (header ++ p)),
+    refl,
+  )
+  packets_push bytes (q ∷ ps) header p h is = (
+    h.0,
+    h.1 ++ (header ++ p),
+    h.2,
+    ap (λ (b : List ℕ). b ++ (header ++ p)) h.3
+        ∙ append_assoc (h.0 ++ q) h.1 (header ++ p),
+    packets_push h.1 ps header p h.4 is,
+  )
 
   -- these packets were read and listed, and the next one has this number
   pub record Progress (remaining remaining' contents contents' : Option (List ℕ)) (is_whole : Bool)
@@ -76,8 +90,10 @@ module _ (R : List ℕ → List ℕ → Type 0) (L : List ℕ → Told → Type 
   -- one more packet is read and listed
   abbrev pub progress_goes_on : (a b c x y z : Option (List ℕ)) (header p lines : List ℕ)
       (one whole whole' : Bool) (number : ℕ) → Progress a b x y whole number
-      → R header p → L p (record { lines = lines; whole = one }) → Consumes b c (header ++ p) → Appends y z lines
-      → (IsTrue whole' → IsTrue whole) → (IsTrue whole' → IsTrue one) → (IsTrue whole → IsTrue one → IsTrue whole')
+      → R header p → L p (record { lines = lines; whole = one }) → Consumes b c (header ++ p)
+      → Appends y z lines
+      → (IsTrue whole' → IsTrue whole) → (IsTrue whole' → IsTrue one)
+      → (IsTrue whole → IsTrue one → IsTrue whole')
       → Progress a c x z whole' (number + 1)
   progress_goes_on a b c x y z header p lines one whole whole' number so_far is listed read appended
       front last both =
@@ -88,9 +104,11 @@ module _ (R : List ℕ → List ℕ → Type 0) (L : List ℕ → Told → Type 
         read = Consumes-trans a b c so_far.records (header ++ p) so_far.read read;
         are_packets = packets_push so_far.records so_far.packets header p so_far.are_packets is;
         listed = listed_push so_far.packets so_far.told p new so_far.listed listed;
-        appended = subst (λ (t : List ℕ). Appends x z t) (sym (lines_push so_far.told new)) (Appends-trans x y z (flat_map lines_told so_far.told) lines so_far.appended appended);
+        appended = subst (λ (t : List ℕ). Appends x z t) (sym (lines_push so_far.told new))
+            (Appends-trans x y z (flat_map lines_told so_far.told) lines so_far.appended appended);
         flagged = λ h. whole_push so_far.told new (so_far.flagged (front h)) (last h);
-        whole_only = λ h. both (so_far.whole_only (whole_front so_far.told new h)) (whole_last so_far.told new h);
+        whole_only = λ h. both (so_far.whole_only (whole_front so_far.told new h))
+            (whole_last so_far.told new h);
         next = omega (arith, so_far.next, length-append so_far.packets (p ∷ []));
       }
 

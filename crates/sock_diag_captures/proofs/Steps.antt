@@ -12,7 +12,8 @@ use Rattle.sock_diag_captures.specs.Listing.{IsPlain, item_lines}
 use Rattle.sock_diag_captures.proofs.Listings.{Gives}
 
 pub gives_item : (rest next : List ℕ) (item : Result PayloadView DecodeError)
-    → ((message : List ℕ) × StartsWithMessage rest message next × ItemIs message_codec message (viewed_item item))
+    → ((message : List ℕ) × StartsWithMessage rest message next
+    × ItemIs message_codec message (viewed_item item))
     ⊎ ((e : DecodeError) × (item ≡ Err e) × (rest ≢ []) × IsEnvelopeFault rest e × (next ≡ []))
     → Gives message_codec item_lines IsPlain rest (viewed_item item) next
 gives_item rest next item step = elim step [

@@ -7,8 +7,10 @@ use Rattle.std.specs.Io.KnownBytes.{Consumes}
 use Rattle.std.proofs.KnownBytes.{Consumes-trans}
 use Rattle.sock_diag_captures.specs.Capture.{IsPacketStop, IsStop, number_at}
 use Rattle.sock_diag_captures.specs.declared.capture.CaptureError.{CaptureError}
-use Rattle.sock_diag_captures.specs.declared.capture.CaptureError.TheVariants.{Read, Memory, Cut, NoCapture}
-use Rattle.sock_diag_captures.specs.declared.capture.CaptureError.TheVariants.{OtherVersion, OtherLinkType}
+use Rattle.sock_diag_captures.specs.declared.capture.CaptureError.TheVariants.{Read, Memory, Cut}
+use Rattle.sock_diag_captures.specs.declared.capture.CaptureError.TheVariants.{NoCapture}
+use Rattle.sock_diag_captures.specs.declared.capture.CaptureError.TheVariants.{OtherVersion}
+use Rattle.sock_diag_captures.specs.declared.capture.CaptureError.TheVariants.{OtherLinkType}
 use Rattle.sock_diag_captures.specs.declared.capture.CaptureError.TheVariants.{PacketTooLong}
 use Rattle.sock_diag_captures.specs.declared.capture.FileHeader.{FileHeader}
 

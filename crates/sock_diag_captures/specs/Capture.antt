@@ -6,8 +6,10 @@ use Rattle.byteorder.specs.Endian.{big_number, little_number}
 use Rattle.sock_diag_captures.specs.declared.capture.ByteOrder.{ByteOrder}
 use Rattle.sock_diag_captures.specs.declared.capture.ByteOrder.TheVariants.{LowFirst, HighFirst}
 use Rattle.sock_diag_captures.specs.declared.capture.CaptureError.{CaptureError}
-use Rattle.sock_diag_captures.specs.declared.capture.CaptureError.TheVariants.{Read, Memory, Cut, NoCapture}
-use Rattle.sock_diag_captures.specs.declared.capture.CaptureError.TheVariants.{OtherVersion, OtherLinkType}
+use Rattle.sock_diag_captures.specs.declared.capture.CaptureError.TheVariants.{Read, Memory, Cut}
+use Rattle.sock_diag_captures.specs.declared.capture.CaptureError.TheVariants.{NoCapture}
+use Rattle.sock_diag_captures.specs.declared.capture.CaptureError.TheVariants.{OtherVersion}
+use Rattle.sock_diag_captures.specs.declared.capture.CaptureError.TheVariants.{OtherLinkType}
 use Rattle.sock_diag_captures.specs.declared.capture.CaptureError.TheVariants.{PacketTooLong}
 use Rattle.sock_diag_captures.specs.declared.capture.FileHeader.{FileHeader}
 
@@ -24,8 +26,8 @@ IsMagic n = (n ≡ 0xa1b2c3d4) ⊎ (n ≡ 0xa1b23c4d)
 abbrev pub limit_of : ℕ → ℕ
 limit_of told = if told == 0 then 262144 else (if nat_lt 262144 told then 262144 else told)
 
--- The file header, 24 bytes: the magic number at 0, the version at 4 and 6, of which the first number is 2, the most bytes
--- of a packet at 16, and the type of the link at 20, 253 for netlink.
+-- The file header, 24 bytes: the magic number at 0, the version at 4 and 6, of which the first
+-- number is 2, the most bytes of a packet at 16, and the type of the link at 20, 253 for netlink.
 pub record IsFileHeader (bytes : List ℕ) (h : FileHeader) : Type 0 where
   pub magic : IsMagic (number_at h.order 4 0 bytes)
   pub version : number_at h.order 2 4 bytes ≡ 2

@@ -1,5 +1,7 @@
 -- What the datagrams of a capture are listed as.
-use Rattle.std.specs.Prelude.{◌≡◌, ◌≢◌, ◌↔◌, Bool, IsTrue, ℕ, ◌-◌, ◌^◌, ◌%◌, ◌==◌, if◌then◌else◌, nat_lt, List, [], ◌++◌, ◌≤◌, ◌⊎◌, bit_and, drop, length, flat_map, Option, None, Some, Result, Ok, Err}
+use Rattle.std.specs.Prelude.{◌≡◌, ◌≢◌, ◌↔◌, Bool, IsTrue, ℕ, ◌-◌, ◌^◌, ◌%◌, ◌==◌, if◌then◌else◌}
+use Rattle.std.specs.Prelude.{nat_lt, List, [], ◌++◌, ◌≤◌, ◌⊎◌, bit_and, drop, length, flat_map}
+use Rattle.std.specs.Prelude.{Option, None, Some, Result, Ok, Err}
 use Rattle.byteorder.specs.Endian.{little_number}
 use Rattle.std.specs.List.{AllByRecursion}
 use Rattle.netlink_core.specs.declared.fault.DecodeError.{DecodeError}
@@ -7,7 +9,8 @@ use Rattle.netlink_core.specs.declared.header.NetlinkHeader.{NetlinkHeader}
 use Rattle.netlink_core.specs.Header.{HasHeader}
 use Rattle.sock_diag_captures.specs.Cooked.{IsOfSockDiag}
 use Rattle.netlink_core.specs.declared.fault.DecodeError.TheVariants.{UnknownFamily}
-use Rattle.netlink_core.specs.Envelope.{Payload, done_with, error_with, no_payload, overrun_with, inner}
+use Rattle.netlink_core.specs.Envelope.{Payload, done_with, error_with, no_payload, overrun_with}
+use Rattle.netlink_core.specs.Envelope.{inner}
 use Rattle.netlink_core.specs.Items.{ItemsAre}
 use Rattle.netlink_packet_sock_diag.specs.Message.{Message, message_codec}
 use Rattle.sock_diag_captures.specs.Table.{message_lines}
@@ -23,8 +26,8 @@ abbrev pub item_lines : Item → List ℕ
 item_lines (Ok (inner message)) = message_lines message
 item_lines _ = []
 
--- The number of the error that a payload begins with, which the kernel writes as a negative number of four bytes. It is 0
--- where there is none, and where the payload has fewer bytes.
+-- The number of the error that a payload begins with, which the kernel writes as a negative number
+-- of four bytes. It is 0 where there is none, and where the payload has fewer bytes.
 abbrev pub error_number : List ℕ → ℕ
 error_number payload = if nat_lt (length payload) 4 then 0 else (2 ^ 32 - little_number 4 payload) % 2 ^ 32
 
@@ -68,15 +71,17 @@ pub record IsAnswer (packet : List ℕ) : Type 0 where
   pub sock_diag : IsOfSockDiag packet
   pub no_request : ¬ IsRequest (drop 16 packet)
 
--- The lines of the datagram follow those before: of each of its items in order. Whether nothing is told of any of them.
+-- The lines of the datagram follow those before: of each of its items in order. Whether nothing is
+-- told of any of them.
 pub record Lists (datagram before after : List ℕ) (is_clean : Bool) : Type 0 where
   pub items : List Item
   pub carried : Carries datagram items
   pub lines : after ≡ before ++ flat_map item_lines items
   pub clean : IsTrue is_clean ↔ IsClean items
 
--- The lines of the packet follow those before: those of its datagram where it is an answer of sock_diag(7), and none for
--- another. Of one with fewer than 16 bytes something is told, and of no other that is no answer.
+-- The lines of the packet follow those before: those of its datagram where it is an answer of
+-- sock_diag(7), and none for another. Of one with fewer than 16 bytes something is told, and of no
+-- other that is no answer.
 abbrev pub ListsPacket : List ℕ → List ℕ → List ℕ → Bool → Type 0
 ListsPacket packet before after is_clean =
     (IsAnswer packet × Lists (drop 16 packet) before after is_clean)

@@ -5,7 +5,8 @@ use Rattle.std.specs.Io.KnownBytes.{Appends, Consumes, IsAtEnd, Keeps}
 use Rattle.std.specs.List.{AllByRecursion, AllZip}
 use Rattle.sock_diag_captures.specs.declared.capture.FileHeader.{FileHeader}
 use Rattle.sock_diag_captures.specs.declared.stream.RunError.{RunError}
-use Rattle.sock_diag_captures.specs.declared.stream.RunError.TheVariants.{Header, Packet, Write, Memory}
+use Rattle.sock_diag_captures.specs.declared.stream.RunError.TheVariants.{Header, Packet, Write}
+use Rattle.sock_diag_captures.specs.declared.stream.RunError.TheVariants.{Memory}
 use Rattle.sock_diag_captures.specs.Capture.{IsFileHeader, IsHeaderStop, IsPacketStop, IsRecord}
 use Rattle.sock_diag_captures.specs.Listing.{ListsPacket}
 
@@ -26,13 +27,14 @@ IsWhole told = IsTrue told.whole
 abbrev pub IsListed : List ℕ → Told → Type 0
 IsListed packet told = ListsPacket packet [] told.lines told.whole
 
--- the bytes are these packets one after the other, each behind its header; R says which header a packet may have
+-- the bytes are these packets one after the other, each behind its header; R says which header a
+-- packet may have
 abbrev pub ArePackets : (List ℕ → List ℕ → Type 0) → List ℕ → List (List ℕ) → Type 0
 ArePackets R bytes [] = bytes ≡ []
 ArePackets R bytes (packet ∷ later) = (header rest : List ℕ) × R header packet × (bytes ≡ (header ++ packet) ++ rest) × ArePackets R rest later
 
--- The bytes are a capture: its header, and packets. The lines are those of each packet in order, and the capture counts as
--- listed whole exactly where each packet does.
+-- The bytes are a capture: its header, and packets. The lines are those of each packet in order,
+-- and the capture counts as listed whole exactly where each packet does.
 pub record IsTable (bytes lines : List ℕ) (is_whole : Bool) : Type 0 where
   pub file : FileHeader
   pub header : List ℕ

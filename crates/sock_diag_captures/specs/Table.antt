@@ -1,5 +1,7 @@
 -- The lines of the table.
-use Rattle.std.specs.Prelude.{ℕ, ◌-◌, ◌==◌, nat_le, if◌then◌else◌, Bool, true, false, ◌&&◌, List, [], ◌∷◌, ◌++◌, length, replicate, flat_map, codes, decimal, Option, None, Some, slice_get, unwrap_or, option_map}
+use Rattle.std.specs.Prelude.{ℕ, ◌-◌, ◌==◌, nat_le, if◌then◌else◌, Bool, true, false, ◌&&◌, List}
+use Rattle.std.specs.Prelude.{[], ◌∷◌, ◌++◌, length, replicate, flat_map, codes, decimal, Option}
+use Rattle.std.specs.Prelude.{None, Some, slice_get, unwrap_or, option_map}
 use Rattle.std.specs.declared.net.ip_addr.IpAddr.{IpAddr}
 use Rattle.std.specs.declared.net.ip_addr.IpAddr.TheVariants.{V4, V6}
 use Rattle.std.specs.Net.Text.{ip_text, scope_text}
@@ -11,7 +13,8 @@ use Rattle.sock_diag_attributes.specs.Name.{SocketName, abstract, pathname}
 use Rattle.sock_diag_attributes.specs.InetAttributes.{inet}
 use Rattle.sock_diag_attributes.specs.UnixAttributes.{unix}
 use Rattle.netlink_packet_sock_diag.specs.InetReply.{InetReply}
-use Rattle.netlink_packet_sock_diag.specs.Message.{Message, message_of, inet_request, inet_response, unix_request, unix_response}
+use Rattle.netlink_packet_sock_diag.specs.Message.{Message, message_of, inet_request, inet_response}
+use Rattle.netlink_packet_sock_diag.specs.Message.{unix_request, unix_response}
 use Rattle.netlink_packet_sock_diag.specs.UnixReply.{UnixReply}
 use Rattle.netlink_packet_sock_diag.specs.UnixGetters.{first_of}
 
@@ -137,7 +140,8 @@ times t =
     detail (codes "rtt") t.rtt ++ detail (codes "rttvar") t.rttvar ++ detail (codes "rto") t.rto
     ++ detail (codes "mss") t.snd_mss ++ detail (codes "pmtu") t.pmtu
 
--- its window, in segments, the segments that are not acknowledged or were sent again, and the bytes sent and received
+-- its window, in segments, the segments that are not acknowledged or were sent again, and the bytes
+-- sent and received
 abbrev pub traffic : TcpInfo → List ℕ
 traffic t =
     detail (codes "cwnd") t.snd_cwnd ++ detail (codes "unacked") t.unacked ++ detail (codes "retrans") t.total_retrans
@@ -156,7 +160,8 @@ details_or_nothing (Some t) = details_line t
 abbrev pub details_of : Said inet → List ℕ
 details_of said = details_or_nothing (content inet 2 said)
 
--- the lines of an IPv4 or IPv6 socket: its own, and one for each attribute that tells of a TCP connection
+-- the lines of an IPv4 or IPv6 socket: its own, and one for each attribute that tells of a TCP
+-- connection
 abbrev pub inet_lines : InetReply → List ℕ
 inet_lines v = inet_line v.header ++ flat_map details_of v.nlas
 

@@ -1,10 +1,13 @@
-//! Captures of netlink traffic, as tcpdump writes them: the classic pcap format with the link type LINKTYPE_NETLINK.
+//! Captures of netlink traffic, as tcpdump writes them: the classic pcap format with the link type
+//! LINKTYPE_NETLINK.
 
 ghost use Rattle.std.specs.Prelude.{◌≡◌, ◌↔◌, ◌+◌, ◌<◌, ◌≤◌, ◌++◌, ◌⊎◌, ℕ, List, [], length, IfOk};
 ghost use Rattle.std.specs.Prelude.{IfErr, OnOk, IsTrue, MatchBool, MatchOption, MatchResult};
 ghost use Rattle.std.specs.Io.KnownBytes.{Consumes, IsAtEnd, Keeps};
-ghost use Rattle.sock_diag_captures.specs.Capture.{IsFileHeader, IsFileHeaderFault, IsHeaderStop, IsMagic};
-ghost use Rattle.sock_diag_captures.specs.Capture.{IsPacketStop, IsRecord, IsStop, limit_of, number_at};
+ghost use Rattle.sock_diag_captures.specs.Capture.{IsFileHeader, IsFileHeaderFault, IsHeaderStop};
+ghost use Rattle.sock_diag_captures.specs.Capture.{IsMagic};
+ghost use Rattle.sock_diag_captures.specs.Capture.{IsPacketStop, IsRecord, IsStop, limit_of};
+ghost use Rattle.sock_diag_captures.specs.Capture.{number_at};
 ghost use Rattle.sock_diag_captures.specs.declared.capture.CaptureError.TheVariants.{Memory};
 
 use crate::streams::Source;
@@ -117,7 +120,8 @@ impl ByteOrder {
     fn find(bytes: &[u8]) -> Option<ByteOrder>
         requires { 4 ≤ length bytes.now }
         ensures { MatchOption result
-            (¬ IsMagic (number_at ByteOrder.HighFirst 4 0 bytes.now) × ¬ IsMagic (number_at ByteOrder.LowFirst 4 0 bytes.now))
+            (¬ IsMagic (number_at ByteOrder.HighFirst 4 0 bytes.now)
+            × ¬ IsMagic (number_at ByteOrder.LowFirst 4 0 bytes.now))
             (λ order. IsMagic (number_at order 4 0 bytes.now)) }
     {
         if is_magic(ByteOrder::LowFirst.word_at(bytes, 0)) {
@@ -147,8 +151,8 @@ pub struct FileHeader {
 }
 
 impl FileHeader {
-    /// The header in the first 24 bytes. Refused are other first numbers as `NoCapture`, then a version but 2 as
-    /// `OtherVersion`, then a type of the link but 253 as `OtherLinkType`.
+    /// The header in the first 24 bytes. Refused are other first numbers as `NoCapture`, then a
+    /// version but 2 as `OtherVersion`, then a type of the link but 253 as `OtherLinkType`.
     pub fn parse(bytes: &[u8]) -> Result<FileHeader, CaptureError>
         requires { 24 ≤ length bytes.now }
         ensures { MatchResult result (IsFileHeader bytes.now) (IsFileHeaderFault bytes.now) }
@@ -184,8 +188,9 @@ impl FileHeader {
         FileHeader::parse(&bytes)
     }
 
-    /// Reads the next packet in place of what `packet` held, and answers whether there is one. It takes memory for the
-    /// packet alone, and none for one that is longer than packets of this capture may be.
+    /// Reads the next packet in place of what `packet` held, and answers whether there is one. It
+    /// takes memory for the packet alone, and none for one that is longer than packets of this
+    /// capture may be.
     pub fn read_packet<R: Source>(
         &self,
         input: &mut R,
@@ -297,8 +302,8 @@ pub enum Packet<'a> {
 impl<'a> Packet<'a> {
     ghost use Rattle.sock_diag_captures.specs.Cooked.{IsPacketOf};
 
-    /// Looks at the cooked header: of its 16 bytes the two at 2 are the hardware type, 824, and the two at 14 the
-    /// netlink protocol, each with its high byte first.
+    /// Looks at the cooked header: of its 16 bytes the two at 2 are the hardware type, 824, and the
+    /// two at 14 the netlink protocol, each with its high byte first.
     pub fn parse(bytes: &'a [u8]) -> Packet<'a>
         ensures { IsPacketOf bytes.entry.now result }
     {

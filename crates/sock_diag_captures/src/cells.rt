@@ -1,8 +1,10 @@
 //! The cells of a line. None takes memory but the text itself.
 
-ghost use Rattle.std.specs.Prelude.{◌≡◌, ◌++◌, ◌∷◌, [], ◌+◌, ◌-◌, ◌≤◌, decimal, replicate, flat_map, vec_len, OnOk, option_map};
+ghost use Rattle.std.specs.Prelude.{◌≡◌, ◌++◌, ◌∷◌, [], ◌+◌, ◌-◌, ◌≤◌, decimal, replicate};
+ghost use Rattle.std.specs.Prelude.{flat_map, vec_len, OnOk, option_map};
 ghost use Rattle.sock_diag_attributes.specs.SeenName.{viewed_name};
-ghost use Rattle.sock_diag_captures.specs.Table.{column, endpoint, escaped, host, name_cell, number_cell, peer_cell, port_text, state_name};
+ghost use Rattle.sock_diag_captures.specs.Table.{column, endpoint, escaped, host, name_cell};
+ghost use Rattle.sock_diag_captures.specs.Table.{number_cell, peer_cell, port_text, state_name};
 
 use netlink_packet_sock_diag::unix::nlas::NameView;
 use std::alloc::AllocError;
@@ -87,7 +89,8 @@ pub(crate) fn push_name_column(
     width: usize,
     name: Option<NameView<'_>>,
 ) -> Result<(), AllocError>
-    ensures { OnOk result (text.new.items ≡ text.old.items ++ column width (name_cell (option_map viewed_name name.entry))) }
+    ensures { OnOk result (text.new.items ≡ text.old.items
+        ++ column width (name_cell (option_map viewed_name name.entry))) }
 {
     let start = text.len();
     match name {
@@ -144,15 +147,16 @@ pub(crate) fn push_endpoint_column(
     interface: u32,
     port: u16,
 ) -> Result<(), AllocError>
-    ensures { OnOk result (text.new.items ≡ text.old.items ++ column width (endpoint address interface port)) }
+    ensures { OnOk result (text.new.items ≡ text.old.items
+        ++ column width (endpoint address interface port)) }
 {
     let start = text.len();
     push_endpoint(text, address, interface, port)?;
     end_column(text, start, width)
 }
 
-/// Adds an address, an IPv6 address in brackets and in its short form (RFC 5952), then `%` and the number of the
-/// interface where it is not 0, then `:` and the port, or `*` for 0.
+/// Adds an address, an IPv6 address in brackets and in its short form (RFC 5952), then `%` and the
+/// number of the interface where it is not 0, then `:` and the port, or `*` for 0.
 pub(crate) fn push_endpoint(
     text: &mut Vec<u8>,
     address: IpAddr,

@@ -1,4 +1,5 @@
-//! Lists the sockets that a capture of netlink traffic tells, one a line, as ss(8) does of a running system.
+//! Lists the sockets that a capture of netlink traffic tells, one a line, as ss(8) does of a
+//! running system.
 #![tactic(auto)]
 
 ghost use Rattle.std.specs.Prelude.{◌≡◌, ◌↔◌, ◌++◌, ℕ, Bool, true, IsOkAnd, IsTrue, List};
@@ -23,8 +24,8 @@ use std::io::{Read, Write};
 use std::process::ExitCode;
 pub use stream::{RunError, run};
 
-/// `run`, which tells on `errors` why it failed. The status is 0 where the whole capture was listed, and 1 where reading
-/// or writing failed, or where something was told of a packet.
+/// `run`, which tells on `errors` why it failed. The status is 0 where the whole capture was
+/// listed, and 1 where reading or writing failed, or where something was told of a packet.
 pub fn run_to_status<R: Read, W: Write, E: Write>(
     alloc: Global,
     input: &mut R,

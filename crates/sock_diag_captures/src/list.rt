@@ -1,8 +1,11 @@
-//! The sockets that the packets of a capture tell, line by line, and what is told of a packet that can't be listed whole.
+//! The sockets that the packets of a capture tell, line by line, and what is told of a packet that
+//! can't be listed whole.
 
 ghost use Rattle.std.specs.Prelude.{◌≡◌, ◌↔◌, ◌++◌, IfOk, OnOk, IsTrue};
 ghost use Rattle.netlink_packet_sock_diag.specs.ViewedPayload.{viewed_item};
-ghost use Rattle.sock_diag_captures.specs.Listing.{IsPlain, IsRequest, Lists, ListsPacket, error_complaint, error_number, fault_complaint, item_complaint, item_lines};
+ghost use Rattle.sock_diag_captures.specs.Listing.{IsPlain, IsRequest, Lists, ListsPacket};
+ghost use Rattle.sock_diag_captures.specs.Listing.{error_complaint, error_number, fault_complaint};
+ghost use Rattle.sock_diag_captures.specs.Listing.{item_complaint, item_lines};
 
 use crate::capture::Packet;
 use crate::line::push_socket;
@@ -27,7 +30,8 @@ pub enum Complaint {
     Lost,
 }
 
-/// Where something is told of: the place of the packet in the capture and of the message in the packet, from 1 on.
+/// Where something is told of: the place of the packet in the capture and of the message in the
+/// packet, from 1 on.
 #[derive(Clone, Copy, Debug, PartialEq, Eq)]
 struct Place {
     packet: u64,
@@ -43,8 +47,9 @@ pub struct Written {
     pub complaints: Vec<u8>,
 }
 
-/// Adds the lines of the sockets that a packet of this number tells, and what is told of it. It answers whether the
-/// packet was listed whole: none of its messages was refused, tells an error or tells that data was lost.
+/// Adds the lines of the sockets that a packet of this number tells, and what is told of it. It
+/// answers whether the packet was listed whole: none of its messages was refused, tells an error or
+/// tells that data was lost.
 pub fn list_packet(written: &mut Written, number: u64, packet: &[u8]) -> Result<bool, AllocError>
     ensures { IfOk result (ListsPacket packet.now written.old.lines.items written.new.lines.items) }
 {
@@ -70,7 +75,8 @@ fn is_request(datagram: &[u8]) -> bool
     }
 }
 
-/// Adds the lines of the sockets that a datagram tells, and what is told of it, and answers whether it was listed whole.
+/// Adds the lines of the sockets that a datagram tells, and what is told of it, and answers whether
+/// it was listed whole.
 fn list_datagram(written: &mut Written, number: u64, datagram: &[u8]) -> Result<bool, AllocError>
     ensures { IfOk result (Lists datagram.now written.old.lines.items written.new.lines.items) }
 {
@@ -93,7 +99,8 @@ fn list_item(
     place: Place,
     item: Result<PayloadView<'_>, DecodeError>,
 ) -> Result<bool, AllocError>
-    ensures lines { OnOk result (written.new.lines.items ≡ written.old.lines.items ++ item_lines (viewed_item item.entry)) }
+    ensures lines { OnOk result (written.new.lines.items ≡ written.old.lines.items
+        ++ item_lines (viewed_item item.entry)) }
     ensures plain { IfOk result (λ is_plain. IsTrue is_plain ↔ IsPlain (viewed_item item.entry)) }
 {
     push_lines(&mut written.lines, &item)?;
@@ -119,8 +126,8 @@ fn push_lines(
     }
 }
 
-/// What is told of a message: that it is refused, that it tells an error, or that data was lost. A socket of another
-/// family than those that are listed is passed over.
+/// What is told of a message: that it is refused, that it tells an error, or that data was lost. A
+/// socket of another family than those that are listed is passed over.
 #[tactic(auto, unfolding(crate::specs::Listing::item_complaint))]
 fn complaint_about(item: Result<PayloadView<'_>, DecodeError>) -> Option<Complaint>
     ensures { result ≡ item_complaint (viewed_item item.entry) }
@@ -156,8 +163,8 @@ fn complaint_about_error(number: u32) -> Option<Complaint>
     }
 }
 
-/// The number of the error that the payload of an error or of the end of a dump begins with. The kernel writes it as a
-/// negative number of four bytes. 0 is none, and stands for fewer bytes too.
+/// The number of the error that the payload of an error or of the end of a dump begins with. The
+/// kernel writes it as a negative number of four bytes. 0 is none, and stands for fewer bytes too.
 fn error_of(payload: &[u8]) -> u32
     ensures { result ≡ error_number payload.now }
 {

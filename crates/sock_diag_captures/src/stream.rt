@@ -2,7 +2,8 @@
 
 ghost use Rattle.std.specs.Prelude.{◌≡◌, ◌++◌, ℕ, List, length, OnOk, IfErr, IfOk, MatchBool, ⊤};
 ghost use Rattle.std.specs.Io.KnownBytes.{Appends, Consumes, IsAtEnd, Keeps};
-ghost use Rattle.sock_diag_captures.specs.Capture.{IsFileHeader, IsHeaderStop, IsPacketStop, IsRecord};
+ghost use Rattle.sock_diag_captures.specs.Capture.{IsFileHeader, IsHeaderStop, IsPacketStop};
+ghost use Rattle.sock_diag_captures.specs.Capture.{IsRecord};
 ghost use Rattle.sock_diag_captures.specs.declared.capture.CaptureError.{CaptureError};
 ghost use Rattle.sock_diag_captures.specs.declared.stream.RunError.TheVariants.{Memory};
 ghost use Rattle.sock_diag_captures.specs.Run.{Fails, IsTable};
@@ -45,9 +46,9 @@ impl From<AllocError> for RunError {
     }
 }
 
-/// Writes the table of a capture: a heading, and the lines of each packet before the next one is read. What is told of
-/// packets goes to `errors`, and where that can't be written it is dropped. It answers whether each packet was listed
-/// whole.
+/// Writes the table of a capture: a heading, and the lines of each packet before the next one is
+/// read. What is told of packets goes to `errors`, and where that can't be written it is dropped.
+/// It answers whether each packet was listed whole.
 pub fn run<R: Read, W: Write, E: Write>(
     alloc: Global,
     input: &mut R,

@@ -4,7 +4,8 @@ use std::io::{self, Write};
 use std::process::Abort;
 use std::test::Fail;
 
-/// A reply about an IPv6 socket in TIME-WAIT: `[fe80::1]` and interface 3, port 22, to `[2001:db8::ff]`, port 40000.
+/// A reply about an IPv6 socket in TIME-WAIT: `[fe80::1]` and interface 3, port 22, to
+/// `[2001:db8::ff]`, port 40000.
 const INET6: &str =
     "580000001400020007000000000000000a06030000169c40fe80000000000000000000000000000120010db80000000000000000000000ff030000000000000000000000000000000000000000000000e803000000000000";
 
@@ -176,7 +177,8 @@ fn lists_a_long_datagram(rt: HostRuntime) -> Result<(), Fail> {
     lists(&rt, rt.alloc(), &capture, Ok(true), Some(&[lines.as_str()]))
 }
 
-/// A capture that is cut at any byte gives the lines of its whole packets, and says where it is cut.
+/// A capture that is cut at any byte gives the lines of its whole packets, and says where it is
+/// cut.
 #[test]
 fn tells_where_a_capture_is_cut(rt: HostRuntime) -> Result<(), Fail> {
     let alloc = rt.alloc();

@@ -1,5 +1,8 @@
 -- What a line asks for, and that it has one answer.
-use Rattle.std.proofs.Common.{◌≡◌, ◌≢◌, ◌==◌, ◌<◌, ◌+◌, ◌⊎◌, inl, inr, ℕ, suc, Bool, true, false, List, [], ◌∷◌, ◌++◌, length, take, drop, get_or, cond, codes, Option, Some, None, Result, Ok, Err, refl, sym, ap, ap₂, ◌∙◌, arith, add-one, subst}
+use Rattle.std.proofs.Common.{◌≡◌, ◌≢◌, ◌==◌, ◌<◌, ◌+◌, ◌⊎◌, inl, inr, ℕ, suc, Bool, true, false}
+use Rattle.std.proofs.Common.{List, [], ◌∷◌, ◌++◌, length, take, drop, get_or, cond, codes, Option}
+use Rattle.std.proofs.Common.{Some, None, Result, Ok, Err, refl, sym, ap, ap₂, ◌∙◌, arith, add-one}
+use Rattle.std.proofs.Common.{subst}
 use Rattle.std.specs.List.{AllByRecursion, AllZip, find, position, position_or_len, slice_split}
 use Rattle.std.specs.Result.{result_ok}
 use Rattle.std.specs.Str.{bytes_eq}
@@ -25,8 +28,12 @@ use Rattle.sock_diag_lines.specs.Told.{IsAccepted, TellsOf}
 use Rattle.sock_diag_lines.specs.declared.answers.Asked.{Asked}
 use Rattle.sock_diag_lines.specs.declared.answers.Asked.TheVariants.{Field, Dump, Nothing}
 use Rattle.sock_diag_lines.specs.declared.answers.Name.{Name}
-use Rattle.sock_diag_lines.specs.declared.answers.Name.TheVariants.{UnixRequest, UnixResponse, InetRequest, InetResponse, SocketId4, SocketId6, Message, NetlinkMessage, UnixView}
-use Rattle.sock_diag_lines.proofs.DumpLaws.{fields_typed, has_dump_text, one_dump_text, tells_same_items, tells_split}
+use Rattle.sock_diag_lines.specs.declared.answers.Name.TheVariants.{UnixRequest, UnixResponse}
+use Rattle.sock_diag_lines.specs.declared.answers.Name.TheVariants.{InetRequest, InetResponse}
+use Rattle.sock_diag_lines.specs.declared.answers.Name.TheVariants.{SocketId4, SocketId6, Message}
+use Rattle.sock_diag_lines.specs.declared.answers.Name.TheVariants.{NetlinkMessage, UnixView}
+use Rattle.sock_diag_lines.proofs.DumpLaws.{fields_typed, has_dump_text, one_dump_text}
+use Rattle.sock_diag_lines.proofs.DumpLaws.{tells_same_items, tells_split}
 use Rattle.sock_diag_lines.proofs.FieldLaws.{IsBytes-field}
 use Rattle.sock_diag_lines.proofs.NameLaws.{laws_of, shows_all}
 use Rattle.sock_diag_lines.proofs.SubjectLaws.{told}
@@ -45,7 +52,8 @@ is_space c = c == 32
 
 -- all names
 abbrev names : List Name
-names = UnixRequest ∷ UnixResponse ∷ InetRequest ∷ InetResponse ∷ SocketId4 ∷ SocketId6 ∷ Message ∷ NetlinkMessage ∷ UnixView ∷ []
+names = UnixRequest ∷ UnixResponse ∷ InetRequest ∷ InetResponse ∷ SocketId4 ∷ SocketId6 ∷ Message
+    ∷ NetlinkMessage ∷ UnixView ∷ []
 
 -- the name that a word is
 abbrev pub name_of : List ℕ → Option Name
@@ -54,7 +62,8 @@ name_of word = find (λ name. bytes_eq word (row_of name).0) names
 -- the bytes that a field stands for, where there are such
 abbrev pub field_bytes : List ℕ → Option (List ℕ)
 field_bytes [] = None
-field_bytes (c ∷ rest) = cond (bytes_eq (c ∷ rest) (codes "-")) (Some []) (result_ok (decode_of (c ∷ rest)))
+field_bytes (c ∷ rest) = cond (bytes_eq (c ∷ rest) (codes "-")) (Some [])
+    (result_ok (decode_of (c ∷ rest)))
 
 abbrev with_later : Option (List ℕ) → Option (List (List ℕ)) → Option (List (List ℕ))
 with_later None later = None
@@ -83,7 +92,8 @@ asking_by false word text = asking_name (name_of word) (field_bytes text)
 -- by the place of the first space
 abbrev asking_at : Option ℕ → List ℕ → Asking
 asking_at None line = nothing
-asking_at (Some i) line = asking_by (bytes_eq (take i line) (codes "dump")) (take i line) (drop (i + 1) line)
+asking_at (Some i) line = asking_by (bytes_eq (take i line) (codes "dump")) (take i line)
+    (drop (i + 1) line)
 
 abbrev asking : List ℕ → Asking
 asking line = asking_at (position is_space line) line
@@ -95,21 +105,26 @@ test_cases : (b : Bool) → (b ≡ true) ⊎ (b ≡ false)
 test_cases true = inl refl
 test_cases false = inr refl
 
-ok_from_result_ok : (r : Result (List ℕ) FromHexError) (bytes : List ℕ) → result_ok r ≡ Some bytes → r ≡ Ok bytes
+ok_from_result_ok : (r : Result (List ℕ) FromHexError) (bytes : List ℕ) → result_ok r ≡ Some bytes
+    → r ≡ Ok bytes
 ok_from_result_ok (Ok xs) bytes h = cc
 ok_from_result_ok (Err e) bytes h = cc h
 
-pub field_bytes-Some : (field bytes : List ℕ) → IsHexField field bytes → field_bytes field ≡ Some bytes
+pub field_bytes-Some : (field bytes : List ℕ) → IsHexField field bytes
+    → field_bytes field ≡ Some bytes
 field_bytes-Some field bytes (inl dash) = rw (dash.0, dash.1) refl
-field_bytes-Some [] bytes (inr digits) = let len = (decode_of-ok [] bytes digits.1).2 in absurd (omega arith)
+field_bytes-Some [] bytes (inr digits) = let len = (decode_of-ok [] bytes digits.1).2 in
+    absurd (omega arith)
 field_bytes-Some (c ∷ rest) bytes (inr digits) =
     let len = (decode_of-ok (c ∷ rest) bytes digits.1).2 in
     elim (test_cases (bytes_eq (c ∷ rest) (codes "-"))) [
-      | inl dash ↦ let one = ap length ((bytes_eq-Decides (c ∷ rest) (codes "-")).0 dash) in absurd (omega (arith, len, one))
+      | inl dash ↦ let one = ap length ((bytes_eq-Decides (c ∷ rest) (codes "-")).0 dash) in
+          absurd (omega (arith, len, one))
       | inr other ↦ cond-false _ _ _ other ∙ ap result_ok digits.1
     ]
 
-pub IsHexField-from_bytes : (field bytes : List ℕ) → field_bytes field ≡ Some bytes → IsHexField field bytes
+pub IsHexField-from_bytes : (field bytes : List ℕ) → field_bytes field ≡ Some bytes
+    → IsHexField field bytes
 IsHexField-from_bytes [] bytes h = cc h
 IsHexField-from_bytes (c ∷ rest) bytes h =
     elim (test_cases (bytes_eq (c ∷ rest) (codes "-"))) [
@@ -117,14 +132,16 @@ IsHexField-from_bytes (c ∷ rest) bytes h =
           let none : Some [] ≡ Some bytes = sym (cond-true _ _ _ dash) ∙ h in
           inl ((bytes_eq-Decides (c ∷ rest) (codes "-")).0 dash, cc)
       | inr other ↦
-          let read = ok_from_result_ok (decode_of (c ∷ rest)) bytes (sym (cond-false _ _ _ other) ∙ h) in
+          let read = ok_from_result_ok (decode_of (c ∷ rest)) bytes (sym (cond-false _ _ _ other)
+          ∙ h) in
           let len = (decode_of-ok (c ∷ rest) bytes read).2 in
           inr (omega (arith, len), read)
     ]
 
 -- an empty field stands for no bytes
 pub no_field : (field bytes : List ℕ) → (length field == 0) ≡ true → IsHexField field bytes → ⊥
-no_field field bytes h (inl dash) = let one = ap length dash.0 in let none = eqb-true (length field) 0 h in omega (arith, one, none)
+no_field field bytes h (inl dash) = let one = ap length dash.0 in let none =
+    eqb-true (length field) 0 h in omega (arith, one, none)
 no_field field bytes h (inr digits) =
     let len = (decode_of-ok field bytes digits.1).2 in
     let none = eqb-true (length field) 0 h in
@@ -148,7 +165,8 @@ find-passes : (p : Name → Bool) (xs : List Name) (x : Name) → find p xs ≡ 
 find-passes p [] x h = cc h
 find-passes p (y ∷ xs) x h =
     elim (test_cases (p y)) [
-      | inl passes ↦ let same : Some y ≡ Some x = sym (cond-true _ _ _ passes) ∙ h in ap p (some_same y x (sym same)) ∙ passes
+      | inl passes ↦ let same : Some y ≡ Some x = sym (cond-true _ _ _ passes) ∙ h in
+          ap p (some_same y x (sym same)) ∙ passes
       | inr fails ↦ find-passes p xs x (sym (cond-false _ _ _ fails) ∙ h)
     ]
   where
@@ -156,10 +174,13 @@ find-passes p (y ∷ xs) x h =
     some_same a b e = cc
 
 name_of-spelled : (word : List ℕ) (name : Name) → name_of word ≡ Some name → word ≡ (row_of name).0
-name_of-spelled word name h = (bytes_eq-Decides word (row_of name).0).0 (find-passes (λ n. bytes_eq word (row_of n).0) names name h)
+name_of-spelled word name h =
+    (bytes_eq-Decides word (row_of name).0).0 (find-passes (λ n. bytes_eq word (row_of n).0) names
+    name h)
 
 -- the first space of a line stands behind its name
-word_place : (name : Name) (field : List ℕ) → position_or_len is_space ((row_of name).0 ++ 32 ∷ field) ≡ length (row_of name).0
+word_place : (name : Name) (field : List ℕ)
+    → position_or_len is_space ((row_of name).0 ++ 32 ∷ field) ≡ length (row_of name).0
 word_place UnixRequest field = refl
 word_place UnixResponse field = refl
 word_place InetRequest field = refl
@@ -170,7 +191,8 @@ word_place Message field = refl
 word_place NetlinkMessage field = refl
 word_place UnixView field = refl
 
-word_left : (name : Name) (field : List ℕ) → drop (length (row_of name).0 + 1) ((row_of name).0 ++ 32 ∷ field) ≡ field
+word_left : (name : Name) (field : List ℕ)
+    → drop (length (row_of name).0 + 1) ((row_of name).0 ++ 32 ∷ field) ≡ field
 word_left UnixRequest field = refl
 word_left UnixResponse field = refl
 word_left InetRequest field = refl
@@ -195,73 +217,98 @@ name_is_no_dump UnixView = refl
 
 -- ---- lists of fields
 
-all_bytes-Some : (fields datagrams : List (List ℕ)) → AllZip IsHexField fields datagrams → all_bytes fields ≡ Some datagrams
+all_bytes-Some : (fields datagrams : List (List ℕ)) → AllZip IsHexField fields datagrams
+    → all_bytes fields ≡ Some datagrams
 all_bytes-Some [] [] each = refl
 all_bytes-Some [] (d ∷ datagrams) each = absurd each
 all_bytes-Some (f ∷ fields) [] each = absurd each
-all_bytes-Some (f ∷ fields) (d ∷ datagrams) each = ap₂ with_later (field_bytes-Some f d each.0) (all_bytes-Some fields datagrams each.1)
+all_bytes-Some (f ∷ fields) (d ∷ datagrams) each =
+    ap₂ with_later (field_bytes-Some f d each.0) (all_bytes-Some fields datagrams each.1)
 
-AreHexFields-from_bytes : (fields : List (List ℕ)) (read : Option (List (List ℕ))) (datagrams : List (List ℕ)) → all_bytes fields ≡ read → read ≡ Some datagrams → AllZip IsHexField fields datagrams
+AreHexFields-from_bytes : (fields : List (List ℕ)) (read : Option (List (List ℕ)))
+    (datagrams : List (List ℕ)) → all_bytes fields ≡ read → read ≡ Some datagrams
+    → AllZip IsHexField fields datagrams
 AreHexFields-from_bytes [] read [] e is = tt
 AreHexFields-from_bytes [] read (d ∷ datagrams) e is = absurd (cc (e ∙ is))
 AreHexFields-from_bytes (f ∷ fields) read datagrams e is =
-    by_parts (field_bytes f) refl (all_bytes fields) refl (λ later l. AreHexFields-from_bytes fields (Some later) later l refl) (e ∙ is)
+    by_parts (field_bytes f) refl (all_bytes fields) refl
+    (λ later l. AreHexFields-from_bytes fields (Some later) later l refl) (e ∙ is)
   where
     same : (xs ys : List (List ℕ)) → Some xs ≡ Some ys → xs ≡ ys
     same xs ys e = cc
 
-    by_parts : (one : Option (List ℕ)) → field_bytes f ≡ one → (later : Option (List (List ℕ))) → all_bytes fields ≡ later
-        → ((others : List (List ℕ)) → all_bytes fields ≡ Some others → AllZip IsHexField fields others)
-        → with_later (field_bytes f) (all_bytes fields) ≡ Some datagrams → AllZip IsHexField (f ∷ fields) datagrams
-    by_parts None n later l each h = absurd (cc (ap (λ o. with_later o (all_bytes fields)) (sym n) ∙ h))
+    by_parts : (one : Option (List ℕ)) → field_bytes f ≡ one → (later : Option (List (List ℕ)))
+        → all_bytes fields ≡ later
+        → ((others : List (List ℕ)) → all_bytes fields ≡ Some others
+        → AllZip IsHexField fields others)
+        → with_later (field_bytes f) (all_bytes fields) ≡ Some datagrams
+        → AllZip IsHexField (f ∷ fields) datagrams
+    by_parts None n later l each h =
+        absurd (cc (ap (λ o. with_later o (all_bytes fields)) (sym n) ∙ h))
     by_parts (Some bytes) n None l each h = absurd (cc (ap₂ with_later (sym n) (sym l) ∙ h))
     by_parts (Some bytes) n (Some later) l each h =
         let some : Some (bytes ∷ later) ≡ Some datagrams = ap₂ with_later (sym n) (sym l) ∙ h in
-        subst (AllZip IsHexField (f ∷ fields)) (same (bytes ∷ later) datagrams some) (IsHexField-from_bytes f bytes n, each later l)
+        subst (AllZip IsHexField (f ∷ fields)) (same (bytes ∷ later) datagrams some)
+        (IsHexField-from_bytes f bytes n, each later l)
 
 -- ---- lines
 
 -- a space splits a line
-pub at_space : (line : List ℕ) (i : ℕ) → position is_space line ≡ Some i → line ≡ take i line ++ 32 ∷ drop (i + 1) line
+pub at_space : (line : List ℕ) (i : ℕ) → position is_space line ≡ Some i → line ≡ take i line ++ 32
+    ∷ drop (i + 1) line
 at_space line i h =
     let (within, space, before) = position-Some is_space line i 0 h in
     let is : get_or line i 0 ≡ 32 = eqb-true _ _ space in
-    sym (take-append-drop i line) ∙ ap (λ t. take i line ++ t) (rw (add-one, drop-cons line i 0) (ap (λ c. c ∷ drop (suc i) line) is))
+    sym (take-append-drop i line)
+    ∙ ap (λ t. take i line ++ t)
+    (rw (add-one, drop-cons line i 0) (ap (λ c. c ∷ drop (suc i) line) is))
 
 -- a word before the first space, and what stands behind it
-asking-spelled : (word text : List ℕ) → position_or_len is_space (word ++ 32 ∷ text) ≡ length word → drop (length word + 1) (word ++ 32 ∷ text) ≡ text
+asking-spelled : (word text : List ℕ) → position_or_len is_space (word ++ 32 ∷ text) ≡ length word
+    → drop (length word + 1) (word ++ 32 ∷ text) ≡ text
     → asking (word ++ 32 ∷ text) ≡ asking_by (bytes_eq word (codes "dump")) word text
 asking-spelled word text first behind =
     let spelled = word ++ 32 ∷ text in
     let within : length word < length spelled = simp length-append (omega arith) in
-    let place : position is_space spelled ≡ Some (length word) = rw first (cond-true _ _ _ (lt-ltb (length word) (length spelled) within)) in
-    ap (λ found. asking_at found spelled) place ∙ ap₂ (λ w t. asking_by (bytes_eq w (codes "dump")) w t) (take-append_seam word (32 ∷ text)) behind
+    let place : position is_space spelled ≡ Some (length word) =
+    rw first (cond-true _ _ _ (lt-ltb (length word) (length spelled) within)) in
+    ap (λ found. asking_at found spelled) place
+    ∙ ap₂ (λ w t. asking_by (bytes_eq w (codes "dump")) w t) (take-append_seam word (32 ∷ text))
+    behind
 
-asking-named : (line : List ℕ) (name : Name) (bytes : List ℕ) → IsRequest line name bytes → asking line ≡ named name bytes
+asking-named : (line : List ℕ) (name : Name) (bytes : List ℕ) → IsRequest line name bytes
+    → asking line ≡ named name bytes
 asking-named line name bytes h =
     ap asking h.1 ∙ asking-spelled (row_of name).0 h.0 (word_place name h.0) (word_left name h.0)
     ∙ ap (λ b. asking_by b (row_of name).0 h.0) (name_is_no_dump name)
     ∙ ap₂ asking_name (name_of-word name) (field_bytes-Some h.0 bytes h.2)
 
-asking-dumped : (line : List ℕ) (datagrams : List (List ℕ)) → IsDumpRequest line datagrams → asking line ≡ dumped datagrams
+asking-dumped : (line : List ℕ) (datagrams : List (List ℕ)) → IsDumpRequest line datagrams
+    → asking line ≡ dumped datagrams
 asking-dumped line datagrams h =
     ap asking h.1 ∙ asking-spelled (codes "dump") h.0 refl refl
     ∙ ap asking_dump (all_bytes-Some (slice_split is_space h.0) datagrams h.2)
 
-one_request : (line : List ℕ) (name other : Name) (bytes bytes' : List ℕ) → IsRequest line name bytes → IsRequest line other bytes' → (name ≡ other) × (bytes ≡ bytes')
-one_request line name other bytes bytes' h k = same (sym (asking-named line name bytes h) ∙ asking-named line other bytes' k)
+one_request : (line : List ℕ) (name other : Name) (bytes bytes' : List ℕ)
+    → IsRequest line name bytes → IsRequest line other bytes' → (name ≡ other) × (bytes ≡ bytes')
+one_request line name other bytes bytes' h k =
+    same (sym (asking-named line name bytes h) ∙ asking-named line other bytes' k)
   where
     same : named name bytes ≡ named other bytes' → (name ≡ other) × (bytes ≡ bytes')
     same e = (cc, cc)
 
-one_dump_request : (line : List ℕ) (datagrams others : List (List ℕ)) → IsDumpRequest line datagrams → IsDumpRequest line others → datagrams ≡ others
-one_dump_request line datagrams others h k = same (sym (asking-dumped line datagrams h) ∙ asking-dumped line others k)
+one_dump_request : (line : List ℕ) (datagrams others : List (List ℕ)) → IsDumpRequest line datagrams
+    → IsDumpRequest line others → datagrams ≡ others
+one_dump_request line datagrams others h k =
+    same (sym (asking-dumped line datagrams h) ∙ asking-dumped line others k)
   where
     same : dumped datagrams ≡ dumped others → datagrams ≡ others
     same e = cc
 
-request_is_no_dump : (line : List ℕ) (name : Name) (bytes : List ℕ) (datagrams : List (List ℕ)) → IsRequest line name bytes → IsDumpRequest line datagrams → ⊥
-request_is_no_dump line name bytes datagrams h k = apart (sym (asking-named line name bytes h) ∙ asking-dumped line datagrams k)
+request_is_no_dump : (line : List ℕ) (name : Name) (bytes : List ℕ) (datagrams : List (List ℕ))
+    → IsRequest line name bytes → IsDumpRequest line datagrams → ⊥
+request_is_no_dump line name bytes datagrams h k =
+    apart (sym (asking-named line name bytes h) ∙ asking-dumped line datagrams k)
   where
     apart : named name bytes ≡ dumped datagrams → ⊥
     apart e = cc
@@ -280,14 +327,17 @@ no_request line e = record {
 
 -- a line is a name with a field, or a dump, or of another form
 Kind : List ℕ → Type 0
-Kind line = ((name : Name) × (bytes : List ℕ) × IsRequest line name bytes) ⊎ (((datagrams : List (List ℕ)) × IsDumpRequest line datagrams) ⊎ IsNoRequest line)
+Kind line = ((name : Name) × (bytes : List ℕ) × IsRequest line name bytes)
+    ⊎ (((datagrams : List (List ℕ)) × IsDumpRequest line datagrams) ⊎ IsNoRequest line)
 
 kind_of : (line : List ℕ) → Kind line
 unfolding Kind
 kind_of line = by_place (position is_space line) refl
   where
-    by_name : (i : ℕ) → position is_space line ≡ Some i → bytes_eq (take i line) (codes "dump") ≡ false → (word : Option Name) → name_of (take i line) ≡ word
-        → (read : Option (List ℕ)) → field_bytes (drop (i + 1) line) ≡ read → asking line ≡ asking_name word read → Kind line
+    by_name : (i : ℕ) → position is_space line ≡ Some i → bytes_eq (take i line) (codes "dump")
+        ≡ false → (word : Option Name) → name_of (take i line) ≡ word
+        → (read : Option (List ℕ)) → field_bytes (drop (i + 1) line) ≡ read
+        → asking line ≡ asking_name word read → Kind line
     by_name i place other None n read r e = inr (inr (no_request line e))
     by_name i place other (Some name) n None r e = inr (inr (no_request line e))
     by_name i place other (Some name) n (Some bytes) r e = inl (
@@ -295,29 +345,37 @@ kind_of line = by_place (position is_space line) refl
       bytes,
       (
         drop (i + 1) line,
-        at_space line i place ∙ ap (λ word. word ++ 32 ∷ drop (i + 1) line) (name_of-spelled (take i line) name n),
+        at_space line i place ∙ ap (λ word. word ++ 32 ∷ drop (i + 1) line)
+            (name_of-spelled (take i line) name n),
         IsHexField-from_bytes (drop (i + 1) line) bytes r,
       ),
     )
 
-    by_fields : (i : ℕ) → position is_space line ≡ Some i → bytes_eq (take i line) (codes "dump") ≡ true
-        → (read : Option (List (List ℕ))) → all_bytes (slice_split is_space (drop (i + 1) line)) ≡ read → asking line ≡ asking_dump read → Kind line
+    by_fields : (i : ℕ) → position is_space line ≡ Some i → bytes_eq (take i line) (codes "dump")
+        ≡ true
+        → (read : Option (List (List ℕ))) → all_bytes (slice_split is_space (drop (i + 1) line))
+        ≡ read → asking line ≡ asking_dump read → Kind line
     by_fields i place word None r e = inr (inr (no_request line e))
     by_fields i place word (Some datagrams) r e = inr (inl (
       datagrams,
       (
         drop (i + 1) line,
-        at_space line i place ∙ ap (λ w. w ++ 32 ∷ drop (i + 1) line) ((bytes_eq-Decides (take i line) (codes "dump")).0 word),
-        AreHexFields-from_bytes (slice_split is_space (drop (i + 1) line)) (Some datagrams) datagrams r refl,
+        at_space line i place ∙ ap (λ w. w ++ 32 ∷ drop (i + 1) line)
+            ((bytes_eq-Decides (take i line) (codes "dump")).0 word),
+        AreHexFields-from_bytes (slice_split is_space (drop (i + 1) line)) (Some datagrams)
+            datagrams r refl,
       ),
     ))
 
-    by_word : (i : ℕ) → position is_space line ≡ Some i → (b : Bool) → bytes_eq (take i line) (codes "dump") ≡ b → Kind line
+    by_word : (i : ℕ) → position is_space line ≡ Some i → (b : Bool)
+        → bytes_eq (take i line) (codes "dump") ≡ b → Kind line
     by_word i place true word =
-        let e = ap (λ found. asking_at found line) place ∙ ap (λ b. asking_by b (take i line) (drop (i + 1) line)) word in
+        let e = ap (λ found. asking_at found line) place
+        ∙ ap (λ b. asking_by b (take i line) (drop (i + 1) line)) word in
         by_fields i place word (all_bytes (slice_split is_space (drop (i + 1) line))) refl e
     by_word i place false word =
-        let e = ap (λ found. asking_at found line) place ∙ ap (λ b. asking_by b (take i line) (drop (i + 1) line)) word in
+        let e = ap (λ found. asking_at found line) place
+        ∙ ap (λ b. asking_by b (take i line) (drop (i + 1) line)) word in
         by_name i place word (name_of (take i line)) refl (field_bytes (drop (i + 1) line)) refl e
 
     by_place : (found : Option ℕ) → position is_space line ≡ found → Kind line
@@ -327,35 +385,42 @@ kind_of line = by_place (position is_space line) refl
 -- ---- what answers a line
 
 -- what answers the name and bytes of a line answers the line
-asked_answer : (line : List ℕ) (name : Name) (bytes text : List ℕ) → IsRequest line name bytes → TellsOf (row_of name).1 bytes text → IsAnswerOf line text
+asked_answer : (line : List ℕ) (name : Name) (bytes text : List ℕ) → IsRequest line name bytes
+    → TellsOf (row_of name).1 bytes text → IsAnswerOf line text
 asked_answer line name bytes text asked tells = record {
   asked = λ other bytes' also.
       let same = one_request line name other bytes bytes' asked also in
-      subst (λ (n : Name). TellsOf (row_of n).1 bytes' text) same.0 (subst (λ (b : List ℕ). TellsOf (row_of name).1 b text) same.1 tells);
+      subst (λ (n : Name). TellsOf (row_of n).1 bytes' text) same.0
+      (subst (λ (b : List ℕ). TellsOf (row_of name).1 b text) same.1 tells);
   dumped = λ datagrams dump. absurd (request_is_no_dump line name bytes datagrams asked dump);
   other = λ unnamed undumped. absurd (unnamed name bytes asked);
 }
 
 -- what tells of its datagrams does
-dump_answer : (line : List ℕ) (datagrams : List (List ℕ)) (text : List ℕ) → IsDumpRequest line datagrams → TellsDump datagrams text → IsAnswerOf line text
+dump_answer : (line : List ℕ) (datagrams : List (List ℕ)) (text : List ℕ)
+    → IsDumpRequest line datagrams → TellsDump datagrams text → IsAnswerOf line text
 dump_answer line datagrams text dump tells = record {
   asked = λ name bytes asked. absurd (request_is_no_dump line name bytes datagrams asked dump);
-  dumped = λ others also. subst (λ (d : List (List ℕ)). TellsDump d text) (one_dump_request line datagrams others dump also) tells;
+  dumped = λ others also. subst (λ (d : List (List ℕ)). TellsDump d text)
+      (one_dump_request line datagrams others dump also) tells;
   other = λ unnamed undumped. absurd (undumped datagrams dump);
 }
 
 -- and `bad line` answers one of another form
-bad_answer : (line text : List ℕ) → IsNoRequest line → text ≡ codes "bad line" → IsAnswerOf line text
+bad_answer : (line text : List ℕ) → IsNoRequest line → text ≡ codes "bad line"
+    → IsAnswerOf line text
 bad_answer line text none e = record {
   asked = λ name bytes asked. absurd (none.unnamed name bytes asked);
   dumped = λ datagrams dump. absurd (none.undumped datagrams dump);
   other = λ unnamed undumped. e;
 }
 
-request_typed : (line : List ℕ) (name : Name) (bytes : List ℕ) → IsRequest line name bytes → IsBytes bytes
+request_typed : (line : List ℕ) (name : Name) (bytes : List ℕ) → IsRequest line name bytes
+    → IsBytes bytes
 request_typed line name bytes asked = IsBytes-field asked.0 bytes asked.2
 
-datagrams_typed : (line : List ℕ) (datagrams : List (List ℕ)) → IsDumpRequest line datagrams → AllByRecursion IsBytes datagrams
+datagrams_typed : (line : List ℕ) (datagrams : List (List ℕ)) → IsDumpRequest line datagrams
+    → AllByRecursion IsBytes datagrams
 datagrams_typed line datagrams dump = fields_typed (slice_split is_space dump.0) datagrams dump.2
 
 -- each line has an answer
@@ -365,8 +430,12 @@ has_answer line = by_kind (kind_of line)
   where
     by_kind : Kind line → (text : List ℕ) × IsAnswerOf line text
     by_kind (inl (name, bytes, asked)) =
-        let text = told (row_of name).1 (laws_of name) bytes in
-        (text, asked_answer line name bytes text asked (told-tells (row_of name).1 (laws_of name) bytes (request_typed line name bytes asked)))
+        let text = told (row_of name).1 (laws_of name) bytes in (
+          text,
+          asked_answer line name bytes text asked
+              (told-tells (row_of name).1 (laws_of name) bytes
+              (request_typed line name bytes asked)),
+        )
     by_kind (inr (inl (datagrams, dump))) =
         let text = has_dump_text datagrams (datagrams_typed line datagrams dump) in
         (text.0, dump_answer line datagrams text.0 dump text.1)
@@ -378,9 +447,13 @@ unfolding Kind
 one_answer line a b h k = by_kind (kind_of line)
   where
     by_kind : Kind line → a ≡ b
-    by_kind (inl (name, bytes, asked)) = one_text (row_of name).1 (laws_of name) bytes a b (request_typed line name bytes asked) (h.asked name bytes asked) (k.asked name bytes asked)
-    by_kind (inr (inl (datagrams, dump))) = one_dump_text datagrams (datagrams_typed line datagrams dump) a b (h.dumped datagrams dump) (k.dumped datagrams dump)
-    by_kind (inr (inr none)) = h.other none.unnamed none.undumped ∙ sym (k.other none.unnamed none.undumped)
+    by_kind (inl (name, bytes, asked)) = one_text (row_of name).1 (laws_of name) bytes a b
+        (request_typed line name bytes asked) (h.asked name bytes asked) (k.asked name bytes asked)
+    by_kind (inr (inl (datagrams, dump))) =
+        one_dump_text datagrams (datagrams_typed line datagrams dump) a b (h.dumped datagrams dump)
+        (k.dumped datagrams dump)
+    by_kind (inr (inr none)) = h.other none.unnamed none.undumped
+        ∙ sym (k.other none.unnamed none.undumped)
 
 -- the answer, as a function of the line
 pub answer_of : List ℕ → List ℕ
@@ -391,13 +464,16 @@ unfolding answer_of
 answer_of-is line = (has_answer line).1
 
 -- any function that gives each line an answer is this one
-pub one_function : (f : List ℕ → List ℕ) → ((line : List ℕ) → IsAnswerOf line (f line)) → answer_of ≡ f
-one_function f h = λ i line. one_answer line (answer_of line) (f line) (answer_of-is line) (h line) i
+pub one_function : (f : List ℕ → List ℕ) → ((line : List ℕ) → IsAnswerOf line (f line))
+    → answer_of ≡ f
+one_function f h = λ i line. one_answer line (answer_of line) (f line) (answer_of-is line) (h line)
+    i
 
 -- ---- what a line was read as
 
 -- a name before the first space, and a hex field behind it
-pub request_at : (line : List ℕ) (i : ℕ) (name : Name) (bytes : List ℕ) → Some i ≡ position is_space line → take i line ≡ (row_of name).0
+pub request_at : (line : List ℕ) (i : ℕ) (name : Name) (bytes : List ℕ)
+    → Some i ≡ position is_space line → take i line ≡ (row_of name).0
     → IsHexField (drop (i + 1) line) bytes → IsRequest line name bytes
 request_at line i name bytes place word field = (
   drop (i + 1) line,
@@ -406,47 +482,65 @@ request_at line i name bytes place word field = (
 )
 
 -- what answers that which a line was read as answers the line
-pub read_answer : (line : List ℕ) (asked : Asked) (bytes text : List ℕ) → IsReadAs line asked bytes → IsAnswerTo asked bytes text → IsAnswerOf line text
+pub read_answer : (line : List ℕ) (asked : Asked) (bytes text : List ℕ) → IsReadAs line asked bytes
+    → IsAnswerTo asked bytes text → IsAnswerOf line text
 read_answer line (Field name) bytes text asked tells = asked_answer line name bytes text asked tells
 read_answer line (Dump dump) bytes text (datagrams, asked, read) tells =
-    dump_answer line datagrams text asked (tells_same IsWritable shown_dump (λ d. IsDumpOf datagrams d) (λ fault. ⊥) (told_dump dump) text read.is tells)
+    dump_answer line datagrams text asked
+    (tells_same IsWritable shown_dump (λ d. IsDumpOf datagrams d) (λ fault. ⊥) (told_dump dump)
+    text read.is tells)
 read_answer line Nothing bytes text none e = bad_answer line text none e
 
 -- ---- answers of two lines
 
-told_is : (line : List ℕ) (name : Name) (bytes text : List ℕ) → IsAnswerOf line text → IsRequest line name bytes → text ≡ told (row_of name).1 (laws_of name) bytes
+told_is : (line : List ℕ) (name : Name) (bytes text : List ℕ) → IsAnswerOf line text
+    → IsRequest line name bytes → text ≡ told (row_of name).1 (laws_of name) bytes
 told_is line name bytes text h asked =
     let typed = request_typed line name bytes asked in
-    one_text (row_of name).1 (laws_of name) bytes text _ typed (h.asked name bytes asked) (told-tells (row_of name).1 (laws_of name) bytes typed)
+    one_text (row_of name).1 (laws_of name) bytes text _ typed (h.asked name bytes asked)
+    (told-tells (row_of name).1 (laws_of name) bytes typed)
 
 -- two fields of one name have one answer where they are idle
-pub answers_alike : (name : Name) (line other bytes bytes' text text' : List ℕ) → IsAnswerOf line text → IsAnswerOf other text'
-    → IsRequest line name bytes → IsRequest other name bytes' → IsAccepted (row_of name).1 bytes → IsAccepted (row_of name).1 bytes'
+pub answers_alike : (name : Name) (line other bytes bytes' text text' : List ℕ)
+    → IsAnswerOf line text → IsAnswerOf other text'
+    → IsRequest line name bytes → IsRequest other name bytes' → IsAccepted (row_of name).1 bytes
+    → IsAccepted (row_of name).1 bytes'
     → (row_of name).1.idle bytes bytes' → text ≡ text'
 answers_alike name line other bytes bytes' text text' h k asked asked' ok ok' i =
     told_is line name bytes text h asked
-    ∙ told_alike (row_of name).1 (laws_of name) bytes bytes' (request_typed line name bytes asked) (request_typed other name bytes' asked') ok ok' i
+    ∙ told_alike (row_of name).1 (laws_of name) bytes bytes' (request_typed line name bytes asked)
+    (request_typed other name bytes' asked') ok ok' i
     ∙ sym (told_is other name bytes' text' k asked')
 
 -- and but for `unixview` nowhere else
-pub answers_apart : (name : Name) → name ≢ UnixView → (line other bytes bytes' text text' : List ℕ) → IsAnswerOf line text → IsAnswerOf other text'
-    → IsRequest line name bytes → IsRequest other name bytes' → IsAccepted (row_of name).1 bytes → IsAccepted (row_of name).1 bytes'
+pub answers_apart : (name : Name) → name ≢ UnixView → (line other bytes bytes' text text' : List ℕ)
+    → IsAnswerOf line text → IsAnswerOf other text'
+    → IsRequest line name bytes → IsRequest other name bytes' → IsAccepted (row_of name).1 bytes
+    → IsAccepted (row_of name).1 bytes'
     → text ≡ text' → (row_of name).1.idle bytes bytes'
 answers_apart name all line other bytes bytes' text text' h k asked asked' ok ok' e =
-    told_apart (row_of name).1 (laws_of name) (shows_all name all) bytes bytes' (request_typed line name bytes asked) (request_typed other name bytes' asked') ok ok'
+    told_apart (row_of name).1 (laws_of name) (shows_all name all) bytes bytes'
+    (request_typed line name bytes asked) (request_typed other name bytes' asked') ok ok'
     (sym (told_is line name bytes text h asked) ∙ e ∙ told_is other name bytes' text' k asked')
 
 -- dumps over the same items have one answer
-pub dumps_alike : (line other text text' : List ℕ) (datagrams datagrams' : List (List ℕ)) (row : List (Result (Payload MessageValue) DecodeError))
-    → IsAnswerOf line text → IsAnswerOf other text' → IsDumpRequest line datagrams → IsDumpRequest other datagrams'
+pub dumps_alike : (line other text text' : List ℕ) (datagrams datagrams' : List (List ℕ))
+    (row : List (Result (Payload MessageValue) DecodeError))
+    → IsAnswerOf line text → IsAnswerOf other text' → IsDumpRequest line datagrams
+    → IsDumpRequest other datagrams'
     → HaveItems message_codec datagrams row → HaveItems message_codec datagrams' row → text ≡ text'
 dumps_alike line other text text' datagrams datagrams' row h k dump dump' have have' =
     one_dump_text datagrams' (datagrams_typed other datagrams' dump') text text'
-    (tells_same_items datagrams datagrams' row (datagrams_typed line datagrams dump) have have' text (h.dumped datagrams dump)) (k.dumped datagrams' dump')
+    (tells_same_items datagrams datagrams' row (datagrams_typed line datagrams dump) have have' text
+    (h.dumped datagrams dump)) (k.dumped datagrams' dump')
 
 -- and dumps of the same bytes in whole messages
-pub dumps_split : (line other text text' : List ℕ) (datagrams datagrams' : List (List ℕ)) → IsAnswerOf line text → IsAnswerOf other text'
-    → IsDumpRequest line datagrams → IsDumpRequest other datagrams' → AreSplit datagrams → AreSplit datagrams' → in_a_row datagrams ≡ in_a_row datagrams' → text ≡ text'
+pub dumps_split : (line other text text' : List ℕ) (datagrams datagrams' : List (List ℕ))
+    → IsAnswerOf line text → IsAnswerOf other text'
+    → IsDumpRequest line datagrams → IsDumpRequest other datagrams' → AreSplit datagrams
+    → AreSplit datagrams' → in_a_row datagrams ≡ in_a_row datagrams' → text ≡ text'
 dumps_split line other text text' datagrams datagrams' h k dump dump' split split' same =
     one_dump_text datagrams' (datagrams_typed other datagrams' dump') text text'
-    (tells_split datagrams datagrams' (datagrams_typed line datagrams dump) (datagrams_typed other datagrams' dump') split split' same text (h.dumped datagrams dump)) (k.dumped datagrams' dump')
+    (tells_split datagrams datagrams' (datagrams_typed line datagrams dump)
+    (datagrams_typed other datagrams' dump') split split' same text (h.dumped datagrams dump))
+    (k.dumped datagrams' dump')

@@ -9,21 +9,27 @@ use Rattle.sock_diag_lines.proofs.SubjectLaws.{LawsOf, ShowsAll, SubjectLaws}
 
 module _ {Param : Type 0} (C : Codec Param) (laws : KeepsLaws C) (param : Param) where
   -- bytes have one value
-  pub same_read : (b : List ℕ) (v w : C.Value) → IsBytes b → C.reads b param v → C.reads b param w → v ≡ w
-  same_read b v w h r s = (laws.same_value b b param v w h h r s).1 ((laws.same_value b b param v v h h r r).0 refl)
+  pub same_read : (b : List ℕ) (v w : C.Value) → IsBytes b → C.reads b param v → C.reads b param w
+      → v ≡ w
+  same_read b v w h r s = (laws.same_value b b param v w h h r s).1
+      ((laws.same_value b b param v v h h r r).0 refl)
 
   -- values that were read and are written as the same bytes are equal
-  pub same_written : (b c : List ℕ) (v w : C.Value) → IsBytes b → IsBytes c → C.reads b param v → C.reads c param w → C.fits v → C.fits w → C.written v ≡ C.written w → v ≡ w
+  pub same_written : (b c : List ℕ) (v w : C.Value) → IsBytes b → IsBytes c → C.reads b param v
+      → C.reads c param w → C.fits v → C.fits w → C.written v ≡ C.written w → v ≡ w
   same_written b c v w hb hc r s f g e =
       let n = laws.reads_normal b param v hb r in
       let m = laws.reads_normal c param w hc s in
       let back = laws.reads_back param v n.0 n.1 f in
       let other = laws.reads_back param w m.0 m.1 g in
-      same_read (C.written w) v w (laws.written_bytes w m.0) (subst (λ (x : List ℕ). C.reads x param v) e back) other
+      same_read (C.written w) v w (laws.written_bytes w m.0)
+      (subst (λ (x : List ℕ). C.reads x param v) e back) other
 
   -- what is shown of the values of a type that keeps the laws
-  pub shown_laws : (fits : C.Value → Type 0) (shown : C.Value → List ℕ) → ((v : C.Value) → fits v ⊎ ¬ fits v)
-      → SubjectLaws (λ b v. C.reads b param v) (λ b e. C.refuses b param e) fits shown (C.idle param)
+  pub shown_laws : (fits : C.Value → Type 0) (shown : C.Value → List ℕ)
+      → ((v : C.Value) → fits v ⊎ ¬ fits v)
+      → SubjectLaws (λ b v. C.reads b param v) (λ b e. C.refuses b param e) fits shown
+      (C.idle param)
   shown_laws fits shown fits_or_not = record {
     answered = λ b h. laws.answered b param h;
     one_value = same_read;
@@ -42,5 +48,6 @@ module _ {Param : Type 0} (C : Codec Param) (laws : KeepsLaws C) (param : Param)
   canonical_shows_all b c v w hb hc r s f g e =
       let n = laws.reads_normal b param v hb r in
       let m = laws.reads_normal c param w hc s in
-      let same = field_of-same (C.written v) (C.written w) (laws.written_bytes v n.0) (laws.written_bytes w m.0) e in
+      let same = field_of-same (C.written v) (C.written w) (laws.written_bytes v n.0)
+      (laws.written_bytes w m.0) e in
       (laws.same_value b c param v w hb hc r s).0 (same_written b c v w hb hc r s f g same)

@@ -5,10 +5,12 @@ use Rattle.std.proofs.lemmas.Bool.{cases_lt}
 use Rattle.netlink_core.specs.Attribute.{Attribute, HasFittingValue}
 use Rattle.netlink_core.specs.Family.{attribute_said}
 use Rattle.netlink_core.specs.Reply.{Reply, ValueOf, reply_bytes, reply_codec}
-use Rattle.netlink_core.specs.Envelope.{Payload, done_with, error_with, no_payload, overrun_with, inner, Envelope, OfInner, payload_bytes, envelope_codec}
+use Rattle.netlink_core.specs.Envelope.{Payload, done_with, error_with, no_payload, overrun_with}
+use Rattle.netlink_core.specs.Envelope.{inner, Envelope, OfInner, payload_bytes, envelope_codec}
 use Rattle.netlink_packet_sock_diag.specs.InetReply.{inet_reply}
 use Rattle.netlink_packet_sock_diag.specs.UnixReply.{unix_reply}
-use Rattle.netlink_packet_sock_diag.specs.Message.{Message, message_of, inet_request, inet_response, unix_request, unix_response, message_codec}
+use Rattle.netlink_packet_sock_diag.specs.Message.{Message, message_of, inet_request, inet_response}
+use Rattle.netlink_packet_sock_diag.specs.Message.{unix_request, unix_response, message_codec}
 
 at_most : (m n : ℕ) → (m ≤ n) ⊎ ¬ (m ≤ n)
 at_most m n = elim (cases_lt n m) [
@@ -17,19 +19,30 @@ at_most m n = elim (cases_lt n m) [
 ]
 
 -- whether something holds of each is decided where it is decided of one
-pub each_or_not : {X : Type 0} (P : X → Type 0) → ((x : X) → P x ⊎ ¬ P x) → (xs : List X) → AllByRecursion P xs ⊎ ¬ AllByRecursion P xs
+pub each_or_not : {X : Type 0} (P : X → Type 0) → ((x : X) → P x ⊎ ¬ P x) → (xs : List X)
+    → AllByRecursion P xs ⊎ ¬ AllByRecursion P xs
 each_or_not P decide [] = inl tt
 each_or_not P decide (x ∷ later) = elim (decide x) [
-  | inl holds ↦ elim (each_or_not P decide later) [ inl others ↦ inl (holds, others) | inr fails ↦ inr (λ h. fails h.1) ]
+  | inl holds ↦ elim (each_or_not P decide later) [
+    | inl others ↦ inl (holds, others)
+    | inr fails ↦
+        inr (λ h. fails h.1)
+  ]
   | inr fails ↦ inr (λ h. fails h.0)
 ]
 
-all_fit : (attributes : List Attribute) → AllByRecursion HasFittingValue attributes ⊎ ¬ AllByRecursion HasFittingValue attributes
+all_fit : (attributes : List Attribute) → AllByRecursion HasFittingValue attributes
+    ⊎ ¬ AllByRecursion HasFittingValue attributes
 all_fit attributes = each_or_not HasFittingValue (λ a. at_most (length a.value) 65531) attributes
 
-pub reply_fits_or_not : (R : Reply) (value : ValueOf R) → (reply_codec R).fits value ⊎ ¬ (reply_codec R).fits value
+pub reply_fits_or_not : (R : Reply) (value : ValueOf R) → (reply_codec R).fits value
+    ⊎ ¬ (reply_codec R).fits value
 reply_fits_or_not R value = elim (all_fit (map (attribute_said R.family) value.nlas)) [
-  | inl fits ↦ elim (at_most (length (reply_bytes R value)) 4294967295) [ inl room ↦ inl (fits, room) | inr full ↦ inr (λ h. full h.1) ]
+  | inl fits ↦ elim (at_most (length (reply_bytes R value)) 4294967295) [
+    | inl room ↦
+        inl (fits, room)
+    | inr full ↦ inr (λ h. full h.1)
+  ]
   | inr unfit ↦ inr (λ h. unfit h.0)
 ]
 
@@ -39,15 +52,18 @@ message_fits_or_not (message_of inet_response reply) = reply_fits_or_not inet_re
 message_fits_or_not (message_of unix_request request) = inl tt
 message_fits_or_not (message_of unix_response reply) = reply_fits_or_not unix_reply reply
 
-inner_fits_or_not : (payload : Payload Message) → OfInner message_codec.fits payload ⊎ ¬ OfInner message_codec.fits payload
+inner_fits_or_not : (payload : Payload Message) → OfInner message_codec.fits payload
+    ⊎ ¬ OfInner message_codec.fits payload
 inner_fits_or_not (inner message) = message_fits_or_not message
 inner_fits_or_not (done_with given) = inl tt
 inner_fits_or_not (error_with given) = inl tt
 inner_fits_or_not no_payload = inl tt
 inner_fits_or_not (overrun_with given) = inl tt
 
-pub envelope_fits_or_not : (value : Envelope Message) → (envelope_codec message_codec).fits value ⊎ ¬ (envelope_codec message_codec).fits value
+pub envelope_fits_or_not : (value : Envelope Message) → (envelope_codec message_codec).fits value
+    ⊎ ¬ (envelope_codec message_codec).fits value
 envelope_fits_or_not value = elim (inner_fits_or_not value.payload) [
-  | inl fits ↦ elim (at_most (16 + length (payload_bytes message_codec.written value.payload)) 4294967295) [ inl room ↦ inl (fits, room) | inr full ↦ inr (λ h. full h.1) ]
+  | inl fits ↦ elim (at_most (16 + length (payload_bytes message_codec.written value.payload))
+      4294967295) [ inl room ↦ inl (fits, room) | inr full ↦ inr (λ h. full h.1) ]
   | inr unfit ↦ inr (λ h. unfit h.0)
 ]

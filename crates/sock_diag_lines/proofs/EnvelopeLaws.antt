@@ -1,9 +1,12 @@
 -- What is shown of netlink messages, which is all of them.
-use Rattle.std.proofs.Common.{◌≡◌, ◌↔◌, ℕ, ◌-◌, ◌<◌, ◌^◌, List, take, drop, decimal, refl, sym, ap, subst, arith}
+use Rattle.std.proofs.Common.{◌≡◌, ◌↔◌, ℕ, ◌-◌, ◌<◌, ◌^◌, List, take, drop, decimal, refl, sym, ap}
+use Rattle.std.proofs.Common.{subst, arith}
 use Rattle.std.proofs.lemmas.Fmt.{decimal_injective}
 use Rattle.netlink_core.specs.Bytes.{IsBytes}
-use Rattle.netlink_core.specs.Envelope.{Payload, done_with, error_with, no_payload, overrun_with, inner, Envelope, PayloadIs, payload_bytes, envelope_codec}
-use Rattle.netlink_core.proofs.Framing.{envelope_or_fault, envelope_or_fault_apart, one_envelope_fault, payload_typed}
+use Rattle.netlink_core.specs.Envelope.{Payload, done_with, error_with, no_payload, overrun_with}
+use Rattle.netlink_core.specs.Envelope.{inner, Envelope, PayloadIs, payload_bytes, envelope_codec}
+use Rattle.netlink_core.proofs.Framing.{envelope_or_fault, envelope_or_fault_apart}
+use Rattle.netlink_core.proofs.Framing.{one_envelope_fault, payload_typed}
 use Rattle.netlink_core.proofs.Idle.{equal_where_idle, payloads_alike}
 use Rattle.netlink_packet_sock_diag.specs.Message.{message_codec, Message}
 use Rattle.netlink_packet_sock_diag.specs.MessageLaws.{message_laws}
@@ -17,50 +20,72 @@ use Rattle.sock_diag_lines.proofs.SubjectLaws.{LawsOf, ShowsAll}
 
 -- ---- words
 
-word-same : (m n : ℕ) (rest other : List ℕ) → m < 2 ^ 32 → n < 2 ^ 32 → word m rest ≡ word n other → (m ≡ n) × (rest ≡ other)
+word-same : (m n : ℕ) (rest other : List ℕ) → m < 2 ^ 32 → n < 2 ^ 32 → word m rest ≡ word n other
+    → (m ≡ n) × (rest ≡ other)
 word-same m n rest other hm hn e =
-    let both = word_and_rest (decimal m) (decimal n) rest other (decimal_digits m (omega arith)) (decimal_digits n (omega arith)) e in
+    let both = word_and_rest (decimal m) (decimal n) rest other (decimal_digits m (omega arith))
+    (decimal_digits n (omega arith)) e in
     (decimal_injective m n (omega arith) (omega arith) both.0, both.1)
 
 -- ---- payloads
 
 -- what is written of a payload that was read is bytes
-payload_written : (t : ℕ) (x : List ℕ) (p : Payload Message) → IsBytes x → PayloadIs message_codec.reads x t p → IsBytes (payload_bytes message_codec.written p)
+payload_written : (t : ℕ) (x : List ℕ) (p : Payload Message) → IsBytes x
+    → PayloadIs message_codec.reads x t p → IsBytes (payload_bytes message_codec.written p)
 payload_written t x no_payload hx r = λ i. omega arith
 payload_written t x (error_with given) hx r = subst IsBytes (sym r.1) hx
 payload_written t x (done_with given) hx r = subst IsBytes (sym r.1) hx
 payload_written t x (overrun_with given) hx r = subst IsBytes (sym r.1) hx
-payload_written t x (inner m) hx r = message_laws.written_bytes m (message_laws.reads_normal x t m hx r.1).0
+payload_written t x (inner m) hx r =
+    message_laws.written_bytes m (message_laws.reads_normal x t m hx r.1).0
 
 -- ---- messages
 
-equal_idle : (b c : List ℕ) (v w : Envelope Message) → IsBytes b → IsBytes c → (envelope_codec message_codec).reads b tt v → (envelope_codec message_codec).reads c tt w → ((v ≡ w) ↔ (envelope_codec message_codec).idle tt b c)
+equal_idle : (b c : List ℕ) (v w : Envelope Message) → IsBytes b → IsBytes c
+    → (envelope_codec message_codec).reads b tt v → (envelope_codec message_codec).reads c tt w
+    → ((v ≡ w) ↔ (envelope_codec message_codec).idle tt b c)
 equal_idle b c v w hb hc r s =
     equal_where_idle message_codec message_laws.same_value b c v w hb hc r s
 
 -- messages of which the same is shown are equal
-same_shown : (b c : List ℕ) (v w : Envelope Message) → IsBytes b → IsBytes c → (envelope_codec message_codec).reads b tt v → (envelope_codec message_codec).reads c tt w
-    → (envelope_codec message_codec).fits v → (envelope_codec message_codec).fits w → shown_envelope v ≡ shown_envelope w → v ≡ w
+same_shown : (b c : List ℕ) (v w : Envelope Message) → IsBytes b → IsBytes c
+    → (envelope_codec message_codec).reads b tt v → (envelope_codec message_codec).reads c tt w
+    → (envelope_codec message_codec).fits v → (envelope_codec message_codec).fits w
+    → shown_envelope v ≡ shown_envelope w → v ≡ w
 same_shown b c v w hb hc (head, r) (other, s) f g e =
     let h = head.1 in
     let k = other.1 in
     let lengths = word-same v.header.length w.header.length _ _ h.0 k.0 e in
-    let types = word-same v.header.message_type w.header.message_type _ _ (omega (arith, h.1.0)) (omega (arith, k.1.0)) lengths.1 in
-    let flags = word-same v.header.flags w.header.flags _ _ (omega (arith, h.1.1.0)) (omega (arith, k.1.1.0)) types.1 in
-    let sequences = word-same v.header.sequence_number w.header.sequence_number _ _ h.1.1.1.0 k.1.1.1.0 flags.1 in
-    let ports = word-same v.header.port_number w.header.port_number _ _ h.1.1.1.1.0 k.1.1.1.1.0 sequences.1 in
+    let types = word-same v.header.message_type w.header.message_type _ _ (omega (arith, h.1.0))
+    (omega (arith, k.1.0)) lengths.1 in
+    let flags = word-same v.header.flags w.header.flags _ _ (omega (arith, h.1.1.0))
+    (omega (arith, k.1.1.0)) types.1 in
+    let sequences = word-same v.header.sequence_number w.header.sequence_number _ _ h.1.1.1.0
+    k.1.1.1.0 flags.1 in
+    let ports = word-same v.header.port_number w.header.port_number _ _ h.1.1.1.1.0 k.1.1.1.1.0
+    sequences.1 in
     let x : List ℕ = take (v.header.length - 16) (drop 16 b) in
     let y : List ℕ = take (w.header.length - 16) (drop 16 c) in
     let hx = payload_typed v.header.length b hb in
     let hy = payload_typed w.header.length c hc in
     let p = payload_written v.header.message_type x v.payload hx r in
     let q = payload_written w.header.message_type y w.payload hy s in
-    let written = field_of-same (payload_bytes message_codec.written v.payload) (payload_bytes message_codec.written w.payload) p q ports.1 in
-    let same_type = subst (λ (t : ℕ). PayloadIs message_codec.reads y t w.payload) (sym types.0) s in
+    let written = field_of-same (payload_bytes message_codec.written v.payload)
+    (payload_bytes message_codec.written w.payload) p q ports.1 in
+    let same_type = subst (λ (t : ℕ). PayloadIs message_codec.reads y t w.payload) (sym types.0)
+    s in
     let t = v.header.message_type in
-    let payloads = payloads_alike message_codec.reads message_codec.written message_codec.fits t x y (λ m n. same_written message_codec message_laws t x y m n hx hy) v.payload w.payload r same_type f.0 g.0 written in
+    let payloads = payloads_alike message_codec.reads message_codec.written message_codec.fits t x y
+    (λ m n. same_written message_codec message_laws t x y m n hx hy) v.payload w.payload r
+    same_type f.0 g.0 written in
     λ i. record {
-      header = record { length = lengths.0 i; message_type = types.0 i; flags = flags.0 i; sequence_number = sequences.0 i; port_number = ports.0 i };
+      header = record {
+        length = lengths.0 i;
+        message_type = types.0 i;
+        flags = flags.0 i;
+        sequence_number = sequences.0 i;
+        port_number = ports.0 i;
+      };
       payload = payloads i;
     }
 
@@ -68,12 +93,15 @@ pub envelope_laws : LawsOf envelope_subject
 envelope_laws = record {
   answered = λ b h. envelope_or_fault message_codec b h message_laws.answered;
   one_value = λ b v w h r s. (equal_idle b b v w h h r s).1 ((equal_idle b b v v h h r r).0 refl);
-  one_answer = λ b v e. envelope_or_fault_apart message_codec b v e (λ x t m. message_laws.one_answer x t m e);
-  one_fault = λ b e f. one_envelope_fault message_codec b e f (λ x t. message_laws.one_fault x t e f);
+  one_answer = λ b v e. envelope_or_fault_apart message_codec b v e
+      (λ x t m. message_laws.one_answer x t m e);
+  one_fault = λ b e f. one_envelope_fault message_codec b e f
+      (λ x t. message_laws.one_fault x t e f);
   fits_or_not = envelope_fits_or_not;
   shown_alike = λ b c v w hb hc r s i. ap shown_envelope ((equal_idle b c v w hb hc r s).1 i);
 }
 
 -- the fields of the header and the written payload show all of a message
 pub envelope_shows_all : ShowsAll envelope_subject
-envelope_shows_all b c v w hb hc r s f g e = (equal_idle b c v w hb hc r s).0 (same_shown b c v w hb hc r s f g e)
+envelope_shows_all b c v w hb hc r s f g e =
+    (equal_idle b c v w hb hc r s).0 (same_shown b c v w hb hc r s f g e)

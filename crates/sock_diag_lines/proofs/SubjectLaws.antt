@@ -7,23 +7,28 @@ use Rattle.sock_diag_lines.specs.TextSteps.{accepted, refused, unwritable}
 use Rattle.sock_diag_lines.proofs.ByteLaws.{as_bytes, IsBytes-as_bytes}
 
 -- what is proved of a subject
-pub record SubjectLaws {Value : Type 0} (reads : List ℕ → Value → Type 0) (refuses : List ℕ → DecodeError → Type 0) (fits : Value → Type 0) (shown : Value → List ℕ) (idle : List ℕ → List ℕ → Type 0) : Type 0 where
+pub record SubjectLaws {Value : Type 0} (reads : List ℕ → Value → Type 0) (refuses : List ℕ
+    → DecodeError → Type 0) (fits : Value → Type 0) (shown : Value → List ℕ) (idle : List ℕ → List ℕ
+    → Type 0) : Type 0 where
   -- bytes have one value or one fault, not both
-  pub answered : (b : List ℕ) → IsBytes b → ((v : Value) × reads b v) ⊎ ((e : DecodeError) × refuses b e)
+  pub answered : (b : List ℕ) → IsBytes b → ((v : Value) × reads b v)
+      ⊎ ((e : DecodeError) × refuses b e)
   pub one_value : (b : List ℕ) (v w : Value) → IsBytes b → reads b v → reads b w → v ≡ w
   pub one_answer : (b : List ℕ) (v : Value) (e : DecodeError) → reads b v → refuses b e → ⊥
   pub one_fault : (b : List ℕ) (e f : DecodeError) → refuses b e → refuses b f → e ≡ f
   -- whether a value can be written is decided
   pub fits_or_not : (v : Value) → fits v ⊎ ¬ fits v
   -- idle bytes show the same
-  pub shown_alike : (b c : List ℕ) (v w : Value) → IsBytes b → IsBytes c → reads b v → reads c w → idle b c → shown v ≡ shown w
+  pub shown_alike : (b c : List ℕ) (v w : Value) → IsBytes b → IsBytes c → reads b v → reads c w
+      → idle b c → shown v ≡ shown w
 
 abbrev pub LawsOf : Subject → Type 0
 LawsOf S = SubjectLaws S.reads S.refuses S.fits S.shown S.idle
 
 -- bytes whose values can be written and show the same are idle
 abbrev pub ShowsAll : Subject → Type 0
-ShowsAll S = (b c : List ℕ) (v w : S.Value) → IsBytes b → IsBytes c → S.reads b v → S.reads c w → S.fits v → S.fits w → S.shown v ≡ S.shown w → S.idle b c
+ShowsAll S = (b c : List ℕ) (v w : S.Value) → IsBytes b → IsBytes c → S.reads b v → S.reads c w
+    → S.fits v → S.fits w → S.shown v ≡ S.shown w → S.idle b c
 
 -- ---- the one text that tells of bytes, by the laws
 
@@ -33,10 +38,13 @@ told_value S value (inl fits) = accepted (S.shown value)
 told_value S value (inr unfit) = unwritable
 
 -- what is told of a value or a fault
-abbrev pub told_answer : (S : Subject) → LawsOf S → (field : List ℕ) → ((value : S.Value) × S.reads field value) ⊎ ((fault : DecodeError) × S.refuses field fault) → List ℕ
+abbrev pub told_answer : (S : Subject) → LawsOf S → (field : List ℕ)
+    → ((value : S.Value) × S.reads field value) ⊎ ((fault : DecodeError) × S.refuses field fault)
+    → List ℕ
 told_answer S laws field (inl (value, reads)) = told_value S value (laws.fits_or_not value)
 told_answer S laws field (inr (fault, refuses)) = refused fault
 
 -- what is told of a subject's bytes; each number is taken as a byte
 unfoldable pub told : (S : Subject) → LawsOf S → List ℕ → List ℕ
-told S laws field = told_answer S laws (as_bytes field) (laws.answered (as_bytes field) (IsBytes-as_bytes field))
+told S laws field = told_answer S laws (as_bytes field)
+    (laws.answered (as_bytes field) (IsBytes-as_bytes field))

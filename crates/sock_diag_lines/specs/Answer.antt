@@ -13,7 +13,10 @@ use Rattle.sock_diag_lines.specs.HexField.{IsHexField}
 use Rattle.sock_diag_lines.specs.Told.{Subject, TellsOf}
 use Rattle.sock_diag_lines.specs.Subjects.{subject, envelope_subject, view_subject}
 use Rattle.sock_diag_lines.specs.declared.answers.Name.{Name}
-use Rattle.sock_diag_lines.specs.declared.answers.Name.TheVariants.{UnixRequest, UnixResponse, InetRequest, InetResponse, SocketId4, SocketId6, Message, NetlinkMessage, UnixView}
+use Rattle.sock_diag_lines.specs.declared.answers.Name.TheVariants.{UnixRequest, UnixResponse}
+use Rattle.sock_diag_lines.specs.declared.answers.Name.TheVariants.{InetRequest, InetResponse}
+use Rattle.sock_diag_lines.specs.declared.answers.Name.TheVariants.{SocketId4, SocketId6, Message}
+use Rattle.sock_diag_lines.specs.declared.answers.Name.TheVariants.{NetlinkMessage, UnixView}
 
 -- How each name is spelled, and what its bytes are read as; the socket identities under AF_INET, 2,
 -- and AF_INET6, 10, and a message under the type 20, SOCK_DIAG_BY_FAMILY.

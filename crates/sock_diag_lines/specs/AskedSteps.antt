@@ -16,11 +16,13 @@ pub record IsNoRequest (line : List ℕ) : Type 0 where
 -- a line is read as a name and the bytes of its field, as a dump, or as no request
 abbrev pub IsReadAs : List ℕ → Asked → List ℕ → Type 0
 IsReadAs line (Field name) bytes = IsRequest line name bytes
-IsReadAs line (Dump dump) bytes = (datagrams : List (List ℕ)) × IsDumpRequest line datagrams × IsReadDump datagrams dump
+IsReadAs line (Dump dump) bytes = (datagrams : List (List ℕ)) × IsDumpRequest line datagrams
+    × IsReadDump datagrams dump
 IsReadAs line Nothing bytes = IsNoRequest line
 
 -- the text answers what a line was read as
 abbrev pub IsAnswerTo : Asked → List ℕ → List ℕ → Type 0
 IsAnswerTo (Field name) bytes text = TellsOf (row_of name).1 bytes text
-IsAnswerTo (Dump dump) bytes text = Tells (λ d. d ≡ told_dump dump) (λ fault. ⊥) IsWritable shown_dump text
+IsAnswerTo (Dump dump) bytes text = Tells (λ d. d ≡ told_dump dump) (λ fault. ⊥) IsWritable
+    shown_dump text
 IsAnswerTo Nothing bytes text = text ≡ codes "bad line"

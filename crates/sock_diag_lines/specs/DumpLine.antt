@@ -1,10 +1,12 @@
 -- A line that asks for the dump over some datagrams, and what is shown of it.
-use Rattle.std.specs.Prelude.{◌≡◌, ◌==◌, ℕ, List, [], ◌∷◌, ◌++◌, length, codes, decimal, Result, Ok, Err}
+use Rattle.std.specs.Prelude.{◌≡◌, ◌==◌, ℕ, List, [], ◌∷◌, ◌++◌, length, codes, decimal, Result, Ok}
+use Rattle.std.specs.Prelude.{Err}
 use Rattle.std.specs.List.{AllByRecursion, AllZip, flat_map, slice_split}
 use Rattle.netlink_core.specs.declared.fault.DecodeError.{DecodeError}
 use Rattle.netlink_core.specs.Faults.{number_of}
 use Rattle.netlink_packet_sock_diag.specs.declared.dump.DumpState.{DumpState}
-use Rattle.netlink_packet_sock_diag.specs.declared.dump.DumpState.TheVariants.{Reading, Done, Error, Overrun, Failed}
+use Rattle.netlink_packet_sock_diag.specs.declared.dump.DumpState.TheVariants.{Reading, Done, Error}
+use Rattle.netlink_packet_sock_diag.specs.declared.dump.DumpState.TheVariants.{Overrun, Failed}
 use Rattle.netlink_packet_sock_diag.specs.Dump.{DatagramsDump}
 use Rattle.netlink_packet_sock_diag.specs.Message.{Message, message_codec}
 use Rattle.sock_diag_lines.specs.HexField.{IsHexField, field_of}

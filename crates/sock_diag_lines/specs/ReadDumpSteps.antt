@@ -1,5 +1,6 @@
 -- What is seen of a dump that the program reads, how it grows, and the words that it is told by.
-use Rattle.std.specs.Prelude.{◌≡◌, ◌==◌, ℕ, List, [], ◌∷◌, ◌++◌, Option, Some, None, Result, Ok, Err}
+use Rattle.std.specs.Prelude.{◌≡◌, ◌==◌, ℕ, List, [], ◌∷◌, ◌++◌, Option, Some, None, Result, Ok}
+use Rattle.std.specs.Prelude.{Err}
 use Rattle.netlink_core.specs.declared.fault.DecodeError.{DecodeError}
 use Rattle.netlink_packet_sock_diag.specs.declared.dump.DumpState.{DumpState}
 use Rattle.netlink_packet_sock_diag.specs.declared.dump.DumpState.TheVariants.{Reading}
@@ -50,4 +51,5 @@ pub record IsReadDump (datagrams : List (List ℕ)) (dump : ReadDump) : Type 0 w
 
 -- whatever datagrams were read, this one was read behind them
 abbrev pub TakesDatagram : ReadDump → List ℕ → ReadDump → Type 0
-TakesDatagram old datagram new = (datagrams : List (List ℕ)) → IsReadDump datagrams old → IsReadDump (datagrams ++ datagram ∷ []) new
+TakesDatagram old datagram new = (datagrams : List (List ℕ)) → IsReadDump datagrams old
+    → IsReadDump (datagrams ++ datagram ∷ []) new

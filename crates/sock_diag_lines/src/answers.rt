@@ -2,7 +2,8 @@
 
 ghost use Rattle.sock_diag_lines.specs.declared.answers.Name.{Name};
 ghost use Rattle.sock_diag_lines.specs.declared.answers.Name.TheVariants.{UnixView};
-ghost use Rattle.std.specs.Prelude.{◌≡◌, ◌≢◌, ◌↔◌, ◌++◌, ◌∷◌, [], ℕ, List, codes, decimal, Result, IfOk, OnOk, MatchOption};
+ghost use Rattle.std.specs.Prelude.{◌≡◌, ◌≢◌, ◌↔◌, ◌++◌, ◌∷◌, [], ℕ, List, codes, decimal, Result};
+ghost use Rattle.std.specs.Prelude.{IfOk, OnOk, MatchOption};
 ghost use Rattle.netlink_core.specs.Envelope.{Payload, inner as of_inner, envelope_codec};
 ghost use Rattle.netlink_core.specs.Seen.{envelope_of};
 ghost use Rattle.netlink_core.specs.declared.fault.DecodeError.{DecodeError};
@@ -68,14 +69,16 @@ const DUMP: &[u8] = b"dump";
 const BAD_LINE: &[u8] = b"bad line";
 
 /// The answer to a line, without its line feed: `ok` and what is shown of the value that was read,
-/// `unwritable`, `refused` and the number of the first fault, or `bad line`. Shown are the bytes written back,
-/// for `netlink` behind the five fields of the header, and for `unixview` thirteen words.
+/// `unwritable`, `refused` and the number of the first fault, or `bad line`. Shown are the bytes
+/// written back, for `netlink` behind the five fields of the header, and for `unixview` thirteen
+/// words.
 pub fn answer(alloc: Global, line: &[u8]) -> Result<Vec<u8>, AllocError>
     ensures answers { IfOk result (λ text. IsAnswerOf line.now text.items) }
 
-    // Two fields of one name whose values can be written have one answer exactly where they differ in idle
-    // details alone. Only `unixview` shows less than that.
-    ensures same { IfOk result (λ text. (name : Name) → name ≢ UnixView → (other bytes bytes' text' : List ℕ)
+    // Two fields of one name whose values can be written have one answer exactly where they differ
+    // in idle details alone. Only `unixview` shows less than that.
+    ensures same { IfOk result (λ text. (name : Name) → name ≢ UnixView
+        → (other bytes bytes' text' : List ℕ)
         → IsRequest line.now name bytes → IsRequest other name bytes'
         → IsAccepted (row_of name).1 bytes → IsAccepted (row_of name).1 bytes'
         → IsAnswerOf other text' → ((text.items ≡ text') ↔ (row_of name).1.idle bytes bytes')) }
@@ -85,13 +88,15 @@ pub fn answer(alloc: Global, line: &[u8]) -> Result<Vec<u8>, AllocError>
         → IsAccepted (row_of name).1 bytes → IsAccepted (row_of name).1 bytes'
         → IsAnswerOf other text' → (row_of name).1.idle bytes bytes' → text.items ≡ text') }
     // Two dumps whose datagrams have the same items in a row have one answer.
-    ensures dumps { IfOk result (λ text. (other text' : List ℕ) (datagrams datagrams' : List (List ℕ))
+    ensures dumps { IfOk result
+        (λ text. (other text' : List ℕ) (datagrams datagrams' : List (List ℕ))
         (row : List (Result (Payload Message) DecodeError))
         → IsDumpRequest line.now datagrams → IsDumpRequest other datagrams'
         → HaveItems message_codec datagrams row → HaveItems message_codec datagrams' row
         → IsAnswerOf other text' → text.items ≡ text') }
     // So have two dumps of the same bytes, of which each datagram but the last is whole messages.
-    ensures split { IfOk result (λ text. (other text' : List ℕ) (datagrams datagrams' : List (List ℕ))
+    ensures split { IfOk result
+        (λ text. (other text' : List ℕ) (datagrams datagrams' : List (List ℕ))
         → IsDumpRequest line.now datagrams → IsDumpRequest other datagrams'
         → AreSplit datagrams → AreSplit datagrams' → in_a_row datagrams ≡ in_a_row datagrams'
         → IsAnswerOf other text' → text.items ≡ text') }
@@ -104,11 +109,12 @@ pub fn answer(alloc: Global, line: &[u8]) -> Result<Vec<u8>, AllocError>
 /// Each line has one answer. It does nothing: its contract is the law.
 pub fn each_line_has_one_answer()
     ensures some { (answer : List ℕ → List ℕ) × ((line : List ℕ) → IsAnswerOf line (answer line)) }
-    ensures one { (line text other : List ℕ) → IsAnswerOf line text → IsAnswerOf line other → text ≡ other }
+    ensures one { (line text other : List ℕ) → IsAnswerOf line text → IsAnswerOf line other
+        → text ≡ other }
 {}
 
-/// Adds the answer to a line to the text. Where memory runs out the text may have a part of it. `bytes` is
-/// room for the bytes of the field.
+/// Adds the answer to a line to the text. Where memory runs out the text may have a part of it.
+/// `bytes` is room for the bytes of the field.
 pub(crate) fn push_answer(
     alloc: Global,
     bytes: &mut Vec<u8>,
@@ -147,7 +153,8 @@ pub(crate) fn read_request(
 
 /// What a line asks for whose name is `dump`, by the text behind the space.
 fn read_dump_request(alloc: Global, bytes: &mut Vec<u8>, fields: &[u8]) -> Result<Asked, AllocError>
-    ensures { IfOk result (λ asked. IsReadAs (codes "dump" ++ 32 ∷ fields.now) asked bytes.new.items) }
+    ensures { IfOk result (λ asked. IsReadAs (codes "dump" ++ 32 ∷ fields.now) asked
+        bytes.new.items) }
 {
     match read_dump(alloc, bytes, fields)? {
         Some(dump) => Ok(Asked::Dump(dump)),
@@ -209,9 +216,11 @@ fn push_canonical<T: Wire + Drop>(
     }
 }
 
-/// Adds `ok` and what is shown of a netlink message, `unwritable`, or `refused` and the number of the fault.
+/// Adds `ok` and what is shown of a netlink message, `unwritable`, or `refused` and the number of
+/// the fault.
 fn push_netlink_message(alloc: Global, text: &mut Vec<u8>, bytes: &[u8]) -> Result<(), AllocError>
-    ensures { OnOk result (Adds text.old.items text.new.items (TellsOf envelope_subject bytes.now)) }
+    ensures { OnOk result (Adds text.old.items text.new.items
+        (TellsOf envelope_subject bytes.now)) }
 {
     match NetlinkMessage::<SockDiagMessage>::deserialize(alloc, bytes) {
         Ok(message) => push_shown(alloc, text, message),
@@ -226,7 +235,8 @@ fn push_shown(
     message: NetlinkMessage<SockDiagMessage>,
 ) -> Result<(), AllocError>
     ensures { OnOk result (Adds text.old.items text.new.items
-        (Tells (λ e. e ≡ envelope_of seen_message message) (λ fault. ⊥) (envelope_codec message_codec).fits shown_envelope)) }
+        (Tells (λ e. e ≡ envelope_of seen_message message) (λ fault. ⊥)
+        (envelope_codec message_codec).fits shown_envelope)) }
 {
     if !message.is_writable() {
         return text.extend_from_slice(UNWRITABLE);
@@ -250,7 +260,10 @@ fn push_inner(
 ) -> Result<(), AllocError>
     requires { message_codec.fits (seen_message inner) }
     ensures { OnOk result (text.new.items ≡ text.old.items ++ accepted
-        (shown_envelope (record { header = header.now; payload = of_inner (seen_message inner) }))) }
+        (shown_envelope (record {
+          header = header.now;
+          payload = of_inner (seen_message inner);
+        }))) }
 {
     let mut bytes = vec![in alloc; 0; inner.buffer_len()]?;
     inner.emit(&mut bytes);

@@ -1,12 +1,14 @@
 //! The answer to a line that asks for the dump over some datagrams.
 
-ghost use Rattle.std.specs.Prelude.{◌≡◌, ◌↔◌, ◌++◌, ℕ, List, map, IsTrue, IfOk, OnOk, MatchBool, MatchOption, Ok};
+ghost use Rattle.std.specs.Prelude.{◌≡◌, ◌↔◌, ◌++◌, ℕ, List, map, IsTrue, IfOk, OnOk, MatchBool};
+ghost use Rattle.std.specs.Prelude.{MatchOption, Ok};
 ghost use Rattle.std.specs.List.{AllByRecursion, flat_map};
 ghost use Rattle.netlink_packet_sock_diag.specs.Message.{message_codec};
 ghost use Rattle.netlink_packet_sock_diag.specs.SeenMessage.{seen_message};
 ghost use Rattle.sock_diag_lines.specs.DumpLine.{end_word, shown_dump};
 ghost use Rattle.sock_diag_lines.specs.HexField.{IsHexField};
-ghost use Rattle.sock_diag_lines.specs.ReadDumpSteps.{AreHexFields, IsReadDump, IsWritable, TakesDatagram};
+ghost use Rattle.sock_diag_lines.specs.ReadDumpSteps.{AreHexFields, IsReadDump, IsWritable};
+ghost use Rattle.sock_diag_lines.specs.ReadDumpSteps.{TakesDatagram};
 ghost use Rattle.sock_diag_lines.specs.ReadDumpSteps.{end_of, shown_message, told_dump};
 ghost use Rattle.sock_diag_lines.specs.Told.{Tells};
 ghost use Rattle.sock_diag_lines.specs.TextSteps.{Adds};
@@ -25,15 +27,17 @@ pub(crate) struct ReadDump {
     fault: Option<DecodeError>,
 }
 
-/// The dump over the datagrams that hex fields stand for, with one space between the fields. None where one is
-/// no hex field. `bytes` is room for the bytes of a field.
+/// The dump over the datagrams that hex fields stand for, with one space between the fields. None
+/// where one is no hex field. `bytes` is room for the bytes of a field.
 pub(crate) fn read_dump(
     alloc: Global,
     bytes: &mut Vec<u8>,
     fields: &[u8],
 ) -> Result<Option<ReadDump>, AllocError>
-    ensures { IfOk result (λ read. MatchOption read ((datagrams : List (List ℕ)) → ¬ AreHexFields fields.now datagrams)
-        (λ dump. (datagrams : List (List ℕ)) × AreHexFields fields.now datagrams × IsReadDump datagrams dump)) }
+    ensures { IfOk result (λ read. MatchOption read ((datagrams : List (List ℕ))
+        → ¬ AreHexFields fields.now datagrams)
+        (λ dump. (datagrams : List (List ℕ)) × AreHexFields fields.now datagrams
+        × IsReadDump datagrams dump)) }
 {
     let mut dump = ReadDump {
         reader: DumpReader::new(alloc),
@@ -56,7 +60,8 @@ pub(crate) fn read_dump(
 /// Takes the datagram that a hex field stands for, and answers whether it is one.
 fn take_field(dump: &mut ReadDump, bytes: &mut Vec<u8>, field: &[u8]) -> Result<bool, AllocError>
     ensures { IfOk result (λ is_field. MatchBool is_field
-        ((datagram : List ℕ) × IsHexField field.now datagram × TakesDatagram dump.old datagram dump.new)
+        ((datagram : List ℕ) × IsHexField field.now datagram
+        × TakesDatagram dump.old datagram dump.new)
         ((content : List ℕ) → ¬ IsHexField field.now content)) }
 {
     if !read_field(bytes, field)? {
@@ -83,7 +88,8 @@ fn take_datagram(dump: &mut ReadDump, datagram: &[u8]) -> Result<(), AllocError>
     }
 }
 
-/// Adds `ok`, how the dump ended, the number of its messages and the bytes of each, or `unwritable`.
+/// Adds `ok`, how the dump ended, the number of its messages and the bytes of each, or
+/// `unwritable`.
 pub(crate) fn push_dump(
     alloc: Global,
     text: &mut Vec<u8>,
@@ -146,7 +152,8 @@ fn push_messages(
     messages: &[SockDiagMessage],
 ) -> Result<(), AllocError>
     requires { AllByRecursion message_codec.fits (map seen_message messages.now) }
-    ensures { OnOk result (text.new.items ≡ text.old.items ++ flat_map shown_message (map seen_message messages.now)) }
+    ensures { OnOk result (text.new.items ≡ text.old.items ++ flat_map shown_message
+        (map seen_message messages.now)) }
 {
     for message in messages {
         push_message(alloc, text, message)?;
@@ -161,7 +168,8 @@ fn push_message(
     message: &SockDiagMessage,
 ) -> Result<(), AllocError>
     requires { message_codec.fits (seen_message message.now) }
-    ensures { OnOk result (text.new.items ≡ text.old.items ++ shown_message (seen_message message.now)) }
+    ensures { OnOk result (text.new.items ≡ text.old.items
+        ++ shown_message (seen_message message.now)) }
 {
     let mut bytes = vec![in alloc; 0; message.buffer_len()]?;
     message.emit(&mut bytes);

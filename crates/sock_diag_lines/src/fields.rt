@@ -1,6 +1,7 @@
 //! The fields of a line.
 
-ghost use Rattle.std.specs.Prelude.{◌≡◌, ◌<◌, ◌==◌, ℕ, List, length, position, IfSome, IfOk, MatchBool};
+ghost use Rattle.std.specs.Prelude.{◌≡◌, ◌<◌, ◌==◌, ℕ, List, length, position, IfSome, IfOk};
+ghost use Rattle.std.specs.Prelude.{MatchBool};
 ghost use Rattle.sock_diag_lines.specs.HexField.{IsHexField};
 
 use memchr::memchr;
@@ -14,7 +15,8 @@ pub(crate) fn find_space(line: &[u8]) -> Option<usize>
     memchr(b' ', line)
 }
 
-/// Puts the bytes that a hex field stands for in place of what `bytes` held, and answers whether it is one.
+/// Puts the bytes that a hex field stands for in place of what `bytes` held, and answers whether it
+/// is one.
 pub(crate) fn read_field(bytes: &mut Vec<u8>, field: &[u8]) -> Result<bool, AllocError>
     ensures { IfOk result (λ is_field. MatchBool is_field (IsHexField field.now bytes.new.items)
         ((content : List ℕ) → ¬ IsHexField field.now content)) }

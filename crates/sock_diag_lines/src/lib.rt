@@ -38,10 +38,13 @@ pub fn run_to_status<R: Read, W: Write, E: Write>(
     ensures complete { exit_status result ≡ 0 → IfSome (R.remaining input.old) (λ text.
         (answer : List ℕ → List ℕ) (whole : List (List ℕ)) (rest : List ℕ)
         → ((line : List ℕ) → IsAnswerOf line (answer line)) → Splits text whole rest
-        → Appends (W.contents output.old) (W.contents output.new) (answer_lines answer (with_rest whole rest))) }
-    ensures silent { exit_status result ≡ 0 → Keeps (E.contents errors.old) (E.contents errors.new) }
+        → Appends (W.contents output.old) (W.contents output.new)
+        (answer_lines answer (with_rest whole rest))) }
+    ensures silent { exit_status result ≡ 0
+        → Keeps (E.contents errors.old) (E.contents errors.new) }
     // How it ended. One line names a failure on `errors`, or its beginning where a write fails.
-    ensures answered { (answer : List ℕ → List ℕ) → ((line : List ℕ) → IsAnswerOf line (answer line))
+    ensures answered { (answer : List ℕ → List ℕ)
+        → ((line : List ℕ) → IsAnswerOf line (answer line))
         → (outcome : Result Unit RunError)
         × ((exit_status result ≡ 0) ↔ IsOk outcome) × ((exit_status result ≡ 1) ↔ IsErr outcome)
         × Answers answer (R.remaining input.old) (R.remaining input.new)

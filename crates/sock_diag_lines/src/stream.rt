@@ -45,10 +45,12 @@ pub fn run<R: Read, W: Write>(alloc: Global, input: &mut R, output: &mut W) -> R
     ensures complete { OnOk result (IfSome (R.remaining input.old) (λ text.
         (answer : List ℕ → List ℕ) (whole : List (List ℕ)) (rest : List ℕ)
         → ((line : List ℕ) → IsAnswerOf line (answer line)) → Splits text whole rest
-        → Appends (W.contents output.old) (W.contents output.new) (answer_lines answer (with_rest whole rest)))) }
+        → Appends (W.contents output.old) (W.contents output.new)
+        (answer_lines answer (with_rest whole rest)))) }
 
     // What was read and written, for each way to end.
-    ensures answered { (answer : List ℕ → List ℕ) → ((line : List ℕ) → IsAnswerOf line (answer line))
+    ensures answered { (answer : List ℕ → List ℕ)
+        → ((line : List ℕ) → IsAnswerOf line (answer line))
         → Answers answer (R.remaining input.old) (R.remaining input.new)
         (W.contents output.old) (W.contents output.new) result }
 {
@@ -58,7 +60,8 @@ pub fn run<R: Read, W: Write>(alloc: Global, input: &mut R, output: &mut W) -> R
 /// Tells why a run failed. Where this can't be written either, the exit status alone tells of it.
 pub(crate) fn tell<E: Write>(errors: &mut E, outcome: &Result<(), RunError>)
     ensures silent { IsOk outcome.now → Keeps (E.contents errors.old) (E.contents errors.new) }
-    ensures told { IfErr outcome.now (λ e. (told : List ℕ) × ((more : List ℕ) × (failure_line e ≡ told ++ more))
+    ensures told { IfErr outcome.now (λ e. (told : List ℕ)
+        × ((more : List ℕ) × (failure_line e ≡ told ++ more))
         × Appends (E.contents errors.old) (E.contents errors.new) told) }
 {
     if let Err(error) = outcome {

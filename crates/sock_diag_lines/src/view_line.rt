@@ -13,7 +13,8 @@ use crate::words::{
 use netlink_packet_sock_diag::unix::{UnixResponseHeader, UnixResponseView};
 use std::alloc::AllocError;
 
-/// Adds `ok` and thirteen words of a reply that is read in place, or `refused` and the number of the fault.
+/// Adds `ok` and thirteen words of a reply that is read in place, or `refused` and the number of
+/// the fault.
 pub(crate) fn push_view(text: &mut Vec<u8>, bytes: &[u8]) -> Result<(), AllocError>
     ensures { OnOk result (Adds text.old.items text.new.items (TellsOf view_subject bytes.now)) }
 {
@@ -25,7 +26,8 @@ pub(crate) fn push_view(text: &mut Vec<u8>, bytes: &[u8]) -> Result<(), AllocErr
 
 /// Adds `ok` and the words of a reply.
 fn push_reply(text: &mut Vec<u8>, view: &UnixResponseView<'_>) -> Result<(), AllocError>
-    ensures { OnOk result (text.new.items ≡ text.old.items ++ accepted (shown_reply (viewed_response view.now))) }
+    ensures { OnOk result (text.new.items ≡ text.old.items
+        ++ accepted (shown_reply (viewed_response view.now))) }
 {
     text.extend_from_slice(OK)?;
     push_header(text, &view.header())?;
@@ -44,7 +46,8 @@ fn push_reply(text: &mut Vec<u8>, view: &UnixResponseView<'_>) -> Result<(), All
 /// Adds the kind, the state and the inode.
 fn push_header(text: &mut Vec<u8>, header: &UnixResponseHeader) -> Result<(), AllocError>
     ensures { OnOk result (text.new.items ≡ text.old.items
-        ++ decimal header.now.kind ++ 32 ∷ decimal header.now.state ++ 32 ∷ decimal header.now.inode) }
+        ++ decimal header.now.kind ++ 32 ∷ decimal header.now.state ++ 32
+        ∷ decimal header.now.inode) }
 {
     push_number(text, header.kind.into())?;
     push_number_word(text, Some(header.state.into()))?;

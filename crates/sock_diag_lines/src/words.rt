@@ -71,7 +71,8 @@ pub(crate) fn push_accepted(text: &mut Vec<u8>, written: &[u8]) -> Result<(), Al
 
 /// Adds `refused` and the number of a fault. Want of memory is none, and is handed on.
 pub(crate) fn push_refused(text: &mut Vec<u8>, fault: &DecodeError) -> Result<(), AllocError>
-    ensures { OnOk result ((fault.now ≢ Memory) × (text.new.items ≡ text.old.items ++ refused fault.now)) }
+    ensures { OnOk result ((fault.now ≢ Memory)
+        × (text.new.items ≡ text.old.items ++ refused fault.now)) }
 {
     match fault {
         DecodeError::Memory => Err(AllocError),
@@ -131,7 +132,8 @@ pub(crate) fn push_numbers_word(
 
 /// Adds numbers with commas between, or `-` for none.
 fn push_numbers(text: &mut Vec<u8>, numbers: NumbersView<'_>) -> Result<(), AllocError>
-    ensures { OnOk result (text.new.items ≡ text.old.items ++ comma_list (viewed_numbers numbers.entry)) }
+    ensures { OnOk result (text.new.items ≡ text.old.items
+        ++ comma_list (viewed_numbers numbers.entry)) }
 {
     let Some(first) = numbers.get(0) else {
         return Ok(text.push(b'-')?);

@@ -15,8 +15,13 @@ extension_flags x y = (λ h. search rules, λ e. search rules)
 state_flags : (x y : StateFlags) → IsTrue (eqb x.0 y.0) ↔ (x ≡ y)
 state_flags x y = (λ h. search rules, λ e. search rules)
 
-module _ (socket : SocketId → SocketId → Bool) (same_socket : (a b : SocketId) → IsTrue (socket a b) ↔ (a ≡ b)) where
-  pub request_equal : (v w : InetRequest) → IsTrue (eqb v.family w.family && (eqb v.protocol w.protocol && (eqb v.extensions.0 w.extensions.0 && (eqb v.states.0 w.states.0 && socket v.socket_id w.socket_id)))) ↔ (v ≡ w)
+module _ (socket : SocketId → SocketId → Bool) (same_socket : (a b : SocketId) → IsTrue (socket a b)
+    ↔ (a ≡ b)) where
+  pub request_equal : (v w : InetRequest)
+      → IsTrue (eqb v.family w.family
+      && (eqb v.protocol w.protocol
+      && (eqb v.extensions.0 w.extensions.0
+      && (eqb v.states.0 w.states.0 && socket v.socket_id w.socket_id)))) ↔ (v ≡ w)
   request_equal v w =
       let fields =
       and_says (numbers_equal v.family w.family)
@@ -24,12 +29,35 @@ module _ (socket : SocketId → SocketId → Bool) (same_socket : (a b : SocketI
       (and_says (extension_flags v.extensions w.extensions)
       (and_says (state_flags v.states w.states)
       (same_socket v.socket_id w.socket_id)))) in (
-        λ h. let p = fields.0 h in λ i. record { family = p.0 i; protocol = p.1.0 i; extensions = p.1.1.0 i; states = p.1.1.1.0 i; socket_id = p.1.1.1.1 i },
-        λ e. fields.1 (ap (λ (r : InetRequest). r.family) e, (ap (λ (r : InetRequest). r.protocol) e, (ap (λ (r : InetRequest). r.extensions) e, (ap (λ (r : InetRequest). r.states) e, ap (λ (r : InetRequest). r.socket_id) e)))),
+        λ h. let p = fields.0 h in
+            λ i. record {
+              family = p.0 i;
+              protocol = p.1.0 i;
+              extensions = p.1.1.0 i;
+              states = p.1.1.1.0 i;
+              socket_id = p.1.1.1.1 i;
+            },
+        λ e. fields.1 (
+          ap (λ (r : InetRequest). r.family) e,
+          (
+            ap (λ (r : InetRequest). r.protocol) e,
+            (
+              ap (λ (r : InetRequest). r.extensions) e,
+              (ap (λ (r : InetRequest). r.states) e, ap (λ (r : InetRequest). r.socket_id) e),
+            ),
+          ),
+        ),
       )
 
-  module _ (timer : Timer → Timer → Bool) (same_timer : (a b : Timer) → IsTrue (timer a b) ↔ (a ≡ b)) where
-    pub header_equal : (v w : InetResponseHeader) → IsTrue (eqb v.family w.family && (eqb v.state w.state && (option_eq timer v.timer w.timer && (socket v.socket_id w.socket_id && (eqb v.recv_queue w.recv_queue && (eqb v.send_queue w.send_queue && (eqb v.uid w.uid && eqb v.inode w.inode))))))) ↔ (v ≡ w)
+  module _ (timer : Timer → Timer → Bool) (same_timer : (a b : Timer) → IsTrue (timer a b)
+      ↔ (a ≡ b)) where
+    pub header_equal : (v w : InetResponseHeader)
+        → IsTrue (eqb v.family w.family
+        && (eqb v.state w.state && (option_eq timer v.timer w.timer
+        && (socket v.socket_id w.socket_id
+        && (eqb v.recv_queue w.recv_queue
+        && (eqb v.send_queue w.send_queue && (eqb v.uid w.uid && eqb v.inode w.inode)))))))
+        ↔ (v ≡ w)
     header_equal v w =
         let fields =
         and_says (numbers_equal v.family w.family)
@@ -40,6 +68,37 @@ module _ (socket : SocketId → SocketId → Bool) (same_socket : (a b : SocketI
         (and_says (numbers_equal v.send_queue w.send_queue)
         (and_says (numbers_equal v.uid w.uid)
         (numbers_equal v.inode w.inode))))))) in (
-          λ h. let p = fields.0 h in λ i. record { family = p.0 i; state = p.1.0 i; timer = p.1.1.0 i; socket_id = p.1.1.1.0 i; recv_queue = p.1.1.1.1.0 i; send_queue = p.1.1.1.1.1.0 i; uid = p.1.1.1.1.1.1.0 i; inode = p.1.1.1.1.1.1.1 i },
-          λ e. fields.1 (ap (λ (r : InetResponseHeader). r.family) e, (ap (λ (r : InetResponseHeader). r.state) e, (ap (λ (r : InetResponseHeader). r.timer) e, (ap (λ (r : InetResponseHeader). r.socket_id) e, (ap (λ (r : InetResponseHeader). r.recv_queue) e, (ap (λ (r : InetResponseHeader). r.send_queue) e, (ap (λ (r : InetResponseHeader). r.uid) e, ap (λ (r : InetResponseHeader). r.inode) e))))))),
+          λ h. let p = fields.0 h in
+              λ i. record {
+                family = p.0 i;
+                state = p.1.0 i;
+                timer = p.1.1.0 i;
+                socket_id = p.1.1.1.0 i;
+                recv_queue = p.1.1.1.1.0 i;
+                send_queue = p.1.1.1.1.1.0 i;
+                uid = p.1.1.1.1.1.1.0 i;
+                inode = p.1.1.1.1.1.1.1 i;
+              },
+          λ e. fields.1 (
+            ap (λ (r : InetResponseHeader). r.family) e,
+            (
+              ap (λ (r : InetResponseHeader). r.state) e,
+              (
+                ap (λ (r : InetResponseHeader). r.timer) e,
+                (
+                  ap (λ (r : InetResponseHeader). r.socket_id) e,
+                  (
+                    ap (λ (r : InetResponseHeader). r.recv_queue) e,
+                    (
+                      ap (λ (r : InetResponseHeader). r.send_queue) e,
+                      (
+                        ap (λ (r : InetResponseHeader). r.uid) e,
+                        ap (λ (r : InetResponseHeader). r.inode) e,
+                      ),
+                    ),
+                  ),
+                ),
+              ),
+            ),
+          ),
         )

@@ -1,5 +1,6 @@
 -- The request for IPv4 or IPv6 sockets keeps the laws.
-use Rattle.std.proofs.Common.{◌≡◌, ◌∙◌, ℕ, List, [], ◌∷◌, ◌++◌, length, drop, slice_index, true, Result, Ok, refl, sym, ap, subst, arith, append-nil}
+use Rattle.std.proofs.Common.{◌≡◌, ◌∙◌, ℕ, List, [], ◌∷◌, ◌++◌, length, drop, slice_index, true}
+use Rattle.std.proofs.Common.{Result, Ok, refl, sym, ap, subst, arith, append-nil}
 use Rattle.netlink_core.specs.Table.{Row, values_of, bytes_of, Fit}
 use Rattle.netlink_core.specs.SoundLaws.{is_table, IsSound, IsFixed}
 use Rattle.netlink_core.specs.Format.{bytes, IsTyped}
@@ -12,7 +13,9 @@ use Rattle.sock_diag_records.specs.declared.inet.socket_id.SocketId.{SocketId}
 use Rattle.sock_diag_records.specs.SocketId.{socket_id, socket_id_rows, socket_id_values}
 use Rattle.sock_diag_records.specs.SocketIdInverse.{socket_id_of}
 use Rattle.sock_diag_records.specs.Kinds.{Kind, ipv4, ipv6, Kinds, kind_of, kinds_of}
-use Rattle.sock_diag_records.specs.SocketIdLaws.{pair, kept_is, shaped_is, socket_id_back, kinds_are, kinds_named, socket_id_next, length-bytes}
+use Rattle.sock_diag_records.specs.SocketIdLaws.{pair, kept_is, shaped_is, socket_id_back}
+use Rattle.sock_diag_records.specs.SocketIdLaws.{kinds_are, kinds_named, socket_id_next}
+use Rattle.sock_diag_records.specs.SocketIdLaws.{length-bytes}
 use Rattle.sock_diag_records.specs.InetRequest.{inet_request_rows, inet_request}
 
 tables_are : (s d : Kind) → is_table 0 (inet_request_rows (pair s d)) 56 ≡ true
@@ -38,47 +41,71 @@ rows_moved ipv4 ipv6 = refl
 rows_moved ipv6 ipv4 = refl
 rows_moved ipv6 ipv6 = refl
 
-pub values-inside : (kinds : Kinds) (left : List ℕ) → values_of (socket_id_rows 0 kinds) (drop 8 left) ≡ values_of (socket_id_rows 8 kinds) left
-values-inside kinds left = sym (values-moved 8 (socket_id_rows 0 kinds) left) ∙ sym (ap (λ (rows : List Row). values_of rows left) (rows_moved kinds.0 kinds.1))
+pub values-inside : (kinds : Kinds) (left : List ℕ)
+    → values_of (socket_id_rows 0 kinds) (drop 8 left) ≡ values_of (socket_id_rows 8 kinds) left
+values-inside kinds left = sym (values-moved 8 (socket_id_rows 0 kinds) left)
+    ∙ sym (ap (λ (rows : List Row). values_of rows left) (rows_moved kinds.0 kinds.1))
 
-pub identity_read : (kinds : Kinds) (left : List ℕ) → socket_id_of kinds (drop 4 (values_of (inet_request_rows kinds) left)) ≡ socket_id_of kinds (values_of (socket_id_rows 0 kinds) (drop 8 left))
+pub identity_read : (kinds : Kinds) (left : List ℕ)
+    → socket_id_of kinds (drop 4 (values_of (inet_request_rows kinds) left)) ≡ socket_id_of kinds
+    (values_of (socket_id_rows 0 kinds) (drop 8 left))
 identity_read kinds left = ap (socket_id_of kinds) (sym (values-inside kinds left))
 
 -- an identity in hand is typed here too
-pub fit_inside : (value : SocketId) → IsTyped socket_id value → Fit (socket_id_rows 8 (kinds_of value)) (socket_id_values value)
+pub fit_inside : (value : SocketId) → IsTyped socket_id value
+    → Fit (socket_id_rows 8 (kinds_of value)) (socket_id_values value)
 unfolding socket_id
 fit_inside value typed =
-    subst (λ (rows : List Row). Fit rows (socket_id_values value)) (sym (rows_moved (kind_of value.source_address) (kind_of value.destination_address)))
+    subst (λ (rows : List Row). Fit rows (socket_id_values value))
+    (sym (rows_moved (kind_of value.source_address) (kind_of value.destination_address)))
     (fit-moved 8 (socket_id_rows 0 (kinds_of value)) (socket_id_values value) typed.fit)
 
 -- the bytes of the request in pieces
-pub request_pieces : (value : InetRequest) → bytes inet_request value ≡ (value.family ∷ value.protocol ∷ value.extensions.0 ∷ 0 ∷ []) ++ (little_bytes 4 value.states.0 ++ bytes socket_id value.socket_id)
+pub request_pieces : (value : InetRequest)
+    → bytes inet_request value ≡ (value.family ∷ value.protocol ∷ value.extensions.0 ∷ 0 ∷ [])
+    ++ (little_bytes 4 value.states.0 ++ bytes socket_id value.socket_id)
 unfolding inet_request
 request_pieces value =
     let front = value.family ∷ value.protocol ∷ value.extensions.0 ∷ 0 ∷ [] in
-    ap (λ (b : List ℕ). value.family ∷ value.protocol ∷ value.extensions.0 ∷ 0 ∷ (little_bytes 4 value.states.0 ++ b))
-    (sym (ap bytes_of (append-nil (socket_id_rows 8 (kinds_of value.socket_id))) ⊛ append-nil (socket_id_values value.socket_id)) ∙ socket_id_next 8 value.socket_id [] [] ∙ append-nil (bytes socket_id value.socket_id))
+    ap (λ (b : List ℕ). value.family ∷ value.protocol ∷ value.extensions.0 ∷ 0
+    ∷ (little_bytes 4 value.states.0 ++ b))
+    (sym (ap bytes_of (append-nil (socket_id_rows 8 (kinds_of value.socket_id)))
+    ⊛ append-nil (socket_id_values value.socket_id)) ∙ socket_id_next 8 value.socket_id [] []
+    ∙ append-nil (bytes socket_id value.socket_id))
 
-length_after : (a b c d : ℕ) (rest : List ℕ) → length rest ≡ 48 → length ((a ∷ b ∷ c ∷ 0 ∷ []) ++ (little_bytes 4 d ++ rest)) ≡ 56
+length_after : (a b c d : ℕ) (rest : List ℕ) → length rest ≡ 48
+    → length ((a ∷ b ∷ c ∷ 0 ∷ []) ++ (little_bytes 4 d ++ rest)) ≡ 56
 length_after a b c d rest e = omega arith
 
 pub request_length : (value : InetRequest) → length (bytes inet_request value) ≡ 56
-request_length value = let identity = length-bytes value.socket_id in ap length (request_pieces value) ∙ length_after value.family value.protocol value.extensions.0 value.states.0 (bytes socket_id value.socket_id) identity
+request_length value = let identity = length-bytes value.socket_id in
+    ap length (request_pieces value) ∙ length_after value.family value.protocol value.extensions.0
+    value.states.0 (bytes socket_id value.socket_id) identity
 
 pub inet_request_sound : IsSound inet_request
 unfolding inet_request
 inet_request_sound = record {
   tables = λ param kinds left e. tables_are kinds.0 kinds.1;
-  own_table = λ value. tables_are (kind_of value.socket_id.source_address) (kind_of value.socket_id.destination_address);
+  own_table = λ value. tables_are (kind_of value.socket_id.source_address)
+      (kind_of value.socket_id.destination_address);
   enough = λ value. omega arith;
   room = λ param kinds left enough e. enough;
   long = request_length;
   named = λ param left e. kinds_named (slice_index left 0) e;
-  kept = λ param kinds left h e. ap (with_values (slice_index left 0 ∷ slice_index left 1 ∷ slice_index left 2 ∷ slice_index (values_of (inet_request_rows kinds) left) 3 ∷ [])) (kept_is 8 kinds.0 kinds.1 left);
-  tagged = λ param kinds left e. kinds_are kinds.0 kinds.1 (drop 4 (values_of (inet_request_rows kinds) left));
+  kept = λ param kinds left h e.
+      ap (with_values (slice_index left 0 ∷ slice_index left 1 ∷ slice_index left 2
+      ∷ slice_index (values_of (inet_request_rows kinds) left) 3 ∷ []))
+      (kept_is 8 kinds.0 kinds.1 left);
+  tagged = λ param kinds left e. kinds_are kinds.0 kinds.1
+      (drop 4 (values_of (inet_request_rows kinds) left));
   shaped = λ param kinds left h e. shaped_is 8 kinds.0 kinds.1 left;
-  owned = λ param kinds left h e. e ∙ ap told_kinds (sym (kinds_are kinds.0 kinds.1 (drop 4 (values_of (inet_request_rows kinds) left))));
-  back = λ param value t n. ap (with_identity value) (ap (socket_id_of (kinds_of value.socket_id)) (sym (append-nil (socket_id_values value.socket_id))) ∙ socket_id_back value.socket_id [] t.shaped);
+  owned = λ param kinds left h e. e
+      ∙ ap told_kinds (sym (kinds_are kinds.0 kinds.1
+      (drop 4 (values_of (inet_request_rows kinds) left))));
+  back = λ param value t n. ap (with_identity value)
+      (ap (socket_id_of (kinds_of value.socket_id))
+      (sym (append-nil (socket_id_values value.socket_id))) ∙ socket_id_back value.socket_id []
+      t.shaped);
   told = λ param value t n. n.own;
 }
 

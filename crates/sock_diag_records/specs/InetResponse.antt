@@ -8,7 +8,9 @@ use Rattle.netlink_core.specs.Faults.{said_as}
 use Rattle.netlink_core.specs.declared.fault.RecordName.TheVariants as name
 use Rattle.sock_diag_records.specs.Kinds.{Kinds, kinds_of, kinds_of_family}
 use Rattle.sock_diag_records.specs.SocketId.{IsShaped, socket_id_rows, socket_id_values}
-use Rattle.sock_diag_records.specs.Timer.{class_of_byte, class_of, retransmits_row, expires_row, retransmits_values, expires_values, told_of, IsWholeMilliseconds}
+use Rattle.sock_diag_records.specs.Timer.{class_of_byte, class_of, retransmits_row, expires_row}
+use Rattle.sock_diag_records.specs.Timer.{retransmits_values, expires_values, told_of}
+use Rattle.sock_diag_records.specs.Timer.{IsWholeMilliseconds}
 use Rattle.sock_diag_records.specs.InetResponseInverse.{header_of}
 
 -- by the kinds of the addresses and the timer's class: the bytes at 0 and 1, the timer, the

@@ -1,15 +1,20 @@
 -- The header of a reply about an IPv4 or IPv6 socket with the numbers of its rows.
-use Rattle.std.specs.Prelude.{ℕ, ◌+◌, ◌*◌, ◌/◌, ◌%◌, ◌==◌, ◌||◌, if◌then◌else◌, List, drop, slice_index, Option, Some, None}
+use Rattle.std.specs.Prelude.{ℕ, ◌+◌, ◌*◌, ◌/◌, ◌%◌, ◌==◌, ◌||◌, if◌then◌else◌, List, drop}
+use Rattle.std.specs.Prelude.{slice_index, Option, Some, None}
 use Rattle.std.specs.declared.time.Duration.{Duration}
 use Rattle.sock_diag_records.specs.declared.inet.response.Timer.{Timer}
-use Rattle.sock_diag_records.specs.declared.inet.response.Timer.TheVariants.{Retransmit, KeepAlive, TimeWait, Probe}
+use Rattle.sock_diag_records.specs.declared.inet.response.Timer.TheVariants.{Retransmit, KeepAlive}
+use Rattle.sock_diag_records.specs.declared.inet.response.Timer.TheVariants.{TimeWait, Probe}
 use Rattle.sock_diag_records.specs.declared.inet.response.InetResponseHeader.{InetResponseHeader}
 use Rattle.sock_diag_records.specs.Kinds.{Kinds}
 use Rattle.sock_diag_records.specs.SocketIdInverse.{count_of, socket_id_of}
 
 -- so many milliseconds
 abbrev pub duration : ℕ → Duration
-duration milliseconds = record { secs = milliseconds / 1_000; nanos = milliseconds % 1_000 * 1_000_000 }
+duration milliseconds = record {
+  secs = milliseconds / 1_000;
+  nanos = milliseconds % 1_000 * 1_000_000;
+}
 
 -- how many values the byte at 3 has
 abbrev pub retransmits_count : ℕ → ℕ

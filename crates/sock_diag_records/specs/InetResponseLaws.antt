@@ -1,5 +1,8 @@
 -- The format of the header of a reply is sound.
-use Rattle.std.proofs.Common.{◌≡◌, inl, inr, ℕ, zero, suc, ◌*◌, ◌/◌, ◌%◌, ◌^◌, ◌<◌, Bool, if◌then◌else◌, le-ltb, lt-ltb, List, [], ◌∷◌, ◌++◌, length, drop, replicate, slice_index, Option, Some, None, Result, Ok, Err, refl, sym, ap, ap₂, ◌∙◌, subst, IsTrue, arith}
+use Rattle.std.proofs.Common.{◌≡◌, inl, inr, ℕ, zero, suc, ◌*◌, ◌/◌, ◌%◌, ◌^◌, ◌<◌, Bool}
+use Rattle.std.proofs.Common.{if◌then◌else◌, le-ltb, lt-ltb, List, [], ◌∷◌, ◌++◌, length, drop}
+use Rattle.std.proofs.Common.{replicate, slice_index, Option, Some, None, Result, Ok, Err, refl}
+use Rattle.std.proofs.Common.{sym, ap, ap₂, ◌∙◌, subst, IsTrue, arith}
 use Rattle.std.specs.Prelude.{IfSome}
 use Rattle.std.proofs.lemmas.Bool.{cases_lt}
 use Rattle.std.proofs.lemmas.List.{drop_at, length-append}
@@ -7,7 +10,8 @@ use Rattle.std.specs.Duration.{as_nanos}
 use Rattle.std.specs.List.{flat_map}
 use Rattle.byteorder.specs.Endian.{little_bytes}
 use Rattle.std.specs.declared.time.Duration.{Duration}
-use Rattle.netlink_core.specs.Table.{Row, byte, values_of, bytes_of, number, unread, numbers, little_endian, Fit}
+use Rattle.netlink_core.specs.Table.{Row, byte, values_of, bytes_of, number, unread, numbers}
+use Rattle.netlink_core.specs.Table.{little_endian, Fit}
 use Rattle.netlink_core.specs.SoundLaws.{is_table, IsSound, IsFixed}
 use Rattle.netlink_core.specs.Bytes.{IsBytes}
 use Rattle.netlink_core.specs.Faults.{said_as}
@@ -17,7 +21,8 @@ use Rattle.netlink_core.proofs.Numbers.{number-fits}
 use Rattle.netlink_core.proofs.TableLaws.{AreBytes-drop}
 use Rattle.netlink_core.proofs.Congruence.{◌⊛◌}
 use Rattle.sock_diag_records.specs.declared.inet.response.Timer.{Timer}
-use Rattle.sock_diag_records.specs.declared.inet.response.Timer.TheVariants.{Retransmit, KeepAlive, TimeWait, Probe}
+use Rattle.sock_diag_records.specs.declared.inet.response.Timer.TheVariants.{Retransmit, KeepAlive}
+use Rattle.sock_diag_records.specs.declared.inet.response.Timer.TheVariants.{TimeWait, Probe}
 use Rattle.sock_diag_records.specs.declared.inet.response.InetResponseHeader.{InetResponseHeader}
 use Rattle.sock_diag_records.specs.declared.inet.socket_id.SocketId.{SocketId}
 use Rattle.netlink_core.specs.declared.fault.DecodeError.{DecodeError}
@@ -27,12 +32,19 @@ use Rattle.sock_diag_records.specs.SocketIdInverse.{socket_id_of}
 use Rattle.sock_diag_records.specs.Kinds.{Kind, ipv4, ipv6, Kinds, kinds_of, kinds_of_family}
 use Rattle.sock_diag_records.specs.SocketId as identity
 use Rattle.sock_diag_records.specs.InetResponse.{header_rows, header_values, inet_response_header}
-use Rattle.sock_diag_records.specs.InetResponseInverse.{duration, retransmits_count, expires_count, timer_of, header_of, socket_id_count}
-use Rattle.sock_diag_records.specs.Timer.{milliseconds, IsWholeMilliseconds, class_of_byte, class_of, retransmits_row, expires_row, retransmits_values, expires_values, told_of}
+use Rattle.sock_diag_records.specs.InetResponseInverse.{duration, retransmits_count, expires_count}
+use Rattle.sock_diag_records.specs.InetResponseInverse.{timer_of, header_of, socket_id_count}
+use Rattle.sock_diag_records.specs.Timer.{milliseconds, IsWholeMilliseconds, class_of_byte}
+use Rattle.sock_diag_records.specs.Timer.{class_of, retransmits_row, expires_row}
+use Rattle.sock_diag_records.specs.Timer.{retransmits_values, expires_values, told_of}
 use Rattle.sock_diag_records.specs.TablesInARowLaws.{is_table-append, values_of-append}
-use Rattle.sock_diag_records.specs.SocketIdLaws.{pair, kept_is, shaped_is, read_before, length-values, socket_id_back, socket_id_next, kinds_are, kinds_named, length-socket_id, length-bytes, fit_inside}
+use Rattle.sock_diag_records.specs.SocketIdLaws.{pair, kept_is, shaped_is, read_before}
+use Rattle.sock_diag_records.specs.SocketIdLaws.{length-values, socket_id_back, socket_id_next}
+use Rattle.sock_diag_records.specs.SocketIdLaws.{kinds_are, kinds_named, length-socket_id}
+use Rattle.sock_diag_records.specs.SocketIdLaws.{length-bytes, fit_inside}
 
--- by which rows a header is read and written: the kinds of the addresses, and the class of the timer
+-- by which rows a header is read and written: the kinds of the addresses, and the class of the
+-- timer
 abbrev Tag : Type 0
 Tag = Kinds × ℕ
 
@@ -52,9 +64,11 @@ duration_is time n e =
     let nanos : time.nanos ≡ n % 1_000 * 1_000_000 = omega arith in
     ap₂ (λ (s n : ℕ). let d : Duration = record { secs = s; nanos = n } in d) secs nanos
 
-pub duration-milliseconds : (time : Duration) → IsWholeMilliseconds time → duration (milliseconds time) ≡ time
+pub duration-milliseconds : (time : Duration) → IsWholeMilliseconds time
+    → duration (milliseconds time) ≡ time
 duration-milliseconds time whole =
-    let same : milliseconds time ≡ whole.0 = let below = whole.1 in let is = whole.2 in omega arith in
+    let same : milliseconds time ≡ whole.0 = let below = whole.1 in let is = whole.2 in
+    omega arith in
     ap duration same ∙ sym (duration_is time whole.0 whole.2)
 
 -- ---- the rows before the identity, and those behind it
@@ -72,7 +86,8 @@ each P none retransmits keeps_alive waits probes (suc zero) h = retransmits
 each P none retransmits keeps_alive waits probes (suc (suc zero)) h = keeps_alive
 each P none retransmits keeps_alive waits probes (suc (suc (suc zero))) h = waits
 each P none retransmits keeps_alive waits probes (suc (suc (suc (suc zero)))) h = probes
-each P none retransmits keeps_alive waits probes (suc (suc (suc (suc (suc n))))) h = absurd (omega arith)
+each P none retransmits keeps_alive waits probes (suc (suc (suc (suc (suc n))))) h =
+    absurd (omega arith)
 
 -- a byte tells a class, and a timer has one
 pub class_lt : (timer : ℕ) → class_of_byte timer < 5
@@ -104,7 +119,8 @@ identity_is_table ipv6 ipv6 = refl
 tables_are : (t : Tag) → t.1 < 5 → IsTrue (is_table 0 (header_rows t) 72)
 tables_are t below =
     is_table-append 0 (before t.1) 4 (socket_id_rows 4 t.0 ++ behind t.1) 72 (of_class t.1 below).0
-    (is_table-append 4 (socket_id_rows 4 t.0) 52 (behind t.1) 72 (identity_is_table t.0.0 t.0.1) (of_class t.1 below).1)
+    (is_table-append 4 (socket_id_rows 4 t.0) 52 (behind t.1) 72 (identity_is_table t.0.0 t.0.1)
+    (of_class t.1 below).1)
 
 -- ---- what is read
 
@@ -130,65 +146,108 @@ header_with family state timer socket last = record {
 
 -- a header of its fields, the word at 52 and the last four in a list
 abbrev pub header_read : ℕ → ℕ → ℕ → ℕ → SocketId → List ℕ → InetResponseHeader
-header_read class family state count socket words = header_with family state (timer_of class count (slice_index words 0)) socket (drop 1 words)
+header_read class family state count socket words =
+    header_with family state (timer_of class count (slice_index words 0)) socket (drop 1 words)
 
--- what each class reads: the values behind the count, the timer, the last four words, and the count alone
+-- what each class reads: the values behind the count, the timer, the last four words, and the count
+-- alone
 abbrev IsRead : List Row → List ℕ → ℕ → Type 0
-IsRead rows left class = (drop (retransmits_count class) (values_of (retransmits_row class ∷ rows) left) ≡ values_of rows left)
-    × (timer_of class (slice_index (values_of (retransmits_row class ∷ rows) left) 0) (slice_index (values_of (behind class) left) 0) ≡ timer_of class (slice_index left 3) (expires_at left))
-    × (drop (expires_count class) (values_of (behind class) left) ≡ values_of (numbers 56 4 little_endian 4) left)
-    × (retransmits_values (timer_of class (slice_index left 3) (expires_at left)) ≡ values_of (retransmits_row class ∷ []) left)
+IsRead rows left class =
+    (drop (retransmits_count class) (values_of (retransmits_row class ∷ rows) left) ≡ values_of rows
+    left)
+    × (timer_of class (slice_index (values_of (retransmits_row class ∷ rows) left) 0)
+    (slice_index (values_of (behind class) left) 0) ≡ timer_of class (slice_index left 3)
+    (expires_at left))
+    × (drop (expires_count class) (values_of (behind class) left)
+    ≡ values_of (numbers 56 4 little_endian 4) left)
+    × (retransmits_values (timer_of class (slice_index left 3) (expires_at left))
+    ≡ values_of (retransmits_row class ∷ []) left)
 
 read_of_class : (class : ℕ) (rows : List Row) (left : List ℕ) → class < 5 → IsRead rows left class
-read_of_class class rows left below = each (IsRead rows left) (refl, refl, refl, refl) (refl, refl, refl, refl) (refl, refl, refl, refl) (refl, refl, refl, refl) (refl, refl, refl, refl) class below
+read_of_class class rows left below = each (IsRead rows left) (refl, refl, refl, refl) (
+  refl,
+  refl,
+  refl,
+  refl,
+) (refl, refl, refl, refl) (refl, refl, refl, refl) (refl, refl, refl, refl) class
+    below
 
-pub header_is : (t : Tag) (left : List ℕ) → t.1 < 5 → header_of t (values_of (header_rows t) left) ≡ header_read t.1 (slice_index left 0) (slice_index left 1) (slice_index left 3) (socket_id_of t.0 (values_of (socket_id_rows 4 t.0) left)) (values_of (numbers 52 4 little_endian 5) left)
+pub header_is : (t : Tag) (left : List ℕ) → t.1 < 5 → header_of t (values_of (header_rows t) left)
+    ≡ header_read t.1 (slice_index left 0) (slice_index left 1) (slice_index left 3)
+    (socket_id_of t.0 (values_of (socket_id_rows 4 t.0) left))
+    (values_of (numbers 52 4 little_endian 5) left)
 header_is t left below =
     let rest = socket_id_rows 4 t.0 ++ behind t.1 in
     let own = values_of (socket_id_rows 4 t.0) left in
     let last = values_of (behind t.1) left in
-    let front = slice_index (values_of (retransmits_row t.1 ∷ (socket_id_rows 4 t.0 ++ behind t.1)) left) 0 in
-    let socket = (read_of_class t.1 rest left below).0 ∙ values_of-append (socket_id_rows 4 t.0) (behind t.1) left in
-    let others = ap (drop (socket_id_count t.0)) socket ∙ drop_at own last (socket_id_count t.0) (length-values 4 t.0.0 t.0.1 left) in
-    ap (header_with (slice_index left 0) (slice_index left 1)) (ap (λ (values : List ℕ). timer_of t.1 front (slice_index values 0)) others ∙ (read_of_class t.1 rest left below).1)
+    let front = slice_index (values_of (retransmits_row t.1 ∷ (socket_id_rows 4 t.0 ++ behind t.1))
+    left) 0 in
+    let socket = (read_of_class t.1 rest left below).0 ∙ values_of-append (socket_id_rows 4 t.0)
+    (behind t.1) left in
+    let others = ap (drop (socket_id_count t.0)) socket ∙ drop_at own last (socket_id_count t.0)
+    (length-values 4 t.0.0 t.0.1 left) in
+    ap (header_with (slice_index left 0) (slice_index left 1))
+    (ap (λ (values : List ℕ). timer_of t.1 front (slice_index values 0)) others
+    ∙ (read_of_class t.1 rest left below).1)
     ⊛ (ap (socket_id_of t.0) socket ∙ read_before 4 t.0.0 t.0.1 left last)
     ⊛ (ap (drop (expires_count t.1)) others ∙ (read_of_class t.1 rest left below).2)
 
-expires_is : (left : List ℕ) → IsBytes left → milliseconds (duration (expires_at left)) ∷ values_of (numbers 56 4 little_endian 4) left ≡ values_of (numbers 52 4 little_endian 5) left
-expires_is left h = ap (λ (expires : ℕ). expires ∷ values_of (numbers 56 4 little_endian 4) left) (milliseconds-duration (expires_at left) (expires-lt left h))
+expires_is : (left : List ℕ) → IsBytes left → milliseconds (duration (expires_at left))
+    ∷ values_of (numbers 56 4 little_endian 4) left ≡ values_of (numbers 52 4 little_endian 5) left
+expires_is left h = ap (λ (expires : ℕ). expires ∷ values_of (numbers 56 4 little_endian 4) left)
+    (milliseconds-duration (expires_at left) (expires-lt left h))
 
 abbrev IsKept : List ℕ → ℕ → Type 0
-IsKept left class = expires_values (timer_of class (slice_index left 3) (expires_at left)) ++ values_of (numbers 56 4 little_endian 4) left ≡ values_of (behind class) left
+IsKept left class = expires_values (timer_of class (slice_index left 3) (expires_at left))
+    ++ values_of (numbers 56 4 little_endian 4) left ≡ values_of (behind class) left
 
 expires_kept : (class : ℕ) (left : List ℕ) → class < 5 → IsBytes left → IsKept left class
-expires_kept class left below h = each (IsKept left) refl (expires_is left h) (expires_is left h) refl (expires_is left h) class below
+expires_kept class left below h = each (IsKept left) refl (expires_is left h) (expires_is left h)
+    refl (expires_is left h) class below
 
 -- the values behind the first two
 abbrev with_two : List ℕ → List ℕ → List ℕ → List ℕ → List ℕ
-with_two left count socket last = slice_index left 0 ∷ slice_index left 1 ∷ (count ++ (socket ++ last))
+with_two left count socket last = slice_index left 0 ∷ slice_index left 1
+    ∷ (count ++ (socket ++ last))
 
-values_are : (t : Tag) (left : List ℕ) → values_of (header_rows t) left ≡ with_two left (values_of (retransmits_row t.1 ∷ []) left) (values_of (socket_id_rows 4 t.0) left) (values_of (behind t.1) left)
+values_are : (t : Tag) (left : List ℕ) → values_of (header_rows t) left
+    ≡ with_two left (values_of (retransmits_row t.1 ∷ []) left)
+    (values_of (socket_id_rows 4 t.0) left) (values_of (behind t.1) left)
 values_are t left = ap (λ (values : List ℕ). slice_index left 0 ∷ slice_index left 1 ∷ values)
     (values_of-append (retransmits_row t.1 ∷ []) (socket_id_rows 4 t.0 ++ behind t.1) left
-    ∙ ap (λ (values : List ℕ). values_of (retransmits_row t.1 ∷ []) left ++ values) (values_of-append (socket_id_rows 4 t.0) (behind t.1) left))
+    ∙ ap (λ (values : List ℕ). values_of (retransmits_row t.1 ∷ []) left ++ values)
+    (values_of-append (socket_id_rows 4 t.0) (behind t.1) left))
 
-kept_are : (t : Tag) (left : List ℕ) → t.1 < 5 → IsBytes left → header_values (header_of t (values_of (header_rows t) left)) ≡ values_of (header_rows t) left
+kept_are : (t : Tag) (left : List ℕ) → t.1 < 5 → IsBytes left
+    → header_values (header_of t (values_of (header_rows t) left)) ≡ values_of (header_rows t) left
 kept_are t left below h =
     ap header_values (header_is t left below)
-    ∙ (ap (with_two left) (read_of_class t.1 [] left below).3 ⊛ kept_is 4 t.0.0 t.0.1 left ⊛ expires_kept t.1 left below h)
+    ∙ (ap (with_two left) (read_of_class t.1 [] left below).3 ⊛ kept_is 4 t.0.0 t.0.1 left
+    ⊛ expires_kept t.1 left below h)
     ∙ sym (values_are t left)
 
 class_is : (count expires class : ℕ) → class < 5 → class_of (timer_of class count expires) ≡ class
-class_is count expires = each (λ class. class_of (timer_of class count expires) ≡ class) refl refl refl refl refl
+class_is count expires = each (λ class. class_of (timer_of class count expires) ≡ class) refl refl
+    refl refl refl
 
-whole_is : (count expires : ℕ) → expires < 2 ^ 32 → (class : ℕ) → class < 5 → IsWholeTimer (timer_of class count expires)
-whole_is count expires h = each (λ class. IsWholeTimer (timer_of class count expires)) tt (expires, h, omega arith) (expires, h, omega arith) tt (expires, h, omega arith)
+whole_is : (count expires : ℕ) → expires < 2 ^ 32 → (class : ℕ) → class < 5
+    → IsWholeTimer (timer_of class count expires)
+whole_is count expires h = each (λ class. IsWholeTimer (timer_of class count expires)) tt (
+  expires,
+  h,
+  omega arith,
+) (expires, h, omega arith) tt (expires, h, omega arith)
 
-whole_read : (t : Tag) (left : List ℕ) → t.1 < 5 → IsBytes left → IsWholeTimer (header_of t (values_of (header_rows t) left)).timer
-whole_read t left below h = subst (λ (value : InetResponseHeader). IsWholeTimer value.timer) (sym (header_is t left below)) (whole_is (slice_index left 3) (expires_at left) (expires-lt left h) t.1 below)
+whole_read : (t : Tag) (left : List ℕ) → t.1 < 5 → IsBytes left
+    → IsWholeTimer (header_of t (values_of (header_rows t) left)).timer
+whole_read t left below h = subst (λ (value : InetResponseHeader). IsWholeTimer value.timer)
+    (sym (header_is t left below)) (whole_is (slice_index left 3) (expires_at left)
+    (expires-lt left h) t.1 below)
 
-shaped_read : (t : Tag) (left : List ℕ) → t.1 < 5 → identity.IsShaped (header_of t (values_of (header_rows t) left)).socket_id
-shaped_read t left below = subst (λ (value : InetResponseHeader). identity.IsShaped value.socket_id) (sym (header_is t left below)) (shaped_is 4 t.0.0 t.0.1 left)
+shaped_read : (t : Tag) (left : List ℕ) → t.1 < 5
+    → identity.IsShaped (header_of t (values_of (header_rows t) left)).socket_id
+shaped_read t left below = subst (λ (value : InetResponseHeader). identity.IsShaped value.socket_id)
+    (sym (header_is t left below)) (shaped_is 4 t.0.0 t.0.1 left)
 
 -- by which rows a header is written
 abbrev tag_of : InetResponseHeader → Tag
@@ -202,52 +261,76 @@ abbrev pub with_class : ℕ → Result Kinds DecodeError → Result Tag DecodeEr
 with_class class told = said_as (λ kinds. the_tag kinds class) told
 
 -- what the tag tells
-told_parts : (class : ℕ) (kinds : Result Kinds DecodeError) (told : Tag) → with_class class kinds ≡ Ok told → (kinds ≡ Ok told.0) × (class ≡ told.1)
+told_parts : (class : ℕ) (kinds : Result Kinds DecodeError) (told : Tag)
+    → with_class class kinds ≡ Ok told → (kinds ≡ Ok told.0) × (class ≡ told.1)
 told_parts class (Ok kinds) told e =
-    let same : (kinds, class) ≡ told = cc in
-    (ap (λ (t : Tag). let r : Result Kinds DecodeError = Ok t.0 in r) same, ap (λ (t : Tag). t.1) same)
+    let same : (kinds, class) ≡ told = cc in (
+      ap (λ (t : Tag). let r : Result Kinds DecodeError = Ok t.0 in r) same,
+      ap (λ (t : Tag). t.1) same,
+    )
 told_parts class (Err fault) told e = cc
 
 -- its class is one
-told_lt : (at_two : ℕ) (kinds : Result Kinds DecodeError) (told : Tag) → with_class (class_of_byte at_two) kinds ≡ Ok told → told.1 < 5
-told_lt at_two kinds told e = subst (λ (class : ℕ). class < 5) (told_parts (class_of_byte at_two) kinds told e).1 (class_lt at_two)
+told_lt : (at_two : ℕ) (kinds : Result Kinds DecodeError) (told : Tag)
+    → with_class (class_of_byte at_two) kinds ≡ Ok told → told.1 < 5
+told_lt at_two kinds told e =
+    subst (λ (class : ℕ). class < 5) (told_parts (class_of_byte at_two) kinds told e).1
+    (class_lt at_two)
 
 class_told : (timer : Option Timer) → class_of_byte (class_of timer) ≡ class_of timer
-class_told timer = ap (λ (below : Bool). if below then class_of timer else 0) (lt-ltb (class_of timer) 5 (class_of_lt timer))
+class_told timer = ap (λ (below : Bool). if below then class_of timer else 0)
+    (lt-ltb (class_of timer) 5 (class_of_lt timer))
 
 -- ---- a header is that of its values
 
-timer_back : (timer : Option Timer) (before after : List ℕ) → IsWholeTimer timer → timer_of (class_of timer) (slice_index (retransmits_values timer ++ before) 0) (slice_index (expires_values timer ++ after) 0) ≡ timer
-timer_back (Some (Retransmit expires n)) before after h = ap (λ (t : Duration). let r : Option Timer = Some (Retransmit t n) in r) (duration-milliseconds expires h)
-timer_back (Some (KeepAlive expires)) before after h = ap (λ (t : Duration). let r : Option Timer = Some (KeepAlive t) in r) (duration-milliseconds expires h)
+timer_back : (timer : Option Timer) (before after : List ℕ) → IsWholeTimer timer
+    → timer_of (class_of timer) (slice_index (retransmits_values timer ++ before) 0)
+    (slice_index (expires_values timer ++ after) 0) ≡ timer
+timer_back (Some (Retransmit expires n)) before after h =
+    ap (λ (t : Duration). let r : Option Timer = Some (Retransmit t n) in r)
+    (duration-milliseconds expires h)
+timer_back (Some (KeepAlive expires)) before after h =
+    ap (λ (t : Duration). let r : Option Timer = Some (KeepAlive t) in r)
+    (duration-milliseconds expires h)
 timer_back (Some TimeWait) before after h = refl
-timer_back (Some (Probe expires)) before after h = ap (λ (t : Duration). let r : Option Timer = Some (Probe t) in r) (duration-milliseconds expires h)
+timer_back (Some (Probe expires)) before after h =
+    ap (λ (t : Duration). let r : Option Timer = Some (Probe t) in r)
+    (duration-milliseconds expires h)
 timer_back None before after h = refl
 
-drop_retransmits : (timer : Option Timer) (rest : List ℕ) → drop (retransmits_count (class_of timer)) (retransmits_values timer ++ rest) ≡ rest
+drop_retransmits : (timer : Option Timer) (rest : List ℕ)
+    → drop (retransmits_count (class_of timer)) (retransmits_values timer ++ rest) ≡ rest
 drop_retransmits (Some (Retransmit expires n)) rest = refl
 drop_retransmits (Some (KeepAlive expires)) rest = refl
 drop_retransmits (Some TimeWait) rest = refl
 drop_retransmits (Some (Probe expires)) rest = refl
 drop_retransmits None rest = refl
 
-drop_expires : (timer : Option Timer) (rest : List ℕ) → drop (expires_count (class_of timer)) (expires_values timer ++ rest) ≡ rest
+drop_expires : (timer : Option Timer) (rest : List ℕ)
+    → drop (expires_count (class_of timer)) (expires_values timer ++ rest) ≡ rest
 drop_expires (Some (Retransmit expires n)) rest = refl
 drop_expires (Some (KeepAlive expires)) rest = refl
 drop_expires (Some TimeWait) rest = refl
 drop_expires (Some (Probe expires)) rest = refl
 drop_expires None rest = refl
 
-header_back : (value : InetResponseHeader) → identity.IsShaped value.socket_id → IsWholeTimer value.timer → header_of (tag_of value) (header_values value) ≡ value
+header_back : (value : InetResponseHeader) → identity.IsShaped value.socket_id
+    → IsWholeTimer value.timer → header_of (tag_of value) (header_values value) ≡ value
 header_back value shaped whole =
     let last : List ℕ = value.recv_queue ∷ value.send_queue ∷ value.uid ∷ value.inode ∷ [] in
     let class = class_of value.timer in
     let behind : List ℕ = expires_values value.timer ++ last in
     let rest : List ℕ = socket_id_values value.socket_id ++ behind in
     let socket_is = drop_retransmits value.timer rest in
-    let behind_is = ap (drop (socket_id_count (kinds_of value.socket_id))) socket_is ∙ drop_at (socket_id_values value.socket_id) behind (socket_id_count (kinds_of value.socket_id)) (length-socket_id value.socket_id) in
-    ap (header_with value.family value.state) (ap (λ (b : List ℕ). timer_of (class_of value.timer) (slice_index (retransmits_values value.timer ++ rest) 0) (slice_index b 0)) behind_is ∙ timer_back value.timer rest last whole)
-    ⊛ (ap (socket_id_of (kinds_of value.socket_id)) socket_is ∙ socket_id_back value.socket_id behind shaped)
+    let behind_is = ap (drop (socket_id_count (kinds_of value.socket_id))) socket_is
+    ∙ drop_at (socket_id_values value.socket_id) behind
+    (socket_id_count (kinds_of value.socket_id)) (length-socket_id value.socket_id) in
+    ap (header_with value.family value.state)
+    (ap (λ (b : List ℕ). timer_of (class_of value.timer)
+    (slice_index (retransmits_values value.timer ++ rest) 0) (slice_index b 0)) behind_is
+    ∙ timer_back value.timer rest last whole)
+    ⊛ (ap (socket_id_of (kinds_of value.socket_id)) socket_is
+    ∙ socket_id_back value.socket_id behind shaped)
     ⊛ (ap (drop (expires_count (class_of value.timer))) behind_is ∙ drop_expires value.timer last)
 
 -- a header has the tag under which it was read
@@ -257,9 +340,11 @@ tag_read t values below =
     ap the_tag (kinds_are t.0.0 t.0.1 socket)
     ⊛ class_is (slice_index values 2) (slice_index (drop (socket_id_count t.0) socket) 0) t.1 below
 
-class_named : (class : ℕ) (kinds : Result Kinds DecodeError) → (kinds ≡ Err Memory → ⊥) → with_class class kinds ≡ Err Memory → ⊥
+class_named : (class : ℕ) (kinds : Result Kinds DecodeError) → (kinds ≡ Err Memory → ⊥)
+    → with_class class kinds ≡ Err Memory → ⊥
 class_named class (Ok kinds) named e = cc
-class_named class (Err fault) named e = let same : fault ≡ Memory = cc in named (ap (λ (f : DecodeError). let r : Result Kinds DecodeError = Err f in r) same)
+class_named class (Err fault) named e = let same : fault ≡ Memory = cc in
+    named (ap (λ (f : DecodeError). let r : Result Kinds DecodeError = Err f in r) same)
 
 -- ---- the reader and the writer
 
@@ -267,41 +352,77 @@ class_named class (Err fault) named e = let same : fault ≡ Memory = cc in name
 abbrev last_words : InetResponseHeader → List ℕ
 last_words value = value.recv_queue ∷ value.send_queue ∷ value.uid ∷ value.inode ∷ []
 
-pieces : (value : InetResponseHeader) (timer : Option Timer) → bytes_of (header_rows (the_tag (kinds_of value.socket_id) (class_of timer))) (value.family ∷ value.state ∷ (retransmits_values timer ++ (socket_id_values value.socket_id ++ (expires_values timer ++ last_words value))))
-    ≡ (value.family ∷ value.state ∷ class_of timer ∷ slice_index (retransmits_values timer) 0 ∷ []) ++ (bytes socket_id value.socket_id ++ flat_map (little_bytes 4) (slice_index (expires_values timer) 0 ∷ last_words value))
-pieces value (Some (Retransmit expires n)) = ap (λ (b : List ℕ). value.family ∷ value.state ∷ 1 ∷ n ∷ b) (socket_id_next 4 value.socket_id (number 52 4 little_endian ∷ numbers 56 4 little_endian 4) (milliseconds expires ∷ last_words value))
-pieces value (Some (KeepAlive expires)) = ap (λ (b : List ℕ). value.family ∷ value.state ∷ 2 ∷ 0 ∷ b) (socket_id_next 4 value.socket_id (number 52 4 little_endian ∷ numbers 56 4 little_endian 4) (milliseconds expires ∷ last_words value))
-pieces value (Some TimeWait) = ap (λ (b : List ℕ). value.family ∷ value.state ∷ 3 ∷ 0 ∷ b) (socket_id_next 4 value.socket_id (unread 52 (replicate 4 0) ∷ numbers 56 4 little_endian 4) (last_words value))
-pieces value (Some (Probe expires)) = ap (λ (b : List ℕ). value.family ∷ value.state ∷ 4 ∷ 0 ∷ b) (socket_id_next 4 value.socket_id (number 52 4 little_endian ∷ numbers 56 4 little_endian 4) (milliseconds expires ∷ last_words value))
-pieces value None = ap (λ (b : List ℕ). value.family ∷ value.state ∷ 0 ∷ 0 ∷ b) (socket_id_next 4 value.socket_id (unread 52 (replicate 4 0) ∷ numbers 56 4 little_endian 4) (last_words value))
+pieces : (value : InetResponseHeader) (timer : Option Timer)
+    → bytes_of (header_rows (the_tag (kinds_of value.socket_id) (class_of timer)))
+    (value.family ∷ value.state
+    ∷ (retransmits_values timer
+    ++ (socket_id_values value.socket_id ++ (expires_values timer ++ last_words value))))
+    ≡ (value.family ∷ value.state ∷ class_of timer ∷ slice_index (retransmits_values timer) 0 ∷ [])
+    ++ (bytes socket_id value.socket_id ++ flat_map (little_bytes 4)
+    (slice_index (expires_values timer) 0 ∷ last_words value))
+pieces value (Some (Retransmit expires n)) =
+    ap (λ (b : List ℕ). value.family ∷ value.state ∷ 1 ∷ n ∷ b)
+    (socket_id_next 4 value.socket_id (number 52 4 little_endian ∷ numbers 56 4 little_endian 4)
+    (milliseconds expires ∷ last_words value))
+pieces value (Some (KeepAlive expires)) =
+    ap (λ (b : List ℕ). value.family ∷ value.state ∷ 2 ∷ 0 ∷ b)
+    (socket_id_next 4 value.socket_id (number 52 4 little_endian ∷ numbers 56 4 little_endian 4)
+    (milliseconds expires ∷ last_words value))
+pieces value (Some TimeWait) = ap (λ (b : List ℕ). value.family ∷ value.state ∷ 3 ∷ 0 ∷ b)
+    (socket_id_next 4 value.socket_id (unread 52 (replicate 4 0) ∷ numbers 56 4 little_endian 4)
+    (last_words value))
+pieces value (Some (Probe expires)) = ap (λ (b : List ℕ). value.family ∷ value.state ∷ 4 ∷ 0 ∷ b)
+    (socket_id_next 4 value.socket_id (number 52 4 little_endian ∷ numbers 56 4 little_endian 4)
+    (milliseconds expires ∷ last_words value))
+pieces value None = ap (λ (b : List ℕ). value.family ∷ value.state ∷ 0 ∷ 0 ∷ b)
+    (socket_id_next 4 value.socket_id (unread 52 (replicate 4 0) ∷ numbers 56 4 little_endian 4)
+    (last_words value))
 
 pub header_pieces : (value : InetResponseHeader) → bytes inet_response_header value
-    ≡ (value.family ∷ value.state ∷ class_of value.timer ∷ slice_index (retransmits_values value.timer) 0 ∷ []) ++ (bytes socket_id value.socket_id ++ flat_map (little_bytes 4) (slice_index (expires_values value.timer) 0 ∷ value.recv_queue ∷ value.send_queue ∷ value.uid ∷ value.inode ∷ []))
+    ≡ (value.family ∷ value.state ∷ class_of value.timer
+    ∷ slice_index (retransmits_values value.timer) 0 ∷ [])
+    ++ (bytes socket_id value.socket_id ++ flat_map (little_bytes 4)
+    (slice_index (expires_values value.timer) 0 ∷ value.recv_queue ∷ value.send_queue
+    ∷ value.uid ∷ value.inode ∷ []))
 unfolding inet_response_header
 header_pieces value = pieces value value.timer
 
-length_after : (a b c d : ℕ) (words identity : List ℕ) → length identity ≡ 48 → length words ≡ 20 → length ((a ∷ b ∷ c ∷ d ∷ []) ++ (identity ++ words)) ≡ 72
+length_after : (a b c d : ℕ) (words identity : List ℕ) → length identity ≡ 48 → length words ≡ 20
+    → length ((a ∷ b ∷ c ∷ d ∷ []) ++ (identity ++ words)) ≡ 72
 length_after a b c d words identity e h = simp length-append (omega arith)
 
 pub header_length : (value : InetResponseHeader) → length (bytes inet_response_header value) ≡ 72
-header_length value = ap length (header_pieces value) ∙ length_after value.family value.state (class_of value.timer) (slice_index (retransmits_values value.timer) 0) (flat_map (little_bytes 4) (slice_index (expires_values value.timer) 0 ∷ value.recv_queue ∷ value.send_queue ∷ value.uid ∷ value.inode ∷ [])) (bytes socket_id value.socket_id) (length-bytes value.socket_id) refl
+header_length value = ap length (header_pieces value) ∙ length_after value.family value.state
+    (class_of value.timer) (slice_index (retransmits_values value.timer) 0)
+    (flat_map (little_bytes 4) (slice_index (expires_values value.timer) 0 ∷ value.recv_queue
+    ∷ value.send_queue ∷ value.uid ∷ value.inode ∷ [])) (bytes socket_id value.socket_id)
+    (length-bytes value.socket_id) refl
 
 pub header_sound : IsSound inet_response_header
 unfolding inet_response_header
 header_sound = record {
-  tables = λ param t left e. tables_are t (told_lt (slice_index left 2) (kinds_of_family (slice_index left 0)) t e);
+  tables = λ param t left e.
+      tables_are t (told_lt (slice_index left 2) (kinds_of_family (slice_index left 0)) t e);
   own_table = λ value. tables_are (tag_of value) (class_of_lt value.timer);
   enough = λ value. omega arith;
   room = λ param t left enough e. enough;
   long = header_length;
-  named = λ param left e. class_named (class_of_byte (slice_index left 2)) (kinds_of_family (slice_index left 0)) (kinds_named (slice_index left 0)) e;
-  kept = λ param t left h e. kept_are t left (told_lt (slice_index left 2) (kinds_of_family (slice_index left 0)) t e) h;
-  tagged = λ param t left e. tag_read t (values_of (header_rows t) left) (told_lt (slice_index left 2) (kinds_of_family (slice_index left 0)) t e);
-  shaped = λ param t left h e. shaped_read t left (told_lt (slice_index left 2) (kinds_of_family (slice_index left 0)) t e);
+  named = λ param left e. class_named (class_of_byte (slice_index left 2))
+      (kinds_of_family (slice_index left 0)) (kinds_named (slice_index left 0)) e;
+  kept = λ param t left h e.
+      kept_are t left (told_lt (slice_index left 2) (kinds_of_family (slice_index left 0)) t e) h;
+  tagged = λ param t left e. tag_read t (values_of (header_rows t) left)
+      (told_lt (slice_index left 2) (kinds_of_family (slice_index left 0)) t e);
+  shaped = λ param t left h e.
+      shaped_read t left (told_lt (slice_index left 2) (kinds_of_family (slice_index left 0)) t e);
   owned = λ param t left h e.
       let below = told_lt (slice_index left 2) (kinds_of_family (slice_index left 0)) t e in
-      let parts = told_parts (class_of_byte (slice_index left 2)) (kinds_of_family (slice_index left 0)) t e in
-      (parts.0 ∙ ap (λ (u : Tag). let r : Result Kinds DecodeError = Ok u.0 in r) (sym (tag_read t (values_of (header_rows t) left) below)), whole_read t left below h);
+      let parts = told_parts (class_of_byte (slice_index left 2))
+      (kinds_of_family (slice_index left 0)) t e in (
+        parts.0 ∙ ap (λ (u : Tag). let r : Result Kinds DecodeError = Ok u.0 in r)
+            (sym (tag_read t (values_of (header_rows t) left) below)),
+        whole_read t left below h,
+      );
   back = λ param value t n. header_back value t.shaped n.own.1;
   told = λ param value t n. ap with_class (class_told value.timer) ⊛ n.own.0;
 }
@@ -313,7 +434,8 @@ header_size = (refl, λ tag. refl)
 -- ---- a header in hand is typed
 
 -- the milliseconds of each timer are within their row, before the words behind them
-expires_fit : (timer : Option Timer) (words : List ℕ) → Fit (numbers 56 4 little_endian 4) words → Fit (behind (class_of timer)) (expires_values timer ++ words)
+expires_fit : (timer : Option Timer) (words : List ℕ) → Fit (numbers 56 4 little_endian 4) words
+    → Fit (behind (class_of timer)) (expires_values timer ++ words)
 expires_fit (Some (Retransmit expires count)) words h = (omega arith, h)
 expires_fit (Some (KeepAlive expires)) words h = (omega arith, h)
 expires_fit (Some TimeWait) words h = h
@@ -322,15 +444,19 @@ expires_fit None words h = h
 
 -- the numbers are within their rows where the parts are
 pub header_fit : (value : InetResponseHeader) → value.family < 256 → value.state < 256
-    → Fit (retransmits_row (class_of value.timer) ∷ []) (retransmits_values value.timer) → IsTyped socket_id value.socket_id
-    → value.recv_queue < 256 ^ 4 → value.send_queue < 256 ^ 4 → value.uid < 256 ^ 4 → value.inode < 256 ^ 4
+    → Fit (retransmits_row (class_of value.timer) ∷ []) (retransmits_values value.timer)
+    → IsTyped socket_id value.socket_id
+    → value.recv_queue < 256 ^ 4 → value.send_queue < 256 ^ 4 → value.uid < 256 ^ 4
+    → value.inode < 256 ^ 4
     → Fit (header_rows (tag_of value)) (header_values value)
 header_fit value family state count socket recv_queue send_queue uid inode =
     let words = expires_fit value.timer _ (recv_queue, (send_queue, (uid, (inode, tt)))) in (
       family,
       (
         state,
-        fit-append (retransmits_row (class_of value.timer) ∷ []) _ (retransmits_values value.timer) _ count
-            (fit-append (socket_id_rows 4 (kinds_of value.socket_id)) _ (socket_id_values value.socket_id) _ (fit_inside value.socket_id socket) words),
+        fit-append (retransmits_row (class_of value.timer) ∷ []) _ (retransmits_values value.timer)
+            _ count
+            (fit-append (socket_id_rows 4 (kinds_of value.socket_id)) _
+            (socket_id_values value.socket_id) _ (fit_inside value.socket_id socket) words),
       ),
     )

@@ -5,7 +5,8 @@ use Rattle.std.specs.List.{flat_map}
 use Rattle.byteorder.specs.Endian.{big_bytes}
 use Rattle.std.specs.declared.net.ip_addr.IpAddr.{IpAddr}
 use Rattle.std.specs.declared.net.ip_addr.IpAddr.TheVariants.{V4, V6}
-use Rattle.netlink_core.specs.Table.{Row, number, unread, bytes_at, numbers, little_endian, big_endian, first}
+use Rattle.netlink_core.specs.Table.{Row, number, unread, bytes_at, numbers, little_endian}
+use Rattle.netlink_core.specs.Table.{big_endian, first}
 use Rattle.netlink_core.specs.Format.{Format}
 use Rattle.sock_diag_records.specs.declared.inet.socket_id.SocketId.{SocketId}
 use Rattle.netlink_core.specs.declared.fault.RecordName.TheVariants as name

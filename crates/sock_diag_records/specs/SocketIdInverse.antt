@@ -31,4 +31,5 @@ abbrev pub socket_id_of : Kinds → List ℕ → SocketId
 socket_id_of kinds values =
     let addresses = drop 2 values in
     let destination = drop (count_of kinds.0) addresses in
-    socket_id_with (slice_index values 0) (slice_index values 1) (address_of kinds.0 addresses) (address_of kinds.1 destination) (drop (count_of kinds.1) destination)
+    socket_id_with (slice_index values 0) (slice_index values 1) (address_of kinds.0 addresses)
+    (address_of kinds.1 destination) (drop (count_of kinds.1) destination)

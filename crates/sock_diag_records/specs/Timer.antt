@@ -1,12 +1,14 @@
 -- The timer of an IPv4 or IPv6 socket. Its class is the kernel's `idiag_timer`, the byte at 2: 0 no
 -- timer, 1 retransmit, 2 keep-alive, 3 time-wait, 4 probe. With it two rows of its numbers are read
 -- or not.
-use Rattle.std.specs.Prelude.{◌≡◌, ℕ, ◌*◌, ◌/◌, ◌%◌, ◌^◌, ◌<◌, ◌==◌, ◌||◌, nat_lt, if◌then◌else◌, List, [], ◌∷◌, replicate, Option, Some, None, option_map, unwrap_or}
+use Rattle.std.specs.Prelude.{◌≡◌, ℕ, ◌*◌, ◌/◌, ◌%◌, ◌^◌, ◌<◌, ◌==◌, ◌||◌, nat_lt, if◌then◌else◌}
+use Rattle.std.specs.Prelude.{List, [], ◌∷◌, replicate, Option, Some, None, option_map, unwrap_or}
 use Rattle.std.specs.Duration.{as_nanos}
 use Rattle.std.specs.declared.time.Duration.{Duration}
 use Rattle.netlink_core.specs.Table.{Row, byte, number, unread, little_endian}
 use Rattle.sock_diag_records.specs.declared.inet.response.Timer.{Timer}
-use Rattle.sock_diag_records.specs.declared.inet.response.Timer.TheVariants.{Retransmit, KeepAlive, TimeWait, Probe}
+use Rattle.sock_diag_records.specs.declared.inet.response.Timer.TheVariants.{Retransmit, KeepAlive}
+use Rattle.sock_diag_records.specs.declared.inet.response.Timer.TheVariants.{TimeWait, Probe}
 
 -- the whole milliseconds of a duration, in 32 bits
 abbrev pub milliseconds : Duration → ℕ

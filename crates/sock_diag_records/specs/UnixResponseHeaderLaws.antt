@@ -7,4 +7,6 @@ use Rattle.sock_diag_records.specs.declared.unix.response.UnixResponseHeader.{Un
 use Rattle.sock_diag_records.specs.UnixResponseHeader.{unix_response_header}
 
 pub unix_response_header_sound : IsSound unix_response_header
-unix_response_header_sound = plain_sound refl (λ value. refl) (λ left. refl) (λ left. refl) (λ value shaped. ap (λ (cookie : List ℕ). let v : UnixResponseHeader = record value { cookie = cookie } in v) (first_all 8 value.cookie shaped))
+unix_response_header_sound = plain_sound refl (λ value. refl) (λ left. refl) (λ left. refl)
+    (λ value shaped. ap (λ (cookie : List ℕ). let v : UnixResponseHeader = record value
+    { cookie = cookie } in v) (first_all 8 value.cookie shaped))

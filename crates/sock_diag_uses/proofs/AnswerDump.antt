@@ -1,5 +1,6 @@
 -- An answer of the kernel for tests, read as a dump.
-use Rattle.std.proofs.Common.{◌≡◌, ◌↔◌, ℕ, ◌+◌, ◌%◌, ◌^◌, ◌<◌, ◌≤◌, inl, inr, List, [], ◌∷◌, ◌++◌, length, refl, sym, ap, subst, ◌∙◌, append_assoc, arith}
+use Rattle.std.proofs.Common.{◌≡◌, ◌↔◌, ℕ, ◌+◌, ◌%◌, ◌^◌, ◌<◌, ◌≤◌, inl, inr, List, [], ◌∷◌, ◌++◌}
+use Rattle.std.proofs.Common.{length, refl, sym, ap, subst, ◌∙◌, append_assoc, arith}
 use Rattle.std.specs.Prelude.{map, None, Result, Ok}
 use Rattle.std.specs.List.{AllByRecursion, flat_map}
 use Rattle.std.proofs.lemmas.List.{append-nil}
@@ -10,13 +11,16 @@ use Rattle.netlink_core.specs.declared.fault.DecodeError.{DecodeError}
 use Rattle.netlink_core.specs.declared.header.NetlinkHeader.{NetlinkHeader}
 use Rattle.netlink_core.specs.Header.{IsTypedHeader}
 use Rattle.netlink_core.specs.Datagram.{AreWholeMessages, IsMessageString, StartsWithMessage}
-use Rattle.netlink_core.specs.Envelope.{Envelope, Payload, done_with, inner, finalized, OfInner, payload_bytes, payload_type, envelope_codec}
+use Rattle.netlink_core.specs.Envelope.{Envelope, Payload, done_with, inner, finalized, OfInner}
+use Rattle.netlink_core.specs.Envelope.{payload_bytes, payload_type, envelope_codec}
 use Rattle.netlink_core.specs.Items.{ItemIs, ItemsAre}
 use Rattle.netlink_core.specs.Reply.{reply_bytes, reply_codec}
 use Rattle.netlink_packet_sock_diag.specs.Dump.{end_of, kept}
-use Rattle.netlink_packet_sock_diag.specs.Message.{Message, message_of, unix_response, message_codec}
+use Rattle.netlink_packet_sock_diag.specs.Message.{Message, message_of, unix_response}
+use Rattle.netlink_packet_sock_diag.specs.Message.{message_codec}
 use Rattle.netlink_packet_sock_diag.specs.UnixReply.{UnixReply, unix_reply}
-use Rattle.sock_diag_uses.specs.TestKernel.{CanBeTold, IsAnswer, IsWholeDump, end_under, message_under, reply_under}
+use Rattle.sock_diag_uses.specs.TestKernel.{CanBeTold, IsAnswer, IsWholeDump, end_under}
+use Rattle.sock_diag_uses.specs.TestKernel.{message_under, reply_under}
 
 -- no padding stands behind a message whose length is a multiple of four
 no_fill : (message : List ℕ) → length message % 4 ≡ 0 → 0 ≡ fill (length message)
@@ -31,20 +35,32 @@ pub record Carries (message : List ℕ) (item : Result (Payload Message) DecodeE
   pub is : ItemIs message_codec message item
 
 -- it has its item alone
-pub one_item : (message : List ℕ) (item : Result (Payload Message) DecodeError) → Carries message item → ItemsAre message_codec message (item ∷ [])
+pub one_item : (message : List ℕ) (item : Result (Payload Message) DecodeError)
+    → Carries message item → ItemsAre message_codec message (item ∷ [])
 one_item message item c =
-    let starts : StartsWithMessage message message [] = record { padding = []; parts = sym (append-nil message); whole = c.whole; filled = inl (no_fill message c.even) } in
+    let starts : StartsWithMessage message message [] =
+    record {
+      padding = [];
+      parts = sym (append-nil message);
+      whole = c.whole;
+      filled = inl (no_fill message c.even);
+    } in
     (message ∷ [], None, item ∷ [], ([], starts, refl), (c.is, tt), refl)
 
 -- and those of messages stand in a row
-pub items_of_all : ((front back : List ℕ) (messages : List (List ℕ)) (xs ys : List (Result (Payload Message) DecodeError)) → AreWholeMessages front messages
-    → ItemsAre message_codec front xs → ItemsAre message_codec back ys → ItemsAre message_codec (front ++ back) (xs ++ ys))
-    → {A : Type 0} (bytes : A → List ℕ) (item : A → Result (Payload Message) DecodeError) (last : List ℕ) (ends : List (Result (Payload Message) DecodeError))
-    → (xs : List A) → AllByRecursion (λ x. Carries (bytes x) (item x)) xs → ItemsAre message_codec last ends
+pub items_of_all : ((front back : List ℕ) (messages : List (List ℕ))
+    (xs ys : List (Result (Payload Message) DecodeError)) → AreWholeMessages front messages
+    → ItemsAre message_codec front xs → ItemsAre message_codec back ys
+    → ItemsAre message_codec (front ++ back) (xs ++ ys))
+    → {A : Type 0} (bytes : A → List ℕ) (item : A → Result (Payload Message) DecodeError)
+    (last : List ℕ) (ends : List (Result (Payload Message) DecodeError))
+    → (xs : List A) → AllByRecursion (λ x. Carries (bytes x) (item x)) xs
+    → ItemsAre message_codec last ends
     → ItemsAre message_codec (flat_map bytes xs ++ last) (map item xs ++ ends)
 items_of_all law bytes item last ends [] all are = are
 items_of_all law bytes item last ends (x ∷ xs) all are =
-    rw append_assoc (law (bytes x) (flat_map bytes xs ++ last) (bytes x ∷ []) (item x ∷ []) (map item xs ++ ends)
+    rw append_assoc (law (bytes x) (flat_map bytes xs ++ last) (bytes x ∷ []) (item x ∷ [])
+    (map item xs ++ ends)
     ([], [], sym (append-nil (bytes x)), all.0.whole, no_fill (bytes x) all.0.even, refl)
     (one_item (bytes x) (item x) all.0) (items_of_all law bytes item last ends xs all.1 are))
 
@@ -62,26 +78,42 @@ header_under n payload = record {
 abbrev envelope_under : ℕ → Payload Message → Envelope Message
 envelope_under n payload = record { header = header_under n payload; payload = payload }
 
-typed_header : (n : ℕ) (payload : Payload Message) → n < 2 ^ 32 → 16 + length (payload_bytes message_codec.written payload) ≤ 4294967295 → payload_type (λ _. 20) payload < 2 ^ 16 → IsTypedHeader (header_under n payload)
-typed_header n carried small short kind = (omega arith, (kind, (omega arith, (small, (omega arith, tt)))))
+typed_header : (n : ℕ) (payload : Payload Message) → n < 2 ^ 32
+    → 16 + length (payload_bytes message_codec.written payload) ≤ 4294967295
+    → payload_type (λ _. 20) payload < 2 ^ 16 → IsTypedHeader (header_under n payload)
+typed_header n carried small short kind =
+    (omega arith, (kind, (omega arith, (small, (omega arith, tt)))))
 
 -- it is as long as its length word says
-whole_message : (n : ℕ) (payload : Payload Message) → 16 + length (payload_bytes message_codec.written payload) ≤ 4294967295 → IsMessageString (message_under n payload)
+whole_message : (n : ℕ) (payload : Payload Message)
+    → 16 + length (payload_bytes message_codec.written payload) ≤ 4294967295
+    → IsMessageString (message_under n payload)
 unfolding message_under
 whole_message n payload short =
     let size = 16 + length (payload_bytes message_codec.written payload) in
-    let word : little_number 4 (message_under n payload) ≡ 16 + length (payload_bytes message_codec.written payload) = little_number-reads_back 4 (16 + length (payload_bytes message_codec.written payload)) [] (omega arith) in
+    let word : little_number 4 (message_under n payload)
+    ≡ 16 + length (payload_bytes message_codec.written payload) =
+    little_number-reads_back 4 (16 + length (payload_bytes message_codec.written payload)) []
+    (omega arith) in
     (omega arith, word ∙ omega arith)
 
 -- and a multiple of four, where its payload is
-even_message : (n : ℕ) (payload : Payload Message) → length (payload_bytes message_codec.written payload) % 4 ≡ 0 → length (message_under n payload) % 4 ≡ 0
+even_message : (n : ℕ) (payload : Payload Message)
+    → length (payload_bytes message_codec.written payload) % 4 ≡ 0
+    → length (message_under n payload) % 4 ≡ 0
 unfolding message_under
 even_message n carried even = omega arith
 
-module _ (reads_back : (v : Envelope Message) → (envelope_codec message_codec).is_typed v → (envelope_codec message_codec).fits v → v.header ≡ finalized message_codec.written (λ _. 20) v
-    → ((envelope_codec message_codec).reads ((envelope_codec message_codec).written v) tt v ↔ OfInner (message_codec.is_normal 20) v.payload)) where
-  carries_payload : (n : ℕ) (payload : Payload Message) → (envelope_codec message_codec).is_typed (envelope_under n payload) → (envelope_codec message_codec).fits (envelope_under n payload)
-      → OfInner (message_codec.is_normal 20) payload → length (payload_bytes message_codec.written payload) % 4 ≡ 0 → Carries (message_under n payload) (Ok payload)
+module _ (reads_back : (v : Envelope Message) → (envelope_codec message_codec).is_typed v
+    → (envelope_codec message_codec).fits v → v.header ≡ finalized message_codec.written (λ _. 20) v
+    → ((envelope_codec message_codec).reads ((envelope_codec message_codec).written v) tt v
+    ↔ OfInner (message_codec.is_normal 20) v.payload)) where
+  carries_payload : (n : ℕ) (payload : Payload Message)
+      → (envelope_codec message_codec).is_typed (envelope_under n payload)
+      → (envelope_codec message_codec).fits (envelope_under n payload)
+      → OfInner (message_codec.is_normal 20) payload
+      → length (payload_bytes message_codec.written payload) % 4 ≡ 0
+      → Carries (message_under n payload) (Ok payload)
   unfolding message_under
   carries_payload n payload typed fits normal even = record {
     whole = whole_message n payload fits.1;
@@ -89,44 +121,74 @@ module _ (reads_back : (v : Envelope Message) → (envelope_codec message_codec)
     is = (header_under n payload, (reads_back (envelope_under n payload) typed fits refl).1 normal);
   }
 
-  carries_reply : ((v : UnixReply) → (reply_codec unix_reply).is_typed v → length (reply_bytes unix_reply v) % 4 ≡ 0)
-      → (n : ℕ) → n < 2 ^ 32 → (r : UnixReply) → CanBeTold r → Carries (reply_under n r) (Ok (inner (message_of unix_response r)))
-  carries_reply even n small r told = carries_payload n (inner (message_of unix_response r)) (typed_header n (inner (message_of unix_response r)) small told.short (omega arith), told.typed) (told.fits, told.short) (refl, inr refl, told.normal) (even r told.typed)
+  carries_reply : ((v : UnixReply) → (reply_codec unix_reply).is_typed v
+      → length (reply_bytes unix_reply v) % 4 ≡ 0)
+      → (n : ℕ) → n < 2 ^ 32 → (r : UnixReply) → CanBeTold r
+      → Carries (reply_under n r) (Ok (inner (message_of unix_response r)))
+  carries_reply even n small r told = carries_payload n (inner (message_of unix_response r)) (
+    typed_header n (inner (message_of unix_response r)) small told.short (omega arith),
+    told.typed,
+  ) (told.fits, told.short) (refl, inr refl, told.normal) (even r told.typed)
 
-  carries_all : ((v : UnixReply) → (reply_codec unix_reply).is_typed v → length (reply_bytes unix_reply v) % 4 ≡ 0)
-      → (n : ℕ) → n < 2 ^ 32 → (rs : List UnixReply) → AllByRecursion CanBeTold rs → AllByRecursion (λ r. Carries (reply_under n r) (Ok (inner (message_of unix_response r)))) rs
+  carries_all : ((v : UnixReply) → (reply_codec unix_reply).is_typed v
+      → length (reply_bytes unix_reply v) % 4 ≡ 0)
+      → (n : ℕ) → n < 2 ^ 32 → (rs : List UnixReply) → AllByRecursion CanBeTold rs
+      → AllByRecursion (λ r. Carries (reply_under n r) (Ok (inner (message_of unix_response r)))) rs
   carries_all even n small [] told = tt
-  carries_all even n small (r ∷ rs) told = (carries_reply even n small r told.0, carries_all even n small rs told.1)
+  carries_all even n small (r ∷ rs) told =
+      (carries_reply even n small r told.0, carries_all even n small rs told.1)
 
   carries_end : (n : ℕ) → n < 2 ^ 32 → Carries (end_under n) (Ok (done_with (0 ∷ 0 ∷ 0 ∷ 0 ∷ [])))
-  carries_end n small = carries_payload n (done_with (0 ∷ 0 ∷ 0 ∷ 0 ∷ [])) (typed_header n (done_with (0 ∷ 0 ∷ 0 ∷ 0 ∷ [])) small (omega arith) (omega arith), tt) (tt, omega arith) tt refl
+  carries_end n small = carries_payload n (done_with (0 ∷ 0 ∷ 0 ∷ 0 ∷ []))
+      (typed_header n (done_with (0 ∷ 0 ∷ 0 ∷ 0 ∷ [])) small (omega arith) (omega arith), tt)
+      (tt, omega arith) tt refl
 
 -- ---- the dump
 
-plain_all : (rs : List UnixReply) → AllByRecursion (λ item. end_of {A = Message} item ≡ None) (map (λ r. Ok (inner (message_of unix_response r))) rs)
+plain_all : (rs : List UnixReply) → AllByRecursion (λ item. end_of {A = Message} item ≡ None)
+    (map (λ r. Ok (inner (message_of unix_response r))) rs)
 plain_all [] = tt
 plain_all (r ∷ rs) = (refl, plain_all rs)
 
-keeps_all : (rs : List UnixReply) → map (message_of unix_response) rs ≡ flat_map kept (map (λ (r : UnixReply). Ok (inner (message_of unix_response r))) rs)
+keeps_all : (rs : List UnixReply) → map (message_of unix_response) rs
+    ≡ flat_map kept (map (λ (r : UnixReply). Ok (inner (message_of unix_response r))) rs)
 keeps_all [] = refl
 keeps_all (r ∷ rs) = ap (λ (ms : List Message). message_of unix_response r ∷ ms) (keeps_all rs)
 
-pub whole_dump : ((v : Envelope Message) → (envelope_codec message_codec).is_typed v → (envelope_codec message_codec).fits v → v.header ≡ finalized message_codec.written (λ _. 20) v
-    → ((envelope_codec message_codec).reads ((envelope_codec message_codec).written v) tt v ↔ OfInner (message_codec.is_normal 20) v.payload))
-    → ((v : UnixReply) → (reply_codec unix_reply).is_typed v → length (reply_bytes unix_reply v) % 4 ≡ 0)
-    → ((front back : List ℕ) (messages : List (List ℕ)) (xs ys : List (Result (Payload Message) DecodeError)) → AreWholeMessages front messages
-    → ItemsAre message_codec front xs → ItemsAre message_codec back ys → ItemsAre message_codec (front ++ back) (xs ++ ys))
-    → (request : List ℕ) (replies : List UnixReply) (datagram : List ℕ) → IsAnswer request replies datagram → AllByRecursion CanBeTold replies → IsWholeDump datagram replies
+pub whole_dump : ((v : Envelope Message) → (envelope_codec message_codec).is_typed v
+    → (envelope_codec message_codec).fits v → v.header ≡ finalized message_codec.written (λ _. 20) v
+    → ((envelope_codec message_codec).reads ((envelope_codec message_codec).written v) tt v
+    ↔ OfInner (message_codec.is_normal 20) v.payload))
+    → ((v : UnixReply) → (reply_codec unix_reply).is_typed v → length (reply_bytes unix_reply v) % 4
+    ≡ 0)
+    → ((front back : List ℕ) (messages : List (List ℕ))
+    (xs ys : List (Result (Payload Message) DecodeError)) → AreWholeMessages front messages
+    → ItemsAre message_codec front xs → ItemsAre message_codec back ys
+    → ItemsAre message_codec (front ++ back) (xs ++ ys))
+    → (request : List ℕ) (replies : List UnixReply) (datagram : List ℕ)
+    → IsAnswer request replies datagram → AllByRecursion CanBeTold replies
+    → IsWholeDump datagram replies
 whole_dump reads_back even in_a_row request replies datagram answer told =
     let n = answer.header.sequence_number in
     let small = answer.framed.1.1.1.1.0 in
-    let ends = one_item (end_under n) (Ok (done_with (0 ∷ 0 ∷ 0 ∷ 0 ∷ []))) (carries_end reads_back n small) in
-    let items = map (λ (r : UnixReply). Ok (inner (message_of unix_response r))) replies ++ (Ok (done_with (0 ∷ 0 ∷ 0 ∷ 0 ∷ [])) ∷ []) in
-    let all = items_of_all in_a_row (reply_under n) (λ r. Ok (inner (message_of unix_response r))) (end_under n) (Ok (done_with (0 ∷ 0 ∷ 0 ∷ 0 ∷ [])) ∷ []) replies (carries_all reads_back even n small replies told) ends in
+    let ends = one_item (end_under n) (Ok (done_with (0 ∷ 0 ∷ 0 ∷ 0 ∷ [])))
+    (carries_end reads_back n small) in
+    let items = map (λ (r : UnixReply). Ok (inner (message_of unix_response r))) replies
+    ++ (Ok (done_with (0 ∷ 0 ∷ 0 ∷ 0 ∷ [])) ∷ []) in
+    let all = items_of_all in_a_row (reply_under n) (λ r. Ok (inner (message_of unix_response r)))
+    (end_under n) (Ok (done_with (0 ∷ 0 ∷ 0 ∷ 0 ∷ [])) ∷ []) replies
+    (carries_all reads_back even n small replies told) ends in
     record {
       dump = (
         items,
         subst (λ (bytes : List ℕ). ItemsAre message_codec bytes items) (sym answer.written) all,
-        (map (λ (r : UnixReply). Ok (inner (message_of unix_response r))) replies, Ok (done_with (0 ∷ 0 ∷ 0 ∷ 0 ∷ [])) ∷ [], refl, plain_all replies, keeps_all replies, refl),
+        (
+          map (λ (r : UnixReply). Ok (inner (message_of unix_response r))) replies,
+          Ok (done_with (0 ∷ 0 ∷ 0 ∷ 0 ∷ [])) ∷ [],
+          refl,
+          plain_all replies,
+          keeps_all replies,
+          refl,
+        ),
       );
     }

@@ -1,6 +1,8 @@
 -- The listening sockets in front of the first end of a datagram's items are counted.
-use Rattle.std.proofs.Common.{◌≡◌, ◌≢◌, ℕ, ◌+◌, ◌*◌, ◌≤◌, ◌⊎◌, inl, inr, List, [], ◌∷◌, ◌++◌, length, refl, sym, ap, subst, ◌∙◌, arith, add-zero, length-append}
-use Rattle.std.specs.Prelude.{Bool, true, false, count_by, cond, Option, Some, None, Result, Ok, Err}
+use Rattle.std.proofs.Common.{◌≡◌, ◌≢◌, ℕ, ◌+◌, ◌*◌, ◌≤◌, ◌⊎◌, inl, inr, List, [], ◌∷◌, ◌++◌}
+use Rattle.std.proofs.Common.{length, refl, sym, ap, subst, ◌∙◌, arith, add-zero, length-append}
+use Rattle.std.specs.Prelude.{Bool, true, false, count_by, cond, Option, Some, None, Result, Ok}
+use Rattle.std.specs.Prelude.{Err}
 use Rattle.std.specs.List.{AllByRecursion}
 use Rattle.std.proofs.lemmas.List.Sums.{sum_by-append}
 use Rattle.netlink_core.specs.Bytes.{IsBytes}
@@ -8,7 +10,8 @@ use Rattle.netlink_core.specs.declared.fault.DecodeError.{DecodeError}
 use Rattle.netlink_core.specs.Datagram.{StartsWithMessage}
 use Rattle.netlink_core.specs.Header.{IsEnvelopeFault}
 use Rattle.netlink_core.specs.Items.{Item, ItemIs, ItemsAre}
-use Rattle.netlink_core.proofs.Items.{Following, fault_alone, items_begin, items_go_on, items_with, no_items}
+use Rattle.netlink_core.proofs.Items.{Following, fault_alone, items_begin, items_go_on, items_with}
+use Rattle.netlink_core.proofs.Items.{no_items}
 use Rattle.netlink_core.specs.DatagramWalk.{datagram_left}
 use Rattle.netlink_packet_sock_diag.specs.declared.dump.views.DumpViews.{DumpViews}
 use Rattle.netlink_packet_sock_diag.specs.declared.dump.views.PayloadView.{PayloadView}
@@ -39,23 +42,30 @@ counting_begins datagram = record {
 
 -- a message is taken off, or what is no message
 pub data Step (left : List ℕ) (item : Item Message) (later : List ℕ) : Type 0 where
-  message : (bytes : List ℕ) → StartsWithMessage left bytes later → ItemIs message_codec bytes item → Step left item later
-  no_message : (e : DecodeError) → item ≡ Err e → left ≢ [] → IsEnvelopeFault left e → Step left item later
+  message : (bytes : List ℕ) → StartsWithMessage left bytes later → ItemIs message_codec bytes item
+      → Step left item later
+  no_message : (e : DecodeError) → item ≡ Err e → left ≢ [] → IsEnvelopeFault left e
+      → Step left item later
 
 -- so it is by the walk
-pub step_of : (old new : DumpViews) (item : Result PayloadView DecodeError) → GivesView old (Some item) new
+pub step_of : (old new : DumpViews) (item : Result PayloadView DecodeError)
+    → GivesView old (Some item) new
     → Step (datagram_left old.messages) (viewed_item item) (datagram_left new.messages)
 step_of old new item (inl (bytes, s, is)) = message bytes s is
 step_of old new item (inr (e, is, some, fault, none)) = no_message e (ap viewed_item is) some fault
 
-go_on_push : (xs : List (Item Message)) (item : Item Message) → AllByRecursion (λ item. end_of item ≡ None) xs → end_of item ≡ None → AllByRecursion (λ item. end_of item ≡ None) (xs ++ item ∷ [])
+go_on_push : (xs : List (Item Message)) (item : Item Message)
+    → AllByRecursion (λ item. end_of item ≡ None) xs → end_of item ≡ None
+    → AllByRecursion (λ item. end_of item ≡ None) (xs ++ item ∷ [])
 go_on_push [] item h is = (is, tt)
 go_on_push (x ∷ xs) item h is = (h.0, go_on_push xs item h.1 is)
 
-count_push : (xs : List (Item Message)) (item : Item Message) → count_by listens (xs ++ item ∷ []) ≡ count_by listens xs + cond (listens item) 1 0
+count_push : (xs : List (Item Message)) (item : Item Message) → count_by listens (xs ++ item ∷ [])
+    ≡ count_by listens xs + cond (listens item) 1 0
 count_push xs item = sum_by-append (λ x. cond (listens x) 1 0) xs (item ∷ []) ∙ omega arith
 
-shorter : (left bytes later : List ℕ) → StartsWithMessage left bytes later → 16 + length later ≤ length left
+shorter : (left bytes later : List ℕ) → StartsWithMessage left bytes later
+    → 16 + length later ≤ length left
 shorter left bytes later s = omega (arith, s.whole.0, simp length-append at (ap length s.parts))
 
 at_most_one : (b : Bool) → cond b 1 0 ≤ 1
@@ -63,7 +73,8 @@ at_most_one true = omega arith
 at_most_one false = omega arith
 
 -- it goes on behind an item that is no end
-pub counts_on : (datagram left later : List ℕ) (count : ℕ) (item : Item Message) → Counting datagram left count → Step left item later → end_of item ≡ None
+pub counts_on : (datagram left later : List ℕ) (count : ℕ) (item : Item Message)
+    → Counting datagram left count → Step left item later → end_of item ≡ None
     → Counting datagram later (count + cond (listens item) 1 0)
 counts_on datagram left later count item c (message bytes s is) plain = record {
   passed = c.passed ++ item ∷ [];
@@ -72,38 +83,59 @@ counts_on datagram left later count item c (message bytes s is) plain = record {
   counted = ap (λ n. n + cond (listens item) 1 0) c.counted ∙ sym (count_push c.passed item);
   short = omega (arith, c.short, shorter left bytes later s, at_most_one (listens item));
 }
-counts_on datagram left later count item c (no_message e is some fault) plain = let no : Some (Err e) ≡ None = sym (ap end_of is) ∙ plain in cc
+counts_on datagram left later count item c (no_message e is some fault) plain =
+    let no : Some (Err e) ≡ None = sym (ap end_of is) ∙ plain in cc
 
 -- and the item is one that counts, or not
-pub counts_one : (datagram left later : List ℕ) (count : ℕ) (item : Item Message) → Counting datagram left count → Step left item later → end_of item ≡ None → listens item ≡ true
+pub counts_one : (datagram left later : List ℕ) (count : ℕ) (item : Item Message)
+    → Counting datagram left count → Step left item later → end_of item ≡ None → listens item ≡ true
     → Counting datagram later (count + 1)
-counts_one datagram left later count item c step plain is = subst (λ b. Counting datagram later (count + cond b 1 0)) is (counts_on datagram left later count item c step plain)
+counts_one datagram left later count item c step plain is =
+    subst (λ b. Counting datagram later (count + cond b 1 0)) is
+    (counts_on datagram left later count item c step plain)
 
-pub counts_none : (datagram left later : List ℕ) (count : ℕ) (item : Item Message) → Counting datagram left count → Step left item later → end_of item ≡ None → listens item ≡ false
+pub counts_none : (datagram left later : List ℕ) (count : ℕ) (item : Item Message)
+    → Counting datagram left count → Step left item later → end_of item ≡ None
+    → listens item ≡ false
     → Counting datagram later count
 counts_none datagram left later count item c step plain is =
-    subst (λ n. Counting datagram later n) (add-zero count) (subst (λ b. Counting datagram later (count + cond b 1 0)) is (counts_on datagram left later count item c step plain))
+    subst (λ n. Counting datagram later n) (add-zero count)
+    (subst (λ b. Counting datagram later (count + cond b 1 0)) is
+    (counts_on datagram left later count item c step plain))
 
 -- it ends at an item that is one
-pub counts_to : (datagram left later : List ℕ) (count : ℕ) (item : Item Message) (answer : Result (Option ℕ) DecodeError) → IsBytes datagram → Counting datagram left count → Step left item later
-    → ((more : List (Item Message)) → EndsWith count (item ∷ more) answer) → IsCounted datagram answer
+pub counts_to : (datagram left later : List ℕ) (count : ℕ) (item : Item Message)
+    (answer : Result (Option ℕ) DecodeError) → IsBytes datagram → Counting datagram left count
+    → Step left item later
+    → ((more : List (Item Message)) → EndsWith count (item ∷ more) answer)
+    → IsCounted datagram answer
 counts_to datagram left later count item answer typed c (message bytes s is) ends =
-    let all = items_with message_codec message_laws.answered datagram left later bytes c.passed item typed c.walk s is in
-    record { passed = c.passed; later = item ∷ all.0; are = all.1; go_on = c.go_on; ends = subst (λ n. EndsWith n (item ∷ all.0) answer) c.counted (ends all.0) }
+    let all = items_with message_codec message_laws.answered datagram left later bytes c.passed item
+    typed c.walk s is in
+    record {
+      passed = c.passed;
+      later = item ∷ all.0;
+      are = all.1;
+      go_on = c.go_on;
+      ends = subst (λ n. EndsWith n (item ∷ all.0) answer) c.counted (ends all.0);
+    }
 counts_to datagram left later count item answer typed c (no_message e is some fault) ends = record {
   passed = c.passed;
   later = item ∷ [];
-  are = c.walk.items (item ∷ []) (subst (λ (i : Item Message). ItemsAre message_codec left (i ∷ [])) (sym is) (fault_alone message_codec left e some fault));
+  are = c.walk.items (item ∷ []) (subst (λ (i : Item Message). ItemsAre message_codec left (i ∷ []))
+      (sym is) (fault_alone message_codec left e some fault));
   go_on = c.go_on;
   ends = subst (λ n. EndsWith n (item ∷ []) answer) c.counted (ends []);
 }
 
 -- or where nothing is left
-pub counts_all : (datagram left : List ℕ) (count : ℕ) → Counting datagram left count → left ≡ [] → IsCounted datagram (Ok (Some count))
+pub counts_all : (datagram left : List ℕ) (count : ℕ) → Counting datagram left count → left ≡ []
+    → IsCounted datagram (Ok (Some count))
 counts_all datagram left count c none = record {
   passed = c.passed;
   later = [];
-  are = c.walk.items [] (subst (λ (b : List ℕ). ItemsAre message_codec b []) (sym none) (no_items message_codec));
+  are = c.walk.items [] (subst (λ (b : List ℕ). ItemsAre message_codec b []) (sym none)
+      (no_items message_codec));
   go_on = c.go_on;
   ends = ap (λ n. Ok (Some n)) c.counted;
 }

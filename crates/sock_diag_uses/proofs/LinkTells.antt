@@ -1,5 +1,7 @@
 -- What the attributes of a message about an interface tell, one after the other.
-use Rattle.std.proofs.Common.{◌≡◌, ◌≢◌, ◌==◌, ℕ, List, [], ◌∷◌, ◌++◌, Bool, true, false, length, Option, Some, None, Result, Ok, Err, if◌then◌else◌, refl, subst, ap, ◌∙◌}
+use Rattle.std.proofs.Common.{◌≡◌, ◌≢◌, ◌==◌, ℕ, List, [], ◌∷◌, ◌++◌, Bool, true, false, length}
+use Rattle.std.proofs.Common.{Option, Some, None, Result, Ok, Err, if◌then◌else◌, refl, subst, ap}
+use Rattle.std.proofs.Common.{◌∙◌}
 use Rattle.std.specs.Prelude.{IsOk}
 use Rattle.std.specs.List.{filter_map, last_or}
 use Rattle.std.proofs.lemmas.Bool.{ne_eqb}
@@ -9,7 +11,8 @@ use Rattle.netlink_core.specs.Attribute.{Attribute, IsFramingFault, StartsWith, 
 use Rattle.netlink_core.specs.Parse.{exact_number, text_in}
 use Rattle.netlink_core.proofs.Walking.{StartsWith-some, cut_off_behind, head_of_start}
 use Rattle.sock_diag_uses.proofs.Pushing.{none_more, one_more}
-use Rattle.sock_diag_uses.specs.Link.{HasName, NameAtFront, Told, name_told, mtu_told, nothing_told, told_by}
+use Rattle.sock_diag_uses.specs.Link.{HasName, NameAtFront, Told, name_told, mtu_told, nothing_told}
+use Rattle.sock_diag_uses.specs.Link.{told_by}
 
 -- ---- the last of a list
 
@@ -18,29 +21,37 @@ last_pushed o [] y = refl
 last_pushed o (x ∷ xs) y = last_pushed (Some x) xs y
 
 -- what is told last counts
-pub last_told : {A B : Type 0} (told : A → Option B) (xs : List A) (x : A) (y : B) → told x ≡ Some y → last_or None (filter_map told (xs ++ x ∷ [])) ≡ Some y
-last_told told xs x y e = ap (last_or None) (one_more told xs x y e) ∙ last_pushed None (filter_map told xs) y
+pub last_told : {A B : Type 0} (told : A → Option B) (xs : List A) (x : A) (y : B) → told x ≡ Some y
+    → last_or None (filter_map told (xs ++ x ∷ [])) ≡ Some y
+last_told told xs x y e = ap (last_or None) (one_more told xs x y e)
+    ∙ last_pushed None (filter_map told xs) y
 
 -- and where nothing is told that in front does
-pub none_told : {A B : Type 0} (told : A → Option B) (xs : List A) (x : A) → told x ≡ None → last_or None (filter_map told (xs ++ x ∷ [])) ≡ last_or None (filter_map told xs)
+pub none_told : {A B : Type 0} (told : A → Option B) (xs : List A) (x : A) → told x ≡ None
+    → last_or None (filter_map told (xs ++ x ∷ [])) ≡ last_or None (filter_map told xs)
 none_told told xs x e = ap (last_or None) (none_more told xs x e)
 
 -- ---- what an attribute tells
 
-pub tells_name : (a : Attribute) (name : List ℕ) → kind_of a ≡ 3 → text_in a.value ≡ Ok name → told_by a ≡ Ok (name_told name)
+pub tells_name : (a : Attribute) (name : List ℕ) → kind_of a ≡ 3 → text_in a.value ≡ Ok name
+    → told_by a ≡ Ok (name_told name)
 tells_name a name kind text = rw (kind, text) refl
 
-pub refuses_name : (a : Attribute) (e : DecodeError) → kind_of a ≡ 3 → text_in a.value ≡ Err e → told_by a ≡ Err e
+pub refuses_name : (a : Attribute) (e : DecodeError) → kind_of a ≡ 3 → text_in a.value ≡ Err e
+    → told_by a ≡ Err e
 refuses_name a e kind text = rw (kind, text) refl
 
-pub tells_mtu : (a : Attribute) (mtu : ℕ) → kind_of a ≡ 4 → exact_number None 4 a.value ≡ Ok mtu → told_by a ≡ Ok (mtu_told mtu)
+pub tells_mtu : (a : Attribute) (mtu : ℕ) → kind_of a ≡ 4 → exact_number None 4 a.value ≡ Ok mtu
+    → told_by a ≡ Ok (mtu_told mtu)
 tells_mtu a mtu kind number = rw (kind, number) refl
 
-pub refuses_mtu : (a : Attribute) (e : DecodeError) → kind_of a ≡ 4 → exact_number None 4 a.value ≡ Err e → told_by a ≡ Err e
+pub refuses_mtu : (a : Attribute) (e : DecodeError) → kind_of a ≡ 4 → exact_number None 4 a.value
+    ≡ Err e → told_by a ≡ Err e
 refuses_mtu a e kind number = rw (kind, number) refl
 
 pub tells_nothing : (a : Attribute) → kind_of a ≢ 3 → kind_of a ≢ 4 → told_by a ≡ Ok nothing_told
-tells_nothing a not_name not_mtu = rw (ne_eqb (kind_of a) 3 not_name, ne_eqb (kind_of a) 4 not_mtu) refl
+tells_nothing a not_name not_mtu = rw (ne_eqb (kind_of a) 3 not_name, ne_eqb (kind_of a) 4 not_mtu)
+    refl
 
 -- ---- where memory is wanted
 
@@ -82,6 +93,7 @@ chosen : (is : Bool) (n : ℕ) (e f : DecodeError) → (if is then Ok n else Err
 chosen true n e f h = absurd cc
 chosen false n e f h = cc
 
-pub number_named : (bytes : List ℕ) (e : DecodeError) → exact_number None 4 bytes ≡ Err e → e ≢ Memory
+pub number_named : (bytes : List ℕ) (e : DecodeError) → exact_number None 4 bytes ≡ Err e
+    → e ≢ Memory
 number_named bytes e h memory =
     let same = chosen (length bytes == 4) _ e (WrongLength None (length bytes) 4) h in cc

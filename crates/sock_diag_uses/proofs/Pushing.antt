@@ -5,9 +5,11 @@ use Rattle.std.proofs.lemmas.List.{append-nil}
 use Rattle.std.proofs.lemmas.List.Elements.{filter_map-append}
 
 -- what is made of it
-pub one_more : {A B : Type 0} (made : A → Option B) (xs : List A) (x : A) (y : B) → made x ≡ Some y → filter_map made (xs ++ x ∷ []) ≡ filter_map made xs ++ y ∷ []
+pub one_more : {A B : Type 0} (made : A → Option B) (xs : List A) (x : A) (y : B) → made x ≡ Some y
+    → filter_map made (xs ++ x ∷ []) ≡ filter_map made xs ++ y ∷ []
 one_more made xs x y e = filter_map-append made xs (x ∷ []) ∙ rw e refl
 
 -- or nothing
-pub none_more : {A B : Type 0} (made : A → Option B) (xs : List A) (x : A) → made x ≡ None → filter_map made (xs ++ x ∷ []) ≡ filter_map made xs
+pub none_more : {A B : Type 0} (made : A → Option B) (xs : List A) (x : A) → made x ≡ None
+    → filter_map made (xs ++ x ∷ []) ≡ filter_map made xs
 none_more made xs x e = filter_map-append made xs (x ∷ []) ∙ rw e (append-nil (filter_map made xs))

@@ -1,5 +1,7 @@
 -- What the attributes of a message about an interface tell.
-use Rattle.std.specs.Prelude.{◌≡◌, ◌≢◌, ℕ, ◌<◌, ◌≤◌, ◌==◌, if◌then◌else◌, List, length, drop, Option, Some, None, Result, Ok, Err, IsOk, String, string_bytes, option_map}
+use Rattle.std.specs.Prelude.{◌≡◌, ◌≢◌, ℕ, ◌<◌, ◌≤◌, ◌==◌, if◌then◌else◌, List, length, drop}
+use Rattle.std.specs.Prelude.{Option, Some, None, Result, Ok, Err, IsOk, String, string_bytes}
+use Rattle.std.specs.Prelude.{option_map}
 use Rattle.std.specs.List.{AllByRecursion}
 use Rattle.std.specs.declared.alloc.Global.{Global}
 use Rattle.netlink_core.specs.declared.fault.DecodeError.{DecodeError}
@@ -20,7 +22,8 @@ abbrev pub told_as : {A : Type 0} → (A → Told) → Result A DecodeError → 
 told_as made (Ok x) = Ok (made x)
 told_as made (Err e) = Err e
 
--- The attribute of kind 3 tells a name, a text without its end zero, and that of kind 4 a number of exactly four bytes.
+-- The attribute of kind 3 tells a name, a text without its end zero, and that of kind 4 a number of
+-- exactly four bytes.
 abbrev pub told_by : Attribute → Result Told DecodeError
 told_by a =
     if kind_of a == 3 then told_as name_told (text_in a.value)

@@ -17,8 +17,8 @@ abbrev pub no_address : Family → IpAddr
 no_address Inet = V4 record { octets = replicate 4 0 }
 no_address Inet6 = V6 record { segments = replicate 8 0 }
 
--- A dump (flags 0x301) under the type 20, of TCP (6) and the state LISTEN (bit 10) alone. Of the socket's identity
--- nothing is told.
+-- A dump (flags 0x301) under the type 20, of TCP (6) and the state LISTEN (bit 10) alone. Of the
+-- socket's identity nothing is told.
 abbrev pub listening_request : Family → ℕ → Envelope Message
 listening_request family sequence_number = record {
   header = record { length = 72; message_type = 20; flags = 0x301; sequence_number = sequence_number; port_number = 0 };

@@ -12,7 +12,8 @@ use Rattle.netlink_core.specs.Items.{Item, ItemsAre}
 use Rattle.sock_diag_attributes.specs.Name.{SocketName, pathname, abstract}
 use Rattle.sock_diag_attributes.specs.UnixAttributes.{unix}
 use Rattle.netlink_packet_sock_diag.specs.Dump.{end_of}
-use Rattle.netlink_packet_sock_diag.specs.Message.{Message, message_of, inet_request, inet_response, unix_request, unix_response}
+use Rattle.netlink_packet_sock_diag.specs.Message.{Message, message_of, inet_request, inet_response}
+use Rattle.netlink_packet_sock_diag.specs.Message.{unix_request, unix_response}
 use Rattle.netlink_packet_sock_diag.specs.Message.{message_codec}
 use Rattle.netlink_packet_sock_diag.specs.UnixGetters.{first_of}
 

@@ -1,23 +1,28 @@
 -- What the kernel for tests answers.
-use Rattle.std.specs.Prelude.{⊤, ◌≡◌, ◌≢◌, ℕ, ◌+◌, ◌-◌, ◌≤◌, List, [], ◌∷◌, ◌++◌, length, map, take, drop, Ok, Err}
+use Rattle.std.specs.Prelude.{⊤, ◌≡◌, ◌≢◌, ℕ, ◌+◌, ◌-◌, ◌≤◌, List, [], ◌∷◌, ◌++◌, length, map, take}
+use Rattle.std.specs.Prelude.{drop, Ok, Err}
 use Rattle.std.specs.List.{AllByRecursion, flat_map}
 use Rattle.netlink_core.specs.declared.header.NetlinkHeader.{NetlinkHeader}
 use Rattle.netlink_core.specs.declared.fault.DecodeError.{DecodeError}
 use Rattle.netlink_core.specs.declared.fault.DecodeError.TheVariants.{UnknownMessageType}
 use Rattle.netlink_core.specs.Header.{HasHeader, IsEnvelopeFault}
-use Rattle.netlink_core.specs.Envelope.{Payload, OfInner, done_with, inner, payload_bytes, payload_type, envelope_codec}
+use Rattle.netlink_core.specs.Envelope.{Payload, OfInner, done_with, inner, payload_bytes}
+use Rattle.netlink_core.specs.Envelope.{payload_type, envelope_codec}
 use Rattle.netlink_core.specs.Format.{read}
 use Rattle.sock_diag_records.specs.declared.unix.request.UnixRequest.{UnixRequest}
 use Rattle.sock_diag_records.specs.UnixRequest.{unix_request}
 use Rattle.netlink_core.specs.Reply.{reply_bytes, reply_codec}
 use Rattle.netlink_packet_sock_diag.specs.declared.dump.DumpState.TheVariants.{Done}
 use Rattle.netlink_packet_sock_diag.specs.Dump.{DatagramDump}
-use Rattle.netlink_packet_sock_diag.specs.Message.{Message, message_of, unix_response, message_codec}
+use Rattle.netlink_packet_sock_diag.specs.Message.{Message, message_of, unix_response}
+use Rattle.netlink_packet_sock_diag.specs.Message.{message_codec}
 use Rattle.netlink_packet_sock_diag.specs.UnixReply.{UnixReply, unix_reply}
 use Rattle.sock_diag_uses.specs.declared.test_kernel.AnswerError.{AnswerError}
-use Rattle.sock_diag_uses.specs.declared.test_kernel.AnswerError.TheVariants.{Request, Unwritable, Memory}
+use Rattle.sock_diag_uses.specs.declared.test_kernel.AnswerError.TheVariants.{Request, Unwritable}
+use Rattle.sock_diag_uses.specs.declared.test_kernel.AnswerError.TheVariants.{Memory}
 
--- the written bytes of a message that is one of several (flags 2), with its own length and type, from port 0
+-- the written bytes of a message that is one of several (flags 2), with its own length and type,
+-- from port 0
 unfoldable pub message_under : ℕ → Payload Message → List ℕ
 message_under sequence_number payload = (envelope_codec message_codec).written (record {
   header = record {
@@ -38,8 +43,8 @@ reply_under sequence_number reply = message_under sequence_number (inner (messag
 abbrev pub end_under : ℕ → List ℕ
 end_under sequence_number = message_under sequence_number (done_with (0 ∷ 0 ∷ 0 ∷ 0 ∷ []))
 
--- The first bytes are a message of type 20 that asks for UNIX sockets. The others are the messages of the replies, in
--- order, and then the end, each with its sequence number.
+-- The first bytes are a message of type 20 that asks for UNIX sockets. The others are the messages
+-- of the replies, in order, and then the end, each with its sequence number.
 pub record IsAnswer (request : List ℕ) (replies : List UnixReply) (datagram : List ℕ) : Type 0 where
   pub header : NetlinkHeader
   pub asked : UnixRequest
@@ -48,7 +53,8 @@ pub record IsAnswer (request : List ℕ) (replies : List UnixReply) (datagram : 
   pub asks : read unix_request tt (take (header.length - 16) (drop 16 request)) ≡ Ok asked
   pub written : datagram ≡ flat_map (reply_under header.sequence_number) replies ++ end_under header.sequence_number
 
--- The request is refused: for what stands for its netlink header, for its type, or for what it asks.
+-- The request is refused: for what stands for its netlink header, for its type, or for what it
+-- asks.
 pub data RefusesRequest (request : List ℕ) (e : DecodeError) : Type 0 where
   no_message : IsEnvelopeFault request e → RefusesRequest request e
   other_type : (h : NetlinkHeader) → HasHeader request h → h.message_type ≢ 20 → e ≡ UnknownMessageType h.message_type → RefusesRequest request e

@@ -1,4 +1,5 @@
-//! The name and the MTU of a network interface, after rtnetlink(7): the attributes of another netlink family.
+//! The name and the MTU of a network interface, after rtnetlink(7): the attributes of another
+//! netlink family.
 
 ghost use Rattle.std.specs.Prelude.{◌≡◌, ◌≤◌, ◌↔◌, ℕ, List, [], None, length, drop, IfOk, IfErr};
 ghost use Rattle.std.specs.List.{filter_map, last_or};
@@ -6,7 +7,8 @@ ghost use Rattle.netlink_core.specs.Attribute.{Attribute, AttributesMean, HasFit
 ghost use Rattle.netlink_core.specs.Bytes.{IsBytes};
 ghost use Rattle.netlink_core.specs.Canonical as canon;
 ghost use Rattle.netlink_core.specs.Heads.{head_codec};
-ghost use Rattle.sock_diag_uses.specs.Link.{Told, told_by, name_in, mtu_in, text_of, from_fault, GivesUp};
+ghost use Rattle.sock_diag_uses.specs.Link.{Told, told_by, name_in, mtu_in, text_of, from_fault};
+ghost use Rattle.sock_diag_uses.specs.Link.{GivesUp};
 
 use netlink_core::{
     CanonError, DecodeError, DefaultNla, NlasIterator, canonical, parse_string, parse_u32,
@@ -77,13 +79,17 @@ pub fn parse_link(alloc: Global, payload: &[u8]) -> Result<Link, LinkError>
     Ok(link)
 }
 
-/// The canonical bytes of the attribute in front, of whatever family: one string for all that differ in paddings and in
-/// what follows alone.
+/// The canonical bytes of the attribute in front, of whatever family: one string for all that
+/// differ in paddings and in what follows alone.
 pub fn attribute_key(alloc: Global, attribute: &[u8]) -> Result<Vec<u8>, CanonError>
-    ensures written { IfOk result (λ key. (a : Attribute) × (head_codec []).reads attribute.now tt a × (key.items ≡ written a)) }
-    ensures alike { IfOk result (λ key. (other : List ℕ) (theirs : Attribute) → IsBytes other → (head_codec []).reads other tt theirs
-        → HasFittingValue theirs → ((written theirs ≡ key.items) ↔ (head_codec []).idle tt attribute.now other)) }
-    ensures err { IfErr result (canon.GivesUp (λ a. (head_codec []).reads attribute.now tt a) (λ e. (head_codec []).refuses attribute.now tt e) HasFittingValue) }
+    ensures written { IfOk result (λ key. (a : Attribute) × (head_codec []).reads attribute.now tt a
+        × (key.items ≡ written a)) }
+    ensures alike { IfOk result (λ key. (other : List ℕ) (theirs : Attribute) → IsBytes other
+        → (head_codec []).reads other tt theirs
+        → HasFittingValue theirs
+        → ((written theirs ≡ key.items) ↔ (head_codec []).idle tt attribute.now other)) }
+    ensures err { IfErr result (canon.GivesUp (λ a. (head_codec []).reads attribute.now tt a)
+        (λ e. (head_codec []).refuses attribute.now tt e) HasFittingValue) }
 {
     canonical::<DefaultNla>(alloc, attribute, ())
 }

@@ -26,8 +26,8 @@ pub enum Family {
     Inet6,
 }
 
-/// The request for all TCP sockets of a family that listen, and for none of their attributes. The kernel's replies
-/// repeat the sequence number.
+/// The request for all TCP sockets of a family that listen, and for none of their attributes. The
+/// kernel's replies repeat the sequence number.
 #[tactic(auto, unfolding(sock_diag_records::specs::InetRequest::inet_request))]
 pub fn listening_tcp(family: Family, sequence_number: u32) -> NetlinkMessage<SockDiagMessage>
     ensures { envelope_of seen_message result ≡ listening_request family sequence_number }
@@ -56,11 +56,13 @@ pub fn listening_tcp(family: Family, sequence_number: u32) -> NetlinkMessage<Soc
 /// The bytes of [`listening_tcp`], as they are sent. No memory is taken.
 #[tactic(auto, unfolding(sock_diag_records::specs::InetRequest::inet_request))]
 pub fn listening_tcp_bytes(family: Family, sequence_number: u32) -> [u8; REQUEST_LENGTH]
-    ensures written { result ≡ (envelope_codec message_codec).written (listening_request family sequence_number) }
-    // Length 72, type 20, flags 0x301, the sequence number and port 0; the family, protocol 6, no extensions, a pad, the
-    // state LISTEN; and the identity of no socket.
+    ensures written { result ≡ (envelope_codec message_codec).written
+        (listening_request family sequence_number) }
+    // Length 72, type 20, flags 0x301, the sequence number and port 0; the family, protocol 6, no
+    // extensions, a pad, the state LISTEN; and the identity of no socket.
     ensures bytes { result ≡ (72 ∷ 0 ∷ 0 ∷ 0 ∷ 20 ∷ 0 ∷ 1 ∷ 3 ∷ [])
-        ++ (little_bytes 4 sequence_number ++ (0 ∷ 0 ∷ 0 ∷ 0 ∷ family_number family ∷ 6 ∷ 0 ∷ 0 ∷ 0 ∷ 4 ∷ 0 ∷ 0 ∷ replicate 48 0)) }
+        ++ (little_bytes 4 sequence_number ++ (0 ∷ 0 ∷ 0 ∷ 0 ∷ family_number family ∷ 6 ∷ 0 ∷ 0 ∷ 0
+        ∷ 4 ∷ 0 ∷ 0 ∷ replicate 48 0)) }
 {
     let mut bytes = [0; REQUEST_LENGTH];
     listening_tcp(family, sequence_number).serialize(&mut bytes);

@@ -32,8 +32,8 @@ pub enum Line {
     Refused(DecodeError),
 }
 
-/// The lines of a datagram, in order: one for each message but those of nothing, and one for what is no message. Only
-/// the lines take memory.
+/// The lines of a datagram, in order: one for each message but those of nothing, and one for what
+/// is no message. Only the lines take memory.
 pub fn list(alloc: Global, datagram: &[u8]) -> Result<Vec<Line>, AllocError>
     ensures { IfOk result (λ lines. AreLinesOf datagram.now lines.items) }
 {
@@ -50,7 +50,8 @@ pub fn equal_lines(v: &Line, w: &Line) -> bool
 
 // The lines of what a walk gives.
 fn lines_of(alloc: Global, views: DumpViews<'_>) -> Result<Vec<Line>, AllocError>
-    ensures { IfOk result (λ lines. (given : List (Result PayloadView Fault)) × Drains GivesView views.entry given
+    ensures { IfOk result (λ lines. (given : List (Result PayloadView Fault))
+        × Drains GivesView views.entry given
         × (lines.items ≡ filter_map line_of (map viewed_item given))) }
 {
     let mut lines = Vec::new(alloc);

@@ -6,8 +6,11 @@ ghost use Rattle.netlink_core.specs.Seen.{payload_of};
 ghost use Rattle.netlink_packet_sock_diag.specs.SeenMessage.{seen_message};
 ghost use Rattle.netlink_packet_sock_diag.specs.SeenUnixReply.{seen_response};
 ghost use Rattle.netlink_packet_sock_diag.specs.UnixReply.{UnixReply};
-ghost use Rattle.sock_diag_uses.specs.TestKernel.{CanBeTold, FailsFor, GivesNoAnswer, HasRoom, IsAnswer, IsWholeDump, ReplyHasRoom, message_under, reply_under};
-ghost use Rattle.sock_diag_uses.specs.declared.test_kernel.AnswerError.TheVariants.{Request, Memory};
+ghost use Rattle.sock_diag_uses.specs.TestKernel.{CanBeTold, FailsFor, GivesNoAnswer, HasRoom};
+ghost use Rattle.sock_diag_uses.specs.TestKernel.{IsAnswer, IsWholeDump, ReplyHasRoom};
+ghost use Rattle.sock_diag_uses.specs.TestKernel.{message_under, reply_under};
+ghost use Rattle.sock_diag_uses.specs.declared.test_kernel.AnswerError.TheVariants.{Request};
+ghost use Rattle.sock_diag_uses.specs.declared.test_kernel.AnswerError.TheVariants.{Memory};
 
 use netlink_core::{
     DecodeError, NETLINK_HEADER_LEN, NetlinkHeader, NetlinkMessage, NetlinkPayload, Parseable,
@@ -55,14 +58,16 @@ impl<T: Drop> From<AllocFailed<T>> for AnswerError {
     }
 }
 
-/// The answer to a request for UNIX sockets: each reply in a message of its own, and the message that ends a dump, all
-/// of them with the request's sequence number. What the request asks for is read, and doesn't choose among the replies.
+/// The answer to a request for UNIX sockets: each reply in a message of its own, and the message
+/// that ends a dump, all of them with the request's sequence number. What the request asks for is
+/// read, and doesn't choose among the replies.
 pub fn answer(
     alloc: Global,
     request: &[u8],
     replies: &[UnixResponse],
 ) -> Result<Vec<u8>, AnswerError>
-    ensures answer { IfOk result (λ datagram. IsAnswer request.now (map seen_response replies.now) datagram.items) }
+    ensures answer { IfOk result (λ datagram. IsAnswer request.now (map seen_response replies.now)
+        datagram.items) }
     ensures refused { IfErr result (GivesNoAnswer request.now (map seen_response replies.now)) }
 {
     let header = NetlinkHeader::from_prefix(request)?;
@@ -80,10 +85,11 @@ pub fn answer(
     Ok(datagram)
 }
 
-/// The dump over an answer is done, and has the given replies, where each is as readers give it and can be written. The
-/// function does nothing: its contract is the law.
+/// The dump over an answer is done, and has the given replies, where each is as readers give it and
+/// can be written. The function does nothing: its contract is the law.
 pub fn answer_is_a_whole_dump()
-    ensures { (request : List ℕ) (replies : List UnixReply) (datagram : List ℕ) → IsAnswer request replies datagram
+    ensures { (request : List ℕ) (replies : List UnixReply) (datagram : List ℕ)
+        → IsAnswer request replies datagram
         → AllByRecursion CanBeTold replies → IsWholeDump datagram replies }
 {
     netlink_core::laws::items_in_a_row::<SockDiagMessage>();
@@ -98,8 +104,10 @@ fn push_replies(
     sequence_number: u32,
     replies: &[UnixResponse],
 ) -> Result<(), AnswerError>
-    ensures added { OnOk result (datagram.new.items ≡ datagram.old.items ++ flat_map (reply_under sequence_number) (map seen_response replies.now)) }
-    ensures err { IfErr result (FailsFor (¬ AllByRecursion ReplyHasRoom (map seen_response replies.now))) }
+    ensures added { OnOk result (datagram.new.items ≡ datagram.old.items
+        ++ flat_map (reply_under sequence_number) (map seen_response replies.now)) }
+    ensures err { IfErr result
+        (FailsFor (¬ AllByRecursion ReplyHasRoom (map seen_response replies.now))) }
 {
     for reply in replies {
         push_reply(alloc, datagram, sequence_number, reply)?;
@@ -114,7 +122,8 @@ fn push_reply(
     sequence_number: u32,
     reply: &UnixResponse,
 ) -> Result<(), AnswerError>
-    ensures added { OnOk result (datagram.new.items ≡ datagram.old.items ++ reply_under sequence_number (seen_response reply.now)) }
+    ensures added { OnOk result (datagram.new.items ≡ datagram.old.items
+        ++ reply_under sequence_number (seen_response reply.now)) }
     ensures err { IfErr result (FailsFor (¬ ReplyHasRoom (seen_response reply.now))) }
 {
     let message = SockDiagMessage::UnixResponse(Box::new(
@@ -137,7 +146,8 @@ fn push_message(
     sequence_number: u32,
     payload: NetlinkPayload<SockDiagMessage>,
 ) -> Result<(), AnswerError>
-    ensures added { OnOk result (datagram.new.items ≡ datagram.old.items ++ message_under sequence_number (payload_of seen_message payload)) }
+    ensures added { OnOk result (datagram.new.items ≡ datagram.old.items
+        ++ message_under sequence_number (payload_of seen_message payload)) }
     ensures err { IfErr result (FailsFor (¬ HasRoom (payload_of seen_message payload))) }
 {
     let header = NetlinkHeader {

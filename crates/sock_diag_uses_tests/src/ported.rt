@@ -1,4 +1,5 @@
-//! A loop over a dump with memory of its own, as programs over the Rust crate have it: docs/DIFFERENCES.md shows both.
+//! A loop over a dump with memory of its own, as programs over the Rust crate have it:
+//! docs/DIFFERENCES.md shows both.
 
 use netlink_core::{DecodeError, MessageStrings, NetlinkMessage, NetlinkPayload};
 use netlink_packet_sock_diag::SockDiagMessage;

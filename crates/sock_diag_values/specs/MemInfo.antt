@@ -1,13 +1,15 @@
 -- The memory of a socket: seven, eight or nine words of 32 bits, low byte first. Kernels added the
 -- last two in turn.
-use Rattle.std.specs.Prelude.{⊤, ℕ, ◌+◌, ◌*◌, List, [], ◌∷◌, Option, Some, None, Ok, nat_lt, if◌then◌else◌, length, unwrap_or, IfSome, IsSome}
+use Rattle.std.specs.Prelude.{⊤, ℕ, ◌+◌, ◌*◌, List, [], ◌∷◌, Option, Some, None, Ok, nat_lt}
+use Rattle.std.specs.Prelude.{if◌then◌else◌, length, unwrap_or, IfSome, IsSome}
 use Rattle.netlink_core.specs.Table.{numbers, little_endian}
 use Rattle.netlink_core.specs.Format.{Format}
 use Rattle.netlink_core.specs.declared.fault.RecordName.TheVariants as name
 use Rattle.sock_diag_values.specs.declared.inet.mem_info.MemInfo.{MemInfo}
 use Rattle.sock_diag_values.specs.MemInfoInverse.{mem_info_of}
 use Rattle.sock_diag_values.specs.declared.inet.mem_info.MemInfoBytes.{MemInfoBytes}
-use Rattle.sock_diag_values.specs.declared.inet.mem_info.MemInfoBytes.TheVariants.{Seven, Eight, Nine}
+use Rattle.sock_diag_values.specs.declared.inet.mem_info.MemInfoBytes.TheVariants.{Seven, Eight}
+use Rattle.sock_diag_values.specs.declared.inet.mem_info.MemInfoBytes.TheVariants.{Nine}
 use Rattle.sock_diag_values.specs.declared.inet.mem_info.MemInfoBuffer.{MemInfoBuffer}
 
 -- how many whole words stand in so many bytes, 28 or more: nine at most

@@ -1,5 +1,6 @@
 -- Two TCP connections are equal by each of their numbers.
-use Rattle.std.proofs.Common.{◌≡◌, ◌↔◌, ◌&&◌, ℕ, List, [], ◌∷◌, Bool, false, eqb, IsTrue, drop, refl, ap, rules}
+use Rattle.std.proofs.Common.{◌≡◌, ◌↔◌, ◌&&◌, ℕ, List, [], ◌∷◌, Bool, false, eqb, IsTrue, drop}
+use Rattle.std.proofs.Common.{refl, ap, rules}
 use Rattle.netlink_core.proofs.Equality.{parts, both, numbers_equal}
 use Rattle.sock_diag_values.specs.declared.inet.tcp_info.TcpInfo.{TcpInfo}
 use Rattle.sock_diag_values.specs.TcpInfo.{tcp_info_values}
@@ -23,10 +24,14 @@ same_from x y (a ∷ xs) (b ∷ ys) h =
 
 itself_from : (x : ℕ) (xs : List ℕ) → IsTrue (equal_from x x xs xs)
 itself_from x [] = (numbers_equal x x).1 refl
-itself_from x (a ∷ xs) = both (eqb x x) (equal_from a a xs xs) ((numbers_equal x x).1 refl) (itself_from a xs)
+itself_from x (a ∷ xs) = both (eqb x x) (equal_from a a xs xs) ((numbers_equal x x).1 refl)
+    (itself_from a xs)
 
-pub tcp_info_equal : (v w : TcpInfo) → IsTrue (equal_from v.state w.state (drop 1 (tcp_info_values v)) (drop 1 (tcp_info_values w))) ↔ (v ≡ w)
+pub tcp_info_equal : (v w : TcpInfo)
+    → IsTrue (equal_from v.state w.state (drop 1 (tcp_info_values v)) (drop 1 (tcp_info_values w)))
+    ↔ (v ≡ w)
 tcp_info_equal v w = (
-  λ h. ap tcp_info_of (same_from v.state w.state (drop 1 (tcp_info_values v)) (drop 1 (tcp_info_values w)) h),
+  λ h. ap tcp_info_of (same_from v.state w.state (drop 1 (tcp_info_values v))
+      (drop 1 (tcp_info_values w)) h),
   λ e. rw e (itself_from w.state (drop 1 (tcp_info_values w))),
 )

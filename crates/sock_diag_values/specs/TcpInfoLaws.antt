@@ -7,7 +7,8 @@ use Rattle.netlink_core.proofs.FormatLaws.{plain_sound}
 use Rattle.netlink_core.proofs.RowReads.{fit-append, fit-bytes}
 use Rattle.sock_diag_values.specs.declared.inet.tcp_info.TcpInfo.{TcpInfo}
 use Rattle.sock_diag_values.specs.TcpInfo.{tcp_info, tcp_info_rows, tcp_info_values}
-use Rattle.sock_diag_values.specs.TcpInfoSteps.{states, counts, ages, metrics, receiver, rates, segments, limits, deliveries, totals, reorderings}
+use Rattle.sock_diag_values.specs.TcpInfoSteps.{states, counts, ages, metrics, receiver, rates}
+use Rattle.sock_diag_values.specs.TcpInfoSteps.{segments, limits, deliveries, totals, reorderings}
 
 pub tcp_info_sound : IsSound tcp_info
 unfolding tcp_info
@@ -20,8 +21,11 @@ tcp_info_long = (refl, λ tag. refl)
 -- ---- a connection in hand is typed
 
 -- numbers that were told of an equal list
-pub fits : (place width : ℕ) (xs ys : List ℕ) → xs ≡ ys → ((at : ℕ) → Fit (numbers at width little_endian (length xs)) xs) → Fit (numbers place width little_endian (length ys)) ys
-fits place width xs ys e fit = subst (λ (l : List ℕ). Fit (numbers place width little_endian (length l)) l) e (fit place)
+pub fits : (place width : ℕ) (xs ys : List ℕ) → xs ≡ ys
+    → ((at : ℕ) → Fit (numbers at width little_endian (length xs)) xs)
+    → Fit (numbers place width little_endian (length ys)) ys
+fits place width xs ys e fit =
+    subst (λ (l : List ℕ). Fit (numbers place width little_endian (length l)) l) e (fit place)
 
 -- the numbers are within their rows where each row's are
 pub rows_fit : (v : TcpInfo) → IsBytes (states v)
@@ -36,14 +40,138 @@ pub rows_fit : (v : TcpInfo) → IsBytes (states v)
     → Fit (numbers 200 8 little_endian 2) (totals v)
     → Fit (numbers 216 4 little_endian 4) (reorderings v)
     → Fit tcp_info_rows (tcp_info_values v)
-rows_fit v of_states of_counts of_ages of_metrics of_receiver of_rates of_segments of_limits of_deliveries of_totals of_reorderings =
-    let from_totals : Fit ((numbers 200 8 little_endian 2) ++ (numbers 216 4 little_endian 4)) (totals v ++ (reorderings v)) = fit-append (numbers 200 8 little_endian 2) (numbers 216 4 little_endian 4) (totals v) (reorderings v) of_totals of_reorderings in
-    let from_deliveries : Fit ((numbers 192 4 little_endian 2) ++ ((numbers 200 8 little_endian 2) ++ (numbers 216 4 little_endian 4))) (deliveries v ++ (totals v ++ (reorderings v))) = fit-append (numbers 192 4 little_endian 2) ((numbers 200 8 little_endian 2) ++ (numbers 216 4 little_endian 4)) (deliveries v) (totals v ++ (reorderings v)) of_deliveries from_totals in
-    let from_limits : Fit ((numbers 160 8 little_endian 4) ++ ((numbers 192 4 little_endian 2) ++ ((numbers 200 8 little_endian 2) ++ (numbers 216 4 little_endian 4)))) (limits v ++ (deliveries v ++ (totals v ++ (reorderings v)))) = fit-append (numbers 160 8 little_endian 4) ((numbers 192 4 little_endian 2) ++ ((numbers 200 8 little_endian 2) ++ (numbers 216 4 little_endian 4))) (limits v) (deliveries v ++ (totals v ++ (reorderings v))) of_limits from_deliveries in
-    let from_segments : Fit ((numbers 136 4 little_endian 6) ++ ((numbers 160 8 little_endian 4) ++ ((numbers 192 4 little_endian 2) ++ ((numbers 200 8 little_endian 2) ++ (numbers 216 4 little_endian 4))))) (segments v ++ (limits v ++ (deliveries v ++ (totals v ++ (reorderings v))))) = fit-append (numbers 136 4 little_endian 6) ((numbers 160 8 little_endian 4) ++ ((numbers 192 4 little_endian 2) ++ ((numbers 200 8 little_endian 2) ++ (numbers 216 4 little_endian 4)))) (segments v) (limits v ++ (deliveries v ++ (totals v ++ (reorderings v)))) of_segments from_limits in
-    let from_rates : Fit ((numbers 104 8 little_endian 4) ++ ((numbers 136 4 little_endian 6) ++ ((numbers 160 8 little_endian 4) ++ ((numbers 192 4 little_endian 2) ++ ((numbers 200 8 little_endian 2) ++ (numbers 216 4 little_endian 4)))))) (rates v ++ (segments v ++ (limits v ++ (deliveries v ++ (totals v ++ (reorderings v)))))) = fit-append (numbers 104 8 little_endian 4) ((numbers 136 4 little_endian 6) ++ ((numbers 160 8 little_endian 4) ++ ((numbers 192 4 little_endian 2) ++ ((numbers 200 8 little_endian 2) ++ (numbers 216 4 little_endian 4))))) (rates v) (segments v ++ (limits v ++ (deliveries v ++ (totals v ++ (reorderings v))))) of_rates from_segments in
-    let from_receiver : Fit ((numbers 92 4 little_endian 3) ++ ((numbers 104 8 little_endian 4) ++ ((numbers 136 4 little_endian 6) ++ ((numbers 160 8 little_endian 4) ++ ((numbers 192 4 little_endian 2) ++ ((numbers 200 8 little_endian 2) ++ (numbers 216 4 little_endian 4))))))) (receiver v ++ (rates v ++ (segments v ++ (limits v ++ (deliveries v ++ (totals v ++ (reorderings v))))))) = fit-append (numbers 92 4 little_endian 3) ((numbers 104 8 little_endian 4) ++ ((numbers 136 4 little_endian 6) ++ ((numbers 160 8 little_endian 4) ++ ((numbers 192 4 little_endian 2) ++ ((numbers 200 8 little_endian 2) ++ (numbers 216 4 little_endian 4)))))) (receiver v) (rates v ++ (segments v ++ (limits v ++ (deliveries v ++ (totals v ++ (reorderings v)))))) of_receiver from_rates in
-    let from_metrics : Fit ((numbers 60 4 little_endian 8) ++ ((numbers 92 4 little_endian 3) ++ ((numbers 104 8 little_endian 4) ++ ((numbers 136 4 little_endian 6) ++ ((numbers 160 8 little_endian 4) ++ ((numbers 192 4 little_endian 2) ++ ((numbers 200 8 little_endian 2) ++ (numbers 216 4 little_endian 4)))))))) (metrics v ++ (receiver v ++ (rates v ++ (segments v ++ (limits v ++ (deliveries v ++ (totals v ++ (reorderings v)))))))) = fit-append (numbers 60 4 little_endian 8) ((numbers 92 4 little_endian 3) ++ ((numbers 104 8 little_endian 4) ++ ((numbers 136 4 little_endian 6) ++ ((numbers 160 8 little_endian 4) ++ ((numbers 192 4 little_endian 2) ++ ((numbers 200 8 little_endian 2) ++ (numbers 216 4 little_endian 4))))))) (metrics v) (receiver v ++ (rates v ++ (segments v ++ (limits v ++ (deliveries v ++ (totals v ++ (reorderings v))))))) of_metrics from_receiver in
-    let from_ages : Fit ((numbers 44 4 little_endian 4) ++ ((numbers 60 4 little_endian 8) ++ ((numbers 92 4 little_endian 3) ++ ((numbers 104 8 little_endian 4) ++ ((numbers 136 4 little_endian 6) ++ ((numbers 160 8 little_endian 4) ++ ((numbers 192 4 little_endian 2) ++ ((numbers 200 8 little_endian 2) ++ (numbers 216 4 little_endian 4))))))))) (ages v ++ (metrics v ++ (receiver v ++ (rates v ++ (segments v ++ (limits v ++ (deliveries v ++ (totals v ++ (reorderings v))))))))) = fit-append (numbers 44 4 little_endian 4) ((numbers 60 4 little_endian 8) ++ ((numbers 92 4 little_endian 3) ++ ((numbers 104 8 little_endian 4) ++ ((numbers 136 4 little_endian 6) ++ ((numbers 160 8 little_endian 4) ++ ((numbers 192 4 little_endian 2) ++ ((numbers 200 8 little_endian 2) ++ (numbers 216 4 little_endian 4)))))))) (ages v) (metrics v ++ (receiver v ++ (rates v ++ (segments v ++ (limits v ++ (deliveries v ++ (totals v ++ (reorderings v)))))))) of_ages from_metrics in
-    let from_counts : Fit ((numbers 8 4 little_endian 9) ++ ((numbers 44 4 little_endian 4) ++ ((numbers 60 4 little_endian 8) ++ ((numbers 92 4 little_endian 3) ++ ((numbers 104 8 little_endian 4) ++ ((numbers 136 4 little_endian 6) ++ ((numbers 160 8 little_endian 4) ++ ((numbers 192 4 little_endian 2) ++ ((numbers 200 8 little_endian 2) ++ (numbers 216 4 little_endian 4)))))))))) (counts v ++ (ages v ++ (metrics v ++ (receiver v ++ (rates v ++ (segments v ++ (limits v ++ (deliveries v ++ (totals v ++ (reorderings v)))))))))) = fit-append (numbers 8 4 little_endian 9) ((numbers 44 4 little_endian 4) ++ ((numbers 60 4 little_endian 8) ++ ((numbers 92 4 little_endian 3) ++ ((numbers 104 8 little_endian 4) ++ ((numbers 136 4 little_endian 6) ++ ((numbers 160 8 little_endian 4) ++ ((numbers 192 4 little_endian 2) ++ ((numbers 200 8 little_endian 2) ++ (numbers 216 4 little_endian 4))))))))) (counts v) (ages v ++ (metrics v ++ (receiver v ++ (rates v ++ (segments v ++ (limits v ++ (deliveries v ++ (totals v ++ (reorderings v))))))))) of_counts from_ages in
-    fit-append (bytes_at 0 8) ((numbers 8 4 little_endian 9) ++ ((numbers 44 4 little_endian 4) ++ ((numbers 60 4 little_endian 8) ++ ((numbers 92 4 little_endian 3) ++ ((numbers 104 8 little_endian 4) ++ ((numbers 136 4 little_endian 6) ++ ((numbers 160 8 little_endian 4) ++ ((numbers 192 4 little_endian 2) ++ ((numbers 200 8 little_endian 2) ++ (numbers 216 4 little_endian 4)))))))))) (states v) (counts v ++ (ages v ++ (metrics v ++ (receiver v ++ (rates v ++ (segments v ++ (limits v ++ (deliveries v ++ (totals v ++ (reorderings v)))))))))) (fit-bytes 0 8 (states v) of_states) from_counts
+rows_fit v of_states of_counts of_ages of_metrics of_receiver of_rates of_segments of_limits
+    of_deliveries of_totals of_reorderings =
+    let from_totals : Fit ((numbers 200 8 little_endian 2) ++ (numbers 216 4 little_endian 4))
+    (totals v ++ (reorderings v)) =
+    fit-append (numbers 200 8 little_endian 2) (numbers 216 4 little_endian 4) (totals v)
+    (reorderings v) of_totals of_reorderings in
+    let from_deliveries : Fit ((numbers 192 4 little_endian 2)
+    ++ ((numbers 200 8 little_endian 2) ++ (numbers 216 4 little_endian 4)))
+    (deliveries v ++ (totals v ++ (reorderings v))) =
+    fit-append (numbers 192 4 little_endian 2) ((numbers 200 8 little_endian 2)
+    ++ (numbers 216 4 little_endian 4)) (deliveries v) (totals v ++ (reorderings v))
+    of_deliveries from_totals in
+    let from_limits : Fit ((numbers 160 8 little_endian 4)
+    ++ ((numbers 192 4 little_endian 2)
+    ++ ((numbers 200 8 little_endian 2) ++ (numbers 216 4 little_endian 4))))
+    (limits v ++ (deliveries v ++ (totals v ++ (reorderings v)))) =
+    fit-append (numbers 160 8 little_endian 4) ((numbers 192 4 little_endian 2)
+    ++ ((numbers 200 8 little_endian 2) ++ (numbers 216 4 little_endian 4))) (limits v)
+    (deliveries v ++ (totals v ++ (reorderings v))) of_limits from_deliveries in
+    let from_segments : Fit ((numbers 136 4 little_endian 6)
+    ++ ((numbers 160 8 little_endian 4)
+    ++ ((numbers 192 4 little_endian 2)
+    ++ ((numbers 200 8 little_endian 2) ++ (numbers 216 4 little_endian 4)))))
+    (segments v ++ (limits v ++ (deliveries v ++ (totals v ++ (reorderings v))))) =
+    fit-append (numbers 136 4 little_endian 6) ((numbers 160 8 little_endian 4)
+    ++ ((numbers 192 4 little_endian 2)
+    ++ ((numbers 200 8 little_endian 2) ++ (numbers 216 4 little_endian 4)))) (segments v)
+    (limits v ++ (deliveries v ++ (totals v ++ (reorderings v)))) of_segments from_limits in
+    let from_rates : Fit ((numbers 104 8 little_endian 4)
+    ++ ((numbers 136 4 little_endian 6)
+    ++ ((numbers 160 8 little_endian 4)
+    ++ ((numbers 192 4 little_endian 2)
+    ++ ((numbers 200 8 little_endian 2) ++ (numbers 216 4 little_endian 4))))))
+    (rates v ++ (segments v ++ (limits v ++ (deliveries v ++ (totals v ++ (reorderings v)))))) =
+    fit-append (numbers 104 8 little_endian 4) ((numbers 136 4 little_endian 6)
+    ++ ((numbers 160 8 little_endian 4)
+    ++ ((numbers 192 4 little_endian 2)
+    ++ ((numbers 200 8 little_endian 2) ++ (numbers 216 4 little_endian 4))))) (rates v)
+    (segments v ++ (limits v ++ (deliveries v ++ (totals v ++ (reorderings v))))) of_rates
+    from_segments in
+    let from_receiver : Fit ((numbers 92 4 little_endian 3)
+    ++ ((numbers 104 8 little_endian 4)
+    ++ ((numbers 136 4 little_endian 6)
+    ++ ((numbers 160 8 little_endian 4)
+    ++ ((numbers 192 4 little_endian 2)
+    ++ ((numbers 200 8 little_endian 2) ++ (numbers 216 4 little_endian 4)))))))
+    (receiver v ++ (rates v ++ (segments v
+    ++ (limits v ++ (deliveries v ++ (totals v ++ (reorderings v))))))) =
+    fit-append (numbers 92 4 little_endian 3) ((numbers 104 8 little_endian 4)
+    ++ ((numbers 136 4 little_endian 6)
+    ++ ((numbers 160 8 little_endian 4)
+    ++ ((numbers 192 4 little_endian 2)
+    ++ ((numbers 200 8 little_endian 2) ++ (numbers 216 4 little_endian 4))))))
+    (receiver v) (rates v ++ (segments v
+    ++ (limits v ++ (deliveries v ++ (totals v ++ (reorderings v)))))) of_receiver
+    from_rates in
+    let from_metrics : Fit ((numbers 60 4 little_endian 8)
+    ++ ((numbers 92 4 little_endian 3)
+    ++ ((numbers 104 8 little_endian 4)
+    ++ ((numbers 136 4 little_endian 6)
+    ++ ((numbers 160 8 little_endian 4)
+    ++ ((numbers 192 4 little_endian 2)
+    ++ ((numbers 200 8 little_endian 2) ++ (numbers 216 4 little_endian 4))))))))
+    (metrics v ++ (receiver v
+    ++ (rates v ++ (segments v
+    ++ (limits v ++ (deliveries v ++ (totals v ++ (reorderings v)))))))) =
+    fit-append (numbers 60 4 little_endian 8) ((numbers 92 4 little_endian 3)
+    ++ ((numbers 104 8 little_endian 4)
+    ++ ((numbers 136 4 little_endian 6)
+    ++ ((numbers 160 8 little_endian 4)
+    ++ ((numbers 192 4 little_endian 2)
+    ++ ((numbers 200 8 little_endian 2) ++ (numbers 216 4 little_endian 4)))))))
+    (metrics v) (receiver v ++ (rates v
+    ++ (segments v ++ (limits v ++ (deliveries v ++ (totals v ++ (reorderings v)))))))
+    of_metrics from_receiver in
+    let from_ages : Fit ((numbers 44 4 little_endian 4)
+    ++ ((numbers 60 4 little_endian 8)
+    ++ ((numbers 92 4 little_endian 3)
+    ++ ((numbers 104 8 little_endian 4)
+    ++ ((numbers 136 4 little_endian 6)
+    ++ ((numbers 160 8 little_endian 4)
+    ++ ((numbers 192 4 little_endian 2)
+    ++ ((numbers 200 8 little_endian 2) ++ (numbers 216 4 little_endian 4)))))))))
+    (ages v ++ (metrics v ++ (receiver v
+    ++ (rates v ++ (segments v
+    ++ (limits v ++ (deliveries v ++ (totals v ++ (reorderings v))))))))) =
+    fit-append (numbers 44 4 little_endian 4) ((numbers 60 4 little_endian 8)
+    ++ ((numbers 92 4 little_endian 3)
+    ++ ((numbers 104 8 little_endian 4)
+    ++ ((numbers 136 4 little_endian 6)
+    ++ ((numbers 160 8 little_endian 4)
+    ++ ((numbers 192 4 little_endian 2)
+    ++ ((numbers 200 8 little_endian 2) ++ (numbers 216 4 little_endian 4)))))))) (ages v)
+    (metrics v ++ (receiver v
+    ++ (rates v ++ (segments v
+    ++ (limits v ++ (deliveries v ++ (totals v ++ (reorderings v)))))))) of_ages
+    from_metrics in
+    let from_counts : Fit ((numbers 8 4 little_endian 9)
+    ++ ((numbers 44 4 little_endian 4)
+    ++ ((numbers 60 4 little_endian 8)
+    ++ ((numbers 92 4 little_endian 3)
+    ++ ((numbers 104 8 little_endian 4)
+    ++ ((numbers 136 4 little_endian 6)
+    ++ ((numbers 160 8 little_endian 4)
+    ++ ((numbers 192 4 little_endian 2)
+    ++ ((numbers 200 8 little_endian 2) ++ (numbers 216 4 little_endian 4))))))))))
+    (counts v ++ (ages v ++ (metrics v
+    ++ (receiver v ++ (rates v
+    ++ (segments v ++ (limits v ++ (deliveries v ++ (totals v ++ (reorderings v))))))))))
+    = fit-append (numbers 8 4 little_endian 9) ((numbers 44 4 little_endian 4)
+    ++ ((numbers 60 4 little_endian 8)
+    ++ ((numbers 92 4 little_endian 3)
+    ++ ((numbers 104 8 little_endian 4)
+    ++ ((numbers 136 4 little_endian 6)
+    ++ ((numbers 160 8 little_endian 4)
+    ++ ((numbers 192 4 little_endian 2)
+    ++ ((numbers 200 8 little_endian 2) ++ (numbers 216 4 little_endian 4)))))))))
+    (counts v) (ages v ++ (metrics v
+    ++ (receiver v ++ (rates v
+    ++ (segments v ++ (limits v ++ (deliveries v ++ (totals v ++ (reorderings v)))))))))
+    of_counts from_ages in
+    fit-append (bytes_at 0 8) ((numbers 8 4 little_endian 9)
+    ++ ((numbers 44 4 little_endian 4)
+    ++ ((numbers 60 4 little_endian 8)
+    ++ ((numbers 92 4 little_endian 3)
+    ++ ((numbers 104 8 little_endian 4)
+    ++ ((numbers 136 4 little_endian 6)
+    ++ ((numbers 160 8 little_endian 4)
+    ++ ((numbers 192 4 little_endian 2)
+    ++ ((numbers 200 8 little_endian 2) ++ (numbers 216 4 little_endian 4))))))))))
+    (states v) (counts v ++ (ages v
+    ++ (metrics v ++ (receiver v
+    ++ (rates v ++ (segments v
+    ++ (limits v ++ (deliveries v ++ (totals v ++ (reorderings v))))))))))
+    (fit-bytes 0 8 (states v) of_states) from_counts

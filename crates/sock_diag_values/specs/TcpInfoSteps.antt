@@ -56,7 +56,8 @@ front value = states value ++ (flat_map (little_bytes 4) (counts value)
 
 -- the bytes from 92 to 192
 abbrev pub middle : TcpInfo → List ℕ
-middle value = flat_map (little_bytes 4) (receiver value) ++ (flat_map (little_bytes 8) (rates value)
+middle value = flat_map (little_bytes 4) (receiver value)
+    ++ (flat_map (little_bytes 8) (rates value)
     ++ (flat_map (little_bytes 4) (segments value) ++ flat_map (little_bytes 8) (limits value)))
 
 -- the bytes from 192 on

@@ -1,5 +1,6 @@
 -- What was written of a reply is the one string for all that are idle with it.
-use Rattle.std.proofs.Common.{◌≡◌, ◌∙◌, ℕ, inl, inr, List, length, take, drop, refl, sym, ap, subst, arith}
+use Rattle.std.proofs.Common.{◌≡◌, ◌∙◌, ℕ, inl, inr, List, length, take, drop, refl, sym, ap, subst}
+use Rattle.std.proofs.Common.{arith}
 use Rattle.std.specs.Prelude.{◌↔◌}
 use Rattle.std.proofs.lemmas.List.{take_at}
 use Rattle.netlink_core.specs.Bytes.{IsBytes}
@@ -12,27 +13,39 @@ use Rattle.sockdiag_c.specs.Rewriting.{IsCanonical, Writes}
 
 module _ {Param : Type 0} (C : Codec Param) (laws : KeepsLaws C) where
   -- a string has one value
-  one_value : (b : List ℕ) (p : Param) (v w : C.Value) → IsBytes b → C.reads b p v → C.reads b p w → v ≡ w
-  one_value b p v w tb r s = (laws.same_value b b p v w tb tb r s).1 ((laws.same_value b b p v v tb tb r r).0 refl)
+  one_value : (b : List ℕ) (p : Param) (v w : C.Value) → IsBytes b → C.reads b p v → C.reads b p w
+      → v ≡ w
+  one_value b p v w tb r s =
+      (laws.same_value b b p v w tb tb r s).1 ((laws.same_value b b p v v tb tb r r).0 refl)
 
   -- strings with values that can be written are written alike exactly where they are idle
-  written_alike : (b c : List ℕ) (p : Param) (v w : C.Value) → IsBytes b → IsBytes c → C.reads b p v → C.reads c p w → C.fits v → C.fits w
+  written_alike : (b c : List ℕ) (p : Param) (v w : C.Value) → IsBytes b → IsBytes c → C.reads b p v
+      → C.reads c p w → C.fits v → C.fits w
       → ((C.written v ≡ C.written w) ↔ C.idle p b c)
   written_alike b c p v w tb tc r s fv fw =
       let same = laws.same_value b c p v w tb tc r s in
       let n = laws.reads_normal b p v tb r in
       let m = laws.reads_normal c p w tc s in (
-        λ e. same.0 (one_value (C.written w) p v w (laws.written_bytes w m.0) (subst (λ (x : List ℕ). C.reads x p v) e (laws.reads_back p v n.0 n.1 fv)) (laws.reads_back p w m.0 m.1 fw)),
+        λ e. same.0 (one_value (C.written w) p v w (laws.written_bytes w m.0)
+            (subst (λ (x : List ℕ). C.reads x p v) e (laws.reads_back p v n.0 n.1 fv))
+            (laws.reads_back p w m.0 m.1 fw)),
         λ i. ap C.written (same.1 i),
       )
 
 -- what was written of the value of a reply is its canonical form
-pub canonical_where_written : (R : Reply) → ReplyLaws R → (payload old new : List ℕ) (v : ValueOf R) (outcome : Outcome) (answer : ℕ) → IsBytes payload → (reply_codec R).reads payload tt v
-    → Writes ((reply_codec R).fits v) (reply_bytes R v) old new outcome answer → IsCanonical R payload new answer
+pub canonical_where_written : (R : Reply) → ReplyLaws R
+    → (payload old new : List ℕ) (v : ValueOf R) (outcome : Outcome) (answer : ℕ) → IsBytes payload
+    → (reply_codec R).reads payload tt v
+    → Writes ((reply_codec R).fits v) (reply_bytes R v) old new outcome answer
+    → IsCanonical R payload new answer
 canonical_where_written R laws payload old new v outcome answer tb r (inl h) some d w td s fw =
     let all = reply_bytes R v in
-    let front : take answer new ≡ all = ap (λ (n : ℕ). take n new) h.3 ∙ ap (take (length all)) h.4 ∙ take_at all (drop (length all) old) (length all) refl in
-    let alike = written_alike (reply_codec R) (replies_keep_laws R laws) payload d tt v w tb td r s h.0 fw in
+    let front : take answer new ≡ all = ap (λ (n : ℕ). take n new) h.3 ∙ ap (take (length all)) h.4
+    ∙ take_at all (drop (length all) old) (length all) refl in
+    let alike = written_alike (reply_codec R) (replies_keep_laws R laws) payload d tt v w tb td r s
+    h.0 fw in
     (λ e. alike.0 (sym (e ∙ front)), λ i. sym (alike.1 i) ∙ sym front)
-canonical_where_written R laws payload old new v outcome answer tb r (inr (inl h)) some d w td s fw = absurd (omega (arith, h.3.0))
-canonical_where_written R laws payload old new v outcome answer tb r (inr (inr h)) some d w td s fw = absurd (omega (arith, h.2.0))
+canonical_where_written R laws payload old new v outcome answer tb r (inr (inl h)) some d w td s
+    fw = absurd (omega (arith, h.3.0))
+canonical_where_written R laws payload old new v outcome answer tb r (inr (inr h)) some d w td s
+    fw = absurd (omega (arith, h.2.0))

@@ -1,5 +1,6 @@
 -- Steps of walks, by the place of a cursor.
-use Rattle.std.proofs.Common.{◌≡◌, ◌∙◌, ℕ, ◌+◌, ◌-◌, ◌≤◌, ◌⊎◌, inl, inr, List, [], ◌∷◌, ◌++◌, length, take, drop, refl, sym, ap, subst, arith}
+use Rattle.std.proofs.Common.{◌≡◌, ◌∙◌, ℕ, ◌+◌, ◌-◌, ◌≤◌, ◌⊎◌, inl, inr, List, [], ◌∷◌, ◌++◌}
+use Rattle.std.proofs.Common.{length, take, drop, refl, sym, ap, subst, arith}
 use Rattle.std.proofs.lemmas.List.{drop-drop, take_at}
 use Rattle.netlink_core.specs.Attribute.{Attribute, Cut, StartsWith, fill}
 use Rattle.netlink_core.specs.Datagram.{StartsWithMessage}
@@ -14,22 +15,36 @@ use Rattle.netlink_core.proofs.Walking.{StartsWith-some, head_of_start}
 use Rattle.sockdiag_c.specs.declared.walks.AttributePart.{AttributePart}
 use Rattle.sockdiag_c.specs.declared.walks.Cursor.{Cursor}
 use Rattle.sockdiag_c.specs.declared.walks.MessagePart.{MessagePart}
-use Rattle.sockdiag_c.specs.Walks.{Carries, NextAttribute, attribute_in, header_in, left_of, payload_in}
+use Rattle.sockdiag_c.specs.Walks.{Carries, NextAttribute, attribute_in, header_in, left_of}
+use Rattle.sockdiag_c.specs.Walks.{payload_in}
 
 -- the attribute at a place is the one whose value stands behind the two words there
-attribute_told : (bytes rest : List ℕ) (place : ℕ) (a : Attribute) → StartsWith (drop place bytes) a rest
-    → a ≡ attribute_in bytes (record { offset = place + 4; length = length a.value; type_word = a.type_word })
+attribute_told : (bytes rest : List ℕ) (place : ℕ) (a : Attribute)
+    → StartsWith (drop place bytes) a rest
+    → a ≡ attribute_in bytes
+    (record { offset = place + 4; length = length a.value; type_word = a.type_word })
 attribute_told bytes rest place a s =
-    let behind : drop (place + 4) bytes ≡ a.value ++ (s.padding ++ rest) = sym (drop-drop 4 place bytes) ∙ ap (drop 4) s.parts in
-    let value : take (length a.value) (drop (place + 4) bytes) ≡ a.value = ap (take (length a.value)) behind ∙ take_at a.value (s.padding ++ rest) (length a.value) refl in
+    let behind : drop (place + 4) bytes ≡ a.value ++ (s.padding ++ rest) =
+    sym (drop-drop 4 place bytes) ∙ ap (drop 4) s.parts in
+    let value : take (length a.value) (drop (place + 4) bytes) ≡ a.value =
+    ap (take (length a.value)) behind ∙ take_at a.value (s.padding ++ rest) (length a.value)
+    refl in
     λ i. record { type_word = a.type_word; value = sym value i }
 
 -- a step over an attribute, to the place behind its padding
-pub attribute_passed : (bytes rest : List ℕ) (place end : ℕ) (a : Attribute) → StartsWith (drop place bytes) a rest → end ≡ 4 + length a.value + fill (4 + length a.value)
-    → StartsWith (drop place bytes) (attribute_in bytes (record { offset = place + 4; length = length a.value; type_word = a.type_word })) (drop (place + end) bytes)
+pub attribute_passed : (bytes rest : List ℕ) (place end : ℕ) (a : Attribute)
+    → StartsWith (drop place bytes) a rest → end ≡ 4 + length a.value + fill (4 + length a.value)
+    → StartsWith (drop place bytes)
+    (attribute_in bytes (record {
+      offset = place + 4;
+      length = length a.value;
+      type_word = a.type_word;
+    })) (drop (place + end) bytes)
 attribute_passed bytes rest place end a s end-is =
-    subst (λ (x : Attribute). StartsWith (drop place bytes) x (drop (place + end) bytes)) (attribute_told bytes rest place a s)
-    (starts_with (drop place bytes) (drop (place + end) bytes) a end (head_of_start (drop place bytes) rest a s) end-is (sym (drop-drop end place bytes)))
+    subst (λ (x : Attribute). StartsWith (drop place bytes) x (drop (place + end) bytes))
+    (attribute_told bytes rest place a s)
+    (starts_with (drop place bytes) (drop (place + end) bytes) a end
+    (head_of_start (drop place bytes) rest a s) end-is (sym (drop-drop end place bytes)))
 
 -- the part of a message that its header tells, at a place
 abbrev pub part_of : ℕ → NetlinkHeader → MessagePart
@@ -43,28 +58,36 @@ part_of place h = record {
 }
 
 -- the payload behind the header
-pub payload_told : (bytes : List ℕ) (place : ℕ) (h : NetlinkHeader) → take (h.length - 16) (drop 16 (drop place bytes)) ≡ payload_in bytes (part_of place h)
+pub payload_told : (bytes : List ℕ) (place : ℕ) (h : NetlinkHeader)
+    → take (h.length - 16) (drop 16 (drop place bytes)) ≡ payload_in bytes (part_of place h)
 payload_told bytes place h = ap (take (h.length - 16)) (drop-drop 16 place bytes)
 
 -- the header that is told is the one that was read
-header_told : (bytes : List ℕ) (place : ℕ) (h : NetlinkHeader) → HasHeader bytes h → h ≡ header_in (part_of place h)
+header_told : (bytes : List ℕ) (place : ℕ) (h : NetlinkHeader) → HasHeader bytes h
+    → h ≡ header_in (part_of place h)
 header_told bytes place h head =
     let low : 16 ≤ h.length = head.2 in
     let all : h.length ≡ 16 + (h.length - 16) = omega arith in
     λ i. record h { length = all i }
 
 -- the header that is told stands at a place
-pub told_header_stands : (bytes : List ℕ) (place : ℕ) (h : NetlinkHeader) → HasHeader bytes h → HasHeader bytes (header_in (part_of place h))
-told_header_stands bytes place h head = subst (λ (k : NetlinkHeader). HasHeader bytes k) (header_told bytes place h head) head
+pub told_header_stands : (bytes : List ℕ) (place : ℕ) (h : NetlinkHeader) → HasHeader bytes h
+    → HasHeader bytes (header_in (part_of place h))
+told_header_stands bytes place h head = subst (λ (k : NetlinkHeader). HasHeader bytes k)
+    (header_told bytes place h head) head
 
 -- a step over a message, to the place behind its padding
-pub message_passed : (bytes : List ℕ) (place end : ℕ) (h : NetlinkHeader) → HasHeader (drop place bytes) h → end ≡ h.length + fill h.length
-    → StartsWithMessage (drop place bytes) (take h.length (drop place bytes)) (drop (place + end) bytes)
+pub message_passed : (bytes : List ℕ) (place end : ℕ) (h : NetlinkHeader)
+    → HasHeader (drop place bytes) h → end ≡ h.length + fill h.length
+    → StartsWithMessage (drop place bytes) (take h.length (drop place bytes))
+    (drop (place + end) bytes)
 message_passed bytes place end h head end-is =
-    starts_with_message (drop place bytes) (take h.length (drop place bytes)) (drop (place + end) bytes) h end head refl end-is (sym (drop-drop end place bytes))
+    starts_with_message (drop place bytes) (take h.length (drop place bytes))
+    (drop (place + end) bytes) h end head refl end-is (sym (drop-drop end place bytes))
 
 -- what is kept as it came is carried, and so is nothing
-pub kept_is_carried : (payload : List ℕ) (t : ℕ) → (t ≡ 1) ⊎ ((t ≡ 2) ⊎ ((t ≡ 3) ⊎ (t ≡ 4))) → Carries payload t 1
+pub kept_is_carried : (payload : List ℕ) (t : ℕ) → (t ≡ 1) ⊎ ((t ≡ 2) ⊎ ((t ≡ 3) ⊎ (t ≡ 4)))
+    → Carries payload t 1
 kept_is_carried payload t (inl one) = inl (refl, (no_payload, one))
 kept_is_carried payload t (inr (inl two)) = inl (refl, (error_with payload, (two, refl)))
 kept_is_carried payload t (inr (inr (inl three))) = inl (refl, (done_with payload, (three, refl)))
@@ -73,17 +96,25 @@ kept_is_carried payload t (inr (inr (inr four))) = inl (refl, (overrun_with payl
 -- ---- steps over bytes that are cut into attributes
 
 -- a step tells the first attribute
-pub step_at_attribute : (bytes : List ℕ) (old new : Cursor) (was now : AttributePart) (answer : ℕ) (first : Attribute) (later : List Attribute)
-    → Cut (left_of bytes old) (first ∷ later) → NextAttribute bytes old new was now answer → (answer ≡ 1) × (attribute_in bytes now ≡ first) × Cut (left_of bytes new) later
-step_at_attribute bytes old new was now answer first later h (inl ends) = absurd (StartsWith-some (left_of bytes old) h.0 first h.1 ends.1)
+pub step_at_attribute : (bytes : List ℕ) (old new : Cursor) (was now : AttributePart) (answer : ℕ)
+    (first : Attribute) (later : List Attribute)
+    → Cut (left_of bytes old) (first ∷ later) → NextAttribute bytes old new was now answer
+    → (answer ≡ 1) × (attribute_in bytes now ≡ first) × Cut (left_of bytes new) later
+step_at_attribute bytes old new was now answer first later h (inl ends) =
+    absurd (StartsWith-some (left_of bytes old) h.0 first h.1 ends.1)
 step_at_attribute bytes old new was now answer first later h (inr (inl s)) =
-    let same = one_start (left_of bytes old) h.0 (left_of bytes new) first (attribute_in bytes now) h.1 s.1 in
+    let same = one_start (left_of bytes old) h.0 (left_of bytes new) first (attribute_in bytes now)
+    h.1 s.1 in
     (s.0, sym same.0, subst (λ (b : List ℕ). Cut b later) same.1 h.2)
 step_at_attribute bytes old new was now answer first later h (inr (inr fails)) =
-    absurd (head_or_fault_apart (left_of bytes old) first fails.0 (head_of_start (left_of bytes old) h.0 first h.1) fails.1)
+    absurd (head_or_fault_apart (left_of bytes old) first fails.0
+    (head_of_start (left_of bytes old) h.0 first h.1) fails.1)
 
 -- where none is left, the walk ends
-pub step_at_end : (bytes : List ℕ) (old new : Cursor) (was now : AttributePart) (answer : ℕ) → Cut (left_of bytes old) [] → NextAttribute bytes old new was now answer → answer ≡ 0
+pub step_at_end : (bytes : List ℕ) (old new : Cursor) (was now : AttributePart) (answer : ℕ)
+    → Cut (left_of bytes old) [] → NextAttribute bytes old new was now answer → answer ≡ 0
 step_at_end bytes old new was now answer none (inl ends) = ends.0
-step_at_end bytes old new was now answer none (inr (inl s)) = absurd (StartsWith-some (left_of bytes old) (left_of bytes new) (attribute_in bytes now) s.1 none)
+step_at_end bytes old new was now answer none (inr (inl s)) =
+    absurd (StartsWith-some (left_of bytes old) (left_of bytes new) (attribute_in bytes now) s.1
+    none)
 step_at_end bytes old new was now answer none (inr (inr fails)) = absurd (fails.3 none)

@@ -4,7 +4,8 @@ use Rattle.sock_diag_records.specs.declared.inet.response.InetResponseHeader.{In
 use Rattle.sock_diag_records.specs.declared.unix.response.UnixResponseHeader.{UnixResponseHeader}
 use Rattle.sock_diag_records.specs.Timer.{class_of, expires_values, retransmits_values}
 use Rattle.sock_diag_records.specs.SocketId.{address_bytes}
-use Rattle.netlink_packet_sock_diag.specs.Message.{Message, message_of, inet_request, inet_response, unix_request, unix_response}
+use Rattle.netlink_packet_sock_diag.specs.Message.{Message, message_of, inet_request, inet_response}
+use Rattle.netlink_packet_sock_diag.specs.Message.{unix_request, unix_response}
 use Rattle.sockdiag_c.specs.declared.headers.InetHeader.{InetHeader}
 use Rattle.sockdiag_c.specs.declared.headers.Reply.{Reply}
 use Rattle.sockdiag_c.specs.declared.headers.UnixHeader.{UnixHeader}
@@ -13,8 +14,8 @@ use Rattle.sockdiag_c.specs.declared.headers.UnixHeader.{UnixHeader}
 abbrev pub unix_header_of : UnixResponseHeader → UnixHeader
 unix_header_of h = record { kind = h.kind; state = h.state; inode = h.inode; cookie = h.cookie }
 
--- each field by its name; of the timer its byte, and its count and its milliseconds or else zeros; of an address its
--- octets, and zeros behind four of them
+-- each field by its name; of the timer its byte, and its count and its milliseconds or else zeros;
+-- of an address its octets, and zeros behind four of them
 abbrev pub inet_header_of : InetResponseHeader → InetHeader
 inet_header_of h = record {
   family = h.family;
@@ -34,7 +35,8 @@ inet_header_of h = record {
   inode = h.inode;
 }
 
--- which kind of reply it is, and its header. A request is never read, and of the header of the other kind nothing is told.
+-- which kind of reply it is, and its header. A request is never read, and of the header of the
+-- other kind nothing is told.
 abbrev pub reply_of : Reply → Message → Reply
 reply_of old (message_of unix_response v) = record old { kind = 1; unix_header = unix_header_of v.header }
 reply_of old (message_of inet_response v) = record old { kind = 2; inet_header = inet_header_of v.header }

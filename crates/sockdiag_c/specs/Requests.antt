@@ -1,5 +1,6 @@
 -- The requests that C asks to be written.
-use Rattle.std.specs.Prelude.{◌≡◌, ℕ, ◌==◌, if◌then◌else◌, List, [], ◌∷◌, ◌++◌, length, drop, slice_index}
+use Rattle.std.specs.Prelude.{◌≡◌, ℕ, ◌==◌, if◌then◌else◌, List, [], ◌∷◌, ◌++◌, length, drop}
+use Rattle.std.specs.Prelude.{slice_index}
 use Rattle.std.specs.declared.net.ip_addr.IpAddr.{IpAddr}
 use Rattle.std.specs.declared.net.ip_addr.IpAddr.TheVariants.{V4, V6}
 use Rattle.std.specs.Net.Addr.{segments_of}
@@ -52,6 +53,7 @@ inet_request_of r = record {
   };
 }
 
--- The bytes stand at the front of the buffer, the rest is as it was, and the answer is how many they are.
+-- The bytes stand at the front of the buffer, the rest is as it was, and the answer is how many
+-- they are.
 abbrev pub IsWritten : List ℕ → List ℕ → List ℕ → ℕ → Type 0
 IsWritten bytes old new answer = (answer ≡ length bytes) × (new ≡ bytes ++ drop (length bytes) old)

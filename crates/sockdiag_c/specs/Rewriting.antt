@@ -14,8 +14,8 @@ outcome_of fault needed = record { fault = fault; needed = needed }
 abbrev pub StaysAsItWas : List ℕ → List ℕ → ℕ → Type 0
 StaysAsItWas old new answer = (answer ≡ 0) × (new ≡ old)
 
--- The bytes stand at the front of the buffer, and the rest is as it was; or there is no room for so many; or the value
--- can't be written.
+-- The bytes stand at the front of the buffer, and the rest is as it was; or there is no room for so
+-- many; or the value can't be written.
 abbrev pub Writes : Type 0 → List ℕ → List ℕ → List ℕ → Outcome → ℕ → Type 0
 Writes fits bytes old new outcome answer =
     (fits × (length bytes ≤ length old) × (outcome ≡ outcome_of 0 (length bytes)) × (answer ≡ length bytes) × (new ≡ bytes ++ drop (length bytes) old))
@@ -28,8 +28,8 @@ Rewrites {V} reads refuses fits bytes old new outcome answer =
     ((v : V) × reads v × Writes (fits v) (bytes v) old new outcome answer)
     ⊎ ((e : DecodeError) × refuses e × (outcome ≡ outcome_of (number_of e) 0) × StaysAsItWas old new answer)
 
--- Where something was written, it is the one string for all strings that are idle with these bytes: of the strings with a
--- value that can be written, exactly the idle ones are written so.
+-- Where something was written, it is the one string for all strings that are idle with these bytes:
+-- of the strings with a value that can be written, exactly the idle ones are written so.
 abbrev pub IsCanonical : Reply → List ℕ → List ℕ → ℕ → Type 0
 IsCanonical R payload new answer =
     0 < answer → (d : List ℕ) (w : ValueOf R) → IsBytes d → (reply_codec R).reads d tt w → (reply_codec R).fits w

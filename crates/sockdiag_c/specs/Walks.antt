@@ -20,7 +20,8 @@ left_of bytes cursor = drop cursor.place bytes
 abbrev pub EndsAt : {T : Type 0} → List ℕ → Cursor → Cursor → T → T → ℕ → Type 0
 EndsAt bytes old new was now answer = (answer ≡ 0) × (left_of bytes old ≡ []) × (new ≡ old) × (now ≡ was)
 
--- Some bytes are left, and there the fault is, of which the answer is the number. Then nothing is left, and nothing is told.
+-- Some bytes are left, and there the fault is, of which the answer is the number. Then nothing is
+-- left, and nothing is told.
 abbrev pub FailsAt : {T : Type 0} → (List ℕ → DecodeError → Type 0) → List ℕ → Cursor → Cursor → T → T → ℕ → Type 0
 FailsAt IsFault bytes old new was now answer =
     (e : DecodeError) × IsFault (left_of bytes old) e × (answer ≡ number_of e) × (left_of bytes old ≢ []) × (left_of bytes new ≡ []) × (now ≡ was)
@@ -31,8 +32,8 @@ FailsAt IsFault bytes old new was now answer =
 abbrev pub attribute_in : List ℕ → AttributePart → Attribute
 attribute_in bytes part = record { type_word = part.type_word; value = take part.length (drop part.offset bytes) }
 
--- The attribute at the front of what was left is told, its value behind the two words, and the walk passes it and its
--- padding. Or the walk ends, or fails.
+-- The attribute at the front of what was left is told, its value behind the two words, and the walk
+-- passes it and its padding. Or the walk ends, or fails.
 abbrev pub NextAttribute : List ℕ → Cursor → Cursor → AttributePart → AttributePart → ℕ → Type 0
 NextAttribute bytes old new was now answer =
     EndsAt bytes old new was now answer
@@ -55,15 +56,15 @@ header_in part = record {
 abbrev pub payload_in : List ℕ → MessagePart → List ℕ
 payload_in bytes part = take part.length (drop part.offset bytes)
 
--- Something is carried by the payload under the type, and the answer is 1. Or the payload of an inner message is refused,
--- and the answer is the number of its first fault.
+-- Something is carried by the payload under the type, and the answer is 1. Or the payload of an
+-- inner message is refused, and the answer is the number of its first fault.
 abbrev pub Carries : List ℕ → ℕ → ℕ → Type 0
 Carries payload t answer =
     ((answer ≡ 1) × ((carried : Payload Message) × PayloadIs message_codec.reads payload t carried))
     ⊎ ((e : DecodeError) × IsInnerType t × message_codec.refuses payload t e × (answer ≡ number_of e))
 
--- The message at the front of what was left is told, its payload behind the header, and what it carries; and the walk
--- passes it and its padding.
+-- The message at the front of what was left is told, its payload behind the header, and what it
+-- carries; and the walk passes it and its padding.
 abbrev pub IsTold : List ℕ → Cursor → Cursor → MessagePart → ℕ → Type 0
 IsTold bytes old new now answer =
     (message : List ℕ) × StartsWithMessage (left_of bytes old) message (left_of bytes new)

@@ -12,11 +12,13 @@ use netlink_packet_sock_diag::SockDiagView;
 use netlink_packet_sock_diag::inet::InetResponseView;
 use netlink_packet_sock_diag::unix::UnixResponseView;
 
-/// Checks the whole of a reply about a UNIX socket, the payload of its message, and tells its header. The answer is 0,
-/// or the number of the first fault, and then the header is left as it was.
+/// Checks the whole of a reply about a UNIX socket, the payload of its message, and tells its
+/// header. The answer is 0, or the number of the first fault, and then the header is left as it
+/// was.
 #[unsafe(no_mangle)]
 pub extern "C" fn sockdiag_check_unix_reply(payload: &[u8], header: &mut UnixHeader) -> u32
-    ensures { Tells ((reply_codec unix_reply).reads payload.now tt) ((reply_codec unix_reply).refuses payload.now tt)
+    ensures { Tells ((reply_codec unix_reply).reads payload.now tt)
+        ((reply_codec unix_reply).refuses payload.now tt)
         (λ v. unix_header_of v.header) header.old header.new result }
 {
     match UnixResponseView::parse(payload) {
@@ -31,7 +33,8 @@ pub extern "C" fn sockdiag_check_unix_reply(payload: &[u8], header: &mut UnixHea
 /// The same of a reply about an IPv4 or IPv6 socket.
 #[unsafe(no_mangle)]
 pub extern "C" fn sockdiag_check_inet_reply(payload: &[u8], header: &mut InetHeader) -> u32
-    ensures { Tells ((reply_codec inet_reply).reads payload.now tt) ((reply_codec inet_reply).refuses payload.now tt)
+    ensures { Tells ((reply_codec inet_reply).reads payload.now tt)
+        ((reply_codec inet_reply).refuses payload.now tt)
         (λ v. inet_header_of v.header) header.old header.new result }
 {
     match InetResponseView::parse(payload) {
@@ -43,15 +46,17 @@ pub extern "C" fn sockdiag_check_inet_reply(payload: &[u8], header: &mut InetHea
     }
 }
 
-/// Checks the whole of the payload of a message under the message's type, and tells which reply it is and its header.
-/// The answer is 0, or the number of the first fault, and then the reply is left as it was.
+/// Checks the whole of the payload of a message under the message's type, and tells which reply it
+/// is and its header. The answer is 0, or the number of the first fault, and then the reply is left
+/// as it was.
 #[unsafe(no_mangle)]
 pub extern "C" fn sockdiag_check_message(
     payload: &[u8],
     message_type: u16,
     reply: &mut Reply,
 ) -> u32
-    ensures { Tells (message_codec.reads payload.now message_type) (message_codec.refuses payload.now message_type)
+    ensures { Tells (message_codec.reads payload.now message_type)
+        (message_codec.refuses payload.now message_type)
         (reply_of reply.old) reply.old reply.new result }
 {
     match SockDiagView::parse(payload, message_type) {

@@ -1,7 +1,8 @@
 //! The headers of replies, as C sees them.
 
 ghost use Rattle.std.specs.Prelude.{◌≡◌, slice_index};
-ghost use Rattle.sock_diag_records.specs.Timer.{class_of, expires_values, milliseconds, retransmits_values};
+ghost use Rattle.sock_diag_records.specs.Timer.{class_of, expires_values, milliseconds};
+ghost use Rattle.sock_diag_records.specs.Timer.{retransmits_values};
 ghost use Rattle.sock_diag_records.specs.SocketId.{address_bytes};
 ghost use Rattle.sockdiag_c.specs.Headers.{inet_header_of, unix_header_of};
 
@@ -11,7 +12,8 @@ use netlink_packet_sock_diag::unix::UnixResponseHeader;
 use std::net::IpAddr;
 use std::time::Duration;
 
-/// The header of a reply about a UNIX socket: `struct sockdiag_unix_header` of `include/sockdiag.h`.
+/// The header of a reply about a UNIX socket: `struct sockdiag_unix_header` of
+/// `include/sockdiag.h`.
 #[repr(C)]
 #[derive(Clone, Copy)]
 pub struct UnixHeader {
@@ -25,7 +27,8 @@ pub struct UnixHeader {
     pub cookie: [u8; 8],
 }
 
-/// The header of a reply about an IPv4 or IPv6 socket: `struct sockdiag_inet_header` of `include/sockdiag.h`.
+/// The header of a reply about an IPv4 or IPv6 socket: `struct sockdiag_inet_header` of
+/// `include/sockdiag.h`.
 #[repr(C)]
 #[derive(Clone, Copy)]
 pub struct InetHeader {
@@ -53,7 +56,8 @@ pub struct InetHeader {
     pub cookie: [u8; 8],
     /// How many connections are pending on a listening socket, or how many bytes wait to be read.
     pub recv_queue: u32,
-    /// The limit of pending connections of a listening socket, or the room for what is sent, in bytes.
+    /// The limit of pending connections of a listening socket, or the room for what is sent, in
+    /// bytes.
     pub send_queue: u32,
     /// The user that the socket belongs to.
     pub uid: u32,

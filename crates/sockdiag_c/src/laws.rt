@@ -11,25 +11,33 @@ ghost use Rattle.sockdiag_c.specs.declared.walks.Cursor.{Cursor};
 ghost use Rattle.sockdiag_c.specs.declared.walks.MessagePart.{MessagePart};
 ghost use Rattle.sockdiag_c.specs.Walks.{IsTold, NextAttribute, NextMessage, attribute_in, left_of};
 
-/// Where what is left is cut into attributes, as it is behind the header of each reply that a check accepts, a step tells
-/// the first of them and leaves what the others are cut from; where no attribute is left, the walk ends.
+/// Where what is left is cut into attributes, as it is behind the header of each reply that a check
+/// accepts, a step tells the first of them and leaves what the others are cut from; where no
+/// attribute is left, the walk ends.
 pub fn a_step_tells_the_first_attribute()
-    ensures next { (bytes : List ℕ) (old new : Cursor) (was now : AttributePart) (answer : ℕ) (first : Attribute) (later : List Attribute)
+    ensures next { (bytes : List ℕ) (old new : Cursor) (was now : AttributePart) (answer : ℕ)
+        (first : Attribute) (later : List Attribute)
         → Cut (left_of bytes old) (first ∷ later) → NextAttribute bytes old new was now answer
         → (answer ≡ 1) × (attribute_in bytes now ≡ first) × Cut (left_of bytes new) later }
     ensures end { (bytes : List ℕ) (old new : Cursor) (was now : AttributePart) (answer : ℕ)
         → Cut (left_of bytes old) [] → NextAttribute bytes old new was now answer → answer ≡ 0 }
 {}
 
-/// Where what is left is cut into messages, a step tells the first of them and leaves what the others are cut from; where
-/// no message is left, the walk ends, or fails with the fault that stands there.
+/// Where what is left is cut into messages, a step tells the first of them and leaves what the
+/// others are cut from; where no message is left, the walk ends, or fails with the fault that
+/// stands there.
 pub fn a_step_tells_the_first_message()
-    ensures next { (bytes : List ℕ) (old new : Cursor) (was now : MessagePart) (answer : ℕ) (message : List ℕ) (later : List (List ℕ)) (end : Option DecodeError)
-        → IsBytes (left_of bytes old) → CutIntoMessages (left_of bytes old) (message ∷ later) end → NextMessage bytes old new was now answer
+    ensures next { (bytes : List ℕ) (old new : Cursor) (was now : MessagePart) (answer : ℕ)
+        (message : List ℕ) (later : List (List ℕ)) (end : Option DecodeError)
+        → IsBytes (left_of bytes old) → CutIntoMessages (left_of bytes old) (message ∷ later) end
+        → NextMessage bytes old new was now answer
         → IsTold bytes old new now answer × CutIntoMessages (left_of bytes new) later end }
     ensures end { (bytes : List ℕ) (old new : Cursor) (was now : MessagePart) (answer : ℕ)
-        → IsBytes (left_of bytes old) → CutIntoMessages (left_of bytes old) [] None → NextMessage bytes old new was now answer → answer ≡ 0 }
-    ensures fault { (bytes : List ℕ) (old new : Cursor) (was now : MessagePart) (answer : ℕ) (e : DecodeError)
-        → IsBytes (left_of bytes old) → CutIntoMessages (left_of bytes old) [] (Some e) → NextMessage bytes old new was now answer
+        → IsBytes (left_of bytes old) → CutIntoMessages (left_of bytes old) [] None
+        → NextMessage bytes old new was now answer → answer ≡ 0 }
+    ensures fault { (bytes : List ℕ) (old new : Cursor) (was now : MessagePart) (answer : ℕ)
+        (e : DecodeError)
+        → IsBytes (left_of bytes old) → CutIntoMessages (left_of bytes old) [] (Some e)
+        → NextMessage bytes old new was now answer
         → (answer ≡ number_of e) × (left_of bytes new ≡ []) }
 {}

@@ -7,7 +7,8 @@ ghost use Rattle.netlink_packet_sock_diag.specs.Message.{message_codec};
 ghost use Rattle.netlink_packet_sock_diag.specs.SeenMessage.{seen_message};
 ghost use Rattle.sock_diag_records.specs.InetRequest.{inet_request};
 ghost use Rattle.sock_diag_records.specs.UnixRequest.{unix_request};
-ghost use Rattle.sockdiag_c.specs.Requests.{IsWritten, address_under, header_of, inet_request_of, unix_request_of};
+ghost use Rattle.sockdiag_c.specs.Requests.{IsWritten, address_under, header_of, inet_request_of};
+ghost use Rattle.sockdiag_c.specs.Requests.{unix_request_of};
 
 use bitflags::Flags;
 use netlink_core::{NetlinkHeader, NetlinkMessage, NetlinkPayload};
@@ -18,8 +19,8 @@ use netlink_packet_sock_diag::unix::{self, ShowFlags};
 use std::mem::forget;
 use std::net::{IpAddr, Ipv4Addr, Ipv6Addr};
 
-/// What the netlink header of a request tells, but its length and its type: `struct sockdiag_request_header` of
-/// `include/sockdiag.h`.
+/// What the netlink header of a request tells, but its length and its type: `struct
+/// sockdiag_request_header` of `include/sockdiag.h`.
 #[repr(C)]
 #[derive(Clone, Copy)]
 pub struct RequestHeader {
@@ -57,7 +58,8 @@ pub struct InetRequest {
     pub family: u8,
     /// The protocol, one of `IPPROTO_..`.
     pub protocol: u8,
-    /// Which attributes the replies shall have: a set, in which the bit of a kind is that of its number less one.
+    /// Which attributes the replies shall have: a set, in which the bit of a kind is that of its
+    /// number less one.
     pub extensions: u8,
     /// Which states are asked for: a set, in which the bit of a state is that of its number.
     pub states: u32,
@@ -81,12 +83,13 @@ const UNIX_LENGTH: usize = 40;
 /// How many bytes a request for IPv4 or IPv6 sockets has, with its netlink header.
 const INET_LENGTH: usize = 72;
 
-/// Writes a request for UNIX sockets, a netlink message of 40 bytes, at the front of the buffer. It answers 40, or 0
-/// where the buffer is shorter, and then nothing is written.
+/// Writes a request for UNIX sockets, a netlink message of 40 bytes, at the front of the buffer. It
+/// answers 40, or 0 where the buffer is shorter, and then nothing is written.
 #[unsafe(no_mangle)]
 pub extern "C" fn sockdiag_write_unix_request(request: &UnixRequest, buffer: &mut [u8]) -> usize
     ensures written { 40 ≤ length buffer.old → (result ≡ 40) × (buffer.new
-        ≡ header_bytes (header_of 40 request.now.header) ++ bytes unix_request (unix_request_of request.now) ++ drop 40 buffer.old) }
+        ≡ header_bytes (header_of 40 request.now.header) ++ bytes unix_request
+        (unix_request_of request.now) ++ drop 40 buffer.old) }
     ensures short { length buffer.old < 40 → (result ≡ 0) × (buffer.new ≡ buffer.old) }
 {
     if buffer.len() < UNIX_LENGTH {
@@ -106,14 +109,18 @@ pub extern "C" fn sockdiag_write_unix_request(request: &UnixRequest, buffer: &mu
     )
 }
 
-/// Writes a request for IPv4 or IPv6 sockets, a netlink message of 72 bytes, at the front of the buffer. It answers 72,
-/// or 0 where the buffer is shorter or the family is neither `AF_INET` nor `AF_INET6`, and then nothing is written.
+/// Writes a request for IPv4 or IPv6 sockets, a netlink message of 72 bytes, at the front of the
+/// buffer. It answers 72, or 0 where the buffer is shorter or the family is neither `AF_INET` nor
+/// `AF_INET6`, and then nothing is written.
 #[unsafe(no_mangle)]
 pub extern "C" fn sockdiag_write_inet_request(request: &InetRequest, buffer: &mut [u8]) -> usize
-    ensures written { 72 ≤ length buffer.old → (request.now.family ≡ 2) ⊎ (request.now.family ≡ 10) → (result ≡ 72) × (buffer.new
-        ≡ header_bytes (header_of 72 request.now.header) ++ bytes inet_request (inet_request_of request.now) ++ drop 72 buffer.old) }
+    ensures written { 72 ≤ length buffer.old → (request.now.family ≡ 2) ⊎ (request.now.family ≡ 10)
+        → (result ≡ 72) × (buffer.new
+        ≡ header_bytes (header_of 72 request.now.header) ++ bytes inet_request
+        (inet_request_of request.now) ++ drop 72 buffer.old) }
     ensures short { length buffer.old < 72 → (result ≡ 0) × (buffer.new ≡ buffer.old) }
-    ensures family { request.now.family ≢ 2 → request.now.family ≢ 10 → (result ≡ 0) × (buffer.new ≡ buffer.old) }
+    ensures family { request.now.family ≢ 2 → request.now.family ≢ 10 → (result ≡ 0)
+        × (buffer.new ≡ buffer.old) }
 {
     let has_family = request.family == AF_INET || request.family == AF_INET6;
     if !has_family || buffer.len() < INET_LENGTH {
@@ -164,7 +171,9 @@ fn write_request(header: &RequestHeader, message: SockDiagMessage, buffer: &mut 
     requires fits { message_codec.fits (seen_message message) }
     requires small { 16 + length (message_codec.written (seen_message message)) ≤ 4294967295 }
     requires room { 16 + length (message_codec.written (seen_message message)) ≤ length buffer.old }
-    ensures { IsWritten (header_bytes (header_of (16 + length (message_codec.written (seen_message message))) header.now) ++ message_codec.written (seen_message message))
+    ensures { IsWritten (header_bytes
+        (header_of (16 + length (message_codec.written (seen_message message))) header.now)
+        ++ message_codec.written (seen_message message))
         buffer.old buffer.new result }
 {
     let header = NetlinkHeader {

@@ -21,16 +21,18 @@ pub struct Outcome {
     pub needed: usize,
 }
 
-/// Writes the canonical form of a reply about a UNIX socket, the payload of its message, at the front of the buffer. It
-/// answers how many bytes were written, or 0, and then nothing is written: the reply is refused, or it can't be written,
-/// or the buffer is shorter than is needed.
+/// Writes the canonical form of a reply about a UNIX socket, the payload of its message, at the
+/// front of the buffer. It answers how many bytes were written, or 0, and then nothing is written:
+/// the reply is refused, or it can't be written, or the buffer is shorter than is needed.
 #[unsafe(no_mangle)]
 pub extern "C" fn sockdiag_rewrite_unix_reply(
     payload: &[u8],
     buffer: &mut [u8],
     outcome: &mut Outcome,
 ) -> usize
-    ensures rewrites { Rewrites ((reply_codec unix_reply).reads payload.now tt) ((reply_codec unix_reply).refuses payload.now tt) (reply_codec unix_reply).fits (reply_bytes unix_reply)
+    ensures rewrites { Rewrites ((reply_codec unix_reply).reads payload.now tt)
+        ((reply_codec unix_reply).refuses payload.now tt) (reply_codec unix_reply).fits
+        (reply_bytes unix_reply)
         buffer.old buffer.new outcome.new result }
     ensures canonical { IsCanonical unix_reply payload.now buffer.new result }
 {
@@ -47,7 +49,9 @@ pub extern "C" fn sockdiag_rewrite_inet_reply(
     buffer: &mut [u8],
     outcome: &mut Outcome,
 ) -> usize
-    ensures rewrites { Rewrites ((reply_codec inet_reply).reads payload.now tt) ((reply_codec inet_reply).refuses payload.now tt) (reply_codec inet_reply).fits (reply_bytes inet_reply)
+    ensures rewrites { Rewrites ((reply_codec inet_reply).reads payload.now tt)
+        ((reply_codec inet_reply).refuses payload.now tt) (reply_codec inet_reply).fits
+        (reply_bytes inet_reply)
         buffer.old buffer.new outcome.new result }
     ensures canonical { IsCanonical inet_reply payload.now buffer.new result }
 {
@@ -59,7 +63,8 @@ pub extern "C" fn sockdiag_rewrite_inet_reply(
 
 // Writes the value, where it can be written and there is room for it.
 fn write_value<V: Emitable>(value: &V, buffer: &mut [u8], outcome: &mut Outcome) -> usize
-    ensures { Writes (V.writable value.now) (V.bytes value.now) buffer.old buffer.new outcome.new result }
+    ensures { Writes (V.writable value.now) (V.bytes value.now) buffer.old buffer.new outcome.new
+        result }
 {
     let Some(needed) = value.writable_len() else {
         *outcome = Outcome {

@@ -12,14 +12,16 @@ use netlink_packet_sock_diag::SockDiagView;
 /// The answer of a walk that has ended.
 const END: u32 = 0;
 
-/// The answer of a walk that tells an item. It is no fault's number here: want of memory doesn't occur.
+/// The answer of a walk that tells an item. It is no fault's number here: want of memory doesn't
+/// occur.
 const ITEM: u32 = 1;
 
 /// How far a walk is: `struct sockdiag_cursor` of `include/sockdiag.h`.
 #[repr(C)]
 #[derive(Clone, Copy)]
 pub struct Cursor {
-    /// Where the next item stands. A place at the end of the bytes or behind it says that none is left.
+    /// Where the next item stands. A place at the end of the bytes or behind it says that none is
+    /// left.
     pub place: usize,
 }
 
@@ -42,7 +44,8 @@ pub struct AttributePart {
 pub struct MessagePart {
     /// Where the payload begins.
     pub offset: usize,
-    /// How many bytes the payload has, without padding: those that the length word counts, without the header's.
+    /// How many bytes the payload has, without padding: those that the length word counts, without
+    /// the header's.
     pub length: usize,
     /// What the payload is: one of the `NLMSG_` types, or `SOCK_DIAG_BY_FAMILY` for a reply.
     pub message_type: u16,
@@ -54,9 +57,9 @@ pub struct MessagePart {
     pub port_number: u32,
 }
 
-/// Tells the attribute at the cursor's place, and moves the cursor behind it. The answer is 1; 0 where no bytes are
-/// left, and then nothing is told; or the number of the framing fault there, and then nothing is told, and nothing is
-/// left.
+/// Tells the attribute at the cursor's place, and moves the cursor behind it. The answer is 1; 0
+/// where no bytes are left, and then nothing is told; or the number of the framing fault there, and
+/// then nothing is told, and nothing is left.
 #[unsafe(no_mangle)]
 pub extern "C" fn sockdiag_next_attribute(
     bytes: &[u8],
@@ -86,10 +89,10 @@ pub extern "C" fn sockdiag_next_attribute(
     }
 }
 
-/// Tells the message at the cursor's place, and moves the cursor behind it. The answer is 1 where the message carries
-/// what its type says; 0 where no bytes are left, and then nothing is told; the number of the first fault of its
-/// payload, and then the walk may go on; or the number of the framing fault there, and then nothing is told, and
-/// nothing is left.
+/// Tells the message at the cursor's place, and moves the cursor behind it. The answer is 1 where
+/// the message carries what its type says; 0 where no bytes are left, and then nothing is told; the
+/// number of the first fault of its payload, and then the walk may go on; or the number of the
+/// framing fault there, and then nothing is told, and nothing is left.
 #[unsafe(no_mangle)]
 pub extern "C" fn sockdiag_next_message(
     datagram: &[u8],
@@ -124,7 +127,8 @@ pub extern "C" fn sockdiag_next_message(
     }
 }
 
-// Whether the payload carries what its type says: the answer is 1, or the number of the first fault.
+// Whether the payload carries what its type says: the answer is 1, or the number of the first
+// fault.
 fn check_payload(payload: &[u8], message_type: u16) -> u32
     ensures { Carries payload.now message_type result }
 {

@@ -1,4 +1,5 @@
-//! Lists the sockets that a capture of netlink traffic tells, one a line, as ss(8) does of a running system.
+//! Lists the sockets that a capture of netlink traffic tells, one a line, as ss(8) does of a
+//! running system.
 #![tactic(auto)]
 
 use sock_diag_captures::run_to_status;

@@ -9,9 +9,17 @@ use super::{InetRequest, InetResponseHeader};
 use netlink_core::Exact;
 
 impl Exact for InetRequest {
-    ghost exact = { (request_equal _ exact_socket.0, Prim.search rules, Prim.search rules depth 12) };
+    ghost exact = { (
+      request_equal _ exact_socket.0,
+      Prim.search rules,
+      Prim.search rules depth 12,
+    ) };
 }
 
 impl Exact for InetResponseHeader {
-    ghost exact = { (header_equal _ exact_socket.0 _ exact_timer.0, Prim.search rules, Prim.search rules) };
+    ghost exact = { (
+      header_equal _ exact_socket.0 _ exact_timer.0,
+      Prim.search rules,
+      Prim.search rules,
+    ) };
 }

@@ -10,8 +10,8 @@ use bitflags::{Flag, Flags};
 use netlink_core::Exact;
 use std::ops::BitOr;
 
-/// Which states are asked for, `idiag_states` of sock_diag(7): a set of eleven bits, each that of the number of its
-/// state.
+/// Which states are asked for, `idiag_states` of sock_diag(7): a set of eleven bits, each that of
+/// the number of its state.
 #[derive(Clone, Debug, Drop, PartialEq, Eq)]
 pub struct StateFlags(u32);
 
@@ -124,8 +124,8 @@ impl Flags for StateFlags {
     }
 }
 
-/// Which attributes the replies shall have, `idiag_ext` of sock_diag(7): a set of eight bits, each one below the kind
-/// of its attribute.
+/// Which attributes the replies shall have, `idiag_ext` of sock_diag(7): a set of eight bits, each
+/// one below the kind of its attribute.
 #[derive(Clone, Debug, Drop, PartialEq, Eq)]
 pub struct ExtensionFlags(u8);
 
@@ -220,7 +220,8 @@ impl Flags for ExtensionFlags {
     }
 }
 
-/// The defined bits of the flags of a request are these numbers. It is for proofs, and does nothing.
+/// The defined bits of the flags of a request are these numbers. It is for proofs, and does
+/// nothing.
 #[tactic(auto, unfolding(bitflags::proofs::OnLiterals::bitflags_on_literals))]
 pub fn flags_have_their_bits()
     ensures states { known_bits inet_states ≡ 0xffe }

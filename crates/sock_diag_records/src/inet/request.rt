@@ -11,8 +11,8 @@ use byteorder::{ByteOrder, LittleEndian};
 use netlink_core::rows::words_at;
 use netlink_core::{DecodeError, Fills, Record, RecordBuffer, RecordName};
 
-/// The request for IPv4 or IPv6 sockets: `struct inet_diag_req_v2` of sock_diag(7), 56 bytes. The byte at 3 is not
-/// read, and is written 0.
+/// The request for IPv4 or IPv6 sockets: `struct inet_diag_req_v2` of sock_diag(7), 56 bytes. The
+/// byte at 3 is not read, and is written 0.
 #[derive(Clone, Debug, Drop, PartialEq, Eq)]
 pub struct InetRequest {
     /// AF_INET or AF_INET6, `sdiag_family`, at 0.
@@ -47,8 +47,9 @@ impl Record for InetRequest {
         56
     }
 
-    /// Reads the first 56 bytes. What follows them is ignored. Fewer are [`DecodeError::BufferTooSmall`]; then a
-    /// family but AF_INET and AF_INET6 is [`DecodeError::UnsupportedFamily`].
+    /// Reads the first 56 bytes. What follows them is ignored. Fewer are
+    /// [`DecodeError::BufferTooSmall`]; then a family but AF_INET and AF_INET6 is
+    /// [`DecodeError::UnsupportedFamily`].
     #[tactic(auto, unfolding(crate::specs::InetRequest::inet_request, crate::specs::SocketId::socket_id))]
     fn from_row(payload: &[u8], _told: ()) -> Result<Self, DecodeError> {
         let family = payload[0];

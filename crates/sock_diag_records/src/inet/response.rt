@@ -9,7 +9,9 @@ ghost use Rattle.netlink_core.proofs.FormatLaws.{record_laws};
 ghost use Rattle.sock_diag_records.specs.Kinds.{Kinds};
 ghost use Rattle.sock_diag_records.specs.InetResponse.{inet_response_header};
 ghost use Rattle.sock_diag_records.specs.InetResponseInverse.{timer_of};
-ghost use Rattle.sock_diag_records.specs.Timer.{class_of_byte, class_of, milliseconds, retransmits_row, retransmits_values, expires_values};
+ghost use Rattle.sock_diag_records.specs.Timer.{class_of_byte, class_of, milliseconds};
+ghost use Rattle.sock_diag_records.specs.Timer.{retransmits_row, retransmits_values};
+ghost use Rattle.sock_diag_records.specs.Timer.{expires_values};
 ghost use Rattle.sock_diag_records.specs.InetResponseLaws.{header_sound, header_size};
 
 use super::SocketId;
@@ -18,10 +20,11 @@ use netlink_core::rows::words_at;
 use netlink_core::{DecodeError, Exact, Fills, Record, RecordBuffer, RecordName, read_record};
 use std::time::Duration;
 
-/// The timer that runs for a TCP socket, `idiag_timer` of sock_diag(7), with the time until it ends.
+/// The timer that runs for a TCP socket, `idiag_timer` of sock_diag(7), with the time until it
+/// ends.
 ///
-/// The time is read as so many milliseconds. It is written in whole milliseconds, modulo 2 to the power of 32. The
-/// number of retransmits that sock_diag(7) tells under 2 and 4 too is not kept.
+/// The time is read as so many milliseconds. It is written in whole milliseconds, modulo 2 to the
+/// power of 32. The number of retransmits that sock_diag(7) tells under 2 and 4 too is not kept.
 #[derive(Clone, Debug, Drop, PartialEq, Eq)]
 pub enum Timer {
     /// 1: a segment will be sent again. With how often it was, `idiag_retrans`.
@@ -34,23 +37,25 @@ pub enum Timer {
     Probe(Duration),
 }
 
-/// The header of a reply about an IPv4 or IPv6 socket: `struct inet_diag_msg` of sock_diag(7), 72 bytes.
+/// The header of a reply about an IPv4 or IPv6 socket: `struct inet_diag_msg` of sock_diag(7), 72
+/// bytes.
 #[derive(Clone, Debug, Drop, PartialEq, Eq)]
 pub struct InetResponseHeader {
     /// AF_INET or AF_INET6, `idiag_family`, at 0.
     pub family: u8,
     /// The state, one of `TCP_ESTABLISHED` to `TCP_CLOSING`, `idiag_state`, at 1.
     pub state: u8,
-    /// The timer: `idiag_timer` at 2, `idiag_retrans` at 3 and `idiag_expires` at 52, low byte first. Any byte but
-    /// 1, 2, 3 and 4 is no timer, which is written 0, as are the places that a timer doesn't keep.
+    /// The timer: `idiag_timer` at 2, `idiag_retrans` at 3 and `idiag_expires` at 52, low byte
+    /// first. Any byte but 1, 2, 3 and 4 is no timer, which is written 0, as are the places that a
+    /// timer doesn't keep.
     pub timer: Option<Timer>,
     /// The socket, `id`, at 4, its addresses of the family's kind.
     pub socket_id: SocketId,
-    /// How many connections are pending on a listening socket, or how many bytes wait to be read, `idiag_rqueue`,
-    /// at 56, low byte first.
+    /// How many connections are pending on a listening socket, or how many bytes wait to be read,
+    /// `idiag_rqueue`, at 56, low byte first.
     pub recv_queue: u32,
-    /// The limit of pending connections of a listening socket, or the room for what is sent, in bytes,
-    /// `idiag_wqueue`, at 60, low byte first.
+    /// The limit of pending connections of a listening socket, or the room for what is sent, in
+    /// bytes, `idiag_wqueue`, at 60, low byte first.
     pub send_queue: u32,
     /// The user that the socket belongs to, `idiag_uid`, at 64, low byte first.
     pub uid: u32,
@@ -58,7 +63,8 @@ pub struct InetResponseHeader {
     pub inode: u32,
 }
 
-/// The bytes of an [`InetResponseHeader`], in the order that they came, those too that no reader looks at.
+/// The bytes of an [`InetResponseHeader`], in the order that they came, those too that no reader
+/// looks at.
 pub type InetResponseBuffer = RecordBuffer<InetResponseHeader, 72>;
 
 impl Exact for Timer {
@@ -82,8 +88,9 @@ impl Record for InetResponseHeader {
         72
     }
 
-    /// Reads the first 72 bytes. What follows them is ignored. Fewer are [`DecodeError::BufferTooSmall`]; then a
-    /// family but AF_INET and AF_INET6 is [`DecodeError::UnsupportedFamily`].
+    /// Reads the first 72 bytes. What follows them is ignored. Fewer are
+    /// [`DecodeError::BufferTooSmall`]; then a family but AF_INET and AF_INET6 is
+    /// [`DecodeError::UnsupportedFamily`].
     #[tactic(auto, unfolding(crate::specs::InetResponse::inet_response_header, crate::specs::SocketId::socket_id))]
     #[inline(always)]
     fn from_row(payload: &[u8], _told: ()) -> Result<Self, DecodeError> {

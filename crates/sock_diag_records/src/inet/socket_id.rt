@@ -10,7 +10,8 @@ ghost use Rattle.netlink_core.specs.Format.{read};
 ghost use Rattle.netlink_core.proofs.FormatLaws.{record_laws};
 ghost use Rattle.std.specs.Prelude.{ℕ, slice_index, ◌<◌};
 ghost use Rattle.netlink_core.specs.Table.{Fit};
-ghost use Rattle.sock_diag_records.specs.SocketId.{IsAddress, address_rows, address_values, socket_id, address_bytes};
+ghost use Rattle.sock_diag_records.specs.SocketId.{IsAddress, address_rows, address_values};
+ghost use Rattle.sock_diag_records.specs.SocketId.{socket_id, address_bytes};
 ghost use Rattle.sock_diag_records.specs.Kinds.{kind_of, Kinds};
 ghost use Rattle.sock_diag_records.specs.SocketIdLaws.{socket_id_sound, socket_id_size};
 
@@ -24,8 +25,8 @@ use std::net::{IpAddr, Ipv4Addr, Ipv6Addr};
 
 /// The identity of an IPv4 or IPv6 socket: `struct inet_diag_sockid` of sock_diag(7), 48 bytes.
 ///
-/// The family isn't among them, so the reader is told it: AF_INET (2) or AF_INET6 (10). The writer goes by the
-/// addresses.
+/// The family isn't among them, so the reader is told it: AF_INET (2) or AF_INET6 (10). The writer
+/// goes by the addresses.
 #[derive(Clone, Debug, Drop, PartialEq, Eq)]
 pub struct SocketId {
     /// The port of this end, `idiag_sport`, at 0, high byte first.
@@ -38,8 +39,8 @@ pub struct SocketId {
     pub destination_address: IpAddr,
     /// The number of the interface that the socket is bound to, `idiag_if`, at 36, low byte first.
     pub interface_id: u32,
-    /// What tells the socket from others with its addresses and ports, `idiag_cookie`, at 40. Eight bytes 0xff
-    /// are INET_DIAG_NOCOOKIE.
+    /// What tells the socket from others with its addresses and ports, `idiag_cookie`, at 40. Eight
+    /// bytes 0xff are INET_DIAG_NOCOOKIE.
     pub cookie: [u8; 8],
 }
 
@@ -47,7 +48,14 @@ impl SocketId {
     /// The identity of zeros alone, with IPv4 addresses.
     pub fn new_v4() -> Self
         ensures { let none : IpAddr = V4 record { octets = replicate 4 0 } in result
-            ≡ record { source_port = 0; destination_port = 0; source_address = none; destination_address = none; interface_id = 0; cookie = replicate 8 0 } }
+            ≡ record {
+              source_port = 0;
+              destination_port = 0;
+              source_address = none;
+              destination_address = none;
+              interface_id = 0;
+              cookie = replicate 8 0;
+            } }
     {
         SocketId {
             source_port: 0,
@@ -62,7 +70,14 @@ impl SocketId {
     /// The identity of zeros alone, with IPv6 addresses.
     pub fn new_v6() -> Self
         ensures { let none : IpAddr = V6 record { segments = replicate 8 0 } in result
-            ≡ record { source_port = 0; destination_port = 0; source_address = none; destination_address = none; interface_id = 0; cookie = replicate 8 0 } }
+            ≡ record {
+              source_port = 0;
+              destination_port = 0;
+              source_address = none;
+              destination_address = none;
+              interface_id = 0;
+              cookie = replicate 8 0;
+            } }
     {
         SocketId {
             source_port: 0,
@@ -189,9 +204,9 @@ impl Record for SocketId {
 }
 
 impl SocketId {
-    /// Reads the first 48 bytes under the family, and takes no memory. What follows them is ignored. Fewer are
-    /// [`DecodeError::BufferTooSmall`]; then a family but AF_INET and AF_INET6 is
-    /// [`DecodeError::UnsupportedFamily`].
+    /// Reads the first 48 bytes under the family, and takes no memory. What follows them is
+    /// ignored. Fewer are [`DecodeError::BufferTooSmall`]; then a family but AF_INET and AF_INET6
+    /// is [`DecodeError::UnsupportedFamily`].
     #[inline(always)]
     pub fn from_prefix(payload: &[u8], family: u8) -> Result<Self, DecodeError>
         ensures value { result ≡ read socket_id family payload.now }
@@ -208,7 +223,8 @@ impl Fills<48> for SocketId {
 // The parts of an address are within their types, wherever it stands.
 fn address_typed(address: IpAddr)
     ensures shaped { IsAddress address }
-    ensures fit { (place : ℕ) → Fit (address_rows place (kind_of address)) (address_values address) }
+    ensures fit { (place : ℕ)
+        → Fit (address_rows place (kind_of address)) (address_values address) }
 {
     match address {
         IpAddr::V4(ip) => bytes_typed(&ip.octets()),

@@ -10,8 +10,8 @@ use bitflags::{Flag, Flags};
 use netlink_core::Exact;
 use std::ops::BitOr;
 
-/// Which states are asked for, `udiag_states` of sock_diag(7): a set of two bits, each that of the number of its
-/// state. A reader drops all others.
+/// Which states are asked for, `udiag_states` of sock_diag(7): a set of two bits, each that of the
+/// number of its state. A reader drops all others.
 #[derive(Clone, Debug, Drop, PartialEq, Eq)]
 pub struct StateFlags(u32);
 
@@ -70,8 +70,8 @@ impl Flags for StateFlags {
     }
 }
 
-/// Which attributes the replies shall have, `udiag_show` of sock_diag(7): a set of six bits, each that of the kind of
-/// its attribute.
+/// Which attributes the replies shall have, `udiag_show` of sock_diag(7): a set of six bits, each
+/// that of the kind of its attribute.
 #[derive(Clone, Debug, Drop, PartialEq, Eq)]
 pub struct ShowFlags(u32);
 
@@ -154,7 +154,8 @@ impl Flags for ShowFlags {
     }
 }
 
-/// The defined bits of the flags of a request are these numbers. It is for proofs, and does nothing.
+/// The defined bits of the flags of a request are these numbers. It is for proofs, and does
+/// nothing.
 #[tactic(auto, unfolding(bitflags::proofs::OnLiterals::bitflags_on_literals))]
 pub fn flags_have_their_bits()
     ensures states { known_bits unix_states ≡ 0x402 }

@@ -13,16 +13,17 @@ use byteorder::{ByteOrder, LittleEndian};
 use netlink_core::rows::{array_at, words_at};
 use netlink_core::{DecodeError, Exact, Fills, Record, RecordBuffer, RecordName, bytes_typed};
 
-/// The request for UNIX sockets: `struct unix_diag_req` of sock_diag(7), 24 bytes, numbers low byte first. The
-/// bytes at 0 to 3 are not read, and are written AF_UNIX (1), 0, 0, 0.
+/// The request for UNIX sockets: `struct unix_diag_req` of sock_diag(7), 24 bytes, numbers low byte
+/// first. The bytes at 0 to 3 are not read, and are written AF_UNIX (1), 0, 0, 0.
 #[derive(Clone, Debug, Drop, PartialEq, Eq)]
 pub struct UnixRequest {
-    /// Which states are asked for, `udiag_states`, at 4. It is ignored where a single socket is asked for. The
-    /// reader takes undefined bits off.
+    /// Which states are asked for, `udiag_states`, at 4. It is ignored where a single socket is
+    /// asked for. The reader takes undefined bits off.
     pub state_flags: StateFlags,
     /// The inode of a single socket, `udiag_ino`, at 8. It is ignored where a list is asked for.
     pub inode: u32,
-    /// Which attributes the replies shall have, `udiag_show`, at 12. The reader takes undefined bits off.
+    /// Which attributes the replies shall have, `udiag_show`, at 12. The reader takes undefined
+    /// bits off.
     pub show_flags: ShowFlags,
     /// What tells a single socket from others of its inode, `udiag_cookie`, at 16.
     pub cookie: [u8; 8],
@@ -48,7 +49,8 @@ impl Record for UnixRequest {
         24
     }
 
-    /// Reads the first 24 bytes. What follows them is ignored, and fewer are [`DecodeError::BufferTooSmall`].
+    /// Reads the first 24 bytes. What follows them is ignored, and fewer are
+    /// [`DecodeError::BufferTooSmall`].
     fn from_row(payload: &[u8], _told: ()) -> Result<Self, DecodeError> {
         let [state_flags, inode, show_flags] = words_at::<3>(payload, 4);
         Ok(UnixRequest {

@@ -14,13 +14,14 @@ use netlink_core::{
     DecodeError, Exact, Fills, Record, RecordBuffer, RecordName, bytes_typed, read_record,
 };
 
-/// The header of a reply about a UNIX socket: `struct unix_diag_msg` of sock_diag(7), 16 bytes. The bytes at 0 and 3
-/// are not read, and are written AF_UNIX (1) and 0.
+/// The header of a reply about a UNIX socket: `struct unix_diag_msg` of sock_diag(7), 16 bytes. The
+/// bytes at 0 and 3 are not read, and are written AF_UNIX (1) and 0.
 #[derive(Clone, Debug, Drop, PartialEq, Eq)]
 pub struct UnixResponseHeader {
     /// The type of the socket, one of `SOCK_..`, `udiag_type`, at 1.
     pub kind: u8,
-    /// The state, `TCP_ESTABLISHED`, `TCP_LISTEN`, or 7 of a socket without a peer, `udiag_state`, at 2.
+    /// The state, `TCP_ESTABLISHED`, `TCP_LISTEN`, or 7 of a socket without a peer, `udiag_state`,
+    /// at 2.
     pub state: u8,
     /// The inode of the socket, `udiag_ino`, at 4, low byte first.
     pub inode: u32,
@@ -28,7 +29,8 @@ pub struct UnixResponseHeader {
     pub cookie: [u8; 8],
 }
 
-/// The bytes of a [`UnixResponseHeader`], in the order that they came, those too that no reader looks at.
+/// The bytes of a [`UnixResponseHeader`], in the order that they came, those too that no reader
+/// looks at.
 pub type UnixResponseBuffer = RecordBuffer<UnixResponseHeader, 16>;
 
 impl Exact for UnixResponseHeader {
@@ -48,7 +50,8 @@ impl Record for UnixResponseHeader {
         16
     }
 
-    /// Reads the first 16 bytes. What follows them is ignored, and fewer are [`DecodeError::BufferTooSmall`].
+    /// Reads the first 16 bytes. What follows them is ignored, and fewer are
+    /// [`DecodeError::BufferTooSmall`].
     fn from_row(payload: &[u8], _told: ()) -> Result<Self, DecodeError> {
         let [inode] = words_at::<1>(payload, 4);
         Ok(UnixResponseHeader {

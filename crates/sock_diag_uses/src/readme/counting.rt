@@ -6,8 +6,8 @@ use netlink_core::DecodeError;
 use netlink_packet_sock_diag::constants::TCP_LISTEN;
 use netlink_packet_sock_diag::{DumpViews, PayloadView, SockDiagView};
 
-/// How many replies of a datagram are about UNIX sockets that listen, or `None` where the kernel says that its dump
-/// failed or that data was lost. No memory is taken.
+/// How many replies of a datagram are about UNIX sockets that listen, or `None` where the kernel
+/// says that its dump failed or that data was lost. No memory is taken.
 pub fn listening(datagram: &[u8]) -> Result<Option<usize>, DecodeError>
     ensures { IsCounted datagram.now result }
 {

@@ -10,7 +10,8 @@ use netlink_packet_sock_diag::unix::nlas::NameView;
 
 /// The path that a UNIX socket is bound to, where the payload of a message of this type tells one.
 pub fn path<'a>(payload: &'a [u8], message_type: u16) -> Result<Option<&'a [u8]>, DecodeError>
-    ensures value { IfOk result (λ path. (m : Message) × message_codec.reads payload.entry.now message_type m
+    ensures value { IfOk result (λ path. (m : Message)
+        × message_codec.reads payload.entry.now message_type m
         × (path_bytes path ≡ path_of m)) }
     ensures fault { IfErr result (message_codec.refuses payload.entry.now message_type) }
 {

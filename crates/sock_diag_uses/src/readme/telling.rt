@@ -14,8 +14,15 @@ use std::alloc::{AllocError, Global};
 
 /// The reply about a stream socket that listens at a path.
 pub fn listener(alloc: Global, inode: u32, path: &[u8]) -> Result<UnixResponse, AllocError>
-    ensures header { IfOk result (λ reply. reply.header ≡ record { kind = 1; state = 10; inode = inode; cookie = replicate 8 0 }) }
-    ensures name { IfOk result (λ reply. (seen_response reply).nlas ≡ said unix 0 (pathname path.now) ∷ []) }
+    ensures header { IfOk result
+        (λ reply. reply.header ≡ record {
+          kind = 1;
+          state = 10;
+          inode = inode;
+          cookie = replicate 8 0;
+        }) }
+    ensures name { IfOk result
+        (λ reply. (seen_response reply).nlas ≡ said unix 0 (pathname path.now) ∷ []) }
 {
     let mut nlas = SmallVec::new(alloc);
     let name = UnixDiagName::Pathname(Vec::from_slice(alloc, path)?);

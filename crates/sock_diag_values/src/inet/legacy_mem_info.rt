@@ -10,9 +10,9 @@ use byteorder::{ByteOrder, LittleEndian};
 use netlink_core::rows::words_at;
 use netlink_core::{DecodeError, Exact, Fills, Record, RecordBuffer, RecordName, read_record};
 
-/// The memory of a socket, as the attribute `INET_DIAG_MEMINFO` tells it: `struct inet_diag_meminfo` of
-/// sock_diag(7). It is 16 bytes, each word a `u32`, low byte first. Newer kernels tell of memory by
-/// [`MemInfo`](super::MemInfo).
+/// The memory of a socket, as the attribute `INET_DIAG_MEMINFO` tells it: `struct
+/// inet_diag_meminfo` of sock_diag(7). It is 16 bytes, each word a `u32`, low byte first. Newer
+/// kernels tell of memory by [`MemInfo`](super::MemInfo).
 #[derive(Clone, Debug, Drop, PartialEq, Eq)]
 pub struct LegacyMemInfo {
     /// The data in the receive queue, `idiag_rmem`, at 0, in bytes.
@@ -76,7 +76,8 @@ impl Record for LegacyMemInfo {
         } = *self;
     }
 
-    ghost laws = { record_laws legacy_mem_info (plain_sound refl (λ _. refl) (λ _. refl) (λ _. tt) (λ _ _. refl)) };
+    ghost laws = { record_laws legacy_mem_info (plain_sound refl (λ _. refl) (λ _. refl) (λ _. tt)
+        (λ _ _. refl)) };
 }
 
 impl Fills<16> for LegacyMemInfo {
@@ -84,7 +85,8 @@ impl Fills<16> for LegacyMemInfo {
 }
 
 impl LegacyMemInfo {
-    /// Reads the first 16 bytes. What follows them is ignored, and fewer are [`DecodeError::BufferTooSmall`].
+    /// Reads the first 16 bytes. What follows them is ignored, and fewer are
+    /// [`DecodeError::BufferTooSmall`].
     pub fn parse(payload: &[u8]) -> Result<Self, DecodeError>
         ensures { result ≡ read legacy_mem_info tt payload.now }
     {

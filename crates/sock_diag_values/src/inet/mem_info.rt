@@ -1,42 +1,48 @@
 //! What INET_DIAG_SKMEMINFO tells: the memory of a socket.
 
-ghost use Rattle.std.specs.Prelude.{ℕ, [], ◌≡◌, ◌≤◌, ◌+◌, ◌↔◌, ◌<◌, ◌^◌, length, take, drop, SomeIff, IfSome, IsSome};
+ghost use Rattle.std.specs.Prelude.{ℕ, [], ◌≡◌, ◌≤◌, ◌+◌, ◌↔◌, ◌<◌, ◌^◌, length, take, drop};
+ghost use Rattle.std.specs.Prelude.{SomeIff, IfSome, IsSome};
 ghost use Rattle.std.proofs.Common.{rules};
 ghost use Rattle.netlink_core.specs.Format.{read, bytes};
 ghost use Rattle.netlink_core.proofs.FormatLaws.{record_laws};
 ghost use Rattle.netlink_core.specs.Table.{Fit, numbers, little_endian};
-ghost use Rattle.sock_diag_values.specs.MemInfo.{words_before, words_in, mem_info, held_bytes, buffer_bytes};
+ghost use Rattle.sock_diag_values.specs.MemInfo.{words_before, words_in, mem_info, held_bytes};
+ghost use Rattle.sock_diag_values.specs.MemInfo.{buffer_bytes};
 ghost use Rattle.sock_diag_values.specs.MemInfoLaws.{mem_info_sound};
-ghost use Rattle.sock_diag_values.specs.MemInfoEqualLaws.{buffer_equal, bytes_equal, mem_info_equal};
+ghost use Rattle.sock_diag_values.specs.MemInfoEqualLaws.{buffer_equal, bytes_equal};
+ghost use Rattle.sock_diag_values.specs.MemInfoEqualLaws.{mem_info_equal};
 ghost use Rattle.byteorder.specs.Endian.{little_number};
 
 use byteorder::{ByteOrder, LittleEndian};
 use netlink_core::rows::words_at;
 use netlink_core::{DecodeError, Exact, Record, RecordName, read_record, word_typed};
 
-/// The memory of a socket, as the attribute `INET_DIAG_SKMEMINFO` tells it: the nine words `SK_MEMINFO_..` of
-/// `linux/sock_diag.h`. It is 36 bytes, each word a `u32`, low byte first. Older kernels tell seven words, 28 bytes, or
-/// eight, 32 bytes.
+/// The memory of a socket, as the attribute `INET_DIAG_SKMEMINFO` tells it: the nine words
+/// `SK_MEMINFO_..` of `linux/sock_diag.h`. It is 36 bytes, each word a `u32`, low byte first. Older
+/// kernels tell seven words, 28 bytes, or eight, 32 bytes.
 #[derive(Clone, Debug, Drop, PartialEq, Eq)]
 pub struct MemInfo {
     /// The memory that the receive queue takes now, `SK_MEMINFO_RMEM_ALLOC`, at 0, in bytes.
     pub receive_queue: u32,
     /// The most that the receive queue may take, `SK_MEMINFO_RCVBUF`, at 4, in bytes.
     pub receive_queue_max: u32,
-    /// The memory of packets that were handed down the network stack, `SK_MEMINFO_WMEM_ALLOC`, at 8, in bytes.
+    /// The memory of packets that were handed down the network stack, `SK_MEMINFO_WMEM_ALLOC`, at
+    /// 8, in bytes.
     pub bottom_send_queues: u32,
     /// The most that the send queue may take, `SK_MEMINFO_SNDBUF`, at 12, in bytes.
     pub send_queue_max: u32,
     /// The memory that the socket holds and does not use, `SK_MEMINFO_FWD_ALLOC`, at 16, in bytes.
     pub cache: u32,
-    /// The memory that the send queue takes now, `SK_MEMINFO_WMEM_QUEUED`, at 20, in bytes. What was handed down the
-    /// network stack is not in it.
+    /// The memory that the send queue takes now, `SK_MEMINFO_WMEM_QUEUED`, at 20, in bytes. What
+    /// was handed down the network stack is not in it.
     pub send_queue: u32,
     /// The memory of the socket's options, `SK_MEMINFO_OPTMEM`, at 24, in bytes.
     pub options: u32,
-    /// The memory of packets that wait while the socket is locked, `SK_MEMINFO_BACKLOG`, at 28, in bytes.
+    /// The memory of packets that wait while the socket is locked, `SK_MEMINFO_BACKLOG`, at 28, in
+    /// bytes.
     pub backlog_queue_length: Option<u32>,
-    /// How many packets were dropped, `SK_MEMINFO_DROPS`, at 32. It is written behind a backlog, 0 where that is absent.
+    /// How many packets were dropped, `SK_MEMINFO_DROPS`, at 32. It is written behind a backlog, 0
+    /// where that is absent.
     pub drops: Option<u32>,
 }
 
@@ -164,8 +170,8 @@ impl MemInfo {
         let _options = self.options;
     }
 
-    /// Reads the first 36 bytes, or the first 32 or 28 where there are no more. What follows them is ignored, and fewer
-    /// are [`DecodeError::BufferTooSmall`].
+    /// Reads the first 36 bytes, or the first 32 or 28 where there are no more. What follows them
+    /// is ignored, and fewer are [`DecodeError::BufferTooSmall`].
     pub fn parse(payload: &[u8]) -> Result<Self, DecodeError>
         ensures { result ≡ read mem_info tt payload.now }
     {
@@ -177,7 +183,9 @@ impl MemInfoBuffer {
     /// The first 36 bytes, or the first 32 or 28 where there are no more.
     pub fn read_prefix(payload: &[u8]) -> Option<Self>
         ensures enough { IsSome result ↔ 28 ≤ length payload.now }
-        ensures bytes { IfSome result (λ buffer. buffer_bytes buffer ≡ take (mem_info.size (words_in (length payload.now))) payload.now) }
+        ensures bytes { IfSome result
+            (λ buffer. buffer_bytes buffer ≡ take (mem_info.size (words_in (length payload.now)))
+            payload.now) }
     {
         let bytes = if let Some(bytes) = payload.first_chunk() {
             MemInfoBytes::Nine(*bytes)
@@ -226,7 +234,8 @@ impl MemInfoBytes {
 // The word at the place, where the bytes have it whole.
 fn word_at(payload: &[u8], place: usize) -> Option<u32>
     requires { place + 4 < 2 ^ 64 }
-    ensures { SomeIff result (place + 4 ≤ length payload.now) (little_number 4 (drop place payload.now)) }
+    ensures { SomeIff result (place + 4 ≤ length payload.now)
+        (little_number 4 (drop place payload.now)) }
 {
     Some(LittleEndian::read_u32(payload.get(place..place + 4)?))
 }

@@ -5,7 +5,9 @@ ghost use Rattle.std.proofs.Common.{rules};
 ghost use Rattle.netlink_core.specs.Format.{read};
 ghost use Rattle.netlink_core.proofs.FormatLaws.{record_laws};
 ghost use Rattle.sock_diag_values.specs.TcpInfo.{tcp_info};
-ghost use Rattle.sock_diag_values.specs.TcpInfoSteps.{states, counts, ages, metrics, receiver, rates, segments, limits, deliveries, totals, reorderings, front, middle, back};
+ghost use Rattle.sock_diag_values.specs.TcpInfoSteps.{states, counts, ages, metrics, receiver};
+ghost use Rattle.sock_diag_values.specs.TcpInfoSteps.{rates, segments, limits, deliveries, totals};
+ghost use Rattle.sock_diag_values.specs.TcpInfoSteps.{reorderings, front, middle, back};
 ghost use Rattle.sock_diag_values.specs.TcpInfoEqualLaws.{tcp_info_equal};
 ghost use Rattle.sock_diag_values.specs.TcpInfoLaws.{tcp_info_sound};
 
@@ -16,8 +18,8 @@ use netlink_core::{
 };
 use std::alloc::AllocError;
 
-/// A TCP connection, as the attribute `INET_DIAG_INFO` tells it: `struct tcp_info` of `linux/tcp.h`, 232 bytes,
-/// numbers of 8, 32 and 64 bits, low byte first.
+/// A TCP connection, as the attribute `INET_DIAG_INFO` tells it: `struct tcp_info` of
+/// `linux/tcp.h`, 232 bytes, numbers of 8, 32 and 64 bits, low byte first.
 #[derive(Debug, Drop, PartialEq, Eq)]
 pub struct TcpInfo {
     /// The state of the connection, one of `TCP_ESTABLISHED` to `TCP_CLOSING`, `tcpi_state`, at 0.
@@ -277,7 +279,8 @@ impl Fills<232> for TcpInfo {
 }
 
 impl TcpInfo {
-    /// Reads the first 232 bytes. What follows them is ignored, and fewer are [`DecodeError::BufferTooSmall`].
+    /// Reads the first 232 bytes. What follows them is ignored, and fewer are
+    /// [`DecodeError::BufferTooSmall`].
     #[inline(always)]
     pub fn parse(payload: &[u8]) -> Result<Self, DecodeError>
         ensures { result ≡ read tcp_info tt payload.now }

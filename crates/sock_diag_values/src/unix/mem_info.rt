@@ -10,19 +10,21 @@ use byteorder::{ByteOrder, LittleEndian};
 use netlink_core::rows::words_at;
 use netlink_core::{DecodeError, Exact, Fills, Record, RecordBuffer, RecordName, read_record};
 
-/// The memory of a UNIX socket, as the attribute `UNIX_DIAG_MEMINFO` tells it: the nine words `SK_MEMINFO_..` of
-/// `linux/sock_diag.h`, 36 bytes, each a `u32`, low byte first.
+/// The memory of a UNIX socket, as the attribute `UNIX_DIAG_MEMINFO` tells it: the nine words
+/// `SK_MEMINFO_..` of `linux/sock_diag.h`, 36 bytes, each a `u32`, low byte first.
 ///
-/// A UNIX socket puts what it sends straight into the queue of its peer, so three of the words say something. The
-/// others, at 0, 8, 16, 24, 28 and 32, are not read, and are written 0.
+/// A UNIX socket puts what it sends straight into the queue of its peer, so three of the words say
+/// something. The others, at 0, 8, 16, 24, 28 and 32, are not read, and are written 0.
 #[derive(Clone, Copy, Debug, PartialEq, Eq)]
 pub struct MemInfo {
-    /// The size of the receive buffer, `SK_MEMINFO_RCVBUF`, at 4, in bytes. It has no effect on a UNIX socket.
+    /// The size of the receive buffer, `SK_MEMINFO_RCVBUF`, at 4, in bytes. It has no effect on a
+    /// UNIX socket.
     pub so_rcvbuf: u32,
     /// The limit on a datagram that is sent, `SK_MEMINFO_SNDBUF`, at 12, in bytes.
     pub max_datagram_size: u32,
-    /// The memory of what is queued to be sent, `SK_MEMINFO_WMEM_QUEUED`, at 20, in bytes. Linux counts what a UNIX
-    /// socket sent and its peer has not yet read in the word at 8, and this one is 0.
+    /// The memory of what is queued to be sent, `SK_MEMINFO_WMEM_QUEUED`, at 20, in bytes. Linux
+    /// counts what a UNIX socket sent and its peer has not yet read in the word at 8, and this one
+    /// is 0.
     pub alloc: u32,
 }
 
@@ -78,7 +80,8 @@ impl Record for MemInfo {
         } = *self;
     }
 
-    ghost laws = { record_laws unix_mem_info (plain_sound refl (λ _. refl) (λ _. refl) (λ _. tt) (λ _ _. refl)) };
+    ghost laws = { record_laws unix_mem_info (plain_sound refl (λ _. refl) (λ _. refl) (λ _. tt)
+        (λ _ _. refl)) };
 }
 
 impl Fills<36> for MemInfo {
@@ -86,7 +89,8 @@ impl Fills<36> for MemInfo {
 }
 
 impl MemInfo {
-    /// Reads the first 36 bytes. What follows them is ignored, and fewer are [`DecodeError::BufferTooSmall`].
+    /// Reads the first 36 bytes. What follows them is ignored, and fewer are
+    /// [`DecodeError::BufferTooSmall`].
     pub fn parse(payload: &[u8]) -> Result<Self, DecodeError>
         ensures { result ≡ read unix_mem_info tt payload.now }
     {

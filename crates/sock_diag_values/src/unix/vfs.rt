@@ -10,8 +10,9 @@ use byteorder::{ByteOrder, LittleEndian};
 use netlink_core::rows::words_at;
 use netlink_core::{DecodeError, Exact, Fills, Record, RecordBuffer, RecordName, read_record};
 
-/// The file that a UNIX socket is bound to, as the attribute `UNIX_DIAG_VFS` tells it: `struct unix_diag_vfs` of
-/// sock_diag(7). It is 8 bytes: the inode at 0 and the device at 4, each a `u32`, low byte first.
+/// The file that a UNIX socket is bound to, as the attribute `UNIX_DIAG_VFS` tells it: `struct
+/// unix_diag_vfs` of sock_diag(7). It is 8 bytes: the inode at 0 and the device at 4, each a `u32`,
+/// low byte first.
 #[derive(Clone, Debug, Drop, PartialEq, Eq)]
 pub struct Vfs {
     /// The inode, `udiag_vfs_ino`, at 0.
@@ -53,7 +54,8 @@ impl Record for Vfs {
         let (_inode, _device) = (self.inode, self.device);
     }
 
-    ghost laws = { record_laws vfs (plain_sound refl (λ _. refl) (λ _. refl) (λ _. tt) (λ _ _. refl)) };
+    ghost laws = { record_laws vfs (plain_sound refl (λ _. refl) (λ _. refl) (λ _. tt)
+        (λ _ _. refl)) };
 }
 
 impl Fills<8> for Vfs {
@@ -61,7 +63,8 @@ impl Fills<8> for Vfs {
 }
 
 impl Vfs {
-    /// Reads the first 8 bytes. What follows them is ignored, and fewer are [`DecodeError::BufferTooSmall`].
+    /// Reads the first 8 bytes. What follows them is ignored, and fewer are
+    /// [`DecodeError::BufferTooSmall`].
     pub fn parse(payload: &[u8]) -> Result<Self, DecodeError>
         ensures { result ≡ read vfs tt payload.now }
     {

@@ -12,8 +12,13 @@ returns-then-is_empty g c =
     let bytes = c.read_request.new.bytes.items in
     let zero = eqb-true (vec_len line) 0 (sym c.is_empty.ensures ∙ c.if-is_empty.true) in
     let none : line.items ≡ [] = nil_from_length line.items (omega (arith, zero, line.ok)) in
-    IfOk-weaker c.read_request.result (λ asked. g.A.LineAnswers.asks end asked bytes) (λ asked. g.A.LineAnswers.asks (line.items ++ end) asked bytes × (answers ≡ answers))
-    (λ asked is_read. (subst (λ (l : List ℕ). g.A.LineAnswers.asks l asked bytes) (ap (λ l. l ++ end) (sym none)) is_read, refl))
+    IfOk-weaker c.read_request.result (λ asked. g.A.LineAnswers.asks end asked bytes)
+    (λ asked. g.A.LineAnswers.asks (line.items ++ end) asked bytes × (answers ≡ answers))
+    (λ asked is_read. (
+      subst (λ (l : List ℕ). g.A.LineAnswers.asks l asked bytes)
+          (ap (λ l. l ++ end) (sym none)) is_read,
+      refl,
+    ))
     c.read_request.ensures
 
 pub returns : goal.returns
@@ -22,7 +27,13 @@ returns g c =
     let end = c.args.end.now in
     let answers = c.args.kept.now.answers.items in
     let bytes = c.read_request-2.new.bytes.items in
-    let whole : c.as_slice.result.now ≡ line ++ end = c.as_slice.ensures.value ∙ c.in_ok-extend_from_slice.ensures.items in
-    IfOk-weaker c.read_request-2.result (λ asked. g.A.LineAnswers.asks c.as_slice.result.now asked bytes) (λ asked. g.A.LineAnswers.asks (line ++ end) asked bytes × (answers ≡ answers))
-    (λ asked is_read. (subst (λ (l : List ℕ). g.A.LineAnswers.asks l asked bytes) whole is_read, refl))
+    let whole : c.as_slice.result.now ≡ line ++ end = c.as_slice.ensures.value
+    ∙ c.in_ok-extend_from_slice.ensures.items in
+    IfOk-weaker c.read_request-2.result
+    (λ asked. g.A.LineAnswers.asks c.as_slice.result.now asked bytes)
+    (λ asked. g.A.LineAnswers.asks (line ++ end) asked bytes × (answers ≡ answers))
+    (λ asked is_read. (
+      subst (λ (l : List ℕ). g.A.LineAnswers.asks l asked bytes) whole is_read,
+      refl,
+    ))
     c.read_request-2.ensures

@@ -4,7 +4,8 @@ use Rattle.line_server.proofs.stream.send.Given as goal
 
 -- what was written so far, before the rest
 abbrev pub invariant-writes : goal.invariant-writes
-invariant-writes g l = (front : List ℕ) × (l.fn.bytes ≡ front ++ l.rest) × Appends (g.W.AnswerWrite.held l.fn.output) (g.W.AnswerWrite.held l.output) front
+invariant-writes g l = (front : List ℕ) × (l.fn.bytes ≡ front ++ l.rest)
+    × Appends (g.W.AnswerWrite.held l.fn.output) (g.W.AnswerWrite.held l.output) front
 
 abbrev pub decreases-writes : goal.decreases-writes
 decreases-writes g l = length l.rest

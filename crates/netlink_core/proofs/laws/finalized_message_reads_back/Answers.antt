@@ -5,4 +5,5 @@ pub returns : goal.returns
 returns g c = λ type_of v typed fits own.
     let laws = g.met.I.Coded in
     reads_back_exactly g.I.Coded.codec type_of v typed.0 own
-    (inner_law g.I.Coded.codec.is_typed g.I.Coded.codec.fits _ (laws.reads_back_exactly v.header.message_type) v.payload typed.1 fits.0)
+    (inner_law g.I.Coded.codec.is_typed g.I.Coded.codec.fits _
+    (laws.reads_back_exactly v.header.message_type) v.payload typed.1 fits.0)

@@ -4,11 +4,14 @@ use Rattle.std.specs.List.{flat_map}
 use Rattle.netlink_core.specs.Attribute.{AreWritable, written}
 use Rattle.netlink_core.proofs.nla.emit_nlas.Given as goal
 
--- what was written and what is left make the whole, and behind what was written the buffer is as it was
+-- what was written and what is left make the whole, and behind what was written the buffer is as it
+-- was
 abbrev pub invariant-loop-nla : goal.invariant-loop-nla
 invariant-loop-nla g l = record {
   fits : AreWritable (map g.T.Nla.attribute (drop l.nla-index l.nlas)) 4294967295;
-  len : l.at + length (flat_map written (map g.T.Nla.attribute (drop l.nla-index l.nlas))) ≡ length (flat_map written (map g.T.Nla.attribute l.nlas));
-  done : take l.at l.buffer ++ flat_map written (map g.T.Nla.attribute (drop l.nla-index l.nlas)) ≡ flat_map written (map g.T.Nla.attribute l.nlas);
+  len : l.at + length (flat_map written (map g.T.Nla.attribute (drop l.nla-index l.nlas)))
+      ≡ length (flat_map written (map g.T.Nla.attribute l.nlas));
+  done : take l.at l.buffer ++ flat_map written (map g.T.Nla.attribute (drop l.nla-index l.nlas))
+      ≡ flat_map written (map g.T.Nla.attribute l.nlas);
   left : drop l.at l.buffer ≡ drop l.at l.fn.buffer;
 }

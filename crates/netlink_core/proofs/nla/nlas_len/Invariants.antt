@@ -8,5 +8,6 @@ use Rattle.netlink_core.proofs.nla.nlas_len.Given as goal
 abbrev pub invariant-loop-nla : goal.invariant-loop-nla
 invariant-loop-nla g l = record {
   fits : AreWritable (map g.T.Nla.attribute (drop l.nla-index l.nlas)) 4294967295;
-  same : l.len + length (flat_map written (map g.T.Nla.attribute (drop l.nla-index l.nlas))) ≡ length (flat_map written (map g.T.Nla.attribute l.nlas));
+  same : l.len + length (flat_map written (map g.T.Nla.attribute (drop l.nla-index l.nlas)))
+      ≡ length (flat_map written (map g.T.Nla.attribute l.nlas));
 }

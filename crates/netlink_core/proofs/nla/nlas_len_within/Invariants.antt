@@ -8,6 +8,8 @@ use Rattle.netlink_core.proofs.nla.nlas_len_within.Given as goal
 abbrev pub invariant-loop-nla : goal.invariant-loop-nla
 invariant-loop-nla g l = record {
   room : l.room ≤ l.limit;
-  same : AreWritable (map g.T.Nla.attribute (drop l.nla-index l.nlas)) l.room ↔ AreWritable (map g.T.Nla.attribute l.nlas) l.limit;
-  len : l.limit + length (flat_map written (map g.T.Nla.attribute (drop l.nla-index l.nlas))) ≡ l.room + length (flat_map written (map g.T.Nla.attribute l.nlas));
+  same : AreWritable (map g.T.Nla.attribute (drop l.nla-index l.nlas)) l.room
+      ↔ AreWritable (map g.T.Nla.attribute l.nlas) l.limit;
+  len : l.limit + length (flat_map written (map g.T.Nla.attribute (drop l.nla-index l.nlas)))
+      ≡ l.room + length (flat_map written (map g.T.Nla.attribute l.nlas));
 }

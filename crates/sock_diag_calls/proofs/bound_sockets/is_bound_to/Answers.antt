@@ -12,7 +12,9 @@ one_name : (x y : SocketName) → Some x ≡ Some y → x ≡ y
 one_name x y e = cc
 
 -- a name that may be there is that path where it is there and says the same
-says_path : (name : Option NameView) (path : Bor (List ℕ)) → IsTrue (option_eq name_views.eq name (Some (Pathname path))) ↔ (option_map viewed_name name ≡ Some (pathname path.now))
+says_path : (name : Option NameView) (path : Bor (List ℕ))
+    → IsTrue (option_eq name_views.eq name (Some (Pathname path)))
+    ↔ (option_map viewed_name name ≡ Some (pathname path.now))
 says_path None path = (λ wrong. absurd cc, λ wrong. absurd cc)
 says_path (Some name) path =
     let same = name_views_equal name (Pathname path) in

@@ -7,5 +7,6 @@ use Rattle.sock_diag_calls.proofs.framing.count_attributes.Given as goal
 abbrev pub invariant-loop-item : goal.invariant-loop-item
 invariant-loop-item l = record {
   counted : Counted l.bytes (bytes_left l.item-iterator) l.count;
-  room : l.count + goal.iterator-loop-item.remaining l.item-iterator ≤ goal.iterator-loop-item.remaining l.initial.item-iterator;
+  room : l.count + goal.iterator-loop-item.remaining l.item-iterator
+      ≤ goal.iterator-loop-item.remaining l.initial.item-iterator;
 }

@@ -4,4 +4,5 @@ use Rattle.sock_diag_captures.proofs.cells.push_escaped.Given as goal
 
 -- what was added and what is left to be added make the whole
 abbrev pub invariant-loop-byte : goal.invariant-loop-byte
-invariant-loop-byte l = l.text.items ++ flat_map escaped (drop l.byte-index l.bytes) ≡ l.fn.text.items ++ flat_map escaped l.bytes
+invariant-loop-byte l = l.text.items ++ flat_map escaped (drop l.byte-index l.bytes)
+    ≡ l.fn.text.items ++ flat_map escaped l.bytes

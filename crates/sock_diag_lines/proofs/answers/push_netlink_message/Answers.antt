@@ -7,8 +7,16 @@ use Rattle.sock_diag_lines.proofs.answers.push_netlink_message.Goals as goal
 
 pub returns-in-Ok : goal.returns-in-Ok
 returns-in-Ok c =
-    on_ok_weaker c.push_shown.result (λ a. (a.0, a.1, tells_same _ _ _ _ (envelope_of seen_message c.in-Ok.message) a.0 c.in-Ok.ensures.value a.2)) c.push_shown.ensures
+    on_ok_weaker c.push_shown.result
+    (λ a. (
+      a.0,
+      a.1,
+      tells_same _ _ _ _ (envelope_of seen_message c.in-Ok.message) a.0
+          c.in-Ok.ensures.value a.2,
+    )) c.push_shown.ensures
 
 pub returns-in-Err : goal.returns-in-Err
 returns-in-Err c =
-    on_ok_weaker c.push_refused.result (λ e. (_, e.1, inr (inr (c.in-Err.fault, c.in-Err.ensures.fault e.0, refl)))) c.push_refused.ensures
+    on_ok_weaker c.push_refused.result
+    (λ e. (_, e.1, inr (inr (c.in-Err.fault, c.in-Err.ensures.fault e.0, refl))))
+    c.push_refused.ensures

@@ -8,4 +8,5 @@ returns-then-branch c =
     let line = c.args.line.now in
     let space = c.in-Some.space in
     let field = rw (c.if-branch.true, take_rest line (space + 1)) at c.in_ok-read_field.ensures in
-    request_at line space c.in-Some-find_name.name c.read_field.new.bytes.items c.in-Some.ensures.place c.in-Some-find_name.ensures field
+    request_at line space c.in-Some-find_name.name c.read_field.new.bytes.items
+    c.in-Some.ensures.place c.in-Some-find_name.ensures field

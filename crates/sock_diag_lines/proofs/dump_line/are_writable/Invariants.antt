@@ -6,4 +6,6 @@ use Rattle.sock_diag_lines.proofs.dump_line.are_writable.Given as goal
 
 -- all can be written exactly where those that are left can
 abbrev pub invariant-loop-message : goal.invariant-loop-message
-invariant-loop-message l = AllByRecursion message_codec.fits (map seen_message (drop l.message-index l.messages)) ↔ AllByRecursion message_codec.fits (map seen_message l.messages)
+invariant-loop-message l =
+    AllByRecursion message_codec.fits (map seen_message (drop l.message-index l.messages))
+    ↔ AllByRecursion message_codec.fits (map seen_message l.messages)

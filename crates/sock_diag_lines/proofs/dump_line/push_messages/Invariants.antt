@@ -9,5 +9,6 @@ use Rattle.sock_diag_lines.proofs.dump_line.push_messages.Given as goal
 abbrev pub invariant-loop-message : goal.invariant-loop-message
 invariant-loop-message l = record {
   fits : AllByRecursion message_codec.fits (map seen_message (drop l.message-index l.messages));
-  all : l.text.items ++ flat_map shown_message (map seen_message (drop l.message-index l.messages)) ≡ l.fn.text.items ++ flat_map shown_message (map seen_message l.messages);
+  all : l.text.items ++ flat_map shown_message (map seen_message (drop l.message-index l.messages))
+      ≡ l.fn.text.items ++ flat_map shown_message (map seen_message l.messages);
 }

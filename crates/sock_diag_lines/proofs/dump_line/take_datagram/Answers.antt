@@ -7,19 +7,26 @@ pub returns-in-Ok : goal.returns-in-Ok
 returns-in-Ok c = λ datagrams read.
     let old = c.args.dump.now in
     let new = c.feed.new.self in
-    let t = took datagrams c.args.datagram.now (λ i. omega (arith, c.type_inv.datagram i)) (kept_messages old.reader) (kept_messages new) old.reader.state new.state old.fault read.is read.faultless c.in-Ok.ensures in
+    let t = took datagrams c.args.datagram.now (λ i. omega (arith, c.type_inv.datagram i))
+    (kept_messages old.reader) (kept_messages new) old.reader.state new.state old.fault read.is
+    read.faultless c.in-Ok.ensures in
     record { is = t.0; faultless = t.1 }
 
 pub returns-in-Err-Ended : goal.returns-in-Err-Ended
 returns-in-Err-Ended c = λ datagrams read.
     let old = c.args.dump.now in
     let new = c.feed.new.self in
-    let t = left_as_it_was datagrams c.args.datagram.now (λ i. omega (arith, c.type_inv.datagram i)) (kept_messages old.reader) (kept_messages new) old.reader.state new.state old.fault read.is read.faultless (rw c.in-Err-Ended.field-0-is at c.in-Err-Ended.ensures) in
+    let t = left_as_it_was datagrams c.args.datagram.now (λ i. omega (arith, c.type_inv.datagram i))
+    (kept_messages old.reader) (kept_messages new) old.reader.state new.state old.fault read.is
+    read.faultless (rw c.in-Err-Ended.field-0-is at c.in-Err-Ended.ensures) in
     record { is = t.0; faultless = t.1 }
 
 pub returns-in_default : goal.returns-in_default
 returns-in_default c = λ datagrams read.
     let old = c.args.dump.now in
     let new = c.feed.new.self in
-    let t = failed_at datagrams c.args.datagram.now (λ i. omega (arith, c.type_inv.datagram i)) (kept_messages old.reader) (kept_messages new) old.reader.state new.state old.fault read.is read.faultless c.in-Err-Fault.fault c.in_default.not-Memory (rw c.in-Err-Fault.field-0-is at c.in-Err-Fault.ensures) in
+    let t = failed_at datagrams c.args.datagram.now (λ i. omega (arith, c.type_inv.datagram i))
+    (kept_messages old.reader) (kept_messages new) old.reader.state new.state old.fault read.is
+    read.faultless c.in-Err-Fault.fault c.in_default.not-Memory
+    (rw c.in-Err-Fault.field-0-is at c.in-Err-Fault.ensures) in
     record { is = t.0; faultless = t.1 }

@@ -1,4 +1,5 @@
-use Rattle.std.proofs.Common.{◌≡◌, ℕ, Bool, true, false, List, length, Option, Some, None, inl, inr, refl, sym, ap, ◌∙◌, arith}
+use Rattle.std.proofs.Common.{◌≡◌, ℕ, Bool, true, false, List, length, Option, Some, None, inl, inr}
+use Rattle.std.proofs.Common.{refl, sym, ap, ◌∙◌, arith}
 use Rattle.std.specs.List.{position, position_or_len}
 use Rattle.std.proofs.lemmas.Bool.{cases_lt, cond-true, lt-ltb}
 use Rattle.std.proofs.lemmas.List.Quantifiers.{position-Some}
@@ -10,11 +11,14 @@ apart : (b : Bool) → b ≡ true → b ≡ false → ⊥
 apart b t f = let e : true ≡ false = sym t ∙ f in absurd (cc e)
 
 -- the first place where a test passes is the position
-first_place : (p : ℕ → Bool) (xs : List ℕ) (found r : Option ℕ) → position p xs ≡ found → IsFirstByte p xs r → r ≡ found
+first_place : (p : ℕ → Bool) (xs : List ℕ) (found r : Option ℕ) → position p xs ≡ found
+    → IsFirstByte p xs r → r ≡ found
 first_place p xs None None e h = refl
 first_place p xs None (Some k) e h =
     elim (cases_lt (position_or_len p xs) (length xs)) [
-      | inl below ↦ let some : Some (position_or_len p xs) ≡ None = sym (cond-true _ _ _ (lt-ltb (position_or_len p xs) (length xs) below)) ∙ e in absurd (cc some)
+      | inl below ↦ let some : Some (position_or_len p xs) ≡ None =
+          sym (cond-true _ _ _ (lt-ltb (position_or_len p xs) (length xs) below)) ∙ e in
+          absurd (cc some)
       | inr past ↦ absurd (apart _ h.1 (fails_before_first p xs k 0 (omega (arith, h.0.high))))
     ]
 first_place p xs (Some j) None e h =
@@ -31,4 +35,6 @@ first_place p xs (Some j) (Some k) e h =
     ]
 
 pub returns-clause-place : goal.returns-clause-place
-returns-clause-place c = first_place (is_byte 32) c.args.line.now (position (is_byte 32) c.args.line.now) c.memchr.result refl c.memchr.ensures
+returns-clause-place c =
+    first_place (is_byte 32) c.args.line.now (position (is_byte 32) c.args.line.now) c.memchr.result
+    refl c.memchr.ensures

@@ -3,4 +3,5 @@ use Rattle.sock_diag_lines.proofs.AnswerLemmas.{no_field}
 use Rattle.sock_diag_lines.proofs.fields.read_field.Goals as goal
 
 pub returns-then-is_empty : goal.returns-then-is_empty
-returns-then-is_empty c = λ content h. no_field c.args.field.now content (sym c.is_empty.ensures ∙ c.if-is_empty.true) h
+returns-then-is_empty c = λ content h. no_field c.args.field.now content (sym c.is_empty.ensures
+    ∙ c.if-is_empty.true) h

@@ -8,7 +8,9 @@ pub serve-requires : goal.serve-requires
 serve-requires g c = record { start = (refl, refl, tt); right = answer_of-is }
 
 pub returns-clause-complete : goal.returns-clause-complete
-returns-clause-complete g c = run_complete_on_ok IsAnswerOf answer_of one_function _ _ _ _ c.serve.result c.serve.ensures.ended c.serve.ensures.answered
+returns-clause-complete g c = run_complete_on_ok IsAnswerOf answer_of one_function _ _ _ _
+    c.serve.result c.serve.ensures.ended c.serve.ensures.answered
 
 pub returns-clause-answered : goal.returns-clause-answered
-returns-clause-answered g c = λ f right. run_answered answer_of f _ _ _ _ c.serve.result (one_function f right) c.serve.ensures.answered
+returns-clause-answered g c = λ f right. run_answered answer_of f _ _ _ _ c.serve.result
+    (one_function f right) c.serve.ensures.answered

@@ -2,4 +2,8 @@ use Rattle.sock_diag_lines.proofs.AnswerLemmas.{answer_of}
 use Rattle.sock_diag_lines.proofs.stream.run.Given as goal
 
 abbrev pub ghosts-serve : goal.ghosts-serve
-ghosts-serve g a = record { remaining = g.R.Read.remaining a.input.now; contents = g.W.Write.contents a.output.now; answer = answer_of }
+ghosts-serve g a = record {
+  remaining = g.R.Read.remaining a.input.now;
+  contents = g.W.Write.contents a.output.now;
+  answer = answer_of;
+}

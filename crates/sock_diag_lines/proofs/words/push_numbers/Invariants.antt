@@ -5,4 +5,5 @@ use Rattle.sock_diag_lines.proofs.words.push_numbers.Given as goal
 
 -- the numbers before this place were added
 abbrev pub invariant-rest : goal.invariant-rest
-invariant-rest l = l.text.items ≡ l.fn.text.items ++ comma_list (take l.index (viewed_numbers l.numbers))
+invariant-rest l = l.text.items ≡ l.fn.text.items
+    ++ comma_list (take l.index (viewed_numbers l.numbers))

@@ -4,15 +4,26 @@ use Rattle.std.proofs.lemmas.List.{take_rest}
 use Rattle.std.proofs.lemmas.Result.{err_from_is_err_and}
 use Rattle.netlink_core.specs.Walk.{attribute_of}
 use Rattle.sock_diag_uses.specs.Link.{told_by, name_told, mtu_told, nothing_told, name_in, mtu_in}
-use Rattle.netlink_core.proofs.Walking.{walk_begins, walk_ends, walk_goes_on, walk_is_cut_off, walk_is_refused}
-use Rattle.sock_diag_uses.proofs.LinkTells.{frame_named, last_told, later_name, name_here, none_told, number_named, refuses_mtu, refuses_name, tells_mtu, tells_name, tells_nothing}
+use Rattle.netlink_core.proofs.Walking.{walk_begins, walk_ends, walk_goes_on, walk_is_cut_off}
+use Rattle.netlink_core.proofs.Walking.{walk_is_refused}
+use Rattle.sock_diag_uses.proofs.LinkTells.{frame_named, last_told, later_name, name_here}
+use Rattle.sock_diag_uses.proofs.LinkTells.{none_told, number_named, refuses_mtu, refuses_name}
+use Rattle.sock_diag_uses.proofs.LinkTells.{tells_mtu, tells_name, tells_nothing}
 use Rattle.sock_diag_uses.proofs.link.parse_link.Goals as goal
 
 pub loop-item-init : goal.loop-item-init
 loop-item-init c = record {
   told = [];
-  walk = rw (c.into_iter-item-iterator.ensures.into_iter_gives, c.new-item-items.ensures, take_rest c.args.payload.now 16) (walk_begins told_by _);
-  later = rw (c.into_iter-item-iterator.ensures.into_iter_gives, c.new-item-items.ensures, take_rest c.args.payload.now 16) (λ w. w);
+  walk = rw (
+    c.into_iter-item-iterator.ensures.into_iter_gives,
+    c.new-item-items.ensures,
+    take_rest c.args.payload.now 16,
+  ) (walk_begins told_by _);
+  later = rw (
+    c.into_iter-item-iterator.ensures.into_iter_gives,
+    c.new-item-items.ensures,
+    take_rest c.args.payload.now 16,
+  ) (λ w. w);
   name = refl;
   mtu = refl;
 }
@@ -22,19 +33,27 @@ returns-in_err-attribute-clause-fault c =
     let stop = rw c.in_err-attribute.was at c.in-Some.ensures.steps in
     let p = err_from_is_err_and c.from_residual.result c.from_residual.ensures.1 in
     let inv = c.loop-item.invariant in
-    rw (p.1, p.2) (c.if-payload-lt-HEADER.false, λ _. walk_is_cut_off told_by _ _ inv.told _ inv.walk stop.0 stop.1, λ memory. absurd (frame_named _ _ stop.1 memory))
+    rw (p.1, p.2) (
+      c.if-payload-lt-HEADER.false,
+      λ _. walk_is_cut_off told_by _ _ inv.told _
+          inv.walk stop.0 stop.1,
+      λ memory. absurd (frame_named _ _ stop.1 memory),
+    )
 
-pub returns-in_err-parse_string-in-3-clause-fault : goal.returns-in_err-parse_string-in-3-clause-fault
+pub returns-in_err-parse_string-in-3-clause-fault :
+    goal.returns-in_err-parse_string-in-3-clause-fault
 returns-in_err-parse_string-in-3-clause-fault c =
     let inv = c.loop-item.invariant in
     let a = attribute_of c.in_ok-attribute.attribute in
     let start = rw c.in_ok-attribute.was at c.in-Some.ensures.steps in
     let fault = rw c.value.ensures at c.in_err-parse_string-in-3.ensures.fault in
     let wanted = rw c.value.ensures at c.in_err-parse_string-in-3.ensures.memory in
-    let p = err_from_is_err_and c.from_residual-in_err-parse_string-in-3.result c.from_residual-in_err-parse_string-in-3.ensures.1 in
+    let p = err_from_is_err_and c.from_residual-in_err-parse_string-in-3.result
+    c.from_residual-in_err-parse_string-in-3.ensures.1 in
     rw (p.1, p.2) (
       c.if-payload-lt-HEADER.false,
-      λ named. walk_is_refused told_by _ _ _ inv.told a _ inv.walk start (refuses_name a _ (sym c.kind.ensures ∙ c.in-3.is) (fault named)),
+      λ named. walk_is_refused told_by _ _ _ inv.told a _ inv.walk start
+          (refuses_name a _ (sym c.kind.ensures ∙ c.in-3.is) (fault named)),
       λ memory. inv.later (name_here _ _ a start (sym c.kind.ensures ∙ c.in-3.is) (wanted memory)),
     )
 
@@ -44,7 +63,8 @@ loop-item-preserved-in_ok-parse_string-in-3 c =
     let a = attribute_of c.in_ok-attribute.attribute in
     let start = rw c.in_ok-attribute.was at c.in-Some.ensures.steps in
     let name = string_bytes c.in_ok-parse_string-in-3.field-0 in
-    let tells = tells_name a name (sym c.kind.ensures ∙ c.in-3.is) (rw c.value.ensures at c.in_ok-parse_string-in-3.ensures.value) in
+    let tells = tells_name a name (sym c.kind.ensures ∙ c.in-3.is)
+    (rw c.value.ensures at c.in_ok-parse_string-in-3.ensures.value) in
     record {
       told = inv.told ++ name_told name ∷ [];
       walk = walk_goes_on told_by _ _ _ inv.told a (name_told name) inv.walk start tells;
@@ -53,13 +73,15 @@ loop-item-preserved-in_ok-parse_string-in-3 c =
       mtu = inv.mtu ∙ sym (none_told mtu_in inv.told (name_told name) refl);
     }
 
-pub loop-item-preserved-in_ok-parse_string-in-3-2 : goal.loop-item-preserved-in_ok-parse_string-in-3-2
+pub loop-item-preserved-in_ok-parse_string-in-3-2 :
+    goal.loop-item-preserved-in_ok-parse_string-in-3-2
 loop-item-preserved-in_ok-parse_string-in-3-2 c =
     let inv = c.loop-item.invariant in
     let a = attribute_of c.in_ok-attribute.attribute in
     let start = rw c.in_ok-attribute.was at c.in-Some.ensures.steps in
     let name = string_bytes c.in_ok-parse_string-in-3.field-0 in
-    let tells = tells_name a name (sym c.kind.ensures ∙ c.in-3.is) (rw c.value.ensures at c.in_ok-parse_string-in-3.ensures.value) in
+    let tells = tells_name a name (sym c.kind.ensures ∙ c.in-3.is)
+    (rw c.value.ensures at c.in_ok-parse_string-in-3.ensures.value) in
     record {
       told = inv.told ++ name_told name ∷ [];
       walk = walk_goes_on told_by _ _ _ inv.told a (name_told name) inv.walk start tells;
@@ -74,10 +96,12 @@ returns-in_err-parse_u32-in-4-clause-fault c =
     let a = attribute_of c.in_ok-attribute.attribute in
     let start = rw c.in_ok-attribute.was at c.in-Some.ensures.steps in
     let fault = rw c.value-in-4.ensures at c.in_err-parse_u32-in-4.ensures in
-    let p = err_from_is_err_and c.from_residual-in_err-parse_u32-in-4.result c.from_residual-in_err-parse_u32-in-4.ensures.1 in
+    let p = err_from_is_err_and c.from_residual-in_err-parse_u32-in-4.result
+    c.from_residual-in_err-parse_u32-in-4.ensures.1 in
     rw (p.1, p.2) (
       c.if-payload-lt-HEADER.false,
-      λ _. walk_is_refused told_by _ _ _ inv.told a _ inv.walk start (refuses_mtu a _ (sym c.kind.ensures ∙ c.in-4.is) (sym fault)),
+      λ _. walk_is_refused told_by _ _ _ inv.told a _ inv.walk start
+          (refuses_mtu a _ (sym c.kind.ensures ∙ c.in-4.is) (sym fault)),
       λ memory. absurd (number_named _ _ (sym fault) memory),
     )
 
@@ -104,7 +128,8 @@ loop-item-preserved c =
     let start = rw c.in_ok-attribute.was at c.in-Some.ensures.steps in
     let no_name : c.kind.result ≢ 3 = search rules in
     let no_mtu : c.kind.result ≢ 4 = search rules in
-    let tells = tells_nothing a (λ is. no_name (c.kind.ensures ∙ is)) (λ is. no_mtu (c.kind.ensures ∙ is)) in
+    let tells = tells_nothing a (λ is. no_name (c.kind.ensures ∙ is))
+    (λ is. no_mtu (c.kind.ensures ∙ is)) in
     record {
       told = inv.told ++ nothing_told ∷ [];
       walk = walk_goes_on told_by _ _ _ inv.told a nothing_told inv.walk start tells;
@@ -115,5 +140,11 @@ loop-item-preserved c =
 
 pub returns-clause-value : goal.returns-clause-value
 returns-clause-value c =
-    let inv = c.loop-item.invariant in
-    (inv.told, c.if-payload-lt-HEADER.false, walk_ends told_by _ _ inv.told inv.walk c.in-None.ensures.steps.0, inv.name, inv.mtu)
+    let inv = c.loop-item.invariant in (
+      inv.told,
+      c.if-payload-lt-HEADER.false,
+      walk_ends told_by _ _ inv.told inv.walk
+          c.in-None.ensures.steps.0,
+      inv.name,
+      inv.mtu,
+    )

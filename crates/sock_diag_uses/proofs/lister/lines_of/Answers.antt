@@ -8,13 +8,24 @@ use Rattle.sock_diag_uses.proofs.lister.lines_of.Goals as goal
 
 pub loop-item-preserved-in-Continue-1 : goal.loop-item-preserved-in-Continue-1
 loop-item-preserved-in-Continue-1 c =
-    let added = one_more line_of (map viewed_item c.loop-item.yielded) (viewed_item c.in-Some.item) c.in-Some-line_for.line (sym c.in-Some-line_for.ensures) in
-    rw map_push (c.in_ok-push.ensures.items ∙ ap (λ (lines : List _). lines ++ c.in-Some-line_for.line ∷ []) c.loop-item.invariant ∙ sym added)
+    let added = one_more line_of (map viewed_item c.loop-item.yielded) (viewed_item c.in-Some.item)
+    c.in-Some-line_for.line (sym c.in-Some-line_for.ensures) in
+    rw map_push (c.in_ok-push.ensures.items
+    ∙ ap (λ (lines : List _). lines ++ c.in-Some-line_for.line ∷ []) c.loop-item.invariant
+    ∙ sym added)
 
 pub loop-item-preserved : goal.loop-item-preserved
-loop-item-preserved c = rw map_push (c.loop-item.invariant ∙ sym (none_more line_of (map viewed_item c.loop-item.yielded) (viewed_item c.in-Some.item) (sym c.in_default.ensures)))
+loop-item-preserved c = rw map_push (c.loop-item.invariant
+    ∙ sym (none_more line_of (map viewed_item c.loop-item.yielded) (viewed_item c.in-Some.item)
+    (sym c.in_default.ensures)))
 
 pub returns : goal.returns
 returns c =
-    let all = rw c.into_iter-item-iterator.ensures.into_iter_gives at c.loop-item.yielded_by in
-    (c.loop-item.yielded, (c.next.new.self, (c.loop-item.item-iterator, all, c.in-None.ensures.steps)), c.loop-item.invariant)
+    let all = rw c.into_iter-item-iterator.ensures.into_iter_gives at c.loop-item.yielded_by in (
+      c.loop-item.yielded,
+      (
+        c.next.new.self,
+        (c.loop-item.item-iterator, all, c.in-None.ensures.steps),
+      ),
+      c.loop-item.invariant,
+    )

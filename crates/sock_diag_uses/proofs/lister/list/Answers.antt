@@ -12,18 +12,21 @@ use Rattle.sock_diag_uses.specs.Lister.{AreLinesOf, line_of}
 use Rattle.sock_diag_uses.proofs.lister.list.Goals as goal
 
 -- what follows from the value of an answer
-on_ok : {A E : Type 0} (P Q : A → Type 0) (r : Result A E) → ((v : A) → P v → Q v) → IfOk r P → IfOk r Q
+on_ok : {A E : Type 0} (P Q : A → Type 0) (r : Result A E) → ((v : A) → P v → Q v) → IfOk r P
+    → IfOk r Q
 on_ok P Q (Ok v) follows h = follows v h
 on_ok P Q (Err e) follows h = h
 
 pub returns : goal.returns
 returns c = on_ok
-    (λ lines. (given : List (Result PayloadView DecodeError)) × Drains GivesView c.new.result given × (lines.items ≡ filter_map line_of (map viewed_item given)))
+    (λ lines. (given : List (Result PayloadView DecodeError)) × Drains GivesView c.new.result given
+    × (lines.items ≡ filter_map line_of (map viewed_item given)))
     (λ lines. AreLinesOf c.args.datagram.now lines.items)
     c.lines_of.result
     (λ lines h. record {
       items = map viewed_item h.0;
-      are = subst (λ (bytes : List ℕ). ItemsAre message_codec bytes (map viewed_item h.0)) c.new.ensures (c.whole_views_are_the_datagram.ensures c.new.result h.0 h.1);
+      are = subst (λ (bytes : List ℕ). ItemsAre message_codec bytes (map viewed_item h.0))
+          c.new.ensures (c.whole_views_are_the_datagram.ensures c.new.result h.0 h.1);
       told = h.2;
     })
     c.lines_of.ensures

@@ -5,17 +5,20 @@ use Rattle.std.proofs.lemmas.Result.{err_from_is_err_and}
 use Rattle.netlink_packet_sock_diag.specs.SeenUnixReply.{seen_response}
 use Rattle.sock_diag_uses.specs.TestKernel.{FailsFor, ReplyHasRoom}
 use Rattle.sock_diag_uses.specs.declared.test_kernel.AnswerError.{AnswerError}
-use Rattle.sock_diag_uses.specs.declared.test_kernel.AnswerError.TheVariants.{Request, Unwritable, Memory}
+use Rattle.sock_diag_uses.specs.declared.test_kernel.AnswerError.TheVariants.{Request, Unwritable}
+use Rattle.sock_diag_uses.specs.declared.test_kernel.AnswerError.TheVariants.{Memory}
 use Rattle.sock_diag_uses.proofs.test_kernel.push_replies.Goals as goal
 
 -- what holds of all that is made of a list holds of what is made of one element
-holds_at : {A B : Type 0} (P : B → Type 0) (made : A → B) (xs : List A) (i : ℕ) (x : A) → slice_get xs i ≡ Some x → AllByRecursion P (map made xs) → P (made x)
+holds_at : {A B : Type 0} (P : B → Type 0) (made : A → B) (xs : List A) (i : ℕ) (x : A)
+    → slice_get xs i ≡ Some x → AllByRecursion P (map made xs) → P (made x)
 holds_at P made [] i x e all = absurd cc
 holds_at P made (y ∷ xs) zero x e all = let same : y ≡ x = cc in subst (λ z. P (made z)) same all.0
 holds_at P made (y ∷ xs) (suc i) x e all = holds_at P made xs i x e all.1
 
 -- where one of the messages fails for its length, not all can be written
-of_one : {One All : Type 0} (e : AnswerError) → (All → One) → FailsFor (¬ One) e → FailsFor (¬ All) e
+of_one : {One All : Type 0} (e : AnswerError) → (All → One) → FailsFor (¬ One) e
+    → FailsFor (¬ All) e
 of_one (Request fault) each none = none
 of_one Unwritable each none = λ all. none (each all)
 of_one Memory each none = tt
@@ -24,6 +27,8 @@ pub returns-in_err-push_reply-clause-err : goal.returns-in_err-push_reply-clause
 returns-in_err-push_reply-clause-err c =
     let p = err_from_is_err_and c.from_residual.result c.from_residual.ensures.1 in
     rw (p.1, p.2) (of_one c.in_err-push_reply.field-0.0
-    (holds_at ReplyHasRoom seen_response c.args.replies.now c.loop-reply.reply-index c.reply-item.result
-    (slice_get_read c.args.replies.now (length c.args.replies.now) c.loop-reply.reply-index c.reply-item.result refl c.loop-reply-test.true c.reply-item.is))
+    (holds_at ReplyHasRoom seen_response c.args.replies.now c.loop-reply.reply-index
+    c.reply-item.result
+    (slice_get_read c.args.replies.now (length c.args.replies.now) c.loop-reply.reply-index
+    c.reply-item.result refl c.loop-reply-test.true c.reply-item.is))
     c.in_err-push_reply.ensures.err)

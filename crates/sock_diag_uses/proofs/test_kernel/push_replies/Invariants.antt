@@ -7,5 +7,6 @@ use Rattle.sock_diag_uses.proofs.test_kernel.push_replies.Given as goal
 -- what was added and what is left to be added make the whole
 abbrev pub invariant-loop-reply : goal.invariant-loop-reply
 invariant-loop-reply l =
-    l.datagram.items ++ flat_map (reply_under l.sequence_number) (map seen_response (drop l.reply-index l.replies))
+    l.datagram.items ++ flat_map (reply_under l.sequence_number)
+    (map seen_response (drop l.reply-index l.replies))
     ≡ l.fn.datagram.items ++ flat_map (reply_under l.sequence_number) (map seen_response l.replies)

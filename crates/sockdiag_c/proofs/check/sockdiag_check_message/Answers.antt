@@ -7,11 +7,25 @@ returns-in-Ok-UnixResponse c =
     let read = c.in-Ok-UnixResponse in
     let header = c.header.ensures in
     let told = c.from-reply.ensures in
-    inl (refl, (viewed_message read.field-0, read.ensures.value, rw (read.field-0-is, told, header) refl))
+    inl (
+      refl,
+      (
+        viewed_message read.field-0,
+        read.ensures.value,
+        rw (read.field-0-is, told, header) refl,
+      ),
+    )
 
 pub returns-in-Ok-InetResponse : goal.returns-in-Ok-InetResponse
 returns-in-Ok-InetResponse c =
     let read = c.in-Ok-InetResponse in
     let header = c.header-in-Ok-InetResponse.ensures in
     let told = c.from-reply-in-Ok-InetResponse.ensures in
-    inl (refl, (viewed_message read.field-0, read.ensures.value, rw (read.field-0-is, told, header) refl))
+    inl (
+      refl,
+      (
+        viewed_message read.field-0,
+        read.ensures.value,
+        rw (read.field-0-is, told, header) refl,
+      ),
+    )

@@ -17,10 +17,18 @@ pub returns-clause-written : goal.returns-clause-written
 returns-clause-written c long family =
     let header = c.args.request.now.header in
     let record_bytes = bytes inet_request c.inet_record-record.result in
-    let size : 16 + length record_bytes ≡ 72 = ap (λ (n : ℕ). 16 + n) (request_length c.inet_record-record.result) in
+    let size : 16 + length record_bytes ≡ 72 =
+    ap (λ (n : ℕ). 16 + n) (request_length c.inet_record-record.result) in
     let whole : header_bytes (header_of (16 + length record_bytes) header) ++ record_bytes
-    ≡ header_bytes (header_of 72 header) ++ bytes inet_request (inet_request_of c.args.request.now) =
-    λ i. header_bytes (header_of (size i) header) ++ bytes inet_request (c.inet_record-record.ensures i) in
-    let len : length (header_bytes (header_of (16 + length record_bytes) header) ++ record_bytes) ≡ 72 =
-    length-append (header_bytes (header_of (16 + length record_bytes) header)) record_bytes ∙ size in
-    (c.write_request.ensures.0 ∙ len, c.write_request.ensures.1 ∙ (λ i. whole i ++ drop (len i) c.args.buffer.now))
+    ≡ header_bytes (header_of 72 header) ++ bytes inet_request
+    (inet_request_of c.args.request.now) =
+    λ i. header_bytes (header_of (size i) header) ++ bytes inet_request
+    (c.inet_record-record.ensures i) in
+    let len : length (header_bytes (header_of (16 + length record_bytes) header) ++ record_bytes)
+    ≡ 72 =
+    length-append (header_bytes (header_of (16 + length record_bytes) header)) record_bytes
+    ∙ size in (
+      c.write_request.ensures.0 ∙ len,
+      c.write_request.ensures.1
+          ∙ (λ i. whole i ++ drop (len i) c.args.buffer.now),
+    )

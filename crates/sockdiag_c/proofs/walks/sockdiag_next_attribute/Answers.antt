@@ -11,9 +11,22 @@ returns-in-Some-Ok c =
     let place = c.args.cursor.now.place in
     let rest = bytes_left c.next.new.self in
     let given = rw c.in-Some-Ok.field-0-is at c.in-Some-Ok.ensures.steps in
-    let a : Attribute = record { type_word = c.type_word-attribute.result; value = c.value.result.now } in
-    let same : attribute_of c.in-Some-Ok.nla ≡ a = λ i. record { type_word = sym c.type_word-attribute.ensures i; value = sym c.value.ensures i } in
-    let left : bytes_left c.new-walk.result ≡ drop place bytes = c.new-walk.ensures ∙ take_rest bytes place in
+    let a : Attribute = record {
+      type_word = c.type_word-attribute.result;
+      value = c.value.result.now;
+    } in
+    let same : attribute_of c.in-Some-Ok.nla ≡ a =
+    λ i. record {
+      type_word = sym c.type_word-attribute.ensures i;
+      value = sym c.value.ensures i;
+    } in
+    let left : bytes_left c.new-walk.result ≡ drop place bytes = c.new-walk.ensures
+    ∙ take_rest bytes place in
     let start : StartsWith (drop place bytes) a rest =
-    subst (λ (b : List ℕ). StartsWith b a rest) left (subst (λ (x : Attribute). StartsWith (bytes_left c.new-walk.result) x rest) same given) in
-    inr (inl (refl, attribute_passed bytes rest place c.padded.result a start c.padded.ensures, refl))
+    subst (λ (b : List ℕ). StartsWith b a rest) left
+    (subst (λ (x : Attribute). StartsWith (bytes_left c.new-walk.result) x rest) same given) in
+    inr (inl (
+      refl,
+      attribute_passed bytes rest place c.padded.result a start c.padded.ensures,
+      refl,
+    ))

@@ -11,4 +11,5 @@ returns-in-Ok-clause-steps c =
     let h = c.in-Ok.header in
     let all = take_rest walk.bytes.now walk.at in
     let head = subst (λ (bytes : List ℕ). HasHeader bytes h) all c.in-Ok.ensures in
-    starts_with_message (datagram_left walk) _ _ h c.padded.result head (ap (take h.length) all) c.padded.ensures (sym (drop-drop _ walk.at walk.bytes.now))
+    starts_with_message (datagram_left walk) _ _ h c.padded.result head (ap (take h.length) all)
+    c.padded.ensures (sym (drop-drop _ walk.at walk.bytes.now))

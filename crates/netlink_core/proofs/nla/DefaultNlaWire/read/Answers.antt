@@ -4,7 +4,8 @@ use Rattle.netlink_core.proofs.nla.DefaultNlaWire.read.Goals as goal
 
 pub returns-in_err-keep-clause-wanted : goal.returns-in_err-keep-clause-wanted
 returns-in_err-keep-clause-wanted c =
-    let p = err_from_is_err_and c.from_residual-in_err-keep.result c.from_residual-in_err-keep.ensures.1 in
+    let p = err_from_is_err_and c.from_residual-in_err-keep.result
+    c.from_residual-in_err-keep.ensures.1 in
     rw (p.1, p.2) (λ memory. (_, (_, c.in_ok-new_checked.ensures, refl), λ spare. spare))
 
 pub returns-clause-value : goal.returns-clause-value

@@ -6,5 +6,6 @@ use Rattle.sock_diag_lines.proofs.stream.ProtocolLineAnswers.push_answer.Goals a
 pub returns : goal.returns
 returns c = on_ok_weaker c.push_told.result
     (λ adds line answer asks right. adds.1 ∙ ap (λ t. c.args.text.now.items ++ t)
-    (one_answer line adds.0 answer (read_answer line c.args.asked c.args.bytes.now adds.0 asks adds.2) right))
+    (one_answer line adds.0 answer (read_answer line c.args.asked c.args.bytes.now adds.0 asks
+    adds.2) right))
     c.push_told.ensures

@@ -1,7 +1,8 @@
 use Rattle.std.proofs.Common.{refl, arith}
 use Rattle.netlink_packet_sock_diag.specs.ViewedUnixReply.{viewed_response}
 use Rattle.sock_diag_uses.proofs.readme.comparing.rewrite.Goals as goal
-use Rattle.sock_diag_uses.proofs.readme.comparing.rewrite.Goals.{then-not-is_writable-via-then-not-is_writable, then-not-is_writable-via-else-not-is_writable+then-buffer_len-buffer}
+use Rattle.sock_diag_uses.proofs.readme.comparing.rewrite.Goals.{then-not-is_writable-via-then-not-is_writable}
+use Rattle.sock_diag_uses.proofs.readme.comparing.rewrite.Goals.{then-not-is_writable-via-else-not-is_writable+then-buffer_len-buffer}
 
 pub returns-then-not-is_writable-clause-value : goal.returns-then-not-is_writable-clause-value
 returns-then-not-is_writable-clause-value c = (
@@ -10,11 +11,21 @@ returns-then-not-is_writable-clause-value c = (
   (
     refl,
     λ fits. elim c.then-not-is_writable.branch [
-      | then-not-is_writable-via-then-not-is_writable w ↦ absurd (cc (w.if-not-is_writable.true, c.is_writable.ensures.1 fits))
-      | then-not-is_writable-via-else-not-is_writable+then-buffer_len-buffer w ↦ omega (arith, w.buffer_len.ensures, w.if-buffer_len-buffer.true)
+      | then-not-is_writable-via-then-not-is_writable w ↦
+          absurd (cc (w.if-not-is_writable.true, c.is_writable.ensures.1 fits))
+      | then-not-is_writable-via-else-not-is_writable+then-buffer_len-buffer w ↦
+          omega (arith, w.buffer_len.ensures, w.if-buffer_len-buffer.true)
     ],
   ),
 )
 
 pub returns-clause-value : goal.returns-clause-value
-returns-clause-value c = (viewed_response c.in_ok-reply.reply, c.in_ok-reply.ensures.value, (rw c.buffer_len-2.ensures c.emit.ensures, c.is_writable.ensures.0 c.if-not-is_writable.false, c.buffer_len-2.ensures))
+returns-clause-value c = (
+  viewed_response c.in_ok-reply.reply,
+  c.in_ok-reply.ensures.value,
+  (
+    rw c.buffer_len-2.ensures c.emit.ensures,
+    c.is_writable.ensures.0 c.if-not-is_writable.false,
+    c.buffer_len-2.ensures,
+  ),
+)

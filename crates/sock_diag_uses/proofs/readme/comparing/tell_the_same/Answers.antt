@@ -11,10 +11,17 @@ returns-clause-value c =
     let v = viewed_response c.in_ok-parse.field-0 in
     let w = viewed_response c.in_ok-parse-2.field-0 in
     let told = unix_test_says v w in
-    let idle = laws-law.same_value c.args.one.now c.args.other.now tt v w (λ i. omega (arith, c.type_inv.one i)) (λ i. omega (arith, c.type_inv.other i)) c.in_ok-parse.ensures.value c.in_ok-parse-2.ensures.value in
+    let idle = laws-law.same_value c.args.one.now c.args.other.now tt v w
+    (λ i. omega (arith, c.type_inv.one i)) (λ i. omega (arith, c.type_inv.other i))
+    c.in_ok-parse.ensures.value c.in_ok-parse-2.ensures.value in
     rw c.eq.ensures (λ same. idle.0 (told.0 same), λ i. told.1 (idle.1 i))
 
 pub returns-in_err-parse-2-clause-fault : goal.returns-in_err-parse-2-clause-fault
 returns-in_err-parse-2-clause-fault c =
-    let p = err_from_is_err_and c.from_residual-in_err-parse-2.result c.from_residual-in_err-parse-2.ensures.1 in
-    rw (p.1, p.2) (inr (viewed_response c.in_ok-parse.field-0, c.in_ok-parse.ensures.value, c.in_err-parse-2.ensures.fault))
+    let p = err_from_is_err_and c.from_residual-in_err-parse-2.result
+    c.from_residual-in_err-parse-2.ensures.1 in
+    rw (p.1, p.2) (inr (
+      viewed_response c.in_ok-parse.field-0,
+      c.in_ok-parse.ensures.value,
+      c.in_err-parse-2.ensures.fault,
+    ))

@@ -1,4 +1,5 @@
-use Rattle.std.proofs.Common.{◌≡◌, ℕ, List, drop, slice_index, sym, ap, ◌∙◌, subst, Option, Result, Ok}
+use Rattle.std.proofs.Common.{◌≡◌, ℕ, List, drop, slice_index, sym, ap, ◌∙◌, subst, Option, Result}
+use Rattle.std.proofs.Common.{Ok}
 use Rattle.std.proofs.lemmas.List.{take_rest}
 use Rattle.netlink_core.specs.Format.{read_row}
 use Rattle.netlink_core.proofs.FormatLaws.{accepts, accepted_row}
@@ -36,11 +37,18 @@ pub returns : goal.returns
 unfolding inet_response_header socket_id
 returns c =
     let payload = c.args.payload.now in
-    let read : read_row socket_id (slice_index payload 0) (drop 4 payload) ≡ Ok c.in_ok-socket_id.socket_id = subst (λ (b : List ℕ). read_row socket_id (slice_index payload 0) b ≡ Ok c.in_ok-socket_id.socket_id) (take_rest payload 4) (sym c.in_ok-socket_id.ensures) in
-    let h = accepted_row socket_id (slice_index payload 0) (drop 4 payload) c.in_ok-socket_id.socket_id read in
+    let read : read_row socket_id (slice_index payload 0) (drop 4 payload)
+    ≡ Ok c.in_ok-socket_id.socket_id =
+    subst (λ (b : List ℕ). read_row socket_id (slice_index payload 0) b
+    ≡ Ok c.in_ok-socket_id.socket_id) (take_rest payload 4) (sym c.in_ok-socket_id.ensures) in
+    let h = accepted_row socket_id (slice_index payload 0) (drop 4 payload)
+    c.in_ok-socket_id.socket_id read in
     let class = class_of_byte (slice_index payload 2) in
     let tag : Kinds × ℕ = (h.0, class) in
-    let timer = c.timer_from.ensures ∙ ap (λ (words : List ℕ). timer_of class (slice_index payload 3) (slice_index words 0)) c.words_at.ensures in
-    (ap (found (slice_index payload 0) (slice_index payload 1)) timer ⊛ (h.2 ∙ ap (socket_id_of h.0) (values-inside h.0 payload)) ⊛ c.words_at.ensures)
+    let timer = c.timer_from.ensures
+    ∙ ap (λ (words : List ℕ). timer_of class (slice_index payload 3) (slice_index words 0))
+    c.words_at.ensures in
+    (ap (found (slice_index payload 0) (slice_index payload 1)) timer
+    ⊛ (h.2 ∙ ap (socket_id_of h.0) (values-inside h.0 payload)) ⊛ c.words_at.ensures)
     ∙ sym (ap ok (header_is tag payload (class_lt (slice_index payload 2))))
     ∙ sym (accepts inet_response_header tt payload tag (ap (with_class class) h.1))

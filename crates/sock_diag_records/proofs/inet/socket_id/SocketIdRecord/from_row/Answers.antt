@@ -33,8 +33,14 @@ pub returns : goal.returns
 unfolding socket_id
 returns c =
     elim c.match-family.branch [
-      | in-2 w ↦ (ap found c.big_shorts_at.ensures ⊛ (w.source_address-is ∙ (ap two (ap v4 w.ipv4_at.ensures) ⊛ ap v4 w.ipv4_at-in-2.ensures)) ⊛ c.words_at.ensures ⊛ c.array_at.ensures)
-          ∙ sym (accepts socket_id c.args.family c.args.payload.now (ipv4, ipv4) (ap kinds_of_family w.in-2.is))
-      | in-10 w ↦ (ap found c.big_shorts_at.ensures ⊛ (w.source_address-is ∙ (ap two (ap v6 w.ipv6_at.ensures) ⊛ ap v6 w.ipv6_at-in-10.ensures)) ⊛ c.words_at.ensures ⊛ c.array_at.ensures)
-          ∙ sym (accepts socket_id c.args.family c.args.payload.now (ipv6, ipv6) (ap kinds_of_family w.in-10.is))
+      | in-2 w ↦ (ap found c.big_shorts_at.ensures
+          ⊛ (w.source_address-is ∙ (ap two (ap v4 w.ipv4_at.ensures)
+          ⊛ ap v4 w.ipv4_at-in-2.ensures)) ⊛ c.words_at.ensures ⊛ c.array_at.ensures)
+          ∙ sym (accepts socket_id c.args.family c.args.payload.now (ipv4, ipv4)
+          (ap kinds_of_family w.in-2.is))
+      | in-10 w ↦ (ap found c.big_shorts_at.ensures
+          ⊛ (w.source_address-is ∙ (ap two (ap v6 w.ipv6_at.ensures)
+          ⊛ ap v6 w.ipv6_at-in-10.ensures)) ⊛ c.words_at.ensures ⊛ c.array_at.ensures)
+          ∙ sym (accepts socket_id c.args.family c.args.payload.now (ipv6, ipv6)
+          (ap kinds_of_family w.in-10.is))
     ]

@@ -6,5 +6,15 @@ use Rattle.sock_diag_records.proofs.inet.socket_id.SocketIdRecord.row_typed.Goal
 pub returns : goal.returns
 unfolding socket_id
 returns c =
-    let shaped : IsShaped c.args.self.now = record { source = c.address_typed.ensures.shaped; destination = c.address_typed-2.ensures.shaped; cookie = search rules } in
-    record { shaped = shaped; fit = parts_fit c.args.self.now (search rules) (search rules) (c.address_typed.ensures.fit 4) (c.address_typed-2.ensures.fit 20) (search rules) c.bytes_typed.ensures }
+    let shaped : IsShaped c.args.self.now =
+    record {
+      source = c.address_typed.ensures.shaped;
+      destination = c.address_typed-2.ensures.shaped;
+      cookie = search rules;
+    } in
+    record {
+      shaped = shaped;
+      fit = parts_fit c.args.self.now (search rules) (search rules)
+          (c.address_typed.ensures.fit 4) (c.address_typed-2.ensures.fit 20) (search rules)
+          c.bytes_typed.ensures;
+    }

@@ -6,7 +6,8 @@ use Rattle.sock_diag_records.proofs.inet.socket_id.SocketIdRecord.write_row.Goal
 
 -- the bytes of these rows, one after the other
 abbrev in_a_row : (ports source destination interface cookie : List ℕ) → List ℕ
-in_a_row ports source destination interface cookie = ports ++ (source ++ (destination ++ (interface ++ cookie)))
+in_a_row ports source destination interface cookie =
+    ports ++ (source ++ (destination ++ (interface ++ cookie)))
 
 pub returns : goal.returns
 returns c =

@@ -7,5 +7,6 @@ pub returns : goal.returns
 returns c =
     let value = c.args.self.now in
     let long : length value.cookie ≡ 8 = omega arith in
-    let cookie : c.copy_from_slice-2.new.self ≡ first 8 value.cookie = c.copy_from_slice-2.ensures.after ∙ sym (first_all 8 value.cookie long) in
+    let cookie : c.copy_from_slice-2.new.self ≡ first 8 value.cookie =
+    c.copy_from_slice-2.ensures.after ∙ sym (first_all 8 value.cookie long) in
     search rules

@@ -6,8 +6,11 @@ use Rattle.sock_diag_values.specs.TcpInfo.{tcp_info}
 use Rattle.sock_diag_values.specs.TcpInfoInverse.{with_rows}
 use Rattle.sock_diag_values.proofs.inet.tcp_info.TcpInfoRecord.from_row.Goals as goal
 
-abbrev read_as : (states counts ages metrics receiver rates segments limits deliveries totals reorderings : List ℕ) → Result TcpInfo DecodeError
-read_as states counts ages metrics receiver rates segments limits deliveries totals reorderings = Ok (with_rows states counts ages metrics receiver rates segments limits deliveries totals reorderings)
+abbrev read_as : (states counts ages metrics receiver rates segments limits deliveries totals
+    reorderings : List ℕ) → Result TcpInfo DecodeError
+read_as states counts ages metrics receiver rates segments limits deliveries totals reorderings =
+    Ok (with_rows states counts ages metrics receiver rates segments limits deliveries totals
+    reorderings)
 
 pub returns : goal.returns
 unfolding tcp_info

@@ -1,7 +1,8 @@
 use Rattle.std.proofs.Common.{subst}
 use Rattle.netlink_core.specs.Bytes.{IsBytes}
 use Rattle.sock_diag_values.specs.TcpInfo.{tcp_info}
-use Rattle.sock_diag_values.specs.TcpInfoSteps.{counts, ages, metrics, receiver, rates, segments, limits, deliveries, totals, reorderings}
+use Rattle.sock_diag_values.specs.TcpInfoSteps.{counts, ages, metrics, receiver, rates, segments}
+use Rattle.sock_diag_values.specs.TcpInfoSteps.{limits, deliveries, totals, reorderings}
 use Rattle.sock_diag_values.specs.TcpInfoLaws.{fits, rows_fit}
 use Rattle.sock_diag_values.proofs.inet.tcp_info.TcpInfoRecord.row_typed.Goals as goal
 
