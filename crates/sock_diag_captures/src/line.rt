@@ -6,8 +6,7 @@ ghost use Rattle.netlink_core.specs.Family.{content};
 ghost use Rattle.sock_diag_attributes.specs.InetAttributes.{inet};
 ghost use Rattle.sock_diag_attributes.specs.UnixAttributes.{unix};
 ghost use Rattle.netlink_packet_sock_diag.specs.Viewed.{left_in};
-ghost use Rattle.netlink_packet_sock_diag.specs.ViewedInetReply as viewed_inet;
-ghost use Rattle.netlink_packet_sock_diag.specs.ViewedUnixReply as viewed_unix;
+ghost use Rattle.netlink_packet_sock_diag.specs.Viewed.{viewed};
 ghost use Rattle.sock_diag_captures.specs.Shown.{shown_cells};
 ghost use Rattle.sock_diag_attributes.specs.SeenInet.{viewed_nla};
 ghost use Rattle.netlink_packet_sock_diag.specs.ViewedMessage.{viewed_message};
@@ -69,7 +68,7 @@ pub fn push_socket(text: &mut Vec<u8>, view: &SockDiagView<'_>) -> Result<(), Al
 
 /// Adds the line of a UNIX socket.
 fn push_unix(text: &mut Vec<u8>, reply: &UnixResponseView<'_>) -> Result<(), AllocError>
-    ensures { OnOk result (text.new.items ≡ text.old.items ++ unix_line (viewed_unix.viewed_response reply.now)) }
+    ensures { OnOk result (text.new.items ≡ text.old.items ++ unix_line (viewed reply.now)) }
 {
     push_first_columns(text, &unix_cells(reply))?;
     push_name_column(text, LOCAL, reply.name())?;
@@ -79,7 +78,7 @@ fn push_unix(text: &mut Vec<u8>, reply: &UnixResponseView<'_>) -> Result<(), All
 
 /// The first columns of a UNIX socket. The queues of a listening one are connections.
 fn unix_cells(reply: &UnixResponseView<'_>) -> Cells
-    ensures { let v = viewed_unix.viewed_response reply.now in let queues = first_of (content unix 4) v.nlas in
+    ensures { let v = viewed reply.now in let queues = first_of (content unix 4) v.nlas in
         shown_cells result ≡ record {
           kind = unix_kind v.header.kind;
           state = v.header.state;
@@ -122,7 +121,7 @@ fn name_of_kind(kind: u8) -> &'static [u8]
 
 /// Adds the line of an IPv4 or IPv6 socket, and those of what is told of a TCP connection.
 fn push_inet(text: &mut Vec<u8>, reply: &InetResponseView<'_>) -> Result<(), AllocError>
-    ensures { OnOk result (text.new.items ≡ text.old.items ++ inet_lines (viewed_inet.viewed_response reply.now)) }
+    ensures { OnOk result (text.new.items ≡ text.old.items ++ inet_lines (viewed reply.now)) }
 {
     push_inet_line(text, &reply.header())?;
     push_details(text, reply.attributes())
