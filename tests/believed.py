@@ -33,7 +33,7 @@ MEANING = set("""codec seen type_written bytes writable held TAKES_MEMORY attrib
 # among them: what `==` answers is computed there, and said in the words of contracts by `eq_is_seen` and in laws.rt.
 LAWS = set("""laws fills exact eq_is_seen written_is fits_is emitted_is writable_is written_as
     compared idle_reflexive idle_symmetric idle_transitive one_value equal_by_bytes idle_with_written reads_back_exactly
-    written_alike eq tests test enough named same written fits answers asks""".split())
+    written_alike eq tests test enough keeps same written fits answers asks""".split())
 # Private functions whose clauses docs/PROMISES.md cites.
 CITED = {"serve", "read_prompt"}
 # A module of specs/ with this ending holds lemmas and what they stand on, and one with that the words of private functions.
@@ -49,7 +49,7 @@ RUST = set("Ok Err Some None self Self result".split())
 # A function without a keyword that ends in one of these computes. One that ends in anything else is a lemma.
 COMPUTES = re.compile(r"ℕ|(List|Bool|Option|Result|Type|Codec|Format|Family|Kind|Prefix)\b")
 WORD = r"[A-Za-z_](?:[A-Za-z0-9_']|-(?=[A-Za-z]))*"
-TOKEN = re.compile(rf"(?<=[)\]}}])\.[\w.]+|(?P<path>{WORD}(?:\.(?:{WORD}|\d+))*)|\d\w*|\"[^\"]*\"|==|\S")
+TOKEN = re.compile(rf"⟦[^⟧]*⟧|(?<=[)\]}}⟧])\.[\w.]+|(?P<path>{WORD}(?:\.(?:{WORD}|\d+))*)|\d\w*|\"[^\"]*\"|==|\S")
 USE = re.compile(r"\buse\s+([\w.]+?)(?:\.\{([^}]*)\}|\s+as\s+(\w+))\s*(?:;|$)", re.M)
 
 

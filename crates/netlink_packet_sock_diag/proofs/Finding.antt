@@ -7,12 +7,12 @@ use Rattle.netlink_core.specs.Bytes.{IsBytes}
 use Rattle.netlink_core.specs.Attribute.{Attribute, StartsWith, Cut, HeadIs, IsFramingFault, AttributesMean, AttributeFault, fill, unpadded}
 use Rattle.netlink_core.specs.Table.{number_in, little_endian}
 use Rattle.netlink_core.specs.Family.{says}
-use Rattle.netlink_core.specs.Reply.{Reply, reply_codec}
+use Rattle.netlink_core.specs.Reply.{Reply, ValueOf, reply_codec}
 use Rattle.netlink_core.specs.FrontLaws.{word_is}
 use Rattle.netlink_core.proofs.TableLaws.{AreBytes-drop}
 use Rattle.netlink_core.proofs.Walking.{StartsWith-some, head_of_start, later_fault, fault_here}
 use Rattle.netlink_core.proofs.Cutting.{means_or_fault, means_or_fault_apart}
-use Rattle.netlink_packet_sock_diag.specs.AttributesIn.{front_attribute, attributes_behind, HasNoFault, values_in, value_in, IsAccepted, reply_in}
+use Rattle.netlink_packet_sock_diag.specs.AttributesIn.{front_attribute, attributes_behind, HasNoFault, values_in, value_in, IsAccepted, reply_behind}
 
 -- those behind so many bytes are those at the front of what follows them
 behind_is : (n : ℕ) (bytes : List ℕ) → attributes_behind n bytes ≡ attributes_behind 0 (drop n bytes)
@@ -131,7 +131,11 @@ module _ (R : Reply) (bytes part : List ℕ) (same : part ≡ drop R.size bytes)
     none = λ e f. accepted.none e (behind_refused _ e (value_in_is (R.header.reads tt bytes) (λ e h. accepted.none e (inl h))) f);
   }
 
--- accepted bytes mean the reply in them
+-- the reply in bytes that nothing refuses
+abbrev pub reply_in : (R : Reply) (bytes : List ℕ) → IsAccepted R bytes → ValueOf R
+reply_in R bytes accepted = reply_behind R (value_in (R.header.reads tt bytes) (λ e h. accepted.none e (inl h))) (drop R.size bytes)
+
+-- accepted bytes mean it
 pub accepted_means : (R : Reply) (bytes : List ℕ) (accepted : IsAccepted R bytes) → IsBytes bytes → (reply_codec R).reads bytes tt (reply_in R bytes accepted)
 accepted_means R bytes accepted typed = (
   value_in_is (R.header.reads tt bytes) (λ e h. accepted.none e (inl h)),

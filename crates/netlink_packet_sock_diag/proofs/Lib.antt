@@ -1,4 +1,5 @@
 pub mod UnixContents
+pub mod Kept
 pub mod Lengths
 pub mod SaidAttributes
 pub mod Envelopes

@@ -1,5 +1,5 @@
 -- Attributes that are found in bytes without a fault and put into a list.
-use Rattle.std.proofs.Common.{Result, Ok, ◌≡◌, ℕ, suc, ◌+◌, ◌≤◌, List, [], ◌∷◌, ◌++◌, length, map, refl, sym, ap, subst, ◌∙◌, append_assoc, arith}
+use Rattle.std.proofs.Common.{Result, Ok, Err, IsOk, ◌≡◌, ℕ, suc, ◌+◌, ◌≤◌, List, [], ◌∷◌, ◌++◌, length, map, refl, sym, ap, subst, ◌∙◌, append_assoc, arith}
 use Rattle.std.specs.List.{AllByRecursion}
 use Rattle.std.proofs.lemmas.List.{append-nil, length-append, length-map, map_push}
 use Rattle.netlink_core.specs.declared.fault.DecodeError.{DecodeError}
@@ -51,6 +51,15 @@ module _ {A T : Type 0} (reads : Attribute → Result A DecodeError) (seen : T �
   -- what holds of all holds of the next
   pub own_each : (P : A → Type 0) (bytes rest after : List ℕ) (items : List T) (a : Attribute) (v : A) → Owned bytes rest items → StartsWith rest a after → reads a ≡ Ok v → AllByRecursion P (values_in reads bytes) → P v
   own_each P bytes rest after items a v o s says_v all = holds_of_one P (map seen items) (values_in reads after) v (subst (AllByRecursion P) (next_of_all bytes rest after items a v o s says_v) all)
+
+  -- so the next says something of which that holds
+  pub own_spare : (P : A → Type 0) (bytes rest after : List ℕ) (items : List T) (a : Attribute)
+      → Owned bytes rest items → StartsWith rest a after → AllByRecursion P (values_in reads bytes)
+      → (answer : Result A DecodeError) → reads a ≡ answer → IsOk answer
+      → (v : A) × (reads a ≡ Ok v) × P v
+  own_spare P bytes rest after items a o s all (Ok v) h ok =
+      (v, h, own_each P bytes rest after items a v o s h all)
+  own_spare P bytes rest after items a o s all (Err e) h ok = absurd cc
 
 -- what a loop that owns keeps, and what holds where it ends
 pub ruleset owning = (own_begins, own_goes_on, own_ends)

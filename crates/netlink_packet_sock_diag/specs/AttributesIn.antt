@@ -2,11 +2,10 @@
 use Rattle.std.specs.Prelude.{◌≡◌, ℕ, zero, suc, ◌+◌, ◌-◌, List, [], ◌∷◌, take, drop, refl, Result, Ok, Err}
 use Rattle.std.specs.List.{filter_map}
 use Rattle.std.specs.Result.{result_ok}
-use Rattle.std.proofs.Common.{inl}
 use Rattle.netlink_core.specs.declared.fault.DecodeError.{DecodeError}
 use Rattle.netlink_core.specs.Attribute.{Attribute, AttributeFault, fill}
 use Rattle.netlink_core.specs.Table.{number_in, little_endian}
-use Rattle.netlink_core.specs.Family.{says}
+use Rattle.netlink_core.specs.Family.{Family, says}
 use Rattle.netlink_core.specs.Reply.{Reply, ValueOf, reply_codec}
 
 -- the attribute at the front of the bytes, by its two words
@@ -37,7 +36,10 @@ value_in (Err e) good = absurd (good e refl)
 pub record IsAccepted (R : Reply) (bytes : List ℕ) : Type 0 where
   pub none : (e : DecodeError) → (reply_codec R).refuses bytes tt e → ⊥
 
--- the reply in bytes that nothing refuses: the header's value, and what each attribute behind it
--- says
-abbrev pub reply_in : (R : Reply) (bytes : List ℕ) → IsAccepted R bytes → ValueOf R
-reply_in R bytes accepted = record { header = value_in (R.header.reads tt bytes) (λ e h. accepted.none e (inl h)); nlas = values_in (says R.family) (drop R.size bytes) }
+-- such a reply with attributes of that family
+abbrev pub reply_with : Reply → Family → Reply
+reply_with R F = record { header = R.header; size = R.size; family = F }
+
+-- the reply of a header's value, and what each attribute in the bytes behind it says
+abbrev pub reply_behind : (R : Reply) → R.header.Value → List ℕ → ValueOf R
+reply_behind R header bytes = record { header = header; nlas = values_in (says R.family) bytes }

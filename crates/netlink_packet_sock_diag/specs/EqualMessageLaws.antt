@@ -3,8 +3,12 @@ use Rattle.std.proofs.Common.{◌≡◌, ◌↔◌, Bool, IsTrue, ap}
 use Rattle.netlink_core.proofs.Equality.{apart}
 use Rattle.sock_diag_records.specs.contracts.inet.exact.InetRequestExact.TheImpl.Laws.{exact-law as exact_inet_request}
 use Rattle.sock_diag_records.specs.contracts.unix.request.UnixRequestExact.TheImpl.Laws.{exact-law as exact_unix_request}
-use Rattle.netlink_packet_sock_diag.specs.contracts.inet.response.InetResponseCoded.TheImpl.Laws.{eq_is_seen-law as same_inet_response}
-use Rattle.netlink_packet_sock_diag.specs.contracts.unix.response.UnixResponseCoded.TheImpl.Laws.{eq_is_seen-law as same_unix_response}
+use Rattle.sock_diag_attributes.specs.contracts.inet.coded.NlaCoded.TheImpl.Laws.{eq_is_seen-law as same_inet}
+use Rattle.sock_diag_attributes.specs.contracts.unix.coded.NlaCoded.TheImpl.Laws.{eq_is_seen-law as same_unix}
+use Rattle.sock_diag_attributes.specs.SeenInet as inet
+use Rattle.sock_diag_attributes.specs.SeenUnix as unix
+use Rattle.sock_diag_records.specs.contracts.inet.exact.InetResponseHeaderExact.TheImpl.Laws.{exact-law as exact_inet}
+use Rattle.sock_diag_records.specs.contracts.unix.response.UnixResponseHeaderExact.TheImpl.Laws.{exact-law as exact_unix}
 use Rattle.netlink_packet_sock_diag.specs.declared.message.SockDiagMessage.{SockDiagMessage}
 use Rattle.netlink_packet_sock_diag.specs.declared.message.SockDiagMessage.TheVariants.{InetRequest, InetResponse, UnixRequest, UnixResponse}
 use Rattle.netlink_packet_sock_diag.specs.contracts.message.SockDiagMessagePartialEq.TheImpl.{ghosts}
@@ -13,9 +17,9 @@ use Rattle.netlink_packet_sock_diag.specs.SeenMessage.{seen_message}
 use Rattle.netlink_packet_sock_diag.specs.declared.message.SockDiagView.{SockDiagView}
 use Rattle.netlink_packet_sock_diag.specs.declared.message.SockDiagView.TheVariants as view
 use Rattle.netlink_packet_sock_diag.specs.contracts.message.SockDiagViewPartialEq.TheImpl.{ghosts as views}
+use Rattle.netlink_packet_sock_diag.specs.EqualReplyLaws.{replies_equal}
 use Rattle.netlink_packet_sock_diag.specs.EqualViewLaws.{inet_test_says, unix_test_says}
-use Rattle.netlink_packet_sock_diag.specs.ViewedInetReply as inet_view
-use Rattle.netlink_packet_sock_diag.specs.ViewedUnixReply as unix_view
+use Rattle.netlink_packet_sock_diag.specs.Viewed.{viewed}
 use Rattle.netlink_packet_sock_diag.specs.ViewedMessage.{viewed_message}
 
 -- what a message of a kind holds, and else something given
@@ -44,19 +48,21 @@ pub message_equal : (v w : SockDiagMessage) → IsTrue (ghosts.eq v w) ↔ (seen
 message_equal (InetRequest a) (InetRequest x) =
     by_held inet_request _ _ _ (exact_inet_request.0 a x)
 message_equal (InetResponse a) (InetResponse x) =
-    by_held inet_response _ _ _ (same_inet_response a.value x.value)
+    by_held inet_response _ _ _
+    (replies_equal _ _ (λ h. h) inet.seen_nla exact_inet.0 same_inet
+    a.value.header x.value.header a.value.nlas.items x.value.nlas.items)
 message_equal (UnixRequest a) (UnixRequest x) =
     by_held unix_request _ _ _ (exact_unix_request.0 a x)
 message_equal (UnixResponse a) (UnixResponse x) =
-    by_held unix_response _ _ _ (same_unix_response a.value x.value)
+    by_held unix_response _ _ _
+    (replies_equal _ _ (λ h. h) unix.seen_nla exact_unix.0 same_unix
+    a.value.header x.value.header a.value.nlas.items x.value.nlas.items)
 message_equal v w = apart (λ e. let kinds = ap message_kind e in cc)
 
 -- and so are messages that are read in place
 pub view_equal : (v w : SockDiagView) → IsTrue (views.eq v w) ↔ (viewed_message v ≡ viewed_message w)
 view_equal (view.InetResponse a) (view.InetResponse x) =
-    by_held inet_response _ _ _
-    (inet_test_says (inet_view.viewed_response a) (inet_view.viewed_response x))
+    by_held inet_response _ _ _ (inet_test_says (viewed a) (viewed x))
 view_equal (view.UnixResponse a) (view.UnixResponse x) =
-    by_held unix_response _ _ _
-    (unix_test_says (unix_view.viewed_response a) (unix_view.viewed_response x))
+    by_held unix_response _ _ _ (unix_test_says (viewed a) (viewed x))
 view_equal v w = apart (λ e. let kinds = ap message_kind e in cc)

@@ -4,14 +4,13 @@ pub mod SeenUnixReply
 pub mod UnixGetters
 pub mod InetReply
 pub mod InetReplyLaws
+pub mod SeenReply
 pub mod SeenInetReply
 pub mod Message
 pub mod MessageLaws
 pub mod SeenMessage
 pub mod AttributesIn
 pub mod Viewed
-pub mod ViewedUnixReply
-pub mod ViewedInetReply
 pub mod ViewedMessage
 pub mod EqualReplyLaws
 pub mod EqualMessageLaws

@@ -1,9 +1,11 @@
 -- What contracts see of a reply about an IPv4 or IPv6 socket.
 use Rattle.std.specs.Prelude.{map}
 use Rattle.sock_diag_attributes.specs.SeenInet.{seen_nla}
-use Rattle.netlink_packet_sock_diag.specs.declared.inet.response.InetResponse.{InetResponse}
+use Rattle.sock_diag_attributes.specs.declared.inet.nlas.Nla.{Nla}
+use Rattle.sock_diag_records.specs.declared.inet.response.InetResponseHeader.{InetResponseHeader}
+use Rattle.netlink_packet_sock_diag.specs.declared.response.Reply.{Reply}
 use Rattle.netlink_packet_sock_diag.specs.InetReply.{InetReply}
 
 -- the same header, and what is seen of each attribute
-abbrev pub seen_response : InetResponse → InetReply
+abbrev pub seen_response : Reply InetResponseHeader Nla → InetReply
 seen_response response = record { header = response.header; nlas = map seen_nla response.nlas.items }

@@ -1,11 +1,10 @@
 -- What contracts see of a message that is read in place.
 use Rattle.netlink_packet_sock_diag.specs.declared.message.SockDiagView.{SockDiagView}
 use Rattle.netlink_packet_sock_diag.specs.declared.message.SockDiagView.TheVariants.{InetResponse, UnixResponse}
-use Rattle.netlink_packet_sock_diag.specs.ViewedInetReply as inet
-use Rattle.netlink_packet_sock_diag.specs.ViewedUnixReply as unix
+use Rattle.netlink_packet_sock_diag.specs.Viewed.{viewed}
 use Rattle.netlink_packet_sock_diag.specs.Message.{Message, message_of, inet_response, unix_response}
 
 -- what the message says
 abbrev pub viewed_message : SockDiagView → Message
-viewed_message (InetResponse reply) = message_of inet_response (inet.viewed_response reply)
-viewed_message (UnixResponse reply) = message_of unix_response (unix.viewed_response reply)
+viewed_message (InetResponse reply) = message_of inet_response (viewed reply)
+viewed_message (UnixResponse reply) = message_of unix_response (viewed reply)

@@ -15,8 +15,6 @@ ghost use Rattle.netlink_core.specs.Items.{ItemsAre};
 ghost use Rattle.netlink_core.specs.Seen.{envelope_of};
 ghost use Rattle.netlink_core.specs.Reply.{reply_bytes, reply_codec};
 ghost use Rattle.netlink_packet_sock_diag.specs.SeenMessage.{seen_destroy};
-ghost use Rattle.netlink_packet_sock_diag.specs.contracts.unix.response.UnixResponseEmitable.TheImpl.{ghosts as unix_replies};
-ghost use Rattle.netlink_packet_sock_diag.specs.contracts.inet.response.InetResponseEmitable.TheImpl.{ghosts as inet_replies};
 ghost use Rattle.netlink_packet_sock_diag.specs.contracts.message.SockDiagMessageEmitable.TheImpl.{ghosts as owned_messages};
 ghost use Rattle.netlink_packet_sock_diag.specs.contracts.message.SockDiagViewEmitable.TheImpl.{ghosts as message_views};
 ghost use Rattle.netlink_packet_sock_diag.specs.contracts.coded.SockDiagDestroyCoded.TheImpl.{ghosts as destroys};
@@ -33,16 +31,15 @@ ghost use Rattle.netlink_packet_sock_diag.specs.DumpWalk.{GivesView};
 ghost use Rattle.netlink_packet_sock_diag.specs.ViewedPayload.{viewed_payload, viewed_item};
 ghost use Rattle.netlink_packet_sock_diag.specs.UnixReply.{UnixReply, unix_reply};
 ghost use Rattle.netlink_packet_sock_diag.specs.InetReply.{InetReply, inet_reply};
-ghost use Rattle.netlink_packet_sock_diag.specs.ViewedInetReply.{viewed_response as viewed_inet};
+ghost use Rattle.netlink_packet_sock_diag.specs.Viewed.{viewed};
 ghost use Rattle.netlink_packet_sock_diag.specs.ViewedMessage.{viewed_message};
-ghost use Rattle.netlink_packet_sock_diag.specs.ViewedUnixReply.{viewed_response as viewed_unix};
 ghost use Rattle.netlink_packet_sock_diag.specs.Message.{Message, MessageKind, message_kind, inet_request, inet_response, unix_request, unix_response, message_codec};
 
 use crate::dump::{DumpError, DumpViews as Views, PayloadView as View};
 use crate::inet::{InetResponse, InetResponseView};
 use crate::message::{SockDiagDestroy as SockDiagDestroyed, SockDiagMessage, SockDiagView};
 use crate::unix::{UnixResponse, UnixResponseView};
-use netlink_core::{NetlinkSerializable, Readable, laws};
+use netlink_core::{Emitable, NetlinkSerializable, Readable, laws};
 use std::alloc::{AllocError, Global};
 
 /// The number of bytes that a reply is written as, `buffer_len`, is a multiple of 4, for both families.
@@ -251,14 +248,14 @@ pub fn copied_views<'a>(walk: &Views<'a>) -> Result<Views<'a>, AllocError>
 
 /// `==` says whether two replies in place, about UNIX sockets, tell the same.
 pub fn equal_unix_views(v: &UnixResponseView<'_>, w: &UnixResponseView<'_>) -> bool
-    ensures { IsTrue result ↔ (viewed_unix v.now ≡ viewed_unix w.now) }
+    ensures { IsTrue result ↔ (viewed v.now ≡ viewed w.now) }
 {
     v == w
 }
 
 /// `==` says whether two replies in place, about IPv4 and IPv6 sockets, tell the same.
 pub fn equal_inet_views(v: &InetResponseView<'_>, w: &InetResponseView<'_>) -> bool
-    ensures { IsTrue result ↔ (viewed_inet v.now ≡ viewed_inet w.now) }
+    ensures { IsTrue result ↔ (viewed v.now ≡ viewed w.now) }
 {
     v == w
 }
@@ -282,7 +279,7 @@ pub fn equal_message_views(v: &SockDiagView<'_>, w: &SockDiagView<'_>) -> bool
 /// The copy of a reply in place, about a UNIX socket, tells the same.
 pub fn copied_unix_view<'a>(view: &UnixResponseView<'a>) -> Result<UnixResponseView<'a>, AllocError>
     ensures ok { IsOk result }
-    ensures same { IfOk result (λ copy. viewed_unix copy ≡ viewed_unix view.now) }
+    ensures same { IfOk result (λ copy. viewed copy ≡ viewed view.now) }
 {
     view.clone()
 }
@@ -290,7 +287,7 @@ pub fn copied_unix_view<'a>(view: &UnixResponseView<'a>) -> Result<UnixResponseV
 /// The copy of a reply in place, about an IPv4 or IPv6 socket, tells the same.
 pub fn copied_inet_view<'a>(view: &InetResponseView<'a>) -> Result<InetResponseView<'a>, AllocError>
     ensures ok { IsOk result }
-    ensures same { IfOk result (λ copy. viewed_inet copy ≡ viewed_inet view.now) }
+    ensures same { IfOk result (λ copy. viewed copy ≡ viewed view.now) }
 {
     view.clone()
 }
@@ -317,9 +314,9 @@ pub fn owned_unix_view(
     alloc: Global,
 ) -> Result<UnixResponse, AllocError>
     ensures bytes { IfOk result (λ reply.
-        unix_replies.bytes reply ≡ reply_bytes unix_reply (viewed_unix view.now)) }
+        ⟦<UnixResponse as Emitable>⟧.bytes reply ≡ reply_bytes unix_reply (viewed view.now)) }
     ensures writable { IfOk result (λ reply.
-        unix_replies.writable reply ↔ (reply_codec unix_reply).fits (viewed_unix view.now)) }
+        ⟦<UnixResponse as Emitable>⟧.writable reply ↔ (reply_codec unix_reply).fits (viewed view.now)) }
 {
     view.to_owned(alloc)
 }
@@ -330,9 +327,9 @@ pub fn owned_inet_view(
     alloc: Global,
 ) -> Result<InetResponse, AllocError>
     ensures bytes { IfOk result (λ reply.
-        inet_replies.bytes reply ≡ reply_bytes inet_reply (viewed_inet view.now)) }
+        ⟦<InetResponse as Emitable>⟧.bytes reply ≡ reply_bytes inet_reply (viewed view.now)) }
     ensures writable { IfOk result (λ reply.
-        inet_replies.writable reply ↔ (reply_codec inet_reply).fits (viewed_inet view.now)) }
+        ⟦<InetResponse as Emitable>⟧.writable reply ↔ (reply_codec inet_reply).fits (viewed view.now)) }
 {
     view.to_owned(alloc)
 }

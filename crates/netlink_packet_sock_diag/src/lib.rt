@@ -13,6 +13,7 @@ pub mod inet;
 pub mod laws;
 pub mod message;
 mod reply;
+mod response;
 pub mod unix;
 mod view;
 mod views;

@@ -14,7 +14,6 @@ use netlink_core::{
     CanonError, DecodeError, Emitable, NetlinkDeserializable, NetlinkHeader, NetlinkPayload,
     NetlinkSerializable, ParseableParametrized, Readable, Wire, write_new,
 };
-use smallvec::SmallVec;
 use std::alloc::{AllocError, Global};
 
 /// A message of sock_diag(7). Replies alone are read; requests are only written.
@@ -142,27 +141,14 @@ impl<'a> SockDiagView<'a> {
     pub fn to_owned(&self, alloc: Global) -> Result<SockDiagMessage, AllocError>
         ensures { IfOk result (λ message. seen_message message ≡ viewed_message self.now) }
     {
-        // The attributes are built where they stay.
-        match self {
+        Ok(match self {
             SockDiagView::InetResponse(reply) => {
-                let empty = InetResponse {
-                    header: reply.header(),
-                    nlas: SmallVec::new(alloc),
-                };
-                let mut owned = Box::new(alloc, empty)?;
-                reply.own_into(alloc, &mut owned.nlas)?;
-                Ok(SockDiagMessage::InetResponse(owned))
+                SockDiagMessage::InetResponse(reply.to_boxed(alloc)?)
             }
             SockDiagView::UnixResponse(reply) => {
-                let empty = UnixResponse {
-                    header: reply.header(),
-                    nlas: SmallVec::new(alloc),
-                };
-                let mut owned = Box::new(alloc, empty)?;
-                reply.own_into(alloc, &mut owned.nlas)?;
-                Ok(SockDiagMessage::UnixResponse(owned))
+                SockDiagMessage::UnixResponse(reply.to_boxed(alloc)?)
             }
-        }
+        })
     }
 }
 

@@ -1,25 +1,21 @@
 //! A reply of any family, read in place.
 
-ghost use Rattle.std.specs.Prelude.{◌≡◌, ◌≢◌, ◌≤◌, ◌↔◌, ⊤, ℕ, List, Bool, [], length, drop, map, Ok, Err, OnOk, IfOk, IfErr, IsOk, IsTrue, IsSome, Some, IfSome};
+ghost use Rattle.std.specs.Prelude.{◌≡◌, ◌≢◌, ◌≤◌, ◌↔◌, ◌++◌, ⊤, ℕ, List, Bool, length, drop, Ok, Err, OnOk, IfOk, IfErr, IsOk, IsTrue, Some, IfSome, SomeIff};
 ghost use Rattle.std.specs.Cmp.{partial_equiv_from_equiv};
 ghost use Rattle.std.specs.Iterator.{UpTo, YieldsFirstBy, item_count};
 ghost use Rattle.std.specs.Iterator.SizeHint.{IsWithinCount};
-ghost use Rattle.std.specs.List.{AllByRecursion};
 ghost use Rattle.netlink_core.specs.declared.fault.DecodeError.TheVariants.{Memory};
-ghost use Rattle.netlink_core.specs.declared.fault.DecodeError.{DecodeError};
 ghost use Rattle.netlink_core.specs.Attribute.{AttributeFault};
-ghost use Rattle.netlink_core.specs.Family.{says, attribute_said, IsSpareSaid};
+ghost use Rattle.netlink_core.specs.Codec.{KeepsLaws};
+ghost use Rattle.netlink_core.specs.Family.{says};
 ghost use Rattle.netlink_core.specs.Reply.{Reply, ValueOf, reply_bytes, reply_codec};
 ghost use Rattle.netlink_core.specs.Walk.{bytes_left};
 ghost use Rattle.netlink_core.proofs.Equality.{equivalence};
-ghost use Rattle.netlink_packet_sock_diag.specs.AttributesIn.{HasNoFault, IsAccepted, values_in};
+ghost use Rattle.netlink_packet_sock_diag.specs.AttributesIn.{HasNoFault, IsAccepted, reply_behind, values_in};
 
-use crate::views::{
-    FamilyView, check_nlas, emit_viewed_reply, next_view, own_nlas, viewed_reply_len,
-};
+use crate::views::{FamilyView, next_view};
 use netlink_core::{DecodeError, Emitable, NlasIterator};
-use smallvec::SmallVec;
-use std::alloc::{AllocError, Global};
+use std::alloc::AllocError;
 use std::fmt::{self, Debug, Formatter};
 use std::marker::PhantomData;
 
@@ -44,43 +40,57 @@ pub trait ReplyHeader: Drop + Sized {
         ensures value { IfOk result (λ header. reply.header.reads tt bytes.now ≡ Ok (told header)) }
         ensures fault { IfErr result (λ fault. reply.header.reads tt bytes.now ≡ Err fault) };
 
+    /// Reads each attribute and counts them, or tells the first fault. It takes no memory.
+    fn check(bytes: &[u8]) -> Result<usize, DecodeError>
+        ensures clean { OnOk result (HasNoFault (says reply.family) bytes.now) }
+        ensures count { IfOk result (λ count.
+            count ≡ length (values_in (says reply.family) bytes.now)) }
+        ensures fault { IfErr result (AttributeFault (says reply.family) bytes.now) };
+
     /// Whether the headers are equal, and the same attributes stand in both places.
     fn is_same(&self, left: &[u8], other: &Self, right: &[u8]) -> bool
         requires left { HasNoFault (says reply.family) left.now }
         requires right { HasNoFault (says reply.family) right.now }
         ensures { result ≡ test
-            (record { header = told self.now; nlas = values_in (says reply.family) left.now })
-            (record { header = told other.now; nlas = values_in (says reply.family) right.now }) };
+            (reply_behind reply (told self.now) left.now)
+            (reply_behind reply (told other.now) right.now) };
 
-    // A string with a header has all its bytes, no fault is want of memory, and equal replies pass
-    // the test.
+    /// How many bytes the header and the attributes are written as, where each value and the whole
+    /// fit their lengths.
+    fn len_with(&self, bytes: &[u8]) -> Option<usize>
+        requires { HasNoFault (says reply.family) bytes.now }
+        ensures { let v = reply_behind reply (told self.now) bytes.now in
+            SomeIff result ((reply_codec reply).fits v) (length (reply_bytes reply v)) };
+
+    /// Writes the header and the attributes at the front of the buffer, and leaves the rest.
+    fn emit_with(&self, bytes: &[u8], buffer: &mut [u8])
+        requires clean { HasNoFault (says reply.family) bytes.now }
+        requires fits { (reply_codec reply).fits (reply_behind reply (told self.now) bytes.now) }
+        requires room { length (reply_bytes reply (reply_behind reply (told self.now) bytes.now))
+            ≤ length buffer.old }
+        ensures { let all = reply_bytes reply (reply_behind reply (told self.now) bytes.now) in
+            buffer.new ≡ all ++ drop (length all) buffer.old };
+
+    // A string with a header has all its bytes, a reply keeps the laws, and equal replies pass the
+    // test.
     ghost enough: { (b : List ℕ) (h : reply.header.Value) → reply.header.reads tt b ≡ Ok h
         → reply.size ≤ length b };
 
-    ghost named: { (b : List ℕ) → (reply_codec reply).refuses b tt Memory → ⊥ };
+    ghost keeps: { KeepsLaws (reply_codec reply) };
 
     ghost compared: { (v w : ValueOf reply) → IsTrue (test v w) ↔ (v ≡ w) };
 }
 
 /// The same header, and what the attributes behind it are read as.
-pub trait ReplyViews<'a>: ReplyHeader + Emitable {
+pub trait ReplyViews<'a>: ReplyHeader {
     /// An attribute, read in place.
     type View: FamilyView<'a> + Drop;
 
-    // The attributes are those of the reply's family, and the header is written as what it says.
+    // The attributes are those of the reply's family.
     ghost same: { let viewed = Self.View.FamilyView.family in
         let family = Self.ReplyHeader.reply.family in
-        ((b : List ℕ) (e : DecodeError)
-        → AttributeFault (says viewed) b e → AttributeFault (says family) b e)
-        × ((b : List ℕ) → HasNoFault (says viewed) b ↔ HasNoFault (says family) b)
-        × ((b : List ℕ) → length (values_in (says viewed) b) ≡ length (values_in (says family) b))
-        × ((b : List ℕ) → map (attribute_said viewed) (values_in (says viewed) b)
-        ≡ map (attribute_said family) (values_in (says family) b)) };
-
-    ghost written: { (header : Self) → Self.Emitable.bytes header
-        ≡ Self.ReplyHeader.reply.header.bytes (Self.ReplyHeader.told header) };
-
-    ghost fits: { (header : Self) → Self.Emitable.writable header };
+        ((b : List ℕ) → HasNoFault (says viewed) b ↔ HasNoFault (says family) b)
+        × ((b : List ℕ) → length (values_in (says viewed) b) ≡ length (values_in (says family) b)) };
 }
 
 /// A reply, read in place: its bytes, of which all were checked.
@@ -119,6 +129,34 @@ impl<H: ReplyHeader> Debug for ReplyView<'_, H> {
 impl<'a, H: ReplyHeader> ReplyView<'a, H> {
     ghost use Rattle.netlink_packet_sock_diag.specs.Viewed.{viewed};
 
+    /// Checks the whole of the bytes, and takes no memory. A fault of the header is told, or else
+    /// the first fault of an attribute. Fewer bytes than the header has are `BufferTooSmall`.
+    // It stands apart: its walk takes no time where a list is made.
+    #[inline(never)]
+    pub fn parse(bytes: &'a [u8]) -> Result<ReplyView<'a, H>, DecodeError>
+        ensures value { IfOk result (λ view.
+            (reply_codec H.reply).reads bytes.entry.now tt (viewed view)) }
+        ensures kept { IfOk result (λ view. view.bytes.now ≡ bytes.entry.now) }
+        ensures fault { IfErr result ((reply_codec H.reply).refuses bytes.entry.now tt) }
+        ensures named { IfErr result (λ fault. fault ≢ Memory) }
+    {
+        let _header = H::read_header(bytes)?;
+        let count = H::check(&bytes[H::length()..])?;
+        Ok(ReplyView {
+            bytes,
+            count,
+            header: PhantomData,
+        })
+    }
+
+    // How many attributes there are.
+    #[inline(always)]
+    pub(crate) fn count(&self) -> usize
+        ensures { result ≡ length (viewed self.now).nlas }
+    {
+        self.count
+    }
+
     /// The header, which tells the socket.
     #[inline(always)]
     pub fn header(&self) -> H
@@ -131,7 +169,7 @@ impl<'a, H: ReplyHeader> ReplyView<'a, H> {
     }
 
     // The bytes behind the header.
-    fn attribute_bytes(&self) -> &'a [u8]
+    pub(crate) fn attribute_bytes(&self) -> &'a [u8]
         ensures part { result.now ≡ drop H.reply.size self.now.bytes.now }
         ensures clean { HasNoFault (says H.reply.family) result.now }
     {
@@ -140,26 +178,7 @@ impl<'a, H: ReplyHeader> ReplyView<'a, H> {
 }
 
 impl<'a, H: ReplyViews<'a>> ReplyView<'a, H> {
-    ghost use Rattle.netlink_packet_sock_diag.specs.Viewed.{viewed, left_in};
-
-    /// Checks the whole of the bytes, and takes no memory. A fault of the header is told, or else
-    /// the first fault of an attribute. Fewer bytes than the header has are `BufferTooSmall`.
-    // It stands apart: its walk takes no time where a list is made.
-    #[inline(never)]
-    pub fn parse(bytes: &'a [u8]) -> Result<ReplyView<'a, H>, DecodeError>
-        ensures value { IfOk result (λ view.
-            (reply_codec H.reply).reads bytes.entry.now tt (viewed view)) }
-        ensures fault { IfErr result ((reply_codec H.reply).refuses bytes.entry.now tt) }
-        ensures named { IfErr result (λ fault. fault ≢ Memory) }
-    {
-        let _header = H::read_header(bytes)?;
-        let count = check_nlas::<H::View>(&bytes[H::length()..])?;
-        Ok(ReplyView {
-            bytes,
-            count,
-            header: PhantomData,
-        })
-    }
+    ghost use Rattle.netlink_packet_sock_diag.specs.Viewed.{left_in};
 
     /// The attributes, in the order that they came.
     pub fn attributes(&self) -> AttributeViews<'a, H>
@@ -171,32 +190,6 @@ impl<'a, H: ReplyViews<'a>> ReplyView<'a, H> {
             count: self.count,
             header: PhantomData,
         }
-    }
-
-    // Puts the attributes, with memory of their own, into the empty list. They are not moved again
-    // where the list is already in its place.
-    pub(crate) fn own_into(
-        &self,
-        alloc: Global,
-        nlas: &mut SmallVec<<H::View as FamilyView<'a>>::Owned, 8>,
-    ) -> Result<(), AllocError>
-        requires { nlas.old.items ≡ [] }
-        ensures equal { OnOk result (map H.View.FamilyView.seen nlas.new.items
-            ≡ values_in (says H.View.FamilyView.family) (drop H.reply.size self.now.bytes.now)) }
-        ensures spare { let family = H.View.FamilyView.family in
-            let said = values_in (says family) (drop H.reply.size self.now.bytes.now) in
-            nlas.old.capacity ≡ 8
-            → (length said ≤ 8) × AllByRecursion (IsSpareSaid family) said → IsOk result }
-    {
-        own_nlas::<H::View>(alloc, self.attribute_bytes(), self.count, nlas)
-    }
-
-    // How many bytes the reply is written as, where each value and the whole fit their lengths.
-    fn written_len(&self) -> Option<usize>
-        ensures fits { IsSome result ↔ (reply_codec H.reply).fits (viewed self.now) }
-        ensures len { IfSome result (λ len. len ≡ length (reply_bytes H.reply (viewed self.now))) }
-    {
-        viewed_reply_len::<_, H::View>(&self.header(), self.attribute_bytes())
     }
 }
 
@@ -225,7 +218,7 @@ impl<H: ReplyHeader> Eq for ReplyView<'_, H> {
 }
 
 /// Writes the bytes of the reply's canonical form, and takes no memory.
-impl<'a, H: ReplyViews<'a>> Emitable for ReplyView<'a, H> {
+impl<H: ReplyHeader> Emitable for ReplyView<'_, H> {
     ghost use Rattle.netlink_packet_sock_diag.specs.Viewed.{viewed};
 
     ghost bytes = { λ v. reply_bytes H.reply (viewed v) };
@@ -233,22 +226,22 @@ impl<'a, H: ReplyViews<'a>> Emitable for ReplyView<'a, H> {
     ghost writable = { λ v. (reply_codec H.reply).fits (viewed v) };
 
     fn is_writable(&self) -> bool {
-        self.written_len().is_some()
+        self.writable_len().is_some()
     }
 
     fn buffer_len(&self) -> usize {
-        let Some(len) = self.written_len() else {
+        let Some(len) = self.writable_len() else {
             unreachable!();
         };
         len
     }
 
     fn writable_len(&self) -> Option<usize> {
-        self.written_len()
+        self.header().len_with(self.attribute_bytes())
     }
 
     fn emit(&self, buffer: &mut [u8]) {
-        emit_viewed_reply::<_, H::View>(&self.header(), self.attribute_bytes(), buffer);
+        self.header().emit_with(self.attribute_bytes(), buffer);
     }
 }
 

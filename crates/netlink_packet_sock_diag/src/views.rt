@@ -1,26 +1,20 @@
 //! How replies of every family are read in place.
 
-ghost use Rattle.std.specs.Prelude.{◌≡◌, ◌≤◌, ◌↔◌, ◌+◌, ◌++◌, [], length, drop, map, Ok, Err, OnOk, IfOk, IfErr, IsOk, IsSome, IfSome};
+ghost use Rattle.std.specs.Prelude.{◌≡◌, ◌≤◌, ◌↔◌, ◌+◌, ◌++◌, length, drop, map, Ok, Err, OnOk, IfOk, IfErr, IsOk, IsSome, IfSome};
 ghost use Rattle.std.specs.List.{AllByRecursion, flat_map};
 ghost use lib.Pointwise.{pointwise};
 ghost use Rattle.std.specs.Iterator.{YieldsFirstBy};
 ghost use Rattle.netlink_core.specs.Attribute.{AreWritable, AttributeFault, HasFittingValue, written};
-ghost use Rattle.netlink_core.specs.Family.{Family, Said, says, attribute_said, IsSpareSaid};
+ghost use Rattle.netlink_core.specs.Family.{Family, Said, says, attribute_said};
 ghost use Rattle.netlink_core.proofs.SaidTests.{Tests, said_test};
 ghost use Rattle.netlink_core.specs.ReplySteps.{FramedFits, framed};
 ghost use Rattle.netlink_core.specs.Walk.{attribute_of, bytes_left};
 ghost use Rattle.netlink_packet_sock_diag.specs.AttributesIn.{HasNoFault, values_in};
 
 use netlink_core::{DecodeError, Emitable, Nla, NlaBuffer, NlasIterator, emit_nla, nla_len};
-use smallvec::SmallVec;
-use std::alloc::{AllocError, Global};
-use std::default::MadeWith;
 
 /// The attributes of one family of replies, read in place.
 pub(crate) trait FamilyView<'a>: Nla + PartialEq + Sized {
-    /// The attribute with memory of its own.
-    type Owned: MadeWith<Global> + Drop;
-
     // The family, and what an attribute says in it.
     ghost family: { Family };
 
@@ -28,8 +22,6 @@ pub(crate) trait FamilyView<'a>: Nla + PartialEq + Sized {
 
     // How what is said is compared.
     ghost tests: { Tests family };
-
-    ghost seen: { Self.Owned → Said family };
 
     /// Reads one attribute.
     fn read_view(nla: &NlaBuffer<'a>) -> Result<Self, DecodeError>
@@ -40,11 +32,6 @@ pub(crate) trait FamilyView<'a>: Nla + PartialEq + Sized {
     fn read_accepted(nla: &NlaBuffer<'a>) -> Self
         requires { IsOk (says family (attribute_of nla.now)) }
         ensures { says family (attribute_of nla.now) ≡ Ok (viewed result) };
-
-    /// The attribute with memory of its own.
-    fn own(&self, alloc: Global) -> Result<Self::Owned, AllocError>
-        ensures equal { IfOk result (λ nla. seen nla ≡ viewed self.now) }
-        ensures spare { IsSpareSaid family (viewed self.now) → IsOk result };
 
     // An attribute is written as what it says, and `==` compares that.
     ghost written_as: { (view : Self) → Self.Nla.attribute view ≡ attribute_said family (viewed view) };
@@ -82,50 +69,6 @@ pub(crate) fn next_view<'a, V: FamilyView<'a>>(walk: &mut NlasIterator<'a>) -> O
         Some(Err(_)) => unreachable!(),
         Some(Ok(nla)) => Some(V::read_accepted(&nla)),
     }
-}
-
-/// Puts the attributes, with memory of their own and in the same order, into the empty list. At most one request for
-/// memory is made for the list, and none where there is room for so many. It is never inlined: a list that lends itself
-/// to a call costs its owner less than one that is filled on the spot.
-#[tactic(auto, using(crate::proofs::Owning::owning))]
-#[inline(never)]
-pub(crate) fn own_nlas<'a, V: FamilyView<'a> + Drop>(
-    alloc: Global,
-    bytes: &'a [u8],
-    count: usize,
-    nlas: &mut SmallVec<V::Owned, 8>,
-) -> Result<(), AllocError>
-    requires clean { HasNoFault (says V.family) bytes.now }
-    requires count { count ≡ length (values_in (says V.family) bytes.now) }
-    requires empty { nlas.old.items ≡ [] }
-    ensures equal { OnOk result (map V.seen nlas.new.items ≡ values_in (says V.family) bytes.entry.now) }
-    ensures spare { count ≤ nlas.old.capacity → AllByRecursion (IsSpareSaid V.family) (values_in (says V.family) bytes.entry.now) → IsOk result }
-{
-    if count > nlas.capacity() {
-        make_room(nlas, count)?;
-    }
-    for item in NlasIterator::new(bytes) {
-        let Ok(nla) = item else {
-            unreachable!();
-        };
-        let view = V::read_accepted(&nla);
-        nlas.push_reserved(view.own(alloc)?);
-    }
-    Ok(())
-}
-
-// Makes room in an empty list. It stands apart, so that what moves a list takes no time where there is room.
-#[cold]
-#[inline(never)]
-fn make_room<T: MadeWith<Global> + Drop>(
-    nlas: &mut SmallVec<T, 8>,
-    count: usize,
-) -> Result<(), AllocError>
-    requires { nlas.old.items ≡ [] }
-    ensures empty { nlas.new.items ≡ [] }
-    ensures room { OnOk result (count ≤ nlas.new.capacity) }
-{
-    nlas.reserve_exact(count)
 }
 
 /// Whether the same attributes stand in both places, in the same order.

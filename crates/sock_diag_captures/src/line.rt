@@ -6,8 +6,7 @@ ghost use Rattle.netlink_core.specs.Family.{content};
 ghost use Rattle.sock_diag_attributes.specs.InetAttributes.{inet};
 ghost use Rattle.sock_diag_attributes.specs.UnixAttributes.{unix};
 ghost use Rattle.netlink_packet_sock_diag.specs.Viewed.{left_in};
-ghost use Rattle.netlink_packet_sock_diag.specs.ViewedInetReply as viewed_inet;
-ghost use Rattle.netlink_packet_sock_diag.specs.ViewedUnixReply as viewed_unix;
+ghost use Rattle.netlink_packet_sock_diag.specs.Viewed.{viewed};
 ghost use Rattle.sock_diag_captures.specs.Shown.{shown_cells};
 ghost use Rattle.sock_diag_attributes.specs.SeenInet.{viewed_nla};
 ghost use Rattle.netlink_packet_sock_diag.specs.ViewedMessage.{viewed_message};
@@ -48,8 +47,8 @@ const LOCAL: usize = 30;
 
 /// Adds the first columns of a line.
 fn push_first_columns(text: &mut Vec<u8>, cells: &Cells) -> Result<(), AllocError>
-    ensures { OnOk result (text.new.items ≡ text.old.items
-        ++ first_columns (shown_cells cells.now)) }
+    ensures { OnOk result (text.new.items ≡ text.old.items ++ first_columns (shown_cells cells.now))
+        }
 {
     push_column(text, 5, cells.kind)?;
     push_column(text, 10, name_of_state(cells.state))?;
@@ -63,7 +62,7 @@ fn push_first_columns(text: &mut Vec<u8>, cells: &Cells) -> Result<(), AllocErro
 #[tactic(auto, unfolding(crate::specs::Table::message_lines))]
 pub fn push_socket(text: &mut Vec<u8>, view: &SockDiagView<'_>) -> Result<(), AllocError>
     ensures { OnOk result (text.new.items ≡ text.old.items
-        ++ message_lines (viewed_message view.now)) }
+          ++ message_lines (viewed_message view.now)) }
 {
     match view {
         SockDiagView::UnixResponse(reply) => push_unix(text, reply),
@@ -73,8 +72,7 @@ pub fn push_socket(text: &mut Vec<u8>, view: &SockDiagView<'_>) -> Result<(), Al
 
 /// Adds the line of a UNIX socket.
 fn push_unix(text: &mut Vec<u8>, reply: &UnixResponseView<'_>) -> Result<(), AllocError>
-    ensures { OnOk result (text.new.items ≡ text.old.items
-        ++ unix_line (viewed_unix.viewed_response reply.now)) }
+    ensures { OnOk result (text.new.items ≡ text.old.items ++ unix_line (viewed reply.now)) }
 {
     push_first_columns(text, &unix_cells(reply))?;
     push_name_column(text, LOCAL, reply.name())?;
@@ -84,8 +82,7 @@ fn push_unix(text: &mut Vec<u8>, reply: &UnixResponseView<'_>) -> Result<(), All
 
 /// The first columns of a UNIX socket. The queues of a listening one are connections.
 fn unix_cells(reply: &UnixResponseView<'_>) -> Cells
-    ensures { let v = viewed_unix.viewed_response reply.now in
-        let queues = first_of (content unix 4) v.nlas in
+    ensures { let v = viewed reply.now in let queues = first_of (content unix 4) v.nlas in
         shown_cells result ≡ record {
           kind = unix_kind v.header.kind;
           state = v.header.state;
@@ -128,8 +125,7 @@ fn name_of_kind(kind: u8) -> &'static [u8]
 
 /// Adds the line of an IPv4 or IPv6 socket, and those of what is told of a TCP connection.
 fn push_inet(text: &mut Vec<u8>, reply: &InetResponseView<'_>) -> Result<(), AllocError>
-    ensures { OnOk result (text.new.items ≡ text.old.items
-        ++ inet_lines (viewed_inet.viewed_response reply.now)) }
+    ensures { OnOk result (text.new.items ≡ text.old.items ++ inet_lines (viewed reply.now)) }
 {
     push_inet_line(text, &reply.header())?;
     push_details(text, reply.attributes())
@@ -180,7 +176,7 @@ fn inet_cells(header: &InetResponseHeader) -> Cells
 /// Adds a line for each attribute that tells of a TCP connection.
 fn push_details(text: &mut Vec<u8>, attributes: NlaViews<'_>) -> Result<(), AllocError>
     ensures { OnOk result (text.new.items ≡ text.old.items ++ flat_map details_of
-        (left_in inet attributes.entry)) }
+          (left_in inet attributes.entry)) }
 {
     for attribute in attributes {
         push_attribute(text, &attribute)?;
@@ -190,8 +186,8 @@ fn push_details(text: &mut Vec<u8>, attributes: NlaViews<'_>) -> Result<(), Allo
 
 /// Adds the line of an attribute that tells of a TCP connection, and nothing for another.
 fn push_attribute(text: &mut Vec<u8>, attribute: &NlaView<'_>) -> Result<(), AllocError>
-    ensures { OnOk result (text.new.items ≡ text.old.items
-        ++ details_of (viewed_nla attribute.now)) }
+    ensures { OnOk result (text.new.items ≡ text.old.items ++ details_of (viewed_nla attribute.now))
+        }
 {
     match attribute {
         NlaView::TcpInfo(info) => push_connection(text, info),

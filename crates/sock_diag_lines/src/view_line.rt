@@ -1,7 +1,7 @@
 //! The answer to a line that looks at a reply about a UNIX socket without a copy of it.
 
 ghost use Rattle.std.specs.Prelude.{◌≡◌, ◌∷◌, ◌++◌, decimal, OnOk};
-ghost use Rattle.netlink_packet_sock_diag.specs.ViewedUnixReply.{viewed_response};
+ghost use Rattle.netlink_packet_sock_diag.specs.Viewed.{viewed};
 ghost use Rattle.sock_diag_lines.specs.Subjects.{view_subject};
 ghost use Rattle.sock_diag_lines.specs.Told.{TellsOf};
 ghost use Rattle.sock_diag_lines.specs.TextSteps.{Adds, accepted};
@@ -27,7 +27,7 @@ pub(crate) fn push_view(text: &mut Vec<u8>, bytes: &[u8]) -> Result<(), AllocErr
 /// Adds `ok` and the words of a reply.
 fn push_reply(text: &mut Vec<u8>, view: &UnixResponseView<'_>) -> Result<(), AllocError>
     ensures { OnOk result (text.new.items ≡ text.old.items
-        ++ accepted (shown_reply (viewed_response view.now))) }
+          ++ accepted (shown_reply (viewed view.now))) }
 {
     text.extend_from_slice(OK)?;
     push_header(text, &view.header())?;

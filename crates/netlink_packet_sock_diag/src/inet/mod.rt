@@ -1,6 +1,5 @@
 //! Requests and replies about IPv4 and IPv6 sockets.
 
-mod family;
 pub mod nlas;
 mod response;
 mod view;

@@ -1,6 +1,5 @@
 //! Requests and replies about UNIX sockets.
 
-mod family;
 mod getters;
 pub mod nlas;
 mod response;

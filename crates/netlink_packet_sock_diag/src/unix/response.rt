@@ -1,133 +1,67 @@
-//! The reply about one UNIX socket.
+//! The reply about one UNIX socket, with memory of its own.
 
-ghost use Rattle.netlink_packet_sock_diag.specs.EqualReplyLaws.{replies_equal};
-ghost use Rattle.sock_diag_attributes.specs.contracts.unix.coded.NlaCoded.TheImpl.Laws.{eq_is_seen-law as same_nla};
-ghost use Rattle.sock_diag_records.specs.contracts.unix.response.UnixResponseHeaderExact.TheImpl.Laws.{exact-law as exact_header};
-ghost use Rattle.std.specs.Prelude.{◌≡◌, IfOk, IsOk, true, refl};
-ghost use Rattle.netlink_core.specs.Canonical.{GivesUp};
-ghost use Rattle.netlink_core.specs.Reply.{reply_bytes, reply_codec};
+ghost use Rattle.std.specs.Prelude.{refl};
 ghost use Rattle.netlink_core.proofs.Replies.{replies_keep_laws};
 ghost use Rattle.netlink_packet_sock_diag.specs.UnixReply.{unix_reply};
 ghost use Rattle.netlink_packet_sock_diag.specs.UnixReplyLaws.{unix_reply_laws};
+ghost use Rattle.sock_diag_attributes.specs.UnixAttributes.{unix};
+ghost use Rattle.sock_diag_attributes.specs.SeenUnix.{seen_nla};
+ghost use Rattle.sock_diag_attributes.specs.contracts.unix.coded.NlaCoded.TheImpl.Laws.{eq_is_seen-law as same_nla};
+ghost use Rattle.sock_diag_records.specs.contracts.unix.response.UnixResponseHeaderExact.TheImpl.Laws.{exact-law as exact_header};
 
-use crate::reply::{
-    copy_nlas, emit_reply, fitting_reply_len, nlas_typed, reply_len, without_memory,
-};
-use crate::unix::nlas::Nla;
-use crate::unix::{UnixResponseHeader, UnixResponseView};
-use netlink_core::{
-    CanonError, Coded, DecodeError, Emitable, Parseable, Readable, Wire, write_new,
-};
-use smallvec::SmallVec;
+use crate::reply::FamilyNla;
+use crate::response::{Reply, ReplyOwned};
+use crate::unix::UnixResponseHeader;
+use crate::unix::nlas::{Nla, NlaView};
+use netlink_core::{Coded, NlaBuffer};
 use std::alloc::{AllocError, Global};
 
-/// The reply about one UNIX socket: the header, and the attributes that were asked for, in the order that they came.
-#[derive(Debug, Drop, PartialEq, Eq)]
-pub struct UnixResponse {
-    /// The header, which tells the socket.
-    pub header: UnixResponseHeader,
-    /// The attributes. Up to eight stand in the value itself.
-    pub nlas: SmallVec<Nla, 8>,
+/// The reply about one UNIX socket: the header, and the attributes that were asked for, in
+/// the order that they came.
+///
+/// Of `parse`, fewer than 16 bytes are `BufferTooSmall`; after that the first fault of the
+/// attributes counts.
+pub type UnixResponse = Reply<UnixResponseHeader, Nla>;
+
+impl ReplyOwned for UnixResponseHeader {
+    type Nla = Nla;
+
+    const REPLY: &'static str = "UnixResponse";
+
+    fn told_typed(&self) {
+        self.typed();
+    }
+
+    ghost eq_is_seen = { exact_header.0 };
+
+    ghost written = { λ _. refl };
+
+    ghost fits = { λ _. tt };
+
+    ghost same = { (λ _ _ h. h, λ _ h. h, λ _. refl, λ _. refl) };
+
+    ghost keeps = { replies_keep_laws unix_reply unix_reply_laws };
 }
 
-impl UnixResponse {
-    ghost use Rattle.netlink_packet_sock_diag.specs.SeenUnixReply.{seen_response};
+impl FamilyNla for Nla {
+    ghost family = { unix };
 
-    /// An equal reply. It fails only for want of memory, which up to eight attributes that need none do not want.
-    pub fn clone(&self, alloc: Global) -> Result<Self, AllocError>
-        ensures equal { IfOk result (λ copy. seen_response copy ≡ seen_response self.now) }
-        ensures spare { (reply_codec unix_reply).is_spare (seen_response self.now) → IsOk result }
-    {
-        let nlas = copy_nlas(alloc, self.nlas.as_slice())?;
-        Ok(UnixResponse {
-            header: self.header.clone()?,
-            nlas,
-        })
-    }
-}
+    ghost seen = { seen_nla };
 
-impl Readable for UnixResponse {
-    const TAKES_MEMORY: bool = true;
-
-    ghost TAKES_MEMORY = { true };
-}
-
-impl<'a> Parseable<&'a [u8]> for UnixResponse {
-    /// Reads the header, and then the attributes up to the end of the bytes. Fewer than 16 bytes are `BufferTooSmall`;
-    /// after that the first fault of the attributes counts.
-    fn parse(alloc: Global, payload: &'a [u8]) -> Result<Self, DecodeError> {
-        let view = UnixResponseView::parse(payload)?;
-        let mut nlas = SmallVec::new(alloc);
-        if view.own_into(alloc, &mut nlas).is_err() {
-            return Err(without_memory(nlas));
-        }
-        Ok(UnixResponse {
-            header: view.header(),
-            nlas,
-        })
-    }
-}
-
-impl Emitable for UnixResponse {
-    ghost use Rattle.netlink_packet_sock_diag.specs.SeenUnixReply.{seen_response};
-
-    ghost bytes = { λ v. reply_bytes unix_reply (seen_response v) };
-
-    ghost writable = { λ v. (reply_codec unix_reply).fits (seen_response v) };
-
-    fn is_writable(&self) -> bool {
-        self.writable_len().is_some()
+    #[inline(always)]
+    fn own_accepted(alloc: Global, nla: &NlaBuffer<'_>) -> Result<Self, AllocError> {
+        NlaView::new(nla).to_owned(alloc)
     }
 
-    fn buffer_len(&self) -> usize {
-        fitting_reply_len(&self.header, self.nlas.as_slice())
+    fn copy_nla(&self, alloc: Global) -> Result<Self, AllocError> {
+        self.clone(alloc)
     }
 
-    fn writable_len(&self) -> Option<usize> {
-        reply_len(&self.header, self.nlas.as_slice())
+    fn said_typed(&self) {
+        self.typed();
     }
 
-    fn emit(&self, buffer: &mut [u8]) {
-        emit_reply(&self.header, self.nlas.as_slice(), buffer);
-    }
-}
+    ghost written_as = { λ _. refl };
 
-impl Coded for UnixResponse {
-    ghost use Rattle.sock_diag_attributes.specs.SeenUnix.{seen_nla};
-    ghost use Rattle.netlink_packet_sock_diag.specs.SeenUnixReply.{seen_response};
-
-    type Param = ();
-
-    ghost codec = { reply_codec unix_reply };
-
-    ghost seen = { seen_response };
-
-    ghost type_written = { λ _. 0 };
-
-    fn typed(&self) {
-        self.header.typed();
-        nlas_typed(self.nlas.as_slice());
-    }
-
-    ghost eq_is_seen = { λ v w. replies_equal _ _ seen_nla exact_header.0 same_nla v.header w.header v.nlas.items w.nlas.items };
-
-    ghost laws = { replies_keep_laws unix_reply unix_reply_laws };
-}
-
-impl Wire for UnixResponse {
-    fn read(alloc: Global, bytes: &[u8], _param: ()) -> Result<Self, DecodeError> {
-        UnixResponse::parse(alloc, bytes)
-    }
-
-    // Written from the view: no value with memory of its own is made.
-    fn rewrite(alloc: Global, bytes: &[u8], _param: ()) -> Result<Vec<u8>, CanonError> {
-        match UnixResponseView::parse(bytes) {
-            Ok(view) => write_new(alloc, &view),
-            Err(fault) => Err(CanonError::Refused(fault)),
-        }
-    }
-
-    ghost written_is = { λ _. refl };
-
-    ghost fits_is = { λ _. (λ h. h, λ h. h) };
+    ghost eq_is_seen = { same_nla };
 }

@@ -13,7 +13,7 @@ use crate::unix::nlas::{MemInfo, NameView, NlaView, NlaViews, NumbersView};
 use sock_diag_records::constants::TCP_LISTEN;
 
 impl<'a> UnixResponseView<'a> {
-    ghost use Rattle.netlink_packet_sock_diag.specs.ViewedUnixReply.{viewed_response};
+    ghost use Rattle.netlink_packet_sock_diag.specs.Viewed.{viewed as viewed_response};
 
     /// The inode of the socket's peer, where an attribute tells it: the content of the first `Peer`.
     pub fn peer(&self) -> Option<u32>
@@ -45,7 +45,7 @@ impl<'a> UnixResponseView<'a> {
 }
 
 impl<'a> UnixResponseView<'a> {
-    ghost use Rattle.netlink_packet_sock_diag.specs.ViewedUnixReply.{viewed_response};
+    ghost use Rattle.netlink_packet_sock_diag.specs.Viewed.{viewed as viewed_response};
     ghost use Rattle.netlink_packet_sock_diag.specs.UnixGetters.{listening_queue_of, other_queue_of};
 
     /// How many connections wait to be accepted, of a listening socket (state `TCP_LISTEN`): the first number of the
@@ -112,7 +112,7 @@ impl<'a> UnixResponseView<'a> {
 }
 
 impl<'a> UnixResponseView<'a> {
-    ghost use Rattle.netlink_packet_sock_diag.specs.ViewedUnixReply.{viewed_response};
+    ghost use Rattle.netlink_packet_sock_diag.specs.Viewed.{viewed as viewed_response};
 
     /// The size of the send buffer, which bounds a datagram: the field `max_datagram_size` of the first `MemInfo`.
     pub fn max_datagram_size(&self) -> Option<u32>

@@ -1,8 +1,11 @@
 use Rattle.std.proofs.Common.{drop, map}
 use Rattle.std.specs.List.{AllByRecursion}
+use Rattle.netlink_core.specs.Family.{IsTypedSaid}
 use Rattle.netlink_packet_sock_diag.proofs.reply.nlas_typed.Given as goal
 
 -- where those that are left are typed, all are
 abbrev pub invariant-loop-nla : goal.invariant-loop-nla
 invariant-loop-nla g l =
-    AllByRecursion g.T.Coded.codec.is_typed (map g.T.Coded.seen (drop l.nla-index l.nlas)) → AllByRecursion g.T.Coded.codec.is_typed (map g.T.Coded.seen l.nlas)
+    let typed = IsTypedSaid g.T.FamilyNla.family in
+    AllByRecursion typed (map g.T.FamilyNla.seen (drop l.nla-index l.nlas))
+    → AllByRecursion typed (map g.T.FamilyNla.seen l.nlas)

@@ -1,16 +1,9 @@
 use Rattle.std.proofs.Common.{◌∙◌, ap, inl, refl}
-use Rattle.netlink_packet_sock_diag.specs.ViewedUnixReply.{viewed_response}
+use Rattle.netlink_packet_sock_diag.specs.Viewed.{viewed}
 use Rattle.sockdiag_c.specs.Headers.{unix_header_of}
 use Rattle.sockdiag_c.proofs.check.sockdiag_check_unix_reply.Goals as goal
 
 pub returns-in-Ok : goal.returns-in-Ok
 returns-in-Ok c =
-    inl (
-      refl,
-      (
-        viewed_response c.in-Ok.view,
-        c.in-Ok.ensures.value,
-        c.from.ensures
-            ∙ ap unix_header_of c.header.ensures,
-      ),
-    )
+    inl (refl, (viewed c.in-Ok.view, c.in-Ok.ensures.value, c.from.ensures
+          ∙ ap unix_header_of c.header.ensures))

@@ -1,4 +1,4 @@
-use Rattle.std.proofs.Common.{ℕ, List, length, drop, ap, subst, inl, ◌∙◌, rules, arith}
+use Rattle.std.proofs.Common.{ℕ, List, length, drop, ap, subst, inl, ◌∙◌, arith}
 use Rattle.std.proofs.lemmas.List.{take_rest}
 use Rattle.std.proofs.lemmas.Result.{err_from_is_err_and}
 use Rattle.netlink_core.specs.Bytes.{IsBytes}
@@ -13,7 +13,7 @@ returns-in_err-_header-clause-named g c =
     let p = err_from_is_err_and c.from_residual.result c.from_residual.ensures.1 in
     let fault = inl c.in_err-_header.ensures.fault in
     let refuses = (reply_codec g.H.ReplyHeader.reply).refuses c.args.bytes.now tt in
-    rw (p.1, p.2) (λ memory. g.met.H.ReplyHeader.named _ (subst refuses memory fault))
+    rw (p.1, p.2) (λ memory. g.met.H.ReplyHeader.keeps.named_fault _ tt (subst refuses memory fault))
 
 pub returns-in_err-count-clause-fault : goal.returns-in_err-count-clause-fault
 returns-in_err-count-clause-fault g c =
@@ -21,10 +21,9 @@ returns-in_err-count-clause-fault g c =
     let p = err_from_is_err_and residual.result residual.ensures.1 in
     let bytes = c.args.bytes.now in
     let part = take_rest bytes _ ∙ ap (λ (n : ℕ). drop n bytes) c.length.ensures in
-    let same = (g.met.H.ReplyViews c.lifetimes (search (rules, c.well_formed))).same in
-    let fault = same.0 _ _ c.in_err-count.ensures.fault in
     rw (p.1, p.2)
-    (behind_refused g.H.ReplyHeader.reply _ _ part _ _ c.in_ok-_header.ensures.value fault)
+    (behind_refused g.H.ReplyHeader.reply _ _ part _ _ c.in_ok-_header.ensures.value
+    c.in_err-count.ensures.fault)
 
 pub returns-in_err-count-clause-named : goal.returns-in_err-count-clause-named
 returns-in_err-count-clause-named g c =
@@ -32,25 +31,21 @@ returns-in_err-count-clause-named g c =
     let p = err_from_is_err_and residual.result residual.ensures.1 in
     let bytes = c.args.bytes.now in
     let part = take_rest bytes _ ∙ ap (λ (n : ℕ). drop n bytes) c.length.ensures in
-    let same = (g.met.H.ReplyViews c.lifetimes (search (rules, c.well_formed))).same in
-    let fault = same.0 _ _ c.in_err-count.ensures.fault in
-    let header = c.in_ok-_header.ensures.value in
-    let refused = behind_refused g.H.ReplyHeader.reply _ _ part _ _ header fault in
+    let refused = behind_refused g.H.ReplyHeader.reply _ _ part _ _ c.in_ok-_header.ensures.value
+    c.in_err-count.ensures.fault in
     let refuses = (reply_codec g.H.ReplyHeader.reply).refuses c.args.bytes.now tt in
-    rw (p.1, p.2) (λ memory. g.met.H.ReplyHeader.named _ (subst refuses memory refused))
+    rw (p.1, p.2) (λ memory. g.met.H.ReplyHeader.keeps.named_fault _ tt (subst refuses memory refused))
 
 pub invariant_of-result : goal.invariant_of-result
 invariant_of-result g c =
     let R = g.H.ReplyHeader.reply in
-    let same = (g.met.H.ReplyViews c.lifetimes (search (rules, c.well_formed))).same in
     let bytes = c.args.bytes.now in
     let part = take_rest bytes _ ∙ ap (λ (n : ℕ). drop n bytes) c.length.ensures in
     record {
       long = g.met.H.ReplyHeader.enough c.args.bytes.now _ c.in_ok-_header.ensures.value;
       accepted = reply_accepted R _ _ part _ c.in_ok-_header.ensures.value
-          ((same.1 _).0 c.in_ok-count.ensures.clean);
+          c.in_ok-count.ensures.clean;
       counted = c.in_ok-count.ensures.count
-          ∙ same.2 _
           ∙ ap (λ (b : List ℕ). length (values_in (says R.family) b)) part;
     }
 

@@ -3,11 +3,11 @@ use Rattle.netlink_core.specs.Walk.{bytes_left}
 use Rattle.netlink_core.specs.Family.{says}
 use Rattle.netlink_packet_sock_diag.specs.AttributesIn.{values_in}
 use Rattle.netlink_packet_sock_diag.proofs.Owning.{Owned}
-use Rattle.netlink_packet_sock_diag.proofs.views.own_nlas.Given as goal
+use Rattle.netlink_packet_sock_diag.proofs.reply.own_nlas.Given as goal
 
 -- what was kept and what is left are all, and there is room for all
 abbrev pub invariant-loop-item : goal.invariant-loop-item
 invariant-loop-item g l = record {
-  owned : Owned (says g.V.FamilyView.family) g.V.FamilyView.seen l.bytes (bytes_left l.item-iterator) l.nlas.items;
-  room : length (values_in (says g.V.FamilyView.family) l.bytes) ≤ l.nlas.capacity;
+  owned : Owned (says g.T.FamilyNla.family) g.T.FamilyNla.seen l.bytes (bytes_left l.item-iterator) l.nlas.items;
+  room : length (values_in (says g.T.FamilyNla.family) l.bytes) ≤ l.nlas.capacity;
 }

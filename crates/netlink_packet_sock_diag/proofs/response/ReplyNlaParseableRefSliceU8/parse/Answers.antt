@@ -1,0 +1,33 @@
+use Rattle.std.proofs.Common.{drop, rules, IsOk, arith}
+use Rattle.std.proofs.lemmas.Result.{err_from_is_err_and}
+use Rattle.netlink_core.specs.Bytes.{IsBytes}
+use Rattle.netlink_packet_sock_diag.specs.AttributesIn.{reply_behind, reply_with}
+use Rattle.netlink_packet_sock_diag.specs.Viewed.{viewed}
+use Rattle.netlink_packet_sock_diag.proofs.Kept.{kept_reads, kept_refused}
+use Rattle.netlink_packet_sock_diag.proofs.response.ReplyNlaParseableRefSliceU8.parse.Goals as goal
+
+pub returns-in_err-view-clause-fault : goal.returns-in_err-view-clause-fault
+returns-in_err-view-clause-fault g c =
+    let p = err_from_is_err_and c.from_residual.result c.from_residual.ensures.1 in
+    let refused = kept_refused g.H.ReplyHeader.reply g.H.Nla.FamilyNla.family
+    g.met.H.ReplyOwned.same.0 _ _ c.in_err-view.ensures.fault in
+    rw (p.1, p.2) (λ named. refused)
+
+pub returns-then-is_err-clause-wanted : goal.returns-then-is_err-clause-wanted
+returns-then-is_err-clause-wanted g c = λ memory.
+    let R = g.H.ReplyHeader.reply in
+    let F = g.H.Nla.FamilyNla.family in
+    let view = c.in_ok-view.view in
+    let typed : IsBytes c.args.payload.now = λ i. omega (arith, c.type_inv.payload i) in (
+      reply_behind (reply_with R F) (viewed view).header (drop R.size view.bytes.now),
+      kept_reads R F g.met.H.ReplyOwned.same.1 _ _ view.accepted c.in_ok-view.ensures.kept typed,
+      λ spare. let ok : IsOk c.own_into.result = c.own_into.ensures.spare c.new-nlas.ensures.capacity spare in search rules,
+    )
+
+pub returns-clause-value : goal.returns-clause-value
+returns-clause-value g c =
+    let R = g.H.ReplyHeader.reply in
+    let F = g.H.Nla.FamilyNla.family in
+    let typed : IsBytes c.args.payload.now = λ i. omega (arith, c.type_inv.payload i) in
+    let reads = kept_reads R F g.met.H.ReplyOwned.same.1 _ _ c.in_ok-view.view.accepted c.in_ok-view.ensures.kept typed in
+    search (rules, reads)

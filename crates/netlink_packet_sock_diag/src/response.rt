@@ -1,0 +1,244 @@
+//! A reply of any family, with memory of its own.
+
+ghost use Rattle.std.specs.Prelude.{◌≡◌, ◌≤◌, ◌↔◌, ℕ, List, [], length, drop, map, IfOk, IsOk, OnOk, IsTrue, true, refl};
+ghost use Rattle.std.specs.List.{AllByRecursion};
+ghost use Rattle.netlink_core.specs.Attribute.{AttributeFault};
+ghost use Rattle.netlink_core.specs.Canonical.{GivesUp};
+ghost use Rattle.netlink_core.specs.Codec.{KeepsLaws};
+ghost use Rattle.netlink_core.specs.declared.fault.DecodeError.{DecodeError};
+ghost use Rattle.netlink_core.specs.Family.{says, attribute_said, IsSpareSaid};
+ghost use Rattle.netlink_core.specs.Reply.{reply_bytes, reply_codec};
+ghost use Rattle.netlink_packet_sock_diag.specs.AttributesIn.{HasNoFault, reply_behind, reply_with, values_in};
+ghost use Rattle.netlink_packet_sock_diag.specs.EqualReplyLaws.{replies_equal};
+
+use crate::reply::{
+    FamilyNla, copy_nlas, emit_reply, fitting_reply_len, nlas_typed, own_nlas, reply_len,
+    without_memory,
+};
+use crate::view::{ReplyHeader, ReplyView};
+use netlink_core::{
+    CanonError, Coded, DecodeError, Emitable, Exact, Parseable, Readable, Wire, write_new,
+};
+use smallvec::SmallVec;
+use std::alloc::{AllocError, Global};
+use std::fmt::{self, Debug, Formatter};
+
+/// A reply: the header, and the attributes that were asked for, in the order that they came.
+#[derive(Drop, PartialEq, Eq)]
+pub struct Reply<H, N> {
+    /// The header, which tells the socket.
+    pub header: H,
+    /// The attributes. Up to eight stand in the value itself.
+    pub nlas: SmallVec<N, 8>,
+}
+
+/// The same header, and what the attributes behind it are kept as.
+pub trait ReplyOwned: ReplyHeader + Exact + Emitable {
+    /// An attribute, with memory of its own.
+    type Nla: FamilyNla;
+
+    /// The name of such a reply, as `Debug` prints it.
+    const REPLY: &'static str;
+
+    /// Tells the prover that the header's numbers are within their types. It does nothing.
+    fn told_typed(&self)
+        ensures { Self.reply.header.is_typed (Self.told self.now) };
+
+    // `==` compares what a header tells, and it is written as that.
+    ghost eq_is_seen: { (v w : Self) → IsTrue (Self.PartialEq.eq v w)
+        ↔ (Self.ReplyHeader.told v ≡ Self.ReplyHeader.told w) };
+
+    ghost written: { (header : Self) → Self.Emitable.bytes header
+        ≡ Self.ReplyHeader.reply.header.bytes (Self.ReplyHeader.told header) };
+
+    ghost fits: { (header : Self) → Self.Emitable.writable header };
+
+    // The attributes are those of the reply's family, and a reply keeps the laws.
+    ghost same: { let family = Self.Nla.FamilyNla.family in
+        let viewed = Self.ReplyHeader.reply.family in
+        ((b : List ℕ) (e : DecodeError)
+        → AttributeFault (says viewed) b e → AttributeFault (says family) b e)
+        × ((b : List ℕ) → HasNoFault (says viewed) b → HasNoFault (says family) b)
+        × ((b : List ℕ) → length (values_in (says viewed) b) ≡ length (values_in (says family) b))
+        × ((b : List ℕ) → map (attribute_said viewed) (values_in (says viewed) b)
+        ≡ map (attribute_said family) (values_in (says family) b)) };
+
+    ghost keeps: { KeepsLaws (reply_codec
+        (reply_with Self.ReplyHeader.reply Self.Nla.FamilyNla.family)) };
+}
+
+impl<H: ReplyOwned + Debug, N: Debug> Debug for Reply<H, N> {
+    fn fmt<W: fmt::Write>(&self, f: &mut Formatter<W>) -> fmt::Result {
+        f.debug_struct(H::REPLY)
+            .field("header", &self.header)
+            .field("nlas", &self.nlas)
+            .finish()
+    }
+}
+
+impl<H: ReplyOwned> Reply<H, H::Nla> {
+    ghost use Rattle.netlink_packet_sock_diag.specs.SeenReply.{seen_reply};
+
+    /// An equal reply. It fails only for want of memory, which up to eight attributes that need
+    /// none do not want.
+    pub fn clone(&self, alloc: Global) -> Result<Self, AllocError>
+        ensures equal { IfOk result (λ copy.
+            seen_reply H.told H.Nla.FamilyNla.seen copy ≡ seen_reply H.told H.Nla.FamilyNla.seen self.now) }
+        ensures spare { (reply_codec (reply_with H.reply H.Nla.FamilyNla.family)).is_spare (seen_reply H.told H.Nla.FamilyNla.seen self.now)
+            → IsOk result }
+    {
+        let nlas = copy_nlas(alloc, self.nlas.as_slice())?;
+        Ok(Reply {
+            header: self.header.clone()?,
+            nlas,
+        })
+    }
+}
+
+impl<H, N> Readable for Reply<H, N> {
+    const TAKES_MEMORY: bool = true;
+
+    ghost TAKES_MEMORY = { true };
+}
+
+impl<'a, H: ReplyOwned> Parseable<&'a [u8]> for Reply<H, H::Nla> {
+    /// Reads the header, and then the attributes up to the end of the bytes. A fault of the header
+    /// is told, or else the first fault of an attribute.
+    #[inline(always)]
+    fn parse(alloc: Global, payload: &'a [u8]) -> Result<Self, DecodeError> {
+        let view = ReplyView::<H>::parse(payload)?;
+        let mut nlas = SmallVec::new(alloc);
+        if view.own_into(alloc, &mut nlas).is_err() {
+            return Err(without_memory(nlas));
+        }
+        Ok(Reply {
+            header: view.header(),
+            nlas,
+        })
+    }
+}
+
+impl<H: ReplyOwned> ReplyView<'_, H> {
+    ghost use Rattle.netlink_packet_sock_diag.specs.SeenReply.{seen_reply};
+    ghost use Rattle.netlink_packet_sock_diag.specs.Viewed.{viewed};
+
+    // Puts the attributes, with memory of their own, into the empty list. They are not moved again
+    // where the list is already in its place.
+    fn own_into(&self, alloc: Global, nlas: &mut SmallVec<H::Nla, 8>) -> Result<(), AllocError>
+        requires { nlas.old.items ≡ [] }
+        ensures equal { OnOk result (map H.Nla.FamilyNla.seen nlas.new.items
+            ≡ values_in (says H.Nla.FamilyNla.family) (drop H.reply.size self.now.bytes.now)) }
+        ensures spare { let family = H.Nla.FamilyNla.family in
+            let said = values_in (says family) (drop H.reply.size self.now.bytes.now) in
+            nlas.old.capacity ≡ 8
+            → (length said ≤ 8) × AllByRecursion (IsSpareSaid family) said → IsOk result }
+    {
+        own_nlas(alloc, self.attribute_bytes(), self.count(), nlas)
+    }
+
+    /// The reply with memory of its own. It fails only for want of memory.
+    pub fn to_owned(&self, alloc: Global) -> Result<Reply<H, H::Nla>, AllocError>
+        ensures equal { IfOk result (λ reply. seen_reply H.told H.Nla.FamilyNla.seen reply
+            ≡ reply_behind (reply_with H.reply H.Nla.FamilyNla.family) (viewed self.now).header
+            (drop H.reply.size self.now.bytes.now)) }
+        ensures spare { (reply_codec (reply_with H.reply H.Nla.FamilyNla.family)).is_spare
+            (reply_behind (reply_with H.reply H.Nla.FamilyNla.family) (viewed self.now).header
+            (drop H.reply.size self.now.bytes.now)) → IsOk result }
+    {
+        let mut nlas = SmallVec::new(alloc);
+        self.own_into(alloc, &mut nlas)?;
+        Ok(Reply {
+            header: self.header(),
+            nlas,
+        })
+    }
+
+    // The same in a box: the attributes are built where they stay.
+    #[inline(always)]
+    pub(crate) fn to_boxed(&self, alloc: Global) -> Result<Box<Reply<H, H::Nla>>, AllocError>
+        ensures { IfOk result (λ reply. seen_reply H.told H.Nla.FamilyNla.seen reply.value
+            ≡ reply_behind (reply_with H.reply H.Nla.FamilyNla.family) (viewed self.now).header
+            (drop H.reply.size self.now.bytes.now)) }
+    {
+        let empty = Reply {
+            header: self.header(),
+            nlas: SmallVec::new(alloc),
+        };
+        let mut boxed = Box::new(alloc, empty)?;
+        self.own_into(alloc, &mut boxed.nlas)?;
+        Ok(boxed)
+    }
+}
+
+impl<H: ReplyOwned> Emitable for Reply<H, H::Nla> {
+    ghost use Rattle.netlink_packet_sock_diag.specs.SeenReply.{seen_reply};
+
+    ghost bytes = { λ v. reply_bytes (reply_with H.reply H.Nla.FamilyNla.family) (seen_reply H.told H.Nla.FamilyNla.seen v) };
+
+    ghost writable = { λ v. (reply_codec (reply_with H.reply H.Nla.FamilyNla.family)).fits (seen_reply H.told H.Nla.FamilyNla.seen v) };
+
+    fn is_writable(&self) -> bool {
+        self.writable_len().is_some()
+    }
+
+    fn buffer_len(&self) -> usize {
+        fitting_reply_len(&self.header, self.nlas.as_slice())
+    }
+
+    fn writable_len(&self) -> Option<usize> {
+        reply_len(&self.header, self.nlas.as_slice())
+    }
+
+    fn emit(&self, buffer: &mut [u8]) {
+        emit_reply(&self.header, self.nlas.as_slice(), buffer);
+    }
+}
+
+impl<H: ReplyOwned> Coded for Reply<H, H::Nla> {
+    ghost use Rattle.netlink_packet_sock_diag.specs.SeenReply.{seen_reply};
+
+    type Param = ();
+
+    ghost codec = { reply_codec (reply_with H.reply H.Nla.FamilyNla.family) };
+
+    ghost seen = { seen_reply H.told H.Nla.FamilyNla.seen };
+
+    ghost type_written = { λ _. 0 };
+
+    fn typed(&self) {
+        self.header.told_typed();
+        nlas_typed(self.nlas.as_slice());
+    }
+
+    ghost eq_is_seen = { λ v w. replies_equal _ _ H.told H.Nla.FamilyNla.seen H.ReplyOwned.eq_is_seen
+        H.Nla.FamilyNla.eq_is_seen v.header w.header v.nlas.items w.nlas.items };
+
+    ghost laws = { H.ReplyOwned.keeps };
+}
+
+impl<H: ReplyOwned> Wire for Reply<H, H::Nla> {
+    // The same as `parse`, which is inlined where it is called: a reply that is passed on takes a move of 2,000 bytes.
+    fn read(alloc: Global, bytes: &[u8], _param: ()) -> Result<Self, DecodeError> {
+        let view = ReplyView::<H>::parse(bytes)?;
+        let mut nlas = SmallVec::new(alloc);
+        if view.own_into(alloc, &mut nlas).is_err() {
+            return Err(without_memory(nlas));
+        }
+        Ok(Reply {
+            header: view.header(),
+            nlas,
+        })
+    }
+
+    // Written from the view: no value with memory of its own is made.
+    fn rewrite(alloc: Global, bytes: &[u8], _param: ()) -> Result<Vec<u8>, CanonError> {
+        match ReplyView::<H>::parse(bytes) {
+            Ok(view) => write_new(alloc, &view),
+            Err(fault) => Err(CanonError::Refused(fault)),
+        }
+    }
+
+    ghost written_is = { λ _. refl };
+
+    ghost fits_is = { λ _. (λ h. h, λ h. h) };
+}
