@@ -1,12 +1,11 @@
-pub mod UnixContents
 pub mod Kept
+pub mod FirstFound
 pub mod Lengths
 pub mod SaidAttributes
 pub mod Envelopes
 pub mod Finding
 pub mod Counting
 pub mod Owning
-pub mod FirstViews
 mod Emitting
 pub mod Dumping
 pub mod DumpRows

@@ -1,10 +1,9 @@
 //! What the attributes of a reply about a UNIX socket tell.
 
-ghost use Rattle.std.specs.Prelude.{◌≡◌, map, None, IsSome, option_map, option_copied};
+ghost use Rattle.std.specs.Prelude.{◌≡◌, None, IsSome, option_map, option_copied};
 ghost use Rattle.netlink_core.specs.Family.{content};
 ghost use Rattle.sock_diag_attributes.specs.UnixAttributes.{unix};
 ghost use Rattle.sock_diag_attributes.specs.SeenName.{seen_name};
-ghost use Rattle.sock_diag_attributes.specs.SeenUnix.{seen_nla};
 ghost use Rattle.netlink_packet_sock_diag.specs.UnixGetters.{first_of};
 
 use crate::unix::UnixResponse;
@@ -18,28 +17,40 @@ impl UnixResponse {
     pub fn peer(&self) -> Option<u32>
         ensures { result ≡ first_of (content unix 2) (seen_response self.now).nlas }
     {
-        first_peer(self.nlas.as_slice())
+        self.nlas.as_slice().iter().find_map(|nla| match nla {
+            Nla::Peer(inode) => Some(*inode),
+            _ => None,
+        })
     }
 
     /// The socket's name, where an attribute tells it: the content of the first `Name`.
     pub fn name(&self) -> Option<&UnixDiagName>
         ensures { option_map seen_name (option_copied result) ≡ first_of (content unix 0) (seen_response self.now).nlas }
     {
-        first_name(self.nlas.as_slice())
+        self.nlas.as_slice().iter().find_map(|nla| match nla {
+            Nla::Name(name) => Some(name),
+            _ => None,
+        })
     }
 
     /// The inodes of the connections that wait to be accepted: the content of the first `PendingConnections`.
     pub fn pending_connections(&self) -> Option<&[u32]>
         ensures { option_copied result ≡ first_of (content unix 3) (seen_response self.now).nlas }
     {
-        first_pending(self.nlas.as_slice())
+        self.nlas.as_slice().iter().find_map(|nla| match nla {
+            Nla::PendingConnections(inodes) => Some(inodes.as_slice()),
+            _ => None,
+        })
     }
 
     /// Which directions are shut down: the content of the first `Shutdown`.
     pub fn shutdown_state(&self) -> Option<u8>
         ensures { result ≡ first_of (content unix 6) (seen_response self.now).nlas }
     {
-        first_shutdown(self.nlas.as_slice())
+        self.nlas.as_slice().iter().find_map(|nla| match nla {
+            Nla::Shutdown(state) => Some(*state),
+            _ => None,
+        })
     }
 }
 
@@ -87,12 +98,22 @@ impl UnixResponse {
         Some(sent)
     }
 
+    // The content of the first `ReceiveQueueLength`.
+    fn queue(&self) -> Option<(u32, u32)>
+        ensures { result ≡ first_of (content unix 4) (seen_response self.now).nlas }
+    {
+        self.nlas.as_slice().iter().find_map(|nla| match nla {
+            Nla::ReceiveQueueLength(first, second) => Some((*first, *second)),
+            _ => None,
+        })
+    }
+
     // The lengths of the queues of a listening socket.
     fn listening_queue(&self) -> Option<(u32, u32)>
         ensures { result ≡ listening_queue_of (seen_response self.now) }
     {
         if self.header.state == TCP_LISTEN {
-            first_queue(self.nlas.as_slice())
+            self.queue()
         } else {
             None
         }
@@ -105,7 +126,7 @@ impl UnixResponse {
         if self.header.state == TCP_LISTEN {
             None
         } else {
-            first_queue(self.nlas.as_slice())
+            self.queue()
         }
     }
 }
@@ -117,7 +138,7 @@ impl UnixResponse {
     pub fn max_datagram_size(&self) -> Option<u32>
         ensures { result ≡ option_map (λ info. info.max_datagram_size) (first_of (content unix 5) (seen_response self.now).nlas) }
     {
-        Some(first_memory(self.nlas.as_slice())?.max_datagram_size)
+        Some(self.memory()?.max_datagram_size)
     }
 
     /// How many bytes of memory are taken by what was sent and is not yet read: the field `alloc` of the first
@@ -125,78 +146,16 @@ impl UnixResponse {
     pub fn memory_used_for_outgoing_data(&self) -> Option<u32>
         ensures { result ≡ option_map (λ info. info.alloc) (first_of (content unix 5) (seen_response self.now).nlas) }
     {
-        Some(first_memory(self.nlas.as_slice())?.alloc)
+        Some(self.memory()?.alloc)
     }
-}
 
-// The content of the first `Peer`.
-fn first_peer(nlas: &[Nla]) -> Option<u32>
-    ensures { result ≡ first_of (content unix 2) (map seen_nla nlas.now) }
-{
-    for nla in nlas {
-        if let Nla::Peer(inode) = nla {
-            return Some(*inode);
-        }
+    // The content of the first `MemInfo`.
+    fn memory(&self) -> Option<MemInfo>
+        ensures { result ≡ first_of (content unix 5) (seen_response self.now).nlas }
+    {
+        self.nlas.as_slice().iter().find_map(|nla| match nla {
+            Nla::MemInfo(info) => Some(*info),
+            _ => None,
+        })
     }
-    None
-}
-
-// The content of the first `Name`.
-fn first_name(nlas: &[Nla]) -> Option<&UnixDiagName>
-    ensures { option_map seen_name (option_copied result) ≡ first_of (content unix 0) (map seen_nla nlas.now) }
-{
-    for nla in nlas {
-        if let Nla::Name(name) = nla {
-            return Some(name);
-        }
-    }
-    None
-}
-
-// The content of the first `PendingConnections`.
-fn first_pending(nlas: &[Nla]) -> Option<&[u32]>
-    ensures { option_copied result ≡ first_of (content unix 3) (map seen_nla nlas.now) }
-{
-    for nla in nlas {
-        if let Nla::PendingConnections(inodes) = nla {
-            return Some(inodes.as_slice());
-        }
-    }
-    None
-}
-
-// The content of the first `Shutdown`.
-fn first_shutdown(nlas: &[Nla]) -> Option<u8>
-    ensures { result ≡ first_of (content unix 6) (map seen_nla nlas.now) }
-{
-    for nla in nlas {
-        if let Nla::Shutdown(state) = nla {
-            return Some(*state);
-        }
-    }
-    None
-}
-
-// The content of the first `ReceiveQueueLength`.
-fn first_queue(nlas: &[Nla]) -> Option<(u32, u32)>
-    ensures { result ≡ first_of (content unix 4) (map seen_nla nlas.now) }
-{
-    for nla in nlas {
-        if let Nla::ReceiveQueueLength(first, second) = nla {
-            return Some((*first, *second));
-        }
-    }
-    None
-}
-
-// The content of the first `MemInfo`.
-fn first_memory(nlas: &[Nla]) -> Option<MemInfo>
-    ensures { result ≡ first_of (content unix 5) (map seen_nla nlas.now) }
-{
-    for nla in nlas {
-        if let Nla::MemInfo(info) = nla {
-            return Some(*info);
-        }
-    }
-    None
 }

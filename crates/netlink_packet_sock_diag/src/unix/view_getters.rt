@@ -3,13 +3,12 @@
 ghost use Rattle.std.specs.Prelude.{◌≡◌, None, IsSome, option_map};
 ghost use Rattle.sock_diag_attributes.specs.SeenName.{viewed_name};
 ghost use Rattle.sock_diag_attributes.specs.SeenNumbers.{viewed_numbers};
-ghost use Rattle.netlink_packet_sock_diag.specs.Viewed.{left_in};
 ghost use Rattle.netlink_packet_sock_diag.specs.UnixGetters.{first_of};
 ghost use Rattle.netlink_core.specs.Family.{content};
 ghost use Rattle.sock_diag_attributes.specs.UnixAttributes.{unix};
 
 use crate::unix::UnixResponseView;
-use crate::unix::nlas::{MemInfo, NameView, NlaView, NlaViews, NumbersView};
+use crate::unix::nlas::{MemInfo, NameView, NlaView, NumbersView};
 use sock_diag_records::constants::TCP_LISTEN;
 
 impl<'a> UnixResponseView<'a> {
@@ -19,28 +18,40 @@ impl<'a> UnixResponseView<'a> {
     pub fn peer(&self) -> Option<u32>
         ensures { result ≡ first_of (content unix 2) (viewed_response self.now).nlas }
     {
-        first_peer(self.attributes())
+        self.attributes().find_map(|nla| match nla {
+            NlaView::Peer(inode) => Some(inode),
+            _ => None,
+        })
     }
 
     /// The socket's name, where an attribute tells it: the content of the first `Name`.
     pub fn name(&self) -> Option<NameView<'a>>
         ensures { option_map viewed_name result ≡ first_of (content unix 0) (viewed_response self.now).nlas }
     {
-        first_name(self.attributes())
+        self.attributes().find_map(|nla| match nla {
+            NlaView::Name(name) => Some(name),
+            _ => None,
+        })
     }
 
     /// The inodes of the connections that wait to be accepted: the content of the first `PendingConnections`.
     pub fn pending_connections(&self) -> Option<NumbersView<'a>>
         ensures { option_map viewed_numbers result ≡ first_of (content unix 3) (viewed_response self.now).nlas }
     {
-        first_pending(self.attributes())
+        self.attributes().find_map(|nla| match nla {
+            NlaView::PendingConnections(inodes) => Some(inodes),
+            _ => None,
+        })
     }
 
     /// Which directions are shut down: the content of the first `Shutdown`.
     pub fn shutdown_state(&self) -> Option<u8>
         ensures { result ≡ first_of (content unix 6) (viewed_response self.now).nlas }
     {
-        first_shutdown(self.attributes())
+        self.attributes().find_map(|nla| match nla {
+            NlaView::Shutdown(state) => Some(state),
+            _ => None,
+        })
     }
 }
 
@@ -88,12 +99,22 @@ impl<'a> UnixResponseView<'a> {
         Some(sent)
     }
 
+    // The content of the first `ReceiveQueueLength`.
+    fn queue(&self) -> Option<(u32, u32)>
+        ensures { result ≡ first_of (content unix 4) (viewed_response self.now).nlas }
+    {
+        self.attributes().find_map(|nla| match nla {
+            NlaView::ReceiveQueueLength(first, second) => Some((first, second)),
+            _ => None,
+        })
+    }
+
     // The lengths of the queues of a listening socket.
     fn listening_queue(&self) -> Option<(u32, u32)>
         ensures { result ≡ listening_queue_of (viewed_response self.now) }
     {
         if self.header().state == TCP_LISTEN {
-            first_queue(self.attributes())
+            self.queue()
         } else {
             None
         }
@@ -106,7 +127,7 @@ impl<'a> UnixResponseView<'a> {
         if self.header().state == TCP_LISTEN {
             None
         } else {
-            first_queue(self.attributes())
+            self.queue()
         }
     }
 }
@@ -118,7 +139,7 @@ impl<'a> UnixResponseView<'a> {
     pub fn max_datagram_size(&self) -> Option<u32>
         ensures { result ≡ option_map (λ info. info.max_datagram_size) (first_of (content unix 5) (viewed_response self.now).nlas) }
     {
-        Some(first_memory(self.attributes())?.max_datagram_size)
+        Some(self.memory()?.max_datagram_size)
     }
 
     /// How many bytes of memory are taken by what was sent and is not yet read: the field `alloc` of the first
@@ -126,78 +147,16 @@ impl<'a> UnixResponseView<'a> {
     pub fn memory_used_for_outgoing_data(&self) -> Option<u32>
         ensures { result ≡ option_map (λ info. info.alloc) (first_of (content unix 5) (viewed_response self.now).nlas) }
     {
-        Some(first_memory(self.attributes())?.alloc)
+        Some(self.memory()?.alloc)
     }
-}
 
-// The content of the first `Peer`.
-fn first_peer(nlas: NlaViews<'_>) -> Option<u32>
-    ensures { result ≡ first_of (content unix 2) (left_in unix nlas.entry) }
-{
-    for nla in nlas {
-        if let NlaView::Peer(inode) = nla {
-            return Some(inode);
-        }
+    // The content of the first `MemInfo`.
+    fn memory(&self) -> Option<MemInfo>
+        ensures { result ≡ first_of (content unix 5) (viewed_response self.now).nlas }
+    {
+        self.attributes().find_map(|nla| match nla {
+            NlaView::MemInfo(info) => Some(info),
+            _ => None,
+        })
     }
-    None
-}
-
-// The content of the first `Name`.
-fn first_name<'a>(nlas: NlaViews<'a>) -> Option<NameView<'a>>
-    ensures { option_map viewed_name result ≡ first_of (content unix 0) (left_in unix nlas.entry) }
-{
-    for nla in nlas {
-        if let NlaView::Name(name) = nla {
-            return Some(name);
-        }
-    }
-    None
-}
-
-// The content of the first `PendingConnections`.
-fn first_pending<'a>(nlas: NlaViews<'a>) -> Option<NumbersView<'a>>
-    ensures { option_map viewed_numbers result ≡ first_of (content unix 3) (left_in unix nlas.entry) }
-{
-    for nla in nlas {
-        if let NlaView::PendingConnections(inodes) = nla {
-            return Some(inodes);
-        }
-    }
-    None
-}
-
-// The content of the first `Shutdown`.
-fn first_shutdown(nlas: NlaViews<'_>) -> Option<u8>
-    ensures { result ≡ first_of (content unix 6) (left_in unix nlas.entry) }
-{
-    for nla in nlas {
-        if let NlaView::Shutdown(state) = nla {
-            return Some(state);
-        }
-    }
-    None
-}
-
-// The content of the first `ReceiveQueueLength`.
-fn first_queue(nlas: NlaViews<'_>) -> Option<(u32, u32)>
-    ensures { result ≡ first_of (content unix 4) (left_in unix nlas.entry) }
-{
-    for nla in nlas {
-        if let NlaView::ReceiveQueueLength(first, second) = nla {
-            return Some((first, second));
-        }
-    }
-    None
-}
-
-// The content of the first `MemInfo`.
-fn first_memory(nlas: NlaViews<'_>) -> Option<MemInfo>
-    ensures { result ≡ first_of (content unix 5) (left_in unix nlas.entry) }
-{
-    for nla in nlas {
-        if let NlaView::MemInfo(info) = nla {
-            return Some(info);
-        }
-    }
-    None
 }
