@@ -3,8 +3,9 @@ use Rattle.std.proofs.Common.{◌≡◌, ℕ, List, ◌∷◌, Option, Some, Non
 use Rattle.sock_diag_attributes.specs.SeenUnix.{viewed_nla}
 use Rattle.sock_diag_attributes.specs.declared.numbers.NumbersView.{NumbersView}
 use Rattle.sock_diag_attributes.specs.declared.unix.name.NameView.{NameView}
-use Rattle.sock_diag_attributes.specs.declared.unix.nlas.NlaView.{NlaView}
-use Rattle.sock_diag_attributes.specs.declared.unix.nlas.NlaView.TheVariants.{Name, Peer, PendingConnections, ReceiveQueueLength, MemInfo, Shutdown}
+use Rattle.netlink_core.specs.declared.attribute.NlaBuffer.{NlaBuffer}
+use Rattle.sock_diag_attributes.specs.declared.unix.nlas.UnixNla.{UnixNla}
+use Rattle.sock_diag_attributes.specs.declared.unix.nlas.UnixNla.TheVariants.{Name, Peer, PendingConnections, ReceiveQueueLength, MemInfo, Shutdown}
 use Rattle.sock_diag_values.specs.declared.unix.mem_info.MemInfo.{MemInfo as Memory}
 use Rattle.netlink_packet_sock_diag.specs.UnixGetters.{first_of}
 use Rattle.netlink_core.specs.Family.{content}
@@ -18,6 +19,9 @@ module _ {B C : Type 0} (content : B → Option C) where
   -- an element with none is passed over
   pub content_later : (xs rest : List B) (v : B) → xs ≡ v ∷ rest → content v ≡ None → first_of content xs ≡ first_of content rest
   content_later xs rest v parts told = rw (parts, told) refl
+
+abbrev NlaView : Type 0
+NlaView = UnixNla NameView NumbersView NlaBuffer
 
 -- another variant has no such content
 pub no_peer : (nla : NlaView) → ((n : ℕ) → nla ≡ Peer n → ⊥) → content unix 2 (viewed_nla nla) ≡ None

@@ -6,8 +6,9 @@ use Rattle.std.proofs.lemmas.List.Elements.{filter_map-append}
 use Rattle.std.specs.List.{filter_map, cons_option, slice_get}
 use Rattle.sock_diag_attributes.specs.SeenUnix.{seen_nla}
 use Rattle.sock_diag_attributes.specs.declared.unix.name.UnixDiagName.{UnixDiagName}
-use Rattle.sock_diag_attributes.specs.declared.unix.nlas.Nla.{Nla}
-use Rattle.sock_diag_attributes.specs.declared.unix.nlas.Nla.TheVariants.{Name, Peer, PendingConnections, ReceiveQueueLength, MemInfo, Shutdown}
+use Rattle.netlink_core.specs.declared.nla.DefaultNla.{DefaultNla}
+use Rattle.sock_diag_attributes.specs.declared.unix.nlas.UnixNla.{UnixNla}
+use Rattle.sock_diag_attributes.specs.declared.unix.nlas.UnixNla.TheVariants.{Name, Peer, PendingConnections, ReceiveQueueLength, MemInfo, Shutdown}
 use Rattle.sock_diag_values.specs.declared.unix.mem_info.MemInfo.{MemInfo as Memory}
 use Rattle.netlink_packet_sock_diag.specs.UnixGetters.{first_of}
 use Rattle.netlink_core.specs.Family.{content}
@@ -32,6 +33,9 @@ module _ {A B C : Type 0} where
   none_more content seen xs i x h here none empty =
       let told : content (seen (get_or xs i x)) ≡ None = ap (λ z. content (seen z)) (sym here) ∙ empty in
       ap (λ ys. filter_map content (map seen ys)) (take_more xs i x h) ∙ contents content seen (take i xs) (get_or xs i x ∷ []) none ∙ ap (λ o. cons_option o []) told
+
+abbrev Nla : Type 0
+Nla = UnixNla UnixDiagName (Vec ℕ Global) DefaultNla
 
 -- another variant has no such content
 pub no_peer : (nla : Nla) → ((n : ℕ) → nla ≡ Peer n → ⊥) → content unix 2 (seen_nla nla) ≡ None
