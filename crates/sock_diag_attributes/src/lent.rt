@@ -70,10 +70,7 @@ impl OtherNla for NlaBuffer<'_> {
 
     #[inline(always)]
     fn to_kept(&self, alloc: Global) -> Result<DefaultNla, AllocError> {
-        Ok(DefaultNla::new(
-            NlaBuffer::type_word(self),
-            copy_list(alloc, self.value())?,
-        ))
+        Ok(DefaultNla::new(NlaBuffer::type_word(self), copy_list(alloc, self.value())?))
     }
 }
 

@@ -76,8 +76,7 @@ impl<N: LendsName, L: LendsNumbers, O: OtherNla> UnixNla<N, L, O> {
             seen_nla nla ≡ seen N.name L.numbers O.attribute self.now) }
         ensures spare { IsSpareSaid unix (seen N.name L.numbers O.attribute self.now)
             → IsOk result }
-        ensures empty {
-            (attribute_said unix (seen N.name L.numbers O.attribute self.now)).value ≡ []
+        ensures empty { (attribute_said unix (seen N.name L.numbers O.attribute self.now)).value ≡ []
             → IsOk result }
     {
         Ok(match self {
