@@ -28,7 +28,7 @@ MOST = 1100
 MEANING = set("""codec seen type_written bytes writable held TAKES_MEMORY attribute format Tag Value view inverse is_clone
     is_made_with
     is_infallible from_gives bitor_gives next_gives remaining table set_of family viewed contents answer left reads failed
-    reply told""".split())
+    reply told name numbers""".split())
 # Ghost members that are laws: the type that a trait declares is read, and their bodies are proofs. `eq` and `tests` are
 # among them: what `==` answers is computed there, and said in the words of contracts by `eq_is_seen` and in laws.rt.
 LAWS = set("""laws fills exact eq_is_seen written_is fits_is emitted_is writable_is written_as

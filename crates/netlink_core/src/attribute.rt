@@ -28,7 +28,7 @@ const NETWORK_BYTE_ORDER: u16 = 0x4000;
 const KIND: u16 = 0x3fff;
 
 /// One attribute, read in place.
-#[derive(Clone, Copy, Debug)]
+#[derive(Clone, Copy, Debug, PartialEq, Eq)]
 pub struct NlaBuffer<'a> {
     type_word: u16,
     value: &'a [u8],

@@ -150,6 +150,14 @@ pub fn equal_payloads<I: Coded>(v: &NetlinkPayload<I>, w: &NetlinkPayload<I>) ->
     v == w
 }
 
+/// `==` says whether two attributes in place are the same attribute.
+#[tactic(auto, using(crate::proofs::SaidTests::attribute_test_says))]
+pub fn equal_buffers(v: &NlaBuffer<'_>, w: &NlaBuffer<'_>) -> bool
+    ensures { IsTrue result ↔ (attribute_of v.now ≡ attribute_of w.now) }
+{
+    v == w
+}
+
 /// The copy of an attribute in place shows the same attribute.
 pub fn copied_buffer<'a>(buffer: &NlaBuffer<'a>) -> Result<NlaBuffer<'a>, AllocError>
     ensures ok { IsOk result }

@@ -1,5 +1,5 @@
 -- The first content among the items that an iterator gives, as `find_map` finds it.
-use Rattle.std.proofs.Common.{◌≡◌, ℕ, zero, suc, ◌+◌, ◌<◌, List, [], ◌∷◌, ◌++◌, map, length, drop, Option, Some, None, MatchOption, IfSome, IsSome, IsSomeAnd, IsTrue, slice_get, Iter, Bor, refl, sym, ap, subst, ◌∙◌, arith, take-append-drop, true≢false}
+use Rattle.std.proofs.Common.{Global, Vec, ◌≡◌, ℕ, zero, suc, ◌+◌, ◌<◌, List, [], ◌∷◌, ◌++◌, map, length, drop, Option, Some, None, MatchOption, IfSome, IsSome, IsSomeAnd, IsTrue, slice_get, Iter, Bor, refl, sym, ap, subst, ◌∙◌, arith, take-append-drop, true≢false}
 use Rattle.std.specs.Fn.{Called}
 use Rattle.std.specs.Iterator.{Yields, YieldsFirstBy}
 use Rattle.std.specs.Iterator.Runs.{SomeRun, YieldsRun, AllItemsGive, IsFirstToGive}
@@ -8,8 +8,12 @@ use Rattle.std.specs.Slice.Iter.{iter_rest, iter_steps}
 use Rattle.std.proofs.lemmas.Iterator.{YieldsList}
 use Rattle.std.proofs.lemmas.Iterator.Consumers.{YieldsList-so_far, YieldsList-end, YieldsList-from_shown, YieldsList-from_first}
 use Rattle.netlink_core.specs.Family.{Said, ValueAt, content}
-use Rattle.sock_diag_attributes.specs.declared.unix.nlas.Nla.{Nla}
-use Rattle.sock_diag_attributes.specs.declared.unix.nlas.NlaView.{NlaView}
+use Rattle.netlink_core.specs.declared.attribute.NlaBuffer.{NlaBuffer}
+use Rattle.netlink_core.specs.declared.nla.DefaultNla.{DefaultNla}
+use Rattle.sock_diag_attributes.specs.declared.numbers.NumbersView.{NumbersView}
+use Rattle.sock_diag_attributes.specs.declared.unix.name.NameView.{NameView}
+use Rattle.sock_diag_attributes.specs.declared.unix.name.UnixDiagName.{UnixDiagName}
+use Rattle.sock_diag_attributes.specs.declared.unix.nlas.UnixNla.{UnixNla}
 use Rattle.sock_diag_attributes.specs.SeenUnix.{seen_nla, viewed_nla}
 use Rattle.sock_diag_attributes.specs.UnixAttributes.{unix}
 use Rattle.netlink_packet_sock_diag.specs.declared.view.AttributeViews.{AttributeViews}
@@ -78,6 +82,13 @@ module _ {A B C D F : Type 0} {g : Mut F (A × Unit {0}) (Option C)} {f : F} (v 
       let here = subst (λ o. IsSomeAnd o (λ x. tells (v x) ≡ shows (Some y))) (p.gave.1 run.0) (some_and (λ x c. sym (told x (Some y) f c).1) (p.at run.0) first.0) in
       let none = λ (k : ℕ) (low : k < run.0). subst (λ o. IsSomeAnd o (λ x. tells (v x) ≡ None)) (p.gave.1 k) (some_and (λ x c. sym (told x None f c).1 ∙ blank) (p.at k) (first.1 k low)) in
       sym (ap (first_of tells) parts ∙ first_at tells v p.items run.0 rest (shows (Some y)) (filled y) here none)
+
+-- an attribute of a UNIX socket, owned and in place
+abbrev Nla : Type 0
+Nla = UnixNla UnixDiagName (Vec ℕ Global) DefaultNla
+
+abbrev NlaView : Type 0
+NlaView = UnixNla NameView NumbersView NlaBuffer
 
 -- in a list of attributes, what is said under a number
 pub first_owned : {C F : Type 0} {g : Mut F (Bor Nla × Unit {0}) (Option C)} {f : F} {s : Iter Nla} (k : ℕ) (shows : Option C → Option (ValueAt unix k))

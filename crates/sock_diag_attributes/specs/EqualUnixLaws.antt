@@ -1,9 +1,13 @@
 -- Attributes of replies are equal where the same is seen of them.
-use Rattle.std.proofs.Common.{◌≡◌, ◌↔◌, ℕ, ◌&&◌, Bool, false, eqb, IsTrue, ap, refl, rules, subst, sym}
+use Rattle.std.proofs.Common.{◌≡◌, ◌↔◌, ℕ, List, ◌&&◌, Bool, false, eqb, IsTrue, ap, refl, rules, subst, sym}
+use mir.Syntax.{given}
+use denote.RattleType.{RattleType}
 use lib.Pointwise.{pointwise, bytes_decides}
+use Rattle.std.specs.declared.cmp.PartialEq.{Ghosts}
+use Rattle.netlink_core.specs.Attribute.{Attribute}
 use Rattle.netlink_core.proofs.Equality.{apart, same_test}
 use Rattle.netlink_core.proofs.RowLaws.{◌⊕◌}
-use Rattle.netlink_core.proofs.SaidTests.{Tests, number_test, said_test, said_test_says}
+use Rattle.netlink_core.proofs.SaidTests.{Tests, attribute_test, number_test, said_test, said_test_says}
 use Rattle.sock_diag_values.specs.contracts.unix.vfs.VfsExact.TheImpl.Laws.{exact-law as exact_vfs}
 use Rattle.sock_diag_values.specs.contracts.unix.vfs.VfsPartialEq.TheImpl.{ghosts as vfs}
 use Rattle.sock_diag_values.specs.contracts.unix.mem_info.MemInfoExact.TheImpl.Laws.{exact-law as exact_memory}
@@ -14,7 +18,7 @@ use Rattle.sock_diag_attributes.specs.SeenNumbers.{viewed_numbers}
 use Rattle.sock_diag_attributes.specs.NumberLaws.{numbers_in_same}
 use Rattle.sock_diag_attributes.specs.Numbers.{numbers_in}
 use Rattle.sock_diag_attributes.specs.UnixAttributes.{unix}
-use Rattle.sock_diag_attributes.specs.SeenUnix.{seen_nla, viewed_nla}
+use Rattle.sock_diag_attributes.specs.SeenUnix.{seen}
 use Rattle.sock_diag_attributes.specs.declared.unix.name.UnixDiagName.{UnixDiagName}
 use Rattle.sock_diag_attributes.specs.declared.unix.name.UnixDiagName.TheVariants.{Pathname, Abstract}
 use Rattle.sock_diag_attributes.specs.contracts.unix.name.UnixDiagNamePartialEq.TheImpl.{ghosts as names}
@@ -23,12 +27,9 @@ use Rattle.sock_diag_attributes.specs.declared.unix.name.NameView.TheVariants as
 use Rattle.sock_diag_attributes.specs.contracts.unix.name.NameViewPartialEq.TheImpl.{ghosts as name_views}
 use Rattle.sock_diag_attributes.specs.declared.numbers.NumbersView.{NumbersView}
 use Rattle.sock_diag_attributes.specs.contracts.numbers.NumbersViewPartialEq.TheImpl.{ghosts as number_views}
-use Rattle.sock_diag_attributes.specs.declared.unix.nlas.NlaView.{NlaView}
-use Rattle.sock_diag_attributes.specs.declared.unix.nlas.NlaView.TheVariants as view
-use Rattle.sock_diag_attributes.specs.contracts.unix.nlas.NlaViewPartialEq.TheImpl.{ghosts as views}
-use Rattle.sock_diag_attributes.specs.declared.unix.nlas.Nla.{Nla}
-use Rattle.sock_diag_attributes.specs.declared.unix.nlas.Nla.TheVariants as nla
-use Rattle.sock_diag_attributes.specs.contracts.unix.nlas.NlaPartialEq.TheImpl.{ghosts}
+use Rattle.sock_diag_attributes.specs.declared.unix.nlas.UnixNla.{UnixNla}
+use Rattle.sock_diag_attributes.specs.declared.unix.nlas.UnixNla.TheVariants as nla
+use Rattle.sock_diag_attributes.specs.contracts.unix.nlas.UnixNlaPartialEq.TheImpl.{ghosts}
 
 abbrev name_test : SocketName → SocketName → Bool
 name_test (pathname x) (pathname y) = pointwise eqb x y
@@ -54,24 +55,13 @@ unix_tests =
     (name_test, name_test_says) ⊕ (vfs.eq, exact_vfs.0) ⊕ number_test ⊕ (pointwise eqb, bytes_decides)
     ⊕ (two_test, two_test_says) ⊕ (memory.eq, exact_memory.0) ⊕ number_test ⊕ tt
 
-same_names : (a x : UnixDiagName) → names.eq a x ≡ name_test (seen_name a) (seen_name x)
+pub same_names : (a x : UnixDiagName) → names.eq a x ≡ name_test (seen_name a) (seen_name x)
 same_names (Pathname a) (Pathname x) = refl
 same_names (Pathname a) (Abstract x) = refl
 same_names (Abstract a) (Pathname x) = refl
 same_names (Abstract a) (Abstract x) = refl
 
--- the first clause splits v and the second w, so that the last stands for each other pair of variants
-tests : (v w : Nla) → ghosts.eq v w ≡ said_test unix unix_tests (seen_nla v) (seen_nla w)
-tests (nla.Name a) (nla.Name x) = same_names a x
-tests v (nla.Name x) = refl
-tests v w = refl
-
-pub nla_equal : (v w : Nla) → IsTrue (ghosts.eq v w) ↔ (seen_nla v ≡ seen_nla w)
-nla_equal v w = subst (λ (t : Bool). IsTrue t ↔ (seen_nla v ≡ seen_nla w)) (sym (tests v w)) (said_test_says unix unix_tests (seen_nla v) (seen_nla w))
-
--- ---- read in place
-
-viewed_names : (a x : NameView) → name_views.eq a x ≡ name_test (viewed_name a) (viewed_name x)
+pub viewed_names : (a x : NameView) → name_views.eq a x ≡ name_test (viewed_name a) (viewed_name x)
 viewed_names (name_view.Pathname a) (name_view.Pathname x) = refl
 viewed_names (name_view.Pathname a) (name_view.Abstract x) = refl
 viewed_names (name_view.Abstract a) (name_view.Pathname x) = refl
@@ -87,14 +77,21 @@ number_views_equal v w =
       λ e. bytes.1 (numbers_in_same v.bytes.now w.bytes.now v.typed w.typed v.whole w.whole e),
     )
 
-viewed_lists : (v w : NumbersView) → number_views.eq v w ≡ pointwise eqb (viewed_numbers v) (viewed_numbers w)
+pub viewed_lists : (v w : NumbersView) → number_views.eq v w ≡ pointwise eqb (viewed_numbers v) (viewed_numbers w)
 viewed_lists v w = same_test (number_views.eq v w) (pointwise eqb (viewed_numbers v) (viewed_numbers w)) (number_views_equal v w) (bytes_decides (viewed_numbers v) (viewed_numbers w))
 
-pub view_tests : (v w : NlaView) → views.eq v w ≡ said_test unix unix_tests (viewed_nla v) (viewed_nla w)
-view_tests (view.Name a) (view.Name x) = viewed_names a x
-view_tests (view.PendingConnections a) (view.PendingConnections x) = viewed_lists a x
-view_tests v (view.Name x) = refl
-view_tests v w = refl
+-- over what a name, a list and an attribute of another kind lend, by which they are compared
+module _ (N L O : RattleType) (n : Ghosts N.Denot) (l : Ghosts L.Denot) (o : Ghosts O.Denot)
+    (name : N.Denot → SocketName) (list : L.Denot → List ℕ) (other : O.Denot → Attribute)
+    (names : (a b : N.Denot) → n.eq a b ≡ name_test (name a) (name b)) (lists : (a b : L.Denot) → l.eq a b ≡ pointwise eqb (list a) (list b))
+    (others : (a b : O.Denot) → o.eq a b ≡ attribute_test (other a) (other b)) where
+  -- the fourth clause splits w, so that the last stands for each other pair of variants
+  pub tests : (v w : UnixNla N.Denot L.Denot O.Denot) → (ghosts N L O n (given 0) l (given 0) o (given 0)).eq v w ≡ said_test unix unix_tests (seen name list other v) (seen name list other w)
+  tests (nla.Name a) (nla.Name x) = names a x
+  tests (nla.PendingConnections a) (nla.PendingConnections x) = lists a x
+  tests (nla.Other a) (nla.Other x) = others a x
+  tests v (nla.Peer x) = refl
+  tests v w = refl
 
-pub views_equal : (v w : NlaView) → IsTrue (views.eq v w) ↔ (viewed_nla v ≡ viewed_nla w)
-views_equal v w = subst (λ (t : Bool). IsTrue t ↔ (viewed_nla v ≡ viewed_nla w)) (sym (view_tests v w)) (said_test_says unix unix_tests (viewed_nla v) (viewed_nla w))
+  pub equal : (v w : UnixNla N.Denot L.Denot O.Denot) → IsTrue ((ghosts N L O n (given 0) l (given 0) o (given 0)).eq v w) ↔ (seen name list other v ≡ seen name list other w)
+  equal v w = subst (λ (b : Bool). IsTrue b ↔ (seen name list other v ≡ seen name list other w)) (sym (tests v w)) (said_test_says unix unix_tests (seen name list other v) (seen name list other w))

@@ -16,5 +16,6 @@ pub mod InetAttributes
 pub mod InetAttributeLaws
 pub mod SeenInet
 pub mod ValueSteps
+pub mod LentLaws
 pub mod EqualUnixLaws
 pub mod EqualInetLaws

@@ -193,6 +193,10 @@ numbers_in_first (a ∷ b ∷ []) long = absurd (omega (arith, long))
 numbers_in_first (a ∷ b ∷ c ∷ []) long = absurd (omega (arith, long))
 numbers_in_first (a ∷ b ∷ c ∷ d ∷ rest) long = refl
 
+-- such numbers are below 2^32
+pub numbers_below : (x : List ℕ) → IsBytes x → length x % 4 ≡ 0 → AllByRecursion (λ n. n < 2 ^ 32) (numbers_in x)
+numbers_below x typed four = (whole x typed four).1
+
 -- numbers are written as the bytes in which they stand
 pub numbers_are_bytes : (x : List ℕ) → IsBytes x → length x % 4 ≡ 0 → x ≡ bytes_of_numbers (numbers_in x)
 numbers_are_bytes x typed four = (whole x typed four).0

@@ -41,7 +41,6 @@ pub fn equal_numbers_views(v: &NumbersView<'_>, w: &NumbersView<'_>) -> bool
 }
 
 /// `==` says whether two attributes in place, of replies about UNIX sockets, say the same.
-#[tactic(auto, using(crate::specs::EqualUnixLaws::views_equal))]
 pub fn equal_unix_views(v: &UnixNlaView<'_>, w: &UnixNlaView<'_>) -> bool
     ensures { IsTrue result ↔ (viewed_unix v.now ≡ viewed_unix w.now) }
 {
@@ -49,7 +48,6 @@ pub fn equal_unix_views(v: &UnixNlaView<'_>, w: &UnixNlaView<'_>) -> bool
 }
 
 /// `==` says whether two attributes in place, of replies about IPv4 and IPv6 sockets, say the same.
-#[tactic(auto, using(crate::specs::EqualInetLaws::views_equal))]
 pub fn equal_inet_views(v: &InetNlaView<'_>, w: &InetNlaView<'_>) -> bool
     ensures { IsTrue result ↔ (viewed_inet v.now ≡ viewed_inet w.now) }
 {

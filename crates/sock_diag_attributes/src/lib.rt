@@ -3,6 +3,7 @@
 
 pub mod inet;
 pub mod laws;
+mod lent;
 mod numbers;
 mod text;
 pub mod unix;

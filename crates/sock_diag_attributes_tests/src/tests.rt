@@ -110,7 +110,7 @@ const UNIX: &str = "\
 6])|PendingConnections(NumbersView { bytes: [5, 0, 0, 0, 6, 0, 0, 0] })
 04000300 04000300 PendingConnections([])|PendingConnections(NumbersView { bytes: [] })
 0b00078002010000040302 0b0007800201000004030200 Other(DefaultNla { kind: 32775, value: [2, 1, 0, \
-0, 4, 3, 2] })|Other { type_word: 32775, value: [2, 1, 0, 0, 4, 3, 2] }";
+0, 4, 3, 2] })|Other(NlaBuffer { type_word: 32775, value: [2, 1, 0, 0, 4, 3, 2] })";
 
 const INET: &str = "\
 090004006375626963 0a0004006375626963000000 Congestion(\"cubic\")
@@ -126,8 +126,8 @@ const INET: &str = "\
 05000b0002 05000b0001000000 SkV6Only(true)
 08000f0004030201 08000f0004030201 Mark(16909060)
 0800110004030201 0800110004030201 ClassId(16909060)
-05000300aa 05000300aa000000 Other(DefaultNla { kind: 3, value: [170] })|Other { type_word: 3, \
-value: [170] }
+05000300aa 05000300aa000000 Other(DefaultNla { kind: 3, value: [170] })|Other(NlaBuffer \
+{ type_word: 3, value: [170] })
 1400010001000000020000000300000004000000 1400010001000000020000000300000004000000 \
 LegacyMemInfo(LegacyMemInfo { receive_queue: 1, bottom_send_queue: 2, cache: 3, send_queue: 4 })
 240007000100000002000000030000000400000005000000060000000700000008000000 \

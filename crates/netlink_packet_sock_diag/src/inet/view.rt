@@ -1,9 +1,12 @@
 //! The reply about one IPv4 or IPv6 socket, read in place.
 
-ghost use Rattle.std.specs.Prelude.{refl};
+ghost use Rattle.std.specs.Borrow.{Bor};
+ghost use Rattle.std.specs.Prelude.{ℕ, List, refl};
+ghost use Rattle.netlink_core.specs.Walk.{attribute_of};
 ghost use Rattle.netlink_core.proofs.Replies.{replies_keep_laws};
 ghost use Rattle.sock_diag_attributes.specs.InetAttributes.{inet};
-ghost use Rattle.sock_diag_attributes.specs.EqualInetLaws.{inet_tests, view_tests};
+ghost use Rattle.sock_diag_attributes.specs.EqualInetLaws.{inet_tests, tests};
+ghost use Rattle.sock_diag_attributes.specs.LentLaws.{buffer_row, text_view_row};
 ghost use Rattle.sock_diag_attributes.specs.SeenInet.{viewed_nla};
 ghost use Rattle.netlink_packet_sock_diag.specs.EqualViewLaws.{inet_test, inet_test_says};
 ghost use Rattle.netlink_packet_sock_diag.specs.InetReply.{inet_reply};
@@ -27,7 +30,8 @@ impl<'a> FamilyView<'a> for NlaView<'a> {
 
     ghost tests = { inet_tests };
 
-    ghost compared = { view_tests };
+    ghost compared = { tests text_view_row buffer_row _ _ (λ (t : Bor (List ℕ)). t.now) attribute_of
+        (λ _ _. refl) (λ _ _. refl) };
 
     #[inline(always)]
     fn read_view(nla: &NlaBuffer<'a>) -> Result<Self, DecodeError> {

@@ -1,9 +1,13 @@
 //! The reply about one UNIX socket, read in place.
 
 ghost use Rattle.std.specs.Prelude.{refl};
+ghost use Rattle.netlink_core.specs.Walk.{attribute_of};
 ghost use Rattle.netlink_core.proofs.Replies.{replies_keep_laws};
 ghost use Rattle.sock_diag_attributes.specs.UnixAttributes.{unix};
-ghost use Rattle.sock_diag_attributes.specs.EqualUnixLaws.{unix_tests, view_tests};
+ghost use Rattle.sock_diag_attributes.specs.EqualUnixLaws.{unix_tests, tests, viewed_lists, viewed_names};
+ghost use Rattle.sock_diag_attributes.specs.LentLaws.{buffer_row, name_view_row, numbers_row};
+ghost use Rattle.sock_diag_attributes.specs.SeenName.{viewed_name};
+ghost use Rattle.sock_diag_attributes.specs.SeenNumbers.{viewed_numbers};
 ghost use Rattle.sock_diag_attributes.specs.SeenUnix.{viewed_nla};
 ghost use Rattle.netlink_packet_sock_diag.specs.EqualViewLaws.{unix_test, unix_test_says};
 ghost use Rattle.netlink_packet_sock_diag.specs.UnixReply.{unix_reply};
@@ -27,7 +31,8 @@ impl<'a> FamilyView<'a> for NlaView<'a> {
 
     ghost tests = { unix_tests };
 
-    ghost compared = { view_tests };
+    ghost compared = { tests name_view_row numbers_row buffer_row _ _ _ viewed_name viewed_numbers
+        attribute_of viewed_names viewed_lists (λ _ _. refl) };
 
     #[inline(always)]
     fn read_view(nla: &NlaBuffer<'a>) -> Result<Self, DecodeError> {

@@ -1,12 +1,14 @@
 //! How an attribute stands in bytes.
 
-ghost use Rattle.std.specs.Prelude.{refl};
+ghost use Rattle.std.specs.Prelude.{refl, string_bytes};
+ghost use Rattle.netlink_core.specs.DefaultNla.{kept_attribute};
 ghost use Rattle.netlink_core.specs.Heads.{head_codec};
 ghost use Rattle.netlink_core.specs.HeadLaws.{heads_keep_laws};
 ghost use Rattle.sock_diag_attributes.specs.InetAttributes.{inet};
 ghost use Rattle.sock_diag_attributes.specs.InetAttributeLaws.{inet_laws};
 ghost use Rattle.sock_diag_attributes.specs.SeenInet.{seen_nla};
-ghost use Rattle.sock_diag_attributes.specs.EqualInetLaws.{nla_equal};
+ghost use Rattle.sock_diag_attributes.specs.EqualInetLaws.{equal};
+ghost use Rattle.sock_diag_attributes.specs.LentLaws.{kept_row, text_row};
 
 use super::nlas::{Nla, NlaView};
 use netlink_core::{Coded, DecodeError, NlaBuffer, Wire, WireNla};
@@ -25,7 +27,8 @@ impl Coded for Nla {
         self.parts().1.typed();
     }
 
-    ghost eq_is_seen = { nla_equal };
+    ghost eq_is_seen = { equal text_row kept_row _ _ string_bytes kept_attribute
+        (λ _ _. refl) (λ _ _. refl) };
 
     ghost laws = { heads_keep_laws inet inet_laws };
 }

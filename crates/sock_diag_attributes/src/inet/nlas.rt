@@ -6,11 +6,12 @@ ghost use Rattle.netlink_core.specs.Family.{says, attribute_said, IsSpareSaid, I
 ghost use Rattle.netlink_core.specs.Walk.{attribute_of};
 ghost use Rattle.sock_diag_attributes.specs.ValueSteps.{value_bytes, IsTypedValue};
 
+use crate::lent::OtherNla;
 use crate::numbers::{exact_flag, exact_u8, exact_u32};
 use crate::value::Value;
 use netlink_core::{
-    DecodeError, DefaultNla, Emitable, Nla as NlaTrait, NlaBuffer, Parseable, Readable, copy_list,
-    emit_nla, nla_len, parse_str,
+    DecodeError, DefaultNla, Emitable, Nla as NlaTrait, NlaBuffer, Parseable, Readable, emit_nla,
+    nla_len, parse_str,
 };
 use sock_diag_records::constants::*;
 pub use sock_diag_values::inet::{
@@ -18,17 +19,19 @@ pub use sock_diag_values::inet::{
     TcpInfoBuffer,
 };
 use std::alloc::{AllocError, Global};
+use std::convert::AsStr;
 use std::default::MadeWith;
 
-/// One attribute of a reply about an IPv4 or IPv6 socket.
-#[derive(Debug, Drop, PartialEq, Eq)]
-pub enum Nla {
+/// One attribute of a reply about an IPv4 or IPv6 socket, whose text is a `T` and which is an `O`
+/// where it is of another kind.
+#[derive(Clone, Debug, Drop, PartialEq, Eq)]
+pub enum InetNla<T, O> {
     /// The memory of the socket, as older kernels tell it, `INET_DIAG_MEMINFO`.
     LegacyMemInfo(LegacyMemInfo),
     /// What is known of the TCP connection, `INET_DIAG_INFO`.
     TcpInfo(TcpInfo),
     /// The name of the congestion control algorithm, `INET_DIAG_CONG`. It is written with an end zero.
-    Congestion(String),
+    Congestion(T),
     /// The type of service, `INET_DIAG_TOS`.
     Tos(u8),
     /// The traffic class of an IPv6 socket, `INET_DIAG_TCLASS`.
@@ -46,8 +49,15 @@ pub enum Nla {
     /// The class of the socket's packets for traffic control, `INET_DIAG_CLASS_ID`.
     ClassId(u32),
     /// An attribute of another kind, with its whole type word.
-    Other(DefaultNla),
+    Other(O),
 }
+
+/// One attribute of a reply about an IPv4 or IPv6 socket.
+pub type Nla = InetNla<String, DefaultNla>;
+
+/// One attribute of a reply about an IPv4 or IPv6 socket, read in place: an [`Nla`] whose text and
+/// bytes are borrowed.
+pub type NlaView<'a> = InetNla<&'a str, NlaBuffer<'a>>;
 
 // What stands in the places of a small vector that are not used. It takes no memory, and all of it is zeros, as memory
 // is before: so to fill the places costs nothing.
@@ -68,6 +78,63 @@ impl MadeWith<Global> for Nla {
     }
 }
 
+impl<T: AsStr, O: OtherNla> InetNla<T, O> {
+    ghost use Rattle.sock_diag_attributes.specs.InetAttributes.{inet};
+    ghost use Rattle.sock_diag_attributes.specs.SeenInet.{seen, seen_nla};
+
+    // The attribute with a text and bytes of its own.
+    #[inline(always)]
+    fn owned(&self, alloc: Global) -> Result<Nla, AllocError>
+        ensures equal { IfOk result (λ nla. seen_nla nla ≡ seen T.text O.attribute self.now) }
+        ensures spare { IsSpareSaid inet (seen T.text O.attribute self.now) → IsOk result }
+        ensures empty { (attribute_said inet (seen T.text O.attribute self.now)).value ≡ []
+            → IsOk result }
+    {
+        Ok(match self {
+            InetNla::LegacyMemInfo(info) => Nla::LegacyMemInfo(info.clone()?),
+            InetNla::TcpInfo(info) => Nla::TcpInfo(info.clone()?),
+            InetNla::Congestion(text) => {
+                Nla::Congestion(String::from_str(alloc, text.as_str())?)
+            }
+            InetNla::Tos(tos) => Nla::Tos(*tos),
+            InetNla::Tc(class) => Nla::Tc(*class),
+            InetNla::MemInfo(info) => Nla::MemInfo(info.clone()?),
+            InetNla::Shutdown(state) => Nla::Shutdown(*state),
+            InetNla::Protocol(protocol) => Nla::Protocol(*protocol),
+            InetNla::SkV6Only(only) => Nla::SkV6Only(*only),
+            InetNla::Mark(mark) => Nla::Mark(*mark),
+            InetNla::ClassId(class) => Nla::ClassId(*class),
+            InetNla::Other(nla) => Nla::Other(nla.to_kept(alloc)?),
+        })
+    }
+
+    // The kind and the value.
+    #[inline(always)]
+    pub(super) fn parts(&self) -> (u16, Value<'_>)
+        ensures kind { result.0
+            ≡ (attribute_said inet (seen T.text O.attribute self.now)).type_word }
+        ensures value { value_bytes result.1
+            ≡ (attribute_said inet (seen T.text O.attribute self.now)).value }
+        ensures typed { IsTypedValue result.1
+            → IsTypedSaid inet (seen T.text O.attribute self.now) }
+    {
+        match self {
+            InetNla::LegacyMemInfo(info) => (INET_DIAG_MEMINFO, Value::LegacyMemInfo(info)),
+            InetNla::TcpInfo(info) => (INET_DIAG_INFO, Value::TcpInfo(info)),
+            InetNla::Congestion(text) => (INET_DIAG_CONG, Value::Text(text.as_str())),
+            InetNla::Tos(tos) => (INET_DIAG_TOS, Value::Byte(*tos)),
+            InetNla::Tc(class) => (INET_DIAG_TCLASS, Value::Byte(*class)),
+            InetNla::MemInfo(info) => (INET_DIAG_SKMEMINFO, Value::MemInfo(info)),
+            InetNla::Shutdown(state) => (INET_DIAG_SHUTDOWN, Value::Byte(*state)),
+            InetNla::Protocol(protocol) => (INET_DIAG_PROTOCOL, Value::Byte(*protocol)),
+            InetNla::SkV6Only(only) => (INET_DIAG_SKV6ONLY, Value::Byte(u8::from(*only))),
+            InetNla::Mark(mark) => (INET_DIAG_MARK, Value::Word(*mark)),
+            InetNla::ClassId(class) => (INET_DIAG_CLASS_ID, Value::Word(*class)),
+            InetNla::Other(nla) => (nla.type_word(), Value::Bytes(nla.bytes())),
+        }
+    }
+}
+
 impl Nla {
     ghost use Rattle.sock_diag_attributes.specs.InetAttributes.{inet};
     ghost use Rattle.sock_diag_attributes.specs.SeenInet.{seen_nla};
@@ -79,78 +146,8 @@ impl Nla {
         ensures spare { IsSpareSaid inet (seen_nla self.now) → IsOk result }
         ensures empty { (attribute_said inet (seen_nla self.now)).value ≡ [] → IsOk result }
     {
-        Ok(match self {
-            Nla::LegacyMemInfo(info) => Nla::LegacyMemInfo(info.clone()?),
-            Nla::TcpInfo(info) => Nla::TcpInfo(info.clone()?),
-            Nla::Congestion(text) => Nla::Congestion(String::from_str(alloc, text)?),
-            Nla::Tos(tos) => Nla::Tos(*tos),
-            Nla::Tc(class) => Nla::Tc(*class),
-            Nla::MemInfo(info) => Nla::MemInfo(info.clone()?),
-            Nla::Shutdown(state) => Nla::Shutdown(*state),
-            Nla::Protocol(protocol) => Nla::Protocol(*protocol),
-            Nla::SkV6Only(only) => Nla::SkV6Only(*only),
-            Nla::Mark(mark) => Nla::Mark(*mark),
-            Nla::ClassId(class) => Nla::ClassId(*class),
-            Nla::Other(nla) => Nla::Other(nla.clone(alloc)?),
-        })
+        self.owned(alloc)
     }
-
-    // The kind and the value.
-    #[inline(always)]
-    pub(super) fn parts(&self) -> (u16, Value<'_>)
-        ensures kind { result.0 ≡ (attribute_said inet (seen_nla self.now)).type_word }
-        ensures value { value_bytes result.1 ≡ (attribute_said inet (seen_nla self.now)).value }
-        ensures typed { IsTypedValue result.1 → IsTypedSaid inet (seen_nla self.now) }
-    {
-        match self {
-            Nla::LegacyMemInfo(info) => (INET_DIAG_MEMINFO, Value::LegacyMemInfo(info)),
-            Nla::TcpInfo(info) => (INET_DIAG_INFO, Value::TcpInfo(info)),
-            Nla::Congestion(text) => (INET_DIAG_CONG, Value::Text(text)),
-            Nla::Tos(tos) => (INET_DIAG_TOS, Value::Byte(*tos)),
-            Nla::Tc(class) => (INET_DIAG_TCLASS, Value::Byte(*class)),
-            Nla::MemInfo(info) => (INET_DIAG_SKMEMINFO, Value::MemInfo(info)),
-            Nla::Shutdown(state) => (INET_DIAG_SHUTDOWN, Value::Byte(*state)),
-            Nla::Protocol(protocol) => (INET_DIAG_PROTOCOL, Value::Byte(*protocol)),
-            Nla::SkV6Only(only) => (INET_DIAG_SKV6ONLY, Value::Byte(u8::from(*only))),
-            Nla::Mark(mark) => (INET_DIAG_MARK, Value::Word(*mark)),
-            Nla::ClassId(class) => (INET_DIAG_CLASS_ID, Value::Word(*class)),
-            Nla::Other(nla) => (nla.kind(), Value::Bytes(nla.value())),
-        }
-    }
-}
-
-/// One attribute of a reply about an IPv4 or IPv6 socket, read in place: an [`Nla`] whose text and bytes are borrowed.
-#[derive(Clone, Debug, Drop, PartialEq, Eq)]
-pub enum NlaView<'a> {
-    /// The memory of the socket, as older kernels tell it, `INET_DIAG_MEMINFO`.
-    LegacyMemInfo(LegacyMemInfo),
-    /// What is known of the TCP connection, `INET_DIAG_INFO`.
-    TcpInfo(TcpInfo),
-    /// The name of the congestion control algorithm, `INET_DIAG_CONG`.
-    Congestion(&'a str),
-    /// The type of service, `INET_DIAG_TOS`.
-    Tos(u8),
-    /// The traffic class of an IPv6 socket, `INET_DIAG_TCLASS`.
-    Tc(u8),
-    /// The memory of the socket, `INET_DIAG_SKMEMINFO`.
-    MemInfo(MemInfo),
-    /// Which directions are shut down, `INET_DIAG_SHUTDOWN`, as the kernel tells them.
-    Shutdown(u8),
-    /// The protocol, `IPPROTO_..`, `INET_DIAG_PROTOCOL`.
-    Protocol(u8),
-    /// Whether the socket is for IPv6 alone, `INET_DIAG_SKV6ONLY`.
-    SkV6Only(bool),
-    /// The mark of the socket, `INET_DIAG_MARK`.
-    Mark(u32),
-    /// The class of the socket's packets for traffic control, `INET_DIAG_CLASS_ID`.
-    ClassId(u32),
-    /// An attribute of another kind.
-    Other {
-        /// The whole type word, with its two flag bits.
-        type_word: u16,
-        /// The value's bytes.
-        value: &'a [u8],
-    },
 }
 
 impl<'a> NlaView<'a> {
@@ -178,10 +175,7 @@ impl<'a> NlaView<'a> {
             INET_DIAG_SKV6ONLY => NlaView::SkV6Only(exact_flag(INET_DIAG_SKV6ONLY, value)?),
             INET_DIAG_MARK => NlaView::Mark(exact_u32(INET_DIAG_MARK, value)?),
             INET_DIAG_CLASS_ID => NlaView::ClassId(exact_u32(INET_DIAG_CLASS_ID, value)?),
-            _ => NlaView::Other {
-                type_word: nla.type_word(),
-                value,
-            },
+            _ => NlaView::Other(*nla),
         })
     }
 
@@ -203,44 +197,7 @@ impl<'a> NlaView<'a> {
         ensures spare { IsSpareSaid inet (viewed_nla self.now) → IsOk result }
         ensures empty { (attribute_said inet (viewed_nla self.now)).value ≡ [] → IsOk result }
     {
-        Ok(match self {
-            NlaView::LegacyMemInfo(info) => Nla::LegacyMemInfo(info.clone()?),
-            NlaView::TcpInfo(info) => Nla::TcpInfo(info.clone()?),
-            NlaView::Congestion(text) => Nla::Congestion(String::from_str(alloc, text)?),
-            NlaView::Tos(tos) => Nla::Tos(*tos),
-            NlaView::Tc(class) => Nla::Tc(*class),
-            NlaView::MemInfo(info) => Nla::MemInfo(info.clone()?),
-            NlaView::Shutdown(state) => Nla::Shutdown(*state),
-            NlaView::Protocol(protocol) => Nla::Protocol(*protocol),
-            NlaView::SkV6Only(only) => Nla::SkV6Only(*only),
-            NlaView::Mark(mark) => Nla::Mark(*mark),
-            NlaView::ClassId(class) => Nla::ClassId(*class),
-            NlaView::Other { type_word, value } => {
-                Nla::Other(DefaultNla::new(*type_word, copy_list(alloc, value)?))
-            }
-        })
-    }
-
-    // The kind and the value.
-    #[inline(always)]
-    fn parts(&self) -> (u16, Value<'_>)
-        ensures kind { result.0 ≡ (attribute_said inet (viewed_nla self.now)).type_word }
-        ensures value { value_bytes result.1 ≡ (attribute_said inet (viewed_nla self.now)).value }
-    {
-        match self {
-            NlaView::LegacyMemInfo(info) => (INET_DIAG_MEMINFO, Value::LegacyMemInfo(info)),
-            NlaView::TcpInfo(info) => (INET_DIAG_INFO, Value::TcpInfo(info)),
-            NlaView::Congestion(text) => (INET_DIAG_CONG, Value::Text(text)),
-            NlaView::Tos(tos) => (INET_DIAG_TOS, Value::Byte(*tos)),
-            NlaView::Tc(class) => (INET_DIAG_TCLASS, Value::Byte(*class)),
-            NlaView::MemInfo(info) => (INET_DIAG_SKMEMINFO, Value::MemInfo(info)),
-            NlaView::Shutdown(state) => (INET_DIAG_SHUTDOWN, Value::Byte(*state)),
-            NlaView::Protocol(protocol) => (INET_DIAG_PROTOCOL, Value::Byte(*protocol)),
-            NlaView::SkV6Only(only) => (INET_DIAG_SKV6ONLY, Value::Byte(u8::from(*only))),
-            NlaView::Mark(mark) => (INET_DIAG_MARK, Value::Word(*mark)),
-            NlaView::ClassId(class) => (INET_DIAG_CLASS_ID, Value::Word(*class)),
-            NlaView::Other { type_word, value } => (*type_word, Value::Bytes(value)),
-        }
+        self.owned(alloc)
     }
 }
 
@@ -258,30 +215,11 @@ impl<'a> Parseable<NlaBuffer<'a>> for Nla {
     }
 }
 
-impl NlaTrait for Nla {
+impl<T: AsStr, O: OtherNla> NlaTrait for InetNla<T, O> {
     ghost use Rattle.sock_diag_attributes.specs.InetAttributes.{inet};
-    ghost use Rattle.sock_diag_attributes.specs.SeenInet.{seen_nla};
+    ghost use Rattle.sock_diag_attributes.specs.SeenInet.{seen};
 
-    ghost attribute = { λ v. attribute_said inet (seen_nla v) };
-
-    fn value_len(&self) -> usize {
-        self.parts().1.len()
-    }
-
-    fn kind(&self) -> u16 {
-        self.parts().0
-    }
-
-    fn emit_value(&self, buffer: &mut [u8]) {
-        self.parts().1.emit(buffer);
-    }
-}
-
-impl<'a> NlaTrait for NlaView<'a> {
-    ghost use Rattle.sock_diag_attributes.specs.InetAttributes.{inet};
-    ghost use Rattle.sock_diag_attributes.specs.SeenInet.{viewed_nla};
-
-    ghost attribute = { λ v. attribute_said inet (viewed_nla v) };
+    ghost attribute = { λ v. attribute_said inet (seen T.text O.attribute v) };
 
     fn value_len(&self) -> usize {
         self.parts().1.len()

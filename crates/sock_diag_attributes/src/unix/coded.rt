@@ -1,12 +1,15 @@
 //! How an attribute stands in bytes.
 
-ghost use Rattle.std.specs.Prelude.{refl};
+ghost use Rattle.std.specs.Prelude.{refl, vec_items};
+ghost use Rattle.netlink_core.specs.DefaultNla.{kept_attribute};
 ghost use Rattle.netlink_core.specs.Heads.{head_codec};
 ghost use Rattle.netlink_core.specs.HeadLaws.{heads_keep_laws};
 ghost use Rattle.sock_diag_attributes.specs.UnixAttributes.{unix};
 ghost use Rattle.sock_diag_attributes.specs.UnixAttributeLaws.{unix_laws};
 ghost use Rattle.sock_diag_attributes.specs.SeenUnix.{seen_nla};
-ghost use Rattle.sock_diag_attributes.specs.EqualUnixLaws.{nla_equal};
+ghost use Rattle.sock_diag_attributes.specs.SeenName.{seen_name};
+ghost use Rattle.sock_diag_attributes.specs.EqualUnixLaws.{equal, same_names};
+ghost use Rattle.sock_diag_attributes.specs.LentLaws.{kept_row, list_row, name_row};
 
 use super::nlas::{Nla, NlaView};
 use netlink_core::{Coded, DecodeError, NlaBuffer, Wire, WireNla};
@@ -25,7 +28,8 @@ impl Coded for Nla {
         self.parts().1.typed();
     }
 
-    ghost eq_is_seen = { nla_equal };
+    ghost eq_is_seen = { equal name_row list_row kept_row _ _ _ seen_name vec_items
+        kept_attribute same_names (λ _ _. refl) (λ _ _. refl) };
 
     ghost laws = { heads_keep_laws unix unix_laws };
 }

@@ -6,31 +6,33 @@ ghost use Rattle.netlink_core.specs.Family.{says, attribute_said, IsSpareSaid, I
 ghost use Rattle.netlink_core.specs.Walk.{attribute_of};
 ghost use Rattle.sock_diag_attributes.specs.ValueSteps.{value_bytes, IsTypedValue};
 
+use crate::lent::{LendsName, LendsNumbers, OtherNla};
 pub use crate::numbers::{NumbersIterator, NumbersView};
 use crate::numbers::{exact_u8, exact_u32, exact_u32_pair};
 pub use crate::unix::name::{NameView, UnixDiagName};
 use crate::value::Value;
 use netlink_core::{
-    DecodeError, DefaultNla, Emitable, Nla as NlaTrait, NlaBuffer, Parseable, Readable, copy_list,
-    emit_nla, nla_len,
+    DecodeError, DefaultNla, Emitable, Nla as NlaTrait, NlaBuffer, Parseable, Readable, emit_nla,
+    nla_len,
 };
 use sock_diag_records::constants::*;
 pub use sock_diag_values::unix::{MemInfo, MemInfoBuffer, Vfs, VfsBuffer};
 use std::alloc::{AllocError, Global};
 use std::default::MadeWith;
 
-/// One attribute of a reply about a UNIX socket.
-#[derive(Debug, Drop, PartialEq, Eq)]
-pub enum Nla {
+/// One attribute of a reply about a UNIX socket, whose name is an `N`, whose list of inodes is an
+/// `L`, and which is an `O` where it is of another kind.
+#[derive(Clone, Debug, Drop, PartialEq, Eq)]
+pub enum UnixNla<N, L, O> {
     // It stands first, so that what stands in unused places of a small vector is zeros alone.
     /// The inode of the peer, `UNIX_DIAG_PEER`.
     Peer(u32),
     /// The name that the socket is bound to, `UNIX_DIAG_NAME`.
-    Name(UnixDiagName),
+    Name(N),
     /// The file that the socket is bound to, `UNIX_DIAG_VFS`.
     Vfs(Vfs),
     /// The inodes of the sockets that wait to be accepted, `UNIX_DIAG_ICONS`.
-    PendingConnections(Vec<u32>),
+    PendingConnections(L),
     /// The lengths of the queues, `UNIX_DIAG_RQLEN`. Of a listening socket, how many connections wait to be accepted,
     /// and how many may wait; of another, how many bytes wait to be read, and how many bytes of
     /// memory are taken by what was sent and is not yet read.
@@ -40,8 +42,15 @@ pub enum Nla {
     /// Which directions are shut down, `UNIX_DIAG_SHUTDOWN`, as the kernel tells them.
     Shutdown(u8),
     /// An attribute of another kind, with its whole type word.
-    Other(DefaultNla),
+    Other(O),
 }
+
+/// One attribute of a reply about a UNIX socket.
+pub type Nla = UnixNla<UnixDiagName, Vec<u32>, DefaultNla>;
+
+/// One attribute of a reply about a UNIX socket, read in place: an [`Nla`] whose name, numbers and
+/// bytes are borrowed.
+pub type NlaView<'a> = UnixNla<NameView<'a>, NumbersView<'a>, NlaBuffer<'a>>;
 
 // What stands in the places of a small vector that are not used. It takes no memory.
 impl MadeWith<Global> for Nla {
@@ -55,78 +64,71 @@ impl MadeWith<Global> for Nla {
     }
 }
 
-impl Nla {
+impl<N: LendsName, L: LendsNumbers, O: OtherNla> UnixNla<N, L, O> {
     ghost use Rattle.sock_diag_attributes.specs.UnixAttributes.{unix};
-    ghost use Rattle.sock_diag_attributes.specs.SeenUnix.{seen_nla};
+    ghost use Rattle.sock_diag_attributes.specs.SeenUnix.{seen, seen_nla};
 
-    /// An equal attribute. It fails only for want of memory, which only a name, and a list and an attribute of another
-    /// kind that aren't empty, need.
+    // The attribute with a name, numbers and bytes of its own.
+    #[inline(always)]
     #[tactic(auto, using(crate::specs::NumberLaws::no_numbers))]
-    pub fn clone(&self, alloc: Global) -> Result<Self, AllocError>
-        ensures equal { IfOk result (λ copy. seen_nla copy ≡ seen_nla self.now) }
-        ensures spare { IsSpareSaid unix (seen_nla self.now) → IsOk result }
-        ensures empty { (attribute_said unix (seen_nla self.now)).value ≡ [] → IsOk result }
+    fn owned(&self, alloc: Global) -> Result<Nla, AllocError>
+        ensures equal { IfOk result (λ nla.
+            seen_nla nla ≡ seen N.name L.numbers O.attribute self.now) }
+        ensures spare { IsSpareSaid unix (seen N.name L.numbers O.attribute self.now)
+            → IsOk result }
+        ensures empty { (attribute_said unix (seen N.name L.numbers O.attribute self.now)).value ≡ []
+            → IsOk result }
     {
         Ok(match self {
-            Nla::Name(name) => Nla::Name(name.clone(alloc)?),
-            Nla::Vfs(vfs) => Nla::Vfs(vfs.clone()?),
-            Nla::Peer(inode) => Nla::Peer(*inode),
-            Nla::PendingConnections(inodes) => {
-                Nla::PendingConnections(copy_list(alloc, inodes)?)
-            }
-            Nla::ReceiveQueueLength(first, second) => Nla::ReceiveQueueLength(*first, *second),
-            Nla::MemInfo(info) => Nla::MemInfo(*info),
-            Nla::Shutdown(state) => Nla::Shutdown(*state),
-            Nla::Other(nla) => Nla::Other(nla.clone(alloc)?),
+            UnixNla::Name(name) => Nla::Name(name.lent_name().to_owned(alloc)?),
+            UnixNla::Vfs(vfs) => Nla::Vfs(vfs.clone()?),
+            UnixNla::Peer(inode) => Nla::Peer(*inode),
+            UnixNla::PendingConnections(inodes) => Nla::PendingConnections(inodes.to_list(alloc)?),
+            UnixNla::ReceiveQueueLength(first, second) => Nla::ReceiveQueueLength(*first, *second),
+            UnixNla::MemInfo(info) => Nla::MemInfo(*info),
+            UnixNla::Shutdown(state) => Nla::Shutdown(*state),
+            UnixNla::Other(nla) => Nla::Other(nla.to_kept(alloc)?),
         })
     }
 
     // The kind and the value.
     #[inline(always)]
     pub(super) fn parts(&self) -> (u16, Value<'_>)
-        ensures kind { result.0 ≡ (attribute_said unix (seen_nla self.now)).type_word }
-        ensures value { value_bytes result.1 ≡ (attribute_said unix (seen_nla self.now)).value }
-        ensures typed { IsTypedValue result.1 → IsTypedSaid unix (seen_nla self.now) }
+        ensures kind { result.0
+            ≡ (attribute_said unix (seen N.name L.numbers O.attribute self.now)).type_word }
+        ensures value { value_bytes result.1
+            ≡ (attribute_said unix (seen N.name L.numbers O.attribute self.now)).value }
+        ensures typed { IsTypedValue result.1
+            → IsTypedSaid unix (seen N.name L.numbers O.attribute self.now) }
     {
         match self {
-            Nla::Name(name) => (UNIX_DIAG_NAME, Value::Name(name.view())),
-            Nla::Vfs(vfs) => (UNIX_DIAG_VFS, Value::Vfs(vfs)),
-            Nla::Peer(inode) => (UNIX_DIAG_PEER, Value::Word(*inode)),
-            Nla::PendingConnections(inodes) => (UNIX_DIAG_ICONS, Value::Numbers(inodes)),
-            Nla::ReceiveQueueLength(first, second) => {
+            UnixNla::Name(name) => (UNIX_DIAG_NAME, Value::Name(name.lent_name())),
+            UnixNla::Vfs(vfs) => (UNIX_DIAG_VFS, Value::Vfs(vfs)),
+            UnixNla::Peer(inode) => (UNIX_DIAG_PEER, Value::Word(*inode)),
+            UnixNla::PendingConnections(inodes) => (UNIX_DIAG_ICONS, inodes.lent_value()),
+            UnixNla::ReceiveQueueLength(first, second) => {
                 (UNIX_DIAG_RQLEN, Value::Pair(*first, *second))
             }
-            Nla::MemInfo(info) => (UNIX_DIAG_MEMINFO, Value::UnixMemInfo(info)),
-            Nla::Shutdown(state) => (UNIX_DIAG_SHUTDOWN, Value::Byte(*state)),
-            Nla::Other(nla) => (nla.kind(), Value::Bytes(nla.value())),
+            UnixNla::MemInfo(info) => (UNIX_DIAG_MEMINFO, Value::UnixMemInfo(info)),
+            UnixNla::Shutdown(state) => (UNIX_DIAG_SHUTDOWN, Value::Byte(*state)),
+            UnixNla::Other(nla) => (nla.type_word(), Value::Bytes(nla.bytes())),
         }
     }
 }
 
-/// One attribute of a reply about a UNIX socket, read in place: an [`Nla`] whose name, numbers and bytes are borrowed.
-#[derive(Clone, Debug, Drop, PartialEq, Eq)]
-pub enum NlaView<'a> {
-    /// The name that the socket is bound to, `UNIX_DIAG_NAME`.
-    Name(NameView<'a>),
-    /// The file that the socket is bound to, `UNIX_DIAG_VFS`.
-    Vfs(Vfs),
-    /// The inode of the peer, `UNIX_DIAG_PEER`.
-    Peer(u32),
-    /// The inodes of the sockets that wait to be accepted, `UNIX_DIAG_ICONS`.
-    PendingConnections(NumbersView<'a>),
-    /// The lengths of the queues, `UNIX_DIAG_RQLEN`, as [`Nla::ReceiveQueueLength`] has them.
-    ReceiveQueueLength(u32, u32),
-    /// The memory of the socket, `UNIX_DIAG_MEMINFO`.
-    MemInfo(MemInfo),
-    /// Which directions are shut down, `UNIX_DIAG_SHUTDOWN`, as the kernel tells them.
-    Shutdown(u8),
-    /// An attribute of another kind.
-    Other {
-        /// The whole type word, with its two flag bits.
-        type_word: u16,
-        /// The value's bytes.
-        value: &'a [u8],
-    },
+impl Nla {
+    ghost use Rattle.sock_diag_attributes.specs.UnixAttributes.{unix};
+    ghost use Rattle.sock_diag_attributes.specs.SeenUnix.{seen_nla};
+
+    /// An equal attribute. It fails only for want of memory, which only a name, and a list and an attribute of another
+    /// kind that aren't empty, need.
+    pub fn clone(&self, alloc: Global) -> Result<Self, AllocError>
+        ensures equal { IfOk result (λ copy. seen_nla copy ≡ seen_nla self.now) }
+        ensures spare { IsSpareSaid unix (seen_nla self.now) → IsOk result }
+        ensures empty { (attribute_said unix (seen_nla self.now)).value ≡ [] → IsOk result }
+    {
+        self.owned(alloc)
+    }
 }
 
 impl<'a> NlaView<'a> {
@@ -153,10 +155,7 @@ impl<'a> NlaView<'a> {
             }
             UNIX_DIAG_MEMINFO => NlaView::MemInfo(MemInfo::parse(value)?),
             UNIX_DIAG_SHUTDOWN => NlaView::Shutdown(exact_u8(UNIX_DIAG_SHUTDOWN, value)?),
-            _ => NlaView::Other {
-                type_word: nla.type_word(),
-                value,
-            },
+            _ => NlaView::Other(*nla),
         })
     }
 
@@ -176,44 +175,12 @@ impl<'a> NlaView<'a> {
     }
 
     /// The attribute with a name, numbers and bytes of its own. It fails only for want of memory.
-    #[tactic(auto, using(crate::specs::NumberLaws::no_numbers))]
     pub fn to_owned(&self, alloc: Global) -> Result<Nla, AllocError>
         ensures equal { IfOk result (λ nla. seen_nla nla ≡ viewed_nla self.now) }
         ensures spare { IsSpareSaid unix (viewed_nla self.now) → IsOk result }
         ensures empty { (attribute_said unix (viewed_nla self.now)).value ≡ [] → IsOk result }
     {
-        Ok(match self {
-            NlaView::Name(name) => Nla::Name(name.to_owned(alloc)?),
-            NlaView::Vfs(vfs) => Nla::Vfs(vfs.clone()?),
-            NlaView::Peer(inode) => Nla::Peer(*inode),
-            NlaView::PendingConnections(inodes) => Nla::PendingConnections(inodes.to_owned(alloc)?),
-            NlaView::ReceiveQueueLength(first, second) => Nla::ReceiveQueueLength(*first, *second),
-            NlaView::MemInfo(info) => Nla::MemInfo(*info),
-            NlaView::Shutdown(state) => Nla::Shutdown(*state),
-            NlaView::Other { type_word, value } => {
-                Nla::Other(DefaultNla::new(*type_word, copy_list(alloc, value)?))
-            }
-        })
-    }
-
-    // The kind and the value.
-    #[inline(always)]
-    fn parts(&self) -> (u16, Value<'_>)
-        ensures kind { result.0 ≡ (attribute_said unix (viewed_nla self.now)).type_word }
-        ensures value { value_bytes result.1 ≡ (attribute_said unix (viewed_nla self.now)).value }
-    {
-        match self {
-            NlaView::Name(name) => (UNIX_DIAG_NAME, Value::Name(*name)),
-            NlaView::Vfs(vfs) => (UNIX_DIAG_VFS, Value::Vfs(vfs)),
-            NlaView::Peer(inode) => (UNIX_DIAG_PEER, Value::Word(*inode)),
-            NlaView::PendingConnections(inodes) => (UNIX_DIAG_ICONS, Value::Bytes(inodes.bytes())),
-            NlaView::ReceiveQueueLength(first, second) => {
-                (UNIX_DIAG_RQLEN, Value::Pair(*first, *second))
-            }
-            NlaView::MemInfo(info) => (UNIX_DIAG_MEMINFO, Value::UnixMemInfo(info)),
-            NlaView::Shutdown(state) => (UNIX_DIAG_SHUTDOWN, Value::Byte(*state)),
-            NlaView::Other { type_word, value } => (*type_word, Value::Bytes(value)),
-        }
+        self.owned(alloc)
     }
 }
 
@@ -231,30 +198,11 @@ impl<'a> Parseable<NlaBuffer<'a>> for Nla {
     }
 }
 
-impl NlaTrait for Nla {
+impl<N: LendsName, L: LendsNumbers, O: OtherNla> NlaTrait for UnixNla<N, L, O> {
     ghost use Rattle.sock_diag_attributes.specs.UnixAttributes.{unix};
-    ghost use Rattle.sock_diag_attributes.specs.SeenUnix.{seen_nla};
+    ghost use Rattle.sock_diag_attributes.specs.SeenUnix.{seen};
 
-    ghost attribute = { λ v. attribute_said unix (seen_nla v) };
-
-    fn value_len(&self) -> usize {
-        self.parts().1.len()
-    }
-
-    fn kind(&self) -> u16 {
-        self.parts().0
-    }
-
-    fn emit_value(&self, buffer: &mut [u8]) {
-        self.parts().1.emit(buffer);
-    }
-}
-
-impl<'a> NlaTrait for NlaView<'a> {
-    ghost use Rattle.sock_diag_attributes.specs.UnixAttributes.{unix};
-    ghost use Rattle.sock_diag_attributes.specs.SeenUnix.{viewed_nla};
-
-    ghost attribute = { λ v. attribute_said unix (viewed_nla v) };
+    ghost attribute = { λ v. attribute_said unix (seen N.name L.numbers O.attribute v) };
 
     fn value_len(&self) -> usize {
         self.parts().1.len()

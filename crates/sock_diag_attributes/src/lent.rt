@@ -1,0 +1,148 @@
+//! What an attribute that owns its parts and one that borrows them lend alike.
+
+ghost use Rattle.std.specs.List.{AllByRecursion};
+ghost use Rattle.std.specs.Prelude.{◌≡◌, ◌<◌, ◌^◌, ℕ, List, [], IfOk, IsOk};
+ghost use Rattle.netlink_core.specs.Attribute.{Attribute};
+ghost use Rattle.netlink_core.specs.DefaultNla.{kept_attribute};
+ghost use Rattle.netlink_core.specs.Walk.{attribute_of};
+ghost use Rattle.sock_diag_attributes.specs.Name.{SocketName};
+ghost use Rattle.sock_diag_attributes.specs.Numbers.{bytes_of_numbers};
+ghost use Rattle.sock_diag_attributes.specs.SeenName.{seen_name, viewed_name};
+ghost use Rattle.sock_diag_attributes.specs.SeenNumbers.{viewed_numbers};
+ghost use Rattle.sock_diag_attributes.specs.ValueSteps.{value_bytes, IsTypedValue};
+
+use crate::numbers::NumbersView;
+use crate::unix::nlas::{NameView, UnixDiagName};
+use crate::value::Value;
+use netlink_core::{DefaultNla, NlaBuffer, copy_list};
+use std::alloc::{AllocError, Global};
+
+/// An attribute of no known kind.
+pub(crate) trait OtherNla {
+    // The attribute.
+    ghost attribute: { Self → Attribute };
+
+    /// The whole type word, with its two flag bits.
+    fn type_word(&self) -> u16
+        ensures { result ≡ (attribute self.now).type_word };
+
+    /// The value's bytes.
+    fn bytes(&self) -> &[u8]
+        ensures { result.now ≡ (attribute self.now).value };
+
+    /// The attribute with bytes of its own. It fails only for want of memory, which no bytes need.
+    fn to_kept(&self, alloc: Global) -> Result<DefaultNla, AllocError>
+        ensures equal { IfOk result (λ kept. kept_attribute kept ≡ attribute self.now) }
+        ensures spare { (attribute self.now).value ≡ [] → IsOk result };
+}
+
+impl OtherNla for DefaultNla {
+    ghost attribute = { kept_attribute };
+
+    #[inline(always)]
+    fn type_word(&self) -> u16 {
+        self.kind()
+    }
+
+    #[inline(always)]
+    fn bytes(&self) -> &[u8] {
+        self.value()
+    }
+
+    #[inline(always)]
+    fn to_kept(&self, alloc: Global) -> Result<DefaultNla, AllocError> {
+        self.clone(alloc)
+    }
+}
+
+impl OtherNla for NlaBuffer<'_> {
+    ghost attribute = { attribute_of };
+
+    #[inline(always)]
+    fn type_word(&self) -> u16 {
+        NlaBuffer::type_word(self)
+    }
+
+    #[inline(always)]
+    fn bytes(&self) -> &[u8] {
+        self.value()
+    }
+
+    #[inline(always)]
+    fn to_kept(&self, alloc: Global) -> Result<DefaultNla, AllocError> {
+        Ok(DefaultNla::new(NlaBuffer::type_word(self), copy_list(alloc, self.value())?))
+    }
+}
+
+/// The name of a UNIX socket.
+pub(crate) trait LendsName {
+    // The name.
+    ghost name: { Self → SocketName };
+
+    /// The name, its bytes borrowed.
+    fn lent_name(&self) -> NameView<'_>
+        ensures { viewed_name result ≡ name self.now };
+}
+
+impl LendsName for UnixDiagName {
+    ghost name = { seen_name };
+
+    #[inline(always)]
+    fn lent_name(&self) -> NameView<'_> {
+        self.view()
+    }
+}
+
+impl LendsName for NameView<'_> {
+    ghost name = { viewed_name };
+
+    #[inline(always)]
+    fn lent_name(&self) -> NameView<'_> {
+        *self
+    }
+}
+
+/// Numbers of four bytes each.
+pub(crate) trait LendsNumbers {
+    // The numbers.
+    ghost numbers: { Self → List ℕ };
+
+    /// The numbers as the value of an attribute.
+    fn lent_value(&self) -> Value<'_>
+        ensures bytes { value_bytes result ≡ bytes_of_numbers (numbers self.now) }
+        ensures typed { IsTypedValue result → AllByRecursion (λ n. n < 2 ^ 32) (numbers self.now) };
+
+    /// The numbers in a list of their own. It fails only for want of memory, which no numbers need.
+    fn to_list(&self, alloc: Global) -> Result<Vec<u32>, AllocError>
+        ensures equal { IfOk result (λ list. list.items ≡ numbers self.now) }
+        ensures spare { numbers self.now ≡ [] → IsOk result };
+}
+
+impl LendsNumbers for Vec<u32> {
+    ghost numbers = { λ list. list.items };
+
+    #[inline(always)]
+    fn lent_value(&self) -> Value<'_> {
+        Value::Numbers(self)
+    }
+
+    #[inline(always)]
+    fn to_list(&self, alloc: Global) -> Result<Vec<u32>, AllocError> {
+        copy_list(alloc, self)
+    }
+}
+
+impl LendsNumbers for NumbersView<'_> {
+    ghost numbers = { viewed_numbers };
+
+    #[inline(always)]
+    #[tactic(auto, using(crate::specs::NumberLaws::numbers_below))]
+    fn lent_value(&self) -> Value<'_> {
+        Value::Bytes(self.bytes())
+    }
+
+    #[inline(always)]
+    fn to_list(&self, alloc: Global) -> Result<Vec<u32>, AllocError> {
+        self.to_owned(alloc)
+    }
+}
