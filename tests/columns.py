@@ -13,7 +13,7 @@ ROOT = Path(__file__).resolve().parent.parent
 # So many columns a line may have.
 MOST = 100
 # So many lines of definitions are longer.
-LEFT = 151
+LEFT = 127
 # The modules of specs/ with these endings hold lemmas.
 LEMMAS = ("Laws", "Steps", "Inverse")
 
@@ -26,7 +26,7 @@ def is_definitions(path):
 def is_whole(line):
     """Whether a line can't be broken: an import of one name, an attribute, or a text that is printed."""
     line = line.strip()
-    imported = re.match(r"(pub )?(ghost )?use [^{]*\{[^,]*\};?$", line)
+    imported = re.match(r"(pub )?(ghost )?use ([^{]*\{[^,]*\}|[\w.-]+ as \w+);?$", line)
     return imported or line.startswith("#[tactic") or line.startswith('"')
 
 

@@ -1,11 +1,14 @@
--- Each list of items has one dump, and items in a row have that of the first part, continued by the second.
-use Rattle.std.proofs.Common.{◌≡◌, ◌≢◌, ℕ, ◌⊎◌, inl, inr, List, [], ◌∷◌, ◌++◌, refl, sym, ap, subst, ◌∙◌, append_assoc}
+-- Each list of items has one dump, and items in a row have that of the first part, continued by the
+-- second.
+use Rattle.std.proofs.Common.{◌≡◌, ◌≢◌, ℕ, ◌⊎◌, inl, inr, List, [], ◌∷◌, ◌++◌, refl, sym, ap, subst}
+use Rattle.std.proofs.Common.{◌∙◌, append_assoc}
 use Rattle.std.specs.Prelude.{Option, Some, None, Result, Ok, Err}
 use Rattle.std.specs.List.{AllByRecursion, AllZip, flat_map}
 use Rattle.std.proofs.lemmas.List.{append-nil}
 use Rattle.std.proofs.lemmas.Grind.{flat_map-append}
 use Rattle.netlink_core.specs.declared.fault.DecodeError.{DecodeError}
-use Rattle.netlink_core.specs.Envelope.{Payload, done_with, error_with, no_payload, overrun_with, inner}
+use Rattle.netlink_core.specs.Envelope.{Payload, done_with, error_with, no_payload, overrun_with}
+use Rattle.netlink_core.specs.Envelope.{inner}
 use Rattle.netlink_core.specs.Bytes.{IsBytes}
 use Rattle.netlink_core.specs.Codec.{Codec}
 use Rattle.netlink_core.specs.declared.fault.DecodeError.TheVariants.{Memory}
@@ -16,7 +19,8 @@ use Rattle.netlink_packet_sock_diag.specs.declared.dump.DumpState.{DumpState}
 use Rattle.netlink_packet_sock_diag.specs.declared.dump.DumpState.TheVariants.{Reading, Failed}
 use Rattle.netlink_packet_sock_diag.specs.declared.dump.DumpError.{DumpError}
 use Rattle.netlink_packet_sock_diag.specs.declared.dump.DumpError.TheVariants.{Ended, Fault}
-use Rattle.netlink_packet_sock_diag.specs.Dump.{in_a_row, end_of, kept, Ends, Dump, DumpGoesOn, DatagramDump, DatagramsDump, AreSplit}
+use Rattle.netlink_packet_sock_diag.specs.Dump.{in_a_row, end_of, kept, Ends, Dump, DumpGoesOn}
+use Rattle.netlink_packet_sock_diag.specs.Dump.{DatagramDump, DatagramsDump, AreSplit}
 use Rattle.netlink_packet_sock_diag.specs.Feed.{FeedLeaves, FeedsLeave}
 
 none_or_some : {X : Type 0} (end : Option X) → (end ≡ None) ⊎ ((x : X) × (end ≡ Some x))
@@ -24,7 +28,8 @@ none_or_some None = inl refl
 none_or_some (Some x) = inr (x, refl)
 
 module _ {A : Type 0} where
-  no_end_and_plain : (item : Result (Payload A) DecodeError) (end : Result DumpState DecodeError) → end_of item ≡ None → end_of item ≡ Some end → ⊥
+  no_end_and_plain : (item : Result (Payload A) DecodeError) (end : Result DumpState DecodeError)
+      → end_of item ≡ None → end_of item ≡ Some end → ⊥
   no_end_and_plain item end plain ends = let no = sym plain ∙ ends in cc
 
   no_end_reading : (item : Result (Payload A) DecodeError) → end_of item ≡ Some (Ok Reading) → ⊥
@@ -35,30 +40,42 @@ module _ {A : Type 0} where
   no_end_reading (Ok (overrun_with given)) ends = cc
   no_end_reading (Err e) ends = cc
 
-  one_end : (item : Result (Payload A) DecodeError) (e f : Result DumpState DecodeError) → end_of item ≡ Some e → end_of item ≡ Some f → e ≡ f
+  one_end : (item : Result (Payload A) DecodeError) (e f : Result DumpState DecodeError)
+      → end_of item ≡ Some e → end_of item ≡ Some f → e ≡ f
   one_end item e f h k = let same = sym h ∙ k in cc
 
-  one_split : (p q l m : List (Result (Payload A) DecodeError)) (e f : Result DumpState DecodeError) → p ++ l ≡ q ++ m → AllByRecursion (λ item. end_of item ≡ None) p → AllByRecursion (λ item. end_of item ≡ None) q → Ends l e → Ends m f → (p ≡ q) × (e ≡ f)
+  one_split : (p q l m : List (Result (Payload A) DecodeError)) (e f : Result DumpState DecodeError)
+      → p ++ l ≡ q ++ m → AllByRecursion (λ item. end_of item ≡ None) p
+      → AllByRecursion (λ item. end_of item ≡ None) q → Ends l e → Ends m f → (p ≡ q) × (e ≡ f)
   one_split [] [] [] [] e f same hp hq el em = (refl, el ∙ sym em)
   one_split [] [] [] (y ∷ m) e f same hp hq el em = cc
   one_split [] [] (x ∷ l) [] e f same hp hq el em = cc
-  one_split [] [] (x ∷ l) (y ∷ m) e f same hp hq el em = let heads : x ≡ y = cc in (refl, one_end x e f el (ap end_of heads ∙ em))
+  one_split [] [] (x ∷ l) (y ∷ m) e f same hp hq el em = let heads : x ≡ y = cc in
+      (refl, one_end x e f el (ap end_of heads ∙ em))
   one_split [] (y ∷ q) [] m e f same hp hq el em = cc
-  one_split [] (y ∷ q) (x ∷ l) m e f same hp hq el em = let heads : x ≡ y = cc in absurd (no_end_and_plain y e hq.0 (sym (ap end_of heads) ∙ el))
+  one_split [] (y ∷ q) (x ∷ l) m e f same hp hq el em = let heads : x ≡ y = cc in
+      absurd (no_end_and_plain y e hq.0 (sym (ap end_of heads) ∙ el))
   one_split (x ∷ p) [] l [] e f same hp hq el em = cc
-  one_split (x ∷ p) [] l (y ∷ m) e f same hp hq el em = let heads : x ≡ y = cc in absurd (no_end_and_plain x f hp.0 (ap end_of heads ∙ em))
+  one_split (x ∷ p) [] l (y ∷ m) e f same hp hq el em = let heads : x ≡ y = cc in
+      absurd (no_end_and_plain x f hp.0 (ap end_of heads ∙ em))
   one_split (x ∷ p) (y ∷ q) l m e f same hp hq el em =
       let heads : x ≡ y = cc in
       let tails : p ++ l ≡ q ++ m = cc in
       let rest = one_split p q l m e f tails hp.1 hq.1 el em in
       (λ i. heads i ∷ rest.0 i, rest.1)
 
-  pub one_dump : (before : List A) (items : List (Result (Payload A) DecodeError)) (a b : List A) (e f : Result DumpState DecodeError) → Dump before items a e → Dump before items b f → (a ≡ b) × (e ≡ f)
+  pub one_dump : (before : List A) (items : List (Result (Payload A) DecodeError)) (a b : List A)
+      (e f : Result DumpState DecodeError) → Dump before items a e → Dump before items b f → (a ≡ b)
+      × (e ≡ f)
   one_dump before items a b e f d t =
-      let same = one_split d.0 t.0 d.1 t.1 e f (sym d.2 ∙ t.2) d.3 t.3 d.5 t.5 in
-      (d.4 ∙ ap (λ (p : List (Result (Payload A) DecodeError)). before ++ flat_map kept p) same.0 ∙ sym t.4, same.1)
+      let same = one_split d.0 t.0 d.1 t.1 e f (sym d.2 ∙ t.2) d.3 t.3 d.5 t.5 in (
+        d.4 ∙ ap (λ (p : List (Result (Payload A) DecodeError)). before ++ flat_map kept p) same.0
+            ∙ sym t.4,
+        same.1,
+      )
 
-  pub has_dump : (before : List A) (items : List (Result (Payload A) DecodeError)) → (after : List A) × (end : Result DumpState DecodeError) × Dump before items after end
+  pub has_dump : (before : List A) (items : List (Result (Payload A) DecodeError))
+      → (after : List A) × (end : Result DumpState DecodeError) × Dump before items after end
   has_dump before [] = (before, Ok Reading, ([], [], refl, tt, sym (append-nil before), refl))
   has_dump before (item ∷ items) = elim (none_or_some (end_of item)) [
     | inl plain ↦
@@ -78,27 +95,39 @@ module _ {A : Type 0} where
     | inr e ↦ (before, e.0, ([], item ∷ items, refl, tt, sym (append-nil before), e.1))
   ]
 
-  plain_append : (xs ys : List (Result (Payload A) DecodeError)) → AllByRecursion (λ item. end_of item ≡ None) xs → AllByRecursion (λ item. end_of item ≡ None) ys → AllByRecursion (λ item. end_of item ≡ None) (xs ++ ys)
+  plain_append : (xs ys : List (Result (Payload A) DecodeError))
+      → AllByRecursion (λ item. end_of item ≡ None) xs → AllByRecursion (λ item. end_of item ≡ None)
+      ys → AllByRecursion (λ item. end_of item ≡ None) (xs ++ ys)
   plain_append [] ys h k = k
   plain_append (x ∷ xs) ys h k = (h.0, plain_append xs ys h.1 k)
 
-  none_later : (later : List (Result (Payload A) DecodeError)) (state : Result DumpState DecodeError) → Ends later state → state ≡ Ok Reading → later ≡ []
+  none_later : (later : List (Result (Payload A) DecodeError))
+      (state : Result DumpState DecodeError) → Ends later state → state ≡ Ok Reading → later ≡ []
   none_later [] state ends is = refl
   none_later (item ∷ later) state ends is = absurd (no_end_reading item (ends ∙ ap Some is))
 
-  ends_before : (later more : List (Result (Payload A) DecodeError)) (state : Result DumpState DecodeError) → Ends later state → state ≢ Ok Reading → Ends (later ++ more) state
+  ends_before : (later more : List (Result (Payload A) DecodeError))
+      (state : Result DumpState DecodeError) → Ends later state → state ≢ Ok Reading
+      → Ends (later ++ more) state
   ends_before [] more state ends other = absurd (other ends)
   ends_before (item ∷ later) more state ends other = ends
 
-  pub joined : (before middle after : List A) (state end : Result DumpState DecodeError) (xs ys : List (Result (Payload A) DecodeError)) → Dump before xs middle state → DumpGoesOn middle state ys after end → Dump before (xs ++ ys) after end
+  pub joined : (before middle after : List A) (state end : Result DumpState DecodeError)
+      (xs ys : List (Result (Payload A) DecodeError)) → Dump before xs middle state
+      → DumpGoesOn middle state ys after end → Dump before (xs ++ ys) after end
   joined before middle after state end xs ys d (inl on) =
       let t = on.1 in
-      let all : xs ≡ d.0 = d.2 ∙ ap (λ (l : List (Result (Payload A) DecodeError)). d.0 ++ l) (none_later d.1 state d.5 on.0) ∙ append-nil d.0 in (
+      let all : xs ≡ d.0 = d.2 ∙ ap (λ (l : List (Result (Payload A) DecodeError)). d.0 ++ l)
+      (none_later d.1 state d.5 on.0) ∙ append-nil d.0 in (
         d.0 ++ t.0,
         t.1,
-        ap (λ (l : List (Result (Payload A) DecodeError)). l ++ ys) all ∙ ap (λ (l : List (Result (Payload A) DecodeError)). d.0 ++ l) t.2 ∙ sym (append_assoc d.0 t.0 t.1),
+        ap (λ (l : List (Result (Payload A) DecodeError)). l ++ ys) all
+            ∙ ap (λ (l : List (Result (Payload A) DecodeError)). d.0 ++ l) t.2
+            ∙ sym (append_assoc d.0 t.0 t.1),
         plain_append d.0 t.0 d.3 t.3,
-        t.4 ∙ ap (λ (l : List A). l ++ flat_map kept t.0) d.4 ∙ append_assoc before (flat_map kept d.0) (flat_map kept t.0) ∙ ap (λ (l : List A). before ++ l) (sym (flat_map-append kept d.0 t.0)),
+        t.4 ∙ ap (λ (l : List A). l ++ flat_map kept t.0) d.4
+            ∙ append_assoc before (flat_map kept d.0) (flat_map kept t.0)
+            ∙ ap (λ (l : List A). before ++ l) (sym (flat_map-append kept d.0 t.0)),
         t.5,
       )
   joined before middle after state end xs ys d (inr off) = (
@@ -107,38 +136,58 @@ module _ {A : Type 0} where
     ap (λ (l : List (Result (Payload A) DecodeError)). l ++ ys) d.2 ∙ append_assoc d.0 d.1 ys,
     d.3,
     off.1 ∙ d.4,
-    subst (λ (s : Result DumpState DecodeError). Ends (d.1 ++ ys) s) (sym off.2) (ends_before d.1 ys state d.5 off.0),
+    subst (λ (s : Result DumpState DecodeError). Ends (d.1 ++ ys) s) (sym off.2)
+        (ends_before d.1 ys state d.5 off.0),
   )
 
-  reading_or_not : (items : List (Result (Payload A) DecodeError)) (state : Result DumpState DecodeError) → Ends items state → (state ≡ Ok Reading) ⊎ (state ≢ Ok Reading)
+  reading_or_not : (items : List (Result (Payload A) DecodeError))
+      (state : Result DumpState DecodeError) → Ends items state → (state ≡ Ok Reading)
+      ⊎ (state ≢ Ok Reading)
   reading_or_not [] state ends = inl ends
   reading_or_not (item ∷ items) state ends = inr (λ is. no_end_reading item (ends ∙ ap Some is))
 
-  pub parted : (before after : List A) (end : Result DumpState DecodeError) (xs ys : List (Result (Payload A) DecodeError)) → Dump before (xs ++ ys) after end
-      → (middle : List A) × (state : Result DumpState DecodeError) × Dump before xs middle state × DumpGoesOn middle state ys after end
+  pub parted : (before after : List A) (end : Result DumpState DecodeError)
+      (xs ys : List (Result (Payload A) DecodeError)) → Dump before (xs ++ ys) after end
+      → (middle : List A) × (state : Result DumpState DecodeError) × Dump before xs middle state
+      × DumpGoesOn middle state ys after end
   parted before after end xs ys d =
       let first = has_dump before xs in
       elim (reading_or_not first.2.1 first.1 first.2.5) [
         | inl reading ↦
             let second = has_dump first.0 ys in
-            let whole = joined before first.0 second.0 first.1 second.1 xs ys first.2 (inl (reading, second.2)) in
-            let same = one_dump before (xs ++ ys) after second.0 end second.1 d whole in
-            (first.0, first.1, first.2, inl (reading, subst (λ (s : Result DumpState DecodeError). Dump first.0 ys after s) (sym same.1) (subst (λ (l : List A). Dump first.0 ys l second.1) (sym same.0) second.2)))
+            let whole = joined before first.0 second.0 first.1 second.1 xs ys first.2
+            (inl (reading, second.2)) in
+            let same = one_dump before (xs ++ ys) after second.0 end second.1 d whole in (
+              first.0,
+              first.1,
+              first.2,
+              inl (
+                reading,
+                subst (λ (s : Result DumpState DecodeError). Dump first.0 ys after s)
+                    (sym same.1) (subst (λ (l : List A). Dump first.0 ys l second.1) (sym same.0)
+                    second.2),
+              ),
+            )
         | inr other ↦
-            let whole = joined before first.0 first.0 first.1 first.1 xs ys first.2 (inr (other, refl, refl)) in
+            let whole = joined before first.0 first.0 first.1 first.1 xs ys first.2
+            (inr (other, refl, refl)) in
             let same = one_dump before (xs ++ ys) after first.0 end first.1 d whole in
             (first.0, first.1, first.2, inr (other, same.0, same.1))
       ]
 
 -- bytes one after the other are bytes
-bytes-in_a_row : (datagrams : List (List ℕ)) → AllByRecursion IsBytes datagrams → IsBytes (in_a_row datagrams)
+bytes-in_a_row : (datagrams : List (List ℕ)) → AllByRecursion IsBytes datagrams
+    → IsBytes (in_a_row datagrams)
 bytes-in_a_row [] typed = IsBytes-nil
-bytes-in_a_row (b ∷ later) typed = IsBytes-append b (in_a_row later) typed.0 (bytes-in_a_row later typed.1)
+bytes-in_a_row (b ∷ later) typed =
+    IsBytes-append b (in_a_row later) typed.0 (bytes-in_a_row later typed.1)
 
 module _ (C : Codec ℕ) where
   -- datagrams have one list of items each
-  pub one_row : ((b : List ℕ) → IsBytes b → (xs ys : List (Result (Payload C.Value) DecodeError)) → ItemsAre C b xs → ItemsAre C b ys → xs ≡ ys)
-      → (datagrams : List (List ℕ)) → AllByRecursion IsBytes datagrams → (xs ys : List (List (Result (Payload C.Value) DecodeError)))
+  pub one_row : ((b : List ℕ) → IsBytes b → (xs ys : List (Result (Payload C.Value) DecodeError))
+      → ItemsAre C b xs → ItemsAre C b ys → xs ≡ ys)
+      → (datagrams : List (List ℕ)) → AllByRecursion IsBytes datagrams
+      → (xs ys : List (List (Result (Payload C.Value) DecodeError)))
       → AllZip (ItemsAre C) datagrams xs → AllZip (ItemsAre C) datagrams ys → xs ≡ ys
   one_row one [] typed [] [] h k = refl
   one_row one [] typed [] (y ∷ ys) h k = absurd k
@@ -150,37 +199,54 @@ module _ (C : Codec ℕ) where
       let rest = one_row one later typed.1 xs ys h.1 k.1 in
       λ i. first i ∷ rest i
 
-  pub same_dump : ((b : List ℕ) → IsBytes b → (xs ys : List (Result (Payload C.Value) DecodeError)) → ItemsAre C b xs → ItemsAre C b ys → xs ≡ ys)
-      → (datagrams others : List (List ℕ)) (xs ys : List (List (Result (Payload C.Value) DecodeError))) → AllByRecursion IsBytes datagrams
+  pub same_dump : ((b : List ℕ) → IsBytes b → (xs ys : List (Result (Payload C.Value) DecodeError))
+      → ItemsAre C b xs → ItemsAre C b ys → xs ≡ ys)
+      → (datagrams others : List (List ℕ))
+      (xs ys : List (List (Result (Payload C.Value) DecodeError)))
+      → AllByRecursion IsBytes datagrams
       → AllZip (ItemsAre C) datagrams xs → AllZip (ItemsAre C) others ys → in_a_row xs ≡ in_a_row ys
-      → (before after : List C.Value) (end : Result DumpState DecodeError) → DatagramsDump C before datagrams after end → DatagramsDump C before others after end
+      → (before after : List C.Value) (end : Result DumpState DecodeError)
+      → DatagramsDump C before datagrams after end → DatagramsDump C before others after end
   same_dump one datagrams others xs ys typed each also same before after end (row, items, d) =
-      let rows : row ≡ in_a_row ys = items.2 ∙ ap (λ (parts : List (List (Result (Payload C.Value) DecodeError))). in_a_row parts) (one_row one datagrams typed items.0 xs items.1 each) ∙ same in
-      (in_a_row ys, (ys, also, refl), subst (λ (l : List (Result (Payload C.Value) DecodeError)). Dump before l after end) rows d)
+      let rows : row ≡ in_a_row ys =
+      items.2 ∙ ap (λ (parts : List (List (Result (Payload C.Value) DecodeError))). in_a_row
+      parts) (one_row one datagrams typed items.0 xs items.1 each) ∙ same in (
+        in_a_row ys,
+        (ys, also, refl),
+        subst (λ (l : List (Result (Payload C.Value) DecodeError)). Dump before l after end) rows
+            d,
+      )
 
   -- ---- how whole messages are split into datagrams
 
   -- the last datagram has its items
-  last_items : (b : List ℕ) (p : List (Result (Payload C.Value) DecodeError)) (later : List (List ℕ)) (parts : List (List (Result (Payload C.Value) DecodeError)))
-      → later ≡ [] → AllZip (ItemsAre C) later parts → ItemsAre C b p → ItemsAre C (b ++ in_a_row later) (p ++ in_a_row parts)
+  last_items : (b : List ℕ) (p : List (Result (Payload C.Value) DecodeError))
+      (later : List (List ℕ)) (parts : List (List (Result (Payload C.Value) DecodeError)))
+      → later ≡ [] → AllZip (ItemsAre C) later parts → ItemsAre C b p
+      → ItemsAre C (b ++ in_a_row later) (p ++ in_a_row parts)
   last_items b p [] [] none each is = rw (append-nil b, append-nil p) is
   last_items b p [] (q ∷ parts) none each is = absurd each
   last_items b p (d ∷ later) parts none each is = absurd cc
 
   -- the items of split datagrams are those of all their bytes
-  split_items : (datagrams : List (List ℕ)) (parts : List (List (Result (Payload C.Value) DecodeError))) → AreSplit datagrams
+  split_items : (datagrams : List (List ℕ))
+      (parts : List (List (Result (Payload C.Value) DecodeError))) → AreSplit datagrams
       → AllZip (ItemsAre C) datagrams parts → ItemsAre C (in_a_row datagrams) (in_a_row parts)
   split_items [] [] split each = no_items C
   split_items [] (p ∷ parts) split each = absurd each
   split_items (b ∷ later) [] split each = absurd each
   split_items (b ∷ later) (p ∷ parts) split each = elim split.0 [
     | inl none ↦ last_items b p later parts none each.1 each.0
-    | inr whole ↦ items_in_a_row C b (in_a_row later) whole.0 p (in_a_row parts) whole.1 each.0 (split_items later parts split.1 each.1)
+    | inr whole ↦ items_in_a_row C b (in_a_row later) whole.0 p (in_a_row parts) whole.1 each.0
+        (split_items later parts split.1 each.1)
   ]
 
   -- datagrams have items
-  pub items_of_each : ((b : List ℕ) → IsBytes b → (items : List (Result (Payload C.Value) DecodeError)) × ItemsAre C b items)
-      → (datagrams : List (List ℕ)) → AllByRecursion IsBytes datagrams → (parts : List (List (Result (Payload C.Value) DecodeError))) × AllZip (ItemsAre C) datagrams parts
+  pub items_of_each : ((b : List ℕ) → IsBytes b
+      → (items : List (Result (Payload C.Value) DecodeError)) × ItemsAre C b items)
+      → (datagrams : List (List ℕ)) → AllByRecursion IsBytes datagrams
+      → (parts : List (List (Result (Payload C.Value) DecodeError)))
+      × AllZip (ItemsAre C) datagrams parts
   items_of_each some [] typed = ([], tt)
   items_of_each some (b ∷ later) typed =
       let first = some b typed.0 in
@@ -188,27 +254,47 @@ module _ (C : Codec ℕ) where
       (first.0 ∷ rest.0, (first.1, rest.1))
 
   -- the dump of split datagrams is that of the items of all their bytes
-  pub dump_of_split : (datagrams : List (List ℕ)) → AreSplit datagrams → (before after : List C.Value) (end : Result DumpState DecodeError)
-      → DatagramsDump C before datagrams after end → DatagramDump C before (in_a_row datagrams) after end
-  dump_of_split datagrams split before after end (row, items, d) =
-      (in_a_row items.0, split_items datagrams items.0 split items.1, subst (λ (l : List (Result (Payload C.Value) DecodeError)). Dump before l after end) items.2 d)
+  pub dump_of_split : (datagrams : List (List ℕ)) → AreSplit datagrams
+      → (before after : List C.Value) (end : Result DumpState DecodeError)
+      → DatagramsDump C before datagrams after end
+      → DatagramDump C before (in_a_row datagrams) after end
+  dump_of_split datagrams split before after end (row, items, d) = (
+    in_a_row items.0,
+    split_items datagrams items.0 split items.1,
+    subst (λ (l : List (Result (Payload C.Value) DecodeError)). Dump before l after end)
+        items.2 d,
+  )
 
   -- the other way round
-  pub split_of_dump : ((b : List ℕ) → IsBytes b → (items : List (Result (Payload C.Value) DecodeError)) × ItemsAre C b items)
-      → ((b : List ℕ) → IsBytes b → (xs ys : List (Result (Payload C.Value) DecodeError)) → ItemsAre C b xs → ItemsAre C b ys → xs ≡ ys)
-      → (datagrams : List (List ℕ)) → AllByRecursion IsBytes datagrams → AreSplit datagrams → (before after : List C.Value) (end : Result DumpState DecodeError)
-      → DatagramDump C before (in_a_row datagrams) after end → DatagramsDump C before datagrams after end
+  pub split_of_dump : ((b : List ℕ) → IsBytes b
+      → (items : List (Result (Payload C.Value) DecodeError)) × ItemsAre C b items)
+      → ((b : List ℕ) → IsBytes b → (xs ys : List (Result (Payload C.Value) DecodeError))
+      → ItemsAre C b xs → ItemsAre C b ys → xs ≡ ys)
+      → (datagrams : List (List ℕ)) → AllByRecursion IsBytes datagrams → AreSplit datagrams
+      → (before after : List C.Value) (end : Result DumpState DecodeError)
+      → DatagramDump C before (in_a_row datagrams) after end
+      → DatagramsDump C before datagrams after end
   split_of_dump some one datagrams typed split before after end d =
       let parts = items_of_each some datagrams typed in
-      let same = one (in_a_row datagrams) (bytes-in_a_row datagrams typed) d.0 (in_a_row parts.0) d.1 (split_items datagrams parts.0 split parts.1) in
-      (in_a_row parts.0, (parts.0, parts.1, refl), subst (λ (l : List (Result (Payload C.Value) DecodeError)). Dump before l after end) same d.2)
+      let same = one (in_a_row datagrams) (bytes-in_a_row datagrams typed) d.0 (in_a_row parts.0)
+      d.1 (split_items datagrams parts.0 split parts.1) in (
+        in_a_row parts.0,
+        (parts.0, parts.1, refl),
+        subst (λ (l : List (Result (Payload C.Value) DecodeError)). Dump before l after end) same
+            d.2,
+      )
 
   -- a datagram has one dump
-  pub one_datagram_dump : ((b : List ℕ) → IsBytes b → (xs ys : List (Result (Payload C.Value) DecodeError)) → ItemsAre C b xs → ItemsAre C b ys → xs ≡ ys)
-      → (datagram : List ℕ) → IsBytes datagram → (before a b : List C.Value) (e f : Result DumpState DecodeError)
+  pub one_datagram_dump : ((b : List ℕ) → IsBytes b
+      → (xs ys : List (Result (Payload C.Value) DecodeError)) → ItemsAre C b xs → ItemsAre C b ys
+      → xs ≡ ys)
+      → (datagram : List ℕ) → IsBytes datagram
+      → (before a b : List C.Value) (e f : Result DumpState DecodeError)
       → DatagramDump C before datagram a e → DatagramDump C before datagram b f → (a ≡ b) × (e ≡ f)
   one_datagram_dump one datagram typed before a b e f d t =
-      one_dump before d.0 a b e f d.2 (subst (λ (l : List (Result (Payload C.Value) DecodeError)). Dump before l b f) (one datagram typed t.0 d.0 t.1 d.1) t.2)
+      one_dump before d.0 a b e f d.2
+      (subst (λ (l : List (Result (Payload C.Value) DecodeError)). Dump before l b f)
+      (one datagram typed t.0 d.0 t.1 d.1) t.2)
 
   -- ---- what feeding leaves
 
@@ -217,21 +303,26 @@ module _ (C : Codec ℕ) where
   state_left (Ok state) = state
   state_left (Err e) = Failed
 
-  feed_step : (before : List C.Value) (datagram : List ℕ) (middle : List C.Value) (next : DumpState) (answer : Result Unit DumpError)
+  feed_step : (before : List C.Value) (datagram : List ℕ) (middle : List C.Value) (next : DumpState)
+      (answer : Result Unit DumpError)
       → FeedLeaves C before Reading datagram middle next answer → answer ≢ Err (Fault Memory)
-      → (end : Result DumpState DecodeError) × DatagramDump C before datagram middle end × (next ≡ state_left end)
+      → (end : Result DumpState DecodeError) × DatagramDump C before datagram middle end
+      × (next ≡ state_left end)
   unfolding state_left
   feed_step before datagram middle next (Ok done) f some = (Ok next, f.1, refl)
   feed_step before datagram middle next (Err Ended) f some = absurd (f.0 refl)
-  feed_step before datagram middle next (Err (Fault e)) f some = (Err e, f.2 (λ memory. some (ap (λ (g : DecodeError). Err (Fault g)) memory)), f.1)
+  feed_step before datagram middle next (Err (Fault e)) f some =
+      (Err e, f.2 (λ memory. some (ap (λ (g : DecodeError). Err (Fault g)) memory)), f.1)
 
-  ended_step : (before : List C.Value) (state : DumpState) (datagram : List ℕ) (middle : List C.Value) (next : DumpState) (answer : Result Unit DumpError) → state ≢ Reading
+  ended_step : (before : List C.Value) (state : DumpState) (datagram : List ℕ)
+      (middle : List C.Value) (next : DumpState) (answer : Result Unit DumpError) → state ≢ Reading
       → FeedLeaves C before state datagram middle next answer → (middle ≡ before) × (next ≡ state)
   ended_step before state datagram middle next (Ok done) over f = absurd (over f.0)
   ended_step before state datagram middle next (Err Ended) over f = (f.1, f.2)
   ended_step before state datagram middle next (Err (Fault e)) over f = absurd (over f.0)
 
-  ended_stays : (datagrams : List (List ℕ)) (before after : List C.Value) (state left : DumpState) → state ≢ Reading
+  ended_stays : (datagrams : List (List ℕ)) (before after : List C.Value) (state left : DumpState)
+      → state ≢ Reading
       → FeedsLeave C before state datagrams after left → (after ≡ before) × (left ≡ state)
   ended_stays [] before after state left over f = f
   ended_stays (datagram ∷ later) before after state left over f =
@@ -239,7 +330,8 @@ module _ (C : Codec ℕ) where
       let rest = ended_stays later f.0 after f.1 left (λ is. over (sym one.1 ∙ is)) f.5 in
       (rest.0 ∙ one.0, rest.1 ∙ one.1)
 
-  left_reading : (state : Result DumpState DecodeError) → state ≢ Ok Reading → state_left state ≢ Reading
+  left_reading : (state : Result DumpState DecodeError) → state ≢ Ok Reading
+      → state_left state ≢ Reading
   unfolding state_left
   left_reading (Ok state) over = λ is. over (ap Ok is)
   left_reading (Err e) over = λ is. cc
@@ -249,11 +341,16 @@ module _ (C : Codec ℕ) where
   state_left-reading = refl
 
   -- feeding datagrams in a row gives their dump
-  feeds_dump : ((b : List ℕ) → IsBytes b → (items : List (Result (Payload C.Value) DecodeError)) × ItemsAre C b items)
-      → (datagrams : List (List ℕ)) → AllByRecursion IsBytes datagrams → (before after : List C.Value) (left : DumpState) → FeedsLeave C before Reading datagrams after left
-      → (end : Result DumpState DecodeError) × DatagramsDump C before datagrams after end × (left ≡ state_left end)
+  feeds_dump : ((b : List ℕ) → IsBytes b → (items : List (Result (Payload C.Value) DecodeError))
+      × ItemsAre C b items)
+      → (datagrams : List (List ℕ)) → AllByRecursion IsBytes datagrams
+      → (before after : List C.Value) (left : DumpState)
+      → FeedsLeave C before Reading datagrams after left
+      → (end : Result DumpState DecodeError) × DatagramsDump C before datagrams after end
+      × (left ≡ state_left end)
   feeds_dump some [] typed before after left f =
-      let none : Dump before [] after (Ok Reading) = ([], [], refl, tt, f.0 ∙ sym (append-nil before), refl) in
+      let none : Dump before [] after (Ok Reading) =
+      ([], [], refl, tt, f.0 ∙ sym (append-nil before), refl) in
       (Ok Reading, ([], ([], tt, refl), none), f.1 ∙ sym state_left-reading)
   feeds_dump some (datagram ∷ later) typed before after left f =
       let one = feed_step before datagram f.0 f.1 f.2 f.3 f.4 in
@@ -261,46 +358,81 @@ module _ (C : Codec ℕ) where
       elim (reading_or_not one.1.2.1 one.0 one.1.2.5) [
         | inl on ↦
             let going : f.1 ≡ Reading = one.2 ∙ ap state_left on ∙ state_left-reading in
-            let rest = feeds_dump some later typed.1 f.0 after left (subst (λ (s : DumpState). FeedsLeave C f.0 s later after left) going f.5) in
+            let rest = feeds_dump some later typed.1 f.0 after left
+            (subst (λ (s : DumpState). FeedsLeave C f.0 s later after left) going f.5) in
             let row = rest.1.0 in
             let have = rest.1.1 in (
               rest.0,
-              (items ++ row, (items ∷ have.0, (one.1.1, have.1), ap (λ (l : List (Result (Payload C.Value) DecodeError)). items ++ l) have.2), joined before f.0 after one.0 rest.0 items row one.1.2 (inl (on, rest.1.2))),
+              (
+                items ++ row,
+                (
+                  items ∷ have.0,
+                  (one.1.1, have.1),
+                  ap (λ (l : List (Result (Payload C.Value) DecodeError)). items ++ l) have.2,
+                ),
+                joined before f.0 after one.0 rest.0 items row one.1.2 (inl (on, rest.1.2)),
+              ),
               rest.2,
             )
         | inr off ↦
-            let stays = ended_stays later f.0 after f.1 left (λ is. left_reading one.0 off (sym one.2 ∙ is)) f.5 in
+            let stays = ended_stays later f.0 after f.1 left
+            (λ is. left_reading one.0 off (sym one.2 ∙ is)) f.5 in
             let parts = items_of_each some later typed.1 in (
               one.0,
-              (items ++ in_a_row parts.0, (items ∷ parts.0, (one.1.1, parts.1), refl), joined before f.0 after one.0 one.0 items (in_a_row parts.0) one.1.2 (inr (off, stays.0, refl))),
+              (
+                items ++ in_a_row parts.0,
+                (items ∷ parts.0, (one.1.1, parts.1), refl),
+                joined before f.0 after one.0 one.0 items (in_a_row parts.0) one.1.2
+                    (inr (off, stays.0, refl)),
+              ),
               stays.1 ∙ one.2,
             )
       ]
 
   -- feeding the same bytes in split datagrams leaves the same messages and state
-  pub same_feeds : ((b : List ℕ) → IsBytes b → (items : List (Result (Payload C.Value) DecodeError)) × ItemsAre C b items)
-      → ((b : List ℕ) → IsBytes b → (xs ys : List (Result (Payload C.Value) DecodeError)) → ItemsAre C b xs → ItemsAre C b ys → xs ≡ ys)
-      → (datagrams others : List (List ℕ)) → AllByRecursion IsBytes datagrams → AllByRecursion IsBytes others → AreSplit datagrams → AreSplit others → in_a_row datagrams ≡ in_a_row others
-      → (before after also : List C.Value) (left state : DumpState) → FeedsLeave C before Reading datagrams after left → FeedsLeave C before Reading others also state
+  pub same_feeds : ((b : List ℕ) → IsBytes b → (items : List (Result (Payload C.Value) DecodeError))
+      × ItemsAre C b items)
+      → ((b : List ℕ) → IsBytes b → (xs ys : List (Result (Payload C.Value) DecodeError))
+      → ItemsAre C b xs → ItemsAre C b ys → xs ≡ ys)
+      → (datagrams others : List (List ℕ)) → AllByRecursion IsBytes datagrams
+      → AllByRecursion IsBytes others → AreSplit datagrams → AreSplit others
+      → in_a_row datagrams ≡ in_a_row others
+      → (before after also : List C.Value) (left state : DumpState)
+      → FeedsLeave C before Reading datagrams after left
+      → FeedsLeave C before Reading others also state
       → (after ≡ also) × (left ≡ state)
   same_feeds some one datagrams others typed fits split cut same before after also left state f g =
       let a = feeds_dump some datagrams typed before after left f in
       let b = feeds_dump some others fits before also state g in
-      let whole : DatagramDump C before (in_a_row others) after a.0 = subst (λ (bytes : List ℕ). DatagramDump C before bytes after a.0) same (dump_of_split datagrams split before after a.0 a.1) in
-      let ends = one_datagram_dump one (in_a_row others) (bytes-in_a_row others fits) before after also a.0 b.0 whole (dump_of_split others cut before also b.0 b.1) in
+      let whole : DatagramDump C before (in_a_row others) after a.0 =
+      subst (λ (bytes : List ℕ). DatagramDump C before bytes after a.0) same
+      (dump_of_split datagrams split before after a.0 a.1) in
+      let ends = one_datagram_dump one (in_a_row others) (bytes-in_a_row others fits) before after
+      also a.0 b.0 whole (dump_of_split others cut before also b.0 b.1) in
       (ends.0, a.2 ∙ ap state_left ends.1 ∙ sym b.2)
 
   -- feeding datagrams with the same items in a row leaves the same messages and state
-  pub same_items_feeds : ((b : List ℕ) → IsBytes b → (items : List (Result (Payload C.Value) DecodeError)) × ItemsAre C b items)
-      → ((b : List ℕ) → IsBytes b → (xs ys : List (Result (Payload C.Value) DecodeError)) → ItemsAre C b xs → ItemsAre C b ys → xs ≡ ys)
-      → (datagrams others : List (List ℕ)) (xs ys : List (List (Result (Payload C.Value) DecodeError))) → AllByRecursion IsBytes datagrams → AllByRecursion IsBytes others
+  pub same_items_feeds : ((b : List ℕ) → IsBytes b
+      → (items : List (Result (Payload C.Value) DecodeError)) × ItemsAre C b items)
+      → ((b : List ℕ) → IsBytes b → (xs ys : List (Result (Payload C.Value) DecodeError))
+      → ItemsAre C b xs → ItemsAre C b ys → xs ≡ ys)
+      → (datagrams others : List (List ℕ))
+      (xs ys : List (List (Result (Payload C.Value) DecodeError)))
+      → AllByRecursion IsBytes datagrams → AllByRecursion IsBytes others
       → AllZip (ItemsAre C) datagrams xs → AllZip (ItemsAre C) others ys → in_a_row xs ≡ in_a_row ys
-      → (before after also : List C.Value) (left state : DumpState) → FeedsLeave C before Reading datagrams after left → FeedsLeave C before Reading others also state
+      → (before after also : List C.Value) (left state : DumpState)
+      → FeedsLeave C before Reading datagrams after left
+      → FeedsLeave C before Reading others also state
       → (after ≡ also) × (left ≡ state)
-  same_items_feeds some one datagrams others xs ys typed fits each them same before after also left state f g =
+  same_items_feeds some one datagrams others xs ys typed fits each them same before after also left
+      state f g =
       let a = feeds_dump some datagrams typed before after left f in
       let b = feeds_dump some others fits before also state g in
       let moved = same_dump one datagrams others xs ys typed each them same before after a.0 a.1 in
-      let rows : moved.0 ≡ b.1.0 = moved.1.2 ∙ ap (λ (parts : List (List (Result (Payload C.Value) DecodeError))). in_a_row parts) (one_row one others fits moved.1.0 b.1.1.0 moved.1.1 b.1.1.1) ∙ sym b.1.1.2 in
-      let ends = one_dump before b.1.0 after also a.0 b.0 (subst (λ (l : List (Result (Payload C.Value) DecodeError)). Dump before l after a.0) rows moved.2) b.1.2 in
+      let rows : moved.0 ≡ b.1.0 =
+      moved.1.2 ∙ ap (λ (parts : List (List (Result (Payload C.Value) DecodeError))). in_a_row
+      parts) (one_row one others fits moved.1.0 b.1.1.0 moved.1.1 b.1.1.1) ∙ sym b.1.1.2 in
+      let ends = one_dump before b.1.0 after also a.0 b.0
+      (subst (λ (l : List (Result (Payload C.Value) DecodeError)). Dump before l after a.0) rows
+      moved.2) b.1.2 in
       (ends.0, a.2 ∙ ap state_left ends.1 ∙ sym b.2)

@@ -10,6 +10,8 @@ abbrev pub attributes_in : Family → List ℕ → List Attribute
 attributes_in F bytes = map (attribute_said F) (values_in (says F) bytes)
 
 -- those of bytes whose first attribute says a value
-pub attributes_next : (F : Family) (bytes after : List ℕ) (a : Attribute) (v : Said F) → a ≡ attribute_said F v → values_in (says F) bytes ≡ v ∷ values_in (says F) after
+pub attributes_next : (F : Family) (bytes after : List ℕ) (a : Attribute) (v : Said F)
+    → a ≡ attribute_said F v → values_in (says F) bytes ≡ v ∷ values_in (says F) after
     → attributes_in F bytes ≡ a ∷ attributes_in F after
-attributes_next F bytes after a v is parts = ap (map (attribute_said F)) parts ∙ ap (λ (x : Attribute). x ∷ attributes_in F after) (sym is)
+attributes_next F bytes after a v is parts = ap (map (attribute_said F)) parts
+    ∙ ap (λ (x : Attribute). x ∷ attributes_in F after) (sym is)

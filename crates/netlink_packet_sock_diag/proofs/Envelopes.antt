@@ -1,5 +1,6 @@
 -- Laws of netlink messages that carry messages of sock_diag(7).
-use Rattle.std.proofs.Common.{◌≡◌, ◌↔◌, inl, inr, ℕ, Bool, true, false, List, [], ◌∷◌, ◌++◌, refl, sym, subst, arith}
+use Rattle.std.proofs.Common.{◌≡◌, ◌↔◌, inl, inr, ℕ, Bool, true, false, List, [], ◌∷◌, ◌++◌, refl}
+use Rattle.std.proofs.Common.{sym, subst, arith}
 use Rattle.std.proofs.lemmas.List.{append-nil}
 use Rattle.std.specs.Prelude.{IsTrue, count_by}
 use Rattle.netlink_core.specs.declared.fault.DecodeError.TheVariants.{UnknownMessageType}
@@ -11,10 +12,14 @@ use Rattle.netlink_core.specs.Header.{IsTypedHeader}
 use Rattle.netlink_core.specs.Seen.{envelope_of, payload_of}
 use Rattle.netlink_packet_sock_diag.specs.SeenMessage.{seen_destroy}
 use Rattle.netlink_packet_sock_diag.specs.declared.message.SockDiagDestroy.{SockDiagDestroy}
-use Rattle.netlink_core.specs.Envelope.{Payload, done_with, error_with, no_payload, overrun_with, inner, Envelope, IsInnerType, OfInner, finalized, payload_type, envelope_codec}
+use Rattle.netlink_core.specs.Envelope.{Payload, done_with, error_with, no_payload, overrun_with}
+use Rattle.netlink_core.specs.Envelope.{inner, Envelope, IsInnerType, OfInner, finalized}
+use Rattle.netlink_core.specs.Envelope.{payload_type, envelope_codec}
 use Rattle.netlink_core.proofs.Equality.{apart, same_test}
 use Rattle.netlink_core.proofs.Headers.{header_stands}
-use Rattle.netlink_packet_sock_diag.specs.Message.{MessageKind, inet_request, inet_response, unix_request, unix_response, Message, message_kind, message_codec}
+use Rattle.netlink_packet_sock_diag.specs.Message.{MessageKind, inet_request, inet_response}
+use Rattle.netlink_packet_sock_diag.specs.Message.{unix_request, unix_response, Message}
+use Rattle.netlink_packet_sock_diag.specs.Message.{message_kind, message_codec}
 use Rattle.netlink_packet_sock_diag.specs.MessageLaws.{length-message_bytes, type_told}
 
 -- whether two kinds are the same
@@ -50,42 +55,96 @@ one_kind m tests tell =
     λ i kind. same_test (is_kind own kind) (tests kind) (kind_is own kind) (tell kind) i in
     subst (λ (test : MessageKind → Bool). count_by test Kinds ≡ 1) same (kind_counted own)
 
--- the message stands under the type 21, which no message is read under, and so it does with more bytes behind it
-destroy_before_is_refused : (h : NetlinkHeader) (m : Message) (rest : List ℕ) → IsTypedHeader h → (envelope_codec message_codec).fits (record { header = h; payload = inner m })
-    → (envelope_codec message_codec).refuses ((envelope_codec message_codec).written (record { header = finalized message_codec.written (λ _. 21) (record { header = h; payload = inner m }); payload = inner m }) ++ rest) tt (UnknownMessageType 21)
+-- the message stands under the type 21, which no message is read under, and so it does with more
+-- bytes behind it
+destroy_before_is_refused : (h : NetlinkHeader) (m : Message) (rest : List ℕ) → IsTypedHeader h
+    → (envelope_codec message_codec).fits (record { header = h; payload = inner m })
+    → (envelope_codec message_codec).refuses
+    ((envelope_codec message_codec).written
+    (record {
+      header = finalized message_codec.written
+          (λ _. 21) (record { header = h; payload = inner m });
+      payload = inner m;
+    }) ++ rest) tt
+    (UnknownMessageType 21)
 destroy_before_is_refused h m rest typed fits =
-    let own = finalized message_codec.written (λ _. 21) (record { header = h; payload = inner m }) in
-    let own-typed : IsTypedHeader own = (let whole = fits.1 in omega arith, (omega arith, typed.1.1)) in
+    let own = finalized message_codec.written
+    (λ _. 21) (record { header = h; payload = inner m }) in
+    let own-typed : IsTypedHeader own =
+    (let whole = fits.1 in omega arith, (omega arith, typed.1.1)) in
     let stands = header_stands own (message_codec.written m) rest own-typed refl in
-    let refused : message_codec.refuses (message_codec.written m) 21 (UnknownMessageType 21) = inl (type_told (message_codec.written m) 21 (length-message_bytes m) (λ is. omega (arith, is))) in
-    inr (own, stands.0, inr (omega arith), subst (λ (x : List ℕ). message_codec.refuses x 21 (UnknownMessageType 21)) (sym stands.1) refused)
+    let refused : message_codec.refuses (message_codec.written m) 21 (UnknownMessageType 21) =
+    inl (type_told (message_codec.written m) 21 (length-message_bytes m)
+    (λ is. omega (arith, is))) in
+    inr (
+      own,
+      stands.0,
+      inr (omega arith),
+      subst (λ (x : List ℕ). message_codec.refuses x 21 (UnknownMessageType 21)) (sym stands.1)
+          refused,
+    )
 
-pub destroy_is_refused : (h : NetlinkHeader) (m : Message) → IsTypedHeader h → (envelope_codec message_codec).fits (record { header = h; payload = inner m })
-    → (envelope_codec message_codec).refuses ((envelope_codec message_codec).written (record { header = finalized message_codec.written (λ _. 21) (record { header = h; payload = inner m }); payload = inner m })) tt (UnknownMessageType 21)
+pub destroy_is_refused : (h : NetlinkHeader) (m : Message) → IsTypedHeader h
+    → (envelope_codec message_codec).fits (record { header = h; payload = inner m })
+    → (envelope_codec message_codec).refuses
+    ((envelope_codec message_codec).written
+    (record {
+      header = finalized message_codec.written
+          (λ _. 21) (record { header = h; payload = inner m });
+      payload = inner m;
+    })) tt
+    (UnknownMessageType 21)
 destroy_is_refused h m typed fits =
-    let written = (envelope_codec message_codec).written (record { header = finalized message_codec.written (λ _. 21) (record { header = h; payload = inner m }); payload = inner m }) in
-    subst (λ (bytes : List ℕ). (envelope_codec message_codec).refuses bytes tt (UnknownMessageType 21)) (append-nil written) (destroy_before_is_refused h m [] typed fits)
+    let written = (envelope_codec message_codec).written
+    (record {
+      header = finalized message_codec.written
+          (λ _. 21) (record { header = h; payload = inner m });
+      payload = inner m;
+    }) in
+    subst (λ (bytes : List ℕ). (envelope_codec message_codec).refuses bytes tt
+    (UnknownMessageType 21)) (append-nil written) (destroy_before_is_refused h m [] typed fits)
 
 -- a message in hand that carries the request, its header finalized
-pub destroy_in_hand_is_refused : (message : NetlinkMessage SockDiagDestroy) (destroy : SockDiagDestroy) (rest : List ℕ) → message.payload ≡ InnerMessage destroy
-    → IsTypedHeader message.header → (envelope_codec message_codec).fits (envelope_of seen_destroy message)
-    → (envelope_codec message_codec).refuses ((envelope_codec message_codec).written (envelope_of seen_destroy (record message { header = finalized message_codec.written (λ _. 21) (envelope_of seen_destroy message) })) ++ rest) tt (UnknownMessageType 21)
+pub destroy_in_hand_is_refused : (message : NetlinkMessage SockDiagDestroy)
+    (destroy : SockDiagDestroy) (rest : List ℕ) → message.payload ≡ InnerMessage destroy
+    → IsTypedHeader message.header
+    → (envelope_codec message_codec).fits (envelope_of seen_destroy message)
+    → (envelope_codec message_codec).refuses
+    ((envelope_codec message_codec).written
+    (envelope_of seen_destroy
+    (record message {
+      header = finalized message_codec.written
+          (λ _. 21) (envelope_of seen_destroy message);
+    })) ++ rest) tt (UnknownMessageType 21)
 destroy_in_hand_is_refused message destroy rest is typed =
     subst
-    (λ (p : NetlinkPayload SockDiagDestroy). (envelope_codec message_codec).fits (record { header = message.header; payload = payload_of seen_destroy p })
+    (λ (p : NetlinkPayload SockDiagDestroy). (envelope_codec message_codec).fits
+    (record { header = message.header; payload = payload_of seen_destroy p })
     → (envelope_codec message_codec).refuses
-    ((envelope_codec message_codec).written (record { header = finalized message_codec.written (λ _. 21) (record { header = message.header; payload = payload_of seen_destroy p }); payload = payload_of seen_destroy p }) ++ rest) tt
+    ((envelope_codec message_codec).written
+    (record {
+      header = finalized message_codec.written
+          (λ _. 21) (record { header = message.header; payload = payload_of seen_destroy p });
+      payload = payload_of seen_destroy p;
+    }) ++ rest) tt
     (UnknownMessageType 21))
     (sym is)
     (destroy_before_is_refused message.header (seen_destroy destroy) rest typed)
 
 -- the type of a finalized inner message is 20, a type of inner messages
-normal_payload : (t : ℕ) (p : Payload Message) → t ≡ payload_type (λ _. 20) p → (OfInner (λ m. IsInnerType t × message_codec.is_normal t m) p ↔ OfInner (message_codec.is_normal 20) p)
+normal_payload : (t : ℕ) (p : Payload Message) → t ≡ payload_type (λ _. 20) p
+    → (OfInner (λ m. IsInnerType t × message_codec.is_normal t m) p
+    ↔ OfInner (message_codec.is_normal 20) p)
 normal_payload t no_payload e = (λ n. n, λ n. n)
 normal_payload t (done_with given) e = (λ n. n, λ n. n)
 normal_payload t (error_with given) e = (λ n. n, λ n. n)
 normal_payload t (overrun_with given) e = (λ n. n, λ n. n)
-normal_payload t (inner m) e = (λ n. subst (λ (k : ℕ). message_codec.is_normal k m) e n.1, λ n. (inr (omega (arith, e)), subst (λ (k : ℕ). message_codec.is_normal k m) (sym e) n))
+normal_payload t (inner m) e = (
+  λ n. subst (λ (k : ℕ). message_codec.is_normal k m) e n.1,
+  λ n. (inr (omega (arith, e)), subst (λ (k : ℕ). message_codec.is_normal k m) (sym e) n),
+)
 
-pub normal_envelope : (v : Envelope Message) → v.header.message_type ≡ payload_type (λ _. 20) v.payload → ((envelope_codec message_codec).is_normal tt v ↔ OfInner (message_codec.is_normal 20) v.payload)
+pub normal_envelope : (v : Envelope Message) → v.header.message_type ≡ payload_type
+    (λ _. 20) v.payload → ((envelope_codec message_codec).is_normal tt v
+    ↔ OfInner (message_codec.is_normal 20) v.payload)
 normal_envelope v e = normal_payload v.header.message_type v.payload e

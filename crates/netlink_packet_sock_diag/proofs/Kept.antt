@@ -8,13 +8,17 @@ use Rattle.netlink_core.specs.Family.{Family, says, attribute_said}
 use Rattle.netlink_core.specs.Reply.{Reply, reply_bytes, reply_codec}
 use Rattle.netlink_core.specs.ReplySteps.{FramedFits}
 use Rattle.netlink_core.proofs.TableLaws.{AreBytes-drop}
-use Rattle.netlink_packet_sock_diag.specs.AttributesIn.{HasNoFault, IsAccepted, reply_behind, reply_with, values_in}
-use Rattle.netlink_packet_sock_diag.proofs.Finding.{behind_accepted, reply_in, value_in_is, values_mean}
+use Rattle.netlink_packet_sock_diag.specs.AttributesIn.{HasNoFault, IsAccepted, reply_behind}
+use Rattle.netlink_packet_sock_diag.specs.AttributesIn.{reply_with, values_in}
+use Rattle.netlink_packet_sock_diag.proofs.Finding.{behind_accepted, reply_in, value_in_is}
+use Rattle.netlink_packet_sock_diag.proofs.Finding.{values_mean}
 
 module _ (R : Reply) (F : Family) where
   -- what refuses a reply refuses it there too
-  pub kept_refused : ((b : List ℕ) (e : DecodeError) → AttributeFault (says R.family) b e → AttributeFault (says F) b e)
-      → (b : List ℕ) (e : DecodeError) → (reply_codec R).refuses b tt e → (reply_codec (reply_with R F)).refuses b tt e
+  pub kept_refused : ((b : List ℕ) (e : DecodeError) → AttributeFault (says R.family) b e
+      → AttributeFault (says F) b e)
+      → (b : List ℕ) (e : DecodeError) → (reply_codec R).refuses b tt e
+      → (reply_codec (reply_with R F)).refuses b tt e
   kept_refused faults b e refused = elim refused [
     | inl header ↦ inl header
     | inr behind ↦ inr (behind.0, behind.1, faults _ e behind.2)
@@ -34,13 +38,17 @@ module _ (R : Reply) (F : Family) where
         values_mean (says F) (drop R.size b) (AreBytes-drop R.size b all) there,
       )
 
-  module _ (same : (b : List ℕ) → map (attribute_said R.family) (values_in (says R.family) b) ≡ map (attribute_said F) (values_in (says F) b)) (h : R.header.Value) (b : List ℕ) where
+  module _ (same : (b : List ℕ) → map (attribute_said R.family) (values_in (says R.family) b)
+      ≡ map (attribute_said F) (values_in (says F) b)) (h : R.header.Value) (b : List ℕ) where
     -- they are written alike
-    pub kept_bytes : reply_bytes R (reply_behind R h b) ≡ reply_bytes (reply_with R F) (reply_behind (reply_with R F) h b)
-    kept_bytes = ap (λ (attributes : List Attribute). R.header.bytes h ++ flat_map written attributes) (same b)
+    pub kept_bytes : reply_bytes R (reply_behind R h b) ≡ reply_bytes (reply_with R F)
+        (reply_behind (reply_with R F) h b)
+    kept_bytes = ap (λ (attributes : List Attribute). R.header.bytes h
+        ++ flat_map written attributes) (same b)
 
     -- and have room alike
-    pub kept_fits : (reply_codec R).fits (reply_behind R h b) ↔ (reply_codec (reply_with R F)).fits (reply_behind (reply_with R F) h b)
+    pub kept_fits : (reply_codec R).fits (reply_behind R h b) ↔ (reply_codec (reply_with R F)).fits
+        (reply_behind (reply_with R F) h b)
     kept_fits = (
       λ fits. subst (FramedFits (R.header.bytes h)) (same b) fits,
       λ fits. subst (FramedFits (R.header.bytes h)) (sym (same b)) fits,

@@ -9,15 +9,31 @@ use Rattle.netlink_core.specs.ShownLaws.{ReplyLaws}
 
 -- an attribute with its padding is a multiple of four
 written_multiple : (a : Attribute) → length (written a) % 4 ≡ 0
-written_multiple a = omega (arith, length-append (unpadded a) (replicate (fill (length a.value)) 0), length-replicate {A = ℕ} (fill (length a.value)) 0)
+written_multiple a = omega (
+  arith,
+  length-append (unpadded a) (replicate (fill (length a.value)) 0),
+  length-replicate {A = ℕ} (fill (length a.value)) 0,
+)
 
 -- and so are attributes in a row
 all_multiple : (xs : List Attribute) → length (flat_map written xs) % 4 ≡ 0
 all_multiple [] = refl
-all_multiple (x ∷ xs) = omega (arith, length-append (written x) (flat_map written xs), written_multiple x, all_multiple xs)
+all_multiple (x ∷ xs) = omega (
+  arith,
+  length-append (written x) (flat_map written xs),
+  written_multiple x,
+  all_multiple xs,
+)
 
 -- and a reply, behind a header that is one
-pub reply_multiple : (R : Reply) → ReplyLaws R → R.size % 4 ≡ 0 → (v : ValueOf R) → R.header.is_typed v.header → length (reply_bytes R v) % 4 ≡ 0
+pub reply_multiple : (R : Reply) → ReplyLaws R → R.size % 4 ≡ 0 → (v : ValueOf R)
+    → R.header.is_typed v.header → length (reply_bytes R v) % 4 ≡ 0
 reply_multiple R laws four v typed =
     let nlas : List Attribute = map (attribute_said R.family) v.nlas in
-    omega (arith, length-append (R.header.bytes v.header) (flat_map written nlas), laws.in_front.bytes_long v.header typed, all_multiple nlas, four)
+    omega (
+      arith,
+      length-append (R.header.bytes v.header) (flat_map written nlas),
+      laws.in_front.bytes_long v.header typed,
+      all_multiple nlas,
+      four,
+    )

@@ -3,7 +3,9 @@ use Rattle.std.proofs.Common.{◌≡◌, List, [], ◌∷◌, map, refl}
 use Rattle.netlink_core.specs.Attribute.{Attribute}
 use Rattle.netlink_core.specs.Family.{Family, Said, attribute_said}
 
-pub attributes_said : {N : Type 0} (F : Family) (attribute : N → Attribute) (seen : N → Said F) → ((n : N) → attribute n ≡ attribute_said F (seen n)) → (nlas : List N) → map attribute nlas ≡ map (attribute_said F) (map seen nlas)
+pub attributes_said : {N : Type 0} (F : Family) (attribute : N → Attribute) (seen : N → Said F)
+    → ((n : N) → attribute n ≡ attribute_said F (seen n)) → (nlas : List N)
+    → map attribute nlas ≡ map (attribute_said F) (map seen nlas)
 attributes_said F attribute seen each [] = refl
 attributes_said F attribute seen each (n ∷ nlas) =
     let first = each n in

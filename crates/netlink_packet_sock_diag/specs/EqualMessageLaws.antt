@@ -10,9 +10,14 @@ use Rattle.sock_diag_attributes.specs.SeenUnix as unix
 use Rattle.sock_diag_records.specs.contracts.inet.exact.InetResponseHeaderExact.TheImpl.Laws.{exact-law as exact_inet}
 use Rattle.sock_diag_records.specs.contracts.unix.response.UnixResponseHeaderExact.TheImpl.Laws.{exact-law as exact_unix}
 use Rattle.netlink_packet_sock_diag.specs.declared.message.SockDiagMessage.{SockDiagMessage}
-use Rattle.netlink_packet_sock_diag.specs.declared.message.SockDiagMessage.TheVariants.{InetRequest, InetResponse, UnixRequest, UnixResponse}
+use Rattle.netlink_packet_sock_diag.specs.declared.message.SockDiagMessage.TheVariants.{InetRequest}
+use Rattle.netlink_packet_sock_diag.specs.declared.message.SockDiagMessage.TheVariants.{InetResponse}
+use Rattle.netlink_packet_sock_diag.specs.declared.message.SockDiagMessage.TheVariants.{UnixRequest}
+use Rattle.netlink_packet_sock_diag.specs.declared.message.SockDiagMessage.TheVariants.{UnixResponse}
 use Rattle.netlink_packet_sock_diag.specs.contracts.message.SockDiagMessagePartialEq.TheImpl.{ghosts}
-use Rattle.netlink_packet_sock_diag.specs.Message.{MessageKind, inet_request, inet_response, unix_request, unix_response, codec_of, Message, message_of, message_kind}
+use Rattle.netlink_packet_sock_diag.specs.Message.{MessageKind, inet_request, inet_response}
+use Rattle.netlink_packet_sock_diag.specs.Message.{unix_request, unix_response, codec_of, Message}
+use Rattle.netlink_packet_sock_diag.specs.Message.{message_of, message_kind}
 use Rattle.netlink_packet_sock_diag.specs.SeenMessage.{seen_message}
 use Rattle.netlink_packet_sock_diag.specs.declared.message.SockDiagView.{SockDiagView}
 use Rattle.netlink_packet_sock_diag.specs.declared.message.SockDiagView.TheVariants as view
@@ -44,7 +49,8 @@ by_held : (kind : MessageKind) (is : Bool) (v w : (codec_of kind).Value)
 by_held kind is v w same =
     (λ h. ap (message_of kind) (same.0 h), λ e. same.1 (same_held kind v w e))
 
-pub message_equal : (v w : SockDiagMessage) → IsTrue (ghosts.eq v w) ↔ (seen_message v ≡ seen_message w)
+pub message_equal : (v w : SockDiagMessage) → IsTrue (ghosts.eq v w)
+    ↔ (seen_message v ≡ seen_message w)
 message_equal (InetRequest a) (InetRequest x) =
     by_held inet_request _ _ _ (exact_inet_request.0 a x)
 message_equal (InetResponse a) (InetResponse x) =
@@ -60,7 +66,8 @@ message_equal (UnixResponse a) (UnixResponse x) =
 message_equal v w = apart (λ e. let kinds = ap message_kind e in cc)
 
 -- and so are messages that are read in place
-pub view_equal : (v w : SockDiagView) → IsTrue (views.eq v w) ↔ (viewed_message v ≡ viewed_message w)
+pub view_equal : (v w : SockDiagView) → IsTrue (views.eq v w)
+    ↔ (viewed_message v ≡ viewed_message w)
 view_equal (view.InetResponse a) (view.InetResponse x) =
     by_held inet_response _ _ _ (inet_test_says (viewed a) (viewed x))
 view_equal (view.UnixResponse a) (view.UnixResponse x) =

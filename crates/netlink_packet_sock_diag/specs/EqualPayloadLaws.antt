@@ -4,14 +4,19 @@ use Rattle.netlink_core.proofs.Equality.{apart}
 use Rattle.netlink_core.specs.Envelope.{inner}
 use Rattle.netlink_packet_sock_diag.specs.EqualMessageLaws.{view_equal}
 use Rattle.netlink_packet_sock_diag.specs.declared.dump.views.PayloadView.{PayloadView}
-use Rattle.netlink_packet_sock_diag.specs.declared.dump.views.PayloadView.TheVariants.{Done, Error, Noop, Overrun, InnerMessage}
+use Rattle.netlink_packet_sock_diag.specs.declared.dump.views.PayloadView.TheVariants.{Done, Error}
+use Rattle.netlink_packet_sock_diag.specs.declared.dump.views.PayloadView.TheVariants.{Noop}
+use Rattle.netlink_packet_sock_diag.specs.declared.dump.views.PayloadView.TheVariants.{Overrun}
+use Rattle.netlink_packet_sock_diag.specs.declared.dump.views.PayloadView.TheVariants.{InnerMessage}
 use Rattle.netlink_packet_sock_diag.specs.contracts.dump.views.PayloadViewPartialEq.TheImpl.{ghosts}
 use Rattle.netlink_packet_sock_diag.specs.ViewedPayload.{viewed_payload}
 
-pub payload_equal : (v w : PayloadView) → IsTrue (ghosts.eq v w) ↔ (viewed_payload v ≡ viewed_payload w)
+pub payload_equal : (v w : PayloadView) → IsTrue (ghosts.eq v w)
+    ↔ (viewed_payload v ≡ viewed_payload w)
 payload_equal (Done a) (Done x) = search rules
 payload_equal (Error a) (Error x) = search rules
 payload_equal Noop Noop = search rules
 payload_equal (Overrun a) (Overrun x) = search rules
-payload_equal (InnerMessage a) (InnerMessage x) = (λ h. ap inner ((view_equal a x).0 h), λ e. (view_equal a x).1 cc)
+payload_equal (InnerMessage a) (InnerMessage x) =
+    (λ h. ap inner ((view_equal a x).0 h), λ e. (view_equal a x).1 cc)
 payload_equal v w = apart (λ e. cc)

@@ -16,13 +16,17 @@ use Rattle.netlink_packet_sock_diag.specs.EqualReplyLaws.{values_equal}
 
 -- equal headers, and the same attributes
 abbrev pub unix_test : UnixReply → UnixReply → Bool
-unix_test v w = unix_headers.eq v.header w.header && pointwise (said_test unix unix_tests) v.nlas w.nlas
+unix_test v w = unix_headers.eq v.header w.header && pointwise (said_test unix unix_tests) v.nlas
+    w.nlas
 
 abbrev pub inet_test : InetReply → InetReply → Bool
-inet_test v w = inet_headers.eq v.header w.header && pointwise (said_test inet inet_tests) v.nlas w.nlas
+inet_test v w = inet_headers.eq v.header w.header && pointwise (said_test inet inet_tests) v.nlas
+    w.nlas
 
 pub unix_test_says : (v w : UnixReply) → IsTrue (unix_test v w) ↔ (v ≡ w)
-unix_test_says = values_equal unix_headers.eq (said_test unix unix_tests) exact_unix_header.0 (said_test_says unix unix_tests)
+unix_test_says = values_equal unix_headers.eq (said_test unix unix_tests) exact_unix_header.0
+    (said_test_says unix unix_tests)
 
 pub inet_test_says : (v w : InetReply) → IsTrue (inet_test v w) ↔ (v ≡ w)
-inet_test_says = values_equal inet_headers.eq (said_test inet inet_tests) exact_inet_header.0 (said_test_says inet inet_tests)
+inet_test_says = values_equal inet_headers.eq (said_test inet inet_tests) exact_inet_header.0
+    (said_test_says inet inet_tests)

@@ -14,18 +14,25 @@ use Rattle.sock_diag_attributes.specs.InetAttributeLaws.{inet_laws}
 use Rattle.netlink_packet_sock_diag.specs.InetReply.{inet_reply}
 
 -- bytes behind a header change nothing of what it tells
-goes_on : (tag : Kinds × ℕ) (left rest : List ℕ) → inet_response_header.least ≤ length left → inet_response_header.tag_at tt left ≡ Ok tag → inet_response_header.tag_at tt (left ++ rest) ≡ Ok tag
+goes_on : (tag : Kinds × ℕ) (left rest : List ℕ) → inet_response_header.least ≤ length left
+    → inet_response_header.tag_at tt left ≡ Ok tag → inet_response_header.tag_at tt (left ++ rest)
+    ≡ Ok tag
 unfolding inet_response_header
 goes_on tag left rest long e =
-    let family : slice_index (left ++ rest) 0 ≡ slice_index left 0 = get_or_append_left left rest 0 0 (omega arith) in
-    let timer : slice_index (left ++ rest) 2 ≡ slice_index left 2 = get_or_append_left left rest 0 2 (omega arith) in
-    ap (λ (n : ℕ). with_class (class_of_byte (slice_index (left ++ rest) 2)) (kinds_of_family n)) family
+    let family : slice_index (left ++ rest) 0 ≡ slice_index left 0 =
+    get_or_append_left left rest 0 0 (omega arith) in
+    let timer : slice_index (left ++ rest) 2 ≡ slice_index left 2 =
+    get_or_append_left left rest 0 2 (omega arith) in
+    ap (λ (n : ℕ). with_class (class_of_byte (slice_index (left ++ rest) 2)) (kinds_of_family n))
+    family
     ∙ ap (λ (n : ℕ). with_class (class_of_byte n) (kinds_of_family (slice_index left 0))) timer
     ∙ e
 
 -- a string with a header has all its bytes
-pub header_enough : (b : List ℕ) (h : InetResponseHeader) → read inet_response_header tt b ≡ Ok h → 72 ≤ length b
-header_enough b h e = let long = (accepted inet_response_header tt b h e).long in omega (arith, long, header_size.0)
+pub header_enough : (b : List ℕ) (h : InetResponseHeader) → read inet_response_header tt b ≡ Ok h
+    → 72 ≤ length b
+header_enough b h e = let long = (accepted inet_response_header tt b h e).long in
+    omega (arith, long, header_size.0)
 
 -- the laws of header and attributes
 pub inet_reply_laws : ReplyLaws inet_reply

@@ -1,8 +1,11 @@
 -- Messages of sock_diag(7): requests, and replies about the sockets of two families. Replies alone
 -- are read.
-use Rattle.std.specs.Prelude.{◌≡◌, ℕ, ◌==◌, ◌||◌, not, nat_lt, if◌then◌else◌, ◌⊎◌, List, length, slice_index, Result, Ok, Err}
+use Rattle.std.specs.Prelude.{◌≡◌, ℕ, ◌==◌, ◌||◌, not, nat_lt, if◌then◌else◌, ◌⊎◌, List, length}
+use Rattle.std.specs.Prelude.{slice_index, Result, Ok, Err}
 use Rattle.netlink_core.specs.declared.fault.DecodeError.{DecodeError}
-use Rattle.netlink_core.specs.declared.fault.DecodeError.TheVariants.{MessageTooShort, UnknownFamily, UnknownMessageType}
+use Rattle.netlink_core.specs.declared.fault.DecodeError.TheVariants.{MessageTooShort}
+use Rattle.netlink_core.specs.declared.fault.DecodeError.TheVariants.{UnknownFamily}
+use Rattle.netlink_core.specs.declared.fault.DecodeError.TheVariants.{UnknownMessageType}
 use Rattle.netlink_core.specs.Codec.{Codec, record_codec}
 use Rattle.netlink_core.specs.Reply.{reply_codec}
 use Rattle.sock_diag_records.specs.InetRequest.{inet_request as inet_request_format}

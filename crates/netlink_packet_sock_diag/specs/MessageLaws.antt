@@ -1,12 +1,16 @@
 -- The laws of messages.
-use Rattle.std.proofs.Common.{◌≡◌, ◌≢◌, ◌↔◌, ◌∙◌, ℕ, ◌≤◌, ◌==◌, ◌⊎◌, inl, inr, Bool, true, false, if◌then◌else◌, List, length, slice_index, Result, Ok, Err, refl, sym, ap, subst, arith, le-ltb}
+use Rattle.std.proofs.Common.{◌≡◌, ◌≢◌, ◌↔◌, ◌∙◌, ℕ, ◌≤◌, ◌==◌, ◌⊎◌, inl, inr, Bool, true, false}
+use Rattle.std.proofs.Common.{if◌then◌else◌, List, length, slice_index, Result, Ok, Err, refl, sym}
+use Rattle.std.proofs.Common.{ap, subst, arith, le-ltb}
 use Rattle.std.specs.Prelude.{◌||◌, not, nat_lt, MatchResult}
 use Rattle.std.proofs.lemmas.Bool.{cases_eq, eqb-true, ne_eqb, not-false}
 use Rattle.netlink_core.specs.Bytes.{IsBytes}
 use Rattle.netlink_core.specs.Codec.{KeepsLaws}
 use Rattle.netlink_core.specs.Reply.{reply_bytes}
 use Rattle.netlink_core.specs.declared.fault.DecodeError.{DecodeError}
-use Rattle.netlink_core.specs.declared.fault.DecodeError.TheVariants.{Memory, MessageTooShort, UnknownFamily, UnknownMessageType}
+use Rattle.netlink_core.specs.declared.fault.DecodeError.TheVariants.{Memory, MessageTooShort}
+use Rattle.netlink_core.specs.declared.fault.DecodeError.TheVariants.{UnknownFamily}
+use Rattle.netlink_core.specs.declared.fault.DecodeError.TheVariants.{UnknownMessageType}
 use Rattle.netlink_core.proofs.FormatLaws.{keeps_laws}
 use Rattle.netlink_core.proofs.Replies.{replies_keep_laws}
 use Rattle.sock_diag_records.specs.Kinds.{Kinds, kinds_of_family}
@@ -19,7 +23,10 @@ use Rattle.netlink_packet_sock_diag.specs.InetReply.{InetReply, inet_reply}
 use Rattle.netlink_packet_sock_diag.specs.UnixReply.{unix_reply}
 use Rattle.netlink_packet_sock_diag.specs.InetReplyLaws.{inet_reply_laws}
 use Rattle.netlink_packet_sock_diag.specs.UnixReplyLaws.{unix_reply_laws}
-use Rattle.netlink_packet_sock_diag.specs.Message.{MessageKind, inet_request, inet_response, unix_request, unix_response, codec_of, Message, message_of, message_kind, message_codec, reply_kind}
+use Rattle.netlink_packet_sock_diag.specs.Message.{MessageKind, inet_request, inet_response}
+use Rattle.netlink_packet_sock_diag.specs.Message.{unix_request, unix_response, codec_of, Message}
+use Rattle.netlink_packet_sock_diag.specs.Message.{message_of, message_kind, message_codec}
+use Rattle.netlink_packet_sock_diag.specs.Message.{reply_kind}
 
 -- each kind's codec keeps the laws
 laws_of : (kind : MessageKind) → KeepsLaws (codec_of kind)
@@ -85,7 +92,8 @@ same_kind told k l h g = cc
 -- the message or the fault by the kind that is told, or its fault
 answered_as : (b : List ℕ) (t : ℕ) (told : Result MessageKind DecodeError) → IsBytes b
     → reply_kind b t ≡ told
-    → ((m : Message) × message_codec.reads b t m) ⊎ ((e : DecodeError) × message_codec.refuses b t e)
+    → ((m : Message) × message_codec.reads b t m)
+    ⊎ ((e : DecodeError) × message_codec.refuses b t e)
 answered_as b t (Err e) tb h = inr (e, inl h)
 answered_as b t (Ok kind) tb h = elim ((laws_of kind).answered b tt tb) [
   | inl answer ↦ inl (message_of kind answer.0, (h, answer.1))
@@ -106,7 +114,8 @@ one_answer b t (message_of kind v) e (told, r) (inl none) = cc
 one_answer b t (message_of kind v) e (told, r) (inr (other, said, refused)) =
     (laws_of kind).one_answer b tt v e r (refused_as b t e kind other told said refused)
 
-one_fault : (b : List ℕ) (t : ℕ) (e f : DecodeError) → message_codec.refuses b t e → message_codec.refuses b t f
+one_fault : (b : List ℕ) (t : ℕ) (e f : DecodeError) → message_codec.refuses b t e
+    → message_codec.refuses b t f
     → e ≡ f
 one_fault b t e f (inl h) (inl k) = cc
 one_fault b t e f (inl h) (inr (kind, told, refused)) = absurd cc
@@ -193,7 +202,8 @@ kind_written t (message_of inet_response v) (is, reply, normal) =
 kind_written t (message_of unix_response v) (is, reply, normal) =
     unix_told (reply_bytes unix_reply v) t (omega arith) is refl
 
-reads_back : (t : ℕ) (m : Message) → message_codec.is_typed m → message_codec.is_normal t m → message_codec.fits m
+reads_back : (t : ℕ) (m : Message) → message_codec.is_typed m → message_codec.is_normal t m
+    → message_codec.fits m
     → message_codec.reads (message_codec.written m) t m
 reads_back t (message_of kind v) typed normal fits = (
   kind_written t (message_of kind v) normal,

@@ -1,10 +1,14 @@
 -- What contracts see of a message.
 use Rattle.netlink_packet_sock_diag.specs.declared.message.SockDiagMessage.{SockDiagMessage}
-use Rattle.netlink_packet_sock_diag.specs.declared.message.SockDiagMessage.TheVariants.{InetRequest, InetResponse, UnixRequest, UnixResponse}
+use Rattle.netlink_packet_sock_diag.specs.declared.message.SockDiagMessage.TheVariants.{InetRequest}
+use Rattle.netlink_packet_sock_diag.specs.declared.message.SockDiagMessage.TheVariants.{InetResponse}
+use Rattle.netlink_packet_sock_diag.specs.declared.message.SockDiagMessage.TheVariants.{UnixRequest}
+use Rattle.netlink_packet_sock_diag.specs.declared.message.SockDiagMessage.TheVariants.{UnixResponse}
 use Rattle.netlink_packet_sock_diag.specs.declared.message.SockDiagDestroy.{SockDiagDestroy}
 use Rattle.netlink_packet_sock_diag.specs.SeenInetReply as inet
 use Rattle.netlink_packet_sock_diag.specs.SeenUnixReply as unix
-use Rattle.netlink_packet_sock_diag.specs.Message.{Message, message_of, inet_request, inet_response, unix_request, unix_response}
+use Rattle.netlink_packet_sock_diag.specs.Message.{Message, message_of, inet_request, inet_response}
+use Rattle.netlink_packet_sock_diag.specs.Message.{unix_request, unix_response}
 
 -- what a message says
 abbrev pub seen_message : SockDiagMessage → Message

@@ -1,8 +1,10 @@
 -- What contracts see of a message that is read in place.
 use Rattle.netlink_packet_sock_diag.specs.declared.message.SockDiagView.{SockDiagView}
-use Rattle.netlink_packet_sock_diag.specs.declared.message.SockDiagView.TheVariants.{InetResponse, UnixResponse}
+use Rattle.netlink_packet_sock_diag.specs.declared.message.SockDiagView.TheVariants.{InetResponse}
+use Rattle.netlink_packet_sock_diag.specs.declared.message.SockDiagView.TheVariants.{UnixResponse}
 use Rattle.netlink_packet_sock_diag.specs.Viewed.{viewed}
-use Rattle.netlink_packet_sock_diag.specs.Message.{Message, message_of, inet_response, unix_response}
+use Rattle.netlink_packet_sock_diag.specs.Message.{Message, message_of, inet_response}
+use Rattle.netlink_packet_sock_diag.specs.Message.{unix_response}
 
 -- what the message says
 abbrev pub viewed_message : SockDiagView → Message

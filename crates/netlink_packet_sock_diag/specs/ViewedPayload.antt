@@ -2,9 +2,13 @@
 use Rattle.std.specs.Prelude.{Result}
 use Rattle.netlink_core.specs.Faults.{said_as}
 use Rattle.netlink_core.specs.declared.fault.DecodeError.{DecodeError}
-use Rattle.netlink_core.specs.Envelope.{Payload, done_with, error_with, no_payload, overrun_with, inner}
+use Rattle.netlink_core.specs.Envelope.{Payload, done_with, error_with, no_payload, overrun_with}
+use Rattle.netlink_core.specs.Envelope.{inner}
 use Rattle.netlink_packet_sock_diag.specs.declared.dump.views.PayloadView.{PayloadView}
-use Rattle.netlink_packet_sock_diag.specs.declared.dump.views.PayloadView.TheVariants.{Done, Error, Noop, Overrun, InnerMessage}
+use Rattle.netlink_packet_sock_diag.specs.declared.dump.views.PayloadView.TheVariants.{Done, Error}
+use Rattle.netlink_packet_sock_diag.specs.declared.dump.views.PayloadView.TheVariants.{Noop}
+use Rattle.netlink_packet_sock_diag.specs.declared.dump.views.PayloadView.TheVariants.{Overrun}
+use Rattle.netlink_packet_sock_diag.specs.declared.dump.views.PayloadView.TheVariants.{InnerMessage}
 use Rattle.netlink_packet_sock_diag.specs.Message.{Message}
 use Rattle.netlink_packet_sock_diag.specs.ViewedMessage.{viewed_message}
 

@@ -1,6 +1,7 @@
 //! Dumps: the messages of several datagrams, up to the one that ends them.
 
-ghost use Rattle.std.specs.Prelude.{◌≡◌, ◌≢◌, ◌⊎◌, ℕ, List, [], map, Result, Ok as ok, Err as err, IfOk, IfErr};
+ghost use Rattle.std.specs.Prelude.{◌≡◌, ◌≢◌, ◌⊎◌, ℕ, List, [], map, Result, Ok as ok, Err as err};
+ghost use Rattle.std.specs.Prelude.{IfOk, IfErr};
 ghost use Rattle.std.proofs.Common.{rules};
 ghost use Rattle.netlink_core.specs.declared.fault.DecodeError.TheVariants.{Memory};
 ghost use Rattle.netlink_packet_sock_diag.specs.Dump.{DatagramDump, DatagramStopped};
@@ -9,7 +10,8 @@ ghost use Rattle.netlink_packet_sock_diag.specs.Message.{Message, message_codec}
 ghost use Rattle.netlink_packet_sock_diag.specs.SeenMessage.{seen_message};
 ghost use Rattle.netlink_packet_sock_diag.specs.declared.dump.DumpError.{DumpError as Refusal};
 ghost use Rattle.netlink_packet_sock_diag.specs.declared.dump.DumpState.{DumpState as State};
-ghost use Rattle.netlink_packet_sock_diag.specs.declared.dump.DumpState.TheVariants.{Reading, Failed};
+ghost use Rattle.netlink_packet_sock_diag.specs.declared.dump.DumpState.TheVariants.{Reading};
+ghost use Rattle.netlink_packet_sock_diag.specs.declared.dump.DumpState.TheVariants.{Failed};
 
 mod views;
 
@@ -49,7 +51,8 @@ impl Exact for DumpState {
     ghost exact = { Prim.search rules };
 }
 
-// Takes the messages of a datagram up to the end of the dump. The type of each is looked at before memory is taken.
+// Takes the messages of a datagram up to the end of the dump. The type of each is looked at before
+// memory is taken.
 fn take_messages<I: NetlinkDeserializable + Drop>(
     alloc: Global,
     messages: &mut Vec<I>,
@@ -80,8 +83,8 @@ fn take_messages<I: NetlinkDeserializable + Drop>(
     Ok(DumpState::Reading)
 }
 
-/// The reader of a dump, which comes in several datagrams. It keeps the messages of the protocol in order, and passes
-/// over those that say nothing. What follows the end is not read.
+/// The reader of a dump, which comes in several datagrams. It keeps the messages of the protocol in
+/// order, and passes over those that say nothing. What follows the end is not read.
 #[derive(Drop)]
 pub struct DumpReader {
     alloc: Global,
@@ -112,8 +115,9 @@ impl DumpReader {
         }
     }
 
-    /// Takes the messages of a datagram of whole messages, up to the end of the dump. At a fault, and where memory runs
-    /// out, the messages in front are kept and the dump has failed. Once the dump has ended nothing changes.
+    /// Takes the messages of a datagram of whole messages, up to the end of the dump. At a fault,
+    /// and where memory runs out, the messages in front are kept and the dump has failed. Once the
+    /// dump has ended nothing changes.
     pub fn feed(&mut self, datagram: &[u8]) -> Result<(), DumpError>
         ensures { FeedLeaves message_codec (kept_messages self.old) self.old.state datagram.now
             (kept_messages self.new) self.new.state result }

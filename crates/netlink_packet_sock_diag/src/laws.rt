@@ -1,14 +1,17 @@
 //! Laws of replies and of messages. The functions do nothing: their contracts are the laws.
 
-ghost use Rattle.std.specs.Prelude.{Bool, true, ◌≡◌, ◌%◌, ◌↔◌, ◌⊎◌, ◌++◌, ℕ, List, [], ◌∷◌, length, count_by, IsTrue, Result, IfOk, IsOk, map};
+ghost use Rattle.std.specs.Prelude.{Bool, true, ◌≡◌, ◌%◌, ◌↔◌, ◌⊎◌, ◌++◌, ℕ, List, [], ◌∷◌, length};
+ghost use Rattle.std.specs.Prelude.{count_by, IsTrue, Result, IfOk, IsOk, map};
 ghost use Rattle.std.specs.Iterator.{Drains};
 ghost use Rattle.std.specs.List.{AllByRecursion, AllZip};
 ghost use Rattle.netlink_core.specs.Bytes.{IsBytes};
 ghost use Rattle.netlink_core.specs.declared.fault.DecodeError.{DecodeError};
-ghost use Rattle.netlink_core.specs.declared.fault.DecodeError.TheVariants.{Memory, UnknownMessageType};
+ghost use Rattle.netlink_core.specs.declared.fault.DecodeError.TheVariants.{Memory};
+ghost use Rattle.netlink_core.specs.declared.fault.DecodeError.TheVariants.{UnknownMessageType};
 ghost use Rattle.netlink_core.specs.declared.header.NetlinkHeader.{NetlinkHeader};
 ghost use Rattle.netlink_core.specs.Header.{IsTypedHeader};
-ghost use Rattle.netlink_core.specs.Envelope.{Payload, Envelope, inner, OfInner, finalized, envelope_codec};
+ghost use Rattle.netlink_core.specs.Envelope.{Payload, Envelope, inner, OfInner, finalized};
+ghost use Rattle.netlink_core.specs.Envelope.{envelope_codec};
 ghost use Rattle.netlink_core.specs.declared.message.NetlinkMessage.{NetlinkMessage};
 ghost use Rattle.netlink_core.specs.declared.message.NetlinkPayload.TheVariants.{InnerMessage};
 ghost use Rattle.netlink_core.specs.Items.{ItemsAre};
@@ -22,7 +25,8 @@ ghost use Rattle.netlink_packet_sock_diag.specs.contracts.coded.SockDiagMessageC
 ghost use Rattle.netlink_packet_sock_diag.specs.declared.message.SockDiagDestroy.{SockDiagDestroy};
 ghost use Rattle.netlink_packet_sock_diag.specs.declared.dump.DumpState.{DumpState};
 ghost use Rattle.netlink_packet_sock_diag.specs.declared.dump.DumpState.TheVariants.{Reading};
-ghost use Rattle.netlink_packet_sock_diag.specs.Dump.{in_a_row, Dump, DumpGoesOn, DatagramsDump, AreSplit};
+ghost use Rattle.netlink_packet_sock_diag.specs.Dump.{in_a_row, Dump, DumpGoesOn, DatagramsDump};
+ghost use Rattle.netlink_packet_sock_diag.specs.Dump.{AreSplit};
 ghost use Rattle.netlink_packet_sock_diag.specs.Feed.{FeedsLeave};
 ghost use Rattle.netlink_packet_sock_diag.specs.declared.dump.views.DumpViews.{DumpViews};
 ghost use Rattle.netlink_packet_sock_diag.specs.declared.dump.views.PayloadView.{PayloadView};
@@ -33,7 +37,9 @@ ghost use Rattle.netlink_packet_sock_diag.specs.UnixReply.{UnixReply, unix_reply
 ghost use Rattle.netlink_packet_sock_diag.specs.InetReply.{InetReply, inet_reply};
 ghost use Rattle.netlink_packet_sock_diag.specs.Viewed.{viewed};
 ghost use Rattle.netlink_packet_sock_diag.specs.ViewedMessage.{viewed_message};
-ghost use Rattle.netlink_packet_sock_diag.specs.Message.{Message, MessageKind, message_kind, inet_request, inet_response, unix_request, unix_response, message_codec};
+ghost use Rattle.netlink_packet_sock_diag.specs.Message.{Message, MessageKind, message_kind};
+ghost use Rattle.netlink_packet_sock_diag.specs.Message.{inet_request, inet_response, unix_request};
+ghost use Rattle.netlink_packet_sock_diag.specs.Message.{unix_response, message_codec};
 
 use crate::dump::{DumpError, DumpViews as Views, PayloadView as View};
 use crate::inet::{InetResponse, InetResponseView};
@@ -42,15 +48,19 @@ use crate::unix::{UnixResponse, UnixResponseView};
 use netlink_core::{Emitable, NetlinkSerializable, Readable, laws};
 use std::alloc::{AllocError, Global};
 
-/// The number of bytes that a reply is written as, `buffer_len`, is a multiple of 4, for both families.
+/// The number of bytes that a reply is written as, `buffer_len`, is a multiple of 4, for both
+/// families.
 pub fn reply_lengths_are_multiples_of_four()
-    ensures unix { (v : UnixReply) → (reply_codec unix_reply).is_typed v → length (reply_bytes unix_reply v) % 4 ≡ 0 }
-    ensures inet { (v : InetReply) → (reply_codec inet_reply).is_typed v → length (reply_bytes inet_reply v) % 4 ≡ 0 }
+    ensures unix { (v : UnixReply) → (reply_codec unix_reply).is_typed v
+        → length (reply_bytes unix_reply v) % 4 ≡ 0 }
+    ensures inet { (v : InetReply) → (reply_codec inet_reply).is_typed v
+        → length (reply_bytes inet_reply v) % 4 ≡ 0 }
 {}
 
 /// Exactly one of four tests, each for one kind, is true of a message.
 pub fn one_kind()
-    ensures { (m : Message) (tests : MessageKind → Bool) → ((kind : MessageKind) → IsTrue (tests kind) ↔ (message_kind m ≡ kind))
+    ensures { (m : Message) (tests : MessageKind → Bool)
+        → ((kind : MessageKind) → IsTrue (tests kind) ↔ (message_kind m ≡ kind))
         → count_by tests (inet_request ∷ inet_response ∷ unix_request ∷ unix_response ∷ []) ≡ 1 }
 {}
 
@@ -60,7 +70,8 @@ pub fn read_messages_are_replies()
         → (message_kind m ≡ inet_response) ⊎ (message_kind m ≡ unix_response) }
 {}
 
-/// A request to close sockets is written under the type 21, `SOCK_DESTROY`, and a message under 20, `SOCK_DIAG_BY_FAMILY`.
+/// A request to close sockets is written under the type 21, `SOCK_DESTROY`, and a message under 20,
+/// `SOCK_DIAG_BY_FAMILY`.
 pub fn types_that_are_written(destroy: &SockDiagDestroyed, message: &SockDiagMessage) -> (u16, u16)
     ensures { result ≡ (21, 20) }
 {
@@ -95,11 +106,13 @@ pub fn finalized_destroy_is_refused()
         (UnknownMessageType (destroys.type_written m)) }
 {}
 
-/// So it is of a request in hand: what `serialize` writes of its message behind `finalize`, with whatever follows in the
-/// buffer, is refused by the reader of the request.
+/// So it is of a request in hand: what `serialize` writes of its message behind `finalize`, with
+/// whatever follows in the buffer, is refused by the reader of the request.
 pub fn finalized_destroy_in_hand_is_refused()
-    ensures { (message : NetlinkMessage SockDiagDestroy) (destroy : SockDiagDestroy) (rest : List ℕ) → message.payload ≡ InnerMessage destroy
-        → IsTypedHeader message.header → (envelope_codec message_codec).fits (envelope_of seen_destroy message)
+    ensures { (message : NetlinkMessage SockDiagDestroy) (destroy : SockDiagDestroy) (rest : List ℕ)
+        → message.payload ≡ InnerMessage destroy
+        → IsTypedHeader message.header
+        → (envelope_codec message_codec).fits (envelope_of seen_destroy message)
         → (envelope_codec message_codec).refuses
         ((envelope_codec message_codec).written (envelope_of seen_destroy (record message {
           header = finalized message_codec.written destroys.type_written
@@ -111,13 +124,17 @@ pub fn finalized_destroy_in_hand_is_refused()
 /// Bytes have one netlink message of sock_diag(7) at their front or one fault, which has a name.
 pub fn one_message_or_fault()
     ensures answered { (b : List ℕ) → IsBytes b
-        → ((v : Envelope Message) × (envelope_codec message_codec).reads b tt v) ⊎ ((e : DecodeError) × (envelope_codec message_codec).refuses b tt e) }
+        → ((v : Envelope Message) × (envelope_codec message_codec).reads b tt v)
+        ⊎ ((e : DecodeError) × (envelope_codec message_codec).refuses b tt e) }
     ensures one_value { (b : List ℕ) (v w : Envelope Message) → IsBytes b
-        → (envelope_codec message_codec).reads b tt v → (envelope_codec message_codec).reads b tt w → v ≡ w }
+        → (envelope_codec message_codec).reads b tt v → (envelope_codec message_codec).reads b tt w
+        → v ≡ w }
     ensures one_answer { (b : List ℕ) (v : Envelope Message) (e : DecodeError)
-        → (envelope_codec message_codec).reads b tt v → (envelope_codec message_codec).refuses b tt e → ⊥ }
+        → (envelope_codec message_codec).reads b tt v → (envelope_codec message_codec).refuses b tt
+        e → ⊥ }
     ensures one_fault { (b : List ℕ) (e f : DecodeError)
-        → (envelope_codec message_codec).refuses b tt e → (envelope_codec message_codec).refuses b tt f → e ≡ f }
+        → (envelope_codec message_codec).refuses b tt e
+        → (envelope_codec message_codec).refuses b tt f → e ≡ f }
     ensures named_fault { (b : List ℕ) → (envelope_codec message_codec).refuses b tt Memory → ⊥ }
 {
     laws::one_message_or_fault::<SockDiagMessage>();
@@ -126,28 +143,33 @@ pub fn one_message_or_fault()
 /// Two accepted strings give equal netlink messages exactly where they are idle.
 pub fn equal_messages_where_idle()
     ensures { (b c : List ℕ) (v w : Envelope Message) → IsBytes b → IsBytes c
-        → (envelope_codec message_codec).reads b tt v → (envelope_codec message_codec).reads c tt w → ((v ≡ w) ↔ (envelope_codec message_codec).idle tt b c) }
+        → (envelope_codec message_codec).reads b tt v → (envelope_codec message_codec).reads c tt w
+        → ((v ≡ w) ↔ (envelope_codec message_codec).idle tt b c) }
 {
     laws::equal_messages_where_idle::<SockDiagMessage>();
 }
 
-/// Two accepted strings whose netlink messages can be written are written alike, their headers as they stand, exactly
-/// where they are idle.
+/// Two accepted strings whose netlink messages can be written are written alike, their headers as
+/// they stand, exactly where they are idle.
 pub fn messages_written_alike()
     ensures { (b c : List ℕ) (v w : Envelope Message) → IsBytes b → IsBytes c
         → (envelope_codec message_codec).reads b tt v → (envelope_codec message_codec).reads c tt w
         → (envelope_codec message_codec).fits v → (envelope_codec message_codec).fits w
-        → (((envelope_codec message_codec).written v ≡ (envelope_codec message_codec).written w) ↔ (envelope_codec message_codec).idle tt b c) }
+        → (((envelope_codec message_codec).written v ≡ (envelope_codec message_codec).written w)
+        ↔ (envelope_codec message_codec).idle tt b c) }
 {
     laws::messages_written_alike::<SockDiagMessage>();
 }
 
-/// The bytes of a writable netlink message whose header has its own length and type, as `finalize` sets them, read back
-/// as itself exactly where it carries nothing or bytes that are kept, or a message in normal form under the type 20.
+/// The bytes of a writable netlink message whose header has its own length and type, as `finalize`
+/// sets them, read back as itself exactly where it carries nothing or bytes that are kept, or a
+/// message in normal form under the type 20.
 pub fn finalized_message_reads_back()
-    ensures { (v : Envelope Message) → (envelope_codec message_codec).is_typed v → (envelope_codec message_codec).fits v
+    ensures { (v : Envelope Message) → (envelope_codec message_codec).is_typed v
+        → (envelope_codec message_codec).fits v
         → (v.header ≡ finalized message_codec.written messages.type_written v)
-        → ((envelope_codec message_codec).reads ((envelope_codec message_codec).written v) tt v ↔ OfInner (message_codec.is_normal 20) v.payload) }
+        → ((envelope_codec message_codec).reads ((envelope_codec message_codec).written v) tt v
+        ↔ OfInner (message_codec.is_normal 20) v.payload) }
 {
     laws::finalized_message_reads_back::<SockDiagMessage>();
 }
@@ -155,71 +177,88 @@ pub fn finalized_message_reads_back()
 /// Items have one dump.
 pub fn items_have_one_dump()
     ensures some { (before : List Message) (items : List (Result (Payload Message) DecodeError))
-        → (after : List Message) × (end : Result DumpState DecodeError) × Dump before items after end }
-    ensures one { (before a b : List Message) (items : List (Result (Payload Message) DecodeError)) (e f : Result DumpState DecodeError)
+        → (after : List Message) × (end : Result DumpState DecodeError)
+        × Dump before items after end }
+    ensures one { (before a b : List Message) (items : List (Result (Payload Message) DecodeError))
+        (e f : Result DumpState DecodeError)
         → Dump before items a e → Dump before items b f → (a ≡ b) × (e ≡ f) }
 {}
 
 /// The dump over items in a row is that over the first part, continued by the second.
 pub fn dump_over_items_in_a_row()
-    ensures { (before after : List Message) (end : Result DumpState DecodeError) (xs ys : List (Result (Payload Message) DecodeError))
+    ensures { (before after : List Message) (end : Result DumpState DecodeError)
+        (xs ys : List (Result (Payload Message) DecodeError))
         → (Dump before (xs ++ ys) after end
-        ↔ ((middle : List Message) × (state : Result DumpState DecodeError) × Dump before xs middle state × DumpGoesOn middle state ys after end)) }
+        ↔ ((middle : List Message) × (state : Result DumpState DecodeError)
+        × Dump before xs middle state × DumpGoesOn middle state ys after end)) }
 {}
 
 /// Datagrams with the same items in a row have the same dump.
 pub fn same_items_have_one_dump()
-    ensures { (datagrams others : List (List ℕ)) (xs ys : List (List (Result (Payload Message) DecodeError))) → AllByRecursion IsBytes datagrams
-        → AllZip (ItemsAre message_codec) datagrams xs → AllZip (ItemsAre message_codec) others ys → in_a_row xs ≡ in_a_row ys
+    ensures { (datagrams others : List (List ℕ))
+        (xs ys : List (List (Result (Payload Message) DecodeError)))
+        → AllByRecursion IsBytes datagrams
+        → AllZip (ItemsAre message_codec) datagrams xs → AllZip (ItemsAre message_codec) others ys
+        → in_a_row xs ≡ in_a_row ys
         → (before after : List Message) (end : Result DumpState DecodeError)
-        → DatagramsDump message_codec before datagrams after end → DatagramsDump message_codec before others after end }
+        → DatagramsDump message_codec before datagrams after end
+        → DatagramsDump message_codec before others after end }
 {
     laws::one_list_of_items::<SockDiagMessage>();
 }
 
-/// The dump does not depend on the split: any two ways to cut the same bytes into datagrams, of which all but the last
-/// are whole messages, have the same dump.
+/// The dump does not depend on the split: any two ways to cut the same bytes into datagrams, of
+/// which all but the last are whole messages, have the same dump.
 pub fn split_changes_no_dump()
-    ensures { (datagrams others : List (List ℕ)) → AllByRecursion IsBytes datagrams → AllByRecursion IsBytes others
+    ensures { (datagrams others : List (List ℕ)) → AllByRecursion IsBytes datagrams
+        → AllByRecursion IsBytes others
         → AreSplit datagrams → AreSplit others → in_a_row datagrams ≡ in_a_row others
         → (before after : List Message) (end : Result DumpState DecodeError)
-        → DatagramsDump message_codec before datagrams after end → DatagramsDump message_codec before others after end }
+        → DatagramsDump message_codec before datagrams after end
+        → DatagramsDump message_codec before others after end }
 {
     laws::datagram_has_items::<SockDiagMessage>();
     laws::one_list_of_items::<SockDiagMessage>();
 }
 
-/// Nor does what feeding leaves: the same bytes, fed to two new readers in any two such ways, and memory for all,
-/// leave the same messages and the same state.
+/// Nor does what feeding leaves: the same bytes, fed to two new readers in any two such ways, and
+/// memory for all, leave the same messages and the same state.
 pub fn split_changes_no_feed()
-    ensures { (datagrams others : List (List ℕ)) → AllByRecursion IsBytes datagrams → AllByRecursion IsBytes others
+    ensures { (datagrams others : List (List ℕ)) → AllByRecursion IsBytes datagrams
+        → AllByRecursion IsBytes others
         → AreSplit datagrams → AreSplit others → in_a_row datagrams ≡ in_a_row others
         → (messages same : List Message) (state end : DumpState)
-        → FeedsLeave message_codec [] Reading datagrams messages state → FeedsLeave message_codec [] Reading others same end
+        → FeedsLeave message_codec [] Reading datagrams messages state
+        → FeedsLeave message_codec [] Reading others same end
         → (messages ≡ same) × (state ≡ end) }
 {
     laws::datagram_has_items::<SockDiagMessage>();
     laws::one_list_of_items::<SockDiagMessage>();
 }
 
-/// Nor does it where datagrams have the same items in a row, as where one of them lacks the padding behind its last message:
-/// fed to two new readers, and with memory for all, they leave the same messages and the same state.
+/// Nor does it where datagrams have the same items in a row, as where one of them lacks the padding
+/// behind its last message: fed to two new readers, and with memory for all, they leave the same
+/// messages and the same state.
 pub fn same_items_change_no_feed()
-    ensures { (datagrams others : List (List ℕ)) (xs ys : List (List (Result (Payload Message) DecodeError)))
+    ensures { (datagrams others : List (List ℕ))
+        (xs ys : List (List (Result (Payload Message) DecodeError)))
         → AllByRecursion IsBytes datagrams → AllByRecursion IsBytes others
-        → AllZip (ItemsAre message_codec) datagrams xs → AllZip (ItemsAre message_codec) others ys → in_a_row xs ≡ in_a_row ys
+        → AllZip (ItemsAre message_codec) datagrams xs → AllZip (ItemsAre message_codec) others ys
+        → in_a_row xs ≡ in_a_row ys
         → (messages same : List Message) (state end : DumpState)
-        → FeedsLeave message_codec [] Reading datagrams messages state → FeedsLeave message_codec [] Reading others same end
+        → FeedsLeave message_codec [] Reading datagrams messages state
+        → FeedsLeave message_codec [] Reading others same end
         → (messages ≡ same) × (state ≡ end) }
 {
     laws::datagram_has_items::<SockDiagMessage>();
     laws::one_list_of_items::<SockDiagMessage>();
 }
 
-/// A whole walk over a datagram gives its items in order: what each message carries or its fault, and last the fault
-/// of what is no message, if there is one.
+/// A whole walk over a datagram gives its items in order: what each message carries or its fault,
+/// and last the fault of what is no message, if there is one.
 pub fn whole_views_are_the_datagram()
-    ensures { (walk : DumpViews) (given : List (Result PayloadView DecodeError)) → Drains GivesView walk given
+    ensures { (walk : DumpViews) (given : List (Result PayloadView DecodeError))
+        → Drains GivesView walk given
         → ItemsAre message_codec (datagram_left walk.messages) (map viewed_item given) }
 {}
 
@@ -241,7 +280,8 @@ pub fn copied_dump_error(v: &DumpError) -> Result<DumpError, AllocError>
 /// The copy of a walk has the same bytes left.
 pub fn copied_views<'a>(walk: &Views<'a>) -> Result<Views<'a>, AllocError>
     ensures ok { IsOk result }
-    ensures same { IfOk result (λ copy. datagram_left copy.messages ≡ datagram_left walk.now.messages) }
+    ensures same { IfOk result
+        (λ copy. datagram_left copy.messages ≡ datagram_left walk.now.messages) }
 {
     walk.clone()
 }
@@ -316,7 +356,8 @@ pub fn owned_unix_view(
     ensures bytes { IfOk result (λ reply.
         ⟦<UnixResponse as Emitable>⟧.bytes reply ≡ reply_bytes unix_reply (viewed view.now)) }
     ensures writable { IfOk result (λ reply.
-        ⟦<UnixResponse as Emitable>⟧.writable reply ↔ (reply_codec unix_reply).fits (viewed view.now)) }
+        ⟦<UnixResponse as Emitable>⟧.writable reply
+        ↔ (reply_codec unix_reply).fits (viewed view.now)) }
 {
     view.to_owned(alloc)
 }
@@ -329,7 +370,8 @@ pub fn owned_inet_view(
     ensures bytes { IfOk result (λ reply.
         ⟦<InetResponse as Emitable>⟧.bytes reply ≡ reply_bytes inet_reply (viewed view.now)) }
     ensures writable { IfOk result (λ reply.
-        ⟦<InetResponse as Emitable>⟧.writable reply ↔ (reply_codec inet_reply).fits (viewed view.now)) }
+        ⟦<InetResponse as Emitable>⟧.writable reply
+        ↔ (reply_codec inet_reply).fits (viewed view.now)) }
 {
     view.to_owned(alloc)
 }

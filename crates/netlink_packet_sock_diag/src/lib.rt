@@ -1,8 +1,9 @@
 //! Messages of sock_diag(7): requests, replies, and the request to close sockets.
 //!
-//! What differs from a string in idle details alone is read as the same value: undefined flag bits, pads
-//! and bytes that no reader looks at, what follows a record or a netlink message, the padding of attributes, the
-//! flag bits of known kinds, one end zero of a text, and which nonzero byte says true.
+//! What differs from a string in idle details alone is read as the same value: undefined flag bits,
+//! pads and bytes that no reader looks at, what follows a record or a netlink message, the padding
+//! of attributes, the flag bits of known kinds, one end zero of a text, and which nonzero byte says
+//! true.
 #![tactic(auto)]
 
 ghost use Rattle.std.specs.Prelude.{◌≡◌, [], ◌∷◌};
@@ -167,33 +168,60 @@ pub use sock_diag_records::constants::UNIX_DIAG_RQLEN;
 pub use sock_diag_records::constants::UNIX_DIAG_SHUTDOWN;
 pub use sock_diag_records::constants::UNIX_DIAG_VFS;
 
-/// The constants that stand at the root too are the numbers of these names. It is for proofs, and does nothing.
+/// The constants that stand at the root too are the numbers of these names. It is for proofs, and
+/// does nothing.
 pub fn root_constants_have_their_numbers()
-    ensures { (AF_ALG ∷ AF_APPLETALK ∷ AF_ASH ∷ AF_ATMPVC ∷ AF_ATMSVC ∷ AF_AX25 ∷ AF_BLUETOOTH ∷ AF_BRIDGE ∷ AF_CAIF ∷
-        AF_CAN ∷ AF_DECNET ∷ AF_ECONET ∷ AF_IEEE802154 ∷ AF_INET ∷ AF_INET6 ∷ AF_IPX ∷ AF_IRDA ∷ AF_ISDN ∷ AF_IUCV ∷
-        AF_KEY ∷ AF_LLC ∷ AF_NETBEUI ∷ AF_NETLINK ∷ AF_NETROM ∷ AF_PACKET ∷ AF_PHONET ∷ AF_PPPOX ∷ AF_RDS ∷ AF_ROSE ∷
-        AF_RXRPC ∷ AF_SECURITY ∷ AF_SNA ∷ AF_TIPC ∷ AF_UNIX ∷ AF_UNSPEC ∷ AF_WANPIPE ∷ AF_X25 ∷ INET_DIAG_BBRINFO ∷
-        INET_DIAG_CLASS_ID ∷ INET_DIAG_CONG ∷ INET_DIAG_DCTCPINFO ∷ INET_DIAG_INFO ∷ INET_DIAG_LOCALS ∷
-        INET_DIAG_MARK ∷ INET_DIAG_MD5SIG ∷ INET_DIAG_MEMINFO ∷ INET_DIAG_NONE ∷ INET_DIAG_PAD ∷ INET_DIAG_PEERS ∷
-        INET_DIAG_PROTOCOL ∷ INET_DIAG_SHUTDOWN ∷ INET_DIAG_SKMEMINFO ∷ INET_DIAG_SKV6ONLY ∷ INET_DIAG_TCLASS ∷
-        INET_DIAG_TOS ∷ INET_DIAG_VEGASINFO ∷ IPPROTO_AH ∷ IPPROTO_BEETPH ∷ IPPROTO_COMP ∷ IPPROTO_DCCP ∷
-        IPPROTO_DSTOPTS ∷ IPPROTO_EGP ∷ IPPROTO_ENCAP ∷ IPPROTO_ESP ∷ IPPROTO_FRAGMENT ∷ IPPROTO_GRE ∷
-        IPPROTO_HOPOPTS ∷ IPPROTO_ICMP ∷ IPPROTO_ICMPV6 ∷ IPPROTO_IDP ∷ IPPROTO_IGMP ∷ IPPROTO_IP ∷ IPPROTO_IPIP ∷
-        IPPROTO_IPV6 ∷ IPPROTO_MH ∷ IPPROTO_MPLS ∷ IPPROTO_MTP ∷ IPPROTO_NONE ∷ IPPROTO_PIM ∷ IPPROTO_PUP ∷
-        IPPROTO_RAW ∷ IPPROTO_ROUTING ∷ IPPROTO_RSVP ∷ IPPROTO_SCTP ∷ IPPROTO_TCP ∷ IPPROTO_TP ∷ IPPROTO_UDP ∷
-        IPPROTO_UDPLITE ∷ SHUT_RD ∷ SHUT_RDWR ∷ SHUT_WR ∷ SOCK_DESTROY ∷ SOCK_DGRAM ∷ SOCK_DIAG_BY_FAMILY ∷
-        SOCK_PACKET ∷ SOCK_RAW ∷ SOCK_RDM ∷ SOCK_SEQPACKET ∷ SOCK_STREAM ∷ TCP_CA_CWR ∷ TCP_CA_DISORDER ∷
-        TCP_CA_LOSS ∷ TCP_CA_OPEN ∷ TCP_CA_RECOVERY ∷ TCP_CLOSE ∷ TCP_CLOSE_WAIT ∷ TCP_CLOSING ∷ TCP_ESTABLISHED ∷
-        TCP_FIN_WAIT1 ∷ TCP_FIN_WAIT2 ∷ TCP_LAST_ACK ∷ TCP_LISTEN ∷ TCP_SYN_RECV ∷ TCP_SYN_SENT ∷ TCP_TIME_WAIT ∷
-        TCPF_CA_CWR ∷ TCPF_CA_DISORDER ∷ TCPF_CA_LOSS ∷ TCPF_CA_OPEN ∷ TCPF_CA_RECOVERY ∷ TCPI_OPT_ECN ∷
-        TCPI_OPT_ECN_SEEN ∷ TCPI_OPT_SACK ∷ TCPI_OPT_SYN_DATA ∷ TCPI_OPT_TIMESTAMPS ∷ TCPI_OPT_WSCALE ∷
-        UDIAG_SHOW_ICONS ∷ UDIAG_SHOW_MEMINFO ∷ UDIAG_SHOW_NAME ∷ UDIAG_SHOW_PEER ∷ UDIAG_SHOW_RQLEN ∷
-        UDIAG_SHOW_VFS ∷ UNIX_DIAG_ICONS ∷ UNIX_DIAG_MEMINFO ∷ UNIX_DIAG_NAME ∷ UNIX_DIAG_PEER ∷ UNIX_DIAG_RQLEN ∷
+    ensures { (AF_ALG ∷ AF_APPLETALK ∷ AF_ASH ∷ AF_ATMPVC ∷ AF_ATMSVC ∷ AF_AX25 ∷ AF_BLUETOOTH
+        ∷ AF_BRIDGE ∷ AF_CAIF ∷
+        AF_CAN ∷ AF_DECNET ∷ AF_ECONET ∷ AF_IEEE802154 ∷ AF_INET ∷ AF_INET6 ∷ AF_IPX ∷ AF_IRDA
+        ∷ AF_ISDN ∷ AF_IUCV ∷
+        AF_KEY ∷ AF_LLC ∷ AF_NETBEUI ∷ AF_NETLINK ∷ AF_NETROM ∷ AF_PACKET ∷ AF_PHONET ∷ AF_PPPOX
+        ∷ AF_RDS ∷ AF_ROSE ∷
+        AF_RXRPC ∷ AF_SECURITY ∷ AF_SNA ∷ AF_TIPC ∷ AF_UNIX ∷ AF_UNSPEC ∷ AF_WANPIPE ∷ AF_X25
+        ∷ INET_DIAG_BBRINFO ∷
+        INET_DIAG_CLASS_ID ∷ INET_DIAG_CONG ∷ INET_DIAG_DCTCPINFO ∷ INET_DIAG_INFO
+        ∷ INET_DIAG_LOCALS ∷
+        INET_DIAG_MARK ∷ INET_DIAG_MD5SIG ∷ INET_DIAG_MEMINFO ∷ INET_DIAG_NONE ∷ INET_DIAG_PAD
+        ∷ INET_DIAG_PEERS ∷
+        INET_DIAG_PROTOCOL ∷ INET_DIAG_SHUTDOWN ∷ INET_DIAG_SKMEMINFO ∷ INET_DIAG_SKV6ONLY
+        ∷ INET_DIAG_TCLASS ∷
+        INET_DIAG_TOS ∷ INET_DIAG_VEGASINFO ∷ IPPROTO_AH ∷ IPPROTO_BEETPH ∷ IPPROTO_COMP
+        ∷ IPPROTO_DCCP ∷
+        IPPROTO_DSTOPTS ∷ IPPROTO_EGP ∷ IPPROTO_ENCAP ∷ IPPROTO_ESP ∷ IPPROTO_FRAGMENT ∷ IPPROTO_GRE
+        ∷
+        IPPROTO_HOPOPTS ∷ IPPROTO_ICMP ∷ IPPROTO_ICMPV6 ∷ IPPROTO_IDP ∷ IPPROTO_IGMP ∷ IPPROTO_IP
+        ∷ IPPROTO_IPIP ∷
+        IPPROTO_IPV6 ∷ IPPROTO_MH ∷ IPPROTO_MPLS ∷ IPPROTO_MTP ∷ IPPROTO_NONE ∷ IPPROTO_PIM
+        ∷ IPPROTO_PUP ∷
+        IPPROTO_RAW ∷ IPPROTO_ROUTING ∷ IPPROTO_RSVP ∷ IPPROTO_SCTP ∷ IPPROTO_TCP ∷ IPPROTO_TP
+        ∷ IPPROTO_UDP ∷
+        IPPROTO_UDPLITE ∷ SHUT_RD ∷ SHUT_RDWR ∷ SHUT_WR ∷ SOCK_DESTROY ∷ SOCK_DGRAM
+        ∷ SOCK_DIAG_BY_FAMILY ∷
+        SOCK_PACKET ∷ SOCK_RAW ∷ SOCK_RDM ∷ SOCK_SEQPACKET ∷ SOCK_STREAM ∷ TCP_CA_CWR
+        ∷ TCP_CA_DISORDER ∷
+        TCP_CA_LOSS ∷ TCP_CA_OPEN ∷ TCP_CA_RECOVERY ∷ TCP_CLOSE ∷ TCP_CLOSE_WAIT ∷ TCP_CLOSING
+        ∷ TCP_ESTABLISHED ∷
+        TCP_FIN_WAIT1 ∷ TCP_FIN_WAIT2 ∷ TCP_LAST_ACK ∷ TCP_LISTEN ∷ TCP_SYN_RECV ∷ TCP_SYN_SENT
+        ∷ TCP_TIME_WAIT ∷
+        TCPF_CA_CWR ∷ TCPF_CA_DISORDER ∷ TCPF_CA_LOSS ∷ TCPF_CA_OPEN ∷ TCPF_CA_RECOVERY
+        ∷ TCPI_OPT_ECN ∷
+        TCPI_OPT_ECN_SEEN ∷ TCPI_OPT_SACK ∷ TCPI_OPT_SYN_DATA ∷ TCPI_OPT_TIMESTAMPS
+        ∷ TCPI_OPT_WSCALE ∷
+        UDIAG_SHOW_ICONS ∷ UDIAG_SHOW_MEMINFO ∷ UDIAG_SHOW_NAME ∷ UDIAG_SHOW_PEER ∷ UDIAG_SHOW_RQLEN
+        ∷
+        UDIAG_SHOW_VFS ∷ UNIX_DIAG_ICONS ∷ UNIX_DIAG_MEMINFO ∷ UNIX_DIAG_NAME ∷ UNIX_DIAG_PEER
+        ∷ UNIX_DIAG_RQLEN ∷
         UNIX_DIAG_SHUTDOWN ∷ UNIX_DIAG_VFS ∷ [])
-        ≡ (38 ∷ 5 ∷ 18 ∷ 8 ∷ 20 ∷ 3 ∷ 31 ∷ 7 ∷ 37 ∷ 29 ∷ 12 ∷ 19 ∷ 36 ∷ 2 ∷ 10 ∷ 4 ∷ 23 ∷ 34 ∷ 32 ∷ 15 ∷ 26 ∷ 13 ∷ 16 ∷
-        6 ∷ 17 ∷ 35 ∷ 24 ∷ 21 ∷ 11 ∷ 33 ∷ 14 ∷ 22 ∷ 30 ∷ 1 ∷ 0 ∷ 25 ∷ 9 ∷ 16 ∷ 17 ∷ 4 ∷ 9 ∷ 2 ∷ 12 ∷ 15 ∷ 18 ∷ 1 ∷
-        0 ∷ 14 ∷ 13 ∷ 10 ∷ 8 ∷ 7 ∷ 11 ∷ 6 ∷ 5 ∷ 3 ∷ 51 ∷ 94 ∷ 108 ∷ 33 ∷ 60 ∷ 8 ∷ 98 ∷ 50 ∷ 44 ∷ 47 ∷ 0 ∷ 1 ∷ 58 ∷
-        22 ∷ 2 ∷ 0 ∷ 4 ∷ 41 ∷ 135 ∷ 137 ∷ 92 ∷ 59 ∷ 103 ∷ 12 ∷ 255 ∷ 43 ∷ 46 ∷ 132 ∷ 6 ∷ 29 ∷ 17 ∷ 136 ∷ 0 ∷ 2 ∷ 1 ∷
-        21 ∷ 2 ∷ 20 ∷ 10 ∷ 3 ∷ 4 ∷ 5 ∷ 1 ∷ 2 ∷ 1 ∷ 4 ∷ 0 ∷ 3 ∷ 7 ∷ 8 ∷ 11 ∷ 1 ∷ 4 ∷ 5 ∷ 9 ∷ 10 ∷ 3 ∷ 2 ∷ 6 ∷ 4 ∷ 2 ∷
-        16 ∷ 1 ∷ 8 ∷ 8 ∷ 16 ∷ 2 ∷ 32 ∷ 1 ∷ 4 ∷ 8 ∷ 32 ∷ 1 ∷ 4 ∷ 16 ∷ 2 ∷ 3 ∷ 5 ∷ 0 ∷ 2 ∷ 4 ∷ 6 ∷ 1 ∷ []) }
+        ≡ (38 ∷ 5 ∷ 18 ∷ 8 ∷ 20 ∷ 3 ∷ 31 ∷ 7 ∷ 37 ∷ 29 ∷ 12 ∷ 19 ∷ 36 ∷ 2 ∷ 10 ∷ 4 ∷ 23 ∷ 34 ∷ 32
+        ∷ 15 ∷ 26 ∷ 13 ∷ 16 ∷
+        6 ∷ 17 ∷ 35 ∷ 24 ∷ 21 ∷ 11 ∷ 33 ∷ 14 ∷ 22 ∷ 30 ∷ 1 ∷ 0 ∷ 25 ∷ 9 ∷ 16 ∷ 17 ∷ 4 ∷ 9 ∷ 2 ∷ 12
+        ∷ 15 ∷ 18 ∷ 1 ∷
+        0 ∷ 14 ∷ 13 ∷ 10 ∷ 8 ∷ 7 ∷ 11 ∷ 6 ∷ 5 ∷ 3 ∷ 51 ∷ 94 ∷ 108 ∷ 33 ∷ 60 ∷ 8 ∷ 98 ∷ 50 ∷ 44 ∷ 47
+        ∷ 0 ∷ 1 ∷ 58 ∷
+        22 ∷ 2 ∷ 0 ∷ 4 ∷ 41 ∷ 135 ∷ 137 ∷ 92 ∷ 59 ∷ 103 ∷ 12 ∷ 255 ∷ 43 ∷ 46 ∷ 132 ∷ 6 ∷ 29 ∷ 17
+        ∷ 136 ∷ 0 ∷ 2 ∷ 1 ∷
+        21 ∷ 2 ∷ 20 ∷ 10 ∷ 3 ∷ 4 ∷ 5 ∷ 1 ∷ 2 ∷ 1 ∷ 4 ∷ 0 ∷ 3 ∷ 7 ∷ 8 ∷ 11 ∷ 1 ∷ 4 ∷ 5 ∷ 9 ∷ 10 ∷ 3
+        ∷ 2 ∷ 6 ∷ 4 ∷ 2 ∷
+        16 ∷ 1 ∷ 8 ∷ 8 ∷ 16 ∷ 2 ∷ 32 ∷ 1 ∷ 4 ∷ 8 ∷ 32 ∷ 1 ∷ 4 ∷ 16 ∷ 2 ∷ 3 ∷ 5 ∷ 0 ∷ 2 ∷ 4 ∷ 6 ∷ 1
+        ∷ []) }
 {}

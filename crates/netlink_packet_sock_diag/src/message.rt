@@ -5,7 +5,9 @@ ghost use Rattle.netlink_core.specs.Canonical.{GivesUp};
 ghost use Rattle.netlink_core.specs.declared.fault.DecodeError.TheVariants.{Memory};
 ghost use Rattle.netlink_core.specs.Spare.{WantsMemory};
 ghost use Rattle.netlink_core.specs.declared.message.NetlinkPayload.TheVariants.{InnerMessage};
-ghost use Rattle.netlink_packet_sock_diag.specs.Message.{message_kind, inet_request, inet_response, unix_request, unix_response, message_codec};
+ghost use Rattle.netlink_packet_sock_diag.specs.Message.{message_kind, inet_request, inet_response};
+ghost use Rattle.netlink_packet_sock_diag.specs.Message.{unix_request, unix_response};
+ghost use Rattle.netlink_packet_sock_diag.specs.Message.{message_codec};
 
 use crate::constants::{AF_INET, AF_INET6, AF_UNIX, SOCK_DESTROY, SOCK_DIAG_BY_FAMILY};
 use crate::inet::{InetRequest, InetResponse, InetResponseView};
@@ -95,16 +97,20 @@ impl SockDiagMessage {
         payload: &[u8],
         message_type: u16,
     ) -> Result<SockDiagMessage, DecodeError>
-        ensures value { IfOk result (λ m. message_codec.reads payload.now message_type (seen_message m)) }
-        ensures fault { IfErr result (λ e. e ≢ Memory → message_codec.refuses payload.now message_type e) }
+        ensures value { IfOk result
+            (λ m. message_codec.reads payload.now message_type (seen_message m)) }
+        ensures fault { IfErr result (λ e. e ≢ Memory
+            → message_codec.refuses payload.now message_type e) }
         // Memory is wanted only for bytes that have a message.
-        ensures wanted { IfErr result (λ e. e ≡ Memory → WantsMemory (message_codec.reads payload.now message_type) (λ m. ⊥)) }
+        ensures wanted { IfErr result (λ e. e ≡ Memory
+            → WantsMemory (message_codec.reads payload.now message_type) (λ m. ⊥)) }
     {
         Ok(SockDiagView::parse(payload, message_type)?.to_owned(alloc)?)
     }
 }
 
-/// A message of sock_diag(7), read in place: a [`SockDiagMessage`] whose bytes are borrowed. Replies alone are read.
+/// A message of sock_diag(7), read in place: a [`SockDiagMessage`] whose bytes are borrowed.
+/// Replies alone are read.
 #[derive(Clone, Copy, Debug, PartialEq, Eq)]
 pub enum SockDiagView<'a> {
     /// Tells one IPv4 or IPv6 socket.
@@ -117,11 +123,13 @@ impl<'a> SockDiagView<'a> {
     ghost use Rattle.netlink_packet_sock_diag.specs.SeenMessage.{seen_message};
     ghost use Rattle.netlink_packet_sock_diag.specs.ViewedMessage.{viewed_message};
 
-    /// Checks the whole of the bytes under a message type, and takes no memory. Fewer than 2 bytes are
-    /// `MessageTooShort`; then a type but `SOCK_DIAG_BY_FAMILY` is `UnknownMessageType`; then a first byte but
-    /// `AF_UNIX`, `AF_INET` and `AF_INET6` is `UnknownFamily`; then the view of that family's replies decides.
+    /// Checks the whole of the bytes under a message type, and takes no memory. Fewer than 2 bytes
+    /// are `MessageTooShort`; then a type but `SOCK_DIAG_BY_FAMILY` is `UnknownMessageType`; then a
+    /// first byte but `AF_UNIX`, `AF_INET` and `AF_INET6` is `UnknownFamily`; then the view of that
+    /// family's replies decides.
     pub fn parse(payload: &'a [u8], message_type: u16) -> Result<SockDiagView<'a>, DecodeError>
-        ensures value { IfOk result (λ view. message_codec.reads payload.entry.now message_type (viewed_message view)) }
+        ensures value { IfOk result
+            (λ view. message_codec.reads payload.entry.now message_type (viewed_message view)) }
         ensures fault { IfErr result (message_codec.refuses payload.entry.now message_type) }
     {
         if payload.len() < 2 {
@@ -196,9 +204,10 @@ impl Readable for SockDiagMessage {
 }
 
 impl<'a> ParseableParametrized<&'a [u8], u16> for SockDiagMessage {
-    /// Reads a reply under a message type. Fewer than 2 bytes are `MessageTooShort`; then a type but
-    /// `SOCK_DIAG_BY_FAMILY` is `UnknownMessageType`; then a first byte but `AF_UNIX`, `AF_INET` and `AF_INET6` is
-    /// `UnknownFamily`; then the reader of that family's replies decides.
+    /// Reads a reply under a message type. Fewer than 2 bytes are `MessageTooShort`; then a type
+    /// but `SOCK_DIAG_BY_FAMILY` is `UnknownMessageType`; then a first byte but `AF_UNIX`,
+    /// `AF_INET` and `AF_INET6` is `UnknownFamily`; then the reader of that family's replies
+    /// decides.
     fn parse_with_param(
         alloc: Global,
         payload: &'a [u8],
@@ -296,10 +305,11 @@ impl From<SockDiagMessage> for NetlinkPayload<SockDiagMessage> {
     }
 }
 
-/// The request to close the sockets that a message tells: the message's bytes under the type `SOCK_DESTROY`, 21.
+/// The request to close the sockets that a message tells: the message's bytes under the type
+/// `SOCK_DESTROY`, 21.
 ///
-/// It is read as a message is, so under `SOCK_DIAG_BY_FAMILY` alone, and what was written under its own type is
-/// refused.
+/// It is read as a message is, so under `SOCK_DIAG_BY_FAMILY` alone, and what was written under its
+/// own type is refused.
 #[derive(Debug, Drop, PartialEq, Eq)]
 pub struct SockDiagDestroy(pub(crate) SockDiagMessage);
 

@@ -1,10 +1,12 @@
 //! How replies of every family are read and written: a header, and then attributes.
 
-ghost use Rattle.std.specs.Prelude.{◌≡◌, ◌≤◌, ◌↔◌, ◌++◌, [], length, drop, map, Ok, IfOk, IsOk, OnOk, IsTrue, SomeIff};
+ghost use Rattle.std.specs.Prelude.{◌≡◌, ◌≤◌, ◌↔◌, ◌++◌, [], length, drop, map, Ok, IfOk, IsOk};
+ghost use Rattle.std.specs.Prelude.{OnOk, IsTrue, SomeIff};
 ghost use Rattle.std.specs.List.{AllByRecursion, flat_map};
 ghost use Rattle.netlink_core.specs.Attribute.{AreWritable, written};
 ghost use Rattle.netlink_core.specs.declared.fault.DecodeError.TheVariants.{Memory};
-ghost use Rattle.netlink_core.specs.Family.{Family, Said, says, attribute_said, IsSpareSaid, IsTypedSaid};
+ghost use Rattle.netlink_core.specs.Family.{Family, Said, says, attribute_said, IsSpareSaid};
+ghost use Rattle.netlink_core.specs.Family.{IsTypedSaid};
 ghost use Rattle.netlink_core.specs.ReplySteps.{framed, FramedFits};
 ghost use Rattle.netlink_core.specs.Walk.{attribute_of};
 ghost use Rattle.netlink_packet_sock_diag.specs.AttributesIn.{HasNoFault, values_in};
@@ -62,9 +64,10 @@ pub(crate) fn copy_nlas<T: FamilyNla>(
     Ok(copy)
 }
 
-/// Puts the attributes, with memory of their own and in the same order, into the empty list. At most one request for
-/// memory is made for the list, and none where there is room for so many. It is never inlined: a list that lends itself
-/// to a call costs its owner less than one that is filled on the spot.
+/// Puts the attributes, with memory of their own and in the same order, into the empty list. At
+/// most one request for memory is made for the list, and none where there is room for so many. It
+/// is never inlined: a list that lends itself to a call costs its owner less than one that is
+/// filled on the spot.
 #[tactic(auto, using(crate::proofs::Owning::owning))]
 #[inline(never)]
 pub(crate) fn own_nlas<T: FamilyNla>(
@@ -93,7 +96,8 @@ pub(crate) fn own_nlas<T: FamilyNla>(
     Ok(())
 }
 
-// Makes room in an empty list. It stands apart, so that what moves a list takes no time where there is room.
+// Makes room in an empty list. It stands apart, so that what moves a list takes no time where there
+// is room.
 #[cold]
 #[inline(never)]
 fn make_room<T: MadeWith<Global> + Drop>(
@@ -107,8 +111,8 @@ fn make_room<T: MadeWith<Global> + Drop>(
     nlas.reserve_exact(count)
 }
 
-/// Want of memory, in the place of what was begun. It stands apart, so that what drops a list takes no time where there
-/// is memory.
+/// Want of memory, in the place of what was begun. It stands apart, so that what drops a list takes
+/// no time where there is memory.
 #[cold]
 #[inline(never)]
 pub(crate) fn without_memory<T: Drop>(_begun: T) -> DecodeError
@@ -126,11 +130,13 @@ pub(crate) fn nlas_typed<T: FamilyNla>(nlas: &[T])
     }
 }
 
-/// How many bytes header and attributes have, where each value fits and all of it has at most 4,294,967,295 bytes.
+/// How many bytes header and attributes have, where each value fits and all of it has at most
+/// 4,294,967,295 bytes.
 pub(crate) fn reply_len<H: Emitable, T: FamilyNla>(header: &H, nlas: &[T]) -> Option<usize>
     requires { H.writable header.now }
     ensures { let attributes = map (attribute_said T.family) (map T.seen nlas.now) in
-        SomeIff result (FramedFits (H.bytes header.now) attributes) (length (framed (H.bytes header.now) attributes)) }
+        SomeIff result (FramedFits (H.bytes header.now) attributes)
+        (length (framed (H.bytes header.now) attributes)) }
 {
     let len = header.buffer_len();
     let room = (u32::MAX as usize).checked_sub(len)?;
@@ -140,8 +146,10 @@ pub(crate) fn reply_len<H: Emitable, T: FamilyNla>(header: &H, nlas: &[T]) -> Op
 /// How many bytes header and attributes have.
 pub(crate) fn fitting_reply_len<H: Emitable, T: FamilyNla>(header: &H, nlas: &[T]) -> usize
     requires header { H.writable header.now }
-    requires fits { FramedFits (H.bytes header.now) (map (attribute_said T.family) (map T.seen nlas.now)) }
-    ensures { result ≡ length (framed (H.bytes header.now) (map (attribute_said T.family) (map T.seen nlas.now))) }
+    requires fits { FramedFits (H.bytes header.now)
+        (map (attribute_said T.family) (map T.seen nlas.now)) }
+    ensures { result ≡ length
+        (framed (H.bytes header.now) (map (attribute_said T.family) (map T.seen nlas.now))) }
 {
     header.buffer_len() + said_len(nlas)
 }
@@ -149,9 +157,12 @@ pub(crate) fn fitting_reply_len<H: Emitable, T: FamilyNla>(header: &H, nlas: &[T
 /// Writes header and attributes at the front of the buffer, and leaves the rest.
 pub(crate) fn emit_reply<H: Emitable, T: FamilyNla>(header: &H, nlas: &[T], buffer: &mut [u8])
     requires header { H.writable header.now }
-    requires fits { FramedFits (H.bytes header.now) (map (attribute_said T.family) (map T.seen nlas.now)) }
-    requires room { length (framed (H.bytes header.now) (map (attribute_said T.family) (map T.seen nlas.now))) ≤ length buffer.old }
-    ensures { let all = framed (H.bytes header.now) (map (attribute_said T.family) (map T.seen nlas.now)) in
+    requires fits { FramedFits (H.bytes header.now)
+        (map (attribute_said T.family) (map T.seen nlas.now)) }
+    requires room { length (framed (H.bytes header.now)
+        (map (attribute_said T.family) (map T.seen nlas.now))) ≤ length buffer.old }
+    ensures { let all = framed (H.bytes header.now)
+        (map (attribute_said T.family) (map T.seen nlas.now)) in
         buffer.new ≡ all ++ drop (length all) buffer.old }
 {
     let (front, rest) = buffer.split_at_mut(header.buffer_len());
@@ -170,14 +181,16 @@ fn said_len_within<T: FamilyNla>(nlas: &[T], limit: usize) -> Option<usize>
 
 fn said_len<T: FamilyNla>(nlas: &[T]) -> usize
     requires { AreWritable (map (attribute_said T.family) (map T.seen nlas.now)) 4294967295 }
-    ensures { result ≡ length (flat_map written (map (attribute_said T.family) (map T.seen nlas.now))) }
+    ensures { result ≡ length
+        (flat_map written (map (attribute_said T.family) (map T.seen nlas.now))) }
 {
     nlas_len(nlas)
 }
 
 fn emit_said<T: FamilyNla>(nlas: &[T], buffer: &mut [u8])
     requires fits { AreWritable (map (attribute_said T.family) (map T.seen nlas.now)) 4294967295 }
-    requires room { length (flat_map written (map (attribute_said T.family) (map T.seen nlas.now))) ≤ length buffer.old }
+    requires room { length (flat_map written (map (attribute_said T.family) (map T.seen nlas.now)))
+        ≤ length buffer.old }
     ensures { let all = flat_map written (map (attribute_said T.family) (map T.seen nlas.now)) in
         buffer.new ≡ all ++ drop (length all) buffer.old }
 {

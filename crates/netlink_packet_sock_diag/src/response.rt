@@ -1,6 +1,7 @@
 //! A reply of any family, with memory of its own.
 
-ghost use Rattle.std.specs.Prelude.{◌≡◌, ◌≤◌, ◌↔◌, ℕ, List, [], length, drop, map, IfOk, IsOk, OnOk, IsTrue, true, refl};
+ghost use Rattle.std.specs.Prelude.{◌≡◌, ◌≤◌, ◌↔◌, ℕ, List, [], length, drop, map, IfOk, IsOk};
+ghost use Rattle.std.specs.Prelude.{OnOk, IsTrue, true, refl};
 ghost use Rattle.std.specs.List.{AllByRecursion};
 ghost use Rattle.netlink_core.specs.Attribute.{AttributeFault};
 ghost use Rattle.netlink_core.specs.Canonical.{GivesUp};
@@ -8,7 +9,8 @@ ghost use Rattle.netlink_core.specs.Codec.{KeepsLaws};
 ghost use Rattle.netlink_core.specs.declared.fault.DecodeError.{DecodeError};
 ghost use Rattle.netlink_core.specs.Family.{says, attribute_said, IsSpareSaid};
 ghost use Rattle.netlink_core.specs.Reply.{reply_bytes, reply_codec};
-ghost use Rattle.netlink_packet_sock_diag.specs.AttributesIn.{HasNoFault, reply_behind, reply_with, values_in};
+ghost use Rattle.netlink_packet_sock_diag.specs.AttributesIn.{HasNoFault, reply_behind, reply_with};
+ghost use Rattle.netlink_packet_sock_diag.specs.AttributesIn.{values_in};
 ghost use Rattle.netlink_packet_sock_diag.specs.EqualReplyLaws.{replies_equal};
 
 use crate::reply::{
@@ -83,8 +85,10 @@ impl<H: ReplyOwned> Reply<H, H::Nla> {
     /// none do not want.
     pub fn clone(&self, alloc: Global) -> Result<Self, AllocError>
         ensures equal { IfOk result (λ copy.
-            seen_reply H.told H.Nla.FamilyNla.seen copy ≡ seen_reply H.told H.Nla.FamilyNla.seen self.now) }
-        ensures spare { (reply_codec (reply_with H.reply H.Nla.FamilyNla.family)).is_spare (seen_reply H.told H.Nla.FamilyNla.seen self.now)
+            seen_reply H.told H.Nla.FamilyNla.seen copy ≡ seen_reply H.told H.Nla.FamilyNla.seen
+            self.now) }
+        ensures spare { (reply_codec (reply_with H.reply H.Nla.FamilyNla.family)).is_spare
+            (seen_reply H.told H.Nla.FamilyNla.seen self.now)
             → IsOk result }
     {
         let nlas = copy_nlas(alloc, self.nlas.as_slice())?;
@@ -173,9 +177,11 @@ impl<H: ReplyOwned> ReplyView<'_, H> {
 impl<H: ReplyOwned> Emitable for Reply<H, H::Nla> {
     ghost use Rattle.netlink_packet_sock_diag.specs.SeenReply.{seen_reply};
 
-    ghost bytes = { λ v. reply_bytes (reply_with H.reply H.Nla.FamilyNla.family) (seen_reply H.told H.Nla.FamilyNla.seen v) };
+    ghost bytes = { λ v. reply_bytes (reply_with H.reply H.Nla.FamilyNla.family)
+        (seen_reply H.told H.Nla.FamilyNla.seen v) };
 
-    ghost writable = { λ v. (reply_codec (reply_with H.reply H.Nla.FamilyNla.family)).fits (seen_reply H.told H.Nla.FamilyNla.seen v) };
+    ghost writable = { λ v. (reply_codec (reply_with H.reply H.Nla.FamilyNla.family)).fits
+        (seen_reply H.told H.Nla.FamilyNla.seen v) };
 
     fn is_writable(&self) -> bool {
         self.writable_len().is_some()
@@ -210,14 +216,16 @@ impl<H: ReplyOwned> Coded for Reply<H, H::Nla> {
         nlas_typed(self.nlas.as_slice());
     }
 
-    ghost eq_is_seen = { λ v w. replies_equal _ _ H.told H.Nla.FamilyNla.seen H.ReplyOwned.eq_is_seen
+    ghost eq_is_seen = { λ v w. replies_equal _ _ H.told H.Nla.FamilyNla.seen
+        H.ReplyOwned.eq_is_seen
         H.Nla.FamilyNla.eq_is_seen v.header w.header v.nlas.items w.nlas.items };
 
     ghost laws = { H.ReplyOwned.keeps };
 }
 
 impl<H: ReplyOwned> Wire for Reply<H, H::Nla> {
-    // The same as `parse`, which is inlined where it is called: a reply that is passed on takes a move of 2,000 bytes.
+    // The same as `parse`, which is inlined where it is called: a reply that is passed on takes a
+    // move of 2,000 bytes.
     fn read(alloc: Global, bytes: &[u8], _param: ()) -> Result<Self, DecodeError> {
         let view = ReplyView::<H>::parse(bytes)?;
         let mut nlas = SmallVec::new(alloc);

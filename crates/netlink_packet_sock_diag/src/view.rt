@@ -1,6 +1,7 @@
 //! A reply of any family, read in place.
 
-ghost use Rattle.std.specs.Prelude.{◌≡◌, ◌≢◌, ◌≤◌, ◌↔◌, ◌++◌, ⊤, ℕ, List, Bool, length, drop, Ok, Err, OnOk, IfOk, IfErr, IsOk, IsTrue, Some, IfSome, SomeIff};
+ghost use Rattle.std.specs.Prelude.{◌≡◌, ◌≢◌, ◌≤◌, ◌↔◌, ◌++◌, ⊤, ℕ, List, Bool, length, drop, Ok};
+ghost use Rattle.std.specs.Prelude.{Err, OnOk, IfOk, IfErr, IsOk, IsTrue, Some, IfSome, SomeIff};
 ghost use Rattle.std.specs.Cmp.{partial_equiv_from_equiv};
 ghost use Rattle.std.specs.Iterator.{UpTo, YieldsFirstBy, item_count};
 ghost use Rattle.std.specs.Iterator.SizeHint.{IsWithinCount};
@@ -11,7 +12,8 @@ ghost use Rattle.netlink_core.specs.Family.{says};
 ghost use Rattle.netlink_core.specs.Reply.{Reply, ValueOf, reply_bytes, reply_codec};
 ghost use Rattle.netlink_core.specs.Walk.{bytes_left};
 ghost use Rattle.netlink_core.proofs.Equality.{equivalence};
-ghost use Rattle.netlink_packet_sock_diag.specs.AttributesIn.{HasNoFault, IsAccepted, reply_behind, values_in};
+ghost use Rattle.netlink_packet_sock_diag.specs.AttributesIn.{HasNoFault, IsAccepted, reply_behind};
+ghost use Rattle.netlink_packet_sock_diag.specs.AttributesIn.{values_in};
 
 use crate::views::{FamilyView, next_view};
 use netlink_core::{DecodeError, Emitable, NlasIterator};
@@ -90,7 +92,8 @@ pub trait ReplyViews<'a>: ReplyHeader {
     ghost same: { let viewed = Self.View.FamilyView.family in
         let family = Self.ReplyHeader.reply.family in
         ((b : List ℕ) → HasNoFault (says viewed) b ↔ HasNoFault (says family) b)
-        × ((b : List ℕ) → length (values_in (says viewed) b) ≡ length (values_in (says family) b)) };
+        × ((b : List ℕ) → length (values_in (says viewed) b)
+        ≡ length (values_in (says family) b)) };
 }
 
 /// A reply, read in place: its bytes, of which all were checked.

@@ -1,10 +1,12 @@
 //! How replies of every family are read in place.
 
-ghost use Rattle.std.specs.Prelude.{◌≡◌, ◌≤◌, ◌↔◌, ◌+◌, ◌++◌, length, drop, map, Ok, Err, OnOk, IfOk, IfErr, IsOk, IsSome, IfSome};
+ghost use Rattle.std.specs.Prelude.{◌≡◌, ◌≤◌, ◌↔◌, ◌+◌, ◌++◌, length, drop, map, Ok, Err, OnOk};
+ghost use Rattle.std.specs.Prelude.{IfOk, IfErr, IsOk, IsSome, IfSome};
 ghost use Rattle.std.specs.List.{AllByRecursion, flat_map};
 ghost use lib.Pointwise.{pointwise};
 ghost use Rattle.std.specs.Iterator.{YieldsFirstBy};
-ghost use Rattle.netlink_core.specs.Attribute.{AreWritable, AttributeFault, HasFittingValue, written};
+ghost use Rattle.netlink_core.specs.Attribute.{AreWritable, AttributeFault, HasFittingValue};
+ghost use Rattle.netlink_core.specs.Attribute.{written};
 ghost use Rattle.netlink_core.specs.Family.{Family, Said, says, attribute_said};
 ghost use Rattle.netlink_core.proofs.SaidTests.{Tests, said_test};
 ghost use Rattle.netlink_core.specs.ReplySteps.{FramedFits, framed};
@@ -25,7 +27,8 @@ pub(crate) trait FamilyView<'a>: Nla + PartialEq + Sized {
 
     /// Reads one attribute.
     fn read_view(nla: &NlaBuffer<'a>) -> Result<Self, DecodeError>
-        ensures value { IfOk result (λ view. says family (attribute_of nla.now) ≡ Ok (viewed view)) }
+        ensures value { IfOk result (λ view. says family (attribute_of nla.now)
+            ≡ Ok (viewed view)) }
         ensures fault { IfErr result (λ e. says family (attribute_of nla.now) ≡ Err e) };
 
     /// Reads one attribute that is accepted.
@@ -34,9 +37,11 @@ pub(crate) trait FamilyView<'a>: Nla + PartialEq + Sized {
         ensures { says family (attribute_of nla.now) ≡ Ok (viewed result) };
 
     // An attribute is written as what it says, and `==` compares that.
-    ghost written_as: { (view : Self) → Self.Nla.attribute view ≡ attribute_said family (viewed view) };
+    ghost written_as: { (view : Self) → Self.Nla.attribute view ≡ attribute_said family
+        (viewed view) };
 
-    ghost compared: { (v w : Self) → Self.PartialEq.eq v w ≡ said_test family tests (viewed v) (viewed w) };
+    ghost compared: { (v w : Self) → Self.PartialEq.eq v w ≡ said_test family tests (viewed v)
+        (viewed w) };
 }
 
 /// Reads each attribute and counts them, or tells the first fault. It takes no memory.
@@ -45,7 +50,8 @@ pub(crate) fn check_nlas<'a, V: FamilyView<'a> + Drop>(
     bytes: &'a [u8],
 ) -> Result<usize, DecodeError>
     ensures clean { OnOk result (HasNoFault (says V.family) bytes.entry.now) }
-    ensures count { IfOk result (λ count. count ≡ length (values_in (says V.family) bytes.entry.now)) }
+    ensures count { IfOk result
+        (λ count. count ≡ length (values_in (says V.family) bytes.entry.now)) }
     ensures fault { IfErr result (AttributeFault (says V.family) bytes.entry.now) }
 {
     let mut count = 0;
@@ -61,7 +67,8 @@ pub(crate) fn check_nlas<'a, V: FamilyView<'a> + Drop>(
 #[inline(always)]
 pub(crate) fn next_view<'a, V: FamilyView<'a>>(walk: &mut NlasIterator<'a>) -> Option<V>
     requires { HasNoFault (says V.family) (bytes_left walk.old) }
-    ensures next { YieldsFirstBy V.viewed (λ s. values_in (says V.family) (bytes_left s)) walk.old result walk.new }
+    ensures next { YieldsFirstBy V.viewed (λ s. values_in (says V.family) (bytes_left s)) walk.old
+        result walk.new }
     ensures rest { HasNoFault (says V.family) (bytes_left walk.new) }
 {
     match walk.next() {
@@ -89,17 +96,20 @@ pub(crate) fn same_views<'a, V: FamilyView<'a> + Drop>(left: &'a [u8], right: &'
     next_view::<V>(&mut others).is_none()
 }
 
-/// How many bytes a header of so many and the attributes behind it are written as, where each value fits and all of
-/// it has at most 4,294,967,295 bytes.
+/// How many bytes a header of so many and the attributes behind it are written as, where each value
+/// fits and all of it has at most 4,294,967,295 bytes.
 pub(crate) fn views_len<'a, V: FamilyView<'a> + Drop>(
     header: usize,
     bytes: &'a [u8],
 ) -> Option<usize>
     requires clean { HasNoFault (says V.family) bytes.now }
     requires small { header ≤ 4294967295 }
-    ensures fits { let attributes = map (attribute_said V.family) (values_in (says V.family) bytes.entry.now) in
-        IsSome result ↔ (AllByRecursion HasFittingValue attributes × (header + length (flat_map written attributes) ≤ 4294967295)) }
-    ensures len { let attributes = map (attribute_said V.family) (values_in (says V.family) bytes.entry.now) in
+    ensures fits { let attributes = map (attribute_said V.family)
+        (values_in (says V.family) bytes.entry.now) in
+        IsSome result ↔ (AllByRecursion HasFittingValue attributes
+        × (header + length (flat_map written attributes) ≤ 4294967295)) }
+    ensures len { let attributes = map (attribute_said V.family)
+        (values_in (says V.family) bytes.entry.now) in
         IfSome result (λ len. len ≡ header + length (flat_map written attributes)) }
 {
     let mut len = header;
@@ -119,10 +129,15 @@ pub(crate) fn views_len<'a, V: FamilyView<'a> + Drop>(
 /// Writes the attributes one after the other at the front of the buffer, and leaves the rest.
 pub(crate) fn emit_views<'a, V: FamilyView<'a> + Drop>(bytes: &'a [u8], buffer: &mut [u8])
     requires clean { HasNoFault (says V.family) bytes.now }
-    requires fits { AreWritable (map (attribute_said V.family) (values_in (says V.family) bytes.now)) 4294967295 }
-    requires room { length (flat_map written (map (attribute_said V.family) (values_in (says V.family) bytes.now))) ≤ length buffer.old }
-    ensures { buffer.new ≡ flat_map written (map (attribute_said V.family) (values_in (says V.family) bytes.entry.now))
-        ++ drop (length (flat_map written (map (attribute_said V.family) (values_in (says V.family) bytes.entry.now)))) buffer.old }
+    requires fits { AreWritable
+        (map (attribute_said V.family) (values_in (says V.family) bytes.now)) 4294967295 }
+    requires room { length (flat_map written
+        (map (attribute_said V.family) (values_in (says V.family) bytes.now))) ≤ length buffer.old }
+    ensures { buffer.new ≡ flat_map written
+        (map (attribute_said V.family) (values_in (says V.family) bytes.entry.now))
+        ++ drop (length (flat_map written
+        (map (attribute_said V.family) (values_in (says V.family) bytes.entry.now))))
+        buffer.old }
 {
     let mut at = 0;
     let mut walk = NlasIterator::new(bytes);
@@ -133,17 +148,20 @@ pub(crate) fn emit_views<'a, V: FamilyView<'a> + Drop>(bytes: &'a [u8], buffer: 
     }
 }
 
-/// How many bytes the header and the attributes behind it are written as, where each value fits and all of it has at
-/// most 4,294,967,295.
+/// How many bytes the header and the attributes behind it are written as, where each value fits and
+/// all of it has at most 4,294,967,295.
 pub(crate) fn viewed_reply_len<'a, H: Emitable, V: FamilyView<'a> + Drop>(
     header: &H,
     bytes: &'a [u8],
 ) -> Option<usize>
     requires header { H.writable header.now }
     requires clean { HasNoFault (says V.family) bytes.now }
-    ensures fits { IsSome result ↔ FramedFits (H.bytes header.now) (map (attribute_said V.family) (values_in (says V.family) bytes.entry.now)) }
+    ensures fits { IsSome result
+        ↔ FramedFits (H.bytes header.now)
+        (map (attribute_said V.family) (values_in (says V.family) bytes.entry.now)) }
     ensures len { IfSome result (λ len. len
-        ≡ length (framed (H.bytes header.now) (map (attribute_said V.family) (values_in (says V.family) bytes.entry.now)))) }
+        ≡ length (framed (H.bytes header.now)
+        (map (attribute_said V.family) (values_in (says V.family) bytes.entry.now)))) }
 {
     let len = header.buffer_len();
     if len > u32::MAX as usize {
@@ -160,9 +178,12 @@ pub(crate) fn emit_viewed_reply<'a, H: Emitable, V: FamilyView<'a> + Drop>(
 )
     requires header { H.writable header.now }
     requires clean { HasNoFault (says V.family) bytes.now }
-    requires fits { FramedFits (H.bytes header.now) (map (attribute_said V.family) (values_in (says V.family) bytes.now)) }
-    requires room { length (framed (H.bytes header.now) (map (attribute_said V.family) (values_in (says V.family) bytes.now))) ≤ length buffer.old }
-    ensures { let all = framed (H.bytes header.now) (map (attribute_said V.family) (values_in (says V.family) bytes.entry.now)) in
+    requires fits { FramedFits (H.bytes header.now)
+        (map (attribute_said V.family) (values_in (says V.family) bytes.now)) }
+    requires room { length (framed (H.bytes header.now)
+        (map (attribute_said V.family) (values_in (says V.family) bytes.now))) ≤ length buffer.old }
+    ensures { let all = framed (H.bytes header.now)
+        (map (attribute_said V.family) (values_in (says V.family) bytes.entry.now)) in
         buffer.new ≡ all ++ drop (length all) buffer.old }
 {
     let (front, rest) = buffer.split_at_mut(header.buffer_len());

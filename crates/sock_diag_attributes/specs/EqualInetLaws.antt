@@ -7,7 +7,8 @@ use lib.Pointwise.{pointwise, bytes_decides}
 use Rattle.std.specs.declared.cmp.PartialEq.{Ghosts}
 use Rattle.netlink_core.specs.Attribute.{Attribute}
 use Rattle.netlink_core.proofs.RowLaws.{◌⊕◌}
-use Rattle.netlink_core.proofs.SaidTests.{Tests, attribute_test, number_test, said_test, said_test_says}
+use Rattle.netlink_core.proofs.SaidTests.{Tests, attribute_test, number_test, said_test}
+use Rattle.netlink_core.proofs.SaidTests.{said_test_says}
 use Rattle.sock_diag_values.specs.contracts.inet.legacy_mem_info.LegacyMemInfoExact.TheImpl.Laws.{exact-law as exact_legacy}
 use Rattle.sock_diag_values.specs.contracts.inet.legacy_mem_info.LegacyMemInfoPartialEq.TheImpl.{ghosts as legacy}
 use Rattle.sock_diag_values.specs.contracts.inet.tcp_info.TcpInfoExact.TheImpl.Laws.{exact-law as exact_tcp}
@@ -26,18 +27,25 @@ truth a b = search rules
 -- the test of each kind's values
 abbrev pub inet_tests : Tests inet
 inet_tests =
-    (legacy.eq, exact_legacy.0) ⊕ (tcp.eq, exact_tcp.0) ⊕ (pointwise eqb, bytes_decides) ⊕ number_test ⊕ number_test
-    ⊕ (memory.eq, exact_memory.0) ⊕ number_test ⊕ number_test ⊕ (beq, truth) ⊕ number_test ⊕ number_test ⊕ tt
+    (legacy.eq, exact_legacy.0) ⊕ (tcp.eq, exact_tcp.0) ⊕ (pointwise eqb, bytes_decides)
+    ⊕ number_test ⊕ number_test
+    ⊕ (memory.eq, exact_memory.0) ⊕ number_test ⊕ number_test ⊕ (beq, truth) ⊕ number_test
+    ⊕ number_test ⊕ tt
 
 -- over what a text and an attribute of another kind lend, by which they are compared
-module _ (T O : RattleType) (t : Ghosts T.Denot) (o : Ghosts O.Denot) (text : T.Denot → List ℕ) (other : O.Denot → Attribute)
-    (texts : (a b : T.Denot) → t.eq a b ≡ pointwise eqb (text a) (text b)) (others : (a b : O.Denot) → o.eq a b ≡ attribute_test (other a) (other b)) where
+module _ (T O : RattleType) (t : Ghosts T.Denot) (o : Ghosts O.Denot) (text : T.Denot → List ℕ)
+    (other : O.Denot → Attribute)
+    (texts : (a b : T.Denot) → t.eq a b ≡ pointwise eqb (text a) (text b)) (others : (a b : O.Denot)
+    → o.eq a b ≡ attribute_test (other a) (other b)) where
   -- the third clause splits w, so that the last stands for each other pair of variants
-  pub tests : (v w : InetNla T.Denot O.Denot) → (ghosts T O t (given 0) o (given 0)).eq v w ≡ said_test inet inet_tests (seen text other v) (seen text other w)
+  pub tests : (v w : InetNla T.Denot O.Denot) → (ghosts T O t (given 0) o (given 0)).eq v w
+      ≡ said_test inet inet_tests (seen text other v) (seen text other w)
   tests (nla.Congestion a) (nla.Congestion x) = texts a x
   tests (nla.Other a) (nla.Other x) = others a x
   tests v (nla.LegacyMemInfo x) = refl
   tests v w = refl
 
-  pub equal : (v w : InetNla T.Denot O.Denot) → IsTrue ((ghosts T O t (given 0) o (given 0)).eq v w) ↔ (seen text other v ≡ seen text other w)
-  equal v w = subst (λ (b : Bool). IsTrue b ↔ (seen text other v ≡ seen text other w)) (sym (tests v w)) (said_test_says inet inet_tests (seen text other v) (seen text other w))
+  pub equal : (v w : InetNla T.Denot O.Denot) → IsTrue ((ghosts T O t (given 0) o (given 0)).eq v w)
+      ↔ (seen text other v ≡ seen text other w)
+  equal v w = subst (λ (b : Bool). IsTrue b ↔ (seen text other v ≡ seen text other w))
+      (sym (tests v w)) (said_test_says inet inet_tests (seen text other v) (seen text other w))

@@ -1,5 +1,6 @@
 -- Attributes of replies are equal where the same is seen of them.
-use Rattle.std.proofs.Common.{◌≡◌, ◌↔◌, ℕ, List, ◌&&◌, Bool, false, eqb, IsTrue, ap, refl, rules, subst, sym}
+use Rattle.std.proofs.Common.{◌≡◌, ◌↔◌, ℕ, List, ◌&&◌, Bool, false, eqb, IsTrue, ap, refl, rules}
+use Rattle.std.proofs.Common.{subst, sym}
 use mir.Syntax.{given}
 use denote.RattleType.{RattleType}
 use lib.Pointwise.{pointwise, bytes_decides}
@@ -7,7 +8,8 @@ use Rattle.std.specs.declared.cmp.PartialEq.{Ghosts}
 use Rattle.netlink_core.specs.Attribute.{Attribute}
 use Rattle.netlink_core.proofs.Equality.{apart, same_test}
 use Rattle.netlink_core.proofs.RowLaws.{◌⊕◌}
-use Rattle.netlink_core.proofs.SaidTests.{Tests, attribute_test, number_test, said_test, said_test_says}
+use Rattle.netlink_core.proofs.SaidTests.{Tests, attribute_test, number_test, said_test}
+use Rattle.netlink_core.proofs.SaidTests.{said_test_says}
 use Rattle.sock_diag_values.specs.contracts.unix.vfs.VfsExact.TheImpl.Laws.{exact-law as exact_vfs}
 use Rattle.sock_diag_values.specs.contracts.unix.vfs.VfsPartialEq.TheImpl.{ghosts as vfs}
 use Rattle.sock_diag_values.specs.contracts.unix.mem_info.MemInfoExact.TheImpl.Laws.{exact-law as exact_memory}
@@ -20,7 +22,8 @@ use Rattle.sock_diag_attributes.specs.Numbers.{numbers_in}
 use Rattle.sock_diag_attributes.specs.UnixAttributes.{unix}
 use Rattle.sock_diag_attributes.specs.SeenUnix.{seen}
 use Rattle.sock_diag_attributes.specs.declared.unix.name.UnixDiagName.{UnixDiagName}
-use Rattle.sock_diag_attributes.specs.declared.unix.name.UnixDiagName.TheVariants.{Pathname, Abstract}
+use Rattle.sock_diag_attributes.specs.declared.unix.name.UnixDiagName.TheVariants.{Pathname}
+use Rattle.sock_diag_attributes.specs.declared.unix.name.UnixDiagName.TheVariants.{Abstract}
 use Rattle.sock_diag_attributes.specs.contracts.unix.name.UnixDiagNamePartialEq.TheImpl.{ghosts as names}
 use Rattle.sock_diag_attributes.specs.declared.unix.name.NameView.{NameView}
 use Rattle.sock_diag_attributes.specs.declared.unix.name.NameView.TheVariants as name_view
@@ -38,10 +41,12 @@ name_test (abstract x) (pathname y) = false
 name_test (abstract x) (abstract y) = pointwise eqb x y
 
 pub name_test_says : (n m : SocketName) → IsTrue (name_test n m) ↔ (n ≡ m)
-name_test_says (pathname x) (pathname y) = (λ h. ap pathname ((bytes_decides x y).0 h), λ e. (bytes_decides x y).1 cc)
+name_test_says (pathname x) (pathname y) =
+    (λ h. ap pathname ((bytes_decides x y).0 h), λ e. (bytes_decides x y).1 cc)
 name_test_says (pathname x) (abstract y) = apart (λ e. cc)
 name_test_says (abstract x) (pathname y) = apart (λ e. cc)
-name_test_says (abstract x) (abstract y) = (λ h. ap abstract ((bytes_decides x y).0 h), λ e. (bytes_decides x y).1 cc)
+name_test_says (abstract x) (abstract y) =
+    (λ h. ap abstract ((bytes_decides x y).0 h), λ e. (bytes_decides x y).1 cc)
 
 abbrev two_test : ℕ × ℕ → ℕ × ℕ → Bool
 two_test a b = eqb a.0 b.0 && eqb a.1 b.1
@@ -52,7 +57,8 @@ two_test_says a b = (λ h. search rules, λ e. search rules)
 -- the test of each kind's values
 abbrev pub unix_tests : Tests unix
 unix_tests =
-    (name_test, name_test_says) ⊕ (vfs.eq, exact_vfs.0) ⊕ number_test ⊕ (pointwise eqb, bytes_decides)
+    (name_test, name_test_says) ⊕ (vfs.eq, exact_vfs.0) ⊕ number_test
+    ⊕ (pointwise eqb, bytes_decides)
     ⊕ (two_test, two_test_says) ⊕ (memory.eq, exact_memory.0) ⊕ number_test ⊕ tt
 
 pub same_names : (a x : UnixDiagName) → names.eq a x ≡ name_test (seen_name a) (seen_name x)
@@ -67,31 +73,44 @@ viewed_names (name_view.Pathname a) (name_view.Abstract x) = refl
 viewed_names (name_view.Abstract a) (name_view.Pathname x) = refl
 viewed_names (name_view.Abstract a) (name_view.Abstract x) = refl
 
-pub name_views_equal : (v w : NameView) → IsTrue (name_views.eq v w) ↔ (viewed_name v ≡ viewed_name w)
-name_views_equal v w = subst (λ (t : Bool). IsTrue t ↔ (viewed_name v ≡ viewed_name w)) (sym (viewed_names v w)) (name_test_says (viewed_name v) (viewed_name w))
+pub name_views_equal : (v w : NameView) → IsTrue (name_views.eq v w)
+    ↔ (viewed_name v ≡ viewed_name w)
+name_views_equal v w = subst (λ (t : Bool). IsTrue t ↔ (viewed_name v ≡ viewed_name w))
+    (sym (viewed_names v w)) (name_test_says (viewed_name v) (viewed_name w))
 
-pub number_views_equal : (v w : NumbersView) → IsTrue (number_views.eq v w) ↔ (viewed_numbers v ≡ viewed_numbers w)
+pub number_views_equal : (v w : NumbersView) → IsTrue (number_views.eq v w)
+    ↔ (viewed_numbers v ≡ viewed_numbers w)
 number_views_equal v w =
     let bytes = bytes_decides v.bytes.now w.bytes.now in (
       λ h. ap numbers_in (bytes.0 h),
       λ e. bytes.1 (numbers_in_same v.bytes.now w.bytes.now v.typed w.typed v.whole w.whole e),
     )
 
-pub viewed_lists : (v w : NumbersView) → number_views.eq v w ≡ pointwise eqb (viewed_numbers v) (viewed_numbers w)
-viewed_lists v w = same_test (number_views.eq v w) (pointwise eqb (viewed_numbers v) (viewed_numbers w)) (number_views_equal v w) (bytes_decides (viewed_numbers v) (viewed_numbers w))
+pub viewed_lists : (v w : NumbersView) → number_views.eq v w ≡ pointwise eqb (viewed_numbers v)
+    (viewed_numbers w)
+viewed_lists v w = same_test (number_views.eq v w)
+    (pointwise eqb (viewed_numbers v) (viewed_numbers w)) (number_views_equal v w)
+    (bytes_decides (viewed_numbers v) (viewed_numbers w))
 
 -- over what a name, a list and an attribute of another kind lend, by which they are compared
 module _ (N L O : RattleType) (n : Ghosts N.Denot) (l : Ghosts L.Denot) (o : Ghosts O.Denot)
     (name : N.Denot → SocketName) (list : L.Denot → List ℕ) (other : O.Denot → Attribute)
-    (names : (a b : N.Denot) → n.eq a b ≡ name_test (name a) (name b)) (lists : (a b : L.Denot) → l.eq a b ≡ pointwise eqb (list a) (list b))
+    (names : (a b : N.Denot) → n.eq a b ≡ name_test (name a) (name b)) (lists : (a b : L.Denot)
+    → l.eq a b ≡ pointwise eqb (list a) (list b))
     (others : (a b : O.Denot) → o.eq a b ≡ attribute_test (other a) (other b)) where
   -- the fourth clause splits w, so that the last stands for each other pair of variants
-  pub tests : (v w : UnixNla N.Denot L.Denot O.Denot) → (ghosts N L O n (given 0) l (given 0) o (given 0)).eq v w ≡ said_test unix unix_tests (seen name list other v) (seen name list other w)
+  pub tests : (v w : UnixNla N.Denot L.Denot O.Denot)
+      → (ghosts N L O n (given 0) l (given 0) o (given 0)).eq v w ≡ said_test unix unix_tests
+      (seen name list other v) (seen name list other w)
   tests (nla.Name a) (nla.Name x) = names a x
   tests (nla.PendingConnections a) (nla.PendingConnections x) = lists a x
   tests (nla.Other a) (nla.Other x) = others a x
   tests v (nla.Peer x) = refl
   tests v w = refl
 
-  pub equal : (v w : UnixNla N.Denot L.Denot O.Denot) → IsTrue ((ghosts N L O n (given 0) l (given 0) o (given 0)).eq v w) ↔ (seen name list other v ≡ seen name list other w)
-  equal v w = subst (λ (b : Bool). IsTrue b ↔ (seen name list other v ≡ seen name list other w)) (sym (tests v w)) (said_test_says unix unix_tests (seen name list other v) (seen name list other w))
+  pub equal : (v w : UnixNla N.Denot L.Denot O.Denot)
+      → IsTrue ((ghosts N L O n (given 0) l (given 0) o (given 0)).eq v w)
+      ↔ (seen name list other v ≡ seen name list other w)
+  equal v w = subst (λ (b : Bool). IsTrue b ↔ (seen name list other v ≡ seen name list other w))
+      (sym (tests v w)) (said_test_says unix unix_tests (seen name list other v)
+      (seen name list other w))

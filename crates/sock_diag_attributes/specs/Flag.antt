@@ -1,5 +1,6 @@
 -- A byte that says yes or no, as the value of an attribute.
-use Rattle.std.specs.Prelude.{◌≡◌, ℕ, ◌==◌, ◌↔◌, not, if◌then◌else◌, List, [], ◌∷◌, length, slice_index, Some, Bool, Result, Ok, Err, ⊤}
+use Rattle.std.specs.Prelude.{◌≡◌, ℕ, ◌==◌, ◌↔◌, not, if◌then◌else◌, List, [], ◌∷◌, length}
+use Rattle.std.specs.Prelude.{slice_index, Some, Bool, Result, Ok, Err, ⊤}
 use Rattle.netlink_core.specs.Prefix.{Prefix}
 use Rattle.netlink_core.specs.Rows.{exact_value}
 use Rattle.netlink_core.specs.declared.fault.DecodeError.{DecodeError}

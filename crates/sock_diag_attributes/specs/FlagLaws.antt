@@ -1,5 +1,6 @@
 -- The laws of a byte that says yes or no.
-use Rattle.std.proofs.Common.{Ok, ◌≡◌, ◌∙◌, ◌↔◌, inl, inr, ℕ, ◌<◌, [], ◌∷◌, Bool, true, false, length, slice_index, refl, sym, arith}
+use Rattle.std.proofs.Common.{Ok, ◌≡◌, ◌∙◌, ◌↔◌, inl, inr, ℕ, ◌<◌, [], ◌∷◌, Bool, true, false}
+use Rattle.std.proofs.Common.{length, slice_index, refl, sym, arith}
 use Rattle.std.specs.Prelude.{if◌then◌else◌, not, ◌==◌}
 use Rattle.std.proofs.lemmas.Bool.{cases_eq, eq-eqb, ne_eqb}
 use Rattle.netlink_core.specs.ByteLaws.{IsBytes-cons, IsBytes-nil}
@@ -14,12 +15,24 @@ says_same : (m n : ℕ) → (not (m == 0) ≡ not (n == 0)) ↔ ((m ≡ 0) ↔ (
 says_same m n =
     elim (cases_eq m 0) [
       | inl first ↦ elim (cases_eq n 0) [
-        | inl second ↦ (λ e. (λ _. second, λ _. first), λ h. rw (eq-eqb m 0 first, eq-eqb n 0 second) refl)
-        | inr second ↦ (λ e. absurd (let no = rw (eq-eqb m 0 first, ne_eqb n 0 second) at e in cc), λ h. absurd (second (h.0 first)))
+        | inl second ↦ (
+          λ e. (λ _. second, λ _. first),
+          λ h. rw (eq-eqb m 0 first, eq-eqb n 0 second) refl,
+        )
+        | inr second ↦ (
+          λ e. absurd (let no = rw (eq-eqb m 0 first, ne_eqb n 0 second) at e in cc),
+          λ h. absurd (second (h.0 first)),
+        )
       ]
       | inr first ↦ elim (cases_eq n 0) [
-        | inl second ↦ (λ e. absurd (let no = rw (ne_eqb m 0 first, eq-eqb n 0 second) at e in cc), λ h. absurd (first (h.1 second)))
-        | inr second ↦ (λ e. (λ z. absurd (first z), λ z. absurd (second z)), λ h. rw (ne_eqb m 0 first, ne_eqb n 0 second) refl)
+        | inl second ↦ (
+          λ e. absurd (let no = rw (ne_eqb m 0 first, eq-eqb n 0 second) at e in cc),
+          λ h. absurd (first (h.1 second)),
+        )
+        | inr second ↦ (
+          λ e. (λ z. absurd (first z), λ z. absurd (second z)),
+          λ h. rw (ne_eqb m 0 first, ne_eqb n 0 second) refl,
+        )
       ]
     ]
 

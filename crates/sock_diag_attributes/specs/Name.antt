@@ -1,12 +1,14 @@
 -- The name of a UNIX socket, and its bytes.
-use Rattle.std.specs.Prelude.{◌≢◌, ◌+◌, ◌==◌, if◌then◌else◌, ℕ, zero, List, [], ◌∷◌, ◌++◌, length, take, ◌≤◌, All, Option, Some, None, Result, Ok, Err, ⊤}
+use Rattle.std.specs.Prelude.{◌≢◌, ◌+◌, ◌==◌, if◌then◌else◌, ℕ, zero, List, [], ◌∷◌, ◌++◌, length}
+use Rattle.std.specs.Prelude.{take, ◌≤◌, All, Option, Some, None, Result, Ok, Err, ⊤}
 use Rattle.std.specs.List.{position}
 use Rattle.netlink_core.specs.Bytes.{IsBytes}
 use Rattle.netlink_core.specs.Codec.{Codec, prefix_codec}
 use Rattle.netlink_core.specs.Prefix.{Prefix}
 use Rattle.netlink_core.specs.Rows.{exact_value}
 use Rattle.netlink_core.specs.declared.fault.DecodeError.{DecodeError}
-use Rattle.netlink_core.specs.declared.fault.DecodeError.TheVariants.{NameEmpty, NameInnerZero, NameWithoutEnd}
+use Rattle.netlink_core.specs.declared.fault.DecodeError.TheVariants.{NameEmpty, NameInnerZero}
+use Rattle.netlink_core.specs.declared.fault.DecodeError.TheVariants.{NameWithoutEnd}
 
 -- a path without its end zero, or what stands behind the zero of an abstract name
 pub data SocketName : Type 0 where

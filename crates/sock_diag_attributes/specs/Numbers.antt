@@ -2,10 +2,12 @@
 use Rattle.std.specs.List.{AllByRecursion}
 use Rattle.netlink_core.specs.Prefix.{Prefix}
 use Rattle.netlink_core.specs.Rows.{exact_value}
-use Rattle.std.specs.Prelude.{⊤, ◌<◌, ◌^◌, ℕ, ◌%◌, ◌==◌, if◌then◌else◌, List, [], ◌∷◌, ◌++◌, length, drop, flat_map, Some, Result, Ok, Err}
+use Rattle.std.specs.Prelude.{⊤, ◌<◌, ◌^◌, ℕ, ◌%◌, ◌==◌, if◌then◌else◌, List, [], ◌∷◌, ◌++◌, length}
+use Rattle.std.specs.Prelude.{drop, flat_map, Some, Result, Ok, Err}
 use Rattle.byteorder.specs.Endian.{little_number, little_bytes}
 use Rattle.netlink_core.specs.declared.fault.DecodeError.{DecodeError}
-use Rattle.netlink_core.specs.declared.fault.DecodeError.TheVariants.{WrongLength, NotMultipleOfFour}
+use Rattle.netlink_core.specs.declared.fault.DecodeError.TheVariants.{WrongLength}
+use Rattle.netlink_core.specs.declared.fault.DecodeError.TheVariants.{NotMultipleOfFour}
 
 -- the two numbers in exactly eight bytes, as the value of an attribute of kind k
 abbrev pub two_numbers : ℕ → List ℕ → Result (ℕ × ℕ) DecodeError

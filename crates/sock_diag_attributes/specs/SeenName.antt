@@ -1,7 +1,8 @@
 -- What contracts see of the name of a UNIX socket.
 use Rattle.sock_diag_attributes.specs.Name.{SocketName, pathname, abstract}
 use Rattle.sock_diag_attributes.specs.declared.unix.name.UnixDiagName.{UnixDiagName}
-use Rattle.sock_diag_attributes.specs.declared.unix.name.UnixDiagName.TheVariants.{Pathname, Abstract}
+use Rattle.sock_diag_attributes.specs.declared.unix.name.UnixDiagName.TheVariants.{Pathname}
+use Rattle.sock_diag_attributes.specs.declared.unix.name.UnixDiagName.TheVariants.{Abstract}
 use Rattle.sock_diag_attributes.specs.declared.unix.name.NameView.{NameView}
 use Rattle.sock_diag_attributes.specs.declared.unix.name.NameView.TheVariants as view
 

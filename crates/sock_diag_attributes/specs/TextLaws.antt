@@ -1,5 +1,6 @@
 -- The laws of a text as the value of an attribute.
-use Rattle.std.proofs.Common.{Ok, Err, ◌≡◌, ◌∙◌, ◌↔◌, ◌⊎◌, inl, inr, ℕ, zero, suc, List, [], ◌∷◌, ◌++◌, length, true, false, refl, ap, sym, subst, arith}
+use Rattle.std.proofs.Common.{Ok, Err, ◌≡◌, ◌∙◌, ◌↔◌, ◌⊎◌, inl, inr, ℕ, zero, suc, List, [], ◌∷◌}
+use Rattle.std.proofs.Common.{◌++◌, length, true, false, refl, ap, sym, subst, arith}
 use Rattle.std.specs.Prelude.{IsUtf8, if◌then◌else◌}
 use Rattle.std.specs.Str.{is_utf8}
 use Rattle.std.proofs.lemmas.List.{length-append}
@@ -21,7 +22,10 @@ record End (value : List ℕ) : Type 0 where
 
 -- one of the two holds
 end_of : (value : List ℕ) → End value
-end_of [] = record { told = inr (λ ends. omega (arith, ap length ends.1, length-append ends.0 (0 ∷ [])), refl) }
+end_of [] = record {
+  told = inr
+      (λ ends. omega (arith, ap length ends.1, length-append ends.0 (0 ∷ [])), refl);
+}
 end_of (zero ∷ []) = record { told = inl ([], refl) }
 end_of (suc n ∷ []) = record { told = inr (λ ends. other ends.0 ends.1, refl) }
   where
@@ -31,10 +35,18 @@ end_of (suc n ∷ []) = record { told = inr (λ ends. other ends.0 ends.1, refl)
 end_of (byte ∷ next ∷ rest) =
     elim (end_of (next ∷ rest)).told [
       | inl ends ↦ record { told = inl (byte ∷ ends.0, ap (λ (s : List ℕ). byte ∷ s) ends.1) }
-      | inr kept ↦ record { told = inr (λ ends. later kept.0 ends.0 ends.1, elim byte as (λ b. without_end_zero (b ∷ next ∷ rest) ≡ b ∷ without_end_zero (next ∷ rest)) [ zero ↦ refl | suc n ↦ refl ] ∙ ap (λ (s : List ℕ). byte ∷ s) kept.1) }
+      | inr kept ↦ record {
+        told = inr (
+          λ ends. later kept.0 ends.0 ends.1,
+          elim byte as (λ b. without_end_zero (b ∷ next ∷ rest) ≡ b
+              ∷ without_end_zero (next ∷ rest)) [ zero ↦ refl | suc n ↦ refl ]
+              ∙ ap (λ (s : List ℕ). byte ∷ s) kept.1,
+        );
+      }
     ]
   where
-    later : (¬ (EndsInZero (next ∷ rest))) → (front : List ℕ) → byte ∷ next ∷ rest ≡ front ++ 0 ∷ [] → ⊥
+    later : (¬ (EndsInZero (next ∷ rest))) → (front : List ℕ) → byte ∷ next ∷ rest ≡ front ++ 0 ∷ []
+        → ⊥
     later none [] e = omega (arith, ap length e)
     later none (x ∷ front) e = none (front, cc)
 
@@ -42,15 +54,19 @@ end_of (byte ∷ next ∷ rest) =
 idle_where_kept : (b c : List ℕ) → (without_end_zero b ≡ without_end_zero c) ↔ AreIdleTexts b c
 idle_where_kept b c = (idle (end_of b).told (end_of c).told, kept)
   where
-    idle : EndsInZero b ⊎ (¬ (EndsInZero b) × (without_end_zero b ≡ b)) → EndsInZero c ⊎ (¬ (EndsInZero c) × (without_end_zero c ≡ c)) → without_end_zero b ≡ without_end_zero c → AreIdleTexts b c
+    idle : EndsInZero b ⊎ (¬ (EndsInZero b) × (without_end_zero b ≡ b)) → EndsInZero c
+        ⊎ (¬ (EndsInZero c) × (without_end_zero c ≡ c)) → without_end_zero b ≡ without_end_zero c
+        → AreIdleTexts b c
     idle (inl left) (inl right) e =
-        let texts : left.0 ≡ right.0 = sym (ap without_end_zero left.1 ∙ end_zero left.0) ∙ e ∙ ap without_end_zero right.1 ∙ end_zero right.0 in
+        let texts : left.0 ≡ right.0 = sym (ap without_end_zero left.1 ∙ end_zero left.0) ∙ e
+        ∙ ap without_end_zero right.1 ∙ end_zero right.0 in
         inl (left.1 ∙ ap text_bytes texts ∙ sym right.1)
     idle (inl left) (inr right) e =
         let texts : left.0 ≡ c = sym (ap without_end_zero left.1 ∙ end_zero left.0) ∙ e ∙ right.1 in
         inr (inr (right.0, left.1 ∙ ap text_bytes texts))
     idle (inr left) (inl right) e =
-        let texts : right.0 ≡ b = sym (ap without_end_zero right.1 ∙ end_zero right.0) ∙ sym e ∙ left.1 in
+        let texts : right.0 ≡ b = sym (ap without_end_zero right.1 ∙ end_zero right.0) ∙ sym e
+        ∙ left.1 in
         inr (inl (left.0, right.1 ∙ ap text_bytes texts))
     idle (inr left) (inr right) e = inl (sym left.1 ∙ e ∙ right.1)
 
@@ -72,7 +88,9 @@ idle_where_kept b c = (idle (end_of b).told (end_of c).told, kept)
 -- what was read is what is kept, which is UTF-8
 text_is : (b v : List ℕ) → text_in b ≡ Ok v → (without_end_zero b ≡ v) × IsUtf8 (without_end_zero b)
 text_is b v h =
-    elim (is_utf8 (without_end_zero b)) as (λ t. is_utf8 (without_end_zero b) ≡ t → (if t then Ok (without_end_zero b) else Err NotUtf8) ≡ Ok v → (without_end_zero b ≡ v) × IsUtf8 (without_end_zero b)) [
+    elim (is_utf8 (without_end_zero b)) as (λ t. is_utf8 (without_end_zero b) ≡ t
+    → (if t then Ok (without_end_zero b) else Err NotUtf8) ≡ Ok v → (without_end_zero b ≡ v)
+    × IsUtf8 (without_end_zero b)) [
       | true ↦ λ e k. (cc, IsUtf8-from_is_utf8 (without_end_zero b) e)
       | false ↦ λ e k. absurd cc
     ] refl h
@@ -80,7 +98,8 @@ text_is b v h =
 -- no fault of a text is want of memory
 text_named : (b : List ℕ) → text_in b ≡ Err Memory → ⊥
 text_named b h =
-    elim (is_utf8 (without_end_zero b)) as (λ t. (if t then Ok (without_end_zero b) else Err NotUtf8) ≡ Err Memory → ⊥) [
+    elim (is_utf8 (without_end_zero b)) as
+    (λ t. (if t then Ok (without_end_zero b) else Err NotUtf8) ≡ Err Memory → ⊥) [
       | true ↦ λ k. cc
       | false ↦ λ k. cc
     ] h
@@ -89,7 +108,8 @@ text_named b h =
 kept_typed : (b : List ℕ) → IsBytes b → IsBytes (without_end_zero b)
 kept_typed b typed =
     elim (end_of b).told [
-      | inl ends ↦ subst IsBytes (sym (ap without_end_zero ends.1 ∙ end_zero ends.0)) (IsBytes-left ends.0 (0 ∷ []) (subst IsBytes ends.1 typed))
+      | inl ends ↦ subst IsBytes (sym (ap without_end_zero ends.1 ∙ end_zero ends.0))
+          (IsBytes-left ends.0 (0 ∷ []) (subst IsBytes ends.1 typed))
       | inr kept ↦ subst IsBytes (sym kept.1) typed
     ]
 
@@ -108,6 +128,8 @@ text_laws = record {
   reads_normal = λ b p v typed h.
       let read = text_is b v h in
       (subst (λ (t : List ℕ). IsUtf8 t × IsBytes t) read.0 (read.1, kept_typed b typed), tt);
-  written_bytes = λ v typed. IsBytes-append v (0 ∷ []) typed.1 (IsBytes-cons 0 [] (omega arith) IsBytes-nil);
-  reads_back = λ p v typed normal room. text_there (text_bytes v) v (sym (end_zero v)) (subst IsUtf8 (sym (end_zero v)) typed.0);
+  written_bytes = λ v typed. IsBytes-append v (0 ∷ []) typed.1
+      (IsBytes-cons 0 [] (omega arith) IsBytes-nil);
+  reads_back = λ p v typed normal room. text_there (text_bytes v) v (sym (end_zero v))
+      (subst IsUtf8 (sym (end_zero v)) typed.0);
 }

@@ -1,13 +1,16 @@
 //! Numbers that fill the value of an attribute.
 
 ghost use Rattle.std.specs.List.{AllByRecursion};
-ghost use Rattle.std.specs.Prelude.{◌≡◌, ◌<◌, ◌^◌, ◌≤◌, ◌↔◌, ◌++◌, ◌%◌, [], length, drop, slice_get, IsTrue, IsOk, IfOk, IfSome, MatchResult, Ok, Err, Some};
+ghost use Rattle.std.specs.Prelude.{◌≡◌, ◌<◌, ◌^◌, ◌≤◌, ◌↔◌, ◌++◌, ◌%◌, [], length, drop};
+ghost use Rattle.std.specs.Prelude.{slice_get, IsTrue, IsOk, IfOk, IfSome, MatchResult, Ok, Err};
+ghost use Rattle.std.specs.Prelude.{Some};
 ghost use Rattle.std.specs.Iterator.{UpTo, YieldsFirst, item_count};
 ghost use Rattle.std.specs.Iterator.SizeHint.{IsWithinCount};
 ghost use Rattle.netlink_core.specs.Bytes.{IsBytes};
 ghost use Rattle.netlink_core.specs.Parse.{exact_number};
 ghost use Rattle.sock_diag_attributes.specs.Flag.{read_flag};
-ghost use Rattle.sock_diag_attributes.specs.Numbers.{two_numbers, bytes_of_two, read_numbers, bytes_of_numbers};
+ghost use Rattle.sock_diag_attributes.specs.Numbers.{two_numbers, bytes_of_two, read_numbers};
+ghost use Rattle.sock_diag_attributes.specs.Numbers.{bytes_of_numbers};
 
 use byteorder::{ByteOrder, LittleEndian};
 use netlink_core::{DecodeError, parse_u8, parse_u32};
@@ -20,7 +23,8 @@ pub(crate) fn exact_u8(kind: u16, value: &[u8]) -> Result<u8, DecodeError>
     parse_u8(value).map_err(|fault| fault.with_kind(kind))
 }
 
-/// The number in exactly four bytes, the low byte first. Any other length is `WrongLength` with the kind.
+/// The number in exactly four bytes, the low byte first. Any other length is `WrongLength` with the
+/// kind.
 pub(crate) fn exact_u32(kind: u16, value: &[u8]) -> Result<u32, DecodeError>
     ensures { result ≡ exact_number (Some kind) 4 value.now }
 {
@@ -162,7 +166,10 @@ impl<'a> Iterator for NumbersIterator<'a> {
     fn size_hint(&self) -> (usize, Option<usize>)
         ensures lower { IsWithinCount result.0 (item_count numbers_left self.now) }
         ensures upper { IfSome result.1 (UpTo (item_count numbers_left self.now)) }
-        ensures exact { result ≡ (length (numbers_left self.now), Some (length (numbers_left self.now))) }
+        ensures exact { result ≡ (
+          length (numbers_left self.now),
+          Some (length (numbers_left self.now)),
+        ) }
     {
         (self.rest.len(), Some(self.rest.len()))
     }
@@ -179,7 +186,8 @@ pub(crate) fn emit_u32_pair(first: u32, second: u32, buffer: &mut [u8])
 /// Writes the numbers one after the other at the front, and leaves the rest.
 pub(crate) fn emit_numbers(numbers: &[u32], buffer: &mut [u8])
     requires { length (bytes_of_numbers numbers.now) ≤ length buffer.old }
-    ensures { buffer.new ≡ bytes_of_numbers numbers.now ++ drop (length (bytes_of_numbers numbers.now)) buffer.old }
+    ensures { buffer.new ≡ bytes_of_numbers numbers.now
+        ++ drop (length (bytes_of_numbers numbers.now)) buffer.old }
 {
     LittleEndian::write_u32_into(numbers, &mut buffer[..4 * numbers.len()]);
 }

@@ -54,7 +54,8 @@ impl Value<'_> {
     #[inline(always)]
     pub(crate) fn emit(&self, buffer: &mut [u8])
         requires { length (value_bytes self.now) ≤ length buffer.old }
-        ensures { buffer.new ≡ value_bytes self.now ++ drop (length (value_bytes self.now)) buffer.old }
+        ensures { buffer.new ≡ value_bytes self.now ++ drop (length (value_bytes self.now))
+            buffer.old }
     {
         match self {
             Value::Byte(byte) => buffer[0] = *byte,

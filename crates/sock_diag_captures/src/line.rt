@@ -47,8 +47,8 @@ const LOCAL: usize = 30;
 
 /// Adds the first columns of a line.
 fn push_first_columns(text: &mut Vec<u8>, cells: &Cells) -> Result<(), AllocError>
-    ensures { OnOk result (text.new.items ≡ text.old.items ++ first_columns (shown_cells cells.now))
-        }
+    ensures { OnOk result (text.new.items ≡ text.old.items
+        ++ first_columns (shown_cells cells.now)) }
 {
     push_column(text, 5, cells.kind)?;
     push_column(text, 10, name_of_state(cells.state))?;
@@ -62,7 +62,7 @@ fn push_first_columns(text: &mut Vec<u8>, cells: &Cells) -> Result<(), AllocErro
 #[tactic(auto, unfolding(crate::specs::Table::message_lines))]
 pub fn push_socket(text: &mut Vec<u8>, view: &SockDiagView<'_>) -> Result<(), AllocError>
     ensures { OnOk result (text.new.items ≡ text.old.items
-          ++ message_lines (viewed_message view.now)) }
+        ++ message_lines (viewed_message view.now)) }
 {
     match view {
         SockDiagView::UnixResponse(reply) => push_unix(text, reply),
@@ -176,7 +176,7 @@ fn inet_cells(header: &InetResponseHeader) -> Cells
 /// Adds a line for each attribute that tells of a TCP connection.
 fn push_details(text: &mut Vec<u8>, attributes: NlaViews<'_>) -> Result<(), AllocError>
     ensures { OnOk result (text.new.items ≡ text.old.items ++ flat_map details_of
-          (left_in inet attributes.entry)) }
+        (left_in inet attributes.entry)) }
 {
     for attribute in attributes {
         push_attribute(text, &attribute)?;
@@ -186,8 +186,8 @@ fn push_details(text: &mut Vec<u8>, attributes: NlaViews<'_>) -> Result<(), Allo
 
 /// Adds the line of an attribute that tells of a TCP connection, and nothing for another.
 fn push_attribute(text: &mut Vec<u8>, attribute: &NlaView<'_>) -> Result<(), AllocError>
-    ensures { OnOk result (text.new.items ≡ text.old.items ++ details_of (viewed_nla attribute.now))
-        }
+    ensures { OnOk result (text.new.items ≡ text.old.items
+        ++ details_of (viewed_nla attribute.now)) }
 {
     match attribute {
         NlaView::TcpInfo(info) => push_connection(text, info),

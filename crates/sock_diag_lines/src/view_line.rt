@@ -27,7 +27,7 @@ pub(crate) fn push_view(text: &mut Vec<u8>, bytes: &[u8]) -> Result<(), AllocErr
 /// Adds `ok` and the words of a reply.
 fn push_reply(text: &mut Vec<u8>, view: &UnixResponseView<'_>) -> Result<(), AllocError>
     ensures { OnOk result (text.new.items ≡ text.old.items
-          ++ accepted (shown_reply (viewed view.now))) }
+        ++ accepted (shown_reply (viewed view.now))) }
 {
     text.extend_from_slice(OK)?;
     push_header(text, &view.header())?;

@@ -10,7 +10,8 @@ use netlink_core::{
     NLMSG_OVERRUN, NetlinkHeader, error_number,
 };
 
-/// What a message carries, read in place: a [`netlink_core::NetlinkPayload`] whose bytes are borrowed.
+/// What a message carries, read in place: a [`netlink_core::NetlinkPayload`] whose bytes are
+/// borrowed.
 #[derive(Clone, Copy, Debug, PartialEq, Eq)]
 pub enum PayloadView<'a> {
     /// A dump ends. The bytes are those behind the header.
@@ -57,8 +58,8 @@ impl<'a> PayloadView<'a> {
     }
 }
 
-/// The walk over the messages of a datagram, each as what it carries. The end of a dump does not end it, nor does a
-/// message whose payload is refused: that is told, and the next message follows.
+/// The walk over the messages of a datagram, each as what it carries. The end of a dump does not
+/// end it, nor does a message whose payload is refused: that is told, and the next message follows.
 ///
 /// It ends where no bytes are left, and behind what is no message. No memory is taken.
 #[derive(Clone, Drop)]
@@ -105,8 +106,10 @@ impl<'a> Iterator for DumpViews<'a> {
 
     /// How many are left is told by the walk alone.
     fn size_hint(&self) -> (usize, Option<usize>)
-        ensures lower { IsWithinCount result.0 (at_most ((length (datagram_left self.now.messages) + 15) / 16)) }
-        ensures upper { IfSome result.1 (UpTo (at_most ((length (datagram_left self.now.messages) + 15) / 16))) }
+        ensures lower { IsWithinCount result.0
+            (at_most ((length (datagram_left self.now.messages) + 15) / 16)) }
+        ensures upper { IfSome result.1
+            (UpTo (at_most ((length (datagram_left self.now.messages) + 15) / 16))) }
         ensures unknown { result ≡ (0, None) }
     {
         (0, None)

@@ -13,7 +13,8 @@ use sock_diag_records::constants::TCP_LISTEN;
 impl UnixResponse {
     ghost use Rattle.netlink_packet_sock_diag.specs.SeenUnixReply.{seen_response};
 
-    /// The inode of the socket's peer, where an attribute tells it: the content of the first `Peer`.
+    /// The inode of the socket's peer, where an attribute tells it: the content of the first
+    /// `Peer`.
     pub fn peer(&self) -> Option<u32>
         ensures { result ≡ first_of (content unix 2) (seen_response self.now).nlas }
     {
@@ -25,7 +26,8 @@ impl UnixResponse {
 
     /// The socket's name, where an attribute tells it: the content of the first `Name`.
     pub fn name(&self) -> Option<&UnixDiagName>
-        ensures { option_map seen_name (option_copied result) ≡ first_of (content unix 0) (seen_response self.now).nlas }
+        ensures { option_map seen_name (option_copied result) ≡ first_of (content unix 0)
+            (seen_response self.now).nlas }
     {
         self.nlas.as_slice().iter().find_map(|nla| match nla {
             Nla::Name(name) => Some(name),
@@ -33,7 +35,8 @@ impl UnixResponse {
         })
     }
 
-    /// The inodes of the connections that wait to be accepted: the content of the first `PendingConnections`.
+    /// The inodes of the connections that wait to be accepted: the content of the first
+    /// `PendingConnections`.
     pub fn pending_connections(&self) -> Option<&[u32]>
         ensures { option_copied result ≡ first_of (content unix 3) (seen_response self.now).nlas }
     {
@@ -56,23 +59,25 @@ impl UnixResponse {
 
 impl UnixResponse {
     ghost use Rattle.netlink_packet_sock_diag.specs.SeenUnixReply.{seen_response};
-    ghost use Rattle.netlink_packet_sock_diag.specs.UnixGetters.{listening_queue_of, other_queue_of};
+    ghost use Rattle.netlink_packet_sock_diag.specs.UnixGetters.{listening_queue_of};
+    ghost use Rattle.netlink_packet_sock_diag.specs.UnixGetters.{other_queue_of};
 
-    /// How many connections wait to be accepted, of a listening socket (state `TCP_LISTEN`): the first number of the
-    /// first `ReceiveQueueLength`.
+    /// How many connections wait to be accepted, of a listening socket (state `TCP_LISTEN`): the
+    /// first number of the first `ReceiveQueueLength`.
     ///
     /// Where this is told, [`receive_queue_size`](Self::receive_queue_size) and
     /// [`send_queue_size`](Self::send_queue_size) are not.
     pub fn number_of_pending_connection(&self) -> Option<u32>
-        ensures value { result ≡ option_map (λ ns. ns.0) (listening_queue_of (seen_response self.now)) }
+        ensures value { result ≡ option_map (λ ns. ns.0)
+            (listening_queue_of (seen_response self.now)) }
         ensures alone { IsSome result → other_queue_of (seen_response self.now) ≡ None }
     {
         let (waiting, _) = self.listening_queue()?;
         Some(waiting)
     }
 
-    /// How many connections may wait to be accepted, of a listening socket: the second number of the first
-    /// `ReceiveQueueLength`.
+    /// How many connections may wait to be accepted, of a listening socket: the second number of
+    /// the first `ReceiveQueueLength`.
     pub fn max_number_of_pending_connection(&self) -> Option<u32>
         ensures { result ≡ option_map (λ ns. ns.1) (listening_queue_of (seen_response self.now)) }
     {
@@ -80,8 +85,8 @@ impl UnixResponse {
         Some(limit)
     }
 
-    /// How many bytes wait to be read, of a socket that does not listen: the first number of the first
-    /// `ReceiveQueueLength`.
+    /// How many bytes wait to be read, of a socket that does not listen: the first number of the
+    /// first `ReceiveQueueLength`.
     pub fn receive_queue_size(&self) -> Option<u32>
         ensures { result ≡ option_map (λ ns. ns.0) (other_queue_of (seen_response self.now)) }
     {
@@ -89,8 +94,8 @@ impl UnixResponse {
         Some(received)
     }
 
-    /// How many bytes of memory are taken by what was sent and is not yet read, of a socket that does not listen: the
-    /// second number of the first `ReceiveQueueLength`.
+    /// How many bytes of memory are taken by what was sent and is not yet read, of a socket that
+    /// does not listen: the second number of the first `ReceiveQueueLength`.
     pub fn send_queue_size(&self) -> Option<u32>
         ensures { result ≡ option_map (λ ns. ns.1) (other_queue_of (seen_response self.now)) }
     {
@@ -134,17 +139,20 @@ impl UnixResponse {
 impl UnixResponse {
     ghost use Rattle.netlink_packet_sock_diag.specs.SeenUnixReply.{seen_response};
 
-    /// The size of the send buffer, which bounds a datagram: the field `max_datagram_size` of the first `MemInfo`.
+    /// The size of the send buffer, which bounds a datagram: the field `max_datagram_size` of the
+    /// first `MemInfo`.
     pub fn max_datagram_size(&self) -> Option<u32>
-        ensures { result ≡ option_map (λ info. info.max_datagram_size) (first_of (content unix 5) (seen_response self.now).nlas) }
+        ensures { result ≡ option_map (λ info. info.max_datagram_size)
+            (first_of (content unix 5) (seen_response self.now).nlas) }
     {
         Some(self.memory()?.max_datagram_size)
     }
 
-    /// How many bytes of memory are taken by what was sent and is not yet read: the field `alloc` of the first
-    /// `MemInfo`.
+    /// How many bytes of memory are taken by what was sent and is not yet read: the field `alloc`
+    /// of the first `MemInfo`.
     pub fn memory_used_for_outgoing_data(&self) -> Option<u32>
-        ensures { result ≡ option_map (λ info. info.alloc) (first_of (content unix 5) (seen_response self.now).nlas) }
+        ensures { result ≡ option_map (λ info. info.alloc)
+            (first_of (content unix 5) (seen_response self.now).nlas) }
     {
         Some(self.memory()?.alloc)
     }

@@ -14,7 +14,8 @@ use sock_diag_records::constants::TCP_LISTEN;
 impl<'a> UnixResponseView<'a> {
     ghost use Rattle.netlink_packet_sock_diag.specs.Viewed.{viewed as viewed_response};
 
-    /// The inode of the socket's peer, where an attribute tells it: the content of the first `Peer`.
+    /// The inode of the socket's peer, where an attribute tells it: the content of the first
+    /// `Peer`.
     pub fn peer(&self) -> Option<u32>
         ensures { result ≡ first_of (content unix 2) (viewed_response self.now).nlas }
     {
@@ -26,7 +27,8 @@ impl<'a> UnixResponseView<'a> {
 
     /// The socket's name, where an attribute tells it: the content of the first `Name`.
     pub fn name(&self) -> Option<NameView<'a>>
-        ensures { option_map viewed_name result ≡ first_of (content unix 0) (viewed_response self.now).nlas }
+        ensures { option_map viewed_name result ≡ first_of (content unix 0)
+            (viewed_response self.now).nlas }
     {
         self.attributes().find_map(|nla| match nla {
             NlaView::Name(name) => Some(name),
@@ -34,9 +36,11 @@ impl<'a> UnixResponseView<'a> {
         })
     }
 
-    /// The inodes of the connections that wait to be accepted: the content of the first `PendingConnections`.
+    /// The inodes of the connections that wait to be accepted: the content of the first
+    /// `PendingConnections`.
     pub fn pending_connections(&self) -> Option<NumbersView<'a>>
-        ensures { option_map viewed_numbers result ≡ first_of (content unix 3) (viewed_response self.now).nlas }
+        ensures { option_map viewed_numbers result ≡ first_of (content unix 3)
+            (viewed_response self.now).nlas }
     {
         self.attributes().find_map(|nla| match nla {
             NlaView::PendingConnections(inodes) => Some(inodes),
@@ -57,23 +61,25 @@ impl<'a> UnixResponseView<'a> {
 
 impl<'a> UnixResponseView<'a> {
     ghost use Rattle.netlink_packet_sock_diag.specs.Viewed.{viewed as viewed_response};
-    ghost use Rattle.netlink_packet_sock_diag.specs.UnixGetters.{listening_queue_of, other_queue_of};
+    ghost use Rattle.netlink_packet_sock_diag.specs.UnixGetters.{listening_queue_of};
+    ghost use Rattle.netlink_packet_sock_diag.specs.UnixGetters.{other_queue_of};
 
-    /// How many connections wait to be accepted, of a listening socket (state `TCP_LISTEN`): the first number of the
-    /// first `ReceiveQueueLength`.
+    /// How many connections wait to be accepted, of a listening socket (state `TCP_LISTEN`): the
+    /// first number of the first `ReceiveQueueLength`.
     ///
     /// Where this is told, [`receive_queue_size`](Self::receive_queue_size) and
     /// [`send_queue_size`](Self::send_queue_size) are not.
     pub fn number_of_pending_connection(&self) -> Option<u32>
-        ensures value { result ≡ option_map (λ ns. ns.0) (listening_queue_of (viewed_response self.now)) }
+        ensures value { result ≡ option_map (λ ns. ns.0)
+            (listening_queue_of (viewed_response self.now)) }
         ensures alone { IsSome result → other_queue_of (viewed_response self.now) ≡ None }
     {
         let (waiting, _) = self.listening_queue()?;
         Some(waiting)
     }
 
-    /// How many connections may wait to be accepted, of a listening socket: the second number of the first
-    /// `ReceiveQueueLength`.
+    /// How many connections may wait to be accepted, of a listening socket: the second number of
+    /// the first `ReceiveQueueLength`.
     pub fn max_number_of_pending_connection(&self) -> Option<u32>
         ensures { result ≡ option_map (λ ns. ns.1) (listening_queue_of (viewed_response self.now)) }
     {
@@ -81,8 +87,8 @@ impl<'a> UnixResponseView<'a> {
         Some(limit)
     }
 
-    /// How many bytes wait to be read, of a socket that does not listen: the first number of the first
-    /// `ReceiveQueueLength`.
+    /// How many bytes wait to be read, of a socket that does not listen: the first number of the
+    /// first `ReceiveQueueLength`.
     pub fn receive_queue_size(&self) -> Option<u32>
         ensures { result ≡ option_map (λ ns. ns.0) (other_queue_of (viewed_response self.now)) }
     {
@@ -90,8 +96,8 @@ impl<'a> UnixResponseView<'a> {
         Some(received)
     }
 
-    /// How many bytes of memory are taken by what was sent and is not yet read, of a socket that does not listen: the
-    /// second number of the first `ReceiveQueueLength`.
+    /// How many bytes of memory are taken by what was sent and is not yet read, of a socket that
+    /// does not listen: the second number of the first `ReceiveQueueLength`.
     pub fn send_queue_size(&self) -> Option<u32>
         ensures { result ≡ option_map (λ ns. ns.1) (other_queue_of (viewed_response self.now)) }
     {
@@ -135,17 +141,20 @@ impl<'a> UnixResponseView<'a> {
 impl<'a> UnixResponseView<'a> {
     ghost use Rattle.netlink_packet_sock_diag.specs.Viewed.{viewed as viewed_response};
 
-    /// The size of the send buffer, which bounds a datagram: the field `max_datagram_size` of the first `MemInfo`.
+    /// The size of the send buffer, which bounds a datagram: the field `max_datagram_size` of the
+    /// first `MemInfo`.
     pub fn max_datagram_size(&self) -> Option<u32>
-        ensures { result ≡ option_map (λ info. info.max_datagram_size) (first_of (content unix 5) (viewed_response self.now).nlas) }
+        ensures { result ≡ option_map (λ info. info.max_datagram_size)
+            (first_of (content unix 5) (viewed_response self.now).nlas) }
     {
         Some(self.memory()?.max_datagram_size)
     }
 
-    /// How many bytes of memory are taken by what was sent and is not yet read: the field `alloc` of the first
-    /// `MemInfo`.
+    /// How many bytes of memory are taken by what was sent and is not yet read: the field `alloc`
+    /// of the first `MemInfo`.
     pub fn memory_used_for_outgoing_data(&self) -> Option<u32>
-        ensures { result ≡ option_map (λ info. info.alloc) (first_of (content unix 5) (viewed_response self.now).nlas) }
+        ensures { result ≡ option_map (λ info. info.alloc)
+            (first_of (content unix 5) (viewed_response self.now).nlas) }
     {
         Some(self.memory()?.alloc)
     }

@@ -30,7 +30,8 @@ pub enum InetNla<T, O> {
     LegacyMemInfo(LegacyMemInfo),
     /// What is known of the TCP connection, `INET_DIAG_INFO`.
     TcpInfo(TcpInfo),
-    /// The name of the congestion control algorithm, `INET_DIAG_CONG`. It is written with an end zero.
+    /// The name of the congestion control algorithm, `INET_DIAG_CONG`. It is written with an end
+    /// zero.
     Congestion(T),
     /// The type of service, `INET_DIAG_TOS`.
     Tos(u8),
@@ -59,8 +60,8 @@ pub type Nla = InetNla<String, DefaultNla>;
 /// bytes are borrowed.
 pub type NlaView<'a> = InetNla<&'a str, NlaBuffer<'a>>;
 
-// What stands in the places of a small vector that are not used. It takes no memory, and all of it is zeros, as memory
-// is before: so to fill the places costs nothing.
+// What stands in the places of a small vector that are not used. It takes no memory, and all of it
+// is zeros, as memory is before: so to fill the places costs nothing.
 impl MadeWith<Global> for Nla {
     ghost use Rattle.sock_diag_attributes.specs.InetAttributes.{inet};
     ghost use Rattle.sock_diag_attributes.specs.SeenInet.{seen_nla};
@@ -139,8 +140,8 @@ impl Nla {
     ghost use Rattle.sock_diag_attributes.specs.InetAttributes.{inet};
     ghost use Rattle.sock_diag_attributes.specs.SeenInet.{seen_nla};
 
-    /// An equal attribute. It fails only for want of memory, which only a text, and an attribute of another
-    /// kind that has bytes, need.
+    /// An equal attribute. It fails only for want of memory, which only a text, and an attribute of
+    /// another kind that has bytes, need.
     pub fn clone(&self, alloc: Global) -> Result<Self, AllocError>
         ensures equal { IfOk result (λ copy. seen_nla copy ≡ seen_nla self.now) }
         ensures spare { IsSpareSaid inet (seen_nla self.now) → IsOk result }
@@ -154,8 +155,8 @@ impl<'a> NlaView<'a> {
     ghost use Rattle.sock_diag_attributes.specs.InetAttributes.{inet};
     ghost use Rattle.sock_diag_attributes.specs.SeenInet.{seen_nla, viewed_nla};
 
-    /// Reads the value by the attribute's kind, whatever its flag bits. An attribute of a kind that is not known here
-    /// is `Other`.
+    /// Reads the value by the attribute's kind, whatever its flag bits. An attribute of a kind that
+    /// is not known here is `Other`.
     #[inline(always)]
     pub fn parse(nla: &NlaBuffer<'a>) -> Result<NlaView<'a>, DecodeError>
         ensures { MatchResult result
@@ -208,8 +209,8 @@ impl Readable for Nla {
 }
 
 impl<'a> Parseable<NlaBuffer<'a>> for Nla {
-    /// Reads the value by the attribute's kind, whatever its flag bits. An attribute of a kind that is not known here
-    /// is kept as it is.
+    /// Reads the value by the attribute's kind, whatever its flag bits. An attribute of a kind that
+    /// is not known here is kept as it is.
     fn parse(alloc: Global, buf: NlaBuffer<'a>) -> Result<Self, DecodeError> {
         Ok(NlaView::parse(&buf)?.to_owned(alloc)?)
     }

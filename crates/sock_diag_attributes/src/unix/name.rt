@@ -1,7 +1,8 @@
 //! The name of a UNIX socket.
 
 ghost use Rattle.std.proofs.Common.{rules};
-ghost use Rattle.std.specs.Prelude.{◌≡◌, ◌<◌, ◌≤◌, ◌++◌, length, take, drop, slice_index, IfOk, IsOk, MatchOption, MatchResult, Ok, Err, true, refl};
+ghost use Rattle.std.specs.Prelude.{◌≡◌, ◌<◌, ◌≤◌, ◌++◌, length, take, drop, slice_index, IfOk};
+ghost use Rattle.std.specs.Prelude.{IsOk, MatchOption, MatchResult, Ok, Err, true, refl};
 ghost use Rattle.sock_diag_attributes.specs.Name.{IsTypedName, read_name, name_bytes, name_codec};
 ghost use Rattle.sock_diag_attributes.specs.NameLaws.{HasNoZero, name_keeps_laws};
 
@@ -12,7 +13,8 @@ use std::alloc::{AllocError, Global};
 
 /// The name that a UNIX socket is bound to, as the attribute `UNIX_DIAG_NAME` tells it.
 ///
-/// A first byte of zero says an abstract name. Any other name is a path, which ends with its one zero.
+/// A first byte of zero says an abstract name. Any other name is a path, which ends with its one
+/// zero.
 #[derive(Debug, Drop, PartialEq, Eq)]
 pub enum UnixDiagName {
     /// The path of a file, without the zero at its end. It is written with that zero.
@@ -43,7 +45,8 @@ impl UnixDiagName {
     }
 }
 
-/// The name that a UNIX socket is bound to, read in place: a [`UnixDiagName`] whose bytes are borrowed.
+/// The name that a UNIX socket is bound to, read in place: a [`UnixDiagName`] whose bytes are
+/// borrowed.
 #[derive(Clone, Copy, Debug, PartialEq, Eq)]
 pub enum NameView<'a> {
     /// The path of a file, without the zero at its end.
@@ -55,8 +58,8 @@ pub enum NameView<'a> {
 impl<'a> NameView<'a> {
     ghost use Rattle.sock_diag_attributes.specs.SeenName.{seen_name, viewed_name};
 
-    /// The whole of the bytes as a name. No bytes are `NameEmpty`. Of a path, a first zero before the last byte is
-    /// `NameInnerZero`, and no zero is `NameWithoutEnd`.
+    /// The whole of the bytes as a name. No bytes are `NameEmpty`. Of a path, a first zero before
+    /// the last byte is `NameInnerZero`, and no zero is `NameWithoutEnd`.
     #[inline(always)]
     #[tactic(auto, using(crate::specs::NameLaws::reads_inner_zero, crate::specs::NameLaws::reads_path, crate::specs::NameLaws::reads_no_end))]
     pub fn parse(bytes: &'a [u8]) -> Result<NameView<'a>, DecodeError>
@@ -77,7 +80,8 @@ impl<'a> NameView<'a> {
         }
     }
 
-    /// The whole of the bytes as a name, where [`NameView::parse`] accepts them. They are not searched again.
+    /// The whole of the bytes as a name, where [`NameView::parse`] accepts them. They are not
+    /// searched again.
     #[inline(always)]
     #[tactic(auto, using(crate::specs::NameLaws::known_path))]
     pub fn new(bytes: &'a [u8]) -> NameView<'a>
@@ -131,7 +135,8 @@ impl<'a> NameView<'a> {
         }
     }
 
-    /// The name with bytes of its own. It fails only for want of memory, which a name of one byte doesn't need.
+    /// The name with bytes of its own. It fails only for want of memory, which a name of one byte
+    /// doesn't need.
     pub fn to_owned(&self, alloc: Global) -> Result<UnixDiagName, AllocError>
         ensures equal { IfOk result (λ name. seen_name name ≡ viewed_name self.now) }
         ensures spare { length (name_bytes (viewed_name self.now)) ≤ 1 → IsOk result }
@@ -150,8 +155,8 @@ impl Readable for UnixDiagName {
 }
 
 impl<'a> Parseable<&'a [u8]> for UnixDiagName {
-    /// Reads the whole of the bytes as a name. No bytes are `NameEmpty`. Of a path, a first zero before the last byte
-    /// is `NameInnerZero`, and no zero is `NameWithoutEnd`.
+    /// Reads the whole of the bytes as a name. No bytes are `NameEmpty`. Of a path, a first zero
+    /// before the last byte is `NameInnerZero`, and no zero is `NameWithoutEnd`.
     fn parse(alloc: Global, bytes: &'a [u8]) -> Result<Self, DecodeError> {
         Ok(NameView::parse(bytes)?.to_owned(alloc)?)
     }
@@ -207,10 +212,12 @@ impl Wire for UnixDiagName {
     ghost fits_is = { λ _. (λ h. h, λ h. h) };
 }
 
-// The place of the first zero. That there is none is usual, and is seen without a look at each byte by itself.
+// The place of the first zero. That there is none is usual, and is seen without a look at each byte
+// by itself.
 fn first_zero(bytes: &[u8]) -> Option<usize>
     ensures { MatchOption result (HasNoZero bytes.now) (λ index.
-        (index < length bytes.now) × (slice_index bytes.now index ≡ 0) × HasNoZero (take index bytes.now)) }
+        (index < length bytes.now) × (slice_index bytes.now index ≡ 0)
+        × HasNoZero (take index bytes.now)) }
 {
     if !bytes.contains(&0) {
         return None;

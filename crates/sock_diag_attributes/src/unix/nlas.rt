@@ -33,9 +33,9 @@ pub enum UnixNla<N, L, O> {
     Vfs(Vfs),
     /// The inodes of the sockets that wait to be accepted, `UNIX_DIAG_ICONS`.
     PendingConnections(L),
-    /// The lengths of the queues, `UNIX_DIAG_RQLEN`. Of a listening socket, how many connections wait to be accepted,
-    /// and how many may wait; of another, how many bytes wait to be read, and how many bytes of
-    /// memory are taken by what was sent and is not yet read.
+    /// The lengths of the queues, `UNIX_DIAG_RQLEN`. Of a listening socket, how many connections
+    /// wait to be accepted, and how many may wait; of another, how many bytes wait to be read, and
+    /// how many bytes of memory are taken by what was sent and is not yet read.
     ReceiveQueueLength(u32, u32),
     /// The memory of the socket, `UNIX_DIAG_MEMINFO`.
     MemInfo(MemInfo),
@@ -76,7 +76,8 @@ impl<N: LendsName, L: LendsNumbers, O: OtherNla> UnixNla<N, L, O> {
             seen_nla nla ≡ seen N.name L.numbers O.attribute self.now) }
         ensures spare { IsSpareSaid unix (seen N.name L.numbers O.attribute self.now)
             → IsOk result }
-        ensures empty { (attribute_said unix (seen N.name L.numbers O.attribute self.now)).value ≡ []
+        ensures empty { (attribute_said unix (seen N.name L.numbers O.attribute self.now)).value
+            ≡ []
             → IsOk result }
     {
         Ok(match self {
@@ -120,8 +121,8 @@ impl Nla {
     ghost use Rattle.sock_diag_attributes.specs.UnixAttributes.{unix};
     ghost use Rattle.sock_diag_attributes.specs.SeenUnix.{seen_nla};
 
-    /// An equal attribute. It fails only for want of memory, which only a name, and a list and an attribute of another
-    /// kind that aren't empty, need.
+    /// An equal attribute. It fails only for want of memory, which only a name, and a list and an
+    /// attribute of another kind that aren't empty, need.
     pub fn clone(&self, alloc: Global) -> Result<Self, AllocError>
         ensures equal { IfOk result (λ copy. seen_nla copy ≡ seen_nla self.now) }
         ensures spare { IsSpareSaid unix (seen_nla self.now) → IsOk result }
@@ -135,8 +136,8 @@ impl<'a> NlaView<'a> {
     ghost use Rattle.sock_diag_attributes.specs.UnixAttributes.{unix};
     ghost use Rattle.sock_diag_attributes.specs.SeenUnix.{seen_nla, viewed_nla};
 
-    /// Reads the value by the attribute's kind, whatever its flag bits. An attribute of a kind that is not known here
-    /// is `Other`.
+    /// Reads the value by the attribute's kind, whatever its flag bits. An attribute of a kind that
+    /// is not known here is `Other`.
     #[inline(always)]
     pub fn parse(nla: &NlaBuffer<'a>) -> Result<NlaView<'a>, DecodeError>
         ensures { MatchResult result
@@ -191,8 +192,8 @@ impl Readable for Nla {
 }
 
 impl<'a> Parseable<NlaBuffer<'a>> for Nla {
-    /// Reads the value by the attribute's kind, whatever its flag bits. An attribute of a kind that is not known here
-    /// is kept as it is.
+    /// Reads the value by the attribute's kind, whatever its flag bits. An attribute of a kind that
+    /// is not known here is kept as it is.
     fn parse(alloc: Global, buf: NlaBuffer<'a>) -> Result<Self, DecodeError> {
         Ok(NlaView::parse(&buf)?.to_owned(alloc)?)
     }

@@ -1,13 +1,19 @@
 use Rattle.std.proofs.Common.{◌-◌, Ok, Err, take, drop, arith, refl, rules}
 use Rattle.std.proofs.lemmas.Result.{err_from_is_err_and}
 use Rattle.std.proofs.lemmas.List.{map_push}
-use Rattle.netlink_core.specs.Envelope.{IsInnerType, done_with, error_with, overrun_with, no_payload, inner}
+use Rattle.netlink_core.specs.Envelope.{IsInnerType, done_with, error_with, overrun_with}
+use Rattle.netlink_core.specs.Envelope.{no_payload, inner}
 use Rattle.netlink_core.proofs.Framing.{fault_within}
-use Rattle.netlink_packet_sock_diag.proofs.Dumping.{passing_begins, carries, passes_nothing, passes_inner, ends_at, stops_at, cut_off_at, still_read}
+use Rattle.netlink_packet_sock_diag.proofs.Dumping.{passing_begins, carries, passes_nothing}
+use Rattle.netlink_packet_sock_diag.proofs.Dumping.{passes_inner, ends_at, stops_at, cut_off_at}
+use Rattle.netlink_packet_sock_diag.proofs.Dumping.{still_read}
 use Rattle.netlink_packet_sock_diag.proofs.dump.take_messages.Goals as goal
 
 pub loop-item-init : goal.loop-item-init
-loop-item-init g c = rw (c.into_iter-item-iterator.ensures.into_iter_gives, c.new-item-items.ensures) (passing_begins _ c.args.datagram.now _)
+loop-item-init g c = rw (
+  c.into_iter-item-iterator.ensures.into_iter_gives,
+  c.new-item-items.ensures,
+) (passing_begins _ c.args.datagram.now _)
 
 pub returns-in_err-message-clause-fault : goal.returns-in_err-message-clause-fault
 returns-in_err-message-clause-fault g c =
@@ -25,40 +31,59 @@ pub returns-in-2-clause-state : goal.returns-in-2-clause-state
 returns-in-2-clause-state g c =
     let start = rw c.in_ok-message.was at c.in-Some.ensures.steps in
     let h = c.in_ok-header.header in
-    ends_at g.I.Coded.codec g.met.I.Coded.laws.answered _ _ _ _ _ _ (Ok (error_with (take (h.length - 16) (drop 16 c.in_ok-message.message.now)))) _ (λ i. omega (arith, c.type_inv.datagram i)) c.loop-item.invariant start
-    (carries g.I.Coded.codec _ h (error_with (take (h.length - 16) (drop 16 c.in_ok-message.message.now))) c.in_ok-header.ensures (c.in-2.is, refl)) refl
+    ends_at g.I.Coded.codec g.met.I.Coded.laws.answered _ _ _ _ _ _
+    (Ok (error_with (take (h.length - 16) (drop 16 c.in_ok-message.message.now)))) _
+    (λ i. omega (arith, c.type_inv.datagram i)) c.loop-item.invariant start
+    (carries g.I.Coded.codec _ h
+    (error_with (take (h.length - 16) (drop 16 c.in_ok-message.message.now)))
+    c.in_ok-header.ensures (c.in-2.is, refl)) refl
 
 pub returns-in-3-clause-state : goal.returns-in-3-clause-state
 returns-in-3-clause-state g c =
     let start = rw c.in_ok-message.was at c.in-Some.ensures.steps in
     let h = c.in_ok-header.header in
-    ends_at g.I.Coded.codec g.met.I.Coded.laws.answered _ _ _ _ _ _ (Ok (done_with (take (h.length - 16) (drop 16 c.in_ok-message.message.now)))) _ (λ i. omega (arith, c.type_inv.datagram i)) c.loop-item.invariant start
-    (carries g.I.Coded.codec _ h (done_with (take (h.length - 16) (drop 16 c.in_ok-message.message.now))) c.in_ok-header.ensures (c.in-3.is, refl)) refl
+    ends_at g.I.Coded.codec g.met.I.Coded.laws.answered _ _ _ _ _ _
+    (Ok (done_with (take (h.length - 16) (drop 16 c.in_ok-message.message.now)))) _
+    (λ i. omega (arith, c.type_inv.datagram i)) c.loop-item.invariant start
+    (carries g.I.Coded.codec _ h
+    (done_with (take (h.length - 16) (drop 16 c.in_ok-message.message.now)))
+    c.in_ok-header.ensures (c.in-3.is, refl)) refl
 
 pub returns-in-4-clause-state : goal.returns-in-4-clause-state
 returns-in-4-clause-state g c =
     let start = rw c.in_ok-message.was at c.in-Some.ensures.steps in
     let h = c.in_ok-header.header in
-    ends_at g.I.Coded.codec g.met.I.Coded.laws.answered _ _ _ _ _ _ (Ok (overrun_with (take (h.length - 16) (drop 16 c.in_ok-message.message.now)))) _ (λ i. omega (arith, c.type_inv.datagram i)) c.loop-item.invariant start
-    (carries g.I.Coded.codec _ h (overrun_with (take (h.length - 16) (drop 16 c.in_ok-message.message.now))) c.in_ok-header.ensures (c.in-4.is, refl)) refl
+    ends_at g.I.Coded.codec g.met.I.Coded.laws.answered _ _ _ _ _ _
+    (Ok (overrun_with (take (h.length - 16) (drop 16 c.in_ok-message.message.now)))) _
+    (λ i. omega (arith, c.type_inv.datagram i)) c.loop-item.invariant start
+    (carries g.I.Coded.codec _ h
+    (overrun_with (take (h.length - 16) (drop 16 c.in_ok-message.message.now)))
+    c.in_ok-header.ensures (c.in-4.is, refl)) refl
 
-pub returns-in_err-deserialize-in_default-clause-fault : goal.returns-in_err-deserialize-in_default-clause-fault
+pub returns-in_err-deserialize-in_default-clause-fault :
+    goal.returns-in_err-deserialize-in_default-clause-fault
 returns-in_err-deserialize-in_default-clause-fault g c =
-    let p = err_from_is_err_and c.from_residual-in_err-deserialize-in_default.result c.from_residual-in_err-deserialize-in_default.ensures.1 in
+    let p = err_from_is_err_and c.from_residual-in_err-deserialize-in_default.result
+    c.from_residual-in_err-deserialize-in_default.ensures.1 in
     let start = rw c.in_ok-message.was at c.in-Some.ensures.steps in
     let h = c.in_ok-header.header in
     let other : IsInnerType h.message_type = search rules in
-    rw (p.1, p.2) (λ named. ends_at g.I.Coded.codec g.met.I.Coded.laws.answered _ _ _ _ _ _ (Err _) _ (λ i. omega (arith, c.type_inv.datagram i)) c.loop-item.invariant start
-    (fault_within g.I.Coded.codec _ h _ c.in_ok-header.ensures (other, c.in_err-deserialize-in_default.ensures.fault named)) refl)
+    rw (p.1, p.2) (λ named. ends_at g.I.Coded.codec g.met.I.Coded.laws.answered _ _ _ _ _ _ (Err _)
+    _ (λ i. omega (arith, c.type_inv.datagram i)) c.loop-item.invariant start
+    (fault_within g.I.Coded.codec _ h _ c.in_ok-header.ensures
+    (other, c.in_err-deserialize-in_default.ensures.fault named)) refl)
 
-pub returns-in_err-deserialize-in_default-clause-memory : goal.returns-in_err-deserialize-in_default-clause-memory
+pub returns-in_err-deserialize-in_default-clause-memory :
+    goal.returns-in_err-deserialize-in_default-clause-memory
 returns-in_err-deserialize-in_default-clause-memory g c =
-    let p = err_from_is_err_and c.from_residual-in_err-deserialize-in_default.result c.from_residual-in_err-deserialize-in_default.ensures.1 in
+    let p = err_from_is_err_and c.from_residual-in_err-deserialize-in_default.result
+    c.from_residual-in_err-deserialize-in_default.ensures.1 in
     let start = rw c.in_ok-message.was at c.in-Some.ensures.steps in
     let h = c.in_ok-header.header in
     let other : IsInnerType h.message_type = search rules in
     rw (p.1, p.2) (λ none. let m = c.in_err-deserialize-in_default.ensures.wanted none in
-    stops_at g.I.Coded.codec g.met.I.Coded.laws.answered _ _ _ _ _ _ m.0 (λ i. omega (arith, c.type_inv.datagram i)) c.loop-item.invariant start
+    stops_at g.I.Coded.codec g.met.I.Coded.laws.answered _ _ _ _ _ _ m.0
+    (λ i. omega (arith, c.type_inv.datagram i)) c.loop-item.invariant start
     (carries g.I.Coded.codec _ h (inner m.0) c.in_ok-header.ensures (other, m.1)))
 
 pub loop-item-preserved : goal.loop-item-preserved
@@ -67,18 +92,24 @@ loop-item-preserved g c =
     let h = c.in_ok-header.header in
     let other : IsInnerType h.message_type = search rules in
     let more = passes_inner g.I.Coded.codec _ _ _ _ _ _ _ c.loop-item.invariant start
-    (carries g.I.Coded.codec _ h (inner (g.I.Coded.seen c.in_ok-deserialize-in_default.field-0)) c.in_ok-header.ensures (other, c.in_ok-deserialize-in_default.ensures.value)) in
+    (carries g.I.Coded.codec _ h (inner (g.I.Coded.seen c.in_ok-deserialize-in_default.field-0))
+    c.in_ok-header.ensures (other, c.in_ok-deserialize-in_default.ensures.value)) in
     rw (c.in_ok-push-in_default.ensures.items, map_push) more
 
 pub returns-in_err-push-in_default-clause-memory : goal.returns-in_err-push-in_default-clause-memory
 returns-in_err-push-in_default-clause-memory g c =
-    let p = err_from_is_err_and c.from_residual-in_err-push-in_default.result c.from_residual-in_err-push-in_default.ensures.1 in
+    let p = err_from_is_err_and c.from_residual-in_err-push-in_default.result
+    c.from_residual-in_err-push-in_default.ensures.1 in
     let start = rw c.in_ok-message.was at c.in-Some.ensures.steps in
     let h = c.in_ok-header.header in
     let value = g.I.Coded.seen c.in_ok-deserialize-in_default.field-0 in
     let other : IsInnerType h.message_type = search rules in
-    rw (p.1, c.in_err-push-in_default.ensures.items) (λ _. stops_at g.I.Coded.codec g.met.I.Coded.laws.answered _ _ _ _ _ _ value (λ i. omega (arith, c.type_inv.datagram i)) c.loop-item.invariant start
-    (carries g.I.Coded.codec _ h (inner value) c.in_ok-header.ensures (other, c.in_ok-deserialize-in_default.ensures.value)))
+    rw (p.1, c.in_err-push-in_default.ensures.items)
+    (λ _. stops_at g.I.Coded.codec g.met.I.Coded.laws.answered _ _ _ _ _ _ value
+    (λ i. omega (arith, c.type_inv.datagram i)) c.loop-item.invariant start
+    (carries g.I.Coded.codec _ h (inner value) c.in_ok-header.ensures
+    (other, c.in_ok-deserialize-in_default.ensures.value)))
 
 pub returns-clause-state : goal.returns-clause-state
-returns-clause-state g c = still_read g.I.Coded.codec _ _ _ _ c.loop-item.invariant c.in-None.ensures.steps.0
+returns-clause-state g c = still_read g.I.Coded.codec _ _ _ _ c.loop-item.invariant
+    c.in-None.ensures.steps.0

@@ -9,4 +9,5 @@ returns c = λ datagrams others typed fits split cut same before after end d.
     let some = c.datagram_has_items.ensures in
     let one = c.one_list_of_items.ensures in
     split_of_dump message_codec some one others fits cut before after end
-    (subst (λ (bytes : List ℕ). DatagramDump message_codec before bytes after end) same (dump_of_split message_codec datagrams split before after end d))
+    (subst (λ (bytes : List ℕ). DatagramDump message_codec before bytes after end) same
+    (dump_of_split message_codec datagrams split before after end d))

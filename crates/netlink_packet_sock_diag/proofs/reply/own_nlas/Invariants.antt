@@ -8,6 +8,7 @@ use Rattle.netlink_packet_sock_diag.proofs.reply.own_nlas.Given as goal
 -- what was kept and what is left are all, and there is room for all
 abbrev pub invariant-loop-item : goal.invariant-loop-item
 invariant-loop-item g l = record {
-  owned : Owned (says g.T.FamilyNla.family) g.T.FamilyNla.seen l.bytes (bytes_left l.item-iterator) l.nlas.items;
+  owned : Owned (says g.T.FamilyNla.family) g.T.FamilyNla.seen l.bytes (bytes_left l.item-iterator)
+      l.nlas.items;
   room : length (values_in (says g.T.FamilyNla.family) l.bytes) ≤ l.nlas.capacity;
 }

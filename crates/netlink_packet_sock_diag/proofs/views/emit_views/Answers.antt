@@ -15,17 +15,23 @@ loop-view-preserved g c =
     let rest : List ℕ = flat_map written (attributes_in F (bytes_left c.loop-view.walk)) in
     let later : List ℕ = flat_map written (attributes_in F (bytes_left c.next_view.new.walk)) in
     let as_said : a ≡ attribute_said F (g.V.FamilyView.viewed c.in-Some.view) = search rules in
-    let parts = attributes_next F (bytes_left c.loop-view.walk) (bytes_left c.next_view.new.walk) a (g.V.FamilyView.viewed c.in-Some.view) as_said c.in-Some.ensures.next in
+    let parts = attributes_next F (bytes_left c.loop-view.walk) (bytes_left c.next_view.new.walk) a
+    (g.V.FamilyView.viewed c.in-Some.view) as_said c.in-Some.ensures.next in
     let next : rest ≡ written a ++ later = ap (flat_map written) parts in
     let end : ℕ = c.loop-view.at + c.nla_len.result in
-    let end-is : end ≡ c.loop-view.at + length (written a) = ap (λ (n : ℕ). c.loop-view.at + n) c.nla_len.ensures in
-    let long : length rest ≡ length (written a) + length later = ap length next ∙ length-append (written a) later in
-    let fits = subst (λ (xs : List Attribute). AreWritable xs 4294967295) parts c.loop-view.invariant.fits in
+    let end-is : end ≡ c.loop-view.at + length (written a) =
+    ap (λ (n : ℕ). c.loop-view.at + n) c.nla_len.ensures in
+    let long : length rest ≡ length (written a) + length later = ap length next
+    ∙ length-append (written a) later in
+    let fits = subst (λ (xs : List Attribute). AreWritable xs 4294967295) parts
+    c.loop-view.invariant.fits in
     let in_buffer : end ≤ length c.loop-view.buffer = omega (arith, long) in
     record {
       clean = c.next_view.ensures.rest;
       fits = (fits.0.1, omega (arith, long));
       len = omega (arith, long);
-      done = one_more a rest later c.loop-view.buffer c.emit_nla.new.buffer _ c.loop-view.at end next c.emit_nla.ensures end-is in_buffer c.loop-view.invariant.done;
-      left = behind_one_more a c.loop-view.buffer c.args.buffer.now c.emit_nla.new.buffer c.loop-view.at end c.emit_nla.ensures end-is in_buffer c.loop-view.invariant.left;
+      done = one_more a rest later c.loop-view.buffer c.emit_nla.new.buffer _ c.loop-view.at end
+          next c.emit_nla.ensures end-is in_buffer c.loop-view.invariant.done;
+      left = behind_one_more a c.loop-view.buffer c.args.buffer.now c.emit_nla.new.buffer
+          c.loop-view.at end c.emit_nla.ensures end-is in_buffer c.loop-view.invariant.left;
     }

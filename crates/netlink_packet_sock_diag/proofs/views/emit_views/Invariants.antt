@@ -7,7 +7,8 @@ use Rattle.netlink_packet_sock_diag.specs.AttributesIn.{HasNoFault, values_in}
 use Rattle.netlink_packet_sock_diag.proofs.Emitting.{attributes_in}
 use Rattle.netlink_packet_sock_diag.proofs.views.emit_views.Given as goal
 
--- what was written and what is left make the whole, and behind what was written the buffer is as it was
+-- what was written and what is left make the whole, and behind what was written the buffer is as it
+-- was
 abbrev pub invariant-loop-view : goal.invariant-loop-view
 invariant-loop-view g l =
     let left = attributes_in g.V.FamilyView.family (bytes_left l.walk) in

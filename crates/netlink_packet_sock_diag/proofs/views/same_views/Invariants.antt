@@ -14,7 +14,8 @@ invariant-loop-view g l =
     record {
       left : HasNoFault (says g.V.FamilyView.family) (bytes_left l.walk);
       right : HasNoFault (says g.V.FamilyView.family) (bytes_left l.others);
-      same : test (values (bytes_left l.walk)) (values (bytes_left l.others)) ≡ test (values l.left) (values l.right);
+      same : test (values (bytes_left l.walk)) (values (bytes_left l.others)) ≡ test (values l.left)
+          (values l.right);
     }
 
 abbrev pub decreases-loop-view : goal.decreases-loop-view

@@ -9,4 +9,6 @@ pub returns : goal.returns
 returns c =
     let v = c.args.v.now in
     let w = c.args.w.now in
-    subst (λ (t : Bool). IsTrue t ↔ (viewed_nla v ≡ viewed_nla w)) (sym c.eq.ensures) (equal text_view_row buffer_row _ _ (λ (t : Bor (List ℕ)). t.now) attribute_of (λ _ _. refl) (λ _ _. refl) v w)
+    subst (λ (t : Bool). IsTrue t ↔ (viewed_nla v ≡ viewed_nla w)) (sym c.eq.ensures)
+    (equal text_view_row buffer_row _ _ (λ (t : Bor (List ℕ)). t.now) attribute_of (λ _ _. refl)
+    (λ _ _. refl) v w)

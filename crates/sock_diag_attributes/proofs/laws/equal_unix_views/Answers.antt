@@ -11,4 +11,6 @@ pub returns : goal.returns
 returns c =
     let v = c.args.v.now in
     let w = c.args.w.now in
-    subst (λ (t : Bool). IsTrue t ↔ (viewed_nla v ≡ viewed_nla w)) (sym c.eq.ensures) (equal name_view_row numbers_row buffer_row _ _ _ viewed_name viewed_numbers attribute_of viewed_names viewed_lists (λ _ _. refl) v w)
+    subst (λ (t : Bool). IsTrue t ↔ (viewed_nla v ≡ viewed_nla w)) (sym c.eq.ensures)
+    (equal name_view_row numbers_row buffer_row _ _ _ viewed_name viewed_numbers attribute_of
+    viewed_names viewed_lists (λ _ _. refl) v w)

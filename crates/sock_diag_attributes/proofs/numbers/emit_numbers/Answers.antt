@@ -7,7 +7,10 @@ pub slice_bounds-write_u32_into-end : goal.slice_bounds-write_u32_into-end
 slice_bounds-write_u32_into-end c = omega (arith, length_numbers c.args.numbers.now, c.requires)
 
 pub slice_bounds-write_u32_into-end-2 : goal.slice_bounds-write_u32_into-end-2
-slice_bounds-write_u32_into-end-2 c = sym (length-take-le (4 * length c.args.numbers.now) c.args.buffer.now (omega (arith, length_numbers c.args.numbers.now, c.requires)))
+slice_bounds-write_u32_into-end-2 c =
+    sym (length-take-le (4 * length c.args.numbers.now) c.args.buffer.now
+    (omega (arith, length_numbers c.args.numbers.now, c.requires)))
 
 pub write_u32_into-requires : goal.write_u32_into-requires
-write_u32_into-requires c = length-take-le (4 * length c.args.numbers.now) c.args.buffer.now (omega (arith, length_numbers c.args.numbers.now, c.requires))
+write_u32_into-requires c = length-take-le (4 * length c.args.numbers.now) c.args.buffer.now
+    (omega (arith, length_numbers c.args.numbers.now, c.requires))

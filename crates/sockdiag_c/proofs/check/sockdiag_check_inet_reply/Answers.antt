@@ -5,5 +5,12 @@ use Rattle.sockdiag_c.proofs.check.sockdiag_check_inet_reply.Goals as goal
 
 pub returns-in-Ok : goal.returns-in-Ok
 returns-in-Ok c =
-    inl (refl, (viewed c.in-Ok.view, c.in-Ok.ensures.value, c.from.ensures
-          ∙ ap inet_header_of c.header.ensures))
+    inl (
+      refl,
+      (
+        viewed c.in-Ok.view,
+        c.in-Ok.ensures.value,
+        c.from.ensures
+            ∙ ap inet_header_of c.header.ensures,
+      ),
+    )

@@ -12,4 +12,4 @@ returns-in-Ok-clause-rewrites c =
 pub returns-in-Ok-clause-canonical : goal.returns-in-Ok-clause-canonical
 returns-in-Ok-clause-canonical c =
     canonical_where_written unix_reply unix_reply_laws c.args.payload.now c.args.buffer.now _ _ _ _
-        (λ i. omega (arith, c.type_inv.payload i)) c.in-Ok.ensures.value c.write_value.ensures
+    (λ i. omega (arith, c.type_inv.payload i)) c.in-Ok.ensures.value c.write_value.ensures

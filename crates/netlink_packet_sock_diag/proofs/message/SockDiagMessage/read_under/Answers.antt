@@ -6,9 +6,15 @@ use Rattle.netlink_packet_sock_diag.proofs.message.SockDiagMessage.read_under.Go
 pub returns-in_err-parse-clause-wanted : goal.returns-in_err-parse-clause-wanted
 returns-in_err-parse-clause-wanted c =
     let p = err_from_is_err_and c.from_residual.result c.from_residual.ensures.1 in
-    rw (p.1, p.2) (λ memory. absurd (message_laws.named_fault c.args.payload.now c.args.message_type (rw memory at c.in_err-parse.ensures.fault)))
+    rw (p.1, p.2) (λ memory. absurd (message_laws.named_fault c.args.payload.now c.args.message_type
+    (rw memory at c.in_err-parse.ensures.fault)))
 
 pub returns-in_err-to_owned-clause-wanted : goal.returns-in_err-to_owned-clause-wanted
 returns-in_err-to_owned-clause-wanted c =
-    let p = err_from_is_err_and c.from_residual-in_err-to_owned.result c.from_residual-in_err-to_owned.ensures.1 in
-    rw (p.1, p.2) (λ memory. (viewed_message c.in_ok-parse.field-0, c.in_ok-parse.ensures.value, λ spare. spare))
+    let p = err_from_is_err_and c.from_residual-in_err-to_owned.result
+    c.from_residual-in_err-to_owned.ensures.1 in
+    rw (p.1, p.2) (λ memory. (
+      viewed_message c.in_ok-parse.field-0,
+      c.in_ok-parse.ensures.value,
+      λ spare. spare,
+    ))

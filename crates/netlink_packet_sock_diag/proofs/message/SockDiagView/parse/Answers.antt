@@ -7,4 +7,9 @@ use Rattle.netlink_packet_sock_diag.proofs.message.SockDiagView.parse.Goals as g
 pub returns-in_err-parse-in-1-clause-fault : goal.returns-in_err-parse-in-1-clause-fault
 returns-in_err-parse-in-1-clause-fault c =
     let p = err_from_is_err_and c.from_residual.result c.from_residual.ensures.1 in
-    rw (p.1, p.2) (inr (unix_response, unix_told c.args.payload.now c.args.message_type (omega arith) (omega arith) c.in-1.is, c.in_err-parse-in-1.ensures.fault))
+    rw (p.1, p.2) (inr (
+      unix_response,
+      unix_told c.args.payload.now c.args.message_type
+          (omega arith) (omega arith) c.in-1.is,
+      c.in_err-parse-in-1.ensures.fault,
+    ))

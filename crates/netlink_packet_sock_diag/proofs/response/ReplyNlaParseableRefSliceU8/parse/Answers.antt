@@ -21,7 +21,8 @@ returns-then-is_err-clause-wanted g c = λ memory.
     let typed : IsBytes c.args.payload.now = λ i. omega (arith, c.type_inv.payload i) in (
       reply_behind (reply_with R F) (viewed view).header (drop R.size view.bytes.now),
       kept_reads R F g.met.H.ReplyOwned.same.1 _ _ view.accepted c.in_ok-view.ensures.kept typed,
-      λ spare. let ok : IsOk c.own_into.result = c.own_into.ensures.spare c.new-nlas.ensures.capacity spare in search rules,
+      λ spare. let ok : IsOk c.own_into.result =
+          c.own_into.ensures.spare c.new-nlas.ensures.capacity spare in search rules,
     )
 
 pub returns-clause-value : goal.returns-clause-value
@@ -29,5 +30,6 @@ returns-clause-value g c =
     let R = g.H.ReplyHeader.reply in
     let F = g.H.Nla.FamilyNla.family in
     let typed : IsBytes c.args.payload.now = λ i. omega (arith, c.type_inv.payload i) in
-    let reads = kept_reads R F g.met.H.ReplyOwned.same.1 _ _ c.in_ok-view.view.accepted c.in_ok-view.ensures.kept typed in
+    let reads = kept_reads R F g.met.H.ReplyOwned.same.1 _ _ c.in_ok-view.view.accepted
+    c.in_ok-view.ensures.kept typed in
     search (rules, reads)

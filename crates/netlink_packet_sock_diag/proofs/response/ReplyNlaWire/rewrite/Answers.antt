@@ -32,7 +32,8 @@ returns-in-Ok-clause-err g c =
     let typed : IsBytes bytes = λ i. omega (arith, c.type_inv.bytes i) in
     let reads = kept_reads R F same.1 _ _ c.in-Ok.view.accepted c.in-Ok.ensures.kept typed in
     IfErr-weaker c.write_new.result _ _
-    (gives_up (λ view. reply_behind (reply_with R F) (viewed view).header (drop R.size view.bytes.now))
+    (gives_up (λ view. reply_behind (reply_with R F) (viewed view).header
+    (drop R.size view.bytes.now))
     (codec.reads bytes tt) (codec.refuses bytes tt) codec.fits _ c.in-Ok.view reads
     (λ view h. (kept_fits R F same.3 (viewed view).header (drop R.size view.bytes.now)).1 h))
     c.write_new.ensures.err

@@ -13,7 +13,8 @@ returns-in_err-_header-clause-named g c =
     let p = err_from_is_err_and c.from_residual.result c.from_residual.ensures.1 in
     let fault = inl c.in_err-_header.ensures.fault in
     let refuses = (reply_codec g.H.ReplyHeader.reply).refuses c.args.bytes.now tt in
-    rw (p.1, p.2) (λ memory. g.met.H.ReplyHeader.keeps.named_fault _ tt (subst refuses memory fault))
+    rw (p.1, p.2) (λ memory. g.met.H.ReplyHeader.keeps.named_fault _ tt
+    (subst refuses memory fault))
 
 pub returns-in_err-count-clause-fault : goal.returns-in_err-count-clause-fault
 returns-in_err-count-clause-fault g c =
@@ -34,7 +35,8 @@ returns-in_err-count-clause-named g c =
     let refused = behind_refused g.H.ReplyHeader.reply _ _ part _ _ c.in_ok-_header.ensures.value
     c.in_err-count.ensures.fault in
     let refuses = (reply_codec g.H.ReplyHeader.reply).refuses c.args.bytes.now tt in
-    rw (p.1, p.2) (λ memory. g.met.H.ReplyHeader.keeps.named_fault _ tt (subst refuses memory refused))
+    rw (p.1, p.2) (λ memory. g.met.H.ReplyHeader.keeps.named_fault _ tt
+    (subst refuses memory refused))
 
 pub invariant_of-result : goal.invariant_of-result
 invariant_of-result g c =

@@ -6,4 +6,6 @@ use Rattle.sock_diag_attributes.proofs.numbers.NumbersView.get.Goals as goal
 
 pub returns : goal.returns
 returns c =
-    ap Some c.read_u32.ensures ∙ ap (λ b. Some (little_number 4 b)) (take_rest c.args.self.now.bytes.now _) ∙ sym (number_at c.args.self.now.bytes.now c.args.index (omega arith))
+    ap Some c.read_u32.ensures ∙ ap (λ b. Some (little_number 4 b))
+    (take_rest c.args.self.now.bytes.now _)
+    ∙ sym (number_at c.args.self.now.bytes.now c.args.index (omega arith))

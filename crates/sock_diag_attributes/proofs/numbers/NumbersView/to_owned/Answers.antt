@@ -6,6 +6,9 @@ use Rattle.sock_diag_attributes.proofs.numbers.NumbersView.to_owned.Goals as goa
 pub returns-clause-equal : goal.returns-clause-equal
 returns-clause-equal c =
     let numbers = c.read_u32_into.new.dst in
-    let long : length numbers ≡ c.in_ok-numbers.numbers.len = c.read_u32_into.auto.dst ∙ c.deref_mut.ensures.len in
+    let long : length numbers ≡ c.in_ok-numbers.numbers.len = c.read_u32_into.auto.dst
+    ∙ c.deref_mut.ensures.len in
     let count = c.in_ok-numbers.ensures.len in
-    sym (places c.args.self.now.bytes.now numbers (omega (arith, long, count, c.args.self.now.whole)) c.read_u32_into.ensures ∙ sym (take_at numbers _ _ long))
+    sym (places c.args.self.now.bytes.now numbers
+    (omega (arith, long, count, c.args.self.now.whole)) c.read_u32_into.ensures
+    ∙ sym (take_at numbers _ _ long))

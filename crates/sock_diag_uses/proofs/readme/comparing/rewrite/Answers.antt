@@ -20,6 +20,12 @@ returns-then-not-is_writable-clause-value c = (
 )
 
 pub returns-clause-value : goal.returns-clause-value
-returns-clause-value c = (viewed c.in_ok-reply.reply, c.in_ok-reply.ensures.value,
-    (rw c.buffer_len-2.ensures c.emit.ensures, c.is_writable.ensures.0 c.if-not-is_writable.false,
-      c.buffer_len-2.ensures))
+returns-clause-value c = (
+  viewed c.in_ok-reply.reply,
+  c.in_ok-reply.ensures.value,
+  (
+    rw c.buffer_len-2.ensures c.emit.ensures,
+    c.is_writable.ensures.0 c.if-not-is_writable.false,
+    c.buffer_len-2.ensures,
+  ),
+)

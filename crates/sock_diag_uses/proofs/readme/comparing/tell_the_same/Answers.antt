@@ -15,13 +15,16 @@ returns-clause-value c =
     let told = unix_test_says v w in
     let laws = replies_keep_laws unix_reply unix_reply_laws in
     let idle = laws.same_value c.args.one.now c.args.other.now tt v w
-        (λ i. omega (arith, c.type_inv.one i)) (λ i. omega (arith, c.type_inv.other i))
-        c.in_ok-parse.ensures.value c.in_ok-parse-2.ensures.value in
+    (λ i. omega (arith, c.type_inv.one i)) (λ i. omega (arith, c.type_inv.other i))
+    c.in_ok-parse.ensures.value c.in_ok-parse-2.ensures.value in
     rw c.eq.ensures (λ same. idle.0 (told.0 same), λ i. told.1 (idle.1 i))
 
 pub returns-in_err-parse-2-clause-fault : goal.returns-in_err-parse-2-clause-fault
 returns-in_err-parse-2-clause-fault c =
     let p = err_from_is_err_and c.from_residual-in_err-parse-2.result
-        c.from_residual-in_err-parse-2.ensures.1 in
-    rw (p.1, p.2) (inr (viewed c.in_ok-parse.field-0, c.in_ok-parse.ensures.value,
-          c.in_err-parse-2.ensures.fault))
+    c.from_residual-in_err-parse-2.ensures.1 in
+    rw (p.1, p.2) (inr (
+      viewed c.in_ok-parse.field-0,
+      c.in_ok-parse.ensures.value,
+      c.in_err-parse-2.ensures.fault,
+    ))

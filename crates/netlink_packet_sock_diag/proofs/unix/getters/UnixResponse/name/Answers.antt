@@ -4,4 +4,6 @@ use Rattle.netlink_packet_sock_diag.proofs.FirstFound.{first_owned}
 use Rattle.netlink_packet_sock_diag.proofs.unix.getters.UnixResponse.name.Goals as goal
 
 pub returns : goal.returns
-returns c = first_owned 0 (λ o. option_map seen_name (option_copied o)) refl (λ y. refl) c.args.self.now.nlas.items (cc) (λ x o q k. search (rules, tests)) _ c.find_map.ensures.runs
+returns c = first_owned 0 (λ o. option_map seen_name (option_copied o)) refl
+    (λ y. refl) c.args.self.now.nlas.items (cc) (λ x o q k. search (rules, tests)) _
+    c.find_map.ensures.runs

@@ -12,17 +12,25 @@ use Rattle.sock_diag_attributes.proofs.inet.nlas.NlaParseableNlaBuffer.parse.Goa
 pub returns-in_err-parse-clause-wanted : goal.returns-in_err-parse-clause-wanted
 returns-in_err-parse-clause-wanted c =
     let p = err_from_is_err_and c.from_residual.result c.from_residual.ensures.1 in
-    rw (p.1, p.2) (λ memory. absurd (family_named inet inet_laws (attribute_of c.args.buf) (rw memory at c.in_err-parse.ensures)))
+    rw (p.1, p.2) (λ memory.
+    absurd (family_named inet inet_laws (attribute_of c.args.buf)
+    (rw memory at c.in_err-parse.ensures)))
 
 pub returns-in_err-to_owned-clause-wanted : goal.returns-in_err-to_owned-clause-wanted
 returns-in_err-to_owned-clause-wanted c =
     let a : Attribute = attribute_of c.args.buf in
     let fits : FitsWords a = (c.args.buf.word_fits, c.args.buf.value_fits) in
-    let p = err_from_is_err_and c.from_residual-in_err-to_owned.result c.from_residual-in_err-to_owned.ensures.1 in
-    rw (p.1, p.2) (λ memory. (viewed_nla c.in_ok-parse.field-0, said_is_read inet a fits (viewed_nla c.in_ok-parse.field-0) c.in_ok-parse.ensures, λ spare. let none = rw c.in_err-to_owned.was at (c.to_owned.ensures.spare spare) in cc))
+    let p = err_from_is_err_and c.from_residual-in_err-to_owned.result
+    c.from_residual-in_err-to_owned.ensures.1 in
+    rw (p.1, p.2) (λ memory. (
+      viewed_nla c.in_ok-parse.field-0,
+      said_is_read inet a fits (viewed_nla c.in_ok-parse.field-0) c.in_ok-parse.ensures,
+      λ spare. let none = rw c.in_err-to_owned.was at (c.to_owned.ensures.spare spare) in cc,
+    ))
 
 pub returns-clause-value : goal.returns-clause-value
 returns-clause-value c =
     let a : Attribute = attribute_of c.args.buf in
     let fits : FitsWords a = (c.args.buf.word_fits, c.args.buf.value_fits) in
-    said_is_read inet a fits (seen_nla c.in_ok-to_owned.field-0) (c.in_ok-parse.ensures ∙ ap Ok (sym c.in_ok-to_owned.ensures.equal))
+    said_is_read inet a fits (seen_nla c.in_ok-to_owned.field-0) (c.in_ok-parse.ensures
+    ∙ ap Ok (sym c.in_ok-to_owned.ensures.equal))
