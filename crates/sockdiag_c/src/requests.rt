@@ -19,8 +19,8 @@ use netlink_packet_sock_diag::unix::{self, ShowFlags};
 use std::mem::forget;
 use std::net::{IpAddr, Ipv4Addr, Ipv6Addr};
 
-/// What the netlink header of a request tells, but its length and its type: `struct
-/// sockdiag_request_header` of `include/sockdiag.h`.
+/// What the netlink header of a request tells, but its length and its type:
+/// `struct sockdiag_request_header` of `include/sockdiag.h`.
 #[repr(C)]
 #[derive(Clone, Copy)]
 pub struct RequestHeader {
