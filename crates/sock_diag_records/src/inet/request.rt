@@ -50,8 +50,7 @@ impl Record for InetRequest {
     /// Reads the first 56 bytes. What follows them is ignored. Fewer are
     /// [`DecodeError::BufferTooSmall`]; then a family but AF_INET and AF_INET6 is
     /// [`DecodeError::UnsupportedFamily`].
-    #[tactic(auto, unfolding(crate::specs::InetRequest::inet_request,
-            crate::specs::SocketId::socket_id))]
+    #[tactic(auto, unfolding(crate::specs::InetRequest::inet_request, crate::specs::SocketId::socket_id))]
     fn from_row(payload: &[u8], _told: ()) -> Result<Self, DecodeError> {
         let family = payload[0];
         let socket_id = SocketId::from_row(&payload[8..], family)?;
@@ -65,8 +64,7 @@ impl Record for InetRequest {
         })
     }
 
-    #[tactic(auto, unfolding(crate::specs::InetRequest::inet_request,
-            crate::specs::SocketId::socket_id))]
+    #[tactic(auto, unfolding(crate::specs::InetRequest::inet_request, crate::specs::SocketId::socket_id))]
     fn write_row(&self, row: &mut [u8]) {
         let (start, rest) = row.split_at_mut(4);
         let (states, socket_id) = rest.split_at_mut(4);
@@ -75,8 +73,7 @@ impl Record for InetRequest {
         self.socket_id.write_row(socket_id);
     }
 
-    #[tactic(auto, unfolding(crate::specs::InetRequest::inet_request,
-            crate::specs::SocketId::socket_id), using(crate::specs::InetRequestLaws::fit_inside))]
+    #[tactic(auto, unfolding(crate::specs::InetRequest::inet_request, crate::specs::SocketId::socket_id), using(crate::specs::InetRequestLaws::fit_inside))]
     fn row_typed(&self) {
         let _family = self.family;
         let _protocol = self.protocol;

@@ -91,8 +91,7 @@ impl Record for InetResponseHeader {
     /// Reads the first 72 bytes. What follows them is ignored. Fewer are
     /// [`DecodeError::BufferTooSmall`]; then a family but AF_INET and AF_INET6 is
     /// [`DecodeError::UnsupportedFamily`].
-    #[tactic(auto, unfolding(crate::specs::InetResponse::inet_response_header,
-            crate::specs::SocketId::socket_id))]
+    #[tactic(auto, unfolding(crate::specs::InetResponse::inet_response_header, crate::specs::SocketId::socket_id))]
     #[inline(always)]
     fn from_row(payload: &[u8], _told: ()) -> Result<Self, DecodeError> {
         let family = payload[0];
@@ -110,8 +109,7 @@ impl Record for InetResponseHeader {
         })
     }
 
-    #[tactic(auto, unfolding(crate::specs::InetResponse::inet_response_header,
-            crate::specs::SocketId::socket_id))]
+    #[tactic(auto, unfolding(crate::specs::InetResponse::inet_response_header, crate::specs::SocketId::socket_id))]
     fn write_row(&self, row: &mut [u8]) {
         let (timer, retransmits, expires) = timer_words(&self.timer);
         let (start, rest) = row.split_at_mut(4);
@@ -128,8 +126,7 @@ impl Record for InetResponseHeader {
         LittleEndian::write_u32_into(&words, rest);
     }
 
-    #[tactic(auto, unfolding(crate::specs::InetResponse::inet_response_header,
-            crate::specs::SocketId::socket_id), using(crate::specs::InetResponseLaws::header_fit))]
+    #[tactic(auto, unfolding(crate::specs::InetResponse::inet_response_header, crate::specs::SocketId::socket_id), using(crate::specs::InetResponseLaws::header_fit))]
     fn row_typed(&self) {
         let _family = self.family;
         let _state = self.state;
