@@ -26,7 +26,7 @@ def main():
     seen, found = {}, set()
     for path in sorted(ROOT.rglob("*")):
         name = path.relative_to(ROOT)
-        if path.suffix not in ENDINGS or BUILT in name.parts or not path.is_file():
+        if path.suffix not in ENDINGS or {BUILT, ".git"} & set(name.parts) or not path.is_file():
             continue
         lines = lines_of(path)
         for at in range(len(lines) - MOST):
