@@ -7,6 +7,7 @@ mod canon;
 mod codec;
 mod datagram;
 mod exact;
+mod family;
 mod fault;
 mod header;
 pub mod laws;
@@ -22,6 +23,7 @@ pub use crate::canon::{CanonError, canonical};
 pub use crate::codec::{Emitable, Holds, Parseable, ParseableParametrized, Readable};
 pub use crate::datagram::MessageStrings;
 pub use crate::exact::Exact;
+pub use crate::family::{FamilyNla, FamilyView};
 pub use crate::fault::{DecodeError, RecordName};
 pub use crate::header::{NETLINK_HEADER_LEN, NetlinkHeader};
 pub use crate::message::{

@@ -9,7 +9,6 @@ pub mod SeenInetReply
 pub mod Message
 pub mod MessageLaws
 pub mod SeenMessage
-pub mod AttributesIn
 pub mod Viewed
 pub mod ViewedMessage
 pub mod EqualReplyLaws

@@ -7,7 +7,7 @@ use Rattle.netlink_core.specs.Walk.{bytes_left}
 use Rattle.netlink_packet_sock_diag.specs.declared.view.AttributeViews.{AttributeViews}
 use Rattle.netlink_packet_sock_diag.specs.declared.view.ReplyHeader.{Ghosts}
 use Rattle.netlink_packet_sock_diag.specs.declared.view.ReplyView.{ReplyView}
-use Rattle.netlink_packet_sock_diag.specs.AttributesIn.{values_in, value_in, reply_behind}
+use Rattle.attribute_lists.specs.AttributesIn.{values_in, value_in, reply_behind}
 
 -- the reply in its bytes: what the header tells, and what each attribute behind it says
 abbrev pub viewed : {H : Type 0} {of : Ghosts H} → ReplyView H of → ValueOf of.reply

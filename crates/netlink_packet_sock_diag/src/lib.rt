@@ -17,7 +17,6 @@ mod reply;
 mod response;
 pub mod unix;
 mod view;
-mod views;
 
 pub use dump::DumpError;
 pub use dump::DumpReader;

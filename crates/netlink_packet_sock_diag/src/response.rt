@@ -9,17 +9,16 @@ ghost use Rattle.netlink_core.specs.Codec.{KeepsLaws};
 ghost use Rattle.netlink_core.specs.declared.fault.DecodeError.{DecodeError};
 ghost use Rattle.netlink_core.specs.Family.{says, attribute_said, IsSpareSaid};
 ghost use Rattle.netlink_core.specs.Reply.{reply_bytes, reply_codec};
-ghost use Rattle.netlink_packet_sock_diag.specs.AttributesIn.{HasNoFault, reply_behind, reply_with};
-ghost use Rattle.netlink_packet_sock_diag.specs.AttributesIn.{values_in};
+ghost use Rattle.attribute_lists.specs.AttributesIn.{HasNoFault, reply_behind, reply_with};
+ghost use Rattle.attribute_lists.specs.AttributesIn.{values_in};
 ghost use Rattle.netlink_packet_sock_diag.specs.EqualReplyLaws.{replies_equal};
 
-use crate::reply::{
-    FamilyNla, copy_nlas, emit_reply, fitting_reply_len, nlas_typed, own_nlas, reply_len,
-    without_memory,
-};
+use crate::reply::{emit_reply, fitting_reply_len, reply_len, without_memory};
 use crate::view::{ReplyHeader, ReplyView};
+use attribute_lists::{copy_nlas, nlas_typed, own_nlas};
 use netlink_core::{
-    CanonError, Coded, DecodeError, Emitable, Exact, Parseable, Readable, Wire, write_new,
+    CanonError, Coded, DecodeError, Emitable, Exact, FamilyNla, Parseable, Readable, Wire,
+    write_new,
 };
 use smallvec::SmallVec;
 use std::alloc::{AllocError, Global};

@@ -12,11 +12,11 @@ ghost use Rattle.netlink_core.specs.Family.{says};
 ghost use Rattle.netlink_core.specs.Reply.{Reply, ValueOf, reply_bytes, reply_codec};
 ghost use Rattle.netlink_core.specs.Walk.{bytes_left};
 ghost use Rattle.netlink_core.proofs.Equality.{equivalence};
-ghost use Rattle.netlink_packet_sock_diag.specs.AttributesIn.{HasNoFault, IsAccepted, reply_behind};
-ghost use Rattle.netlink_packet_sock_diag.specs.AttributesIn.{values_in};
+ghost use Rattle.attribute_lists.specs.AttributesIn.{HasNoFault, IsAccepted, reply_behind};
+ghost use Rattle.attribute_lists.specs.AttributesIn.{values_in};
 
-use crate::views::{FamilyView, next_view};
-use netlink_core::{DecodeError, Emitable, NlasIterator};
+use attribute_lists::next_view;
+use netlink_core::{DecodeError, Emitable, FamilyView, NlasIterator};
 use std::alloc::AllocError;
 use std::fmt::{self, Debug, Formatter};
 use std::marker::PhantomData;

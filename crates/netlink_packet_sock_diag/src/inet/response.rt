@@ -4,17 +4,12 @@ ghost use Rattle.std.specs.Prelude.{refl};
 ghost use Rattle.netlink_core.proofs.Replies.{replies_keep_laws};
 ghost use Rattle.netlink_packet_sock_diag.specs.InetReply.{inet_reply};
 ghost use Rattle.netlink_packet_sock_diag.specs.InetReplyLaws.{inet_reply_laws};
-ghost use Rattle.sock_diag_attributes.specs.InetAttributes.{inet};
-ghost use Rattle.sock_diag_attributes.specs.SeenInet.{seen_nla};
-ghost use Rattle.sock_diag_attributes.specs.contracts.inet.coded.NlaCoded.TheImpl.Laws.{eq_is_seen-law as same_nla};
 ghost use Rattle.sock_diag_records.specs.contracts.inet.exact.InetResponseHeaderExact.TheImpl.Laws.{exact-law as exact_header};
 
 use crate::inet::InetResponseHeader;
-use crate::inet::nlas::{Nla, NlaView};
-use crate::reply::FamilyNla;
+use crate::inet::nlas::Nla;
 use crate::response::{Reply, ReplyOwned};
-use netlink_core::{Coded, NlaBuffer};
-use std::alloc::{AllocError, Global};
+use netlink_core::Coded;
 
 /// The reply about one IPv4 or IPv6 socket: the header, and the attributes that were asked for, in
 /// the order that they came.
@@ -41,27 +36,4 @@ impl ReplyOwned for InetResponseHeader {
     ghost same = { (λ _ _ h. h, λ _ h. h, λ _. refl, λ _. refl) };
 
     ghost keeps = { replies_keep_laws inet_reply inet_reply_laws };
-}
-
-impl FamilyNla for Nla {
-    ghost family = { inet };
-
-    ghost seen = { seen_nla };
-
-    #[inline(always)]
-    fn own_accepted(alloc: Global, nla: &NlaBuffer<'_>) -> Result<Self, AllocError> {
-        NlaView::new(nla).to_owned(alloc)
-    }
-
-    fn copy_nla(&self, alloc: Global) -> Result<Self, AllocError> {
-        self.clone(alloc)
-    }
-
-    fn said_typed(&self) {
-        self.typed();
-    }
-
-    ghost written_as = { λ _. refl };
-
-    ghost eq_is_seen = { same_nla };
 }

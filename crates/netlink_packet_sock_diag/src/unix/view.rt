@@ -16,34 +16,19 @@ ghost use Rattle.netlink_packet_sock_diag.specs.UnixReplyLaws.{header_enough, un
 
 use crate::unix::UnixResponseHeader;
 use crate::unix::nlas::NlaView;
+use crate::reply::{ComparedView, emit_viewed_reply, same_views, viewed_reply_len};
 use crate::view::{AttributeViews, ReplyHeader, ReplyView, ReplyViews};
-use crate::views::{FamilyView, check_nlas, emit_viewed_reply, same_views, viewed_reply_len};
-use netlink_core::{DecodeError, NlaBuffer};
+use attribute_lists::check_nlas;
+use netlink_core::DecodeError;
 
 /// The number of bytes of the header.
 const LENGTH: usize = 16;
 
-impl<'a> FamilyView<'a> for NlaView<'a> {
-    ghost family = { unix };
-
-    ghost viewed = { viewed_nla };
-
-    ghost written_as = { λ _. refl };
-
+impl<'a> ComparedView<'a> for NlaView<'a> {
     ghost tests = { unix_tests };
 
     ghost compared = { tests name_view_row numbers_row buffer_row _ _ _ viewed_name viewed_numbers
         attribute_of viewed_names viewed_lists (λ _ _. refl) };
-
-    #[inline(always)]
-    fn read_view(nla: &NlaBuffer<'a>) -> Result<Self, DecodeError> {
-        NlaView::parse(nla)
-    }
-
-    #[inline(always)]
-    fn read_accepted(nla: &NlaBuffer<'a>) -> Self {
-        NlaView::new(nla)
-    }
 }
 
 impl ReplyHeader for UnixResponseHeader {

@@ -1,9 +1,9 @@
 use Rattle.std.proofs.Common.{drop, rules, IsOk, arith}
 use Rattle.std.proofs.lemmas.Result.{err_from_is_err_and}
 use Rattle.netlink_core.specs.Bytes.{IsBytes}
-use Rattle.netlink_packet_sock_diag.specs.AttributesIn.{reply_behind, reply_with}
+use Rattle.attribute_lists.specs.AttributesIn.{reply_behind, reply_with}
 use Rattle.netlink_packet_sock_diag.specs.Viewed.{viewed}
-use Rattle.netlink_packet_sock_diag.proofs.Kept.{kept_reads, kept_refused}
+use Rattle.attribute_lists.proofs.Kept.{kept_reads, kept_refused}
 use Rattle.netlink_packet_sock_diag.proofs.response.ReplyNlaParseableRefSliceU8.parse.Goals as goal
 
 pub returns-in_err-view-clause-fault : goal.returns-in_err-view-clause-fault

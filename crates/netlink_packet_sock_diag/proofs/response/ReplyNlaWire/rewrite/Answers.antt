@@ -3,9 +3,9 @@ use Rattle.std.proofs.lemmas.Result.{IfOk-weaker, IfErr-weaker}
 use Rattle.netlink_core.specs.Bytes.{IsBytes}
 use Rattle.netlink_core.specs.Reply.{reply_codec}
 use Rattle.netlink_core.proofs.Rewriting.{gives_up}
-use Rattle.netlink_packet_sock_diag.specs.AttributesIn.{reply_behind, reply_with}
+use Rattle.attribute_lists.specs.AttributesIn.{reply_behind, reply_with}
 use Rattle.netlink_packet_sock_diag.specs.Viewed.{viewed}
-use Rattle.netlink_packet_sock_diag.proofs.Kept.{kept_bytes, kept_fits, kept_reads, kept_refused}
+use Rattle.attribute_lists.proofs.Kept.{kept_bytes, kept_fits, kept_reads, kept_refused}
 use Rattle.netlink_packet_sock_diag.proofs.response.ReplyNlaWire.rewrite.Goals as goal
 
 pub returns-in-Ok-clause-written : goal.returns-in-Ok-clause-written

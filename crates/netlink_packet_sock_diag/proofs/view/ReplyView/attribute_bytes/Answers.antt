@@ -1,6 +1,6 @@
 use Rattle.std.proofs.Common.{ℕ, ap, drop, ◌∙◌}
 use Rattle.std.proofs.lemmas.List.{take_rest}
-use Rattle.netlink_packet_sock_diag.proofs.Finding.{behind_accepted}
+use Rattle.attribute_lists.proofs.Finding.{behind_accepted}
 use Rattle.netlink_packet_sock_diag.proofs.view.ReplyView.attribute_bytes.Goals as goal
 
 pub returns-clause-clean : goal.returns-clause-clean

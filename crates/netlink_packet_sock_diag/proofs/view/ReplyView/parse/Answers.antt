@@ -4,8 +4,8 @@ use Rattle.std.proofs.lemmas.Result.{err_from_is_err_and}
 use Rattle.netlink_core.specs.Bytes.{IsBytes}
 use Rattle.netlink_core.specs.Family.{says}
 use Rattle.netlink_core.specs.Reply.{reply_codec}
-use Rattle.netlink_packet_sock_diag.specs.AttributesIn.{values_in}
-use Rattle.netlink_packet_sock_diag.proofs.Finding.{reply_accepted, behind_refused, accepted_means}
+use Rattle.attribute_lists.specs.AttributesIn.{values_in}
+use Rattle.attribute_lists.proofs.Finding.{reply_accepted, behind_refused, accepted_means}
 use Rattle.netlink_packet_sock_diag.proofs.view.ReplyView.parse.Goals as goal
 
 pub returns-in_err-_header-clause-named : goal.returns-in_err-_header-clause-named

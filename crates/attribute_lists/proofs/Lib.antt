@@ -1,0 +1,7 @@
+pub mod Finding
+pub mod Kept
+mod Elements
+mod SaidAttributes
+mod Counting
+mod Owning
+mod Emitting

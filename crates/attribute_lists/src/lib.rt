@@ -1,0 +1,9 @@
+//! The attributes of a reply of any family, as a list: checked, given one after the other, measured
+//! and written in place, or with memory of their own.
+#![tactic(auto)]
+
+mod owned;
+mod views;
+
+pub use owned::{copy_nlas, emit_said, nlas_typed, own_nlas, said_len, said_len_within};
+pub use views::{check_nlas, emit_views, next_view, views_len};

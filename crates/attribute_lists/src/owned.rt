@@ -1,0 +1,114 @@
+//! The attributes of a reply, with memory of their own: a list of at most eight without memory for it.
+
+ghost use Rattle.std.specs.Prelude.{◌≡◌, ◌≤◌, ◌++◌, [], length, drop, map, IfOk, IsOk, OnOk, SomeIff};
+ghost use Rattle.std.specs.List.{AllByRecursion, flat_map};
+ghost use Rattle.netlink_core.specs.Attribute.{AreWritable, written};
+ghost use Rattle.netlink_core.specs.Family.{says, attribute_said, IsSpareSaid, IsTypedSaid};
+ghost use Rattle.attribute_lists.specs.AttributesIn.{HasNoFault, values_in};
+
+use netlink_core::{FamilyNla, NlasIterator, emit_nlas, nlas_len, nlas_len_within};
+use smallvec::SmallVec;
+use std::alloc::{AllocError, Global};
+use std::default::MadeWith;
+
+/// Equal attributes, in the same order.
+#[tactic(auto, using(std::proofs::lemmas::List::map_push))]
+pub fn copy_nlas<T: FamilyNla>(
+    alloc: Global,
+    nlas: &[T],
+) -> Result<SmallVec<T, 8>, AllocError>
+    ensures equal { IfOk result (λ copy. map T.seen copy.items ≡ map T.seen nlas.now) }
+    ensures spare { length nlas.now ≤ 8
+        → AllByRecursion (IsSpareSaid T.family) (map T.seen nlas.now) → IsOk result }
+{
+    let mut copy = SmallVec::with_capacity(alloc, nlas.len())?;
+    for nla in nlas {
+        copy.push_reserved(nla.copy_nla(alloc)?);
+    }
+    Ok(copy)
+}
+
+/// Puts the attributes, with memory of their own and in the same order, into the empty list. At
+/// most one request for memory is made for the list, and none where there is room for so many. It
+/// is never inlined: a list that lends itself to a call costs its owner less than one that is
+/// filled on the spot.
+#[tactic(auto, using(crate::proofs::Owning::owning))]
+#[inline(never)]
+pub fn own_nlas<T: FamilyNla>(
+    alloc: Global,
+    bytes: &[u8],
+    count: usize,
+    nlas: &mut SmallVec<T, 8>,
+) -> Result<(), AllocError>
+    requires clean { HasNoFault (says T.family) bytes.now }
+    requires count { count ≡ length (values_in (says T.family) bytes.now) }
+    requires empty { nlas.old.items ≡ [] }
+    ensures equal { OnOk result (map T.seen nlas.new.items ≡ values_in (says T.family) bytes.now) }
+    ensures spare { count ≤ nlas.old.capacity
+        → AllByRecursion (IsSpareSaid T.family) (values_in (says T.family) bytes.now)
+        → IsOk result }
+{
+    if count > nlas.capacity() {
+        make_room(nlas, count)?;
+    }
+    for item in NlasIterator::new(bytes) {
+        let Ok(nla) = item else {
+            unreachable!();
+        };
+        nlas.push_reserved(T::own_accepted(alloc, &nla)?);
+    }
+    Ok(())
+}
+
+// Makes room in an empty list. It stands apart, so that what moves a list takes no time where there
+// is room.
+#[cold]
+#[inline(never)]
+fn make_room<T: MadeWith<Global> + Drop>(
+    nlas: &mut SmallVec<T, 8>,
+    count: usize,
+) -> Result<(), AllocError>
+    requires { nlas.old.items ≡ [] }
+    ensures empty { nlas.new.items ≡ [] }
+    ensures room { OnOk result (count ≤ nlas.new.capacity) }
+{
+    nlas.reserve_exact(count)
+}
+
+/// Tells the prover that each attribute's numbers are within their types. It does nothing.
+pub fn nlas_typed<T: FamilyNla>(nlas: &[T])
+    ensures { AllByRecursion (IsTypedSaid T.family) (map T.seen nlas.now) }
+{
+    for nla in nlas {
+        nla.said_typed();
+    }
+}
+
+/// How many bytes the attributes have as they are written, where each value fits and they have so
+/// many at most.
+pub fn said_len_within<T: FamilyNla>(nlas: &[T], limit: usize) -> Option<usize>
+    ensures { let attributes = map (attribute_said T.family) (map T.seen nlas.now) in
+        SomeIff result (AreWritable attributes limit) (length (flat_map written attributes)) }
+{
+    nlas_len_within(nlas, limit)
+}
+
+/// How many bytes the attributes have as they are written.
+pub fn said_len<T: FamilyNla>(nlas: &[T]) -> usize
+    requires { AreWritable (map (attribute_said T.family) (map T.seen nlas.now)) 4294967295 }
+    ensures { result ≡ length
+        (flat_map written (map (attribute_said T.family) (map T.seen nlas.now))) }
+{
+    nlas_len(nlas)
+}
+
+/// Writes the attributes one after the other at the front of the buffer, and leaves the rest.
+pub fn emit_said<T: FamilyNla>(nlas: &[T], buffer: &mut [u8])
+    requires fits { AreWritable (map (attribute_said T.family) (map T.seen nlas.now)) 4294967295 }
+    requires room { length (flat_map written (map (attribute_said T.family) (map T.seen nlas.now)))
+        ≤ length buffer.old }
+    ensures { let all = flat_map written (map (attribute_said T.family) (map T.seen nlas.now)) in
+        buffer.new ≡ all ++ drop (length all) buffer.old }
+{
+    emit_nlas(nlas, buffer);
+}

@@ -1,0 +1,99 @@
+//! The attributes of a reply, read in place.
+
+ghost use Rattle.std.specs.Prelude.{◌≡◌, ◌≤◌, ◌↔◌, ◌+◌, ◌++◌, length, drop, map, Err, OnOk};
+ghost use Rattle.std.specs.Prelude.{IfOk, IfErr, IsSome, IfSome};
+ghost use Rattle.std.specs.List.{AllByRecursion, flat_map};
+ghost use Rattle.std.specs.Iterator.{YieldsFirstBy};
+ghost use Rattle.netlink_core.specs.Attribute.{AreWritable, AttributeFault, HasFittingValue};
+ghost use Rattle.netlink_core.specs.Attribute.{written};
+ghost use Rattle.netlink_core.specs.Family.{says, attribute_said};
+ghost use Rattle.netlink_core.specs.Walk.{bytes_left};
+ghost use Rattle.attribute_lists.specs.AttributesIn.{HasNoFault, values_in};
+
+use netlink_core::{DecodeError, FamilyView, NlasIterator, emit_nla, nla_len};
+
+/// Reads each attribute and counts them, or tells the first fault. It takes no memory.
+#[tactic(auto, using(crate::proofs::Counting::counting))]
+pub fn check_nlas<'a, V: FamilyView<'a> + Drop>(
+    bytes: &'a [u8],
+) -> Result<usize, DecodeError>
+    ensures clean { OnOk result (HasNoFault (says V.family) bytes.entry.now) }
+    ensures count { IfOk result
+        (λ count. count ≡ length (values_in (says V.family) bytes.entry.now)) }
+    ensures fault { IfErr result (AttributeFault (says V.family) bytes.entry.now) }
+{
+    let mut count = 0;
+    for item in NlasIterator::new(bytes) {
+        let _view = V::read_view(&item?)?;
+        count += 1;
+    }
+    Ok(count)
+}
+
+/// The next attribute of bytes that have no fault.
+#[tactic(auto, using(crate::proofs::Finding::finding))]
+#[inline(always)]
+pub fn next_view<'a, V: FamilyView<'a>>(walk: &mut NlasIterator<'a>) -> Option<V>
+    requires { HasNoFault (says V.family) (bytes_left walk.old) }
+    ensures next { YieldsFirstBy V.viewed (λ s. values_in (says V.family) (bytes_left s)) walk.old
+        result walk.new }
+    ensures rest { HasNoFault (says V.family) (bytes_left walk.new) }
+{
+    match walk.next() {
+        None => None,
+        Some(Err(_)) => unreachable!(),
+        Some(Ok(nla)) => Some(V::read_accepted(&nla)),
+    }
+}
+
+/// How many bytes a header of so many and the attributes behind it are written as, where each value
+/// fits and all of it has at most 4,294,967,295 bytes.
+pub fn views_len<'a, V: FamilyView<'a> + Drop>(
+    header: usize,
+    bytes: &'a [u8],
+) -> Option<usize>
+    requires clean { HasNoFault (says V.family) bytes.now }
+    requires small { header ≤ 4294967295 }
+    ensures fits { let attributes = map (attribute_said V.family)
+        (values_in (says V.family) bytes.entry.now) in
+        IsSome result ↔ (AllByRecursion HasFittingValue attributes
+        × (header + length (flat_map written attributes) ≤ 4294967295)) }
+    ensures len { let attributes = map (attribute_said V.family)
+        (values_in (says V.family) bytes.entry.now) in
+        IfSome result (λ len. len ≡ header + length (flat_map written attributes)) }
+{
+    let mut len = header;
+    let mut walk = NlasIterator::new(bytes);
+    while let Some(view) = next_view::<V>(&mut walk) {
+        if !view.value_fits() {
+            return None;
+        }
+        len += nla_len(&view);
+        if len > u32::MAX as usize {
+            return None;
+        }
+    }
+    Some(len)
+}
+
+/// Writes the attributes one after the other at the front of the buffer, and leaves the rest.
+pub fn emit_views<'a, V: FamilyView<'a> + Drop>(bytes: &'a [u8], buffer: &mut [u8])
+    requires clean { HasNoFault (says V.family) bytes.now }
+    requires fits { AreWritable
+        (map (attribute_said V.family) (values_in (says V.family) bytes.now)) 4294967295 }
+    requires room { length (flat_map written
+        (map (attribute_said V.family) (values_in (says V.family) bytes.now))) ≤ length buffer.old }
+    ensures { buffer.new ≡ flat_map written
+        (map (attribute_said V.family) (values_in (says V.family) bytes.entry.now))
+        ++ drop (length (flat_map written
+        (map (attribute_said V.family) (values_in (says V.family) bytes.entry.now))))
+        buffer.old }
+{
+    let mut at = 0;
+    let mut walk = NlasIterator::new(bytes);
+    while let Some(view) = next_view::<V>(&mut walk) {
+        let end = at + nla_len(&view);
+        emit_nla(&view, &mut buffer[at..end]);
+        at = end;
+    }
+}

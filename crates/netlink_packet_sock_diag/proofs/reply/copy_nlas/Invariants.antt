@@ -1,9 +1,0 @@
-use Rattle.std.proofs.Common.{◌≡◌, ◌≤◌, length, map, take}
-use Rattle.netlink_packet_sock_diag.proofs.reply.copy_nlas.Given as goal
-
--- the copy has what was passed, and room for all
-abbrev pub invariant-loop-nla : goal.invariant-loop-nla
-invariant-loop-nla g l = record {
-  same : map g.T.FamilyNla.seen l.copy.items ≡ map g.T.FamilyNla.seen (take l.nla-index l.nlas);
-  room : length l.nlas ≤ l.copy.capacity;
-}

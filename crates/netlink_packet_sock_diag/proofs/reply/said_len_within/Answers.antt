@@ -1,8 +1,0 @@
-use Rattle.netlink_packet_sock_diag.proofs.SaidAttributes.{attributes_said}
-use Rattle.netlink_packet_sock_diag.proofs.reply.said_len_within.Goals as goal
-
-pub returns : goal.returns
-returns g c =
-    let same = attributes_said g.T.FamilyNla.family g.T.Nla.attribute g.T.FamilyNla.seen
-    g.met.T.FamilyNla.written_as c.args.nlas.now in
-    rw (← same) c.nlas_len_within.ensures

@@ -1,0 +1,51 @@
+//! The attributes of replies about UNIX sockets, as those of a family.
+
+ghost use Rattle.std.specs.Prelude.{refl};
+ghost use Rattle.sock_diag_attributes.specs.UnixAttributes.{unix};
+ghost use Rattle.sock_diag_attributes.specs.SeenUnix.{seen_nla, viewed_nla};
+ghost use Rattle.sock_diag_attributes.specs.contracts.unix.coded.NlaCoded.TheImpl.Laws.{eq_is_seen-law as same_nla};
+
+use super::nlas::{Nla, NlaView};
+use netlink_core::{Coded, DecodeError, FamilyNla, FamilyView, NlaBuffer};
+use std::alloc::{AllocError, Global};
+
+impl<'a> FamilyView<'a> for NlaView<'a> {
+    ghost family = { unix };
+
+    ghost viewed = { viewed_nla };
+
+    ghost written_as = { λ _. refl };
+
+    #[inline(always)]
+    fn read_view(nla: &NlaBuffer<'a>) -> Result<Self, DecodeError> {
+        NlaView::parse(nla)
+    }
+
+    #[inline(always)]
+    fn read_accepted(nla: &NlaBuffer<'a>) -> Self {
+        NlaView::new(nla)
+    }
+}
+
+impl FamilyNla for Nla {
+    ghost family = { unix };
+
+    ghost seen = { seen_nla };
+
+    #[inline(always)]
+    fn own_accepted(alloc: Global, nla: &NlaBuffer<'_>) -> Result<Self, AllocError> {
+        NlaView::new(nla).to_owned(alloc)
+    }
+
+    fn copy_nla(&self, alloc: Global) -> Result<Self, AllocError> {
+        self.clone(alloc)
+    }
+
+    fn said_typed(&self) {
+        self.typed();
+    }
+
+    ghost written_as = { λ _. refl };
+
+    ghost eq_is_seen = { same_nla };
+}
