@@ -15,12 +15,11 @@ use Rattle.netlink_core.specs.declared.fault.DecodeError.TheVariants.{Memory}
 use Rattle.netlink_core.specs.ByteLaws.{IsBytes-nil, IsBytes-append}
 use Rattle.netlink_core.specs.Items.{ItemsAre}
 use Rattle.netlink_core.proofs.Items.{no_items, items_in_a_row}
-use Rattle.netlink_packet_sock_diag.specs.declared.dump.DumpState.{DumpState}
-use Rattle.netlink_packet_sock_diag.specs.declared.dump.DumpState.TheVariants.{Reading, Failed}
+use Rattle.netlink_packet_sock_diag.specs.declared.dump.DumpState.TheVariants.{Failed}
 use Rattle.netlink_packet_sock_diag.specs.declared.dump.DumpError.{DumpError}
 use Rattle.netlink_packet_sock_diag.specs.declared.dump.DumpError.TheVariants.{Ended, Fault}
 use Rattle.netlink_packet_sock_diag.specs.Dump.{in_a_row, end_of, kept, Ends, Dump, DumpGoesOn}
-use Rattle.netlink_packet_sock_diag.specs.Dump.{DatagramDump, DatagramsDump, AreSplit}
+use Rattle.netlink_packet_sock_diag.specs.Dump.{DatagramDump, DatagramsDump, AreSplit, Standing, unended}
 use Rattle.netlink_packet_sock_diag.specs.Feed.{FeedLeaves, FeedsLeave}
 
 none_or_some : {X : Type 0} (end : Option X) → (end ≡ None) ⊎ ((x : X) × (end ≡ Some x))
@@ -28,11 +27,11 @@ none_or_some None = inl refl
 none_or_some (Some x) = inr (x, refl)
 
 module _ {A : Type 0} where
-  no_end_and_plain : (item : Result (Payload A) DecodeError) (end : Result DumpState DecodeError)
+  no_end_and_plain : (item : Result (Payload A) DecodeError) (end : Result Standing DecodeError)
       → end_of item ≡ None → end_of item ≡ Some end → ⊥
   no_end_and_plain item end plain ends = let no = sym plain ∙ ends in cc
 
-  no_end_reading : (item : Result (Payload A) DecodeError) → end_of item ≡ Some (Ok Reading) → ⊥
+  no_end_reading : (item : Result (Payload A) DecodeError) → end_of item ≡ Some (Ok unended) → ⊥
   no_end_reading (Ok (inner value)) ends = cc
   no_end_reading (Ok no_payload) ends = cc
   no_end_reading (Ok (done_with given)) ends = cc
@@ -40,11 +39,11 @@ module _ {A : Type 0} where
   no_end_reading (Ok (overrun_with given)) ends = cc
   no_end_reading (Err e) ends = cc
 
-  one_end : (item : Result (Payload A) DecodeError) (e f : Result DumpState DecodeError)
+  one_end : (item : Result (Payload A) DecodeError) (e f : Result Standing DecodeError)
       → end_of item ≡ Some e → end_of item ≡ Some f → e ≡ f
   one_end item e f h k = let same = sym h ∙ k in cc
 
-  one_split : (p q l m : List (Result (Payload A) DecodeError)) (e f : Result DumpState DecodeError)
+  one_split : (p q l m : List (Result (Payload A) DecodeError)) (e f : Result Standing DecodeError)
       → p ++ l ≡ q ++ m → AllByRecursion (λ item. end_of item ≡ None) p
       → AllByRecursion (λ item. end_of item ≡ None) q → Ends l e → Ends m f → (p ≡ q) × (e ≡ f)
   one_split [] [] [] [] e f same hp hq el em = (refl, el ∙ sym em)
@@ -65,7 +64,7 @@ module _ {A : Type 0} where
       (λ i. heads i ∷ rest.0 i, rest.1)
 
   pub one_dump : (before : List A) (items : List (Result (Payload A) DecodeError)) (a b : List A)
-      (e f : Result DumpState DecodeError) → Dump before items a e → Dump before items b f → (a ≡ b)
+      (e f : Result Standing DecodeError) → Dump before items a e → Dump before items b f → (a ≡ b)
       × (e ≡ f)
   one_dump before items a b e f d t =
       let same = one_split d.0 t.0 d.1 t.1 e f (sym d.2 ∙ t.2) d.3 t.3 d.5 t.5 in (
@@ -75,8 +74,8 @@ module _ {A : Type 0} where
       )
 
   pub has_dump : (before : List A) (items : List (Result (Payload A) DecodeError))
-      → (after : List A) × (end : Result DumpState DecodeError) × Dump before items after end
-  has_dump before [] = (before, Ok Reading, ([], [], refl, tt, sym (append-nil before), refl))
+      → (after : List A) × (end : Result Standing DecodeError) × Dump before items after end
+  has_dump before [] = (before, Ok unended, ([], [], refl, tt, sym (append-nil before), refl))
   has_dump before (item ∷ items) = elim (none_or_some (end_of item)) [
     | inl plain ↦
         let rest = has_dump (before ++ kept item) items in
@@ -102,17 +101,17 @@ module _ {A : Type 0} where
   plain_append (x ∷ xs) ys h k = (h.0, plain_append xs ys h.1 k)
 
   none_later : (later : List (Result (Payload A) DecodeError))
-      (state : Result DumpState DecodeError) → Ends later state → state ≡ Ok Reading → later ≡ []
+      (state : Result Standing DecodeError) → Ends later state → state ≡ Ok unended → later ≡ []
   none_later [] state ends is = refl
   none_later (item ∷ later) state ends is = absurd (no_end_reading item (ends ∙ ap Some is))
 
   ends_before : (later more : List (Result (Payload A) DecodeError))
-      (state : Result DumpState DecodeError) → Ends later state → state ≢ Ok Reading
+      (state : Result Standing DecodeError) → Ends later state → state ≢ Ok unended
       → Ends (later ++ more) state
   ends_before [] more state ends other = absurd (other ends)
   ends_before (item ∷ later) more state ends other = ends
 
-  pub joined : (before middle after : List A) (state end : Result DumpState DecodeError)
+  pub joined : (before middle after : List A) (state end : Result Standing DecodeError)
       (xs ys : List (Result (Payload A) DecodeError)) → Dump before xs middle state
       → DumpGoesOn middle state ys after end → Dump before (xs ++ ys) after end
   joined before middle after state end xs ys d (inl on) =
@@ -136,19 +135,19 @@ module _ {A : Type 0} where
     ap (λ (l : List (Result (Payload A) DecodeError)). l ++ ys) d.2 ∙ append_assoc d.0 d.1 ys,
     d.3,
     off.1 ∙ d.4,
-    subst (λ (s : Result DumpState DecodeError). Ends (d.1 ++ ys) s) (sym off.2)
+    subst (λ (s : Result Standing DecodeError). Ends (d.1 ++ ys) s) (sym off.2)
         (ends_before d.1 ys state d.5 off.0),
   )
 
   reading_or_not : (items : List (Result (Payload A) DecodeError))
-      (state : Result DumpState DecodeError) → Ends items state → (state ≡ Ok Reading)
-      ⊎ (state ≢ Ok Reading)
+      (state : Result Standing DecodeError) → Ends items state → (state ≡ Ok unended)
+      ⊎ (state ≢ Ok unended)
   reading_or_not [] state ends = inl ends
   reading_or_not (item ∷ items) state ends = inr (λ is. no_end_reading item (ends ∙ ap Some is))
 
-  pub parted : (before after : List A) (end : Result DumpState DecodeError)
+  pub parted : (before after : List A) (end : Result Standing DecodeError)
       (xs ys : List (Result (Payload A) DecodeError)) → Dump before (xs ++ ys) after end
-      → (middle : List A) × (state : Result DumpState DecodeError) × Dump before xs middle state
+      → (middle : List A) × (state : Result Standing DecodeError) × Dump before xs middle state
       × DumpGoesOn middle state ys after end
   parted before after end xs ys d =
       let first = has_dump before xs in
@@ -163,7 +162,7 @@ module _ {A : Type 0} where
               first.2,
               inl (
                 reading,
-                subst (λ (s : Result DumpState DecodeError). Dump first.0 ys after s)
+                subst (λ (s : Result Standing DecodeError). Dump first.0 ys after s)
                     (sym same.1) (subst (λ (l : List A). Dump first.0 ys l second.1) (sym same.0)
                     second.2),
               ),
@@ -205,7 +204,7 @@ module _ (C : Codec ℕ) where
       (xs ys : List (List (Result (Payload C.Value) DecodeError)))
       → AllByRecursion IsBytes datagrams
       → AllZip (ItemsAre C) datagrams xs → AllZip (ItemsAre C) others ys → in_a_row xs ≡ in_a_row ys
-      → (before after : List C.Value) (end : Result DumpState DecodeError)
+      → (before after : List C.Value) (end : Result Standing DecodeError)
       → DatagramsDump C before datagrams after end → DatagramsDump C before others after end
   same_dump one datagrams others xs ys typed each also same before after end (row, items, d) =
       let rows : row ≡ in_a_row ys =
@@ -255,7 +254,7 @@ module _ (C : Codec ℕ) where
 
   -- the dump of split datagrams is that of the items of all their bytes
   pub dump_of_split : (datagrams : List (List ℕ)) → AreSplit datagrams
-      → (before after : List C.Value) (end : Result DumpState DecodeError)
+      → (before after : List C.Value) (end : Result Standing DecodeError)
       → DatagramsDump C before datagrams after end
       → DatagramDump C before (in_a_row datagrams) after end
   dump_of_split datagrams split before after end (row, items, d) = (
@@ -271,7 +270,7 @@ module _ (C : Codec ℕ) where
       → ((b : List ℕ) → IsBytes b → (xs ys : List (Result (Payload C.Value) DecodeError))
       → ItemsAre C b xs → ItemsAre C b ys → xs ≡ ys)
       → (datagrams : List (List ℕ)) → AllByRecursion IsBytes datagrams → AreSplit datagrams
-      → (before after : List C.Value) (end : Result DumpState DecodeError)
+      → (before after : List C.Value) (end : Result Standing DecodeError)
       → DatagramDump C before (in_a_row datagrams) after end
       → DatagramsDump C before datagrams after end
   split_of_dump some one datagrams typed split before after end d =
@@ -289,7 +288,7 @@ module _ (C : Codec ℕ) where
       → (xs ys : List (Result (Payload C.Value) DecodeError)) → ItemsAre C b xs → ItemsAre C b ys
       → xs ≡ ys)
       → (datagram : List ℕ) → IsBytes datagram
-      → (before a b : List C.Value) (e f : Result DumpState DecodeError)
+      → (before a b : List C.Value) (e f : Result Standing DecodeError)
       → DatagramDump C before datagram a e → DatagramDump C before datagram b f → (a ≡ b) × (e ≡ f)
   one_datagram_dump one datagram typed before a b e f d t =
       one_dump before d.0 a b e f d.2
@@ -299,14 +298,14 @@ module _ (C : Codec ℕ) where
   -- ---- what feeding leaves
 
   -- the state in which a dump is left
-  state_left : Result DumpState DecodeError → DumpState
+  state_left : Result Standing DecodeError → Standing
   state_left (Ok state) = state
-  state_left (Err e) = Failed
+  state_left (Err e) = (Failed, None)
 
-  feed_step : (before : List C.Value) (datagram : List ℕ) (middle : List C.Value) (next : DumpState)
+  feed_step : (before : List C.Value) (datagram : List ℕ) (middle : List C.Value) (next : Standing)
       (answer : Result Unit DumpError)
-      → FeedLeaves C before Reading datagram middle next answer → answer ≢ Err (Fault Memory)
-      → (end : Result DumpState DecodeError) × DatagramDump C before datagram middle end
+      → FeedLeaves C before unended datagram middle next answer → answer ≢ Err (Fault Memory)
+      → (end : Result Standing DecodeError) × DatagramDump C before datagram middle end
       × (next ≡ state_left end)
   unfolding state_left
   feed_step before datagram middle next (Ok done) f some = (Ok next, f.1, refl)
@@ -314,15 +313,15 @@ module _ (C : Codec ℕ) where
   feed_step before datagram middle next (Err (Fault e)) f some =
       (Err e, f.2 (λ memory. some (ap (λ (g : DecodeError). Err (Fault g)) memory)), f.1)
 
-  ended_step : (before : List C.Value) (state : DumpState) (datagram : List ℕ)
-      (middle : List C.Value) (next : DumpState) (answer : Result Unit DumpError) → state ≢ Reading
+  ended_step : (before : List C.Value) (state : Standing) (datagram : List ℕ)
+      (middle : List C.Value) (next : Standing) (answer : Result Unit DumpError) → state ≢ unended
       → FeedLeaves C before state datagram middle next answer → (middle ≡ before) × (next ≡ state)
   ended_step before state datagram middle next (Ok done) over f = absurd (over f.0)
   ended_step before state datagram middle next (Err Ended) over f = (f.1, f.2)
   ended_step before state datagram middle next (Err (Fault e)) over f = absurd (over f.0)
 
-  ended_stays : (datagrams : List (List ℕ)) (before after : List C.Value) (state left : DumpState)
-      → state ≢ Reading
+  ended_stays : (datagrams : List (List ℕ)) (before after : List C.Value) (state left : Standing)
+      → state ≢ unended
       → FeedsLeave C before state datagrams after left → (after ≡ before) × (left ≡ state)
   ended_stays [] before after state left over f = f
   ended_stays (datagram ∷ later) before after state left over f =
@@ -330,13 +329,13 @@ module _ (C : Codec ℕ) where
       let rest = ended_stays later f.0 after f.1 left (λ is. over (sym one.1 ∙ is)) f.5 in
       (rest.0 ∙ one.0, rest.1 ∙ one.1)
 
-  left_reading : (state : Result DumpState DecodeError) → state ≢ Ok Reading
-      → state_left state ≢ Reading
+  left_reading : (state : Result Standing DecodeError) → state ≢ Ok unended
+      → state_left state ≢ unended
   unfolding state_left
   left_reading (Ok state) over = λ is. over (ap Ok is)
   left_reading (Err e) over = λ is. cc
 
-  state_left-reading : state_left (Ok Reading) ≡ Reading
+  state_left-reading : state_left (Ok unended) ≡ unended
   unfolding state_left
   state_left-reading = refl
 
@@ -344,22 +343,22 @@ module _ (C : Codec ℕ) where
   feeds_dump : ((b : List ℕ) → IsBytes b → (items : List (Result (Payload C.Value) DecodeError))
       × ItemsAre C b items)
       → (datagrams : List (List ℕ)) → AllByRecursion IsBytes datagrams
-      → (before after : List C.Value) (left : DumpState)
-      → FeedsLeave C before Reading datagrams after left
-      → (end : Result DumpState DecodeError) × DatagramsDump C before datagrams after end
+      → (before after : List C.Value) (left : Standing)
+      → FeedsLeave C before unended datagrams after left
+      → (end : Result Standing DecodeError) × DatagramsDump C before datagrams after end
       × (left ≡ state_left end)
   feeds_dump some [] typed before after left f =
-      let none : Dump before [] after (Ok Reading) =
+      let none : Dump before [] after (Ok unended) =
       ([], [], refl, tt, f.0 ∙ sym (append-nil before), refl) in
-      (Ok Reading, ([], ([], tt, refl), none), f.1 ∙ sym state_left-reading)
+      (Ok unended, ([], ([], tt, refl), none), f.1 ∙ sym state_left-reading)
   feeds_dump some (datagram ∷ later) typed before after left f =
       let one = feed_step before datagram f.0 f.1 f.2 f.3 f.4 in
       let items = one.1.0 in
       elim (reading_or_not one.1.2.1 one.0 one.1.2.5) [
         | inl on ↦
-            let going : f.1 ≡ Reading = one.2 ∙ ap state_left on ∙ state_left-reading in
+            let going : f.1 ≡ unended = one.2 ∙ ap state_left on ∙ state_left-reading in
             let rest = feeds_dump some later typed.1 f.0 after left
-            (subst (λ (s : DumpState). FeedsLeave C f.0 s later after left) going f.5) in
+            (subst (λ (s : Standing). FeedsLeave C f.0 s later after left) going f.5) in
             let row = rest.1.0 in
             let have = rest.1.1 in (
               rest.0,
@@ -397,9 +396,9 @@ module _ (C : Codec ℕ) where
       → (datagrams others : List (List ℕ)) → AllByRecursion IsBytes datagrams
       → AllByRecursion IsBytes others → AreSplit datagrams → AreSplit others
       → in_a_row datagrams ≡ in_a_row others
-      → (before after also : List C.Value) (left state : DumpState)
-      → FeedsLeave C before Reading datagrams after left
-      → FeedsLeave C before Reading others also state
+      → (before after also : List C.Value) (left state : Standing)
+      → FeedsLeave C before unended datagrams after left
+      → FeedsLeave C before unended others also state
       → (after ≡ also) × (left ≡ state)
   same_feeds some one datagrams others typed fits split cut same before after also left state f g =
       let a = feeds_dump some datagrams typed before after left f in
@@ -420,9 +419,9 @@ module _ (C : Codec ℕ) where
       (xs ys : List (List (Result (Payload C.Value) DecodeError)))
       → AllByRecursion IsBytes datagrams → AllByRecursion IsBytes others
       → AllZip (ItemsAre C) datagrams xs → AllZip (ItemsAre C) others ys → in_a_row xs ≡ in_a_row ys
-      → (before after also : List C.Value) (left state : DumpState)
-      → FeedsLeave C before Reading datagrams after left
-      → FeedsLeave C before Reading others also state
+      → (before after also : List C.Value) (left state : Standing)
+      → FeedsLeave C before unended datagrams after left
+      → FeedsLeave C before unended others also state
       → (after ≡ also) × (left ≡ state)
   same_items_feeds some one datagrams others xs ys typed fits each them same before after also left
       state f g =

@@ -1,40 +1,40 @@
 -- What was fed to the reader of a dump, with one datagram more.
 use Rattle.std.proofs.Common.{◌≡◌, ◌≢◌, ◌⊎◌, inl, inr, ℕ, List, [], ◌∷◌, ◌++◌, refl, sym, subst}
-use Rattle.std.specs.Prelude.{Result, Ok, Err}
+use Rattle.std.specs.Prelude.{None, Result, Ok, Err}
 use Rattle.std.proofs.Math.Logic.{∥∥₁_map}
 use Rattle.std.proofs.lemmas.Grind.{merely}
 use Rattle.netlink_core.specs.Codec.{Codec}
 use Rattle.netlink_core.specs.declared.fault.DecodeError.TheVariants.{Memory}
-use Rattle.netlink_packet_sock_diag.specs.declared.dump.DumpState.{DumpState}
-use Rattle.netlink_packet_sock_diag.specs.declared.dump.DumpState.TheVariants.{Reading, Failed}
+use Rattle.netlink_packet_sock_diag.specs.declared.dump.DumpState.TheVariants.{Failed}
 use Rattle.netlink_packet_sock_diag.specs.declared.dump.DumpError.{DumpError}
 use Rattle.netlink_packet_sock_diag.specs.declared.dump.DumpError.TheVariants.{Ended, Fault}
+use Rattle.netlink_packet_sock_diag.specs.Dump.{Standing, unended}
 use Rattle.netlink_packet_sock_diag.specs.Feed.{FeedLeaves, FeedsLeave}
 
 module _ (C : Codec ℕ) where
   -- as the ghost field of the reader says
-  abbrev pub Fed : List C.Value → DumpState → Type 0
+  abbrev pub Fed : List C.Value → Standing → Type 0
   Fed kept state =
-      (datagrams : List (List ℕ)) × (before : List C.Value) × (was : DumpState)
-      × FeedsLeave C [] Reading datagrams before was
+      (datagrams : List (List ℕ)) × (before : List C.Value) × (was : Standing)
+      × FeedsLeave C [] unended datagrams before was
       × (((kept ≡ before) × (state ≡ was))
-      ⊎ ((state ≡ Failed) × (last : List ℕ) × (answer : Result Unit DumpError)
+      ⊎ ((state ≡ (Failed, None)) × (last : List ℕ) × (answer : Result Unit DumpError)
       × FeedLeaves C before was last kept state answer))
 
-  pub new_fed : ∥ Fed [] Reading ∥₁
-  new_fed = merely ([], [], Reading, (refl, refl), inl (refl, refl))
+  pub new_fed : ∥ Fed [] unended ∥₁
+  new_fed = merely ([], [], unended, (refl, refl), inl (refl, refl))
 
-  moved : (before middle after : List C.Value) (state next left : DumpState) (datagram : List ℕ)
+  moved : (before middle after : List C.Value) (state next left : Standing) (datagram : List ℕ)
       (answer : Result Unit DumpError) → (middle ≡ before) → (next ≡ state)
       → FeedLeaves C middle next datagram after left answer
       → FeedLeaves C before state datagram after left answer
   moved before middle after state next left datagram answer same is f =
-      subst (λ (s : DumpState). FeedLeaves C before s datagram after left answer) is
+      subst (λ (s : Standing). FeedLeaves C before s datagram after left answer) is
       (subst (λ (m : List C.Value). FeedLeaves C m next datagram after left answer) same f)
 
   -- one more datagram is fed at the end
   one_more : (datagrams : List (List ℕ)) (before middle after : List C.Value)
-      (state next left : DumpState) (datagram : List ℕ) (answer : Result Unit DumpError)
+      (state next left : Standing) (datagram : List ℕ) (answer : Result Unit DumpError)
       → FeedsLeave C before state datagrams middle next
       → FeedLeaves C middle next datagram after left answer → answer ≢ Err (Fault Memory)
       → FeedsLeave C before state (datagrams ++ datagram ∷ []) after left
@@ -56,17 +56,17 @@ module _ (C : Codec ℕ) where
   )
 
   -- a dump that is read was left so with memory for all
-  still : (kept : List C.Value) (state : DumpState) → Fed kept state → state ≡ Reading
-      → (datagrams : List (List ℕ)) × FeedsLeave C [] Reading datagrams kept state
+  still : (kept : List C.Value) (state : Standing) → Fed kept state → state ≡ unended
+      → (datagrams : List (List ℕ)) × FeedsLeave C [] unended datagrams kept state
   still kept state (datagrams, before, was, leave, inl (same, is)) reading = (
     datagrams,
-    subst (λ (s : DumpState). FeedsLeave C [] Reading datagrams kept s) (sym is)
-        (subst (λ (m : List C.Value). FeedsLeave C [] Reading datagrams m was) (sym same) leave),
+    subst (λ (s : Standing). FeedsLeave C [] unended datagrams kept s) (sym is)
+        (subst (λ (m : List C.Value). FeedsLeave C [] unended datagrams m was) (sym same) leave),
   )
   still kept state (datagrams, before, was, leave, inr (failed, last, answer, f)) reading =
       absurd cc
 
-  on : (before after : List C.Value) (state left : DumpState) (datagram : List ℕ)
+  on : (before after : List C.Value) (state left : Standing) (datagram : List ℕ)
       (answer : Result Unit DumpError) → Fed before state
       → FeedLeaves C before state datagram after left answer → Fed after left
   on before after state left datagram (Ok done) fed f =
@@ -74,17 +74,17 @@ module _ (C : Codec ℕ) where
         s.0 ++ datagram ∷ [],
         after,
         left,
-        one_more s.0 [] before after Reading state left datagram (Ok done) s.1 f (λ e. cc),
+        one_more s.0 [] before after unended state left datagram (Ok done) s.1 f (λ e. cc),
         inl (refl, refl),
       )
   on before after state left datagram (Err Ended) fed f =
-      subst (λ (s : DumpState). Fed after s) (sym f.2)
+      subst (λ (s : Standing). Fed after s) (sym f.2)
       (subst (λ (m : List C.Value). Fed m state) (sym f.1) fed)
   on before after state left datagram (Err (Fault e)) fed f =
       let s = still before state fed f.0 in
       (s.0, before, state, s.1, inr (f.1, datagram, Err (Fault e), f))
 
-  pub fed_on : (before after : List C.Value) (state left : DumpState) (datagram : List ℕ)
+  pub fed_on : (before after : List C.Value) (state left : Standing) (datagram : List ℕ)
       (answer : Result Unit DumpError) → ∥ Fed before state ∥₁
       → FeedLeaves C before state datagram after left answer → ∥ Fed after left ∥₁
   fed_on before after state left datagram answer fed f =

@@ -1,11 +1,11 @@
 -- The messages that a dump keeps of the items of its datagrams, and how it ends.
-use Rattle.std.specs.Prelude.{◌≡◌, ◌≢◌, ℕ, List, [], ◌∷◌, ◌++◌, ⊤, ◌⊎◌, Option, Some, None, Result}
+use Rattle.std.specs.Prelude.{◌≡◌, ◌≢◌, ℕ, ℤ, List, [], ◌∷◌, ◌++◌, ⊤, ◌⊎◌, Option, Some, None, Result}
 use Rattle.std.specs.Prelude.{Ok, Err}
 use Rattle.std.specs.List.{AllByRecursion, AllZip, flat_map}
 use Rattle.netlink_core.specs.declared.fault.DecodeError.{DecodeError}
 use Rattle.netlink_core.specs.Codec.{Codec}
 use Rattle.netlink_core.specs.Datagram.{AreWholeMessages}
-use Rattle.netlink_core.specs.Envelope.{done_with, error_with, overrun_with, inner}
+use Rattle.netlink_core.specs.Envelope.{done_with, error_with, overrun_with, inner, number_in_front}
 use Rattle.netlink_core.specs.Items.{Item, ItemsAre}
 use Rattle.netlink_packet_sock_diag.specs.declared.dump.DumpState.{DumpState}
 use Rattle.netlink_packet_sock_diag.specs.declared.dump.DumpState.TheVariants.{Reading, Done, Error}
@@ -15,29 +15,37 @@ use Rattle.netlink_packet_sock_diag.specs.declared.dump.DumpState.TheVariants.{O
 abbrev pub in_a_row : {A : Type 0} → List (List A) → List A
 in_a_row lists = flat_map (λ one. one) lists
 
+-- how a dump stands: its state, and the number that the message which ended it begins with
+abbrev pub Standing : Type 0
+Standing = DumpState × Option ℤ
+
+-- no end has come yet
+abbrev pub unended : Standing
+unended = (Reading, None)
+
 module _ {A : Type 0} where
   -- what is kept of the item
   abbrev pub kept : Item A → List A
   kept (Ok (inner value)) = value ∷ []
   kept _ = []
 
-  -- how the item ends a dump: in a state, or with a fault; after a message, or one of nothing, it
+  -- how the item ends a dump: so that it stands so, or with a fault; after a message, or one of nothing, it
   -- goes on
-  abbrev pub end_of : Item A → Option (Result DumpState DecodeError)
-  end_of (Ok (done_with given)) = Some (Ok Done)
-  end_of (Ok (error_with given)) = Some (Ok Error)
-  end_of (Ok (overrun_with given)) = Some (Ok Overrun)
+  abbrev pub end_of : Item A → Option (Result Standing DecodeError)
+  end_of (Ok (done_with given)) = Some (Ok (Done, number_in_front given))
+  end_of (Ok (error_with given)) = Some (Ok (Error, number_in_front given))
+  end_of (Ok (overrun_with given)) = Some (Ok (Overrun, None))
   end_of (Err e) = Some (Err e)
   end_of _ = None
 
   -- the first of the later items ends the dump; where there is none it is still read
-  abbrev pub Ends : List (Item A) → Result DumpState DecodeError → Type 0
-  Ends [] end = end ≡ Ok Reading
+  abbrev pub Ends : List (Item A) → Result Standing DecodeError → Type 0
+  Ends [] end = end ≡ Ok unended
   Ends (item ∷ later) end = end_of item ≡ Some end
 
   -- The inner messages of the longest beginning of the items that holds inner messages and messages
   -- of nothing alone follow those before, and the next item is the end.
-  abbrev pub Dump : List A → List (Item A) → List A → Result DumpState DecodeError → Type 0
+  abbrev pub Dump : List A → List (Item A) → List A → Result Standing DecodeError → Type 0
   Dump before items after end = (passed later : List (Item A))
       × (items ≡ passed ++ later) × AllByRecursion (λ item. end_of item ≡ None) passed
       × (after ≡ before ++ flat_map kept passed) × Ends later end
@@ -46,18 +54,18 @@ module _ {A : Type 0} where
   -- was no memory
   abbrev pub DumpStopped : List A → List (Item A) → List A → Type 0
   DumpStopped before items after = (passed later : List (Item A)) × (next : A)
-      × (items ≡ passed ++ (Ok (inner next) ∷ later)) × Dump before passed after (Ok Reading)
+      × (items ≡ passed ++ (Ok (inner next) ∷ later)) × Dump before passed after (Ok unended)
 
 -- the dump goes on, if it was still read; else its list and its end stay
-abbrev pub DumpGoesOn : {A : Type 0} → List A → Result DumpState DecodeError
-    → List (Item A) → List A → Result DumpState DecodeError → Type 0
-DumpGoesOn middle state items after end = ((state ≡ Ok Reading) × Dump middle items after end)
-    ⊎ ((state ≢ Ok Reading) × (after ≡ middle) × (end ≡ state))
+abbrev pub DumpGoesOn : {A : Type 0} → List A → Result Standing DecodeError
+    → List (Item A) → List A → Result Standing DecodeError → Type 0
+DumpGoesOn middle state items after end = ((state ≡ Ok unended) × Dump middle items after end)
+    ⊎ ((state ≢ Ok unended) × (after ≡ middle) × (end ≡ state))
 
 -- the dump over the items of a datagram, by the codec of inner messages under a type
 module _ (C : Codec ℕ) where
   -- to its end
-  abbrev pub DatagramDump : List C.Value → List ℕ → List C.Value → Result DumpState DecodeError → Type 0
+  abbrev pub DatagramDump : List C.Value → List ℕ → List C.Value → Result Standing DecodeError → Type 0
   DatagramDump before datagram after end =
       (items : List (Item C.Value)) × ItemsAre C datagram items × Dump before items after end
 
@@ -72,7 +80,7 @@ module _ (C : Codec ℕ) where
       × AllZip (ItemsAre C) datagrams items × (row ≡ in_a_row items)
 
   -- the dump over several datagrams, one after the other
-  abbrev pub DatagramsDump : List C.Value → List (List ℕ) → List C.Value → Result DumpState DecodeError → Type 0
+  abbrev pub DatagramsDump : List C.Value → List (List ℕ) → List C.Value → Result Standing DecodeError → Type 0
   DatagramsDump before datagrams after end =
       (row : List (Item C.Value)) × HaveItems datagrams row × Dump before row after end
 

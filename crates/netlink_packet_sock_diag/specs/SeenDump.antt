@@ -1,9 +1,14 @@
 -- What contracts see of a dump that is read.
 use Rattle.std.specs.Prelude.{List, map}
 use Rattle.netlink_packet_sock_diag.specs.declared.dump.DumpReader.{DumpReader}
+use Rattle.netlink_packet_sock_diag.specs.Dump.{Standing}
 use Rattle.netlink_packet_sock_diag.specs.Message.{Message}
 use Rattle.netlink_packet_sock_diag.specs.SeenMessage.{seen_message}
 
 -- the messages that are kept, in order
 abbrev pub kept_messages : DumpReader → List Message
 kept_messages reader = map seen_message reader.messages.items
+
+-- how it stands
+abbrev pub standing : DumpReader → Standing
+standing reader = (reader.state, reader.number)

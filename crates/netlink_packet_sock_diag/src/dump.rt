@@ -1,15 +1,15 @@
 //! Dumps: the messages of several datagrams, up to the one that ends them.
 
 ghost use Rattle.std.specs.Prelude.{◌≡◌, ◌≢◌, ◌⊎◌, ℕ, List, [], map, Result, Ok as ok, Err as err};
-ghost use Rattle.std.specs.Prelude.{IfOk, IfErr};
+ghost use Rattle.std.specs.Prelude.{IfOk, IfErr, None};
 ghost use Rattle.std.proofs.Common.{rules};
 ghost use Rattle.netlink_core.specs.declared.fault.DecodeError.TheVariants.{Memory};
-ghost use Rattle.netlink_packet_sock_diag.specs.Dump.{DatagramDump, DatagramStopped};
+ghost use Rattle.netlink_packet_sock_diag.specs.Dump.{DatagramDump, DatagramStopped, Standing};
+ghost use Rattle.netlink_packet_sock_diag.specs.Dump.{unended};
 ghost use Rattle.netlink_packet_sock_diag.specs.Feed.{FeedLeaves, FeedsLeave};
 ghost use Rattle.netlink_packet_sock_diag.specs.Message.{Message, message_codec};
 ghost use Rattle.netlink_packet_sock_diag.specs.SeenMessage.{seen_message};
 ghost use Rattle.netlink_packet_sock_diag.specs.declared.dump.DumpError.{DumpError as Refusal};
-ghost use Rattle.netlink_packet_sock_diag.specs.declared.dump.DumpState.{DumpState as State};
 ghost use Rattle.netlink_packet_sock_diag.specs.declared.dump.DumpState.TheVariants.{Reading};
 ghost use Rattle.netlink_packet_sock_diag.specs.declared.dump.DumpState.TheVariants.{Failed};
 
@@ -19,7 +19,7 @@ pub use self::views::{DumpViews, PayloadView};
 use crate::message::SockDiagMessage;
 use netlink_core::{
     DecodeError, Exact, MessageStrings, NETLINK_HEADER_LEN, NLMSG_DONE, NLMSG_ERROR, NLMSG_NOOP,
-    NLMSG_OVERRUN, NetlinkDeserializable, NetlinkHeader,
+    NLMSG_OVERRUN, NetlinkDeserializable, NetlinkHeader, error_number,
 };
 use std::alloc::Global;
 
@@ -51,15 +51,17 @@ impl Exact for DumpState {
     ghost exact = { Prim.search rules };
 }
 
-// Takes the messages of a datagram up to the end of the dump. The type of each is looked at before
-// memory is taken.
+// Takes the messages of a datagram up to the end of the dump, and tells how the dump then stands:
+// its state, and the number that its end tells. The type of each is looked at before memory is
+// taken.
 fn take_messages<I: NetlinkDeserializable + Drop>(
     alloc: Global,
     messages: &mut Vec<I>,
     datagram: &[u8],
-) -> Result<DumpState, DecodeError>
-    ensures state { IfOk result (λ state. DatagramDump I.codec
-        (map I.seen messages.old.items) datagram.now (map I.seen messages.new.items) (ok state)) }
+) -> Result<(DumpState, Option<i32>), DecodeError>
+    ensures state { IfOk result (λ standing. DatagramDump I.codec
+        (map I.seen messages.old.items) datagram.now (map I.seen messages.new.items)
+        (ok standing)) }
     ensures fault { IfErr result (λ e. e ≢ Memory → DatagramDump I.codec
         (map I.seen messages.old.items) datagram.now (map I.seen messages.new.items) (err e)) }
     ensures memory { IfErr result (λ e. e ≡ Memory → DatagramStopped I.codec
@@ -68,19 +70,16 @@ fn take_messages<I: NetlinkDeserializable + Drop>(
     for item in MessageStrings::new(datagram) {
         let message = item?;
         let header = NetlinkHeader::from_prefix(message)?;
+        let payload = &message[NETLINK_HEADER_LEN..header.length as usize];
         match header.message_type {
             NLMSG_NOOP => {}
-            NLMSG_ERROR => return Ok(DumpState::Error),
-            NLMSG_DONE => return Ok(DumpState::Done),
-            NLMSG_OVERRUN => return Ok(DumpState::Overrun),
-            _ => messages.push(I::deserialize(
-                alloc,
-                &header,
-                &message[NETLINK_HEADER_LEN..header.length as usize],
-            )?)?,
+            NLMSG_ERROR => return Ok((DumpState::Error, error_number(payload))),
+            NLMSG_DONE => return Ok((DumpState::Done, error_number(payload))),
+            NLMSG_OVERRUN => return Ok((DumpState::Overrun, None)),
+            _ => messages.push(I::deserialize(alloc, &header, payload)?)?,
         }
     }
-    Ok(DumpState::Reading)
+    Ok((DumpState::Reading, None))
 }
 
 /// The reader of a dump, which comes in several datagrams. It keeps the messages of the protocol in
@@ -90,28 +89,33 @@ pub struct DumpReader {
     alloc: Global,
     messages: Vec<SockDiagMessage>,
     state: DumpState,
+    // The number that the end of the dump tells.
+    number: Option<i32>,
+    // A dump that is still read has no number.
+    ghost unnumbered: { (state ≡ Reading) → (number ≡ None) },
     // Datagrams were fed, with memory for all, and left these messages and this state; or one more
     // was, and the dump has failed.
-    ghost fed: { ∥ ((datagrams : List (List ℕ)) × (before : List Message) × (was : State)
-        × FeedsLeave message_codec [] Reading datagrams before was
-        × (((map seen_message messages.items ≡ before) × (state ≡ was))
-        ⊎ ((state ≡ Failed) × (last : List ℕ) × (answer : Result Unit Refusal)
+    ghost fed: { ∥ ((datagrams : List (List ℕ)) × (before : List Message) × (was : Standing)
+        × FeedsLeave message_codec [] unended datagrams before was
+        × (((map seen_message messages.items ≡ before) × ((state, number) ≡ was))
+        ⊎ (((state, number) ≡ (Failed, None)) × (last : List ℕ) × (answer : Result Unit Refusal)
         × FeedLeaves message_codec before was last
-        (map seen_message messages.items) state answer))) ∥₁ },
+        (map seen_message messages.items) (state, number) answer))) ∥₁ },
 }
 
 impl DumpReader {
-    ghost use Rattle.netlink_packet_sock_diag.specs.SeenDump.{kept_messages};
+    ghost use Rattle.netlink_packet_sock_diag.specs.SeenDump.{kept_messages, standing};
 
     /// A dump of which nothing has come. The allocator is kept.
     pub fn new(alloc: Global) -> Self
         ensures messages { kept_messages result ≡ [] }
-        ensures state { result.state ≡ Reading }
+        ensures state { standing result ≡ unended }
     {
         DumpReader {
             alloc,
             messages: Vec::new(alloc),
             state: DumpState::Reading,
+            number: None,
         }
     }
 
@@ -119,19 +123,21 @@ impl DumpReader {
     /// and where memory runs out, the messages in front are kept and the dump has failed. Once the
     /// dump has ended nothing changes.
     pub fn feed(&mut self, datagram: &[u8]) -> Result<(), DumpError>
-        ensures { FeedLeaves message_codec (kept_messages self.old) self.old.state datagram.now
-            (kept_messages self.new) self.new.state result }
+        ensures { FeedLeaves message_codec (kept_messages self.old) (standing self.old)
+            datagram.now (kept_messages self.new) (standing self.new) result }
     {
         if self.state != DumpState::Reading {
             return Err(DumpError::Ended);
         }
         match take_messages(self.alloc, &mut self.messages, datagram) {
-            Ok(state) => {
+            Ok((state, number)) => {
                 self.state = state;
+                self.number = number;
                 Ok(())
             }
             Err(fault) => {
                 self.state = DumpState::Failed;
+                self.number = None;
                 Err(DumpError::Fault(fault))
             }
         }
@@ -144,10 +150,25 @@ impl DumpReader {
         self.messages.as_slice()
     }
 
+    /// The messages, once no more datagrams are fed.
+    pub fn into_messages(self) -> Vec<SockDiagMessage>
+        ensures { map seen_message result.items ≡ kept_messages self }
+    {
+        self.messages
+    }
+
     /// How far the dump is.
     pub fn state(&self) -> DumpState
-        ensures { result ≡ self.now.state }
+        ensures { result ≡ (standing self.now).0 }
     {
         self.state
+    }
+
+    /// The number that the end of the dump tells, as [`error_number`] reads it: 0 where all went
+    /// well, else `-errno` (errno(3)). `None` while it is read, and where its end tells none.
+    pub fn error_number(&self) -> Option<i32>
+        ensures { result ≡ (standing self.now).1 }
+    {
+        self.number
     }
 }

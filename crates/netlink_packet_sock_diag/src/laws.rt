@@ -23,10 +23,8 @@ ghost use Rattle.netlink_packet_sock_diag.specs.contracts.message.SockDiagViewEm
 ghost use Rattle.netlink_packet_sock_diag.specs.contracts.coded.SockDiagDestroyCoded.TheImpl.{ghosts as destroys};
 ghost use Rattle.netlink_packet_sock_diag.specs.contracts.coded.SockDiagMessageCoded.TheImpl.{ghosts as messages};
 ghost use Rattle.netlink_packet_sock_diag.specs.declared.message.SockDiagDestroy.{SockDiagDestroy};
-ghost use Rattle.netlink_packet_sock_diag.specs.declared.dump.DumpState.{DumpState};
-ghost use Rattle.netlink_packet_sock_diag.specs.declared.dump.DumpState.TheVariants.{Reading};
 ghost use Rattle.netlink_packet_sock_diag.specs.Dump.{in_a_row, Dump, DumpGoesOn, DatagramsDump};
-ghost use Rattle.netlink_packet_sock_diag.specs.Dump.{AreSplit};
+ghost use Rattle.netlink_packet_sock_diag.specs.Dump.{AreSplit, Standing, unended};
 ghost use Rattle.netlink_packet_sock_diag.specs.Feed.{FeedsLeave};
 ghost use Rattle.netlink_packet_sock_diag.specs.declared.dump.views.DumpViews.{DumpViews};
 ghost use Rattle.netlink_packet_sock_diag.specs.declared.dump.views.PayloadView.{PayloadView};
@@ -177,19 +175,19 @@ pub fn finalized_message_reads_back()
 /// Items have one dump.
 pub fn items_have_one_dump()
     ensures some { (before : List Message) (items : List (Result (Payload Message) DecodeError))
-        → (after : List Message) × (end : Result DumpState DecodeError)
+        → (after : List Message) × (end : Result Standing DecodeError)
         × Dump before items after end }
     ensures one { (before a b : List Message) (items : List (Result (Payload Message) DecodeError))
-        (e f : Result DumpState DecodeError)
+        (e f : Result Standing DecodeError)
         → Dump before items a e → Dump before items b f → (a ≡ b) × (e ≡ f) }
 {}
 
 /// The dump over items in a row is that over the first part, continued by the second.
 pub fn dump_over_items_in_a_row()
-    ensures { (before after : List Message) (end : Result DumpState DecodeError)
+    ensures { (before after : List Message) (end : Result Standing DecodeError)
         (xs ys : List (Result (Payload Message) DecodeError))
         → (Dump before (xs ++ ys) after end
-        ↔ ((middle : List Message) × (state : Result DumpState DecodeError)
+        ↔ ((middle : List Message) × (state : Result Standing DecodeError)
         × Dump before xs middle state × DumpGoesOn middle state ys after end)) }
 {}
 
@@ -200,7 +198,7 @@ pub fn same_items_have_one_dump()
         → AllByRecursion IsBytes datagrams
         → AllZip (ItemsAre message_codec) datagrams xs → AllZip (ItemsAre message_codec) others ys
         → in_a_row xs ≡ in_a_row ys
-        → (before after : List Message) (end : Result DumpState DecodeError)
+        → (before after : List Message) (end : Result Standing DecodeError)
         → DatagramsDump message_codec before datagrams after end
         → DatagramsDump message_codec before others after end }
 {
@@ -213,7 +211,7 @@ pub fn split_changes_no_dump()
     ensures { (datagrams others : List (List ℕ)) → AllByRecursion IsBytes datagrams
         → AllByRecursion IsBytes others
         → AreSplit datagrams → AreSplit others → in_a_row datagrams ≡ in_a_row others
-        → (before after : List Message) (end : Result DumpState DecodeError)
+        → (before after : List Message) (end : Result Standing DecodeError)
         → DatagramsDump message_codec before datagrams after end
         → DatagramsDump message_codec before others after end }
 {
@@ -222,14 +220,14 @@ pub fn split_changes_no_dump()
 }
 
 /// Nor does what feeding leaves: the same bytes, fed to two new readers in any two such ways, and
-/// memory for all, leave the same messages and the same state.
+/// memory for all, leave the same messages, the same state and the same number.
 pub fn split_changes_no_feed()
     ensures { (datagrams others : List (List ℕ)) → AllByRecursion IsBytes datagrams
         → AllByRecursion IsBytes others
         → AreSplit datagrams → AreSplit others → in_a_row datagrams ≡ in_a_row others
-        → (messages same : List Message) (state end : DumpState)
-        → FeedsLeave message_codec [] Reading datagrams messages state
-        → FeedsLeave message_codec [] Reading others same end
+        → (messages same : List Message) (state end : Standing)
+        → FeedsLeave message_codec [] unended datagrams messages state
+        → FeedsLeave message_codec [] unended others same end
         → (messages ≡ same) × (state ≡ end) }
 {
     laws::datagram_has_items::<SockDiagMessage>();
@@ -238,16 +236,16 @@ pub fn split_changes_no_feed()
 
 /// Nor does it where datagrams have the same items in a row, as where one of them lacks the padding
 /// behind its last message: fed to two new readers, and with memory for all, they leave the same
-/// messages and the same state.
+/// messages, the same state and the same number.
 pub fn same_items_change_no_feed()
     ensures { (datagrams others : List (List ℕ))
         (xs ys : List (List (Result (Payload Message) DecodeError)))
         → AllByRecursion IsBytes datagrams → AllByRecursion IsBytes others
         → AllZip (ItemsAre message_codec) datagrams xs → AllZip (ItemsAre message_codec) others ys
         → in_a_row xs ≡ in_a_row ys
-        → (messages same : List Message) (state end : DumpState)
-        → FeedsLeave message_codec [] Reading datagrams messages state
-        → FeedsLeave message_codec [] Reading others same end
+        → (messages same : List Message) (state end : Standing)
+        → FeedsLeave message_codec [] unended datagrams messages state
+        → FeedsLeave message_codec [] unended others same end
         → (messages ≡ same) × (state ≡ end) }
 {
     laws::datagram_has_items::<SockDiagMessage>();

@@ -9,12 +9,11 @@ use Rattle.netlink_core.specs.declared.fault.DecodeError.TheVariants.{Memory}
 use Rattle.netlink_core.specs.Envelope.{Payload}
 use Rattle.netlink_core.specs.Items.{ItemsAre}
 use Rattle.netlink_core.proofs.Items.{items_of, one_list, zip_append}
-use Rattle.netlink_packet_sock_diag.specs.declared.dump.DumpState.{DumpState}
-use Rattle.netlink_packet_sock_diag.specs.declared.dump.DumpState.TheVariants.{Reading, Failed}
+use Rattle.netlink_packet_sock_diag.specs.declared.dump.DumpState.TheVariants.{Failed}
 use Rattle.netlink_packet_sock_diag.specs.declared.dump.DumpError.TheVariants.{Ended, Fault}
 use Rattle.netlink_packet_sock_diag.specs.Feed.{FeedLeaves}
 use Rattle.netlink_packet_sock_diag.specs.Dump.{AreSplit, Dump, DatagramDump, DatagramsDump}
-use Rattle.netlink_packet_sock_diag.specs.Dump.{HaveItems, in_a_row}
+use Rattle.netlink_packet_sock_diag.specs.Dump.{HaveItems, Standing, in_a_row, unended}
 use Rattle.netlink_packet_sock_diag.specs.Message.{Message, message_codec}
 use Rattle.netlink_packet_sock_diag.specs.MessageLaws.{message_laws}
 use Rattle.netlink_packet_sock_diag.proofs.DumpRows.{dump_of_split, has_dump, items_of_each, joined}
@@ -42,7 +41,7 @@ one_items = one_list message_codec envelope_laws.one_value envelope_laws.one_ans
 
 -- datagrams have a dump
 has_dumps : (before : List Message) (datagrams : List (List ℕ)) → AllByRecursion IsBytes datagrams
-    → (after : List Message) × (end : Result DumpState DecodeError)
+    → (after : List Message) × (end : Result Standing DecodeError)
     × DatagramsDump message_codec before datagrams after end
 has_dumps before datagrams typed =
     let parts = items_of_each message_codec some_items datagrams typed in
@@ -51,7 +50,7 @@ has_dumps before datagrams typed =
 
 -- and no other
 one_dumps : (before : List Message) (datagrams : List (List ℕ)) → AllByRecursion IsBytes datagrams
-    → (a b : List Message) (e f : Result DumpState DecodeError)
+    → (a b : List Message) (e f : Result Standing DecodeError)
     → DatagramsDump message_codec before datagrams a e
     → DatagramsDump message_codec before datagrams b f → (a ≡ b) × (e ≡ f)
 one_dumps before datagrams typed a b e f (row, items, d) t =
@@ -126,11 +125,11 @@ tells_split datagrams others typed fits split cut same =
 -- ---- one datagram more
 
 -- what a further datagram makes of a dump
-Next : List Message → Result DumpState DecodeError → List ℕ → List Message
-    → Result DumpState DecodeError → Type 0
+Next : List Message → Result Standing DecodeError → List ℕ → List Message
+    → Result Standing DecodeError → Type 0
 Next middle state datagram after end =
-    ((state ≡ Ok Reading) × DatagramDump message_codec middle datagram after end)
-    ⊎ ((state ≢ Ok Reading) × (after ≡ middle) × (end ≡ state))
+    ((state ≡ Ok unended) × DatagramDump message_codec middle datagram after end)
+    ⊎ ((state ≢ Ok unended) × (after ≡ middle) × (end ≡ state))
 
 -- the items of datagrams and of one more
 in_a_row-push : (parts : List (List (Result (Payload Message) DecodeError)))
@@ -155,7 +154,7 @@ grown datagrams datagram row items have are = (
 )
 
 one_more : (datagrams : List (List ℕ)) (datagram : List ℕ) → IsBytes datagram
-    → (before middle after : List Message) (state end : Result DumpState DecodeError)
+    → (before middle after : List Message) (state end : Result Standing DecodeError)
     → DatagramsDump message_codec before datagrams middle state
     → Next middle state datagram after end
     → DatagramsDump message_codec before (datagrams ++ datagram ∷ []) after end
@@ -173,33 +172,33 @@ one_more datagrams datagram typed before middle after state end (row, have, d) (
       joined before middle after state end row more.0 d (inr off),
     )
 
-reading_at : (state : DumpState) (fault : Option DecodeError) → (state ≡ Reading → fault ≡ None)
-    → state ≡ Reading → ended_with state fault ≡ Ok Reading
+reading_at : (state : Standing) (fault : Option DecodeError) → (state ≡ unended → fault ≡ None)
+    → state ≡ unended → ended_with state fault ≡ Ok unended
 reading_at state fault none is = ap (ended_with state) (none is) ∙ ap Ok is
 
-over_at : (state : DumpState) (fault : Option DecodeError) → state ≢ Reading
-    → ended_with state fault ≢ Ok Reading
+over_at : (state : Standing) (fault : Option DecodeError) → state ≢ unended
+    → ended_with state fault ≢ Ok unended
 over_at state None over = λ e. over (bare state e)
   where
-    bare : (s : DumpState) → ended_with s None ≡ Ok Reading → s ≡ Reading
+    bare : (s : Standing) → ended_with s None ≡ Ok unended → s ≡ unended
     bare s e = cc
 over_at state (Some fault) over = λ e. cc
 
 module _ (datagrams : List (List ℕ)) (datagram : List ℕ) (typed : IsBytes datagram)
-    (before after : List Message) (state left : DumpState) (fault : Option DecodeError)
+    (before after : List Message) (state left : Standing) (fault : Option DecodeError)
     (d : DatagramsDump message_codec [] datagrams before (ended_with state fault))
-    (none : state ≡ Reading → fault ≡ None) where
+    (none : state ≡ unended → fault ≡ None) where
   -- the datagram was taken without a fault
   pub took : FeedLeaves message_codec before state datagram after left (Ok tt)
       → DatagramsDump message_codec [] (datagrams ++ datagram ∷ []) after (ended_with left fault)
-      × (left ≡ Reading → fault ≡ None)
+      × (left ≡ unended → fault ≡ None)
   unfolding Next
   took fed = (
     one_more datagrams datagram typed [] before after (ended_with state fault)
         (ended_with left fault) d
         (inl (
           reading_at state fault none fed.0,
-          subst (λ (e : Result DumpState DecodeError). DatagramDump message_codec before
+          subst (λ (e : Result Standing DecodeError). DatagramDump message_codec before
               datagram after e) (sym (ap (ended_with left) (none fed.0))) fed.1,
         )),
     λ still. none fed.0,
@@ -208,12 +207,12 @@ module _ (datagrams : List (List ℕ)) (datagram : List ℕ) (typed : IsBytes da
   -- it was not, since the dump had ended
   pub left_as_it_was : FeedLeaves message_codec before state datagram after left (Err Ended)
       → DatagramsDump message_codec [] (datagrams ++ datagram ∷ []) after (ended_with left fault)
-      × (left ≡ Reading → fault ≡ None)
+      × (left ≡ unended → fault ≡ None)
   unfolding Next
   left_as_it_was fed = (
     one_more datagrams datagram typed [] before after (ended_with state fault)
         (ended_with left fault) d
-        (inr (over_at state fault fed.0, fed.1, ap (λ (s : DumpState). ended_with s fault) fed.2)),
+        (inr (over_at state fault fed.0, fed.1, ap (λ (s : Standing). ended_with s fault) fed.2)),
     λ reading. absurd (fed.0 (sym fed.2 ∙ reading)),
   )
 
@@ -221,7 +220,7 @@ module _ (datagrams : List (List ℕ)) (datagram : List ℕ) (typed : IsBytes da
   pub failed_at : (e : DecodeError) → e ≢ Memory → FeedLeaves message_codec before state datagram
       after left (Err (Fault e))
       → DatagramsDump message_codec [] (datagrams ++ datagram ∷ []) after (Err e)
-      × (left ≡ Reading → Some e ≡ None)
+      × (left ≡ unended → Some e ≡ None)
   unfolding Next
   failed_at e named fed = (
     one_more datagrams datagram typed [] before after (ended_with state fault) (Err e) d
@@ -229,5 +228,5 @@ module _ (datagrams : List (List ℕ)) (datagram : List ℕ) (typed : IsBytes da
     λ still. absurd (apart (sym fed.1 ∙ still)),
   )
     where
-      apart : Failed ≡ Reading → ⊥
+      apart : (Failed, None) ≡ unended → ⊥
       apart e = cc

@@ -4,10 +4,9 @@ use Rattle.std.specs.Prelude.{Err}
 use Rattle.std.specs.List.{AllByRecursion, AllZip, flat_map, slice_split}
 use Rattle.netlink_core.specs.declared.fault.DecodeError.{DecodeError}
 use Rattle.netlink_core.specs.Faults.{number_of}
-use Rattle.netlink_packet_sock_diag.specs.declared.dump.DumpState.{DumpState}
 use Rattle.netlink_packet_sock_diag.specs.declared.dump.DumpState.TheVariants.{Reading, Done, Error}
 use Rattle.netlink_packet_sock_diag.specs.declared.dump.DumpState.TheVariants.{Overrun, Failed}
-use Rattle.netlink_packet_sock_diag.specs.Dump.{DatagramsDump}
+use Rattle.netlink_packet_sock_diag.specs.Dump.{DatagramsDump, Standing}
 use Rattle.netlink_packet_sock_diag.specs.Message.{Message, message_codec}
 use Rattle.sock_diag_lines.specs.HexField.{IsHexField, field_of}
 use Rattle.sock_diag_lines.specs.Told.{Tells}
@@ -18,17 +17,17 @@ IsDumpRequest line datagrams = (fields : List ℕ) × (line ≡ codes "dump" ++ 
     × AllZip IsHexField (slice_split (λ c. c == 32) fields) datagrams
 
 -- the word for the state, or `failed:` and the number of the fault
-abbrev pub end_word : Result DumpState DecodeError → List ℕ
-end_word (Ok Reading) = codes "reading"
-end_word (Ok Done) = codes "done"
-end_word (Ok Error) = codes "error"
-end_word (Ok Overrun) = codes "overrun"
-end_word (Ok Failed) = codes "failed"
+abbrev pub end_word : Result Standing DecodeError → List ℕ
+end_word (Ok (Reading, number)) = codes "reading"
+end_word (Ok (Done, number)) = codes "done"
+end_word (Ok (Error, number)) = codes "error"
+end_word (Ok (Overrun, number)) = codes "overrun"
+end_word (Ok (Failed, number)) = codes "failed"
 end_word (Err fault) = codes "failed:" ++ decimal (number_of fault)
 
 -- of a dump's messages and its end: how it ends, a space, how many messages it keeps, and a space
 -- and a hex field for each of them
-abbrev pub shown_dump : List Message × Result DumpState DecodeError → List ℕ
+abbrev pub shown_dump : List Message × Result Standing DecodeError → List ℕ
 shown_dump dump = end_word dump.1 ++ 32 ∷ decimal (length dump.0)
     ++ flat_map (λ message. 32 ∷ field_of (message_codec.written message)) dump.0
 

@@ -1,6 +1,6 @@
 //! The answer to a line that asks for the dump over some datagrams.
 
-ghost use Rattle.std.specs.Prelude.{◌≡◌, ◌↔◌, ◌++◌, ℕ, List, map, IsTrue, IfOk, OnOk, MatchBool};
+ghost use Rattle.std.specs.Prelude.{◌≡◌, ◌↔◌, ◌++◌, ℕ, ℤ, List, Option, map, IsTrue, IfOk, OnOk, MatchBool};
 ghost use Rattle.std.specs.Prelude.{MatchOption, Ok};
 ghost use Rattle.std.specs.List.{AllByRecursion, flat_map};
 ghost use Rattle.netlink_packet_sock_diag.specs.Message.{message_codec};
@@ -122,7 +122,7 @@ fn push_end(text: &mut Vec<u8>, dump: &ReadDump) -> Result<(), AllocError>
 
 /// The word for a state.
 fn state_word(state: DumpState) -> &'static [u8]
-    ensures { result.now ≡ end_word (Ok state) }
+    ensures { (number : Option ℤ) → result.now ≡ end_word (Ok (state, number)) }
 {
     match state {
         DumpState::Reading => b"reading",

@@ -94,6 +94,6 @@ pub record CanBeTold (reply : UnixReply) : Type 0 where
   pub fits : (reply_codec unix_reply).fits reply
   pub short : 16 + length (reply_bytes unix_reply reply) ≤ 4294967295
 
--- the dump over the datagram is done, and has these replies
+-- the dump over the datagram is done, its number is 0, and it has these replies
 pub record IsWholeDump (datagram : List ℕ) (replies : List UnixReply) : Type 0 where
-  pub dump : DatagramDump message_codec [] datagram (map (message_of unix_response) replies) (Ok Done)
+  pub dump : DatagramDump message_codec [] datagram (map (message_of unix_response) replies) (Ok (Done, Some (pos 0)))
