@@ -19,7 +19,7 @@ import re
 import sys
 from pathlib import Path
 
-CRATES = ["netlink_core", "sock_diag_values", "sock_diag_records", "sock_diag_attributes", "netlink_packet_sock_diag", "line_server",
+CRATES = ["netlink_core", "attribute_lists", "sock_diag_values", "sock_diag_records", "sock_diag_attributes", "netlink_packet_sock_diag", "line_server",
     "sock_diag_lines"]
 ROOT = Path(__file__).resolve().parent.parent / "crates"
 # So many lines have to be believed at most.

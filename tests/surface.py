@@ -17,7 +17,7 @@ import sys
 from itertools import accumulate, islice
 from pathlib import Path
 
-CRATES = """netlink_core sock_diag_values sock_diag_records sock_diag_attributes
+CRATES = """netlink_core attribute_lists sock_diag_values sock_diag_records sock_diag_attributes
     netlink_packet_sock_diag""".split()
 TOP = Path(__file__).resolve().parent.parent
 LIST = TOP / "tests" / "surface.txt"

@@ -1,11 +1,12 @@
 -- The messages that a dump keeps of the items of its datagrams, and how it ends.
-use Rattle.std.specs.Prelude.{◌≡◌, ◌≢◌, ℕ, ℤ, List, [], ◌∷◌, ◌++◌, ⊤, ◌⊎◌, Option, Some, None, Result}
-use Rattle.std.specs.Prelude.{Ok, Err}
+use Rattle.std.specs.Prelude.{◌≡◌, ◌≢◌, ℕ, ℤ, List, [], ◌∷◌, ◌++◌, ⊤, ◌⊎◌, Option, Some, None}
+use Rattle.std.specs.Prelude.{Result, Ok, Err}
 use Rattle.std.specs.List.{AllByRecursion, AllZip, flat_map}
 use Rattle.netlink_core.specs.declared.fault.DecodeError.{DecodeError}
 use Rattle.netlink_core.specs.Codec.{Codec}
 use Rattle.netlink_core.specs.Datagram.{AreWholeMessages}
-use Rattle.netlink_core.specs.Envelope.{done_with, error_with, overrun_with, inner, number_in_front}
+use Rattle.netlink_core.specs.Envelope.{done_with, error_with, overrun_with, inner}
+use Rattle.netlink_core.specs.Envelope.{number_in_front}
 use Rattle.netlink_core.specs.Items.{Item, ItemsAre}
 use Rattle.netlink_packet_sock_diag.specs.declared.dump.DumpState.{DumpState}
 use Rattle.netlink_packet_sock_diag.specs.declared.dump.DumpState.TheVariants.{Reading, Done, Error}
@@ -29,8 +30,8 @@ module _ {A : Type 0} where
   kept (Ok (inner value)) = value ∷ []
   kept _ = []
 
-  -- how the item ends a dump: so that it stands so, or with a fault; after a message, or one of nothing, it
-  -- goes on
+  -- how a dump stands that the item ends, or its fault; after a message, or one of nothing, it goes
+  -- on
   abbrev pub end_of : Item A → Option (Result Standing DecodeError)
   end_of (Ok (done_with given)) = Some (Ok (Done, number_in_front given))
   end_of (Ok (error_with given)) = Some (Ok (Error, number_in_front given))

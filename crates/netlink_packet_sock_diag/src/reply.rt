@@ -1,6 +1,7 @@
 //! How replies of every family are compared, measured and written: a header, and then attributes.
 
-ghost use Rattle.std.specs.Prelude.{◌≡◌, ◌≤◌, ◌↔◌, ◌++◌, length, drop, map, IsSome, IfSome, SomeIff};
+ghost use Rattle.std.specs.Prelude.{◌≡◌, ◌≤◌, ◌↔◌, ◌++◌, length, drop, map, IsSome, IfSome};
+ghost use Rattle.std.specs.Prelude.{SomeIff};
 ghost use lib.Pointwise.{pointwise};
 ghost use Rattle.attribute_lists.specs.AttributesIn.{HasNoFault, values_in};
 ghost use Rattle.netlink_core.specs.declared.fault.DecodeError.TheVariants.{Memory};
@@ -35,7 +36,8 @@ pub(crate) fn same_views<'a, V: ComparedView<'a> + Drop>(left: &'a [u8], right: 
     requires left { HasNoFault (says V.FamilyView.family) left.now }
     requires right { HasNoFault (says V.FamilyView.family) right.now }
     ensures { result ≡ pointwise (said_test V.FamilyView.family V.tests)
-        (values_in (says V.FamilyView.family) left.entry.now) (values_in (says V.FamilyView.family) right.entry.now) }
+        (values_in (says V.FamilyView.family) left.entry.now)
+        (values_in (says V.FamilyView.family) right.entry.now) }
 {
     let mut walk = NlasIterator::new(left);
     let mut others = NlasIterator::new(right);

@@ -1,7 +1,7 @@
 //! The answer to a line that asks for the dump over some datagrams.
 
-ghost use Rattle.std.specs.Prelude.{◌≡◌, ◌↔◌, ◌++◌, ℕ, ℤ, List, Option, map, IsTrue, IfOk, OnOk, MatchBool};
-ghost use Rattle.std.specs.Prelude.{MatchOption, Ok};
+ghost use Rattle.std.specs.Prelude.{◌≡◌, ◌↔◌, ◌++◌, ℕ, ℤ, List, Option, map, IsTrue, IfOk, OnOk};
+ghost use Rattle.std.specs.Prelude.{MatchBool, MatchOption, Ok};
 ghost use Rattle.std.specs.List.{AllByRecursion, flat_map};
 ghost use Rattle.netlink_packet_sock_diag.specs.Message.{message_codec};
 ghost use Rattle.netlink_packet_sock_diag.specs.SeenMessage.{seen_message};
