@@ -90,34 +90,38 @@ fn datagram(alloc: Global, names: &str) -> Result<Vec<u8>, Fail> {
     Ok(messages)
 }
 
-/// Datagrams, the answer to the last one, how far the dump is then, and how many messages it keeps.
-const DUMPS: &str = ": (Ok(()), Reading, 0)
-reply: (Ok(()), Reading, 1)
-reply done: (Ok(()), Done, 1)
-reply+done: (Ok(()), Done, 1)
-noop reply done: (Ok(()), Done, 1)
-reply+done+reply: (Ok(()), Done, 1)
-done reply: (Err(Ended), Done, 0)
-error: (Ok(()), Error, 0)
-error reply: (Err(Ended), Error, 0)
-reply lost: (Ok(()), Overrun, 1)
-reply lost reply: (Err(Ended), Overrun, 1)
-reply+20000000: (Err(Fault(EnvelopeCut { got: 4 })), Failed, 1)
-reply+00: (Err(Fault(EnvelopeCut { got: 1 })), Failed, 1)
-reply+00 reply: (Err(Ended), Failed, 1)
-unknown: (Err(Fault(UnknownMessageType { message_type: 21 })), Failed, 0)
-odd reply: (Ok(()), Reading, 2)
-odd+000000+reply: (Ok(()), Reading, 2)
-odd+reply: (Err(Fault(EnvelopeLengthPast { length: 33559552, got: 29 })), Failed, 1)";
+/// Datagrams, the answer to the last one, how far the dump is then, the number that its end tells,
+/// and how many messages it keeps.
+const DUMPS: &str = ": (Ok(()), Reading, None, 0)
+reply: (Ok(()), Reading, None, 1)
+reply done: (Ok(()), Done, Some(0), 1)
+reply+done: (Ok(()), Done, Some(0), 1)
+noop reply done: (Ok(()), Done, Some(0), 1)
+reply+done+reply: (Ok(()), Done, Some(0), 1)
+done reply: (Err(Ended), Done, Some(0), 0)
+error: (Ok(()), Error, Some(238), 0)
+error reply: (Err(Ended), Error, Some(238), 0)
+reply lost: (Ok(()), Overrun, None, 1)
+reply lost reply: (Err(Ended), Overrun, None, 1)
+reply+20000000: (Err(Fault(EnvelopeCut { got: 4 })), Failed, None, 1)
+reply+00: (Err(Fault(EnvelopeCut { got: 1 })), Failed, None, 1)
+reply+00 reply: (Err(Ended), Failed, None, 1)
+unknown: (Err(Fault(UnknownMessageType { message_type: 21 })), Failed, None, 0)
+odd reply: (Ok(()), Reading, None, 2)
+odd+000000+reply: (Ok(()), Reading, None, 2)
+odd+reply: (Err(Fault(EnvelopeLengthPast { length: 33559552, got: 29 })), Failed, None, 1)";
 
 /// What a reader tells of these datagrams.
-fn fed(alloc: Global, datagrams: &str) -> Result<(Result<(), DumpError>, DumpState, usize), Fail> {
+type Told = (Result<(), DumpError>, DumpState, Option<i32>, usize);
+
+fn fed(alloc: Global, datagrams: &str) -> Result<Told, Fail> {
     let mut reader = DumpReader::new(alloc);
     let mut answer = Ok(());
     for names in datagrams.split(' ') {
         answer = reader.feed(&datagram(alloc, names)?);
     }
-    Ok((answer, reader.state(), reader.messages().len()))
+    let (state, number) = (reader.state(), reader.error_number());
+    Ok((answer, state, number, reader.into_messages().len()))
 }
 
 #[test]
