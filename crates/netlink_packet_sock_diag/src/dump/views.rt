@@ -1,8 +1,10 @@
 //! The messages of a datagram with what they carry, read in place.
 
-ghost use Rattle.std.specs.Prelude.{◌≡◌};
+ghost use Rattle.std.specs.Prelude.{◌≡◌, IfOk, IfErr};
+ghost use Rattle.netlink_core.specs.Envelope.{IsInnerType, PayloadIs, envelope_codec};
 ghost use Rattle.netlink_core.specs.Items.{ItemIs};
 ghost use Rattle.netlink_packet_sock_diag.specs.Message.{message_codec};
+ghost use Rattle.netlink_packet_sock_diag.specs.ViewedPayload.{viewed_item};
 
 use crate::message::SockDiagView;
 use netlink_core::{
@@ -28,7 +30,7 @@ pub enum PayloadView<'a> {
 
 impl<'a> PayloadView<'a> {
     ghost use Rattle.netlink_core.specs.Envelope.{error_number_of};
-    ghost use Rattle.netlink_packet_sock_diag.specs.ViewedPayload.{viewed_item, viewed_payload};
+    ghost use Rattle.netlink_packet_sock_diag.specs.ViewedPayload.{viewed_payload};
 
     /// The number that an error or an end tells, as [`error_number`] reads it, and `None` of any
     /// other payload.
@@ -41,13 +43,14 @@ impl<'a> PayloadView<'a> {
         }
     }
 
-    // What the message in these bytes carries, or the first fault.
+    // What a message carries behind its header, or the fault of an inner message.
     #[inline(always)]
-    fn read(message: &'a [u8]) -> Result<PayloadView<'a>, DecodeError>
-        ensures { ItemIs message_codec message.entry.now (viewed_item result) }
+    fn read(header: &NetlinkHeader, payload: &'a [u8]) -> Result<PayloadView<'a>, DecodeError>
+        ensures value { IfOk result (λ view. PayloadIs message_codec.reads payload.entry.now
+            header.now.message_type (viewed_payload view)) }
+        ensures fault { IfErr result (λ e. IsInnerType header.now.message_type
+            × message_codec.refuses payload.entry.now header.now.message_type e) }
     {
-        let header = NetlinkHeader::from_prefix(message)?;
-        let payload = &message[NETLINK_HEADER_LEN..header.length as usize];
         Ok(match header.message_type {
             NLMSG_NOOP => PayloadView::Noop,
             NLMSG_ERROR => PayloadView::Error(payload),
@@ -56,6 +59,42 @@ impl<'a> PayloadView<'a> {
             message_type => PayloadView::InnerMessage(SockDiagView::parse(payload, message_type)?),
         })
     }
+}
+
+/// A message with its header, read in place: a [`netlink_core::NetlinkMessage`] whose bytes are
+/// borrowed.
+#[derive(Clone, Copy, Debug)]
+pub struct NetlinkMessageView<'a> {
+    /// The five fields of the header, among them the number of the request that is answered.
+    pub header: NetlinkHeader,
+    /// What the message carries.
+    pub payload: PayloadView<'a>,
+}
+
+impl<'a> NetlinkMessageView<'a> {
+    ghost use Rattle.netlink_packet_sock_diag.specs.ViewedPayload.{viewed_envelope};
+
+    /// Reads the message at the front of the bytes, and takes no memory. What follows its length is
+    /// unread. The faults are those of [`netlink_core::NetlinkMessage::deserialize`].
+    #[inline(always)]
+    pub fn parse(bytes: &'a [u8]) -> Result<NetlinkMessageView<'a>, DecodeError>
+        ensures value { IfOk result (λ view.
+            (envelope_codec message_codec).reads bytes.entry.now tt (viewed_envelope view)) }
+        ensures fault { IfErr result ((envelope_codec message_codec).refuses bytes.entry.now tt) }
+    {
+        let header = NetlinkHeader::from_prefix(bytes)?;
+        let payload = &bytes[NETLINK_HEADER_LEN..header.length as usize];
+        let payload = PayloadView::read(&header, payload)?;
+        Ok(NetlinkMessageView { header, payload })
+    }
+}
+
+// What the message in these bytes carries, or the first fault.
+#[inline(always)]
+fn carried<'a>(message: &'a [u8]) -> Result<PayloadView<'a>, DecodeError>
+    ensures { ItemIs message_codec message.entry.now (viewed_item result) }
+{
+    Ok(NetlinkMessageView::parse(message)?.payload)
 }
 
 /// The walk over the messages of a datagram, each as what it carries. The end of a dump does not
@@ -99,7 +138,7 @@ impl<'a> Iterator for DumpViews<'a> {
     #[inline(always)]
     fn next(&mut self) -> Option<Result<PayloadView<'a>, DecodeError>> {
         match self.messages.next()? {
-            Ok(message) => Some(PayloadView::read(message)),
+            Ok(message) => Some(carried(message)),
             Err(fault) => Some(Err(fault)),
         }
     }

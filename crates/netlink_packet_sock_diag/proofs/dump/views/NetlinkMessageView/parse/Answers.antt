@@ -1,0 +1,14 @@
+use Rattle.std.proofs.lemmas.Result.{err_from_is_err_and}
+use Rattle.netlink_core.proofs.Framing.{fault_within}
+use Rattle.netlink_packet_sock_diag.specs.Message.{message_codec}
+use Rattle.netlink_packet_sock_diag.proofs.dump.views.NetlinkMessageView.parse.Goals as goal
+
+pub returns-in_err-payload-clause-fault : goal.returns-in_err-payload-clause-fault
+returns-in_err-payload-clause-fault c =
+    let p = err_from_is_err_and c.from_residual-in_err-payload.result
+    c.from_residual-in_err-payload.ensures.1 in
+    rw (p.1, p.2) (fault_within message_codec c.args.bytes.now c.in_ok-header.header _
+    c.in_ok-header.ensures c.in_err-payload.ensures.fault)
+
+pub returns-clause-value : goal.returns-clause-value
+returns-clause-value c = (c.in_ok-header.ensures, c.in_ok-payload.ensures.value)
