@@ -4,7 +4,7 @@ use Rattle.netlink_core.specs.Faults.{said_as}
 use Rattle.netlink_core.specs.declared.fault.DecodeError.{DecodeError}
 use Rattle.netlink_core.specs.Envelope.{Payload, done_with, error_with, no_payload, overrun_with}
 use Rattle.netlink_core.specs.Envelope.{Envelope, inner}
-use Rattle.netlink_packet_sock_diag.specs.declared.dump.views.NetlinkMessageView.{NetlinkMessageView}
+use Rattle.netlink_packet_sock_diag.specs.declared.dump.views.MessageView.{MessageView}
 use Rattle.netlink_packet_sock_diag.specs.declared.dump.views.PayloadView.{PayloadView}
 use Rattle.netlink_packet_sock_diag.specs.declared.dump.views.PayloadView.TheVariants.{Done, Error}
 use Rattle.netlink_packet_sock_diag.specs.declared.dump.views.PayloadView.TheVariants.{Noop}
@@ -22,7 +22,7 @@ viewed_payload (Overrun given) = overrun_with given.now
 viewed_payload (InnerMessage message) = inner (viewed_message message)
 
 -- the message, with its header
-abbrev pub viewed_envelope : NetlinkMessageView → Envelope Message
+abbrev pub viewed_envelope : MessageView → Envelope Message
 viewed_envelope view = record { header = view.header; payload = viewed_payload view.payload }
 
 -- what an item of a datagram says

@@ -15,7 +15,7 @@ ghost use Rattle.netlink_packet_sock_diag.specs.declared.dump.DumpState.TheVaria
 
 mod views;
 
-pub use self::views::{DumpViews, NetlinkMessageView, PayloadView};
+pub use self::views::{DumpViews, MessageView, PayloadView};
 use crate::message::SockDiagMessage;
 use netlink_core::{
     DecodeError, Exact, MessageStrings, NETLINK_HEADER_LEN, NLMSG_DONE, NLMSG_ERROR, NLMSG_NOOP,

@@ -63,21 +63,21 @@ impl<'a> PayloadView<'a> {
 
 /// A message with its header, read in place: a [`netlink_core::NetlinkMessage`] whose bytes are
 /// borrowed.
-#[derive(Clone, Copy, Debug)]
-pub struct NetlinkMessageView<'a> {
-    /// The five fields of the header, among them the number of the request that is answered.
+#[derive(Debug, Drop)]
+pub struct MessageView<'a> {
+    /// The header. Its sequence number is that of the request which is answered.
     pub header: NetlinkHeader,
     /// What the message carries.
     pub payload: PayloadView<'a>,
 }
 
-impl<'a> NetlinkMessageView<'a> {
+impl<'a> MessageView<'a> {
     ghost use Rattle.netlink_packet_sock_diag.specs.ViewedPayload.{viewed_envelope};
 
     /// Reads the message at the front of the bytes, and takes no memory. What follows its length is
     /// unread. The faults are those of [`netlink_core::NetlinkMessage::deserialize`].
     #[inline(always)]
-    pub fn parse(bytes: &'a [u8]) -> Result<NetlinkMessageView<'a>, DecodeError>
+    pub fn parse(bytes: &'a [u8]) -> Result<MessageView<'a>, DecodeError>
         ensures value { IfOk result (λ view.
             (envelope_codec message_codec).reads bytes.entry.now tt (viewed_envelope view)) }
         ensures fault { IfErr result ((envelope_codec message_codec).refuses bytes.entry.now tt) }
@@ -85,7 +85,7 @@ impl<'a> NetlinkMessageView<'a> {
         let header = NetlinkHeader::from_prefix(bytes)?;
         let payload = &bytes[NETLINK_HEADER_LEN..header.length as usize];
         let payload = PayloadView::read(&header, payload)?;
-        Ok(NetlinkMessageView { header, payload })
+        Ok(MessageView { header, payload })
     }
 }
 
@@ -94,7 +94,7 @@ impl<'a> NetlinkMessageView<'a> {
 fn carried<'a>(message: &'a [u8]) -> Result<PayloadView<'a>, DecodeError>
     ensures { ItemIs message_codec message.entry.now (viewed_item result) }
 {
-    Ok(NetlinkMessageView::parse(message)?.payload)
+    Ok(MessageView::parse(message)?.payload)
 }
 
 /// The walk over the messages of a datagram, each as what it carries. The end of a dump does not

@@ -1,7 +1,7 @@
 use Rattle.std.proofs.lemmas.Result.{err_from_is_err_and}
 use Rattle.netlink_core.proofs.Framing.{fault_within}
 use Rattle.netlink_packet_sock_diag.specs.Message.{message_codec}
-use Rattle.netlink_packet_sock_diag.proofs.dump.views.NetlinkMessageView.parse.Goals as goal
+use Rattle.netlink_packet_sock_diag.proofs.dump.views.MessageView.parse.Goals as goal
 
 pub returns-in_err-payload-clause-fault : goal.returns-in_err-payload-clause-fault
 returns-in_err-payload-clause-fault c =
