@@ -5,11 +5,11 @@ ghost use Rattle.sock_diag_lines.specs.declared.answers.Name.TheVariants.{UnixVi
 ghost use Rattle.std.specs.Prelude.{◌≡◌, ◌≢◌, ◌↔◌, ◌++◌, ◌∷◌, [], ℕ, List, codes, decimal, Result};
 ghost use Rattle.std.specs.Prelude.{IfOk, OnOk, MatchOption};
 ghost use Rattle.netlink_core.specs.Envelope.{Payload, inner as of_inner, envelope_codec};
-ghost use Rattle.netlink_core.specs.Seen.{envelope_of};
 ghost use Rattle.netlink_core.specs.declared.fault.DecodeError.{DecodeError};
 ghost use Rattle.netlink_packet_sock_diag.specs.Dump.{AreSplit, HaveItems, in_a_row};
 ghost use Rattle.netlink_packet_sock_diag.specs.Message.{Message, message_codec};
-ghost use Rattle.netlink_packet_sock_diag.specs.SeenMessage.{seen_message};
+ghost use Rattle.netlink_packet_sock_diag.specs.ViewedMessage.{viewed_message};
+ghost use Rattle.netlink_packet_sock_diag.specs.ViewedPayload.{viewed_envelope};
 ghost use Rattle.sock_diag_lines.specs.Answer.{IsAnswerOf, IsRequest, row_of};
 ghost use Rattle.sock_diag_lines.specs.AskedSteps.{IsAnswerTo, IsReadAs};
 ghost use Rattle.sock_diag_lines.specs.DumpLine.{IsDumpRequest};
@@ -23,13 +23,11 @@ use crate::dump_line::{ReadDump, push_dump, read_dump};
 use crate::fields::{find_space, read_field};
 use crate::view_line::push_view;
 use crate::words::{OK, UNWRITABLE, push_accepted, push_field, push_number, push_refused};
-use netlink_core::{
-    CanonError, Emitable, NetlinkHeader, NetlinkMessage, NetlinkPayload, Wire, canonical,
-};
-use netlink_packet_sock_diag::SockDiagMessage;
+use netlink_core::{CanonError, Emitable, NetlinkHeader, Wire, canonical};
 use netlink_packet_sock_diag::constants::{AF_INET, AF_INET6, SOCK_DIAG_BY_FAMILY};
 use netlink_packet_sock_diag::inet::{InetRequest, InetResponse, SocketId};
 use netlink_packet_sock_diag::unix::{UnixRequest, UnixResponse};
+use netlink_packet_sock_diag::{MessageView, PayloadView, SockDiagMessage, SockDiagView};
 use std::alloc::{AllocError, Global};
 
 /// The name at the front of a line, which says what the bytes are.
@@ -222,32 +220,27 @@ fn push_netlink_message(alloc: Global, text: &mut Vec<u8>, bytes: &[u8]) -> Resu
     ensures { OnOk result (Adds text.old.items text.new.items
         (TellsOf envelope_subject bytes.now)) }
 {
-    match NetlinkMessage::<SockDiagMessage>::deserialize(alloc, bytes) {
-        Ok(message) => push_shown(alloc, text, message),
+    match MessageView::parse(bytes) {
+        Ok(message) => push_shown(alloc, text, &message),
         Err(fault) => push_refused(text, &fault),
     }
 }
 
 /// Adds `ok`, the five fields of the header and the payload as it is written back, or `unwritable`.
-fn push_shown(
-    alloc: Global,
-    text: &mut Vec<u8>,
-    message: NetlinkMessage<SockDiagMessage>,
-) -> Result<(), AllocError>
+fn push_shown(alloc: Global, text: &mut Vec<u8>, message: &MessageView<'_>) -> Result<(), AllocError>
     ensures { OnOk result (Adds text.old.items text.new.items
-        (Tells (λ e. e ≡ envelope_of seen_message message) (λ fault. ⊥)
+        (Tells (λ e. e ≡ viewed_envelope message.now) (λ fault. ⊥)
         (envelope_codec message_codec).fits shown_envelope)) }
 {
     if !message.is_writable() {
         return text.extend_from_slice(UNWRITABLE);
     }
-    let NetlinkMessage { header, payload } = message;
-    match payload {
-        NetlinkPayload::Noop => push_envelope(text, &header, &[]),
-        NetlinkPayload::Error(bytes) => push_envelope(text, &header, bytes.as_slice()),
-        NetlinkPayload::Done(bytes) => push_envelope(text, &header, bytes.as_slice()),
-        NetlinkPayload::Overrun(bytes) => push_envelope(text, &header, bytes.as_slice()),
-        NetlinkPayload::InnerMessage(inner) => push_inner(alloc, text, &header, inner),
+    match &message.payload {
+        PayloadView::Noop => push_envelope(text, &message.header, &[]),
+        PayloadView::Error(bytes) => push_envelope(text, &message.header, bytes),
+        PayloadView::Done(bytes) => push_envelope(text, &message.header, bytes),
+        PayloadView::Overrun(bytes) => push_envelope(text, &message.header, bytes),
+        PayloadView::InnerMessage(inner) => push_inner(alloc, text, &message.header, inner),
     }
 }
 
@@ -256,19 +249,17 @@ fn push_inner(
     alloc: Global,
     text: &mut Vec<u8>,
     header: &NetlinkHeader,
-    inner: SockDiagMessage,
+    inner: &SockDiagView<'_>,
 ) -> Result<(), AllocError>
-    requires { message_codec.fits (seen_message inner) }
+    requires { message_codec.fits (viewed_message inner.now) }
     ensures { OnOk result (text.new.items ≡ text.old.items ++ accepted
         (shown_envelope (record {
           header = header.now;
-          payload = of_inner (seen_message inner);
+          payload = of_inner (viewed_message inner.now);
         }))) }
 {
     let mut bytes = vec![in alloc; 0; inner.buffer_len()]?;
     inner.emit(&mut bytes);
-    // The message's memory is let go before the text takes any.
-    drop(inner);
     push_envelope(text, header, &bytes)
 }
 

@@ -1,14 +1,15 @@
 //! The messages of a datagram with what they carry, read in place.
 
-ghost use Rattle.std.specs.Prelude.{◌≡◌, IfOk, IfErr};
-ghost use Rattle.netlink_core.specs.Envelope.{IsInnerType, PayloadIs, envelope_codec};
+ghost use Rattle.std.specs.Prelude.{◌≡◌, ◌↔◌, length, IfOk, IfErr, IsTrue, SomeIff};
+ghost use Rattle.netlink_core.specs.Envelope.{IsInnerType, OfInner, PayloadIs, envelope_codec};
+ghost use Rattle.netlink_core.specs.Envelope.{payload_bytes};
 ghost use Rattle.netlink_core.specs.Items.{ItemIs};
 ghost use Rattle.netlink_packet_sock_diag.specs.Message.{message_codec};
 ghost use Rattle.netlink_packet_sock_diag.specs.ViewedPayload.{viewed_item};
 
 use crate::message::SockDiagView;
 use netlink_core::{
-    DecodeError, MessageStrings, NETLINK_HEADER_LEN, NLMSG_DONE, NLMSG_ERROR, NLMSG_NOOP,
+    DecodeError, Emitable, MessageStrings, NETLINK_HEADER_LEN, NLMSG_DONE, NLMSG_ERROR, NLMSG_NOOP,
     NLMSG_OVERRUN, NetlinkHeader, error_number,
 };
 
@@ -61,6 +62,24 @@ impl<'a> PayloadView<'a> {
     }
 }
 
+impl PayloadView<'_> {
+    ghost use Rattle.netlink_packet_sock_diag.specs.ViewedPayload.{viewed_payload};
+
+    // How many bytes are written of it, where it can be written.
+    fn writable_len(&self) -> Option<usize>
+        ensures { SomeIff result (OfInner message_codec.fits (viewed_payload self.now))
+            (length (payload_bytes message_codec.written (viewed_payload self.now))) }
+    {
+        match self {
+            PayloadView::Noop => Some(0),
+            PayloadView::Done(bytes) | PayloadView::Error(bytes) | PayloadView::Overrun(bytes) => {
+                Some(bytes.len())
+            }
+            PayloadView::InnerMessage(message) => message.writable_len(),
+        }
+    }
+}
+
 /// A message with its header, read in place: a [`netlink_core::NetlinkMessage`] whose bytes are
 /// borrowed.
 #[derive(Debug, Drop)]
@@ -86,6 +105,18 @@ impl<'a> MessageView<'a> {
         let payload = &bytes[NETLINK_HEADER_LEN..header.length as usize];
         let payload = PayloadView::read(&header, payload)?;
         Ok(MessageView { header, payload })
+    }
+
+    /// Whether the message can be written: its inner message can be, and the whole has at most
+    /// 4,294,967,295 bytes, the header's 16 among them.
+    pub fn is_writable(&self) -> bool
+        ensures { IsTrue result
+            ↔ (envelope_codec message_codec).fits (viewed_envelope self.now) }
+    {
+        match self.payload.writable_len() {
+            Some(len) => len <= u32::MAX as usize - NETLINK_HEADER_LEN,
+            None => false,
+        }
     }
 }
 
@@ -120,7 +151,7 @@ impl<'a> DumpViews<'a> {
 }
 
 impl<'a> Iterator for DumpViews<'a> {
-    ghost use Rattle.std.specs.Prelude.{length, ◌+◌, ◌/◌, IfSome, None};
+    ghost use Rattle.std.specs.Prelude.{◌+◌, ◌/◌, IfSome, None};
     ghost use Rattle.std.specs.Iterator.{at_most, UpTo};
     ghost use Rattle.std.specs.Iterator.SizeHint.{IsWithinCount};
     ghost use Rattle.netlink_core.specs.DatagramWalk.{datagram_left};

@@ -1,7 +1,6 @@
 use Rattle.std.proofs.Common.{inr, refl}
 use Rattle.std.proofs.lemmas.Result.{on_ok_weaker}
-use Rattle.netlink_core.specs.Seen.{envelope_of}
-use Rattle.netlink_packet_sock_diag.specs.SeenMessage.{seen_message}
+use Rattle.netlink_packet_sock_diag.specs.ViewedPayload.{viewed_envelope}
 use Rattle.sock_diag_lines.proofs.Telling.{tells_same}
 use Rattle.sock_diag_lines.proofs.answers.push_netlink_message.Goals as goal
 
@@ -11,7 +10,7 @@ returns-in-Ok c =
     (λ a. (
       a.0,
       a.1,
-      tells_same _ _ _ _ (envelope_of seen_message c.in-Ok.message) a.0
+      tells_same _ _ _ _ (viewed_envelope c.in-Ok.message) a.0
           c.in-Ok.ensures.value a.2,
     )) c.push_shown.ensures
 
