@@ -14,10 +14,7 @@ use std::default::MadeWith;
 
 /// Equal attributes, in the same order.
 #[tactic(auto, using(std::proofs::lemmas::List::map_push))]
-pub fn copy_nlas<T: FamilyNla>(
-    alloc: Global,
-    nlas: &[T],
-) -> Result<SmallVec<T, 8>, AllocError>
+pub fn copy_nlas<T: FamilyNla>(alloc: Global, nlas: &[T]) -> Result<SmallVec<T, 8>, AllocError>
     ensures equal { IfOk result (λ copy. map T.seen copy.items ≡ map T.seen nlas.now) }
     ensures spare { length nlas.now ≤ 8
         → AllByRecursion (IsSpareSaid T.family) (map T.seen nlas.now) → IsOk result }

@@ -14,9 +14,7 @@ use netlink_core::{DecodeError, FamilyView, NlasIterator, emit_nla, nla_len};
 
 /// Reads each attribute and counts them, or tells the first fault. It takes no memory.
 #[tactic(auto, using(crate::proofs::Counting::counting))]
-pub fn check_nlas<'a, V: FamilyView<'a> + Drop>(
-    bytes: &'a [u8],
-) -> Result<usize, DecodeError>
+pub fn check_nlas<'a, V: FamilyView<'a> + Drop>(bytes: &'a [u8]) -> Result<usize, DecodeError>
     ensures clean { OnOk result (HasNoFault (says V.family) bytes.entry.now) }
     ensures count { IfOk result
         (λ count. count ≡ length (values_in (says V.family) bytes.entry.now)) }
@@ -48,10 +46,7 @@ pub fn next_view<'a, V: FamilyView<'a>>(walk: &mut NlasIterator<'a>) -> Option<V
 
 /// How many bytes a header of so many and the attributes behind it are written as, where each value
 /// fits and all of it has at most 4,294,967,295 bytes.
-pub fn views_len<'a, V: FamilyView<'a> + Drop>(
-    header: usize,
-    bytes: &'a [u8],
-) -> Option<usize>
+pub fn views_len<'a, V: FamilyView<'a> + Drop>(header: usize, bytes: &'a [u8]) -> Option<usize>
     requires clean { HasNoFault (says V.family) bytes.now }
     requires small { header ≤ 4294967295 }
     ensures fits { let attributes = map (attribute_said V.family)

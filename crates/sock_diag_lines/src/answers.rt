@@ -227,7 +227,11 @@ fn push_netlink_message(alloc: Global, text: &mut Vec<u8>, bytes: &[u8]) -> Resu
 }
 
 /// Adds `ok`, the five fields of the header and the payload as it is written back, or `unwritable`.
-fn push_shown(alloc: Global, text: &mut Vec<u8>, message: &MessageView<'_>) -> Result<(), AllocError>
+fn push_shown(
+    alloc: Global,
+    text: &mut Vec<u8>,
+    message: &MessageView<'_>,
+) -> Result<(), AllocError>
     ensures { OnOk result (Adds text.old.items text.new.items
         (Tells (λ e. e ≡ viewed_envelope message.now) (λ fault. ⊥)
         (envelope_codec message_codec).fits shown_envelope)) }

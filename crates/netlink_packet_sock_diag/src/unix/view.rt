@@ -14,9 +14,9 @@ ghost use Rattle.netlink_packet_sock_diag.specs.EqualViewLaws.{unix_test, unix_t
 ghost use Rattle.netlink_packet_sock_diag.specs.UnixReply.{unix_reply};
 ghost use Rattle.netlink_packet_sock_diag.specs.UnixReplyLaws.{header_enough, unix_reply_laws};
 
+use crate::reply::{ComparedView, emit_viewed_reply, same_views, viewed_reply_len};
 use crate::unix::UnixResponseHeader;
 use crate::unix::nlas::NlaView;
-use crate::reply::{ComparedView, emit_viewed_reply, same_views, viewed_reply_len};
 use crate::view::{AttributeViews, ReplyHeader, ReplyView, ReplyViews};
 use attribute_lists::check_nlas;
 use netlink_core::DecodeError;
