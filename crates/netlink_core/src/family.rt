@@ -12,7 +12,7 @@ use std::alloc::{AllocError, Global};
 use std::default::MadeWith;
 
 /// An attribute of one family of replies, read in place.
-pub trait FamilyView<'a>: Nla + Sized {
+pub trait FamilyView<'a>: Nla + PartialEq + Sized {
     // The family, and what an attribute says in it.
     ghost family: { Family };
 

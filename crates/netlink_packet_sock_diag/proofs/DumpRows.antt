@@ -15,7 +15,10 @@ use Rattle.netlink_core.specs.declared.fault.DecodeError.TheVariants.{Memory}
 use Rattle.netlink_core.specs.ByteLaws.{IsBytes-nil, IsBytes-append}
 use Rattle.netlink_core.specs.Items.{ItemsAre}
 use Rattle.netlink_core.proofs.Items.{no_items, items_in_a_row}
-use Rattle.netlink_packet_sock_diag.specs.declared.dump.DumpState.TheVariants.{Failed}
+use Rattle.netlink_packet_sock_diag.specs.declared.dump.DumpState.{DumpState}
+use Rattle.netlink_packet_sock_diag.specs.declared.dump.DumpState.TheVariants.{Reading, Failed}
+use Rattle.netlink_packet_sock_diag.specs.declared.dump.DumpState.TheVariants.{Done, Error}
+use Rattle.netlink_packet_sock_diag.specs.declared.dump.DumpState.TheVariants.{Overrun}
 use Rattle.netlink_packet_sock_diag.specs.declared.dump.DumpError.{DumpError}
 use Rattle.netlink_packet_sock_diag.specs.declared.dump.DumpError.TheVariants.{Ended, Fault}
 use Rattle.netlink_packet_sock_diag.specs.Dump.{in_a_row, end_of, kept, Ends, Dump, DumpGoesOn}
@@ -27,18 +30,37 @@ none_or_some : {X : Type 0} (end : Option X) → (end ≡ None) ⊎ ((x : X) × 
 none_or_some None = inl refl
 none_or_some (Some x) = inr (x, refl)
 
+-- the state that an item ends a dump in, if it is no fault
+stands : Option (Result Standing DecodeError) → Option DumpState
+stands (Some (Ok s)) = Some s.0
+stands _ = None
+
 module _ {A : Type 0} where
   no_end_and_plain : (item : Result (Payload A) DecodeError) (end : Result Standing DecodeError)
       → end_of item ≡ None → end_of item ≡ Some end → ⊥
   no_end_and_plain item end plain ends = let no = sym plain ∙ ends in cc
 
+  -- what ends a dump leaves none that is still read
+  no_end_reads : (item : Result (Payload A) DecodeError) (s : Standing) → s.0 ≡ Reading
+      → end_of item ≡ Some (Ok s) → ⊥
+  unfolding stands
+  no_end_reads (Ok (inner value)) s is ends = cc
+  no_end_reads (Ok no_payload) s is ends = cc
+  no_end_reads (Ok (done_with given)) s is ends = let e : Some Done ≡ Some s.0 = ap stands ends in cc
+  no_end_reads (Ok (error_with given)) s is ends = let e : Some Error ≡ Some s.0 = ap stands ends in
+      cc
+  no_end_reads (Ok (overrun_with given)) s is ends = let e : Some Overrun ≡ Some s.0 = ap stands ends
+      in cc
+  no_end_reads (Err e) s is ends = cc
+
   no_end_reading : (item : Result (Payload A) DecodeError) → end_of item ≡ Some (Ok unended) → ⊥
-  no_end_reading (Ok (inner value)) ends = cc
-  no_end_reading (Ok no_payload) ends = cc
-  no_end_reading (Ok (done_with given)) ends = cc
-  no_end_reading (Ok (error_with given)) ends = cc
-  no_end_reading (Ok (overrun_with given)) ends = cc
-  no_end_reading (Err e) ends = cc
+  no_end_reading item ends = no_end_reads item unended refl ends
+
+  -- so a dump that is still read has no number
+  pub unnumbered : (items : List (Result (Payload A) DecodeError)) (s : Standing)
+      → Ends items (Ok s) → s.0 ≡ Reading → s ≡ unended
+  unnumbered [] s ends is = cc
+  unnumbered (item ∷ items) s ends is = absurd (no_end_reads item s is ends)
 
   one_end : (item : Result (Payload A) DecodeError) (e f : Result Standing DecodeError)
       → end_of item ≡ Some e → end_of item ≡ Some f → e ≡ f
@@ -334,7 +356,7 @@ module _ (C : Codec ℕ) where
       → state_left state ≢ unended
   unfolding state_left
   left_reading (Ok state) over = λ is. over (ap Ok is)
-  left_reading (Err e) over = λ is. cc
+  left_reading (Err e) over = λ is. let e : Failed ≡ Reading = ap (λ (s : Standing). s.0) is in cc
 
   state_left-reading : state_left (Ok unended) ≡ unended
   unfolding state_left

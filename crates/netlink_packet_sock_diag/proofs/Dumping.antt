@@ -12,13 +12,11 @@ use Rattle.netlink_core.specs.declared.header.NetlinkHeader.{NetlinkHeader}
 use Rattle.netlink_core.specs.Header.{HasHeader, IsEnvelopeFault}
 use Rattle.netlink_core.specs.Datagram.{StartsWithMessage}
 use Rattle.netlink_core.specs.Envelope.{Payload, no_payload, inner, PayloadIs}
-use Rattle.netlink_core.specs.Envelope.{done_with, error_with, overrun_with}
 use Rattle.netlink_core.specs.Items.{ItemIs, ItemsAre}
 use Rattle.netlink_core.proofs.Items.{Following, items_begin, items_go_on, items_with, no_items}
 use Rattle.netlink_core.proofs.Items.{fault_alone}
-use Rattle.netlink_packet_sock_diag.specs.declared.dump.DumpState.TheVariants.{Reading}
 use Rattle.netlink_packet_sock_diag.specs.Dump.{end_of, kept, DatagramDump, DatagramStopped}
-use Rattle.netlink_packet_sock_diag.specs.Dump.{Ends, Standing, unended}
+use Rattle.netlink_packet_sock_diag.specs.Dump.{Standing, unended}
 
 plain_push : {A : Type 0} (xs : List (Result (Payload A) DecodeError))
     (item : Result (Payload A) DecodeError) → AllByRecursion (λ item. end_of item ≡ None) xs
@@ -136,20 +134,3 @@ module _ (C : Codec ℕ) where
         (no_items C)),
     (p.passed, [], refl, p.plain, p.keeps, refl),
   )
-
--- what ends a dump leaves no dump that is still read
-module _ {A : Type 0} where
-  no_end_reads : (item : Result (Payload A) DecodeError) (s : Standing) → s.0 ≡ Reading
-      → end_of item ≡ Some (Ok s) → ⊥
-  no_end_reads (Ok (inner value)) s is ends = cc
-  no_end_reads (Ok no_payload) s is ends = cc
-  no_end_reads (Ok (done_with given)) s is ends = cc
-  no_end_reads (Ok (error_with given)) s is ends = cc
-  no_end_reads (Ok (overrun_with given)) s is ends = cc
-  no_end_reads (Err e) s is ends = cc
-
-  -- so a dump that is still read has no number
-  pub unnumbered : (items : List (Result (Payload A) DecodeError)) (s : Standing)
-      → Ends items (Ok s) → s.0 ≡ Reading → s ≡ unended
-  unnumbered [] s ends is = cc
-  unnumbered (item ∷ items) s ends is = absurd (no_end_reads item s is ends)

@@ -1,11 +1,12 @@
 -- What was fed to the reader of a dump, with one datagram more.
-use Rattle.std.proofs.Common.{◌≡◌, ◌≢◌, ◌⊎◌, inl, inr, ℕ, List, [], ◌∷◌, ◌++◌, refl, sym, subst}
+use Rattle.std.proofs.Common.{◌≡◌, ◌≢◌, ◌⊎◌, inl, inr, ℕ, List, [], ◌∷◌, ◌++◌, refl, sym, ap, ◌∙◌}
+use Rattle.std.proofs.Common.{subst}
 use Rattle.std.specs.Prelude.{None, Result, Ok, Err}
 use Rattle.std.proofs.Math.Logic.{∥∥₁_map}
 use Rattle.std.proofs.lemmas.Grind.{merely}
 use Rattle.netlink_core.specs.Codec.{Codec}
 use Rattle.netlink_core.specs.declared.fault.DecodeError.TheVariants.{Memory}
-use Rattle.netlink_packet_sock_diag.specs.declared.dump.DumpState.TheVariants.{Failed}
+use Rattle.netlink_packet_sock_diag.specs.declared.dump.DumpState.TheVariants.{Reading, Failed}
 use Rattle.netlink_packet_sock_diag.specs.declared.dump.DumpError.{DumpError}
 use Rattle.netlink_packet_sock_diag.specs.declared.dump.DumpError.TheVariants.{Ended, Fault}
 use Rattle.netlink_packet_sock_diag.specs.Dump.{Standing, unended}
@@ -64,7 +65,7 @@ module _ (C : Codec ℕ) where
         (subst (λ (m : List C.Value). FeedsLeave C [] unended datagrams m was) (sym same) leave),
   )
   still kept state (datagrams, before, was, leave, inr (failed, last, answer, f)) reading =
-      absurd cc
+      let e : Failed ≡ Reading = ap (λ (s : Standing). s.0) (sym failed ∙ reading) in absurd cc
 
   on : (before after : List C.Value) (state left : Standing) (datagram : List ℕ)
       (answer : Result Unit DumpError) → Fed before state

@@ -95,12 +95,13 @@ pub struct DumpReader {
     ghost unnumbered: { (state ≡ Reading) → (number ≡ None) },
     // Datagrams were fed, with memory for all, and left these messages and this state; or one more
     // was, and the dump has failed.
-    ghost fed: { ∥ ((datagrams : List (List ℕ)) × (before : List Message) × (was : Standing)
+    ghost fed: { let now : Standing = (state, number) in
+        ∥ ((datagrams : List (List ℕ)) × (before : List Message) × (was : Standing)
         × FeedsLeave message_codec [] unended datagrams before was
-        × (((map seen_message messages.items ≡ before) × ((state, number) ≡ was))
-        ⊎ (((state, number) ≡ (Failed, None)) × (last : List ℕ) × (answer : Result Unit Refusal)
+        × (((map seen_message messages.items ≡ before) × (now ≡ was))
+        ⊎ ((now ≡ (Failed, None)) × (last : List ℕ) × (answer : Result Unit Refusal)
         × FeedLeaves message_codec before was last
-        (map seen_message messages.items) (state, number) answer))) ∥₁ },
+        (map seen_message messages.items) now answer))) ∥₁ },
 }
 
 impl DumpReader {

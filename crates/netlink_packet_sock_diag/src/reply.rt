@@ -1,25 +1,15 @@
 //! How replies of every family are compared, measured and written: a header, and then attributes.
 
-ghost use Rattle.std.specs.Prelude.{◌≡◌, ◌≤◌, ◌↔◌, ◌++◌, length, drop, map, IsSome, IfSome};
+ghost use Rattle.std.specs.Prelude.{◌≡◌, ◌≤◌, ◌↔◌, ◌++◌, length, drop, map, Bool, IsSome, IfSome};
 ghost use Rattle.std.specs.Prelude.{SomeIff};
 ghost use lib.Pointwise.{pointwise};
 ghost use Rattle.attribute_lists.specs.AttributesIn.{HasNoFault, values_in};
 ghost use Rattle.netlink_core.specs.declared.fault.DecodeError.TheVariants.{Memory};
-ghost use Rattle.netlink_core.specs.Family.{says, attribute_said};
+ghost use Rattle.netlink_core.specs.Family.{Said, says, attribute_said};
 ghost use Rattle.netlink_core.specs.ReplySteps.{framed, FramedFits};
-ghost use Rattle.netlink_core.proofs.SaidTests.{Tests, said_test};
 
 use attribute_lists::{emit_said, emit_views, next_view, said_len, said_len_within, views_len};
 use netlink_core::{DecodeError, Emitable, FamilyNla, FamilyView, NlasIterator};
-
-/// An attribute that is read in place, and how it is compared.
-pub(crate) trait ComparedView<'a>: FamilyView<'a> + PartialEq {
-    // How what is said is compared.
-    ghost tests: { Tests Self.FamilyView.family };
-
-    ghost compared: { (v w : Self) → Self.PartialEq.eq v w ≡ said_test Self.FamilyView.family tests
-        (Self.FamilyView.viewed v) (Self.FamilyView.viewed w) };
-}
 
 /// Want of memory, in the place of what was begun. It stands apart, so that what drops a list takes
 /// no time where there is memory.
@@ -31,13 +21,15 @@ pub(crate) fn without_memory<T: Drop>(_begun: T) -> DecodeError
     DecodeError::Memory
 }
 
-/// Whether the same attributes stand in both places, in the same order.
-pub(crate) fn same_views<'a, V: ComparedView<'a> + Drop>(left: &'a [u8], right: &'a [u8]) -> bool
-    requires left { HasNoFault (says V.FamilyView.family) left.now }
-    requires right { HasNoFault (says V.FamilyView.family) right.now }
-    ensures { result ≡ pointwise (said_test V.FamilyView.family V.tests)
-        (values_in (says V.FamilyView.family) left.entry.now)
-        (values_in (says V.FamilyView.family) right.entry.now) }
+/// Whether the same attributes stand in both places, in the same order, by any test that `==` of
+/// two attributes is.
+pub(crate) fn same_views<'a, V: FamilyView<'a> + Drop>(left: &'a [u8], right: &'a [u8]) -> bool
+    requires left { HasNoFault (says V.family) left.now }
+    requires right { HasNoFault (says V.family) right.now }
+    ensures { (test : Said V.family → Said V.family → Bool)
+        → ((v w : V) → V.PartialEq.eq v w ≡ test (V.viewed v) (V.viewed w))
+        → result ≡ pointwise test (values_in (says V.family) left.entry.now)
+        (values_in (says V.family) right.entry.now) }
 {
     let mut walk = NlasIterator::new(left);
     let mut others = NlasIterator::new(right);

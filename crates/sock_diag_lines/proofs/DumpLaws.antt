@@ -9,7 +9,7 @@ use Rattle.netlink_core.specs.declared.fault.DecodeError.TheVariants.{Memory}
 use Rattle.netlink_core.specs.Envelope.{Payload}
 use Rattle.netlink_core.specs.Items.{ItemsAre}
 use Rattle.netlink_core.proofs.Items.{items_of, one_list, zip_append}
-use Rattle.netlink_packet_sock_diag.specs.declared.dump.DumpState.TheVariants.{Failed}
+use Rattle.netlink_packet_sock_diag.specs.declared.dump.DumpState.TheVariants.{Reading, Failed}
 use Rattle.netlink_packet_sock_diag.specs.declared.dump.DumpError.TheVariants.{Ended, Fault}
 use Rattle.netlink_packet_sock_diag.specs.Feed.{FeedLeaves}
 use Rattle.netlink_packet_sock_diag.specs.Dump.{AreSplit, Dump, DatagramDump, DatagramsDump}
@@ -229,4 +229,4 @@ module _ (datagrams : List (List ℕ)) (datagram : List ℕ) (typed : IsBytes da
   )
     where
       apart : (Failed, None) ≡ unended → ⊥
-      apart e = cc
+      apart e = let states : Failed ≡ Reading = ap (λ (s : Standing). s.0) e in cc

@@ -125,7 +125,10 @@ impl<'a> MessageView<'a> {
 fn carried<'a>(message: &'a [u8]) -> Result<PayloadView<'a>, DecodeError>
     ensures { ItemIs message_codec message.entry.now (viewed_item result) }
 {
-    Ok(MessageView::parse(message)?.payload)
+    match MessageView::parse(message) {
+        Ok(view) => Ok(view.payload),
+        Err(fault) => Err(fault),
+    }
 }
 
 /// The walk over the messages of a datagram, each as what it carries. The end of a dump does not

@@ -14,20 +14,13 @@ ghost use Rattle.netlink_packet_sock_diag.specs.InetReplyLaws.{header_enough, in
 
 use crate::inet::InetResponseHeader;
 use crate::inet::nlas::NlaView;
-use crate::reply::{ComparedView, emit_viewed_reply, same_views, viewed_reply_len};
+use crate::reply::{emit_viewed_reply, same_views, viewed_reply_len};
 use crate::view::{AttributeViews, ReplyHeader, ReplyView, ReplyViews};
 use attribute_lists::check_nlas;
 use netlink_core::DecodeError;
 
 /// The number of bytes of the header.
 const LENGTH: usize = 72;
-
-impl<'a> ComparedView<'a> for NlaView<'a> {
-    ghost tests = { inet_tests };
-
-    ghost compared = { tests text_view_row buffer_row _ _ (λ (t : Bor (List ℕ)). t.now) attribute_of
-        (λ _ _. refl) (λ _ _. refl) };
-}
 
 impl ReplyHeader for InetResponseHeader {
     const VIEW: &'static str = "InetResponseView";

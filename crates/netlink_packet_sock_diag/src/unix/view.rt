@@ -14,7 +14,7 @@ ghost use Rattle.netlink_packet_sock_diag.specs.EqualViewLaws.{unix_test, unix_t
 ghost use Rattle.netlink_packet_sock_diag.specs.UnixReply.{unix_reply};
 ghost use Rattle.netlink_packet_sock_diag.specs.UnixReplyLaws.{header_enough, unix_reply_laws};
 
-use crate::reply::{ComparedView, emit_viewed_reply, same_views, viewed_reply_len};
+use crate::reply::{emit_viewed_reply, same_views, viewed_reply_len};
 use crate::unix::UnixResponseHeader;
 use crate::unix::nlas::NlaView;
 use crate::view::{AttributeViews, ReplyHeader, ReplyView, ReplyViews};
@@ -23,13 +23,6 @@ use netlink_core::DecodeError;
 
 /// The number of bytes of the header.
 const LENGTH: usize = 16;
-
-impl<'a> ComparedView<'a> for NlaView<'a> {
-    ghost tests = { unix_tests };
-
-    ghost compared = { tests name_view_row numbers_row buffer_row _ _ _ viewed_name viewed_numbers
-        attribute_of viewed_names viewed_lists (λ _ _. refl) };
-}
 
 impl ReplyHeader for UnixResponseHeader {
     const VIEW: &'static str = "UnixResponseView";

@@ -1,9 +1,13 @@
-use Rattle.std.proofs.Common.{◌-◌, Ok, Err, take, drop, arith, refl, rules}
+use Rattle.std.proofs.Common.{◌-◌, ℤ, Option, Some, Result, Ok, Err, take, drop, arith, refl, sym}
+use Rattle.std.proofs.Common.{ap, rules}
 use Rattle.std.proofs.lemmas.Result.{err_from_is_err_and}
 use Rattle.std.proofs.lemmas.List.{map_push}
+use Rattle.netlink_core.specs.declared.fault.DecodeError.{DecodeError}
 use Rattle.netlink_core.specs.Envelope.{IsInnerType, done_with, error_with, overrun_with}
 use Rattle.netlink_core.specs.Envelope.{no_payload, inner}
 use Rattle.netlink_core.proofs.Framing.{fault_within}
+use Rattle.netlink_packet_sock_diag.specs.declared.dump.DumpState.TheVariants.{Done, Error}
+use Rattle.netlink_packet_sock_diag.specs.Dump.{Standing}
 use Rattle.netlink_packet_sock_diag.proofs.Dumping.{passing_begins, carries, passes_nothing}
 use Rattle.netlink_packet_sock_diag.proofs.Dumping.{passes_inner, ends_at, stops_at, cut_off_at}
 use Rattle.netlink_packet_sock_diag.proofs.Dumping.{still_read}
@@ -31,23 +35,25 @@ pub returns-in-2-clause-state : goal.returns-in-2-clause-state
 returns-in-2-clause-state g c =
     let start = rw c.in_ok-message.was at c.in-Some.ensures.steps in
     let h = c.in_ok-header.header in
+    let stands : Option ℤ → Option (Result Standing DecodeError) = λ n. Some (Ok (Error, n)) in
     ends_at g.I.Coded.codec g.met.I.Coded.laws.answered _ _ _ _ _ _
     (Ok (error_with (take (h.length - 16) (drop 16 c.in_ok-message.message.now)))) _
     (λ i. omega (arith, c.type_inv.datagram i)) c.loop-item.invariant start
     (carries g.I.Coded.codec _ h
     (error_with (take (h.length - 16) (drop 16 c.in_ok-message.message.now)))
-    c.in_ok-header.ensures (c.in-2.is, refl)) refl
+    c.in_ok-header.ensures (c.in-2.is, refl)) (ap stands (sym c.error_number.ensures))
 
 pub returns-in-3-clause-state : goal.returns-in-3-clause-state
 returns-in-3-clause-state g c =
     let start = rw c.in_ok-message.was at c.in-Some.ensures.steps in
     let h = c.in_ok-header.header in
+    let stands : Option ℤ → Option (Result Standing DecodeError) = λ n. Some (Ok (Done, n)) in
     ends_at g.I.Coded.codec g.met.I.Coded.laws.answered _ _ _ _ _ _
     (Ok (done_with (take (h.length - 16) (drop 16 c.in_ok-message.message.now)))) _
     (λ i. omega (arith, c.type_inv.datagram i)) c.loop-item.invariant start
     (carries g.I.Coded.codec _ h
     (done_with (take (h.length - 16) (drop 16 c.in_ok-message.message.now)))
-    c.in_ok-header.ensures (c.in-3.is, refl)) refl
+    c.in_ok-header.ensures (c.in-3.is, refl)) (ap stands (sym c.error_number-in-3.ensures))
 
 pub returns-in-4-clause-state : goal.returns-in-4-clause-state
 returns-in-4-clause-state g c =

@@ -17,5 +17,5 @@ returns-in-Ok c =
 pub returns-in-Err : goal.returns-in-Err
 returns-in-Err c =
     on_ok_weaker c.push_refused.result
-    (λ e. (_, e.1, inr (inr (c.in-Err.fault, c.in-Err.ensures.fault e.0, refl))))
+    (λ e. (_, e.1, inr (inr (c.in-Err.fault, c.in-Err.ensures.fault, refl))))
     c.push_refused.ensures

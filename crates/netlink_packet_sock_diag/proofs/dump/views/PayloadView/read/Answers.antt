@@ -5,7 +5,7 @@ use Rattle.netlink_packet_sock_diag.proofs.dump.views.PayloadView.read.Goals as 
 
 pub returns-in_err-parse-in_default-clause-fault : goal.returns-in_err-parse-in_default-clause-fault
 returns-in_err-parse-in_default-clause-fault c =
-    let p = err_from_is_err_and c.from_residual-in_err-parse-in_default.result
-    c.from_residual-in_err-parse-in_default.ensures.1 in
+    let p = err_from_is_err_and c.from_residual.result
+    c.from_residual.ensures.1 in
     let other : IsInnerType c.args.header.now.message_type = search rules in
     rw (p.1, p.2) (other, c.in_err-parse-in_default.ensures.fault)
