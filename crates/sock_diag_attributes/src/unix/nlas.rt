@@ -176,6 +176,7 @@ impl<'a> NlaView<'a> {
     }
 
     /// The attribute with a name, numbers and bytes of its own. It fails only for want of memory.
+    #[inline(always)]
     pub fn to_owned(&self, alloc: Global) -> Result<Nla, AllocError>
         ensures equal { IfOk result (λ nla. seen_nla nla ≡ viewed_nla self.now) }
         ensures spare { IsSpareSaid unix (viewed_nla self.now) → IsOk result }
