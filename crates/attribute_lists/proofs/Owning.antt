@@ -1,12 +1,14 @@
 -- Attributes that are found in bytes without a fault and put into a list.
 use Rattle.std.proofs.Common.{Result, Ok, Err, IsOk, ◌≡◌, ℕ, suc, ◌+◌, ◌≤◌, List, [], ◌∷◌, ◌++◌}
-use Rattle.std.proofs.Common.{length, map, refl, sym, ap, subst, ◌∙◌, append_assoc, arith}
+use Rattle.std.proofs.Common.{length, map, inr, refl, sym, ap, subst, ◌∙◌, append_assoc, arith}
 use Rattle.std.specs.List.{AllByRecursion}
 use Rattle.std.proofs.lemmas.List.{append-nil, length-append, length-map, map_push}
 use Rattle.netlink_core.specs.declared.fault.DecodeError.{DecodeError}
 use Rattle.netlink_core.specs.Attribute.{Attribute, StartsWith}
 use Rattle.attribute_lists.specs.AttributesIn.{HasNoFault, values_in}
+use Rattle.netlink_core.proofs.Walking.{StartsWith-some, head_of_start, fault_here}
 use Rattle.attribute_lists.proofs.Finding.{value_first, found_none, rest_has_no_fault}
+use Rattle.attribute_lists.proofs.Finding.{value_in_is}
 
 -- what holds of each holds of one among them
 pub holds_of_one : {A : Type 0} (P : A → Type 0) (before after : List A) (x : A)
@@ -51,6 +53,16 @@ module _ {A T : Type 0} (reads : Attribute → Result A DecodeError) (seen : T �
   own_ends bytes rest items o none =
       sym (append-nil (map seen items)) ∙ ap (λ (vs : List A). map seen items ++ vs)
       (sym (ap (values_in reads) none ∙ none_left)) ∙ o.told
+
+  -- the attribute in front says something
+  pub own_said : (rest after : List ℕ) (a : Attribute) → HasNoFault reads rest
+      → StartsWith rest a after → (v : A) × (reads a ≡ Ok v)
+  own_said rest after a clean s = (
+    _,
+    value_in_is (reads a) (λ e h. clean.none e
+        (fault_here reads rest e (StartsWith-some rest after a s)
+        (inr (a, head_of_start rest after a s, h)))),
+  )
 
   -- there is one more than the items
   pub own_room : (bytes rest after : List ℕ) (items : List T) (a : Attribute) (v : A)

@@ -1,13 +1,15 @@
 //! The attributes of a reply, with memory of their own. A list of up to eight needs none itself.
 
-ghost use Rattle.std.specs.Prelude.{◌≡◌, ◌≤◌, ◌++◌, [], length, drop, map, IfOk, IsOk, OnOk};
-ghost use Rattle.std.specs.Prelude.{SomeIff};
+ghost use Rattle.std.specs.Prelude.{◌≡◌, ◌≤◌, ◌++◌, ◌∷◌, [], length, drop, map, Ok, IfOk, IsOk};
+ghost use Rattle.std.specs.Prelude.{OnOk, OnErr, SomeIff};
 ghost use Rattle.std.specs.List.{AllByRecursion, flat_map};
 ghost use Rattle.netlink_core.specs.Attribute.{AreWritable, written};
-ghost use Rattle.netlink_core.specs.Family.{says, attribute_said, IsSpareSaid, IsTypedSaid};
+ghost use Rattle.netlink_core.specs.Family.{Said, says, attribute_said, IsSpareSaid, IsTypedSaid};
+ghost use Rattle.netlink_core.specs.Walk.{attribute_of};
 ghost use Rattle.attribute_lists.specs.AttributesIn.{HasNoFault, values_in};
+ghost use Rattle.smallvec.specs.SmallVec.{HasRoomFor};
 
-use netlink_core::{FamilyNla, NlasIterator, emit_nlas, nlas_len, nlas_len_within};
+use netlink_core::{FamilyNla, NlaBuffer, NlasIterator, emit_nlas, nlas_len, nlas_len_within};
 use smallvec::SmallVec;
 use std::alloc::{AllocError, Global};
 use std::default::MadeWith;
@@ -53,8 +55,33 @@ pub fn own_nlas<T: FamilyNla>(
         let Ok(nla) = item else {
             unreachable!();
         };
-        nlas.push_reserved(T::own_accepted(alloc, &nla)?);
+        push_accepted(alloc, &nla, nlas)?;
     }
+    Ok(())
+}
+
+// Puts the attribute in bytes that are accepted at the end of the list, which has room for it. What
+// is large has a branch of its own, so that the others don't carry room for it along.
+#[inline(always)]
+fn push_accepted<T: FamilyNla>(
+    alloc: Global,
+    nla: &NlaBuffer<'_>,
+    nlas: &mut SmallVec<T, 8>,
+) -> Result<(), AllocError>
+    requires accepted { IsOk (says T.family (attribute_of nla.now)) }
+    requires room { HasRoomFor nlas.old 1 }
+    ensures pushed { OnOk result ((own : T) × (nlas.new.items ≡ nlas.old.items ++ own ∷ [])
+        × (says T.family (attribute_of nla.now) ≡ Ok (T.seen own))) }
+    ensures capacity { nlas.new.capacity ≡ nlas.old.capacity }
+    ensures kept { OnErr result (nlas.new ≡ nlas.old) }
+    ensures spare { (said : Said T.family) → says T.family (attribute_of nla.now) ≡ Ok said
+        → IsSpareSaid T.family said → IsOk result }
+{
+    if T::is_large(nla) {
+        nlas.push_reserved(T::own_accepted(alloc, nla)?);
+        return Ok(());
+    }
+    nlas.push_reserved(T::own_accepted(alloc, nla)?);
     Ok(())
 }
 

@@ -48,6 +48,13 @@ pub trait FamilyNla: Nla + PartialEq + MadeWith<Global> + Drop + Sized {
         ensures spare { (said : Said family) → says family (attribute_of nla.now) ≡ Ok said
             → IsSpareSaid family said → IsOk result };
 
+    /// Whether the value takes much more room than those of other kinds. It is a hint for speed, and
+    /// changes no result.
+    #[inline(always)]
+    fn is_large(_nla: &NlaBuffer<'_>) -> bool {
+        false
+    }
+
     /// An equal attribute.
     fn copy_nla(&self, alloc: Global) -> Result<Self, AllocError>
         ensures equal { IfOk result (λ copy. seen copy ≡ seen self.now) }

@@ -7,6 +7,7 @@ ghost use Rattle.sock_diag_attributes.specs.contracts.inet.coded.NlaCoded.TheImp
 
 use super::nlas::{Nla, NlaView};
 use netlink_core::{Coded, DecodeError, FamilyNla, FamilyView, NlaBuffer};
+use sock_diag_records::constants::INET_DIAG_INFO;
 use std::alloc::{AllocError, Global};
 
 impl<'a> FamilyView<'a> for NlaView<'a> {
@@ -35,6 +36,11 @@ impl FamilyNla for Nla {
     #[inline(always)]
     fn own_accepted(alloc: Global, nla: &NlaBuffer<'_>) -> Result<Self, AllocError> {
         NlaView::new(nla).to_owned(alloc)
+    }
+
+    #[inline(always)]
+    fn is_large(nla: &NlaBuffer<'_>) -> bool {
+        nla.kind() == INET_DIAG_INFO
     }
 
     fn copy_nla(&self, alloc: Global) -> Result<Self, AllocError> {

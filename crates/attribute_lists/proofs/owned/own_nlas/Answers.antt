@@ -1,7 +1,7 @@
 use Rattle.std.proofs.Common.{◌≤◌, ◌+◌, length, refl, rules, arith}
 use Rattle.netlink_core.specs.Family.{says, IsSpareSaid}
 use Rattle.attribute_lists.proofs.Finding.{no_framing_fault, front_says}
-use Rattle.attribute_lists.proofs.Owning.{own_goes_on, own_room, own_spare}
+use Rattle.attribute_lists.proofs.Owning.{own_goes_on, own_room, own_spare, own_said}
 use Rattle.attribute_lists.proofs.owned.own_nlas.Goals as goal
 
 pub unreachable-requires : goal.unreachable-requires
@@ -9,37 +9,35 @@ unreachable-requires g c =
     let stop = rw c.in_default.is at c.in-Some.ensures.steps in
     no_framing_fault (says g.T.FamilyNla.family) _ _ c.loop-item.invariant.owned.clean stop.0 stop.1
 
-pub own_accepted-requires : goal.own_accepted-requires
-own_accepted-requires g c =
+pub push_accepted-requires : goal.push_accepted-requires
+push_accepted-requires g c =
+    let reads = says g.T.FamilyNla.family in
+    let owned = c.loop-item.invariant.owned in
     let start = rw c.in-Ok.is at c.in-Some.ensures.steps in
-    front_says (says g.T.FamilyNla.family) _ _ _ c.loop-item.invariant.owned.clean start
+    let said = own_said reads g.T.FamilyNla.seen _ _ _ owned.clean start in
+    let more = own_room reads g.T.FamilyNla.seen _ _ _ _ _ _ owned start said.1 in
+    let all = c.loop-item.invariant.room in
+    let room : length c.loop-item.nlas.items + 1 ≤ c.loop-item.nlas.capacity = omega arith in
+    (search rules, (front_says reads _ _ _ owned.clean start, search rules))
 
-pub returns-in_err-own_accepted-clause-spare : goal.returns-in_err-own_accepted-clause-spare
-returns-in_err-own_accepted-clause-spare g c = λ few each.
+pub returns-in_err-push_accepted-clause-spare : goal.returns-in_err-push_accepted-clause-spare
+returns-in_err-push_accepted-clause-spare g c = λ few each.
     let reads = says g.T.FamilyNla.family in
     let owned = c.loop-item.invariant.owned in
     let start = rw c.in-Ok.is at c.in-Some.ensures.steps in
     let some = front_says reads _ _ _ owned.clean start in
     let next = own_spare reads g.T.FamilyNla.seen (IsSpareSaid g.T.FamilyNla.family) _ _ _ _ _
     owned start each _ refl some in
-    let ok = c.in_err-own_accepted.ensures.spare next.0 next.1 next.2 in
+    let ok = c.in_err-push_accepted.ensures.spare next.0 next.1 next.2 in
     absurd cc
-
-pub push_reserved-requires : goal.push_reserved-requires
-push_reserved-requires g c =
-    let start = rw c.in-Ok.is at c.in-Some.ensures.steps in
-    let more = own_room (says g.T.FamilyNla.family) g.T.FamilyNla.seen _ _ _ _ _ _
-    c.loop-item.invariant.owned start c.in_ok-own_accepted.ensures.equal in
-    let all = c.loop-item.invariant.room in
-    let room : length c.loop-item.nlas.items + 1 ≤ c.loop-item.nlas.capacity = omega arith in
-    search rules
 
 pub loop-item-preserved : goal.loop-item-preserved
 loop-item-preserved g c =
     let start = rw c.in-Ok.is at c.in-Some.ensures.steps in
+    let pushed = c.in_ok-push_accepted.ensures.pushed in
     record {
-      owned = rw c.push_reserved.ensures.items
+      owned = rw pushed.1
           (own_goes_on (says g.T.FamilyNla.family) g.T.FamilyNla.seen _ _ _ _ _ _ _
-          c.loop-item.invariant.owned start c.in_ok-own_accepted.ensures.equal refl);
-      room = rw c.push_reserved.ensures.capacity c.loop-item.invariant.room;
+          c.loop-item.invariant.owned start pushed.2 refl);
+      room = rw c.in_ok-push_accepted.ensures.capacity c.loop-item.invariant.room;
     }
