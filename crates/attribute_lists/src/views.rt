@@ -14,6 +14,7 @@ use netlink_core::{DecodeError, FamilyView, NlasIterator, emit_nla, nla_len};
 
 /// Reads each attribute and counts them, or tells the first fault. It takes no memory.
 #[tactic(auto, using(crate::proofs::Counting::counting))]
+#[inline(always)]
 pub fn check_nlas<'a, V: FamilyView<'a> + Drop>(bytes: &'a [u8]) -> Result<usize, DecodeError>
     ensures clean { OnOk result (HasNoFault (says V.family) bytes.entry.now) }
     ensures count { IfOk result
