@@ -136,6 +136,9 @@ impl<H: ReplyOwned> ReplyView<'_, H> {
             nlas.old.capacity ≡ 8
             → (length said ≤ 8) × AllByRecursion (IsSpareSaid family) said → IsOk result }
     {
+        if self.count() == 0 {
+            return Ok(());
+        }
         own_nlas(alloc, self.attribute_bytes(), self.count(), nlas)
     }
 
