@@ -48,8 +48,7 @@ pub trait FamilyNla: Nla + PartialEq + MadeWith<Global> + Drop + Sized {
         ensures spare { (said : Said family) → says family (attribute_of nla.now) ≡ Ok said
             → IsSpareSaid family said → IsOk result };
 
-    /// Whether the value takes much more room than those of other kinds. It is a hint for speed, and
-    /// changes no result.
+    /// Whether the value takes much more room than those of other kinds. It is a hint for speed.
     #[inline(always)]
     fn is_large(_nla: &NlaBuffer<'_>) -> bool {
         false

@@ -46,11 +46,12 @@ module _ {A : Type 0} where
   unfolding stands
   no_end_reads (Ok (inner value)) s is ends = cc
   no_end_reads (Ok no_payload) s is ends = cc
-  no_end_reads (Ok (done_with given)) s is ends = let e : Some Done ≡ Some s.0 = ap stands ends in cc
-  no_end_reads (Ok (error_with given)) s is ends = let e : Some Error ≡ Some s.0 = ap stands ends in
-      cc
-  no_end_reads (Ok (overrun_with given)) s is ends = let e : Some Overrun ≡ Some s.0 = ap stands ends
-      in cc
+  no_end_reads (Ok (done_with given)) s is ends =
+      let e : Some Done ≡ Some s.0 = ap stands ends in cc
+  no_end_reads (Ok (error_with given)) s is ends =
+      let e : Some Error ≡ Some s.0 = ap stands ends in cc
+  no_end_reads (Ok (overrun_with given)) s is ends =
+      let e : Some Overrun ≡ Some s.0 = ap stands ends in cc
   no_end_reads (Err e) s is ends = cc
 
   no_end_reading : (item : Result (Payload A) DecodeError) → end_of item ≡ Some (Ok unended) → ⊥

@@ -18,6 +18,6 @@ returns-then-eq c =
     sym c.eq.ensures ∙ c.if-eq.true in
     let all = pointwise (said_test unix unix_tests) (values_in (says unix) c.args.left.now)
     (values_in (says unix) c.args.right.now) in
-    c.same_views.ensures (said_test unix unix_tests) (tests name_view_row numbers_row buffer_row _ _ _
-    viewed_name viewed_numbers attribute_of viewed_names viewed_lists (λ _ _. refl))
+    c.same_views.ensures (said_test unix unix_tests) (tests name_view_row numbers_row buffer_row
+    _ _ _ viewed_name viewed_numbers attribute_of viewed_names viewed_lists (λ _ _. refl))
     ∙ ap (λ (b : Bool). b && all) (sym equal)
