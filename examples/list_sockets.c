@@ -1,12 +1,14 @@
 /*
- * Lists the sockets that the kernel tells: one line for each UNIX socket, and for each TCP socket over IPv4 and IPv6.
+ * Lists the sockets that the kernel tells: one line for each UNIX socket, and for each TCP, UDP and MPTCP socket over IPv4
+ * and IPv6.
  *
- * Each family is asked for by one request to NETLINK_SOCK_DIAG, as sock_diag(7) shows. Replies are walked in the buffer
- * that recv(2) filled.
+ * Each kind is asked for by one request to NETLINK_SOCK_DIAG, as sock_diag(7) shows. Replies are read in the buffer that
+ * recv(2) filled. It is C99, and C++ too.
  */
 #include "sockdiag.h"
 
 #include <arpa/inet.h>
+#include <errno.h>
 #include <linux/netlink.h>
 #include <linux/sock_diag.h>
 #include <linux/unix_diag.h>
@@ -16,6 +18,11 @@
 #include <sys/socket.h>
 #include <unistd.h>
 
+/* Older headers of the C library and the kernel don't have these. */
+#define PROTOCOL_MPTCP 262
+#define WITH_INFO (1 << (2 - 1))
+#define WITH_CONGESTION (1 << (4 - 1))
+
 /* A dump ends with NLMSG_DONE; one that was interrupted or refused with another of the NLMSG_ types. */
 enum progress { GOES_ON, COMPLETE, FAILED };
 
@@ -24,80 +31,117 @@ static int fail(const char *what) {
     return -1;
 }
 
-/* Prints the name of a UNIX socket: a pathname as it stands, an abstract one behind @, with dots for what isn't printable. */
-static void print_name(const uint8_t *name, size_t length) {
-    size_t end = length;
-    if (length > 0 && name[0] != 0)
-        end--;
-    for (size_t i = 0; i < end; i++) {
-        int c = i == 0 && name[0] == 0 ? '@' : name[i];
-        putchar(c >= 0x20 && c < 0x7f ? c : '.');
-    }
+/* Prints a text with dots for what isn't printable, an abstract name behind @. */
+static void print_text(const struct sockdiag_text *text) {
+    size_t place;
+    if (text->kind == SOCKDIAG_ABSTRACT)
+        putchar('@');
+    for (place = 0; place < text->length; place++)
+        putchar(text->bytes[place] >= 0x20 && text->bytes[place] < 0x7f ? text->bytes[place] : '.');
 }
 
-static void print_unix(const uint8_t *payload, size_t length, const struct sockdiag_unix_header *header) {
-    struct sockdiag_cursor cursor = {SOCKDIAG_UNIX_ATTRIBUTES};
-    struct sockdiag_attribute attribute = {0, 0, 0};
-    printf("unix type %u state %u inode %u ", header->kind, header->state, header->inode);
-    while (sockdiag_next_attribute(payload, length, &cursor, &attribute) == 1)
-        if ((attribute.type_word & NLA_TYPE_MASK) == UNIX_DIAG_NAME)
-            print_name(payload + attribute.offset, attribute.length);
+static void print_number(const char *name, struct sockdiag_number number) {
+    if (number.is_told)
+        printf(" %s %u", name, number.value);
+}
+
+static uint32_t print_unix(const uint8_t *payload, size_t length) {
+    struct sockdiag_unix_details it;
+    uint32_t fault, pending;
+    size_t place;
+    memset(&it, 0, sizeof it);
+    fault = sockdiag_unix_get_details(payload, length, &it);
+    if (fault != SOCKDIAG_OK)
+        return fault;
+    printf("unix type %u state %u inode %u ", it.header.kind, it.header.state, it.header.inode);
+    print_text(&it.name);
+    print_number("peer", it.peer);
+    print_number("received", it.recv_queue);
+    print_number("sent", it.send_queue);
+    for (place = 0; sockdiag_unix_get_pending(payload, length, place, &pending) == SOCKDIAG_ITEM; place++)
+        printf(" pending %u", pending);
     putchar('\n');
+    return SOCKDIAG_OK;
 }
 
-static void print_inet(const struct sockdiag_inet_header *header) {
+static uint32_t print_inet(const char *protocol, const uint8_t *payload, size_t length) {
     char source[INET6_ADDRSTRLEN] = "", destination[INET6_ADDRSTRLEN] = "";
-    inet_ntop(header->family, header->source_address, source, sizeof source);
-    inet_ntop(header->family, header->destination_address, destination, sizeof destination);
-    printf("tcp state %u %s %u %s %u uid %u inode %u\n", header->state, source, header->source_port, destination,
-           header->destination_port, header->uid, header->inode);
+    struct sockdiag_inet_details it;
+    struct sockdiag_tcp_info info;
+    uint32_t fault;
+    memset(&it, 0, sizeof it);
+    memset(&info, 0, sizeof info);
+    fault = sockdiag_inet_get_details(payload, length, &it);
+    if (fault != SOCKDIAG_OK)
+        return fault;
+    inet_ntop(it.header.family, it.header.source_address, source, sizeof source);
+    inet_ntop(it.header.family, it.header.destination_address, destination, sizeof destination);
+    printf("%s state %u %s %u %s %u uid %u inode %u ", protocol, it.header.state, source, it.header.source_port,
+           destination, it.header.destination_port, it.header.uid, it.header.inode);
+    print_text(&it.congestion);
+    print_number("mark", it.mark);
+    if (sockdiag_inet_get_tcp_info(payload, length, &info) != 0)
+        printf(" rtt %u", info.rtt);
+    putchar('\n');
+    return SOCKDIAG_OK;
 }
 
-static int print_reply(const uint8_t *payload, size_t length) {
-    struct sockdiag_reply reply;
-    memset(&reply, 0, sizeof reply);
-    uint32_t fault = sockdiag_check_message(payload, length, SOCK_DIAG_BY_FAMILY, &reply);
-    if (fault != 0)
-        return fprintf(stderr, "a reply is refused: fault %u\n", fault), -1;
-    if (reply.kind == SOCKDIAG_UNIX)
-        print_unix(payload, length, &reply.unix_header);
-    else
-        print_inet(&reply.inet_header);
-    return 0;
+/* What an NLMSG_ERROR or an NLMSG_DONE tells. A kernel without the protocol says ENOENT or EINVAL. */
+static enum progress end(const char *protocol, const uint8_t *payload, size_t length) {
+    int32_t number = 0;
+    if (sockdiag_get_error_number(payload, length, &number) != SOCKDIAG_ITEM)
+        return fprintf(stderr, "%s: the kernel's answer is cut\n", protocol), FAILED;
+    if (number == 0)
+        return COMPLETE;
+    fprintf(stderr, "%s: %s\n", protocol, strerror(-number));
+    return number == -ENOENT || number == -EINVAL ? COMPLETE : FAILED;
 }
 
 /* Prints the replies of a datagram, up to the message that ends the dump. */
-static enum progress print_datagram(const uint8_t *datagram, size_t length) {
+static enum progress print_datagram(const char *protocol, const uint8_t *datagram, size_t length) {
     struct sockdiag_cursor cursor = {0};
     struct sockdiag_message message;
     uint32_t answer;
     memset(&message, 0, sizeof message);
-    while ((answer = sockdiag_next_message(datagram, length, &cursor, &message)) == 1) {
-        if (message.message_type == NLMSG_DONE)
-            return COMPLETE;
-        if (message.message_type == NLMSG_ERROR || message.message_type == NLMSG_OVERRUN)
-            return fprintf(stderr, "the kernel answers with type %u\n", message.message_type), FAILED;
-        if (message.message_type == SOCK_DIAG_BY_FAMILY && print_reply(datagram + message.offset, message.length) != 0)
-            return FAILED;
+    while ((answer = sockdiag_next_envelope(datagram, length, &cursor, &message)) == SOCKDIAG_ITEM) {
+        const uint8_t *payload = datagram + message.offset;
+        uint32_t fault = SOCKDIAG_OK;
+        if (message.message_type == NLMSG_DONE || message.message_type == NLMSG_ERROR)
+            return end(protocol, payload, message.length);
+        if (message.message_type == NLMSG_OVERRUN)
+            return fprintf(stderr, "%s: the kernel lost data\n", protocol), FAILED;
+        if (message.message_type == SOCK_DIAG_BY_FAMILY && message.length > 0)
+            fault = payload[0] == AF_UNIX ? print_unix(payload, message.length)
+                                          : print_inet(protocol, payload, message.length);
+        if (fault != SOCKDIAG_OK)
+            fprintf(stderr, "%s: a reply is refused: %s\n", protocol, sockdiag_fault_text(fault));
     }
-    if (answer != 0)
-        return fprintf(stderr, "a message is refused: fault %u\n", answer), FAILED;
+    if (answer != SOCKDIAG_END)
+        return fprintf(stderr, "%s: a datagram is refused: %s\n", protocol, sockdiag_fault_text(answer)), FAILED;
     return GOES_ON;
 }
 
 /* Sends a request and prints its replies. */
-static int list(int fd, const uint8_t *request, size_t length) {
-    static _Alignas(4) uint8_t datagram[1 << 16];
-    struct sockaddr_nl kernel = {.nl_family = AF_NETLINK};
+static int list(int fd, const char *protocol, const uint8_t *request, size_t length) {
+    static union {
+        struct nlmsghdr aligned;
+        uint8_t bytes[1 << 16];
+    } datagram;
+    struct sockaddr_nl kernel;
+    memset(&kernel, 0, sizeof kernel);
+    kernel.nl_family = AF_NETLINK;
     if (sendto(fd, request, length, 0, (struct sockaddr *)&kernel, sizeof kernel) != (ssize_t)length)
         return fail("sendto");
     for (;;) {
-        ssize_t got = recv(fd, datagram, sizeof datagram, MSG_TRUNC);
+        enum progress progress;
+        ssize_t got = recv(fd, datagram.bytes, sizeof datagram.bytes, MSG_TRUNC);
+        if (got < 0 && errno == EINTR)
+            continue;
         if (got < 0)
             return fail("recv");
-        if ((size_t)got > sizeof datagram)
-            return fprintf(stderr, "a datagram of %zd bytes is too long\n", got), -1;
-        enum progress progress = print_datagram(datagram, (size_t)got);
+        if ((size_t)got > sizeof datagram.bytes)
+            return fprintf(stderr, "a datagram of %ld bytes is too long\n", (long)got), -1;
+        progress = print_datagram(protocol, datagram.bytes, (size_t)got);
         if (progress != GOES_ON)
             return progress == COMPLETE ? 0 : -1;
     }
@@ -108,29 +152,38 @@ static int list_unix(int fd) {
     struct sockdiag_unix_request request;
     memset(&request, 0, sizeof request);
     request.header.flags = NLM_F_REQUEST | NLM_F_DUMP;
-    request.header.sequence_number = 1;
     request.states = UINT32_MAX;
-    request.show = UDIAG_SHOW_NAME | UDIAG_SHOW_PEER;
-    return list(fd, bytes, sockdiag_write_unix_request(&request, bytes, sizeof bytes));
+    request.show = UDIAG_SHOW_NAME | UDIAG_SHOW_PEER | UDIAG_SHOW_ICONS | UDIAG_SHOW_RQLEN;
+    return list(fd, "unix", bytes, sockdiag_write_unix_request(&request, bytes, sizeof bytes));
 }
 
-static int list_tcp(int fd, uint8_t family) {
+static int list_inet(int fd, const char *name, uint32_t protocol, uint8_t extensions) {
+    static const uint8_t families[2] = {AF_INET, AF_INET6};
     uint8_t bytes[SOCKDIAG_INET_REQUEST_LENGTH];
     struct sockdiag_inet_request request;
+    int place, failed = 0;
     memset(&request, 0, sizeof request);
     request.header.flags = NLM_F_REQUEST | NLM_F_DUMP;
-    request.header.sequence_number = family;
-    request.family = family;
-    request.protocol = IPPROTO_TCP;
+    request.protocol = protocol;
+    request.extensions = extensions;
     request.states = UINT32_MAX;
-    return list(fd, bytes, sockdiag_write_inet_request(&request, bytes, sizeof bytes));
+    for (place = 0; place < 2; place++) {
+        request.family = families[place];
+        failed |= list(fd, name, bytes, sockdiag_write_inet_request(&request, bytes, sizeof bytes));
+    }
+    return failed;
 }
 
 int main(void) {
-    int fd = socket(AF_NETLINK, SOCK_DGRAM | SOCK_CLOEXEC, NETLINK_SOCK_DIAG);
+    int failed, fd = socket(AF_NETLINK, SOCK_DGRAM | SOCK_CLOEXEC, NETLINK_SOCK_DIAG);
     if (fd < 0)
         return fail("socket"), 1;
-    int failed = list_unix(fd) != 0 || list_tcp(fd, AF_INET) != 0 || list_tcp(fd, AF_INET6) != 0;
+    failed = list_unix(fd);
+    failed |= list_inet(fd, "tcp", IPPROTO_TCP, WITH_INFO | WITH_CONGESTION);
+    failed |= list_inet(fd, "udp", IPPROTO_UDP, 0);
+    failed |= list_inet(fd, "mptcp", PROTOCOL_MPTCP, 0);
     close(fd);
-    return failed || fflush(stdout) != 0;
+    if (fflush(stdout) != 0)
+        return fail("standard output"), 1;
+    return failed != 0;
 }

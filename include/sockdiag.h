@@ -7,8 +7,8 @@
  * is its own. Of the C library it needs memcpy, memmove and memset.
  *
  * What the caller upholds, and nothing checks:
- * - A pointer to bytes points to as many as the length beside it says, at most PTRDIFF_MAX. It isn't null, even where
- *   the length is 0.
+ * - A pointer to bytes points to as many as the length beside it says, at most PTRDIFF_MAX. It may be null where the
+ *   length is 0.
  * - A pointer to a struct points to one whose fields are all set, at its alignment.
  * - What a call writes, a buffer or a struct that is no const, overlaps nothing else that the call is given, and no
  *   other thread reads or writes it meanwhile. What a call only reads isn't written meanwhile.
@@ -29,9 +29,18 @@
 extern "C" {
 #endif
 
+/* What a check answers where the bytes are accepted. */
+#define SOCKDIAG_OK 0
+
+/* What a walk answers at its end, and a getter where there is nothing to tell. */
+#define SOCKDIAG_END 0
+
+/* What a walk answers for an item that it tells, and a getter likewise. */
+#define SOCKDIAG_ITEM 1
+
 /*
  * Why bytes are refused. Of several faults a call tells the first. The number 1 stands for want of memory, which doesn't
- * occur here; a walk answers 1 for an item.
+ * occur here, so that SOCKDIAG_ITEM is no fault.
  */
 enum sockdiag_fault {
     SOCKDIAG_BUFFER_TOO_SMALL = 2,          /* fewer bytes than a record has */
@@ -52,6 +61,49 @@ enum sockdiag_fault {
     SOCKDIAG_ENVELOPE_LENGTH_UNDER_16 = 17, /* a message's length word that doesn't count those */
     SOCKDIAG_ENVELOPE_LENGTH_PAST = 18      /* a message's length word past the end */
 };
+
+/* A fault in words, for people: a constant text in English, for any number. */
+static inline const char *sockdiag_fault_text(uint32_t fault)
+{
+    switch (fault) {
+    case SOCKDIAG_BUFFER_TOO_SMALL:
+        return "a record is cut";
+    case SOCKDIAG_UNSUPPORTED_FAMILY:
+        return "an internet socket is of an unknown address family";
+    case SOCKDIAG_MESSAGE_TOO_SHORT:
+        return "a message has no byte for its family";
+    case SOCKDIAG_UNKNOWN_FAMILY:
+        return "a message is of an unknown address family";
+    case SOCKDIAG_UNKNOWN_MESSAGE_TYPE:
+        return "a message is of an unknown type";
+    case SOCKDIAG_ATTRIBUTE_HEADER_CUT:
+        return "the header of an attribute is cut";
+    case SOCKDIAG_ATTRIBUTE_LENGTH_UNDER_4:
+        return "the length of an attribute is under 4";
+    case SOCKDIAG_ATTRIBUTE_LENGTH_PAST:
+        return "an attribute is cut";
+    case SOCKDIAG_WRONG_LENGTH:
+        return "a value has a wrong length";
+    case SOCKDIAG_NOT_MULTIPLE_OF_FOUR:
+        return "a list of numbers is cut";
+    case SOCKDIAG_NOT_UTF8:
+        return "a text is not UTF-8";
+    case SOCKDIAG_NAME_EMPTY:
+        return "the name of a socket is empty";
+    case SOCKDIAG_NAME_INNER_ZERO:
+        return "a pathname holds a zero";
+    case SOCKDIAG_NAME_WITHOUT_END:
+        return "a pathname has no zero at its end";
+    case SOCKDIAG_ENVELOPE_CUT:
+        return "the header of a message is cut";
+    case SOCKDIAG_ENVELOPE_LENGTH_UNDER_16:
+        return "the length of a message is under 16";
+    case SOCKDIAG_ENVELOPE_LENGTH_PAST:
+        return "a message is cut";
+    default:
+        return fault == SOCKDIAG_OK ? "no fault" : "an unknown fault";
+    }
+}
 
 /* ---- replies */
 
@@ -111,6 +163,138 @@ uint32_t sockdiag_check_inet_reply(const uint8_t *payload, size_t length, struct
  */
 uint32_t sockdiag_check_message(const uint8_t *payload, size_t length, uint16_t message_type, struct sockdiag_reply *reply);
 
+/* ---- what a reply tells */
+
+/* A number that a reply may tell. */
+struct sockdiag_number {
+    uint32_t is_told; /* 1 where it is told, else 0 */
+    uint32_t value;   /* the number, or 0 */
+};
+
+#define SOCKDIAG_TEXT 1
+#define SOCKDIAG_ABSTRACT 2
+
+/* A text that a reply may tell, where it stands in the reply's bytes. */
+struct sockdiag_text {
+    uint32_t kind;        /* SOCKDIAG_TEXT, of a name a pathname; SOCKDIAG_ABSTRACT an abstract name; 0 none is told */
+    const uint8_t *bytes; /* the text, without the zero at its end, or in front of an abstract name; no zero follows it
+                             where none came */
+    size_t length;        /* how many bytes it has */
+};
+
+/* All that a reply tells about a UNIX socket, but the connections that wait to be accepted. */
+struct sockdiag_unix_details {
+    struct sockdiag_unix_header header;
+    struct sockdiag_text name;             /* the name that the socket is bound to, UNIX_DIAG_NAME */
+    struct sockdiag_number file_inode;     /* the inode of the file that it is bound to, UNIX_DIAG_VFS */
+    struct sockdiag_number file_device;    /* the device of that file, a major and a minor number put together */
+    struct sockdiag_number peer;           /* the inode of the peer, UNIX_DIAG_PEER */
+    struct sockdiag_number recv_queue;     /* UNIX_DIAG_RQLEN: how many connections wait to be accepted, in the state
+                                              TCP_LISTEN; else how many bytes wait to be read */
+    struct sockdiag_number send_queue;     /* the limit of those connections; else how many bytes of memory are taken by
+                                              what was sent and is not yet read */
+    struct sockdiag_number receive_buffer; /* the size of the receive buffer in bytes, UNIX_DIAG_MEMINFO */
+    struct sockdiag_number send_buffer;    /* the size of the send buffer in bytes, which bounds a datagram */
+    struct sockdiag_number queued;         /* the memory of what is queued to be sent; Linux tells 0 */
+    struct sockdiag_number shutdown;       /* which directions are shut down, UNIX_DIAG_SHUTDOWN: 1 for receiving, 2 for
+                                              sending, or both */
+};
+
+/* What a reply tells about an IPv4 or IPv6 socket, but its memory and its TCP connection. */
+struct sockdiag_inet_details {
+    struct sockdiag_inet_header header;
+    struct sockdiag_text congestion; /* the name of the algorithm of congestion control, INET_DIAG_CONG */
+    struct sockdiag_number tos;      /* the type of service, INET_DIAG_TOS */
+    struct sockdiag_number tclass;   /* the traffic class of an IPv6 socket, INET_DIAG_TCLASS */
+    struct sockdiag_number shutdown; /* which directions are shut down, INET_DIAG_SHUTDOWN */
+    struct sockdiag_number protocol; /* one of IPPROTO_.., INET_DIAG_PROTOCOL */
+    struct sockdiag_number v6only;   /* 1 where the socket is for IPv6 alone, else 0, INET_DIAG_SKV6ONLY */
+    struct sockdiag_number mark;     /* the mark of the socket, INET_DIAG_MARK */
+    struct sockdiag_number class_id; /* the class of its packets for traffic control, INET_DIAG_CLASS_ID */
+};
+
+/*
+ * Check the whole of a reply, as sockdiag_check_unix_reply and sockdiag_check_inet_reply do, and tell what it says, in one
+ * walk. The answer is 0, or the first fault's number, and then *details is as it was. Of several attributes of a kind the
+ * first counts.
+ */
+uint32_t sockdiag_unix_get_details(const uint8_t *payload, size_t length, struct sockdiag_unix_details *details);
+uint32_t sockdiag_inet_get_details(const uint8_t *payload, size_t length, struct sockdiag_inet_details *details);
+
+/*
+ * Tells the inode of a connection that waits to be accepted on a UNIX socket, UNIX_DIAG_ICONS, by its index, the first one
+ * at 0. The answer is 1; or 0 where there is none, or the reply is refused, and then *inode is as it was.
+ */
+uint32_t sockdiag_unix_get_pending(const uint8_t *payload, size_t length, size_t index, uint32_t *inode);
+
+/* A TCP connection, by the fields of struct tcp_info of linux/tcp.h, without their tcpi_. */
+struct sockdiag_tcp_info {
+    uint8_t state;                     /* one of TCP_ESTABLISHED to TCP_CLOSING */
+    uint8_t ca_state;                  /* one of TCP_CA_OPEN to TCP_CA_LOSS */
+    uint8_t retransmits;               /* how often the timer has made the oldest segment be sent again */
+    uint8_t probes;                    /* how many probes of a closed window or of a silent peer were not answered */
+    uint8_t backoff;                   /* how often the timer was doubled */
+    uint8_t options;                   /* the options that both ends agreed on, bits TCPI_OPT_.. */
+    uint8_t wscale;                    /* the shifts of both windows: the sender's in the lower four bits */
+    uint8_t delivery_rate_app_limited; /* bit 0 is set where the program limits delivery_rate */
+    uint32_t rto;                      /* the time until a segment is sent again, in microseconds */
+    uint32_t ato;                      /* the time until an answer is sent late, in microseconds */
+    uint32_t snd_mss;                  /* the largest segment that is sent, in bytes */
+    uint32_t rcv_mss;                  /* the largest segment that is taken to come, in bytes */
+    uint32_t unacked;                  /* segments sent and not acknowledged; in TCP_LISTEN pending connections */
+    uint32_t sacked;                   /* segments acknowledged out of order; in TCP_LISTEN their limit */
+    uint32_t lost;                     /* how many segments are held to be lost */
+    uint32_t retrans;                  /* how many segments that were sent again are on their way */
+    uint32_t fackets;                  /* how far the acknowledged segments reach; newer kernels write 0 */
+    uint32_t last_data_sent;           /* the time since data was sent, in milliseconds */
+    uint32_t last_ack_sent;            /* the time since an acknowledgement was sent; the kernel writes 0 */
+    uint32_t last_data_recv;           /* the time since data came, in milliseconds */
+    uint32_t last_ack_recv;            /* the time since an acknowledgement came, in milliseconds */
+    uint32_t pmtu;                     /* the largest packet that the path takes, in bytes */
+    uint32_t rcv_ssthresh;             /* the most that the receive window may grow to for now, in bytes */
+    uint32_t rtt;                      /* the round trip's time, smoothed, in microseconds */
+    uint32_t rttvar;                   /* how far round trips differ from it, in microseconds */
+    uint32_t snd_ssthresh;             /* the window from which on slow start ends, in segments */
+    uint32_t snd_cwnd;                 /* the congestion window, in segments */
+    uint32_t advmss;                   /* the largest segment that was offered to the peer, in bytes */
+    uint32_t reordering;               /* how many segments may pass one before it is held to be lost */
+    uint32_t rcv_rtt;                  /* the round trip's time as the receiver measures it, in microseconds */
+    uint32_t rcv_space;                /* the size that the receive buffer is fitted to, in bytes */
+    uint32_t total_retrans;            /* how many segments were sent again in all */
+    uint64_t pacing_rate;              /* the rate at which segments are let go, in bytes a second */
+    uint64_t max_pacing_rate;          /* the most that this rate may be, in bytes a second */
+    uint64_t bytes_acked;              /* how many bytes were acknowledged */
+    uint64_t bytes_received;           /* how many bytes came in order */
+    uint32_t segs_out;                 /* how many segments were sent */
+    uint32_t segs_in;                  /* how many segments came */
+    uint32_t notsent_bytes;            /* how many queued bytes were not sent yet */
+    uint32_t min_rtt;                  /* the shortest round trip's time, in microseconds */
+    uint32_t data_segs_in;             /* how many segments with data came */
+    uint32_t data_segs_out;            /* how many segments with data were sent */
+    uint64_t delivery_rate;            /* the rate at which data last reached the peer, in bytes a second */
+    uint64_t busy_time;                /* the time in which there was data to send, in microseconds */
+    uint64_t rwnd_limited;             /* the part of it in which the peer's window was too small, in microseconds */
+    uint64_t sndbuf_limited;           /* the part of it in which the send buffer was too small, in microseconds */
+    uint32_t delivered;                /* how many segments reached the peer, those sent again too */
+    uint32_t delivered_ce;             /* how many of them the peer told to be marked for congestion */
+    uint64_t bytes_sent;               /* how many bytes of data were sent, those sent again too */
+    uint64_t bytes_retrans;            /* how many bytes of data were sent again */
+    uint32_t dsack_dups;               /* how many segments the peer told to have come twice */
+    uint32_t reord_seen;               /* how often segments were seen to be out of order */
+    uint32_t rcv_ooopack;              /* how many segments came out of order */
+    uint32_t snd_wnd;                  /* the peer's window after its shift, in bytes */
+};
+
+/*
+ * Tells what is known of a TCP connection, the value of the first INET_DIAG_INFO behind the header of a reply about an
+ * IPv4 or IPv6 socket: as many bytes of it as *info has, and zeros behind them. The answer is how many bytes the value has,
+ * and 0 where there is none. Older kernels tell fewer than *info has, and newer ones more.
+ *
+ * Values aren't checked, so that this can be read from a reply that is refused since a value is short. Behind a fault of
+ * the framing nothing is told.
+ */
+size_t sockdiag_inet_get_tcp_info(const uint8_t *payload, size_t length, struct sockdiag_tcp_info *info);
+
 /* ---- walks */
 
 /* How far a walk is. A walk over a whole string begins at place 0. */
@@ -158,6 +342,19 @@ struct sockdiag_message {
 uint32_t sockdiag_next_message(const uint8_t *datagram, size_t length, struct sockdiag_cursor *cursor,
                                struct sockdiag_message *message);
 
+/*
+ * The same without a look at the payload: the answer is 1 for a message of any type. A dump whose replies are told by
+ * sockdiag_unix_get_details and sockdiag_inet_get_details is checked once so.
+ */
+uint32_t sockdiag_next_envelope(const uint8_t *datagram, size_t length, struct sockdiag_cursor *cursor,
+                                struct sockdiag_message *message);
+
+/*
+ * Tells the number that the payload of NLMSG_ERROR or NLMSG_DONE begins with: 0 where all went well, else -errno. The answer
+ * is 1; or 0 where the payload has fewer than four bytes, and then *number is as it was.
+ */
+uint32_t sockdiag_get_error_number(const uint8_t *payload, size_t length, int32_t *number);
+
 /* ---- requests */
 
 /* What the netlink header of a request tells. Its length and its type, SOCK_DIAG_BY_FAMILY, follow from the request. */
@@ -180,8 +377,10 @@ struct sockdiag_unix_request {
 struct sockdiag_inet_request {
     struct sockdiag_request_header header;
     uint8_t family;                  /* AF_INET or AF_INET6 */
-    uint8_t protocol;                /* one of IPPROTO_.. */
     uint8_t extensions;              /* which attributes the replies shall have, the bit of each that of its kind less 1 */
+    uint32_t protocol;               /* one of IPPROTO_..; one above 255, such as IPPROTO_MPTCP, is told by the attribute
+                                        INET_DIAG_REQ_PROTOCOL, and its low byte in the record: that of IPPROTO_MPTCP is
+                                        IPPROTO_TCP, which a kernel without MPTCP goes by */
     uint32_t states;                 /* a set of states, the bit of each that of its number */
     uint16_t source_port;            /* the port of this end */
     uint16_t destination_port;       /* the port of the other end */
@@ -191,16 +390,25 @@ struct sockdiag_inet_request {
     uint8_t cookie[8];               /* tells the socket from others; eight times 0xff is INET_DIAG_NOCOOKIE */
 };
 
+/* How many bytes a request has, and the most that one for internet sockets has: 72 where its protocol is below 256. */
 #define SOCKDIAG_UNIX_REQUEST_LENGTH 40
-#define SOCKDIAG_INET_REQUEST_LENGTH 72
+#define SOCKDIAG_INET_REQUEST_LENGTH 80
 
 /*
- * Write a request at the front of the buffer, a whole netlink message of 40 or 72 bytes, and leave what stands behind it.
- * All bits of flags and sets are written as they are. The answer is how many bytes were written; or 0 where the buffer has
- * fewer, or the family is neither AF_INET nor AF_INET6, and then nothing is written.
+ * Write a request at the front of the buffer, a whole netlink message, and leave what stands behind it. All bits of flags
+ * and sets are written as they are. The answer is how many bytes were written; or 0 where the buffer has fewer, or the
+ * family is neither AF_INET nor AF_INET6, and then nothing is written.
  */
 size_t sockdiag_write_unix_request(const struct sockdiag_unix_request *request, uint8_t *buffer, size_t length);
 size_t sockdiag_write_inet_request(const struct sockdiag_inet_request *request, uint8_t *buffer, size_t length);
+
+/*
+ * The same, of a request under the type SOCK_DESTROY: that the kernel close the socket, or the sockets, that the request
+ * tells. Its flags are NLM_F_REQUEST, and NLM_F_ACK where success shall be told too. The kernel closes TCP, UDP and raw
+ * sockets of a caller that may (CAP_NET_ADMIN), and answers EOPNOTSUPP for UNIX sockets.
+ */
+size_t sockdiag_write_unix_destroy(const struct sockdiag_unix_request *request, uint8_t *buffer, size_t length);
+size_t sockdiag_write_inet_destroy(const struct sockdiag_inet_request *request, uint8_t *buffer, size_t length);
 
 /* ---- the canonical form */
 

@@ -84,6 +84,100 @@ static void checks_messages(void) {
     check(reply.unix_header.inode == 0x11223344, "the other header changes");
 }
 
+/* Puts an attribute at a place, and returns the place behind its padding. */
+static size_t put(uint8_t *bytes, size_t at, uint8_t kind, const char *value, size_t length) {
+    memset(bytes + at, 0, length + 7);
+    bytes[at] = (uint8_t)(4 + length);
+    bytes[at + 2] = kind;
+    memcpy(bytes + at + 4, value, length);
+    return at + (length + 7) / 4 * 4;
+}
+
+static int is(struct sockdiag_number number, uint32_t value) {
+    return number.is_told == 1 && number.value == value;
+}
+
+static void tells_unix_details(void) {
+    static const char memory[36] = {0, 0, 0, 0, 9, 0, 0, 0, 0, 0, 0, 0, 10, 0, 0, 0, 0, 0, 0, 0, 11};
+    uint8_t bytes[256];
+    struct sockdiag_unix_details details, none;
+    uint32_t inode = 5;
+    size_t end;
+    memset(&details, 0, sizeof details);
+    check(sockdiag_unix_get_details(unix_reply, sizeof unix_reply, &details) == SOCKDIAG_OK, "details of a UNIX reply");
+    check(details.header.kind == 1 && details.header.inode == 0x11223344, "a header in details");
+    check(details.name.kind == SOCKDIAG_TEXT && details.name.length == 2, "a pathname");
+    check(details.name.bytes == unix_reply + 20 && is(details.peer, 0x12345678), "a pathname's place, and a peer");
+    check(details.shutdown.is_told == 0 && details.shutdown.value == 0, "a number that isn't told");
+    memcpy(bytes, unix_reply, 16);
+    end = put(bytes, 16, 0, "\0a\0b", 4);
+    end = put(bytes, end, 1, "\1\0\0\0\2\0\0\0", 8);
+    end = put(bytes, end, 2, "\3\0\0\0", 4);
+    end = put(bytes, end, 3, "\4\0\0\0\5\1\0\0", 8);
+    end = put(bytes, end, 4, "\6\0\0\0\7\0\0\0", 8);
+    end = put(bytes, end, 5, memory, 36);
+    end = put(bytes, end, 6, "\10", 1);
+    end = put(bytes, end, 2, "\14\0\0\0", 4);
+    check(sockdiag_unix_get_details(bytes, end, &details) == SOCKDIAG_OK, "all details of a UNIX reply");
+    check(details.name.kind == SOCKDIAG_ABSTRACT && details.name.length == 3, "an abstract name");
+    check(memcmp(details.name.bytes, "a\0b", 3) == 0, "an abstract name's bytes");
+    check(is(details.file_inode, 1) && is(details.file_device, 2) && is(details.peer, 3), "file and first peer");
+    check(is(details.recv_queue, 6) && is(details.send_queue, 7) && is(details.shutdown, 8), "queues and shutdown");
+    check(is(details.receive_buffer, 9) && is(details.send_buffer, 10) && is(details.queued, 11), "memory");
+    check(sockdiag_unix_get_pending(bytes, end, 2, &inode) == SOCKDIAG_END && inode == 5, "no third connection");
+    check(sockdiag_unix_get_pending(bytes, end, 1, &inode) == SOCKDIAG_ITEM && inode == 261, "a pending connection");
+    check(sockdiag_unix_get_pending(bytes, 15, 0, &inode) == SOCKDIAG_END, "a refused reply's connections");
+    none = details;
+    check(sockdiag_unix_get_details(bytes, 22, &details) == SOCKDIAG_ATTRIBUTE_LENGTH_PAST, "details of a cut reply");
+    check(memcmp(&none, &details, sizeof none) == 0, "details are told of a refused reply");
+    check(sockdiag_unix_get_details(NULL, 0, &details) == SOCKDIAG_BUFFER_TOO_SMALL, "no bytes at a null pointer");
+}
+
+static void tells_inet_details(void) {
+    uint8_t bytes[512], value[240];
+    struct sockdiag_inet_details details;
+    struct sockdiag_tcp_info info;
+    size_t end, place;
+    memset(&details, 0, sizeof details);
+    memcpy(bytes, inet_reply, 72);
+    end = put(bytes, 72, 4, "cubic", 6);
+    end = put(bytes, end, 5, "\1", 1);
+    end = put(bytes, end, 6, "\2", 1);
+    end = put(bytes, end, 8, "\3", 1);
+    end = put(bytes, end, 10, "\4", 1);
+    end = put(bytes, end, 11, "\5", 1);
+    end = put(bytes, end, 15, "\6\0\0\0", 4);
+    end = put(bytes, end, 17, "\7\0\0\0", 4);
+    check(sockdiag_inet_get_details(bytes, end, &details) == SOCKDIAG_OK, "details of an internet reply");
+    check(details.header.inode == 12345 && details.congestion.kind == SOCKDIAG_TEXT, "header and algorithm");
+    check(details.congestion.length == 5 && memcmp(details.congestion.bytes, "cubic", 5) == 0, "cubic");
+    check(is(details.tos, 1) && is(details.tclass, 2) && is(details.shutdown, 3), "service, class and shutdown");
+    check(is(details.protocol, 4) && is(details.v6only, 1), "protocol and IPv6 alone");
+    check(is(details.mark, 6) && is(details.class_id, 7), "mark and class");
+    check(sockdiag_inet_get_tcp_info(bytes, end, &info) == 0 && info.state == 0, "no TCP connection");
+    for (place = 0; place < sizeof value; place++)
+        value[place] = (uint8_t)place;
+    end = put(bytes, end, 2, (const char *)value, sizeof value);
+    check(sockdiag_inet_get_details(bytes, end, &details) == SOCKDIAG_OK, "a TCP connection");
+    check(sockdiag_inet_get_tcp_info(bytes, end, &info) == 240 && memcmp(&info, value, sizeof info) == 0, "its bytes");
+    check(info.rtt == 0x47464544 && info.pacing_rate == 0x6f6e6d6c6b6a6968 && info.snd_wnd == 0xe7e6e5e4, "its fields");
+    put(bytes, 72, 2, (const char *)value, 5);
+    check(sockdiag_inet_get_details(bytes, 84, &details) == SOCKDIAG_BUFFER_TOO_SMALL, "a short TCP connection");
+    check(sockdiag_inet_get_tcp_info(bytes, 84, &info) == 5 && info.backoff == 4 && info.rto == 0, "its five bytes");
+    check(sockdiag_inet_get_tcp_info(NULL, 0, &info) == 0 && info.backoff == 0, "nothing at a null pointer");
+}
+
+static void tells_numbers_in_words(void) {
+    static const uint8_t refused[5] = {0xfe, 0xff, 0xff, 0xff, 9};
+    int32_t number = 7;
+    uint32_t fault;
+    check(sockdiag_get_error_number(refused, 3, &number) == SOCKDIAG_END && number == 7, "no errno");
+    check(sockdiag_get_error_number(refused, 5, &number) == SOCKDIAG_ITEM && number == -2, "ENOENT");
+    for (fault = SOCKDIAG_BUFFER_TOO_SMALL; fault <= SOCKDIAG_ENVELOPE_LENGTH_PAST; fault++)
+        check(strcmp(sockdiag_fault_text(fault), sockdiag_fault_text(fault + 1)) != 0, "a fault in words");
+    check(strcmp(sockdiag_fault_text(19), "an unknown fault") == 0, "an unknown fault");
+}
+
 static void walks_attributes(void) {
     struct sockdiag_cursor cursor = {SOCKDIAG_UNIX_ATTRIBUTES};
     struct sockdiag_attribute attribute = {0, 0, 0};
@@ -156,6 +250,8 @@ static void writes_unix_request(void) {
     check(sockdiag_write_unix_request(&request, buffer, sizeof buffer) == 40, "a UNIX request");
     check(memcmp(buffer, want, 40) == 0, "a UNIX request's bytes");
     check(memcmp(buffer + 40, before + 40, 8) == 0, "what stands behind a request");
+    check(sockdiag_write_unix_destroy(&request, buffer, 40) == 40 && buffer[4] == 21, "a UNIX destroy");
+    check(memcmp(buffer + 5, want + 5, 35) == 0, "a UNIX destroy's bytes");
 }
 
 static void writes_inet_request(void) {
@@ -167,17 +263,23 @@ static void writes_inet_request(void) {
         3, 0, 0, 0, 8, 7, 6, 5, 4, 3, 2, 1,
     };
     struct sockdiag_inet_request request = {
-        {0x301, 6, 1}, 10, 6, 0x41, 0x400, 80, 8080,
+        {0x301, 6, 1}, 10, 0x41, 6, 0x400, 80, 8080,
         {0xfe, 0x80, 0, 0, 0, 0, 0, 0, 0, 0, 0, 0, 0, 0, 0, 1}, {0, 0, 0, 0, 0, 0, 0, 0, 0, 0, 0, 0, 0, 0, 0, 2},
         3, {8, 7, 6, 5, 4, 3, 2, 1},
     };
-    uint8_t buffer[72];
+    static const uint8_t attribute[8] = {8, 0, 2, 0, 6, 1, 0, 0};
+    uint8_t buffer[80];
     check(sockdiag_write_inet_request(&request, buffer, 71) == 0, "a short buffer for an internet request");
     check(sockdiag_write_inet_request(&request, buffer, 72) == 72, "an internet request");
     check(memcmp(buffer, want, 72) == 0, "an internet request's bytes");
     request.family = 2;
     check(sockdiag_write_inet_request(&request, buffer, 72) == 72, "an IPv4 request");
     check(buffer[16] == 2 && buffer[28] == 0xfe && buffer[29] == 0x80 && buffer[43] == 0, "an IPv4 address and zeros");
+    check(sockdiag_write_inet_destroy(&request, buffer, 72) == 72 && buffer[4] == 21 && buffer[17] == 6, "a destroy");
+    request.protocol = 262;
+    check(sockdiag_write_inet_request(&request, buffer, 79) == 0, "a short buffer for a protocol");
+    check(sockdiag_write_inet_request(&request, buffer, 80) == 80, "a request for MPTCP");
+    check(buffer[0] == 80 && buffer[4] == 20 && buffer[17] == 6 && memcmp(buffer + 72, attribute, 8) == 0, "its protocol");
     request.family = 1;
     check(sockdiag_write_inet_request(&request, buffer, 72) == 0, "a request of another family");
 }
@@ -216,6 +318,9 @@ int main(void) {
     checks_unix();
     checks_inet();
     checks_messages();
+    tells_unix_details();
+    tells_inet_details();
+    tells_numbers_in_words();
     walks_attributes();
     walks_messages();
     writes_unix_request();

@@ -2,10 +2,10 @@
 """Fails, with status 1, where include/sockdiag.h doesn't declare what crates/sockdiag_c exports.
 
 From the Rattle source follow the header's structs, field by field in order, its prototypes and its
-numbers. Where there is a C compiler, `$CC` or `cc`, the header has to fit the calls in C too: what
-calls it is compiled. Where the library takes seconds to build, since those below it are built here
-and its own proof is kept, tests/c_face.sh builds it and runs the calls. Each part that is left out
-is told.
+numbers. Where there is a C compiler, `$CC` or `cc`, each field has to stand at its place there, and
+the header has to fit the calls in C too: what calls it is compiled. Where the library takes seconds
+to build, since those below it are built here and its own proof is kept, tests/c_face.sh builds it
+and runs the calls. Each part that is left out is told.
 """
 
 import difflib
@@ -18,26 +18,36 @@ from pathlib import Path
 
 TOP = Path(__file__).resolve().parent.parent
 HEADER = TOP / "include" / "sockdiag.h"
-CALLERS = ["tests/c_face.c", "examples/list_sockets.c"]
-# The header's numbers, but those of the faults, by the file and the name of the constant.
+# The header's numbers, but those of the faults, by the file and the name of the constant, or words
+# of a contract in front of the number.
 NUMBERS = {
+    "SOCKDIAG_OK": ("sockdiag_c/src/check.rt", "OK"),
+    "SOCKDIAG_END": ("sockdiag_c/src/walks.rt", "END"),
+    "SOCKDIAG_ITEM": ("sockdiag_c/src/walks.rt", "ITEM"),
+    "SOCKDIAG_TEXT": ("sockdiag_c/src/details.rt", "TEXT"),
+    "SOCKDIAG_ABSTRACT": ("sockdiag_c/src/details.rt", "ABSTRACT"),
     "SOCKDIAG_UNIX_ATTRIBUTES": ("netlink_packet_sock_diag/src/unix/view.rt", "LENGTH"),
     "SOCKDIAG_INET_ATTRIBUTES": ("netlink_packet_sock_diag/src/inet/view.rt", "LENGTH"),
     "SOCKDIAG_UNIX": ("sockdiag_c/src/headers.rt", "UNIX"),
     "SOCKDIAG_INET": ("sockdiag_c/src/headers.rt", "INET"),
-    "SOCKDIAG_UNIX_REQUEST_LENGTH": ("sockdiag_c/src/requests.rt", "UNIX_LENGTH"),
-    "SOCKDIAG_INET_REQUEST_LENGTH": ("sockdiag_c/src/requests.rt", "INET_LENGTH"),
+    "SOCKDIAG_UNIX_REQUEST_LENGTH": ("sockdiag_c/src/requests.rt", "a netlink message of "),
+    "SOCKDIAG_INET_REQUEST_LENGTH": ("sockdiag_c/src/requests.rt", "bytes, or of "),
 }
 # Those faults of `DecodeError` that no call tells.
 UNTOLD = {"MEMORY"}
-PLAIN = {"usize": "size_t", **{f"u{bits}": f"uint{bits}_t" for bits in (8, 16, 32, 64)}}
+PLAIN = {"usize": "size_t", "i32": "int32_t"}
+PLAIN.update({f"u{bits}": f"uint{bits}_t" for bits in (8, 16, 32, 64)})
+# The bytes that are told as the fields of a record of another crate.
+RECORD = "&mut [u8; 232]"
+TOLD_AS = ("sockdiag_tcp_info", "TcpInfo", "sock_diag_values/src/inet/tcp_info.rt")
 STRUCT = re.compile(
     r"`struct (\w+)` of\s(?:/// )?`include/sockdiag\.h`\.\n#\[repr\(C\)\]\n(?:#\[[^\n]*\]\n)*"
-    r"pub struct (\w+) \{(.*?)\n\}",
+    r"pub struct (\w+)(?:<'a>)? \{(.*?)\n\}",
     re.S,
 )
+FIELD = re.compile(r"^ +pub (\w+): (.*),$", re.M)
 EXPORT = re.compile(
-    r'((?:#\[[^\n]*\]\n)*)pub extern "C" fn (\w+)\((.*?)\)(?: -> (\w+))?\s*\n', re.S
+    r'((?:#\[[^\n]*\]\n)*)pub extern "C" fn (\w+)(?:<\'a>)?\((.*?)\)(?: -> (\w+))?\s*\n', re.S
 )
 
 
@@ -47,6 +57,8 @@ def text_of(path):
 
 def in_c(kind, name, structs):
     """A field or parameter of that type in C."""
+    if kind == RECORD:
+        return f"struct {TOLD_AS[0]} *{name}"
     array = re.fullmatch(r"\[(\w+); (\d+)\]", kind)
     if array:
         return f"{in_c(array[1], name, structs)}[{array[2]}]"
@@ -60,7 +72,7 @@ def in_c(kind, name, structs):
 def parameters(text, structs):
     """The parameters in C. The length of the first slice is `length`, of another `NAME_length`."""
     told, slices = [], 0
-    for name, kind in re.findall(r"(\w+): ([^,]+?)(?:,|\s*$)", text):
+    for name, kind in re.findall(r"(\w+): ([^,]+?)(?:,|\s*$)", without_lifetimes(text)):
         part = re.fullmatch(r"&(mut )?\[(\w+)\]", kind)
         if part:
             told += [in_c(f"&{part[1] or ''}{part[2]}", name, structs)]
@@ -71,22 +83,88 @@ def parameters(text, structs):
     return ", ".join(told) or "void"
 
 
+def without_lifetimes(text):
+    return re.sub(r"<'a>|'a ", "", text)
+
+
+def source():
+    """The Rattle source of the library, but its tests."""
+    files = sorted((TOP / "crates/sockdiag_c/src").rglob("*.rt"))
+    return "".join(path.read_text(encoding="utf-8") for path in files if path.name != "tests.rt")
+
+
+def structs_of(text):
+    """By their names in Rattle the structs: the name in C, and the fields with their types."""
+    found = [(name, other, body) for other, name, body in STRUCT.findall(text)]
+    other, name, path = TOLD_AS
+    found.append((name, other, re.search(rf"pub struct {name} {{(.*?)\n}}", text_of(path), re.S)[1]))
+    return {name: (other, list(fields(body))) for name, other, body in found}
+
+
+def fields(body):
+    """The fields of a struct, a slice as its pointer and its length."""
+    for name, kind in FIELD.findall(without_lifetimes(body)):
+        if kind == "&[u8]":
+            yield name, "&u8"
+            yield "length", "usize"
+        else:
+            yield name, kind
+
+
+def size_and_align(kind, structs):
+    """The bytes of a type by the rules of C on x86-64, and what its place is a multiple of."""
+    array = re.fullmatch(r"\[(\w+); (\d+)\]", kind)
+    if array:
+        size, align = size_and_align(array[1], structs)
+        return size * int(array[2]), align
+    if kind in structs:
+        places, align = layout(structs[kind][1], structs)
+        return places["the end"], align
+    size = 8 if kind in ("usize", "&u8") else int(kind[1:]) // 8
+    return size, size
+
+
+def layout(fields, structs):
+    """The place of each field and of the end, and what the struct's place is a multiple of."""
+    places, at, most = {}, 0, 1
+    for name, kind in fields:
+        size, align = size_and_align(kind, structs)
+        places[name] = at = (at + align - 1) // align * align
+        at, most = at + size, max(most, align)
+    places["the end"] = (at + most - 1) // most * most
+    return places, most
+
+
+def places():
+    """Sentences of C that hold where each field stands at its place."""
+    text = source()
+    structs = structs_of(text)
+    for name, (other, its_fields) in structs.items():
+        found, _ = layout(its_fields, structs)
+        size = found.pop("the end")
+        for field, place in found.items():
+            yield f'_Static_assert(offsetof(struct {other}, {field}) == {place}, "{field}");'
+        yield f'_Static_assert(sizeof(struct {other}) == {size}, "{other}");'
+        proved = re.search(rf"size_of::<{name}(?:<'static>)?>\(\) == (\d+)", text)
+        if name != TOLD_AS[1] and (not proved or int(proved[1]) != size):
+            yield f'_Static_assert(0, "no constant proves that {name} has {size} bytes");'
+
+
 def declared():
     """What the Rattle source asks of the header, a declaration or a number each."""
-    files = sorted((TOP / "crates/sockdiag_c/src").rglob("*.rt"))
-    source = "".join(path.read_text(encoding="utf-8") for path in files if path.name != "tests.rt")
-    found = STRUCT.findall(source)
-    structs = {name: other for other, name, _ in found}
-    for other, _, body in found:
-        fields = re.findall(r"^ +pub (\w+): (.*),$", body, re.M)
-        inside = " ".join(in_c(kind, name, structs) + ";" for name, kind in fields)
+    text = source()
+    found = structs_of(text)
+    structs = {name: other for name, (other, _) in found.items()}
+    for other, its_fields in found.values():
+        inside = " ".join(in_c(kind, name, structs) + ";" for name, kind in its_fields)
         yield f"struct {other} {{ {inside} }}"
-    for attributes, name, inside, answer in EXPORT.findall(source):
+    for attributes, name, inside, answer in EXPORT.findall(text):
         exported = "" if "#[unsafe(no_mangle)]" in attributes else "not exported: "
         answer = in_c(answer, "", structs).strip() if answer else "void"
         yield f"{exported}{answer} {name}({parameters(inside, structs)})"
-    for name, (path, constant) in NUMBERS.items():
-        yield f"{name} {re.search(rf'const {constant}: [a-z0-9]+ = ([0-9]+);', text_of(path))[1]}"
+    for name, (path, words) in NUMBERS.items():
+        told_by = words if " " in words else rf"const {words}: [a-z0-9]+ = "
+        yield f"{name} {re.search(told_by + '([0-9]+)', text_of(path))[1]}"
     numbered = r"DecodeError::(\w+)(?: \{ \.\. \})? => (\d+),"
     for fault, number in re.findall(numbered, text_of("netlink_core/src/fault.rt")):
         name = re.sub(r"(?<=[a-z])(?=[A-Z])|(?<=Under)(?=\d)", "_", fault).upper()
@@ -99,6 +177,7 @@ def told():
     text = re.sub(r"/\*.*?\*/", "", HEADER.read_text(encoding="utf-8"), flags=re.S)
     yield from (" ".join(it) for it in re.findall(r"^#define (\w+) (\d+)$", text, re.M))
     yield from (" ".join(it) for it in re.findall(r"^ +(SOCKDIAG_\w+) = (\d+),?", text, re.M))
+    text = re.sub(r"^static inline .*?^}$", "", text, flags=re.M | re.S)
     text = re.sub(r"^#.*$|\benum \w+ \{[^}]*\};|extern \"C\" \{", "", text, flags=re.M)
     known = r"struct \w+ \{[^}]*\}(?=;)|[\w *]+\([^)]*\)(?=;)"
     text = " ".join(text.split())
@@ -123,20 +202,29 @@ def call():
     if not shutil.which(compiler):
         print(f"no C compiler {compiler}: the calls from C are neither compiled nor run")
         return 0
-    words = [compiler, *"-std=c11 -Wall -Wextra -Wpedantic -Werror -fsyntax-only -Iinclude".split()]
-    status = subprocess.run([*words, *CALLERS], cwd=TOP).returncode
-    if status == 0 and not is_soon_built():
+    strict = [*"-Wall -Wextra -Wpedantic -Werror -fsyntax-only -Iinclude -x".split()]
+    header = '#include "sockdiag.h"\n'
+    for language, flags, files, text in [
+        ("c", ["-std=c11"], ["-"], header + "\n".join(places()) + "\n"),
+        ("c", ["-std=c11"], ["tests/c_face.c"], ""),
+        ("c", ["-std=c99"], ["examples/list_sockets.c"], ""),
+        ("c++", ["-std=c++11"], ["examples/list_sockets.c"], ""),
+    ]:
+        words = [compiler, *flags, *strict, language, *files]
+        status = subprocess.run(words, cwd=TOP, input=text, text=True).returncode
+        if status != 0:
+            return status
+    if not is_soon_built():
         print("the calls from C are compiled and not run: tests/c_face.sh runs them")
-    elif status == 0:
-        status = subprocess.run([TOP / "tests" / "c_face.sh"]).returncode
-    return status
+        return 0
+    return subprocess.run([TOP / "tests" / "c_face.sh"]).returncode
 
 
 def main():
-    source, header = sorted(declared()), sorted(told())
-    for line in difflib.unified_diff(header, source, "header", "source", n=0, lineterm=""):
+    wanted, header = sorted(declared()), sorted(told())
+    for line in difflib.unified_diff(header, wanted, "header", "source", n=0, lineterm=""):
         print(line)
-    return int(source != header or call() != 0)
+    return int(wanted != header or call() != 0)
 
 
 if __name__ == "__main__":

@@ -22,8 +22,8 @@ cut_with_step : (bytes : List ℕ) (old new : Cursor) (now : MessagePart) (answe
     × CutIntoMessages (left_of bytes old) (message ∷ later) end
 cut_with_step bytes old new now answer typed s =
     let items = (items_of message_codec message_laws.answered (left_of bytes new)
-    (rest_typed (left_of bytes old) s.0 (left_of bytes new) s.1 typed)).1 in
-    (s.0, items.0, items.1, items.3, (left_of bytes new, s.1, items.3))
+    (rest_typed (left_of bytes old) s.0.0 (left_of bytes new) s.0.1 typed)).1 in
+    (s.0.0, items.0, items.1, items.3, (left_of bytes new, s.0.1, items.3))
 
 -- a step tells the first message, and leaves what the others are cut from
 pub step_at_message : (bytes : List ℕ) (old new : Cursor) (was now : MessagePart) (answer : ℕ)

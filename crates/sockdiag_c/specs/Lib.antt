@@ -3,3 +3,10 @@ pub mod Headers
 pub mod Walks
 pub mod Requests
 pub mod Rewriting
+pub mod Details
+pub mod TellSteps
+pub mod UnixDetails
+pub mod UnixDetailsSteps
+pub mod InetDetails
+pub mod InetDetailsSteps
+pub mod TcpInfo

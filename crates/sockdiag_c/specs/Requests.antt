@@ -1,21 +1,27 @@
 -- The requests that C asks to be written.
-use Rattle.std.specs.Prelude.{◌≡◌, ℕ, ◌==◌, if◌then◌else◌, List, [], ◌∷◌, ◌++◌, length, drop}
-use Rattle.std.specs.Prelude.{slice_index}
+use Rattle.std.specs.Prelude.{◌≡◌, ℕ, ◌+◌, ◌%◌, ◌<◌, ◌≤◌, ◌==◌, nat_lt, if◌then◌else◌, List, []}
+use Rattle.std.specs.Prelude.{◌∷◌, ◌++◌, length, drop, slice_index}
+use Rattle.byteorder.specs.Endian.{little_bytes}
 use Rattle.std.specs.declared.net.ip_addr.IpAddr.{IpAddr}
 use Rattle.std.specs.declared.net.ip_addr.IpAddr.TheVariants.{V4, V6}
 use Rattle.std.specs.Net.Addr.{segments_of}
 use Rattle.netlink_core.specs.declared.header.NetlinkHeader.{NetlinkHeader}
+use Rattle.netlink_core.specs.Attribute.{written}
+use Rattle.netlink_core.specs.Format.{bytes}
+use Rattle.netlink_core.specs.Header.{header_bytes}
+use Rattle.sock_diag_records.specs.InetRequest.{inet_request}
+use Rattle.sock_diag_records.specs.UnixRequest.{unix_request}
 use Rattle.sock_diag_records.specs.declared.inet.request.InetRequest as inet
 use Rattle.sock_diag_records.specs.declared.unix.request.UnixRequest as unix
 use Rattle.sockdiag_c.specs.declared.requests.InetRequest.{InetRequest}
 use Rattle.sockdiag_c.specs.declared.requests.RequestHeader.{RequestHeader}
 use Rattle.sockdiag_c.specs.declared.requests.UnixRequest.{UnixRequest}
 
--- the header of a request that has so many bytes with it, under the type 20, SOCK_DIAG_BY_FAMILY
-abbrev pub header_of : ℕ → RequestHeader → NetlinkHeader
-header_of len h = record {
+-- the header of a message that has so many bytes with it, under a type
+abbrev pub header_of : ℕ → ℕ → RequestHeader → NetlinkHeader
+header_of len t h = record {
   length = len;
-  message_type = 20;
+  message_type = t;
   flags = h.flags;
   sequence_number = h.sequence_number;
   port_number = h.port_number;
@@ -36,11 +42,12 @@ address_under family octets =
     if family == 2 then V4 record { octets = slice_index octets 0 ∷ slice_index octets 1 ∷ slice_index octets 2 ∷ slice_index octets 3 ∷ [] }
     else V6 record { segments = segments_of octets }
 
--- the record that is asked for, each field by its name, its addresses of the family's kind
+-- the record that is asked for, each field by its name, its addresses of the family's kind, and of
+-- the protocol the low byte
 abbrev pub inet_request_of : InetRequest → inet.InetRequest
 inet_request_of r = record {
   family = r.family;
-  protocol = r.protocol;
+  protocol = r.protocol % 256;
   extensions = record { 0 = r.extensions };
   states = record { 0 = r.states };
   socket_id = record {
@@ -53,7 +60,23 @@ inet_request_of r = record {
   };
 }
 
--- The bytes stand at the front of the buffer, the rest is as it was, and the answer is how many
--- they are.
-abbrev pub IsWritten : List ℕ → List ℕ → List ℕ → ℕ → Type 0
-IsWritten bytes old new answer = (answer ≡ length bytes) × (new ≡ bytes ++ drop (length bytes) old)
+-- a protocol above 255 is told by the attribute of kind 2, INET_DIAG_REQ_PROTOCOL
+abbrev pub protocol_attribute : ℕ → List ℕ
+protocol_attribute p =
+    if nat_lt p 256 then [] else written record { type_word = 2; value = little_bytes 4 p }
+
+-- the messages under a type: SOCK_DIAG_BY_FAMILY is 20, and SOCK_DESTROY 21
+abbrev pub unix_message : ℕ → UnixRequest → List ℕ
+unix_message t r = header_bytes (header_of 40 t r.header) ++ bytes unix_request (unix_request_of r)
+
+abbrev pub inet_message : ℕ → InetRequest → List ℕ
+inet_message t r =
+    header_bytes (header_of (72 + length (protocol_attribute r.protocol)) t r.header)
+    ++ bytes inet_request (inet_request_of r) ++ protocol_attribute r.protocol
+
+-- Where there is room for so many bytes, all of them stand at the front of the buffer, the rest is
+-- as it was, and the answer is how many they are. Else nothing is written.
+abbrev pub WritesWhole : ℕ → List ℕ → List ℕ → List ℕ → ℕ → Type 0
+WritesWhole len all old new answer =
+    (len ≤ length old → (answer ≡ len) × (new ≡ all ++ drop len old))
+    × (length old < len → (answer ≡ 0) × (new ≡ old))

@@ -63,14 +63,26 @@ Carries payload t answer =
     ((answer ≡ 1) × ((carried : Payload Message) × PayloadIs message_codec.reads payload t carried))
     ⊎ ((e : DecodeError) × IsInnerType t × message_codec.refuses payload t e × (answer ≡ number_of e))
 
--- The message at the front of what was left is told, its payload behind the header, and what it
--- carries; and the walk passes it and its padding.
+-- The message at the front of what was left is told, its payload behind the header, and the walk
+-- passes it and its padding.
+abbrev pub IsFramed : List ℕ → Cursor → Cursor → MessagePart → Type 0
+IsFramed bytes old new now =
+    (message : List ℕ) × StartsWithMessage (left_of bytes old) message (left_of bytes new)
+    × HasHeader (left_of bytes old) (header_in now) × (now.offset ≡ old.place + 16)
+
+-- the same, and what it carries
 abbrev pub IsTold : List ℕ → Cursor → Cursor → MessagePart → ℕ → Type 0
 IsTold bytes old new now answer =
-    (message : List ℕ) × StartsWithMessage (left_of bytes old) message (left_of bytes new)
-    × HasHeader (left_of bytes old) (header_in now) × (now.offset ≡ old.place + 16) × Carries (payload_in bytes now) now.message_type answer
+    IsFramed bytes old new now × Carries (payload_in bytes now) now.message_type answer
 
 -- A message is told, or the walk ends, or fails.
 abbrev pub NextMessage : List ℕ → Cursor → Cursor → MessagePart → MessagePart → ℕ → Type 0
 NextMessage bytes old new was now answer =
-    EndsAt bytes old new was now answer ⊎ (IsTold bytes old new now answer ⊎ FailsAt IsEnvelopeFault bytes old new was now answer)
+    EndsAt bytes old new was now answer
+    ⊎ (IsTold bytes old new now answer ⊎ FailsAt IsEnvelopeFault bytes old new was now answer)
+
+-- The same of a walk that doesn't look at what is carried.
+abbrev pub NextEnvelope : List ℕ → Cursor → Cursor → MessagePart → MessagePart → ℕ → Type 0
+NextEnvelope bytes old new was now answer =
+    EndsAt bytes old new was now answer
+    ⊎ (((answer ≡ 1) × IsFramed bytes old new now) ⊎ FailsAt IsEnvelopeFault bytes old new was now answer)

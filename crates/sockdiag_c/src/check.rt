@@ -12,6 +12,9 @@ use netlink_packet_sock_diag::SockDiagView;
 use netlink_packet_sock_diag::inet::InetResponseView;
 use netlink_packet_sock_diag::unix::UnixResponseView;
 
+/// The answer of a check that accepts the bytes.
+pub(crate) const OK: u32 = 0;
+
 /// Checks the whole of a reply about a UNIX socket, the payload of its message, and tells its
 /// header. The answer is 0, or the number of the first fault, and then the header is left as it
 /// was.
@@ -24,7 +27,7 @@ pub extern "C" fn sockdiag_check_unix_reply(payload: &[u8], header: &mut UnixHea
     match UnixResponseView::parse(payload) {
         Ok(view) => {
             *header = UnixHeader::from(view.header());
-            0
+            OK
         }
         Err(fault) => u32::from(fault.number()),
     }
@@ -40,7 +43,7 @@ pub extern "C" fn sockdiag_check_inet_reply(payload: &[u8], header: &mut InetHea
     match InetResponseView::parse(payload) {
         Ok(view) => {
             *header = InetHeader::from(view.header());
-            0
+            OK
         }
         Err(fault) => u32::from(fault.number()),
     }
@@ -63,12 +66,12 @@ pub extern "C" fn sockdiag_check_message(
         Ok(SockDiagView::UnixResponse(view)) => {
             reply.kind = UNIX;
             reply.unix_header = UnixHeader::from(view.header());
-            0
+            OK
         }
         Ok(SockDiagView::InetResponse(view)) => {
             reply.kind = INET;
             reply.inet_header = InetHeader::from(view.header());
-            0
+            OK
         }
         Err(fault) => u32::from(fault.number()),
     }

@@ -5,10 +5,16 @@
 #![tactic(auto)]
 
 mod check;
+mod details;
 mod headers;
+mod inet_details;
 pub mod laws;
+mod layout;
+mod pending;
 mod requests;
 mod rewriting;
+mod tcp_info;
 #[cfg(test)]
 mod tests;
+mod unix_details;
 mod walks;

@@ -1,22 +1,21 @@
 //! Requests, written as whole netlink messages.
 
 ghost use Rattle.std.specs.Prelude.{◌≡◌, ◌≢◌, ◌+◌, ◌<◌, ◌≤◌, ◌⊎◌, ◌++◌, length, drop};
+ghost use Rattle.netlink_core.specs.Attribute.{written};
 ghost use Rattle.netlink_core.specs.Format.{bytes};
 ghost use Rattle.netlink_core.specs.Header.{header_bytes};
-ghost use Rattle.netlink_packet_sock_diag.specs.Message.{message_codec};
-ghost use Rattle.netlink_packet_sock_diag.specs.SeenMessage.{seen_message};
 ghost use Rattle.sock_diag_records.specs.InetRequest.{inet_request};
 ghost use Rattle.sock_diag_records.specs.UnixRequest.{unix_request};
-ghost use Rattle.sockdiag_c.specs.Requests.{IsWritten, address_under, header_of, inet_request_of};
+ghost use Rattle.sockdiag_c.specs.Requests.{WritesWhole, address_under, header_of, inet_message};
+ghost use Rattle.sockdiag_c.specs.Requests.{inet_request_of, protocol_attribute, unix_message};
 ghost use Rattle.sockdiag_c.specs.Requests.{unix_request_of};
 
 use bitflags::Flags;
-use netlink_core::{NetlinkHeader, NetlinkMessage, NetlinkPayload};
-use netlink_packet_sock_diag::SockDiagMessage;
-use netlink_packet_sock_diag::constants::{AF_INET, AF_INET6};
+use byteorder::{ByteOrder, LittleEndian};
+use netlink_core::{Emitable, NETLINK_HEADER_LEN};
+use netlink_packet_sock_diag::constants::{AF_INET, AF_INET6, SOCK_DESTROY, SOCK_DIAG_BY_FAMILY};
 use netlink_packet_sock_diag::inet::{self, ExtensionFlags, SocketId};
 use netlink_packet_sock_diag::unix::{self, ShowFlags};
-use std::mem::forget;
 use std::net::{IpAddr, Ipv4Addr, Ipv6Addr};
 
 /// What the netlink header of a request tells, but its length and its type:
@@ -56,11 +55,12 @@ pub struct InetRequest {
     pub header: RequestHeader,
     /// `AF_INET` or `AF_INET6`.
     pub family: u8,
-    /// The protocol, one of `IPPROTO_..`.
-    pub protocol: u8,
     /// Which attributes the replies shall have: a set, in which the bit of a kind is that of its
     /// number less one.
     pub extensions: u8,
+    /// The protocol, one of `IPPROTO_..`. One above 255, such as `IPPROTO_MPTCP`, is told by an
+    /// attribute, and its low byte by the record: that of `IPPROTO_MPTCP` is `IPPROTO_TCP`.
+    pub protocol: u32,
     /// Which states are asked for: a set, in which the bit of a state is that of its number.
     pub states: u32,
     /// The port of this end.
@@ -77,24 +77,57 @@ pub struct InetRequest {
     pub cookie: [u8; 8],
 }
 
-/// How many bytes a request for UNIX sockets has, with its netlink header.
-const UNIX_LENGTH: usize = 40;
-
-/// How many bytes a request for IPv4 or IPv6 sockets has, with its netlink header.
-const INET_LENGTH: usize = 72;
+/// The kind of the attribute of a request that tells the protocol, `INET_DIAG_REQ_PROTOCOL`.
+const PROTOCOL: u8 = 2;
 
 /// Writes a request for UNIX sockets, a netlink message of 40 bytes, at the front of the buffer. It
 /// answers 40, or 0 where the buffer is shorter, and then nothing is written.
 #[unsafe(no_mangle)]
 pub extern "C" fn sockdiag_write_unix_request(request: &UnixRequest, buffer: &mut [u8]) -> usize
-    ensures written { 40 ≤ length buffer.old → (result ≡ 40) × (buffer.new
-        ≡ header_bytes (header_of 40 request.now.header) ++ bytes unix_request
-        (unix_request_of request.now) ++ drop 40 buffer.old) }
-    ensures short { length buffer.old < 40 → (result ≡ 0) × (buffer.new ≡ buffer.old) }
+    ensures { WritesWhole 40 (unix_message 20 request.now) buffer.old buffer.new result }
 {
-    if buffer.len() < UNIX_LENGTH {
-        return 0;
-    }
+    write_unix(SOCK_DIAG_BY_FAMILY, request, buffer)
+}
+
+/// The same, of the request to close the UNIX socket of the inode and the cookie.
+#[unsafe(no_mangle)]
+pub extern "C" fn sockdiag_write_unix_destroy(request: &UnixRequest, buffer: &mut [u8]) -> usize
+    ensures { WritesWhole 40 (unix_message 21 request.now) buffer.old buffer.new result }
+{
+    write_unix(SOCK_DESTROY, request, buffer)
+}
+
+/// Writes a request for IPv4 or IPv6 sockets, a netlink message of 72 bytes, or of 80 where the
+/// protocol is above 255, at the front of the buffer. It answers how many bytes were written, or 0
+/// where the buffer is shorter or the family is neither `AF_INET` nor `AF_INET6`, and then nothing
+/// is written.
+#[unsafe(no_mangle)]
+pub extern "C" fn sockdiag_write_inet_request(request: &InetRequest, buffer: &mut [u8]) -> usize
+    ensures written { (request.now.family ≡ 2) ⊎ (request.now.family ≡ 10)
+        → WritesWhole (72 + length (protocol_attribute request.now.protocol))
+        (inet_message 20 request.now) buffer.old buffer.new result }
+    ensures family { request.now.family ≢ 2 → request.now.family ≢ 10 → (result ≡ 0)
+        × (buffer.new ≡ buffer.old) }
+{
+    write_inet(SOCK_DIAG_BY_FAMILY, request, buffer)
+}
+
+/// The same, of the request to close the sockets that the request tells.
+#[unsafe(no_mangle)]
+pub extern "C" fn sockdiag_write_inet_destroy(request: &InetRequest, buffer: &mut [u8]) -> usize
+    ensures written { (request.now.family ≡ 2) ⊎ (request.now.family ≡ 10)
+        → WritesWhole (72 + length (protocol_attribute request.now.protocol))
+        (inet_message 21 request.now) buffer.old buffer.new result }
+    ensures family { request.now.family ≢ 2 → request.now.family ≢ 10 → (result ≡ 0)
+        × (buffer.new ≡ buffer.old) }
+{
+    write_inet(SOCK_DESTROY, request, buffer)
+}
+
+// Writes a request for UNIX sockets under the type.
+fn write_unix(message_type: u16, request: &UnixRequest, buffer: &mut [u8]) -> usize
+    ensures { WritesWhole 40 (unix_message message_type request.now) buffer.old buffer.new result }
+{
     let cookie = request.cookie;
     let record = unix::UnixRequest {
         state_flags: unix::StateFlags::from_bits_retain(request.states),
@@ -102,36 +135,27 @@ pub extern "C" fn sockdiag_write_unix_request(request: &UnixRequest, buffer: &mu
         show_flags: ShowFlags::from_bits_retain(request.show),
         cookie,
     };
-    write_request(
-        &request.header,
-        SockDiagMessage::UnixRequest(record),
-        buffer,
-    )
+    write_message(message_type, &request.header, &record, &[], buffer)
 }
 
-/// Writes a request for IPv4 or IPv6 sockets, a netlink message of 72 bytes, at the front of the
-/// buffer. It answers 72, or 0 where the buffer is shorter or the family is neither `AF_INET` nor
-/// `AF_INET6`, and then nothing is written.
-#[unsafe(no_mangle)]
-pub extern "C" fn sockdiag_write_inet_request(request: &InetRequest, buffer: &mut [u8]) -> usize
-    ensures written { 72 ≤ length buffer.old → (request.now.family ≡ 2) ⊎ (request.now.family ≡ 10)
-        → (result ≡ 72) × (buffer.new
-        ≡ header_bytes (header_of 72 request.now.header) ++ bytes inet_request
-        (inet_request_of request.now) ++ drop 72 buffer.old) }
-    ensures short { length buffer.old < 72 → (result ≡ 0) × (buffer.new ≡ buffer.old) }
+// Writes a request for IPv4 or IPv6 sockets under the type.
+fn write_inet(message_type: u16, request: &InetRequest, buffer: &mut [u8]) -> usize
+    ensures written { (request.now.family ≡ 2) ⊎ (request.now.family ≡ 10)
+        → WritesWhole (72 + length (protocol_attribute request.now.protocol))
+        (inet_message message_type request.now) buffer.old buffer.new result }
     ensures family { request.now.family ≢ 2 → request.now.family ≢ 10 → (result ≡ 0)
         × (buffer.new ≡ buffer.old) }
 {
-    let has_family = request.family == AF_INET || request.family == AF_INET6;
-    if !has_family || buffer.len() < INET_LENGTH {
+    if request.family != AF_INET && request.family != AF_INET6 {
         return 0;
     }
     let record = inet_record(request);
-    write_request(
-        &request.header,
-        SockDiagMessage::InetRequest(record),
-        buffer,
-    )
+    if request.protocol < 256 {
+        return write_message(message_type, &request.header, &record, &[], buffer);
+    }
+    let mut attribute = [8, 0, PROTOCOL, 0, 0, 0, 0, 0];
+    LittleEndian::write_u32(&mut attribute[4..], request.protocol);
+    write_message(message_type, &request.header, &record, &attribute, buffer)
 }
 
 // The record of a request for IPv4 or IPv6 sockets.
@@ -149,7 +173,7 @@ fn inet_record(request: &InetRequest) -> inet::InetRequest
     };
     inet::InetRequest {
         family: request.family,
-        protocol: request.protocol,
+        protocol: (request.protocol % 256) as u8,
         extensions: ExtensionFlags::from_bits_retain(request.extensions),
         states: inet::StateFlags::from_bits_retain(request.states),
         socket_id,
@@ -166,28 +190,42 @@ fn address_in(family: u8, octets: &[u8; 16]) -> IpAddr
     IpAddr::V6(Ipv6Addr::from_octets(*octets))
 }
 
-// Writes a request behind its netlink header at the front of the buffer, and leaves the rest.
-fn write_request(header: &RequestHeader, message: SockDiagMessage, buffer: &mut [u8]) -> usize
-    requires fits { message_codec.fits (seen_message message) }
-    requires small { 16 + length (message_codec.written (seen_message message)) ≤ 4294967295 }
-    requires room { 16 + length (message_codec.written (seen_message message)) ≤ length buffer.old }
-    ensures { IsWritten (header_bytes
-        (header_of (16 + length (message_codec.written (seen_message message))) header.now)
-        ++ message_codec.written (seen_message message))
-        buffer.old buffer.new result }
+// Writes a record and attributes behind a netlink header, where there is room for them.
+fn write_message<R: Emitable>(
+    message_type: u16,
+    header: &RequestHeader,
+    record: &R,
+    attributes: &[u8],
+    buffer: &mut [u8],
+) -> usize
+    requires writable { R.writable record.now }
+    requires small { 16 + length (R.bytes record.now) + length attributes.now ≤ 4294967295 }
+    ensures { let len = 16 + length (R.bytes record.now) + length attributes.now in
+        WritesWhole len (header_bytes (header_of len message_type header.now)
+        ++ R.bytes record.now ++ attributes.now) buffer.old buffer.new result }
 {
-    let header = NetlinkHeader {
-        length: 0,
-        message_type: 0,
-        flags: header.flags,
-        sequence_number: header.sequence_number,
-        port_number: header.port_number,
-    };
-    let mut whole = NetlinkMessage::new(header, NetlinkPayload::InnerMessage(message));
-    whole.finalize();
-    whole.serialize(buffer);
-    let len = whole.buffer_len();
-    // A request holds no memory, and with nothing to free the library needs no allocator.
-    forget(whole);
+    let end = NETLINK_HEADER_LEN + record.buffer_len();
+    let len = end + attributes.len();
+    if buffer.len() < len {
+        return 0;
+    }
+    let (front, rest) = buffer.split_at_mut(end);
+    let (start, body) = front.split_at_mut(NETLINK_HEADER_LEN);
+    let (behind, _) = rest.split_at_mut(attributes.len());
+    write_header(len as u32, message_type, header, start);
+    record.emit(body);
+    behind.copy_from_slice(attributes);
     len
+}
+
+// Writes a netlink header over sixteen bytes of any content.
+fn write_header(len: u32, message_type: u16, header: &RequestHeader, row: &mut [u8])
+    requires { length row.old ≡ 16 }
+    ensures { row.new ≡ header_bytes (header_of len message_type header.now) }
+{
+    let (first, rest) = row.split_at_mut(4);
+    let (kind, numbers) = rest.split_at_mut(4);
+    LittleEndian::write_u32_into(&[len], first);
+    LittleEndian::write_u16_into(&[message_type, header.flags], kind);
+    LittleEndian::write_u32_into(&[header.sequence_number, header.port_number], numbers);
 }

@@ -1,20 +1,24 @@
 //! Walks over the attributes of a reply and over the messages of a datagram, in place.
 
-ghost use Rattle.std.specs.Prelude.{◌≡◌, ◌+◌, ◌<◌, ◌^◌};
-ghost use Rattle.sockdiag_c.specs.Walks.{Carries, NextAttribute, NextMessage};
+ghost use Rattle.std.specs.Prelude.{◌≡◌, ◌+◌, ◌<◌, ◌^◌, ◌⊎◌, OnOk, IfErr};
+ghost use Rattle.netlink_core.specs.Envelope.{number_in_front};
+ghost use Rattle.sockdiag_c.specs.Answers.{TellsItem};
+ghost use Rattle.netlink_core.specs.Header.{IsEnvelopeFault};
+ghost use Rattle.sockdiag_c.specs.Walks.{Carries, EndsAt, FailsAt, IsFramed, NextAttribute};
+ghost use Rattle.sockdiag_c.specs.Walks.{NextEnvelope, NextMessage};
 
 use netlink_core::{
     NETLINK_HEADER_LEN, NLA_HEADER_SIZE, NLMSG_DONE, NLMSG_ERROR, NLMSG_NOOP, NLMSG_OVERRUN,
-    NetlinkHeader, NlasIterator, padded,
+    NetlinkHeader, NlasIterator, error_number, padded,
 };
 use netlink_packet_sock_diag::SockDiagView;
 
 /// The answer of a walk that has ended.
-const END: u32 = 0;
+pub(crate) const END: u32 = 0;
 
 /// The answer of a walk that tells an item. It is no fault's number here: want of memory doesn't
 /// occur.
-const ITEM: u32 = 1;
+pub(crate) const ITEM: u32 = 1;
 
 /// How far a walk is: `struct sockdiag_cursor` of `include/sockdiag.h`.
 #[repr(C)]
@@ -101,12 +105,45 @@ pub extern "C" fn sockdiag_next_message(
 ) -> u32
     ensures { NextMessage datagram.now cursor.old cursor.new message.old message.new result }
 {
+    match take_message(datagram, cursor, message) {
+        Ok(()) => {
+            let payload = &datagram[message.offset..message.offset + message.length];
+            check_payload(payload, message.message_type)
+        }
+        Err(answer) => answer,
+    }
+}
+
+/// The same without a look at the payload: the answer is 1 where a message is told.
+#[unsafe(no_mangle)]
+pub extern "C" fn sockdiag_next_envelope(
+    datagram: &[u8],
+    cursor: &mut Cursor,
+    message: &mut MessagePart,
+) -> u32
+    ensures { NextEnvelope datagram.now cursor.old cursor.new message.old message.new result }
+{
+    match take_message(datagram, cursor, message) {
+        Ok(()) => ITEM,
+        Err(answer) => answer,
+    }
+}
+
+// Tells the message at the cursor's place, and moves the cursor behind it. Where no message is
+// told, it answers what the walk does.
+#[inline(always)]
+fn take_message(datagram: &[u8], cursor: &mut Cursor, message: &mut MessagePart) -> Result<(), u32>
+    ensures told { OnOk result (IsFramed datagram.now cursor.old cursor.new message.new) }
+    ensures ended { IfErr result (λ answer.
+        EndsAt datagram.now cursor.old cursor.new message.old message.new answer
+        ⊎ FailsAt IsEnvelopeFault datagram.now cursor.old cursor.new message.old message.new
+        answer) }
+{
     let place = cursor.place;
     if place >= datagram.len() {
-        return END;
+        return Err(END);
     }
-    let left = &datagram[place..];
-    match NetlinkHeader::from_prefix(left) {
+    match NetlinkHeader::from_prefix(&datagram[place..]) {
         Ok(header) => {
             let end = header.length as usize;
             *message = MessagePart {
@@ -118,12 +155,28 @@ pub extern "C" fn sockdiag_next_message(
                 port_number: header.port_number,
             };
             cursor.place = place + padded(end);
-            check_payload(&left[NETLINK_HEADER_LEN..end], header.message_type)
+            Ok(())
         }
         Err(fault) => {
             cursor.place = datagram.len();
-            u32::from(fault.number())
+            Err(u32::from(fault.number()))
         }
+    }
+}
+
+/// Tells the number that the payload of `NLMSG_ERROR` or `NLMSG_DONE` begins with: 0, or an errno
+/// with a minus sign. The answer is 1, or 0 where the payload has fewer than four bytes, and then
+/// the number is left as it was.
+#[unsafe(no_mangle)]
+pub extern "C" fn sockdiag_get_error_number(payload: &[u8], number: &mut i32) -> u32
+    ensures { TellsItem (number_in_front payload.now) number.old number.new result }
+{
+    match error_number(payload) {
+        Some(told) => {
+            *number = told;
+            ITEM
+        }
+        None => END,
     }
 }
 

@@ -1,0 +1,42 @@
+-- Requests for internet sockets, as they are written.
+use Rattle.std.proofs.Common.{◌≡◌, ℕ, ◌+◌, ◌<◌, ◌≤◌, List, [], ◌∷◌, ◌++◌, length, ap, subst, arith}
+use Rattle.std.proofs.Common.{refl}
+use Rattle.std.proofs.lemmas.Bool.{lt-ltb, le-ltb}
+use Rattle.byteorder.specs.Endian.{little_bytes}
+use Rattle.netlink_core.specs.Format.{bytes}
+use Rattle.netlink_core.specs.Header.{header_bytes}
+use Rattle.sock_diag_records.specs.declared.inet.request.InetRequest as inet
+use Rattle.sock_diag_records.specs.InetRequest.{inet_request}
+use Rattle.sock_diag_records.specs.InetRequestLaws.{request_length}
+use Rattle.sockdiag_c.specs.declared.requests.InetRequest.{InetRequest}
+use Rattle.sockdiag_c.specs.Requests.{WritesWhole, header_of, inet_message, inet_request_of}
+use Rattle.sockdiag_c.specs.Requests.{protocol_attribute}
+
+-- a protocol of one byte is told by the record alone
+pub no_attribute : (p : ℕ) → p < 256 → [] ≡ protocol_attribute p
+no_attribute p low = rw (lt-ltb p 256 low) refl
+
+pub an_attribute : (p : ℕ) (word : List ℕ) → 256 ≤ p → word ≡ little_bytes 4 p
+    → 8 ∷ 0 ∷ 2 ∷ 0 ∷ word ≡ protocol_attribute p
+an_attribute p word high is = rw (le-ltb p 256 high, is) refl
+
+-- header, record and attribute are the message
+pub message_written : (t : ℕ) (r : InetRequest) (it : inet.InetRequest)
+    (attribute old new : List ℕ) (answer : ℕ)
+    → it ≡ inet_request_of r → attribute ≡ protocol_attribute r.protocol
+    → WritesWhole (16 + length (bytes inet_request it) + length attribute)
+    (header_bytes (header_of (16 + length (bytes inet_request it) + length attribute) t r.header)
+    ++ bytes inet_request it ++ attribute) old new answer
+    → WritesWhole (72 + length (protocol_attribute r.protocol)) (inet_message t r) old new answer
+message_written t r it attribute old new answer is told given =
+    let whole = λ (len : ℕ). header_bytes (header_of len t r.header) ++ bytes inet_request it
+    ++ attribute in
+    let size : 16 + length (bytes inet_request it) + length attribute
+    ≡ 72 + length (protocol_attribute r.protocol) =
+    omega (arith, request_length it, ap length told) in
+    let sized = subst (λ (len : ℕ). WritesWhole len (whole len) old new answer) size given in
+    let all : whole (72 + length (protocol_attribute r.protocol)) ≡ inet_message t r = λ i.
+    header_bytes (header_of (72 + length (protocol_attribute r.protocol)) t r.header)
+    ++ bytes inet_request (is i) ++ told i in
+    subst (λ (x : List ℕ). WritesWhole (72 + length (protocol_attribute r.protocol)) x old new
+    answer) all sized

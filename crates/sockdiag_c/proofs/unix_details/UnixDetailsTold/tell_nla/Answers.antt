@@ -1,0 +1,16 @@
+use Rattle.std.proofs.lemmas.Result.{err_from_is_err_and}
+use Rattle.sock_diag_attributes.specs.SeenUnix.{viewed_nla}
+use Rattle.sockdiag_c.proofs.Telling.{unix_more}
+use Rattle.sockdiag_c.proofs.unix_details.UnixDetailsTold.tell_nla.Goals as goal
+
+pub returns-clause-value : goal.returns-clause-value
+returns-clause-value c = (
+  viewed_nla c.in_ok-view.view,
+  c.in_ok-view.ensures,
+  λ from before told. unix_more _ _ _ before _ c.tell.ensures.numbers c.tell.ensures.name told,
+)
+
+pub returns-in_err-view-clause-fault : goal.returns-in_err-view-clause-fault
+returns-in_err-view-clause-fault c =
+    let p = err_from_is_err_and c.from_residual.result c.from_residual.ensures.1 in
+    rw (p.1, p.2) c.in_err-view.ensures

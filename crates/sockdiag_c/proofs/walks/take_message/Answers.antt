@@ -1,0 +1,21 @@
+use Rattle.std.proofs.Common.{◌≡◌, ℕ, ◌-◌, List, length, take, drop, refl, subst}
+use Rattle.std.proofs.lemmas.List.{take_rest}
+use Rattle.netlink_core.specs.Header.{HasHeader}
+use Rattle.sockdiag_c.proofs.Steps.{told_header_stands, message_passed}
+use Rattle.sockdiag_c.proofs.walks.take_message.Goals as goal
+
+pub returns-in-Ok-clause-told : goal.returns-in-Ok-clause-told
+returns-in-Ok-clause-told c =
+    let bytes = c.args.datagram.now in
+    let place = c.args.cursor.now.place in
+    let h = c.in-Ok.header in
+    let all : take (length bytes - place) (drop place bytes) ≡ drop place bytes =
+    take_rest bytes place in
+    let head : HasHeader (drop place bytes) h =
+    subst (λ (b : List ℕ). HasHeader b h) all c.in-Ok.ensures in (
+      take h.length (drop place bytes),
+      message_passed bytes place c.padded.result h head
+          c.padded.ensures,
+      told_header_stands (drop place bytes) place h head,
+      refl,
+    )

@@ -1,0 +1,69 @@
+//! What is told of a TCP connection.
+
+ghost use Rattle.std.specs.Prelude.{◌≡◌, List, [], drop, length, unwrap_or};
+ghost use Rattle.netlink_core.specs.Attribute.{Attribute, Cut};
+ghost use Rattle.netlink_packet_sock_diag.specs.UnixGetters.{first_of};
+ghost use Rattle.sockdiag_c.specs.TcpInfo.{filled, value_of};
+
+use netlink_core::NlasIterator;
+use netlink_packet_sock_diag::constants::INET_DIAG_INFO;
+
+/// How many bytes stand in front of the attributes of a reply about an IPv4 or IPv6 socket.
+const ATTRIBUTES: usize = 72;
+
+/// How many bytes of `struct tcp_info` are told: those of `struct sockdiag_tcp_info`.
+const LENGTH: usize = 232;
+
+/// Tells what is known of the TCP connection, the bytes of the first `INET_DIAG_INFO` behind the
+/// header of the payload, and zeros behind them. What has more bytes is cut. The answer is how many
+/// bytes the value has, 0 where there is none.
+///
+/// The values are not checked, so that a value is told too that is shorter than this kernel's.
+#[unsafe(no_mangle)]
+pub extern "C" fn sockdiag_inet_get_tcp_info(payload: &[u8], info: &mut [u8; 232]) -> usize
+    ensures { (attributes : List Attribute) → Cut (drop 72 payload.now) attributes
+        → let value = unwrap_or (first_of (value_of 2) attributes) [] in
+        (result ≡ length value) × (info.new ≡ filled 232 value) }
+{
+    let value = first_value(behind_header(payload), INET_DIAG_INFO);
+    fill(value, info);
+    value.len()
+}
+
+// What stands behind the header of a reply about an IPv4 or IPv6 socket.
+fn behind_header(payload: &[u8]) -> &[u8]
+    ensures { result.now ≡ drop 72 payload.entry.now }
+{
+    if payload.len() < ATTRIBUTES {
+        return &[];
+    }
+    &payload[ATTRIBUTES..]
+}
+
+// The first value of the kind, where the attributes are whole, or no bytes where there is none.
+fn first_value(bytes: &[u8], kind: u16) -> &[u8]
+    ensures { (attributes : List Attribute) → Cut bytes.entry.now attributes
+        → result.now ≡ unwrap_or (first_of (value_of kind) attributes) [] }
+{
+    for item in NlasIterator::new(bytes) {
+        match item {
+            Ok(nla) => {
+                if nla.kind() == kind {
+                    return nla.value();
+                }
+            }
+            Err(_) => return &[],
+        }
+    }
+    &[]
+}
+
+// The bytes of the value, and zeros behind them.
+fn fill(value: &[u8], info: &mut [u8; 232])
+    ensures { info.new ≡ filled 232 value.now }
+{
+    let told = value.len().min(LENGTH);
+    let (front, behind) = info.split_at_mut(told);
+    front.copy_from_slice(&value[..told]);
+    behind.fill(0);
+}
