@@ -1,7 +1,7 @@
 #!/bin/sh
-# Builds the static library of include/sockdiag.h, and calls it from C: tests/c_face.c checks each call by value, and
-# examples/list_sockets.c lists this machine's sockets where the kernel lets it ask. It needs the kit's rt and a C
-# compiler. tools/release runs it, and tests/c_header.py, of the gate, where the library takes seconds to build.
+# Builds the static library of include/sockdiag.h, and calls it from C: tests/c_face.c checks each call by value. Then it is
+# installed, and examples/list_sockets.c lists this machine's sockets where the kernel lets it ask. It needs the kit's rt
+# and a C compiler. tools/release runs it, and tests/c_header.py, of the gate, where the library takes seconds to build.
 set -eu
 top=$(CDPATH='' cd -- "$(dirname -- "$0")/.." && pwd)
 work=$(mktemp -d)
@@ -25,8 +25,15 @@ build() {
 build c_face "$top/tests/c_face.c"
 "$work/c_face"
 
-build list_sockets "$top/examples/list_sockets.c"
-if "$work/list_sockets" >"$work/sockets" 2>"$work/told"; then
+# As a program's author does it: installed, and built by pkg-config over the shared library, or here over the archive.
+"$top/tools/install" "$work/prefix" >/dev/null
+if command -v pkg-config >/dev/null; then
+    cp "$top/examples/Makefile" "$top/examples/list_sockets.c" "$work"
+    PKG_CONFIG_PATH="$work/prefix/lib/pkgconfig" make -s -C "$work" list_sockets
+else
+    build list_sockets "$top/examples/list_sockets.c"
+fi
+if LD_LIBRARY_PATH="$work/prefix/lib" "$work/list_sockets" >"$work/sockets" 2>"$work/told"; then
     echo "list_sockets: $(wc -l <"$work/sockets") sockets, the first of them:"
     head -n 5 "$work/sockets"
 else
