@@ -267,7 +267,7 @@ static void writes_inet_request(void) {
         {0xfe, 0x80, 0, 0, 0, 0, 0, 0, 0, 0, 0, 0, 0, 0, 0, 1}, {0, 0, 0, 0, 0, 0, 0, 0, 0, 0, 0, 0, 0, 0, 0, 2},
         3, {8, 7, 6, 5, 4, 3, 2, 1},
     };
-    static const uint8_t attribute[8] = {8, 0, 2, 0, 6, 1, 0, 0};
+    static const uint8_t attribute[8] = {8, 0, 3, 0, 6, 1, 0, 0};
     uint8_t buffer[80];
     check(sockdiag_write_inet_request(&request, buffer, 71) == 0, "a short buffer for an internet request");
     check(sockdiag_write_inet_request(&request, buffer, 72) == 72, "an internet request");

@@ -17,7 +17,7 @@ pub no_attribute : (p : ℕ) → p < 256 → [] ≡ protocol_attribute p
 no_attribute p low = rw (lt-ltb p 256 low) refl
 
 pub an_attribute : (p : ℕ) (word : List ℕ) → 256 ≤ p → word ≡ little_bytes 4 p
-    → 8 ∷ 0 ∷ 2 ∷ 0 ∷ word ≡ protocol_attribute p
+    → 8 ∷ 0 ∷ 3 ∷ 0 ∷ word ≡ protocol_attribute p
 an_attribute p word high is = rw (le-ltb p 256 high, is) refl
 
 -- header, record and attribute are the message

@@ -60,10 +60,10 @@ inet_request_of r = record {
   };
 }
 
--- a protocol above 255 is told by the attribute of kind 2, INET_DIAG_REQ_PROTOCOL
+-- a protocol above 255 is told by the attribute of kind 3, INET_DIAG_REQ_PROTOCOL
 abbrev pub protocol_attribute : ℕ → List ℕ
 protocol_attribute p =
-    if nat_lt p 256 then [] else written record { type_word = 2; value = little_bytes 4 p }
+    if nat_lt p 256 then [] else written record { type_word = 3; value = little_bytes 4 p }
 
 -- the messages under a type: SOCK_DIAG_BY_FAMILY is 20, and SOCK_DESTROY 21
 abbrev pub unix_message : ℕ → UnixRequest → List ℕ

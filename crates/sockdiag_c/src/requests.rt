@@ -78,7 +78,7 @@ pub struct InetRequest {
 }
 
 /// The kind of the attribute of a request that tells the protocol, `INET_DIAG_REQ_PROTOCOL`.
-const PROTOCOL: u8 = 2;
+const PROTOCOL: u8 = 3;
 
 /// Writes a request for UNIX sockets, a netlink message of 40 bytes, at the front of the buffer. It
 /// answers 40, or 0 where the buffer is shorter, and then nothing is written.
