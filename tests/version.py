@@ -1,5 +1,5 @@
 #!/usr/bin/env python3
-"""Fails, with status 1, where CHANGELOG.md or the C header tells another version than VERSION."""
+"""Fails, with status 1, where CHANGELOG.md, the C header or the Rust crate tells another version than VERSION."""
 import os
 import re
 import sys
@@ -9,6 +9,7 @@ TOP = os.path.dirname(os.path.dirname(os.path.realpath(__file__)))
 TOLD = {
     "CHANGELOG.md": r"(?m)^## \[?([^\]\s]+)",
     "include/sockdiag.h": r'(?m)^#define SOCKDIAG_VERSION "([^"]*)"$',
+    "rust/sockdiag/Cargo.toml": r'(?m)^version = "([^"]*)"$',
 }
 
 

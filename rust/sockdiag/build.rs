@@ -1,0 +1,24 @@
+//! Links the library for C: `libsockdiag.a` of the folder that `SOCKDIAG_LIB_DIR` names, where
+//! `tools/install` puts it, or else what `rt lib` builds in `crates/sockdiag_c` of the sources.
+
+use std::env;
+use std::path::PathBuf;
+
+fn main() {
+    println!("cargo:rerun-if-env-changed=SOCKDIAG_LIB_DIR");
+    let sources = PathBuf::from(env::var_os("CARGO_MANIFEST_DIR").expect("cargo sets it"));
+    let (folder, name) = match env::var_os("SOCKDIAG_LIB_DIR") {
+        Some(folder) => (PathBuf::from(folder), "sockdiag"),
+        None => (sources.join("../../crates/sockdiag_c/out"), "sockdiag_c"),
+    };
+    let file = folder.join(format!("lib{name}.a"));
+    if !file.exists() {
+        panic!(
+            "no {}: set SOCKDIAG_LIB_DIR, or run `rt lib` in crates/sockdiag_c",
+            file.display()
+        );
+    }
+    println!("cargo:rerun-if-changed={}", file.display());
+    println!("cargo:rustc-link-search=native={}", folder.display());
+    println!("cargo:rustc-link-lib=static={name}");
+}

@@ -1,0 +1,67 @@
+//! The attributes of a reply.
+
+use crate::sys;
+use crate::DecodeError;
+
+/// An attribute, by its kind and its bytes: `struct nlattr` of the kernel.
+#[derive(Clone, Copy, Debug, PartialEq, Eq)]
+pub struct Attribute<'a> {
+    /// The type word: the kind, such as `UNIX_DIAG_NAME`, under two flag bits.
+    pub type_word: u16,
+    /// The value, without padding.
+    pub value: &'a [u8],
+}
+
+impl Attribute<'_> {
+    /// The kind: the type word without its two flag bits.
+    pub fn kind(&self) -> u16 {
+        self.type_word & 0x3fff
+    }
+}
+
+/// A walk over attributes that stand one after the other, in the order that they came.
+///
+/// Of a reply that is read there is no fault. Behind a fault nothing is given.
+///
+/// ```
+/// let bytes = [8, 0, 2, 0, 0x4e, 0, 0, 0, 5, 0, 6, 0, 3];
+/// let kinds: Vec<u16> = sockdiag::Attributes::new(&bytes)
+///     .map(|attribute| attribute.map(|it| it.kind()))
+///     .collect::<Result<_, _>>()?;
+/// assert_eq!(kinds, [2, 6]);
+/// # Ok::<(), sockdiag::DecodeError>(())
+/// ```
+#[derive(Clone, Debug)]
+pub struct Attributes<'a> {
+    bytes: &'a [u8],
+    place: usize,
+}
+
+impl<'a> Attributes<'a> {
+    /// The walk over these bytes.
+    pub fn new(bytes: &'a [u8]) -> Self {
+        Attributes::behind(bytes, 0)
+    }
+
+    /// The walk behind a header of so many bytes.
+    pub(crate) fn behind(bytes: &'a [u8], place: usize) -> Self {
+        Attributes { bytes, place }
+    }
+}
+
+impl<'a> Iterator for Attributes<'a> {
+    type Item = Result<Attribute<'a>, DecodeError>;
+
+    fn next(&mut self) -> Option<Self::Item> {
+        match sys::next_attribute(self.bytes, &mut self.place) {
+            Ok(part) => Some(Ok(Attribute {
+                type_word: part.type_word,
+                value: self.bytes.get(part.offset..part.offset + part.length)?,
+            })),
+            Err(0) => None,
+            Err(fault) => Some(Err(DecodeError::from_number(fault))),
+        }
+    }
+}
+
+impl core::iter::FusedIterator for Attributes<'_> {}

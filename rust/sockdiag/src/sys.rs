@@ -1,0 +1,400 @@
+//! The calls of `sockdiag.h`.
+//!
+//! Each function here is safe: it makes one call, and says why what `sockdiag.h` asks of a caller
+//! holds. That is: a pointer to bytes points to as many as the length beside it says, a pointer to
+//! a struct points to one whose fields are all set, and what a call writes overlaps nothing else
+//! that it is given. A contract is that of the function of the same name in `crates/sockdiag_c`.
+
+use core::mem::{offset_of, size_of};
+
+#[repr(C)]
+#[derive(Clone, Copy, Default)]
+pub(crate) struct UnixHeader {
+    pub(crate) kind: u8,
+    pub(crate) state: u8,
+    pub(crate) inode: u32,
+    pub(crate) cookie: [u8; 8],
+}
+
+#[repr(C)]
+#[derive(Clone, Copy, Default)]
+pub(crate) struct InetHeader {
+    pub(crate) family: u8,
+    pub(crate) state: u8,
+    pub(crate) timer: u8,
+    pub(crate) retransmits: u8,
+    pub(crate) expires: u32,
+    pub(crate) source_port: u16,
+    pub(crate) destination_port: u16,
+    pub(crate) source_address: [u8; 16],
+    pub(crate) destination_address: [u8; 16],
+    pub(crate) interface_id: u32,
+    pub(crate) cookie: [u8; 8],
+    pub(crate) recv_queue: u32,
+    pub(crate) send_queue: u32,
+    pub(crate) uid: u32,
+    pub(crate) inode: u32,
+}
+
+#[repr(C)]
+#[derive(Clone, Copy, Debug, Default, PartialEq, Eq)]
+pub(crate) struct Number {
+    is_told: u32,
+    value: u32,
+}
+
+impl Number {
+    /// The number, where one is told.
+    pub(crate) fn get(self) -> Option<u32> {
+        (self.is_told != 0).then_some(self.value)
+    }
+}
+
+#[repr(C)]
+#[derive(Clone, Copy)]
+struct Text {
+    kind: u32,
+    bytes: *const u8,
+    length: usize,
+}
+
+const NO_TEXT: Text = Text {
+    kind: 0,
+    bytes: core::ptr::null(),
+    length: 0,
+};
+
+/// The numbers of `struct sockdiag_unix_details`, which stand at its end.
+#[repr(C)]
+#[derive(Clone, Copy, Debug, Default, PartialEq, Eq)]
+pub(crate) struct UnixNumbers {
+    pub(crate) file_inode: Number,
+    pub(crate) file_device: Number,
+    pub(crate) peer: Number,
+    pub(crate) recv_queue: Number,
+    pub(crate) send_queue: Number,
+    pub(crate) receive_buffer: Number,
+    pub(crate) send_buffer: Number,
+    pub(crate) queued: Number,
+    pub(crate) shutdown: Number,
+}
+
+#[repr(C)]
+struct UnixDetails {
+    header: UnixHeader,
+    name: Text,
+    numbers: UnixNumbers,
+}
+
+/// The numbers of `struct sockdiag_inet_details`, which stand at its end.
+#[repr(C)]
+#[derive(Clone, Copy, Debug, Default, PartialEq, Eq)]
+pub(crate) struct InetNumbers {
+    pub(crate) tos: Number,
+    pub(crate) tclass: Number,
+    pub(crate) shutdown: Number,
+    pub(crate) protocol: Number,
+    pub(crate) v6only: Number,
+    pub(crate) mark: Number,
+    pub(crate) class_id: Number,
+}
+
+#[repr(C)]
+struct InetDetails {
+    header: InetHeader,
+    congestion: Text,
+    numbers: InetNumbers,
+}
+
+#[repr(C)]
+#[derive(Clone, Copy, Default)]
+pub(crate) struct Message {
+    pub(crate) offset: usize,
+    pub(crate) length: usize,
+    pub(crate) message_type: u16,
+    pub(crate) flags: u16,
+    pub(crate) sequence_number: u32,
+    pub(crate) port_number: u32,
+}
+
+#[repr(C)]
+#[derive(Clone, Copy, Default)]
+pub(crate) struct AttributePart {
+    pub(crate) offset: usize,
+    pub(crate) length: usize,
+    pub(crate) type_word: u16,
+}
+
+#[repr(C)]
+pub(crate) struct RequestHeader {
+    pub(crate) flags: u16,
+    pub(crate) sequence_number: u32,
+    pub(crate) port_number: u32,
+}
+
+#[repr(C)]
+pub(crate) struct UnixRequest {
+    pub(crate) header: RequestHeader,
+    pub(crate) states: u32,
+    pub(crate) inode: u32,
+    pub(crate) show: u32,
+    pub(crate) cookie: [u8; 8],
+}
+
+#[repr(C)]
+pub(crate) struct InetRequest {
+    pub(crate) header: RequestHeader,
+    pub(crate) family: u8,
+    pub(crate) extensions: u8,
+    pub(crate) protocol: u32,
+    pub(crate) states: u32,
+    pub(crate) source_port: u16,
+    pub(crate) destination_port: u16,
+    pub(crate) source_address: [u8; 16],
+    pub(crate) destination_address: [u8; 16],
+    pub(crate) interface_id: u32,
+    pub(crate) cookie: [u8; 8],
+}
+
+// The sizes that `crates/sockdiag_c/src/layout.rt` proves.
+const _: () = assert!(size_of::<UnixHeader>() == 16 && size_of::<InetHeader>() == 72);
+const _: () = assert!(size_of::<Number>() == 8 && size_of::<Text>() == 24);
+const _: () = assert!(size_of::<UnixDetails>() == 112 && offset_of!(UnixDetails, numbers) == 40);
+const _: () = assert!(size_of::<InetDetails>() == 152 && offset_of!(InetDetails, numbers) == 96);
+const _: () = assert!(size_of::<Message>() == 32 && size_of::<AttributePart>() == 24);
+const _: () = assert!(size_of::<RequestHeader>() == 12 && size_of::<UnixRequest>() == 32);
+const _: () = assert!(size_of::<InetRequest>() == 72);
+const _: () = assert!(size_of::<crate::inet::TcpInfo>() == 232);
+
+extern "C" {
+    fn sockdiag_unix_get_details(
+        payload: *const u8,
+        length: usize,
+        details: *mut UnixDetails,
+    ) -> u32;
+    fn sockdiag_inet_get_details(
+        payload: *const u8,
+        length: usize,
+        details: *mut InetDetails,
+    ) -> u32;
+    fn sockdiag_unix_get_pending(
+        payload: *const u8,
+        length: usize,
+        index: usize,
+        inode: *mut u32,
+    ) -> u32;
+    fn sockdiag_inet_get_tcp_info(
+        payload: *const u8,
+        length: usize,
+        info: *mut crate::inet::TcpInfo,
+    ) -> usize;
+    fn sockdiag_next_attribute(
+        bytes: *const u8,
+        length: usize,
+        cursor: *mut usize,
+        attribute: *mut AttributePart,
+    ) -> u32;
+    fn sockdiag_next_envelope(
+        datagram: *const u8,
+        length: usize,
+        cursor: *mut usize,
+        message: *mut Message,
+    ) -> u32;
+    fn sockdiag_get_error_number(payload: *const u8, length: usize, number: *mut i32) -> u32;
+    fn sockdiag_write_unix_request(
+        request: *const UnixRequest,
+        buffer: *mut u8,
+        length: usize,
+    ) -> usize;
+    fn sockdiag_write_unix_destroy(
+        request: *const UnixRequest,
+        buffer: *mut u8,
+        length: usize,
+    ) -> usize;
+    fn sockdiag_write_inet_request(
+        request: *const InetRequest,
+        buffer: *mut u8,
+        length: usize,
+    ) -> usize;
+    fn sockdiag_write_inet_destroy(
+        request: *const InetRequest,
+        buffer: *mut u8,
+        length: usize,
+    ) -> usize;
+    fn sockdiag_rewrite_unix_reply(
+        payload: *const u8,
+        length: usize,
+        buffer: *mut u8,
+        buffer_length: usize,
+        outcome: *mut Outcome,
+    ) -> usize;
+    fn sockdiag_rewrite_inet_reply(
+        payload: *const u8,
+        length: usize,
+        buffer: *mut u8,
+        buffer_length: usize,
+        outcome: *mut Outcome,
+    ) -> usize;
+}
+
+#[repr(C)]
+#[derive(Clone, Copy, Default)]
+pub(crate) struct Outcome {
+    pub(crate) fault: u32,
+    pub(crate) needed: usize,
+}
+
+/// The text in the bytes that a details call was given, with its kind, where one is told.
+///
+/// # Safety
+///
+/// A details call that answered 0 told the text, of bytes that are borrowed for `'a`.
+unsafe fn lent<'a>(text: Text) -> Option<(u32, &'a [u8])> {
+    if text.kind == 0 {
+        return None;
+    }
+    // SAFETY: by the type of `Text<'a>` in the contract the bytes are a part of the payload, which
+    // the caller borrows for 'a, and there are as many as `length`.
+    Some((text.kind, unsafe {
+        core::slice::from_raw_parts(text.bytes, text.length)
+    }))
+}
+
+/// The header, the text with its kind, and the numbers of a reply, or the fault.
+type Told<'a, H, N> = Result<(H, Option<(u32, &'a [u8])>, N), u32>;
+
+/// What a reply about a UNIX socket tells: the text is its name.
+pub(crate) fn unix_details(payload: &[u8]) -> Told<'_, UnixHeader, UnixNumbers> {
+    let mut details = UnixDetails {
+        header: UnixHeader::default(),
+        name: NO_TEXT,
+        numbers: UnixNumbers::default(),
+    };
+    // SAFETY: the slice has its length, the struct is a whole local; the contract
+    // `sockdiag_unix_get_details` asks nothing else, and writes the struct alone.
+    let fault = unsafe { sockdiag_unix_get_details(payload.as_ptr(), payload.len(), &mut details) };
+    if fault != 0 {
+        return Err(fault);
+    }
+    // SAFETY: `sockdiag_unix_get_details` answered 0 over `payload`.
+    let name = unsafe { lent(details.name) };
+    Ok((details.header, name, details.numbers))
+}
+
+/// What a reply about an internet socket tells: the text is the algorithm of congestion control.
+pub(crate) fn inet_details(payload: &[u8]) -> Told<'_, InetHeader, InetNumbers> {
+    let mut details = InetDetails {
+        header: InetHeader::default(),
+        congestion: NO_TEXT,
+        numbers: InetNumbers::default(),
+    };
+    // SAFETY: the slice has its length, the struct is a whole local; the contract
+    // `sockdiag_inet_get_details` asks nothing else, and writes the struct alone.
+    let fault = unsafe { sockdiag_inet_get_details(payload.as_ptr(), payload.len(), &mut details) };
+    if fault != 0 {
+        return Err(fault);
+    }
+    // SAFETY: `sockdiag_inet_get_details` answered 0 over `payload`.
+    let congestion = unsafe { lent(details.congestion) };
+    Ok((details.header, congestion, details.numbers))
+}
+
+/// The inode at that index among the connections that wait.
+pub(crate) fn pending(payload: &[u8], index: usize) -> Option<u32> {
+    let mut inode = 0;
+    // SAFETY: the slice has its length, the number is a local; the contract
+    // `sockdiag_unix_get_pending` asks nothing else, for any index.
+    let answer =
+        unsafe { sockdiag_unix_get_pending(payload.as_ptr(), payload.len(), index, &mut inode) };
+    (answer == 1).then_some(inode)
+}
+
+/// Fills the struct, and answers how many bytes are told.
+pub(crate) fn tcp_info(payload: &[u8], info: &mut crate::inet::TcpInfo) -> usize {
+    // SAFETY: the slice has its length, the struct has the 232 bytes that the contract
+    // `sockdiag_inet_get_tcp_info` writes, and any bytes are numbers of it.
+    unsafe { sockdiag_inet_get_tcp_info(payload.as_ptr(), payload.len(), info) }
+}
+
+/// One step of the walk over attributes: what is told, or the answer.
+pub(crate) fn next_attribute(bytes: &[u8], place: &mut usize) -> Result<AttributePart, u32> {
+    let mut attribute = AttributePart::default();
+    // SAFETY: the slice has its length, place and struct are locals of their own; the contract
+    // `sockdiag_next_attribute` takes any place.
+    let answer =
+        unsafe { sockdiag_next_attribute(bytes.as_ptr(), bytes.len(), place, &mut attribute) };
+    if answer == 1 {
+        Ok(attribute)
+    } else {
+        Err(answer)
+    }
+}
+
+/// One step of the walk over messages: what is told, or the answer.
+pub(crate) fn next_envelope(datagram: &[u8], place: &mut usize) -> Result<Message, u32> {
+    let mut message = Message::default();
+    // SAFETY: the slice has its length, place and struct are locals of their own; the contract
+    // `sockdiag_next_envelope` takes any place.
+    let answer =
+        unsafe { sockdiag_next_envelope(datagram.as_ptr(), datagram.len(), place, &mut message) };
+    if answer == 1 {
+        Ok(message)
+    } else {
+        Err(answer)
+    }
+}
+
+/// The number that an error or an end begins with.
+pub(crate) fn error_number(payload: &[u8]) -> Option<i32> {
+    let mut number = 0;
+    // SAFETY: the slice has its length, the number is a local; the contract
+    // `sockdiag_get_error_number` asks nothing else.
+    let answer = unsafe { sockdiag_get_error_number(payload.as_ptr(), payload.len(), &mut number) };
+    (answer == 1).then_some(number)
+}
+
+/// Writes a request for UNIX sockets, or to close one, and answers how many bytes it has.
+pub(crate) fn write_unix(request: &UnixRequest, destroy: bool, buffer: &mut [u8]) -> usize {
+    let call = if destroy {
+        sockdiag_write_unix_destroy
+    } else {
+        sockdiag_write_unix_request
+    };
+    // SAFETY: the buffer has its length and is borrowed alone; the contracts
+    // `sockdiag_write_unix_request` and `sockdiag_write_unix_destroy` ask nothing else.
+    unsafe { call(request, buffer.as_mut_ptr(), buffer.len()) }
+}
+
+/// The same of internet sockets.
+pub(crate) fn write_inet(request: &InetRequest, destroy: bool, buffer: &mut [u8]) -> usize {
+    let call = if destroy {
+        sockdiag_write_inet_destroy
+    } else {
+        sockdiag_write_inet_request
+    };
+    // SAFETY: the buffer has its length and is borrowed alone; the contracts
+    // `sockdiag_write_inet_request` and `sockdiag_write_inet_destroy` ask nothing else.
+    unsafe { call(request, buffer.as_mut_ptr(), buffer.len()) }
+}
+
+/// Writes the canonical form of a reply, and answers how many bytes were written.
+pub(crate) fn rewrite(payload: &[u8], is_unix: bool, buffer: &mut [u8]) -> (usize, Outcome) {
+    let mut outcome = Outcome::default();
+    let call = if is_unix {
+        sockdiag_rewrite_unix_reply
+    } else {
+        sockdiag_rewrite_inet_reply
+    };
+    // SAFETY: both slices have their lengths, and the buffer is borrowed alone; the contracts
+    // `sockdiag_rewrite_unix_reply` and `sockdiag_rewrite_inet_reply` ask nothing else.
+    let written = unsafe {
+        call(
+            payload.as_ptr(),
+            payload.len(),
+            buffer.as_mut_ptr(),
+            buffer.len(),
+            &mut outcome,
+        )
+    };
+    (written, outcome)
+}
