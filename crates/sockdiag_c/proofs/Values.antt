@@ -1,16 +1,17 @@
 -- The first value of a kind among the attributes that bytes are cut into.
 use Rattle.std.proofs.Common.{◌≡◌, ◌≢◌, ◌∙◌, ℕ, List, [], ◌∷◌, refl, sym, ap, subst, unwrap_or}
-use Rattle.std.proofs.Common.{Option, rules}
+use Rattle.std.proofs.Common.{Option, rules, append_assoc}
 use Rattle.std.proofs.Common.{◌+◌, ◌-◌, ◌++◌, length, take, replicate, min, inl, inr, arith}
 use Rattle.std.proofs.lemmas.Bool.{cases_lt, ne_eqb}
 use Rattle.std.proofs.lemmas.List.{take_all}
-use Rattle.netlink_core.specs.Attribute.{Attribute, Cut, IsFramingFault, StartsWith, kind_of}
+use Rattle.netlink_core.specs.Attribute.{Attribute, CutInFull, IsFramingFault, StartsWith, kind_of}
+use Rattle.netlink_core.specs.Attribute.{unpadded}
 use Rattle.netlink_core.specs.declared.fault.DecodeError.{DecodeError}
 use Rattle.netlink_core.specs.FrontLaws.{head_or_fault_apart}
 use Rattle.netlink_core.proofs.Cutting.{one_start}
 use Rattle.netlink_core.proofs.Walking.{StartsWith-some, head_of_start}
 use Rattle.netlink_packet_sock_diag.specs.UnixGetters.{first_of}
-use Rattle.sockdiag_c.specs.TcpInfo.{filled, value_of}
+use Rattle.sockdiag_c.specs.TcpInfo.{StandIn, filled, value_of}
 
 -- the bytes of a value that there is room for, and zeros behind them
 pub filled_is : (n : ℕ) (value : List ℕ) (told left : ℕ) → told ≡ min (length value) n
@@ -24,73 +25,110 @@ filled_is n value told left is all =
     ] in
     λ i. front i ++ replicate (zeros i) 0
 
+-- ---- the attributes that stand in bytes
+
+-- the first of the attributes in front of a fault begins all the bytes
+front_start : (before left : List ℕ) (a : Attribute) (more : List Attribute)
+    (h : CutInFull before (a ∷ more)) → StartsWith (before ++ left) a (h.1 ++ left)
+front_start before left a more h = record {
+  padding = h.0;
+  parts = ap (λ (b : List ℕ). b ++ left) h.2 ∙ append_assoc (unpadded a) (h.0 ++ h.1) left
+      ∙ ap (λ (t : List ℕ). unpadded a ++ t) (append_assoc h.0 h.1 left);
+  fits = h.3;
+  filled = inl h.4;
+}
+
+-- the first begins the bytes, and the others stand behind it
+first_stands : (bytes : List ℕ) (a : Attribute) (more : List Attribute) → StandIn bytes (a ∷ more)
+    → (rest : List ℕ) × StartsWith bytes a rest × StandIn rest more
+first_stands bytes a more (inl cut) = (cut.0, cut.1, inl cut.2)
+first_stands bytes a more (inr (e, off)) =
+    let start = front_start off.0 off.1 a more off.3 in (
+      off.3.1 ++ off.1,
+      subst (λ (b : List ℕ). StartsWith b a (off.3.1 ++ off.1)) (sym off.2) start,
+      inr (e, (off.3.1, off.1, refl, off.3.5, off.4, off.5)),
+    )
+
+-- where an attribute begins the bytes, it is the first of them
+stands_first : (bytes rest : List ℕ) (a : Attribute) → StartsWith bytes a rest
+    → (attributes : List Attribute) → StandIn bytes attributes
+    → (more : List Attribute) × (attributes ≡ a ∷ more) × StandIn rest more
+stands_first bytes rest a start [] (inl none) = absurd (StartsWith-some bytes rest a start none)
+stands_first bytes rest a start [] (inr (e, off)) =
+    let whole : bytes ≡ off.1 = off.2 ∙ ap (λ (b : List ℕ). b ++ off.1) off.3 in
+    absurd (head_or_fault_apart bytes a e (head_of_start bytes rest a start)
+    (subst (λ (b : List ℕ). IsFramingFault b e) (sym whole) off.5))
+stands_first bytes rest a start (b ∷ more) stand =
+    let first = first_stands bytes b more stand in
+    let same = one_start bytes first.0 rest b a first.1 start in
+    (more, λ i. same.0 i ∷ more, subst (λ (t : List ℕ). StandIn t more) same.1 first.2)
+
+-- ---- the walk
+
 -- what is found among all attributes is what is found among those that are left
 pub record FoundBehind (k : ℕ) (bytes rest : List ℕ) : Type 0 where
-  pub behind : (attributes : List Attribute) → Cut bytes attributes → (later : List Attribute)
-      × Cut rest later × (first_of (value_of k) attributes ≡ first_of (value_of k) later)
+  pub behind : (attributes : List Attribute) → StandIn bytes attributes → (later : List Attribute)
+      × StandIn rest later × (first_of (value_of k) attributes ≡ first_of (value_of k) later)
 
 pub found_begins : (k : ℕ) (bytes : List ℕ) → FoundBehind k bytes bytes
-found_begins k bytes = record { behind = λ attributes cut. (attributes, cut, refl) }
+found_begins k bytes = record { behind = λ attributes stand. (attributes, stand, refl) }
 
-module _ (k : ℕ) (rest after : List ℕ) (a : Attribute) (start : StartsWith rest a after) where
-  passed : kind_of a ≢ k → (later : List Attribute) → Cut rest later → (more : List Attribute)
-      × Cut after more × (first_of (value_of k) later ≡ first_of (value_of k) more)
-  passed other [] none = absurd (StartsWith-some rest after a start none)
-  passed other (b ∷ more) cut =
-      let same = one_start rest cut.0 after b a cut.1 start in
-      let not : kind_of b ≢ k = λ is. other (sym (ap kind_of same.0) ∙ is) in (
-        more,
-        subst (λ (t : List ℕ). Cut t more) same.1 cut.2,
-        rw (ne_eqb (kind_of b) k not) refl,
-      )
+skipped : (k : ℕ) (a : Attribute) (more : List Attribute) → kind_of a ≢ k
+    → first_of (value_of k) (a ∷ more) ≡ first_of (value_of k) more
+skipped k a more other = rw (ne_eqb (kind_of a) k other) refl
 
-  here : kind_of a ≡ k → (later : List Attribute) → Cut rest later
-      → a.value ≡ unwrap_or (first_of (value_of k) later) []
-  here is [] none = absurd (StartsWith-some rest after a start none)
-  here is (b ∷ more) cut =
-      let same = one_start rest cut.0 after b a cut.1 start in
-      rw (same.0, is) search rules
+-- an attribute of another kind is passed
+pub found_goes_on : (k : ℕ) (bytes rest after : List ℕ) (a : Attribute) → StartsWith rest a after
+    → FoundBehind k bytes rest → kind_of a ≢ k → FoundBehind k bytes after
+found_goes_on k bytes rest after a start found other = record {
+  behind = λ attributes stand.
+      let f = found.behind attributes stand in
+      let first = stands_first rest after a start f.0 f.1 in (
+        first.0,
+        first.2,
+        f.2 ∙ ap (first_of (value_of k)) first.1 ∙ skipped k a first.0 other,
+      );
+}
 
-  -- an attribute of another kind is passed
-  pub found_goes_on : (bytes : List ℕ) → FoundBehind k bytes rest → kind_of a ≢ k
-      → FoundBehind k bytes after
-  found_goes_on bytes found other = record {
-    behind = λ attributes cut.
-        let f = found.behind attributes cut in
-        let p = passed other f.0 f.1 in
-        (p.0, p.1, f.2 ∙ p.2);
-  }
+-- what was found is the value, or there is none
+abbrev value_in : ℕ → List Attribute → List ℕ
+value_in k attributes = unwrap_or (first_of (value_of k) attributes) []
 
-  -- one of the kind is found
-  pub found_here : (bytes : List ℕ) → FoundBehind k bytes rest → kind_of a ≡ k
-      → (attributes : List Attribute) → Cut bytes attributes
-      → a.value ≡ unwrap_or (first_of (value_of k) attributes) []
-  found_here bytes found is attributes cut =
-      let f = found.behind attributes cut in
-      here is f.0 f.1 ∙ sym (ap (λ (o : Option (List ℕ)). unwrap_or o []) f.2)
+-- one of the kind is found
+first_value_is : (k : ℕ) (a : Attribute) (more : List Attribute) → kind_of a ≡ k
+    → a.value ≡ value_in k (a ∷ more)
+first_value_is k a more is = rw is (search rules)
 
--- where nothing is left nothing is found
-nothing : (k : ℕ) (rest : List ℕ) (later : List Attribute) → rest ≡ [] → Cut rest later
-    → unwrap_or (first_of (value_of k) later) [] ≡ []
-nothing k rest [] none cut = refl
-nothing k rest (b ∷ more) none cut = absurd (StartsWith-some rest cut.0 b cut.1 none)
+pub found_here : (k : ℕ) (bytes rest after : List ℕ) (a : Attribute) → StartsWith rest a after
+    → FoundBehind k bytes rest → kind_of a ≡ k
+    → (attributes : List Attribute) → StandIn bytes attributes → a.value ≡ value_in k attributes
+found_here k bytes rest after a start found is attributes stand =
+    let f = found.behind attributes stand in
+    let first = stands_first rest after a start f.0 f.1 in
+    first_value_is k a first.0 is ∙ ap (value_in k) (sym first.1)
+    ∙ ap (λ (o : Option (List ℕ)). unwrap_or o []) (sym f.2)
+
+-- where no attribute begins what is left, none is found
+found_none : (k : ℕ) (bytes rest : List ℕ) → FoundBehind k bytes rest
+    → ((a : Attribute) (after : List ℕ) → StartsWith rest a after → ⊥)
+    → (attributes : List Attribute) → StandIn bytes attributes → [] ≡ value_in k attributes
+found_none k bytes rest found alone attributes stand =
+    let f = found.behind attributes stand in
+    none f.0 f.1 ∙ ap (λ (o : Option (List ℕ)). unwrap_or o []) (sym f.2)
+  where
+    none : (later : List Attribute) → StandIn rest later → [] ≡ value_in k later
+    none [] left = refl
+    none (a ∷ more) left =
+        let first = first_stands rest a more left in
+        absurd (alone a first.0 first.1)
 
 pub found_nowhere : (k : ℕ) (bytes rest : List ℕ) → FoundBehind k bytes rest → rest ≡ []
-    → (attributes : List Attribute) → Cut bytes attributes
-    → [] ≡ unwrap_or (first_of (value_of k) attributes) []
-found_nowhere k bytes rest found none attributes cut =
-    let f = found.behind attributes cut in
-    sym (ap (λ (o : Option (List ℕ)). unwrap_or o []) f.2 ∙ nothing k rest f.0 none f.1)
-
--- whole attributes have no fault
-whole : (rest : List ℕ) (later : List Attribute) (e : DecodeError) → Cut rest later → rest ≢ []
-    → IsFramingFault rest e → ⊥
-whole rest [] e none some fault = some none
-whole rest (b ∷ more) e cut some fault =
-    head_or_fault_apart rest b e (head_of_start rest cut.0 b cut.1) fault
+    → (attributes : List Attribute) → StandIn bytes attributes → [] ≡ value_in k attributes
+found_nowhere k bytes rest found none =
+    found_none k bytes rest found (λ a after start. StartsWith-some rest after a start none)
 
 pub found_fault : (k : ℕ) (bytes rest : List ℕ) (e : DecodeError) → FoundBehind k bytes rest
-    → rest ≢ [] → IsFramingFault rest e → (attributes : List Attribute) → Cut bytes attributes → ⊥
-found_fault k bytes rest e found some fault attributes cut =
-    let f = found.behind attributes cut in
-    whole rest f.0 e f.1 some fault
+    → IsFramingFault rest e
+    → (attributes : List Attribute) → StandIn bytes attributes → [] ≡ value_in k attributes
+found_fault k bytes rest e found fault = found_none k bytes rest found (λ a after start.
+    head_or_fault_apart rest a e (head_of_start rest after a start) fault)

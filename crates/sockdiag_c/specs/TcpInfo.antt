@@ -1,7 +1,13 @@
 -- The bytes that tell of a TCP connection.
-use Rattle.std.specs.Prelude.{ℕ, ◌-◌, ◌==◌, if◌then◌else◌, List, ◌++◌, length, take, replicate, Option}
-use Rattle.std.specs.Prelude.{Some, None}
-use Rattle.netlink_core.specs.Attribute.{Attribute, kind_of}
+use Rattle.std.specs.Prelude.{ℕ, ◌-◌, ◌⊎◌, ◌==◌, if◌then◌else◌, List, ◌++◌, length, take, replicate}
+use Rattle.std.specs.Prelude.{Option, Some, None}
+use Rattle.netlink_core.specs.Attribute.{Attribute, Cut, CutOff, IsFramingFault, kind_of}
+use Rattle.netlink_core.specs.declared.fault.DecodeError.{DecodeError}
+
+-- the attributes that stand in bytes, up to their end or to a fault of the framing
+abbrev pub StandIn : List ℕ → List Attribute → Type 0
+StandIn bytes attributes =
+    Cut bytes attributes ⊎ ((e : DecodeError) × CutOff IsFramingFault bytes attributes e)
 
 -- the value of an attribute of the kind
 abbrev pub value_of : ℕ → Attribute → Option (List ℕ)

@@ -1,9 +1,9 @@
 //! What is told of a TCP connection.
 
 ghost use Rattle.std.specs.Prelude.{◌≡◌, List, [], drop, length, unwrap_or};
-ghost use Rattle.netlink_core.specs.Attribute.{Attribute, Cut};
+ghost use Rattle.netlink_core.specs.Attribute.{Attribute};
 ghost use Rattle.netlink_packet_sock_diag.specs.UnixGetters.{first_of};
-ghost use Rattle.sockdiag_c.specs.TcpInfo.{filled, value_of};
+ghost use Rattle.sockdiag_c.specs.TcpInfo.{StandIn, filled, value_of};
 
 use netlink_core::NlasIterator;
 use netlink_packet_sock_diag::constants::INET_DIAG_INFO;
@@ -19,9 +19,10 @@ const LENGTH: usize = 232;
 /// bytes the value has, 0 where there is none.
 ///
 /// The values are not checked, so that a value is told too that is shorter than this kernel's.
+/// Behind a fault of the framing nothing is looked for.
 #[unsafe(no_mangle)]
 pub extern "C" fn sockdiag_inet_get_tcp_info(payload: &[u8], info: &mut [u8; 232]) -> usize
-    ensures { (attributes : List Attribute) → Cut (drop 72 payload.now) attributes
+    ensures { (attributes : List Attribute) → StandIn (drop 72 payload.now) attributes
         → let value = unwrap_or (first_of (value_of 2) attributes) [] in
         (result ≡ length value) × (info.new ≡ filled 232 value) }
 {
@@ -40,9 +41,9 @@ fn behind_header(payload: &[u8]) -> &[u8]
     &payload[ATTRIBUTES..]
 }
 
-// The first value of the kind, where the attributes are whole, or no bytes where there is none.
+// The first value of the kind, or no bytes where there is none.
 fn first_value(bytes: &[u8], kind: u16) -> &[u8]
-    ensures { (attributes : List Attribute) → Cut bytes.entry.now attributes
+    ensures { (attributes : List Attribute) → StandIn bytes.entry.now attributes
         → result.now ≡ unwrap_or (first_of (value_of kind) attributes) [] }
 {
     for item in NlasIterator::new(bytes) {
