@@ -204,12 +204,18 @@ def call():
         return 0
     strict = [*"-Wall -Wextra -Wpedantic -Werror -fsyntax-only -Iinclude -x".split()]
     header = '#include "sockdiag.h"\n'
+    # A compiler of C alone says so.
+    plus = [compiler, "-fsyntax-only", "-x", "c++", os.devnull]
+    has_plus = subprocess.run(plus, stderr=subprocess.DEVNULL).returncode == 0
     for language, flags, files, text in [
         ("c", ["-std=c11"], ["-"], header + "\n".join(places()) + "\n"),
         ("c", ["-std=c11"], ["tests/c_face.c"], ""),
         ("c", ["-std=c99"], ["examples/list_sockets.c"], ""),
         ("c++", ["-std=c++11"], ["examples/list_sockets.c"], ""),
     ]:
+        if language == "c++" and not has_plus:
+            print(f"{compiler} compiles no C++: that the header is C++ too isn't seen")
+            continue
         words = [compiler, *flags, *strict, language, *files]
         status = subprocess.run(words, cwd=TOP, input=text, text=True).returncode
         if status != 0:
