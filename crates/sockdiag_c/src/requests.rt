@@ -194,17 +194,17 @@ fn address_in(family: u8, octets: &[u8; 16]) -> IpAddr
 fn write_message<R: Emitable>(
     message_type: u16,
     header: &RequestHeader,
-    record: &R,
+    value: &R,
     attributes: &[u8],
     buffer: &mut [u8],
 ) -> usize
-    requires writable { R.writable record.now }
-    requires small { 16 + length (R.bytes record.now) + length attributes.now ≤ 4294967295 }
-    ensures { let len = 16 + length (R.bytes record.now) + length attributes.now in
+    requires writable { R.writable value.now }
+    requires small { 16 + length (R.bytes value.now) + length attributes.now ≤ 4294967295 }
+    ensures { let len = 16 + length (R.bytes value.now) + length attributes.now in
         WritesWhole len (header_bytes (header_of len message_type header.now)
-        ++ R.bytes record.now ++ attributes.now) buffer.old buffer.new result }
+        ++ R.bytes value.now ++ attributes.now) buffer.old buffer.new result }
 {
-    let end = NETLINK_HEADER_LEN + record.buffer_len();
+    let end = NETLINK_HEADER_LEN + value.buffer_len();
     let len = end + attributes.len();
     if buffer.len() < len {
         return 0;
@@ -213,7 +213,7 @@ fn write_message<R: Emitable>(
     let (start, body) = front.split_at_mut(NETLINK_HEADER_LEN);
     let (behind, _) = rest.split_at_mut(attributes.len());
     write_header(len as u32, message_type, header, start);
-    record.emit(body);
+    value.emit(body);
     behind.copy_from_slice(attributes);
     len
 }
