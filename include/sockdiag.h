@@ -1,10 +1,10 @@
 /*
  * Messages of sock_diag(7) behind headers of netlink(7), read and written in the caller's memory.
  *
- * The library is crates/sockdiag_c, and tests/c_face.sh shows how to build and link it. What is said here of a call is
- * proved there, by the contract of the function of the same name and the two laws of the walks in src/laws.rt. The library
- * takes no memory, opens nothing and keeps nothing between calls, so any thread may call it at any time, with memory that
- * is its own. Of the C library it needs memcpy, memmove and memset.
+ * The library is crates/sockdiag_c, and tools/install builds it and puts it under a prefix. What is said here of a call is
+ * proved there, by the contract of the function of the same name and the two laws of the walks in src/laws.rt; only
+ * sockdiag_fault_text is written here. The library takes no memory, opens nothing and keeps nothing between calls, so any
+ * thread may call it at any time, with memory that is its own. Of the C library it needs memcpy, memmove and memset.
  *
  * What the caller upholds, and nothing checks:
  * - A pointer to bytes points to as many as the length beside it says, at most PTRDIFF_MAX. It may be null where the
@@ -177,8 +177,8 @@ struct sockdiag_number {
 /* A text that a reply may tell, where it stands in the reply's bytes. */
 struct sockdiag_text {
     uint32_t kind;        /* SOCKDIAG_TEXT, of a name a pathname; SOCKDIAG_ABSTRACT an abstract name; 0 none is told */
-    const uint8_t *bytes; /* the text, without the zero at its end, or in front of an abstract name; no zero follows it
-                             where none came */
+    const uint8_t *bytes; /* the text, without the zero at its end, or in front of an abstract name; that of a pathname
+                             follows it there, and behind other texts there may be none */
     size_t length;        /* how many bytes it has */
 };
 
@@ -215,8 +215,8 @@ struct sockdiag_inet_details {
 
 /*
  * Check the whole of a reply, as sockdiag_check_unix_reply and sockdiag_check_inet_reply do, and tell what it says, in one
- * walk. The answer is 0, or the first fault's number, and then *details is as it was. Of several attributes of a kind the
- * first counts.
+ * walk. The answer is 0, or the first fault's number, and then *details is as it was; what it held isn't read. Of several
+ * attributes of a kind the first counts. The texts stand in the payload, and are there as long as it is.
  */
 uint32_t sockdiag_unix_get_details(const uint8_t *payload, size_t length, struct sockdiag_unix_details *details);
 uint32_t sockdiag_inet_get_details(const uint8_t *payload, size_t length, struct sockdiag_inet_details *details);
