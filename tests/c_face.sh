@@ -27,7 +27,7 @@ build c_face "$top/tests/c_face.c"
 
 # As a program's author does it: installed, and built by pkg-config over the shared library, or here over the archive.
 "$top/tools/install" "$work/prefix" >/dev/null
-if command -v pkg-config >/dev/null; then
+if command -v pkg-config >/dev/null && command -v make >/dev/null; then
     cp "$top/examples/Makefile" "$top/examples/list_sockets.c" "$work"
     PKG_CONFIG_PATH="$work/prefix/lib/pkgconfig" make -s -C "$work" list_sockets
 else
