@@ -1,6 +1,6 @@
 pub mod Adding
+pub mod PieceWalk
 pub mod Listings
-pub mod Steps
 pub mod Progress
 pub mod Failing
 pub mod Stops

@@ -1,156 +1,110 @@
--- The lines of a datagram, item by item.
-use Rattle.std.proofs.Common.{◌≡◌, ◌≢◌, ◌↔◌, ◌⊎◌, inl, inr, ℕ, List, [], ◌∷◌, ◌++◌, Bool, true}
-use Rattle.std.proofs.Common.{false, refl, sym, ap, subst, ◌∙◌, append_assoc}
-use Rattle.std.specs.Option.{option_to_list}
-use Rattle.std.specs.Prelude.{option_map, IsTrue, Option, None, Result, Err}
-use Rattle.std.specs.List.{AllByRecursion, AllZip, flat_map}
+-- The lines of a datagram, message by message.
+use Rattle.std.proofs.Common.{◌≡◌, ◌≢◌, ◌↔◌, List, [], ◌∷◌, ◌++◌, ℕ, Bool, true, false, refl, sym}
+use Rattle.std.proofs.Common.{ap, subst, ◌∙◌, append_assoc}
+use Rattle.std.specs.Prelude.{IsTrue, Option, None, Some}
+use Rattle.std.specs.List.{AllByRecursion, flat_map}
 use Rattle.std.proofs.lemmas.List.{append-nil}
 use Rattle.std.proofs.lemmas.Grind.{flat_map-append}
-use Rattle.netlink_core.specs.ByteLaws.{IsBytes-nil}
-use Rattle.netlink_core.specs.Codec.{Codec}
-use Rattle.netlink_core.specs.declared.fault.DecodeError.{DecodeError}
-use Rattle.netlink_core.specs.Datagram.{StartsWithMessage}
-use Rattle.netlink_core.specs.Envelope.{Payload}
+use Rattle.netlink_core.specs.Datagram.{CutIntoMessages, StartsWithMessage}
 use Rattle.netlink_core.specs.Header.{IsEnvelopeFault}
-use Rattle.netlink_core.specs.Items.{ItemIs, ItemsAre}
-use Rattle.netlink_core.proofs.Datagrams.{one_cut_into_messages}
-use Rattle.netlink_core.proofs.Items.{Following, items_begin, items_go_on, no_items, fault_alone}
+use Rattle.netlink_core.specs.declared.fault.DecodeError.{DecodeError}
 
 not_both : (b : Bool) → b ≡ false → b ≡ true → ⊥
 not_both b is_false is_true = cc
 
-module _ (C : Codec ℕ)
-    (lines_of : Result (Payload C.Value) DecodeError → List ℕ)
-    (Plain : Result (Payload C.Value) DecodeError → Type 0) where
-  -- some items were listed, and what is left goes on from there
+module _ (lines_of : List ℕ → List ℕ) (Plain : List ℕ → Type 0) where
+  -- some messages were listed, and what is left goes on from there
   pub record Listing (datagram rest before after : List ℕ) (clean : Bool) : Type 0 where
-    pub passed : List (Result (Payload C.Value) DecodeError)
-    pub walk : Following C datagram passed rest
+    pub passed : List (List ℕ)
+    pub walk : (later : List (List ℕ)) (end : Option DecodeError) → CutIntoMessages rest later end
+        → CutIntoMessages datagram (passed ++ later) end
     pub lines : after ≡ before ++ flat_map lines_of passed
     pub flagged : IsTrue clean → AllByRecursion Plain passed
     pub clean_only : AllByRecursion Plain passed → IsTrue clean
 
-  -- a step of the walk gave this item
-  abbrev pub Gives : List ℕ → Result (Payload C.Value) DecodeError → List ℕ → Type 0
-  Gives rest item next =
-      ((message : List ℕ) × StartsWithMessage rest message next × ItemIs C message item)
-      ⊎ ((e : DecodeError) × (item ≡ Err e) × (rest ≢ []) × IsEnvelopeFault rest e × (next ≡ []))
+  clean_push : (xs : List (List ℕ)) (m : List ℕ) → AllByRecursion Plain xs → Plain m
+      → AllByRecursion Plain (xs ++ m ∷ [])
+  clean_push [] m h is = (is, tt)
+  clean_push (x ∷ xs) m h is = (h.0, clean_push xs m h.1 is)
 
-  clean_push : (xs : List (Result (Payload C.Value) DecodeError))
-      (item : Result (Payload C.Value) DecodeError) → AllByRecursion Plain xs → Plain item
-      → AllByRecursion Plain (xs ++ item ∷ [])
-  clean_push [] item h is = (is, tt)
-  clean_push (x ∷ xs) item h is = (h.0, clean_push xs item h.1 is)
-
-  clean_front : (xs : List (Result (Payload C.Value) DecodeError))
-      (item : Result (Payload C.Value) DecodeError) → AllByRecursion Plain (xs ++ item ∷ [])
+  clean_front : (xs : List (List ℕ)) (m : List ℕ) → AllByRecursion Plain (xs ++ m ∷ [])
       → AllByRecursion Plain xs
-  clean_front [] item h = tt
-  clean_front (x ∷ xs) item h = (h.0, clean_front xs item h.1)
+  clean_front [] m h = tt
+  clean_front (x ∷ xs) m h = (h.0, clean_front xs m h.1)
 
-  clean_last : (xs : List (Result (Payload C.Value) DecodeError))
-      (item : Result (Payload C.Value) DecodeError) → AllByRecursion Plain (xs ++ item ∷ [])
-      → Plain item
-  clean_last [] item h = h.0
-  clean_last (x ∷ xs) item h = clean_last xs item h.1
-
-  none_carried : (vs : List (Result (Payload C.Value) DecodeError)) → AllZip (ItemIs C) [] vs
-      → vs ≡ []
-  none_carried [] h = refl
-  none_carried (v ∷ vs) h = absurd h
-
-  -- no bytes carry nothing
-  no_more : (later : List (Result (Payload C.Value) DecodeError)) → ItemsAre C [] later → later ≡ []
-  no_more later all =
-      let same = one_cut_into_messages [] all.0 [] all.1 None all.3 refl in
-      let carried = none_carried all.2 (subst (λ (s : List (List ℕ)). AllZip (ItemIs C) s all.2)
-      same.0 all.4) in
-      all.5 ∙ ap (λ (c : List (Result (Payload C.Value) DecodeError)). c
-      ++ option_to_list (option_map Err all.1)) carried
-      ∙ ap (λ (e : Option DecodeError). option_to_list (option_map Err e)) same.1
-
-  -- the walk goes on with the rest behind the item
-  follows : (datagram rest next : List ℕ) (passed : List (Result (Payload C.Value) DecodeError))
-      (item : Result (Payload C.Value) DecodeError) → Following C datagram passed rest
-      → Gives rest item next → Following C datagram (passed ++ item ∷ []) next
-  follows datagram rest next passed item walk gives = elim gives [
-    | inl m ↦ items_go_on C datagram rest next m.0 passed item walk m.1 m.2
-    | inr f ↦
-        let all : ItemsAre C datagram (passed ++ item ∷ []) =
-        subst (λ (i : Result (Payload C.Value) DecodeError).
-        ItemsAre C datagram (passed ++ i ∷ [])) (sym f.1)
-        (walk.items (Err f.0 ∷ []) (fault_alone C rest f.0 f.2 f.3)) in
-        subst (λ (left : List ℕ). Following C datagram (passed ++ item ∷ []) left) (sym f.4)
-        (record {
-          items = λ later are. subst
-              (λ (more : List (Result (Payload C.Value) DecodeError)). ItemsAre C datagram
-              ((passed ++ item ∷ []) ++ more)) (sym (no_more later are))
-              (subst (λ (t : List (Result (Payload C.Value) DecodeError)). ItemsAre C datagram t)
-              (sym (append-nil (passed ++ item ∷ []))) all);
-          typed = λ _. IsBytes-nil;
-        })
-  ]
+  clean_last : (xs : List (List ℕ)) (m : List ℕ) → AllByRecursion Plain (xs ++ m ∷ []) → Plain m
+  clean_last [] m h = h.0
+  clean_last (x ∷ xs) m h = clean_last xs m h.1
 
   -- nothing is listed yet
   pub listing_begins : (datagram before : List ℕ) → Listing datagram datagram before before true
   listing_begins datagram before = record {
     passed = [];
-    walk = items_begin C datagram;
+    walk = λ later end cut. cut;
     lines = sym (append-nil before);
     flagged = λ _. tt;
     clean_only = λ _. refl;
   }
 
-  -- one more item is listed
+  -- one more message is listed
   pub listing_goes_on : (datagram rest next before after after' : List ℕ) (clean clean' : Bool)
-      (item : Result (Payload C.Value) DecodeError)
-      → Listing datagram rest before after clean → Gives rest item next
-      → after' ≡ after ++ lines_of item
-      → (IsTrue clean' → IsTrue clean × Plain item) → (IsTrue clean → Plain item → IsTrue clean')
+      (m : List ℕ)
+      → Listing datagram rest before after clean → StartsWithMessage rest m next
+      → after' ≡ after ++ lines_of m
+      → (IsTrue clean' → IsTrue clean × Plain m) → (IsTrue clean → Plain m → IsTrue clean')
       → Listing datagram next before after' clean'
-  listing_goes_on datagram rest next before after after' clean clean' item so_far gives added
-      flagged clean_only = record {
-        passed = so_far.passed ++ item ∷ [];
-        walk = follows datagram rest next so_far.passed item so_far.walk gives;
+  listing_goes_on datagram rest next before after after' clean clean' m so_far starts added flagged
+      clean_only = record {
+        passed = so_far.passed ++ m ∷ [];
+        walk = λ later end cut. subst
+            (λ (all : List (List ℕ)). CutIntoMessages datagram all end)
+            (sym (append_assoc so_far.passed (m ∷ []) later))
+            (so_far.walk (m ∷ later) end (next, starts, cut));
         lines =
-            added ∙ ap (λ (t : List ℕ). t ++ lines_of item) so_far.lines
-            ∙ append_assoc before (flat_map lines_of so_far.passed) (lines_of item)
+            added ∙ ap (λ (t : List ℕ). t ++ lines_of m) so_far.lines
+            ∙ append_assoc before (flat_map lines_of so_far.passed) (lines_of m)
             ∙ ap (λ (t : List ℕ). before ++ t)
-            (sym (flat_map-append lines_of so_far.passed (item ∷ [])
+            (sym (flat_map-append lines_of so_far.passed (m ∷ [])
             ∙ ap (λ (t : List ℕ). flat_map lines_of so_far.passed ++ t)
-            (append-nil (lines_of item))));
-        flagged = λ is. clean_push so_far.passed item (so_far.flagged (flagged is).0)
-            (flagged is).1;
-        clean_only = λ is. clean_only (so_far.clean_only (clean_front so_far.passed item is))
-            (clean_last so_far.passed item is);
+            (append-nil (lines_of m))));
+        flagged = λ is. clean_push so_far.passed m (so_far.flagged (flagged is).0) (flagged is).1;
+        clean_only = λ is. clean_only (so_far.clean_only (clean_front so_far.passed m is))
+            (clean_last so_far.passed m is);
       }
 
-  -- one more item is listed, and so far nothing was told of any
+  -- one more message is listed, and so far nothing was told of any
   pub goes_on_clean : (datagram rest next before after after' : List ℕ) (clean clean' : Bool)
-      (item : Result (Payload C.Value) DecodeError) → clean ≡ true
-      → Listing datagram rest before after clean → Gives rest item next
-      → after' ≡ after ++ lines_of item → (IsTrue clean' ↔ Plain item)
+      (m : List ℕ) → clean ≡ true
+      → Listing datagram rest before after clean → StartsWithMessage rest m next
+      → after' ≡ after ++ lines_of m → (IsTrue clean' ↔ Plain m)
       → Listing datagram next before after' clean'
-  goes_on_clean datagram rest next before after after' clean clean' item is_clean so_far gives added
+  goes_on_clean datagram rest next before after after' clean clean' m is_clean so_far starts added
       same =
-      listing_goes_on datagram rest next before after after' clean clean' item so_far gives added
+      listing_goes_on datagram rest next before after after' clean clean' m so_far starts added
       (λ is. (is_clean, same.0 is)) (λ _ plain. same.1 plain)
 
-  -- one more item is listed, and something was told of those before
+  -- one more message is listed, and something was told of those before
   pub goes_on_unclean : (datagram rest next before after after' : List ℕ) (clean : Bool)
-      (item : Result (Payload C.Value) DecodeError) → clean ≡ false
-      → Listing datagram rest before after clean → Gives rest item next
-      → after' ≡ after ++ lines_of item
+      (m : List ℕ) → clean ≡ false
+      → Listing datagram rest before after clean → StartsWithMessage rest m next
+      → after' ≡ after ++ lines_of m
       → Listing datagram next before after' clean
-  goes_on_unclean datagram rest next before after after' clean item is_unclean so_far gives added =
-      listing_goes_on datagram rest next before after after' clean clean item so_far gives added
+  goes_on_unclean datagram rest next before after after' clean m is_unclean so_far starts added =
+      listing_goes_on datagram rest next before after after' clean clean m so_far starts added
       (λ is. absurd (not_both clean is_unclean is)) (λ is _. is)
 
-  -- where nothing is left, the items that were listed are all
+  -- where nothing is left, the messages that were listed are all
   pub listing_ends : (datagram rest before after : List ℕ) (clean : Bool)
       (so_far : Listing datagram rest before after clean) → rest ≡ []
-      → ItemsAre C datagram so_far.passed
+      → CutIntoMessages datagram so_far.passed None
   listing_ends datagram rest before after clean so_far none =
-      subst (λ (t : List (Result (Payload C.Value) DecodeError)). ItemsAre C datagram t)
-      (append-nil so_far.passed)
-      (so_far.walk.items [] (subst (λ (b : List ℕ). ItemsAre C b []) (sym none) (no_items C)))
+      subst (λ (all : List (List ℕ)). CutIntoMessages datagram all None)
+      (append-nil so_far.passed) (so_far.walk [] None none)
+
+  -- where no message stands, those that were listed are all but what stands there
+  pub listing_stops : (datagram rest before after : List ℕ) (clean : Bool) (e : DecodeError)
+      (so_far : Listing datagram rest before after clean) → rest ≢ [] → IsEnvelopeFault rest e
+      → CutIntoMessages datagram so_far.passed (Some e)
+  listing_stops datagram rest before after clean e so_far some fault =
+      subst (λ (all : List (List ℕ)). CutIntoMessages datagram all (Some e))
+      (append-nil so_far.passed) (so_far.walk [] (Some e) (some, fault))

@@ -1,30 +1,68 @@
 -- What the datagrams of a capture are listed as.
-use Rattle.std.specs.Prelude.{◌≡◌, ◌≢◌, ◌↔◌, Bool, IsTrue, ℕ, ◌-◌, ◌^◌, ◌%◌, ◌==◌, if◌then◌else◌}
-use Rattle.std.specs.Prelude.{nat_lt, List, [], ◌++◌, ◌≤◌, ◌⊎◌, bit_and, drop, length, flat_map}
-use Rattle.std.specs.Prelude.{Option, None, Some, Result, Ok, Err}
+use Rattle.std.specs.Prelude.{◌≡◌, ◌≢◌, ◌↔◌, Bool, IsTrue, ℕ, ◌-◌, ◌^◌, ◌%◌, ◌==◌}
+use Rattle.std.specs.Prelude.{◌&&◌, if◌then◌else◌, nat_le, nat_lt, List, [], ◌++◌, ◌≤◌, ◌⊎◌, bit_and, drop}
+use Rattle.std.specs.Prelude.{length, flat_map, Option, None, Some, option_map, Result, Ok, Err}
 use Rattle.byteorder.specs.Endian.{little_number}
 use Rattle.std.specs.List.{AllByRecursion}
-use Rattle.netlink_core.specs.declared.fault.DecodeError.{DecodeError}
-use Rattle.netlink_core.specs.declared.header.NetlinkHeader.{NetlinkHeader}
+use Rattle.netlink_core.specs.Datagram.{CutIntoMessages}
+use Rattle.netlink_core.specs.Format.{read}
 use Rattle.netlink_core.specs.Header.{HasHeader}
-use Rattle.sock_diag_captures.specs.Cooked.{IsOfSockDiag}
+use Rattle.netlink_core.specs.declared.fault.DecodeError.{DecodeError}
 use Rattle.netlink_core.specs.declared.fault.DecodeError.TheVariants.{UnknownFamily}
-use Rattle.netlink_core.specs.Envelope.{Payload, done_with, error_with, no_payload, overrun_with}
-use Rattle.netlink_core.specs.Envelope.{inner}
-use Rattle.netlink_core.specs.Items.{ItemsAre}
-use Rattle.netlink_packet_sock_diag.specs.Message.{Message, message_codec}
-use Rattle.sock_diag_captures.specs.Table.{message_lines}
+use Rattle.netlink_core.specs.declared.header.NetlinkHeader.{NetlinkHeader}
+use Rattle.sock_diag_records.specs.InetResponse.{inet_response_header}
+use Rattle.sock_diag_records.specs.UnixResponseHeader.{unix_response_header}
+use Rattle.netlink_packet_sock_diag.specs.Message.{MessageKind, inet_response, reply_kind}
+use Rattle.netlink_packet_sock_diag.specs.Message.{unix_response}
+use Rattle.sock_diag_captures.specs.Cooked.{IsOfSockDiag}
+use Rattle.sock_diag_captures.specs.Pieces.{Piece, framing_fault, pieces}
+use Rattle.sock_diag_captures.specs.Table.{inet_lines, unix_lines}
 use Rattle.sock_diag_captures.specs.declared.list.Complaint.{Complaint}
 use Rattle.sock_diag_captures.specs.declared.list.Complaint.TheVariants.{Refused, Answered, Lost}
 
--- what a message of a datagram carries, or its fault
-abbrev pub Item : Type 0
-Item = Result (Payload Message) DecodeError
+-- ---- replies
 
--- the lines of an item: those of a reply, and none of anything else
-abbrev pub item_lines : Item → List ℕ
-item_lines (Ok (inner message)) = message_lines message
-item_lines _ = []
+-- the lines of a reply whose header can be read, by the pieces behind it
+abbrev pub lines_behind : {H : Type 0} → (H → List Piece → List ℕ) → Result H DecodeError → List Piece → List ℕ
+lines_behind lines (Ok h) given = lines h given
+lines_behind lines (Err e) given = []
+
+-- the fault of such a reply: that of its header, or that of the framing behind it
+abbrev pub fault_behind : {H : Type 0} → Result H DecodeError → List Piece → Option DecodeError
+fault_behind (Ok h) given = framing_fault given
+fault_behind (Err e) given = Some e
+
+-- the lines of a reply of that kind, whose header has 16 bytes or 72
+abbrev pub kind_lines : Result MessageKind DecodeError → List ℕ → List ℕ
+kind_lines (Ok unix_response) b = lines_behind unix_lines (read unix_response_header tt b) (pieces 0 (drop 16 b))
+kind_lines (Ok inet_response) b = lines_behind inet_lines (read inet_response_header tt b) (pieces 0 (drop 72 b))
+kind_lines _ b = []
+
+-- the fault of such a reply, or that it is none. Nothing is told of a socket of another family
+abbrev pub kind_fault : Result MessageKind DecodeError → List ℕ → Option DecodeError
+kind_fault (Ok unix_response) b = fault_behind (read unix_response_header tt b) (pieces 0 (drop 16 b))
+kind_fault (Ok inet_response) b = fault_behind (read inet_response_header tt b) (pieces 0 (drop 72 b))
+kind_fault (Err (UnknownFamily family)) b = None
+kind_fault (Err e) b = Some e
+kind_fault _ b = None
+
+-- ---- messages
+
+-- the type of a message
+abbrev pub type_of : List ℕ → ℕ
+type_of message = little_number 2 (drop 4 message)
+
+-- the types that say nothing, tell an error, end a dump, or say that data was lost
+abbrev pub is_control : ℕ → Bool
+is_control t = nat_le 1 t && nat_le t 4
+
+-- the lines of a message of a type, by what stands behind its header: those of a reply
+abbrev pub lines_under : ℕ → List ℕ → List ℕ
+lines_under t payload = if is_control t then [] else kind_lines (reply_kind payload t) payload
+
+-- the lines of a message
+abbrev pub message_lines : List ℕ → List ℕ
+message_lines m = lines_under (type_of m) (drop 16 m)
 
 -- The number of the error that a payload begins with, which the kernel writes as a negative number
 -- of four bytes. It is 0 where there is none, and where the payload has fewer bytes.
@@ -35,31 +73,26 @@ error_number payload = if nat_lt (length payload) 4 then 0 else (2 ^ 32 - little
 abbrev pub error_complaint : ℕ → Option Complaint
 error_complaint n = if n == 0 then None else Some (Answered n)
 
--- what is told of a fault: nothing of a socket of another family
-abbrev pub fault_complaint : DecodeError → Option Complaint
-fault_complaint (UnknownFamily family) = None
-fault_complaint fault = Some (Refused fault)
+-- what is told of a message of such a type: that it is an error, or says that data was lost
+abbrev pub control_complaint : ℕ → List ℕ → Option Complaint
+control_complaint t payload =
+    if t == 1 then None else if t == 4 then Some Lost else error_complaint (error_number payload)
 
--- what is told of an item: refused messages, errors and lost data
-unfoldable pub item_complaint : Item → Option Complaint
-item_complaint (Err fault) = fault_complaint fault
-item_complaint (Ok (done_with payload)) = error_complaint (error_number payload)
-item_complaint (Ok (error_with payload)) = error_complaint (error_number payload)
-item_complaint (Ok (overrun_with payload)) = Some Lost
-item_complaint (Ok no_payload) = None
-item_complaint (Ok (inner message)) = None
+-- what is told of a message of a type, also that it is refused
+abbrev pub complaint_under : ℕ → List ℕ → Option Complaint
+complaint_under t payload =
+    if is_control t then control_complaint t payload
+    else option_map Refused (kind_fault (reply_kind payload t) payload)
 
--- the datagram carries the items
-abbrev pub Carries : List ℕ → List Item → Type 0
-Carries datagram items = ItemsAre message_codec datagram items
+-- what is told of a message
+abbrev pub message_complaint : List ℕ → Option Complaint
+message_complaint m = complaint_under (type_of m) (drop 16 m)
 
--- nothing is told of an item
-abbrev pub IsPlain : Item → Type 0
-IsPlain item = item_complaint item ≡ None
+-- nothing is told of a message
+abbrev pub IsPlain : List ℕ → Type 0
+IsPlain message = message_complaint message ≡ None
 
--- nothing is told of any of the items
-abbrev pub IsClean : List Item → Type 0
-IsClean items = AllByRecursion IsPlain items
+-- ---- datagrams and packets
 
 -- the datagram begins with the header of a request, whose flags have NLM_F_REQUEST, 1
 abbrev pub IsRequest : List ℕ → Type 0
@@ -71,13 +104,14 @@ pub record IsAnswer (packet : List ℕ) : Type 0 where
   pub sock_diag : IsOfSockDiag packet
   pub no_request : ¬ IsRequest (drop 16 packet)
 
--- The lines of the datagram follow those before: of each of its items in order. Whether nothing is
--- told of any of them.
+-- The lines of the datagram follow those before: of each message that it is cut into, in order.
+-- Whether nothing is told of any of them, and no fault stands behind them.
 pub record Lists (datagram before after : List ℕ) (is_clean : Bool) : Type 0 where
-  pub items : List Item
-  pub carried : Carries datagram items
-  pub lines : after ≡ before ++ flat_map item_lines items
-  pub clean : IsTrue is_clean ↔ IsClean items
+  pub messages : List (List ℕ)
+  pub end : Option DecodeError
+  pub cut : CutIntoMessages datagram messages end
+  pub lines : after ≡ before ++ flat_map message_lines messages
+  pub clean : IsTrue is_clean ↔ (AllByRecursion IsPlain messages × (end ≡ None))
 
 -- The lines of the packet follow those before: those of its datagram where it is an answer of
 -- sock_diag(7), and none for another. Of one with fewer than 16 bytes something is told, and of no

@@ -6,17 +6,13 @@ use Rattle.std.specs.declared.net.ip_addr.IpAddr.{IpAddr}
 use Rattle.std.specs.declared.net.ip_addr.IpAddr.TheVariants.{V4, V6}
 use Rattle.std.specs.Net.Text.{ip_text, scope_text}
 use Rattle.hex.specs.Hex.{encode_lower}
-use Rattle.netlink_core.specs.Family.{Said, content}
-use Rattle.sock_diag_values.specs.declared.inet.tcp_info.TcpInfo.{TcpInfo}
 use Rattle.sock_diag_records.specs.declared.inet.response.InetResponseHeader.{InetResponseHeader}
+use Rattle.sock_diag_records.specs.declared.unix.response.UnixResponseHeader.{UnixResponseHeader}
 use Rattle.sock_diag_attributes.specs.Name.{SocketName, abstract, pathname}
-use Rattle.sock_diag_attributes.specs.InetAttributes.{inet}
 use Rattle.sock_diag_attributes.specs.UnixAttributes.{unix}
-use Rattle.netlink_packet_sock_diag.specs.InetReply.{InetReply}
-use Rattle.netlink_packet_sock_diag.specs.Message.{Message, message_of, inet_request, inet_response}
-use Rattle.netlink_packet_sock_diag.specs.Message.{unix_request, unix_response}
-use Rattle.netlink_packet_sock_diag.specs.UnixReply.{UnixReply}
-use Rattle.netlink_packet_sock_diag.specs.UnixGetters.{first_of}
+use Rattle.sock_diag_captures.specs.Details.{details_line}
+use Rattle.sock_diag_captures.specs.Pieces.{Piece, value_told}
+use Rattle.sock_diag_captures.specs.declared.details.Sockets.TheVariants.{Inet, Unix}
 
 -- ---- cells
 
@@ -104,18 +100,18 @@ first_columns c =
 abbrev pub line : FirstColumns → List ℕ → List ℕ → List ℕ
 line c local peer = first_columns c ++ column 30 local ++ peer ++ 10 ∷ []
 
--- the line of a UNIX socket
-abbrev pub unix_line : UnixReply → List ℕ
-unix_line v =
-    let queues = first_of (content unix 4) v.nlas in
+-- the line of a UNIX socket, whose name, peer and queues attributes tell
+abbrev pub unix_line : UnixResponseHeader → List Piece → List ℕ
+unix_line h given =
+    let queues = value_told unix 4 given in
     line (record {
-      kind = unix_kind v.header.kind;
-      state = v.header.state;
+      kind = unix_kind h.kind;
+      state = h.state;
       receive_queue = option_map (λ ns. ns.0) queues;
       send_queue = option_map (λ ns. ns.1) queues;
-      inode = v.header.inode;
+      inode = h.inode;
       uid = None;
-    }) (name_cell (first_of (content unix 0) v.nlas)) (peer_cell (first_of (content unix 2) v.nlas))
+    }) (name_cell (value_told unix 0 given)) (peer_cell (value_told unix 2 given))
 
 -- the line of an IPv4 or IPv6 socket
 abbrev pub inet_line : InetResponseHeader → List ℕ
@@ -130,44 +126,10 @@ inet_line h =
       uid = Some h.uid;
     }) (endpoint id.source_address id.interface_id id.source_port) (endpoint id.destination_address 0 id.destination_port)
 
--- a space, a word, a colon and a number
-abbrev pub detail : List ℕ → ℕ → List ℕ
-detail word n = 32 ∷ word ++ 58 ∷ decimal n
+-- the lines of a UNIX socket: its own, and that of its details
+abbrev pub unix_lines : UnixResponseHeader → List Piece → List ℕ
+unix_lines h given = unix_line h given ++ details_line Unix h.cookie given
 
--- the times of a TCP connection, in microseconds, and the sizes of its segments, in bytes
-abbrev pub times : TcpInfo → List ℕ
-times t =
-    detail (codes "rtt") t.rtt ++ detail (codes "rttvar") t.rttvar ++ detail (codes "rto") t.rto
-    ++ detail (codes "mss") t.snd_mss ++ detail (codes "pmtu") t.pmtu
-
--- its window, in segments, the segments that are not acknowledged or were sent again, and the bytes
--- sent and received
-abbrev pub traffic : TcpInfo → List ℕ
-traffic t =
-    detail (codes "cwnd") t.snd_cwnd ++ detail (codes "unacked") t.unacked ++ detail (codes "retrans") t.total_retrans
-    ++ detail (codes "sent") t.bytes_sent ++ detail (codes "received") t.bytes_received
-
--- the line of a TCP connection, behind that of its socket: a tab and ten numbers
-abbrev pub details_line : TcpInfo → List ℕ
-details_line t = 9 ∷ times t ++ traffic t ++ 10 ∷ []
-
--- the line of what an attribute tells of a TCP connection, or nothing
-abbrev pub details_or_nothing : Option TcpInfo → List ℕ
-details_or_nothing None = []
-details_or_nothing (Some t) = details_line t
-
--- the details that an attribute tells
-abbrev pub details_of : Said inet → List ℕ
-details_of said = details_or_nothing (content inet 2 said)
-
--- the lines of an IPv4 or IPv6 socket: its own, and one for each attribute that tells of a TCP
--- connection
-abbrev pub inet_lines : InetReply → List ℕ
-inet_lines v = inet_line v.header ++ flat_map details_of v.nlas
-
--- the lines of a message, where it is a reply
-unfoldable pub message_lines : Message → List ℕ
-message_lines (message_of inet_response v) = inet_lines v
-message_lines (message_of unix_response v) = unix_line v
-message_lines (message_of inet_request v) = []
-message_lines (message_of unix_request v) = []
+-- the lines of an IPv4 or IPv6 socket
+abbrev pub inet_lines : InetResponseHeader → List Piece → List ℕ
+inet_lines h given = inet_line h ++ details_line Inet h.socket_id.cookie given

@@ -1,7 +1,8 @@
 //! The cells of a line. None takes memory but the text itself.
 
 ghost use Rattle.std.specs.Prelude.{◌≡◌, ◌++◌, ◌∷◌, [], ◌+◌, ◌-◌, ◌≤◌, decimal, replicate};
-ghost use Rattle.std.specs.Prelude.{flat_map, vec_len, OnOk, option_map};
+ghost use Rattle.std.specs.Prelude.{false, flat_map, vec_len, OnOk, option_map};
+ghost use Rattle.std.specs.Fmt.{digits};
 ghost use Rattle.sock_diag_attributes.specs.SeenName.{viewed_name};
 ghost use Rattle.sock_diag_captures.specs.Table.{column, endpoint, escaped, host, name_cell};
 ghost use Rattle.sock_diag_captures.specs.Table.{number_cell, peer_cell, port_text, state_name};
@@ -36,6 +37,16 @@ pub(crate) fn push_number(text: &mut Vec<u8>, number: u64) -> Result<(), AllocEr
     ensures { OnOk result (text.new.items ≡ text.old.items ++ decimal number) }
 {
     match write!(text, "{number}") {
+        Ok(()) => Ok(()),
+        Err(_) => Err(AllocError),
+    }
+}
+
+/// Adds a number in hexadecimal digits.
+pub(crate) fn push_hex(text: &mut Vec<u8>, number: u64) -> Result<(), AllocError>
+    ensures { OnOk result (text.new.items ≡ text.old.items ++ digits 16 false number) }
+{
+    match write!(text, "{number:x}") {
         Ok(()) => Ok(()),
         Err(_) => Err(AllocError),
     }

@@ -11,13 +11,15 @@ ghost use Rattle.sock_diag_captures.specs.declared.stream.RunError.{RunError};
 
 mod capture;
 mod cells;
+mod details;
 mod line;
 mod list;
+mod pieces;
 mod stream;
 mod streams;
 
 pub use capture::{ByteOrder, CaptureError, FileHeader, Packet};
-pub use line::{HEADING, push_socket};
+pub use line::HEADING;
 pub use list::{Complaint, Written, list_packet};
 use std::alloc::Global;
 use std::io::{Read, Write};

@@ -1,31 +1,40 @@
 //! The lines that replies tell of.
 
-ghost use Rattle.std.specs.Prelude.{◌≡◌, ◌++◌, flat_map, None, Some, OnOk, option_map};
-ghost use Rattle.netlink_packet_sock_diag.specs.UnixGetters.{first_of};
-ghost use Rattle.netlink_core.specs.Family.{content};
-ghost use Rattle.sock_diag_attributes.specs.InetAttributes.{inet};
+ghost use Rattle.std.specs.Prelude.{◌≡◌, ◌++◌, None, Some, drop, IfOk, OnOk, option_map};
+ghost use Rattle.netlink_core.specs.Format.{read};
+ghost use Rattle.sock_diag_records.specs.InetResponse.{inet_response_header};
+ghost use Rattle.sock_diag_records.specs.UnixResponseHeader.{unix_response_header};
+ghost use Rattle.sock_diag_attributes.specs.SeenName.{viewed_name};
 ghost use Rattle.sock_diag_attributes.specs.UnixAttributes.{unix};
-ghost use Rattle.netlink_packet_sock_diag.specs.Viewed.{left_in};
-ghost use Rattle.netlink_packet_sock_diag.specs.Viewed.{viewed};
+ghost use Rattle.netlink_packet_sock_diag.specs.Message.{reply_kind};
+ghost use Rattle.sock_diag_captures.specs.Listing.{fault_behind, kind_fault, kind_lines};
+ghost use Rattle.sock_diag_captures.specs.Listing.{lines_behind};
+ghost use Rattle.sock_diag_captures.specs.Pieces.{pieces, value_told};
 ghost use Rattle.sock_diag_captures.specs.Shown.{shown_cells};
-ghost use Rattle.sock_diag_attributes.specs.SeenInet.{viewed_nla};
-ghost use Rattle.netlink_packet_sock_diag.specs.ViewedMessage.{viewed_message};
-ghost use Rattle.sock_diag_captures.specs.Table.{detail, details_line, details_of, first_columns};
-ghost use Rattle.sock_diag_captures.specs.Table.{inet_kind, inet_line, inet_lines, message_lines};
-ghost use Rattle.sock_diag_captures.specs.Table.{times, traffic, unix_kind, unix_line};
+ghost use Rattle.sock_diag_captures.specs.Table.{first_columns, inet_kind, inet_line, inet_lines};
+ghost use Rattle.sock_diag_captures.specs.Table.{unix_kind, unix_line, unix_lines};
 
 use crate::cells::{
-    name_of_state, push_column, push_endpoint, push_endpoint_column, push_name_column, push_number,
+    name_of_state, push_column, push_endpoint, push_endpoint_column, push_name_column,
     push_number_column, push_peer,
 };
-use netlink_packet_sock_diag::SockDiagView;
+use crate::details::{Sockets, push_details};
+use crate::pieces::{find_fault, find_kind};
+use netlink_core::DecodeError;
 use netlink_packet_sock_diag::constants::{
-    AF_INET6, SOCK_DGRAM, SOCK_SEQPACKET, SOCK_STREAM, TCP_LISTEN,
+    AF_INET, AF_INET6, AF_UNIX, SOCK_DGRAM, SOCK_DIAG_BY_FAMILY, SOCK_SEQPACKET, SOCK_STREAM,
+    UNIX_DIAG_NAME, UNIX_DIAG_PEER, UNIX_DIAG_RQLEN,
 };
-use netlink_packet_sock_diag::inet::nlas::{NlaView, NlaViews, TcpInfo};
-use netlink_packet_sock_diag::inet::{InetResponseHeader, InetResponseView};
-use netlink_packet_sock_diag::unix::UnixResponseView;
+use netlink_packet_sock_diag::inet::InetResponseHeader;
+use netlink_packet_sock_diag::unix::UnixResponseHeader;
+use netlink_packet_sock_diag::unix::nlas::{NameView, NlaView};
 use std::alloc::AllocError;
+
+/// How many bytes the header of a reply about a UNIX socket has.
+const UNIX_HEADER: usize = 16;
+
+/// How many bytes the header of a reply about an IPv4 or IPv6 socket has.
+const INET_HEADER: usize = 72;
 
 /// The first line of the table.
 pub const HEADING: &[u8] =
@@ -58,48 +67,96 @@ fn push_first_columns(text: &mut Vec<u8>, cells: &Cells) -> Result<(), AllocErro
     push_number_column(text, 5, cells.uid)
 }
 
-/// Adds the line of a socket, and behind it those of what is told of a TCP connection.
-#[tactic(auto, unfolding(crate::specs::Table::message_lines))]
-pub fn push_socket(text: &mut Vec<u8>, view: &SockDiagView<'_>) -> Result<(), AllocError>
-    ensures { OnOk result (text.new.items ≡ text.old.items
-        ++ message_lines (viewed_message view.now)) }
+/// Adds the lines of a reply of this type, and gives its fault, if it has one. The reply is listed
+/// by its header and by each attribute that can be read; a fault is one of the header or of the
+/// framing behind it, or says that it is no reply. Of a socket of another family nothing is told.
+pub(crate) fn push_reply(
+    text: &mut Vec<u8>,
+    message_type: u16,
+    payload: &[u8],
+) -> Result<Option<DecodeError>, AllocError>
+    ensures lines { OnOk result (text.new.items ≡ text.old.items
+        ++ kind_lines (reply_kind payload.now message_type) payload.now) }
+    ensures fault { IfOk result (λ fault.
+        fault ≡ kind_fault (reply_kind payload.now message_type) payload.now) }
 {
-    match view {
-        SockDiagView::UnixResponse(reply) => push_unix(text, reply),
-        SockDiagView::InetResponse(reply) => push_inet(text, reply),
+    if payload.len() < 2 {
+        let got = payload.len();
+        return Ok(Some(DecodeError::MessageTooShort { got }));
+    }
+    if message_type != SOCK_DIAG_BY_FAMILY {
+        return Ok(Some(DecodeError::UnknownMessageType { message_type }));
+    }
+    match payload[0] {
+        AF_UNIX => push_unix(text, payload),
+        AF_INET | AF_INET6 => push_inet(text, payload),
+        _ => Ok(None),
     }
 }
 
-/// Adds the line of a UNIX socket.
-fn push_unix(text: &mut Vec<u8>, reply: &UnixResponseView<'_>) -> Result<(), AllocError>
-    ensures { OnOk result (text.new.items ≡ text.old.items ++ unix_line (viewed reply.now)) }
+/// Adds the lines of a UNIX socket, and gives the fault of the reply, if it has one.
+#[tactic(auto, using(netlink_packet_sock_diag::specs::UnixReplyLaws::header_enough))]
+fn push_unix(text: &mut Vec<u8>, payload: &[u8]) -> Result<Option<DecodeError>, AllocError>
+    ensures lines { OnOk result (text.new.items ≡ text.old.items
+        ++ lines_behind unix_lines (read unix_response_header tt payload.now)
+        (pieces 0 (drop 16 payload.now))) }
+    ensures fault { IfOk result (λ fault. fault
+        ≡ fault_behind (read unix_response_header tt payload.now)
+        (pieces 0 (drop 16 payload.now))) }
 {
-    push_first_columns(text, &unix_cells(reply))?;
-    push_name_column(text, LOCAL, reply.name())?;
-    push_peer(text, reply.peer())?;
+    match UnixResponseHeader::from_prefix(payload) {
+        Ok(header) => {
+            let attributes = &payload[UNIX_HEADER..];
+            push_unix_lines(text, &header, attributes)?;
+            Ok(find_fault(attributes))
+        }
+        Err(fault) => Ok(Some(fault)),
+    }
+}
+
+/// Adds the lines of a UNIX socket with this header and attributes.
+fn push_unix_lines(
+    text: &mut Vec<u8>,
+    header: &UnixResponseHeader,
+    attributes: &[u8],
+) -> Result<(), AllocError>
+    ensures { OnOk result (text.new.items ≡ text.old.items
+        ++ unix_lines header.now (pieces 0 attributes.now)) }
+{
+    push_unix_line(text, header, attributes)?;
+    push_details(text, Sockets::Unix, &header.cookie, attributes)
+}
+
+/// Adds the line of a UNIX socket.
+fn push_unix_line(
+    text: &mut Vec<u8>,
+    header: &UnixResponseHeader,
+    attributes: &[u8],
+) -> Result<(), AllocError>
+    ensures { OnOk result (text.new.items ≡ text.old.items
+        ++ unix_line header.now (pieces 0 attributes.now)) }
+{
+    push_first_columns(text, &unix_cells(header, queues_in(attributes)))?;
+    push_name_column(text, LOCAL, name_in(attributes))?;
+    push_peer(text, peer_in(attributes))?;
     Ok(text.push(b'\n')?)
 }
 
-/// The first columns of a UNIX socket. The queues of a listening one are connections.
-fn unix_cells(reply: &UnixResponseView<'_>) -> Cells
-    ensures { let v = viewed reply.now in let queues = first_of (content unix 4) v.nlas in
-        shown_cells result ≡ record {
-          kind = unix_kind v.header.kind;
-          state = v.header.state;
-          receive_queue = option_map (λ ns. ns.0) queues;
-          send_queue = option_map (λ ns. ns.1) queues;
-          inode = v.header.inode;
-          uid = None;
-        } }
+/// The first columns of a UNIX socket, whose queues have these lengths. Those of a listening one
+/// are connections.
+fn unix_cells(header: &UnixResponseHeader, queues: Option<(u32, u32)>) -> Cells
+    ensures { shown_cells result ≡ record {
+      kind = unix_kind header.now.kind;
+      state = header.now.state;
+      receive_queue = option_map (λ ns. ns.0) queues;
+      send_queue = option_map (λ ns. ns.1) queues;
+      inode = header.now.inode;
+      uid = None;
+    } }
 {
-    let header = reply.header();
-    let (receive_queue, send_queue) = if header.state == TCP_LISTEN {
-        (
-            reply.number_of_pending_connection(),
-            reply.max_number_of_pending_connection(),
-        )
-    } else {
-        (reply.receive_queue_size(), reply.send_queue_size())
+    let (receive_queue, send_queue) = match queues {
+        Some((receive, send)) => (Some(receive), Some(send)),
+        None => (None, None),
     };
     Cells {
         kind: name_of_kind(header.kind),
@@ -108,6 +165,46 @@ fn unix_cells(reply: &UnixResponseView<'_>) -> Cells
         send_queue,
         inode: header.inode,
         uid: None,
+    }
+}
+
+/// The name of a UNIX socket, where one is told that can be read.
+fn name_in<'a>(attributes: &'a [u8]) -> Option<NameView<'a>>
+    ensures { option_map viewed_name result
+        ≡ value_told unix 0 (pieces 0 attributes.entry.now) }
+{
+    match find_kind(attributes, UNIX_DIAG_NAME) {
+        Some(nla) => match NlaView::parse(&nla) {
+            Ok(NlaView::Name(name)) => Some(name),
+            _ => None,
+        },
+        None => None,
+    }
+}
+
+/// The inode of its peer, likewise.
+fn peer_in(attributes: &[u8]) -> Option<u32>
+    ensures { result ≡ value_told unix 2 (pieces 0 attributes.now) }
+{
+    match find_kind(attributes, UNIX_DIAG_PEER) {
+        Some(nla) => match NlaView::parse(&nla) {
+            Ok(NlaView::Peer(inode)) => Some(inode),
+            _ => None,
+        },
+        None => None,
+    }
+}
+
+/// The lengths of its queues, likewise.
+fn queues_in(attributes: &[u8]) -> Option<(u32, u32)>
+    ensures { result ≡ value_told unix 4 (pieces 0 attributes.now) }
+{
+    match find_kind(attributes, UNIX_DIAG_RQLEN) {
+        Some(nla) => match NlaView::parse(&nla) {
+            Ok(NlaView::ReceiveQueueLength(first, second)) => Some((first, second)),
+            _ => None,
+        },
+        None => None,
     }
 }
 
@@ -123,12 +220,37 @@ fn name_of_kind(kind: u8) -> &'static [u8]
     }
 }
 
-/// Adds the line of an IPv4 or IPv6 socket, and those of what is told of a TCP connection.
-fn push_inet(text: &mut Vec<u8>, reply: &InetResponseView<'_>) -> Result<(), AllocError>
-    ensures { OnOk result (text.new.items ≡ text.old.items ++ inet_lines (viewed reply.now)) }
+/// Adds the lines of an IPv4 or IPv6 socket, and gives the fault of the reply, if it has one.
+#[tactic(auto, using(netlink_packet_sock_diag::specs::InetReplyLaws::header_enough))]
+fn push_inet(text: &mut Vec<u8>, payload: &[u8]) -> Result<Option<DecodeError>, AllocError>
+    ensures lines { OnOk result (text.new.items ≡ text.old.items
+        ++ lines_behind inet_lines (read inet_response_header tt payload.now)
+        (pieces 0 (drop 72 payload.now))) }
+    ensures fault { IfOk result (λ fault. fault
+        ≡ fault_behind (read inet_response_header tt payload.now)
+        (pieces 0 (drop 72 payload.now))) }
 {
-    push_inet_line(text, &reply.header())?;
-    push_details(text, reply.attributes())
+    match InetResponseHeader::from_prefix(payload) {
+        Ok(header) => {
+            let attributes = &payload[INET_HEADER..];
+            push_inet_lines(text, &header, attributes)?;
+            Ok(find_fault(attributes))
+        }
+        Err(fault) => Ok(Some(fault)),
+    }
+}
+
+/// Adds the lines of an IPv4 or IPv6 socket with this header and attributes.
+fn push_inet_lines(
+    text: &mut Vec<u8>,
+    header: &InetResponseHeader,
+    attributes: &[u8],
+) -> Result<(), AllocError>
+    ensures { OnOk result (text.new.items ≡ text.old.items
+        ++ inet_lines header.now (pieces 0 attributes.now)) }
+{
+    push_inet_line(text, header)?;
+    push_details(text, Sockets::Inet, &header.socket_id.cookie, attributes)
 }
 
 /// Adds the line of an IPv4 or IPv6 socket.
@@ -171,68 +293,4 @@ fn inet_cells(header: &InetResponseHeader) -> Cells
         inode: header.inode,
         uid: Some(header.uid),
     }
-}
-
-/// Adds a line for each attribute that tells of a TCP connection.
-fn push_details(text: &mut Vec<u8>, attributes: NlaViews<'_>) -> Result<(), AllocError>
-    ensures { OnOk result (text.new.items ≡ text.old.items ++ flat_map details_of
-        (left_in inet attributes.entry)) }
-{
-    for attribute in attributes {
-        push_attribute(text, &attribute)?;
-    }
-    Ok(())
-}
-
-/// Adds the line of an attribute that tells of a TCP connection, and nothing for another.
-fn push_attribute(text: &mut Vec<u8>, attribute: &NlaView<'_>) -> Result<(), AllocError>
-    ensures { OnOk result (text.new.items ≡ text.old.items
-        ++ details_of (viewed_nla attribute.now)) }
-{
-    match attribute {
-        NlaView::TcpInfo(info) => push_connection(text, info),
-        _ => Ok(()),
-    }
-}
-
-/// Adds the line of a TCP connection.
-fn push_connection(text: &mut Vec<u8>, info: &TcpInfo) -> Result<(), AllocError>
-    ensures { OnOk result (text.new.items ≡ text.old.items ++ details_line info.now) }
-{
-    text.push(b'\t')?;
-    push_times(text, info)?;
-    push_traffic(text, info)?;
-    Ok(text.push(b'\n')?)
-}
-
-/// Adds the times and the sizes of a TCP connection.
-fn push_times(text: &mut Vec<u8>, info: &TcpInfo) -> Result<(), AllocError>
-    ensures { OnOk result (text.new.items ≡ text.old.items ++ times info.now) }
-{
-    push_detail(text, b"rtt", info.rtt.into())?;
-    push_detail(text, b"rttvar", info.rttvar.into())?;
-    push_detail(text, b"rto", info.rto.into())?;
-    push_detail(text, b"mss", info.snd_mss.into())?;
-    push_detail(text, b"pmtu", info.pmtu.into())
-}
-
-/// Adds what a TCP connection has sent and received.
-fn push_traffic(text: &mut Vec<u8>, info: &TcpInfo) -> Result<(), AllocError>
-    ensures { OnOk result (text.new.items ≡ text.old.items ++ traffic info.now) }
-{
-    push_detail(text, b"cwnd", info.snd_cwnd.into())?;
-    push_detail(text, b"unacked", info.unacked.into())?;
-    push_detail(text, b"retrans", info.total_retrans.into())?;
-    push_detail(text, b"sent", info.bytes_sent)?;
-    push_detail(text, b"received", info.bytes_received)
-}
-
-/// Adds a space, a word, a colon and a number.
-fn push_detail(text: &mut Vec<u8>, word: &[u8], number: u64) -> Result<(), AllocError>
-    ensures { OnOk result (text.new.items ≡ text.old.items ++ detail word.now number) }
-{
-    text.push(b' ')?;
-    text.extend_from_slice(word)?;
-    text.push(b':')?;
-    push_number(text, number)
 }

@@ -1,17 +1,20 @@
 //! The sockets that the packets of a capture tell, line by line, and what is told of a packet that
 //! can't be listed whole.
 
-ghost use Rattle.std.specs.Prelude.{◌≡◌, ◌↔◌, ◌++◌, IfOk, OnOk, IsTrue};
-ghost use Rattle.netlink_packet_sock_diag.specs.ViewedPayload.{viewed_item};
+ghost use Rattle.std.specs.Prelude.{◌≡◌, ◌↔◌, ◌≤◌, ◌++◌, IfOk, OnOk, IsTrue, length, option_map};
 ghost use Rattle.sock_diag_captures.specs.Listing.{IsPlain, IsRequest, Lists, ListsPacket};
-ghost use Rattle.sock_diag_captures.specs.Listing.{error_complaint, error_number, fault_complaint};
-ghost use Rattle.sock_diag_captures.specs.Listing.{item_complaint, item_lines};
+ghost use Rattle.sock_diag_captures.specs.Listing.{complaint_under, control_complaint};
+ghost use Rattle.sock_diag_captures.specs.Listing.{error_complaint, error_number, lines_under};
+ghost use Rattle.sock_diag_captures.specs.Listing.{message_complaint, message_lines};
+ghost use Rattle.sock_diag_captures.specs.declared.list.Complaint.TheVariants.{Refused};
 
 use crate::capture::Packet;
-use crate::line::push_socket;
+use crate::line::push_reply;
 use byteorder::{ByteOrder, LittleEndian};
-use netlink_core::{DecodeError, NLM_F_REQUEST, NetlinkHeader};
-use netlink_packet_sock_diag::{DumpViews, PayloadView};
+use netlink_core::{
+    DecodeError, MessageStrings, NETLINK_HEADER_LEN, NLM_F_REQUEST, NLMSG_NOOP,
+    NLMSG_OVERRUN, NetlinkHeader,
+};
 use std::alloc::AllocError;
 use std::io::Write;
 use thiserror::Error;
@@ -76,7 +79,7 @@ fn is_request(datagram: &[u8]) -> bool
 }
 
 /// Adds the lines of the sockets that a datagram tells, and what is told of it, and answers whether
-/// it was listed whole.
+/// it was listed whole. At what is no message it ends.
 fn list_datagram(written: &mut Written, number: u64, datagram: &[u8]) -> Result<bool, AllocError>
     ensures { IfOk result (Lists datagram.now written.old.lines.items written.new.lines.items) }
 {
@@ -85,26 +88,34 @@ fn list_datagram(written: &mut Written, number: u64, datagram: &[u8]) -> Result<
         packet: number,
         message: 0,
     };
-    for item in DumpViews::new(datagram) {
+    for item in MessageStrings::new(datagram) {
         place.message = place.message.saturating_add(1);
-        let is_plain = list_item(written, place, item)?;
-        is_clean = is_clean && is_plain;
+        match item {
+            Ok(message) => {
+                let is_plain = list_message(written, place, message)?;
+                is_clean = is_clean && is_plain;
+            }
+            Err(fault) => {
+                push_complaint(&mut written.complaints, place, &Complaint::Refused(fault))?;
+                return Ok(false);
+            }
+        }
     }
     Ok(is_clean)
 }
 
-/// Adds the lines of a message, or what is told of it, and answers whether nothing is.
-fn list_item(
+/// Adds the lines of a message and what is told of it, and answers whether nothing is.
+fn list_message(
     written: &mut Written,
     place: Place,
-    item: Result<PayloadView<'_>, DecodeError>,
+    message: &[u8],
 ) -> Result<bool, AllocError>
+    requires { 16 ≤ length message.now }
     ensures lines { OnOk result (written.new.lines.items ≡ written.old.lines.items
-        ++ item_lines (viewed_item item.entry)) }
-    ensures plain { IfOk result (λ is_plain. IsTrue is_plain ↔ IsPlain (viewed_item item.entry)) }
+        ++ message_lines message.now) }
+    ensures plain { IfOk result (λ is_plain. IsTrue is_plain ↔ IsPlain message.now) }
 {
-    push_lines(&mut written.lines, &item)?;
-    match complaint_about(item) {
+    match push_message(&mut written.lines, message)? {
         Some(complaint) => {
             push_complaint(&mut written.complaints, place, &complaint)?;
             Ok(false)
@@ -113,42 +124,56 @@ fn list_item(
     }
 }
 
-/// Adds the lines of a message, where it is a reply.
-fn push_lines(
+/// Adds the lines of a message, where it is a reply, and gives what is told of it: that it is
+/// refused, that it tells an error, or that data was lost.
+fn push_message(lines: &mut Vec<u8>, message: &[u8]) -> Result<Option<Complaint>, AllocError>
+    requires { 16 ≤ length message.now }
+    ensures lines { OnOk result (lines.new.items ≡ lines.old.items ++ message_lines message.now) }
+    ensures complaint { IfOk result (λ told. told ≡ message_complaint message.now) }
+{
+    push_payload(
+        lines,
+        LittleEndian::read_u16(&message[4..]),
+        &message[NETLINK_HEADER_LEN..],
+    )
+}
+
+/// The same of what stands behind the header of a message of this type.
+fn push_payload(
     lines: &mut Vec<u8>,
-    item: &Result<PayloadView<'_>, DecodeError>,
-) -> Result<(), AllocError>
-    ensures { OnOk result (lines.new.items ≡ lines.old.items ++ item_lines (viewed_item item.now)) }
+    message_type: u16,
+    payload: &[u8],
+) -> Result<Option<Complaint>, AllocError>
+    ensures lines { OnOk result (lines.new.items ≡ lines.old.items
+        ++ lines_under message_type payload.now) }
+    ensures complaint { IfOk result (λ told. told ≡ complaint_under message_type payload.now) }
 {
-    match item {
-        Ok(PayloadView::InnerMessage(view)) => push_socket(lines, view),
-        _ => Ok(()),
+    if (NLMSG_NOOP..=NLMSG_OVERRUN).contains(&message_type) {
+        return Ok(complaint_about_control(message_type, payload));
+    }
+    let fault = push_reply(lines, message_type, payload)?;
+    Ok(complaint_about_fault(fault))
+}
+
+/// What is told of a message that says nothing, tells an error, ends a dump, or says that data was
+/// lost.
+fn complaint_about_control(message_type: u16, payload: &[u8]) -> Option<Complaint>
+    ensures { result ≡ control_complaint message_type payload.now }
+{
+    match message_type {
+        NLMSG_NOOP => None,
+        NLMSG_OVERRUN => Some(Complaint::Lost),
+        _ => complaint_about_error(error_of(payload)),
     }
 }
 
-/// What is told of a message: that it is refused, that it tells an error, or that data was lost. A
-/// socket of another family than those that are listed is passed over.
-#[tactic(auto, unfolding(crate::specs::Listing::item_complaint))]
-fn complaint_about(item: Result<PayloadView<'_>, DecodeError>) -> Option<Complaint>
-    ensures { result ≡ item_complaint (viewed_item item.entry) }
-{
-    match item {
-        Err(fault) => complaint_about_fault(fault),
-        Ok(PayloadView::Done(payload)) | Ok(PayloadView::Error(payload)) => {
-            complaint_about_error(error_of(payload))
-        }
-        Ok(PayloadView::Overrun(_)) => Some(Complaint::Lost),
-        Ok(PayloadView::Noop) | Ok(PayloadView::InnerMessage(_)) => None,
-    }
-}
-
-/// What is told of a fault.
-fn complaint_about_fault(fault: DecodeError) -> Option<Complaint>
-    ensures { result ≡ fault_complaint fault }
+/// What is told of a fault, if there is one.
+fn complaint_about_fault(fault: Option<DecodeError>) -> Option<Complaint>
+    ensures { result ≡ option_map Refused fault }
 {
     match fault {
-        DecodeError::UnknownFamily { .. } => None,
-        fault => Some(Complaint::Refused(fault)),
+        Some(fault) => Some(Complaint::Refused(fault)),
+        None => None,
     }
 }
 

@@ -1,33 +1,44 @@
-use Rattle.netlink_packet_sock_diag.specs.Message.{message_codec}
-use Rattle.netlink_packet_sock_diag.specs.ViewedPayload.{viewed_item}
-use Rattle.sock_diag_captures.specs.Listing.{IsPlain, item_lines}
+use Rattle.std.proofs.Common.{None, Some, refl}
+use Rattle.sock_diag_captures.specs.Listing.{IsPlain, message_lines}
 use Rattle.sock_diag_captures.proofs.Listings.{goes_on_clean, goes_on_unclean, listing_begins}
-use Rattle.sock_diag_captures.proofs.Listings.{listing_ends}
-use Rattle.sock_diag_captures.proofs.Steps.{gives_item}
+use Rattle.sock_diag_captures.proofs.Listings.{listing_ends, listing_stops}
 use Rattle.sock_diag_captures.proofs.list.list_datagram.Goals as goal
 
 pub loop-item-init : goal.loop-item-init
 loop-item-init c = rw (c.into_iter-item-iterator.ensures.into_iter_gives, c.new-item-items.ensures)
-    (listing_begins message_codec item_lines IsPlain c.args.datagram.now _)
+    (listing_begins message_lines IsPlain c.args.datagram.now _)
 
 pub loop-item-preserved : goal.loop-item-preserved
 loop-item-preserved c =
-    goes_on_unclean message_codec item_lines IsPlain _ _ _ _ _ _ _ (viewed_item c.in-Some.item)
-    c.if-is_clean.false c.loop-item.invariant
-    (gives_item _ _ c.in-Some.item c.in-Some.ensures.steps) c.in_ok-is_plain.ensures.lines
+    let starts = rw c.in-Ok.is at c.in-Some.ensures.steps in
+    goes_on_unclean message_lines IsPlain _ _ _ _ _ _ _ c.in-Ok.message.now c.if-is_clean.false
+    c.loop-item.invariant starts c.in_ok-is_plain-in-Ok.ensures.lines
 
 pub loop-item-preserved-then-is_clean : goal.loop-item-preserved-then-is_clean
 loop-item-preserved-then-is_clean c =
-    goes_on_clean message_codec item_lines IsPlain _ _ _ _ _ _ _ _ (viewed_item c.in-Some.item)
-    c.if-is_clean.true c.loop-item.invariant
-    (gives_item _ _ c.in-Some.item c.in-Some.ensures.steps) c.in_ok-is_plain.ensures.lines
-    c.in_ok-is_plain.ensures.plain
+    let starts = rw c.in-Ok.is at c.in-Some.ensures.steps in
+    goes_on_clean message_lines IsPlain _ _ _ _ _ _ _ _ c.in-Ok.message.now c.if-is_clean.true
+    c.loop-item.invariant starts c.in_ok-is_plain-in-Ok.ensures.lines
+    c.in_ok-is_plain-in-Ok.ensures.plain
+
+pub returns-in-Err : goal.returns-in-Err
+returns-in-Err c =
+    let stop = rw c.in-Err.is at c.in-Some.ensures.steps in record {
+      messages = c.loop-item.invariant.passed;
+      end = Some c.in-Err.fault;
+      cut = listing_stops message_lines IsPlain _ _ _ _ _ c.in-Err.fault c.loop-item.invariant
+          stop.0 stop.1;
+      lines = c.loop-item.invariant.lines;
+      clean = (λ wrong. absurd cc, λ both. absurd (let none = both.1 in cc));
+    }
 
 pub returns : goal.returns
 returns c = record {
-  items = c.loop-item.invariant.passed;
-  carried = listing_ends message_codec item_lines IsPlain _ _ _ _ _ c.loop-item.invariant
+  messages = c.loop-item.invariant.passed;
+  end = None;
+  cut = listing_ends message_lines IsPlain _ _ _ _ _ c.loop-item.invariant
       c.in-None.ensures.steps.0;
   lines = c.loop-item.invariant.lines;
-  clean = (c.loop-item.invariant.flagged, c.loop-item.invariant.clean_only);
+  clean = (λ is. (c.loop-item.invariant.flagged is, refl),
+      λ both. c.loop-item.invariant.clean_only both.0);
 }

@@ -1,0 +1,112 @@
+-- The walk over attributes gives the pieces of its bytes.
+use Rattle.std.proofs.Common.{Result, Ok, Err, Option, Some, None, ◌≡◌, ◌≢◌, ℕ, zero, suc, ◌+◌}
+use Rattle.std.proofs.Common.{◌-◌, ◌<◌, ◌≤◌, ◌==◌, nat_lt, List, [], ◌∷◌, ◌++◌, length, drop, inl}
+use Rattle.std.proofs.Common.{inr, refl, sym, ap, ◌∙◌, append_assoc, arith}
+use Rattle.std.proofs.lemmas.List.{drop_at, drop_all, length-append}
+use Rattle.std.proofs.lemmas.Bool.{lt-ltb, le-ltb}
+use Rattle.byteorder.specs.Endian.{little_number}
+use Rattle.netlink_core.specs.Attribute.{Attribute, HeadIs, IsFramingFault, StartsWith, fill}
+use Rattle.netlink_core.specs.Attribute.{kind_of, unpadded}
+use Rattle.netlink_core.specs.FrontLaws.{word_is}
+use Rattle.netlink_core.specs.declared.fault.DecodeError.{DecodeError}
+use Rattle.netlink_core.specs.declared.fault.DecodeError.TheVariants.{AttributeHeaderCut}
+use Rattle.netlink_core.specs.declared.fault.DecodeError.TheVariants.{AttributeLengthUnder4}
+use Rattle.netlink_core.specs.declared.fault.DecodeError.TheVariants.{AttributeLengthPast}
+use Rattle.netlink_core.proofs.Walking.{StartsWith-some, head_of_start}
+use Rattle.netlink_packet_sock_diag.specs.AttributesIn.{attributes_behind, front_attribute}
+use Rattle.netlink_packet_sock_diag.proofs.Finding.{found_first}
+use Rattle.sock_diag_captures.specs.Pieces.{Piece, first_of_kind, followed, framing_fault}
+use Rattle.sock_diag_captures.specs.Pieces.{front_piece, pieces}
+
+-- those behind so many bytes are those at the front of what follows them
+behind_is : (n : ℕ) (bytes : List ℕ) → pieces n bytes ≡ pieces 0 (drop n bytes)
+unfolding pieces
+behind_is zero [] = refl
+behind_is zero (b ∷ bs) = refl
+behind_is (suc n) [] = refl
+behind_is (suc n) (b ∷ bs) = behind_is n bs
+
+-- the attribute in front by its two words
+front_is : (bytes rest : List ℕ) (a : Attribute) → StartsWith bytes a rest
+    → front_attribute bytes ≡ a
+unfolding attributes_behind
+front_is [] rest a s = absurd (StartsWith-some [] rest a s refl)
+front_is (b ∷ bs) rest a s = let found = found_first (b ∷ bs) rest a s in cc
+
+-- the length word counts the attribute, which the bytes have
+word_of : (bytes rest : List ℕ) (a : Attribute) (s : StartsWith bytes a rest)
+    → (little_number 2 bytes ≡ 4 + length a.value)
+    × (length bytes ≡ 4 + length a.value + (length s.padding + length rest))
+word_of bytes rest a s = (
+  (word_is bytes a (head_of_start bytes rest a s)).0,
+  ap length s.parts ∙ length-append (unpadded a) (s.padding ++ rest)
+      ∙ omega (arith, length-append s.padding rest),
+)
+
+-- the attribute in front is the first piece
+front_stands : (bytes rest : List ℕ) (a : Attribute) → StartsWith bytes a rest
+    → front_piece bytes ≡ Ok a
+front_stands bytes rest a s =
+    let sizes = word_of bytes rest a s in
+    rw (le-ltb (length bytes) 4 (omega (arith, sizes)),
+    le-ltb (little_number 2 bytes) 4 (omega (arith, sizes)),
+    le-ltb (length bytes) (little_number 2 bytes) (omega (arith, sizes)))
+    (ap Ok (front_is bytes rest a s))
+
+-- what stands behind it is the rest
+rest_is : (bytes rest : List ℕ) (a : Attribute) → StartsWith bytes a rest
+    → drop (little_number 2 bytes + fill (little_number 2 bytes)) bytes ≡ rest
+rest_is bytes rest a s =
+    let sizes = word_of bytes rest a s in
+    let front : List ℕ = unpadded a ++ s.padding in
+    let parts : bytes ≡ front ++ rest = s.parts ∙ sym (append_assoc (unpadded a) s.padding rest) in
+    let long : length front ≡ 4 + length a.value + length s.padding =
+    length-append (unpadded a) s.padding ∙ omega arith in
+    let n : ℕ = little_number 2 bytes + fill (little_number 2 bytes) in
+    elim s.filled [
+      | inl full ↦ ap (drop n) parts ∙ drop_at front rest n (omega (arith, full, sizes.0, long))
+      | inr short ↦
+          let none : length rest ≡ 0 = ap length short.1 in
+          drop_all n bytes (omega (arith, short.0, sizes, none)) ∙ sym short.1
+    ]
+
+-- an attribute comes first, and then the pieces of the rest
+pub piece_first : (bytes rest : List ℕ) (a : Attribute) → StartsWith bytes a rest
+    → pieces 0 bytes ≡ Ok a ∷ pieces 0 rest
+unfolding pieces
+piece_first [] rest a s = absurd (StartsWith-some [] rest a s refl)
+piece_first (b ∷ bs) rest a s =
+    let all : List ℕ = b ∷ bs in
+    let word : ℕ = little_number 2 all in
+    let n : ℕ = word + fill word - 1 in
+    let next : suc n ≡ word + fill word = omega (arith, word_of all rest a s) in
+    let behind : drop n bs ≡ rest = ap (λ (k : ℕ). drop k all) next ∙ rest_is all rest a s in
+    let later : pieces n bs ≡ pieces 0 rest = behind_is n bs ∙ ap (pieces 0) behind in
+    ap (λ (p : Piece). followed p (pieces n bs)) (front_stands all rest a s)
+    ∙ ap (λ (l : List Piece). Ok a ∷ l) later
+
+-- the fault in front is the first piece
+front_fails : (bytes : List ℕ) (e : DecodeError) → IsFramingFault bytes e → front_piece bytes ≡ Err e
+front_fails bytes (AttributeHeaderCut left) f =
+    rw (lt-ltb (length bytes) 4 f.1, f.0) refl
+front_fails bytes (AttributeLengthUnder4 word) (is, long, short) =
+    rw (le-ltb (length bytes) 4 long, ← is, lt-ltb word 4 short) refl
+front_fails bytes (AttributeLengthPast word left) (is, same, long, whole, past) =
+    rw (le-ltb (length bytes) 4 long, ← is, le-ltb word 4 whole, lt-ltb (length bytes) word past,
+    same) refl
+front_fails bytes _ f = absurd f
+
+-- a fault comes alone
+pub piece_fails : (bytes : List ℕ) (e : DecodeError) → bytes ≢ [] → IsFramingFault bytes e
+    → pieces 0 bytes ≡ Err e ∷ []
+unfolding pieces
+piece_fails [] e some f = absurd (some refl)
+piece_fails (b ∷ bs) e some f = rw (front_fails (b ∷ bs) e f) refl
+
+-- no bytes have no pieces
+pub no_piece : pieces 0 [] ≡ []
+unfolding pieces
+no_piece = refl
+
+-- what a step of the walk gives
+pub ruleset stepping = (piece_first, piece_fails, no_piece)

@@ -1,0 +1,7 @@
+use Rattle.std.proofs.lemmas.List.{take_rest}
+use Rattle.sock_diag_captures.proofs.line.push_unix.Goals as goal
+
+pub returns-in_ok-push_unix_lines-in-Ok-clause-fault :
+    goal.returns-in_ok-push_unix_lines-in-Ok-clause-fault
+returns-in_ok-push_unix_lines-in-Ok-clause-fault c =
+    rw (← c.in-Ok.ensures) (rw (take_rest c.args.payload.now 16) at c.find_fault.ensures)

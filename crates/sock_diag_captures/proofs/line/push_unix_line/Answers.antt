@@ -1,0 +1,12 @@
+use Rattle.std.proofs.Common.{◌++◌, ap, ◌∙◌}
+use Rattle.sock_diag_captures.specs.Table.{first_columns}
+use Rattle.sock_diag_captures.proofs.Adding.{adds}
+use Rattle.sock_diag_captures.proofs.line.push_unix_line.Goals as goal
+
+pub returns : goal.returns
+returns c =
+    let columns = c.in_ok-push_first_columns.ensures
+    ∙ ap (λ cells. c.args.text.now.items ++ first_columns cells) c.unix_cells.ensures in
+    rw (← c.queues_in.ensures, ← c.name_in.ensures, ← c.peer_in.ensures)
+    (adds _ _ _ _ _ (adds _ _ _ _ _ (adds _ _ _ _ _ columns c.in_ok-push_name_column.ensures)
+    c.in_ok-push_peer.ensures) c.in_ok-push.ensures.items)

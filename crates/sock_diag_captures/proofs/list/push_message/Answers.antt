@@ -1,0 +1,15 @@
+use Rattle.std.proofs.Common.{◌∙◌, ap}
+use Rattle.std.proofs.lemmas.List.{take_rest}
+use Rattle.std.proofs.lemmas.Result.{IfOk-weaker}
+use Rattle.byteorder.specs.Endian.{little_number}
+use Rattle.sock_diag_captures.specs.Listing.{complaint_under}
+use Rattle.sock_diag_captures.proofs.list.push_message.Goals as goal
+
+pub returns-clause-complaint : goal.returns-clause-complaint
+returns-clause-complaint c =
+    let message = c.args.message.now in
+    let of_type = c.read_u16.ensures ∙ ap (little_number 2) (take_rest message 4) in
+    let behind = take_rest message 16 in
+    IfOk-weaker c.push_payload.result _ _
+    (λ told is. is ∙ (λ i. complaint_under (of_type i) (behind i)))
+    c.push_payload.ensures.complaint

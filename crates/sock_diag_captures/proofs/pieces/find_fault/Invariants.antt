@@ -1,0 +1,10 @@
+use Rattle.std.proofs.Common.{◌≡◌, length}
+use Rattle.sock_diag_captures.specs.Pieces.{framing_fault, pieces, pieces_left}
+use Rattle.sock_diag_captures.proofs.pieces.find_fault.Given as goal
+
+-- the fault among those that are left is that of all
+abbrev pub invariant-loop-piece : goal.invariant-loop-piece
+invariant-loop-piece l = framing_fault (pieces_left l.walk) ≡ framing_fault (pieces 0 l.bytes)
+
+abbrev pub decreases-loop-piece : goal.decreases-loop-piece
+decreases-loop-piece l = length (pieces_left l.walk)

@@ -1,0 +1,70 @@
+-- The attributes that stand in bytes one after the other, up to the end or to what is none.
+use Rattle.std.specs.Prelude.{ℕ, zero, suc, ◌+◌, ◌-◌, ◌==◌, nat_lt, if◌then◌else◌, List, [], ◌∷◌}
+use Rattle.std.specs.Prelude.{length, Option, None, Some, option_and_then, Result, Ok, Err}
+use Rattle.byteorder.specs.Endian.{little_number}
+use Rattle.netlink_core.specs.Attribute.{Attribute, fill, kind_of}
+use Rattle.netlink_core.specs.Family.{Family, Said, ValueAt, content, says}
+use Rattle.netlink_core.specs.Faults.{said_as}
+use Rattle.netlink_core.specs.Walk.{attribute_of, bytes_left}
+use Rattle.netlink_core.specs.declared.attribute.NlaBuffer.{NlaBuffer}
+use Rattle.netlink_core.specs.declared.attribute.NlasIterator.{NlasIterator}
+use Rattle.netlink_core.specs.declared.fault.DecodeError.{DecodeError}
+use Rattle.netlink_core.specs.declared.fault.DecodeError.TheVariants.{AttributeHeaderCut}
+use Rattle.netlink_core.specs.declared.fault.DecodeError.TheVariants.{AttributeLengthUnder4}
+use Rattle.netlink_core.specs.declared.fault.DecodeError.TheVariants.{AttributeLengthPast}
+use Rattle.netlink_packet_sock_diag.specs.AttributesIn.{front_attribute}
+
+-- an attribute, or why none stands there
+abbrev pub Piece : Type 0
+Piece = Result Attribute DecodeError
+
+-- the attribute in front, or the first reason why none stands there
+abbrev pub front_piece : List ℕ → Piece
+front_piece bytes =
+    let word = little_number 2 bytes in
+    if nat_lt (length bytes) 4 then Err (AttributeHeaderCut (length bytes))
+    else if nat_lt word 4 then Err (AttributeLengthUnder4 word)
+    else if nat_lt (length bytes) word then Err (AttributeLengthPast word (length bytes))
+    else Ok (front_attribute bytes)
+
+-- nothing follows a fault
+abbrev pub followed : Piece → List Piece → List Piece
+followed (Ok a) later = Ok a ∷ later
+followed (Err e) later = Err e ∷ []
+
+-- the pieces behind the next so many bytes, each attribute at the next multiple of four
+unfoldable pub pieces : ℕ → List ℕ → List Piece
+pieces n [] = []
+pieces zero (byte ∷ bytes) =
+    let word = little_number 2 (byte ∷ bytes) in
+    followed (front_piece (byte ∷ bytes)) (pieces (word + fill word - 1) bytes)
+pieces (suc n) (byte ∷ bytes) = pieces n bytes
+
+-- what is seen of an item of a walk
+abbrev pub piece_of : Result NlaBuffer DecodeError → Piece
+piece_of item = said_as attribute_of item
+
+-- the pieces that a walk has not given yet
+abbrev pub pieces_left : NlasIterator → List Piece
+pieces_left walk = pieces 0 (bytes_left walk)
+
+-- why the last piece is no attribute
+abbrev pub framing_fault : List Piece → Option DecodeError
+framing_fault [] = None
+framing_fault (Ok a ∷ later) = framing_fault later
+framing_fault (Err e ∷ later) = Some e
+
+-- the first attribute of a kind
+abbrev pub first_of_kind : ℕ → List Piece → Option Attribute
+first_of_kind k [] = None
+first_of_kind k (Ok a ∷ later) = if kind_of a == k then Some a else first_of_kind k later
+first_of_kind k (Err e ∷ later) = first_of_kind k later
+
+-- the value of a kind that was read
+abbrev pub value_read : (F : Family) → (k : ℕ) → Result (Said F) DecodeError → Option (ValueAt F k)
+value_read F k (Ok said) = content F k said
+value_read F k (Err e) = None
+
+-- what the first attribute of a kind says, where it can be read
+abbrev pub value_told : (F : Family) → (k : ℕ) → List Piece → Option (ValueAt F k)
+value_told F k given = option_and_then (λ a. value_read F k (says F a)) (first_of_kind k given)

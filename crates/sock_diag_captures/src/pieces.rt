@@ -1,0 +1,46 @@
+//! The attributes behind the header of a reply, each by itself: one that is refused hides no other.
+
+ghost use Rattle.std.specs.Prelude.{◌≡◌, option_map};
+ghost use Rattle.std.specs.Iterator.{YieldsFirstBy};
+ghost use Rattle.netlink_core.specs.Walk.{attribute_of};
+ghost use Rattle.sock_diag_captures.specs.Pieces.{first_of_kind, framing_fault, piece_of, pieces};
+ghost use Rattle.sock_diag_captures.specs.Pieces.{pieces_left};
+
+use netlink_core::{DecodeError, NlaBuffer, NlasIterator};
+
+/// The next attribute, or why none stands there. Nothing comes behind a fault.
+#[tactic(auto, using(crate::proofs::PieceWalk::stepping))]
+pub(crate) fn next_piece<'a>(
+    walk: &mut NlasIterator<'a>,
+) -> Option<Result<NlaBuffer<'a>, DecodeError>>
+    ensures { YieldsFirstBy piece_of pieces_left walk.old result walk.new }
+{
+    walk.next()
+}
+
+/// The first attribute of this kind.
+pub(crate) fn find_kind<'a>(bytes: &'a [u8], kind: u16) -> Option<NlaBuffer<'a>>
+    ensures { option_map attribute_of result ≡ first_of_kind kind (pieces 0 bytes.entry.now) }
+{
+    let mut walk = NlasIterator::new(bytes);
+    while let Some(piece) = next_piece(&mut walk) {
+        match piece {
+            Ok(nla) if nla.kind() == kind => return Some(nla),
+            _ => {}
+        }
+    }
+    None
+}
+
+/// Why what stands behind the last attribute is none, where bytes are left there.
+pub(crate) fn find_fault(bytes: &[u8]) -> Option<DecodeError>
+    ensures { result ≡ framing_fault (pieces 0 bytes.now) }
+{
+    let mut walk = NlasIterator::new(bytes);
+    while let Some(piece) = next_piece(&mut walk) {
+        if let Err(fault) = piece {
+            return Some(fault);
+        }
+    }
+    None
+}
