@@ -1,7 +1,7 @@
 -- The lines of the table.
 use Rattle.std.specs.Prelude.{ℕ, ◌-◌, ◌==◌, nat_le, if◌then◌else◌, Bool, true, false, ◌&&◌, List}
 use Rattle.std.specs.Prelude.{[], ◌∷◌, ◌++◌, length, replicate, flat_map, codes, decimal, Option}
-use Rattle.std.specs.Prelude.{None, Some, slice_get, unwrap_or, option_map}
+use Rattle.std.specs.Prelude.{None, Some, slice_get, slice_index, unwrap_or, option_map, drop, ◌||◌}
 use Rattle.std.specs.declared.net.ip_addr.IpAddr.{IpAddr}
 use Rattle.std.specs.declared.net.ip_addr.IpAddr.TheVariants.{V4, V6}
 use Rattle.std.specs.Net.Text.{ip_text, scope_text}
@@ -39,9 +39,24 @@ state_name state = unwrap_or (slice_get state_names state) (codes "UNKNOWN")
 abbrev pub is_plain : ℕ → Bool
 is_plain c = (nat_le 33 c && nat_le c 126) && (if c == 92 then false else true)
 
--- a byte that is not plain is a backslash, `x` and two digits
+-- a backslash, `x` and the two digits of a byte
+abbrev pub byte_digits : ℕ → List ℕ
+byte_digits c = 92 ∷ 120 ∷ encode_lower (c ∷ [])
+
+-- a byte that is not plain is told by its digits
 abbrev pub escaped : ℕ → List ℕ
-escaped c = if is_plain c then c ∷ [] else 92 ∷ 120 ∷ encode_lower (c ∷ [])
+escaped c = if is_plain c then c ∷ [] else byte_digits c
+
+-- The first byte of a path of so many bytes. As `@` it would look like an abstract name, and as `*`
+-- alone like none, so these are told by their digits.
+abbrev pub path_front : ℕ → ℕ → List ℕ
+path_front c count = if (c == 64) || ((c == 42) && (count == 1)) then byte_digits c else escaped c
+
+-- a path
+abbrev pub path_text : List ℕ → List ℕ
+path_text path =
+    if length path == 0 then []
+    else path_front (slice_index path 0) (length path) ++ flat_map escaped (drop 1 path)
 
 -- ---- UNIX sockets
 
@@ -52,7 +67,7 @@ unix_kind kind = if kind == 1 then codes "u_str" else (if kind == 2 then codes "
 -- the path, or `@` and an abstract name, or `*` where none is told
 abbrev pub name_cell : Option SocketName → List ℕ
 name_cell None = codes "*"
-name_cell (Some (pathname path)) = flat_map escaped path
+name_cell (Some (pathname path)) = path_text path
 name_cell (Some (abstract address)) = 64 ∷ flat_map escaped address
 
 -- the inode of the peer, or `*` where none is told

@@ -4,7 +4,8 @@ ghost use Rattle.std.specs.Prelude.{◌≡◌, ◌++◌, ◌∷◌, [], ◌+◌,
 ghost use Rattle.std.specs.Prelude.{false, flat_map, vec_len, OnOk, option_map};
 ghost use Rattle.std.specs.Fmt.{digits};
 ghost use Rattle.sock_diag_attributes.specs.SeenName.{viewed_name};
-ghost use Rattle.sock_diag_captures.specs.Table.{column, endpoint, escaped, host, name_cell};
+ghost use Rattle.sock_diag_captures.specs.Table.{byte_digits, column, endpoint, escaped, host};
+ghost use Rattle.sock_diag_captures.specs.Table.{name_cell, path_text};
 ghost use Rattle.sock_diag_captures.specs.Table.{number_cell, peer_cell, port_text, state_name};
 
 use netlink_packet_sock_diag::unix::nlas::NameView;
@@ -105,7 +106,7 @@ pub(crate) fn push_name_column(
 {
     let start = text.len();
     match name {
-        Some(NameView::Pathname(path)) => push_escaped(text, path)?,
+        Some(NameView::Pathname(path)) => push_path(text, path)?,
         Some(NameView::Abstract(address)) => {
             text.push(b'@')?;
             push_escaped(text, address)?;
@@ -113,6 +114,23 @@ pub(crate) fn push_name_column(
         None => text.push(b'*')?,
     }
     end_column(text, start, width)
+}
+
+/// Adds a path. One that begins with `@`, as an abstract name is shown, or that is `*`, as none is,
+/// has its first byte as `\x` and two digits.
+fn push_path(text: &mut Vec<u8>, path: &[u8]) -> Result<(), AllocError>
+    ensures { OnOk result (text.new.items ≡ text.old.items ++ path_text path.now) }
+{
+    if path.is_empty() {
+        return Ok(());
+    }
+    let first = path[0];
+    if first == b'@' || (first == b'*' && path.len() == 1) {
+        push_digits(text, first)?;
+    } else {
+        push_escaped_byte(text, first)?;
+    }
+    push_escaped(text, &path[1..])
 }
 
 /// Adds bytes, those that are not plain as `\x` and two digits.
@@ -132,6 +150,13 @@ fn push_escaped_byte(text: &mut Vec<u8>, byte: u8) -> Result<(), AllocError>
     if (b'!'..=b'~').contains(&byte) && byte != b'\\' {
         return Ok(text.push(byte)?);
     }
+    push_digits(text, byte)
+}
+
+/// Adds `\x` and the two digits of a byte.
+fn push_digits(text: &mut Vec<u8>, byte: u8) -> Result<(), AllocError>
+    ensures { OnOk result (text.new.items ≡ text.old.items ++ byte_digits byte) }
+{
     let mut digits = [0u8; 2];
     if hex::encode_to_slice(&[byte], &mut digits).is_err() {
         unreachable!();
