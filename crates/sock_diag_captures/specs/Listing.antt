@@ -1,6 +1,6 @@
 -- What the datagrams of a capture are listed as.
-use Rattle.std.specs.Prelude.{◌≡◌, ◌≢◌, ◌↔◌, Bool, IsTrue, ℕ, ◌-◌, ◌^◌, ◌%◌, ◌==◌}
-use Rattle.std.specs.Prelude.{◌&&◌, if◌then◌else◌, nat_le, nat_lt, List, [], ◌++◌, ◌≤◌, ◌⊎◌, bit_and, drop}
+use Rattle.std.specs.Prelude.{◌≡◌, ◌≢◌, ◌↔◌, Bool, true, false, IsTrue, ℕ, ℤ, pos, negsuc}
+use Rattle.std.specs.Prelude.{◌+◌, ◌==◌, ◌&&◌, if◌then◌else◌, nat_le, List, [], ◌++◌, ◌≤◌, ◌⊎◌, bit_and, drop}
 use Rattle.std.specs.Prelude.{length, flat_map, Option, None, Some, option_map, Result, Ok, Err}
 use Rattle.byteorder.specs.Endian.{little_number}
 use Rattle.std.specs.List.{AllByRecursion}
@@ -19,6 +19,8 @@ use Rattle.sock_diag_captures.specs.Pieces.{Piece, framing_fault, pieces}
 use Rattle.sock_diag_captures.specs.Table.{inet_lines, unix_lines}
 use Rattle.sock_diag_captures.specs.declared.list.Complaint.{Complaint}
 use Rattle.sock_diag_captures.specs.declared.list.Complaint.TheVariants.{Refused, Answered, Lost}
+use Rattle.sock_diag_captures.specs.declared.list.Complaint.TheVariants.{Invalid, NoEntry}
+use Rattle.netlink_core.specs.Envelope.{number_in_front}
 
 -- ---- replies
 
@@ -64,19 +66,26 @@ lines_under t payload = if is_control t then [] else kind_lines (reply_kind payl
 abbrev pub message_lines : List ℕ → List ℕ
 message_lines m = lines_under (type_of m) (drop 16 m)
 
--- The number of the error that a payload begins with, which the kernel writes as a negative number
--- of four bytes. It is 0 where there is none, and where the payload has fewer bytes.
-abbrev pub error_number : List ℕ → ℕ
-error_number payload = if nat_lt (length payload) 4 then 0 else (2 ^ 32 - little_number 4 payload) % 2 ^ 32
+-- the number of errno(3) that a number below zero tells, and 0 for any other
+abbrev pub below_zero : Option ℤ → ℕ
+below_zero None = 0
+below_zero (Some (pos n)) = 0
+below_zero (Some (negsuc n)) = n + 1
 
--- the complaint about an error, if there is one
+-- that of the payload of an error or of the end of a dump
+abbrev pub errno_in : List ℕ → ℕ
+errno_in payload = below_zero (number_in_front payload)
+
+-- what is told of an error: ENOENT is 2, and EINVAL 22
 abbrev pub error_complaint : ℕ → Option Complaint
-error_complaint n = if n == 0 then None else Some (Answered n)
+error_complaint n =
+    if n == 0 then None else if n == 2 then Some NoEntry else if n == 22 then Some Invalid
+    else Some (Answered n)
 
 -- what is told of a message of such a type: that it is an error, or says that data was lost
 abbrev pub control_complaint : ℕ → List ℕ → Option Complaint
 control_complaint t payload =
-    if t == 1 then None else if t == 4 then Some Lost else error_complaint (error_number payload)
+    if t == 1 then None else if t == 4 then Some Lost else error_complaint (errno_in payload)
 
 -- what is told of a message of a type, also that it is refused
 abbrev pub complaint_under : ℕ → List ℕ → Option Complaint
@@ -88,9 +97,17 @@ complaint_under t payload =
 abbrev pub message_complaint : List ℕ → Option Complaint
 message_complaint m = complaint_under (type_of m) (drop 16 m)
 
--- nothing is told of a message
+-- what is told, if anything is, says of nothing that it is missing
+abbrev pub is_nothing_missing : Option Complaint → Bool
+is_nothing_missing None = true
+is_nothing_missing (Some NoEntry) = true
+is_nothing_missing (Some Invalid) = true
+is_nothing_missing (Some complaint) = false
+
+-- the message hasn't NLM_F_DUMP_INTR, 16, among its flags, and what is told of it is at most a note
 abbrev pub IsPlain : List ℕ → Type 0
-IsPlain message = message_complaint message ≡ None
+IsPlain m = (bit_and (little_number 2 (drop 6 m)) 16 ≡ 0)
+    × IsTrue (is_nothing_missing (message_complaint m))
 
 -- ---- datagrams and packets
 
@@ -105,7 +122,7 @@ pub record IsAnswer (packet : List ℕ) : Type 0 where
   pub no_request : ¬ IsRequest (drop 16 packet)
 
 -- The lines of the datagram follow those before: of each message that it is cut into, in order.
--- Whether nothing is told of any of them, and no fault stands behind them.
+-- Whether at most notes are told of them, and no fault stands behind them.
 pub record Lists (datagram before after : List ℕ) (is_clean : Bool) : Type 0 where
   pub messages : List (List ℕ)
   pub end : Option DecodeError

@@ -1,11 +1,14 @@
 //! The sockets that the packets of a capture tell, line by line, and what is told of a packet that
 //! can't be listed whole.
 
-ghost use Rattle.std.specs.Prelude.{◌≡◌, ◌↔◌, ◌≤◌, ◌++◌, IfOk, OnOk, IsTrue, length, option_map};
+ghost use Rattle.std.specs.Prelude.{◌≡◌, ◌↔◌, ◌≤◌, ◌++◌, IfOk, OnOk, IsTrue, bit_and, drop};
+ghost use Rattle.std.specs.Prelude.{length, option_map};
+ghost use Rattle.byteorder.specs.Endian.{little_number};
 ghost use Rattle.sock_diag_captures.specs.Listing.{IsPlain, IsRequest, Lists, ListsPacket};
-ghost use Rattle.sock_diag_captures.specs.Listing.{complaint_under, control_complaint};
-ghost use Rattle.sock_diag_captures.specs.Listing.{error_complaint, error_number, lines_under};
-ghost use Rattle.sock_diag_captures.specs.Listing.{message_complaint, message_lines};
+ghost use Rattle.sock_diag_captures.specs.Listing.{complaint_under, control_complaint, errno_in};
+ghost use Rattle.sock_diag_captures.specs.Listing.{error_complaint, is_nothing_missing};
+ghost use Rattle.sock_diag_captures.specs.Listing.{lines_under, message_complaint};
+ghost use Rattle.sock_diag_captures.specs.Listing.{message_lines};
 ghost use Rattle.sock_diag_captures.specs.declared.list.Complaint.TheVariants.{Refused};
 
 use crate::capture::Packet;
@@ -13,11 +16,20 @@ use crate::line::push_reply;
 use byteorder::{ByteOrder, LittleEndian};
 use netlink_core::{
     DecodeError, MessageStrings, NETLINK_HEADER_LEN, NLM_F_REQUEST, NLMSG_NOOP,
-    NLMSG_OVERRUN, NetlinkHeader,
+    NLMSG_OVERRUN, NetlinkHeader, error_number,
 };
 use std::alloc::AllocError;
 use std::io::Write;
 use thiserror::Error;
+
+/// `NLM_F_DUMP_INTR` of netlink(7).
+const DUMP_INTERRUPTED: u16 = 0x10;
+
+/// ENOENT of errno(3).
+const ENOENT: u32 = 2;
+
+/// EINVAL of errno(3).
+const EINVAL: u32 = 22;
 
 /// What is told of a packet on standard error.
 #[derive(Debug, Drop, PartialEq, Eq, Error)]
@@ -28,6 +40,17 @@ pub enum Complaint {
     /// The kernel answered an error, whose number is one of errno(3), or ended a dump with it.
     #[error("the kernel answers error {0}")]
     Answered(u32),
+    /// The kernel answered ENOENT. It has nothing of the kind that was asked for, so nothing is
+    /// missing.
+    #[error("note: the kernel answers ENOENT")]
+    NoEntry,
+    /// The kernel answered EINVAL. It doesn't know what was asked for, so nothing is missing.
+    #[error("note: the kernel answers EINVAL")]
+    Invalid,
+    /// A message has the flag `NLM_F_DUMP_INTR`: what is dumped changed meanwhile, and sockets may
+    /// be missing or told twice.
+    #[error("the dump changed while it was taken")]
+    Interrupted,
     /// The kernel told that data was lost.
     #[error("the kernel lost data")]
     Lost,
@@ -51,8 +74,8 @@ pub struct Written {
 }
 
 /// Adds the lines of the sockets that a packet of this number tells, and what is told of it. It
-/// answers whether the packet was listed whole: none of its messages was refused, tells an error or
-/// tells that data was lost.
+/// answers whether the packet was listed whole: none of its messages was refused, tells an error but
+/// ENOENT and EINVAL, or says that data was lost or that the dump changed.
 pub fn list_packet(written: &mut Written, number: u64, packet: &[u8]) -> Result<bool, AllocError>
     ensures { IfOk result (ListsPacket packet.now written.old.lines.items written.new.lines.items) }
 {
@@ -104,7 +127,8 @@ fn list_datagram(written: &mut Written, number: u64, datagram: &[u8]) -> Result<
     Ok(is_clean)
 }
 
-/// Adds the lines of a message and what is told of it, and answers whether nothing is.
+/// Adds the lines of a message and what is told of it, and answers whether that is nothing, or a
+/// note.
 fn list_message(
     written: &mut Written,
     place: Place,
@@ -115,13 +139,30 @@ fn list_message(
         ++ message_lines message.now) }
     ensures plain { IfOk result (λ is_plain. IsTrue is_plain ↔ IsPlain message.now) }
 {
-    match push_message(&mut written.lines, message)? {
-        Some(complaint) => {
-            push_complaint(&mut written.complaints, place, &complaint)?;
-            Ok(false)
-        }
-        None => Ok(true),
+    let is_steady = is_steady(message);
+    if !is_steady {
+        push_complaint(&mut written.complaints, place, &Complaint::Interrupted)?;
     }
+    let told = push_message(&mut written.lines, message)?;
+    if let Some(complaint) = &told {
+        push_complaint(&mut written.complaints, place, complaint)?;
+    }
+    Ok(is_steady && is_note(&told))
+}
+
+/// Whether a message doesn't say that what is dumped changed meanwhile.
+fn is_steady(message: &[u8]) -> bool
+    requires { 16 ≤ length message.now }
+    ensures { IsTrue result ↔ (bit_and (little_number 2 (drop 6 message.now)) 16 ≡ 0) }
+{
+    LittleEndian::read_u16(&message[6..]) & DUMP_INTERRUPTED == 0
+}
+
+/// Whether what is told, if anything is, says of nothing that it is missing.
+fn is_note(told: &Option<Complaint>) -> bool
+    ensures { result ≡ is_nothing_missing told.now }
+{
+    matches!(told, None | Some(Complaint::NoEntry | Complaint::Invalid))
 }
 
 /// Adds the lines of a message, where it is a reply, and gives what is told of it: that it is
@@ -181,22 +222,23 @@ fn complaint_about_fault(fault: Option<DecodeError>) -> Option<Complaint>
 fn complaint_about_error(number: u32) -> Option<Complaint>
     ensures { result ≡ error_complaint number }
 {
-    if number == 0 {
-        None
-    } else {
-        Some(Complaint::Answered(number))
+    match number {
+        0 => None,
+        ENOENT => Some(Complaint::NoEntry),
+        EINVAL => Some(Complaint::Invalid),
+        _ => Some(Complaint::Answered(number)),
     }
 }
 
-/// The number of the error that the payload of an error or of the end of a dump begins with. The
-/// kernel writes it as a negative number of four bytes. 0 is none, and stands for fewer bytes too.
+/// The number of errno(3) that the payload of an error or of the end of a dump tells by a number
+/// below zero, and 0 where it tells none.
 fn error_of(payload: &[u8]) -> u32
-    ensures { result ≡ error_number payload.now }
+    ensures { result ≡ errno_in payload.now }
 {
-    if payload.len() < 4 {
-        return 0;
+    match error_number(payload) {
+        Some(number) if number < 0 => number.unsigned_abs(),
+        _ => 0,
     }
-    LittleEndian::read_u32(payload).wrapping_neg()
 }
 
 /// Adds a line about a message.
