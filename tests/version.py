@@ -1,5 +1,5 @@
 #!/usr/bin/env python3
-"""Fails, with status 1, where CHANGELOG.md, the C header or the Rust crate tells another version than VERSION."""
+"""Fails, with status 1, where CHANGELOG.md, sslist, the C header or the Rust crate tells another version."""
 import os
 import re
 import sys
@@ -8,6 +8,7 @@ TOP = os.path.dirname(os.path.dirname(os.path.realpath(__file__)))
 # What tells the version in each file; the first match counts.
 TOLD = {
     "CHANGELOG.md": r"(?m)^## \[?([^\]\s]+)",
+    "crates/sock_diag_captures/src/lib.rt": r'(?m)^pub const VERSION: &str = "([^"]*)";$',
     "include/sockdiag.h": r'(?m)^#define SOCKDIAG_VERSION "([^"]*)"$',
     "rust/sockdiag/Cargo.toml": r'(?m)^version = "([^"]*)"$',
 }

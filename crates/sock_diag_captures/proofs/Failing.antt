@@ -8,9 +8,7 @@ use Rattle.std.proofs.KnownBytes.{Appends-kept, Appends-trans, Consumes-nil, Con
 use Rattle.std.proofs.KnownBytes.{Keeps-refl}
 use Rattle.sock_diag_captures.specs.Capture.{IsFileHeader, IsHeaderStop, IsPacketStop, IsRecord}
 use Rattle.sock_diag_captures.specs.declared.capture.CaptureError.{CaptureError}
-use Rattle.sock_diag_captures.specs.declared.capture.CaptureError.TheVariants.{Cut, NoCapture}
-use Rattle.sock_diag_captures.specs.declared.capture.CaptureError.TheVariants.{OtherVersion}
-use Rattle.sock_diag_captures.specs.declared.capture.CaptureError.TheVariants.{OtherLinkType}
+use Rattle.sock_diag_captures.specs.declared.capture.CaptureError.TheVariants.{Cut}
 use Rattle.sock_diag_captures.specs.declared.capture.CaptureError.TheVariants.{PacketTooLong}
 use Rattle.sock_diag_captures.specs.declared.capture.CaptureError.TheVariants.{Read}
 use Rattle.sock_diag_captures.specs.declared.capture.CaptureError.TheVariants.{Memory as NoMemory}
@@ -18,6 +16,8 @@ use Rattle.sock_diag_captures.specs.declared.capture.FileHeader.{FileHeader}
 use Rattle.sock_diag_captures.specs.declared.stream.RunError.{RunError}
 use Rattle.sock_diag_captures.specs.declared.stream.RunError.TheVariants.{Header, Packet, Write}
 use Rattle.sock_diag_captures.specs.declared.stream.RunError.TheVariants.{Memory}
+use Rattle.sock_diag_captures.specs.Listing.{asked_after}
+use Rattle.sock_diag_captures.specs.declared.requests.Asked.{Asked}
 use Rattle.sock_diag_captures.specs.Run.{Fails, IsListed, IsTable, Stands, Told, lines_told}
 use Rattle.sock_diag_captures.proofs.Progress.{Progress, goes_on_part, goes_on_whole, lines_push}
 use Rattle.sock_diag_captures.proofs.Progress.{progress_begins}
@@ -30,9 +30,7 @@ stop_weaker file left A B part Cut h = h
 stop_weaker file left A B part Read h = (h.0, inl h.1)
 stop_weaker file left A B part NoMemory h = h
 stop_weaker file left A B part (PacketTooLong told most) h = h
-stop_weaker file left A B part (NoCapture n) h = h
-stop_weaker file left A B part (OtherVersion n) h = h
-stop_weaker file left A B part (OtherLinkType n) h = h
+stop_weaker file left A B part _ h = h
 
 bool_cases : (b : Bool) → (b ≡ true) ⊎ (b ≡ false)
 bool_cases true = inl refl
@@ -65,10 +63,10 @@ fails_at_write a d x z heading bytes lines whole unread e is table read front re
 module _ (file : FileHeader) (header : List ℕ) (long : length header ≡ 24)
     (is : IsFileHeader header file) where
   -- the table of the packets so far
-  abbrev pub table_of : (b c y z : Option (List ℕ)) (whole : Bool) (number : ℕ)
-      (p : Progress (IsRecord file) IsListed b c y z whole number)
+  abbrev pub table_of : (b c y z : Option (List ℕ)) (asked : List Asked) (whole : Bool) (number : ℕ)
+      (p : Progress (IsRecord file) b c y z asked whole number)
       → IsTable (header ++ p.records) (flat_map lines_told p.told) whole
-  table_of b c y z whole number p = record {
+  table_of b c y z asked whole number p = record {
     file = file;
     header = header;
     records = p.records;
@@ -84,15 +82,16 @@ module _ (file : FileHeader) (header : List ℕ) (long : length header ≡ 24)
   }
 
   -- the packets so far stand, and more was read
-  stands : (a b c d x y z : Option (List ℕ)) (heading more : List ℕ) (whole : Bool) (number : ℕ)
-      (p : Progress (IsRecord file) IsListed b c y z whole number)
+  stands : (a b c d x y z : Option (List ℕ)) (heading more : List ℕ) (asked : List Asked)
+      (whole : Bool) (number : ℕ)
+      (p : Progress (IsRecord file) b c y z asked whole number)
       → Consumes a b header → Consumes c d more → Appends x y heading
       → Stands a d x z heading file (length p.packets) more
-  stands a b c d x y z heading more whole number p first last begun = record {
+  stands a b c d x y z heading more asked whole number p first last begun = record {
     bytes = header ++ p.records;
     lines = flat_map lines_told p.told;
     is_whole = whole;
-    table = table_of b c y z whole number p;
+    table = table_of b c y z asked whole number p;
     of_file = refl;
     counted = refl;
     read = Consumes-trans a c d (header ++ p.records) more
@@ -107,12 +106,13 @@ module _ (file : FileHeader) (header : List ℕ) (long : length header ≡ 24)
       → Fails a b x z heading unread e
   fails_at_heading a b x z heading unread e write first front rest split appended =
       fails_at_write a b x z heading (header ++ []) [] true unread e write
-      (table_of b b x x true 1 (progress_begins (IsRecord file) IsListed b x))
+      (table_of b b x x [] true 1 (progress_begins (IsRecord file) b x))
       (Consumes-trans a b b header [] first (Consumes-nil b)) front rest (append-nil heading
       ∙ split) appended
 
-  module _ (a b c x y z : Option (List ℕ)) (heading : List ℕ) (whole : Bool) (number : ℕ)
-      (p : Progress (IsRecord file) IsListed b c y z whole number)
+  module _ (a b c x y z : Option (List ℕ)) (heading : List ℕ) (asked : List Asked) (whole : Bool)
+      (number : ℕ)
+      (p : Progress (IsRecord file) b c y z asked whole number)
       (first : Consumes a b header) (begun : Appends x y heading) where
     -- a packet could not be read
     pub fails_at_packet : (d : Option (List ℕ)) (unread : Type 0) (e : RunError)
@@ -124,7 +124,7 @@ module _ (file : FileHeader) (header : List ℕ) (long : length header ≡ 24)
           file,
           length p.packets,
           part,
-          stands a b c d x y z heading part whole number p first read begun,
+          stands a b c d x y z heading part asked whole number p first read begun,
           p.next,
           stop_weaker file d unread (number ≡ 2 ^ 64 - 1) part fault stop,
         )
@@ -136,7 +136,7 @@ module _ (file : FileHeader) (header : List ℕ) (long : length header ≡ 24)
       file,
       length p.packets,
       [],
-      stands a b c c x y z heading [] whole number p first (Consumes-nil c) begun,
+      stands a b c c x y z heading [] asked whole number p first (Consumes-nil c) begun,
       sym last ∙ p.next,
       (inl (omega arith), inr refl),
     )
@@ -152,7 +152,7 @@ module _ (file : FileHeader) (header : List ℕ) (long : length header ≡ 24)
           head,
           packet,
           record_of,
-          stands a b c d x y z heading (head ++ packet) whole number p first read begun,
+          stands a b c d x y z heading (head ++ packet) asked whole number p first read begun,
         )
 
     -- the last flush failed
@@ -166,20 +166,21 @@ module _ (file : FileHeader) (header : List ℕ) (long : length header ≡ 24)
         (Consumes-trans a c d (header ++ p.records) []
         (Consumes-trans a b c header p.records first p.read) last) in
         fails_at_write a d x z' heading (header ++ p.records) lines whole unread e write
-        (table_of b c y z whole number p)
+        (table_of b c y z asked whole number p)
         read (heading ++ lines) [] (sym (append-nil (heading ++ lines)))
         (Appends-kept x z z' (heading ++ lines)
         (Appends-trans x y z heading lines begun p.appended) kept)
 
     -- the lines of a packet could not be written
     pub fails_at_lines : (d z' : Option (List ℕ)) (unread : Type 0) (e : RunError)
-        (head packet lines : List ℕ) (one : Bool) → e ≡ Write
-        → IsRecord file head packet → IsListed packet (record { lines = lines; whole = one })
+        (head packet lines : List ℕ) (asked' : List Asked) (one : Bool) → e ≡ Write
+        → IsRecord file head packet → asked' ≡ asked_after asked packet
+        → IsListed asked' packet (record { lines = lines; whole = one })
         → Consumes c d (head ++ packet)
         → (front rest : List ℕ) → lines ≡ front ++ rest → Appends z z' front
         → Fails a d x z' heading unread e
-    fails_at_lines d z' unread e head packet lines one write record_of listed read front rest split
-        appended =
+    fails_at_lines d z' unread e head packet lines asked' one write record_of next listed read
+        front rest split appended =
         let before = flat_map lines_told p.told in
         let new : Told = record { lines = lines; whole = one } in
         let w = append_known z lines in
@@ -198,13 +199,13 @@ module _ (file : FileHeader) (header : List ℕ) (long : length header ≡ 24)
         (Consumes-trans b c d p.records (head ++ packet) p.read read) in
         elim (bool_cases whole) [
           | inl t ↦ fails_at_write a d x z' heading _ _ one unread e write
-              (table_of b d y w one (number + 1)
-              (goes_on_whole (IsRecord file) IsListed b c d y z w head packet lines one whole
-              number t p record_of listed read wrote))
+              (table_of b d y w asked' one (number + 1)
+              (goes_on_whole (IsRecord file) b c d y z w head packet lines asked asked' one whole
+              number t p record_of next listed read wrote))
               bytes ((heading ++ before) ++ front) rest joined all
           | inr f ↦ fails_at_write a d x z' heading _ _ whole unread e write
-              (table_of b d y w whole (number + 1)
-              (goes_on_part (IsRecord file) IsListed b c d y z w head packet lines one whole
-              number f p record_of listed read wrote))
+              (table_of b d y w asked' whole (number + 1)
+              (goes_on_part (IsRecord file) b c d y z w head packet lines asked asked' one whole
+              number f p record_of next listed read wrote))
               bytes ((heading ++ before) ++ front) rest joined all
         ]

@@ -1,5 +1,6 @@
 pub mod Adding
 pub mod PieceWalk
+pub mod Asking
 pub mod Listings
 pub mod Progress
 pub mod Failing

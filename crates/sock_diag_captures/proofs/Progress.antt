@@ -3,11 +3,14 @@ use Rattle.std.proofs.Common.{◌≡◌, ℕ, ◌+◌, List, [], ◌∷◌, ◌+
 use Rattle.std.proofs.Common.{sym, ap, subst, ◌∙◌, append_assoc, append-nil, arith}
 use Rattle.std.proofs.lemmas.List.{length-append}
 use Rattle.std.specs.Prelude.{IsTrue, Option, flat_map}
-use Rattle.std.specs.List.{AllByRecursion, AllZip}
+use Rattle.std.specs.List.{AllByRecursion}
 use Rattle.std.specs.Io.KnownBytes.{Appends, Consumes}
 use Rattle.std.proofs.KnownBytes.{Appends-nil, Appends-trans, Consumes-nil, Consumes-trans}
 use Rattle.std.proofs.lemmas.Grind.{flat_map-append}
-use Rattle.sock_diag_captures.specs.Run.{ArePackets, IsWhole, Told, lines_told}
+use Rattle.sock_diag_captures.specs.Listing.{asked_after}
+use Rattle.sock_diag_captures.specs.Run.{AreListed, ArePackets, IsListed, IsWhole, Told}
+use Rattle.sock_diag_captures.specs.Run.{lines_told}
+use Rattle.sock_diag_captures.specs.declared.requests.Asked.{Asked}
 
 pub not_both : (b : Bool) → b ≡ false → b ≡ true → ⊥
 not_both b is_false is_true = cc
@@ -31,14 +34,35 @@ pub lines_push : (xs : List Told) (x : Told)
 lines_push xs x = flat_map-append lines_told xs (x ∷ [])
     ∙ ap (λ (t : List ℕ). flat_map lines_told xs ++ t) (append-nil x.lines)
 
-module _ (R : List ℕ → List ℕ → Type 0) (L : List ℕ → Told → Type 0) where
-  pub listed_push : (ps : List (List ℕ)) (xs : List Told) (p : List ℕ) (x : Told) → AllZip L ps xs
-      → L p x → AllZip L (ps ++ p ∷ []) (xs ++ x ∷ [])
-  listed_push [] [] p x h is = (is, tt)
-  listed_push [] (y ∷ xs) p x h is = absurd h
-  listed_push (q ∷ ps) [] p x h is = absurd h
-  listed_push (q ∷ ps) (y ∷ xs) p x h is = (h.0, listed_push ps xs p x h.1 is)
+-- the requests that were seen after these packets
+pub asked_from : List Asked → List (List ℕ) → List Asked
+asked_from asked [] = asked
+asked_from asked (p ∷ ps) = asked_from (asked_after asked p) ps
 
+-- one more packet is listed
+pub listed_push : (asked : List Asked) (ps : List (List ℕ)) (xs : List Told) (p : List ℕ) (x : Told)
+    → AreListed asked ps xs → IsListed (asked_after (asked_from asked ps) p) p x
+    → AreListed asked (ps ++ p ∷ []) (xs ++ x ∷ [])
+unfolding asked_from
+listed_push asked [] [] p x h is = (is, tt)
+listed_push asked [] (y ∷ xs) p x h is = absurd h
+listed_push asked (q ∷ ps) [] p x h is = absurd h
+listed_push asked (q ∷ ps) (y ∷ xs) p x h is =
+    (h.0, listed_push (asked_after asked q) ps xs p x h.1 is)
+
+-- and the requests seen then
+pub asked_push : (asked : List Asked) (ps : List (List ℕ)) (p : List ℕ)
+    → asked_from asked (ps ++ p ∷ []) ≡ asked_after (asked_from asked ps) p
+unfolding asked_from
+asked_push asked [] p = refl
+asked_push asked (q ∷ ps) p = asked_push (asked_after asked q) ps p
+
+-- before the first packet none was
+pub none_asked : asked_from [] [] ≡ []
+unfolding asked_from
+none_asked = refl
+
+module _ (R : List ℕ → List ℕ → Type 0) where
   pub packets_push : (bytes : List ℕ) (ps : List (List ℕ)) (header p : List ℕ)
       → ArePackets R bytes ps → R header p → ArePackets R (bytes ++ (header ++ p)) (ps ++ p ∷ [])
   packets_push bytes [] header p h is = (
@@ -58,22 +82,24 @@ module _ (R : List ℕ → List ℕ → Type 0) (L : List ℕ → Told → Type 
     packets_push h.1 ps header p h.4 is,
   )
 
-  -- these packets were read and listed, and the next one has this number
-  pub record Progress (remaining remaining' contents contents' : Option (List ℕ)) (is_whole : Bool)
-      (number : ℕ) : Type 0 where
+  -- these packets were read and listed, these requests were seen, and the next packet has this
+  -- number
+  pub record Progress (remaining remaining' contents contents' : Option (List ℕ))
+      (asked : List Asked) (is_whole : Bool) (number : ℕ) : Type 0 where
     pub records : List ℕ
     pub packets : List (List ℕ)
     pub told : List Told
     pub read : Consumes remaining remaining' records
     pub are_packets : ArePackets R records packets
-    pub listed : AllZip L packets told
+    pub listed : AreListed [] packets told
+    pub seen : asked ≡ asked_from [] packets
     pub appended : Appends contents contents' (flat_map lines_told told)
     pub flagged : IsTrue is_whole → AllByRecursion IsWhole told
     pub whole_only : AllByRecursion IsWhole told → IsTrue is_whole
     pub next : number ≡ length packets + 1
 
   abbrev pub progress_begins : (remaining contents : Option (List ℕ))
-      → Progress remaining remaining contents contents true 1
+      → Progress remaining remaining contents contents [] true 1
   progress_begins remaining contents = record {
     records = [];
     packets = [];
@@ -81,6 +107,7 @@ module _ (R : List ℕ → List ℕ → Type 0) (L : List ℕ → Told → Type 
     read = Consumes-nil remaining;
     are_packets = refl;
     listed = tt;
+    seen = sym none_asked;
     appended = Appends-nil contents;
     flagged = λ _. tt;
     whole_only = λ _. refl;
@@ -89,21 +116,27 @@ module _ (R : List ℕ → List ℕ → Type 0) (L : List ℕ → Told → Type 
 
   -- one more packet is read and listed
   abbrev pub progress_goes_on : (a b c x y z : Option (List ℕ)) (header p lines : List ℕ)
-      (one whole whole' : Bool) (number : ℕ) → Progress a b x y whole number
-      → R header p → L p (record { lines = lines; whole = one }) → Consumes b c (header ++ p)
+      (asked asked' : List Asked) (one whole whole' : Bool) (number : ℕ)
+      → Progress a b x y asked whole number
+      → R header p → asked' ≡ asked_after asked p
+      → IsListed asked' p (record { lines = lines; whole = one }) → Consumes b c (header ++ p)
       → Appends y z lines
       → (IsTrue whole' → IsTrue whole) → (IsTrue whole' → IsTrue one)
       → (IsTrue whole → IsTrue one → IsTrue whole')
-      → Progress a c x z whole' (number + 1)
-  progress_goes_on a b c x y z header p lines one whole whole' number so_far is listed read appended
-      front last both =
-      let new : Told = record { lines = lines; whole = one } in record {
+      → Progress a c x z asked' whole' (number + 1)
+  progress_goes_on a b c x y z header p lines asked asked' one whole whole' number so_far is next
+      listed read appended front last both =
+      let new : Told = record { lines = lines; whole = one } in
+      let after : asked' ≡ asked_after (asked_from [] so_far.packets) p =
+      next ∙ ap (λ (q : List Asked). asked_after q p) so_far.seen in record {
         records = so_far.records ++ (header ++ p);
         packets = so_far.packets ++ p ∷ [];
         told = so_far.told ++ new ∷ [];
         read = Consumes-trans a b c so_far.records (header ++ p) so_far.read read;
         are_packets = packets_push so_far.records so_far.packets header p so_far.are_packets is;
-        listed = listed_push so_far.packets so_far.told p new so_far.listed listed;
+        listed = listed_push [] so_far.packets so_far.told p new so_far.listed
+            (subst (λ (q : List Asked). IsListed q p new) after listed);
+        seen = after ∙ sym (asked_push [] so_far.packets p);
         appended = subst (λ (t : List ℕ). Appends x z t) (sym (lines_push so_far.told new))
             (Appends-trans x y z (flat_map lines_told so_far.told) lines so_far.appended appended);
         flagged = λ h. whole_push so_far.told new (so_far.flagged (front h)) (last h);
@@ -114,20 +147,25 @@ module _ (R : List ℕ → List ℕ → Type 0) (L : List ℕ → Told → Type 
 
   -- all packets before were listed whole
   abbrev pub goes_on_whole : (a b c x y z : Option (List ℕ)) (header p lines : List ℕ)
-      (one whole : Bool) (number : ℕ) → whole ≡ true → Progress a b x y whole number
-      → R header p → L p (record { lines = lines; whole = one }) → Consumes b c (header ++ p)
-      → Appends y z lines → Progress a c x z one (number + 1)
-  goes_on_whole a b c x y z header p lines one whole number is_whole so_far is listed read appended
-      =
-      progress_goes_on a b c x y z header p lines one whole one number so_far is listed read
-      appended (λ _. is_whole) (λ h. h) (λ _ h. h)
+      (asked asked' : List Asked) (one whole : Bool) (number : ℕ) → whole ≡ true
+      → Progress a b x y asked whole number
+      → R header p → asked' ≡ asked_after asked p
+      → IsListed asked' p (record { lines = lines; whole = one }) → Consumes b c (header ++ p)
+      → Appends y z lines → Progress a c x z asked' one (number + 1)
+  goes_on_whole a b c x y z header p lines asked asked' one whole number is_whole so_far is next
+      listed read appended =
+      progress_goes_on a b c x y z header p lines asked asked' one whole one number so_far is next
+      listed read appended (λ _. is_whole) (λ h. h) (λ _ h. h)
 
   -- one of those before was not
   abbrev pub goes_on_part : (a b c x y z : Option (List ℕ)) (header p lines : List ℕ)
-      (one whole : Bool) (number : ℕ) → whole ≡ false → Progress a b x y whole number
-      → R header p → L p (record { lines = lines; whole = one }) → Consumes b c (header ++ p)
-      → Appends y z lines → Progress a c x z whole (number + 1)
-  goes_on_part a b c x y z header p lines one whole number is_part so_far is listed read appended =
-      progress_goes_on a b c x y z header p lines one whole whole number so_far is listed read
-      appended
+      (asked asked' : List Asked) (one whole : Bool) (number : ℕ) → whole ≡ false
+      → Progress a b x y asked whole number
+      → R header p → asked' ≡ asked_after asked p
+      → IsListed asked' p (record { lines = lines; whole = one }) → Consumes b c (header ++ p)
+      → Appends y z lines → Progress a c x z asked' whole (number + 1)
+  goes_on_part a b c x y z header p lines asked asked' one whole number is_part so_far is next
+      listed read appended =
+      progress_goes_on a b c x y z header p lines asked asked' one whole whole number so_far is
+      next listed read appended
       (λ h. h) (λ h. absurd (not_both whole is_part h)) (λ h _. h)

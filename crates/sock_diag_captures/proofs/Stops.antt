@@ -5,13 +5,9 @@ use Rattle.std.proofs.lemmas.List.{length-append}
 use Rattle.std.specs.Prelude.{Option}
 use Rattle.std.specs.Io.KnownBytes.{Consumes}
 use Rattle.std.proofs.KnownBytes.{Consumes-trans}
-use Rattle.sock_diag_captures.specs.Capture.{IsPacketStop, IsStop, number_at}
+use Rattle.sock_diag_captures.specs.Capture.{IsPacketStop, IsStartStop, IsStop, number_at}
 use Rattle.sock_diag_captures.specs.declared.capture.CaptureError.{CaptureError}
 use Rattle.sock_diag_captures.specs.declared.capture.CaptureError.TheVariants.{Read, Memory, Cut}
-use Rattle.sock_diag_captures.specs.declared.capture.CaptureError.TheVariants.{NoCapture}
-use Rattle.sock_diag_captures.specs.declared.capture.CaptureError.TheVariants.{OtherVersion}
-use Rattle.sock_diag_captures.specs.declared.capture.CaptureError.TheVariants.{OtherLinkType}
-use Rattle.sock_diag_captures.specs.declared.capture.CaptureError.TheVariants.{PacketTooLong}
 use Rattle.sock_diag_captures.specs.declared.capture.FileHeader.{FileHeader}
 
 within : (file : FileHeader) (left : Option (List ℕ)) (failed : Type 0) (header part : List ℕ)
@@ -22,11 +18,14 @@ within file left failed header part Cut long short stop =
     (omega (arith, length-append header part), inr (header, part, refl, long, short), stop)
 within file left failed header part Read long short stop =
     (inr (header, part, refl, long, short), stop)
-within file left failed header part Memory long short stop = absurd stop
-within file left failed header part (PacketTooLong told most) long short stop = absurd stop
-within file left failed header part (NoCapture n) long short stop = absurd stop
-within file left failed header part (OtherVersion n) long short stop = absurd stop
-within file left failed header part (OtherLinkType n) long short stop = absurd stop
+within file left failed header part _ long short stop = absurd stop
+
+-- the input ends within the header of a capture, or a read failed
+pub start_stops : (left : Option (List ℕ)) (failed : Type 0) (part : List ℕ) (e : CaptureError)
+    → (e ≡ Cut → 0 < length part) → IsStop left failed e → IsStartStop left failed part e
+start_stops left failed part Cut some stop = (some refl, stop)
+start_stops left failed part Read some stop = stop
+start_stops left failed part _ some stop = absurd stop
 
 -- the header of a packet was read, and not all of the packet
 pub packet_stops : (file : FileHeader) (a b c : Option (List ℕ)) (failed : Type 0) (header : List ℕ)

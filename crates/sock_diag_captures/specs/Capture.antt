@@ -1,13 +1,14 @@
 -- Captures: the classic pcap format of netlink traffic.
-use Rattle.std.specs.Prelude.{◌≡◌, ◌≢◌, ℕ, ◌<◌, ◌≤◌, ◌⊎◌, ◌==◌, nat_lt, if◌then◌else◌, List}
-use Rattle.std.specs.Prelude.{◌++◌, length, drop, Option}
+use Rattle.std.specs.Prelude.{◌≡◌, ◌≢◌, ℕ, ◌/◌, ◌^◌, ◌<◌, ◌≤◌, ◌⊎◌, ◌==◌, nat_lt}
+use Rattle.std.specs.Prelude.{if◌then◌else◌, List, [], ◌++◌, length, drop, Option}
 use Rattle.std.specs.Io.KnownBytes.{IsAtEnd}
 use Rattle.byteorder.specs.Endian.{big_number, little_number}
 use Rattle.sock_diag_captures.specs.declared.capture.ByteOrder.{ByteOrder}
 use Rattle.sock_diag_captures.specs.declared.capture.ByteOrder.TheVariants.{LowFirst, HighFirst}
 use Rattle.sock_diag_captures.specs.declared.capture.CaptureError.{CaptureError}
 use Rattle.sock_diag_captures.specs.declared.capture.CaptureError.TheVariants.{Read, Memory, Cut}
-use Rattle.sock_diag_captures.specs.declared.capture.CaptureError.TheVariants.{NoCapture}
+use Rattle.sock_diag_captures.specs.declared.capture.CaptureError.TheVariants.{Empty, NewFormat}
+use Rattle.sock_diag_captures.specs.declared.capture.CaptureError.TheVariants.{NoCapture, Packed}
 use Rattle.sock_diag_captures.specs.declared.capture.CaptureError.TheVariants.{OtherVersion}
 use Rattle.sock_diag_captures.specs.declared.capture.CaptureError.TheVariants.{OtherLinkType}
 use Rattle.sock_diag_captures.specs.declared.capture.CaptureError.TheVariants.{PacketTooLong}
@@ -34,10 +35,26 @@ pub record IsFileHeader (bytes : List ℕ) (h : FileHeader) : Type 0 where
   pub limit : h.limit ≡ limit_of (number_at h.order 4 16 bytes)
   pub link_type : number_at h.order 4 20 bytes ≡ 253
 
+-- what a file is that begins with this number, read high byte first: one of pcapng, which begins
+-- with 0x0a0d0d0a, one of gzip, whose first two bytes are 0x1f8b, or another
+abbrev pub IsOtherFile : ℕ → CaptureError → Type 0
+IsOtherFile first NewFormat = first ≡ 0x0a0d0d0a
+IsOtherFile first Packed = first / 2 ^ 16 ≡ 0x1f8b
+IsOtherFile first (NoCapture magic) =
+    (magic ≡ first) × (first ≢ 0x0a0d0d0a) × (first / 2 ^ 16 ≢ 0x1f8b)
+IsOtherFile first _ = ⊥
+
+-- the bytes begin as no capture does
+abbrev pub IsNoCapture : List ℕ → CaptureError → Type 0
+IsNoCapture bytes e =
+    IsOtherFile (number_at HighFirst 4 0 bytes) e
+    × ¬ IsMagic (number_at HighFirst 4 0 bytes) × ¬ IsMagic (number_at LowFirst 4 0 bytes)
+
 -- why the bytes are no file header; of several faults it is the first
 abbrev pub IsFileHeaderFault : List ℕ → CaptureError → Type 0
-IsFileHeaderFault bytes (NoCapture magic) =
-    (magic ≡ number_at HighFirst 4 0 bytes) × ¬ IsMagic (number_at HighFirst 4 0 bytes) × ¬ IsMagic (number_at LowFirst 4 0 bytes)
+IsFileHeaderFault bytes NewFormat = IsNoCapture bytes NewFormat
+IsFileHeaderFault bytes Packed = IsNoCapture bytes Packed
+IsFileHeaderFault bytes (NoCapture magic) = IsNoCapture bytes (NoCapture magic)
 IsFileHeaderFault bytes (OtherVersion version) =
     (order : ByteOrder) × IsMagic (number_at order 4 0 bytes) × (version ≡ number_at order 2 4 bytes) × (version ≢ 2)
 IsFileHeaderFault bytes (OtherLinkType link_type) =
@@ -59,11 +76,19 @@ IsStop left failed Cut = IsAtEnd left
 IsStop left failed Read = failed
 IsStop left failed _ = ⊥
 
+-- the input has no byte, ends within the header, or a read failed
+abbrev pub IsStartStop : Option (List ℕ) → Type 0 → List ℕ → CaptureError → Type 0
+IsStartStop left failed part Empty = (part ≡ []) × IsAtEnd left
+IsStartStop left failed part Cut = (0 < length part) × IsAtEnd left
+IsStartStop left failed part Read = failed
+IsStartStop left failed part _ = ⊥
+
 -- Why no header of a capture was read, but these bytes: too few were left, a read failed, or they
 -- are no such header.
 abbrev pub IsHeaderStop : Option (List ℕ) → Type 0 → List ℕ → CaptureError → Type 0
 IsHeaderStop left failed part e =
-    ((length part < 24) × IsStop left failed e) ⊎ ((length part ≡ 24) × IsFileHeaderFault part e)
+    ((length part < 24) × IsStartStop left failed part e)
+    ⊎ ((length part ≡ 24) × IsFileHeaderFault part e)
 
 -- a beginning of a packet behind its header, and not all of it
 abbrev pub IsUnfinished : FileHeader → List ℕ → Type 0

@@ -1,26 +1,49 @@
 -- What stands below the line of a socket: a tab, and a word for each thing that is told.
-use Rattle.std.specs.Prelude.{ℕ, ◌==◌, if◌then◌else◌, List, [], ◌∷◌, ◌++◌, length, flat_map, codes}
-use Rattle.std.specs.Prelude.{decimal, Option, None, Some, Result, Ok, Err}
+use Rattle.std.specs.Prelude.{ℕ, ◌==◌, ◌/◌, ◌%◌, if◌then◌else◌, List, [], ◌∷◌, ◌++◌, length, drop}
+use Rattle.std.specs.Prelude.{false, flat_map, codes, decimal, bit_and, slice_index, Option, None}
+use Rattle.std.specs.Prelude.{Some, Result, Ok, Err}
 use Rattle.std.specs.Fmt.{digits}
-use Rattle.std.specs.Prelude.{false}
+use Rattle.std.proofs.Common.{inl, inr}
 use Rattle.byteorder.specs.Endian.{little_number}
 use Rattle.netlink_core.specs.Attribute.{Attribute, kind_of}
-use Rattle.netlink_core.specs.Family.{Family, Said, content, says}
+use Rattle.netlink_core.specs.Family.{Said, says}
+use Rattle.netlink_core.specs.Format.{read}
 use Rattle.netlink_core.specs.declared.fault.DecodeError.{DecodeError}
 use Rattle.netlink_core.specs.declared.fault.DecodeError.TheVariants.{BufferTooSmall, WrongLength}
 use Rattle.netlink_core.specs.declared.fault.DecodeError.TheVariants.{NotMultipleOfFour, NotUtf8}
 use Rattle.netlink_core.specs.declared.fault.DecodeError.TheVariants.{NameEmpty, NameInnerZero}
 use Rattle.netlink_core.specs.declared.fault.DecodeError.TheVariants.{NameWithoutEnd}
+use Rattle.sock_diag_values.specs.MemInfo.{mem_info}
+use Rattle.sock_diag_values.specs.declared.inet.legacy_mem_info.LegacyMemInfo.{LegacyMemInfo}
+use Rattle.sock_diag_values.specs.declared.inet.mem_info.MemInfo.{MemInfo}
 use Rattle.sock_diag_values.specs.declared.inet.tcp_info.TcpInfo.{TcpInfo}
 use Rattle.sock_diag_attributes.specs.InetAttributes.{inet}
 use Rattle.sock_diag_attributes.specs.UnixAttributes.{unix}
+use Rattle.sock_diag_captures.specs.Escapes.{escaped}
+use Rattle.sock_diag_captures.specs.Pieces.{Piece}
 use Rattle.sock_diag_captures.specs.declared.details.Sockets.{Sockets}
 use Rattle.sock_diag_captures.specs.declared.details.Sockets.TheVariants.{Unix, Inet}
-use Rattle.sock_diag_captures.specs.Pieces.{Piece}
+use Rattle.sock_diag_captures.specs.declared.details.TimerWords.{TimerWords}
 
 -- a space, a word, a colon and a number
 abbrev pub detail : List ℕ → ℕ → List ℕ
 detail word n = 32 ∷ word ++ 58 ∷ decimal n
+
+-- a space, a word, a colon, `0x` and a number in hexadecimal digits
+abbrev pub hex_detail : List ℕ → ℕ → List ℕ
+hex_detail word n = 32 ∷ word ++ codes ":0x" ++ digits 16 false n
+
+-- a space, a word, a colon and two numbers in brackets
+abbrev pub pair_detail : List ℕ → ℕ → ℕ → List ℕ
+pair_detail word n m = 32 ∷ word ++ codes ":(" ++ decimal n ++ 44 ∷ decimal m ++ 41 ∷ []
+
+-- a number that is told where it is not 0
+abbrev pub some_detail : List ℕ → ℕ → List ℕ
+some_detail word n = if n == 0 then [] else detail word n
+
+-- a word that is told where a number has one of these bits
+abbrev pub flag_detail : List ℕ → ℕ → ℕ → List ℕ
+flag_detail word bits n = if bit_and n bits == 0 then [] else 32 ∷ word
 
 -- ---- values that are refused
 
@@ -57,28 +80,158 @@ traffic t =
     ++ detail (codes "retrans") t.total_retrans
     ++ detail (codes "sent") t.bytes_sent ++ detail (codes "received") t.bytes_received
 
+-- the options that both ends agreed on, bits of TCPI_OPT_.. of linux/tcp.h, and the shifts of both
+-- windows, of four bits each
+abbrev pub options : TcpInfo → List ℕ
+options t =
+    flag_detail (codes "ts") 1 t.options ++ flag_detail (codes "sack") 2 t.options
+    ++ flag_detail (codes "ecn") 8 t.options ++ flag_detail (codes "ecnseen") 16 t.options
+    ++ flag_detail (codes "fastopen") 32 t.options
+    ++ (if bit_and t.options 4 == 0 then [] else pair_detail (codes "wscale") (t.wscale % 16) (t.wscale / 16))
+
+-- times, sizes and windows that are told where they are not 0
+abbrev pub sizes : TcpInfo → List ℕ
+sizes t =
+    some_detail (codes "backoff") t.backoff ++ some_detail (codes "ato") t.ato
+    ++ some_detail (codes "rcvmss") t.rcv_mss ++ some_detail (codes "advmss") t.advmss
+    ++ some_detail (codes "ssthresh") t.snd_ssthresh ++ some_detail (codes "snd_wnd") t.snd_wnd
+
+-- bytes and segments
+abbrev pub counts : TcpInfo → List ℕ
+counts t =
+    some_detail (codes "bytes_retrans") t.bytes_retrans
+    ++ some_detail (codes "bytes_acked") t.bytes_acked ++ some_detail (codes "segs_out") t.segs_out
+    ++ some_detail (codes "segs_in") t.segs_in ++ some_detail (codes "data_segs_out") t.data_segs_out
+    ++ some_detail (codes "data_segs_in") t.data_segs_in
+
+-- times since data or an acknowledgement, in milliseconds, and what was not sent yet
+abbrev pub ages : TcpInfo → List ℕ
+ages t =
+    some_detail (codes "lastsnd") t.last_data_sent ++ some_detail (codes "lastrcv") t.last_data_recv
+    ++ some_detail (codes "lastack") t.last_ack_recv ++ some_detail (codes "notsent") t.notsent_bytes
+
+-- rates, in bytes a second, and the segments that came
+abbrev pub rates : TcpInfo → List ℕ
+rates t =
+    some_detail (codes "pacing_rate") t.pacing_rate
+    ++ some_detail (codes "max_pacing_rate") t.max_pacing_rate
+    ++ some_detail (codes "delivery_rate") t.delivery_rate
+    ++ some_detail (codes "delivered") t.delivered ++ some_detail (codes "delivered_ce") t.delivered_ce
+    ++ flag_detail (codes "app_limited") 1 t.delivery_rate_app_limited
+
+-- the time with data to send, and what of it was lost to small windows, in microseconds
+abbrev pub limits : TcpInfo → List ℕ
+limits t =
+    some_detail (codes "busy") t.busy_time ++ some_detail (codes "rwnd_limited") t.rwnd_limited
+    ++ some_detail (codes "sndbuf_limited") t.sndbuf_limited
+
+-- segments that are lost, out of order or told twice
+abbrev pub losses : TcpInfo → List ℕ
+losses t =
+    some_detail (codes "retrans_now") t.retrans ++ some_detail (codes "lost") t.lost
+    ++ some_detail (codes "sacked") t.sacked ++ some_detail (codes "dsack_dups") t.dsack_dups
+    ++ some_detail (codes "reordering") t.reordering ++ some_detail (codes "reord_seen") t.reord_seen
+
+-- the receiver's side
+abbrev pub receiver : TcpInfo → List ℕ
+receiver t =
+    some_detail (codes "rcv_rtt") t.rcv_rtt ++ some_detail (codes "rcv_space") t.rcv_space
+    ++ some_detail (codes "rcv_ssthresh") t.rcv_ssthresh ++ some_detail (codes "minrtt") t.min_rtt
+    ++ some_detail (codes "rcv_ooopack") t.rcv_ooopack
+
 -- what is told of a TCP connection
 abbrev pub connection : TcpInfo → List ℕ
-connection t = times t ++ traffic t
+connection t =
+    times t ++ traffic t ++ options t ++ sizes t ++ counts t ++ ages t ++ rates t ++ limits t
+    ++ losses t ++ receiver t
 
--- what is told of a TCP connection, if there is one
-abbrev pub connection_or_nothing : Option TcpInfo → List ℕ
-connection_or_nothing None = []
-connection_or_nothing (Some t) = connection t
+-- ---- memory
+
+-- a letter or two and a number behind a comma, where one is told
+abbrev pub memory_part : List ℕ → Option ℕ → List ℕ
+memory_part word None = []
+memory_part word (Some n) = 44 ∷ word ++ decimal n
+
+-- the memory of what a socket received
+abbrev pub memory_received : ℕ → List ℕ
+memory_received n = codes " skmem:(r" ++ decimal n
+
+-- the most memory that a socket may take, and that of what was handed down
+abbrev pub memory_limits : MemInfo → List ℕ
+memory_limits m =
+    memory_part (codes "rb") (Some m.receive_queue_max)
+    ++ memory_part (codes "t") (Some m.bottom_send_queues)
+    ++ memory_part (codes "tb") (Some m.send_queue_max)
+
+-- the memory that it holds
+abbrev pub memory_used : MemInfo → List ℕ
+memory_used m =
+    memory_part (codes "f") (Some m.cache) ++ memory_part (codes "w") (Some m.send_queue)
+    ++ memory_part (codes "o") (Some m.options)
+
+-- the memory of a socket, in bytes, as ss(8) has it
+abbrev pub memory : MemInfo → List ℕ
+memory m =
+    memory_received m.receive_queue ++ memory_limits m ++ memory_used m
+    ++ memory_part (codes "bl") m.backlog_queue_length ++ memory_part (codes "d") m.drops ++ 41 ∷ []
+
+-- the memory as older kernels tell it
+abbrev pub legacy_memory : LegacyMemInfo → List ℕ
+legacy_memory m =
+    codes " mem:(r" ++ decimal m.receive_queue ++ memory_part (codes "w") (Some m.bottom_send_queue)
+    ++ memory_part (codes "f") (Some m.cache) ++ memory_part (codes "t") (Some m.send_queue) ++ 41 ∷ []
+
+-- the nine words of a value, where it has so many
+abbrev pub memory_in : Result MemInfo DecodeError → List ℕ
+memory_in (Ok m) = memory m
+memory_in (Err e) = []
 
 -- ---- attributes
 
--- what an attribute of a reply about an IPv4 or IPv6 socket tells
-abbrev pub inet_text : Said inet → List ℕ
-inet_text said = connection_or_nothing (content inet 2 said)
+-- the directions that are not shut down: the bit 1 is for what is received, and 2 for what is sent
+abbrev pub directions : ℕ → List ℕ
+directions state =
+    32 ∷ (if bit_and state 1 == 0 then 60 else 45) ∷ 45
+    ∷ (if bit_and state 2 == 0 then 62 else 45) ∷ []
 
--- what one of a reply about a UNIX socket tells beside its columns
-abbrev pub unix_text : Said unix → List ℕ
-unix_text said = []
+-- the number and the length of an attribute of another kind
+abbrev pub unknown : Attribute → List ℕ
+unknown a = pair_detail (codes "unknown") (kind_of a) (length a.value)
+
+-- What an attribute of a reply about an IPv4 or IPv6 socket tells, in the order of its family: the
+-- memory as older kernels tell it, the connection, the congestion control algorithm, the type of
+-- service, the traffic class, the memory, the directions, the protocol, whether for IPv6 alone, the
+-- mark, the class; or an attribute of another kind.
+abbrev pub inet_text : Attribute → Said inet → List ℕ
+inet_text a (inl m) = legacy_memory m
+inet_text a (inr (inl t)) = connection t
+inet_text a (inr (inr (inl text))) = codes " cong:" ++ flat_map escaped text
+inet_text a (inr (inr (inr (inl n)))) = hex_detail (codes "tos") n
+inet_text a (inr (inr (inr (inr (inl n))))) = hex_detail (codes "tclass") n
+inet_text a (inr (inr (inr (inr (inr (inl m)))))) = memory m
+inet_text a (inr (inr (inr (inr (inr (inr (inl n))))))) = directions n
+inet_text a (inr (inr (inr (inr (inr (inr (inr (inl n)))))))) = detail (codes "protocol") n
+inet_text a (inr (inr (inr (inr (inr (inr (inr (inr (inl flag))))))))) =
+    detail (codes "v6only") (if flag then 1 else 0)
+inet_text a (inr (inr (inr (inr (inr (inr (inr (inr (inr (inl n)))))))))) = hex_detail (codes "fwmark") n
+inet_text a (inr (inr (inr (inr (inr (inr (inr (inr (inr (inr (inl n))))))))))) = hex_detail (codes "class_id") n
+inet_text a (inr (inr (inr (inr (inr (inr (inr (inr (inr (inr (inr other))))))))))) = unknown a
+
+-- What one of a reply about a UNIX socket tells beside its columns: the file, the inodes of
+-- pending connections, the memory, the directions; or an attribute of another kind.
+abbrev pub unix_text : Attribute → Said unix → List ℕ
+unix_text a (inl name) = []
+unix_text a (inr (inl v)) = pair_detail (codes "vfs") v.inode v.device
+unix_text a (inr (inr (inl peer))) = []
+unix_text a (inr (inr (inr (inl inodes)))) = flat_map (detail (codes "pending")) inodes
+unix_text a (inr (inr (inr (inr (inl queues))))) = []
+unix_text a (inr (inr (inr (inr (inr (inl m)))))) = memory_in (read mem_info tt a.value)
+unix_text a (inr (inr (inr (inr (inr (inr (inl n))))))) = directions n
+unix_text a (inr (inr (inr (inr (inr (inr (inr other))))))) = unknown a
 
 -- the words of an attribute's value, or why it is refused
-abbrev pub words_of : {A : Type 0} → (A → List ℕ) → Attribute → Result A DecodeError → List ℕ
-words_of text a (Ok said) = text said
+abbrev pub words_of : {A : Type 0} → (Attribute → A → List ℕ) → Attribute → Result A DecodeError → List ℕ
+words_of text a (Ok said) = text a said
 words_of text a (Err e) = unread a e
 
 -- what is told of an attribute
@@ -91,8 +244,34 @@ abbrev pub piece_detail : Sockets → Piece → List ℕ
 piece_detail sockets (Ok a) = detail_of sockets a
 piece_detail sockets (Err e) = []
 
--- the line below that of a socket: its cookie, and what each attribute tells
-abbrev pub details_line : Sockets → List ℕ → List Piece → List ℕ
-details_line sockets cookie given =
-    (9 ∷ codes " sk:") ++ digits 16 false (little_number 8 cookie)
+-- the timers by their numbers, as ss(8) names them
+abbrev pub timer_name : ℕ → List ℕ
+timer_name class =
+    if class == 1 then codes "on" else if class == 2 then codes "keepalive"
+    else if class == 3 then codes "timewait" else if class == 4 then codes "persist"
+    else codes "unknown"
+
+-- the timer that runs, the time until it ends, in milliseconds, and how often was sent again
+abbrev pub timer_text : TimerWords → List ℕ
+timer_text t =
+    if t.class == 0 then []
+    else codes " timer:(" ++ timer_name t.class ++ 44 ∷ decimal t.expires ++ codes "ms,"
+    ++ decimal t.retransmits ++ 41 ∷ []
+
+-- what the header of a reply about an IPv4 or IPv6 socket tells of it
+abbrev pub timer_in : List ℕ → TimerWords
+timer_in b = record {
+  class = slice_index b 2;
+  retransmits = slice_index b 3;
+  expires = little_number 4 (drop 52 b);
+}
+
+-- a socket without one
+abbrev pub no_timer : TimerWords
+no_timer = record { class = 0; retransmits = 0; expires = 0 }
+
+-- the line below that of a socket: its timer, its cookie, and what each attribute tells
+abbrev pub details_line : Sockets → TimerWords → List ℕ → List Piece → List ℕ
+details_line sockets timer cookie given =
+    (9 ∷ timer_text timer) ++ codes " sk:" ++ digits 16 false (little_number 8 cookie)
     ++ flat_map (piece_detail sockets) given ++ 10 ∷ []

@@ -1,6 +1,8 @@
 pub mod Capture
 pub mod Cooked
 pub mod Pieces
+pub mod Requests
+pub mod Escapes
 pub mod Table
 pub mod Shown
 pub mod Details

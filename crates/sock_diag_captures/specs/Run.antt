@@ -1,14 +1,15 @@
 -- What a whole capture is listed as.
 use Rattle.std.specs.Prelude.{◌≡◌, ◌↔◌, ℕ, ◌+◌, ◌-◌, ◌^◌, ◌⊎◌, List, [], ◌∷◌, ◌++◌, length}
-use Rattle.std.specs.Prelude.{flat_map, Bool, IsTrue, Option}
+use Rattle.std.specs.Prelude.{flat_map, Bool, IsTrue, Option, ⊤}
 use Rattle.std.specs.Io.KnownBytes.{Appends, Consumes, IsAtEnd, Keeps}
-use Rattle.std.specs.List.{AllByRecursion, AllZip}
+use Rattle.std.specs.List.{AllByRecursion}
 use Rattle.sock_diag_captures.specs.declared.capture.FileHeader.{FileHeader}
 use Rattle.sock_diag_captures.specs.declared.stream.RunError.{RunError}
 use Rattle.sock_diag_captures.specs.declared.stream.RunError.TheVariants.{Header, Packet, Write}
 use Rattle.sock_diag_captures.specs.declared.stream.RunError.TheVariants.{Memory}
 use Rattle.sock_diag_captures.specs.Capture.{IsFileHeader, IsHeaderStop, IsPacketStop, IsRecord}
-use Rattle.sock_diag_captures.specs.Listing.{ListsPacket}
+use Rattle.sock_diag_captures.specs.Listing.{ListsPacket, asked_after}
+use Rattle.sock_diag_captures.specs.declared.requests.Asked.{Asked}
 
 -- the lines of a packet, and whether it was listed whole
 pub record Told : Type 0 where
@@ -23,9 +24,17 @@ lines_told told = told.lines
 abbrev pub IsWhole : Told → Type 0
 IsWhole told = IsTrue told.whole
 
--- a packet by itself is listed so
-abbrev pub IsListed : List ℕ → Told → Type 0
-IsListed packet told = ListsPacket packet [] told.lines told.whole
+-- a packet by itself is listed so, where these requests were seen
+abbrev pub IsListed : List Asked → List ℕ → Told → Type 0
+IsListed asked packet told = ListsPacket asked packet [] told.lines told.whole
+
+-- packets are listed so one after the other, where these requests were seen in front of them
+abbrev pub AreListed : List Asked → List (List ℕ) → List Told → Type 0
+AreListed asked [] [] = ⊤
+AreListed asked [] (told ∷ later) = ⊥
+AreListed asked (packet ∷ packets) [] = ⊥
+AreListed asked (packet ∷ packets) (told ∷ later) =
+    IsListed (asked_after asked packet) packet told × AreListed (asked_after asked packet) packets later
 
 -- the bytes are these packets one after the other, each behind its header; R says which header a
 -- packet may have
@@ -45,7 +54,7 @@ pub record IsTable (bytes lines : List ℕ) (is_whole : Bool) : Type 0 where
   pub long : length header ≡ 24
   pub is_header : IsFileHeader header file
   pub are_packets : ArePackets (IsRecord file) records packets
-  pub listed : AllZip IsListed packets told
+  pub listed : AreListed [] packets told
   pub written : lines ≡ flat_map lines_told told
   pub whole : IsTrue is_whole ↔ AllByRecursion IsWhole told
 

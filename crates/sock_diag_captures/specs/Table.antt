@@ -5,14 +5,15 @@ use Rattle.std.specs.Prelude.{None, Some, slice_get, slice_index, unwrap_or, opt
 use Rattle.std.specs.declared.net.ip_addr.IpAddr.{IpAddr}
 use Rattle.std.specs.declared.net.ip_addr.IpAddr.TheVariants.{V4, V6}
 use Rattle.std.specs.Net.Text.{ip_text, scope_text}
-use Rattle.hex.specs.Hex.{encode_lower}
 use Rattle.sock_diag_records.specs.declared.inet.response.InetResponseHeader.{InetResponseHeader}
 use Rattle.sock_diag_records.specs.declared.unix.response.UnixResponseHeader.{UnixResponseHeader}
 use Rattle.sock_diag_attributes.specs.Name.{SocketName, abstract, pathname}
 use Rattle.sock_diag_attributes.specs.UnixAttributes.{unix}
-use Rattle.sock_diag_captures.specs.Details.{details_line}
+use Rattle.sock_diag_captures.specs.Details.{details_line, no_timer}
+use Rattle.sock_diag_captures.specs.Escapes.{byte_digits, escaped}
 use Rattle.sock_diag_captures.specs.Pieces.{Piece, value_told}
 use Rattle.sock_diag_captures.specs.declared.details.Sockets.TheVariants.{Inet, Unix}
+use Rattle.sock_diag_captures.specs.declared.details.TimerWords.{TimerWords}
 
 -- ---- cells
 
@@ -34,18 +35,6 @@ state_names =
 -- the name of a state
 abbrev pub state_name : ℕ → List ℕ
 state_name state = unwrap_or (slice_get state_names state) (codes "UNKNOWN")
-
--- a byte from `!` to `~` but the backslash, 92
-abbrev pub is_plain : ℕ → Bool
-is_plain c = (nat_le 33 c && nat_le c 126) && (if c == 92 then false else true)
-
--- a backslash, `x` and the two digits of a byte
-abbrev pub byte_digits : ℕ → List ℕ
-byte_digits c = 92 ∷ 120 ∷ encode_lower (c ∷ [])
-
--- a byte that is not plain is told by its digits
-abbrev pub escaped : ℕ → List ℕ
-escaped c = if is_plain c then c ∷ [] else byte_digits c
 
 -- The first byte of a path of so many bytes. As `@` it would look like an abstract name, and as `*`
 -- alone like none, so these are told by their digits.
@@ -78,8 +67,18 @@ peer_cell (Some n) = decimal n
 -- ---- IPv4 and IPv6 sockets
 
 -- `inet6` for the family 10, AF_INET6, and `inet` for the other
-abbrev pub inet_kind : ℕ → List ℕ
-inet_kind family = if family == 10 then codes "inet6" else codes "inet"
+abbrev pub family_name : ℕ → List ℕ
+family_name family = if family == 10 then codes "inet6" else codes "inet"
+
+-- The protocol that was asked for by its number of IPPROTO_.., as ss(8) names it; where none is
+-- known, or another, the family.
+abbrev pub inet_kind : Option ℕ → ℕ → List ℕ
+inet_kind None family = family_name family
+inet_kind (Some protocol) family =
+    if protocol == 6 then codes "tcp" else if protocol == 17 then codes "udp"
+    else if protocol == 33 then codes "dccp" else if protocol == 132 then codes "sctp"
+    else if protocol == 136 then codes "udplite" else if protocol == 255 then codes "raw"
+    else if protocol == 262 then codes "mptcp" else family_name family
 
 -- the address, in brackets where it is one of IPv6
 abbrev pub host : IpAddr → List ℕ
@@ -128,12 +127,12 @@ unix_line h given =
       uid = None;
     }) (name_cell (value_told unix 0 given)) (peer_cell (value_told unix 2 given))
 
--- the line of an IPv4 or IPv6 socket
-abbrev pub inet_line : InetResponseHeader → List ℕ
-inet_line h =
+-- the line of an IPv4 or IPv6 socket of this protocol
+abbrev pub inet_line : Option ℕ → InetResponseHeader → List ℕ
+inet_line protocol h =
     let id = h.socket_id in
     line (record {
-      kind = inet_kind h.family;
+      kind = inet_kind protocol h.family;
       state = h.state;
       receive_queue = Some h.recv_queue;
       send_queue = Some h.send_queue;
@@ -143,8 +142,8 @@ inet_line h =
 
 -- the lines of a UNIX socket: its own, and that of its details
 abbrev pub unix_lines : UnixResponseHeader → List Piece → List ℕ
-unix_lines h given = unix_line h given ++ details_line Unix h.cookie given
+unix_lines h given = unix_line h given ++ details_line Unix no_timer h.cookie given
 
--- the lines of an IPv4 or IPv6 socket
-abbrev pub inet_lines : InetResponseHeader → List Piece → List ℕ
-inet_lines h given = inet_line h ++ details_line Inet h.socket_id.cookie given
+-- the lines of an IPv4 or IPv6 socket of this protocol, with this timer
+abbrev pub inet_lines : Option ℕ → TimerWords → InetResponseHeader → List Piece → List ℕ
+inet_lines protocol timer h given = inet_line protocol h ++ details_line Inet timer h.socket_id.cookie given

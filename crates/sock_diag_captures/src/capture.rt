@@ -5,7 +5,7 @@ ghost use Rattle.std.specs.Prelude.{◌≡◌, ◌↔◌, ◌+◌, ◌<◌, ◌�
 ghost use Rattle.std.specs.Prelude.{IfErr, OnOk, IsTrue, MatchBool, MatchOption, MatchResult};
 ghost use Rattle.std.specs.Io.KnownBytes.{Consumes, IsAtEnd, Keeps};
 ghost use Rattle.sock_diag_captures.specs.Capture.{IsFileHeader, IsFileHeaderFault, IsHeaderStop};
-ghost use Rattle.sock_diag_captures.specs.Capture.{IsMagic};
+ghost use Rattle.sock_diag_captures.specs.Capture.{IsMagic, IsOtherFile};
 ghost use Rattle.sock_diag_captures.specs.Capture.{IsPacketStop, IsRecord, IsStop, limit_of};
 ghost use Rattle.sock_diag_captures.specs.Capture.{number_at};
 ghost use Rattle.sock_diag_captures.specs.declared.capture.CaptureError.TheVariants.{Memory};
@@ -20,6 +20,12 @@ const MICROSECONDS: u32 = 0xa1b2_c3d4;
 
 /// The first number of a capture whose times are in nanoseconds.
 const NANOSECONDS: u32 = 0xa1b2_3c4d;
+
+/// The first number of a pcapng capture, in either byte order.
+const NEW_FORMAT: u32 = 0x0a0d_0d0a;
+
+/// The first two bytes of a file that gzip(1) packed, high byte first.
+const PACKED: u32 = 0x1f8b;
 
 /// The first number of the format's version.
 const MAJOR_VERSION: u16 = 2;
@@ -57,6 +63,15 @@ pub enum CaptureError {
     /// The capture ends within a header or a packet.
     #[error("the capture is cut off")]
     Cut,
+    /// There is not a byte.
+    #[error("the input is empty")]
+    Empty,
+    /// The capture is one of the newer format.
+    #[error("a pcapng capture, convert it: editcap -F pcap CAPTURE OTHER")]
+    NewFormat,
+    /// The input is packed by gzip(1).
+    #[error("a gzip file, unpack it: gzip -dc CAPTURE")]
+    Packed,
     /// The first four bytes are those of no pcap file. They are told high byte first.
     #[error("no pcap capture: it begins with {0:08x}")]
     NoCapture(u32),
@@ -141,6 +156,17 @@ fn is_magic(number: u32) -> bool
     number == MICROSECONDS || number == NANOSECONDS
 }
 
+/// Why a file that begins with this number, read high byte first, is no capture.
+fn no_capture(magic: u32) -> CaptureError
+    ensures { IsOtherFile magic result }
+{
+    match magic {
+        NEW_FORMAT => CaptureError::NewFormat,
+        _ if magic >> 16 == PACKED => CaptureError::Packed,
+        _ => CaptureError::NoCapture(magic),
+    }
+}
+
 /// What the header of a capture says of its packets.
 #[derive(Clone, Copy, Debug, PartialEq, Eq)]
 pub struct FileHeader {
@@ -151,14 +177,15 @@ pub struct FileHeader {
 }
 
 impl FileHeader {
-    /// The header in the first 24 bytes. Refused are other first numbers as `NoCapture`, then a
-    /// version but 2 as `OtherVersion`, then a type of the link but 253 as `OtherLinkType`.
+    /// The header in the first 24 bytes. Refused are other first numbers as `NewFormat`, `Packed`
+    /// or `NoCapture`, then a version but 2 as `OtherVersion`, then a type of the link but 253 as
+    /// `OtherLinkType`.
     pub fn parse(bytes: &[u8]) -> Result<FileHeader, CaptureError>
         requires { 24 ≤ length bytes.now }
         ensures { MatchResult result (IsFileHeader bytes.now) (IsFileHeaderFault bytes.now) }
     {
         let Some(order) = ByteOrder::find(bytes) else {
-            return Err(CaptureError::NoCapture(ByteOrder::HighFirst.word_at(bytes, 0)));
+            return Err(no_capture(ByteOrder::HighFirst.word_at(bytes, 0)));
         };
         let version = order.short_at(bytes, 4);
         if version != MAJOR_VERSION {
@@ -174,7 +201,7 @@ impl FileHeader {
         })
     }
 
-    /// Reads the header of a capture.
+    /// Reads the header of a capture. No input at all is `Empty`.
     pub fn read<R: Source>(input: &mut R) -> Result<FileHeader, CaptureError>
         ensures read { IfOk result (λ file. (bytes : List ℕ) × (length bytes ≡ 24)
             × IsFileHeader bytes file
@@ -184,7 +211,9 @@ impl FileHeader {
             × IsHeaderStop (R.left input.new) (R.failed input.new) part e) }
     {
         let mut bytes = [0u8; FILE_HEADER];
-        fill(input, &mut bytes)?;
+        if !fill_or_end(input, &mut bytes)? {
+            return Err(CaptureError::Empty);
+        }
         FileHeader::parse(&bytes)
     }
 

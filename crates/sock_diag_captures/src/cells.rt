@@ -4,8 +4,8 @@ ghost use Rattle.std.specs.Prelude.{◌≡◌, ◌++◌, ◌∷◌, [], ◌+◌,
 ghost use Rattle.std.specs.Prelude.{false, flat_map, vec_len, OnOk, option_map};
 ghost use Rattle.std.specs.Fmt.{digits};
 ghost use Rattle.sock_diag_attributes.specs.SeenName.{viewed_name};
-ghost use Rattle.sock_diag_captures.specs.Table.{byte_digits, column, endpoint, escaped, host};
-ghost use Rattle.sock_diag_captures.specs.Table.{name_cell, path_text};
+ghost use Rattle.sock_diag_captures.specs.Escapes.{byte_digits, escaped};
+ghost use Rattle.sock_diag_captures.specs.Table.{column, endpoint, host, name_cell, path_text};
 ghost use Rattle.sock_diag_captures.specs.Table.{number_cell, peer_cell, port_text, state_name};
 
 use netlink_packet_sock_diag::unix::nlas::NameView;
@@ -134,7 +134,7 @@ fn push_path(text: &mut Vec<u8>, path: &[u8]) -> Result<(), AllocError>
 }
 
 /// Adds bytes, those that are not plain as `\x` and two digits.
-fn push_escaped(text: &mut Vec<u8>, bytes: &[u8]) -> Result<(), AllocError>
+pub(crate) fn push_escaped(text: &mut Vec<u8>, bytes: &[u8]) -> Result<(), AllocError>
     ensures { OnOk result (text.new.items ≡ text.old.items ++ flat_map escaped bytes.now) }
 {
     for byte in bytes {

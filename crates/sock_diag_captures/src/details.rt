@@ -1,24 +1,48 @@
 //! The line below that of a socket: what is told of it beside its columns, and what could not be
 //! read.
 
-ghost use Rattle.std.specs.Prelude.{◌≡◌, ◌++◌, flat_map, OnOk};
-ghost use Rattle.netlink_core.specs.Walk.{attribute_of};
-ghost use Rattle.sock_diag_attributes.specs.SeenInet.{viewed_nla as viewed_inet};
-ghost use Rattle.sock_diag_attributes.specs.UnixAttributes.{unix};
-ghost use Rattle.sock_diag_attributes.specs.InetAttributes.{inet};
+ghost use Rattle.std.specs.Prelude.{◌≡◌, ◌≤◌, ◌++◌, codes, flat_map, length, OnOk};
 ghost use Rattle.netlink_core.specs.Family.{says};
-ghost use Rattle.sock_diag_captures.specs.Details.{connection, detail, detail_of, details_line};
-ghost use Rattle.sock_diag_captures.specs.Details.{fault_word, inet_text, piece_detail, times};
-ghost use Rattle.sock_diag_captures.specs.Details.{traffic, unix_text, unread, words_of};
+ghost use Rattle.netlink_core.specs.Format.{read};
+ghost use Rattle.netlink_core.specs.Walk.{attribute_of};
+ghost use Rattle.sock_diag_values.specs.MemInfo.{mem_info};
+ghost use Rattle.sock_diag_attributes.specs.InetAttributes.{inet};
+ghost use Rattle.sock_diag_attributes.specs.SeenInet.{viewed_nla as viewed_inet};
+ghost use Rattle.sock_diag_attributes.specs.SeenNumbers.{viewed_numbers};
+ghost use Rattle.sock_diag_attributes.specs.SeenUnix.{viewed_nla as viewed_unix};
+ghost use Rattle.sock_diag_attributes.specs.UnixAttributes.{unix};
+ghost use Rattle.sock_diag_captures.specs.Details.{ages, connection, counts, detail, detail_of};
+ghost use Rattle.sock_diag_captures.specs.Details.{details_line, directions, fault_word};
+ghost use Rattle.sock_diag_captures.specs.Details.{flag_detail, hex_detail, inet_text};
+ghost use Rattle.sock_diag_captures.specs.Details.{legacy_memory, limits, losses, memory};
+ghost use Rattle.sock_diag_captures.specs.Details.{memory_in, memory_limits, memory_part, memory_used};
+ghost use Rattle.sock_diag_captures.specs.Details.{memory_received, options, pair_detail};
+ghost use Rattle.sock_diag_captures.specs.Details.{piece_detail, rates, receiver, sizes};
+ghost use Rattle.sock_diag_captures.specs.Details.{some_detail, timer_in, timer_name, timer_text};
+ghost use Rattle.sock_diag_captures.specs.Details.{times, traffic, unix_text, unknown, unread};
+ghost use Rattle.sock_diag_captures.specs.Details.{words_of};
+ghost use Rattle.sock_diag_captures.specs.Escapes.{escaped};
 ghost use Rattle.sock_diag_captures.specs.Pieces.{pieces};
 
-use crate::cells::{push_hex, push_number};
+use crate::cells::{push_escaped, push_hex, push_number};
 use crate::pieces::next_piece;
 use byteorder::{ByteOrder, LittleEndian};
 use netlink_core::{DecodeError, NlaBuffer, NlasIterator};
-use netlink_packet_sock_diag::inet::nlas::{NlaView as InetView, TcpInfo};
-use netlink_packet_sock_diag::unix::nlas::NlaView as UnixView;
+use netlink_packet_sock_diag::constants::{
+    TCPI_OPT_ECN, TCPI_OPT_ECN_SEEN, TCPI_OPT_SACK, TCPI_OPT_SYN_DATA, TCPI_OPT_TIMESTAMPS,
+    TCPI_OPT_WSCALE,
+};
+use netlink_packet_sock_diag::inet::nlas::{
+    LegacyMemInfo, MemInfo, NlaView as InetView, TcpInfo,
+};
+use netlink_packet_sock_diag::unix::nlas::{NlaView as UnixView, NumbersView};
 use std::alloc::AllocError;
+
+/// The bit of a shut-down state for what is received.
+const SHUT_RECEIVING: u8 = 1;
+
+/// The bit of a shut-down state for what is sent.
+const SHUT_SENDING: u8 = 2;
 
 /// The sockets that attributes tell of.
 #[derive(Clone, Copy)]
@@ -29,20 +53,83 @@ pub(crate) enum Sockets {
     Inet,
 }
 
-/// Adds the line below that of a socket: its cookie, and what each attribute in the bytes tells.
+/// What the header of a reply about an IPv4 or IPv6 socket tells of the timer that runs.
+#[derive(Clone, Copy)]
+pub(crate) struct TimerWords {
+    /// Which timer, `idiag_timer` of sock_diag(7), 0 for none.
+    class: u8,
+    /// How often was sent again, `idiag_retrans`.
+    retransmits: u8,
+    /// The time until it ends, `idiag_expires`, in milliseconds.
+    expires: u32,
+}
+
+/// The timer of a socket that has none.
+pub(crate) const NO_TIMER: TimerWords = TimerWords {
+    class: 0,
+    retransmits: 0,
+    expires: 0,
+};
+
+/// The timer that the reply tells in its bytes, of which there are as many as in a header.
+pub(crate) fn timer_of(payload: &[u8]) -> TimerWords
+    requires { 72 ≤ length payload.now }
+    ensures { result ≡ timer_in payload.now }
+{
+    TimerWords {
+        class: payload[2],
+        retransmits: payload[3],
+        expires: LittleEndian::read_u32(&payload[52..]),
+    }
+}
+
+/// Adds the line below that of a socket: its timer, its cookie, and what each attribute in the
+/// bytes tells.
 pub(crate) fn push_details(
     text: &mut Vec<u8>,
     sockets: Sockets,
+    timer: &TimerWords,
     cookie: &[u8; 8],
     bytes: &[u8],
 ) -> Result<(), AllocError>
     ensures { OnOk result (text.new.items ≡ text.old.items
-        ++ details_line sockets cookie.now (pieces 0 bytes.now)) }
+        ++ details_line sockets timer.now cookie.now (pieces 0 bytes.now)) }
 {
-    text.extend_from_slice(b"\t sk:")?;
+    text.push(b'\t')?;
+    push_timer(text, timer)?;
+    text.extend_from_slice(b" sk:")?;
     push_hex(text, LittleEndian::read_u64(cookie))?;
     push_pieces(text, sockets, bytes)?;
     Ok(text.push(b'\n')?)
+}
+
+/// Adds the timer that runs, the time until it ends, and how often was sent again.
+fn push_timer(text: &mut Vec<u8>, timer: &TimerWords) -> Result<(), AllocError>
+    ensures { OnOk result (text.new.items ≡ text.old.items ++ timer_text timer.now) }
+{
+    if timer.class == 0 {
+        return Ok(());
+    }
+    text.extend_from_slice(b" timer:(")?;
+    text.extend_from_slice(name_of_timer(timer.class))?;
+    text.push(b',')?;
+    push_number(text, timer.expires.into())?;
+    text.extend_from_slice(b"ms,")?;
+    push_number(text, timer.retransmits.into())?;
+    Ok(text.push(b')')?)
+}
+
+/// The name of a timer, as ss(8) prints it.
+fn name_of_timer(class: u8) -> &'static [u8]
+    ensures { result.now ≡ timer_name class }
+{
+    match class {
+        1 => b"on",
+        2 => b"keepalive",
+        3 => b"timewait",
+        4 => b"persist",
+        _ => b"unknown",
+    }
 }
 
 /// Adds what each attribute in the bytes tells.
@@ -80,7 +167,7 @@ fn push_unix_attribute(text: &mut Vec<u8>, nla: &NlaBuffer<'_>) -> Result<(), Al
         ++ words_of unix_text (attribute_of nla.now) (says unix (attribute_of nla.now))) }
 {
     match UnixView::parse(nla) {
-        Ok(_) => Ok(()),
+        Ok(view) => push_unix_value(text, nla, &view),
         Err(fault) => push_unread(text, nla, &fault),
     }
 }
@@ -91,7 +178,7 @@ fn push_inet_attribute(text: &mut Vec<u8>, nla: &NlaBuffer<'_>) -> Result<(), Al
         ++ words_of inet_text (attribute_of nla.now) (says inet (attribute_of nla.now))) }
 {
     match InetView::parse(nla) {
-        Ok(view) => push_inet_value(text, &view),
+        Ok(view) => push_inet_value(text, nla, &view),
         Err(fault) => push_unread(text, nla, &fault),
     }
 }
@@ -129,14 +216,159 @@ fn word_of(fault: &DecodeError) -> &'static [u8]
     }
 }
 
-/// Adds what a value tells of an IPv4 or IPv6 socket.
-fn push_inet_value(text: &mut Vec<u8>, view: &InetView<'_>) -> Result<(), AllocError>
-    ensures { OnOk result (text.new.items ≡ text.old.items ++ inet_text (viewed_inet view.now)) }
+/// Adds what the value of an attribute tells of a UNIX socket beside its columns. Its memory has
+/// nine words, of which the view has three.
+fn push_unix_value(
+    text: &mut Vec<u8>,
+    nla: &NlaBuffer<'_>,
+    view: &UnixView<'_>,
+) -> Result<(), AllocError>
+    ensures { OnOk result (text.new.items ≡ text.old.items
+        ++ unix_text (attribute_of nla.now) (viewed_unix view.now)) }
 {
     match view {
-        InetView::TcpInfo(info) => push_connection(text, info),
-        _ => Ok(()),
+        UnixView::Name(_) | UnixView::Peer(_) | UnixView::ReceiveQueueLength(_, _) => Ok(()),
+        UnixView::Vfs(file) => push_pair(text, b"vfs", file.inode().into(), file.device().into()),
+        UnixView::PendingConnections(inodes) => push_pending(text, inodes),
+        UnixView::MemInfo(_) => push_memory_in(text, nla.value()),
+        UnixView::Shutdown(state) => push_directions(text, *state),
+        UnixView::Other(_) => push_unknown(text, nla),
     }
+}
+
+/// Adds what the value of an attribute tells of an IPv4 or IPv6 socket.
+fn push_inet_value(
+    text: &mut Vec<u8>,
+    nla: &NlaBuffer<'_>,
+    view: &InetView<'_>,
+) -> Result<(), AllocError>
+    ensures { OnOk result (text.new.items ≡ text.old.items
+        ++ inet_text (attribute_of nla.now) (viewed_inet view.now)) }
+{
+    match view {
+        InetView::LegacyMemInfo(memory) => push_legacy_memory(text, memory),
+        InetView::TcpInfo(info) => push_connection(text, info),
+        InetView::Congestion(name) => push_congestion(text, name),
+        InetView::Tos(tos) => push_hex_detail(text, b"tos", (*tos).into()),
+        InetView::Tc(class) => push_hex_detail(text, b"tclass", (*class).into()),
+        InetView::MemInfo(memory) => push_memory(text, memory),
+        InetView::Shutdown(state) => push_directions(text, *state),
+        InetView::Protocol(protocol) => push_detail(text, b"protocol", (*protocol).into()),
+        InetView::SkV6Only(only) => push_detail(text, b"v6only", u8::from(*only).into()),
+        InetView::Mark(mark) => push_hex_detail(text, b"fwmark", (*mark).into()),
+        InetView::ClassId(class) => push_hex_detail(text, b"class_id", (*class).into()),
+        InetView::Other(_) => push_unknown(text, nla),
+    }
+}
+
+/// Adds the name of a congestion control algorithm.
+fn push_congestion(text: &mut Vec<u8>, name: &str) -> Result<(), AllocError>
+    ensures { OnOk result (text.new.items ≡ text.old.items
+        ++ codes " cong:" ++ flat_map escaped name.now) }
+{
+    text.extend_from_slice(b" cong:")?;
+    push_escaped(text, name.as_bytes())
+}
+
+/// Adds the inodes of pending connections.
+fn push_pending(text: &mut Vec<u8>, inodes: &NumbersView<'_>) -> Result<(), AllocError>
+    ensures { OnOk result (text.new.items ≡ text.old.items
+        ++ flat_map (detail (codes "pending")) (viewed_numbers inodes.now)) }
+{
+    for inode in inodes.iter() {
+        push_detail(text, b"pending", inode.into())?;
+    }
+    Ok(())
+}
+
+/// Adds the directions that are not shut down, as ss(8) does.
+fn push_directions(text: &mut Vec<u8>, state: u8) -> Result<(), AllocError>
+    ensures { OnOk result (text.new.items ≡ text.old.items ++ directions state) }
+{
+    text.push(b' ')?;
+    text.push(if state & SHUT_RECEIVING == 0 { b'<' } else { b'-' })?;
+    text.push(b'-')?;
+    Ok(text.push(if state & SHUT_SENDING == 0 { b'>' } else { b'-' })?)
+}
+
+/// Adds the number and the length of an attribute of another kind.
+fn push_unknown(text: &mut Vec<u8>, nla: &NlaBuffer<'_>) -> Result<(), AllocError>
+    ensures { OnOk result (text.new.items ≡ text.old.items ++ unknown (attribute_of nla.now)) }
+{
+    push_pair(text, b"unknown", nla.kind().into(), nla.value().len() as u64)
+}
+
+/// Adds the words of a value that tells memory, where it has so many.
+fn push_memory_in(text: &mut Vec<u8>, value: &[u8]) -> Result<(), AllocError>
+    ensures { OnOk result (text.new.items ≡ text.old.items
+        ++ memory_in (read mem_info tt value.now)) }
+{
+    match MemInfo::parse(value) {
+        Ok(memory) => push_memory(text, &memory),
+        Err(_) => Ok(()),
+    }
+}
+
+/// Adds the memory of a socket, in bytes, as ss(8) does.
+fn push_memory(text: &mut Vec<u8>, told: &MemInfo) -> Result<(), AllocError>
+    ensures { OnOk result (text.new.items ≡ text.old.items ++ memory told.now) }
+{
+    push_received(text, told.receive_queue.into())?;
+    push_limits_of_memory(text, told)?;
+    push_used_memory(text, told)?;
+    push_part(text, b"bl", told.backlog_queue_length)?;
+    push_part(text, b"d", told.drops)?;
+    Ok(text.push(b')')?)
+}
+
+/// Adds the memory of what a socket received.
+fn push_received(text: &mut Vec<u8>, number: u64) -> Result<(), AllocError>
+    ensures { OnOk result (text.new.items ≡ text.old.items ++ memory_received number) }
+{
+    text.extend_from_slice(b" skmem:(r")?;
+    push_number(text, number)
+}
+
+/// Adds the most memory that a socket may take, and that of what was handed down.
+fn push_limits_of_memory(text: &mut Vec<u8>, told: &MemInfo) -> Result<(), AllocError>
+    ensures { OnOk result (text.new.items ≡ text.old.items ++ memory_limits told.now) }
+{
+    push_part(text, b"rb", Some(told.receive_queue_max))?;
+    push_part(text, b"t", Some(told.bottom_send_queues))?;
+    push_part(text, b"tb", Some(told.send_queue_max))
+}
+
+/// Adds the memory that a socket holds.
+fn push_used_memory(text: &mut Vec<u8>, told: &MemInfo) -> Result<(), AllocError>
+    ensures { OnOk result (text.new.items ≡ text.old.items ++ memory_used told.now) }
+{
+    push_part(text, b"f", Some(told.cache))?;
+    push_part(text, b"w", Some(told.send_queue))?;
+    push_part(text, b"o", Some(told.options))
+}
+
+/// Adds the memory of a socket as older kernels tell it, in bytes.
+fn push_legacy_memory(text: &mut Vec<u8>, told: &LegacyMemInfo) -> Result<(), AllocError>
+    ensures { OnOk result (text.new.items ≡ text.old.items ++ legacy_memory told.now) }
+{
+    text.extend_from_slice(b" mem:(r")?;
+    push_number(text, told.receive_queue.into())?;
+    push_part(text, b"w", Some(told.bottom_send_queue))?;
+    push_part(text, b"f", Some(told.cache))?;
+    push_part(text, b"t", Some(told.send_queue))?;
+    Ok(text.push(b')')?)
+}
+
+/// Adds a comma, a word and a number, where one is told.
+fn push_part(text: &mut Vec<u8>, word: &[u8], number: Option<u32>) -> Result<(), AllocError>
+    ensures { OnOk result (text.new.items ≡ text.old.items ++ memory_part word.now number) }
+{
+    let Some(number) = number else {
+        return Ok(());
+    };
+    text.push(b',')?;
+    text.extend_from_slice(word)?;
+    push_number(text, number.into())
 }
 
 /// Adds what is told of a TCP connection.
@@ -144,7 +376,15 @@ fn push_connection(text: &mut Vec<u8>, info: &TcpInfo) -> Result<(), AllocError>
     ensures { OnOk result (text.new.items ≡ text.old.items ++ connection info.now) }
 {
     push_times(text, info)?;
-    push_traffic(text, info)
+    push_traffic(text, info)?;
+    push_options(text, info)?;
+    push_sizes(text, info)?;
+    push_counts(text, info)?;
+    push_ages(text, info)?;
+    push_rates(text, info)?;
+    push_limits(text, info)?;
+    push_losses(text, info)?;
+    push_receiver(text, info)
 }
 
 /// Adds the times and the sizes of a TCP connection.
@@ -167,6 +407,145 @@ fn push_traffic(text: &mut Vec<u8>, info: &TcpInfo) -> Result<(), AllocError>
     push_detail(text, b"retrans", info.total_retrans.into())?;
     push_detail(text, b"sent", info.bytes_sent)?;
     push_detail(text, b"received", info.bytes_received)
+}
+
+/// Adds the options that both ends of a TCP connection agreed on.
+fn push_options(text: &mut Vec<u8>, info: &TcpInfo) -> Result<(), AllocError>
+    ensures { OnOk result (text.new.items ≡ text.old.items ++ options info.now) }
+{
+    push_flag(text, b"ts", TCPI_OPT_TIMESTAMPS, info.options)?;
+    push_flag(text, b"sack", TCPI_OPT_SACK, info.options)?;
+    push_flag(text, b"ecn", TCPI_OPT_ECN, info.options)?;
+    push_flag(text, b"ecnseen", TCPI_OPT_ECN_SEEN, info.options)?;
+    push_flag(text, b"fastopen", TCPI_OPT_SYN_DATA, info.options)?;
+    if info.options & TCPI_OPT_WSCALE == 0 {
+        return Ok(());
+    }
+    let (sent, received) = (info.wscale % 16, info.wscale / 16);
+    push_pair(text, b"wscale", sent.into(), received.into())
+}
+
+/// Adds times, sizes and windows of a TCP connection.
+fn push_sizes(text: &mut Vec<u8>, info: &TcpInfo) -> Result<(), AllocError>
+    ensures { OnOk result (text.new.items ≡ text.old.items ++ sizes info.now) }
+{
+    push_some(text, b"backoff", info.backoff.into())?;
+    push_some(text, b"ato", info.ato.into())?;
+    push_some(text, b"rcvmss", info.rcv_mss.into())?;
+    push_some(text, b"advmss", info.advmss.into())?;
+    push_some(text, b"ssthresh", info.snd_ssthresh.into())?;
+    push_some(text, b"snd_wnd", info.snd_wnd.into())
+}
+
+/// Adds bytes and segments of a TCP connection.
+fn push_counts(text: &mut Vec<u8>, info: &TcpInfo) -> Result<(), AllocError>
+    ensures { OnOk result (text.new.items ≡ text.old.items ++ counts info.now) }
+{
+    push_some(text, b"bytes_retrans", info.bytes_retrans)?;
+    push_some(text, b"bytes_acked", info.bytes_acked)?;
+    push_some(text, b"segs_out", info.segs_out.into())?;
+    push_some(text, b"segs_in", info.segs_in.into())?;
+    push_some(text, b"data_segs_out", info.data_segs_out.into())?;
+    push_some(text, b"data_segs_in", info.data_segs_in.into())
+}
+
+/// Adds the times since data or an acknowledgement, and what was not sent yet of a TCP connection.
+fn push_ages(text: &mut Vec<u8>, info: &TcpInfo) -> Result<(), AllocError>
+    ensures { OnOk result (text.new.items ≡ text.old.items ++ ages info.now) }
+{
+    push_some(text, b"lastsnd", info.last_data_sent.into())?;
+    push_some(text, b"lastrcv", info.last_data_recv.into())?;
+    push_some(text, b"lastack", info.last_ack_recv.into())?;
+    push_some(text, b"notsent", info.notsent_bytes.into())
+}
+
+/// Adds the rates, and the segments that came of a TCP connection.
+fn push_rates(text: &mut Vec<u8>, info: &TcpInfo) -> Result<(), AllocError>
+    ensures { OnOk result (text.new.items ≡ text.old.items ++ rates info.now) }
+{
+    push_some(text, b"pacing_rate", info.pacing_rate)?;
+    push_some(text, b"max_pacing_rate", info.max_pacing_rate)?;
+    push_some(text, b"delivery_rate", info.delivery_rate)?;
+    push_some(text, b"delivered", info.delivered.into())?;
+    push_some(text, b"delivered_ce", info.delivered_ce.into())?;
+    push_flag(text, b"app_limited", 1, info.delivery_rate_app_limited)
+}
+
+/// Adds the time with data to send of a TCP connection.
+fn push_limits(text: &mut Vec<u8>, info: &TcpInfo) -> Result<(), AllocError>
+    ensures { OnOk result (text.new.items ≡ text.old.items ++ limits info.now) }
+{
+    push_some(text, b"busy", info.busy_time)?;
+    push_some(text, b"rwnd_limited", info.rwnd_limited)?;
+    push_some(text, b"sndbuf_limited", info.sndbuf_limited)
+}
+
+/// Adds what was lost, out of order or told twice of a TCP connection.
+fn push_losses(text: &mut Vec<u8>, info: &TcpInfo) -> Result<(), AllocError>
+    ensures { OnOk result (text.new.items ≡ text.old.items ++ losses info.now) }
+{
+    push_some(text, b"retrans_now", info.retrans.into())?;
+    push_some(text, b"lost", info.lost.into())?;
+    push_some(text, b"sacked", info.sacked.into())?;
+    push_some(text, b"dsack_dups", info.dsack_dups.into())?;
+    push_some(text, b"reordering", info.reordering.into())?;
+    push_some(text, b"reord_seen", info.reord_seen.into())
+}
+
+/// Adds the receiver's side of a TCP connection.
+fn push_receiver(text: &mut Vec<u8>, info: &TcpInfo) -> Result<(), AllocError>
+    ensures { OnOk result (text.new.items ≡ text.old.items ++ receiver info.now) }
+{
+    push_some(text, b"rcv_rtt", info.rcv_rtt.into())?;
+    push_some(text, b"rcv_space", info.rcv_space.into())?;
+    push_some(text, b"rcv_ssthresh", info.rcv_ssthresh.into())?;
+    push_some(text, b"minrtt", info.min_rtt.into())?;
+    push_some(text, b"rcv_ooopack", info.rcv_ooopack.into())
+}
+
+/// Adds a word and a number, where it is not 0.
+fn push_some(text: &mut Vec<u8>, word: &[u8], number: u64) -> Result<(), AllocError>
+    ensures { OnOk result (text.new.items ≡ text.old.items ++ some_detail word.now number) }
+{
+    if number == 0 {
+        return Ok(());
+    }
+    push_detail(text, word, number)
+}
+
+/// Adds a word where a number has one of these bits.
+fn push_flag(text: &mut Vec<u8>, word: &[u8], bits: u8, number: u8) -> Result<(), AllocError>
+    ensures { OnOk result (text.new.items ≡ text.old.items ++ flag_detail word.now bits number) }
+{
+    if number & bits == 0 {
+        return Ok(());
+    }
+    text.push(b' ')?;
+    text.extend_from_slice(word)
+}
+
+/// Adds a space, a word, a colon and two numbers in brackets.
+fn push_pair(text: &mut Vec<u8>, word: &[u8], first: u64, second: u64) -> Result<(), AllocError>
+    ensures { OnOk result (text.new.items ≡ text.old.items
+        ++ pair_detail word.now first second) }
+{
+    text.push(b' ')?;
+    text.extend_from_slice(word)?;
+    text.extend_from_slice(b":(")?;
+    push_number(text, first)?;
+    text.push(b',')?;
+    push_number(text, second)?;
+    Ok(text.push(b')')?)
+}
+
+/// Adds a space, a word, a colon, `0x` and a number in hexadecimal digits.
+fn push_hex_detail(text: &mut Vec<u8>, word: &[u8], number: u64) -> Result<(), AllocError>
+    ensures { OnOk result (text.new.items ≡ text.old.items ++ hex_detail word.now number) }
+{
+    text.push(b' ')?;
+    text.extend_from_slice(word)?;
+    text.extend_from_slice(b":0x")?;
+    push_hex(text, number)
 }
 
 /// Adds a space, a word, a colon and a number.

@@ -15,16 +15,23 @@ mod details;
 mod line;
 mod list;
 mod pieces;
+mod requests;
 mod stream;
 mod streams;
+mod words;
 
 pub use capture::{ByteOrder, CaptureError, FileHeader, Packet};
 pub use line::HEADING;
 pub use list::{Complaint, Written, list_packet};
+pub use requests::{Asked, Requests};
 use std::alloc::Global;
 use std::io::{Read, Write};
 use std::process::ExitCode;
 pub use stream::{RunError, run};
+pub use words::{Choice, HELP, choose};
+
+/// The version, that of the repository's file `VERSION`.
+pub const VERSION: &str = "0.7.0";
 
 /// `run`, which tells on `errors` why it failed. The status is 0 where the whole capture was
 /// listed, and 1 where reading or writing failed, or where something was told of a packet.

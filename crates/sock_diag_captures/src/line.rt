@@ -7,18 +7,20 @@ ghost use Rattle.sock_diag_records.specs.UnixResponseHeader.{unix_response_heade
 ghost use Rattle.sock_diag_attributes.specs.SeenName.{viewed_name};
 ghost use Rattle.sock_diag_attributes.specs.UnixAttributes.{unix};
 ghost use Rattle.netlink_packet_sock_diag.specs.Message.{reply_kind};
+ghost use Rattle.sock_diag_captures.specs.Details.{timer_in};
 ghost use Rattle.sock_diag_captures.specs.Listing.{fault_behind, kind_fault, kind_lines};
 ghost use Rattle.sock_diag_captures.specs.Listing.{lines_behind};
 ghost use Rattle.sock_diag_captures.specs.Pieces.{pieces, value_told};
 ghost use Rattle.sock_diag_captures.specs.Shown.{shown_cells};
-ghost use Rattle.sock_diag_captures.specs.Table.{first_columns, inet_kind, inet_line, inet_lines};
+ghost use Rattle.sock_diag_captures.specs.Table.{family_name, first_columns, inet_kind, inet_line};
+ghost use Rattle.sock_diag_captures.specs.Table.{inet_lines};
 ghost use Rattle.sock_diag_captures.specs.Table.{unix_kind, unix_line, unix_lines};
 
 use crate::cells::{
     name_of_state, push_column, push_endpoint, push_endpoint_column, push_name_column,
     push_number_column, push_peer,
 };
-use crate::details::{Sockets, push_details};
+use crate::details::{NO_TIMER, Sockets, TimerWords, push_details, timer_of};
 use crate::pieces::{find_fault, find_kind};
 use netlink_core::DecodeError;
 use netlink_packet_sock_diag::constants::{
@@ -72,11 +74,12 @@ fn push_first_columns(text: &mut Vec<u8>, cells: &Cells) -> Result<(), AllocErro
 /// framing behind it, or says that it is no reply. Of a socket of another family nothing is told.
 pub(crate) fn push_reply(
     text: &mut Vec<u8>,
+    protocol: Option<u32>,
     message_type: u16,
     payload: &[u8],
 ) -> Result<Option<DecodeError>, AllocError>
     ensures lines { OnOk result (text.new.items ≡ text.old.items
-        ++ kind_lines (reply_kind payload.now message_type) payload.now) }
+        ++ kind_lines protocol (reply_kind payload.now message_type) payload.now) }
     ensures fault { IfOk result (λ fault.
         fault ≡ kind_fault (reply_kind payload.now message_type) payload.now) }
 {
@@ -89,7 +92,7 @@ pub(crate) fn push_reply(
     }
     match payload[0] {
         AF_UNIX => push_unix(text, payload),
-        AF_INET | AF_INET6 => push_inet(text, payload),
+        AF_INET | AF_INET6 => push_inet(text, protocol, payload),
         _ => Ok(None),
     }
 }
@@ -124,7 +127,13 @@ fn push_unix_lines(
         ++ unix_lines header.now (pieces 0 attributes.now)) }
 {
     push_unix_line(text, header, attributes)?;
-    push_details(text, Sockets::Unix, &header.cookie, attributes)
+    push_details(
+        text,
+        Sockets::Unix,
+        &NO_TIMER,
+        &header.cookie,
+        attributes,
+    )
 }
 
 /// Adds the line of a UNIX socket.
@@ -222,9 +231,14 @@ fn name_of_kind(kind: u8) -> &'static [u8]
 
 /// Adds the lines of an IPv4 or IPv6 socket, and gives the fault of the reply, if it has one.
 #[tactic(auto, using(netlink_packet_sock_diag::specs::InetReplyLaws::header_enough))]
-fn push_inet(text: &mut Vec<u8>, payload: &[u8]) -> Result<Option<DecodeError>, AllocError>
+fn push_inet(
+    text: &mut Vec<u8>,
+    protocol: Option<u32>,
+    payload: &[u8],
+) -> Result<Option<DecodeError>, AllocError>
     ensures lines { OnOk result (text.new.items ≡ text.old.items
-        ++ lines_behind inet_lines (read inet_response_header tt payload.now)
+        ++ lines_behind (inet_lines protocol (timer_in payload.now))
+        (read inet_response_header tt payload.now)
         (pieces 0 (drop 72 payload.now))) }
     ensures fault { IfOk result (λ fault. fault
         ≡ fault_behind (read inet_response_header tt payload.now)
@@ -233,31 +247,43 @@ fn push_inet(text: &mut Vec<u8>, payload: &[u8]) -> Result<Option<DecodeError>, 
     match InetResponseHeader::from_prefix(payload) {
         Ok(header) => {
             let attributes = &payload[INET_HEADER..];
-            push_inet_lines(text, &header, attributes)?;
+            push_inet_lines(text, protocol, &timer_of(payload), &header, attributes)?;
             Ok(find_fault(attributes))
         }
         Err(fault) => Ok(Some(fault)),
     }
 }
 
-/// Adds the lines of an IPv4 or IPv6 socket with this header and attributes.
+/// Adds the lines of an IPv4 or IPv6 socket with this timer, header and attributes.
 fn push_inet_lines(
     text: &mut Vec<u8>,
+    protocol: Option<u32>,
+    timer: &TimerWords,
     header: &InetResponseHeader,
     attributes: &[u8],
 ) -> Result<(), AllocError>
     ensures { OnOk result (text.new.items ≡ text.old.items
-        ++ inet_lines header.now (pieces 0 attributes.now)) }
+        ++ inet_lines protocol timer.now header.now (pieces 0 attributes.now)) }
 {
-    push_inet_line(text, header)?;
-    push_details(text, Sockets::Inet, &header.socket_id.cookie, attributes)
+    push_inet_line(text, protocol, header)?;
+    push_details(
+        text,
+        Sockets::Inet,
+        timer,
+        &header.socket_id.cookie,
+        attributes,
+    )
 }
 
 /// Adds the line of an IPv4 or IPv6 socket.
-fn push_inet_line(text: &mut Vec<u8>, header: &InetResponseHeader) -> Result<(), AllocError>
-    ensures { OnOk result (text.new.items ≡ text.old.items ++ inet_line header.now) }
+fn push_inet_line(
+    text: &mut Vec<u8>,
+    protocol: Option<u32>,
+    header: &InetResponseHeader,
+) -> Result<(), AllocError>
+    ensures { OnOk result (text.new.items ≡ text.old.items ++ inet_line protocol header.now) }
 {
-    push_first_columns(text, &inet_cells(header))?;
+    push_first_columns(text, &inet_cells(protocol, header))?;
     let id = &header.socket_id;
     push_endpoint_column(
         text,
@@ -270,10 +296,10 @@ fn push_inet_line(text: &mut Vec<u8>, header: &InetResponseHeader) -> Result<(),
     Ok(text.push(b'\n')?)
 }
 
-/// The first columns of an IPv4 or IPv6 socket. The protocol is not told.
-fn inet_cells(header: &InetResponseHeader) -> Cells
+/// The first columns of an IPv4 or IPv6 socket.
+fn inet_cells(protocol: Option<u32>, header: &InetResponseHeader) -> Cells
     ensures { shown_cells result ≡ record {
-      kind = inet_kind header.now.family;
+      kind = inet_kind protocol header.now.family;
       state = header.now.state;
       receive_queue = Some header.now.recv_queue;
       send_queue = Some header.now.send_queue;
@@ -282,15 +308,34 @@ fn inet_cells(header: &InetResponseHeader) -> Cells
     } }
 {
     Cells {
-        kind: if header.family == AF_INET6 {
-            b"inet6"
-        } else {
-            b"inet"
-        },
+        kind: name_of_protocol(protocol, header.family),
         state: header.state,
         receive_queue: Some(header.recv_queue),
         send_queue: Some(header.send_queue),
         inode: header.inode,
         uid: Some(header.uid),
     }
+}
+
+/// The protocol that was asked for, as ss(8) prints it, or the family.
+fn name_of_protocol(protocol: Option<u32>, family: u8) -> &'static [u8]
+    ensures { result.now ≡ inet_kind protocol family }
+{
+    match protocol {
+        Some(6) => b"tcp",
+        Some(17) => b"udp",
+        Some(33) => b"dccp",
+        Some(132) => b"sctp",
+        Some(136) => b"udplite",
+        Some(255) => b"raw",
+        Some(262) => b"mptcp",
+        _ => name_of_family(family),
+    }
+}
+
+/// The name of a family.
+fn name_of_family(family: u8) -> &'static [u8]
+    ensures { result.now ≡ family_name family }
+{
+    if family == AF_INET6 { b"inet6" } else { b"inet" }
 }

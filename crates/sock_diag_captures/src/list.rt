@@ -4,15 +4,19 @@
 ghost use Rattle.std.specs.Prelude.{◌≡◌, ◌↔◌, ◌≤◌, ◌++◌, IfOk, OnOk, IsTrue, bit_and, drop};
 ghost use Rattle.std.specs.Prelude.{length, option_map};
 ghost use Rattle.byteorder.specs.Endian.{little_number};
-ghost use Rattle.sock_diag_captures.specs.Listing.{IsPlain, IsRequest, Lists, ListsPacket};
-ghost use Rattle.sock_diag_captures.specs.Listing.{complaint_under, control_complaint, errno_in};
+ghost use Rattle.sock_diag_captures.specs.Listing.{IsPlain, IsRequest, Lists, ListsAnswer};
+ghost use Rattle.sock_diag_captures.specs.Listing.{ListsPacket};
+ghost use Rattle.sock_diag_captures.specs.Requests.{noted};
+ghost use Rattle.sock_diag_captures.specs.Listing.{asked_after, complaint_under};
+ghost use Rattle.sock_diag_captures.specs.Listing.{control_complaint, errno_in};
 ghost use Rattle.sock_diag_captures.specs.Listing.{error_complaint, is_nothing_missing};
-ghost use Rattle.sock_diag_captures.specs.Listing.{lines_under, message_complaint};
+ghost use Rattle.sock_diag_captures.specs.Listing.{lines_under, message_complaint, protocol_for};
 ghost use Rattle.sock_diag_captures.specs.Listing.{message_lines};
 ghost use Rattle.sock_diag_captures.specs.declared.list.Complaint.TheVariants.{Refused};
 
 use crate::capture::Packet;
 use crate::line::push_reply;
+use crate::requests::Requests;
 use byteorder::{ByteOrder, LittleEndian};
 use netlink_core::{
     DecodeError, MessageStrings, NETLINK_HEADER_LEN, NLM_F_REQUEST, NLMSG_NOOP,
@@ -76,19 +80,47 @@ pub struct Written {
 /// Adds the lines of the sockets that a packet of this number tells, and what is told of it. It
 /// answers whether the packet was listed whole: none of its messages was refused, tells an error but
 /// ENOENT and EINVAL, or says that data was lost or that the dump changed.
-pub fn list_packet(written: &mut Written, number: u64, packet: &[u8]) -> Result<bool, AllocError>
-    ensures { IfOk result (ListsPacket packet.now written.old.lines.items written.new.lines.items) }
+///
+/// A request is kept, so that the protocol of a reply that answers it is known.
+#[tactic(auto, using(crate::proofs::Asking::asking))]
+pub fn list_packet(
+    written: &mut Written,
+    requests: &mut Requests,
+    number: u64,
+    packet: &[u8],
+) -> Result<bool, AllocError>
+    ensures lists { IfOk result (ListsPacket requests.new.asked.items packet.now
+        written.old.lines.items written.new.lines.items) }
+    ensures asked { OnOk result (requests.new.asked.items
+        ≡ asked_after requests.old.asked.items packet.now) }
 {
     match Packet::parse(packet) {
-        Packet::SockDiag(datagram) if !is_request(datagram) => {
-            list_datagram(written, number, datagram)
-        }
-        Packet::SockDiag(_) | Packet::Other => Ok(true),
+        Packet::SockDiag(datagram) => list_sock_diag(written, requests, number, datagram),
+        Packet::Other => Ok(true),
         Packet::Short => {
             push_short(&mut written.complaints, number)?;
             Ok(false)
         }
     }
+}
+
+/// The same of a datagram of sock_diag(7).
+fn list_sock_diag(
+    written: &mut Written,
+    requests: &mut Requests,
+    number: u64,
+    datagram: &[u8],
+) -> Result<bool, AllocError>
+    ensures lists { IfOk result (ListsAnswer requests.new.asked.items datagram.now
+        written.old.lines.items written.new.lines.items) }
+    ensures asked { OnOk result (requests.new.asked.items
+        ≡ noted requests.old.asked.items datagram.now) }
+{
+    requests.note(datagram)?;
+    if is_request(datagram) {
+        return Ok(true);
+    }
+    list_datagram(written, requests, number, datagram)
 }
 
 /// Whether a datagram begins with a request, as programs send them to the kernel.
@@ -103,8 +135,13 @@ fn is_request(datagram: &[u8]) -> bool
 
 /// Adds the lines of the sockets that a datagram tells, and what is told of it, and answers whether
 /// it was listed whole. At what is no message it ends.
-fn list_datagram(written: &mut Written, number: u64, datagram: &[u8]) -> Result<bool, AllocError>
-    ensures { IfOk result (Lists datagram.now written.old.lines.items written.new.lines.items) }
+fn list_datagram(
+    written: &mut Written,
+    requests: &Requests,
+    number: u64,
+    datagram: &[u8],
+) -> Result<bool, AllocError>
+    ensures { IfOk result (Lists requests.now.asked.items datagram.now written.old.lines.items written.new.lines.items) }
 {
     let mut is_clean = true;
     let mut place = Place {
@@ -115,7 +152,7 @@ fn list_datagram(written: &mut Written, number: u64, datagram: &[u8]) -> Result<
         place.message = place.message.saturating_add(1);
         match item {
             Ok(message) => {
-                let is_plain = list_message(written, place, message)?;
+                let is_plain = list_message(written, requests, place, message)?;
                 is_clean = is_clean && is_plain;
             }
             Err(fault) => {
@@ -131,19 +168,20 @@ fn list_datagram(written: &mut Written, number: u64, datagram: &[u8]) -> Result<
 /// note.
 fn list_message(
     written: &mut Written,
+    requests: &Requests,
     place: Place,
     message: &[u8],
 ) -> Result<bool, AllocError>
     requires { 16 ≤ length message.now }
     ensures lines { OnOk result (written.new.lines.items ≡ written.old.lines.items
-        ++ message_lines message.now) }
+        ++ message_lines requests.now.asked.items message.now) }
     ensures plain { IfOk result (λ is_plain. IsTrue is_plain ↔ IsPlain message.now) }
 {
     let is_steady = is_steady(message);
     if !is_steady {
         push_complaint(&mut written.complaints, place, &Complaint::Interrupted)?;
     }
-    let told = push_message(&mut written.lines, message)?;
+    let told = push_message(&mut written.lines, requests, message)?;
     if let Some(complaint) = &told {
         push_complaint(&mut written.complaints, place, complaint)?;
     }
@@ -167,32 +205,40 @@ fn is_note(told: &Option<Complaint>) -> bool
 
 /// Adds the lines of a message, where it is a reply, and gives what is told of it: that it is
 /// refused, that it tells an error, or that data was lost.
-fn push_message(lines: &mut Vec<u8>, message: &[u8]) -> Result<Option<Complaint>, AllocError>
+fn push_message(
+    lines: &mut Vec<u8>,
+    requests: &Requests,
+    message: &[u8],
+) -> Result<Option<Complaint>, AllocError>
     requires { 16 ≤ length message.now }
-    ensures lines { OnOk result (lines.new.items ≡ lines.old.items ++ message_lines message.now) }
+    ensures lines { OnOk result (lines.new.items ≡ lines.old.items
+        ++ message_lines requests.now.asked.items message.now) }
     ensures complaint { IfOk result (λ told. told ≡ message_complaint message.now) }
 {
     push_payload(
         lines,
+        protocol_of(requests, message),
         LittleEndian::read_u16(&message[4..]),
         &message[NETLINK_HEADER_LEN..],
     )
 }
 
-/// The same of what stands behind the header of a message of this type.
+/// The same of what stands behind the header of a message of this type, of the protocol that was
+/// asked for.
 fn push_payload(
     lines: &mut Vec<u8>,
+    protocol: Option<u32>,
     message_type: u16,
     payload: &[u8],
 ) -> Result<Option<Complaint>, AllocError>
     ensures lines { OnOk result (lines.new.items ≡ lines.old.items
-        ++ lines_under message_type payload.now) }
+        ++ lines_under protocol message_type payload.now) }
     ensures complaint { IfOk result (λ told. told ≡ complaint_under message_type payload.now) }
 {
     if (NLMSG_NOOP..=NLMSG_OVERRUN).contains(&message_type) {
         return Ok(complaint_about_control(message_type, payload));
     }
-    let fault = push_reply(lines, message_type, payload)?;
+    let fault = push_reply(lines, protocol, message_type, payload)?;
     Ok(complaint_about_fault(fault))
 }
 
@@ -206,6 +252,17 @@ fn complaint_about_control(message_type: u16, payload: &[u8]) -> Option<Complain
         NLMSG_OVERRUN => Some(Complaint::Lost),
         _ => complaint_about_error(error_of(payload)),
     }
+}
+
+/// The protocol of the request that a message answers, where one was seen.
+fn protocol_of(requests: &Requests, message: &[u8]) -> Option<u32>
+    requires { 16 ≤ length message.now }
+    ensures { result ≡ protocol_for requests.now.asked.items message.now }
+{
+    requests.find_protocol(
+        LittleEndian::read_u32(&message[8..]),
+        LittleEndian::read_u32(&message[12..]),
+    )
 }
 
 /// What is told of a fault, if there is one.

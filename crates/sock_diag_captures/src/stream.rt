@@ -11,6 +11,7 @@ ghost use Rattle.sock_diag_captures.specs.Run.{Fails, IsTable};
 use crate::capture::{CaptureError, FileHeader};
 use crate::line::HEADING;
 use crate::list::{Written, list_packet};
+use crate::requests::Requests;
 use crate::streams::{Sink, Source};
 use std::alloc::{AllocError, Global};
 use std::io::{Read, Write};
@@ -88,6 +89,7 @@ fn write_table<R: Source, W: Sink, E: Write>(
         lines: Vec::new(alloc),
         complaints: Vec::new(alloc),
     };
+    let mut requests = Requests::new(alloc);
     let mut is_whole = true;
     'packets: for number in 1..u64::MAX {
         if !read_packet(&file, input, number, &mut packet)? {
@@ -96,7 +98,7 @@ fn write_table<R: Source, W: Sink, E: Write>(
         }
         written.lines.clear();
         written.complaints.clear();
-        let is_listed = list_packet(&mut written, number, packet.as_slice())?;
+        let is_listed = list_packet(&mut written, &mut requests, number, packet.as_slice())?;
         is_whole = is_whole && is_listed;
         send(output, written.lines.as_slice())?;
         let _ = errors.write_all(written.complaints.as_slice());

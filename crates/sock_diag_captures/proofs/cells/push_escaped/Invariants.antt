@@ -1,5 +1,5 @@
 use Rattle.std.proofs.Common.{◌≡◌, ◌++◌, drop, flat_map}
-use Rattle.sock_diag_captures.specs.Table.{escaped}
+use Rattle.sock_diag_captures.specs.Escapes.{escaped}
 use Rattle.sock_diag_captures.proofs.cells.push_escaped.Given as goal
 
 -- what was added and what is left to be added make the whole

@@ -4,7 +4,7 @@ use Rattle.std.proofs.KnownBytes.{Appends-kept, Appends-trans, Consumes-kept, Co
 use Rattle.std.proofs.KnownBytes.{Consumes-trans}
 use Rattle.std.proofs.lemmas.Result.{err_from_is_err_and}
 use Rattle.sock_diag_captures.specs.Capture.{IsRecord}
-use Rattle.sock_diag_captures.specs.Run.{IsListed, lines_told}
+use Rattle.sock_diag_captures.specs.Run.{lines_told}
 use Rattle.sock_diag_captures.proofs.Failing.{fails_at_flush, fails_at_header, fails_at_heading}
 use Rattle.sock_diag_captures.proofs.Failing.{fails_at_lines}
 use Rattle.sock_diag_captures.proofs.Failing.{fails_at_memory, fails_at_packet, fails_past_numbers}
@@ -14,21 +14,22 @@ use Rattle.sock_diag_captures.proofs.stream.write_table.Goals.{then-is_whole, el
 use Rattle.sock_diag_captures.proofs.stream.write_table.Goals as goal
 
 pub packets-init : goal.packets-init
-packets-init g c = progress_begins (IsRecord _) IsListed _ _
+packets-init g c = rw c.new-requests.ensures (progress_begins (IsRecord _) _ _)
 
 pub packets-preserved : goal.packets-preserved
 packets-preserved g c =
     let got = rw c.if-not-branch.false at c.in_ok-read_packet.ensures.read in
     let listed = rw (c.as_slice.ensures.value, c.clear.ensures.items) at
-    c.in_ok-is_listed.ensures in
+    c.in_ok-is_listed.ensures.lists in
+    let next = rw c.as_slice.ensures.value at c.in_ok-is_listed.ensures.asked in
     let appended = rw c.as_slice-in-packets.ensures.value at c.in_ok-send-2.ensures.written in
     elim c.if-is_whole.branch [
       | then-is_whole w ↦ rw w.is_whole-is
-          (goes_on_whole (IsRecord c.in_ok-file.file) IsListed _ _ _ _ _ _ got.0 _ _ _ _ _
-          w.if-is_whole.true c.packets.invariant got.1 listed got.2 appended)
+          (goes_on_whole (IsRecord c.in_ok-file.file) _ _ _ _ _ _ got.0 _ _ _ _ _ _ _
+          w.if-is_whole.true c.packets.invariant got.1 next listed got.2 appended)
       | else-is_whole w ↦ rw w.is_whole-is
-          (goes_on_part (IsRecord c.in_ok-file.file) IsListed _ _ _ _ _ _ got.0 _ _ _ _ _
-          w.if-is_whole.false c.packets.invariant got.1 listed got.2 appended)
+          (goes_on_part (IsRecord c.in_ok-file.file) _ _ _ _ _ _ got.0 _ _ _ _ _ _ _
+          w.if-is_whole.false c.packets.invariant got.1 next listed got.2 appended)
     ]
 
 pub returns-then-not-branch-clause-table : goal.returns-then-not-branch-clause-table
@@ -37,7 +38,7 @@ returns-then-not-branch-clause-table g c =
       c.in_ok-file.ensures.read.0 ++ c.packets.invariant.records,
       flat_map lines_told c.packets.invariant.told,
       table_of c.in_ok-file.file c.in_ok-file.ensures.read.0 c.in_ok-file.ensures.read.1
-          c.in_ok-file.ensures.read.2 _ _ _ _ _ _ c.packets.invariant,
+          c.in_ok-file.ensures.read.2 _ _ _ _ _ _ _ c.packets.invariant,
       Consumes-trans _ _ _ _ _ c.in_ok-file.ensures.read.3
           (Consumes-kept _ _ _ _ c.packets.invariant.read end.1),
       Appends-trans _ _ _ _ _ c.in_ok-send.ensures.written
@@ -63,7 +64,7 @@ returns-in_err-read_packet-clause-failed g c =
     let p = err_from_is_err_and c.from_residual-in_err-read_packet.result
     c.from_residual-in_err-read_packet.ensures.1 in
     let (header, long, is, read) = c.in_ok-file.ensures.read in
-    rw (p.1, p.2) (fails_at_packet _ header long is _ _ _ _ _ _ _ _ _ c.packets.invariant read
+    rw (p.1, p.2) (fails_at_packet _ header long is _ _ _ _ _ _ _ _ _ _ c.packets.invariant read
     c.in_ok-send.ensures.written _ _ _ c.in_err-read_packet.ensures.stopped)
 
 pub returns-in_err-flush_all-clause-failed : goal.returns-in_err-flush_all-clause-failed
@@ -72,7 +73,7 @@ returns-in_err-flush_all-clause-failed g c =
     c.from_residual-in_err-flush_all.ensures.1 in
     let (header, long, is, read) = c.in_ok-file.ensures.read in
     let end = rw c.if-not-branch.true at c.in_ok-read_packet.ensures.read in
-    rw (p.1, p.2) (fails_at_flush _ header long is _ _ _ _ _ _ _ _ _ c.packets.invariant read
+    rw (p.1, p.2) (fails_at_flush _ header long is _ _ _ _ _ _ _ _ _ _ c.packets.invariant read
     c.in_ok-send.ensures.written _ _ _ _
     c.in_err-flush_all.ensures.cause.0 (Consumes-kept _ _ _ _ (Consumes-nil _) end.1)
     c.in_err-flush_all.ensures.bytes)
@@ -83,7 +84,7 @@ returns-in_err-is_listed-clause-failed g c =
     c.from_residual-in_err-is_listed.ensures.1 in
     let (header, long, is, read) = c.in_ok-file.ensures.read in
     let got = rw c.if-not-branch.false at c.in_ok-read_packet.ensures.read in
-    rw p.1 (fails_at_memory _ header long is _ _ _ _ _ _ _ _ _ c.packets.invariant read
+    rw p.1 (fails_at_memory _ header long is _ _ _ _ _ _ _ _ _ _ c.packets.invariant read
     c.in_ok-send.ensures.written _ _ _ got.0 _ p.2 got.1 got.2)
 
 pub returns-in_err-send-2-clause-failed : goal.returns-in_err-send-2-clause-failed
@@ -93,14 +94,15 @@ returns-in_err-send-2-clause-failed g c =
     let (header, long, is, read) = c.in_ok-file.ensures.read in
     let got = rw c.if-not-branch.false at c.in_ok-read_packet.ensures.read in
     let listed = rw (c.as_slice.ensures.value, c.clear.ensures.items) at
-    c.in_ok-is_listed.ensures in
+    c.in_ok-is_listed.ensures.lists in
+    let next = rw c.as_slice.ensures.value at c.in_ok-is_listed.ensures.asked in
     let (write, failed, front, rest, split, appended) = c.in_err-send-2.ensures.stopped in
-    rw (p.1, p.2) (fails_at_lines _ header long is _ _ _ _ _ _ _ _ _ c.packets.invariant read
-    c.in_ok-send.ensures.written _ _ _ _ got.0 _ _ _
-    write got.1 listed got.2 front rest (sym c.as_slice-in-packets.ensures.value ∙ split) appended)
+    rw (p.1, p.2) (fails_at_lines _ header long is _ _ _ _ _ _ _ _ _ _ c.packets.invariant read
+    c.in_ok-send.ensures.written _ _ _ _ got.0 _ _ _ _
+    write got.1 next listed got.2 front rest (sym c.as_slice-in-packets.ensures.value ∙ split) appended)
 
 pub returns-clause-failed : goal.returns-clause-failed
 returns-clause-failed g c =
     let (header, long, is, read) = c.in_ok-file.ensures.read in
-    fails_past_numbers _ header long is _ _ _ _ _ _ _ _ _ c.packets.invariant read
+    fails_past_numbers _ header long is _ _ _ _ _ _ _ _ _ _ c.packets.invariant read
     c.in_ok-send.ensures.written _ (omega arith)

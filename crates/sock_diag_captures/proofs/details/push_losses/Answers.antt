@@ -1,0 +1,17 @@
+use Rattle.std.proofs.lemmas.Result.{on_ok_weaker}
+use Rattle.sock_diag_captures.proofs.Adding.{adds}
+use Rattle.sock_diag_captures.proofs.details.push_losses.Goals as goal
+
+pub returns : goal.returns
+returns c =
+    let part1 = rw c.into.ensures at c.in_ok-push_some.ensures in
+    let part2 = rw c.into-2.ensures at c.in_ok-push_some-2.ensures in
+    let part3 = rw c.into-3.ensures at c.in_ok-push_some-3.ensures in
+    let part4 = rw c.into-4.ensures at c.in_ok-push_some-4.ensures in
+    let part5 = rw c.into-5.ensures at c.in_ok-push_some-5.ensures in
+    let upto2 = adds _ _ _ _ _ part1 part2 in
+    let upto3 = adds _ _ _ _ _ upto2 part3 in
+    let upto4 = adds _ _ _ _ _ upto3 part4 in
+    let upto5 = adds _ _ _ _ _ upto4 part5 in
+    on_ok_weaker c.push_some-6.result (λ last. adds _ _ _ _ _ upto5 last) (rw c.into-6.ensures at
+    c.push_some-6.ensures)

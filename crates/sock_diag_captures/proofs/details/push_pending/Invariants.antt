@@ -1,0 +1,10 @@
+use Rattle.std.proofs.Common.{◌≡◌, ◌++◌, codes, flat_map}
+use Rattle.sock_diag_attributes.specs.SeenNumbers.{numbers_left, viewed_numbers}
+use Rattle.sock_diag_captures.specs.Details.{detail}
+use Rattle.sock_diag_captures.proofs.details.push_pending.Given as goal
+
+-- what was added and what is left to be added make the whole
+abbrev pub invariant-loop-inode : goal.invariant-loop-inode
+invariant-loop-inode l =
+    l.text.items ++ flat_map (detail (codes "pending")) (numbers_left l.inode-iterator)
+    ≡ l.fn.text.items ++ flat_map (detail (codes "pending")) (viewed_numbers l.inodes)

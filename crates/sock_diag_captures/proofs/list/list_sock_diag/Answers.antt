@@ -1,0 +1,13 @@
+use Rattle.std.proofs.Common.{inl}
+use Rattle.std.proofs.lemmas.Result.{IfOk-weaker}
+use Rattle.sock_diag_captures.proofs.list.list_sock_diag.Goals as goal
+
+pub returns-clause-lists : goal.returns-clause-lists
+returns-clause-lists c =
+    IfOk-weaker c.list_datagram.result _ _
+    (λ is_clean lists. inl (
+      λ request. let asked = c.is_request.ensures.1 request in let none =
+          c.if-is_request.false in cc,
+      lists,
+    ))
+    c.list_datagram.ensures

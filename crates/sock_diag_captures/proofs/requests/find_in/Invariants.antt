@@ -1,0 +1,9 @@
+use Rattle.std.proofs.Common.{◌≡◌, drop}
+use Rattle.sock_diag_captures.specs.Requests.{protocol_of}
+use Rattle.sock_diag_captures.proofs.requests.find_in.Given as goal
+
+-- the first among those that are left is the first of all
+abbrev pub invariant-loop-request : goal.invariant-loop-request
+invariant-loop-request l =
+    protocol_of (drop l.request-index l.asked) l.sequence_number l.port_number
+    ≡ protocol_of l.asked l.sequence_number l.port_number
