@@ -22,8 +22,11 @@ pub asked_of : (asked : List Asked) (packet datagram : List ℕ) → 16 ≤ leng
 unfolding asked_after
 asked_of asked packet datagram long (kind, protocol) same =
     ap (noted asked) same
-    ∙ sym (rw (le-ltb (length packet) 16 long, eq-eqb (big_number 2 (drop 2 packet)) 824 kind,
-    eq-eqb (big_number 2 (drop 14 packet)) 4 protocol) refl)
+    ∙ sym (rw (
+      le-ltb (length packet) 16 long,
+      eq-eqb (big_number 2 (drop 2 packet)) 824 kind,
+      eq-eqb (big_number 2 (drop 14 packet)) 4 protocol,
+    ) refl)
 
 -- another one is not
 pub asked_other : (asked : List Asked) (packet : List ℕ) → 16 ≤ length packet

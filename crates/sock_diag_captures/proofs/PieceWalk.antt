@@ -48,9 +48,11 @@ front_stands : (bytes rest : List ℕ) (a : Attribute) → StartsWith bytes a re
     → front_piece bytes ≡ Ok a
 front_stands bytes rest a s =
     let sizes = word_of bytes rest a s in
-    rw (le-ltb (length bytes) 4 (omega (arith, sizes)),
-    le-ltb (little_number 2 bytes) 4 (omega (arith, sizes)),
-    le-ltb (length bytes) (little_number 2 bytes) (omega (arith, sizes)))
+    rw (
+      le-ltb (length bytes) 4 (omega (arith, sizes)),
+      le-ltb (little_number 2 bytes) 4 (omega (arith, sizes)),
+      le-ltb (length bytes) (little_number 2 bytes) (omega (arith, sizes)),
+    )
     (ap Ok (front_is bytes rest a s))
 
 -- what stands behind it is the rest
@@ -92,8 +94,13 @@ front_fails bytes (AttributeHeaderCut left) f =
 front_fails bytes (AttributeLengthUnder4 word) (is, long, short) =
     rw (le-ltb (length bytes) 4 long, ← is, lt-ltb word 4 short) refl
 front_fails bytes (AttributeLengthPast word left) (is, same, long, whole, past) =
-    rw (le-ltb (length bytes) 4 long, ← is, le-ltb word 4 whole, lt-ltb (length bytes) word past,
-    same) refl
+    rw (
+      le-ltb (length bytes) 4 long,
+      ← is,
+      le-ltb word 4 whole,
+      lt-ltb (length bytes) word past,
+      same,
+    ) refl
 front_fails bytes _ f = absurd f
 
 -- a fault comes alone

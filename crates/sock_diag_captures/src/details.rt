@@ -32,9 +32,7 @@ use netlink_packet_sock_diag::constants::{
     TCPI_OPT_ECN, TCPI_OPT_ECN_SEEN, TCPI_OPT_SACK, TCPI_OPT_SYN_DATA, TCPI_OPT_TIMESTAMPS,
     TCPI_OPT_WSCALE,
 };
-use netlink_packet_sock_diag::inet::nlas::{
-    LegacyMemInfo, MemInfo, NlaView as InetView, TcpInfo,
-};
+use netlink_packet_sock_diag::inet::nlas::{LegacyMemInfo, MemInfo, NlaView as InetView, TcpInfo};
 use netlink_packet_sock_diag::unix::nlas::{NlaView as UnixView, NumbersView};
 use std::alloc::AllocError;
 
@@ -286,16 +284,29 @@ fn push_directions(text: &mut Vec<u8>, state: u8) -> Result<(), AllocError>
     ensures { OnOk result (text.new.items ≡ text.old.items ++ directions state) }
 {
     text.push(b' ')?;
-    text.push(if state & SHUT_RECEIVING == 0 { b'<' } else { b'-' })?;
+    text.push(if state & SHUT_RECEIVING == 0 {
+        b'<'
+    } else {
+        b'-'
+    })?;
     text.push(b'-')?;
-    Ok(text.push(if state & SHUT_SENDING == 0 { b'>' } else { b'-' })?)
+    Ok(text.push(if state & SHUT_SENDING == 0 {
+        b'>'
+    } else {
+        b'-'
+    })?)
 }
 
 /// Adds the number and the length of an attribute of another kind.
 fn push_unknown(text: &mut Vec<u8>, nla: &NlaBuffer<'_>) -> Result<(), AllocError>
     ensures { OnOk result (text.new.items ≡ text.old.items ++ unknown (attribute_of nla.now)) }
 {
-    push_pair(text, b"unknown", nla.kind().into(), nla.value().len() as u64)
+    push_pair(
+        text,
+        b"unknown",
+        nla.kind().into(),
+        nla.value().len() as u64,
+    )
 }
 
 /// Adds the words of a value that tells memory, where it has so many.

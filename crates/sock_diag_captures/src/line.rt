@@ -127,13 +127,7 @@ fn push_unix_lines(
         ++ unix_lines header.now (pieces 0 attributes.now)) }
 {
     push_unix_line(text, header, attributes)?;
-    push_details(
-        text,
-        Sockets::Unix,
-        &NO_TIMER,
-        &header.cookie,
-        attributes,
-    )
+    push_details(text, Sockets::Unix, &NO_TIMER, &header.cookie, attributes)
 }
 
 /// Adds the line of a UNIX socket.
@@ -337,5 +331,9 @@ fn name_of_protocol(protocol: Option<u32>, family: u8) -> &'static [u8]
 fn name_of_family(family: u8) -> &'static [u8]
     ensures { result.now ≡ family_name family }
 {
-    if family == AF_INET6 { b"inet6" } else { b"inet" }
+    if family == AF_INET6 {
+        b"inet6"
+    } else {
+        b"inet"
+    }
 }

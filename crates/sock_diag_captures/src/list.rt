@@ -19,8 +19,8 @@ use crate::line::push_reply;
 use crate::requests::Requests;
 use byteorder::{ByteOrder, LittleEndian};
 use netlink_core::{
-    DecodeError, MessageStrings, NETLINK_HEADER_LEN, NLM_F_REQUEST, NLMSG_NOOP,
-    NLMSG_OVERRUN, NetlinkHeader, error_number,
+    DecodeError, MessageStrings, NETLINK_HEADER_LEN, NLM_F_REQUEST, NLMSG_NOOP, NLMSG_OVERRUN,
+    NetlinkHeader, error_number,
 };
 use std::alloc::AllocError;
 use std::io::Write;

@@ -53,13 +53,13 @@ fn push_packet(
     Ok(())
 }
 
-/// A capture with this header.
-fn captured(
-    alloc: Global,
-    (order, header): (ByteOrder, &str),
-    packets: &[[&str; 2]],
-) -> Result<Vec<u8>, Fail> {
+/// A capture with this header, which begins with `a` where numbers have their high byte first.
+fn captured(alloc: Global, header: &str, packets: &[[&str; 2]]) -> Result<Vec<u8>, Fail> {
     let mut capture = hex::decode(alloc, header)?;
+    let order = match header.starts_with('a') {
+        true => ByteOrder::HighFirst,
+        false => ByteOrder::LowFirst,
+    };
     for digits in packets {
         push_packet(alloc, &mut capture, order, digits)?;
     }
@@ -67,23 +67,11 @@ fn captured(
 }
 
 /// The header of a capture in both orders and under both magic numbers.
-const HEADERS: [(ByteOrder, &str); 4] = [
-    (
-        ByteOrder::LowFirst,
-        "d4c3b2a102000400000000000000000000100000fd000000",
-    ),
-    (
-        ByteOrder::LowFirst,
-        "4d3cb2a102000400000000000000000000100000fd000000",
-    ),
-    (
-        ByteOrder::HighFirst,
-        "a1b23c4d00020004000000000000000000001000000000fd",
-    ),
-    (
-        ByteOrder::HighFirst,
-        "a1b2c3d400020004000000000000000000001000000000fd",
-    ),
+const HEADERS: [&str; 4] = [
+    "d4c3b2a102000400000000000000000000100000fd000000",
+    "4d3cb2a102000400000000000000000000100000fd000000",
+    "a1b23c4d00020004000000000000000000001000000000fd",
+    "a1b2c3d400020004000000000000000000001000000000fd",
 ];
 
 /// Takes nine bytes a call at most, and notes whether a flush came last.
@@ -142,10 +130,11 @@ fn lists(
 }
 
 const INET6_LINE: &str =
-    "inet6 TIME-WAIT  0      0      0          1000  [fe80::1]%3:22                 [2001:db8::ff]:40000\n";
+    "inet6 TIME-WAIT  0      0      0          1000  [fe80::1]%3:22                 [2001:db8::ff]:40000\n\
+\t timer:(timewait,0ms,0) sk:0\n";
 
 const UNIX_LINE: &str =
-    "u_str LISTEN     2      128    20238      -     @a\\x20b\\x5c                    *\n";
+    "u_str LISTEN     2      128    20238      -     @a\\x20b\\x5c                    *\n\t sk:2a0\n";
 
 /// Captures of both orders and both magic numbers, with packets of other protocols and a request.
 #[test]
@@ -172,7 +161,7 @@ fn lists_a_long_datagram(rt: HostRuntime) -> Result<(), Fail> {
     let many = UNIX.repeat(rt.alloc(), 1_000)?;
     let header = "d4c3b2a102000400000000000000000000000400fd000000";
     let packets = [[SOCK_DIAG, many.as_str()]];
-    let capture = captured(rt.alloc(), (ByteOrder::LowFirst, header), &packets)?;
+    let capture = captured(rt.alloc(), header, &packets)?;
     let lines = UNIX_LINE.repeat(rt.alloc(), 1_000)?;
     lists(&rt, rt.alloc(), &capture, Ok(true), Some(&[lines.as_str()]))
 }
@@ -188,7 +177,8 @@ fn tells_where_a_capture_is_cut(rt: HostRuntime) -> Result<(), Fail> {
     for len in 0..capture.len() {
         let fault = CaptureError::Cut;
         let want = match len {
-            0..24 => Err(RunError::Header(fault)),
+            0 => Err(RunError::Header(CaptureError::Empty)),
+            1..24 => Err(RunError::Header(fault)),
             24 => Ok(true),
             _ if len < whole => Err(RunError::Packet { packet: 1, fault }),
             _ if len == whole => Ok(true),
@@ -214,9 +204,9 @@ const OF_SOCK_DIAG: &str = "0700000009000000640000006400000000040338000000000000
 const OTHER_AND_SHORT: &str = "0700000009000000100000001000000000000000000000000000000000000000\
 07000000090000000f0000000f000000000403380000000000000000000000";
 
-/// A packet whose message tells that data was lost.
+/// A packet whose message tells that data was lost, and that a dump changed.
 const LOST: &str =
-    "07000000090000002000000020000000000403380000000000000000000000041000000004000000\
+    "07000000090000002000000020000000000403380000000000000000000000041000000004001000\
 0700000000000000";
 
 /// A packet whose message ends a dump with the error 2.
@@ -229,6 +219,7 @@ fn tells(rt: &impl Abort, alloc: Global, parts: &[&str], want: &str) -> Result<(
     let capture = hex::decode(alloc, parts.concat(alloc)?.as_str())?;
     let (mut output, mut errors) = (taker(alloc), taker(alloc));
     let _status = run_to_status(alloc, &mut capture.as_slice(), &mut output, &mut errors);
+    let want = ["sslist: ", want, "\n"].concat(alloc)?;
     assert!(rt; errors.taken.as_slice() == want.as_bytes());
     Ok(())
 }
@@ -245,47 +236,42 @@ fn tells_why(rt: HostRuntime) -> Result<(), Fail> {
         SHORT_REPLY,
         SHORT_REPLY,
     ];
-    let want =
-        "sslist: packet 1, message 1: UnixResponseHeader: buffer of 12 bytes, at least 16 needed\n\
+    let want = "packet 1, message 1: UnixResponseHeader: buffer of 12 bytes, at least 16 needed\n\
 sslist: packet 1, message 2: UnixResponseHeader: buffer of 12 bytes, at least 16 needed\n\
-sslist: packet 1, message 3: UnixResponseHeader: buffer of 12 bytes, at least 16 needed\n";
+sslist: packet 1, message 3: UnixResponseHeader: buffer of 12 bytes, at least 16 needed";
     tells(&rt, alloc, &parts, want)?;
     let parts = [FRONT, OF_100, OTHER_AND_SHORT, LOST, FAILED, "00"];
-    let want = "sslist: packet 2: fewer than 16 bytes\n\
+    let want = "packet 2: fewer than 16 bytes\n\
+sslist: packet 3, message 1: the dump changed while it was taken\n\
 sslist: packet 3, message 1: the kernel lost data\n\
-sslist: packet 4, message 1: the kernel answers error 2\n\
-sslist: packet 5: the capture is cut off\n";
+sslist: packet 4, message 1: note: the kernel answers ENOENT\n\
+sslist: packet 5: the capture is cut off";
     tells(&rt, alloc, &parts, want)?;
-    let want = "sslist: the capture is cut off\n";
-    tells(&rt, alloc, &[FRONT, "48000000"], want)?;
-    let want = "sslist: packets of link type 1, not 253 (netlink)\n";
+    tells(&rt, alloc, &[], "the input is empty")?;
+    tells(&rt, alloc, &[FRONT, "48"], "the capture is cut off")?;
+    let want = "packets of link type 1, not 253 (netlink)";
     tells(&rt, alloc, &[FRONT, "4800000001000000"], want)?;
-    let want = "sslist: pcap of version 3, not 2\n";
-    let parts = ["d4c3b2a1030005000000000000000000", OF_100];
-    tells(&rt, alloc, &parts, want)?;
-    let want = "sslist: no pcap capture: it begins with 0a0d0d0a\n";
-    let parts = ["0a0d0d0a200000004d3c2b1a01000000", OF_100];
-    tells(&rt, alloc, &parts, want)?;
-    let want = "sslist: packet 1: a packet of 100 bytes, at most 99 expected\n";
+    tells(
+        &rt,
+        alloc,
+        &["d4c3b2a10300", FRONT, OF_100],
+        "pcap of version 3, not 2",
+    )?;
+    let want = "a pcapng capture, convert it: editcap -F pcap CAPTURE OTHER";
+    tells(&rt, alloc, &["0a0d0d0a", FRONT, OF_100], want)?;
+    let want = "a gzip file, unpack it: gzip -dc CAPTURE";
+    tells(&rt, alloc, &["1f8b0800", FRONT, OF_100], want)?;
+    let want = "packet 1: a packet of 100 bytes, at most 99 expected";
     tells(&rt, alloc, &[FRONT, "63000000fd000000", OF_SOCK_DIAG], want)
 }
 
+/// The texts of errors that no capture gives.
 #[test]
 fn errors_of_a_run_have_words(rt: HostRuntime) -> Result<(), Fail> {
-    let header = RunError::Header(CaptureError::Memory);
     let (packet, fault) = (2, CaptureError::Read);
-    for (error, want) in [
-        (RunError::Write, "writing failed"),
-        (RunError::Memory, "out of memory"),
-        (header, "out of memory"),
-        (
-            RunError::Packet { packet, fault },
-            "packet 2: reading failed",
-        ),
-    ] {
-        let text = format!(in rt.alloc(); "{error}")?;
-        assert!(rt; text.as_str() == want, "{text}");
-    }
+    let (cut, memory) = (RunError::Packet { packet, fault }, RunError::Memory);
+    let text = format!(in rt.alloc(); "{cut}, {memory}, {}", CaptureError::Memory)?;
+    assert!(rt; text.as_str() == "packet 2: reading failed, out of memory, out of memory");
     Ok(())
 }
 

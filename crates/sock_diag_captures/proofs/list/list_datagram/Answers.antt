@@ -39,6 +39,8 @@ returns c = record {
   cut = listing_ends (message_lines _) IsPlain _ _ _ _ _ c.loop-item.invariant
       c.in-None.ensures.steps.0;
   lines = c.loop-item.invariant.lines;
-  clean = (λ is. (c.loop-item.invariant.flagged is, refl),
-      λ both. c.loop-item.invariant.clean_only both.0);
+  clean = (
+    λ is. (c.loop-item.invariant.flagged is, refl),
+    λ both. c.loop-item.invariant.clean_only both.0,
+  );
 }
