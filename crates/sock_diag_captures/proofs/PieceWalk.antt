@@ -1,12 +1,12 @@
 -- The walk over attributes gives the pieces of its bytes.
-use Rattle.std.proofs.Common.{Result, Ok, Err, Option, Some, None, ◌≡◌, ◌≢◌, ℕ, zero, suc, ◌+◌}
-use Rattle.std.proofs.Common.{◌-◌, ◌<◌, ◌≤◌, ◌==◌, nat_lt, List, [], ◌∷◌, ◌++◌, length, drop, inl}
+use Rattle.std.proofs.Common.{Ok, Err, ◌≡◌, ◌≢◌, ℕ, zero, suc, ◌+◌}
+use Rattle.std.proofs.Common.{◌-◌, List, [], ◌∷◌, ◌++◌, length, drop, inl}
 use Rattle.std.proofs.Common.{inr, refl, sym, ap, ◌∙◌, append_assoc, arith}
 use Rattle.std.proofs.lemmas.List.{drop_at, drop_all, length-append}
 use Rattle.std.proofs.lemmas.Bool.{lt-ltb, le-ltb}
 use Rattle.byteorder.specs.Endian.{little_number}
-use Rattle.netlink_core.specs.Attribute.{Attribute, HeadIs, IsFramingFault, StartsWith, fill}
-use Rattle.netlink_core.specs.Attribute.{kind_of, unpadded}
+use Rattle.netlink_core.specs.Attribute.{Attribute, IsFramingFault, StartsWith, fill}
+use Rattle.netlink_core.specs.Attribute.{unpadded}
 use Rattle.netlink_core.specs.FrontLaws.{word_is}
 use Rattle.netlink_core.specs.declared.fault.DecodeError.{DecodeError}
 use Rattle.netlink_core.specs.declared.fault.DecodeError.TheVariants.{AttributeHeaderCut}
@@ -15,7 +15,7 @@ use Rattle.netlink_core.specs.declared.fault.DecodeError.TheVariants.{AttributeL
 use Rattle.netlink_core.proofs.Walking.{StartsWith-some, head_of_start}
 use Rattle.netlink_packet_sock_diag.specs.AttributesIn.{attributes_behind, front_attribute}
 use Rattle.netlink_packet_sock_diag.proofs.Finding.{found_first}
-use Rattle.sock_diag_captures.specs.Pieces.{Piece, first_of_kind, followed, framing_fault}
+use Rattle.sock_diag_captures.specs.Pieces.{Piece, followed}
 use Rattle.sock_diag_captures.specs.Pieces.{front_piece, pieces}
 
 -- those behind so many bytes are those at the front of what follows them
@@ -88,7 +88,8 @@ piece_first (b ∷ bs) rest a s =
     ∙ ap (λ (l : List Piece). Ok a ∷ l) later
 
 -- the fault in front is the first piece
-front_fails : (bytes : List ℕ) (e : DecodeError) → IsFramingFault bytes e → front_piece bytes ≡ Err e
+front_fails : (bytes : List ℕ) (e : DecodeError) → IsFramingFault bytes e
+    → front_piece bytes ≡ Err e
 front_fails bytes (AttributeHeaderCut left) f =
     rw (lt-ltb (length bytes) 4 f.1, f.0) refl
 front_fails bytes (AttributeLengthUnder4 word) (is, long, short) =

@@ -87,7 +87,8 @@ options t =
     flag_detail (codes "ts") 1 t.options ++ flag_detail (codes "sack") 2 t.options
     ++ flag_detail (codes "ecn") 8 t.options ++ flag_detail (codes "ecnseen") 16 t.options
     ++ flag_detail (codes "fastopen") 32 t.options
-    ++ (if bit_and t.options 4 == 0 then [] else pair_detail (codes "wscale") (t.wscale % 16) (t.wscale / 16))
+    ++ (if bit_and t.options 4 == 0 then []
+    else pair_detail (codes "wscale") (t.wscale % 16) (t.wscale / 16))
 
 -- times, sizes and windows that are told where they are not 0
 abbrev pub sizes : TcpInfo → List ℕ
@@ -101,14 +102,16 @@ abbrev pub counts : TcpInfo → List ℕ
 counts t =
     some_detail (codes "bytes_retrans") t.bytes_retrans
     ++ some_detail (codes "bytes_acked") t.bytes_acked ++ some_detail (codes "segs_out") t.segs_out
-    ++ some_detail (codes "segs_in") t.segs_in ++ some_detail (codes "data_segs_out") t.data_segs_out
+    ++ some_detail (codes "segs_in") t.segs_in
+    ++ some_detail (codes "data_segs_out") t.data_segs_out
     ++ some_detail (codes "data_segs_in") t.data_segs_in
 
 -- times since data or an acknowledgement, in milliseconds, and what was not sent yet
 abbrev pub ages : TcpInfo → List ℕ
 ages t =
     some_detail (codes "lastsnd") t.last_data_sent ++ some_detail (codes "lastrcv") t.last_data_recv
-    ++ some_detail (codes "lastack") t.last_ack_recv ++ some_detail (codes "notsent") t.notsent_bytes
+    ++ some_detail (codes "lastack") t.last_ack_recv
+    ++ some_detail (codes "notsent") t.notsent_bytes
 
 -- rates, in bytes a second, and the segments that came
 abbrev pub rates : TcpInfo → List ℕ
@@ -116,7 +119,8 @@ rates t =
     some_detail (codes "pacing_rate") t.pacing_rate
     ++ some_detail (codes "max_pacing_rate") t.max_pacing_rate
     ++ some_detail (codes "delivery_rate") t.delivery_rate
-    ++ some_detail (codes "delivered") t.delivered ++ some_detail (codes "delivered_ce") t.delivered_ce
+    ++ some_detail (codes "delivered") t.delivered
+    ++ some_detail (codes "delivered_ce") t.delivered_ce
     ++ flag_detail (codes "app_limited") 1 t.delivery_rate_app_limited
 
 -- the time with data to send, and what of it was lost to small windows, in microseconds
@@ -130,7 +134,8 @@ abbrev pub losses : TcpInfo → List ℕ
 losses t =
     some_detail (codes "retrans_now") t.retrans ++ some_detail (codes "lost") t.lost
     ++ some_detail (codes "sacked") t.sacked ++ some_detail (codes "dsack_dups") t.dsack_dups
-    ++ some_detail (codes "reordering") t.reordering ++ some_detail (codes "reord_seen") t.reord_seen
+    ++ some_detail (codes "reordering") t.reordering
+    ++ some_detail (codes "reord_seen") t.reord_seen
 
 -- the receiver's side
 abbrev pub receiver : TcpInfo → List ℕ
@@ -179,7 +184,8 @@ memory m =
 abbrev pub legacy_memory : LegacyMemInfo → List ℕ
 legacy_memory m =
     codes " mem:(r" ++ decimal m.receive_queue ++ memory_part (codes "w") (Some m.bottom_send_queue)
-    ++ memory_part (codes "f") (Some m.cache) ++ memory_part (codes "t") (Some m.send_queue) ++ 41 ∷ []
+    ++ memory_part (codes "f") (Some m.cache) ++ memory_part (codes "t") (Some m.send_queue)
+    ++ 41 ∷ []
 
 -- the nine words of a value, where it has so many
 abbrev pub memory_in : Result MemInfo DecodeError → List ℕ
@@ -213,8 +219,10 @@ inet_text a (inr (inr (inr (inr (inr (inr (inl n))))))) = directions n
 inet_text a (inr (inr (inr (inr (inr (inr (inr (inl n)))))))) = detail (codes "protocol") n
 inet_text a (inr (inr (inr (inr (inr (inr (inr (inr (inl flag))))))))) =
     detail (codes "v6only") (if flag then 1 else 0)
-inet_text a (inr (inr (inr (inr (inr (inr (inr (inr (inr (inl n)))))))))) = hex_detail (codes "fwmark") n
-inet_text a (inr (inr (inr (inr (inr (inr (inr (inr (inr (inr (inl n))))))))))) = hex_detail (codes "class_id") n
+inet_text a (inr (inr (inr (inr (inr (inr (inr (inr (inr (inl n)))))))))) =
+    hex_detail (codes "fwmark") n
+inet_text a (inr (inr (inr (inr (inr (inr (inr (inr (inr (inr (inl n))))))))))) =
+    hex_detail (codes "class_id") n
 inet_text a (inr (inr (inr (inr (inr (inr (inr (inr (inr (inr (inr other))))))))))) = unknown a
 
 -- What one of a reply about a UNIX socket tells beside its columns: the file, the inodes of
@@ -230,7 +238,8 @@ unix_text a (inr (inr (inr (inr (inr (inr (inl n))))))) = directions n
 unix_text a (inr (inr (inr (inr (inr (inr (inr other))))))) = unknown a
 
 -- the words of an attribute's value, or why it is refused
-abbrev pub words_of : {A : Type 0} → (Attribute → A → List ℕ) → Attribute → Result A DecodeError → List ℕ
+abbrev pub words_of : {A : Type 0} → (Attribute → A → List ℕ) → Attribute
+    → Result A DecodeError → List ℕ
 words_of text a (Ok said) = text a said
 words_of text a (Err e) = unread a e
 

@@ -29,7 +29,8 @@ use Rattle.netlink_core.specs.Envelope.{number_in_front}
 -- ---- replies
 
 -- the lines of a reply whose header can be read, by the pieces behind it
-abbrev pub lines_behind : {H : Type 0} → (H → List Piece → List ℕ) → Result H DecodeError → List Piece → List ℕ
+abbrev pub lines_behind : {H : Type 0} → (H → List Piece → List ℕ) → Result H DecodeError
+    → List Piece → List ℕ
 lines_behind lines (Ok h) given = lines h given
 lines_behind lines (Err e) given = []
 
@@ -41,14 +42,19 @@ fault_behind (Err e) given = Some e
 -- the lines of a reply of that kind, whose header has 16 bytes or 72, and of the protocol that was
 -- asked for
 abbrev pub kind_lines : Option ℕ → Result MessageKind DecodeError → List ℕ → List ℕ
-kind_lines protocol (Ok unix_response) b = lines_behind unix_lines (read unix_response_header tt b) (pieces 0 (drop 16 b))
-kind_lines protocol (Ok inet_response) b = lines_behind (inet_lines protocol (timer_in b)) (read inet_response_header tt b) (pieces 0 (drop 72 b))
+kind_lines protocol (Ok unix_response) b =
+    lines_behind unix_lines (read unix_response_header tt b) (pieces 0 (drop 16 b))
+kind_lines protocol (Ok inet_response) b =
+    lines_behind (inet_lines protocol (timer_in b)) (read inet_response_header tt b)
+    (pieces 0 (drop 72 b))
 kind_lines protocol _ b = []
 
 -- the fault of such a reply, or that it is none. Nothing is told of a socket of another family
 abbrev pub kind_fault : Result MessageKind DecodeError → List ℕ → Option DecodeError
-kind_fault (Ok unix_response) b = fault_behind (read unix_response_header tt b) (pieces 0 (drop 16 b))
-kind_fault (Ok inet_response) b = fault_behind (read inet_response_header tt b) (pieces 0 (drop 72 b))
+kind_fault (Ok unix_response) b =
+    fault_behind (read unix_response_header tt b) (pieces 0 (drop 16 b))
+kind_fault (Ok inet_response) b =
+    fault_behind (read inet_response_header tt b) (pieces 0 (drop 72 b))
 kind_fault (Err (UnknownFamily family)) b = None
 kind_fault (Err e) b = Some e
 kind_fault _ b = None
@@ -134,7 +140,8 @@ pub record IsAnswer (packet : List ℕ) : Type 0 where
 
 -- The lines of the datagram follow those before: of each message that it is cut into, in order.
 -- Whether at most notes are told of them, and no fault stands behind them.
-pub record Lists (asked : List Asked) (datagram before after : List ℕ) (is_clean : Bool) : Type 0 where
+pub record Lists (asked : List Asked) (datagram before after : List ℕ) (is_clean : Bool)
+    : Type 0 where
   pub messages : List (List ℕ)
   pub end : Option DecodeError
   pub cut : CutIntoMessages datagram messages end

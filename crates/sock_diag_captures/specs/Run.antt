@@ -34,7 +34,8 @@ AreListed asked [] [] = ⊤
 AreListed asked [] (told ∷ later) = ⊥
 AreListed asked (packet ∷ packets) [] = ⊥
 AreListed asked (packet ∷ packets) (told ∷ later) =
-    IsListed (asked_after asked packet) packet told × AreListed (asked_after asked packet) packets later
+    IsListed (asked_after asked packet) packet told
+    × AreListed (asked_after asked packet) packets later
 
 -- the bytes are these packets one after the other, each behind its header; R says which header a
 -- packet may have

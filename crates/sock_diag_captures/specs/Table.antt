@@ -1,5 +1,5 @@
 -- The lines of the table.
-use Rattle.std.specs.Prelude.{ℕ, ◌-◌, ◌==◌, nat_le, if◌then◌else◌, Bool, true, false, ◌&&◌, List}
+use Rattle.std.specs.Prelude.{ℕ, ◌-◌, ◌==◌, if◌then◌else◌, ◌&&◌, List}
 use Rattle.std.specs.Prelude.{[], ◌∷◌, ◌++◌, length, replicate, flat_map, codes, decimal, Option}
 use Rattle.std.specs.Prelude.{None, Some, slice_get, slice_index, unwrap_or, option_map, drop, ◌||◌}
 use Rattle.std.specs.declared.net.ip_addr.IpAddr.{IpAddr}
@@ -146,4 +146,5 @@ unix_lines h given = unix_line h given ++ details_line Unix no_timer h.cookie gi
 
 -- the lines of an IPv4 or IPv6 socket of this protocol, with this timer
 abbrev pub inet_lines : Option ℕ → TimerWords → InetResponseHeader → List Piece → List ℕ
-inet_lines protocol timer h given = inet_line protocol h ++ details_line Inet timer h.socket_id.cookie given
+inet_lines protocol timer h given =
+    inet_line protocol h ++ details_line Inet timer h.socket_id.cookie given

@@ -15,7 +15,8 @@ ghost use Rattle.sock_diag_captures.specs.Details.{ages, connection, counts, det
 ghost use Rattle.sock_diag_captures.specs.Details.{details_line, directions, fault_word};
 ghost use Rattle.sock_diag_captures.specs.Details.{flag_detail, hex_detail, inet_text};
 ghost use Rattle.sock_diag_captures.specs.Details.{legacy_memory, limits, losses, memory};
-ghost use Rattle.sock_diag_captures.specs.Details.{memory_in, memory_limits, memory_part, memory_used};
+ghost use Rattle.sock_diag_captures.specs.Details.{memory_in, memory_limits, memory_part};
+ghost use Rattle.sock_diag_captures.specs.Details.{memory_used};
 ghost use Rattle.sock_diag_captures.specs.Details.{memory_received, options, pair_detail};
 ghost use Rattle.sock_diag_captures.specs.Details.{piece_detail, rates, receiver, sizes};
 ghost use Rattle.sock_diag_captures.specs.Details.{some_detail, timer_in, timer_name, timer_text};

@@ -78,8 +78,8 @@ pub struct Written {
 }
 
 /// Adds the lines of the sockets that a packet of this number tells, and what is told of it. It
-/// answers whether the packet was listed whole: none of its messages was refused, tells an error but
-/// ENOENT and EINVAL, or says that data was lost or that the dump changed.
+/// answers whether the packet was listed whole: none of its messages was refused, tells an error
+/// but ENOENT and EINVAL, or says that data was lost or that the dump changed.
 ///
 /// A request is kept, so that the protocol of a reply that answers it is known.
 #[tactic(auto, using(crate::proofs::Asking::asking))]
@@ -141,7 +141,8 @@ fn list_datagram(
     number: u64,
     datagram: &[u8],
 ) -> Result<bool, AllocError>
-    ensures { IfOk result (Lists requests.now.asked.items datagram.now written.old.lines.items written.new.lines.items) }
+    ensures { IfOk result (Lists requests.now.asked.items datagram.now
+        written.old.lines.items written.new.lines.items) }
 {
     let mut is_clean = true;
     let mut place = Place {

@@ -6,9 +6,10 @@ ghost use Rattle.sock_diag_captures.specs.declared.words.Choice.TheVariants.{Hel
 /// How `sslist` is called.
 pub const HELP: &str = "sslist [--help | --version]\n\n\
 Lists the sockets that a capture of netlink traffic on standard input tells, one a line and what\n\
-is told beside its columns below. The capture is one of pcap, as tcpdump -i nlmon0 -w - writes it.\n\n\
-The status is 0 where all was listed, 1 where something was not, which standard error names, and 2\n\
-for arguments that are not known.";
+is told beside its columns below. The capture is one of pcap, as tcpdump -i nlmon0 -w - writes\n\
+it.\n\n\
+The status is 0 where all was listed, 1 where something was not, which standard error names, and\n\
+2 for arguments that are not known.";
 
 /// What an argument asks for.
 #[derive(Clone, Copy, Debug, PartialEq, Eq)]

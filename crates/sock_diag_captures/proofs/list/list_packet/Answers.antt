@@ -1,7 +1,7 @@
-use Rattle.std.proofs.Common.{inl, inr, List, ℕ, refl, subst}
+use Rattle.std.proofs.Common.{inl, inr, List, ℕ, subst}
 use Rattle.std.proofs.lemmas.Result.{IfOk-weaker, on_ok_weaker}
 use Rattle.std.proofs.Common.{◌∙◌}
-use Rattle.sock_diag_captures.specs.Listing.{IsAnswer, IsRequest, Lists, ListsPacket}
+use Rattle.sock_diag_captures.specs.Listing.{IsRequest, Lists}
 use Rattle.sock_diag_captures.proofs.Asking.{asked_of}
 use Rattle.sock_diag_captures.proofs.list.list_packet.Goals as goal
 

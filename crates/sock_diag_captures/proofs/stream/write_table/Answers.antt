@@ -99,7 +99,8 @@ returns-in_err-send-2-clause-failed g c =
     let (write, failed, front, rest, split, appended) = c.in_err-send-2.ensures.stopped in
     rw (p.1, p.2) (fails_at_lines _ header long is _ _ _ _ _ _ _ _ _ _ c.packets.invariant read
     c.in_ok-send.ensures.written _ _ _ _ got.0 _ _ _ _
-    write got.1 next listed got.2 front rest (sym c.as_slice-in-packets.ensures.value ∙ split) appended)
+    write got.1 next listed got.2 front rest (sym c.as_slice-in-packets.ensures.value ∙ split)
+    appended)
 
 pub returns-clause-failed : goal.returns-clause-failed
 returns-clause-failed g c =

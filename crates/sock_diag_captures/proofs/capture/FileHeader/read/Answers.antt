@@ -1,4 +1,4 @@
-use Rattle.std.proofs.Common.{[], inl, refl, rules, arith}
+use Rattle.std.proofs.Common.{[], inl, refl, arith}
 use Rattle.std.proofs.lemmas.Result.{err_from_is_err_and}
 use Rattle.std.proofs.KnownBytes.{Consumes-kept, Consumes-nil}
 use Rattle.sock_diag_captures.proofs.Stops.{start_stops}
