@@ -31,7 +31,7 @@ pub use stream::{RunError, run};
 pub use words::{Choice, HELP, choose};
 
 /// The version, that of the repository's file `VERSION`.
-pub const VERSION: &str = "0.7.0";
+pub const VERSION: &str = "0.8.0";
 
 /// `run`, which tells on `errors` why it failed. The status is 0 where the whole capture was
 /// listed, and 1 where reading or writing failed, or where something was told of a packet.
