@@ -12,7 +12,7 @@ use Rattle.netlink_core.specs.declared.fault.DecodeError.{DecodeError}
 use Rattle.netlink_core.specs.declared.fault.DecodeError.TheVariants.{AttributeHeaderCut}
 use Rattle.netlink_core.specs.declared.fault.DecodeError.TheVariants.{AttributeLengthUnder4}
 use Rattle.netlink_core.specs.declared.fault.DecodeError.TheVariants.{AttributeLengthPast}
-use Rattle.netlink_packet_sock_diag.specs.AttributesIn.{front_attribute}
+use Rattle.attribute_lists.specs.AttributesIn.{front_attribute}
 
 -- an attribute, or why none stands there
 abbrev pub Piece : Type 0

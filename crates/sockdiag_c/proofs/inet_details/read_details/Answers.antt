@@ -8,7 +8,7 @@ use Rattle.sock_diag_records.specs.InetResponse.{inet_response_header}
 use Rattle.sock_diag_attributes.specs.InetAttributes.{inet}
 use Rattle.netlink_packet_sock_diag.specs.InetReply.{inet_reply}
 use Rattle.netlink_packet_sock_diag.specs.InetReplyLaws.{header_enough}
-use Rattle.netlink_packet_sock_diag.proofs.Finding.{behind_refused}
+use Rattle.attribute_lists.proofs.Finding.{behind_refused}
 use Rattle.sockdiag_c.specs.declared.inet_details.InetDetails.{InetDetails}
 use Rattle.sockdiag_c.specs.declared.headers.InetHeader.{InetHeader}
 use Rattle.sockdiag_c.specs.InetDetails.{IsInetTold}

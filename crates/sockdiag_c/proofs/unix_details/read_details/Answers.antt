@@ -7,7 +7,7 @@ use Rattle.netlink_core.specs.Format.{read}
 use Rattle.sock_diag_records.specs.UnixResponseHeader.{unix_response_header}
 use Rattle.sock_diag_attributes.specs.UnixAttributes.{unix}
 use Rattle.netlink_packet_sock_diag.specs.UnixReply.{unix_reply}
-use Rattle.netlink_packet_sock_diag.proofs.Finding.{behind_refused}
+use Rattle.attribute_lists.proofs.Finding.{behind_refused}
 use Rattle.sockdiag_c.specs.declared.unix_details.UnixDetails.{UnixDetails}
 use Rattle.sockdiag_c.specs.declared.headers.UnixHeader.{UnixHeader}
 use Rattle.sockdiag_c.specs.UnixDetails.{IsUnixTold}
