@@ -1,0 +1,283 @@
+#!/usr/bin/env python3
+"""Compares sslist with ss(8) over the same bytes.
+
+    tests/beside_ss.py            makes sockets of many kinds, and compares for each list of options below
+    tests/beside_ss.py -tan ..    compares for these options
+
+It runs by hand, where gcc and iproute2 are; as root in a network namespace of its own. A library that is preloaded into
+ss records what it sends and receives on AF_NETLINK as a capture. Of each socket that ss shows, sslist has to show one, and
+of each value that both show, the same. What differs is printed, and then the status is 1.
+"""
+
+import ctypes
+import os
+import re
+import socket
+import subprocess
+import sys
+import tempfile
+from pathlib import Path
+
+TOP = Path(__file__).resolve().parent.parent
+LISTER = TOP / "crates/sslist/out/sslist"
+OPTIONS = ["-tanioem", "-uanioem", "-xanem", "-anMei", "-s"]
+RECORDER = r"""
+#define _GNU_SOURCE
+#include <dlfcn.h>
+#include <fcntl.h>
+#include <stdint.h>
+#include <stdlib.h>
+#include <string.h>
+#include <sys/socket.h>
+#include <sys/uio.h>
+#include <unistd.h>
+
+static void record(int fd, const struct iovec *parts, size_t count, ssize_t length)
+{
+    static const uint8_t header[24] = {0xd4, 0xc3, 0xb2, 0xa1, 2, 0, 4, 0, [18] = 4, [20] = 253};
+    static int file = -1;
+    int domain = 0, protocol = 0;
+    socklen_t size = sizeof domain;
+    if (length <= 0 || getsockopt(fd, SOL_SOCKET, SO_DOMAIN, &domain, &size) || domain != AF_NETLINK)
+        return;
+    size = sizeof protocol;
+    getsockopt(fd, SOL_SOCKET, SO_PROTOCOL, &protocol, &size);
+    if (file < 0) {
+        file = open(getenv("CAPTURE"), O_WRONLY | O_CREAT | O_APPEND, 0600);
+        (void)!write(file, header, sizeof header);
+    }
+    uint32_t lengths[4] = {0, 0, length + 16, length + 16};
+    uint8_t front[16] = {0, 4, 3, 0x38, [14] = protocol >> 8, [15] = protocol};
+    (void)!write(file, lengths, sizeof lengths);
+    (void)!write(file, front, sizeof front);
+    for (size_t i = 0; i < count && length > 0; i++) {
+        size_t part = parts[i].iov_len < (size_t)length ? parts[i].iov_len : (size_t)length;
+        (void)!write(file, parts[i].iov_base, part);
+        length -= part;
+    }
+}
+
+ssize_t sendmsg(int fd, const struct msghdr *m, int flags)
+{
+    ssize_t (*real)(int, const struct msghdr *, int) = dlsym(RTLD_NEXT, "sendmsg");
+    ssize_t length = real(fd, m, flags);
+    record(fd, m->msg_iov, m->msg_iovlen, length);
+    return length;
+}
+
+ssize_t recvmsg(int fd, struct msghdr *m, int flags)
+{
+    ssize_t (*real)(int, struct msghdr *, int) = dlsym(RTLD_NEXT, "recvmsg");
+    ssize_t length = real(fd, m, flags);
+    if (!(flags & MSG_PEEK))
+        record(fd, m->msg_iov, m->msg_iovlen, length);
+    return length;
+}
+
+ssize_t send(int fd, const void *bytes, size_t count, int flags)
+{
+    ssize_t (*real)(int, const void *, size_t, int) = dlsym(RTLD_NEXT, "send");
+    struct iovec part = {(void *)bytes, count};
+    ssize_t length = real(fd, bytes, count, flags);
+    record(fd, &part, 1, length);
+    return length;
+}
+"""
+INET, INET6, UNIX = socket.AF_INET, socket.AF_INET6, socket.AF_UNIX
+STREAM, DATAGRAM, PACKETS = socket.SOCK_STREAM, socket.SOCK_DGRAM, socket.SOCK_SEQPACKET
+MPTCP = 262
+NETIDS = ["tcp", "udp", "mptcp", "u_str", "u_dgr", "u_seq"]
+# Names of sslist for what ss calls otherwise.
+OTHERWISE = {"bytes_sent": "sent", "bytes_received": "received"}
+# What ss prints in milliseconds with a fraction.
+MILLISECONDS = {"rto", "minrtt", "rcv_rtt", "ato"}
+RATES = {"pacing_rate", "delivery_rate"}
+FLAGS = {"ts", "sack", "ecn", "ecnseen", "fastopen", "app_limited", "<->", "-->", "<--", "---"}
+
+
+def bound(family, kind, address, backlog=None, protocol=0, options=()):
+    """A socket with this address, which listens where a backlog is given."""
+    made = socket.socket(family, kind, protocol)
+    for option in options:
+        made.setsockopt(*option)
+    if address is not None:
+        made.bind(address)
+    if backlog is not None:
+        made.listen(backlog)
+    return made
+
+
+def pair(family, listener, protocol=0):
+    """A client of the listener and what it accepts."""
+    client = socket.socket(family, listener.type, protocol)
+    client.connect(listener.getsockname())
+    return [client, listener.accept()[0]]
+
+
+def make_sockets(folder):
+    """Sockets of many kinds and states, which stay while they are kept."""
+    four = bound(INET, STREAM, ("127.0.0.1", 7001), 5)
+    six = bound(INET6, STREAM, ("::1", 7004), 9, options=[(socket.IPPROTO_IPV6, socket.IPV6_V6ONLY, 1)])
+    both = bound(INET6, STREAM, ("::", 7003), 9)
+    named = bound(UNIX, STREAM, f"{folder}/stream", 5)
+    packets = bound(UNIX, PACKETS, f"{folder}/packets", 7)
+    kept = [four, six, both, named, packets, bound(INET, STREAM, ("0.0.0.0", 7002), 128)]
+    kept += [bound(INET, DATAGRAM, ("127.0.0.1", 8001)), bound(INET6, DATAGRAM, ("::", 8002))]
+    kept += [bound(UNIX, STREAM, b"\0abstract", 8), bound(UNIX, DATAGRAM, f"{folder}/datagrams")]
+    kept += [bound(UNIX, DATAGRAM, None), *socket.socketpair(), *socket.socketpair(UNIX, DATAGRAM)]
+    waiting, mapped, busy, half = pair(INET, four), socket.socket(), pair(INET6, six), pair(INET, four)
+    mapped.connect(("127.0.0.1", 7003))
+    waiting[0].sendall(b"x" * 1234)
+    busy[1].setsockopt(socket.SOL_SOCKET, socket.SO_KEEPALIVE, 1)
+    for _ in range(20):
+        busy[0].sendall(b"y" * 10000)
+        busy[1].recv(100000)
+    half[0].shutdown(socket.SHUT_WR)
+    for end in pair(INET, four):
+        end.close()
+    for _ in range(2):
+        kept.append(socket.socket(UNIX, PACKETS))
+        kept[-1].connect(f"{folder}/packets")
+    connected = pair(UNIX, named)
+    connected[0].sendall(b"k" * 321)
+    kept += [*waiting, mapped, both.accept()[0], *busy, *half, *connected]
+    try:
+        paths = bound(INET, STREAM, ("127.0.0.1", 7013), 4, MPTCP)
+        kept += [paths, *pair(INET, paths, MPTCP)]
+    except OSError as error:
+        print(f"no MPTCP: {error}")
+    return kept
+
+
+def timer(milliseconds):
+    """A time as ss prints it."""
+    minutes, rest = divmod(milliseconds, 60000)
+    seconds, rest = divmod(rest, 1000)
+    if minutes:
+        rest, seconds = 0, 0 if minutes > 9 else seconds
+    if seconds > 9:
+        rest = 0
+    text = f"{minutes}min" if minutes else ""
+    text += f"{seconds}{'.' if rest else 'sec'}" if seconds else ""
+    return text + (f"{rest:03}ms" if rest else "")
+
+
+def listed(capture):
+    """The sockets that sslist shows, each by its key and place, and what it says on standard error."""
+    run = subprocess.run([LISTER], stdin=open(capture, "rb"), capture_output=True, check=False)
+    sockets, last = {}, None
+    for line in run.stdout.decode("ascii").splitlines()[1:]:
+        if not line.startswith("\t"):
+            netid, state, received, sent, inode, user, local, peer = line.split()
+            last = {"netid": netid, "state": state, "recv": received, "send": sent, "ino": inode, "uid": user, "words": []}
+            key = inode if netid in ("u_str", "u_dgr", "u_seq") else (re.sub(r"%\d+", "", local), peer)
+            last["local"], last["peer"] = local, peer
+            sockets.setdefault(key, []).append(last)
+            continue
+        for word in line.split():
+            name, _, value = word.partition(":")
+            last["words"].append(word)
+            last.setdefault(name, value)
+    return sockets, run.stderr.decode(), run.returncode
+
+
+def shown(line):
+    """Key, columns and words of a line of ss."""
+    unix = re.match(r"(u_...) (\S+)\s+(\d+)\s+(\d+)\s+(.*?) (\d+)\s+(.*?) (\d+)(?:\s+(.*))?$", line)
+    if unix:
+        columns = {"netid": unix[1], "state": unix[2], "recv": unix[3], "send": unix[4]}
+        if unix[8] != "0":
+            columns["peer"] = unix[8]
+        return unix[6], columns, (unix[9] or "").split()
+    words = line.split()
+    columns = {"netid": words.pop(0)} if words[0] in NETIDS else {}
+    columns |= dict(zip(("state", "recv", "send"), words))
+    local, peer = (re.sub(r"%\w+", "", re.sub(r"^\*:", "[::]:", it)) for it in words[3:5])
+    return (local, peer), columns, words[5:]
+
+
+def values(words):
+    """Name and value of what ss shows of a socket, as sslist writes it; None is a flag."""
+    for word, following in zip(words, [*words[1:], ""]):
+        name, colon, value = word.partition(":")
+        if word in FLAGS:
+            yield word, None
+        elif word in RATES:
+            yield word, int(following.split("/")[0].removesuffix("bps")) // 8
+        elif name == "rtt":
+            yield from zip(("rtt", "rttvar"), (round(float(it) * 1000) for it in value.split("/")))
+        elif name in MILLISECONDS and colon:
+            yield name, round(float(value) * 1000)
+        elif name == "wscale":
+            yield name, f"({value})"
+        elif name == "retrans":
+            now, total = value.split("/")
+            yield "retrans", int(total)
+            if now != "0":
+                yield "retrans_now", int(now)
+        elif name in ("busy", "rwnd_limited", "sndbuf_limited"):
+            yield name, int(value.split("ms")[0])
+        elif name == "timer":
+            yield name, value
+        elif colon and re.fullmatch(r"0x[0-9a-f]+|\d+|[0-9a-f]+|\(\w+(,\w+)*\)", value):
+            yield OTHERWISE.get(name, name), int(value) if value.isdigit() and name != "sk" else value
+
+
+def differs(socket_, name, value):
+    """Whether sslist shows another value of this name, or None where it shows none."""
+    if value is None:
+        return name not in socket_["words"] if socket_["words"] else None
+    if name not in socket_ or name == "ino" and socket_["netid"].startswith("u_"):
+        return None
+    ours = socket_[name]
+    if name == "timer":
+        kind, time, again = ours.strip("()").split(",")
+        return f"({kind},{timer(int(time.removesuffix('ms')))},{again})" != value
+    if name in ("busy", "rwnd_limited", "sndbuf_limited"):
+        return int(ours) // 1000 != value
+    if isinstance(value, int) and ours.isdigit():
+        return abs(int(ours) - value) > value * 1e-5
+    return ours != str(value)
+
+
+def compare(option, folder, recorder):
+    capture = f"{folder}/capture{option}"
+    environment = os.environ | {"LD_PRELOAD": recorder, "CAPTURE": capture}
+    told = subprocess.run(["ss", option, "-OH"], env=environment, capture_output=True, check=True).stdout.decode()
+    sockets, errors, status = listed(capture) if Path(capture).exists() else ({}, "no capture", 0)
+    found = compared = wrong = missing = 0
+    for line in told.splitlines() if option != "-s" else []:
+        key, columns, words = shown(line)
+        ours = sockets.get(key)
+        if not ours:
+            missing += 1
+            print(f"{option}: sslist has not: {line}")
+            continue
+        found += 1
+        ours = ours.pop(0)
+        for name, value in [*columns.items(), *values(words)]:
+            result = ours[name] != value if name in columns else differs(ours, name, value)
+            compared += result is not None
+            if result:
+                wrong += 1
+                print(f"{option}: {name} of {key} is {value}, sslist has {ours.get(name)}")
+    print(f"{option}: {found} sockets, {compared} values compared, {wrong} differ, {missing} sockets missing,"
+          f" status {status} {errors.strip()}")
+    return wrong + missing
+
+
+def main():
+    if not LISTER.exists():
+        sys.exit("first ./sslist </dev/null")
+    if os.geteuid() == 0 and ctypes.CDLL(None).unshare(0x40000000) == 0:
+        subprocess.run(["ip", "link", "set", "lo", "up"], check=True)
+    with tempfile.TemporaryDirectory() as folder:
+        recorder = f"{folder}/recorder.so"
+        subprocess.run(["gcc", "-shared", "-fPIC", "-x", "c", "-", "-o", recorder], input=RECORDER.encode(), check=True)
+        kept = make_sockets(folder)
+        wrong = sum(compare(option, folder, recorder) for option in sys.argv[1:] or OPTIONS)
+        del kept
+    return 1 if wrong else 0
+
+
+sys.exit(main())
