@@ -5,3 +5,4 @@ pub mod Dumping
 pub mod DumpRows
 pub mod Feeding
 pub mod WholeViews
+mod NoFault

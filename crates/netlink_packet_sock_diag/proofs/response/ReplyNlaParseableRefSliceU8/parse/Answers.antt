@@ -1,8 +1,9 @@
-use Rattle.std.proofs.Common.{drop, rules, IsOk, arith}
+use Rattle.std.proofs.Common.{drop, arith}
 use Rattle.std.proofs.lemmas.Result.{err_from_is_err_and}
 use Rattle.netlink_core.specs.Bytes.{IsBytes}
 use Rattle.attribute_lists.specs.AttributesIn.{reply_behind, reply_with}
 use Rattle.netlink_packet_sock_diag.specs.Viewed.{viewed}
+use Rattle.netlink_packet_sock_diag.proofs.NoFault.{on_no_fault, fault_is_no_value}
 use Rattle.attribute_lists.proofs.Kept.{kept_reads, kept_refused}
 use Rattle.netlink_packet_sock_diag.proofs.response.ReplyNlaParseableRefSliceU8.parse.Goals as goal
 
@@ -21,8 +22,8 @@ returns-then-is_err-clause-wanted g c = λ memory.
     let typed : IsBytes c.args.payload.now = λ i. omega (arith, c.type_inv.payload i) in (
       reply_behind (reply_with R F) (viewed view).header (drop R.size view.bytes.now),
       kept_reads R F g.met.H.ReplyOwned.same.1 _ _ view.accepted c.in_ok-view.ensures.kept typed,
-      λ spare. let ok : IsOk c.own_into.result =
-          c.own_into.ensures.spare c.new-nlas.ensures.capacity spare in search rules,
+      λ spare. fault_is_no_value c.own_into.result _ c.if-is_err.true c.is_err.ensures.value
+      (c.own_into.ensures.spare c.new-nlas.ensures.capacity spare),
     )
 
 pub returns-clause-value : goal.returns-clause-value
@@ -30,6 +31,7 @@ returns-clause-value g c =
     let R = g.H.ReplyHeader.reply in
     let F = g.H.Nla.FamilyNla.family in
     let typed : IsBytes c.args.payload.now = λ i. omega (arith, c.type_inv.payload i) in
-    let reads = kept_reads R F g.met.H.ReplyOwned.same.1 _ _ c.in_ok-view.view.accepted
-    c.in_ok-view.ensures.kept typed in
-    search (rules, reads)
+    let same = on_no_fault c.own_into.result _ c.if-is_err.false c.is_err.ensures.value
+    c.own_into.ensures.equal in
+    rw (c.header.ensures, same) (kept_reads R F g.met.H.ReplyOwned.same.1 _ _
+    c.in_ok-view.view.accepted c.in_ok-view.ensures.kept typed)
