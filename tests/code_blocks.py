@@ -3,7 +3,8 @@
 
 A block that is marked `rust` or `antt` has to stand, as whole lines in a row, in some file under crates/*/src,
 crates/*/proofs or crates/*/specs; how far its lines are set in, and blank lines, don't count. In a README.md the
-contracts may be left out.
+contracts may be left out. One that is marked `c` has to stand in an example, and so may one that is marked `rust`:
+tests/c_header.py and tests/rust_face.sh compile them.
 A block that is marked `text` in a CALLING.md quotes contracts, below a line that names the file; each quoted line has
 to stand there, written as the page shortens it.
 Each block or line that stands nowhere is told with its file and line, and then the status is 1.
@@ -16,6 +17,7 @@ from pathlib import Path
 TOP = Path(__file__).resolve().parent.parent
 DOCUMENTS = ["*.md", "crates/*/README.md", "crates/*/CALLING.md", "docs/*.md"]
 SOURCES = ["crates/*/src/**/*.rt", "crates/*/proofs/**/*.antt", "crates/*/specs/**/*.antt"]
+EXAMPLES = ["examples/*.c", "rust/sockdiag/examples/*.rs"]
 FENCE = "```"
 
 
@@ -98,6 +100,7 @@ def main():
     texts = [path.read_text(encoding="utf-8") for path in files(SOURCES)]
     sources = [bare_lines(text) for text in texts]
     shown = [bare_lines(without_contracts(text)) for text in texts]
+    examples = [bare_lines(path.read_text(encoding="utf-8")) for path in files(EXAMPLES)]
     found, missing = 0, []
     for document in files(DOCUMENTS):
         for number, language, lines in blocks(document):
@@ -106,8 +109,8 @@ def main():
                 gone = list(missing_quotes(document, number, lines))
                 found += not gone
                 missing += [(document, at, "quoted line stands not in its file") for at in gone]
-            elif language in ("rust", "antt"):
-                likely = sources + shown if document.name == "README.md" else sources
+            elif language in ("rust", "antt", "c"):
+                likely = sources + shown + examples if document.name == "README.md" else sources
                 if block and any(stands_in(block, source) for source in likely):
                     found += 1
                 else:
