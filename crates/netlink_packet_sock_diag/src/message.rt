@@ -18,6 +18,28 @@ use netlink_core::{
 };
 use std::alloc::{AllocError, Global};
 
+/// An answer of what a message holds, whatever its kind.
+macro_rules! held {
+    ($message:expr, $held:ident => $answer:expr) => {
+        match $message {
+            SockDiagMessage::InetRequest($held) => $answer,
+            SockDiagMessage::InetResponse($held) => $answer,
+            SockDiagMessage::UnixRequest($held) => $answer,
+            SockDiagMessage::UnixResponse($held) => $answer,
+        }
+    };
+}
+
+/// The same of a message that is read in place.
+macro_rules! lent {
+    ($message:expr, $reply:ident => $answer:expr) => {
+        match $message {
+            SockDiagView::InetResponse($reply) => $answer,
+            SockDiagView::UnixResponse($reply) => $answer,
+        }
+    };
+}
+
 /// A message of sock_diag(7). Replies alone are read; requests are only written.
 #[derive(Debug, Drop, PartialEq, Eq)]
 pub enum SockDiagMessage {
@@ -169,31 +191,19 @@ impl Emitable for SockDiagView<'_> {
     ghost writable = { λ v. message_codec.fits (viewed_message v) };
 
     fn is_writable(&self) -> bool {
-        match self {
-            SockDiagView::InetResponse(reply) => reply.is_writable(),
-            SockDiagView::UnixResponse(reply) => reply.is_writable(),
-        }
+        lent!(self, reply => reply.is_writable())
     }
 
     fn buffer_len(&self) -> usize {
-        match self {
-            SockDiagView::InetResponse(reply) => reply.buffer_len(),
-            SockDiagView::UnixResponse(reply) => reply.buffer_len(),
-        }
+        lent!(self, reply => reply.buffer_len())
     }
 
     fn writable_len(&self) -> Option<usize> {
-        match self {
-            SockDiagView::InetResponse(reply) => reply.writable_len(),
-            SockDiagView::UnixResponse(reply) => reply.writable_len(),
-        }
+        lent!(self, reply => reply.writable_len())
     }
 
     fn emit(&self, buffer: &mut [u8]) {
-        match self {
-            SockDiagView::InetResponse(reply) => reply.emit(buffer),
-            SockDiagView::UnixResponse(reply) => reply.emit(buffer),
-        }
+        lent!(self, reply => reply.emit(buffer))
     }
 }
 
@@ -225,29 +235,15 @@ impl Emitable for SockDiagMessage {
     ghost writable = { λ v. message_codec.fits (seen_message v) };
 
     fn is_writable(&self) -> bool {
-        match self {
-            SockDiagMessage::InetResponse(reply) => reply.is_writable(),
-            SockDiagMessage::UnixResponse(reply) => reply.is_writable(),
-            SockDiagMessage::InetRequest(_) | SockDiagMessage::UnixRequest(_) => true,
-        }
+        held!(self, held => held.is_writable())
     }
 
     fn buffer_len(&self) -> usize {
-        match self {
-            SockDiagMessage::InetRequest(request) => request.buffer_len(),
-            SockDiagMessage::InetResponse(reply) => reply.buffer_len(),
-            SockDiagMessage::UnixRequest(request) => request.buffer_len(),
-            SockDiagMessage::UnixResponse(reply) => reply.buffer_len(),
-        }
+        held!(self, held => held.buffer_len())
     }
 
     fn emit(&self, buffer: &mut [u8]) {
-        match self {
-            SockDiagMessage::InetRequest(request) => request.emit(buffer),
-            SockDiagMessage::InetResponse(reply) => reply.emit(buffer),
-            SockDiagMessage::UnixRequest(request) => request.emit(buffer),
-            SockDiagMessage::UnixResponse(reply) => reply.emit(buffer),
-        }
+        held!(self, held => held.emit(buffer))
     }
 }
 

@@ -1,16 +1,10 @@
 //! The reply about one IPv4 or IPv6 socket, read in place.
 
-ghost use Rattle.std.specs.Borrow.{Bor};
-ghost use Rattle.std.specs.Prelude.{ℕ, List, refl};
-ghost use Rattle.netlink_core.specs.Walk.{attribute_of};
+ghost use Rattle.std.specs.Prelude.{refl};
 ghost use Rattle.netlink_core.proofs.Replies.{replies_keep_laws};
-ghost use Rattle.sock_diag_attributes.specs.InetAttributes.{inet};
-ghost use Rattle.sock_diag_attributes.specs.EqualInetLaws.{inet_tests, tests};
-ghost use Rattle.sock_diag_attributes.specs.LentLaws.{buffer_row, text_view_row};
-ghost use Rattle.sock_diag_attributes.specs.SeenInet.{viewed_nla};
-ghost use Rattle.netlink_packet_sock_diag.specs.EqualViewLaws.{inet_test, inet_test_says};
 ghost use Rattle.netlink_packet_sock_diag.specs.InetReply.{inet_reply};
 ghost use Rattle.netlink_packet_sock_diag.specs.InetReplyLaws.{header_enough, inet_reply_laws};
+ghost use Rattle.netlink_packet_sock_diag.specs.InetReplyLaws.{inet_test, inet_test_says};
 
 use crate::inet::InetResponseHeader;
 use crate::inet::nlas::NlaView;

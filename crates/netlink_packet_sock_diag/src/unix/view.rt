@@ -1,18 +1,10 @@
 //! The reply about one UNIX socket, read in place.
 
 ghost use Rattle.std.specs.Prelude.{refl};
-ghost use Rattle.netlink_core.specs.Walk.{attribute_of};
 ghost use Rattle.netlink_core.proofs.Replies.{replies_keep_laws};
-ghost use Rattle.sock_diag_attributes.specs.UnixAttributes.{unix};
-ghost use Rattle.sock_diag_attributes.specs.EqualUnixLaws.{unix_tests, tests, viewed_lists};
-ghost use Rattle.sock_diag_attributes.specs.EqualUnixLaws.{viewed_names};
-ghost use Rattle.sock_diag_attributes.specs.LentLaws.{buffer_row, name_view_row, numbers_row};
-ghost use Rattle.sock_diag_attributes.specs.SeenName.{viewed_name};
-ghost use Rattle.sock_diag_attributes.specs.SeenNumbers.{viewed_numbers};
-ghost use Rattle.sock_diag_attributes.specs.SeenUnix.{viewed_nla};
-ghost use Rattle.netlink_packet_sock_diag.specs.EqualViewLaws.{unix_test, unix_test_says};
 ghost use Rattle.netlink_packet_sock_diag.specs.UnixReply.{unix_reply};
 ghost use Rattle.netlink_packet_sock_diag.specs.UnixReplyLaws.{header_enough, unix_reply_laws};
+ghost use Rattle.netlink_packet_sock_diag.specs.UnixReplyLaws.{unix_test, unix_test_says};
 
 use crate::reply::{emit_viewed_reply, same_views, viewed_reply_len};
 use crate::unix::UnixResponseHeader;

@@ -1,5 +1,5 @@
 use Rattle.std.proofs.Common.{◌≡◌, ◌↔◌, Bool, IsTrue, sym, subst}
-use Rattle.netlink_packet_sock_diag.specs.EqualViewLaws.{inet_test_says}
+use Rattle.netlink_packet_sock_diag.specs.InetReplyLaws.{inet_test_says}
 use Rattle.netlink_packet_sock_diag.specs.Viewed.{viewed}
 use Rattle.netlink_packet_sock_diag.proofs.laws.equal_inet_views.Goals as goal
 

@@ -1,5 +1,5 @@
 use Rattle.std.proofs.Common.{◌≡◌, ◌↔◌, Bool, IsTrue, sym, subst}
-use Rattle.netlink_packet_sock_diag.specs.EqualViewLaws.{unix_test_says}
+use Rattle.netlink_packet_sock_diag.specs.UnixReplyLaws.{unix_test_says}
 use Rattle.netlink_packet_sock_diag.specs.Viewed.{viewed}
 use Rattle.netlink_packet_sock_diag.proofs.laws.equal_unix_views.Goals as goal
 
