@@ -18,28 +18,6 @@ use netlink_core::{
 };
 use std::alloc::{AllocError, Global};
 
-/// An answer of what a message holds, whatever its kind.
-macro_rules! held {
-    ($message:expr, $held:ident => $answer:expr) => {
-        match $message {
-            SockDiagMessage::InetRequest($held) => $answer,
-            SockDiagMessage::InetResponse($held) => $answer,
-            SockDiagMessage::UnixRequest($held) => $answer,
-            SockDiagMessage::UnixResponse($held) => $answer,
-        }
-    };
-}
-
-/// The same of a message that is read in place.
-macro_rules! lent {
-    ($message:expr, $reply:ident => $answer:expr) => {
-        match $message {
-            SockDiagView::InetResponse($reply) => $answer,
-            SockDiagView::UnixResponse($reply) => $answer,
-        }
-    };
-}
-
 /// A message of sock_diag(7). Replies alone are read; requests are only written.
 #[derive(Debug, Drop, PartialEq, Eq)]
 pub enum SockDiagMessage {
@@ -182,31 +160,6 @@ impl<'a> SockDiagView<'a> {
     }
 }
 
-/// Writes the bytes of the message's canonical form, and takes no memory.
-impl Emitable for SockDiagView<'_> {
-    ghost use Rattle.netlink_packet_sock_diag.specs.ViewedMessage.{viewed_message};
-
-    ghost bytes = { λ v. message_codec.written (viewed_message v) };
-
-    ghost writable = { λ v. message_codec.fits (viewed_message v) };
-
-    fn is_writable(&self) -> bool {
-        lent!(self, reply => reply.is_writable())
-    }
-
-    fn buffer_len(&self) -> usize {
-        lent!(self, reply => reply.buffer_len())
-    }
-
-    fn writable_len(&self) -> Option<usize> {
-        lent!(self, reply => reply.writable_len())
-    }
-
-    fn emit(&self, buffer: &mut [u8]) {
-        lent!(self, reply => reply.emit(buffer))
-    }
-}
-
 impl Readable for SockDiagMessage {
     const TAKES_MEMORY: bool = true;
 
@@ -224,26 +177,6 @@ impl<'a> ParseableParametrized<&'a [u8], u16> for SockDiagMessage {
         message_type: u16,
     ) -> Result<Self, DecodeError> {
         SockDiagMessage::read_under(alloc, payload, message_type)
-    }
-}
-
-impl Emitable for SockDiagMessage {
-    ghost use Rattle.netlink_packet_sock_diag.specs.SeenMessage.{seen_message};
-
-    ghost bytes = { λ v. message_codec.written (seen_message v) };
-
-    ghost writable = { λ v. message_codec.fits (seen_message v) };
-
-    fn is_writable(&self) -> bool {
-        held!(self, held => held.is_writable())
-    }
-
-    fn buffer_len(&self) -> usize {
-        held!(self, held => held.buffer_len())
-    }
-
-    fn emit(&self, buffer: &mut [u8]) {
-        held!(self, held => held.emit(buffer))
     }
 }
 

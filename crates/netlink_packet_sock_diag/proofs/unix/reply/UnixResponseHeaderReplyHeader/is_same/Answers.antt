@@ -7,7 +7,7 @@ use Rattle.sock_diag_attributes.specs.SeenName.{viewed_name}
 use Rattle.sock_diag_attributes.specs.SeenNumbers.{viewed_numbers}
 use Rattle.sock_diag_attributes.specs.UnixAttributes.{unix}
 use Rattle.netlink_packet_sock_diag.specs.EqualReplyLaws.{then_rest}
-use Rattle.netlink_packet_sock_diag.proofs.unix.view.UnixResponseHeaderReplyHeader.is_same.Goals as goal
+use Rattle.netlink_packet_sock_diag.proofs.unix.reply.UnixResponseHeaderReplyHeader.is_same.Goals as goal
 
 pub returns-then-eq : goal.returns-then-eq
 returns-then-eq c =

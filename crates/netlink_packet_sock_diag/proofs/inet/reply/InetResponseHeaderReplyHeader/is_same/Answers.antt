@@ -5,7 +5,7 @@ use Rattle.sock_diag_attributes.specs.EqualInetLaws.{inet_tests, tests}
 use Rattle.sock_diag_attributes.specs.InetAttributes.{inet}
 use Rattle.sock_diag_attributes.specs.LentLaws.{buffer_row, text_view_row}
 use Rattle.netlink_packet_sock_diag.specs.EqualReplyLaws.{then_rest}
-use Rattle.netlink_packet_sock_diag.proofs.inet.view.InetResponseHeaderReplyHeader.is_same.Goals as goal
+use Rattle.netlink_packet_sock_diag.proofs.inet.reply.InetResponseHeaderReplyHeader.is_same.Goals as goal
 
 pub returns-then-eq : goal.returns-then-eq
 returns-then-eq c =
