@@ -8,7 +8,7 @@ trap 'rm -rf "$work"' EXIT
 cp -a "$top/crates" "$top/crates.txt" "$top/HANDLES" "$work"
 cd "$work/crates/netlink_packet_sock_diag"
 
-cat >>src/unix/view.rt <<'END'
+cat >>src/unix/reply.rt <<'END'
 
 /// A name behind the bytes that lent it.
 pub fn outlived(alloc: Global, header: &[u8]) -> Result<usize, DecodeError> {
@@ -24,7 +24,7 @@ pub fn outlived(alloc: Global, header: &[u8]) -> Result<usize, DecodeError> {
 END
 
 rt check >"$work/log" 2>&1 || true
-if ! grep -q 'src/unix/view.rt:.*`ended` does not live long enough' "$work/log"; then
+if ! grep -q 'src/unix/reply.rt:.*`ended` does not live long enough' "$work/log"; then
     tail -n 20 "$work/log" >&2
     echo "a name outlives its bytes" >&2
     exit 1

@@ -7,13 +7,13 @@ use Rattle.std.specs.List.{AllByRecursion, AllZip, flat_map}
 use Rattle.std.proofs.lemmas.List.{append-nil}
 use Rattle.std.proofs.lemmas.Grind.{flat_map-append}
 use Rattle.netlink_core.specs.declared.fault.DecodeError.{DecodeError}
-use Rattle.netlink_core.specs.Envelope.{Payload, done_with, error_with, no_payload, overrun_with}
+use Rattle.netlink_core.specs.Envelope.{done_with, error_with, no_payload, overrun_with}
 use Rattle.netlink_core.specs.Envelope.{inner}
 use Rattle.netlink_core.specs.Bytes.{IsBytes}
 use Rattle.netlink_core.specs.Codec.{Codec}
 use Rattle.netlink_core.specs.declared.fault.DecodeError.TheVariants.{Memory}
 use Rattle.netlink_core.specs.ByteLaws.{IsBytes-nil, IsBytes-append}
-use Rattle.netlink_core.specs.Items.{ItemsAre}
+use Rattle.netlink_core.specs.Items.{Item, ItemsAre}
 use Rattle.netlink_core.proofs.Items.{no_items, items_in_a_row}
 use Rattle.netlink_packet_sock_diag.specs.declared.dump.DumpState.{DumpState}
 use Rattle.netlink_packet_sock_diag.specs.declared.dump.DumpState.TheVariants.{Reading, Failed}
@@ -26,23 +26,29 @@ use Rattle.netlink_packet_sock_diag.specs.Dump.{DatagramDump, DatagramsDump, Are
 use Rattle.netlink_packet_sock_diag.specs.Dump.{unended}
 use Rattle.netlink_packet_sock_diag.specs.Feed.{FeedLeaves, FeedsLeave}
 
+-- how a dump ends, or its fault
+abbrev End : Type 0
+End = Result Standing DecodeError
+
+-- no item ends a dump
+abbrev Plain : {A : Type 0} → List (Item A) → Type 0
+Plain items = AllByRecursion (λ item. end_of item ≡ None) items
+
 none_or_some : {X : Type 0} (end : Option X) → (end ≡ None) ⊎ ((x : X) × (end ≡ Some x))
 none_or_some None = inl refl
 none_or_some (Some x) = inr (x, refl)
 
 -- the state that an item ends a dump in, if it is no fault
-stands : Option (Result Standing DecodeError) → Option DumpState
+stands : Option End → Option DumpState
 stands (Some (Ok s)) = Some s.0
 stands _ = None
 
 module _ {A : Type 0} where
-  no_end_and_plain : (item : Result (Payload A) DecodeError) (end : Result Standing DecodeError)
-      → end_of item ≡ None → end_of item ≡ Some end → ⊥
+  no_end_and_plain : (item : Item A) (end : End) → end_of item ≡ None → end_of item ≡ Some end → ⊥
   no_end_and_plain item end plain ends = let no = sym plain ∙ ends in cc
 
   -- what ends a dump leaves none that is still read
-  no_end_reads : (item : Result (Payload A) DecodeError) (s : Standing) → s.0 ≡ Reading
-      → end_of item ≡ Some (Ok s) → ⊥
+  no_end_reads : (item : Item A) (s : Standing) → s.0 ≡ Reading → end_of item ≡ Some (Ok s) → ⊥
   unfolding stands
   no_end_reads (Ok (inner value)) s is ends = cc
   no_end_reads (Ok no_payload) s is ends = cc
@@ -54,22 +60,20 @@ module _ {A : Type 0} where
       let e : Some Overrun ≡ Some s.0 = ap stands ends in cc
   no_end_reads (Err e) s is ends = cc
 
-  no_end_reading : (item : Result (Payload A) DecodeError) → end_of item ≡ Some (Ok unended) → ⊥
+  no_end_reading : (item : Item A) → end_of item ≡ Some (Ok unended) → ⊥
   no_end_reading item ends = no_end_reads item unended refl ends
 
   -- so a dump that is still read has no number
-  pub unnumbered : (items : List (Result (Payload A) DecodeError)) (s : Standing)
+  pub unnumbered : (items : List (Item A)) (s : Standing)
       → Ends items (Ok s) → s.0 ≡ Reading → s ≡ unended
   unnumbered [] s ends is = cc
   unnumbered (item ∷ items) s ends is = absurd (no_end_reads item s is ends)
 
-  one_end : (item : Result (Payload A) DecodeError) (e f : Result Standing DecodeError)
-      → end_of item ≡ Some e → end_of item ≡ Some f → e ≡ f
+  one_end : (item : Item A) (e f : End) → end_of item ≡ Some e → end_of item ≡ Some f → e ≡ f
   one_end item e f h k = let same = sym h ∙ k in cc
 
-  one_split : (p q l m : List (Result (Payload A) DecodeError)) (e f : Result Standing DecodeError)
-      → p ++ l ≡ q ++ m → AllByRecursion (λ item. end_of item ≡ None) p
-      → AllByRecursion (λ item. end_of item ≡ None) q → Ends l e → Ends m f → (p ≡ q) × (e ≡ f)
+  one_split : (p q l m : List (Item A)) (e f : End) → p ++ l ≡ q ++ m → Plain p → Plain q → Ends l e
+      → Ends m f → (p ≡ q) × (e ≡ f)
   one_split [] [] [] [] e f same hp hq el em = (refl, el ∙ sym em)
   one_split [] [] [] (y ∷ m) e f same hp hq el em = cc
   one_split [] [] (x ∷ l) [] e f same hp hq el em = cc
@@ -87,18 +91,17 @@ module _ {A : Type 0} where
       let rest = one_split p q l m e f tails hp.1 hq.1 el em in
       (λ i. heads i ∷ rest.0 i, rest.1)
 
-  pub one_dump : (before : List A) (items : List (Result (Payload A) DecodeError)) (a b : List A)
-      (e f : Result Standing DecodeError) → Dump before items a e → Dump before items b f → (a ≡ b)
-      × (e ≡ f)
+  pub one_dump : (before : List A) (items : List (Item A)) (a b : List A) (e f : End)
+      → Dump before items a e → Dump before items b f → (a ≡ b) × (e ≡ f)
   one_dump before items a b e f d t =
       let same = one_split d.0 t.0 d.1 t.1 e f (sym d.2 ∙ t.2) d.3 t.3 d.5 t.5 in (
-        d.4 ∙ ap (λ (p : List (Result (Payload A) DecodeError)). before ++ flat_map kept p) same.0
+        d.4 ∙ ap (λ (p : List (Item A)). before ++ flat_map kept p) same.0
             ∙ sym t.4,
         same.1,
       )
 
-  pub has_dump : (before : List A) (items : List (Result (Payload A) DecodeError))
-      → (after : List A) × (end : Result Standing DecodeError) × Dump before items after end
+  pub has_dump : (before : List A) (items : List (Item A))
+      → (after : List A) × (end : End) × Dump before items after end
   has_dump before [] = (before, Ok unended, ([], [], refl, tt, sym (append-nil before), refl))
   has_dump before (item ∷ items) = elim (none_or_some (end_of item)) [
     | inl plain ↦
@@ -109,7 +112,7 @@ module _ {A : Type 0} where
           (
             item ∷ d.0,
             d.1,
-            ap (λ (t : List (Result (Payload A) DecodeError)). item ∷ t) d.2,
+            ap (λ (t : List (Item A)). item ∷ t) d.2,
             (plain, d.3),
             d.4 ∙ append_assoc before (kept item) (flat_map kept d.0),
             d.5,
@@ -118,34 +121,31 @@ module _ {A : Type 0} where
     | inr e ↦ (before, e.0, ([], item ∷ items, refl, tt, sym (append-nil before), e.1))
   ]
 
-  plain_append : (xs ys : List (Result (Payload A) DecodeError))
-      → AllByRecursion (λ item. end_of item ≡ None) xs → AllByRecursion (λ item. end_of item ≡ None)
-      ys → AllByRecursion (λ item. end_of item ≡ None) (xs ++ ys)
+  plain_append : (xs ys : List (Item A)) → Plain xs → Plain ys → Plain (xs ++ ys)
   plain_append [] ys h k = k
   plain_append (x ∷ xs) ys h k = (h.0, plain_append xs ys h.1 k)
 
-  none_later : (later : List (Result (Payload A) DecodeError))
-      (state : Result Standing DecodeError) → Ends later state → state ≡ Ok unended → later ≡ []
+  none_later : (later : List (Item A))
+      (state : End) → Ends later state → state ≡ Ok unended → later ≡ []
   none_later [] state ends is = refl
   none_later (item ∷ later) state ends is = absurd (no_end_reading item (ends ∙ ap Some is))
 
-  ends_before : (later more : List (Result (Payload A) DecodeError))
-      (state : Result Standing DecodeError) → Ends later state → state ≢ Ok unended
+  ends_before : (later more : List (Item A)) (state : End) → Ends later state → state ≢ Ok unended
       → Ends (later ++ more) state
   ends_before [] more state ends other = absurd (other ends)
   ends_before (item ∷ later) more state ends other = ends
 
-  pub joined : (before middle after : List A) (state end : Result Standing DecodeError)
-      (xs ys : List (Result (Payload A) DecodeError)) → Dump before xs middle state
+  pub joined : (before middle after : List A) (state end : End)
+      (xs ys : List (Item A)) → Dump before xs middle state
       → DumpGoesOn middle state ys after end → Dump before (xs ++ ys) after end
   joined before middle after state end xs ys d (inl on) =
       let t = on.1 in
-      let all : xs ≡ d.0 = d.2 ∙ ap (λ (l : List (Result (Payload A) DecodeError)). d.0 ++ l)
+      let all : xs ≡ d.0 = d.2 ∙ ap (λ (l : List (Item A)). d.0 ++ l)
       (none_later d.1 state d.5 on.0) ∙ append-nil d.0 in (
         d.0 ++ t.0,
         t.1,
-        ap (λ (l : List (Result (Payload A) DecodeError)). l ++ ys) all
-            ∙ ap (λ (l : List (Result (Payload A) DecodeError)). d.0 ++ l) t.2
+        ap (λ (l : List (Item A)). l ++ ys) all
+            ∙ ap (λ (l : List (Item A)). d.0 ++ l) t.2
             ∙ sym (append_assoc d.0 t.0 t.1),
         plain_append d.0 t.0 d.3 t.3,
         t.4 ∙ ap (λ (l : List A). l ++ flat_map kept t.0) d.4
@@ -156,22 +156,21 @@ module _ {A : Type 0} where
   joined before middle after state end xs ys d (inr off) = (
     d.0,
     d.1 ++ ys,
-    ap (λ (l : List (Result (Payload A) DecodeError)). l ++ ys) d.2 ∙ append_assoc d.0 d.1 ys,
+    ap (λ (l : List (Item A)). l ++ ys) d.2 ∙ append_assoc d.0 d.1 ys,
     d.3,
     off.1 ∙ d.4,
-    subst (λ (s : Result Standing DecodeError). Ends (d.1 ++ ys) s) (sym off.2)
+    subst (λ (s : End). Ends (d.1 ++ ys) s) (sym off.2)
         (ends_before d.1 ys state d.5 off.0),
   )
 
-  reading_or_not : (items : List (Result (Payload A) DecodeError))
-      (state : Result Standing DecodeError) → Ends items state → (state ≡ Ok unended)
-      ⊎ (state ≢ Ok unended)
+  reading_or_not : (items : List (Item A)) (state : End) → Ends items state
+      → (state ≡ Ok unended) ⊎ (state ≢ Ok unended)
   reading_or_not [] state ends = inl ends
   reading_or_not (item ∷ items) state ends = inr (λ is. no_end_reading item (ends ∙ ap Some is))
 
-  pub parted : (before after : List A) (end : Result Standing DecodeError)
-      (xs ys : List (Result (Payload A) DecodeError)) → Dump before (xs ++ ys) after end
-      → (middle : List A) × (state : Result Standing DecodeError) × Dump before xs middle state
+  pub parted : (before after : List A) (end : End)
+      (xs ys : List (Item A)) → Dump before (xs ++ ys) after end
+      → (middle : List A) × (state : End) × Dump before xs middle state
       × DumpGoesOn middle state ys after end
   parted before after end xs ys d =
       let first = has_dump before xs in
@@ -186,7 +185,7 @@ module _ {A : Type 0} where
               first.2,
               inl (
                 reading,
-                subst (λ (s : Result Standing DecodeError). Dump first.0 ys after s)
+                subst (λ (s : End). Dump first.0 ys after s)
                     (sym same.1) (subst (λ (l : List A). Dump first.0 ys l second.1) (sym same.0)
                     second.2),
               ),
@@ -206,12 +205,18 @@ bytes-in_a_row (b ∷ later) typed =
     IsBytes-append b (in_a_row later) typed.0 (bytes-in_a_row later typed.1)
 
 module _ (C : Codec ℕ) where
+  -- bytes have items, and one list of them
+  abbrev SomeItems : Type 0
+  SomeItems = (b : List ℕ) → IsBytes b → (items : List (Item C.Value)) × ItemsAre C b items
+
+  abbrev OneList : Type 0
+  OneList = (b : List ℕ) → IsBytes b → (xs ys : List (Item C.Value)) → ItemsAre C b xs
+      → ItemsAre C b ys → xs ≡ ys
+
   -- datagrams have one list of items each
-  pub one_row : ((b : List ℕ) → IsBytes b → (xs ys : List (Result (Payload C.Value) DecodeError))
-      → ItemsAre C b xs → ItemsAre C b ys → xs ≡ ys)
-      → (datagrams : List (List ℕ)) → AllByRecursion IsBytes datagrams
-      → (xs ys : List (List (Result (Payload C.Value) DecodeError)))
-      → AllZip (ItemsAre C) datagrams xs → AllZip (ItemsAre C) datagrams ys → xs ≡ ys
+  pub one_row : OneList → (datagrams : List (List ℕ)) → AllByRecursion IsBytes datagrams
+      → (xs ys : List (List (Item C.Value))) → AllZip (ItemsAre C) datagrams xs
+      → AllZip (ItemsAre C) datagrams ys → xs ≡ ys
   one_row one [] typed [] [] h k = refl
   one_row one [] typed [] (y ∷ ys) h k = absurd k
   one_row one [] typed (x ∷ xs) ys h k = absurd h
@@ -222,38 +227,35 @@ module _ (C : Codec ℕ) where
       let rest = one_row one later typed.1 xs ys h.1 k.1 in
       λ i. first i ∷ rest i
 
-  pub same_dump : ((b : List ℕ) → IsBytes b → (xs ys : List (Result (Payload C.Value) DecodeError))
-      → ItemsAre C b xs → ItemsAre C b ys → xs ≡ ys)
-      → (datagrams others : List (List ℕ))
-      (xs ys : List (List (Result (Payload C.Value) DecodeError)))
-      → AllByRecursion IsBytes datagrams
-      → AllZip (ItemsAre C) datagrams xs → AllZip (ItemsAre C) others ys → in_a_row xs ≡ in_a_row ys
-      → (before after : List C.Value) (end : Result Standing DecodeError)
-      → DatagramsDump C before datagrams after end → DatagramsDump C before others after end
+  pub same_dump : OneList
+      → (datagrams others : List (List ℕ)) (xs ys : List (List (Item C.Value)))
+      → AllByRecursion IsBytes datagrams → AllZip (ItemsAre C) datagrams xs
+      → AllZip (ItemsAre C) others ys → in_a_row xs ≡ in_a_row ys
+      → (before after : List C.Value) (end : End) → DatagramsDump C before datagrams after end
+      → DatagramsDump C before others after end
   same_dump one datagrams others xs ys typed each also same before after end (row, items, d) =
       let rows : row ≡ in_a_row ys =
-      items.2 ∙ ap (λ (parts : List (List (Result (Payload C.Value) DecodeError))). in_a_row
+      items.2 ∙ ap (λ (parts : List (List (Item C.Value))). in_a_row
       parts) (one_row one datagrams typed items.0 xs items.1 each) ∙ same in (
         in_a_row ys,
         (ys, also, refl),
-        subst (λ (l : List (Result (Payload C.Value) DecodeError)). Dump before l after end) rows
+        subst (λ (l : List (Item C.Value)). Dump before l after end) rows
             d,
       )
 
   -- ---- how whole messages are split into datagrams
 
   -- the last datagram has its items
-  last_items : (b : List ℕ) (p : List (Result (Payload C.Value) DecodeError))
-      (later : List (List ℕ)) (parts : List (List (Result (Payload C.Value) DecodeError)))
-      → later ≡ [] → AllZip (ItemsAre C) later parts → ItemsAre C b p
-      → ItemsAre C (b ++ in_a_row later) (p ++ in_a_row parts)
+  last_items : (b : List ℕ) (p : List (Item C.Value)) (later : List (List ℕ)) (parts : List (List
+      (Item C.Value))) → later ≡ [] → AllZip (ItemsAre C) later parts → ItemsAre C b p → ItemsAre C
+      (b ++ in_a_row later) (p ++ in_a_row parts)
   last_items b p [] [] none each is = rw (append-nil b, append-nil p) is
   last_items b p [] (q ∷ parts) none each is = absurd each
   last_items b p (d ∷ later) parts none each is = absurd cc
 
   -- the items of split datagrams are those of all their bytes
   split_items : (datagrams : List (List ℕ))
-      (parts : List (List (Result (Payload C.Value) DecodeError))) → AreSplit datagrams
+      (parts : List (List (Item C.Value))) → AreSplit datagrams
       → AllZip (ItemsAre C) datagrams parts → ItemsAre C (in_a_row datagrams) (in_a_row parts)
   split_items [] [] split each = no_items C
   split_items [] (p ∷ parts) split each = absurd each
@@ -265,11 +267,8 @@ module _ (C : Codec ℕ) where
   ]
 
   -- datagrams have items
-  pub items_of_each : ((b : List ℕ) → IsBytes b
-      → (items : List (Result (Payload C.Value) DecodeError)) × ItemsAre C b items)
-      → (datagrams : List (List ℕ)) → AllByRecursion IsBytes datagrams
-      → (parts : List (List (Result (Payload C.Value) DecodeError)))
-      × AllZip (ItemsAre C) datagrams parts
+  pub items_of_each : SomeItems → (datagrams : List (List ℕ)) → AllByRecursion IsBytes datagrams
+      → (parts : List (List (Item C.Value))) × AllZip (ItemsAre C) datagrams parts
   items_of_each some [] typed = ([], tt)
   items_of_each some (b ∷ later) typed =
       let first = some b typed.0 in
@@ -278,23 +277,19 @@ module _ (C : Codec ℕ) where
 
   -- the dump of split datagrams is that of the items of all their bytes
   pub dump_of_split : (datagrams : List (List ℕ)) → AreSplit datagrams
-      → (before after : List C.Value) (end : Result Standing DecodeError)
-      → DatagramsDump C before datagrams after end
+      → (before after : List C.Value) (end : End) → DatagramsDump C before datagrams after end
       → DatagramDump C before (in_a_row datagrams) after end
   dump_of_split datagrams split before after end (row, items, d) = (
     in_a_row items.0,
     split_items datagrams items.0 split items.1,
-    subst (λ (l : List (Result (Payload C.Value) DecodeError)). Dump before l after end)
+    subst (λ (l : List (Item C.Value)). Dump before l after end)
         items.2 d,
   )
 
   -- the other way round
-  pub split_of_dump : ((b : List ℕ) → IsBytes b
-      → (items : List (Result (Payload C.Value) DecodeError)) × ItemsAre C b items)
-      → ((b : List ℕ) → IsBytes b → (xs ys : List (Result (Payload C.Value) DecodeError))
-      → ItemsAre C b xs → ItemsAre C b ys → xs ≡ ys)
-      → (datagrams : List (List ℕ)) → AllByRecursion IsBytes datagrams → AreSplit datagrams
-      → (before after : List C.Value) (end : Result Standing DecodeError)
+  pub split_of_dump : SomeItems → OneList → (datagrams : List (List ℕ))
+      → AllByRecursion IsBytes datagrams → AreSplit datagrams
+      → (before after : List C.Value) (end : End)
       → DatagramDump C before (in_a_row datagrams) after end
       → DatagramsDump C before datagrams after end
   split_of_dump some one datagrams typed split before after end d =
@@ -303,33 +298,29 @@ module _ (C : Codec ℕ) where
       d.1 (split_items datagrams parts.0 split parts.1) in (
         in_a_row parts.0,
         (parts.0, parts.1, refl),
-        subst (λ (l : List (Result (Payload C.Value) DecodeError)). Dump before l after end) same
+        subst (λ (l : List (Item C.Value)). Dump before l after end) same
             d.2,
       )
 
   -- a datagram has one dump
-  pub one_datagram_dump : ((b : List ℕ) → IsBytes b
-      → (xs ys : List (Result (Payload C.Value) DecodeError)) → ItemsAre C b xs → ItemsAre C b ys
-      → xs ≡ ys)
-      → (datagram : List ℕ) → IsBytes datagram
-      → (before a b : List C.Value) (e f : Result Standing DecodeError)
-      → DatagramDump C before datagram a e → DatagramDump C before datagram b f → (a ≡ b) × (e ≡ f)
+  pub one_datagram_dump : OneList → (datagram : List ℕ) → IsBytes datagram
+      → (before a b : List C.Value) (e f : End) → DatagramDump C before datagram a e
+      → DatagramDump C before datagram b f → (a ≡ b) × (e ≡ f)
   one_datagram_dump one datagram typed before a b e f d t =
       one_dump before d.0 a b e f d.2
-      (subst (λ (l : List (Result (Payload C.Value) DecodeError)). Dump before l b f)
+      (subst (λ (l : List (Item C.Value)). Dump before l b f)
       (one datagram typed t.0 d.0 t.1 d.1) t.2)
 
   -- ---- what feeding leaves
 
   -- the state in which a dump is left
-  state_left : Result Standing DecodeError → Standing
+  state_left : End → Standing
   state_left (Ok state) = state
   state_left (Err e) = (Failed, None)
 
   feed_step : (before : List C.Value) (datagram : List ℕ) (middle : List C.Value) (next : Standing)
-      (answer : Result Unit DumpError)
-      → FeedLeaves C before unended datagram middle next answer → answer ≢ Err (Fault Memory)
-      → (end : Result Standing DecodeError) × DatagramDump C before datagram middle end
+      (answer : Result Unit DumpError) → FeedLeaves C before unended datagram middle next answer
+      → answer ≢ Err (Fault Memory) → (end : End) × DatagramDump C before datagram middle end
       × (next ≡ state_left end)
   unfolding state_left
   feed_step before datagram middle next (Ok done) f some = (Ok next, f.1, refl)
@@ -353,8 +344,7 @@ module _ (C : Codec ℕ) where
       let rest = ended_stays later f.0 after f.1 left (λ is. over (sym one.1 ∙ is)) f.5 in
       (rest.0 ∙ one.0, rest.1 ∙ one.1)
 
-  left_reading : (state : Result Standing DecodeError) → state ≢ Ok unended
-      → state_left state ≢ unended
+  left_reading : (state : End) → state ≢ Ok unended → state_left state ≢ unended
   unfolding state_left
   left_reading (Ok state) over = λ is. over (ap Ok is)
   left_reading (Err e) over = λ is. let e : Failed ≡ Reading = ap (λ (s : Standing). s.0) is in cc
@@ -364,13 +354,10 @@ module _ (C : Codec ℕ) where
   state_left-reading = refl
 
   -- feeding datagrams in a row gives their dump
-  feeds_dump : ((b : List ℕ) → IsBytes b → (items : List (Result (Payload C.Value) DecodeError))
-      × ItemsAre C b items)
-      → (datagrams : List (List ℕ)) → AllByRecursion IsBytes datagrams
+  feeds_dump : SomeItems → (datagrams : List (List ℕ)) → AllByRecursion IsBytes datagrams
       → (before after : List C.Value) (left : Standing)
       → FeedsLeave C before unended datagrams after left
-      → (end : Result Standing DecodeError) × DatagramsDump C before datagrams after end
-      × (left ≡ state_left end)
+      → (end : End) × DatagramsDump C before datagrams after end × (left ≡ state_left end)
   feeds_dump some [] typed before after left f =
       let none : Dump before [] after (Ok unended) =
       ([], [], refl, tt, f.0 ∙ sym (append-nil before), refl) in
@@ -391,7 +378,7 @@ module _ (C : Codec ℕ) where
                 (
                   items ∷ have.0,
                   (one.1.1, have.1),
-                  ap (λ (l : List (Result (Payload C.Value) DecodeError)). items ++ l) have.2,
+                  ap (λ (l : List (Item C.Value)). items ++ l) have.2,
                 ),
                 joined before f.0 after one.0 rest.0 items row one.1.2 (inl (on, rest.1.2)),
               ),
@@ -413,17 +400,12 @@ module _ (C : Codec ℕ) where
       ]
 
   -- feeding the same bytes in split datagrams leaves the same messages and state
-  pub same_feeds : ((b : List ℕ) → IsBytes b → (items : List (Result (Payload C.Value) DecodeError))
-      × ItemsAre C b items)
-      → ((b : List ℕ) → IsBytes b → (xs ys : List (Result (Payload C.Value) DecodeError))
-      → ItemsAre C b xs → ItemsAre C b ys → xs ≡ ys)
-      → (datagrams others : List (List ℕ)) → AllByRecursion IsBytes datagrams
-      → AllByRecursion IsBytes others → AreSplit datagrams → AreSplit others
-      → in_a_row datagrams ≡ in_a_row others
+  pub same_feeds : SomeItems → OneList → (datagrams others : List (List ℕ))
+      → AllByRecursion IsBytes datagrams → AllByRecursion IsBytes others → AreSplit datagrams
+      → AreSplit others → in_a_row datagrams ≡ in_a_row others
       → (before after also : List C.Value) (left state : Standing)
       → FeedsLeave C before unended datagrams after left
-      → FeedsLeave C before unended others also state
-      → (after ≡ also) × (left ≡ state)
+      → FeedsLeave C before unended others also state → (after ≡ also) × (left ≡ state)
   same_feeds some one datagrams others typed fits split cut same before after also left state f g =
       let a = feeds_dump some datagrams typed before after left f in
       let b = feeds_dump some others fits before also state g in
@@ -435,27 +417,22 @@ module _ (C : Codec ℕ) where
       (ends.0, a.2 ∙ ap state_left ends.1 ∙ sym b.2)
 
   -- feeding datagrams with the same items in a row leaves the same messages and state
-  pub same_items_feeds : ((b : List ℕ) → IsBytes b
-      → (items : List (Result (Payload C.Value) DecodeError)) × ItemsAre C b items)
-      → ((b : List ℕ) → IsBytes b → (xs ys : List (Result (Payload C.Value) DecodeError))
-      → ItemsAre C b xs → ItemsAre C b ys → xs ≡ ys)
-      → (datagrams others : List (List ℕ))
-      (xs ys : List (List (Result (Payload C.Value) DecodeError)))
+  pub same_items_feeds : SomeItems → OneList
+      → (datagrams others : List (List ℕ)) (xs ys : List (List (Item C.Value)))
       → AllByRecursion IsBytes datagrams → AllByRecursion IsBytes others
       → AllZip (ItemsAre C) datagrams xs → AllZip (ItemsAre C) others ys → in_a_row xs ≡ in_a_row ys
       → (before after also : List C.Value) (left state : Standing)
       → FeedsLeave C before unended datagrams after left
-      → FeedsLeave C before unended others also state
-      → (after ≡ also) × (left ≡ state)
+      → FeedsLeave C before unended others also state → (after ≡ also) × (left ≡ state)
   same_items_feeds some one datagrams others xs ys typed fits each them same before after also left
       state f g =
       let a = feeds_dump some datagrams typed before after left f in
       let b = feeds_dump some others fits before also state g in
       let moved = same_dump one datagrams others xs ys typed each them same before after a.0 a.1 in
       let rows : moved.0 ≡ b.1.0 =
-      moved.1.2 ∙ ap (λ (parts : List (List (Result (Payload C.Value) DecodeError))). in_a_row
+      moved.1.2 ∙ ap (λ (parts : List (List (Item C.Value))). in_a_row
       parts) (one_row one others fits moved.1.0 b.1.1.0 moved.1.1 b.1.1.1) ∙ sym b.1.1.2 in
       let ends = one_dump before b.1.0 after also a.0 b.0
-      (subst (λ (l : List (Result (Payload C.Value) DecodeError)). Dump before l after a.0) rows
+      (subst (λ (l : List (Item C.Value)). Dump before l after a.0) rows
       moved.2) b.1.2 in
       (ends.0, a.2 ∙ ap state_left ends.1 ∙ sym b.2)

@@ -12,28 +12,27 @@ use Rattle.netlink_core.specs.declared.header.NetlinkHeader.{NetlinkHeader}
 use Rattle.netlink_core.specs.Header.{HasHeader, IsEnvelopeFault}
 use Rattle.netlink_core.specs.Datagram.{StartsWithMessage}
 use Rattle.netlink_core.specs.Envelope.{Payload, no_payload, inner, PayloadIs}
-use Rattle.netlink_core.specs.Items.{ItemIs, ItemsAre}
+use Rattle.netlink_core.specs.Items.{Item, ItemIs, ItemsAre}
 use Rattle.netlink_core.proofs.Items.{Following, items_begin, items_go_on, items_with, no_items}
 use Rattle.netlink_core.proofs.Items.{fault_alone}
 use Rattle.netlink_packet_sock_diag.specs.Dump.{end_of, kept, DatagramDump, DatagramStopped}
 use Rattle.netlink_packet_sock_diag.specs.Dump.{Standing, unended}
 
-plain_push : {A : Type 0} (xs : List (Result (Payload A) DecodeError))
-    (item : Result (Payload A) DecodeError) → AllByRecursion (λ item. end_of item ≡ None) xs
+plain_push : {A : Type 0} (xs : List (Item A))
+    (item : Item A) → AllByRecursion (λ item. end_of item ≡ None) xs
     → end_of item ≡ None → AllByRecursion (λ item. end_of item ≡ None) (xs ++ item ∷ [])
 plain_push [] item h is = (is, tt)
 plain_push (x ∷ xs) item h is = (h.0, plain_push xs item h.1 is)
 
-kept_push : {A : Type 0} (xs : List (Result (Payload A) DecodeError))
-    (item : Result (Payload A) DecodeError) → flat_map kept (xs ++ item ∷ []) ≡ flat_map kept xs
-    ++ kept item
+kept_push : {A : Type 0} (xs : List (Item A)) (item : Item A)
+    → flat_map kept (xs ++ item ∷ []) ≡ flat_map kept xs ++ kept item
 kept_push xs item = flat_map-append kept xs (item ∷ []) ∙ ap (λ (t : List _). flat_map kept xs ++ t)
     (append-nil (kept item))
 
 module _ (C : Codec ℕ) where
   -- some items were passed, their messages are kept, and what is left goes on from there
   pub record Passing (datagram rest : List ℕ) (before after : List C.Value) : Type 0 where
-    pub passed : List (Result (Payload C.Value) DecodeError)
+    pub passed : List (Item C.Value)
     pub walk : Following C datagram passed rest
     pub plain : AllByRecursion (λ item. end_of item ≡ None) passed
     pub keeps : after ≡ before ++ flat_map kept passed
@@ -54,7 +53,7 @@ module _ (C : Codec ℕ) where
   carries message h carried head is = (h, (head, is))
 
   passes : (datagram rest next message : List ℕ) (before after : List C.Value)
-      (item : Result (Payload C.Value) DecodeError) → end_of item ≡ None
+      (item : Item C.Value) → end_of item ≡ None
       → Passing datagram rest before after → StartsWithMessage rest message next
       → ItemIs C message item → Passing datagram next before (after ++ kept item)
   passes datagram rest next message before after item plain p s is = record {
@@ -78,22 +77,20 @@ module _ (C : Codec ℕ) where
   passes_inner datagram rest next message before after value p s is =
       passes datagram rest next message before after (Ok (inner value)) refl p s is
 
-  pub ends_at : ((b : List ℕ) (t : ℕ) → IsBytes b → ((m : C.Value) × C.reads b t m)
-      ⊎ ((e : DecodeError) × C.refuses b t e))
-      → (datagram rest next message : List ℕ) (before after : List C.Value)
-      (item : Result (Payload C.Value) DecodeError) (end : Result Standing DecodeError)
-      → IsBytes datagram
-      → Passing datagram rest before after → StartsWithMessage rest message next
-      → ItemIs C message item → end_of item ≡ Some end → DatagramDump C before datagram after end
+  pub ends_at : ((b : List ℕ) (t : ℕ) → IsBytes b
+      → ((m : C.Value) × C.reads b t m) ⊎ ((e : DecodeError) × C.refuses b t e))
+      → (datagram rest next message : List ℕ) (before after : List C.Value) (item : Item C.Value)
+      (end : Result Standing DecodeError) → IsBytes datagram → Passing datagram rest before after
+      → StartsWithMessage rest message next → ItemIs C message item → end_of item ≡ Some end
+      → DatagramDump C before datagram after end
   ends_at answers datagram rest next message before after item end typed p s is ends =
       let all = items_with C answers datagram rest next message p.passed item typed p.walk s is in
       (p.passed ++ (item ∷ all.0), all.1, (p.passed, item ∷ all.0, refl, p.plain, p.keeps, ends))
 
-  pub stops_at : ((b : List ℕ) (t : ℕ) → IsBytes b → ((m : C.Value) × C.reads b t m)
-      ⊎ ((e : DecodeError) × C.refuses b t e))
+  pub stops_at : ((b : List ℕ) (t : ℕ) → IsBytes b
+      → ((m : C.Value) × C.reads b t m) ⊎ ((e : DecodeError) × C.refuses b t e))
       → (datagram rest next message : List ℕ) (before after : List C.Value) (value : C.Value)
-      → IsBytes datagram
-      → Passing datagram rest before after → StartsWithMessage rest message next
+      → IsBytes datagram → Passing datagram rest before after → StartsWithMessage rest message next
       → ItemIs C message (Ok (inner value)) → DatagramStopped C before datagram after
   stops_at answers datagram rest next message before after value typed p s is =
       let all = items_with C answers datagram rest next message p.passed (Ok (inner value)) typed

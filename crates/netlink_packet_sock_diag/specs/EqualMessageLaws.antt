@@ -10,10 +10,7 @@ use Rattle.sock_diag_attributes.specs.SeenUnix as unix
 use Rattle.sock_diag_records.specs.contracts.inet.exact.InetResponseHeaderExact.TheImpl.Laws.{exact-law as exact_inet}
 use Rattle.sock_diag_records.specs.contracts.unix.response.UnixResponseHeaderExact.TheImpl.Laws.{exact-law as exact_unix}
 use Rattle.netlink_packet_sock_diag.specs.declared.message.SockDiagMessage.{SockDiagMessage}
-use Rattle.netlink_packet_sock_diag.specs.declared.message.SockDiagMessage.TheVariants.{InetRequest}
-use Rattle.netlink_packet_sock_diag.specs.declared.message.SockDiagMessage.TheVariants.{InetResponse}
-use Rattle.netlink_packet_sock_diag.specs.declared.message.SockDiagMessage.TheVariants.{UnixRequest}
-use Rattle.netlink_packet_sock_diag.specs.declared.message.SockDiagMessage.TheVariants.{UnixResponse}
+use Rattle.netlink_packet_sock_diag.specs.declared.message.SockDiagMessage.TheVariants as message
 use Rattle.netlink_packet_sock_diag.specs.contracts.message.SockDiagMessagePartialEq.TheImpl.{ghosts}
 use Rattle.netlink_packet_sock_diag.specs.Message.{MessageKind, inet_request, inet_response}
 use Rattle.netlink_packet_sock_diag.specs.Message.{unix_request, unix_response, codec_of, Message}
@@ -23,7 +20,8 @@ use Rattle.netlink_packet_sock_diag.specs.declared.message.SockDiagView.{SockDia
 use Rattle.netlink_packet_sock_diag.specs.declared.message.SockDiagView.TheVariants as view
 use Rattle.netlink_packet_sock_diag.specs.contracts.message.SockDiagViewPartialEq.TheImpl.{ghosts as views}
 use Rattle.netlink_packet_sock_diag.specs.EqualReplyLaws.{replies_equal}
-use Rattle.netlink_packet_sock_diag.specs.EqualViewLaws.{inet_test_says, unix_test_says}
+use Rattle.netlink_packet_sock_diag.specs.InetReplyLaws.{inet_test_says}
+use Rattle.netlink_packet_sock_diag.specs.UnixReplyLaws.{unix_test_says}
 use Rattle.netlink_packet_sock_diag.specs.Viewed.{viewed}
 use Rattle.netlink_packet_sock_diag.specs.ViewedMessage.{viewed_message}
 
@@ -51,18 +49,16 @@ by_held kind is v w same =
 
 pub message_equal : (v w : SockDiagMessage) → IsTrue (ghosts.eq v w)
     ↔ (seen_message v ≡ seen_message w)
-message_equal (InetRequest a) (InetRequest x) =
+message_equal (message.InetRequest a) (message.InetRequest x) =
     by_held inet_request _ _ _ (exact_inet_request.0 a x)
-message_equal (InetResponse a) (InetResponse x) =
+message_equal (message.InetResponse a) (message.InetResponse x) =
     by_held inet_response _ _ _
-    (replies_equal _ _ (λ h. h) inet.seen_nla exact_inet.0 same_inet
-    a.value.header x.value.header a.value.nlas.items x.value.nlas.items)
-message_equal (UnixRequest a) (UnixRequest x) =
+    (replies_equal (λ h. h) inet.seen_nla exact_inet.0 same_inet a.value x.value)
+message_equal (message.UnixRequest a) (message.UnixRequest x) =
     by_held unix_request _ _ _ (exact_unix_request.0 a x)
-message_equal (UnixResponse a) (UnixResponse x) =
+message_equal (message.UnixResponse a) (message.UnixResponse x) =
     by_held unix_response _ _ _
-    (replies_equal _ _ (λ h. h) unix.seen_nla exact_unix.0 same_unix
-    a.value.header x.value.header a.value.nlas.items x.value.nlas.items)
+    (replies_equal (λ h. h) unix.seen_nla exact_unix.0 same_unix a.value x.value)
 message_equal v w = apart (λ e. let kinds = ap message_kind e in cc)
 
 -- and so are messages that are read in place

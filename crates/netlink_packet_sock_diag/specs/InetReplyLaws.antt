@@ -1,17 +1,22 @@
 -- The laws of replies about IPv4 and IPv6 sockets.
-use Rattle.std.proofs.Common.{◌≡◌, ◌∙◌, ℕ, ◌≤◌, List, ◌++◌, length, slice_index, Ok, ap, arith}
+use Rattle.std.proofs.Common.{◌≡◌, ◌∙◌, ◌↔◌, ℕ, ◌≤◌, List, Bool, IsTrue, ◌++◌, length, slice_index}
+use Rattle.std.proofs.Common.{Ok, ap, arith}
 use Rattle.std.proofs.lemmas.List.{get_or_append_left}
 use Rattle.netlink_core.specs.Format.{read}
 use Rattle.netlink_core.specs.ShownLaws.{ReplyLaws}
-use Rattle.netlink_core.proofs.FormatLaws.{accepted, keeps_laws}
-use Rattle.netlink_core.proofs.Prefixes.{stands_in_front}
+use Rattle.sock_diag_records.specs.contracts.inet.exact.InetResponseHeaderExact.TheImpl.Laws.{exact-law as exact_header}
+use Rattle.sock_diag_records.specs.contracts.inet.response.InetResponseHeaderPartialEq.TheImpl.{ghosts as headers}
 use Rattle.sock_diag_records.specs.declared.inet.response.InetResponseHeader.{InetResponseHeader}
 use Rattle.sock_diag_records.specs.Kinds.{Kinds, kinds_of_family}
 use Rattle.sock_diag_records.specs.InetResponse.{inet_response_header}
 use Rattle.sock_diag_records.specs.Timer.{class_of_byte}
 use Rattle.sock_diag_records.specs.InetResponseLaws.{header_sound, header_size, with_class}
+use Rattle.sock_diag_attributes.specs.EqualInetLaws.{inet_tests}
+use Rattle.sock_diag_attributes.specs.InetAttributes.{inet}
 use Rattle.sock_diag_attributes.specs.InetAttributeLaws.{inet_laws}
-use Rattle.netlink_packet_sock_diag.specs.InetReply.{inet_reply}
+use Rattle.netlink_packet_sock_diag.specs.EqualReplyLaws.{reply_test, reply_test_says}
+use Rattle.netlink_packet_sock_diag.specs.HeaderLaws.{enough, reply_laws}
+use Rattle.netlink_packet_sock_diag.specs.InetReply.{InetReply, inet_reply}
 
 -- bytes behind a header change nothing of what it tells
 goes_on : (tag : Kinds × ℕ) (left rest : List ℕ) → inet_response_header.least ≤ length left
@@ -31,13 +36,15 @@ goes_on tag left rest long e =
 -- a string with a header has all its bytes
 pub header_enough : (b : List ℕ) (h : InetResponseHeader) → read inet_response_header tt b ≡ Ok h
     → 72 ≤ length b
-header_enough b h e = let long = (accepted inet_response_header tt b h e).long in
-    omega (arith, long, header_size.0)
+header_enough = enough inet_response_header header_size
 
 -- the laws of header and attributes
 pub inet_reply_laws : ReplyLaws inet_reply
-inet_reply_laws = record {
-  header = keeps_laws inet_response_header header_sound;
-  in_front = stands_in_front inet_response_header header_sound header_size goes_on;
-  family = inet_laws;
-}
+inet_reply_laws = reply_laws inet_response_header header_size header_sound goes_on inet_laws
+
+-- the test of two replies
+abbrev pub inet_test : InetReply → InetReply → Bool
+inet_test = reply_test headers.eq inet inet_tests
+
+pub inet_test_says : (v w : InetReply) → IsTrue (inet_test v w) ↔ (v ≡ w)
+inet_test_says = reply_test_says headers.eq inet inet_tests exact_header.0

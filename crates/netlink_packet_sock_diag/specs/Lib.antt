@@ -5,15 +5,14 @@ pub mod UnixGetters
 pub mod InetReply
 pub mod InetReplyLaws
 pub mod SeenReply
-pub mod SeenInetReply
 pub mod Message
 pub mod MessageLaws
 pub mod SeenMessage
 pub mod Viewed
 pub mod ViewedMessage
 pub mod EqualReplyLaws
+pub mod HeaderLaws
 pub mod EqualMessageLaws
-pub mod EqualViewLaws
 pub mod Dump
 pub mod Feed
 pub mod SeenDump

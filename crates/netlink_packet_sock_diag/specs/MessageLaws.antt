@@ -1,7 +1,7 @@
 -- The laws of messages.
 use Rattle.std.proofs.Common.{◌≡◌, ◌≢◌, ◌↔◌, ◌∙◌, ℕ, ◌≤◌, ◌==◌, ◌⊎◌, inl, inr, Bool, true, false}
-use Rattle.std.proofs.Common.{if◌then◌else◌, List, length, slice_index, Result, Ok, Err, refl, sym}
-use Rattle.std.proofs.Common.{ap, subst, arith, le-ltb}
+use Rattle.std.proofs.Common.{if◌then◌else◌, List, [], ◌∷◌, length, slice_index, Result, Ok, Err}
+use Rattle.std.proofs.Common.{refl, sym, ap, subst, arith, le-ltb}
 use Rattle.std.specs.Prelude.{◌||◌, not, nat_lt, MatchResult}
 use Rattle.std.proofs.lemmas.Bool.{cases_eq, eqb-true, ne_eqb, not-false}
 use Rattle.netlink_core.specs.Bytes.{IsBytes}
@@ -19,7 +19,7 @@ use Rattle.sock_diag_records.specs.InetResponse.{inet_response_header}
 use Rattle.sock_diag_records.specs.InetRequestLaws.{inet_request_sound}
 use Rattle.sock_diag_records.specs.UnixRequest.{unix_request as unix_request_format}
 use Rattle.sock_diag_records.specs.UnixRequestLaws.{unix_request_sound}
-use Rattle.netlink_packet_sock_diag.specs.InetReply.{InetReply, inet_reply}
+use Rattle.netlink_packet_sock_diag.specs.InetReply.{inet_reply}
 use Rattle.netlink_packet_sock_diag.specs.UnixReply.{unix_reply}
 use Rattle.netlink_packet_sock_diag.specs.InetReplyLaws.{inet_reply_laws}
 use Rattle.netlink_packet_sock_diag.specs.UnixReplyLaws.{unix_reply_laws}
@@ -37,14 +37,10 @@ laws_of unix_response = replies_keep_laws unix_reply unix_reply_laws
 
 -- ---- which kind is told
 
-pub unix_told : (b : List ℕ) (t : ℕ) → 2 ≤ length b → t ≡ 20
-    → slice_index b 0 ≡ 1 → reply_kind b t ≡ Ok unix_response
-unix_told b t long is one = rw (le-ltb (length b) 2 long, is, one) refl
-
-pub inet_told : (b : List ℕ) (t : ℕ) → 2 ≤ length b → t ≡ 20
-    → (slice_index b 0 ≡ 2) ⊎ (slice_index b 0 ≡ 10) → reply_kind b t ≡ Ok inet_response
-inet_told b t long is (inl two) = rw (le-ltb (length b) 2 long, is, two) refl
-inet_told b t long is (inr ten) = rw (le-ltb (length b) 2 long, is, ten) refl
+-- under the type 20 the first byte tells it, as that of two bytes does
+pub first_tells : (b : List ℕ) (t first : ℕ) → 2 ≤ length b → t ≡ 20 → slice_index b 0 ≡ first
+    → reply_kind b t ≡ reply_kind (first ∷ 0 ∷ []) 20
+first_tells b t first long is e = rw (le-ltb (length b) 2 long, is, e) refl
 
 pub type_told : (b : List ℕ) (t : ℕ) → 2 ≤ length b
     → t ≢ 20 → reply_kind b t ≡ Err (UnknownMessageType t)
@@ -170,19 +166,13 @@ reads_normal b t (message_of kind v) tb (told, r) =
 written_bytes : (m : Message) → message_codec.is_typed m → IsBytes (message_codec.written m)
 written_bytes (message_of kind v) typed = (laws_of kind).written_bytes v typed
 
--- an internet reply is written with its family in front
-family_written : (v : InetReply) → (2 ≤ length (reply_bytes inet_reply v))
-    × (slice_index (reply_bytes inet_reply v) 0 ≡ v.header.family)
-unfolding inet_response_header
-family_written v = (omega arith, refl)
-
--- in normal form that is 2 or 10
-family_known : (family : ℕ) (kinds : Kinds) → kinds_of_family family ≡ Ok kinds
-    → (family ≡ 2) ⊎ (family ≡ 10)
-family_known family kinds h = elim (cases_eq family 2) [
-  | inl two ↦ inl two
+-- the family of an internet reply in normal form tells its kind
+inet_told : (family : ℕ) (kinds : Kinds) → kinds_of_family family ≡ Ok kinds
+    → reply_kind (family ∷ 0 ∷ []) 20 ≡ Ok inet_response
+inet_told family kinds h = elim (cases_eq family 2) [
+  | inl two ↦ rw two refl
   | inr other ↦ elim (cases_eq family 10) [
-    | inl ten ↦ inr ten
+    | inl ten ↦ rw ten refl
     | inr neither ↦ let no = rw (ne_eqb family 2 other, ne_eqb family 10 neither) at h in absurd cc
   ]
 ]
@@ -196,11 +186,10 @@ kind_written t (message_of inet_request v) (is, reply, normal) =
 kind_written t (message_of unix_request v) (is, reply, normal) =
     elim reply [ inl other ↦ absurd cc | inr other ↦ absurd cc ]
 kind_written t (message_of inet_response v) (is, reply, normal) =
-    let front = family_written v in
-    inet_told (reply_bytes inet_reply v) t front.0 is
-    (rw front.1 (family_known v.header.family _ normal.0.own.0))
+    first_tells (reply_bytes inet_reply v) t v.header.family (omega arith) is refl
+    ∙ inet_told v.header.family _ normal.0.own.0
 kind_written t (message_of unix_response v) (is, reply, normal) =
-    unix_told (reply_bytes unix_reply v) t (omega arith) is refl
+    first_tells (reply_bytes unix_reply v) t 1 (omega arith) is refl
 
 reads_back : (t : ℕ) (m : Message) → message_codec.is_typed m → message_codec.is_normal t m
     → message_codec.fits m
@@ -224,8 +213,8 @@ message_laws = record {
 
 -- a message is written as two bytes and more
 pub length-message_bytes : (m : Message) → 2 ≤ length (message_codec.written m)
-unfolding inet_request_format
+unfolding inet_request_format inet_response_header
 length-message_bytes (message_of inet_request v) = omega arith
+length-message_bytes (message_of inet_response v) = omega arith
 length-message_bytes (message_of unix_request v) = omega arith
-length-message_bytes (message_of inet_response v) = (family_written v).0
 length-message_bytes (message_of unix_response v) = omega arith

@@ -4,9 +4,73 @@ ghost use Rattle.netlink_packet_sock_diag.specs.Message.{message_codec};
 ghost use Rattle.netlink_packet_sock_diag.specs.MessageLaws.{message_laws};
 ghost use Rattle.netlink_packet_sock_diag.specs.SeenMessage.{seen_message, seen_destroy};
 ghost use Rattle.netlink_packet_sock_diag.specs.EqualMessageLaws.{message_equal};
+ghost use Rattle.netlink_packet_sock_diag.specs.ViewedMessage.{viewed_message};
 
-use crate::message::{SockDiagDestroy, SockDiagMessage};
-use netlink_core::Coded;
+use crate::message::{SockDiagDestroy, SockDiagMessage, SockDiagView};
+use netlink_core::{Coded, Emitable};
+
+/// An answer of what a message holds, whatever its kind.
+macro_rules! held {
+    ($message:expr, $held:ident => $answer:expr) => {
+        match $message {
+            SockDiagMessage::InetRequest($held) => $answer,
+            SockDiagMessage::InetResponse($held) => $answer,
+            SockDiagMessage::UnixRequest($held) => $answer,
+            SockDiagMessage::UnixResponse($held) => $answer,
+        }
+    };
+}
+
+/// The same of a message that is read in place.
+macro_rules! lent {
+    ($message:expr, $reply:ident => $answer:expr) => {
+        match $message {
+            SockDiagView::InetResponse($reply) => $answer,
+            SockDiagView::UnixResponse($reply) => $answer,
+        }
+    };
+}
+
+impl Emitable for SockDiagMessage {
+    ghost bytes = { λ v. message_codec.written (seen_message v) };
+
+    ghost writable = { λ v. message_codec.fits (seen_message v) };
+
+    fn is_writable(&self) -> bool {
+        held!(self, held => held.is_writable())
+    }
+
+    fn buffer_len(&self) -> usize {
+        held!(self, held => held.buffer_len())
+    }
+
+    fn emit(&self, buffer: &mut [u8]) {
+        held!(self, held => held.emit(buffer))
+    }
+}
+
+/// Writes the bytes of the message's canonical form, and takes no memory.
+impl Emitable for SockDiagView<'_> {
+    ghost bytes = { λ v. message_codec.written (viewed_message v) };
+
+    ghost writable = { λ v. message_codec.fits (viewed_message v) };
+
+    fn is_writable(&self) -> bool {
+        lent!(self, reply => reply.is_writable())
+    }
+
+    fn buffer_len(&self) -> usize {
+        lent!(self, reply => reply.buffer_len())
+    }
+
+    fn writable_len(&self) -> Option<usize> {
+        lent!(self, reply => reply.writable_len())
+    }
+
+    fn emit(&self, buffer: &mut [u8]) {
+        lent!(self, reply => reply.emit(buffer))
+    }
+}
 
 impl Coded for SockDiagMessage {
     type Param = u16;
@@ -18,12 +82,7 @@ impl Coded for SockDiagMessage {
     ghost type_written = { λ _. 20 };
 
     fn typed(&self) {
-        match self {
-            SockDiagMessage::InetRequest(request) => request.typed(),
-            SockDiagMessage::InetResponse(reply) => reply.typed(),
-            SockDiagMessage::UnixRequest(request) => request.typed(),
-            SockDiagMessage::UnixResponse(reply) => reply.typed(),
-        }
+        held!(self, held => held.typed())
     }
 
     ghost eq_is_seen = { message_equal };

@@ -160,43 +160,6 @@ impl<'a> SockDiagView<'a> {
     }
 }
 
-/// Writes the bytes of the message's canonical form, and takes no memory.
-impl Emitable for SockDiagView<'_> {
-    ghost use Rattle.netlink_packet_sock_diag.specs.ViewedMessage.{viewed_message};
-
-    ghost bytes = { λ v. message_codec.written (viewed_message v) };
-
-    ghost writable = { λ v. message_codec.fits (viewed_message v) };
-
-    fn is_writable(&self) -> bool {
-        match self {
-            SockDiagView::InetResponse(reply) => reply.is_writable(),
-            SockDiagView::UnixResponse(reply) => reply.is_writable(),
-        }
-    }
-
-    fn buffer_len(&self) -> usize {
-        match self {
-            SockDiagView::InetResponse(reply) => reply.buffer_len(),
-            SockDiagView::UnixResponse(reply) => reply.buffer_len(),
-        }
-    }
-
-    fn writable_len(&self) -> Option<usize> {
-        match self {
-            SockDiagView::InetResponse(reply) => reply.writable_len(),
-            SockDiagView::UnixResponse(reply) => reply.writable_len(),
-        }
-    }
-
-    fn emit(&self, buffer: &mut [u8]) {
-        match self {
-            SockDiagView::InetResponse(reply) => reply.emit(buffer),
-            SockDiagView::UnixResponse(reply) => reply.emit(buffer),
-        }
-    }
-}
-
 impl Readable for SockDiagMessage {
     const TAKES_MEMORY: bool = true;
 
@@ -214,40 +177,6 @@ impl<'a> ParseableParametrized<&'a [u8], u16> for SockDiagMessage {
         message_type: u16,
     ) -> Result<Self, DecodeError> {
         SockDiagMessage::read_under(alloc, payload, message_type)
-    }
-}
-
-impl Emitable for SockDiagMessage {
-    ghost use Rattle.netlink_packet_sock_diag.specs.SeenMessage.{seen_message};
-
-    ghost bytes = { λ v. message_codec.written (seen_message v) };
-
-    ghost writable = { λ v. message_codec.fits (seen_message v) };
-
-    fn is_writable(&self) -> bool {
-        match self {
-            SockDiagMessage::InetResponse(reply) => reply.is_writable(),
-            SockDiagMessage::UnixResponse(reply) => reply.is_writable(),
-            SockDiagMessage::InetRequest(_) | SockDiagMessage::UnixRequest(_) => true,
-        }
-    }
-
-    fn buffer_len(&self) -> usize {
-        match self {
-            SockDiagMessage::InetRequest(request) => request.buffer_len(),
-            SockDiagMessage::InetResponse(reply) => reply.buffer_len(),
-            SockDiagMessage::UnixRequest(request) => request.buffer_len(),
-            SockDiagMessage::UnixResponse(reply) => reply.buffer_len(),
-        }
-    }
-
-    fn emit(&self, buffer: &mut [u8]) {
-        match self {
-            SockDiagMessage::InetRequest(request) => request.emit(buffer),
-            SockDiagMessage::InetResponse(reply) => reply.emit(buffer),
-            SockDiagMessage::UnixRequest(request) => request.emit(buffer),
-            SockDiagMessage::UnixResponse(reply) => reply.emit(buffer),
-        }
     }
 }
 

@@ -11,7 +11,6 @@ ghost use Rattle.netlink_core.specs.Family.{says, attribute_said, IsSpareSaid};
 ghost use Rattle.netlink_core.specs.Reply.{reply_bytes, reply_codec};
 ghost use Rattle.attribute_lists.specs.AttributesIn.{HasNoFault, reply_behind, reply_with};
 ghost use Rattle.attribute_lists.specs.AttributesIn.{values_in};
-ghost use Rattle.netlink_packet_sock_diag.specs.EqualReplyLaws.{replies_equal};
 
 use crate::reply::{emit_reply, fitting_reply_len, reply_len, without_memory};
 use crate::view::{ReplyHeader, ReplyView};
@@ -203,6 +202,7 @@ impl<H: ReplyOwned> Emitable for Reply<H, H::Nla> {
 }
 
 impl<H: ReplyOwned> Coded for Reply<H, H::Nla> {
+    ghost use Rattle.netlink_packet_sock_diag.specs.EqualReplyLaws.{replies_equal};
     ghost use Rattle.netlink_packet_sock_diag.specs.SeenReply.{seen_reply};
 
     type Param = ();
@@ -218,9 +218,8 @@ impl<H: ReplyOwned> Coded for Reply<H, H::Nla> {
         nlas_typed(self.nlas.as_slice());
     }
 
-    ghost eq_is_seen = { λ v w. replies_equal _ _ H.told H.Nla.FamilyNla.seen
-        H.ReplyOwned.eq_is_seen
-        H.Nla.FamilyNla.eq_is_seen v.header w.header v.nlas.items w.nlas.items };
+    ghost eq_is_seen = { replies_equal H.told H.Nla.FamilyNla.seen H.ReplyOwned.eq_is_seen
+        H.Nla.FamilyNla.eq_is_seen };
 
     ghost laws = { H.ReplyOwned.keeps };
 }

@@ -2,12 +2,10 @@
 
 mod getters;
 pub mod nlas;
-mod response;
-mod view;
+mod reply;
 mod view_getters;
 
-pub use response::UnixResponse;
+pub use reply::{UnixResponse, UnixResponseView};
 pub use sock_diag_records::unix::{
     ShowFlags, StateFlags, UnixRequest, UnixRequestBuffer, UnixResponseBuffer, UnixResponseHeader,
 };
-pub use view::UnixResponseView;

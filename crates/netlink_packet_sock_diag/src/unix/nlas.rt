@@ -1,6 +1,6 @@
 //! The attributes of a reply about a UNIX socket, and what they carry.
 
-pub use crate::unix::view::NlaViews;
+pub use crate::unix::reply::NlaViews;
 pub use sock_diag_attributes::unix::nlas::{
     MemInfo, MemInfoBuffer, NameView, Nla, NlaView, NumbersIterator, NumbersView, UnixDiagName,
     Vfs, VfsBuffer,

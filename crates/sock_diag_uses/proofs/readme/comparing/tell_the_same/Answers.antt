@@ -1,9 +1,8 @@
 use Rattle.std.proofs.Common.{arith, inr}
 use Rattle.std.proofs.lemmas.Result.{err_from_is_err_and}
 use Rattle.netlink_packet_sock_diag.specs.Viewed.{viewed}
-use Rattle.netlink_packet_sock_diag.specs.EqualViewLaws.{unix_test_says}
 use Rattle.netlink_packet_sock_diag.specs.UnixReply.{unix_reply}
-use Rattle.netlink_packet_sock_diag.specs.UnixReplyLaws.{unix_reply_laws}
+use Rattle.netlink_packet_sock_diag.specs.UnixReplyLaws.{unix_reply_laws, unix_test_says}
 use Rattle.netlink_core.proofs.Replies.{replies_keep_laws}
 use Rattle.sock_diag_uses.proofs.readme.comparing.tell_the_same.Goals as goal
 

@@ -1,28 +1,39 @@
-//! The reply about one UNIX socket, read in place.
+//! The reply about one UNIX socket, with memory of its own and read in place.
 
 ghost use Rattle.std.specs.Prelude.{refl};
-ghost use Rattle.netlink_core.specs.Walk.{attribute_of};
 ghost use Rattle.netlink_core.proofs.Replies.{replies_keep_laws};
-ghost use Rattle.sock_diag_attributes.specs.UnixAttributes.{unix};
-ghost use Rattle.sock_diag_attributes.specs.EqualUnixLaws.{unix_tests, tests, viewed_lists};
-ghost use Rattle.sock_diag_attributes.specs.EqualUnixLaws.{viewed_names};
-ghost use Rattle.sock_diag_attributes.specs.LentLaws.{buffer_row, name_view_row, numbers_row};
-ghost use Rattle.sock_diag_attributes.specs.SeenName.{viewed_name};
-ghost use Rattle.sock_diag_attributes.specs.SeenNumbers.{viewed_numbers};
-ghost use Rattle.sock_diag_attributes.specs.SeenUnix.{viewed_nla};
-ghost use Rattle.netlink_packet_sock_diag.specs.EqualViewLaws.{unix_test, unix_test_says};
 ghost use Rattle.netlink_packet_sock_diag.specs.UnixReply.{unix_reply};
 ghost use Rattle.netlink_packet_sock_diag.specs.UnixReplyLaws.{header_enough, unix_reply_laws};
+ghost use Rattle.netlink_packet_sock_diag.specs.UnixReplyLaws.{unix_test, unix_test_says};
+ghost use Rattle.sock_diag_records.specs.contracts.unix.response.UnixResponseHeaderExact.TheImpl.Laws.{exact-law as exact_header};
 
 use crate::reply::{emit_viewed_reply, same_views, viewed_reply_len};
+use crate::response::{Reply, ReplyOwned};
 use crate::unix::UnixResponseHeader;
-use crate::unix::nlas::NlaView;
+use crate::unix::nlas::{Nla, NlaView};
 use crate::view::{AttributeViews, ReplyHeader, ReplyView, ReplyViews};
 use attribute_lists::check_nlas;
-use netlink_core::DecodeError;
+use netlink_core::{Coded, DecodeError};
 
 /// The number of bytes of the header.
 const LENGTH: usize = 16;
+
+/// The reply about one UNIX socket: the header, and the attributes that were asked for, in
+/// the order that they came.
+///
+/// Of `parse`, fewer than 16 bytes are `BufferTooSmall`; after that the first fault of the
+/// attributes counts.
+pub type UnixResponse = Reply<UnixResponseHeader, Nla>;
+
+/// The attributes of a reply about a UNIX socket, read in place, in the order that they came.
+pub type NlaViews<'a> = AttributeViews<'a, UnixResponseHeader>;
+
+/// The reply about one UNIX socket, read in place: a
+/// [`UnixResponse`](super::UnixResponse) whose bytes are borrowed.
+///
+/// Of `parse`, fewer than 16 bytes are `BufferTooSmall`; else the first fault of an attribute is
+/// told.
+pub type UnixResponseView<'a> = ReplyView<'a, UnixResponseHeader>;
 
 impl ReplyHeader for UnixResponseHeader {
     const VIEW: &'static str = "UnixResponseView";
@@ -75,12 +86,22 @@ impl<'a> ReplyViews<'a> for UnixResponseHeader {
     ghost same = { (λ _. (λ h. h, λ h. h), λ _. refl) };
 }
 
-/// The attributes of a reply about a UNIX socket, read in place, in the order that they came.
-pub type NlaViews<'a> = AttributeViews<'a, UnixResponseHeader>;
+impl ReplyOwned for UnixResponseHeader {
+    type Nla = Nla;
 
-/// The reply about one UNIX socket, read in place: a
-/// [`UnixResponse`](super::UnixResponse) whose bytes are borrowed.
-///
-/// Of `parse`, fewer than 16 bytes are `BufferTooSmall`; else the first fault of an attribute is
-/// told.
-pub type UnixResponseView<'a> = ReplyView<'a, UnixResponseHeader>;
+    const REPLY: &'static str = "UnixResponse";
+
+    fn told_typed(&self) {
+        self.typed();
+    }
+
+    ghost eq_is_seen = { exact_header.0 };
+
+    ghost written = { λ _. refl };
+
+    ghost fits = { λ _. tt };
+
+    ghost same = { (λ _ _ h. h, λ _ h. h, λ _. refl, λ _. refl) };
+
+    ghost keeps = { replies_keep_laws unix_reply unix_reply_laws };
+}
