@@ -25,11 +25,20 @@ are_whole bytes values means = (means.0, means.1)
 -- so each fault is one of the framing
 pub are_cut_off : (bytes : List ℕ) (e : DecodeError) → AttributeFault itself bytes e
     → AreCutOff bytes e
-are_cut_off bytes e (given, (before, after, parts, cut, some, fault), read) =
-    (given, (before, after, parts, cut, some, elim fault [
+are_cut_off bytes e (given, (before, after, parts, cut, some, fault), read) = (
+  given,
+  (
+    before,
+    after,
+    parts,
+    cut,
+    some,
+    elim fault [
       | inl framing ↦ framing
       | inr refused ↦ absurd cc
-    ]))
+    ],
+  ),
+)
 
 -- ---- lengths
 

@@ -6,5 +6,10 @@ pub returns : goal.returns
 returns c =
     let request = c.args.self.now.request.now in
     let attributes = c.args.self.now.attributes.now in
-    omega (arith, c.front_len.ensures.all, c.padded.ensures, message_length request attributes,
-    behind_length request attributes)
+    omega (
+      arith,
+      c.front_len.ensures.all,
+      c.padded.ensures,
+      message_length request attributes,
+      behind_length request attributes,
+    )
