@@ -55,7 +55,7 @@
 //! |---|---|
 //! | `UnixResponse`, `InetResponse` | [`unix::UnixReply`], [`inet::InetReply`]: they borrow the bytes |
 //! | a list `nlas` of an enum `Nla` | `nlas()`, a walk that gives an enum of the same variants, which borrow; getters for all but the memory of internet sockets; [`Attributes`], by kind and bytes |
-//! | `pending_connections`, `Option<&[u32]>` | a walk over the inodes |
+//! | `pending_connections`, `Option<&[u32]>` | a walk over the inodes, also empty where none are told |
 //! | `NetlinkMessage::deserialize`, of one message | [`Dump`], over all of a datagram |
 //! | `NetlinkPayload::Error(ErrorMessage)` | `Error(Option<i32>)`: 0, or `-errno` |
 //! | `finalize()` and `serialize(..)` of a message | `to_message` of a request |
