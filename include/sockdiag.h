@@ -390,7 +390,8 @@ struct sockdiag_inet_request {
     uint8_t cookie[8];               /* tells the socket from others; eight times 0xff is INET_DIAG_NOCOOKIE */
 };
 
-/* How many bytes a request has, and the most that one for internet sockets has: 72 where its protocol is below 256. */
+/* How many bytes a request has, and the most that one for internet sockets has without attributes of yours: 72 where its
+ * protocol is below 256. */
 #define SOCKDIAG_UNIX_REQUEST_LENGTH 40
 #define SOCKDIAG_INET_REQUEST_LENGTH 80
 
