@@ -1,6 +1,6 @@
 /*
  * Lists the sockets that the kernel tells: one line for each UNIX socket, and for each TCP, UDP and MPTCP socket over IPv4
- * and IPv6.
+ * and IPv6. With an argument, a port, those alone that have it at this end.
  *
  * Each kind is asked for by one request to NETLINK_SOCK_DIAG, as sock_diag(7) shows. Replies are read in the buffer that
  * recv(2) filled. It is C99, and C++ too.
@@ -9,11 +9,13 @@
 
 #include <arpa/inet.h>
 #include <errno.h>
+#include <linux/inet_diag.h>
 #include <linux/netlink.h>
 #include <linux/sock_diag.h>
 #include <linux/unix_diag.h>
 #include <netinet/in.h>
 #include <stdio.h>
+#include <stdlib.h>
 #include <string.h>
 #include <sys/socket.h>
 #include <unistd.h>
@@ -157,31 +159,65 @@ static int list_unix(int fd) {
     return list(fd, "unix", bytes, sockdiag_write_unix_request(&request, bytes, sizeof bytes));
 }
 
-static int list_inet(int fd, const char *name, uint32_t protocol, uint8_t extensions) {
+/* A filter, INET_DIAG_REQ_BYTECODE: two steps, each with a number behind it. */
+struct port_filter {
+    struct nlattr head;
+    struct inet_diag_bc_op steps[4];
+};
+
+/* The filter for a port of this end. A step tells how far the next is where it holds, and else, which is past the end. */
+static struct port_filter filter_of(uint16_t port) {
+    const struct port_filter filter = {
+        {sizeof(struct port_filter), INET_DIAG_REQ_BYTECODE},
+        {{INET_DIAG_BC_S_GE, 8, 20}, {0, 0, port}, {INET_DIAG_BC_S_LE, 8, 12}, {0, 0, port}},
+    };
+    return filter;
+}
+
+/* Lists the sockets of a protocol, or of those with a port that isn't 0. */
+static int list_inet(int fd, const char *name, uint32_t protocol, uint8_t extensions, uint16_t port) {
     static const uint8_t families[2] = {AF_INET, AF_INET6};
-    uint8_t bytes[SOCKDIAG_INET_REQUEST_LENGTH];
+    const struct port_filter filter = filter_of(port);
+    const size_t filter_length = port != 0 ? sizeof filter : 0;
+    uint8_t bytes[SOCKDIAG_INET_REQUEST_LENGTH + sizeof filter];
     struct sockdiag_inet_request request;
+    struct sockdiag_outcome outcome;
     int place, failed = 0;
     memset(&request, 0, sizeof request);
+    memset(&outcome, 0, sizeof outcome);
     request.header.flags = NLM_F_REQUEST | NLM_F_DUMP;
     request.protocol = protocol;
     request.extensions = extensions;
     request.states = UINT32_MAX;
     for (place = 0; place < 2; place++) {
+        size_t length;
         request.family = families[place];
-        failed |= list(fd, name, bytes, sockdiag_write_inet_request(&request, bytes, sizeof bytes));
+        length = sockdiag_write_inet_request_with_attributes(&request, (const uint8_t *)&filter, filter_length, bytes,
+                                                             sizeof bytes, &outcome);
+        failed |= list(fd, name, bytes, length);
     }
     return failed;
 }
 
-int main(void) {
-    int failed, fd = socket(AF_NETLINK, SOCK_DGRAM | SOCK_CLOEXEC, NETLINK_SOCK_DIAG);
+/* The port that an argument names, or 0. */
+static uint16_t port_of(const char *argument) {
+    char *end;
+    const unsigned long port = strtoul(argument, &end, 10);
+    return *end == '\0' && port <= UINT16_MAX ? (uint16_t)port : 0;
+}
+
+int main(int argc, char **argv) {
+    const uint16_t port = argc == 2 ? port_of(argv[1]) : 0;
+    int failed, fd;
+    if (argc > 2 || (argc == 2 && port == 0))
+        return fputs("usage: list_sockets [PORT]\n", stderr), 2;
+    fd = socket(AF_NETLINK, SOCK_DGRAM | SOCK_CLOEXEC, NETLINK_SOCK_DIAG);
     if (fd < 0)
         return fail("socket"), 1;
-    failed = list_unix(fd);
-    failed |= list_inet(fd, "tcp", IPPROTO_TCP, WITH_INFO | WITH_CONGESTION);
-    failed |= list_inet(fd, "udp", IPPROTO_UDP, 0);
-    failed |= list_inet(fd, "mptcp", PROTOCOL_MPTCP, 0);
+    failed = port == 0 ? list_unix(fd) : 0;
+    failed |= list_inet(fd, "tcp", IPPROTO_TCP, WITH_INFO | WITH_CONGESTION, port);
+    failed |= list_inet(fd, "udp", IPPROTO_UDP, 0, port);
+    failed |= list_inet(fd, "mptcp", PROTOCOL_MPTCP, 0, port);
     close(fd);
     if (fflush(stdout) != 0)
         return fail("standard output"), 1;

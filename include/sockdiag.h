@@ -390,7 +390,8 @@ struct sockdiag_inet_request {
     uint8_t cookie[8];               /* tells the socket from others; eight times 0xff is INET_DIAG_NOCOOKIE */
 };
 
-/* How many bytes a request has, and the most that one for internet sockets has: 72 where its protocol is below 256. */
+/* How many bytes a request has, and the most that one for internet sockets has without attributes of yours: 72 where its
+ * protocol is below 256. */
 #define SOCKDIAG_UNIX_REQUEST_LENGTH 40
 #define SOCKDIAG_INET_REQUEST_LENGTH 80
 
@@ -410,13 +411,26 @@ size_t sockdiag_write_inet_request(const struct sockdiag_inet_request *request, 
 size_t sockdiag_write_unix_destroy(const struct sockdiag_unix_request *request, uint8_t *buffer, size_t length);
 size_t sockdiag_write_inet_destroy(const struct sockdiag_inet_request *request, uint8_t *buffer, size_t length);
 
-/* ---- the canonical form */
-
-/* How a reply was rewritten. */
+/* What became of bytes that were given to be written. */
 struct sockdiag_outcome {
-    uint32_t fault; /* the first fault's number where the reply is refused, else 0 */
-    size_t needed;  /* how many bytes the canonical form has; 0 where the reply is refused, or can't be written */
+    uint32_t fault; /* the first fault's number where they are refused, else 0 */
+    size_t needed;  /* how many bytes are to be written; 0 where the given ones are refused, or can't be written */
 };
+
+/*
+ * Write the request for internet sockets, and behind it attributes that the caller gives, with zeros up to a multiple of 4:
+ * the bytecode of a filter, INET_DIAG_REQ_BYTECODE of linux/inet_diag.h, which the kernel runs over each socket. The bytes
+ * have to be whole attributes one after the other; what they say isn't looked at.
+ *
+ * The answer is how many bytes were written. It is 0 where nothing was: the attributes are refused, and fault tells why, 7
+ * to 9; or the family is neither AF_INET nor AF_INET6, or all together is longer than a length word counts, and fault and
+ * needed are 0; or the buffer is shorter than needed, which tells how many bytes it has to have. *outcome is set in any case.
+ */
+size_t sockdiag_write_inet_request_with_attributes(const struct sockdiag_inet_request *request, const uint8_t *attributes,
+                                                   size_t length, uint8_t *buffer, size_t buffer_length,
+                                                   struct sockdiag_outcome *outcome);
+
+/* ---- the canonical form */
 
 /*
  * Write the canonical form of a reply at the front of the buffer, and leave what stands behind it: one string for all

@@ -284,6 +284,30 @@ static void writes_inet_request(void) {
     check(sockdiag_write_inet_request(&request, buffer, 72) == 0, "a request of another family");
 }
 
+static void writes_filtered_request(void) {
+    static const uint8_t filter[13] = {8, 0, 1, 0, 1, 2, 3, 4, 5, 0, 2, 0, 9};
+    struct sockdiag_inet_request request;
+    struct sockdiag_outcome outcome = {9, 9};
+    uint8_t plain[80], buffer[100];
+    memset(&request, 0, sizeof request);
+    memset(buffer, 0xaa, sizeof buffer);
+    request.family = 10;
+    request.protocol = 262;
+    check(sockdiag_write_inet_request(&request, plain, sizeof plain) == 80, "a request without attributes");
+    check(sockdiag_write_inet_request_with_attributes(&request, filter, 13, buffer, 95, &outcome) == 0, "a short buffer");
+    check(outcome.fault == 0 && outcome.needed == 96 && buffer[0] == 0xaa, "how many bytes a filtered request needs");
+    check(sockdiag_write_inet_request_with_attributes(&request, filter, 13, buffer, 100, &outcome) == 96, "a filter");
+    check(buffer[0] == 96 && memcmp(buffer + 1, plain + 1, 79) == 0, "the request in front of a filter");
+    check(memcmp(buffer + 80, filter, 13) == 0 && memcmp(buffer + 93, "\0\0\0\xaa", 4) == 0, "a filter and its padding");
+    check(sockdiag_write_inet_request_with_attributes(&request, filter, 11, buffer, 100, &outcome) == 0, "a cut filter");
+    check(outcome.fault == SOCKDIAG_ATTRIBUTE_HEADER_CUT && outcome.needed == 0, "why a filter is refused");
+    check(sockdiag_write_inet_request_with_attributes(&request, NULL, 0, buffer, 80, &outcome) == 80, "no attributes");
+    check(memcmp(buffer, plain, 80) == 0, "a request with no attributes");
+    request.family = 1;
+    check(sockdiag_write_inet_request_with_attributes(&request, filter, 13, buffer, 100, &outcome) == 0, "a family");
+    check(outcome.fault == 0 && outcome.needed == 0, "another family can't be asked for");
+}
+
 static void rewrites_unix_reply(void) {
     uint8_t want[36], buffer[40];
     struct sockdiag_outcome outcome;
@@ -325,6 +349,7 @@ int main(void) {
     walks_messages();
     writes_unix_request();
     writes_inet_request();
+    writes_filtered_request();
     rewrites_unix_reply();
     rewrites_inet_reply();
     if (failures == 0)

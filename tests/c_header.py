@@ -5,7 +5,8 @@ From the Rattle source follow the header's structs, field by field in order, its
 numbers. Where there is a C compiler, `$CC` or `cc`, each field has to stand at its place there, and
 the header has to fit the calls in C too: what calls it is compiled. Where the library takes seconds
 to build, since those below it are built here and its own proof is kept, tests/c_face.sh builds it
-and runs the calls. Each part that is left out is told.
+and runs the calls, and tests/rust_face.sh those of rust/sockdiag. Each part that is left out is
+told.
 """
 
 import difflib
@@ -18,6 +19,7 @@ from pathlib import Path
 
 TOP = Path(__file__).resolve().parent.parent
 HEADER = TOP / "include" / "sockdiag.h"
+RUST = TOP / "rust" / "sockdiag"
 # The header's numbers, but those of the faults, by the file and the name of the constant, or words
 # of a contract in front of the number.
 NUMBERS = {
@@ -223,7 +225,20 @@ def call():
     if not is_soon_built():
         print("the calls from C are compiled and not run: tests/c_face.sh runs them")
         return 0
-    return subprocess.run([TOP / "tests" / "c_face.sh"]).returncode
+    return subprocess.run([TOP / "tests" / "c_face.sh"]).returncode or call_from_rust()
+
+
+def call_from_rust():
+    """Runs the tests of rust/sockdiag, where there is a cargo that takes it, and a linker `cc`."""
+    asked = re.search(r'rust-version = "(\d+)\.(\d+)"', (RUST / "Cargo.toml").read_text())
+    told = ""
+    if shutil.which("cargo") and shutil.which("cc"):
+        told = subprocess.run(["cargo", "--version"], stdout=subprocess.PIPE, text=True).stdout
+    version = re.match(r"cargo (\d+)\.(\d+)", told)
+    if not version or tuple(map(int, version.groups())) < tuple(map(int, asked.groups())):
+        print("no cargo that takes rust/sockdiag: its tests aren't run")
+        return 0
+    return subprocess.run([TOP / "tests" / "rust_face.sh"]).returncode
 
 
 def main():

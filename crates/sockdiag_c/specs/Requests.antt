@@ -1,12 +1,13 @@
 -- The requests that C asks to be written.
 use Rattle.std.specs.Prelude.{◌≡◌, ℕ, ◌+◌, ◌%◌, ◌<◌, ◌≤◌, ◌==◌, nat_lt, if◌then◌else◌, List, []}
-use Rattle.std.specs.Prelude.{◌∷◌, ◌++◌, length, drop, slice_index}
+use Rattle.std.specs.Prelude.{◌∷◌, ◌++◌, ◌⊎◌, length, drop, replicate, slice_index}
 use Rattle.byteorder.specs.Endian.{little_bytes}
 use Rattle.std.specs.declared.net.ip_addr.IpAddr.{IpAddr}
 use Rattle.std.specs.declared.net.ip_addr.IpAddr.TheVariants.{V4, V6}
 use Rattle.std.specs.Net.Addr.{segments_of}
 use Rattle.netlink_core.specs.declared.header.NetlinkHeader.{NetlinkHeader}
-use Rattle.netlink_core.specs.Attribute.{written}
+use Rattle.netlink_core.specs.Attribute.{Attribute, CutOff, IsFramingFault, fill, written}
+use Rattle.netlink_core.specs.declared.fault.DecodeError.{DecodeError}
 use Rattle.netlink_core.specs.Format.{bytes}
 use Rattle.netlink_core.specs.Header.{header_bytes}
 use Rattle.sock_diag_records.specs.InetRequest.{inet_request}
@@ -80,3 +81,28 @@ abbrev pub WritesWhole : ℕ → List ℕ → List ℕ → List ℕ → ℕ → 
 WritesWhole len all old new answer =
     (len ≤ length old → (answer ≡ len) × (new ≡ all ++ drop len old))
     × (length old < len → (answer ≡ 0) × (new ≡ old))
+
+-- ---- requests with attributes of the caller's
+
+-- zeros up to a multiple of four
+abbrev pub with_padding : List ℕ → List ℕ
+with_padding attributes = attributes ++ replicate (fill (length attributes)) 0
+
+-- what stands behind the record: the protocol where it is above 255, and the attributes
+abbrev pub behind_record : InetRequest → List ℕ → List ℕ
+behind_record r attributes = protocol_attribute r.protocol ++ with_padding attributes
+
+-- a request under the type 20, and the attributes
+abbrev pub filtered_message : InetRequest → List ℕ → List ℕ
+filtered_message r attributes =
+    header_bytes (header_of (72 + length (behind_record r attributes)) 20 r.header)
+    ++ bytes inet_request (inet_request_of r) ++ behind_record r attributes
+
+-- the family is AF_INET, 2, or AF_INET6, 10, and a word of 32 bits counts the whole
+abbrev pub HasRoomForLength : InetRequest → List ℕ → Type 0
+HasRoomForLength r attributes =
+    ((r.family ≡ 2) ⊎ (r.family ≡ 10)) × (72 + length (behind_record r attributes) ≤ 4294967295)
+
+-- some attributes come first, and then the fault of the framing
+abbrev pub AreCutOff : List ℕ → DecodeError → Type 0
+AreCutOff bytes e = (given : List Attribute) × CutOff IsFramingFault bytes given e

@@ -6,6 +6,7 @@
 
 mod check;
 mod details;
+mod filters;
 mod headers;
 mod inet_details;
 pub mod laws;

@@ -139,7 +139,7 @@ fn write_unix(message_type: u16, request: &UnixRequest, buffer: &mut [u8]) -> us
 }
 
 // Writes a request for IPv4 or IPv6 sockets under the type.
-fn write_inet(message_type: u16, request: &InetRequest, buffer: &mut [u8]) -> usize
+pub(crate) fn write_inet(message_type: u16, request: &InetRequest, buffer: &mut [u8]) -> usize
     ensures written { (request.now.family ≡ 2) ⊎ (request.now.family ≡ 10)
         → WritesWhole (72 + length (protocol_attribute request.now.protocol))
         (inet_message message_type request.now) buffer.old buffer.new result }

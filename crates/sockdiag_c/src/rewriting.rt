@@ -11,13 +11,14 @@ use netlink_core::{DecodeError, Emitable};
 use netlink_packet_sock_diag::inet::InetResponseView;
 use netlink_packet_sock_diag::unix::UnixResponseView;
 
-/// How a reply was rewritten: `struct sockdiag_outcome` of `include/sockdiag.h`.
+/// What became of bytes that were given to be written: `struct sockdiag_outcome` of
+/// `include/sockdiag.h`.
 #[repr(C)]
 #[derive(Clone, Copy)]
 pub struct Outcome {
-    /// The number of the first fault of a reply that is refused, else 0.
+    /// The number of the first fault where they are refused, else 0.
     pub fault: u32,
-    /// How many bytes the canonical form has, or 0 where the reply is refused or can't be written.
+    /// How many bytes are to be written, or 0 where the given ones are refused or can't be written.
     pub needed: usize,
 }
 
@@ -62,7 +63,7 @@ pub extern "C" fn sockdiag_rewrite_inet_reply(
 }
 
 // Writes the value, where it can be written and there is room for it.
-fn write_value<V: Emitable>(value: &V, buffer: &mut [u8], outcome: &mut Outcome) -> usize
+pub(crate) fn write_value<V: Emitable>(value: &V, buffer: &mut [u8], outcome: &mut Outcome) -> usize
     ensures { Writes (V.writable value.now) (V.bytes value.now) buffer.old buffer.new outcome.new
         result }
 {
@@ -82,7 +83,7 @@ fn write_value<V: Emitable>(value: &V, buffer: &mut [u8], outcome: &mut Outcome)
 }
 
 // Tells the fault. Nothing is written.
-fn refuse(fault: &DecodeError, outcome: &mut Outcome) -> usize
+pub(crate) fn refuse(fault: &DecodeError, outcome: &mut Outcome) -> usize
     ensures outcome { outcome.new ≡ outcome_of (number_of fault.now) 0 }
     ensures none { result ≡ 0 }
 {

@@ -65,3 +65,33 @@ impl<'a> Iterator for Attributes<'a> {
 }
 
 impl core::iter::FusedIterator for Attributes<'_> {}
+
+/// The number at a place in a row of words, the low byte first.
+pub(crate) fn word(bytes: &[u8], place: usize) -> Option<u32> {
+    let bytes = bytes.get(4 * place..)?.first_chunk()?;
+    Some(u32::from_le_bytes(*bytes))
+}
+
+/// A walk over numbers that stand one after the other, each in four bytes.
+#[derive(Clone, Copy, Debug, PartialEq, Eq)]
+pub struct Numbers<'a> {
+    bytes: &'a [u8],
+}
+
+impl<'a> Numbers<'a> {
+    pub(crate) fn new(bytes: &'a [u8]) -> Self {
+        Numbers { bytes }
+    }
+}
+
+impl Iterator for Numbers<'_> {
+    type Item = u32;
+
+    fn next(&mut self) -> Option<u32> {
+        let number = word(self.bytes, 0)?;
+        self.bytes = &self.bytes[4..];
+        Some(number)
+    }
+}
+
+impl core::iter::FusedIterator for Numbers<'_> {}

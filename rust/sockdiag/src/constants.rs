@@ -140,6 +140,11 @@ pub const UNIX_DIAG_MEMINFO: u16 = 5;
 /// Which directions are shut down, shutdown(2).
 pub const UNIX_DIAG_SHUTDOWN: u16 = 6;
 
+// ---- A kind of attribute of requests for IPv4 and IPv6 sockets.
+
+/// The bytecode of a filter, by which the kernel chooses among sockets.
+pub const INET_DIAG_REQ_BYTECODE: u16 = 1;
+
 // ---- Kinds of attributes of replies about IPv4 and IPv6 sockets.
 
 /// No attribute.

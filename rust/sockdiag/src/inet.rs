@@ -8,6 +8,8 @@ use crate::{Attributes, DecodeError};
 use core::net::{IpAddr, Ipv4Addr, Ipv6Addr};
 use core::time::Duration;
 
+pub mod nlas;
+
 crate::flags! {
     /// A set of states, the bit of each that of its number.
     StateFlags: u32 {
@@ -165,9 +167,66 @@ impl InetRequest {
         self.message(header, true)
     }
 
+    /// Writes at the front of the buffer the netlink message that asks for the sockets, and behind
+    /// it attributes as they are given, with zeros up to a multiple of 4. `None` where the buffer
+    /// has no room: `80 + attributes.len().next_multiple_of(4)` bytes are enough.
+    ///
+    /// Attributes that aren't whole are refused. The bytecode of a filter is one, by which the
+    /// kernel chooses among the sockets: here those of a port from 8000 to 8999.
+    ///
+    /// ```
+    /// use sockdiag::constants::{INET_DIAG_REQ_BYTECODE, IPPROTO_TCP, NLM_F_DUMP, NLM_F_REQUEST};
+    /// use sockdiag::inet::{ExtensionFlags, InetRequest, SocketId, StateFlags};
+    /// use sockdiag::NetlinkHeader;
+    ///
+    /// // Two steps of `struct inet_diag_bc_op`, each with a port behind it: its code, how far the
+    /// // next step is where the test holds, and where it doesn't, which is past the end.
+    /// const SOURCE_AT_LEAST: u8 = 2;
+    /// const SOURCE_AT_MOST: u8 = 3;
+    /// let mut filter = [20, 0, INET_DIAG_REQ_BYTECODE as u8, 0].to_vec();
+    /// for (code, past_the_end, port) in [(SOURCE_AT_LEAST, 20, 8000), (SOURCE_AT_MOST, 12, 8999)] {
+    ///     filter.extend([code, 8, past_the_end, 0, 0, 0]);
+    ///     filter.extend(u16::to_le_bytes(port));
+    /// }
+    ///
+    /// let request = InetRequest {
+    ///     protocol: IPPROTO_TCP,
+    ///     extensions: ExtensionFlags::empty(),
+    ///     states: StateFlags::all(),
+    ///     socket_id: SocketId::new_v4(),
+    /// };
+    /// let flags = NLM_F_REQUEST | NLM_F_DUMP;
+    /// let header = NetlinkHeader { flags, ..NetlinkHeader::default() };
+    /// let mut buffer = [0; 128];
+    /// let bytes = request.write_with_attributes(&header, &filter, &mut buffer)?.unwrap();
+    /// assert_eq!((bytes.len(), bytes[0], &bytes[72..]), (92, 92, &filter[..]));
+    /// assert!(request.write_with_attributes(&header, &filter[..19], &mut buffer).is_err());
+    /// # Ok::<(), sockdiag::DecodeError>(())
+    /// ```
+    pub fn write_with_attributes<'b>(
+        &self,
+        header: &NetlinkHeader,
+        attributes: &[u8],
+        buffer: &'b mut [u8],
+    ) -> Result<Option<&'b [u8]>, DecodeError> {
+        let request = self.told(header);
+        let (written, outcome) = sys::write_inet_with_attributes(&request, attributes, buffer);
+        match outcome.fault {
+            0 => Ok((written != 0).then_some(&buffer[..written])),
+            fault => Err(DecodeError::from_number(fault)),
+        }
+    }
+
     fn message(&self, header: &NetlinkHeader, destroy: bool) -> RequestBytes {
+        let mut bytes = [0; 80];
+        let len = sys::write_inet(&self.told(header), destroy, &mut bytes);
+        RequestBytes { bytes, len }
+    }
+
+    /// What C is told of the request.
+    fn told(&self, header: &NetlinkHeader) -> sys::InetRequest {
         let id = &self.socket_id;
-        let request = sys::InetRequest {
+        sys::InetRequest {
             header: request_header(header),
             family: if id.source_address.is_ipv4() {
                 AF_INET
@@ -183,10 +242,7 @@ impl InetRequest {
             destination_address: octets(id.destination_address),
             interface_id: id.interface_id,
             cookie: id.cookie,
-        };
-        let mut bytes = [0; 80];
-        let len = sys::write_inet(&request, destroy, &mut bytes);
-        RequestBytes { bytes, len }
+        }
     }
 }
 
@@ -434,10 +490,30 @@ impl<'a> InetReply<'a> {
         })
     }
 
-    /// All attributes, in the order that they came: `INET_DIAG_MEMINFO` and `INET_DIAG_SKMEMINFO`
-    /// too, which no getter tells.
+    /// All attributes, in the order that they came.
     pub fn attributes(&self) -> Attributes<'a> {
         Attributes::behind(self.payload, 72)
+    }
+
+    /// What all attributes say, in the order that they came: the memory too, which no getter tells.
+    ///
+    /// ```
+    /// use sockdiag::inet::nlas::Nla;
+    /// use sockdiag::inet::InetReply;
+    ///
+    /// let mut payload = [0; 80];
+    /// payload[0] = 2;
+    /// payload[72..].copy_from_slice(&[8, 0, 15, 0, 42, 0, 0, 0]);
+    /// for nla in InetReply::parse(&payload)?.nlas() {
+    ///     match nla {
+    ///         Nla::Mark(mark) => assert_eq!(mark, 42),
+    ///         other => panic!("{other:?}"),
+    ///     }
+    /// }
+    /// # Ok::<(), sockdiag::DecodeError>(())
+    /// ```
+    pub fn nlas(&self) -> impl Iterator<Item = nlas::Nla<'a>> + 'a {
+        self.attributes().flatten().map(nlas::Nla::read)
     }
 
     /// What is known of the TCP connection.

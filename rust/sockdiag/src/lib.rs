@@ -54,11 +54,13 @@
 //! | there | here |
 //! |---|---|
 //! | `UnixResponse`, `InetResponse` | [`unix::UnixReply`], [`inet::InetReply`]: they borrow the bytes |
-//! | a list `nlas` of an enum `Nla` | getters; [`Attributes`] has all, by kind and bytes |
+//! | a list `nlas` of an enum `Nla` | `nlas()`, a walk that gives an enum of the same variants, which borrow; getters for all but the memory of internet sockets; [`Attributes`], by kind and bytes |
+//! | `pending_connections`, `Option<&[u32]>` | a walk over the inodes, also empty where none are told |
 //! | `NetlinkMessage::deserialize`, of one message | [`Dump`], over all of a datagram |
 //! | `NetlinkPayload::Error(ErrorMessage)` | `Error(Option<i32>)`: 0, or `-errno` |
 //! | `finalize()` and `serialize(..)` of a message | `to_message` of a request |
 //! | `InetRequest::family`, and 8 bits of protocol | that of the source address, and 32 bits |
+//! | `SocketId::new_v4()` has a cookie of zeros | of any: `[0xff; 8]`. The kernel looks at it where one socket is asked for |
 //! | `DecodeError` with words | [`DecodeError`] by kind |
 //! | some input panics | none does |
 #![no_std]
@@ -71,7 +73,7 @@ pub mod inet;
 mod sys;
 pub mod unix;
 
-pub use attribute::{Attribute, Attributes};
+pub use attribute::{Attribute, Attributes, Numbers};
 pub use dump::{Dump, Message, NetlinkHeader, NetlinkPayload, SockDiagMessage};
 pub use fault::DecodeError;
 

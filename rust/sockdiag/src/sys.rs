@@ -221,6 +221,14 @@ extern "C" {
         buffer: *mut u8,
         length: usize,
     ) -> usize;
+    fn sockdiag_write_inet_request_with_attributes(
+        request: *const InetRequest,
+        attributes: *const u8,
+        length: usize,
+        buffer: *mut u8,
+        buffer_length: usize,
+        outcome: *mut Outcome,
+    ) -> usize;
     fn sockdiag_rewrite_unix_reply(
         payload: *const u8,
         length: usize,
@@ -316,6 +324,13 @@ pub(crate) fn tcp_info(payload: &[u8], info: &mut crate::inet::TcpInfo) -> usize
     unsafe { sockdiag_inet_get_tcp_info(payload.as_ptr(), payload.len(), info) }
 }
 
+/// The struct in its bytes.
+pub(crate) fn tcp_info_in(bytes: &[u8; 232]) -> crate::inet::TcpInfo {
+    // SAFETY: the struct has 232 bytes, all of them numbers' and none a pad, and any bytes are
+    // numbers of it. They are read at any place.
+    unsafe { core::ptr::read_unaligned(bytes.as_ptr().cast()) }
+}
+
 /// One step of the walk over attributes: what is told, or the answer.
 pub(crate) fn next_attribute(bytes: &[u8], place: &mut usize) -> Result<AttributePart, u32> {
     let mut attribute = AttributePart::default();
@@ -375,6 +390,29 @@ pub(crate) fn write_inet(request: &InetRequest, destroy: bool, buffer: &mut [u8]
     // SAFETY: the buffer has its length and is borrowed alone; the contracts
     // `sockdiag_write_inet_request` and `sockdiag_write_inet_destroy` ask nothing else.
     unsafe { call(request, buffer.as_mut_ptr(), buffer.len()) }
+}
+
+/// Writes a request for internet sockets with attributes behind it, and answers how many bytes were
+/// written.
+pub(crate) fn write_inet_with_attributes(
+    request: &InetRequest,
+    attributes: &[u8],
+    buffer: &mut [u8],
+) -> (usize, Outcome) {
+    let mut outcome = Outcome::default();
+    // SAFETY: both slices have their lengths, and the buffer is borrowed alone; the contract
+    // `sockdiag_write_inet_request_with_attributes` asks nothing else.
+    let written = unsafe {
+        sockdiag_write_inet_request_with_attributes(
+            request,
+            attributes.as_ptr(),
+            attributes.len(),
+            buffer.as_mut_ptr(),
+            buffer.len(),
+            &mut outcome,
+        )
+    };
+    (written, outcome)
 }
 
 /// Writes the canonical form of a reply, and answers how many bytes were written.

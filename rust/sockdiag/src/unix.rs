@@ -5,6 +5,8 @@ use crate::dump::NetlinkHeader;
 use crate::sys;
 use crate::{Attributes, DecodeError};
 
+pub mod nlas;
+
 crate::flags! {
     /// A set of states, the bit of each that of its number.
     StateFlags: u32 {
@@ -105,6 +107,17 @@ pub enum UnixDiagName<'a> {
     Abstract(&'a [u8]),
 }
 
+impl<'a> UnixDiagName<'a> {
+    /// The name in the value of an attribute that was checked.
+    fn read(value: &'a [u8]) -> Option<Self> {
+        match value {
+            [0, address @ ..] => Some(UnixDiagName::Abstract(address)),
+            [path @ .., 0] => Some(UnixDiagName::Pathname(path)),
+            _ => None,
+        }
+    }
+}
+
 /// The file that a UNIX socket is bound to.
 #[derive(Clone, Copy, Debug, PartialEq, Eq)]
 pub struct Vfs {
@@ -163,6 +176,11 @@ impl<'a> UnixReply<'a> {
     /// All attributes, in the order that they came.
     pub fn attributes(&self) -> Attributes<'a> {
         Attributes::behind(self.payload, 16)
+    }
+
+    /// What all attributes say, in the order that they came.
+    pub fn nlas(&self) -> impl Iterator<Item = nlas::Nla<'a>> + 'a {
+        self.attributes().flatten().map(nlas::Nla::read)
     }
 
     /// The name that the socket is bound to.

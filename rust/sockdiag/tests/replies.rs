@@ -2,8 +2,8 @@
 //! sock_diag(7) and netlink(7), and the reader over every cut and every changed byte of them.
 
 use sockdiag::constants::{NLMSG_DONE, SOCK_DIAG_BY_FAMILY};
-use sockdiag::inet::{InetReply, InetRequest, SocketId, Timer};
-use sockdiag::unix::{UnixDiagName, UnixReply, UnixRequest, Vfs};
+use sockdiag::inet::{self, InetReply, InetRequest, SocketId, Timer};
+use sockdiag::unix::{self, UnixDiagName, UnixReply, UnixRequest, Vfs};
 use sockdiag::{Attributes, DecodeError, Dump, NetlinkHeader, NetlinkPayload, SockDiagMessage};
 use std::net::{IpAddr, Ipv4Addr, Ipv6Addr};
 
@@ -133,6 +133,74 @@ fn tells_an_internet_socket() {
 }
 
 #[test]
+fn tells_each_attribute_of_a_unix_socket() {
+    use unix::nlas::{MemInfo, Nla};
+    let bytes = unix_reply();
+    let mut nlas = UnixReply::parse(&bytes).unwrap().nlas();
+    let mut next = || nlas.next().unwrap();
+    assert_eq!(next(), Nla::Name(UnixDiagName::Abstract(b"a\0b")));
+    let (inode, device) = (1, 2);
+    assert_eq!(next(), Nla::Vfs(Vfs { inode, device }));
+    assert_eq!(next(), Nla::Peer(3));
+    assert!(matches!(next(), Nla::PendingConnections(inodes) if inodes.eq([4, 261])));
+    assert_eq!(next(), Nla::ReceiveQueueLength(6, 7));
+    let memory = MemInfo {
+        so_rcvbuf: 9,
+        max_datagram_size: 10,
+        alloc: 11,
+    };
+    assert_eq!(next(), Nla::MemInfo(memory));
+    assert_eq!((next(), next()), (Nla::Shutdown(3), Nla::Peer(12)));
+    assert_eq!(nlas.next(), None);
+}
+
+#[test]
+fn tells_each_attribute_of_an_internet_socket() {
+    use inet::nlas::{LegacyMemInfo, MemInfo, Nla};
+    let mut bytes = inet_reply();
+    let words: Vec<u8> = (1..=9u32).flat_map(u32::to_le_bytes).collect();
+    attribute(&mut bytes, 1, &words[..16]);
+    attribute(&mut bytes, 7, &words[..28]);
+    attribute(&mut bytes, 7, &words);
+    attribute(&mut bytes, 0x63, &[5]);
+    let nlas: Vec<_> = InetReply::parse(&bytes).unwrap().nlas().collect();
+    let told = [Nla::Congestion("cubic"), Nla::Tos(1), Nla::Tc(2)];
+    assert_eq!(nlas[..3], told);
+    let told = [Nla::Shutdown(3), Nla::Protocol(6), Nla::SkV6Only(true)];
+    assert_eq!(nlas[3..6], told);
+    assert_eq!(nlas[6..8], [Nla::Mark(7), Nla::ClassId(8)]);
+    let told = InetReply::parse(&bytes).unwrap().tcp_info().unwrap();
+    assert_eq!(nlas[8], Nla::TcpInfo(told));
+    let older = LegacyMemInfo {
+        receive_queue: 1,
+        bottom_send_queue: 2,
+        cache: 3,
+        send_queue: 4,
+    };
+    assert_eq!(nlas[9], Nla::LegacyMemInfo(older));
+    let memory = MemInfo {
+        receive_queue: 1,
+        receive_queue_max: 2,
+        bottom_send_queues: 3,
+        send_queue_max: 4,
+        cache: 5,
+        send_queue: 6,
+        options: 7,
+        backlog_queue_length: None,
+        drops: None,
+    };
+    assert_eq!(nlas[10], Nla::MemInfo(memory));
+    let newer = MemInfo {
+        backlog_queue_length: Some(8),
+        drops: Some(9),
+        ..memory
+    };
+    assert_eq!(nlas[11], Nla::MemInfo(newer));
+    assert!(matches!(nlas[12], Nla::Other(other) if other.kind() == 0x63 && other.value == [5]));
+    assert_eq!(nlas.len(), 13);
+}
+
+#[test]
 fn walks_over_a_datagram() {
     let mut datagram = message(SOCK_DIAG_BY_FAMILY, &unix_reply());
     datagram.extend(message(SOCK_DIAG_BY_FAMILY, &[17, 0]));
@@ -212,6 +280,8 @@ fn writes_canonical_forms() {
 fn ask_all(bytes: &[u8]) {
     if let Ok(reply) = UnixReply::parse(bytes) {
         assert!(reply.attributes().all(|it| it.is_ok()));
+        let unknown = |nla| matches!(nla, unix::nlas::Nla::Other(it) if it.kind() <= 6);
+        assert!(!reply.nlas().any(unknown));
         assert!(reply.pending_connections().count() <= bytes.len() / 4);
         if let Some(UnixDiagName::Pathname(name) | UnixDiagName::Abstract(name)) = reply.name() {
             assert!(bytes.as_ptr_range().contains(&name.as_ptr()) || name.is_empty());
@@ -219,6 +289,9 @@ fn ask_all(bytes: &[u8]) {
     }
     if let Ok(reply) = InetReply::parse(bytes) {
         assert!(reply.attributes().all(|it| it.is_ok()));
+        let known = [1, 2, 4, 5, 6, 7, 8, 10, 11, 15, 17];
+        let unknown = |nla| matches!(nla, inet::nlas::Nla::Other(it) if known.contains(&it.kind()));
+        assert!(!reply.nlas().any(unknown));
         assert_eq!(
             reply.congestion().is_some(),
             reply.congestion().map(str::len).is_some()

@@ -1,0 +1,13 @@
+use Rattle.std.proofs.Common.{List}
+use Rattle.netlink_core.specs.Attribute.{Attribute}
+use Rattle.netlink_core.specs.Walk.{bytes_left}
+use Rattle.netlink_core.proofs.Walking.{Continues}
+use Rattle.sockdiag_c.proofs.Filtered.{itself}
+use Rattle.sockdiag_c.proofs.filters.check_framing.Given as goal
+
+-- what was passed goes on with what is left
+abbrev pub invariant-loop-item : goal.invariant-loop-item
+invariant-loop-item l = record {
+  so_far : List Attribute;
+  walk : Continues itself l.bytes so_far (bytes_left l.item-iterator);
+}
