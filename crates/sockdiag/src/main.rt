@@ -2,14 +2,48 @@
 //! one answer line for each of them.
 #![tactic(auto)]
 
-use sock_diag_lines::run_to_status;
+use sock_diag_lines::{Choice, HELP, VERSION, choose, run_to_status};
 use std::process::ExitCode;
+use std::{env, io};
 
 fn main(rt: HostRuntime) -> ExitCode {
+    let Ok(mut words) = env::args(&rt) else {
+        return refuse(&rt);
+    };
+    let _program = words.next();
+    match (words.next(), words.next()) {
+        (None, _) => answer_lines(&rt, false),
+        (Some(word), None) => match choose(word.as_str()) {
+            Choice::Strict => answer_lines(&rt, true),
+            Choice::Help => status_of(rt.println(HELP)),
+            Choice::Version => status_of(println!(rt; "sockdiag {VERSION}")),
+            Choice::Unknown => refuse(&rt),
+        },
+        (Some(_), Some(_)) => refuse(&rt),
+    }
+}
+
+/// Answers the lines of standard input.
+fn answer_lines(rt: &HostRuntime, is_strict: bool) -> ExitCode {
     run_to_status(
         rt.alloc(),
+        is_strict,
         &mut rt.stdin(),
         &mut rt.stdout(),
         &mut rt.stderr(),
     )
+}
+
+/// Status 0 where it was printed.
+fn status_of(printed: io::Result<()>) -> ExitCode {
+    match printed {
+        Ok(()) => ExitCode::SUCCESS,
+        Err(_) => ExitCode::FAILURE,
+    }
+}
+
+/// Tells that the arguments are not known, with status 2.
+fn refuse(rt: &impl Eprint) -> ExitCode {
+    let _ = rt.eprintln("sockdiag: unknown arguments, sockdiag --help tells those that are known");
+    ExitCode::from(2)
 }
