@@ -3,7 +3,7 @@ use Rattle.std.proofs.Common.{◌≡◌, ◌<◌, ◌≤◌, ◌+◌, ℕ, suc, 
 use Rattle.std.proofs.Common.{get_or, slice_index, Option, None, Some, Result, Ok, Err, ◌==◌, Bool}
 use Rattle.std.proofs.Common.{true, false, ◌&&◌, refl, sym, ap, ap₂, ◌∙◌, subst, append_assoc}
 use Rattle.std.proofs.Common.{append-nil, take-append-drop, take_all, le_refl, add-one, arith}
-use Rattle.std.specs.Prelude.{IfErr, IfSome, IsOk, OnOk}
+use Rattle.std.specs.Prelude.{IfSome, IsOk, OnOk}
 use Rattle.std.specs.Io.KnownBytes.{Appends, Consumes, IsAtEnd, Keeps}
 use Rattle.std.proofs.KnownBytes.{Appends-kept, Appends-trans, Consumes-kept, Consumes-trans}
 use Rattle.std.proofs.lemmas.Bool.{eq-eqb, eqb-true}

@@ -3,12 +3,15 @@
 #![tactic(auto)]
 
 use sock_diag_lines::{Choice, HELP, VERSION, choose, run_to_status};
+use std::env;
+use std::io::{self, ErrorKind};
 use std::process::ExitCode;
-use std::{env, io};
 
 fn main(rt: HostRuntime) -> ExitCode {
-    let Ok(mut words) = env::args(&rt) else {
-        return refuse(&rt);
+    let mut words = match env::args(&rt) {
+        Ok(words) => words,
+        Err(error) if error.kind() == ErrorKind::OutOfMemory => return tell_no_memory(&rt),
+        Err(_) => return refuse(&rt),
     };
     let _program = words.next();
     match (words.next(), words.next()) {
@@ -40,6 +43,12 @@ fn status_of(printed: io::Result<()>) -> ExitCode {
         Ok(()) => ExitCode::SUCCESS,
         Err(_) => ExitCode::FAILURE,
     }
+}
+
+/// Tells that memory ran out, with status 1.
+fn tell_no_memory(rt: &impl Eprint) -> ExitCode {
+    let _ = rt.eprintln("sockdiag: out of memory");
+    ExitCode::FAILURE
 }
 
 /// Tells that the arguments are not known, with status 2.
