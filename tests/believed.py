@@ -33,7 +33,7 @@ MEANING = set("""codec seen type_written bytes writable held TAKES_MEMORY attrib
 # among them: what `==` answers is computed there, and said in the words of contracts by `eq_is_seen` and in laws.rt.
 LAWS = set("""laws fills exact eq_is_seen written_is fits_is emitted_is writable_is written_as
     compared idle_reflexive idle_symmetric idle_transitive one_value equal_by_bytes idle_with_written reads_back_exactly
-    written_alike eq tests test enough keeps same written fits answers asks""".split())
+    written_alike eq tests test enough keeps same written fits answers asks good""".split())
 # Private functions whose clauses docs/PROMISES.md cites.
 CITED = {"serve", "read_prompt"}
 # A module of specs/ with this ending holds lemmas and what they stand on, and one with that the words of private functions.

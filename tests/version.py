@@ -1,5 +1,5 @@
 #!/usr/bin/env python3
-"""Fails, with status 1, where CHANGELOG.md, sslist, the C header or the Rust crate tells another version."""
+"""Fails, with status 1, where CHANGELOG.md, a program, the C header or the Rust crate tells another version."""
 import os
 import re
 import sys
@@ -9,6 +9,7 @@ TOP = os.path.dirname(os.path.dirname(os.path.realpath(__file__)))
 TOLD = {
     "CHANGELOG.md": r"(?m)^## \[?([^\]\s]+)",
     "crates/sock_diag_captures/src/lib.rt": r'(?m)^pub const VERSION: &str = "([^"]*)";$',
+    "crates/sock_diag_lines/src/lib.rt": r'(?m)^pub const VERSION: &str = "([^"]*)";$',
     "include/sockdiag.h": r'(?m)^#define SOCKDIAG_VERSION "([^"]*)"$',
     "rust/sockdiag/Cargo.toml": r'(?m)^version = "([^"]*)"$',
 }

@@ -1,6 +1,7 @@
 -- What a run has read and written when it ends.
-use Rattle.std.specs.Prelude.{ℕ, List, [], ◌∷◌, ◌++◌, take, Option, Result, Ok, Err}
-use Rattle.std.specs.List.{flat_map}
+use Rattle.std.specs.Prelude.{◌≡◌, ℕ, Bool, List, [], ◌∷◌, ◌++◌, map, take, Option, Result, Ok}
+use Rattle.std.specs.Prelude.{Err, IfOk}
+use Rattle.std.specs.List.{flat_map, list_all}
 use Rattle.std.specs.Io.KnownBytes.{Appends, Consumes}
 use Rattle.line_server.specs.Lines.{Splits, with_rest}
 use Rattle.line_server.specs.declared.stream.RunError.{RunError}
@@ -23,17 +24,15 @@ module _ (answer : List ℕ → List ℕ) (left left' held held' : Option (List 
   -- What is written when a run ends so: the answers to all lines; where a read failed, those to the
   -- whole lines; where memory ran out, those to some first whole lines; and where a write failed, a
   -- beginning of those to all lines.
-  abbrev pub Ended : Result Unit RunError → List (List ℕ) → List ℕ → Type 0
-  Ended (Ok done) whole rest = Exchange whole rest (answer_lines answer (with_rest whole rest))
+  abbrev pub Ended : Result Bool RunError → List (List ℕ) → List ℕ → Type 0
+  Ended (Ok is_good) whole rest = Exchange whole rest (answer_lines answer (with_rest whole rest))
   Ended (Err Read) whole rest = Exchange whole rest (answer_lines answer whole)
   Ended (Err Memory) whole rest = (k : ℕ) × Exchange whole rest (answer_lines answer (take k whole))
-  Ended (Err Write) whole rest =
+  Ended (Err (Write is_closed)) whole rest =
       (k : ℕ) × Exchange whole rest (take k (answer_lines answer (with_rest whole rest)))
 
-  -- what was read and what was written belong together as a run ends so
-  abbrev pub Answers : Result Unit RunError → Type 0
-  Answers result = (whole : List (List ℕ)) × (rest : List ℕ) × Ended result whole rest
-
-  -- the answers to all whole lines that were read are written, and `line` is what follows these
-  abbrev pub CaughtUp : List ℕ → Type 0
-  CaughtUp line = (whole : List (List ℕ)) × Exchange whole line (answer_lines answer whole)
+  -- what was read and what was written belong together as a run ends so, which says where all went
+  -- well whether each answer is a good one
+  abbrev pub Answers : (List ℕ → Bool) → Result Bool RunError → Type 0
+  Answers good result = (whole : List (List ℕ)) × (rest : List ℕ) × Ended result whole rest
+      × IfOk result (λ is_good. is_good ≡ list_all good (map answer (with_rest whole rest)))

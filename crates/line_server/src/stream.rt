@@ -1,10 +1,10 @@
 //! Answers the lines of a reader on a writer.
-ghost use Rattle.std.specs.Prelude.{◌≡◌, ◌⊎◌, ◌-◌, ◌^◌, ◌≤◌, ℕ, List, [], ◌++◌, OnOk, OnErr, IfOk};
-ghost use Rattle.std.specs.Prelude.{IfErr, Option, None, vec_capacity};
+ghost use Rattle.std.specs.Prelude.{◌≡◌, ◌⊎◌, ◌-◌, ◌^◌, ◌≤◌, ℕ, Bool, true, List, [], ◌++◌, OnOk};
+ghost use Rattle.std.specs.Prelude.{IfOk, IfErr, Option, None, vec_capacity};
 ghost use Rattle.std.specs.Io.KnownBytes.{Appends, IsAtEnd};
 ghost use Rattle.line_server.specs.Lines.{with_rest};
 ghost use Rattle.line_server.specs.Run.{Answers, answer_lines};
-ghost use Rattle.line_server.specs.RunSteps.{AnswersPiece, IsLine, Writes, fed};
+ghost use Rattle.line_server.specs.RunSteps.{AnswersPiece, IsLine, Writes, all_good, fed};
 ghost use Rattle.line_server.specs.declared.stream.RunError.TheVariants.{Memory};
 
 use crate::prompt::{AnswerWrite, PromptRead};
@@ -21,7 +21,10 @@ pub enum RunError {
     Read,
     /// A write or the last flush failed, or a write took no bytes.
     #[error("writing failed")]
-    Write,
+    Write {
+        /// Nobody reads the output any more (`EPIPE`).
+        is_closed: bool,
+    },
     /// Memory ran out.
     #[error("out of memory")]
     Memory,
@@ -74,6 +77,9 @@ pub trait LineAnswers {
     // The line asks for this, about these bytes.
     ghost asks: { List ℕ → Self.Asked → List ℕ → Type 0 };
 
+    // Whether an answer is a good one.
+    ghost good: { List ℕ → Bool };
+
     /// What a line asks for. The bytes that it is about are put in place of what `bytes` held.
     fn read_request(
         alloc: Global,
@@ -82,15 +88,17 @@ pub trait LineAnswers {
     ) -> Result<Self::Asked, AllocError>
         ensures { IfOk result (λ asked. asks line.now asked bytes.new.items) };
 
-    /// Adds the answer to the text. Where memory runs out the text may have a part of it.
+    /// Adds the answer to the text, and returns whether it is a good one. Where memory runs out the
+    /// text may have a part of it.
     fn push_answer(
         alloc: Global,
         text: &mut Vec<u8>,
         asked: Self::Asked,
         bytes: &[u8],
-    ) -> Result<(), AllocError>
-        ensures { OnOk result ((line answer : List ℕ) → asks line asked bytes.now
-            → answers line answer → text.new.items ≡ text.old.items ++ answer) };
+    ) -> Result<bool, AllocError>
+        ensures { IfOk result (λ is_good. (line answer : List ℕ) → asks line asked bytes.now
+            → answers line answer
+            → (text.new.items ≡ text.old.items ++ answer) × (is_good ≡ good answer)) };
 }
 
 impl Start for Brand {
@@ -113,22 +121,24 @@ struct Kept {
     answers: Vec<u8>,
 }
 
-/// Writes the answer line of each line of `input`, and flushes. Before each read, the answers to
-/// all whole lines that were read stand on `output`. No call that failed is made again.
+/// Writes the answer line of each line of `input`, flushes, and returns whether each answer is a
+/// good one. Before each read, the answers to all whole lines that were read stand on `output`. No
+/// call that failed is made again.
 pub fn serve<S: Start, A: LineAnswers, R: PromptRead, W: AnswerWrite>(
     alloc: Global,
     input: &mut R,
     output: &mut W,
-) -> Result<(), RunError>
+) -> Result<bool, RunError>
     requires start { (S.remaining ≡ R.left input.old) × (S.contents ≡ W.held output.old)
         × R.reads input.old 0 }
     requires right { (line : List ℕ) → A.answers line (S.answer line) }
     ensures ended { OnOk result (IsAtEnd (R.left input.new)) }
     ensures answered { Answers S.answer S.remaining (R.left input.new) S.contents
-        (W.held output.new) result }
+        (W.held output.new) A.good result }
     ensures read_cause { IfErr result (λ e. e ≡ RunError.Read
         → R.failed input.new ⊎ R.reads input.new (2 ^ 64 - 1)) }
-    ensures write_cause { IfErr result (λ e. e ≡ RunError.Write → W.failed output.new) }
+    ensures write_cause { IfErr result (λ e. (is_closed : Bool) → e ≡ RunError.Write is_closed
+        → W.failed output.new is_closed) }
 {
     let mut kept = Kept {
         line: Vec::new(alloc),
@@ -136,91 +146,103 @@ pub fn serve<S: Start, A: LineAnswers, R: PromptRead, W: AnswerWrite>(
         answers: Vec::new(alloc),
     };
     let mut chunk = [0u8; CHUNK];
+    let mut is_good = true;
     'reads: for _made in 0..u64::MAX {
         let count = input.read_prompt::<S, W>(output, kept.line.as_slice(), &mut chunk)?;
         if count == 0 {
-            return finish::<S, A, W>(alloc, &mut kept, output);
+            let is_last_good = finish::<S, A, W>(alloc, &mut kept, output)?;
+            return Ok(is_good & is_last_good);
         }
-        take_piece::<S, A>(alloc, &mut kept, &chunk[..count])?;
+        let is_piece_good = take_piece::<S, A>(alloc, &mut kept, &chunk[..count])?;
+        is_good &= is_piece_good;
         send(output, kept.answers.as_slice())?;
         empty(alloc, &mut kept.answers);
     }
     Err(RunError::Read)
 }
 
-/// Answers the last line, where it has bytes and no line feed, and flushes.
+/// Answers the last line, where it has bytes and no line feed, and flushes. Returns whether its
+/// answer is a good one, or there is none.
 fn finish<S: Start, A: LineAnswers, W: AnswerWrite>(
     alloc: Global,
     kept: &mut Kept,
     output: &mut W,
-) -> Result<(), RunError>
+) -> Result<bool, RunError>
     requires { (kept.old.answers.items ≡ []) × ((line : List ℕ) → A.answers line (S.answer line)) }
     ensures written { Writes (W.held output.old) (W.held output.new)
         (answer_lines S.answer (with_rest [] kept.old.line.items)) result }
-    ensures cause { IfErr result (λ e. e ≡ RunError.Write → W.failed output.new) }
+    ensures judged { IfOk result (λ is_good.
+        is_good ≡ all_good A.good S.answer (with_rest [] kept.old.line.items)) }
+    ensures cause { IfErr result (λ e. (is_closed : Bool) → e ≡ RunError.Write is_closed
+        → W.failed output.new is_closed) }
 {
-    send_last::<S, A, W>(alloc, kept, output)?;
-    output.flush_answers()
+    let is_good = end_last_line::<S, A>(alloc, kept)?;
+    send(output, kept.answers.as_slice())?;
+    output.flush_answers()?;
+    Ok(is_good)
 }
 
-/// Answers the last line, where it has bytes and no line feed.
-fn send_last<S: Start, A: LineAnswers, W: AnswerWrite>(
+/// Adds the answer to the last line, where it has bytes and no line feed. Returns whether it is a
+/// good one, or there is none.
+fn end_last_line<S: Start, A: LineAnswers>(
     alloc: Global,
     kept: &mut Kept,
-    output: &mut W,
-) -> Result<(), RunError>
+) -> Result<bool, AllocError>
     requires { (kept.old.answers.items ≡ []) × ((line : List ℕ) → A.answers line (S.answer line)) }
-    ensures written { Writes (W.held output.old) (W.held output.new)
-        (answer_lines S.answer (with_rest [] kept.old.line.items)) result }
-    ensures cause { IfErr result (λ e. e ≡ RunError.Write → W.failed output.new) }
+    ensures added { OnOk result (kept.new.answers.items
+        ≡ answer_lines S.answer (with_rest [] kept.old.line.items)) }
+    ensures judged { IfOk result (λ is_good.
+        is_good ≡ all_good A.good S.answer (with_rest [] kept.old.line.items)) }
 {
     if kept.line.is_empty() {
-        return Ok(());
+        return Ok(true);
     }
-    end_line::<S, A>(alloc, kept, &[])?;
-    send(output, kept.answers.as_slice())
+    end_line::<S, A>(alloc, kept, &[])
 }
 
-/// Adds the answers to the lines that a piece of the input ends. What follows the last of them goes
-/// on the line that is kept.
+/// Adds the answers to the lines that a piece of the input ends, and returns whether each is a good
+/// one. What follows the last of these lines goes on the line that is kept.
 fn take_piece<S: Start, A: LineAnswers>(
     alloc: Global,
     kept: &mut Kept,
     piece: &[u8],
-) -> Result<(), AllocError>
+) -> Result<bool, AllocError>
     requires { IsLine kept.old.line.items × ((line : List ℕ) → A.answers line (S.answer line)) }
-    ensures { OnOk result (AnswersPiece S.answer (kept.old.line.items ++ piece.now)
-        kept.new.line.items
-        kept.old.answers.items kept.new.answers.items) }
+    ensures { IfOk result (AnswersPiece S.answer A.good (kept.old.line.items ++ piece.now)
+        kept.new.line.items kept.old.answers.items kept.new.answers.items) }
 {
+    let mut is_good = true;
     let mut rest = piece;
     'lines: while let Some(end) = memchr(b'\n', rest) {
-        end_line::<S, A>(alloc, kept, &rest[..end])?;
+        let is_line_good = end_line::<S, A>(alloc, kept, &rest[..end])?;
+        is_good &= is_line_good;
         rest = &rest[end + 1..];
     }
     kept.line.extend_from_slice(rest)?;
-    Ok(())
+    Ok(is_good)
 }
 
-/// Adds the answer to a line whose last bytes are `end`, and begins the next. A long line's memory
-/// is let go before its answer takes any.
+/// Adds the answer to a line whose last bytes are `end`, returns whether it is a good one, and
+/// begins the next line. A long line's memory is let go before its answer takes any.
 fn end_line<S: Start, A: LineAnswers>(
     alloc: Global,
     kept: &mut Kept,
     end: &[u8],
-) -> Result<(), AllocError>
+) -> Result<bool, AllocError>
     requires { (line : List ℕ) → A.answers line (S.answer line) }
     ensures added { OnOk result ((kept.new.line.items ≡ [])
         × (kept.new.answers.items ≡ kept.old.answers.items
         ++ fed (S.answer (kept.old.line.items ++ end.now)))) }
+    ensures judged { IfOk result (λ is_good.
+        is_good ≡ A.good (S.answer (kept.old.line.items ++ end.now))) }
     ensures rooms { OnOk result ((vec_capacity kept.new.line ≤ 131072)
         × (vec_capacity kept.new.bytes ≤ 131072)) }
 {
     let asked = read_line::<A>(alloc, kept, end)?;
     empty(alloc, &mut kept.line);
-    add_answer_line::<S, A>(alloc, &mut kept.answers, asked, kept.bytes.as_slice())?;
+    let is_good = add_answer_line::<S, A>(alloc, &mut kept.answers, asked, kept.bytes.as_slice())?;
     empty(alloc, &mut kept.bytes);
-    Ok(())
+    Ok(is_good)
 }
 
 /// Reads a line whose last bytes are `end`. One that began in no earlier piece is read where it
@@ -241,19 +263,21 @@ fn read_line<A: LineAnswers>(
     A::read_request(alloc, &mut kept.bytes, kept.line.as_slice())
 }
 
-/// Adds the answer line of what a line was read as.
+/// Adds the answer line of what a line was read as, and returns whether the answer is a good one.
 fn add_answer_line<S: Start, A: LineAnswers>(
     alloc: Global,
     answers: &mut Vec<u8>,
     asked: A::Asked,
     bytes: &[u8],
-) -> Result<(), AllocError>
+) -> Result<bool, AllocError>
     requires { (line : List ℕ) → A.answers line (S.answer line) }
-    ensures { OnOk result ((line : List ℕ) → A.asks line asked bytes.now
-        → answers.new.items ≡ answers.old.items ++ fed (S.answer line)) }
+    ensures { IfOk result (λ is_good. (line : List ℕ) → A.asks line asked bytes.now
+        → (answers.new.items ≡ answers.old.items ++ fed (S.answer line))
+        × (is_good ≡ A.good (S.answer line))) }
 {
-    A::push_answer(alloc, answers, asked, bytes)?;
-    Ok(answers.push(b'\n')?)
+    let is_good = A::push_answer(alloc, answers, asked, bytes)?;
+    answers.push(b'\n')?;
+    Ok(is_good)
 }
 
 /// Makes room empty, and keeps its memory unless a long line needed it.
@@ -272,7 +296,8 @@ fn empty(alloc: Global, room: &mut Vec<u8>)
 /// Writes all the bytes.
 fn send<W: AnswerWrite>(output: &mut W, bytes: &[u8]) -> Result<(), RunError>
     ensures written { Writes (W.held output.old) (W.held output.new) bytes.now result }
-    ensures cause { OnErr result (W.failed output.new) }
+    ensures cause { IfErr result (λ e. (is_closed : Bool) × (e ≡ RunError.Write is_closed)
+        × W.failed output.new is_closed) }
 {
     let mut rest = bytes;
     'writes: while !rest.is_empty() {

@@ -1,5 +1,6 @@
 -- The answer to a line: a name, one space and a hex field, a dump over datagrams, or anything else.
-use Rattle.std.specs.Prelude.{◌≡◌, ◌∷◌, ℕ, List, ◌++◌, codes}
+use Rattle.std.specs.Prelude.{◌≡◌, ◌&&◌, ◌∷◌, ℕ, Bool, List, ◌++◌, codes, eqb, not}
+use Rattle.std.specs.List.{starts_with}
 use Rattle.sock_diag_records.specs.UnixRequest.{unix_request}
 use Rattle.sock_diag_records.specs.InetRequest.{inet_request}
 use Rattle.sock_diag_records.specs.SocketId.{socket_id}
@@ -42,3 +43,7 @@ pub record IsAnswerOf (line text : List ℕ) : Type 0 where
   pub dumped : (datagrams : List (List ℕ)) → IsDumpRequest line datagrams → TellsDump datagrams text
   pub other : ((name : Name) (b : List ℕ) → ¬ IsRequest line name b)
       → ((datagrams : List (List ℕ)) → ¬ IsDumpRequest line datagrams) → text ≡ codes "bad line"
+
+-- the answer is `ok`, and not a dump that failed
+abbrev pub is_good : List ℕ → Bool
+is_good text = starts_with eqb text (codes "ok ") && not (starts_with eqb text (codes "ok failed"))

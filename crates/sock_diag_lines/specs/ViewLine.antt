@@ -27,8 +27,7 @@ comma_list (n ∷ ns) = join_with_byte 44 (map decimal (n ∷ ns))
 abbrev pub shown_reply : UnixReply → List ℕ
 shown_reply v =
     let told = λ (k : ℕ). first_of (content unix k) v.nlas in
-    join_with_byte 32 (
-    decimal v.header.kind ∷ decimal v.header.state ∷ decimal v.header.inode ∷
+    join_with_byte 32 (decimal v.header.kind ∷ decimal v.header.state ∷ decimal v.header.inode ∷
     -- the peer, the name, the pending connections, and which directions are shut down
     or_none decimal (told 2) ∷ or_none name_word (told 0) ∷
     or_none comma_list (told 3) ∷ or_none decimal (told 6) ∷

@@ -2,11 +2,11 @@
 //! one answer line for each of them.
 #![tactic(auto)]
 
-ghost use Rattle.std.specs.Prelude.{◌≡◌, ◌↔◌, ◌++◌, ◌∷◌, [], ℕ, List, Result, codes};
-ghost use Rattle.std.specs.Prelude.{IfSome, IfErr, IsOk, IsErr};
+ghost use Rattle.std.specs.Prelude.{◌≡◌, ◌≢◌, ◌&&◌, ◌++◌, ◌∷◌, [], if◌then◌else◌, not, true, false};
+ghost use Rattle.std.specs.Prelude.{ℕ, Bool, List, Result, codes, IfSome, IfErr, MatchResult};
 ghost use Rattle.std.specs.Process.{exit_status};
 ghost use Rattle.std.specs.Io.KnownBytes.{Appends, IsAtEnd, Keeps};
-ghost use Rattle.sock_diag_lines.specs.Answer.{IsAnswerOf};
+ghost use Rattle.sock_diag_lines.specs.Answer.{IsAnswerOf, is_good};
 ghost use Rattle.line_server.specs.Lines.{Splits, with_rest};
 ghost use Rattle.line_server.specs.Run.{Answers, answer_lines};
 ghost use Rattle.line_server.specs.declared.stream.RunError.{RunError};
@@ -25,48 +25,61 @@ use std::io::{Read, Write};
 use std::process::ExitCode;
 pub use stream::run;
 use stream::tell;
+pub use words::{Choice, HELP, choose};
 
-/// `run`, which tells on `errors` in one line why it failed. The status is 0 where it came to the
-/// end of its input, and 1 where it failed.
+/// The version, that of the repository's file `VERSION`.
+pub const VERSION: &str = "0.8.0";
+
+/// `run`, which tells on `errors` in one line why it failed, but where nobody reads the output any
+/// more. The status is 0 where it came to the end of its input, and 1 where it failed. If it is
+/// strict, the status is 3 where it came to the end and an answer is not a good one: not `ok`, or a
+/// dump that failed.
 pub fn run_to_status<R: Read, W: Write, E: Write>(
     alloc: Global,
+    is_strict: bool,
     input: &mut R,
     output: &mut W,
     errors: &mut E,
 ) -> ExitCode
-    ensures ended { exit_status result ≡ 0 → IsAtEnd (R.remaining input.new) }
-    ensures complete { exit_status result ≡ 0 → IfSome (R.remaining input.old) (λ text.
+    ensures ended { exit_status result ≢ 1 → IsAtEnd (R.remaining input.new) }
+    ensures complete { exit_status result ≢ 1 → IfSome (R.remaining input.old) (λ text.
         (answer : List ℕ → List ℕ) (whole : List (List ℕ)) (rest : List ℕ)
         → ((line : List ℕ) → IsAnswerOf line (answer line)) → Splits text whole rest
         → Appends (W.contents output.old) (W.contents output.new)
         (answer_lines answer (with_rest whole rest))) }
-    ensures silent { exit_status result ≡ 0
+    ensures silent { exit_status result ≢ 1
         → Keeps (E.contents errors.old) (E.contents errors.new) }
-    // How it ended. One line names a failure on `errors`, or its beginning where a write fails.
+    // How it ended, and whether each answer is a good one. One line names a failure on `errors`, or
+    // its beginning where a write fails.
     ensures answered { (answer : List ℕ → List ℕ)
         → ((line : List ℕ) → IsAnswerOf line (answer line))
-        → (outcome : Result Unit RunError)
-        × ((exit_status result ≡ 0) ↔ IsOk outcome) × ((exit_status result ≡ 1) ↔ IsErr outcome)
+        → (outcome : Result Bool RunError)
+        × MatchResult outcome
+        (λ good. exit_status result ≡ (if is_strict && not good then 3 else 0))
+        (λ _. exit_status result ≡ 1)
         × Answers answer (R.remaining input.old) (R.remaining input.new)
-        (W.contents output.old) (W.contents output.new) outcome
+        (W.contents output.old) (W.contents output.new) is_good outcome
         × IfErr outcome (λ e. (told more : List ℕ)
         × Appends (E.contents errors.old) (E.contents errors.new) told
         × (e ≡ RunError.Read → told ++ more ≡ codes "sockdiag: reading failed" ++ 10 ∷ [])
-        × (e ≡ RunError.Write → told ++ more ≡ codes "sockdiag: writing failed" ++ 10 ∷ [])
+        × (e ≡ RunError.Write false → told ++ more ≡ codes "sockdiag: writing failed" ++ 10 ∷ [])
+        × (e ≡ RunError.Write true → told ++ more ≡ [])
         × (e ≡ RunError.Memory → told ++ more ≡ codes "sockdiag: out of memory" ++ 10 ∷ [])) }
 {
     let outcome = run(alloc, input, output);
     tell(errors, &outcome);
-    exit_code(&outcome)
+    exit_code(&outcome, is_strict)
 }
 
-/// Status 0 where the run came to the end of its input, and 1 where it failed.
-fn exit_code(outcome: &Result<(), RunError>) -> ExitCode
-    ensures ended { (exit_status result ≡ 0) ↔ IsOk outcome.now }
-    ensures failed { (exit_status result ≡ 1) ↔ IsErr outcome.now }
+/// The status of a run that ended so.
+fn exit_code(outcome: &Result<bool, RunError>, is_strict: bool) -> ExitCode
+    ensures { MatchResult outcome.now
+        (λ good. exit_status result ≡ (if is_strict && not good then 3 else 0))
+        (λ _. exit_status result ≡ 1) }
 {
     match outcome {
-        Ok(()) => ExitCode::SUCCESS,
+        Ok(is_good) if is_strict && !*is_good => ExitCode::from(3),
+        Ok(_) => ExitCode::SUCCESS,
         Err(_) => ExitCode::FAILURE,
     }
 }

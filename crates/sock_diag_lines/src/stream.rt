@@ -3,11 +3,12 @@ ghost use Rattle.std.specs.Prelude.{◌≡◌, ℕ, List, ◌++◌, OnOk, IfErr,
 ghost use Rattle.std.specs.Io.KnownBytes.{Appends, IsAtEnd, Keeps};
 ghost use Rattle.line_server.specs.Lines.{Splits, with_rest};
 ghost use Rattle.line_server.specs.Run.{Answers, answer_lines};
-ghost use Rattle.sock_diag_lines.specs.Answer.{IsAnswerOf};
+ghost use Rattle.sock_diag_lines.specs.Answer.{IsAnswerOf, is_good};
 ghost use Rattle.sock_diag_lines.specs.AskedSteps.{IsReadAs};
 ghost use Rattle.sock_diag_lines.specs.RunSteps.{failure_line};
 
 use crate::answers::{Asked, push_told, read_request};
+use crate::words::OK;
 use line_server::{LineAnswers, RunError, serve, try_send};
 use std::alloc::{AllocError, Global};
 use std::io::{Read, Write};
@@ -23,6 +24,8 @@ impl LineAnswers for Protocol {
 
     ghost asks = { IsReadAs };
 
+    ghost good = { is_good };
+
     fn read_request(alloc: Global, bytes: &mut Vec<u8>, line: &[u8]) -> Result<Asked, AllocError> {
         read_request(alloc, bytes, line)
     }
@@ -32,14 +35,28 @@ impl LineAnswers for Protocol {
         text: &mut Vec<u8>,
         asked: Asked,
         bytes: &[u8],
-    ) -> Result<(), AllocError> {
-        push_told(alloc, text, asked, bytes)
+    ) -> Result<bool, AllocError> {
+        let start = text.len();
+        push_told(alloc, text, asked, bytes)?;
+        Ok(is_good(&text[start..]))
     }
 }
 
-/// Writes the answer line of each line of `input`, and flushes. Before each read, the answers to
-/// all whole lines that were read stand on `output`. No call that failed is made again.
-pub fn run<R: Read, W: Write>(alloc: Global, input: &mut R, output: &mut W) -> Result<(), RunError>
+/// Whether an answer is a good one: `ok`, and not a dump that failed.
+fn is_good(answer: &[u8]) -> bool
+    ensures { result ≡ is_good answer.now }
+{
+    answer.starts_with(OK) && !answer.starts_with(b"ok failed")
+}
+
+/// Writes the answer line of each line of `input`, flushes, and returns whether each answer is a
+/// good one: `ok`, and not a dump that failed. Before each read, the answers to all whole lines
+/// that were read stand on `output`. No call that failed is made again.
+pub fn run<R: Read, W: Write>(
+    alloc: Global,
+    input: &mut R,
+    output: &mut W,
+) -> Result<bool, RunError>
     // All is read, and the answers to all lines that the reader told at the start are written.
     ensures ended { OnOk result (IsAtEnd (R.remaining input.new)) }
     ensures complete { OnOk result (IfSome (R.remaining input.old) (λ text.
@@ -52,13 +69,14 @@ pub fn run<R: Read, W: Write>(alloc: Global, input: &mut R, output: &mut W) -> R
     ensures answered { (answer : List ℕ → List ℕ)
         → ((line : List ℕ) → IsAnswerOf line (answer line))
         → Answers answer (R.remaining input.old) (R.remaining input.new)
-        (W.contents output.old) (W.contents output.new) result }
+        (W.contents output.old) (W.contents output.new) is_good result }
 {
     serve::<Brand, Protocol, R, W>(alloc, input, output)
 }
 
-/// Tells why a run failed. Where this can't be written either, the exit status alone tells of it.
-pub(crate) fn tell<E: Write>(errors: &mut E, outcome: &Result<(), RunError>)
+/// Tells why a run failed, but where nobody reads the output any more. Where this can't be written
+/// either, the exit status alone tells of it.
+pub(crate) fn tell<E: Write>(errors: &mut E, outcome: &Result<bool, RunError>)
     ensures silent { IsOk outcome.now → Keeps (E.contents errors.old) (E.contents errors.new) }
     ensures told { IfErr outcome.now (λ e. (told : List ℕ)
         × ((more : List ℕ) × (failure_line e ≡ told ++ more))
@@ -69,13 +87,14 @@ pub(crate) fn tell<E: Write>(errors: &mut E, outcome: &Result<(), RunError>)
     }
 }
 
-/// The line that tells of a failure.
+/// The line that tells of a failure. Of an output that nobody reads none does.
 fn failure_line(error: RunError) -> &'static [u8]
     ensures { result.now ≡ failure_line error }
 {
     match error {
         RunError::Read => b"sockdiag: reading failed\n",
-        RunError::Write => b"sockdiag: writing failed\n",
+        RunError::Write { is_closed: false } => b"sockdiag: writing failed\n",
+        RunError::Write { is_closed: true } => b"",
         RunError::Memory => b"sockdiag: out of memory\n",
     }
 }

@@ -1,5 +1,6 @@
-use Rattle.std.proofs.Common.{◌≡◌, ℕ, List, [], ◌∷◌, ◌++◌, Option, Result, Ok, Err, sym}
-use Rattle.std.specs.Prelude.{IfErr, codes}
+use Rattle.std.proofs.Common.{◌≡◌, ◌≢◌, ℕ, Bool, true, false, List, [], ◌∷◌, ◌++◌, Option, Result}
+use Rattle.std.proofs.Common.{Ok, Err, refl, sym}
+use Rattle.std.specs.Prelude.{IfErr, IsOk, MatchResult, codes}
 use Rattle.std.specs.Io.KnownBytes.{Appends}
 use Rattle.sock_diag_lines.specs.RunSteps.{failure_line}
 use Rattle.line_server.specs.declared.stream.RunError.{RunError}
@@ -7,37 +8,49 @@ use Rattle.line_server.specs.declared.stream.RunError.TheVariants.{Read, Write, 
 use Rattle.line_server.proofs.RunLemmas.{from_on_ok}
 use Rattle.sock_diag_lines.proofs.run_to_status.Goals as goal
 
+-- it came to the end where the status is not 1
+ended_well : (outcome : Result Bool RunError) (status : ℕ) (P : Bool → Type 0)
+    → MatchResult outcome P (λ _. status ≡ 1) → status ≢ 1 → IsOk outcome
+ended_well (Ok good) status P h other = refl
+ended_well (Err e) status P h other = absurd (other h)
+
 pub returns-clause-ended : goal.returns-clause-ended
 returns-clause-ended g c =
-    λ zero. from_on_ok c.run-outcome.result (c.exit_code.ensures.ended.0 zero)
-    c.run-outcome.ensures.ended
+    λ other. from_on_ok c.run-outcome.result
+    (ended_well c.run-outcome.result _ _ c.exit_code.ensures other) c.run-outcome.ensures.ended
 
 pub returns-clause-complete : goal.returns-clause-complete
 returns-clause-complete g c =
-    λ zero. from_on_ok c.run-outcome.result (c.exit_code.ensures.ended.0 zero)
-    c.run-outcome.ensures.complete
+    λ other. from_on_ok c.run-outcome.result
+    (ended_well c.run-outcome.result _ _ c.exit_code.ensures other) c.run-outcome.ensures.complete
+
+pub returns-clause-silent : goal.returns-clause-silent
+returns-clause-silent g c =
+    λ other. c.tell.ensures.silent (ended_well c.run-outcome.result _ _ c.exit_code.ensures other)
 
 -- the line is that of the failure
-tells : (contents contents' : Option (List ℕ)) (outcome : Result Unit RunError)
+tells : (contents contents' : Option (List ℕ)) (outcome : Result Bool RunError)
     → IfErr outcome (λ e. (told : List ℕ) × ((more : List ℕ) × (failure_line e ≡ told ++ more))
     × Appends contents contents' told)
     → IfErr outcome (λ e. (told more : List ℕ) × Appends contents contents' told
     × (e ≡ Read → told ++ more ≡ codes "sockdiag: reading failed" ++ 10 ∷ [])
-    × (e ≡ Write → told ++ more ≡ codes "sockdiag: writing failed" ++ 10 ∷ [])
+    × (e ≡ Write false → told ++ more ≡ codes "sockdiag: writing failed" ++ 10 ∷ [])
+    × (e ≡ Write true → told ++ more ≡ [])
     × (e ≡ Memory → told ++ more ≡ codes "sockdiag: out of memory" ++ 10 ∷ []))
-tells contents contents' (Ok done) h = h
+tells contents contents' (Ok good) h = h
 tells contents contents' (Err Read) (told, (more, e), appended) =
-    (told, more, appended, λ is. sym e, λ is. cc, λ is. cc)
-tells contents contents' (Err Write) (told, (more, e), appended) =
-    (told, more, appended, λ is. cc, λ is. sym e, λ is. cc)
+    (told, more, appended, λ is. sym e, λ is. cc, λ is. cc, λ is. cc)
+tells contents contents' (Err (Write false)) (told, (more, e), appended) =
+    (told, more, appended, λ is. cc, λ is. sym e, λ is. cc, λ is. cc)
+tells contents contents' (Err (Write true)) (told, (more, e), appended) =
+    (told, more, appended, λ is. cc, λ is. cc, λ is. sym e, λ is. cc)
 tells contents contents' (Err Memory) (told, (more, e), appended) =
-    (told, more, appended, λ is. cc, λ is. cc, λ is. sym e)
+    (told, more, appended, λ is. cc, λ is. cc, λ is. cc, λ is. sym e)
 
 pub returns-clause-answered : goal.returns-clause-answered
 returns-clause-answered g c = λ f right. (
   c.run-outcome.result,
-  c.exit_code.ensures.ended,
-  c.exit_code.ensures.failed,
+  c.exit_code.ensures,
   c.run-outcome.ensures.answered f right,
   tells _ _ c.run-outcome.result c.tell.ensures.told,
 )

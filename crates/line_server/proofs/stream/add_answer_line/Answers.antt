@@ -5,6 +5,8 @@ pub returns : goal.returns
 returns g c = λ line asks.
     let answers = c.args.answers.now.items in
     let f = g.S.Start.answer in
-    let same = c.in_ok-push_answer.ensures line (f line) asks (c.requires line) in
-    c.in_ok-push.ensures.items ∙ ap (λ t. t ++ 10 ∷ []) same
-    ∙ append_assoc answers (f line) (10 ∷ [])
+    let (same, judged) = c.in_ok-is_good.ensures line (f line) asks (c.requires line) in (
+      c.in_ok-push.ensures.items ∙ ap (λ t. t ++ 10 ∷ []) same
+          ∙ append_assoc answers (f line) (10 ∷ []),
+      judged,
+    )

@@ -9,7 +9,7 @@ pub lines-init : goal.lines-init
 lines-init g c = (
   [],
   refl,
-  piece_begun g.S.Start.answer c.args.kept.now.line.items
+  piece_begun g.S.Start.answer g.A.LineAnswers.good c.args.kept.now.line.items
       c.args.kept.now.answers.items c.requires.0,
 )
 
@@ -24,14 +24,15 @@ lines-preserved g c =
     let left = take (length rest - (n + 1)) (drop (n + 1) rest) in
     let start = c.args.kept.now.line.items in
     let answers = c.args.kept.now.answers.items in
-    let base = piece_line f (start ++ front) c.lines.kept.line.items (take n rest) answers
-    c.lines.kept.answers.items p before in (
+    let base = piece_line f g.A.LineAnswers.good (start ++ front) c.lines.kept.line.items
+    (take n rest) answers c.lines.kept.answers.items c.lines.is_good
+    c.in_ok-is_line_good.is_line_good p before c.in_ok-is_line_good.ensures.judged in (
       front ++ more,
       split ∙ ap (λ t. front ++ t) (cut ∙ ap (λ t. more ++ t) (sym (take_rest rest (n + 1))))
           ∙ sym (append_assoc front more left),
       rw (
-        c.in_ok-end_line.ensures.added.0,
-        c.in_ok-end_line.ensures.added.1,
+        c.in_ok-is_line_good.ensures.added.0,
+        c.in_ok-is_line_good.ensures.added.1,
         ← append_assoc start front more,
       ) base,
     )
@@ -43,5 +44,6 @@ returns g c =
     let rest = c.lines.rest.now in
     let start = c.args.kept.now.line.items in
     rw (c.in_ok-extend_from_slice.ensures.items, split, ← append_assoc start front rest)
-    (piece_rest f (start ++ front) c.lines.kept.line.items rest c.args.kept.now.answers.items
-    c.lines.kept.answers.items p (line_without_feed rest c.in_default.ensures))
+    (piece_rest f g.A.LineAnswers.good (start ++ front) c.lines.kept.line.items rest
+    c.args.kept.now.answers.items c.lines.kept.answers.items c.lines.is_good p
+    (line_without_feed rest c.in_default.ensures))

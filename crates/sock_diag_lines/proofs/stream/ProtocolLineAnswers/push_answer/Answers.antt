@@ -1,11 +1,21 @@
-use Rattle.std.proofs.Common.{◌++◌, ap, ◌∙◌}
-use Rattle.std.proofs.lemmas.Result.{on_ok_weaker}
+use Rattle.std.proofs.Common.{◌≡◌, ◌++◌, drop, ap, ◌∙◌}
+use Rattle.std.proofs.lemmas.List.{take_rest}
+use Rattle.std.proofs.Math.Seq.{drop-append_seam}
+use Rattle.sock_diag_lines.specs.Answer.{is_good}
 use Rattle.sock_diag_lines.proofs.AnswerLemmas.{one_answer, read_answer}
 use Rattle.sock_diag_lines.proofs.stream.ProtocolLineAnswers.push_answer.Goals as goal
 
 pub returns : goal.returns
-returns c = on_ok_weaker c.push_told.result
-    (λ adds line answer asks right. adds.1 ∙ ap (λ t. c.args.text.now.items ++ t)
-    (one_answer line adds.0 answer (read_answer line c.args.asked c.args.bytes.now adds.0 asks
-    adds.2) right))
-    c.push_told.ensures
+returns c = λ line answer asks right.
+    let (more, is, adds) = c.in_ok-push_told.ensures in
+    let old = c.args.text.now.items in
+    let start = c.len-start.result in
+    let same : more ≡ answer = one_answer line more answer
+    (read_answer line c.args.asked c.args.bytes.now more asks adds) right in (
+      is ∙ ap (λ t. old ++ t) same,
+      c.is_good.ensures
+          ∙ ap is_good (take_rest c.deref.result.now start
+          ∙ ap (drop start) (c.deref.ensures.value ∙ is)
+          ∙ ap (λ n. drop n (old ++ more)) (c.len-start.ensures ∙ c.args.text.now.ok.0)
+          ∙ drop-append_seam old more ∙ same),
+    )
