@@ -164,7 +164,7 @@ def timer(milliseconds):
 
 def listed(capture):
     """The sockets that sslist shows, each by its key and place, and what it says on standard error."""
-    run = subprocess.run([LISTER], stdin=open(capture, "rb"), capture_output=True, check=False)
+    run = subprocess.run([LISTER, capture], capture_output=True, check=False)
     sockets, last = {}, None
     for line in run.stdout.decode("ascii").splitlines()[1:]:
         if not line.startswith("\t"):

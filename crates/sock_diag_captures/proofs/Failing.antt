@@ -7,18 +7,22 @@ use Rattle.std.specs.Io.KnownBytes.{Appends, Consumes, Keeps, append_known}
 use Rattle.std.proofs.KnownBytes.{Appends-kept, Appends-trans, Consumes-nil, Consumes-trans}
 use Rattle.std.proofs.KnownBytes.{Keeps-refl}
 use Rattle.sock_diag_captures.specs.Capture.{IsFileHeader, IsHeaderStop, IsPacketStop, IsRecord}
+use Rattle.sock_diag_captures.specs.Capture.{Recorded}
 use Rattle.sock_diag_captures.specs.declared.capture.CaptureError.{CaptureError}
 use Rattle.sock_diag_captures.specs.declared.capture.CaptureError.TheVariants.{Cut}
 use Rattle.sock_diag_captures.specs.declared.capture.CaptureError.TheVariants.{PacketTooLong}
+use Rattle.sock_diag_captures.specs.declared.capture.CaptureError.TheVariants.{Directory}
 use Rattle.sock_diag_captures.specs.declared.capture.CaptureError.TheVariants.{Read}
 use Rattle.sock_diag_captures.specs.declared.capture.CaptureError.TheVariants.{Memory as NoMemory}
 use Rattle.sock_diag_captures.specs.declared.capture.FileHeader.{FileHeader}
 use Rattle.sock_diag_captures.specs.declared.stream.RunError.{RunError}
 use Rattle.sock_diag_captures.specs.declared.stream.RunError.TheVariants.{Header, Packet, Write}
-use Rattle.sock_diag_captures.specs.declared.stream.RunError.TheVariants.{Memory}
+use Rattle.sock_diag_captures.specs.declared.stream.RunError.TheVariants.{Closed, Memory}
 use Rattle.sock_diag_captures.specs.Listing.{asked_after}
+use Rattle.sock_diag_captures.specs.declared.options.Options.{Options}
 use Rattle.sock_diag_captures.specs.declared.requests.Asked.{Asked}
-use Rattle.sock_diag_captures.specs.Run.{Fails, IsListed, IsTable, Stands, Told, lines_told}
+use Rattle.sock_diag_captures.specs.Streams.{IsWriteFailure}
+use Rattle.sock_diag_captures.specs.Run.{Breaks, Fails, IsListed, IsTable, Stands, Told, lines_told}
 use Rattle.sock_diag_captures.proofs.Progress.{Progress, goes_on_part, goes_on_whole, lines_push}
 use Rattle.sock_diag_captures.proofs.Progress.{progress_begins}
 
@@ -28,8 +32,9 @@ stop_weaker : (file : FileHeader) (left : Option (List ℕ)) (A B : Type 0) (par
     → IsPacketStop file left A part fault → IsPacketStop file left (A ⊎ B) part fault
 stop_weaker file left A B part Cut h = h
 stop_weaker file left A B part Read h = (h.0, inl h.1)
+stop_weaker file left A B part Directory h = (h.0, inl h.1)
 stop_weaker file left A B part NoMemory h = h
-stop_weaker file left A B part (PacketTooLong told most) h = h
+stop_weaker file left A B part (PacketTooLong told) h = h
 stop_weaker file left A B part _ h = h
 
 bool_cases : (b : Bool) → (b ≡ true) ⊎ (b ≡ false)
@@ -41,31 +46,40 @@ appended_known : (held : Option (List ℕ)) (more : List ℕ)
 appended_known None more = tt
 appended_known (Some xs) more = refl
 
+-- a packet that could not be read is no failed write
+pub no_write : (number : ℕ) (fault : CaptureError) (e : RunError) (P : Type 0)
+    → e ≡ Packet number fault → IsWriteFailure e → P
+no_write number fault e P is (inl write) = absurd cc
+no_write number fault e P is (inr closed) = absurd cc
+
 -- the header could not be read
-pub fails_at_header : (a d x : Option (List ℕ)) (heading : List ℕ) (unread : Type 0) (e : RunError)
+pub fails_at_header : (o : Options) (a d x : Option (List ℕ)) (heading : List ℕ) (unread : Type 0) (e : RunError)
     → ((fault : CaptureError) × (e ≡ Header fault) × (part : List ℕ) × Consumes a d part
     × IsHeaderStop d unread part fault)
-    → Fails a d x x heading unread e
-fails_at_header a d x heading unread e (fault, is, part, read, stop) =
-    subst (λ (e : RunError). Fails a d x x heading unread e) (sym is)
+    → Fails o a d x x heading unread e
+fails_at_header o a d x heading unread e (fault, is, part, read, stop) =
+    subst (λ (e : RunError). Fails o a d x x heading unread e) (sym is)
     (part, read, stop, Keeps-refl x)
 
 -- the heading could not be written, or the table of what was read
-pub fails_at_write : (a d x z : Option (List ℕ)) (heading bytes lines : List ℕ) (whole : Bool)
+pub fails_at_write : (o : Options) (a d x z : Option (List ℕ)) (heading bytes lines : List ℕ) (whole : Bool)
     (unread : Type 0) (e : RunError)
-    → e ≡ Write → IsTable bytes lines whole → Consumes a d bytes
+    → IsWriteFailure e → IsTable o bytes lines whole → Consumes a d bytes
     → (front rest : List ℕ) → heading ++ lines ≡ front ++ rest → Appends x z front
-    → Fails a d x z heading unread e
-fails_at_write a d x z heading bytes lines whole unread e is table read front rest split appended =
-    subst (λ (e : RunError). Fails a d x z heading unread e) (sym is)
-    (bytes, lines, whole, table, read, front, rest, split, appended)
+    → Fails o a d x z heading unread e
+fails_at_write o a d x z heading bytes lines whole unread e is table read front rest split appended =
+    let breaks : Breaks o a d x z heading =
+    (bytes, lines, whole, table, read, front, rest, split, appended) in elim is [
+      | inl write ↦ subst (λ (e : RunError). Fails o a d x z heading unread e) (sym write) breaks
+      | inr closed ↦ subst (λ (e : RunError). Fails o a d x z heading unread e) (sym closed) breaks
+    ]
 
-module _ (file : FileHeader) (header : List ℕ) (long : length header ≡ 24)
+module _ (o : Options) (file : FileHeader) (header : List ℕ) (long : length header ≡ 24)
     (is : IsFileHeader header file) where
   -- the table of the packets so far
   abbrev pub table_of : (b c y z : Option (List ℕ)) (asked : List Asked) (whole : Bool) (number : ℕ)
-      (p : Progress (IsRecord file) b c y z asked whole number)
-      → IsTable (header ++ p.records) (flat_map lines_told p.told) whole
+      (p : Progress o (IsRecord file) b c y z asked whole number)
+      → IsTable o (header ++ p.records) (flat_map lines_told p.told) whole
   table_of b c y z asked whole number p = record {
     file = file;
     header = header;
@@ -84,9 +98,9 @@ module _ (file : FileHeader) (header : List ℕ) (long : length header ≡ 24)
   -- the packets so far stand, and more was read
   stands : (a b c d x y z : Option (List ℕ)) (heading more : List ℕ) (asked : List Asked)
       (whole : Bool) (number : ℕ)
-      (p : Progress (IsRecord file) b c y z asked whole number)
+      (p : Progress o (IsRecord file) b c y z asked whole number)
       → Consumes a b header → Consumes c d more → Appends x y heading
-      → Stands a d x z heading file (length p.packets) more
+      → Stands o a d x z heading file (length p.packets) more
   stands a b c d x y z heading more asked whole number p first last begun = record {
     bytes = header ++ p.records;
     lines = flat_map lines_told p.told;
@@ -101,26 +115,26 @@ module _ (file : FileHeader) (header : List ℕ) (long : length header ≡ 24)
 
   -- the heading could not be written
   pub fails_at_heading : (a b x z : Option (List ℕ)) (heading : List ℕ) (unread : Type 0)
-      (e : RunError) → e ≡ Write
+      (e : RunError) → IsWriteFailure e
       → Consumes a b header → (front rest : List ℕ) → heading ≡ front ++ rest → Appends x z front
-      → Fails a b x z heading unread e
+      → Fails o a b x z heading unread e
   fails_at_heading a b x z heading unread e write first front rest split appended =
-      fails_at_write a b x z heading (header ++ []) [] true unread e write
-      (table_of b b x x [] true 1 (progress_begins (IsRecord file) b x))
+      fails_at_write o a b x z heading (header ++ []) [] true unread e write
+      (table_of b b x x [] true 1 (progress_begins o (IsRecord file) b x))
       (Consumes-trans a b b header [] first (Consumes-nil b)) front rest (append-nil heading
       ∙ split) appended
 
   module _ (a b c x y z : Option (List ℕ)) (heading : List ℕ) (asked : List Asked) (whole : Bool)
       (number : ℕ)
-      (p : Progress (IsRecord file) b c y z asked whole number)
+      (p : Progress o (IsRecord file) b c y z asked whole number)
       (first : Consumes a b header) (begun : Appends x y heading) where
     -- a packet could not be read
     pub fails_at_packet : (d : Option (List ℕ)) (unread : Type 0) (e : RunError)
         → ((fault : CaptureError) × (e ≡ Packet number fault) × (part : List ℕ) × Consumes c d part
         × IsPacketStop file d unread part fault)
-        → Fails a d x z heading unread e
+        → Fails o a d x z heading unread e
     fails_at_packet d unread e (fault, same, part, read, stop) =
-        subst (λ (e : RunError). Fails a d x z heading unread e) (sym same) (
+        subst (λ (e : RunError). Fails o a d x z heading unread e) (sym same) (
           file,
           length p.packets,
           part,
@@ -131,7 +145,7 @@ module _ (file : FileHeader) (header : List ℕ) (long : length header ≡ 24)
 
     -- no number is left for the next packet
     pub fails_past_numbers : (unread : Type 0) → number ≡ 2 ^ 64 - 1
-        → Fails a c x z heading unread (Packet (2 ^ 64 - 1) Read)
+        → Fails o a c x z heading unread (Packet (2 ^ 64 - 1) Read)
     fails_past_numbers unread last = (
       file,
       length p.packets,
@@ -143,29 +157,29 @@ module _ (file : FileHeader) (header : List ℕ) (long : length header ≡ 24)
 
     -- memory ran out for the lines of a packet
     pub fails_at_memory : (d : Option (List ℕ)) (unread : Type 0) (e : RunError)
-        (head packet : List ℕ) → e ≡ Memory
-        → IsRecord file head packet → Consumes c d (head ++ packet) → Fails a d x z heading unread e
+        (head : List ℕ) (packet : Recorded) → e ≡ Memory
+        → IsRecord file head packet → Consumes c d (head ++ packet.bytes) → Fails o a d x z heading unread e
     fails_at_memory d unread e head packet memory record_of read =
-        subst (λ (e : RunError). Fails a d x z heading unread e) (sym memory) (
+        subst (λ (e : RunError). Fails o a d x z heading unread e) (sym memory) (
           file,
           length p.packets,
           head,
           packet,
           record_of,
-          stands a b c d x y z heading (head ++ packet) asked whole number p first read begun,
+          stands a b c d x y z heading (head ++ packet.bytes) asked whole number p first read begun,
         )
 
     -- the last flush failed
-    pub fails_at_flush : (d z' : Option (List ℕ)) (unread : Type 0) (e : RunError) → e ≡ Write
+    pub fails_at_flush : (d z' : Option (List ℕ)) (unread : Type 0) (e : RunError) → IsWriteFailure e
         → Consumes c d [] → Keeps z z'
-        → Fails a d x z' heading unread e
+        → Fails o a d x z' heading unread e
     fails_at_flush d z' unread e write last kept =
         let lines = flat_map lines_told p.told in
         let read : Consumes a d (header ++ p.records) =
         subst (Consumes a d) (append-nil (header ++ p.records))
         (Consumes-trans a c d (header ++ p.records) []
         (Consumes-trans a b c header p.records first p.read) last) in
-        fails_at_write a d x z' heading (header ++ p.records) lines whole unread e write
+        fails_at_write o a d x z' heading (header ++ p.records) lines whole unread e write
         (table_of b c y z asked whole number p)
         read (heading ++ lines) [] (sym (append-nil (heading ++ lines)))
         (Appends-kept x z z' (heading ++ lines)
@@ -173,13 +187,13 @@ module _ (file : FileHeader) (header : List ℕ) (long : length header ≡ 24)
 
     -- the lines of a packet could not be written
     pub fails_at_lines : (d z' : Option (List ℕ)) (unread : Type 0) (e : RunError)
-        (head packet lines : List ℕ) (asked' : List Asked) (one : Bool) → e ≡ Write
-        → IsRecord file head packet → asked' ≡ asked_after asked packet
-        → IsListed asked' packet (record { lines = lines; whole = one })
-        → Consumes c d (head ++ packet)
+        (head lines : List ℕ) (packet : Recorded) (asked' : List Asked) (one : Bool) → IsWriteFailure e
+        → IsRecord file head packet → asked' ≡ asked_after asked packet.bytes
+        → IsListed o asked' packet (record { lines = lines; whole = one })
+        → Consumes c d (head ++ packet.bytes)
         → (front rest : List ℕ) → lines ≡ front ++ rest → Appends z z' front
-        → Fails a d x z' heading unread e
-    fails_at_lines d z' unread e head packet lines asked' one write record_of next listed read
+        → Fails o a d x z' heading unread e
+    fails_at_lines d z' unread e head lines packet asked' one write record_of next listed read
         front rest split appended =
         let before = flat_map lines_told p.told in
         let new : Told = record { lines = lines; whole = one } in
@@ -194,18 +208,18 @@ module _ (file : FileHeader) (header : List ℕ) (long : length header ≡ 24)
         let all : Appends x z' ((heading ++ before) ++ front) =
         Appends-trans x z z' (heading ++ before) front
         (Appends-trans x y z heading before begun p.appended) appended in
-        let bytes : Consumes a d (header ++ (p.records ++ (head ++ packet))) =
-        Consumes-trans a b d header (p.records ++ (head ++ packet)) first
-        (Consumes-trans b c d p.records (head ++ packet) p.read read) in
+        let bytes : Consumes a d (header ++ (p.records ++ (head ++ packet.bytes))) =
+        Consumes-trans a b d header (p.records ++ (head ++ packet.bytes)) first
+        (Consumes-trans b c d p.records (head ++ packet.bytes) p.read read) in
         elim (bool_cases whole) [
-          | inl t ↦ fails_at_write a d x z' heading _ _ one unread e write
+          | inl t ↦ fails_at_write o a d x z' heading _ _ one unread e write
               (table_of b d y w asked' one (number + 1)
-              (goes_on_whole (IsRecord file) b c d y z w head packet lines asked asked' one whole
+              (goes_on_whole o (IsRecord file) b c d y z w head lines packet asked asked' one whole
               number t p record_of next listed read wrote))
               bytes ((heading ++ before) ++ front) rest joined all
-          | inr f ↦ fails_at_write a d x z' heading _ _ whole unread e write
+          | inr f ↦ fails_at_write o a d x z' heading _ _ whole unread e write
               (table_of b d y w asked' whole (number + 1)
-              (goes_on_part (IsRecord file) b c d y z w head packet lines asked asked' one whole
+              (goes_on_part o (IsRecord file) b c d y z w head lines packet asked asked' one whole
               number f p record_of next listed read wrote))
               bytes ((heading ++ before) ++ front) rest joined all
         ]

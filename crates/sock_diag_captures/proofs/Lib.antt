@@ -1,4 +1,5 @@
 pub mod Adding
+pub mod Apart
 pub mod PieceWalk
 pub mod Asking
 pub mod Listings

@@ -7,9 +7,11 @@ use Rattle.std.specs.List.{AllByRecursion}
 use Rattle.std.specs.Io.KnownBytes.{Appends, Consumes}
 use Rattle.std.proofs.KnownBytes.{Appends-nil, Appends-trans, Consumes-nil, Consumes-trans}
 use Rattle.std.proofs.lemmas.Grind.{flat_map-append}
+use Rattle.sock_diag_captures.specs.Capture.{Recorded}
 use Rattle.sock_diag_captures.specs.Listing.{asked_after}
 use Rattle.sock_diag_captures.specs.Run.{AreListed, ArePackets, IsListed, IsWhole, Told}
 use Rattle.sock_diag_captures.specs.Run.{lines_told}
+use Rattle.sock_diag_captures.specs.declared.options.Options.{Options}
 use Rattle.sock_diag_captures.specs.declared.requests.Asked.{Asked}
 
 pub not_both : (b : Bool) → b ≡ false → b ≡ true → ⊥
@@ -35,50 +37,51 @@ lines_push xs x = flat_map-append lines_told xs (x ∷ [])
     ∙ ap (λ (t : List ℕ). flat_map lines_told xs ++ t) (append-nil x.lines)
 
 -- the requests that were seen after these packets
-pub asked_from : List Asked → List (List ℕ) → List Asked
+pub asked_from : List Asked → List Recorded → List Asked
 asked_from asked [] = asked
-asked_from asked (p ∷ ps) = asked_from (asked_after asked p) ps
+asked_from asked (p ∷ ps) = asked_from (asked_after asked p.bytes) ps
 
 -- one more packet is listed
-pub listed_push : (asked : List Asked) (ps : List (List ℕ)) (xs : List Told) (p : List ℕ) (x : Told)
-    → AreListed asked ps xs → IsListed (asked_after (asked_from asked ps) p) p x
-    → AreListed asked (ps ++ p ∷ []) (xs ++ x ∷ [])
+pub listed_push : (o : Options) (asked : List Asked) (ps : List Recorded) (xs : List Told) (p : Recorded) (x : Told)
+    → AreListed o asked ps xs → IsListed o (asked_after (asked_from asked ps) p.bytes) p x
+    → AreListed o asked (ps ++ p ∷ []) (xs ++ x ∷ [])
 unfolding asked_from
-listed_push asked [] [] p x h is = (is, tt)
-listed_push asked [] (y ∷ xs) p x h is = absurd h
-listed_push asked (q ∷ ps) [] p x h is = absurd h
-listed_push asked (q ∷ ps) (y ∷ xs) p x h is =
-    (h.0, listed_push (asked_after asked q) ps xs p x h.1 is)
+listed_push o asked [] [] p x h is = (is, tt)
+listed_push o asked [] (y ∷ xs) p x h is = absurd h
+listed_push o asked (q ∷ ps) [] p x h is = absurd h
+listed_push o asked (q ∷ ps) (y ∷ xs) p x h is =
+    (h.0, listed_push o (asked_after asked q.bytes) ps xs p x h.1 is)
 
 -- and the requests seen then
-pub asked_push : (asked : List Asked) (ps : List (List ℕ)) (p : List ℕ)
-    → asked_from asked (ps ++ p ∷ []) ≡ asked_after (asked_from asked ps) p
+pub asked_push : (asked : List Asked) (ps : List Recorded) (p : Recorded)
+    → asked_from asked (ps ++ p ∷ []) ≡ asked_after (asked_from asked ps) p.bytes
 unfolding asked_from
 asked_push asked [] p = refl
-asked_push asked (q ∷ ps) p = asked_push (asked_after asked q) ps p
+asked_push asked (q ∷ ps) p = asked_push (asked_after asked q.bytes) ps p
 
 -- before the first packet none was
 pub none_asked : asked_from [] [] ≡ []
 unfolding asked_from
 none_asked = refl
 
-module _ (R : List ℕ → List ℕ → Type 0) where
-  pub packets_push : (bytes : List ℕ) (ps : List (List ℕ)) (header p : List ℕ)
-      → ArePackets R bytes ps → R header p → ArePackets R (bytes ++ (header ++ p)) (ps ++ p ∷ [])
+module _ (o : Options) (R : List ℕ → Recorded → Type 0) where
+  pub packets_push : (bytes : List ℕ) (ps : List Recorded) (header : List ℕ) (p : Recorded)
+      → ArePackets R bytes ps → R header p
+      → ArePackets R (bytes ++ (header ++ p.bytes)) (ps ++ p ∷ [])
   packets_push bytes [] header p h is = (
     header,
     [],
     is,
-    ap (λ (b : List ℕ). b ++ (header ++ p)) h
-        ∙ sym (append-nil (header ++ p)),
+    ap (λ (b : List ℕ). b ++ (header ++ p.bytes)) h
+        ∙ sym (append-nil (header ++ p.bytes)),
     refl,
   )
   packets_push bytes (q ∷ ps) header p h is = (
     h.0,
-    h.1 ++ (header ++ p),
+    h.1 ++ (header ++ p.bytes),
     h.2,
-    ap (λ (b : List ℕ). b ++ (header ++ p)) h.3
-        ∙ append_assoc (h.0 ++ q) h.1 (header ++ p),
+    ap (λ (b : List ℕ). b ++ (header ++ p.bytes)) h.3
+        ∙ append_assoc (h.0 ++ q.bytes) h.1 (header ++ p.bytes),
     packets_push h.1 ps header p h.4 is,
   )
 
@@ -87,11 +90,11 @@ module _ (R : List ℕ → List ℕ → Type 0) where
   pub record Progress (remaining remaining' contents contents' : Option (List ℕ))
       (asked : List Asked) (is_whole : Bool) (number : ℕ) : Type 0 where
     pub records : List ℕ
-    pub packets : List (List ℕ)
+    pub packets : List Recorded
     pub told : List Told
     pub read : Consumes remaining remaining' records
     pub are_packets : ArePackets R records packets
-    pub listed : AreListed [] packets told
+    pub listed : AreListed o [] packets told
     pub seen : asked ≡ asked_from [] packets
     pub appended : Appends contents contents' (flat_map lines_told told)
     pub flagged : IsTrue is_whole → AllByRecursion IsWhole told
@@ -115,27 +118,27 @@ module _ (R : List ℕ → List ℕ → Type 0) where
   }
 
   -- one more packet is read and listed
-  abbrev pub progress_goes_on : (a b c x y z : Option (List ℕ)) (header p lines : List ℕ)
+  abbrev pub progress_goes_on : (a b c x y z : Option (List ℕ)) (header lines : List ℕ) (p : Recorded)
       (asked asked' : List Asked) (one whole whole' : Bool) (number : ℕ)
       → Progress a b x y asked whole number
-      → R header p → asked' ≡ asked_after asked p
-      → IsListed asked' p (record { lines = lines; whole = one }) → Consumes b c (header ++ p)
+      → R header p → asked' ≡ asked_after asked p.bytes
+      → IsListed o asked' p (record { lines = lines; whole = one }) → Consumes b c (header ++ p.bytes)
       → Appends y z lines
       → (IsTrue whole' → IsTrue whole) → (IsTrue whole' → IsTrue one)
       → (IsTrue whole → IsTrue one → IsTrue whole')
       → Progress a c x z asked' whole' (number + 1)
-  progress_goes_on a b c x y z header p lines asked asked' one whole whole' number so_far is next
+  progress_goes_on a b c x y z header lines p asked asked' one whole whole' number so_far is next
       listed read appended front last both =
       let new : Told = record { lines = lines; whole = one } in
-      let after : asked' ≡ asked_after (asked_from [] so_far.packets) p =
-      next ∙ ap (λ (q : List Asked). asked_after q p) so_far.seen in record {
-        records = so_far.records ++ (header ++ p);
+      let after : asked' ≡ asked_after (asked_from [] so_far.packets) p.bytes =
+      next ∙ ap (λ (q : List Asked). asked_after q p.bytes) so_far.seen in record {
+        records = so_far.records ++ (header ++ p.bytes);
         packets = so_far.packets ++ p ∷ [];
         told = so_far.told ++ new ∷ [];
-        read = Consumes-trans a b c so_far.records (header ++ p) so_far.read read;
+        read = Consumes-trans a b c so_far.records (header ++ p.bytes) so_far.read read;
         are_packets = packets_push so_far.records so_far.packets header p so_far.are_packets is;
-        listed = listed_push [] so_far.packets so_far.told p new so_far.listed
-            (subst (λ (q : List Asked). IsListed q p new) after listed);
+        listed = listed_push o [] so_far.packets so_far.told p new so_far.listed
+            (subst (λ (q : List Asked). IsListed o q p new) after listed);
         seen = after ∙ sym (asked_push [] so_far.packets p);
         appended = subst (λ (t : List ℕ). Appends x z t) (sym (lines_push so_far.told new))
             (Appends-trans x y z (flat_map lines_told so_far.told) lines so_far.appended appended);
@@ -146,26 +149,26 @@ module _ (R : List ℕ → List ℕ → Type 0) where
       }
 
   -- all packets before were listed whole
-  abbrev pub goes_on_whole : (a b c x y z : Option (List ℕ)) (header p lines : List ℕ)
+  abbrev pub goes_on_whole : (a b c x y z : Option (List ℕ)) (header lines : List ℕ) (p : Recorded)
       (asked asked' : List Asked) (one whole : Bool) (number : ℕ) → whole ≡ true
       → Progress a b x y asked whole number
-      → R header p → asked' ≡ asked_after asked p
-      → IsListed asked' p (record { lines = lines; whole = one }) → Consumes b c (header ++ p)
+      → R header p → asked' ≡ asked_after asked p.bytes
+      → IsListed o asked' p (record { lines = lines; whole = one }) → Consumes b c (header ++ p.bytes)
       → Appends y z lines → Progress a c x z asked' one (number + 1)
-  goes_on_whole a b c x y z header p lines asked asked' one whole number is_whole so_far is next
+  goes_on_whole a b c x y z header lines p asked asked' one whole number is_whole so_far is next
       listed read appended =
-      progress_goes_on a b c x y z header p lines asked asked' one whole one number so_far is next
+      progress_goes_on a b c x y z header lines p asked asked' one whole one number so_far is next
       listed read appended (λ _. is_whole) (λ h. h) (λ _ h. h)
 
   -- one of those before was not
-  abbrev pub goes_on_part : (a b c x y z : Option (List ℕ)) (header p lines : List ℕ)
+  abbrev pub goes_on_part : (a b c x y z : Option (List ℕ)) (header lines : List ℕ) (p : Recorded)
       (asked asked' : List Asked) (one whole : Bool) (number : ℕ) → whole ≡ false
       → Progress a b x y asked whole number
-      → R header p → asked' ≡ asked_after asked p
-      → IsListed asked' p (record { lines = lines; whole = one }) → Consumes b c (header ++ p)
+      → R header p → asked' ≡ asked_after asked p.bytes
+      → IsListed o asked' p (record { lines = lines; whole = one }) → Consumes b c (header ++ p.bytes)
       → Appends y z lines → Progress a c x z asked' whole (number + 1)
-  goes_on_part a b c x y z header p lines asked asked' one whole number is_part so_far is next
+  goes_on_part a b c x y z header lines p asked asked' one whole number is_part so_far is next
       listed read appended =
-      progress_goes_on a b c x y z header p lines asked asked' one whole whole number so_far is
+      progress_goes_on a b c x y z header lines p asked asked' one whole whole number so_far is
       next listed read appended
       (λ h. h) (λ h. absurd (not_both whole is_part h)) (λ h _. h)

@@ -8,6 +8,8 @@ use Rattle.std.proofs.KnownBytes.{Consumes-trans}
 use Rattle.sock_diag_captures.specs.Capture.{IsPacketStop, IsStartStop, IsStop, number_at}
 use Rattle.sock_diag_captures.specs.declared.capture.CaptureError.{CaptureError}
 use Rattle.sock_diag_captures.specs.declared.capture.CaptureError.TheVariants.{Read, Memory, Cut}
+use Rattle.sock_diag_captures.specs.declared.capture.CaptureError.TheVariants.{Directory}
+use Rattle.sock_diag_captures.specs.Streams.{IsReadFailure}
 use Rattle.sock_diag_captures.specs.declared.capture.FileHeader.{FileHeader}
 
 within : (file : FileHeader) (left : Option (List ℕ)) (failed : Type 0) (header part : List ℕ)
@@ -18,19 +20,30 @@ within file left failed header part Cut long short stop =
     (omega (arith, length-append header part), inr (header, part, refl, long, short), stop)
 within file left failed header part Read long short stop =
     (inr (header, part, refl, long, short), stop)
+within file left failed header part Directory long short stop =
+    (inr (header, part, refl, long, short), stop)
 within file left failed header part _ long short stop = absurd stop
+
+-- a read failed
+pub failure_stops : (left : Option (List ℕ)) (failed : Type 0) (e : CaptureError) → IsReadFailure e
+    → failed → IsStop left failed e
+failure_stops left failed e is cause = elim is [
+  | inl read ↦ subst (λ (e : CaptureError). IsStop left failed e) (sym read) cause
+  | inr directory ↦ subst (λ (e : CaptureError). IsStop left failed e) (sym directory) cause
+]
 
 -- the input ends within the header of a capture, or a read failed
 pub start_stops : (left : Option (List ℕ)) (failed : Type 0) (part : List ℕ) (e : CaptureError)
     → (e ≡ Cut → 0 < length part) → IsStop left failed e → IsStartStop left failed part e
 start_stops left failed part Cut some stop = (some refl, stop)
 start_stops left failed part Read some stop = stop
+start_stops left failed part Directory some stop = stop
 start_stops left failed part _ some stop = absurd stop
 
 -- the header of a packet was read, and not all of the packet
 pub packet_stops : (file : FileHeader) (a b c : Option (List ℕ)) (failed : Type 0) (header : List ℕ)
     (e : CaptureError)
-    → length header ≡ 16 → number_at file.order 4 8 header ≤ file.limit → Consumes a b header
+    → length header ≡ 16 → number_at file.order 4 8 header ≤ 262144 → Consumes a b header
     → ((part : List ℕ) × Consumes b c part
     × (((e ≡ Memory) × (part ≡ [])) ⊎ ((length part < number_at file.order 4 8 header)
     × IsStop c failed e)))

@@ -1,12 +1,13 @@
 -- Captures: the classic pcap format of netlink traffic.
-use Rattle.std.specs.Prelude.{◌≡◌, ◌≢◌, ℕ, ◌/◌, ◌^◌, ◌<◌, ◌≤◌, ◌⊎◌, ◌==◌, nat_lt}
-use Rattle.std.specs.Prelude.{if◌then◌else◌, List, [], ◌++◌, length, drop, Option}
+use Rattle.std.specs.Prelude.{◌≡◌, ◌≢◌, ℕ, ◌/◌, ◌%◌, ◌^◌, ◌<◌, ◌≤◌, ◌⊎◌, List, [], ◌++◌, length}
+use Rattle.std.specs.Prelude.{drop, Option}
 use Rattle.std.specs.Io.KnownBytes.{IsAtEnd}
 use Rattle.byteorder.specs.Endian.{big_number, little_number}
 use Rattle.sock_diag_captures.specs.declared.capture.ByteOrder.{ByteOrder}
 use Rattle.sock_diag_captures.specs.declared.capture.ByteOrder.TheVariants.{LowFirst, HighFirst}
 use Rattle.sock_diag_captures.specs.declared.capture.CaptureError.{CaptureError}
-use Rattle.sock_diag_captures.specs.declared.capture.CaptureError.TheVariants.{Read, Memory, Cut}
+use Rattle.sock_diag_captures.specs.declared.capture.CaptureError.TheVariants.{Read, Directory}
+use Rattle.sock_diag_captures.specs.declared.capture.CaptureError.TheVariants.{Memory, Cut}
 use Rattle.sock_diag_captures.specs.declared.capture.CaptureError.TheVariants.{Empty, NewFormat}
 use Rattle.sock_diag_captures.specs.declared.capture.CaptureError.TheVariants.{NoCapture, Packed}
 use Rattle.sock_diag_captures.specs.declared.capture.CaptureError.TheVariants.{OtherVersion}
@@ -23,17 +24,12 @@ number_at HighFirst count place bytes = big_number count (drop place bytes)
 abbrev pub IsMagic : ℕ → Type 0
 IsMagic n = (n ≡ 0xa1b2c3d4) ⊎ (n ≡ 0xa1b23c4d)
 
--- the most bytes of a packet: what the file says, or 262144 where it says none or more
-abbrev pub limit_of : ℕ → ℕ
-limit_of told = if told == 0 then 262144 else (if nat_lt 262144 told then 262144 else told)
-
 -- The file header, 24 bytes: the magic number at 0, the version at 4 and 6, of which the first
--- number is 2, the most bytes of a packet at 16, and the type of the link at 20, 253 for netlink.
+-- number is 2, and the type of the link in the low 16 bits of the word at 20, 253 for netlink.
 pub record IsFileHeader (bytes : List ℕ) (h : FileHeader) : Type 0 where
   pub magic : IsMagic (number_at h.order 4 0 bytes)
   pub version : number_at h.order 2 4 bytes ≡ 2
-  pub limit : h.limit ≡ limit_of (number_at h.order 4 16 bytes)
-  pub link_type : number_at h.order 4 20 bytes ≡ 253
+  pub link_type : number_at h.order 4 20 bytes % 65536 ≡ 253
 
 -- what a file is that begins with this number, read high byte first: one of pcapng, which begins
 -- with 0x0a0d0d0a, one of gzip, whose first two bytes are 0x1f8b, or another
@@ -59,14 +55,26 @@ IsFileHeaderFault bytes (OtherVersion version) =
     (order : ByteOrder) × IsMagic (number_at order 4 0 bytes) × (version ≡ number_at order 2 4 bytes) × (version ≢ 2)
 IsFileHeaderFault bytes (OtherLinkType link_type) =
     (order : ByteOrder) × IsMagic (number_at order 4 0 bytes) × (number_at order 2 4 bytes ≡ 2)
-    × (link_type ≡ number_at order 4 20 bytes) × (link_type ≢ 253)
+    × (link_type ≡ number_at order 4 20 bytes % 65536) × (link_type ≢ 253)
 IsFileHeaderFault bytes _ = ⊥
 
--- a packet behind its header of 16 bytes, which has the number of the packet's bytes at 8
-pub record IsRecord (file : FileHeader) (header packet : List ℕ) : Type 0 where
+-- a packet as the capture has it: its bytes, and how many it had when it was captured, which are
+-- more where it was cut by the snapshot length
+pub record Recorded : Type 0 where
+  pub bytes : List ℕ
+  pub whole_length : ℕ
+
+-- these bytes, of so many
+abbrev pub recorded : List ℕ → ℕ → Recorded
+recorded bytes whole_length = record { bytes = bytes; whole_length = whole_length }
+
+-- A packet behind its header of 16 bytes, which has the number of the packet's bytes at 8, and of
+-- those when it was captured at 12. A packet has at most 262144 bytes.
+pub record IsRecord (file : FileHeader) (header : List ℕ) (packet : Recorded) : Type 0 where
   pub whole : length header ≡ 16
-  pub length_word : number_at file.order 4 8 header ≡ length packet
-  pub within : length packet ≤ file.limit
+  pub length_word : number_at file.order 4 8 header ≡ length packet.bytes
+  pub whole_word : number_at file.order 4 12 header ≡ packet.whole_length
+  pub within : length packet.bytes ≤ 262144
 
 -- ---- where reading stops
 
@@ -74,6 +82,7 @@ pub record IsRecord (file : FileHeader) (header packet : List ℕ) : Type 0 wher
 abbrev pub IsStop : Option (List ℕ) → Type 0 → CaptureError → Type 0
 IsStop left failed Cut = IsAtEnd left
 IsStop left failed Read = failed
+IsStop left failed Directory = failed
 IsStop left failed _ = ⊥
 
 -- the input has no byte, ends within the header, or a read failed
@@ -81,6 +90,7 @@ abbrev pub IsStartStop : Option (List ℕ) → Type 0 → List ℕ → CaptureEr
 IsStartStop left failed part Empty = (part ≡ []) × IsAtEnd left
 IsStartStop left failed part Cut = (0 < length part) × IsAtEnd left
 IsStartStop left failed part Read = failed
+IsStartStop left failed part Directory = failed
 IsStartStop left failed part _ = ⊥
 
 -- Why no header of a capture was read, but these bytes: too few were left, a read failed, or they
@@ -98,13 +108,13 @@ IsUnfinished file part =
     × (length front < number_at file.order 4 8 header))
 
 -- Why no packet was read, but these bytes: the input ends within it, a read failed, memory ran out
--- for one that is within the limit, or its header tells a number that is past the limit.
+-- for one of at most 262144 bytes, or its header tells more.
 abbrev pub IsPacketStop : FileHeader → Option (List ℕ) → Type 0 → List ℕ → CaptureError → Type 0
 IsPacketStop file left failed part Cut = (0 < length part) × IsUnfinished file part × IsAtEnd left
 IsPacketStop file left failed part Read = IsUnfinished file part × failed
+IsPacketStop file left failed part Directory = IsUnfinished file part × failed
 IsPacketStop file left failed part Memory = (length part ≡ 16)
-    × (number_at file.order 4 8 part ≤ file.limit)
-IsPacketStop file left failed part (PacketTooLong told most) =
-    (length part ≡ 16) × (told ≡ number_at file.order 4 8 part) × (most ≡ file.limit)
-    × (file.limit < told)
+    × (number_at file.order 4 8 part ≤ 262144)
+IsPacketStop file left failed part (PacketTooLong told) =
+    (length part ≡ 16) × (told ≡ number_at file.order 4 8 part) × (262144 < told)
 IsPacketStop file left failed part _ = ⊥

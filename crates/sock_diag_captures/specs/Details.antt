@@ -1,5 +1,5 @@
 -- What stands below the line of a socket: a tab, and a word for each thing that is told.
-use Rattle.std.specs.Prelude.{ℕ, ◌==◌, ◌/◌, ◌%◌, if◌then◌else◌, List, [], ◌∷◌, ◌++◌, length, drop}
+use Rattle.std.specs.Prelude.{ℕ, ◌==◌, ◌||◌, ◌/◌, ◌%◌, if◌then◌else◌, List, [], ◌∷◌, ◌++◌, length, drop}
 use Rattle.std.specs.Prelude.{false, flat_map, codes, decimal, bit_and, slice_index, Option, None}
 use Rattle.std.specs.Prelude.{Some, Result, Ok, Err}
 use Rattle.std.specs.Fmt.{digits}
@@ -20,10 +20,15 @@ use Rattle.sock_diag_values.specs.declared.inet.tcp_info.TcpInfo.{TcpInfo}
 use Rattle.sock_diag_attributes.specs.InetAttributes.{inet}
 use Rattle.sock_diag_attributes.specs.UnixAttributes.{unix}
 use Rattle.sock_diag_captures.specs.Escapes.{escaped}
+use Rattle.sock_diag_captures.specs.Options.{shows}
 use Rattle.sock_diag_captures.specs.Pieces.{Piece}
 use Rattle.sock_diag_captures.specs.declared.details.Sockets.{Sockets}
 use Rattle.sock_diag_captures.specs.declared.details.Sockets.TheVariants.{Unix, Inet}
 use Rattle.sock_diag_captures.specs.declared.details.TimerWords.{TimerWords}
+use Rattle.sock_diag_captures.specs.declared.options.Detail.{Detail}
+use Rattle.sock_diag_captures.specs.declared.options.Detail.TheVariants.{Timer, Extended, Memory}
+use Rattle.sock_diag_captures.specs.declared.options.Detail.TheVariants.{Connection}
+use Rattle.sock_diag_captures.specs.declared.options.Options.{Options}
 
 -- a space, a word, a colon and a number
 abbrev pub detail : List ℕ → ℕ → List ℕ
@@ -248,10 +253,33 @@ abbrev pub detail_of : Sockets → Attribute → List ℕ
 detail_of Unix a = words_of unix_text a (says unix a)
 detail_of Inet a = words_of inet_text a (says inet a)
 
+-- the detail that attributes of a kind tell of a UNIX socket: 5 is UNIX_DIAG_MEMINFO
+abbrev pub detail_of_unix : ℕ → Detail
+detail_of_unix kind = if kind == 5 then Memory else Extended
+
+-- That of an IPv4 or IPv6 socket: the memory is told by INET_DIAG_MEMINFO, 1, and
+-- INET_DIAG_SKMEMINFO, 7; the connection by INET_DIAG_INFO, 2, and its congestion control by
+-- INET_DIAG_VEGASINFO, 3, INET_DIAG_CONG, 4, INET_DIAG_DCTCPINFO, 9, and INET_DIAG_BBRINFO, 16.
+abbrev pub detail_of_inet : ℕ → Detail
+detail_of_inet kind =
+    if (kind == 1) || (kind == 7) then Memory
+    else if (kind == 2) || (kind == 3) || (kind == 4) || (kind == 9) || (kind == 16)
+    then Connection else Extended
+
+-- that of either
+abbrev pub detail_under : Sockets → ℕ → Detail
+detail_under Unix kind = detail_of_unix kind
+detail_under Inet kind = detail_of_inet kind
+
+-- what is told of an attribute, where it is asked for
+abbrev pub shown_detail : Options → Sockets → Attribute → List ℕ
+shown_detail o sockets a =
+    if shows o (detail_under sockets (kind_of a)) then detail_of sockets a else []
+
 -- what is told of a piece: nothing of one that is no attribute
-abbrev pub piece_detail : Sockets → Piece → List ℕ
-piece_detail sockets (Ok a) = detail_of sockets a
-piece_detail sockets (Err e) = []
+abbrev pub piece_detail : Options → Sockets → Piece → List ℕ
+piece_detail o sockets (Ok a) = shown_detail o sockets a
+piece_detail o sockets (Err e) = []
 
 -- the timers by their numbers, as ss(8) names them
 abbrev pub timer_name : ℕ → List ℕ
@@ -279,8 +307,25 @@ timer_in b = record {
 abbrev pub no_timer : TimerWords
 no_timer = record { class = 0; retransmits = 0; expires = 0 }
 
--- the line below that of a socket: its timer, its cookie, and what each attribute tells
-abbrev pub details_line : Sockets → TimerWords → List ℕ → List Piece → List ℕ
-details_line sockets timer cookie given =
-    (9 ∷ timer_text timer) ++ codes " sk:" ++ digits 16 false (little_number 8 cookie)
-    ++ flat_map (piece_detail sockets) given ++ 10 ∷ []
+-- the timer, where it is asked for
+abbrev pub shown_timer : Options → TimerWords → List ℕ
+shown_timer o timer = if shows o Timer then timer_text timer else []
+
+-- the cookie of eight bytes, where it is asked for
+abbrev pub shown_cookie : Options → List ℕ → List ℕ
+shown_cookie o cookie =
+    if shows o Extended then codes " sk:" ++ digits 16 false (little_number 8 cookie) else []
+
+-- what is told beside the columns: the timer, the cookie, and what each attribute tells
+abbrev pub details : Options → Sockets → TimerWords → List ℕ → List Piece → List ℕ
+details o sockets timer cookie given =
+    shown_timer o timer ++ shown_cookie o cookie ++ flat_map (piece_detail o sockets) given
+
+-- a line of its own behind a tab, or the same line where one is asked for
+abbrev pub separator : Options → List ℕ
+separator o = if o.one_line then [] else 10 ∷ 9 ∷ []
+
+-- what is told stands apart, and nothing where nothing is told
+abbrev pub set_apart : Options → List ℕ → List ℕ
+set_apart o [] = []
+set_apart o (c ∷ told) = separator o ++ c ∷ told

@@ -3,8 +3,11 @@ pub mod Cooked
 pub mod Pieces
 pub mod Requests
 pub mod Escapes
+pub mod Options
 pub mod Table
 pub mod Shown
 pub mod Details
 pub mod Listing
+pub mod Streams
 pub mod Run
+pub mod Words

@@ -15,9 +15,11 @@ use Rattle.sock_diag_records.specs.InetResponse.{inet_response_header}
 use Rattle.sock_diag_records.specs.UnixResponseHeader.{unix_response_header}
 use Rattle.netlink_packet_sock_diag.specs.Message.{MessageKind, inet_response, reply_kind}
 use Rattle.netlink_packet_sock_diag.specs.Message.{unix_response}
+use Rattle.sock_diag_captures.specs.Capture.{Recorded}
 use Rattle.sock_diag_captures.specs.Cooked.{IsOfSockDiag}
 use Rattle.sock_diag_captures.specs.Pieces.{Piece, framing_fault, pieces}
 use Rattle.sock_diag_captures.specs.Requests.{noted, protocol_of}
+use Rattle.sock_diag_captures.specs.declared.options.Options.{Options}
 use Rattle.sock_diag_captures.specs.declared.requests.Asked.{Asked}
 use Rattle.sock_diag_captures.specs.Details.{timer_in}
 use Rattle.sock_diag_captures.specs.Table.{inet_lines, unix_lines}
@@ -41,13 +43,13 @@ fault_behind (Err e) given = Some e
 
 -- the lines of a reply of that kind, whose header has 16 bytes or 72, and of the protocol that was
 -- asked for
-abbrev pub kind_lines : Option ℕ → Result MessageKind DecodeError → List ℕ → List ℕ
-kind_lines protocol (Ok unix_response) b =
-    lines_behind unix_lines (read unix_response_header tt b) (pieces 0 (drop 16 b))
-kind_lines protocol (Ok inet_response) b =
-    lines_behind (inet_lines protocol (timer_in b)) (read inet_response_header tt b)
+abbrev pub kind_lines : Options → Option ℕ → Result MessageKind DecodeError → List ℕ → List ℕ
+kind_lines o protocol (Ok unix_response) b =
+    lines_behind (unix_lines o) (read unix_response_header tt b) (pieces 0 (drop 16 b))
+kind_lines o protocol (Ok inet_response) b =
+    lines_behind (inet_lines o protocol (timer_in b)) (read inet_response_header tt b)
     (pieces 0 (drop 72 b))
-kind_lines protocol _ b = []
+kind_lines o protocol _ b = []
 
 -- the fault of such a reply, or that it is none. Nothing is told of a socket of another family
 abbrev pub kind_fault : Result MessageKind DecodeError → List ℕ → Option DecodeError
@@ -71,17 +73,17 @@ is_control t = nat_le 1 t && nat_le t 4
 
 -- the lines of a message of a type, by what stands behind its header: those of a reply, of the
 -- protocol that was asked for
-abbrev pub lines_under : Option ℕ → ℕ → List ℕ → List ℕ
-lines_under protocol t payload =
-    if is_control t then [] else kind_lines protocol (reply_kind payload t) payload
+abbrev pub lines_under : Options → Option ℕ → ℕ → List ℕ → List ℕ
+lines_under o protocol t payload =
+    if is_control t then [] else kind_lines o protocol (reply_kind payload t) payload
 
 -- the protocol that a message answers for, by its sequence number and its port
 abbrev pub protocol_for : List Asked → List ℕ → Option ℕ
 protocol_for asked m = protocol_of asked (little_number 4 (drop 8 m)) (little_number 4 (drop 12 m))
 
 -- the lines of a message
-abbrev pub message_lines : List Asked → List ℕ → List ℕ
-message_lines asked m = lines_under (protocol_for asked m) (type_of m) (drop 16 m)
+abbrev pub message_lines : Options → List Asked → List ℕ → List ℕ
+message_lines o asked m = lines_under o (protocol_for asked m) (type_of m) (drop 16 m)
 
 -- the number of errno(3) that a number below zero tells, and 0 for any other
 abbrev pub below_zero : Option ℤ → ℕ
@@ -140,18 +142,18 @@ pub record IsAnswer (packet : List ℕ) : Type 0 where
 
 -- The lines of the datagram follow those before: of each message that it is cut into, in order.
 -- Whether at most notes are told of them, and no fault stands behind them.
-pub record Lists (asked : List Asked) (datagram before after : List ℕ) (is_clean : Bool)
-    : Type 0 where
+pub record Lists (o : Options) (asked : List Asked) (datagram before after : List ℕ)
+    (is_clean : Bool) : Type 0 where
   pub messages : List (List ℕ)
   pub end : Option DecodeError
   pub cut : CutIntoMessages datagram messages end
-  pub lines : after ≡ before ++ flat_map (message_lines asked) messages
+  pub lines : after ≡ before ++ flat_map (message_lines o asked) messages
   pub clean : IsTrue is_clean ↔ (AllByRecursion IsPlain messages × (end ≡ None))
 
 -- the lines of a datagram that is no request, and none of a request
-abbrev pub ListsAnswer : List Asked → List ℕ → List ℕ → List ℕ → Bool → Type 0
-ListsAnswer asked datagram before after is_clean =
-    ((IsRequest datagram → ⊥) × Lists asked datagram before after is_clean)
+abbrev pub ListsAnswer : Options → List Asked → List ℕ → List ℕ → List ℕ → Bool → Type 0
+ListsAnswer o asked datagram before after is_clean =
+    ((IsRequest datagram → ⊥) × Lists o asked datagram before after is_clean)
     ⊎ (IsRequest datagram × (after ≡ before) × (is_clean ≡ true))
 
 -- The requests after a packet: those before, and where it is one of sock_diag(7), the one that its
@@ -165,7 +167,14 @@ asked_after asked packet =
 -- The lines of the packet follow those before: those of its datagram where it is an answer of
 -- sock_diag(7), and none for another. Of one with fewer than 16 bytes something is told, and of no
 -- other that is no answer.
-abbrev pub ListsPacket : List Asked → List ℕ → List ℕ → List ℕ → Bool → Type 0
-ListsPacket asked packet before after is_clean =
-    (IsAnswer packet × Lists asked (drop 16 packet) before after is_clean)
+abbrev pub ListsPacket : Options → List Asked → List ℕ → List ℕ → List ℕ → Bool → Type 0
+ListsPacket o asked packet before after is_clean =
+    (IsAnswer packet × Lists o asked (drop 16 packet) before after is_clean)
     ⊎ ((¬ IsAnswer packet) × (after ≡ before) × (IsTrue is_clean ↔ (16 ≤ length packet)))
+
+-- The same of a packet as a capture has it, which counts as listed whole where it also has the bytes
+-- that it had when it was captured.
+abbrev pub ListsRecorded : Options → List Asked → Recorded → List ℕ → List ℕ → Bool → Type 0
+ListsRecorded o asked packet before after is_whole =
+    (is_clean : Bool) × ListsPacket o asked packet.bytes before after is_clean
+    × (IsTrue is_whole ↔ (IsTrue is_clean × (packet.whole_length ≤ length packet.bytes)))

@@ -6,9 +6,11 @@ use Rattle.std.specs.List.{AllByRecursion}
 use Rattle.sock_diag_captures.specs.declared.capture.FileHeader.{FileHeader}
 use Rattle.sock_diag_captures.specs.declared.stream.RunError.{RunError}
 use Rattle.sock_diag_captures.specs.declared.stream.RunError.TheVariants.{Header, Packet, Write}
-use Rattle.sock_diag_captures.specs.declared.stream.RunError.TheVariants.{Memory}
+use Rattle.sock_diag_captures.specs.declared.stream.RunError.TheVariants.{Closed, Memory}
 use Rattle.sock_diag_captures.specs.Capture.{IsFileHeader, IsHeaderStop, IsPacketStop, IsRecord}
-use Rattle.sock_diag_captures.specs.Listing.{ListsPacket, asked_after}
+use Rattle.sock_diag_captures.specs.Capture.{Recorded}
+use Rattle.sock_diag_captures.specs.Listing.{ListsRecorded, asked_after}
+use Rattle.sock_diag_captures.specs.declared.options.Options.{Options}
 use Rattle.sock_diag_captures.specs.declared.requests.Asked.{Asked}
 
 -- the lines of a packet, and whether it was listed whole
@@ -25,54 +27,63 @@ abbrev pub IsWhole : Told → Type 0
 IsWhole told = IsTrue told.whole
 
 -- a packet by itself is listed so, where these requests were seen
-abbrev pub IsListed : List Asked → List ℕ → Told → Type 0
-IsListed asked packet told = ListsPacket asked packet [] told.lines told.whole
+abbrev pub IsListed : Options → List Asked → Recorded → Told → Type 0
+IsListed o asked packet told = ListsRecorded o asked packet [] told.lines told.whole
 
 -- packets are listed so one after the other, where these requests were seen in front of them
-abbrev pub AreListed : List Asked → List (List ℕ) → List Told → Type 0
-AreListed asked [] [] = ⊤
-AreListed asked [] (told ∷ later) = ⊥
-AreListed asked (packet ∷ packets) [] = ⊥
-AreListed asked (packet ∷ packets) (told ∷ later) =
-    IsListed (asked_after asked packet) packet told
-    × AreListed (asked_after asked packet) packets later
+abbrev pub AreListed : Options → List Asked → List Recorded → List Told → Type 0
+AreListed o asked [] [] = ⊤
+AreListed o asked [] (told ∷ later) = ⊥
+AreListed o asked (packet ∷ packets) [] = ⊥
+AreListed o asked (packet ∷ packets) (told ∷ later) =
+    IsListed o (asked_after asked packet.bytes) packet told
+    × AreListed o (asked_after asked packet.bytes) packets later
 
 -- the bytes are these packets one after the other, each behind its header; R says which header a
 -- packet may have
-abbrev pub ArePackets : (List ℕ → List ℕ → Type 0) → List ℕ → List (List ℕ) → Type 0
+abbrev pub ArePackets : (List ℕ → Recorded → Type 0) → List ℕ → List Recorded → Type 0
 ArePackets R bytes [] = bytes ≡ []
-ArePackets R bytes (packet ∷ later) = (header rest : List ℕ) × R header packet × (bytes ≡ (header ++ packet) ++ rest) × ArePackets R rest later
+ArePackets R bytes (packet ∷ later) =
+    (header rest : List ℕ) × R header packet × (bytes ≡ (header ++ packet.bytes) ++ rest)
+    × ArePackets R rest later
 
 -- The bytes are a capture: its header, and packets. The lines are those of each packet in order,
 -- and the capture counts as listed whole exactly where each packet does.
-pub record IsTable (bytes lines : List ℕ) (is_whole : Bool) : Type 0 where
+pub record IsTable (o : Options) (bytes lines : List ℕ) (is_whole : Bool) : Type 0 where
   pub file : FileHeader
   pub header : List ℕ
   pub records : List ℕ
-  pub packets : List (List ℕ)
+  pub packets : List Recorded
   pub told : List Told
   pub parts : bytes ≡ header ++ records
   pub long : length header ≡ 24
   pub is_header : IsFileHeader header file
   pub are_packets : ArePackets (IsRecord file) records packets
-  pub listed : AreListed [] packets told
+  pub listed : AreListed o [] packets told
   pub written : lines ≡ flat_map lines_told told
   pub whole : IsTrue is_whole ↔ AllByRecursion IsWhole told
 
 -- Of a run: the bytes that are left to read and held as written, before and after it, where they
 -- are known, and the heading.
-module _ (left left' held held' : Option (List ℕ)) (heading : List ℕ) where
+module _ (o : Options) (left left' held held' : Option (List ℕ)) (heading : List ℕ) where
   -- A capture of so many packets was read, and `more` behind it. The heading and the lines of these
   -- packets were written.
   pub record Stands (file : FileHeader) (packets : ℕ) (more : List ℕ) : Type 0 where
     pub bytes : List ℕ
     pub lines : List ℕ
     pub is_whole : Bool
-    pub table : IsTable bytes lines is_whole
+    pub table : IsTable o bytes lines is_whole
     pub of_file : table.file ≡ file
     pub counted : length table.packets ≡ packets
     pub read : Consumes left left' (bytes ++ more)
     pub appended : Appends held held' (heading ++ lines)
+
+  -- where a write fails, a beginning of the table of what was read is written
+  abbrev pub Breaks : Type 0
+  Breaks =
+      (bytes : List ℕ) × (lines : List ℕ) × (is_whole : Bool) × IsTable o bytes lines is_whole
+      × Consumes left left' bytes × (front : List ℕ) × (rest : List ℕ)
+      × (heading ++ lines ≡ front ++ rest) × Appends held held' front
 
   -- What a run that fails so has read and written. At a header that can't be read nothing is
   -- written; at a packet, of which the number is told, and where memory runs out, the lines of all
@@ -85,18 +96,16 @@ module _ (left left' held held' : Option (List ℕ)) (heading : List ℕ) where
       (file : FileHeader) × (packets : ℕ) × (part : List ℕ) × Stands file packets part
       × (number ≡ packets + 1) × IsPacketStop file left' (unread ⊎ (number ≡ 2 ^ 64 - 1)) part fault
   Fails unread Memory =
-      (file : FileHeader) × (packets : ℕ) × (header : List ℕ) × (packet : List ℕ)
-      × IsRecord file header packet × Stands file packets (header ++ packet)
-  Fails unread Write =
-      (bytes : List ℕ) × (lines : List ℕ) × (is_whole : Bool) × IsTable bytes lines is_whole
-      × Consumes left left' bytes × (front : List ℕ) × (rest : List ℕ)
-      × (heading ++ lines ≡ front ++ rest) × Appends held held' front
+      (file : FileHeader) × (packets : ℕ) × (header : List ℕ) × (packet : Recorded)
+      × IsRecord file header packet × Stands file packets (header ++ packet.bytes)
+  Fails unread Write = Breaks
+  Fails unread Closed = Breaks
 
   -- a whole capture was read to the end of the input, and all of its table written
   pub record Finishes (is_whole : Bool) : Type 0 where
     pub bytes : List ℕ
     pub lines : List ℕ
-    pub table : IsTable bytes lines is_whole
+    pub table : IsTable o bytes lines is_whole
     pub read : Consumes left left' bytes
     pub ended : IsAtEnd left'
     pub appended : Appends held held' (heading ++ lines)

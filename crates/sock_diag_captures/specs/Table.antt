@@ -9,11 +9,13 @@ use Rattle.sock_diag_records.specs.declared.inet.response.InetResponseHeader.{In
 use Rattle.sock_diag_records.specs.declared.unix.response.UnixResponseHeader.{UnixResponseHeader}
 use Rattle.sock_diag_attributes.specs.Name.{SocketName, abstract, pathname}
 use Rattle.sock_diag_attributes.specs.UnixAttributes.{unix}
-use Rattle.sock_diag_captures.specs.Details.{details_line, no_timer}
+use Rattle.sock_diag_captures.specs.Details.{details, no_timer, set_apart}
 use Rattle.sock_diag_captures.specs.Escapes.{byte_digits, escaped}
+use Rattle.sock_diag_captures.specs.Options.{lists_protocol, lists_unix}
 use Rattle.sock_diag_captures.specs.Pieces.{Piece, value_told}
 use Rattle.sock_diag_captures.specs.declared.details.Sockets.TheVariants.{Inet, Unix}
 use Rattle.sock_diag_captures.specs.declared.details.TimerWords.{TimerWords}
+use Rattle.sock_diag_captures.specs.declared.options.Options.{Options}
 
 -- ---- cells
 
@@ -110,11 +112,11 @@ first_columns c =
     column 5 c.kind ++ column 10 (state_name c.state) ++ column 6 (number_cell c.receive_queue)
     ++ column 6 (number_cell c.send_queue) ++ column 10 (decimal c.inode) ++ column 5 (number_cell c.uid)
 
--- a line with these ends
+-- the columns of a line with these ends
 abbrev pub line : FirstColumns → List ℕ → List ℕ → List ℕ
-line c local peer = first_columns c ++ column 30 local ++ peer ++ 10 ∷ []
+line c local peer = first_columns c ++ column 30 local ++ peer
 
--- the line of a UNIX socket, whose name, peer and queues attributes tell
+-- the columns of a UNIX socket, whose name, peer and queues attributes tell
 abbrev pub unix_line : UnixResponseHeader → List Piece → List ℕ
 unix_line h given =
     let queues = value_told unix 4 given in
@@ -127,7 +129,7 @@ unix_line h given =
       uid = None;
     }) (name_cell (value_told unix 0 given)) (peer_cell (value_told unix 2 given))
 
--- the line of an IPv4 or IPv6 socket of this protocol
+-- the columns of an IPv4 or IPv6 socket of this protocol
 abbrev pub inet_line : Option ℕ → InetResponseHeader → List ℕ
 inet_line protocol h =
     let id = h.socket_id in
@@ -140,11 +142,17 @@ inet_line protocol h =
       uid = Some h.uid;
     }) (endpoint id.source_address id.interface_id id.source_port) (endpoint id.destination_address 0 id.destination_port)
 
--- the lines of a UNIX socket: its own, and that of its details
-abbrev pub unix_lines : UnixResponseHeader → List Piece → List ℕ
-unix_lines h given = unix_line h given ++ details_line Unix no_timer h.cookie given
+-- the lines of a UNIX socket, where they are asked for: its columns, and what is told beside them
+abbrev pub unix_lines : Options → UnixResponseHeader → List Piece → List ℕ
+unix_lines o h given =
+    if lists_unix o
+    then unix_line h given ++ set_apart o (details o Unix no_timer h.cookie given) ++ 10 ∷ []
+    else []
 
--- the lines of an IPv4 or IPv6 socket of this protocol, with this timer
-abbrev pub inet_lines : Option ℕ → TimerWords → InetResponseHeader → List Piece → List ℕ
-inet_lines protocol timer h given =
-    inet_line protocol h ++ details_line Inet timer h.socket_id.cookie given
+-- the lines of an IPv4 or IPv6 socket of this protocol, with this timer, likewise
+abbrev pub inet_lines : Options → Option ℕ → TimerWords → InetResponseHeader → List Piece → List ℕ
+inet_lines o protocol timer h given =
+    if lists_protocol o protocol
+    then inet_line protocol h ++ set_apart o (details o Inet timer h.socket_id.cookie given)
+        ++ 10 ∷ []
+    else []

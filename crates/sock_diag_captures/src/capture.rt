@@ -6,8 +6,7 @@ ghost use Rattle.std.specs.Prelude.{IfErr, OnOk, IsTrue, MatchBool, MatchOption,
 ghost use Rattle.std.specs.Io.KnownBytes.{Consumes, IsAtEnd, Keeps};
 ghost use Rattle.sock_diag_captures.specs.Capture.{IsFileHeader, IsFileHeaderFault, IsHeaderStop};
 ghost use Rattle.sock_diag_captures.specs.Capture.{IsMagic, IsOtherFile};
-ghost use Rattle.sock_diag_captures.specs.Capture.{IsPacketStop, IsRecord, IsStop, limit_of};
-ghost use Rattle.sock_diag_captures.specs.Capture.{number_at};
+ghost use Rattle.sock_diag_captures.specs.Capture.{IsPacketStop, IsRecord, IsStop, number_at, recorded};
 ghost use Rattle.sock_diag_captures.specs.declared.capture.CaptureError.TheVariants.{Memory};
 
 use crate::streams::Source;
@@ -33,6 +32,10 @@ const MAJOR_VERSION: u16 = 2;
 /// LINKTYPE_NETLINK, the type of the link of nlmon(4) devices.
 const LINK_TYPE: u32 = 253;
 
+/// How many types of links there are. What stands above the type in its word is of the check
+/// sequence of frames, its length among it.
+const LINK_TYPES: u32 = 65_536;
+
 /// How many bytes the file header has.
 const FILE_HEADER: usize = 24;
 
@@ -42,7 +45,7 @@ const RECORD_HEADER: usize = 16;
 /// How many bytes stand in front of the datagram of a packet: the cooked header.
 const COOKED_HEADER: usize = 16;
 
-/// The most bytes that a packet may have, whatever the file says: the default of tcpdump.
+/// The most bytes that a packet may have, whatever the file says: the default of tcpdump(1).
 const MOST: u32 = 262_144;
 
 /// ARPHRD_NETLINK, the hardware type of a netlink packet.
@@ -57,6 +60,9 @@ pub enum CaptureError {
     /// A read failed.
     #[error("reading failed")]
     Read,
+    /// A read failed, since the input is a directory.
+    #[error("the input is a directory")]
+    Directory,
     /// Memory ran out.
     #[error("out of memory")]
     Memory,
@@ -81,14 +87,9 @@ pub enum CaptureError {
     /// The packets are not those of a netlink device.
     #[error("packets of link type {0}, not 253 (netlink)")]
     OtherLinkType(u32),
-    /// A packet is longer than the file says that packets are, or than 262144 bytes.
-    #[error("a packet of {length} bytes, at most {limit} expected")]
-    PacketTooLong {
-        /// How many bytes it says to have.
-        length: u32,
-        /// The most that a packet of this capture may have.
-        limit: u32,
-    },
+    /// A packet says to have so many bytes, which are more than 262144.
+    #[error("a packet of {0} bytes, at most 262144 expected")]
+    PacketTooLong(u32),
 }
 
 impl From<AllocError> for CaptureError {
@@ -167,13 +168,12 @@ fn no_capture(magic: u32) -> CaptureError
     }
 }
 
-/// What the header of a capture says of its packets.
+/// What the header of a capture says of its packets. The most bytes that it says they have are not
+/// kept: tcpdump(1) too reads a longer packet.
 #[derive(Clone, Copy, Debug, PartialEq, Eq)]
 pub struct FileHeader {
     /// The order of the bytes of numbers in headers.
     order: ByteOrder,
-    /// The most bytes that a packet may have.
-    limit: u32,
 }
 
 impl FileHeader {
@@ -191,14 +191,11 @@ impl FileHeader {
         if version != MAJOR_VERSION {
             return Err(CaptureError::OtherVersion(version));
         }
-        let link_type = order.word_at(bytes, 20);
+        let link_type = order.word_at(bytes, 20) % LINK_TYPES;
         if link_type != LINK_TYPE {
             return Err(CaptureError::OtherLinkType(link_type));
         }
-        Ok(FileHeader {
-            order,
-            limit: packet_limit(order.word_at(bytes, 16)),
-        })
+        Ok(FileHeader { order })
     }
 
     /// Reads the header of a capture. No input at all is `Empty`.
@@ -217,45 +214,36 @@ impl FileHeader {
         FileHeader::parse(&bytes)
     }
 
-    /// Reads the next packet in place of what `packet` held, and answers whether there is one. It
-    /// takes memory for the packet alone, and none for one that is longer than packets of this
-    /// capture may be.
+    /// Reads the next packet in place of what `packet` held, and answers how many bytes it had when
+    /// it was captured, or `None` where there is no packet more. It takes memory for the packet
+    /// alone, and none for one of more than 262144 bytes.
     pub fn read_packet<R: Source>(
         &self,
         input: &mut R,
         packet: &mut Vec<u8>,
-    ) -> Result<bool, CaptureError>
-        ensures read { IfOk result (λ is_read. MatchBool is_read
-            ((header : List ℕ) × IsRecord self.now header packet.new.items
-            × Consumes (R.left input.old) (R.left input.new) (header ++ packet.new.items))
-            (IsAtEnd (R.left input.new) × Keeps (R.left input.old) (R.left input.new))) }
+    ) -> Result<Option<u32>, CaptureError>
+        ensures read { IfOk result (λ told. MatchOption told
+            (IsAtEnd (R.left input.new) × Keeps (R.left input.old) (R.left input.new))
+            (λ whole_length. (header : List ℕ)
+            × IsRecord self.now header (recorded packet.new.items whole_length)
+            × Consumes (R.left input.old) (R.left input.new) (header ++ packet.new.items))) }
         ensures stopped { IfErr result (λ e. (part : List ℕ)
             × Consumes (R.left input.old) (R.left input.new) part
             × IsPacketStop self.now (R.left input.new) (R.failed input.new) part e) }
     {
         let mut header = [0u8; RECORD_HEADER];
         if !fill_or_end(input, &mut header)? {
-            return Ok(false);
+            return Ok(None);
         }
         let length = self.order.word_at(&header, 8);
-        if length > self.limit {
-            return Err(CaptureError::PacketTooLong {
-                length,
-                limit: self.limit,
-            });
+        if length > MOST {
+            return Err(CaptureError::PacketTooLong(length));
         }
         match read_bytes(input, packet, length as usize) {
-            Ok(()) => Ok(true),
+            Ok(()) => Ok(Some(self.order.word_at(&header, 12))),
             Err(fault) => Err(fault),
         }
     }
-}
-
-/// The most bytes of a packet, where the file tells so many.
-fn packet_limit(told: u32) -> u32
-    ensures { result ≡ limit_of told }
-{
-    if told == 0 || told > MOST { MOST } else { told }
 }
 
 /// Reads so many bytes in place of what `packet` held.

@@ -11,14 +11,16 @@ ghost use Rattle.sock_diag_attributes.specs.SeenInet.{viewed_nla as viewed_inet}
 ghost use Rattle.sock_diag_attributes.specs.SeenNumbers.{viewed_numbers};
 ghost use Rattle.sock_diag_attributes.specs.SeenUnix.{viewed_nla as viewed_unix};
 ghost use Rattle.sock_diag_attributes.specs.UnixAttributes.{unix};
-ghost use Rattle.sock_diag_captures.specs.Details.{ages, connection, counts, detail, detail_of};
-ghost use Rattle.sock_diag_captures.specs.Details.{details_line, directions, fault_word};
+ghost use Rattle.sock_diag_captures.specs.Details.{ages, connection, counts, detail};
+ghost use Rattle.sock_diag_captures.specs.Details.{detail_of, detail_of_inet, detail_of_unix};
+ghost use Rattle.sock_diag_captures.specs.Details.{detail_under, details, directions, fault_word};
 ghost use Rattle.sock_diag_captures.specs.Details.{flag_detail, hex_detail, inet_text};
 ghost use Rattle.sock_diag_captures.specs.Details.{legacy_memory, limits, losses, memory};
 ghost use Rattle.sock_diag_captures.specs.Details.{memory_in, memory_limits, memory_part};
 ghost use Rattle.sock_diag_captures.specs.Details.{memory_used};
 ghost use Rattle.sock_diag_captures.specs.Details.{memory_received, options, pair_detail};
-ghost use Rattle.sock_diag_captures.specs.Details.{piece_detail, rates, receiver, sizes};
+ghost use Rattle.sock_diag_captures.specs.Details.{piece_detail, rates, receiver, separator, set_apart};
+ghost use Rattle.sock_diag_captures.specs.Details.{shown_cookie, shown_detail, shown_timer, sizes};
 ghost use Rattle.sock_diag_captures.specs.Details.{some_detail, timer_in, timer_name, timer_text};
 ghost use Rattle.sock_diag_captures.specs.Details.{times, traffic, unix_text, unknown, unread};
 ghost use Rattle.sock_diag_captures.specs.Details.{words_of};
@@ -26,12 +28,14 @@ ghost use Rattle.sock_diag_captures.specs.Escapes.{escaped};
 ghost use Rattle.sock_diag_captures.specs.Pieces.{pieces};
 
 use crate::cells::{push_escaped, push_hex, push_number};
+use crate::options::{Detail, Options};
 use crate::pieces::next_piece;
 use byteorder::{ByteOrder, LittleEndian};
 use netlink_core::{DecodeError, NlaBuffer, NlasIterator};
 use netlink_packet_sock_diag::constants::{
-    TCPI_OPT_ECN, TCPI_OPT_ECN_SEEN, TCPI_OPT_SACK, TCPI_OPT_SYN_DATA, TCPI_OPT_TIMESTAMPS,
-    TCPI_OPT_WSCALE,
+    INET_DIAG_BBRINFO, INET_DIAG_CONG, INET_DIAG_DCTCPINFO, INET_DIAG_INFO, INET_DIAG_MEMINFO,
+    INET_DIAG_SKMEMINFO, INET_DIAG_VEGASINFO, TCPI_OPT_ECN, TCPI_OPT_ECN_SEEN, TCPI_OPT_SACK, TCPI_OPT_SYN_DATA, TCPI_OPT_TIMESTAMPS,
+    TCPI_OPT_WSCALE, UNIX_DIAG_MEMINFO,
 };
 use netlink_packet_sock_diag::inet::nlas::{LegacyMemInfo, MemInfo, NlaView as InetView, TcpInfo};
 use netlink_packet_sock_diag::unix::nlas::{NlaView as UnixView, NumbersView};
@@ -82,24 +86,81 @@ pub(crate) fn timer_of(payload: &[u8]) -> TimerWords
     }
 }
 
-/// Adds the line below that of a socket: its timer, its cookie, and what each attribute in the
-/// bytes tells.
+/// Adds what is told of a socket beside its columns, in a line of its own behind a tab unless one
+/// line is asked for, and nothing where nothing is told.
 pub(crate) fn push_details(
     text: &mut Vec<u8>,
+    options: Options,
     sockets: Sockets,
     timer: &TimerWords,
     cookie: &[u8; 8],
     bytes: &[u8],
 ) -> Result<(), AllocError>
     ensures { OnOk result (text.new.items ≡ text.old.items
-        ++ details_line sockets timer.now cookie.now (pieces 0 bytes.now)) }
+        ++ set_apart options (details options sockets timer.now cookie.now (pieces 0 bytes.now))) }
 {
-    text.push(b'\t')?;
-    push_timer(text, timer)?;
+    let start = text.len();
+    text.extend_from_slice(separator(options))?;
+    let behind = text.len();
+    push_words(text, options, sockets, timer, cookie, bytes)?;
+    if text.len() == behind {
+        text.truncate(start);
+    }
+    Ok(())
+}
+
+/// What stands between the columns and the details.
+fn separator(options: Options) -> &'static [u8]
+    ensures { result.now ≡ separator options }
+{
+    if options.one_line { b"" } else { b"\n\t" }
+}
+
+/// Adds the timer of a socket, its cookie, and what each attribute in the bytes tells, where it is
+/// asked for.
+fn push_words(
+    text: &mut Vec<u8>,
+    options: Options,
+    sockets: Sockets,
+    timer: &TimerWords,
+    cookie: &[u8; 8],
+    bytes: &[u8],
+) -> Result<(), AllocError>
+    ensures { OnOk result (text.new.items ≡ text.old.items
+        ++ details options sockets timer.now cookie.now (pieces 0 bytes.now)) }
+{
+    push_shown_timer(text, options, timer)?;
+    push_shown_cookie(text, options, cookie)?;
+    push_pieces(text, options, sockets, bytes)
+}
+
+/// Adds the timer that runs, where it is asked for.
+fn push_shown_timer(
+    text: &mut Vec<u8>,
+    options: Options,
+    timer: &TimerWords,
+) -> Result<(), AllocError>
+    ensures { OnOk result (text.new.items ≡ text.old.items ++ shown_timer options timer.now) }
+{
+    if !options.shows(Detail::Timer) {
+        return Ok(());
+    }
+    push_timer(text, timer)
+}
+
+/// Adds the cookie, where it is asked for.
+fn push_shown_cookie(
+    text: &mut Vec<u8>,
+    options: Options,
+    cookie: &[u8; 8],
+) -> Result<(), AllocError>
+    ensures { OnOk result (text.new.items ≡ text.old.items ++ shown_cookie options cookie.now) }
+{
+    if !options.shows(Detail::Extended) {
+        return Ok(());
+    }
     text.extend_from_slice(b" sk:")?;
-    push_hex(text, LittleEndian::read_u64(cookie))?;
-    push_pieces(text, sockets, bytes)?;
-    Ok(text.push(b'\n')?)
+    push_hex(text, LittleEndian::read_u64(cookie))
 }
 
 /// Adds the timer that runs, the time until it ends, and how often was sent again.
@@ -131,18 +192,71 @@ fn name_of_timer(class: u8) -> &'static [u8]
     }
 }
 
-/// Adds what each attribute in the bytes tells.
-fn push_pieces(text: &mut Vec<u8>, sockets: Sockets, bytes: &[u8]) -> Result<(), AllocError>
+/// Adds what each attribute in the bytes tells, where it is asked for.
+fn push_pieces(
+    text: &mut Vec<u8>,
+    options: Options,
+    sockets: Sockets,
+    bytes: &[u8],
+) -> Result<(), AllocError>
     ensures { OnOk result (text.new.items ≡ text.old.items
-        ++ flat_map (piece_detail sockets) (pieces 0 bytes.now)) }
+        ++ flat_map (piece_detail options sockets) (pieces 0 bytes.now)) }
 {
     let mut walk = NlasIterator::new(bytes);
     while let Some(piece) = next_piece(&mut walk) {
         if let Ok(nla) = piece {
-            push_attribute(text, sockets, &nla)?;
+            push_shown_attribute(text, options, sockets, &nla)?;
         }
     }
     Ok(())
+}
+
+/// Adds what an attribute tells, where it is asked for.
+fn push_shown_attribute(
+    text: &mut Vec<u8>,
+    options: Options,
+    sockets: Sockets,
+    nla: &NlaBuffer<'_>,
+) -> Result<(), AllocError>
+    ensures { OnOk result (text.new.items ≡ text.old.items
+        ++ shown_detail options sockets (attribute_of nla.now)) }
+{
+    if !options.shows(detail_of_kind(sockets, nla.kind())) {
+        return Ok(());
+    }
+    push_attribute(text, sockets, nla)
+}
+
+/// The detail that attributes of a kind tell.
+fn detail_of_kind(sockets: Sockets, kind: u16) -> Detail
+    ensures { result ≡ detail_under sockets kind }
+{
+    match sockets {
+        Sockets::Unix => detail_of_unix_kind(kind),
+        Sockets::Inet => detail_of_inet_kind(kind),
+    }
+}
+
+/// That of a UNIX socket.
+fn detail_of_unix_kind(kind: u16) -> Detail
+    ensures { result ≡ detail_of_unix kind }
+{
+    match kind {
+        UNIX_DIAG_MEMINFO => Detail::Memory,
+        _ => Detail::Extended,
+    }
+}
+
+/// That of an IPv4 or IPv6 socket.
+fn detail_of_inet_kind(kind: u16) -> Detail
+    ensures { result ≡ detail_of_inet kind }
+{
+    match kind {
+        INET_DIAG_MEMINFO | INET_DIAG_SKMEMINFO => Detail::Memory,
+        INET_DIAG_INFO | INET_DIAG_VEGASINFO | INET_DIAG_CONG | INET_DIAG_DCTCPINFO
+        | INET_DIAG_BBRINFO => Detail::Connection,
+        _ => Detail::Extended,
+    }
 }
 
 /// Adds what an attribute tells.

@@ -14,6 +14,7 @@ mod cells;
 mod details;
 mod line;
 mod list;
+mod options;
 mod pieces;
 mod requests;
 mod stream;
@@ -23,41 +24,48 @@ mod words;
 pub use capture::{ByteOrder, CaptureError, FileHeader, Packet};
 pub use line::HEADING;
 pub use list::{Complaint, Written, list_packet};
+pub use options::Options;
 pub use requests::{Asked, Requests};
 use std::alloc::Global;
 use std::io::{Read, Write};
 use std::process::ExitCode;
 pub use stream::{RunError, run};
-pub use words::{Choice, HELP, choose};
+pub use words::{Argument, HELP, choose};
 
 /// The version, that of the repository's file `VERSION`.
 pub const VERSION: &str = "0.8.0";
 
-/// `run`, which tells on `errors` why it failed. The status is 0 where the whole capture was
+/// `run`, which tells on `errors` why it failed, behind `front`. The status is 0 where the whole capture was
 /// listed, and 1 where reading or writing failed, or where something was told of a packet.
 pub fn run_to_status<R: Read, W: Write, E: Write>(
     alloc: Global,
+    options: Options,
+    front: &str,
     input: &mut R,
     output: &mut W,
     errors: &mut E,
 ) -> ExitCode
     ensures ended { exit_status result ≡ 0 → IsAtEnd (R.remaining input.new) }
-    ensures whole { exit_status result ≡ 0 → (bytes lines : List ℕ) × IsTable bytes lines true
+    ensures whole { exit_status result ≡ 0 → (bytes lines : List ℕ) × IsTable options bytes lines true
         × Consumes (R.remaining input.old) (R.remaining input.new) bytes
         × Appends (W.contents output.old) (W.contents output.new) (HEADING.now ++ lines) }
     // 0 exactly where the whole capture was listed whole.
     ensures outcome { (outcome : Result Bool RunError)
         × ((exit_status result ≡ 0) ↔ (outcome ≡ Ok true))
         × MatchResult outcome
-        (Finishes (R.remaining input.old) (R.remaining input.new) (W.contents output.old)
+        (Finishes options (R.remaining input.old) (R.remaining input.new) (W.contents output.old)
         (W.contents output.new) HEADING.now)
-        (Fails (R.remaining input.old) (R.remaining input.new) (W.contents output.old)
+        (Fails options (R.remaining input.old) (R.remaining input.new) (W.contents output.old)
         (W.contents output.new) HEADING.now ⊤) }
 {
-    let outcome = run(alloc, input, output, errors);
-    if let Err(error) = &outcome {
-        // Where this can't be written either, the exit status alone tells of the failure.
-        let _ = writeln!(errors, "sslist: {error}");
+    let outcome = run(alloc, options, front, input, output, errors);
+    match &outcome {
+        // Nobody reads any more, and nobody has to be told.
+        Ok(_) | Err(RunError::Closed) => {}
+        Err(error) => {
+            // Where this can't be written either, the exit status alone tells of the failure.
+            let _ = writeln!(errors, "{front}{error}");
+        }
     }
     exit_code(&outcome)
 }

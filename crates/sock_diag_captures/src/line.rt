@@ -21,6 +21,7 @@ use crate::cells::{
     push_number_column, push_peer,
 };
 use crate::details::{NO_TIMER, Sockets, TimerWords, push_details, timer_of};
+use crate::options::Options;
 use crate::pieces::{find_fault, find_kind};
 use netlink_core::DecodeError;
 use netlink_packet_sock_diag::constants::{
@@ -74,12 +75,13 @@ fn push_first_columns(text: &mut Vec<u8>, cells: &Cells) -> Result<(), AllocErro
 /// framing behind it, or says that it is no reply. Of a socket of another family nothing is told.
 pub(crate) fn push_reply(
     text: &mut Vec<u8>,
+    options: Options,
     protocol: Option<u32>,
     message_type: u16,
     payload: &[u8],
 ) -> Result<Option<DecodeError>, AllocError>
     ensures lines { OnOk result (text.new.items ≡ text.old.items
-        ++ kind_lines protocol (reply_kind payload.now message_type) payload.now) }
+        ++ kind_lines options protocol (reply_kind payload.now message_type) payload.now) }
     ensures fault { IfOk result (λ fault.
         fault ≡ kind_fault (reply_kind payload.now message_type) payload.now) }
 {
@@ -91,17 +93,21 @@ pub(crate) fn push_reply(
         return Ok(Some(DecodeError::UnknownMessageType { message_type }));
     }
     match payload[0] {
-        AF_UNIX => push_unix(text, payload),
-        AF_INET | AF_INET6 => push_inet(text, protocol, payload),
+        AF_UNIX => push_unix(text, options, payload),
+        AF_INET | AF_INET6 => push_inet(text, options, protocol, payload),
         _ => Ok(None),
     }
 }
 
 /// Adds the lines of a UNIX socket, and gives the fault of the reply, if it has one.
 #[tactic(auto, using(netlink_packet_sock_diag::specs::UnixReplyLaws::header_enough))]
-fn push_unix(text: &mut Vec<u8>, payload: &[u8]) -> Result<Option<DecodeError>, AllocError>
+fn push_unix(
+    text: &mut Vec<u8>,
+    options: Options,
+    payload: &[u8],
+) -> Result<Option<DecodeError>, AllocError>
     ensures lines { OnOk result (text.new.items ≡ text.old.items
-        ++ lines_behind unix_lines (read unix_response_header tt payload.now)
+        ++ lines_behind (unix_lines options) (read unix_response_header tt payload.now)
         (pieces 0 (drop 16 payload.now))) }
     ensures fault { IfOk result (λ fault. fault
         ≡ fault_behind (read unix_response_header tt payload.now)
@@ -110,27 +116,33 @@ fn push_unix(text: &mut Vec<u8>, payload: &[u8]) -> Result<Option<DecodeError>, 
     match UnixResponseHeader::from_prefix(payload) {
         Ok(header) => {
             let attributes = &payload[UNIX_HEADER..];
-            push_unix_lines(text, &header, attributes)?;
+            push_unix_lines(text, options, &header, attributes)?;
             Ok(find_fault(attributes))
         }
         Err(fault) => Ok(Some(fault)),
     }
 }
 
-/// Adds the lines of a UNIX socket with this header and attributes.
+/// Adds the lines of a UNIX socket with this header and attributes, where they are asked for.
 fn push_unix_lines(
     text: &mut Vec<u8>,
+    options: Options,
     header: &UnixResponseHeader,
     attributes: &[u8],
 ) -> Result<(), AllocError>
     ensures { OnOk result (text.new.items ≡ text.old.items
-        ++ unix_lines header.now (pieces 0 attributes.now)) }
+        ++ unix_lines options header.now (pieces 0 attributes.now)) }
 {
+    if !options.lists_unix() {
+        return Ok(());
+    }
     push_unix_line(text, header, attributes)?;
-    push_details(text, Sockets::Unix, &NO_TIMER, &header.cookie, attributes)
+    let cookie = &header.cookie;
+    push_details(text, options, Sockets::Unix, &NO_TIMER, cookie, attributes)?;
+    Ok(text.push(b'\n')?)
 }
 
-/// Adds the line of a UNIX socket.
+/// Adds the columns of a UNIX socket.
 fn push_unix_line(
     text: &mut Vec<u8>,
     header: &UnixResponseHeader,
@@ -141,8 +153,7 @@ fn push_unix_line(
 {
     push_first_columns(text, &unix_cells(header, queues_in(attributes)))?;
     push_name_column(text, LOCAL, name_in(attributes))?;
-    push_peer(text, peer_in(attributes))?;
-    Ok(text.push(b'\n')?)
+    push_peer(text, peer_in(attributes))
 }
 
 /// The first columns of a UNIX socket, whose queues have these lengths. Those of a listening one
@@ -227,11 +238,12 @@ fn name_of_kind(kind: u8) -> &'static [u8]
 #[tactic(auto, using(netlink_packet_sock_diag::specs::InetReplyLaws::header_enough))]
 fn push_inet(
     text: &mut Vec<u8>,
+    options: Options,
     protocol: Option<u32>,
     payload: &[u8],
 ) -> Result<Option<DecodeError>, AllocError>
     ensures lines { OnOk result (text.new.items ≡ text.old.items
-        ++ lines_behind (inet_lines protocol (timer_in payload.now))
+        ++ lines_behind (inet_lines options protocol (timer_in payload.now))
         (read inet_response_header tt payload.now)
         (pieces 0 (drop 72 payload.now))) }
     ensures fault { IfOk result (λ fault. fault
@@ -241,35 +253,37 @@ fn push_inet(
     match InetResponseHeader::from_prefix(payload) {
         Ok(header) => {
             let attributes = &payload[INET_HEADER..];
-            push_inet_lines(text, protocol, &timer_of(payload), &header, attributes)?;
+            let timer = timer_of(payload);
+            push_inet_lines(text, options, protocol, &timer, &header, attributes)?;
             Ok(find_fault(attributes))
         }
         Err(fault) => Ok(Some(fault)),
     }
 }
 
-/// Adds the lines of an IPv4 or IPv6 socket with this timer, header and attributes.
+/// Adds the lines of an IPv4 or IPv6 socket with this timer, header and attributes, where they are
+/// asked for.
 fn push_inet_lines(
     text: &mut Vec<u8>,
+    options: Options,
     protocol: Option<u32>,
     timer: &TimerWords,
     header: &InetResponseHeader,
     attributes: &[u8],
 ) -> Result<(), AllocError>
     ensures { OnOk result (text.new.items ≡ text.old.items
-        ++ inet_lines protocol timer.now header.now (pieces 0 attributes.now)) }
+        ++ inet_lines options protocol timer.now header.now (pieces 0 attributes.now)) }
 {
+    if !options.lists_protocol(protocol) {
+        return Ok(());
+    }
     push_inet_line(text, protocol, header)?;
-    push_details(
-        text,
-        Sockets::Inet,
-        timer,
-        &header.socket_id.cookie,
-        attributes,
-    )
+    let cookie = &header.socket_id.cookie;
+    push_details(text, options, Sockets::Inet, timer, cookie, attributes)?;
+    Ok(text.push(b'\n')?)
 }
 
-/// Adds the line of an IPv4 or IPv6 socket.
+/// Adds the columns of an IPv4 or IPv6 socket.
 fn push_inet_line(
     text: &mut Vec<u8>,
     protocol: Option<u32>,
@@ -286,8 +300,7 @@ fn push_inet_line(
         id.interface_id,
         id.source_port,
     )?;
-    push_endpoint(text, id.destination_address, 0, id.destination_port)?;
-    Ok(text.push(b'\n')?)
+    push_endpoint(text, id.destination_address, 0, id.destination_port)
 }
 
 /// The first columns of an IPv4 or IPv6 socket.

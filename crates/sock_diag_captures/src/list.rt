@@ -4,8 +4,9 @@
 ghost use Rattle.std.specs.Prelude.{◌≡◌, ◌↔◌, ◌≤◌, ◌++◌, IfOk, OnOk, IsTrue, bit_and, drop};
 ghost use Rattle.std.specs.Prelude.{length, option_map};
 ghost use Rattle.byteorder.specs.Endian.{little_number};
+ghost use Rattle.sock_diag_captures.specs.Capture.{recorded};
 ghost use Rattle.sock_diag_captures.specs.Listing.{IsPlain, IsRequest, Lists, ListsAnswer};
-ghost use Rattle.sock_diag_captures.specs.Listing.{ListsPacket};
+ghost use Rattle.sock_diag_captures.specs.Listing.{ListsPacket, ListsRecorded};
 ghost use Rattle.sock_diag_captures.specs.Requests.{noted};
 ghost use Rattle.sock_diag_captures.specs.Listing.{asked_after, complaint_under};
 ghost use Rattle.sock_diag_captures.specs.Listing.{control_complaint, errno_in};
@@ -16,6 +17,7 @@ ghost use Rattle.sock_diag_captures.specs.declared.list.Complaint.TheVariants.{R
 
 use crate::capture::Packet;
 use crate::line::push_reply;
+use crate::options::Options;
 use crate::requests::Requests;
 use byteorder::{ByteOrder, LittleEndian};
 use netlink_core::{
@@ -70,7 +72,9 @@ struct Place {
 
 /// What is written of packets.
 #[derive(Drop)]
-pub struct Written {
+pub struct Written<'a> {
+    /// What stands before each line for standard error.
+    pub front: &'a str,
     /// The lines of the table.
     pub lines: Vec<u8>,
     /// The lines for standard error.
@@ -78,27 +82,66 @@ pub struct Written {
 }
 
 /// Adds the lines of the sockets that a packet of this number tells, and what is told of it. It
-/// answers whether the packet was listed whole: none of its messages was refused, tells an error
-/// but ENOENT and EINVAL, or says that data was lost or that the dump changed.
+/// answers whether the packet was listed whole: it has the bytes that it had when it was captured,
+/// and none of its messages was refused, tells an error but ENOENT and EINVAL, or says that data
+/// was lost or that the dump changed.
 ///
 /// A request is kept, so that the protocol of a reply that answers it is known.
-#[tactic(auto, using(crate::proofs::Asking::asking))]
 pub fn list_packet(
-    written: &mut Written,
+    written: &mut Written<'_>,
     requests: &mut Requests,
+    options: Options,
+    number: u64,
+    packet: &[u8],
+    whole_length: u32,
+) -> Result<bool, AllocError>
+    ensures lists { IfOk result (ListsRecorded options requests.new.asked.items
+        (recorded packet.now whole_length) written.old.lines.items written.new.lines.items) }
+    ensures asked { OnOk result (requests.new.asked.items
+        ≡ asked_after requests.old.asked.items packet.now) }
+{
+    let is_whole = tell_cut(written, number, packet, whole_length)?;
+    let is_listed = list_content(written, requests, options, number, packet)?;
+    Ok(is_listed & is_whole)
+}
+
+/// Tells that a packet had more bytes when it was captured, where it had, and answers whether it
+/// had not.
+fn tell_cut(
+    written: &mut Written<'_>,
+    number: u64,
+    packet: &[u8],
+    whole_length: u32,
+) -> Result<bool, AllocError>
+    ensures whole { IfOk result (λ is_whole. IsTrue is_whole ↔ (whole_length ≤ length packet.now)) }
+    ensures lines { OnOk result (written.new.lines.items ≡ written.old.lines.items) }
+{
+    if packet.len() >= whole_length as usize {
+        return Ok(true);
+    }
+    push_cut(written, number, packet.len(), whole_length)?;
+    Ok(false)
+}
+
+/// The same of the bytes that are there.
+#[tactic(auto, using(crate::proofs::Asking::asking))]
+fn list_content(
+    written: &mut Written<'_>,
+    requests: &mut Requests,
+    options: Options,
     number: u64,
     packet: &[u8],
 ) -> Result<bool, AllocError>
-    ensures lists { IfOk result (ListsPacket requests.new.asked.items packet.now
+    ensures lists { IfOk result (ListsPacket options requests.new.asked.items packet.now
         written.old.lines.items written.new.lines.items) }
     ensures asked { OnOk result (requests.new.asked.items
         ≡ asked_after requests.old.asked.items packet.now) }
 {
     match Packet::parse(packet) {
-        Packet::SockDiag(datagram) => list_sock_diag(written, requests, number, datagram),
+        Packet::SockDiag(datagram) => list_sock_diag(written, requests, options, number, datagram),
         Packet::Other => Ok(true),
         Packet::Short => {
-            push_short(&mut written.complaints, number)?;
+            push_short(written, number)?;
             Ok(false)
         }
     }
@@ -106,12 +149,13 @@ pub fn list_packet(
 
 /// The same of a datagram of sock_diag(7).
 fn list_sock_diag(
-    written: &mut Written,
+    written: &mut Written<'_>,
     requests: &mut Requests,
+    options: Options,
     number: u64,
     datagram: &[u8],
 ) -> Result<bool, AllocError>
-    ensures lists { IfOk result (ListsAnswer requests.new.asked.items datagram.now
+    ensures lists { IfOk result (ListsAnswer options requests.new.asked.items datagram.now
         written.old.lines.items written.new.lines.items) }
     ensures asked { OnOk result (requests.new.asked.items
         ≡ noted requests.old.asked.items datagram.now) }
@@ -120,7 +164,7 @@ fn list_sock_diag(
     if is_request(datagram) {
         return Ok(true);
     }
-    list_datagram(written, requests, number, datagram)
+    list_datagram(written, requests, options, number, datagram)
 }
 
 /// Whether a datagram begins with a request, as programs send them to the kernel.
@@ -136,12 +180,13 @@ fn is_request(datagram: &[u8]) -> bool
 /// Adds the lines of the sockets that a datagram tells, and what is told of it, and answers whether
 /// it was listed whole. At what is no message it ends.
 fn list_datagram(
-    written: &mut Written,
+    written: &mut Written<'_>,
     requests: &Requests,
+    options: Options,
     number: u64,
     datagram: &[u8],
 ) -> Result<bool, AllocError>
-    ensures { IfOk result (Lists requests.now.asked.items datagram.now
+    ensures { IfOk result (Lists options requests.now.asked.items datagram.now
         written.old.lines.items written.new.lines.items) }
 {
     let mut is_clean = true;
@@ -153,11 +198,11 @@ fn list_datagram(
         place.message = place.message.saturating_add(1);
         match item {
             Ok(message) => {
-                let is_plain = list_message(written, requests, place, message)?;
+                let is_plain = list_message(written, requests, options, place, message)?;
                 is_clean = is_clean && is_plain;
             }
             Err(fault) => {
-                push_complaint(&mut written.complaints, place, &Complaint::Refused(fault))?;
+                push_complaint(written, place, &Complaint::Refused(fault))?;
                 return Ok(false);
             }
         }
@@ -168,23 +213,24 @@ fn list_datagram(
 /// Adds the lines of a message and what is told of it, and answers whether that is nothing, or a
 /// note.
 fn list_message(
-    written: &mut Written,
+    written: &mut Written<'_>,
     requests: &Requests,
+    options: Options,
     place: Place,
     message: &[u8],
 ) -> Result<bool, AllocError>
     requires { 16 ≤ length message.now }
     ensures lines { OnOk result (written.new.lines.items ≡ written.old.lines.items
-        ++ message_lines requests.now.asked.items message.now) }
+        ++ message_lines options requests.now.asked.items message.now) }
     ensures plain { IfOk result (λ is_plain. IsTrue is_plain ↔ IsPlain message.now) }
 {
     let is_steady = is_steady(message);
     if !is_steady {
-        push_complaint(&mut written.complaints, place, &Complaint::Interrupted)?;
+        push_complaint(written, place, &Complaint::Interrupted)?;
     }
-    let told = push_message(&mut written.lines, requests, message)?;
+    let told = push_message(&mut written.lines, requests, options, message)?;
     if let Some(complaint) = &told {
-        push_complaint(&mut written.complaints, place, complaint)?;
+        push_complaint(written, place, complaint)?;
     }
     Ok(is_steady && is_note(&told))
 }
@@ -209,15 +255,17 @@ fn is_note(told: &Option<Complaint>) -> bool
 fn push_message(
     lines: &mut Vec<u8>,
     requests: &Requests,
+    options: Options,
     message: &[u8],
 ) -> Result<Option<Complaint>, AllocError>
     requires { 16 ≤ length message.now }
     ensures lines { OnOk result (lines.new.items ≡ lines.old.items
-        ++ message_lines requests.now.asked.items message.now) }
+        ++ message_lines options requests.now.asked.items message.now) }
     ensures complaint { IfOk result (λ told. told ≡ message_complaint message.now) }
 {
     push_payload(
         lines,
+        options,
         protocol_of(requests, message),
         LittleEndian::read_u16(&message[4..]),
         &message[NETLINK_HEADER_LEN..],
@@ -228,18 +276,19 @@ fn push_message(
 /// asked for.
 fn push_payload(
     lines: &mut Vec<u8>,
+    options: Options,
     protocol: Option<u32>,
     message_type: u16,
     payload: &[u8],
 ) -> Result<Option<Complaint>, AllocError>
     ensures lines { OnOk result (lines.new.items ≡ lines.old.items
-        ++ lines_under protocol message_type payload.now) }
+        ++ lines_under options protocol message_type payload.now) }
     ensures complaint { IfOk result (λ told. told ≡ complaint_under message_type payload.now) }
 {
     if (NLMSG_NOOP..=NLMSG_OVERRUN).contains(&message_type) {
         return Ok(complaint_about_control(message_type, payload));
     }
-    let fault = push_reply(lines, protocol, message_type, payload)?;
+    let fault = push_reply(lines, options, protocol, message_type, payload)?;
     Ok(complaint_about_fault(fault))
 }
 
@@ -301,14 +350,36 @@ fn error_of(payload: &[u8]) -> u32
 
 /// Adds a line about a message.
 fn push_complaint(
-    complaints: &mut Vec<u8>,
+    written: &mut Written<'_>,
     place: Place,
     complaint: &Complaint,
-) -> Result<(), AllocError> {
+) -> Result<(), AllocError>
+    ensures { OnOk result (written.new.lines.items ≡ written.old.lines.items) }
+{
+    let front = written.front;
     let Place { packet, message } = place;
     match writeln!(
-        complaints,
-        "sslist: packet {packet}, message {message}: {complaint}"
+        written.complaints,
+        "{front}packet {packet}, message {message}: {complaint}"
+    ) {
+        Ok(()) => Ok(()),
+        Err(_) => Err(AllocError),
+    }
+}
+
+/// Adds a line about a packet that has so many bytes, and had more when it was captured.
+fn push_cut(
+    written: &mut Written<'_>,
+    packet: u64,
+    length: usize,
+    whole_length: u32,
+) -> Result<(), AllocError>
+    ensures { OnOk result (written.new.lines.items ≡ written.old.lines.items) }
+{
+    let front = written.front;
+    match writeln!(
+        written.complaints,
+        "{front}packet {packet}: cut to {length} of {whole_length} bytes"
     ) {
         Ok(()) => Ok(()),
         Err(_) => Err(AllocError),
@@ -316,8 +387,11 @@ fn push_complaint(
 }
 
 /// Adds a line about a packet that is too short to be one of a netlink device.
-fn push_short(complaints: &mut Vec<u8>, packet: u64) -> Result<(), AllocError> {
-    match writeln!(complaints, "sslist: packet {packet}: fewer than 16 bytes") {
+fn push_short(written: &mut Written<'_>, packet: u64) -> Result<(), AllocError>
+    ensures { OnOk result (written.new.lines.items ≡ written.old.lines.items) }
+{
+    let front = written.front;
+    match writeln!(written.complaints, "{front}packet {packet}: fewer than 16 bytes") {
         Ok(()) => Ok(()),
         Err(_) => Err(AllocError),
     }

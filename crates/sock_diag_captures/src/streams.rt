@@ -3,10 +3,11 @@
 ghost use Rattle.std.specs.Prelude.{◌≡◌, ◌<◌, ◌≤◌, ℕ, List, Option, length, IfOk, IfErr, OnOk, ⊤};
 ghost use Rattle.std.specs.Io.KnownBytes.{Keeps, ReadConsumes, WriteAppends};
 ghost use Rattle.std.specs.Io.{ReadsAtMost};
+ghost use Rattle.sock_diag_captures.specs.Streams.{IsReadFailure, IsWriteFailure};
 
 use crate::capture::CaptureError;
 use crate::stream::RunError;
-use std::io::{Read, Write};
+use std::io::{ErrorKind, Read, Write};
 
 /// What a capture is read from. Who has no other bound than this one can't say that a read failed
 /// where none did.
@@ -21,7 +22,7 @@ pub trait Source {
     fn read_some(&mut self, bytes: &mut [u8]) -> Result<usize, CaptureError>
         ensures bound { ReadsAtMost result bytes.new }
         ensures bytes { ReadConsumes (left self.old) (left self.new) result bytes.new }
-        ensures cause { IfErr result (λ e. (e ≡ CaptureError.Read) × failed self.new) };
+        ensures cause { IfErr result (λ e. IsReadFailure e × failed self.new) };
 }
 
 impl<R: Read> Source for R {
@@ -32,8 +33,18 @@ impl<R: Read> Source for R {
     fn read_some(&mut self, bytes: &mut [u8]) -> Result<usize, CaptureError> {
         match self.read(bytes) {
             Ok(count) => Ok(count),
-            Err(_) => Err(CaptureError::Read),
+            Err(error) => Err(read_failure(error.kind())),
         }
+    }
+}
+
+/// What a read that failed so is.
+fn read_failure(kind: ErrorKind) -> CaptureError
+    ensures { IsReadFailure result }
+{
+    match kind {
+        ErrorKind::IsADirectory => CaptureError::Directory,
+        _ => CaptureError::Read,
     }
 }
 
@@ -53,13 +64,13 @@ pub trait Sink {
     fn write_part(&mut self, text: &[u8]) -> Result<usize, RunError>
         ensures some { IfOk result (λ n. (0 < n) × (n ≤ length text.now)) }
         ensures bytes { WriteAppends (held self.old) (held self.new) result text.now }
-        ensures cause { IfErr result (λ e. (e ≡ RunError.Write) × failed self.new) };
+        ensures cause { IfErr result (λ e. IsWriteFailure e × failed self.new) };
 
     /// Flushes once.
     fn flush_all(&mut self) -> Result<(), RunError>
         ensures bytes { Keeps (held self.old) (held self.new) }
         ensures done { OnOk result (flushed self.new) }
-        ensures cause { IfErr result (λ e. (e ≡ RunError.Write) × failed self.new) };
+        ensures cause { IfErr result (λ e. IsWriteFailure e × failed self.new) };
 }
 
 impl<W: Write> Sink for W {
@@ -71,15 +82,26 @@ impl<W: Write> Sink for W {
 
     fn write_part(&mut self, text: &[u8]) -> Result<usize, RunError> {
         match self.write(text) {
-            Ok(0) | Err(_) => Err(RunError::Write),
+            Ok(0) => Err(RunError::Write),
             Ok(count) => Ok(count),
+            Err(error) => Err(write_failure(error.kind())),
         }
     }
 
     fn flush_all(&mut self) -> Result<(), RunError> {
         match self.flush() {
             Ok(()) => Ok(()),
-            Err(_) => Err(RunError::Write),
+            Err(error) => Err(write_failure(error.kind())),
         }
+    }
+}
+
+/// What a write or a flush that failed so is.
+fn write_failure(kind: ErrorKind) -> RunError
+    ensures { IsWriteFailure result }
+{
+    match kind {
+        ErrorKind::BrokenPipe => RunError::Closed,
+        _ => RunError::Write,
     }
 }

@@ -1,35 +1,102 @@
 //! What the arguments of a program that lists ask for.
 
-ghost use Rattle.std.specs.Prelude.{◌≡◌, ◌↔◌, codes};
-ghost use Rattle.sock_diag_captures.specs.declared.words.Choice.TheVariants.{Help, Version};
+ghost use Rattle.std.specs.Prelude.{◌≡◌, ◌↔◌, IsTrue};
+ghost use Rattle.sock_diag_captures.specs.Words.{AreLetters, IsArgument, IsOther};
+ghost use Rattle.sock_diag_captures.specs.Words.{with_details, with_letters, with_sockets};
+
+use crate::options::Options;
 
 /// How `sslist` is called.
-pub const HELP: &str = "sslist [--help | --version]\n\n\
-Lists the sockets that a capture of netlink traffic on standard input tells, one a line and what\n\
-is told beside its columns below. The capture is one of pcap, as tcpdump -i nlmon0 -w - writes\n\
-it.\n\n\
+pub const HELP: &str = "sslist [-tuxMoemiOna] [FILE ..]\n\n\
+Lists the sockets that captures of netlink traffic tell: that of each file, or of standard input. A\n\
+capture is one of pcap, as tcpdump -i nlmon0 -w - writes it.\n\n\
+  -t -u -x -M  sockets of TCP, UDP, UNIX or MPTCP alone\n\
+  -o -e -m -i  of what is told beside the columns, the timer, the cookie and what the others don't\n\
+               tell, the memory, or the connection alone\n\
+  -O           one line a socket\n\
+  -n -a        nothing more: all numbers are shown as numbers, and all states are listed\n\
+  --help, --version\n\n\
 The status is 0 where all was listed, 1 where something was not, which standard error names, and\n\
-2 for arguments that are not known.";
+2 for an option that is not known.";
 
-/// What an argument asks for.
+/// The letters that stand behind a hyphen.
+const LETTERS: &[u8] = b"tuxMoemiOna";
+
+/// What an argument is.
 #[derive(Clone, Copy, Debug, PartialEq, Eq)]
-pub enum Choice {
-    /// How the program is called.
+pub enum Argument<'a> {
+    /// It asks how the program is called.
     Help,
-    /// The version.
+    /// It asks for the version.
     Version,
-    /// Nothing that is known.
+    /// Letters of options, each of which is known.
+    Letters(&'a [u8]),
+    /// The name of a file, which begins with no hyphen.
+    File,
+    /// An option that is not known.
     Unknown,
 }
 
-/// What the one argument asks for.
-pub fn choose(word: &str) -> Choice
-    ensures help { (result ≡ Help) ↔ (word.now ≡ codes "--help") }
-    ensures version { (result ≡ Version) ↔ (word.now ≡ codes "--version") }
+/// What an argument is.
+pub fn choose(word: &str) -> Argument<'_>
+    ensures { IsArgument word.entry.now result }
 {
     match word {
-        "--help" => Choice::Help,
-        "--version" => Choice::Version,
-        _ => Choice::Unknown,
+        "--help" => Argument::Help,
+        "--version" => Argument::Version,
+        _ => choose_other(word.as_bytes()),
+    }
+}
+
+/// What an argument is that asks neither for help nor for the version.
+fn choose_other(word: &[u8]) -> Argument<'_>
+    ensures { IsOther word.entry.now result }
+{
+    if word.is_empty() || word[0] != b'-' {
+        return Argument::File;
+    }
+    let letters = &word[1..];
+    if are_letters(letters) {
+        Argument::Letters(letters)
+    } else {
+        Argument::Unknown
+    }
+}
+
+/// Whether there are letters, and each is known.
+fn are_letters(letters: &[u8]) -> bool
+    ensures { IsTrue result ↔ AreLetters letters.now }
+{
+    !letters.is_empty() && letters.iter().all(|letter| LETTERS.contains(letter))
+}
+
+impl Options {
+    /// Adds what letters ask for.
+    pub fn add(&mut self, letters: &[u8])
+        ensures { self.new ≡ with_letters letters.now self.old }
+    {
+        self.add_details(letters);
+        self.add_sockets(letters);
+    }
+
+    /// Adds which details they ask for.
+    fn add_details(&mut self, letters: &[u8])
+        ensures { self.new ≡ with_details letters.now self.old }
+    {
+        self.timer |= letters.contains(&b'o');
+        self.extended |= letters.contains(&b'e');
+        self.memory |= letters.contains(&b'm');
+        self.connection |= letters.contains(&b'i');
+        self.one_line |= letters.contains(&b'O');
+    }
+
+    /// Adds which sockets they ask for.
+    fn add_sockets(&mut self, letters: &[u8])
+        ensures { self.new ≡ with_sockets letters.now self.old }
+    {
+        self.tcp |= letters.contains(&b't');
+        self.udp |= letters.contains(&b'u');
+        self.mptcp |= letters.contains(&b'M');
+        self.unix |= letters.contains(&b'x');
     }
 }

@@ -1,6 +1,6 @@
-use sock_diag_captures::{ByteOrder, CaptureError, HEADING, RunError, run, run_to_status};
+use sock_diag_captures::{ByteOrder, CaptureError, HEADING, Options, RunError, run, run_to_status};
 use std::alloc::Global;
-use std::io::{self, Write};
+use std::io::{self, ErrorKind, Write};
 use std::process::Abort;
 use std::test::Fail;
 
@@ -74,12 +74,15 @@ const HEADERS: [&str; 4] = [
     "a1b2c3d400020004000000000000000000001000000000fd",
 ];
 
+/// What stands before each line on standard error.
+const NAME: &str = "sslist: ";
+
 /// Takes nine bytes a call at most, and notes whether a flush came last.
 #[derive(Drop)]
 struct Flushed {
     taken: Vec<u8>,
     is_flushed: bool,
-    flush_fails: bool,
+    flush_fails: Option<ErrorKind>,
 }
 
 impl Write for Flushed {
@@ -91,8 +94,8 @@ impl Write for Flushed {
     }
 
     fn flush(&mut self) -> io::Result<()> {
-        if self.flush_fails {
-            return Err(io::Error::from(io::ErrorKind::Other));
+        if let Some(kind) = self.flush_fails {
+            return Err(io::Error::from(kind));
         }
         self.is_flushed = true;
         Ok(())
@@ -103,7 +106,7 @@ fn taker(alloc: Global) -> Flushed {
     Flushed {
         taken: Vec::new(alloc),
         is_flushed: false,
-        flush_fails: false,
+        flush_fails: None,
     }
 }
 
@@ -118,7 +121,8 @@ fn lists(
 ) -> Result<(), Fail> {
     let mut input = capture;
     let (mut output, mut errors) = (taker(alloc), taker(alloc));
-    let outcome = run(alloc, &mut input, &mut output, &mut errors);
+    let options = Options::default();
+    let outcome = run(alloc, options, NAME, &mut input, &mut output, &mut errors);
     assert!(rt; outcome == want, "{outcome:?}");
     assert!(rt; errors.taken.is_empty() && (output.is_flushed || want.is_err()));
     if let Some(lines) = lines {
@@ -194,7 +198,7 @@ fn tells_where_a_capture_is_cut(rt: HostRuntime) -> Result<(), Fail> {
 /// The front of the header of a capture.
 const FRONT: &str = "d4c3b2a1020004000000000000000000";
 
-/// The end of that of a capture whose packets have at most 100 bytes.
+/// The end of that of a capture whose packets are cut to 100 bytes.
 const OF_100: &str = "64000000fd000000";
 
 /// The headers of a packet of 100 bytes.
@@ -214,11 +218,15 @@ const FAILED: &str =
     "07000000090000002400000024000000000403380000000000000000000000041400000003000200\
 0700000000000000feffffff";
 
+/// A packet of another protocol that is cut to 16 bytes of 101.
+const CUT: &str = "0700000009000000100000006500000000000000000000000000000000000000";
+
 /// What a run tells of a capture that is given in hex, part by part.
 fn tells(rt: &impl Abort, alloc: Global, parts: &[&str], want: &str) -> Result<(), Fail> {
     let capture = hex::decode(alloc, parts.concat(alloc)?.as_str())?;
     let (mut output, mut errors) = (taker(alloc), taker(alloc));
-    let _status = run_to_status(alloc, &mut capture.as_slice(), &mut output, &mut errors);
+    let (options, mut input) = (Options::default(), capture.as_slice());
+    let _status = run_to_status(alloc, options, NAME, &mut input, &mut output, &mut errors);
     let want = ["sslist: ", want, "\n"].concat(alloc)?;
     assert!(rt; errors.taken.as_slice() == want.as_bytes());
     Ok(())
@@ -240,12 +248,13 @@ fn tells_why(rt: HostRuntime) -> Result<(), Fail> {
 sslist: packet 1, message 2: UnixResponseHeader: buffer of 12 bytes, at least 16 needed\n\
 sslist: packet 1, message 3: UnixResponseHeader: buffer of 12 bytes, at least 16 needed";
     tells(&rt, alloc, &parts, want)?;
-    let parts = [FRONT, OF_100, OTHER_AND_SHORT, LOST, FAILED, "00"];
+    let parts = [FRONT, OF_100, OTHER_AND_SHORT, LOST, FAILED, CUT, "00"];
     let want = "packet 2: fewer than 16 bytes\n\
 sslist: packet 3, message 1: the dump changed while it was taken\n\
 sslist: packet 3, message 1: the kernel lost data\n\
 sslist: packet 4, message 1: note: the kernel answers ENOENT\n\
-sslist: packet 5: the capture is cut off";
+sslist: packet 5: cut to 16 of 101 bytes\n\
+sslist: packet 6: the capture is cut off";
     tells(&rt, alloc, &parts, want)?;
     tells(&rt, alloc, &[], "the input is empty")?;
     tells(&rt, alloc, &[FRONT, "48"], "the capture is cut off")?;
@@ -261,8 +270,8 @@ sslist: packet 5: the capture is cut off";
     tells(&rt, alloc, &["0a0d0d0a", FRONT, OF_100], want)?;
     let want = "a gzip file, unpack it: gzip -dc CAPTURE";
     tells(&rt, alloc, &["1f8b0800", FRONT, OF_100], want)?;
-    let want = "packet 1: a packet of 100 bytes, at most 99 expected";
-    tells(&rt, alloc, &[FRONT, "63000000fd000000", OF_SOCK_DIAG], want)
+    let want = "packet 1: a packet of 262145 bytes, at most 262144 expected";
+    tells(&rt, alloc, &[FRONT, OF_100, "07000000090000000100040001000400"], want)
 }
 
 /// The texts of errors that no capture gives.
@@ -270,12 +279,15 @@ sslist: packet 5: the capture is cut off";
 fn errors_of_a_run_have_words(rt: HostRuntime) -> Result<(), Fail> {
     let (packet, fault) = (2, CaptureError::Read);
     let (cut, memory) = (RunError::Packet { packet, fault }, RunError::Memory);
-    let text = format!(in rt.alloc(); "{cut}, {memory}, {}", CaptureError::Memory)?;
-    assert!(rt; text.as_str() == "packet 2: reading failed, out of memory, out of memory");
+    let (lack, folder) = (CaptureError::Memory, CaptureError::Directory);
+    let text = format!(in rt.alloc(); "{cut}, {memory}, {lack}, {folder}")?;
+    let want = "packet 2: reading failed, out of memory, out of memory, the input is a directory";
+    assert!(rt; text.as_str() == want);
     Ok(())
 }
 
-/// A packet of the most bytes, of another protocol, is passed over; and a flush fails.
+/// A packet of the most bytes, of another protocol, is passed over; and a flush fails, for two
+/// causes.
 #[test]
 fn ends_of_a_run(rt: HostRuntime) -> Result<(), Fail> {
     let alloc = rt.alloc();
@@ -285,8 +297,14 @@ fn ends_of_a_run(rt: HostRuntime) -> Result<(), Fail> {
     capture.resize(40 + 262_144, 0)?;
     lists(&rt, alloc, &capture, Ok(true), None)?;
     let (mut output, mut errors) = (taker(alloc), taker(alloc));
-    output.flush_fails = true;
-    let outcome = run(alloc, &mut capture.as_slice(), &mut output, &mut errors);
+    output.flush_fails = Some(ErrorKind::Other);
+    let (options, mut input) = (Options::default(), capture.as_slice());
+    let outcome = run(alloc, options, NAME, &mut input, &mut output, &mut errors);
     assert!(rt; outcome == Err(RunError::Write));
+    // Of a pipe that nobody reads nothing is told.
+    output.flush_fails = Some(ErrorKind::BrokenPipe);
+    let mut input = capture.as_slice();
+    let _status = run_to_status(alloc, options, NAME, &mut input, &mut output, &mut errors);
+    assert!(rt; errors.taken.is_empty());
     Ok(())
 }

@@ -4,9 +4,9 @@ use Rattle.std.proofs.Common.{append-nil}
 use Rattle.std.proofs.lemmas.Slice.{take-put_mid_below}
 use Rattle.std.specs.Io.KnownBytes.{Consumes}
 use Rattle.std.proofs.KnownBytes.{Consumes-trans, Consumes-kept}
-use Rattle.sock_diag_captures.specs.Capture.{IsStop}
 use borrow.Rule.Slice.PartMut.{put_mid, post_of}
 use lib.Seq.{take-add, take-append-le}
+use Rattle.sock_diag_captures.proofs.Stops.{failure_stops}
 use Rattle.sock_diag_captures.proofs.capture.fill.Goals as goal
 
 -- a range behind a front that stays, and the front
@@ -60,7 +60,5 @@ returns-in-Err-clause-stopped g c = (
   take c.reads.at c.reads.bytes,
   omega (arith, length-take-le c.reads.at c.reads.bytes c.reads.invariant.1),
   Consumes-kept _ _ _ _ c.reads.invariant.2 c.in-Err.ensures.bytes,
-  subst (λ e. IsStop (g.R.Source.left c.read_some.new.self)
-      (g.R.Source.failed c.read_some.new.self) e)
-      (sym c.in-Err.ensures.cause.0) c.in-Err.ensures.cause.1,
+  failure_stops _ _ _ c.in-Err.ensures.cause.0 c.in-Err.ensures.cause.1,
 )

@@ -6,8 +6,8 @@ use Rattle.sock_diag_captures.proofs.details.push_pieces.Given as goal
 -- what was added and what is left to be added make the whole
 abbrev pub invariant-loop-piece : goal.invariant-loop-piece
 invariant-loop-piece l =
-    l.text.items ++ flat_map (piece_detail l.sockets) (pieces_left l.walk)
-    ≡ l.fn.text.items ++ flat_map (piece_detail l.sockets) (pieces 0 l.bytes)
+    l.text.items ++ flat_map (piece_detail l.options l.sockets) (pieces_left l.walk)
+    ≡ l.fn.text.items ++ flat_map (piece_detail l.options l.sockets) (pieces 0 l.bytes)
 
 abbrev pub decreases-loop-piece : goal.decreases-loop-piece
 decreases-loop-piece l = length (pieces_left l.walk)

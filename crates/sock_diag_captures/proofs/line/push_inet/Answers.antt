@@ -5,7 +5,7 @@ pub returns-in_ok-push_inet_lines-in-Ok-clause-lines :
     goal.returns-in_ok-push_inet_lines-in-Ok-clause-lines
 returns-in_ok-push_inet_lines-in-Ok-clause-lines c =
     rw (← c.in-Ok.ensures.value)
-    (rw (take_rest c.args.payload.now 72, c.timer_of.ensures) at
+    (rw (take_rest c.args.payload.now 72, c.timer_of-timer.ensures) at
     c.in_ok-push_inet_lines-in-Ok.ensures)
 
 pub returns-in_ok-push_inet_lines-in-Ok-clause-fault :

@@ -1,6 +1,12 @@
 use Rattle.std.proofs.lemmas.List.{take_rest}
 use Rattle.sock_diag_captures.proofs.line.push_unix.Goals as goal
 
+pub returns-in_ok-push_unix_lines-in-Ok-clause-lines :
+    goal.returns-in_ok-push_unix_lines-in-Ok-clause-lines
+returns-in_ok-push_unix_lines-in-Ok-clause-lines c =
+    rw (← c.in-Ok.ensures)
+    (rw (take_rest c.args.payload.now 16) at c.in_ok-push_unix_lines-in-Ok.ensures)
+
 pub returns-in_ok-push_unix_lines-in-Ok-clause-fault :
     goal.returns-in_ok-push_unix_lines-in-Ok-clause-fault
 returns-in_ok-push_unix_lines-in-Ok-clause-fault c =

@@ -1,4 +1,5 @@
 use Rattle.std.proofs.Common.{◌++◌, ap, ◌∙◌}
+use Rattle.std.proofs.lemmas.Result.{on_ok_weaker}
 use Rattle.sock_diag_captures.specs.Table.{first_columns}
 use Rattle.sock_diag_captures.proofs.Adding.{adds}
 use Rattle.sock_diag_captures.proofs.line.push_unix_line.Goals as goal
@@ -8,5 +9,6 @@ returns c =
     let columns = c.in_ok-push_first_columns.ensures
     ∙ ap (λ cells. c.args.text.now.items ++ first_columns cells) c.unix_cells.ensures in
     rw (← c.queues_in.ensures, ← c.name_in.ensures, ← c.peer_in.ensures)
-    (adds _ _ _ _ _ (adds _ _ _ _ _ (adds _ _ _ _ _ columns c.in_ok-push_name_column.ensures)
-    c.in_ok-push_peer.ensures) c.in_ok-push.ensures.items)
+    (on_ok_weaker c.push_peer.result
+    (λ last. adds _ _ _ _ _ (adds _ _ _ _ _ columns c.in_ok-push_name_column.ensures) last)
+    c.push_peer.ensures)

@@ -5,6 +5,6 @@ use Rattle.sock_diag_captures.proofs.list.list_datagram.Given as goal
 
 -- the messages so far are listed
 abbrev pub invariant-loop-item : goal.invariant-loop-item
-invariant-loop-item l = Listing (message_lines l.requests.asked.items) IsPlain l.datagram
+invariant-loop-item l = Listing (message_lines l.options l.requests.asked.items) IsPlain l.datagram
     (datagram_left l.item-iterator)
     l.fn.written.lines.items l.written.lines.items l.is_clean

@@ -1,5 +1,5 @@
-use Rattle.std.proofs.Common.{◌++◌, ◌∙◌, arith, sym}
-use Rattle.std.specs.Prelude.{flat_map}
+use Rattle.std.proofs.Common.{◌≡◌, ℕ, ◌++◌, ◌∙◌, arith, refl, sym}
+use Rattle.std.specs.Prelude.{flat_map, MatchOption, Option, None, Some}
 use Rattle.std.proofs.KnownBytes.{Appends-kept, Appends-trans, Consumes-kept, Consumes-nil}
 use Rattle.std.proofs.KnownBytes.{Consumes-trans}
 use Rattle.std.proofs.lemmas.Result.{err_from_is_err_and}
@@ -8,36 +8,42 @@ use Rattle.sock_diag_captures.specs.Run.{lines_told}
 use Rattle.sock_diag_captures.proofs.Failing.{fails_at_flush, fails_at_header, fails_at_heading}
 use Rattle.sock_diag_captures.proofs.Failing.{fails_at_lines}
 use Rattle.sock_diag_captures.proofs.Failing.{fails_at_memory, fails_at_packet, fails_past_numbers}
-use Rattle.sock_diag_captures.proofs.Failing.{table_of}
+use Rattle.sock_diag_captures.proofs.Failing.{no_write, table_of}
 use Rattle.sock_diag_captures.proofs.Progress.{goes_on_part, goes_on_whole, progress_begins}
 use Rattle.sock_diag_captures.proofs.stream.write_table.Goals.{then-is_whole, else-is_whole}
 use Rattle.sock_diag_captures.proofs.stream.write_table.Goals as goal
 
+-- no packet was read
+none_read : (told : Option ℕ) (P : Type 0) (Q : ℕ → Type 0) → ((n : ℕ) → told ≡ Some n → ⊥)
+    → MatchOption told P Q → P
+none_read None P Q other h = h
+none_read (Some n) P Q other h = absurd (other n refl)
+
 pub packets-init : goal.packets-init
-packets-init g c = rw c.new-requests.ensures (progress_begins (IsRecord _) _ _)
+packets-init g c = rw c.new-requests.ensures (progress_begins _ (IsRecord _) _ _)
 
 pub packets-preserved : goal.packets-preserved
 packets-preserved g c =
-    let got = rw c.if-not-branch.false at c.in_ok-read_packet.ensures.read in
-    let listed = rw (c.as_slice.ensures.value, c.clear.ensures.items) at
+    let got = rw c.in-Some.is at c.in_ok-whole_length.ensures.read in
+    let listed = rw (c.as_slice-bytes.ensures.value, c.clear.ensures.items) at
     c.in_ok-is_listed.ensures.lists in
-    let next = rw c.as_slice.ensures.value at c.in_ok-is_listed.ensures.asked in
-    let appended = rw c.as_slice-in-packets.ensures.value at c.in_ok-send-2.ensures.written in
+    let next = rw c.as_slice-bytes.ensures.value at c.in_ok-is_listed.ensures.asked in
+    let appended = rw c.as_slice.ensures.value at c.in_ok-send-2.ensures.written in
     elim c.if-is_whole.branch [
       | then-is_whole w ↦ rw w.is_whole-is
-          (goes_on_whole (IsRecord c.in_ok-file.file) _ _ _ _ _ _ got.0 _ _ _ _ _ _ _
+          (goes_on_whole _ (IsRecord c.in_ok-file.file) _ _ _ _ _ _ got.0 _ _ _ _ _ _ _
           w.if-is_whole.true c.packets.invariant got.1 next listed got.2 appended)
       | else-is_whole w ↦ rw w.is_whole-is
-          (goes_on_part (IsRecord c.in_ok-file.file) _ _ _ _ _ _ got.0 _ _ _ _ _ _ _
+          (goes_on_part _ (IsRecord c.in_ok-file.file) _ _ _ _ _ _ got.0 _ _ _ _ _ _ _
           w.if-is_whole.false c.packets.invariant got.1 next listed got.2 appended)
     ]
 
-pub returns-then-not-branch-clause-table : goal.returns-then-not-branch-clause-table
-returns-then-not-branch-clause-table g c =
-    let end = rw c.if-not-branch.true at c.in_ok-read_packet.ensures.read in (
+pub returns-in_default-clause-table : goal.returns-in_default-clause-table
+returns-in_default-clause-table g c =
+    let end = none_read _ _ _ c.in_default.not-Some c.in_ok-whole_length.ensures.read in (
       c.in_ok-file.ensures.read.0 ++ c.packets.invariant.records,
       flat_map lines_told c.packets.invariant.told,
-      table_of c.in_ok-file.file c.in_ok-file.ensures.read.0 c.in_ok-file.ensures.read.1
+      table_of _ c.in_ok-file.file c.in_ok-file.ensures.read.0 c.in_ok-file.ensures.read.1
           c.in_ok-file.ensures.read.2 _ _ _ _ _ _ _ c.packets.invariant,
       Consumes-trans _ _ _ _ _ c.in_ok-file.ensures.read.3
           (Consumes-kept _ _ _ _ c.packets.invariant.read end.1),
@@ -48,7 +54,7 @@ returns-then-not-branch-clause-table g c =
 pub returns-in_err-file-clause-failed : goal.returns-in_err-file-clause-failed
 returns-in_err-file-clause-failed g c =
     let p = err_from_is_err_and c.from_residual.result c.from_residual.ensures.1 in
-    rw (p.1, p.2) (fails_at_header _ _ _ _ _ _ c.in_err-file.ensures.stopped)
+    rw (p.1, p.2) (fails_at_header _ _ _ _ _ _ _ c.in_err-file.ensures.stopped)
 
 pub returns-in_err-send-clause-failed : goal.returns-in_err-send-clause-failed
 returns-in_err-send-clause-failed g c =
@@ -56,24 +62,30 @@ returns-in_err-send-clause-failed g c =
     c.from_residual-in_err-send.ensures.1 in
     let (write, failed, front, rest, split, appended) = c.in_err-send.ensures.stopped in
     let (header, long, is, read) = c.in_ok-file.ensures.read in
-    rw (p.1, p.2) (fails_at_heading _ header long is _ _ _ _ _ _ _ write read front rest split
+    rw (p.1, p.2) (fails_at_heading _ _ header long is _ _ _ _ _ _ _ write read front rest split
     appended)
 
-pub returns-in_err-read_packet-clause-failed : goal.returns-in_err-read_packet-clause-failed
-returns-in_err-read_packet-clause-failed g c =
-    let p = err_from_is_err_and c.from_residual-in_err-read_packet.result
-    c.from_residual-in_err-read_packet.ensures.1 in
+pub returns-in_err-whole_length-clause-failed : goal.returns-in_err-whole_length-clause-failed
+returns-in_err-whole_length-clause-failed g c =
+    let p = err_from_is_err_and c.from_residual-in_err-whole_length.result
+    c.from_residual-in_err-whole_length.ensures.1 in
     let (header, long, is, read) = c.in_ok-file.ensures.read in
-    rw (p.1, p.2) (fails_at_packet _ header long is _ _ _ _ _ _ _ _ _ _ c.packets.invariant read
-    c.in_ok-send.ensures.written _ _ _ c.in_err-read_packet.ensures.stopped)
+    rw (p.1, p.2) (fails_at_packet _ _ header long is _ _ _ _ _ _ _ _ _ _ c.packets.invariant read
+    c.in_ok-send.ensures.written _ _ _ c.in_err-whole_length.ensures.stopped)
+
+pub returns-in_err-whole_length-clause-cause : goal.returns-in_err-whole_length-clause-cause
+returns-in_err-whole_length-clause-cause g c =
+    let p = err_from_is_err_and c.from_residual-in_err-whole_length.result
+    c.from_residual-in_err-whole_length.ensures.1 in
+    rw (p.1, p.2) (no_write _ _ _ _ c.in_err-whole_length.ensures.stopped.1)
 
 pub returns-in_err-flush_all-clause-failed : goal.returns-in_err-flush_all-clause-failed
 returns-in_err-flush_all-clause-failed g c =
     let p = err_from_is_err_and c.from_residual-in_err-flush_all.result
     c.from_residual-in_err-flush_all.ensures.1 in
     let (header, long, is, read) = c.in_ok-file.ensures.read in
-    let end = rw c.if-not-branch.true at c.in_ok-read_packet.ensures.read in
-    rw (p.1, p.2) (fails_at_flush _ header long is _ _ _ _ _ _ _ _ _ _ c.packets.invariant read
+    let end = none_read _ _ _ c.in_default.not-Some c.in_ok-whole_length.ensures.read in
+    rw (p.1, p.2) (fails_at_flush _ _ header long is _ _ _ _ _ _ _ _ _ _ c.packets.invariant read
     c.in_ok-send.ensures.written _ _ _ _
     c.in_err-flush_all.ensures.cause.0 (Consumes-kept _ _ _ _ (Consumes-nil _) end.1)
     c.in_err-flush_all.ensures.bytes)
@@ -83,8 +95,8 @@ returns-in_err-is_listed-clause-failed g c =
     let p = err_from_is_err_and c.from_residual-in_err-is_listed.result
     c.from_residual-in_err-is_listed.ensures.1 in
     let (header, long, is, read) = c.in_ok-file.ensures.read in
-    let got = rw c.if-not-branch.false at c.in_ok-read_packet.ensures.read in
-    rw p.1 (fails_at_memory _ header long is _ _ _ _ _ _ _ _ _ _ c.packets.invariant read
+    let got = rw c.in-Some.is at c.in_ok-whole_length.ensures.read in
+    rw p.1 (fails_at_memory _ _ header long is _ _ _ _ _ _ _ _ _ _ c.packets.invariant read
     c.in_ok-send.ensures.written _ _ _ got.0 _ p.2 got.1 got.2)
 
 pub returns-in_err-send-2-clause-failed : goal.returns-in_err-send-2-clause-failed
@@ -92,18 +104,18 @@ returns-in_err-send-2-clause-failed g c =
     let p = err_from_is_err_and c.from_residual-in_err-send-2.result
     c.from_residual-in_err-send-2.ensures.1 in
     let (header, long, is, read) = c.in_ok-file.ensures.read in
-    let got = rw c.if-not-branch.false at c.in_ok-read_packet.ensures.read in
-    let listed = rw (c.as_slice.ensures.value, c.clear.ensures.items) at
+    let got = rw c.in-Some.is at c.in_ok-whole_length.ensures.read in
+    let listed = rw (c.as_slice-bytes.ensures.value, c.clear.ensures.items) at
     c.in_ok-is_listed.ensures.lists in
-    let next = rw c.as_slice.ensures.value at c.in_ok-is_listed.ensures.asked in
+    let next = rw c.as_slice-bytes.ensures.value at c.in_ok-is_listed.ensures.asked in
     let (write, failed, front, rest, split, appended) = c.in_err-send-2.ensures.stopped in
-    rw (p.1, p.2) (fails_at_lines _ header long is _ _ _ _ _ _ _ _ _ _ c.packets.invariant read
+    rw (p.1, p.2) (fails_at_lines _ _ header long is _ _ _ _ _ _ _ _ _ _ c.packets.invariant read
     c.in_ok-send.ensures.written _ _ _ _ got.0 _ _ _ _
-    write got.1 next listed got.2 front rest (sym c.as_slice-in-packets.ensures.value ∙ split)
+    write got.1 next listed got.2 front rest (sym c.as_slice.ensures.value ∙ split)
     appended)
 
 pub returns-clause-failed : goal.returns-clause-failed
 returns-clause-failed g c =
     let (header, long, is, read) = c.in_ok-file.ensures.read in
-    fails_past_numbers _ header long is _ _ _ _ _ _ _ _ _ _ c.packets.invariant read
+    fails_past_numbers _ _ header long is _ _ _ _ _ _ _ _ _ _ c.packets.invariant read
     c.in_ok-send.ensures.written _ (omega arith)
