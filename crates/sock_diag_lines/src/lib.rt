@@ -12,6 +12,7 @@ ghost use Rattle.line_server.specs.Run.{Answers, answer_lines};
 ghost use Rattle.line_server.specs.declared.stream.RunError.{RunError};
 
 mod answers;
+mod arguments;
 mod dump_line;
 mod fields;
 mod stream;
@@ -19,13 +20,13 @@ mod view_line;
 mod words;
 
 pub use answers::answer;
+pub use arguments::{Choice, HELP, choose};
 pub use line_server::RunError;
 use std::alloc::Global;
 use std::io::{Read, Write};
 use std::process::ExitCode;
 pub use stream::run;
 use stream::tell;
-pub use words::{Choice, HELP, choose};
 
 /// The version, that of the repository's file `VERSION`.
 pub const VERSION: &str = "0.8.0";

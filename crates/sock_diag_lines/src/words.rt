@@ -1,12 +1,10 @@
-//! The words that answers are made of, which take no memory but the text itself, and those that are
-//! a program's arguments.
+//! The words that answers are made of. None takes memory but the text itself.
 
-ghost use Rattle.std.specs.Prelude.{◌≡◌, ◌≢◌, ◌↔◌, ◌∷◌, ◌++◌, codes, decimal, OnOk, option_map};
+ghost use Rattle.std.specs.Prelude.{◌≡◌, ◌≢◌, ◌∷◌, ◌++◌, decimal, OnOk, option_map};
 ghost use Rattle.hex.specs.Hex.{encode_lower};
 ghost use Rattle.netlink_core.specs.declared.fault.DecodeError.TheVariants.{Memory};
 ghost use Rattle.sock_diag_attributes.specs.SeenName.{viewed_name};
 ghost use Rattle.sock_diag_attributes.specs.SeenNumbers.{viewed_numbers};
-ghost use Rattle.sock_diag_lines.specs.declared.words.Choice.TheVariants.{Help, Strict, Version};
 ghost use Rattle.sock_diag_lines.specs.HexField.{field_of};
 ghost use Rattle.sock_diag_lines.specs.TextSteps.{accepted, refused};
 ghost use Rattle.sock_diag_lines.specs.ViewLine.{comma_list, name_word, or_none};
@@ -24,43 +22,6 @@ pub(crate) const UNWRITABLE: &[u8] = b"unwritable";
 
 /// The word for what a reply does not tell, behind a space.
 const NONE: &[u8] = b" none";
-
-/// How `sockdiag` is called.
-pub const HELP: &str = "sockdiag [--strict | --help | --version]\n\n\
-Answers each line of standard input by one line. A line is a name, one space and a hex field:\n\
-unixreq 01000000020400003412000004000000ffffffffffffffff\n\n\
-The names are unixreq, unix, unixview, inetreq, inet, sockid4, sockid6, message, netlink, and\n\
-dump, which has one field or more.\n\n\
-The status is 0 at the end of input, 1 where reading or writing failed or memory ran out, which\n\
-standard error names, and 2 for arguments that are not known. With --strict it is 3 at the end\n\
-of input where an answer was not ok, or a dump failed.";
-
-/// What an argument asks for.
-#[derive(Clone, Copy, Debug, PartialEq, Eq)]
-pub enum Choice {
-    /// A status of its own where a line was bad or refused.
-    Strict,
-    /// How the program is called.
-    Help,
-    /// The version.
-    Version,
-    /// Nothing that is known.
-    Unknown,
-}
-
-/// What the one argument asks for.
-pub fn choose(word: &str) -> Choice
-    ensures strict { (result ≡ Strict) ↔ (word.now ≡ codes "--strict") }
-    ensures help { (result ≡ Help) ↔ (word.now ≡ codes "--help") }
-    ensures version { (result ≡ Version) ↔ (word.now ≡ codes "--version") }
-{
-    match word {
-        "--strict" => Choice::Strict,
-        "--help" => Choice::Help,
-        "--version" => Choice::Version,
-        _ => Choice::Unknown,
-    }
-}
 
 /// Adds a number in decimal.
 pub(crate) fn push_number(text: &mut Vec<u8>, number: u64) -> Result<(), AllocError>
