@@ -16,8 +16,8 @@ use Rattle.sock_diag_captures.specs.declared.capture.CaptureError.TheVariants.{R
 use Rattle.sock_diag_captures.specs.declared.capture.CaptureError.TheVariants.{Memory as NoMemory}
 use Rattle.sock_diag_captures.specs.declared.capture.FileHeader.{FileHeader}
 use Rattle.sock_diag_captures.specs.declared.stream.RunError.{RunError}
-use Rattle.sock_diag_captures.specs.declared.stream.RunError.TheVariants.{Header, Packet, Write}
-use Rattle.sock_diag_captures.specs.declared.stream.RunError.TheVariants.{Closed, Memory}
+use Rattle.sock_diag_captures.specs.declared.stream.RunError.TheVariants.{Header, Packet}
+use Rattle.sock_diag_captures.specs.declared.stream.RunError.TheVariants.{Memory}
 use Rattle.sock_diag_captures.specs.Listing.{asked_after}
 use Rattle.sock_diag_captures.specs.declared.options.Options.{Options}
 use Rattle.sock_diag_captures.specs.declared.requests.Asked.{Asked}

@@ -154,5 +154,5 @@ abbrev pub inet_lines : Options → Option ℕ → TimerWords → InetResponseHe
 inet_lines o protocol timer h given =
     if lists_protocol o protocol
     then inet_line protocol h ++ set_apart o (details o Inet timer h.socket_id.cookie given)
-        ++ 10 ∷ []
+    ++ 10 ∷ []
     else []

@@ -34,8 +34,8 @@ use byteorder::{ByteOrder, LittleEndian};
 use netlink_core::{DecodeError, NlaBuffer, NlasIterator};
 use netlink_packet_sock_diag::constants::{
     INET_DIAG_BBRINFO, INET_DIAG_CONG, INET_DIAG_DCTCPINFO, INET_DIAG_INFO, INET_DIAG_MEMINFO,
-    INET_DIAG_SKMEMINFO, INET_DIAG_VEGASINFO, TCPI_OPT_ECN, TCPI_OPT_ECN_SEEN, TCPI_OPT_SACK, TCPI_OPT_SYN_DATA, TCPI_OPT_TIMESTAMPS,
-    TCPI_OPT_WSCALE, UNIX_DIAG_MEMINFO,
+    INET_DIAG_SKMEMINFO, INET_DIAG_VEGASINFO, TCPI_OPT_ECN, TCPI_OPT_ECN_SEEN, TCPI_OPT_SACK,
+    TCPI_OPT_SYN_DATA, TCPI_OPT_TIMESTAMPS, TCPI_OPT_WSCALE, UNIX_DIAG_MEMINFO,
 };
 use netlink_packet_sock_diag::inet::nlas::{LegacyMemInfo, MemInfo, NlaView as InetView, TcpInfo};
 use netlink_packet_sock_diag::unix::nlas::{NlaView as UnixView, NumbersView};
@@ -253,7 +253,10 @@ fn detail_of_inet_kind(kind: u16) -> Detail
 {
     match kind {
         INET_DIAG_MEMINFO | INET_DIAG_SKMEMINFO => Detail::Memory,
-        INET_DIAG_INFO | INET_DIAG_VEGASINFO | INET_DIAG_CONG | INET_DIAG_DCTCPINFO
+        INET_DIAG_INFO
+        | INET_DIAG_VEGASINFO
+        | INET_DIAG_CONG
+        | INET_DIAG_DCTCPINFO
         | INET_DIAG_BBRINFO => Detail::Connection,
         _ => Detail::Extended,
     }

@@ -391,7 +391,10 @@ fn push_short(written: &mut Written<'_>, packet: u64) -> Result<(), AllocError>
     ensures { OnOk result (written.new.lines.items ≡ written.old.lines.items) }
 {
     let front = written.front;
-    match writeln!(written.complaints, "{front}packet {packet}: fewer than 16 bytes") {
+    match writeln!(
+        written.complaints,
+        "{front}packet {packet}: fewer than 16 bytes"
+    ) {
         Ok(()) => Ok(()),
         Err(_) => Err(AllocError),
     }

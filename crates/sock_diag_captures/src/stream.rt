@@ -110,7 +110,14 @@ fn write_table<R: Source, W: Sink, E: Write>(
         written.lines.clear();
         written.complaints.clear();
         let bytes = packet.as_slice();
-        let is_listed = list_packet(&mut written, &mut requests, options, number, bytes, whole_length)?;
+        let is_listed = list_packet(
+            &mut written,
+            &mut requests,
+            options,
+            number,
+            bytes,
+            whole_length,
+        )?;
         is_whole = is_whole && is_listed;
         send(output, written.lines.as_slice())?;
         let _ = errors.write_all(written.complaints.as_slice());
