@@ -1,15 +1,24 @@
 -- A whole walk that checks each attribute as it is given gives what the bytes mean, or ends with
 -- their first fault.
-use Rattle.std.proofs.Common.{Result, Ok, Err, Some, ◌≡◌, List, [], ◌∷◌, sym, subst}
+use Rattle.std.proofs.Common.{Option, Result, Ok, Err, Some, ◌≡◌, List, [], ◌∷◌, sym, subst}
 use Rattle.std.specs.Prelude.{map}
 use Rattle.std.specs.Iterator.{Drains, YieldsThen}
 use Rattle.netlink_core.specs.declared.fault.DecodeError.{DecodeError}
-use Rattle.netlink_core.specs.Attribute.{AttributesMean, AttributeFault}
+use Rattle.netlink_core.specs.Attribute.{Attribute, StartsWith, AttributesMean, FaultAtFront}
+use Rattle.netlink_core.specs.Attribute.{AttributeFault}
 use Rattle.netlink_core.specs.Family.{Family, Said, says}
+use Rattle.netlink_core.specs.Gives.{Gives}
 use Rattle.netlink_core.specs.Walk.{bytes_left}
 use Rattle.netlink_core.proofs.Walking.{later_fault, fault_here}
-use Rattle.attribute_lists.specs.CheckedWalk.{GivesSaid}
 use Rattle.attribute_lists.specs.declared.checked.CheckedNlas.{CheckedNlas}
+
+-- what a step of the walk gives
+abbrev GivesSaid : {V : Type 0} → (F : Family) → (V → Said F) → CheckedNlas V
+    → Option (Result V DecodeError) → CheckedNlas V → Type 0
+GivesSaid F viewed old given new =
+    Gives (λ left view later. (a : Attribute) × StartsWith left a later
+    × (says F a ≡ Ok (viewed view))) (FaultAtFront (says F)) (bytes_left old.walk) given
+    (bytes_left new.walk)
 
 -- items that are attributes
 abbrev found : {V : Type 0} → List V → List (Result V DecodeError)

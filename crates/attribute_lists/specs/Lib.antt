@@ -1,2 +1,1 @@
 pub mod AttributesIn
-pub mod CheckedWalk

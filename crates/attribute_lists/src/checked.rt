@@ -1,8 +1,11 @@
 //! The attributes of a reply, each checked as it is given.
 
-ghost use Rattle.std.specs.Prelude.{◌≡◌, ◌+◌, ◌/◌, length, None, IfSome};
+ghost use Rattle.std.specs.Prelude.{◌≡◌, ◌+◌, ◌/◌, length, None, IfSome, Ok};
 ghost use Rattle.std.specs.Iterator.{UpTo, at_most};
 ghost use Rattle.std.specs.Iterator.SizeHint.{IsWithinCount};
+ghost use Rattle.netlink_core.specs.Attribute.{Attribute, FaultAtFront, StartsWith};
+ghost use Rattle.netlink_core.specs.Family.{says};
+ghost use Rattle.netlink_core.specs.Gives.{Gives};
 ghost use Rattle.netlink_core.specs.Walk.{bytes_left};
 
 use netlink_core::{DecodeError, FamilyView, NlasIterator};
@@ -32,11 +35,14 @@ impl<'a, V> CheckedNlas<'a, V> {
 }
 
 impl<'a, V: FamilyView<'a>> Iterator for CheckedNlas<'a, V> {
-    ghost use Rattle.attribute_lists.specs.CheckedWalk.{GivesSaid};
-
     type Item = Result<V, DecodeError>;
 
-    ghost next_gives = { GivesSaid V.family V.viewed };
+    // What the attribute at the front of what was left says, of which the rest then stands behind
+    // its padding. Or the first fault there.
+    ghost next_gives = { λ old given new. Gives
+        (λ left view later. (a : Attribute) × StartsWith left a later
+        × (says V.family a ≡ Ok (V.viewed view)))
+        (FaultAtFront (says V.family)) (bytes_left old.walk) given (bytes_left new.walk) };
 
     // At most one item for each four bytes, rounded up.
     ghost remaining = { λ nlas. at_most ((length (bytes_left nlas.walk) + 3) / 4) };

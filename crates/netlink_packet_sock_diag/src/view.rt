@@ -183,7 +183,6 @@ impl<'a, H: ReplyHeader> ReplyView<'a, H> {
 }
 
 impl<'a, H: ReplyViews<'a>> ReplyView<'a, H> {
-    ghost use Rattle.attribute_lists.specs.CheckedWalk.{GivesSaid};
     ghost use Rattle.attribute_lists.specs.declared.checked.CheckedNlas.{CheckedNlas};
     ghost use Rattle.netlink_packet_sock_diag.specs.Viewed.{left_in};
 
@@ -200,7 +199,7 @@ impl<'a, H: ReplyViews<'a>> ReplyView<'a, H> {
         ensures left { IfOk result (λ parts.
             bytes_left parts.1.walk ≡ drop H.reply.size bytes.entry.now) }
         ensures value { let reply = reply_codec (reply_with H.reply H.View.FamilyView.family) in
-            let gives = GivesSaid H.View.FamilyView.family H.View.FamilyView.viewed in
+            let gives = ⟦<CheckedNlas<'a, H::View> as Iterator>⟧.next_gives in
             IfOk result (λ parts. (nlas : List H.View)
             → Drains gives parts.1 (map (λ (nla : H.View). Ok nla) nlas)
             → reply.reads bytes.entry.now tt (record {
@@ -208,7 +207,7 @@ impl<'a, H: ReplyViews<'a>> ReplyView<'a, H> {
               nlas = map H.View.FamilyView.viewed nlas;
             })) }
         ensures refused { let reply = reply_codec (reply_with H.reply H.View.FamilyView.family) in
-            let gives = GivesSaid H.View.FamilyView.family H.View.FamilyView.viewed in
+            let gives = ⟦<CheckedNlas<'a, H::View> as Iterator>⟧.next_gives in
             IfOk result (λ parts. (nlas : List H.View) (e : Fault) (last : CheckedNlas H.View)
             → YieldsThen gives parts.1 (map (λ (nla : H.View). Ok nla) nlas) (Some (Err e)) last
             → reply.refuses bytes.entry.now tt e) }
