@@ -1,4 +1,5 @@
 pub mod Finding
+pub mod Checking
 pub mod Kept
 mod Elements
 mod SaidAttributes

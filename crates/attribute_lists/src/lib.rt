@@ -2,8 +2,10 @@
 //! and written in place, or with memory of their own.
 #![tactic(auto)]
 
+mod checked;
 mod owned;
 mod views;
 
+pub use checked::CheckedNlas;
 pub use owned::{copy_nlas, emit_said, nlas_typed, own_nlas, said_len, said_len_within};
 pub use views::{check_nlas, emit_views, next_view, views_len};

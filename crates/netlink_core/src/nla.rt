@@ -66,14 +66,16 @@ pub fn emit_nla<T: Nla>(nla: &T, buffer: &mut [u8])
     ensures { buffer.new ≡ written (T.attribute nla.now)
         ++ drop (length (written (T.attribute nla.now))) buffer.old }
 {
+    // All is asked of the attribute before a byte is written: then one test of its kind serves.
     let len = nla.value_len();
+    let kind = nla.kind();
     let end = NLA_HEADER_SIZE + len;
     let (header, rest) = buffer.split_at_mut(NLA_HEADER_SIZE);
     let (value, rest) = rest.split_at_mut(len);
     let (padding, _) = rest.split_at_mut(padded(end) - end);
-    LittleEndian::write_u16(header, end as u16);
-    LittleEndian::write_u16(&mut header[2..], nla.kind());
     nla.emit_value(value);
+    LittleEndian::write_u16(header, end as u16);
+    LittleEndian::write_u16(&mut header[2..], kind);
     zero_padding(padding);
 }
 

@@ -18,6 +18,7 @@ mod response;
 pub mod unix;
 mod view;
 
+pub use attribute_lists::CheckedNlas;
 pub use dump::DumpError;
 pub use dump::DumpReader;
 pub use dump::DumpState;

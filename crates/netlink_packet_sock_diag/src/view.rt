@@ -1,10 +1,12 @@
 //! A reply of any family, read in place.
 
 ghost use Rattle.std.specs.Prelude.{◌≡◌, ◌≢◌, ◌≤◌, ◌↔◌, ◌++◌, ⊤, ℕ, List, Bool, length, drop, Ok};
+ghost use Rattle.std.specs.Prelude.{map};
 ghost use Rattle.std.specs.Prelude.{Err, OnOk, IfOk, IfErr, IsOk, IsTrue, Some, IfSome, SomeIff};
 ghost use Rattle.std.specs.Cmp.{partial_equiv_from_equiv};
-ghost use Rattle.std.specs.Iterator.{UpTo, YieldsFirstBy, item_count};
+ghost use Rattle.std.specs.Iterator.{Drains, UpTo, YieldsFirstBy, YieldsThen, item_count};
 ghost use Rattle.std.specs.Iterator.SizeHint.{IsWithinCount};
+ghost use Rattle.netlink_core.specs.declared.fault.DecodeError.{DecodeError as Fault};
 ghost use Rattle.netlink_core.specs.declared.fault.DecodeError.TheVariants.{Memory};
 ghost use Rattle.netlink_core.specs.Attribute.{AttributeFault};
 ghost use Rattle.netlink_core.specs.Codec.{KeepsLaws};
@@ -13,9 +15,9 @@ ghost use Rattle.netlink_core.specs.Reply.{Reply, ValueOf, reply_bytes, reply_co
 ghost use Rattle.netlink_core.specs.Walk.{bytes_left};
 ghost use Rattle.netlink_core.proofs.Equality.{equivalence};
 ghost use Rattle.attribute_lists.specs.AttributesIn.{HasNoFault, IsAccepted, reply_behind};
-ghost use Rattle.attribute_lists.specs.AttributesIn.{values_in};
+ghost use Rattle.attribute_lists.specs.AttributesIn.{reply_with, values_in};
 
-use attribute_lists::next_view;
+use attribute_lists::{CheckedNlas, next_view};
 use netlink_core::{DecodeError, Emitable, FamilyView, NlasIterator};
 use std::alloc::AllocError;
 use std::fmt::{self, Debug, Formatter};
@@ -181,7 +183,39 @@ impl<'a, H: ReplyHeader> ReplyView<'a, H> {
 }
 
 impl<'a, H: ReplyViews<'a>> ReplyView<'a, H> {
+    ghost use Rattle.attribute_lists.specs.declared.checked.CheckedNlas.{CheckedNlas};
     ghost use Rattle.netlink_packet_sock_diag.specs.Viewed.{left_in};
+
+    /// The header, and the attributes, each of which is checked as it is given: for who wants each
+    /// once. It takes no memory. A fault of the header is told here, and that of an attribute in
+    /// its place.
+    ///
+    /// The bytes are a reply where the walk ends without a fault, and refused where it gives one,
+    /// as [`ReplyView::parse`] says of them.
+    #[inline(always)]
+    pub fn walk(bytes: &'a [u8]) -> Result<(H, CheckedNlas<'a, H::View>), DecodeError>
+        ensures header { IfOk result (λ parts.
+            H.reply.header.reads tt bytes.entry.now ≡ Ok (H.told parts.0)) }
+        ensures left { IfOk result (λ parts.
+            bytes_left parts.1.walk ≡ drop H.reply.size bytes.entry.now) }
+        ensures value { let reply = reply_codec (reply_with H.reply H.View.FamilyView.family) in
+            let gives = ⟦<CheckedNlas<'a, H::View> as Iterator>⟧.next_gives in
+            IfOk result (λ parts. (nlas : List H.View)
+            → Drains gives parts.1 (map (λ (nla : H.View). Ok nla) nlas)
+            → reply.reads bytes.entry.now tt (record {
+              header = H.told parts.0;
+              nlas = map H.View.FamilyView.viewed nlas;
+            })) }
+        ensures refused { let reply = reply_codec (reply_with H.reply H.View.FamilyView.family) in
+            let gives = ⟦<CheckedNlas<'a, H::View> as Iterator>⟧.next_gives in
+            IfOk result (λ parts. (nlas : List H.View) (e : Fault) (last : CheckedNlas H.View)
+            → YieldsThen gives parts.1 (map (λ (nla : H.View). Ok nla) nlas) (Some (Err e)) last
+            → reply.refuses bytes.entry.now tt e) }
+        ensures fault { IfErr result ((reply_codec H.reply).refuses bytes.entry.now tt) }
+    {
+        let header = H::read_header(bytes)?;
+        Ok((header, CheckedNlas::new(&bytes[H::length()..])))
+    }
 
     /// The attributes, in the order that they came.
     pub fn attributes(&self) -> AttributeViews<'a, H>

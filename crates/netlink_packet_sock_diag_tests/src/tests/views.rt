@@ -71,6 +71,22 @@ fn an_inet_reply_in_place(rt: HostRuntime) -> Result<(), Fail> {
     writes(&rt, alloc, &message, &parts)
 }
 
+// A fault in mid-walk is the last item.
+#[test]
+fn attributes_are_checked_as_they_are_given(rt: HostRuntime) -> Result<(), Fail> {
+    let alloc = rt.alloc();
+    let reply = bytes(alloc, &[PATH, "0500020001000000", SHUTDOWN])?;
+    let (header, nlas) = UnixResponseView::walk(&reply)?;
+    shows(&rt, alloc, &header, "state: 10")?;
+    let answers = "Ok(ReceiveQueueLength(0, 128)), Ok(Shutdown(0)), \
+        Err(WrongLength { kind: Some(2), got: 1, need: 4 })]";
+    gives(&rt, alloc, nlas, answers)?;
+    let reply = bytes(alloc, &[INET, "0a0004006375626963000000", SHUTDOWN, "0300"])?;
+    let (_, nlas) = InetResponseView::walk(&reply)?;
+    let answers = "cubic\")), Ok(Shutdown(0)), Err(AttributeHeaderCut { left: 2 })]";
+    gives(&rt, alloc, nlas, answers)
+}
+
 /// The messages of a datagram, by their names. The odd one has 37 bytes. Digits are themselves.
 fn datagram(alloc: Global, names: &str) -> Result<Vec<u8>, Fail> {
     let mut messages = Vec::new(alloc);

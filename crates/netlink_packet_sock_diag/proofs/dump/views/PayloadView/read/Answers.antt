@@ -1,4 +1,4 @@
-use Rattle.std.proofs.Common.{refl, rules}
+use Rattle.std.proofs.Common.{rules}
 use Rattle.std.proofs.lemmas.Result.{err_from_is_err_and}
 use Rattle.netlink_core.specs.Envelope.{IsInnerType}
 use Rattle.netlink_packet_sock_diag.proofs.dump.views.PayloadView.read.Goals as goal

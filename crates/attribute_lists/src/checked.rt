@@ -1,0 +1,73 @@
+//! The attributes of a reply, each checked as it is given.
+
+ghost use Rattle.std.specs.Prelude.{◌≡◌, ◌+◌, ◌/◌, length, None, IfSome, Ok};
+ghost use Rattle.std.specs.Iterator.{UpTo, at_most};
+ghost use Rattle.std.specs.Iterator.SizeHint.{IsWithinCount};
+ghost use Rattle.netlink_core.specs.Attribute.{Attribute, FaultAtFront, StartsWith};
+ghost use Rattle.netlink_core.specs.Family.{says};
+ghost use Rattle.netlink_core.specs.Gives.{Gives};
+ghost use Rattle.netlink_core.specs.Walk.{bytes_left};
+
+use netlink_core::{DecodeError, FamilyView, NlasIterator};
+use std::marker::PhantomData;
+
+/// The attributes in bytes, in the order that they came, each read and checked as it is given. It
+/// takes no memory, and looks at each attribute once.
+///
+/// The first fault of the framing or of a value is given in its place, and then nothing. So the
+/// bytes are good where the walk ends without a fault.
+#[derive(Drop)]
+pub struct CheckedNlas<'a, V> {
+    walk: NlasIterator<'a>,
+    view: PhantomData<V>,
+}
+
+impl<'a, V> CheckedNlas<'a, V> {
+    /// The walk over these bytes.
+    pub fn new(bytes: &'a [u8]) -> CheckedNlas<'a, V>
+        ensures { bytes_left result.walk ≡ bytes.entry.now }
+    {
+        CheckedNlas {
+            walk: NlasIterator::new(bytes),
+            view: PhantomData,
+        }
+    }
+}
+
+impl<'a, V: FamilyView<'a>> Iterator for CheckedNlas<'a, V> {
+    type Item = Result<V, DecodeError>;
+
+    // What the attribute at the front of what was left says, of which the rest then stands behind
+    // its padding. Or the first fault there.
+    ghost next_gives = { λ old given new. Gives
+        (λ left view later. (a : Attribute) × StartsWith left a later
+        × (says V.family a ≡ Ok (V.viewed view)))
+        (FaultAtFront (says V.family)) (bytes_left old.walk) given (bytes_left new.walk) };
+
+    // At most one item for each four bytes, rounded up.
+    ghost remaining = { λ nlas. at_most ((length (bytes_left nlas.walk) + 3) / 4) };
+
+    #[inline(always)]
+    fn next(&mut self) -> Option<Result<V, DecodeError>> {
+        let nla = match self.walk.next()? {
+            Ok(nla) => nla,
+            Err(fault) => return Some(Err(fault)),
+        };
+        let read = V::read_view(&nla);
+        if read.is_err() {
+            self.walk = NlasIterator::new(&[]);
+        }
+        Some(read)
+    }
+
+    /// How many are left is told by the walk alone.
+    fn size_hint(&self) -> (usize, Option<usize>)
+        ensures lower { IsWithinCount result.0
+            (at_most ((length (bytes_left self.now.walk) + 3) / 4)) }
+        ensures upper { IfSome result.1
+            (UpTo (at_most ((length (bytes_left self.now.walk) + 3) / 4))) }
+        ensures unknown { result ≡ (0, None) }
+    {
+        (0, None)
+    }
+}
