@@ -53,7 +53,8 @@ no_write number fault e P is (inl write) = absurd cc
 no_write number fault e P is (inr closed) = absurd cc
 
 -- the header could not be read
-pub fails_at_header : (o : Options) (a d x : Option (List ℕ)) (heading : List ℕ) (unread : Type 0) (e : RunError)
+pub fails_at_header : (o : Options) (a d x : Option (List ℕ)) (heading : List ℕ) (unread : Type 0)
+    (e : RunError)
     → ((fault : CaptureError) × (e ≡ Header fault) × (part : List ℕ) × Consumes a d part
     × IsHeaderStop d unread part fault)
     → Fails o a d x x heading unread e
@@ -62,12 +63,13 @@ fails_at_header o a d x heading unread e (fault, is, part, read, stop) =
     (part, read, stop, Keeps-refl x)
 
 -- the heading could not be written, or the table of what was read
-pub fails_at_write : (o : Options) (a d x z : Option (List ℕ)) (heading bytes lines : List ℕ) (whole : Bool)
-    (unread : Type 0) (e : RunError)
+pub fails_at_write : (o : Options) (a d x z : Option (List ℕ)) (heading bytes lines : List ℕ)
+    (whole : Bool) (unread : Type 0) (e : RunError)
     → IsWriteFailure e → IsTable o bytes lines whole → Consumes a d bytes
     → (front rest : List ℕ) → heading ++ lines ≡ front ++ rest → Appends x z front
     → Fails o a d x z heading unread e
-fails_at_write o a d x z heading bytes lines whole unread e is table read front rest split appended =
+fails_at_write o a d x z heading bytes lines whole unread e is table read front rest split
+    appended =
     let breaks : Breaks o a d x z heading =
     (bytes, lines, whole, table, read, front, rest, split, appended) in elim is [
       | inl write ↦ subst (λ (e : RunError). Fails o a d x z heading unread e) (sym write) breaks
@@ -158,7 +160,8 @@ module _ (o : Options) (file : FileHeader) (header : List ℕ) (long : length he
     -- memory ran out for the lines of a packet
     pub fails_at_memory : (d : Option (List ℕ)) (unread : Type 0) (e : RunError)
         (head : List ℕ) (packet : Recorded) → e ≡ Memory
-        → IsRecord file head packet → Consumes c d (head ++ packet.bytes) → Fails o a d x z heading unread e
+        → IsRecord file head packet → Consumes c d (head ++ packet.bytes)
+        → Fails o a d x z heading unread e
     fails_at_memory d unread e head packet memory record_of read =
         subst (λ (e : RunError). Fails o a d x z heading unread e) (sym memory) (
           file,
@@ -170,7 +173,8 @@ module _ (o : Options) (file : FileHeader) (header : List ℕ) (long : length he
         )
 
     -- the last flush failed
-    pub fails_at_flush : (d z' : Option (List ℕ)) (unread : Type 0) (e : RunError) → IsWriteFailure e
+    pub fails_at_flush : (d z' : Option (List ℕ)) (unread : Type 0) (e : RunError)
+        → IsWriteFailure e
         → Consumes c d [] → Keeps z z'
         → Fails o a d x z' heading unread e
     fails_at_flush d z' unread e write last kept =
@@ -187,7 +191,8 @@ module _ (o : Options) (file : FileHeader) (header : List ℕ) (long : length he
 
     -- the lines of a packet could not be written
     pub fails_at_lines : (d z' : Option (List ℕ)) (unread : Type 0) (e : RunError)
-        (head lines : List ℕ) (packet : Recorded) (asked' : List Asked) (one : Bool) → IsWriteFailure e
+        (head lines : List ℕ) (packet : Recorded) (asked' : List Asked) (one : Bool)
+        → IsWriteFailure e
         → IsRecord file head packet → asked' ≡ asked_after asked packet.bytes
         → IsListed o asked' packet (record { lines = lines; whole = one })
         → Consumes c d (head ++ packet.bytes)

@@ -42,7 +42,8 @@ asked_from asked [] = asked
 asked_from asked (p ∷ ps) = asked_from (asked_after asked p.bytes) ps
 
 -- one more packet is listed
-pub listed_push : (o : Options) (asked : List Asked) (ps : List Recorded) (xs : List Told) (p : Recorded) (x : Told)
+pub listed_push : (o : Options) (asked : List Asked) (ps : List Recorded) (xs : List Told)
+    (p : Recorded) (x : Told)
     → AreListed o asked ps xs → IsListed o (asked_after (asked_from asked ps) p.bytes) p x
     → AreListed o asked (ps ++ p ∷ []) (xs ++ x ∷ [])
 unfolding asked_from
@@ -118,11 +119,13 @@ module _ (o : Options) (R : List ℕ → Recorded → Type 0) where
   }
 
   -- one more packet is read and listed
-  abbrev pub progress_goes_on : (a b c x y z : Option (List ℕ)) (header lines : List ℕ) (p : Recorded)
+  abbrev pub progress_goes_on : (a b c x y z : Option (List ℕ)) (header lines : List ℕ)
+      (p : Recorded)
       (asked asked' : List Asked) (one whole whole' : Bool) (number : ℕ)
       → Progress a b x y asked whole number
       → R header p → asked' ≡ asked_after asked p.bytes
-      → IsListed o asked' p (record { lines = lines; whole = one }) → Consumes b c (header ++ p.bytes)
+      → IsListed o asked' p (record { lines = lines; whole = one })
+      → Consumes b c (header ++ p.bytes)
       → Appends y z lines
       → (IsTrue whole' → IsTrue whole) → (IsTrue whole' → IsTrue one)
       → (IsTrue whole → IsTrue one → IsTrue whole')
@@ -153,7 +156,8 @@ module _ (o : Options) (R : List ℕ → Recorded → Type 0) where
       (asked asked' : List Asked) (one whole : Bool) (number : ℕ) → whole ≡ true
       → Progress a b x y asked whole number
       → R header p → asked' ≡ asked_after asked p.bytes
-      → IsListed o asked' p (record { lines = lines; whole = one }) → Consumes b c (header ++ p.bytes)
+      → IsListed o asked' p (record { lines = lines; whole = one })
+      → Consumes b c (header ++ p.bytes)
       → Appends y z lines → Progress a c x z asked' one (number + 1)
   goes_on_whole a b c x y z header lines p asked asked' one whole number is_whole so_far is next
       listed read appended =
@@ -165,7 +169,8 @@ module _ (o : Options) (R : List ℕ → Recorded → Type 0) where
       (asked asked' : List Asked) (one whole : Bool) (number : ℕ) → whole ≡ false
       → Progress a b x y asked whole number
       → R header p → asked' ≡ asked_after asked p.bytes
-      → IsListed o asked' p (record { lines = lines; whole = one }) → Consumes b c (header ++ p.bytes)
+      → IsListed o asked' p (record { lines = lines; whole = one })
+      → Consumes b c (header ++ p.bytes)
       → Appends y z lines → Progress a c x z asked' whole (number + 1)
   goes_on_part a b c x y z header lines p asked asked' one whole number is_part so_far is next
       listed read appended =

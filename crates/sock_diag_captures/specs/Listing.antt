@@ -172,7 +172,7 @@ ListsPacket o asked packet before after is_clean =
     (IsAnswer packet × Lists o asked (drop 16 packet) before after is_clean)
     ⊎ ((¬ IsAnswer packet) × (after ≡ before) × (IsTrue is_clean ↔ (16 ≤ length packet)))
 
--- The same of a packet as a capture has it, which counts as listed whole where it also has the bytes
+-- The same of a packet as a capture has it. It counts as listed whole where it also has the bytes
 -- that it had when it was captured.
 abbrev pub ListsRecorded : Options → List Asked → Recorded → List ℕ → List ℕ → Bool → Type 0
 ListsRecorded o asked packet before after is_whole =

@@ -6,7 +6,8 @@ ghost use Rattle.std.specs.Prelude.{IfErr, OnOk, IsTrue, MatchBool, MatchOption,
 ghost use Rattle.std.specs.Io.KnownBytes.{Consumes, IsAtEnd, Keeps};
 ghost use Rattle.sock_diag_captures.specs.Capture.{IsFileHeader, IsFileHeaderFault, IsHeaderStop};
 ghost use Rattle.sock_diag_captures.specs.Capture.{IsMagic, IsOtherFile};
-ghost use Rattle.sock_diag_captures.specs.Capture.{IsPacketStop, IsRecord, IsStop, number_at, recorded};
+ghost use Rattle.sock_diag_captures.specs.Capture.{IsPacketStop, IsRecord, IsStop, number_at};
+ghost use Rattle.sock_diag_captures.specs.Capture.{recorded};
 ghost use Rattle.sock_diag_captures.specs.declared.capture.CaptureError.TheVariants.{Memory};
 
 use crate::streams::Source;

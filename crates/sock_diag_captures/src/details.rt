@@ -19,8 +19,9 @@ ghost use Rattle.sock_diag_captures.specs.Details.{legacy_memory, limits, losses
 ghost use Rattle.sock_diag_captures.specs.Details.{memory_in, memory_limits, memory_part};
 ghost use Rattle.sock_diag_captures.specs.Details.{memory_used};
 ghost use Rattle.sock_diag_captures.specs.Details.{memory_received, options, pair_detail};
-ghost use Rattle.sock_diag_captures.specs.Details.{piece_detail, rates, receiver, separator, set_apart};
-ghost use Rattle.sock_diag_captures.specs.Details.{shown_cookie, shown_detail, shown_timer, sizes};
+ghost use Rattle.sock_diag_captures.specs.Details.{piece_detail, rates, receiver, separator};
+ghost use Rattle.sock_diag_captures.specs.Details.{set_apart, shown_cookie, shown_detail};
+ghost use Rattle.sock_diag_captures.specs.Details.{shown_timer, sizes};
 ghost use Rattle.sock_diag_captures.specs.Details.{some_detail, timer_in, timer_name, timer_text};
 ghost use Rattle.sock_diag_captures.specs.Details.{times, traffic, unix_text, unknown, unread};
 ghost use Rattle.sock_diag_captures.specs.Details.{words_of};

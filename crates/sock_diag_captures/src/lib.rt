@@ -35,8 +35,9 @@ pub use words::{Argument, HELP, choose};
 /// The version, that of the repository's file `VERSION`.
 pub const VERSION: &str = "0.8.0";
 
-/// `run`, which tells on `errors` why it failed, behind `front`. The status is 0 where the whole capture was
-/// listed, and 1 where reading or writing failed, or where something was told of a packet.
+/// `run`, which tells on `errors` why it failed, behind `front`. The status is 0 where the whole
+/// capture was listed, and 1 where reading or writing failed, or where something was told of a
+/// packet.
 pub fn run_to_status<R: Read, W: Write, E: Write>(
     alloc: Global,
     options: Options,
@@ -46,7 +47,8 @@ pub fn run_to_status<R: Read, W: Write, E: Write>(
     errors: &mut E,
 ) -> ExitCode
     ensures ended { exit_status result ≡ 0 → IsAtEnd (R.remaining input.new) }
-    ensures whole { exit_status result ≡ 0 → (bytes lines : List ℕ) × IsTable options bytes lines true
+    ensures whole { exit_status result ≡ 0 → (bytes lines : List ℕ)
+        × IsTable options bytes lines true
         × Consumes (R.remaining input.old) (R.remaining input.new) bytes
         × Appends (W.contents output.old) (W.contents output.new) (HEADING.now ++ lines) }
     // 0 exactly where the whole capture was listed whole.

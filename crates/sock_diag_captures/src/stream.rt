@@ -65,7 +65,8 @@ pub fn run<R: Read, W: Write, E: Write>(
     errors: &mut E,
 ) -> Result<bool, RunError>
     ensures ended { OnOk result (IsAtEnd (R.remaining input.new)) }
-    ensures table { IfOk result (λ is_whole. (bytes lines : List ℕ) × IsTable options bytes lines is_whole
+    ensures table { IfOk result (λ is_whole. (bytes lines : List ℕ)
+        × IsTable options bytes lines is_whole
         × Consumes (R.remaining input.old) (R.remaining input.new) bytes
         × Appends (W.contents output.old) (W.contents output.new) (HEADING.now ++ lines)) }
     ensures failed { IfErr result (Fails options (R.remaining input.old) (R.remaining input.new)
@@ -85,7 +86,8 @@ fn write_table<R: Source, W: Sink, E: Write>(
 ) -> Result<bool, RunError>
     ensures ended { OnOk result (IsAtEnd (R.left input.new)) }
     ensures flushed { OnOk result (W.flushed output.new) }
-    ensures table { IfOk result (λ is_whole. (bytes lines : List ℕ) × IsTable options bytes lines is_whole
+    ensures table { IfOk result (λ is_whole. (bytes lines : List ℕ)
+        × IsTable options bytes lines is_whole
         × Consumes (R.left input.old) (R.left input.new) bytes
         × Appends (W.held output.old) (W.held output.new) (HEADING.now ++ lines)) }
     ensures failed { IfErr result (Fails options (R.left input.old) (R.left input.new)

@@ -8,11 +8,11 @@ use crate::options::Options;
 
 /// How `sslist` is called.
 pub const HELP: &str = "sslist [-tuxMoemiOna] [FILE ..]\n\n\
-Lists the sockets that captures of netlink traffic tell: that of each file, or of standard input. A\n\
-capture is one of pcap, as tcpdump -i nlmon0 -w - writes it.\n\n\
+Lists the sockets that captures of netlink traffic tell: that of each file, or of standard\n\
+input. A capture is one of pcap, as tcpdump -i nlmon0 -w - writes it.\n\n\
   -t -u -x -M  sockets of TCP, UDP, UNIX or MPTCP alone\n\
-  -o -e -m -i  of what is told beside the columns, the timer, the cookie and what the others don't\n\
-               tell, the memory, or the connection alone\n\
+  -o -m -i     beside the columns the timer, the memory or the connection alone\n\
+  -e           what these don't tell\n\
   -O           one line a socket\n\
   -n -a        nothing more: all numbers are shown as numbers, and all states are listed\n\
   --help, --version\n\n\

@@ -271,7 +271,12 @@ sslist: packet 6: the capture is cut off";
     let want = "a gzip file, unpack it: gzip -dc CAPTURE";
     tells(&rt, alloc, &["1f8b0800", FRONT, OF_100], want)?;
     let want = "packet 1: a packet of 262145 bytes, at most 262144 expected";
-    tells(&rt, alloc, &[FRONT, OF_100, "07000000090000000100040001000400"], want)
+    tells(
+        &rt,
+        alloc,
+        &[FRONT, OF_100, "07000000090000000100040001000400"],
+        want,
+    )
 }
 
 /// The texts of errors that no capture gives.

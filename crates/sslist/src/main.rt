@@ -33,11 +33,11 @@ fn answer(rt: &HostRuntime, words: &[String]) -> ExitCode {
             Argument::Unknown => return refuse(rt, word.as_str()),
         }
     }
-    list_files(rt, options, words)
-        .unwrap_or_else(|| list(rt, options, "sslist: ", rt.stdin()))
+    list_files(rt, options, words).unwrap_or_else(|| list(rt, options, "sslist: ", rt.stdin()))
 }
 
-/// Lists the captures in the files that are named, if some are. The status is the last that isn't 0.
+/// Lists the captures in the files that are named, if some are. The status is the last that isn't
+/// 0.
 fn list_files(rt: &HostRuntime, options: Options, words: &[String]) -> Option<ExitCode> {
     let mut status = None;
     for word in words {

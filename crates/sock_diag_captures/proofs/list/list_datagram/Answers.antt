@@ -6,18 +6,21 @@ use Rattle.sock_diag_captures.proofs.list.list_datagram.Goals as goal
 
 pub loop-item-init : goal.loop-item-init
 loop-item-init c = rw (c.into_iter-item-iterator.ensures.into_iter_gives, c.new-item-items.ensures)
-    (listing_begins (message_lines c.args.options c.args.requests.now.asked.items) IsPlain c.args.datagram.now _)
+    (listing_begins (message_lines c.args.options c.args.requests.now.asked.items) IsPlain
+    c.args.datagram.now _)
 
 pub loop-item-preserved : goal.loop-item-preserved
 loop-item-preserved c =
     let starts = rw c.in-Ok.is at c.in-Some.ensures.steps in
-    goes_on_unclean (message_lines c.args.options c.args.requests.now.asked.items) IsPlain _ _ _ _ _ _ _ c.in-Ok.message.now c.if-is_clean.false
+    goes_on_unclean (message_lines c.args.options c.args.requests.now.asked.items) IsPlain
+    _ _ _ _ _ _ _ c.in-Ok.message.now c.if-is_clean.false
     c.loop-item.invariant starts c.in_ok-is_plain-in-Ok.ensures.lines
 
 pub loop-item-preserved-then-is_clean : goal.loop-item-preserved-then-is_clean
 loop-item-preserved-then-is_clean c =
     let starts = rw c.in-Ok.is at c.in-Some.ensures.steps in
-    goes_on_clean (message_lines c.args.options c.args.requests.now.asked.items) IsPlain _ _ _ _ _ _ _ _ c.in-Ok.message.now c.if-is_clean.true
+    goes_on_clean (message_lines c.args.options c.args.requests.now.asked.items) IsPlain
+    _ _ _ _ _ _ _ _ c.in-Ok.message.now c.if-is_clean.true
     c.loop-item.invariant starts c.in_ok-is_plain-in-Ok.ensures.lines
     c.in_ok-is_plain-in-Ok.ensures.plain
 
@@ -26,7 +29,8 @@ returns-in-Err c =
     let stop = rw c.in-Err.is at c.in-Some.ensures.steps in record {
       messages = c.loop-item.invariant.passed;
       end = Some c.in-Err.fault;
-      cut = listing_stops (message_lines c.args.options c.args.requests.now.asked.items) IsPlain _ _ _ _ _ c.in-Err.fault c.loop-item.invariant
+      cut = listing_stops (message_lines c.args.options c.args.requests.now.asked.items) IsPlain
+          _ _ _ _ _ c.in-Err.fault c.loop-item.invariant
           stop.0 stop.1;
       lines = c.in_ok-push_complaint-in-Err.ensures ∙ c.loop-item.invariant.lines;
       clean = (λ wrong. absurd cc, λ both. absurd (let none = both.1 in cc));
@@ -36,7 +40,8 @@ pub returns : goal.returns
 returns c = record {
   messages = c.loop-item.invariant.passed;
   end = None;
-  cut = listing_ends (message_lines c.args.options c.args.requests.now.asked.items) IsPlain _ _ _ _ _ c.loop-item.invariant
+  cut = listing_ends (message_lines c.args.options c.args.requests.now.asked.items) IsPlain
+      _ _ _ _ _ c.loop-item.invariant
       c.in-None.ensures.steps.0;
   lines = c.loop-item.invariant.lines;
   clean = (

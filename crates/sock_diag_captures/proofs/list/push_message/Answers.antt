@@ -11,8 +11,8 @@ returns-clause-lines c =
     let of_type = c.read_u16.ensures ∙ ap (little_number 2) (take_rest message 4) in
     let behind = take_rest message 16 in
     on_ok_weaker c.push_payload.result
-    (λ added. added ∙ (λ i. c.args.lines.now.items ++ lines_under c.args.options (c.protocol_of.ensures i)
-    (of_type i) (behind i)))
+    (λ added. added ∙ (λ i. c.args.lines.now.items
+    ++ lines_under c.args.options (c.protocol_of.ensures i) (of_type i) (behind i)))
     c.push_payload.ensures.lines
 
 pub returns-clause-complaint : goal.returns-clause-complaint
