@@ -200,7 +200,7 @@ struct sockdiag_unix_details {
                                               sending, or both */
 };
 
-/* What a reply tells about an IPv4 or IPv6 socket, but its memory and its TCP connection. */
+/* What a reply tells about an IPv4 or IPv6 socket, but its TCP connection and its memory, which have calls of their own. */
 struct sockdiag_inet_details {
     struct sockdiag_inet_header header;
     struct sockdiag_text congestion; /* the name of the algorithm of congestion control, INET_DIAG_CONG */
@@ -294,6 +294,22 @@ struct sockdiag_tcp_info {
  * the framing nothing is told.
  */
 size_t sockdiag_inet_get_tcp_info(const uint8_t *payload, size_t length, struct sockdiag_tcp_info *info);
+
+/* The memory of an IPv4 or IPv6 socket, by the words SK_MEMINFO_.. of linux/sock_diag.h, in bytes but for the last. */
+struct sockdiag_inet_memory {
+    uint32_t receive_queue;        /* what the receive queue takes now */
+    uint32_t receive_queue_max;    /* the most that it may take */
+    uint32_t bottom_send_queues;   /* packets that were handed down the network stack */
+    uint32_t send_queue_max;       /* the most that the send queue may take */
+    uint32_t cache;                /* what the socket holds and doesn't use */
+    uint32_t send_queue;           /* what the send queue takes now */
+    uint32_t options;              /* the socket's options */
+    uint32_t backlog_queue_length; /* packets that wait while the socket is locked; older kernels don't tell it */
+    uint32_t drops;                /* how many packets were dropped; older kernels don't tell it */
+};
+
+/* The same of the memory, the value of the first INET_DIAG_SKMEMINFO. */
+size_t sockdiag_inet_get_memory(const uint8_t *payload, size_t length, struct sockdiag_inet_memory *memory);
 
 /* ---- walks */
 

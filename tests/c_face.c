@@ -137,6 +137,7 @@ static void tells_inet_details(void) {
     uint8_t bytes[512], value[240];
     struct sockdiag_inet_details details;
     struct sockdiag_tcp_info info;
+    struct sockdiag_inet_memory memory;
     size_t end, place;
     memset(&details, 0, sizeof details);
     memcpy(bytes, inet_reply, 72);
@@ -161,6 +162,11 @@ static void tells_inet_details(void) {
     check(sockdiag_inet_get_details(bytes, end, &details) == SOCKDIAG_OK, "a TCP connection");
     check(sockdiag_inet_get_tcp_info(bytes, end, &info) == 240 && memcmp(&info, value, sizeof info) == 0, "its bytes");
     check(info.rtt == 0x47464544 && info.pacing_rate == 0x6f6e6d6c6b6a6968 && info.snd_wnd == 0xe7e6e5e4, "its fields");
+    check(sockdiag_inet_get_memory(bytes, end, &memory) == 0 && memory.drops == 0, "no memory");
+    end = put(bytes, end, 7, (const char *)value, 32);
+    check(sockdiag_inet_get_memory(bytes, end, &memory) == 32, "memory");
+    check(memory.receive_queue == 0x03020100 && memory.backlog_queue_length == 0x1f1e1d1c, "its words");
+    check(memory.drops == 0, "a word that isn't told");
     put(bytes, 72, 2, (const char *)value, 5);
     check(sockdiag_inet_get_details(bytes, 84, &details) == SOCKDIAG_BUFFER_TOO_SMALL, "a short TCP connection");
     check(sockdiag_inet_get_tcp_info(bytes, 84, &info) == 5 && info.backoff == 4 && info.rto == 0, "its five bytes");

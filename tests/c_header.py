@@ -39,9 +39,11 @@ NUMBERS = {
 UNTOLD = {"MEMORY"}
 PLAIN = {"usize": "size_t", "i32": "int32_t"}
 PLAIN.update({f"u{bits}": f"uint{bits}_t" for bits in (8, 16, 32, 64)})
-# The bytes that are told as the fields of a record of another crate.
-RECORD = "&mut [u8; 232]"
-TOLD_AS = ("sockdiag_tcp_info", "TcpInfo", "sock_diag_values/src/inet/tcp_info.rt")
+# By the type of a parameter, bytes that are told as the fields of a record of another crate.
+TOLD_AS = {
+    "&mut [u8; 232]": ("sockdiag_tcp_info", "TcpInfo", "sock_diag_values/src/inet/tcp_info.rt"),
+    "&mut [u8; 36]": ("sockdiag_inet_memory", "MemInfo", "sock_diag_values/src/inet/mem_info.rt"),
+}
 STRUCT = re.compile(
     r"`struct (\w+)` of\s(?:/// )?`include/sockdiag\.h`\.\n#\[repr\(C\)\]\n(?:#\[[^\n]*\]\n)*"
     r"pub struct (\w+)(?:<'a>)? \{(.*?)\n\}",
@@ -59,8 +61,8 @@ def text_of(path):
 
 def in_c(kind, name, structs):
     """A field or parameter of that type in C."""
-    if kind == RECORD:
-        return f"struct {TOLD_AS[0]} *{name}"
+    if kind in TOLD_AS:
+        return f"struct {TOLD_AS[kind][0]} *{name}"
     array = re.fullmatch(r"\[(\w+); (\d+)\]", kind)
     if array:
         return f"{in_c(array[1], name, structs)}[{array[2]}]"
@@ -98,8 +100,9 @@ def source():
 def structs_of(text):
     """By their names in Rattle the structs: the name in C, and the fields with their types."""
     found = [(name, other, body) for other, name, body in STRUCT.findall(text)]
-    other, name, path = TOLD_AS
-    found.append((name, other, re.search(rf"pub struct {name} {{(.*?)\n}}", text_of(path), re.S)[1]))
+    for other, name, path in TOLD_AS.values():
+        body = re.search(rf"pub struct {name} {{(.*?)\n}}", text_of(path), re.S)[1]
+        found.append((name, other, re.sub(r"Option<(\w+)>", r"\1", body)))
     return {name: (other, list(fields(body))) for name, other, body in found}
 
 
@@ -148,7 +151,8 @@ def places():
             yield f'_Static_assert(offsetof(struct {other}, {field}) == {place}, "{field}");'
         yield f'_Static_assert(sizeof(struct {other}) == {size}, "{other}");'
         proved = re.search(rf"size_of::<{name}(?:<'static>)?>\(\) == (\d+)", text)
-        if name != TOLD_AS[1] and (not proved or int(proved[1]) != size):
+        is_told = any(name == record for _, record, _ in TOLD_AS.values())
+        if not is_told and (not proved or int(proved[1]) != size):
             yield f'_Static_assert(0, "no constant proves that {name} has {size} bytes");'
 
 

@@ -1,4 +1,4 @@
-//! What is told of a TCP connection.
+//! What is told of a TCP connection, and of the memory of an internet socket.
 
 ghost use Rattle.std.specs.Prelude.{◌≡◌, List, [], drop, length, unwrap_or};
 ghost use Rattle.netlink_core.specs.Attribute.{Attribute};
@@ -6,13 +6,10 @@ ghost use Rattle.netlink_packet_sock_diag.specs.UnixGetters.{first_of};
 ghost use Rattle.sockdiag_c.specs.TcpInfo.{StandIn, filled, value_of};
 
 use netlink_core::NlasIterator;
-use netlink_packet_sock_diag::constants::INET_DIAG_INFO;
+use netlink_packet_sock_diag::constants::{INET_DIAG_INFO, INET_DIAG_SKMEMINFO};
 
 /// How many bytes stand in front of the attributes of a reply about an IPv4 or IPv6 socket.
 const ATTRIBUTES: usize = 72;
-
-/// How many bytes of `struct tcp_info` are told: those of `struct sockdiag_tcp_info`.
-const LENGTH: usize = 232;
 
 /// Tells what is known of the TCP connection, the bytes of the first `INET_DIAG_INFO` behind the
 /// header of the payload, and zeros behind them. What has more bytes is cut. The answer is how many
@@ -28,6 +25,19 @@ pub extern "C" fn sockdiag_inet_get_tcp_info(payload: &[u8], info: &mut [u8; 232
 {
     let value = first_value(behind_header(payload), INET_DIAG_INFO);
     fill(value, info);
+    value.len()
+}
+
+/// The same of the memory, of the first `INET_DIAG_SKMEMINFO`: nine words `SK_MEMINFO_..`, of which
+/// older kernels tell seven or eight.
+#[unsafe(no_mangle)]
+pub extern "C" fn sockdiag_inet_get_memory(payload: &[u8], memory: &mut [u8; 36]) -> usize
+    ensures { (attributes : List Attribute) → StandIn (drop 72 payload.now) attributes
+        → let value = unwrap_or (first_of (value_of 7) attributes) [] in
+        (result ≡ length value) × (memory.new ≡ filled 36 value) }
+{
+    let value = first_value(behind_header(payload), INET_DIAG_SKMEMINFO);
+    fill(value, memory);
     value.len()
 }
 
@@ -60,11 +70,11 @@ fn first_value(bytes: &[u8], kind: u16) -> &[u8]
 }
 
 // The bytes of the value, and zeros behind them.
-fn fill(value: &[u8], info: &mut [u8; 232])
-    ensures { info.new ≡ filled 232 value.now }
+fn fill<const N: usize>(value: &[u8], told: &mut [u8; N])
+    ensures { told.new ≡ filled N value.now }
 {
-    let told = value.len().min(LENGTH);
-    let (front, behind) = info.split_at_mut(told);
-    front.copy_from_slice(&value[..told]);
+    let len = value.len().min(N);
+    let (front, behind) = told.split_at_mut(len);
+    front.copy_from_slice(&value[..len]);
     behind.fill(0);
 }
