@@ -43,6 +43,8 @@ def kit_command():
 
 
 rt = kit_command()
+# What rt tells of an edit that is refused: by its kind, or, as older kits do, that it is.
+REFUSED = {getattr(rt, name, True) for name in ("REFUSED", "AT_LIMIT")}
 
 
 def rows_of(file):
@@ -158,7 +160,7 @@ def try_crate(crate, edits, functions, flags):
             alone += [it for it in group if it not in told]
         for it in alone:
             kind, text = rt.must_fail(crate, it.file, flags, kept)
-            failed += kind not in (rt.REFUSED, rt.AT_LIMIT)
+            failed += kind not in REFUSED
             print(f"{it.name}: alone, {text.partition('.edit: ')[2]}", flush=True)
     checks, spent = len(groups) + len(alone), time.time() - began
     print(f"{crate.name}: {len(edits)} edits, {checks} checks, {spent:.0f} s", flush=True)

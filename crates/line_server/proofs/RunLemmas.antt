@@ -18,19 +18,19 @@ use Rattle.line_server.specs.RunSteps.{AnswersPiece, CaughtUp, CaughtUpWith, IsB
 use Rattle.line_server.specs.RunSteps.{WritesPart, all_good, fed}
 use Rattle.line_server.proofs.LinesLemmas.{Splits-append, Splits-feed, Splits-line, Splits-one_way}
 use Rattle.line_server.proofs.LinesLemmas.{Splits-rest, split_of}
-use Rattle.line_server.specs.declared.stream.RunError.{RunError}
-use Rattle.line_server.specs.declared.stream.RunError.TheVariants.{Read, Write, Memory}
+use Rattle.line_server.specs.declared.stream.ServeError.{ServeError}
+use Rattle.line_server.specs.declared.stream.ServeError.TheVariants.{Read, Write, Memory}
 
 -- the text was written, and then a call failed
 pub Writes-all : (contents contents' contents'' : Option (List ℕ)) (text : List ℕ)
-    (is_closed : Bool) (e : RunError) → Appends contents contents' text → Keeps contents' contents''
-    → e ≡ Write is_closed → WritesPart contents contents'' text e
+    (is_closed : Bool) (e : ServeError) → Appends contents contents' text
+    → Keeps contents' contents'' → e ≡ Write is_closed → WritesPart contents contents'' text e
 Writes-all c c' c'' text is_closed e p q is =
     subst (WritesPart c c'' text) (sym is)
     (text, ([], sym (append-nil text)), Appends-kept c c' c'' text p q)
 
 -- a call failed for the cause that is told
-pub cause_told : (failed : Bool → Type 0) (e : RunError)
+pub cause_told : (failed : Bool → Type 0) (e : ServeError)
     → (is_closed : Bool) × (e ≡ Write is_closed) × failed is_closed
     → (is_closed : Bool) → e ≡ Write is_closed → failed is_closed
 cause_told failed e (is_closed, is, h) other is' =
@@ -199,10 +199,10 @@ module _ (f : List ℕ → List ℕ) (good : List ℕ → Bool) where
       )
 
   -- a read failed
-  pub run_unread : (r r' r'' c c' : Option (List ℕ)) (line : List ℕ) (e : RunError)
+  pub run_unread : (r r' r'' c c' : Option (List ℕ)) (line : List ℕ) (e : ServeError)
       → CaughtUp f r r' c c' line → Keeps r' r'' → e ≡ Read → Answers f r r'' c c' good (Err e)
   run_unread r r' r'' c c' line e (whole, p) kept is =
-      subst (λ (e : RunError). Answers f r r'' c c' good (Err e)) (sym is) (
+      subst (λ (e : ServeError). Answers f r r'' c c' good (Err e)) (sym is) (
         whole,
         line,
         record {
@@ -237,7 +237,7 @@ module _ (f : List ℕ → List ℕ) (good : List ℕ → Bool) where
 
   -- the answers to a piece could not be written
   pub run_failed : (r r' r'' c c' c'' : Option (List ℕ)) (line piece line' answers : List ℕ)
-      (is_good : Bool) (e : RunError) → CaughtUp f r r' c c' line
+      (is_good : Bool) (e : ServeError) → CaughtUp f r r' c c' line
       → Consumes r' r'' piece → AnswersPiece f good (line ++ piece) line' [] answers is_good
       → WritesPart c' c'' answers e → Answers f r r'' c c'' good (Err e)
   run_failed r r' r'' c c' c'' line piece line' answers is_good Read p read q wrote = absurd wrote
@@ -271,7 +271,7 @@ module _ (f : List ℕ → List ℕ) (good : List ℕ → Bool) where
       )
 
   -- the end was read, and a call failed
-  pub run_unfinished : (r r' r'' c c' c'' : Option (List ℕ)) (line : List ℕ) (e : RunError)
+  pub run_unfinished : (r r' r'' c c' c'' : Option (List ℕ)) (line : List ℕ) (e : ServeError)
       → CaughtUp f r r' c c' line → Consumes r' r'' []
       → WritesPart c' c'' (answer_lines f (with_rest [] line)) e
       → Answers f r r'' c c'' good (Err e)
@@ -351,7 +351,7 @@ module _ (f : List ℕ → List ℕ) (good : List ℕ → Bool) where
 pub run_complete_on_ok : (answers : List ℕ → List ℕ → Type 0) (good : List ℕ → Bool)
     (a : List ℕ → List ℕ)
     → ((f : List ℕ → List ℕ) → ((line : List ℕ) → answers line (f line)) → a ≡ f)
-    → (r r' c c' : Option (List ℕ)) (result : Result Bool RunError) → OnOk result (IsAtEnd r')
+    → (r r' c c' : Option (List ℕ)) (result : Result Bool ServeError) → OnOk result (IsAtEnd r')
     → Answers a r r' c c' good result
     → OnOk result (IfSome r (λ text. (f : List ℕ → List ℕ) (whole : List (List ℕ)) (rest : List ℕ)
     → ((line : List ℕ) → answers line (f line))
@@ -364,11 +364,11 @@ run_complete_on_ok answers good a only (Some text) r' c c' (Ok is_good) ended p 
 run_complete_on_ok answers good a only r r' c c' (Err e) ended p = tt
 
 pub run_answered : (good : List ℕ → Bool) (a f : List ℕ → List ℕ) (r r' c c' : Option (List ℕ))
-    (result : Result Bool RunError) → a ≡ f → Answers a r r' c c' good result
+    (result : Result Bool ServeError) → a ≡ f → Answers a r r' c c' good result
     → Answers f r r' c c' good result
 run_answered good a f r r' c c' result same p =
     subst (λ h. Answers h r r' c c' good result) same p
 
-pub from_on_ok : {A P : Type 0} (r : Result A RunError) → IsOk r → OnOk r P → P
+pub from_on_ok : {A P : Type 0} (r : Result A ServeError) → IsOk r → OnOk r P → P
 from_on_ok (Ok done) h p = p
 from_on_ok (Err e) h p = absurd (cc h)

@@ -4,8 +4,8 @@ use Rattle.std.specs.Prelude.{Err, IfOk}
 use Rattle.std.specs.List.{flat_map, list_all}
 use Rattle.std.specs.Io.KnownBytes.{Appends, Consumes}
 use Rattle.line_server.specs.Lines.{Splits, with_rest}
-use Rattle.line_server.specs.declared.stream.RunError.{RunError}
-use Rattle.line_server.specs.declared.stream.RunError.TheVariants.{Read, Write, Memory}
+use Rattle.line_server.specs.declared.stream.ServeError.{ServeError}
+use Rattle.line_server.specs.declared.stream.ServeError.TheVariants.{Read, Write, Memory}
 
 -- the answer lines of some lines, in order
 abbrev pub answer_lines : (List ℕ → List ℕ) → List (List ℕ) → List ℕ
@@ -24,7 +24,7 @@ module _ (answer : List ℕ → List ℕ) (left left' held held' : Option (List 
   -- What is written when a run ends so: the answers to all lines; where a read failed, those to the
   -- whole lines; where memory ran out, those to some first whole lines; and where a write failed, a
   -- beginning of those to all lines.
-  abbrev pub Ended : Result Bool RunError → List (List ℕ) → List ℕ → Type 0
+  abbrev pub Ended : Result Bool ServeError → List (List ℕ) → List ℕ → Type 0
   Ended (Ok is_good) whole rest = Exchange whole rest (answer_lines answer (with_rest whole rest))
   Ended (Err Read) whole rest = Exchange whole rest (answer_lines answer whole)
   Ended (Err Memory) whole rest = (k : ℕ) × Exchange whole rest (answer_lines answer (take k whole))
@@ -33,6 +33,6 @@ module _ (answer : List ℕ → List ℕ) (left left' held held' : Option (List 
 
   -- what was read and what was written belong together as a run ends so, which says where all went
   -- well whether each answer is a good one
-  abbrev pub Answers : (List ℕ → Bool) → Result Bool RunError → Type 0
+  abbrev pub Answers : (List ℕ → Bool) → Result Bool ServeError → Type 0
   Answers good result = (whole : List (List ℕ)) × (rest : List ℕ) × Ended result whole rest
       × IfOk result (λ is_good. is_good ≡ list_all good (map answer (with_rest whole rest)))

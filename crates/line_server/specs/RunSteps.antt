@@ -4,8 +4,8 @@ use Rattle.std.specs.List.{All, list_all}
 use Rattle.std.specs.Io.KnownBytes.{Appends, Keeps}
 use Rattle.line_server.specs.Lines.{Splits}
 use Rattle.line_server.specs.Run.{Exchange, answer_lines}
-use Rattle.line_server.specs.declared.stream.RunError.{RunError}
-use Rattle.line_server.specs.declared.stream.RunError.TheVariants.{Read, Write, Memory}
+use Rattle.line_server.specs.declared.stream.ServeError.{ServeError}
+use Rattle.line_server.specs.declared.stream.ServeError.TheVariants.{Read, Write, Memory}
 
 -- bytes without a line feed
 abbrev pub IsLine : List ℕ → Type 0
@@ -20,14 +20,14 @@ abbrev pub IsBeginning : List ℕ → List ℕ → Type 0
 IsBeginning front text = (more : List ℕ) × (text ≡ front ++ more)
 
 -- a beginning of the text was written where a write failed, or nothing where memory ran out
-abbrev pub WritesPart : Option (List ℕ) → Option (List ℕ) → List ℕ → RunError → Type 0
+abbrev pub WritesPart : Option (List ℕ) → Option (List ℕ) → List ℕ → ServeError → Type 0
 WritesPart contents contents' text Read = ⊥
 WritesPart contents contents' text Memory = Keeps contents contents'
 WritesPart contents contents' text (Write is_closed) = (front : List ℕ) × IsBeginning front text
     × Appends contents contents' front
 
 -- the text was written, or a part of it
-abbrev pub Writes : {A : Type 0} → Option (List ℕ) → Option (List ℕ) → List ℕ → Result A RunError
+abbrev pub Writes : {A : Type 0} → Option (List ℕ) → Option (List ℕ) → List ℕ → Result A ServeError
     → Type 0
 Writes contents contents' text (Ok done) = Appends contents contents' text
 Writes contents contents' text (Err e) = WritesPart contents contents' text e

@@ -6,4 +6,4 @@ mod prompt;
 mod stream;
 
 pub use prompt::{AnswerWrite, PromptRead};
-pub use stream::{LineAnswers, RunError, Start, serve, try_send};
+pub use stream::{LineAnswers, ServeError, Start, serve, try_send};

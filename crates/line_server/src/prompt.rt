@@ -8,7 +8,7 @@ ghost use Rattle.std.specs.Io.KnownBytes.{Keeps, ReadConsumes, WriteAppends};
 ghost use Rattle.std.specs.Io.{ReadsAtMost};
 ghost use Rattle.line_server.specs.Run.{Exchange, answer_lines};
 
-use crate::stream::{RunError, Start};
+use crate::stream::{ServeError, Start};
 use std::io;
 use std::io::{ErrorKind, Read, Write};
 
@@ -31,14 +31,14 @@ pub trait PromptRead {
         output: &W,
         line: &[u8],
         piece: &mut [u8],
-    ) -> Result<usize, RunError>
+    ) -> Result<usize, ServeError>
         // The answers to all whole lines that were read are written, and `line` follows these.
         requires { (whole : List (List ℕ)) × Exchange S.answer S.remaining (left self.old)
             S.contents (W.held output.now) whole line.now (answer_lines S.answer whole) }
         ensures bound { ReadsAtMost result piece.new }
         ensures bytes { ReadConsumes (left self.old) (left self.new) result piece.new }
         ensures counted { (n : ℕ) → reads self.old n → reads self.new (n + 1) }
-        ensures cause { IfErr result (λ e. (e ≡ RunError.Read) × failed self.new) };
+        ensures cause { IfErr result (λ e. (e ≡ ServeError.Read) × failed self.new) };
 }
 
 impl<R: Read> PromptRead for R {
@@ -53,18 +53,18 @@ impl<R: Read> PromptRead for R {
         _output: &W,
         _line: &[u8],
         piece: &mut [u8],
-    ) -> Result<usize, RunError> {
+    ) -> Result<usize, ServeError> {
         read_outcome(self.read(piece))
     }
 }
 
 /// What a read came to. It failed where the call did.
-fn read_outcome(outcome: io::Result<usize>) -> Result<usize, RunError>
-    ensures { MatchResult outcome (λ n. result ≡ Ok n) (λ _. result ≡ Err RunError.Read) }
+fn read_outcome(outcome: io::Result<usize>) -> Result<usize, ServeError>
+    ensures { MatchResult outcome (λ n. result ≡ Ok n) (λ _. result ≡ Err ServeError.Read) }
 {
     match outcome {
         Ok(count) => Ok(count),
-        Err(_) => Err(RunError::Read),
+        Err(_) => Err(ServeError::Read),
     }
 }
 
@@ -78,16 +78,16 @@ pub trait AnswerWrite {
     ghost failed: { Self → Bool → Type 0 };
 
     /// Writes once. To take no bytes is to fail.
-    fn write_some(&mut self, bytes: &[u8]) -> Result<usize, RunError>
+    fn write_some(&mut self, bytes: &[u8]) -> Result<usize, ServeError>
         ensures some { IfOk result (λ n. (0 < n) × (n ≤ length bytes.now)) }
         ensures bytes { WriteAppends (held self.old) (held self.new) result bytes.now }
-        ensures cause { IfErr result (λ e. (is_closed : Bool) × (e ≡ RunError.Write is_closed)
+        ensures cause { IfErr result (λ e. (is_closed : Bool) × (e ≡ ServeError.Write is_closed)
             × failed self.new is_closed) };
 
     /// Flushes once.
-    fn flush_answers(&mut self) -> Result<(), RunError>
+    fn flush_answers(&mut self) -> Result<(), ServeError>
         ensures bytes { Keeps (held self.old) (held self.new) }
-        ensures cause { IfErr result (λ e. (is_closed : Bool) × (e ≡ RunError.Write is_closed)
+        ensures cause { IfErr result (λ e. (is_closed : Bool) × (e ≡ ServeError.Write is_closed)
             × failed self.new is_closed) };
 }
 
@@ -96,40 +96,40 @@ impl<W: Write> AnswerWrite for W {
 
     ghost failed = { λ _ _. ⊤ };
 
-    fn write_some(&mut self, bytes: &[u8]) -> Result<usize, RunError> {
+    fn write_some(&mut self, bytes: &[u8]) -> Result<usize, ServeError> {
         write_outcome(self.write(bytes))
     }
 
-    fn flush_answers(&mut self) -> Result<(), RunError> {
+    fn flush_answers(&mut self) -> Result<(), ServeError> {
         flush_outcome(self.flush())
     }
 }
 
 /// What a write came to. It failed where the call did, or took no bytes.
-fn write_outcome(outcome: io::Result<usize>) -> Result<usize, RunError>
+fn write_outcome(outcome: io::Result<usize>) -> Result<usize, ServeError>
     ensures { MatchResult outcome
-        (λ n. result ≡ (if n == 0 then Err (RunError.Write false) else Ok n))
-        (λ error. (is_closed : Bool) × (result ≡ Err (RunError.Write is_closed))
+        (λ n. result ≡ (if n == 0 then Err (ServeError.Write false) else Ok n))
+        (λ error. (is_closed : Bool) × (result ≡ Err (ServeError.Write is_closed))
         × ((is_closed ≡ true) ↔ (error_kind error ≡ ErrorKind.BrokenPipe))) }
 {
     match outcome {
-        Ok(0) => Err(RunError::Write { is_closed: false }),
+        Ok(0) => Err(ServeError::Write { is_closed: false }),
         Ok(count) => Ok(count),
-        Err(error) => Err(RunError::Write {
+        Err(error) => Err(ServeError::Write {
             is_closed: is_closed(&error),
         }),
     }
 }
 
 /// What a flush came to. It failed where the call did.
-fn flush_outcome(outcome: io::Result<()>) -> Result<(), RunError>
+fn flush_outcome(outcome: io::Result<()>) -> Result<(), ServeError>
     ensures { MatchResult outcome (λ _. result ≡ Ok tt)
-        (λ error. (is_closed : Bool) × (result ≡ Err (RunError.Write is_closed))
+        (λ error. (is_closed : Bool) × (result ≡ Err (ServeError.Write is_closed))
         × ((is_closed ≡ true) ↔ (error_kind error ≡ ErrorKind.BrokenPipe))) }
 {
     match outcome {
         Ok(()) => Ok(()),
-        Err(error) => Err(RunError::Write {
+        Err(error) => Err(ServeError::Write {
             is_closed: is_closed(&error),
         }),
     }

@@ -11,9 +11,11 @@ use Rattle.netlink_packet_sock_diag.specs.Message.{unix_request, unix_response}
 -- what a message says
 abbrev pub seen_message : SockDiagMessage → Message
 seen_message (message.InetRequest request) = message_of inet_request request
-seen_message (message.InetResponse reply) = message_of inet_response (seen_reply (λ h. h) inet.seen_nla reply.value)
+seen_message (message.InetResponse reply) =
+    message_of inet_response (seen_reply (λ h. h) inet.seen_nla reply.value)
 seen_message (message.UnixRequest request) = message_of unix_request request
-seen_message (message.UnixResponse reply) = message_of unix_response (seen_reply (λ h. h) unix.seen_nla reply.value)
+seen_message (message.UnixResponse reply) =
+    message_of unix_response (seen_reply (λ h. h) unix.seen_nla reply.value)
 
 -- what the message says that asks to close sockets
 abbrev pub seen_destroy : SockDiagDestroy → Message

@@ -9,7 +9,7 @@ ghost use Rattle.std.specs.Io.KnownBytes.{Appends, IsAtEnd, Keeps};
 ghost use Rattle.sock_diag_lines.specs.Answer.{IsAnswerOf, is_good};
 ghost use Rattle.line_server.specs.Lines.{Splits, with_rest};
 ghost use Rattle.line_server.specs.Run.{Answers, answer_lines};
-ghost use Rattle.line_server.specs.declared.stream.RunError.{RunError};
+ghost use Rattle.line_server.specs.declared.stream.ServeError.{ServeError};
 
 mod answers;
 mod arguments;
@@ -21,12 +21,12 @@ mod words;
 
 pub use answers::answer;
 pub use arguments::{Choice, HELP, choose};
-pub use line_server::RunError;
+use line_server::ServeError;
 use std::alloc::Global;
 use std::io::{Read, Write};
 use std::process::ExitCode;
-pub use stream::run;
-use stream::tell;
+pub use stream::{RunError, run};
+use stream::{answer_all, tell};
 
 /// The version, that of the repository's file `VERSION`.
 pub const VERSION: &str = "0.8.0";
@@ -54,7 +54,7 @@ pub fn run_to_status<R: Read, W: Write, E: Write>(
     // its beginning where a write fails.
     ensures answered { (answer : List ℕ → List ℕ)
         → ((line : List ℕ) → IsAnswerOf line (answer line))
-        → (outcome : Result Bool RunError)
+        → (outcome : Result Bool ServeError)
         × MatchResult outcome
         (λ good. exit_status result ≡ (if is_strict && not good then 3 else 0))
         (λ _. exit_status result ≡ 1)
@@ -62,18 +62,18 @@ pub fn run_to_status<R: Read, W: Write, E: Write>(
         (W.contents output.old) (W.contents output.new) is_good outcome
         × IfErr outcome (λ e. (told more : List ℕ)
         × Appends (E.contents errors.old) (E.contents errors.new) told
-        × (e ≡ RunError.Read → told ++ more ≡ codes "sockdiag: reading failed" ++ 10 ∷ [])
-        × (e ≡ RunError.Write false → told ++ more ≡ codes "sockdiag: writing failed" ++ 10 ∷ [])
-        × (e ≡ RunError.Write true → told ++ more ≡ [])
-        × (e ≡ RunError.Memory → told ++ more ≡ codes "sockdiag: out of memory" ++ 10 ∷ [])) }
+        × (e ≡ ServeError.Read → told ++ more ≡ codes "sockdiag: reading failed" ++ 10 ∷ [])
+        × (e ≡ ServeError.Write false → told ++ more ≡ codes "sockdiag: writing failed" ++ 10 ∷ [])
+        × (e ≡ ServeError.Write true → told ++ more ≡ [])
+        × (e ≡ ServeError.Memory → told ++ more ≡ codes "sockdiag: out of memory" ++ 10 ∷ [])) }
 {
-    let outcome = run(alloc, input, output);
+    let outcome = answer_all(alloc, input, output);
     tell(errors, &outcome);
     exit_code(&outcome, is_strict)
 }
 
 /// The status of a run that ended so.
-fn exit_code(outcome: &Result<bool, RunError>, is_strict: bool) -> ExitCode
+fn exit_code(outcome: &Result<bool, ServeError>, is_strict: bool) -> ExitCode
     ensures { MatchResult outcome.now
         (λ good. exit_status result ≡ (if is_strict && not good then 3 else 0))
         (λ _. exit_status result ≡ 1) }

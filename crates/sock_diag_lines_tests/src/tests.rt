@@ -28,10 +28,7 @@ fn repeated(alloc: Global, text: Repeated) -> Result<Vec<u8>, AllocError> {
 fn errors_of_a_run_have_words(rt: HostRuntime) -> Result<(), Fail> {
     for (error, want) in [
         (RunError::Read, "Read: reading failed"),
-        (
-            RunError::Write { is_closed: true },
-            "Write { is_closed: true }: writing failed",
-        ),
+        (RunError::Write, "Write: writing failed"),
         (RunError::Memory, "Memory: out of memory"),
     ] {
         let text = format!(in rt.alloc(); "{error:?}: {error}")?;

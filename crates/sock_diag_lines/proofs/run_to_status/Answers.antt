@@ -3,33 +3,36 @@ use Rattle.std.proofs.Common.{Ok, Err, refl, sym}
 use Rattle.std.specs.Prelude.{IfErr, IsOk, MatchResult, codes}
 use Rattle.std.specs.Io.KnownBytes.{Appends}
 use Rattle.sock_diag_lines.specs.RunSteps.{failure_line}
-use Rattle.line_server.specs.declared.stream.RunError.{RunError}
-use Rattle.line_server.specs.declared.stream.RunError.TheVariants.{Read, Write, Memory}
+use Rattle.line_server.specs.declared.stream.ServeError.{ServeError}
+use Rattle.line_server.specs.declared.stream.ServeError.TheVariants.{Read, Write, Memory}
 use Rattle.line_server.proofs.RunLemmas.{from_on_ok}
 use Rattle.sock_diag_lines.proofs.run_to_status.Goals as goal
 
 -- it came to the end where the status is not 1
-ended_well : (outcome : Result Bool RunError) (status : ℕ) (P : Bool → Type 0)
+ended_well : (outcome : Result Bool ServeError) (status : ℕ) (P : Bool → Type 0)
     → MatchResult outcome P (λ _. status ≡ 1) → status ≢ 1 → IsOk outcome
 ended_well (Ok good) status P h other = refl
 ended_well (Err e) status P h other = absurd (other h)
 
 pub returns-clause-ended : goal.returns-clause-ended
 returns-clause-ended g c =
-    λ other. from_on_ok c.run-outcome.result
-    (ended_well c.run-outcome.result _ _ c.exit_code.ensures other) c.run-outcome.ensures.ended
+    let run = c.answer_all-outcome in
+    λ other. from_on_ok run.result (ended_well run.result _ _ c.exit_code.ensures other)
+    run.ensures.ended
 
 pub returns-clause-complete : goal.returns-clause-complete
 returns-clause-complete g c =
-    λ other. from_on_ok c.run-outcome.result
-    (ended_well c.run-outcome.result _ _ c.exit_code.ensures other) c.run-outcome.ensures.complete
+    let run = c.answer_all-outcome in
+    λ other. from_on_ok run.result (ended_well run.result _ _ c.exit_code.ensures other)
+    run.ensures.complete
 
 pub returns-clause-silent : goal.returns-clause-silent
 returns-clause-silent g c =
-    λ other. c.tell.ensures.silent (ended_well c.run-outcome.result _ _ c.exit_code.ensures other)
+    λ other. c.tell.ensures.silent
+    (ended_well c.answer_all-outcome.result _ _ c.exit_code.ensures other)
 
 -- the line is that of the failure
-tells : (contents contents' : Option (List ℕ)) (outcome : Result Bool RunError)
+tells : (contents contents' : Option (List ℕ)) (outcome : Result Bool ServeError)
     → IfErr outcome (λ e. (told : List ℕ) × ((more : List ℕ) × (failure_line e ≡ told ++ more))
     × Appends contents contents' told)
     → IfErr outcome (λ e. (told more : List ℕ) × Appends contents contents' told
@@ -49,8 +52,8 @@ tells contents contents' (Err Memory) (told, (more, e), appended) =
 
 pub returns-clause-answered : goal.returns-clause-answered
 returns-clause-answered g c = λ f right. (
-  c.run-outcome.result,
+  c.answer_all-outcome.result,
   c.exit_code.ensures,
-  c.run-outcome.ensures.answered f right,
-  tells _ _ c.run-outcome.result c.tell.ensures.told,
+  c.answer_all-outcome.ensures.answered f right,
+  tells _ _ c.answer_all-outcome.result c.tell.ensures.told,
 )

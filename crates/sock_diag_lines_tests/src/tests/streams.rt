@@ -15,9 +15,6 @@ const NEVER: usize = usize::MAX;
 /// Stands for the flush among the numbers of calls.
 const FLUSH: usize = usize::MAX - 1;
 
-/// A write failed that somebody reads.
-const WRITE: RunError = RunError::Write { is_closed: false };
-
 /// How many bytes a stream moves a call at most, and which of its calls fails.
 #[derive(Clone, Copy)]
 struct Pace {
@@ -157,7 +154,7 @@ fn ends(
     alloc: Global,
     text: &[u8],
     paces: (Pace, Pace),
-    outcome: Result<bool, RunError>,
+    outcome: Result<(), RunError>,
     written: &[u8],
 ) {
     let (reads, writes) = paces;
@@ -195,7 +192,7 @@ fn each_write_fails(rt: HostRuntime) {
         for fails_at in 0..whole.len().div_ceil(most) {
             let written = &whole[..most.saturating_mul(fails_at).min(whole.len())];
             let paces = (steady(read), Pace { most, fails_at });
-            let failed = Err(WRITE);
+            let failed = Err(RunError::Write);
             ends(&rt, rt.alloc(), INPUT.as_bytes(), paces, failed, written);
         }
     }
@@ -205,15 +202,15 @@ fn each_write_fails(rt: HostRuntime) {
 #[test]
 fn ends_of_a_run(rt: HostRuntime) {
     let unended = INPUT.strip_suffix('\n').unwrap_or("");
-    let failed = Err(WRITE);
+    let failed = Err(RunError::Write);
     for (text, most, fails_at, outcome, written) in [
         (INPUT, NEVER, FLUSH, failed, OUTPUT),
         (INPUT, 1, FLUSH, failed, OUTPUT),
         (INPUT, 0, NEVER, failed, ""),
         ("", NEVER, FLUSH, failed, ""),
-        ("", NEVER, NEVER, Ok(true), ""),
-        (unended, NEVER, NEVER, Ok(false), OUTPUT),
-        (unended, 1, NEVER, Ok(false), OUTPUT),
+        ("", NEVER, NEVER, Ok(()), ""),
+        (unended, NEVER, NEVER, Ok(()), OUTPUT),
+        (unended, 1, NEVER, Ok(()), OUTPUT),
     ] {
         let paces = (steady(NEVER), Pace { most, fails_at });
         let (text, written) = (text.as_bytes(), written.as_bytes());
@@ -229,7 +226,7 @@ fn answers_in_pieces(rt: &impl Abort, alloc: Global, text: &[u8], written: &[u8]
             alloc,
             text,
             (steady(read), steady(write)),
-            Ok(false),
+            Ok(()),
             written,
         );
     }
@@ -284,7 +281,7 @@ fn many_lines_and_reads(rt: HostRuntime) -> Result<(), Fail> {
         let text = INPUT.as_bytes().repeat(alloc, times)?;
         let written = OUTPUT.as_bytes().repeat(alloc, times)?;
         let paces = (steady(most), steady(NEVER));
-        ends(&rt, alloc, &text, paces, Ok(false), &written);
+        ends(&rt, alloc, &text, paces, Ok(()), &written);
     }
     Ok(())
 }

@@ -2,7 +2,7 @@ use Rattle.std.proofs.Common.{refl}
 use Rattle.sock_diag_lines.proofs.AnswerLemmas.{answer_of, answer_of-is, one_function}
 use Rattle.sock_diag_lines.specs.Answer.{IsAnswerOf, is_good}
 use Rattle.line_server.proofs.RunLemmas.{run_answered, run_complete_on_ok}
-use Rattle.sock_diag_lines.proofs.stream.run.Goals as goal
+use Rattle.sock_diag_lines.proofs.stream.answer_all.Goals as goal
 
 pub serve-requires : goal.serve-requires
 serve-requires g c = record { start = (refl, refl, tt); right = answer_of-is }

@@ -1,5 +1,5 @@
 use Rattle.sock_diag_lines.proofs.AnswerLemmas.{answer_of}
-use Rattle.sock_diag_lines.proofs.stream.run.Given as goal
+use Rattle.sock_diag_lines.proofs.stream.answer_all.Given as goal
 
 abbrev pub ghosts-serve : goal.ghosts-serve
 ghosts-serve g a = record {
