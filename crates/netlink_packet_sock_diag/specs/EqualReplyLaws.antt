@@ -1,5 +1,5 @@
 -- Replies are equal where the same is seen of them.
-use Rattle.std.proofs.Common.{◌≡◌, ◌↔◌, ◌&&◌, Bool, true, IsTrue, ap, refl}
+use Rattle.std.proofs.Common.{◌≡◌, ◌↔◌, ◌&&◌, Bool, true, IsTrue, ap}
 use Rattle.std.proofs.lemmas.List.{map-id}
 use lib.Pointwise.{pointwise}
 use Rattle.netlink_core.proofs.Equality.{and_says, lists_equal}
