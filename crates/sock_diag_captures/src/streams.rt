@@ -1,6 +1,7 @@
 //! What a capture is read from, and what its table is written on.
 
-ghost use Rattle.std.specs.Prelude.{◌≡◌, ◌<◌, ◌≤◌, ℕ, List, Option, length, IfOk, IfErr, OnOk, ⊤};
+ghost use Rattle.std.specs.Prelude.{◌≡◌, ◌↔◌, ◌<◌, ◌≤◌, ℕ, List, Option, length, IfOk, IfErr};
+ghost use Rattle.std.specs.Prelude.{OnOk, ⊤};
 ghost use Rattle.std.specs.Io.KnownBytes.{Keeps, ReadConsumes, WriteAppends};
 ghost use Rattle.std.specs.Io.{ReadsAtMost};
 ghost use Rattle.sock_diag_captures.specs.Streams.{IsReadFailure, IsWriteFailure};
@@ -40,7 +41,8 @@ impl<R: Read> Source for R {
 
 /// What a read that failed so is.
 fn read_failure(kind: ErrorKind) -> CaptureError
-    ensures { IsReadFailure result }
+    ensures failure { IsReadFailure result }
+    ensures directory { (result ≡ CaptureError.Directory) ↔ (kind ≡ ErrorKind.IsADirectory) }
 {
     match kind {
         ErrorKind::IsADirectory => CaptureError::Directory,
@@ -98,7 +100,8 @@ impl<W: Write> Sink for W {
 
 /// What a write or a flush that failed so is.
 fn write_failure(kind: ErrorKind) -> RunError
-    ensures { IsWriteFailure result }
+    ensures failure { IsWriteFailure result }
+    ensures closed { (result ≡ RunError.Closed) ↔ (kind ≡ ErrorKind.BrokenPipe) }
 {
     match kind {
         ErrorKind::BrokenPipe => RunError::Closed,

@@ -17,7 +17,7 @@ const UNIX: &str =
 const DONE: &str = "1400000003000200070000000000000000000000";
 
 /// A reply about a UNIX socket with 12 bytes of the 16 of its header.
-const SHORT_REPLY: &str = "1c00000014000200070000000000000001010a000e4f0000a0020000";
+const SHORT: &str = "1c00000014000200070000000000000001010a000e4f0000a0020000";
 
 /// A reply about a netlink socket, of the family 16.
 const OTHER_FAMILY: &str = "20000000140002000700000000000000100101000e4f0000a002000000000000";
@@ -236,14 +236,7 @@ fn tells(rt: &impl Abort, alloc: Global, parts: &[&str], want: &str) -> Result<(
 #[test]
 fn tells_why(rt: HostRuntime) -> Result<(), Fail> {
     let alloc = rt.alloc();
-    let parts = [
-        FRONT,
-        OF_100,
-        OF_SOCK_DIAG,
-        SHORT_REPLY,
-        SHORT_REPLY,
-        SHORT_REPLY,
-    ];
+    let parts = [FRONT, OF_100, OF_SOCK_DIAG, SHORT, SHORT, SHORT];
     let want = "packet 1, message 1: UnixResponseHeader: buffer of 12 bytes, at least 16 needed\n\
 sslist: packet 1, message 2: UnixResponseHeader: buffer of 12 bytes, at least 16 needed\n\
 sslist: packet 1, message 3: UnixResponseHeader: buffer of 12 bytes, at least 16 needed";
@@ -260,12 +253,8 @@ sslist: packet 6: the capture is cut off";
     tells(&rt, alloc, &[FRONT, "48"], "the capture is cut off")?;
     let want = "packets of link type 1, not 253 (netlink)";
     tells(&rt, alloc, &[FRONT, "4800000001000000"], want)?;
-    tells(
-        &rt,
-        alloc,
-        &["d4c3b2a10300", FRONT, OF_100],
-        "pcap of version 3, not 2",
-    )?;
+    let want = "pcap of version 3, not 2";
+    tells(&rt, alloc, &["d4c3b2a10300", FRONT, OF_100], want)?;
     let want = "a pcapng capture, convert it: editcap -F pcap CAPTURE OTHER";
     tells(&rt, alloc, &["0a0d0d0a", FRONT, OF_100], want)?;
     let want = "a gzip file, unpack it: gzip -dc CAPTURE";
