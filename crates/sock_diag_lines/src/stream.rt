@@ -68,11 +68,7 @@ fn is_good(answer: &[u8]) -> bool
 
 /// Writes the answer line of each line of `input`, and flushes. Before each read, the answers to
 /// all whole lines that were read stand on `output`. No call that failed is made again.
-pub fn run<R: Read, W: Write>(
-    alloc: Global,
-    input: &mut R,
-    output: &mut W,
-) -> Result<(), RunError>
+pub fn run<R: Read, W: Write>(alloc: Global, input: &mut R, output: &mut W) -> Result<(), RunError>
     // All is read, and the answers to all lines that the reader told at the start are written.
     ensures ended { OnOk result (IsAtEnd (R.remaining input.new)) }
     ensures complete { OnOk result (IfSome (R.remaining input.old) (λ text.
@@ -88,9 +84,9 @@ pub fn run<R: Read, W: Write>(
         × Answers answer (R.remaining input.old) (R.remaining input.new)
         (W.contents output.old) (W.contents output.new) is_good outcome
         × MatchResult outcome (λ _. result ≡ Ok tt) (λ e.
-          (e ≡ ServeError.Read → result ≡ Err RunError.Read)
-          × ((is_closed : Bool) → e ≡ ServeError.Write is_closed → result ≡ Err RunError.Write)
-          × (e ≡ ServeError.Memory → result ≡ Err RunError.Memory)) }
+        (e ≡ ServeError.Read → result ≡ Err RunError.Read)
+        × ((is_closed : Bool) → e ≡ ServeError.Write is_closed → result ≡ Err RunError.Write)
+        × (e ≡ ServeError.Memory → result ≡ Err RunError.Memory)) }
 {
     match answer_all(alloc, input, output) {
         Ok(_) => Ok(()),

@@ -23,7 +23,7 @@ returns-then-is_err-clause-wanted g c = λ memory.
       reply_behind (reply_with R F) (viewed view).header (drop R.size view.bytes.now),
       kept_reads R F g.met.H.ReplyOwned.same.1 _ _ view.accepted c.in_ok-view.ensures.kept typed,
       λ spare. fault_is_no_value c.own_into.result _ c.if-is_err.true c.is_err.ensures.value
-      (c.own_into.ensures.spare c.new-nlas.ensures.capacity spare),
+          (c.own_into.ensures.spare c.new-nlas.ensures.capacity spare),
     )
 
 pub returns-clause-value : goal.returns-clause-value
