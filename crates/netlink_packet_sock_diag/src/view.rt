@@ -1,8 +1,7 @@
 //! A reply of any family, read in place.
 
-ghost use Rattle.std.specs.Prelude.{◌≡◌, ◌≢◌, ◌≤◌, ◌↔◌, ◌++◌, ⊤, ℕ, List, Bool, length, drop, Ok};
-ghost use Rattle.std.specs.Prelude.{map};
-ghost use Rattle.std.specs.Prelude.{Err, OnOk, IfOk, IfErr, IsOk, IsTrue, Some, IfSome, SomeIff};
+ghost use Rattle.std.specs.Prelude.{◌≡◌, ◌≢◌, ◌≤◌, ◌↔◌, ◌++◌, ⊤, ℕ, List, Bool, length, drop, map};
+ghost use Rattle.std.specs.Prelude.{Ok, Err, OnOk, IfOk, IfErr, IsTrue, Some, IfSome, SomeIff};
 ghost use Rattle.std.specs.Cmp.{partial_equiv_from_equiv};
 ghost use Rattle.std.specs.Iterator.{Drains, UpTo, YieldsFirstBy, YieldsThen, item_count};
 ghost use Rattle.std.specs.Iterator.SizeHint.{IsWithinCount};
