@@ -22,7 +22,7 @@ TOP = Path(__file__).resolve().parent.parent
 HEADER = TOP / "include" / "sockdiag.h"
 RUST = TOP / "rust" / "sockdiag"
 # The header's numbers, but those of the faults, by the file and the name of the constant, or words
-# of a contract in front of the number.
+# of a doc comment in front of the number.
 NUMBERS = {
     "SOCKDIAG_OK": ("sockdiag_c/src/check.rt", "OK"),
     "SOCKDIAG_END": ("sockdiag_c/src/walks.rt", "END"),

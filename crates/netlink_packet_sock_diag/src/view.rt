@@ -210,7 +210,8 @@ impl<'a, H: ReplyViews<'a>> ReplyView<'a, H> {
             IfOk result (λ parts. (nlas : List H.View) (e : Fault) (last : CheckedNlas H.View)
             → YieldsThen gives parts.1 (map (λ (nla : H.View). Ok nla) nlas) (Some (Err e)) last
             → reply.refuses bytes.entry.now tt e) }
-        ensures fault { IfErr result ((reply_codec H.reply).refuses bytes.entry.now tt) }
+        ensures fault { IfErr result (λ fault.
+            H.reply.header.reads tt bytes.entry.now ≡ Err fault) }
     {
         let header = H::read_header(bytes)?;
         Ok((header, CheckedNlas::new(&bytes[H::length()..])))

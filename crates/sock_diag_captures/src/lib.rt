@@ -1,5 +1,4 @@
-//! Lists the sockets that a capture of netlink traffic tells, one a line, as ss(8) does of a
-//! running system.
+//! Lists the sockets that a capture of netlink traffic tells, as ss(8) does of a running system.
 #![tactic(auto)]
 
 ghost use Rattle.std.specs.Prelude.{◌≡◌, ◌↔◌, ◌++◌, ℕ, Bool, true, IsOkAnd, IsTrue, List};
@@ -35,9 +34,9 @@ pub use words::{Argument, HELP, choose};
 /// The version, that of the repository's file `VERSION`.
 pub const VERSION: &str = "0.8.0";
 
-/// `run`, which tells on `errors` why it failed, behind `front`. The status is 0 where the whole
-/// capture was listed, and 1 where reading or writing failed, or where something was told of a
-/// packet.
+/// `run`, which tells on `errors`, behind `front`, why it failed, but where nobody reads the output
+/// any more. The status is 0 where the whole capture was listed whole, and 1 where the run failed
+/// or a packet was not listed whole.
 pub fn run_to_status<R: Read, W: Write, E: Write>(
     alloc: Global,
     options: Options,

@@ -37,7 +37,7 @@ const ENOENT: u32 = 2;
 /// EINVAL of errno(3).
 const EINVAL: u32 = 22;
 
-/// What is told of a packet on standard error.
+/// What is told of a message on standard error.
 #[derive(Debug, Drop, PartialEq, Eq, Error)]
 pub enum Complaint {
     /// A message was refused.
@@ -82,9 +82,9 @@ pub struct Written<'a> {
 }
 
 /// Adds the lines of the sockets that a packet of this number tells, and what is told of it. It
-/// answers whether the packet was listed whole: it has the bytes that it had when it was captured,
-/// and none of its messages was refused, tells an error but ENOENT and EINVAL, or says that data
-/// was lost or that the dump changed.
+/// answers whether the packet was listed whole: it has the 16 bytes of the cooked header, and all
+/// that it had when it was captured, and none of its messages was refused, tells an error but
+/// ENOENT and EINVAL, or says that data was lost or that the dump changed.
 ///
 /// A request is kept, so that the protocol of a reply that answers it is known.
 pub fn list_packet(

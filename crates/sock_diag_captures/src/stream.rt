@@ -92,7 +92,7 @@ fn write_table<R: Source, W: Sink, E: Write>(
         × Appends (W.held output.old) (W.held output.new) (HEADING.now ++ lines)) }
     ensures failed { IfErr result (Fails options (R.left input.old) (R.left input.new)
         (W.held output.old) (W.held output.new) HEADING.now (R.failed input.new)) }
-    ensures cause { IfErr result (λ e. IsWriteFailure e → W.failed output.new) }
+    ensures cause { IfErr result (λ e. IsWriteFailure e → W.failed output.new e) }
 {
     let file = read_header(input)?;
     send(output, HEADING)?;
@@ -176,7 +176,7 @@ fn read_packet<R: Source>(
 /// Writes all the bytes. No write that failed is made again.
 fn send<W: Sink>(output: &mut W, bytes: &[u8]) -> Result<(), RunError>
     ensures written { OnOk result (Appends (W.held output.old) (W.held output.new) bytes.now) }
-    ensures stopped { IfErr result (λ e. IsWriteFailure e × W.failed output.new
+    ensures stopped { IfErr result (λ e. IsWriteFailure e × W.failed output.new e
         × (front : List ℕ) × (rest : List ℕ)
         × (bytes.now ≡ front ++ rest) × Appends (W.held output.old) (W.held output.new) front) }
 {

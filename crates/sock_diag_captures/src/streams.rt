@@ -53,11 +53,13 @@ fn read_failure(kind: ErrorKind) -> CaptureError
 /// What a table is written on. Who has no other bound than this one can't say that a write failed
 /// where none did, or that all was flushed where it wasn't.
 pub trait Sink {
+    ghost use Rattle.sock_diag_captures.specs.declared.stream.RunError.{RunError};
+
     // The bytes that it holds, where they are known.
     ghost held: { Self → Option (List ℕ) };
 
-    // A write failed or took no bytes, or a flush failed.
-    ghost failed: { Self → Type 0 };
+    // A write failed or took no bytes, or a flush failed, and so it is told.
+    ghost failed: { Self → RunError → Type 0 };
 
     // The last call flushed it.
     ghost flushed: { Self → Type 0 };
@@ -66,19 +68,19 @@ pub trait Sink {
     fn write_part(&mut self, text: &[u8]) -> Result<usize, RunError>
         ensures some { IfOk result (λ n. (0 < n) × (n ≤ length text.now)) }
         ensures bytes { WriteAppends (held self.old) (held self.new) result text.now }
-        ensures cause { IfErr result (λ e. IsWriteFailure e × failed self.new) };
+        ensures cause { IfErr result (λ e. IsWriteFailure e × failed self.new e) };
 
     /// Flushes once.
     fn flush_all(&mut self) -> Result<(), RunError>
         ensures bytes { Keeps (held self.old) (held self.new) }
         ensures done { OnOk result (flushed self.new) }
-        ensures cause { IfErr result (λ e. IsWriteFailure e × failed self.new) };
+        ensures cause { IfErr result (λ e. IsWriteFailure e × failed self.new e) };
 }
 
 impl<W: Write> Sink for W {
     ghost held = { λ w. W.contents w };
 
-    ghost failed = { λ _. ⊤ };
+    ghost failed = { λ _ _. ⊤ };
 
     ghost flushed = { λ _. ⊤ };
 

@@ -16,8 +16,8 @@ input. A capture is one of pcap, as tcpdump -i nlmon0 -w - writes it.\n\n\
   -O           one line a socket\n\
   -n -a        nothing more: all numbers are shown as numbers, and all states are listed\n\
   --help, --version\n\n\
-The status is 0 where all was listed, 1 where something was not, which standard error names, and\n\
-2 for an option that is not known.";
+The status is 0 where all was listed, 1 where something was not, which standard error names but\n\
+where nobody reads the output, and 2 for an option that is not known.";
 
 /// The letters that stand behind a hyphen.
 const LETTERS: &[u8] = b"tuxMoemiOna";

@@ -11,13 +11,13 @@ unixreq 01000000020400003412000004000000ffffffffffffffff\n\n\
 The names are unixreq, unix, unixview, inetreq, inet, sockid4, sockid6, message, netlink, and\n\
 dump, which has one field or more.\n\n\
 The status is 0 at the end of input, 1 where reading or writing failed or memory ran out, which\n\
-standard error names, and 2 for arguments that are not known. With --strict it is 3 at the end\n\
-of input where an answer was not ok, or a dump failed.";
+standard error names but where nobody reads the output, and 2 for arguments that are not known.\n\
+With --strict it is 3 at the end of input where an answer was not ok, or a dump failed.";
 
 /// What an argument asks for.
 #[derive(Clone, Copy, Debug, PartialEq, Eq)]
 pub enum Choice {
-    /// A status of its own where a line was bad or refused.
+    /// A status of its own where an answer is not `ok`, or a dump failed.
     Strict,
     /// How the program is called.
     Help,

@@ -1,17 +1,23 @@
-//! Lists the sockets that captures of netlink traffic tell, one a line, as ss(8) does of a running
-//! system.
+//! Lists the sockets that captures of netlink traffic tell, as ss(8) does of a running system.
 #![tactic(auto)]
 
 use sock_diag_captures::{Argument, HELP, Options, VERSION, choose, run_to_status};
 use std::env;
 use std::fs::File;
-use std::io::{self, BufReader, Read};
+use std::io::{self, BufReader, ErrorKind, Read};
 use std::process::ExitCode;
 
 fn main(rt: HostRuntime) -> ExitCode {
-    let Ok(mut words) = env::args(&rt) else {
-        let _ = rt.eprintln("sslist: an argument is no UTF-8");
-        return ExitCode::from(2);
+    let mut words = match env::args(&rt) {
+        Ok(words) => words,
+        Err(error) if error.kind() == ErrorKind::OutOfMemory => {
+            let _ = rt.eprintln("sslist: out of memory");
+            return ExitCode::FAILURE;
+        }
+        Err(_) => {
+            let _ = rt.eprintln("sslist: an argument is no UTF-8");
+            return ExitCode::from(2);
+        }
     };
     let _program = words.next();
     match words.collect::<Vec<String>>(rt.alloc()) {

@@ -119,3 +119,21 @@ returns-clause-failed g c =
     let (header, long, is, read) = c.in_ok-file.ensures.read in
     fails_past_numbers _ _ header long is _ _ _ _ _ _ _ _ _ _ c.packets.invariant read
     c.in_ok-send.ensures.written _ (omega arith)
+
+pub returns-in_err-send-clause-cause : goal.returns-in_err-send-clause-cause
+returns-in_err-send-clause-cause g c =
+    let p = err_from_is_err_and c.from_residual-in_err-send.result
+    c.from_residual-in_err-send.ensures.1 in
+    rw (p.1, p.2) (λ write. c.in_err-send.ensures.stopped.1)
+
+pub returns-in_err-flush_all-clause-cause : goal.returns-in_err-flush_all-clause-cause
+returns-in_err-flush_all-clause-cause g c =
+    let p = err_from_is_err_and c.from_residual-in_err-flush_all.result
+    c.from_residual-in_err-flush_all.ensures.1 in
+    rw (p.1, p.2) (λ write. c.in_err-flush_all.ensures.cause.1)
+
+pub returns-in_err-send-2-clause-cause : goal.returns-in_err-send-2-clause-cause
+returns-in_err-send-2-clause-cause g c =
+    let p = err_from_is_err_and c.from_residual-in_err-send-2.result
+    c.from_residual-in_err-send-2.ensures.1 in
+    rw (p.1, p.2) (λ write. c.in_err-send-2.ensures.stopped.1)
