@@ -9,6 +9,7 @@ code, and what the kit defines is the kit's: the way ends there.
     tests/believed.py             each definition that is reached: module: name, lines, comment; sums; and what is odd
     tests/believed.py --lines     the lines that are reached in each module, most first
     tests/believed.py --private   the clauses and members of private functions and traits are roots too
+    tests/believed.py --beside    the lines that the contracts of each crate beside the port reach in its own specs/
 
 It fails, with status 1, where a name resolves to nothing, a ghost member is in none of the two lists below, something
 stands in the wrong place (what has to be believed, lemmas, and the words of private functions stand in modules apart), or
@@ -22,13 +23,15 @@ from pathlib import Path
 CRATES = ["netlink_core", "attribute_lists", "sock_diag_values", "sock_diag_records", "sock_diag_attributes", "netlink_packet_sock_diag", "line_server",
     "sock_diag_lines"]
 ROOT = Path(__file__).resolve().parent.parent / "crates"
+# The libraries beside the port, by figures of their own.
+BESIDE = ["sock_diag_uses", "sock_diag_captures", "sockdiag_c"]
 # So many lines have to be believed at most.
 MOST = 1100
 # Ghost members that say something: their types and their bodies are read.
 MEANING = set("""codec seen type_written bytes writable held TAKES_MEMORY attribute format Tag Value view inverse is_clone
     is_made_with
     is_infallible from_gives bitor_gives next_gives remaining table set_of family viewed contents answer left reads failed
-    reply told name numbers""".split())
+    reply told name numbers flushed tells""".split())
 # Ghost members that are laws: the type that a trait declares is read, and their bodies are proofs. `eq` and `tests` are
 # among them: what `==` answers is computed there, and said in the words of contracts by `eq_is_seen` and in laws.rt.
 LAWS = set("""laws fills exact eq_is_seen written_is fits_is emitted_is writable_is written_as
@@ -310,13 +313,28 @@ def print_all(specs, counted, sizes):
     print(*(f"{crate}: {lines} lines" for crate, lines in zip(CRATES, of_crates)), f"In all: {sum(of_crates)} lines.", sep="\n")
 
 
-def main():
-    flags, specs = set(sys.argv[1:]), Specs()
+def reached_specs():
+    """The specs of all crates of the list, with what the roots in their sources reach."""
+    specs = Specs()
     paths = [path for crate in CRATES for path in sorted((ROOT / crate / "src").rglob("*.rt")) if "/tests" not in path.as_posix()]
     private = {name for path in paths for name in re.findall(r"^\s*(?:pub\(\w+\) )?trait (\w+)", path.read_text(), re.M)}
     roots = [root for path in paths for root in Source(path, private).roots(specs.faults)]
     for path, names, where, promised in sorted(roots, key=lambda root: not root[3]):
         specs.reach(path, names, where, "promise" if promised else "private")
+    return specs
+
+
+def main():
+    flags = set(sys.argv[1:])
+    if "--beside" in flags:
+        CRATES.extend(BESIDE)
+    specs = reached_specs()
+    if "--beside" in flags:
+        for crate in BESIDE:
+            modules = (module for module in specs.modules.values() if module.name.startswith(crate + "."))
+            print(f"{crate}: {sum(module.lines(lambda item: item.reached == 'promise') for module in modules)} lines")
+        print("\n".join(specs.faults), file=sys.stderr)
+        return int(bool(specs.faults))
     counted = {"promise", "private"} if "--private" in flags else {"promise"}
     sizes = {module.name: module.lines(lambda item: item.reached in counted) for module in specs.modules.values()}
     odd = list(odd_things(specs, counted))
