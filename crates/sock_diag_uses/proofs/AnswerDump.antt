@@ -61,7 +61,7 @@ items_of_all law bytes item last ends [] all are = are
 items_of_all law bytes item last ends (x ∷ xs) all are =
     rw append_assoc (law (bytes x) (flat_map bytes xs ++ last) (bytes x ∷ []) (item x ∷ [])
     (map item xs ++ ends)
-    ([], [], sym (append-nil (bytes x)), all.0.whole, no_fill (bytes x) all.0.even, refl)
+    ((one_item (bytes x) (item x) all.0).3, all.0.even)
     (one_item (bytes x) (item x) all.0) (items_of_all law bytes item last ends xs all.1 are))
 
 -- ---- the messages of an answer
