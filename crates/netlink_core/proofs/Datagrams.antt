@@ -147,18 +147,30 @@ pub messages_in_a_row : (front back : List ℕ) (xs ys : List (List ℕ)) (end :
     → AreWholeMessages front xs → CutIntoMessages back ys end
     → CutIntoMessages (front ++ back) (xs ++ ys) end
 messages_in_a_row front back [] ys end h k =
-    subst (λ (b : List ℕ). CutIntoMessages (b ++ back) ys end) (sym h) k
-messages_in_a_row front back (x ∷ xs) ys end h k = (
-  h.1 ++ back,
-  record {
-    padding = h.0;
-    parts = ap (λ (b : List ℕ). b ++ back) h.2 ∙ append_assoc x (h.0 ++ h.1) back
-        ∙ ap (λ (t : List ℕ). x ++ t) (append_assoc h.0 h.1 back);
-    whole = h.3;
-    filled = inl h.4;
-  },
-  messages_in_a_row h.1 back xs ys end h.5 k,
-)
+    subst (λ (b : List ℕ). CutIntoMessages (b ++ back) ys end) (sym h.0) k
+messages_in_a_row front back (x ∷ xs) ys end h k =
+    let rest : List ℕ = h.0.0 in
+    let s = h.0.1 in
+    let long : length front ≡ length x + (length s.padding + length rest) = ap length s.parts
+    ∙ length-append x (s.padding ++ rest)
+    ∙ ap (λ (n : ℕ). length x + n) (length-append s.padding rest) in
+    elim s.filled [
+      | inl full ↦ (
+        rest ++ back,
+        record {
+          padding = s.padding;
+          parts = ap (λ (b : List ℕ). b ++ back) s.parts
+              ∙ append_assoc x (s.padding ++ rest) back
+              ∙ ap (λ (t : List ℕ). x ++ t) (append_assoc s.padding rest back);
+          whole = s.whole;
+          filled = inl full;
+        },
+        messages_in_a_row rest back xs ys end (h.0.2, omega (arith, long, full, h.1)) k,
+      )
+      | inr short ↦
+          let none : length rest ≡ 0 = ap length short.1 in
+          absurd (omega (arith, long, none, short.0, h.1))
+    ]
 
 -- bytes are cut into one list of messages, and have one end
 pub one_cut_into_messages : (bytes : List ℕ) (xs ys : List (List ℕ)) (e f : Option DecodeError)

@@ -116,9 +116,7 @@ module _ (C : Codec ℕ) where
       (xs ys : List (Result (Payload C.Value) DecodeError)) → AreWholeMessages front messages
       → ItemsAre C front xs → ItemsAre C back ys → ItemsAre C (front ++ back) (xs ++ ys)
   items_in_a_row front back messages xs ys whole a b =
-      let cut : CutIntoMessages front messages None = rw (append-nil front, append-nil messages) at
-      (messages_in_a_row front [] messages [] None whole refl) in
-      let same = one_cut_into_messages front a.0 messages a.1 None a.3 cut in
+      let same = one_cut_into_messages front a.0 messages a.1 None a.3 whole.0 in
       let all : xs ≡ a.2 = a.5
       ∙ ap (λ (e : Option DecodeError). a.2 ++ option_to_list (option_map Err e)) same.1
       ∙ append-nil a.2 in (

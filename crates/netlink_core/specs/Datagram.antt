@@ -1,7 +1,7 @@
 -- Messages one after the other: into which messages a datagram is cut, and at which fault the
 -- cutting stops.
-use Rattle.std.specs.Prelude.{◌≡◌, ◌≢◌, ℕ, ◌<◌, ◌≤◌, ◌⊎◌, List, [], ◌∷◌, ◌++◌, length, Option, Some}
-use Rattle.std.specs.Prelude.{None}
+use Rattle.std.specs.Prelude.{◌≡◌, ◌≢◌, ℕ, ◌%◌, ◌<◌, ◌≤◌, ◌⊎◌, List, [], ◌∷◌, ◌++◌, length, Option}
+use Rattle.std.specs.Prelude.{Some, None}
 use Rattle.byteorder.specs.Endian.{little_number}
 use Rattle.netlink_core.specs.declared.fault.DecodeError.{DecodeError}
 use Rattle.netlink_core.specs.Attribute.{fill}
@@ -27,7 +27,4 @@ CutIntoMessages bytes (message ∷ later) end = (rest : List ℕ) × StartsWithM
 
 -- the bytes are these messages alone, with all padding there
 abbrev pub AreWholeMessages : List ℕ → List (List ℕ) → Type 0
-AreWholeMessages bytes [] = bytes ≡ []
-AreWholeMessages bytes (message ∷ later) = (padding rest : List ℕ)
-    × (bytes ≡ message ++ (padding ++ rest)) × IsMessageString message
-    × (length padding ≡ fill (length message)) × AreWholeMessages rest later
+AreWholeMessages bytes messages = CutIntoMessages bytes messages None × (length bytes % 4 ≡ 0)

@@ -7,7 +7,6 @@ pub mod Codec
 pub mod Faults
 pub mod Canonical
 pub mod Attribute
-pub mod StatedCut
 pub mod Gives
 pub mod Walk
 pub mod Family

@@ -1,14 +1,14 @@
 //! Laws of the framing of attributes and of messages. The functions do nothing: their contracts are
 //! the laws.
 
-ghost use Rattle.std.specs.Prelude.{◌≡◌, ◌↔◌, ◌⊎◌, ◌<◌, ◌++◌, ℕ, List, [], map, Option, Some, None};
-ghost use Rattle.std.specs.Prelude.{Result, Ok, Err, IsTrue, IfOk, IsOk, true, false};
+ghost use Rattle.std.specs.Prelude.{◌≡◌, ◌↔◌, ◌⊎◌, ◌<◌, ◌++◌, ℕ, List, [], ◌∷◌, length, map};
+ghost use Rattle.std.specs.Prelude.{Option, Some, None, Result, Ok, Err, IsTrue, IfOk, IsOk, true};
+ghost use Rattle.std.specs.Prelude.{false};
 ghost use Rattle.std.specs.Borrow.{Bor};
 ghost use Rattle.std.specs.Iterator.{Drains, YieldsThen};
 ghost use Rattle.std.specs.List.{AllByRecursion, flat_map};
 ghost use Rattle.netlink_core.specs.Attribute.{Attribute, FitsWords, Cut, CutInFull, CutOff};
-ghost use Rattle.netlink_core.specs.Attribute.{IsFramingFault, written};
-ghost use Rattle.netlink_core.specs.StatedCut.{StatedCut};
+ghost use Rattle.netlink_core.specs.Attribute.{IsFramingFault, fill, unpadded, written};
 ghost use Rattle.netlink_core.specs.Format.{read, StandsIn};
 ghost use Rattle.netlink_core.specs.Bytes.{IsBytes};
 ghost use Rattle.netlink_core.specs.Walk.{attribute_of, bytes_left, GivesAttribute};
@@ -40,10 +40,16 @@ use crate::{
 };
 use std::alloc::AllocError;
 
-/// A string is cut into attributes exactly as stated: after each, either its padding is whole and
-/// the rest is cut on, or its padding is short and nothing follows.
+/// A string is cut into attributes exactly as stated: into none where it has no bytes; and into one
+/// and others where it begins with that one, and then either its padding is whole and the rest is
+/// cut into the others, or its padding is short and nothing follows.
 pub fn cut_is_as_stated()
-    ensures { (bytes : List ℕ) (xs : List Attribute) → Cut bytes xs ↔ StatedCut bytes xs }
+    ensures none { (bytes : List ℕ) → Cut bytes [] ↔ (bytes ≡ []) }
+    ensures some { (bytes : List ℕ) (a : Attribute) (later : List Attribute)
+        → Cut bytes (a ∷ later) ↔ ((padding rest : List ℕ)
+        × (bytes ≡ unpadded a ++ (padding ++ rest)) × FitsWords a
+        × (((length padding ≡ fill (length a.value)) × Cut rest later)
+        ⊎ ((length padding < fill (length a.value)) × (rest ≡ []) × (later ≡ [])))) }
 {}
 
 /// A string is cut into at most one list of attributes.

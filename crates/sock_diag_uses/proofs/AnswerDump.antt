@@ -10,7 +10,8 @@ use Rattle.netlink_core.specs.Attribute.{fill}
 use Rattle.netlink_core.specs.declared.fault.DecodeError.{DecodeError}
 use Rattle.netlink_core.specs.declared.header.NetlinkHeader.{NetlinkHeader}
 use Rattle.netlink_core.specs.Header.{IsTypedHeader}
-use Rattle.netlink_core.specs.Datagram.{AreWholeMessages, IsMessageString, StartsWithMessage}
+use Rattle.netlink_core.specs.Datagram.{AreWholeMessages, CutIntoMessages, IsMessageString}
+use Rattle.netlink_core.specs.Datagram.{StartsWithMessage}
 use Rattle.netlink_core.specs.Envelope.{Envelope, Payload, done_with, inner, finalized, OfInner}
 use Rattle.netlink_core.specs.Envelope.{payload_bytes, payload_type, envelope_codec}
 use Rattle.netlink_core.specs.Items.{ItemIs, ItemsAre}
@@ -34,18 +35,24 @@ pub record Carries (message : List ℕ) (item : Result (Payload Message) DecodeE
   pub even : length message % 4 ≡ 0
   pub is : ItemIs message_codec message item
 
--- it has its item alone
-pub one_item : (message : List ℕ) (item : Result (Payload Message) DecodeError)
-    → Carries message item → ItemsAre message_codec message (item ∷ [])
-one_item message item c =
+-- it is cut into itself alone
+alone : (message : List ℕ) → IsMessageString message → length message % 4 ≡ 0
+    → CutIntoMessages message (message ∷ []) None
+alone message whole even =
     let starts : StartsWithMessage message message [] =
     record {
       padding = [];
       parts = sym (append-nil message);
-      whole = c.whole;
-      filled = inl (no_fill message c.even);
+      whole = whole;
+      filled = inl (no_fill message even);
     } in
-    (message ∷ [], None, item ∷ [], ([], starts, refl), (c.is, tt), refl)
+    ([], starts, refl)
+
+-- it has its item alone
+pub one_item : (message : List ℕ) (item : Result (Payload Message) DecodeError)
+    → Carries message item → ItemsAre message_codec message (item ∷ [])
+one_item message item c =
+    (message ∷ [], None, item ∷ [], alone message c.whole c.even, (c.is, tt), refl)
 
 -- and those of messages stand in a row
 pub items_of_all : ((front back : List ℕ) (messages : List (List ℕ))
@@ -61,7 +68,7 @@ items_of_all law bytes item last ends [] all are = are
 items_of_all law bytes item last ends (x ∷ xs) all are =
     rw append_assoc (law (bytes x) (flat_map bytes xs ++ last) (bytes x ∷ []) (item x ∷ [])
     (map item xs ++ ends)
-    ([], [], sym (append-nil (bytes x)), all.0.whole, no_fill (bytes x) all.0.even, refl)
+    (alone (bytes x) all.0.whole all.0.even, all.0.even)
     (one_item (bytes x) (item x) all.0) (items_of_all law bytes item last ends xs all.1 are))
 
 -- ---- the messages of an answer
