@@ -1,5 +1,6 @@
 -- Bytes of a text whose lines and columns they must not break.
-use Rattle.std.specs.Prelude.{ℕ, zero, suc, ◌+◌, ◌-◌, ◌*◌, slice_index, ◌==◌, nat_le, if◌then◌else◌, Bool, true, false, ◌&&◌, List, []}
+use Rattle.std.specs.Prelude.{ℕ, zero, suc, ◌+◌, ◌-◌, ◌*◌, ◌==◌, nat_le, if◌then◌else◌, Bool, true}
+use Rattle.std.specs.Prelude.{false, ◌&&◌, List, [], slice_index}
 use Rattle.std.specs.Prelude.{◌∷◌, chars, encode_utf8, flat_map}
 use Rattle.std.specs.List.{list_any}
 use Rattle.std.specs.Str.{is_utf8}
@@ -20,9 +21,9 @@ escaped c = if is_plain c then c ∷ [] else byte_digits c
 -- ---- names under `--utf8`
 
 -- Characters in a row, the first and the last: of Latin, of Greek and Cyrillic, punctuation,
--- currencies, arrows, shapes, and of Chinese, Japanese and Korean. Each is a letter, a digit, a sign
--- or unassigned: none is a control, a separator, a format or combining character, or written from
--- right to left (The Unicode Standard, general category and bidi class).
+-- currencies, arrows, shapes, and of Chinese, Japanese and Korean. Each is a letter, a number or a
+-- sign that is seen: none is a control, a separator, a format or combining character, unassigned, or
+-- written from right to left (Unicode 14, UnicodeData.txt).
 abbrev pub shown_ranges : List (ℕ × ℕ)
 shown_ranges =
     (0xa1, 0xac) ∷ (0xae, 0x2ff) ∷ (0x386, 0x38a) ∷ (0x38c, 0x38c) ∷ (0x38e, 0x3a1) ∷ (0x3a3, 0x482)

@@ -4,7 +4,8 @@ use Rattle.std.specs.List.{AllPass, list_any}
 use Rattle.sock_diag_captures.specs.declared.options.Options.{Options}
 use Rattle.sock_diag_captures.specs.declared.words.Argument.{Argument}
 use Rattle.sock_diag_captures.specs.declared.words.Argument.TheVariants.{Help, Version, Letters}
-use Rattle.sock_diag_captures.specs.declared.words.Argument.TheVariants.{File, Unknown, Utf8, Requests}
+use Rattle.sock_diag_captures.specs.declared.words.Argument.TheVariants.{File, Unknown, Utf8}
+use Rattle.sock_diag_captures.specs.declared.words.Argument.TheVariants.{Requests}
 
 -- the letter stands among these
 abbrev pub has : ℕ → List ℕ → Bool
