@@ -2,6 +2,9 @@ pub mod Adding
 pub mod Apart
 pub mod PieceWalk
 pub mod Asking
+pub mod Filling
+pub mod Showing
+pub mod Telling
 pub mod Listings
 pub mod Progress
 pub mod Failing

@@ -9,7 +9,7 @@ use Rattle.std.proofs.lemmas.Grind.{flat_map-append}
 use Rattle.netlink_core.specs.Datagram.{CutIntoMessages, StartsWithMessage}
 use Rattle.netlink_core.specs.Header.{IsEnvelopeFault}
 use Rattle.netlink_core.specs.declared.fault.DecodeError.{DecodeError}
-use Rattle.sock_diag_captures.specs.Capture.{recorded}
+use Rattle.sock_diag_captures.specs.Capture.{Recorded}
 use Rattle.sock_diag_captures.specs.Listing.{ListsPacket, ListsRecorded}
 use Rattle.sock_diag_captures.specs.declared.options.Options.{Options}
 use Rattle.sock_diag_captures.specs.declared.requests.Asked.{Asked}
@@ -18,13 +18,13 @@ not_both : (b : Bool) → b ≡ false → b ≡ true → ⊥
 not_both b is_false is_true = cc
 
 -- a packet is listed whole where its bytes are, and none was cut off
-pub listed_whole : (o : Options) (asked : List Asked) (packet before after : List ℕ)
-    (whole_length : ℕ) (listed whole : Bool) → (IsTrue whole ↔ (whole_length ≤ length packet))
+pub listed_whole : (o : Options) (asked : List Asked) (packet : Recorded) (before after : List ℕ)
+    (listed whole : Bool) → (IsTrue whole ↔ (packet.header.whole_length ≤ length packet.bytes))
     → ListsPacket o asked packet before after listed
-    → ListsRecorded o asked (recorded packet whole_length) before after (listed && whole)
-listed_whole o asked packet before after n true whole same lists =
+    → ListsRecorded o asked packet before after (listed && whole)
+listed_whole o asked packet before after true whole same lists =
     (true, lists, (λ is. (refl, same.0 is), λ both. same.1 both.1))
-listed_whole o asked packet before after n false whole same lists =
+listed_whole o asked packet before after false whole same lists =
     (false, lists, (λ is. absurd (not_both false refl is), λ both. both.0))
 
 module _ (lines_of : List ℕ → List ℕ) (Plain : List ℕ → Type 0) where

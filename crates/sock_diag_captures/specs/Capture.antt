@@ -1,6 +1,6 @@
 -- Captures: the classic pcap format of netlink traffic.
 use Rattle.std.specs.Prelude.{◌≡◌, ◌≢◌, ℕ, ◌/◌, ◌%◌, ◌^◌, ◌<◌, ◌≤◌, ◌⊎◌, List, [], ◌++◌, length}
-use Rattle.std.specs.Prelude.{drop, Option}
+use Rattle.std.specs.Prelude.{drop, Option, ◌==◌, if◌then◌else◌}
 use Rattle.std.specs.Io.KnownBytes.{IsAtEnd}
 use Rattle.byteorder.specs.Endian.{big_number, little_number}
 use Rattle.sock_diag_captures.specs.declared.capture.ByteOrder.{ByteOrder}
@@ -14,6 +14,10 @@ use Rattle.sock_diag_captures.specs.declared.capture.CaptureError.TheVariants.{O
 use Rattle.sock_diag_captures.specs.declared.capture.CaptureError.TheVariants.{OtherLinkType}
 use Rattle.sock_diag_captures.specs.declared.capture.CaptureError.TheVariants.{PacketTooLong}
 use Rattle.sock_diag_captures.specs.declared.capture.FileHeader.{FileHeader}
+use Rattle.sock_diag_captures.specs.declared.capture.PacketHeader.{PacketHeader}
+use Rattle.sock_diag_captures.specs.declared.capture.TimeUnit.{TimeUnit}
+use Rattle.sock_diag_captures.specs.declared.capture.TimeUnit.TheVariants.{Microseconds}
+use Rattle.sock_diag_captures.specs.declared.capture.TimeUnit.TheVariants.{Nanoseconds}
 
 -- the number of so many bytes at a place, in the order of the file
 abbrev pub number_at : ByteOrder → ℕ → ℕ → List ℕ → ℕ
@@ -24,12 +28,17 @@ number_at HighFirst count place bytes = big_number count (drop place bytes)
 abbrev pub IsMagic : ℕ → Type 0
 IsMagic n = (n ≡ 0xa1b2c3d4) ⊎ (n ≡ 0xa1b23c4d)
 
+-- the unit of times: nanoseconds by the second magic number
+abbrev pub unit_of : ℕ → TimeUnit
+unit_of magic = if magic == 0xa1b23c4d then Nanoseconds else Microseconds
+
 -- The file header, 24 bytes: the magic number at 0, the version at 4 and 6, of which the first
 -- number is 2, and the type of the link in the low 16 bits of the word at 20, 253 for netlink.
 pub record IsFileHeader (bytes : List ℕ) (h : FileHeader) : Type 0 where
   pub magic : IsMagic (number_at h.order 4 0 bytes)
   pub version : number_at h.order 2 4 bytes ≡ 2
   pub link_type : number_at h.order 4 20 bytes % 65536 ≡ 253
+  pub unit : h.unit ≡ unit_of (number_at h.order 4 0 bytes)
 
 -- what a file is that begins with this number, read high byte first: one of pcapng, which begins
 -- with 0x0a0d0d0a, one of gzip, whose first two bytes are 0x1f8b, or another
@@ -58,22 +67,32 @@ IsFileHeaderFault bytes (OtherLinkType link_type) =
     × (link_type ≡ number_at order 4 20 bytes % 65536) × (link_type ≢ 253)
 IsFileHeaderFault bytes _ = ⊥
 
--- a packet as the capture has it: its bytes, and how many it had when it was captured, which are
--- more where it was cut by the snapshot length
+-- What the header of a packet tells, 16 bytes: the seconds at 0, the parts of a second at 4, and at
+-- 12 how many bytes the packet had when it was captured.
+abbrev pub packet_header : FileHeader → List ℕ → PacketHeader
+packet_header file header = record {
+  seconds = number_at file.order 4 0 header;
+  fraction = number_at file.order 4 4 header;
+  unit = file.unit;
+  whole_length = number_at file.order 4 12 header;
+}
+
+-- a packet as the capture has it: its bytes, which are fewer than its header tells where it was cut
+-- by the snapshot length
 pub record Recorded : Type 0 where
   pub bytes : List ℕ
-  pub whole_length : ℕ
+  pub header : PacketHeader
 
--- these bytes, of so many
-abbrev pub recorded : List ℕ → ℕ → Recorded
-recorded bytes whole_length = record { bytes = bytes; whole_length = whole_length }
+-- these bytes behind this header
+abbrev pub recorded : List ℕ → PacketHeader → Recorded
+recorded bytes header = record { bytes = bytes; header = header }
 
--- A packet behind its header of 16 bytes, which has the number of the packet's bytes at 8, and of
--- those when it was captured at 12. A packet has at most 262144 bytes.
+-- A packet behind its header, which has the number of the packet's bytes at 8. A packet has at most
+-- 262144 bytes.
 pub record IsRecord (file : FileHeader) (header : List ℕ) (packet : Recorded) : Type 0 where
   pub whole : length header ≡ 16
   pub length_word : number_at file.order 4 8 header ≡ length packet.bytes
-  pub whole_word : number_at file.order 4 12 header ≡ packet.whole_length
+  pub tells : packet.header ≡ packet_header file header
   pub within : length packet.bytes ≤ 262144
 
 -- ---- where reading stops

@@ -19,7 +19,7 @@ use Rattle.sock_diag_values.specs.declared.inet.mem_info.MemInfo.{MemInfo}
 use Rattle.sock_diag_values.specs.declared.inet.tcp_info.TcpInfo.{TcpInfo}
 use Rattle.sock_diag_attributes.specs.InetAttributes.{inet}
 use Rattle.sock_diag_attributes.specs.UnixAttributes.{unix}
-use Rattle.sock_diag_captures.specs.Escapes.{escaped}
+use Rattle.sock_diag_captures.specs.Escapes.{shown}
 use Rattle.sock_diag_captures.specs.Options.{shows}
 use Rattle.sock_diag_captures.specs.Pieces.{Piece}
 use Rattle.sock_diag_captures.specs.declared.details.Sockets.{Sockets}
@@ -213,22 +213,22 @@ unknown a = pair_detail (codes "unknown") (kind_of a) (length a.value)
 -- memory as older kernels tell it, the connection, the congestion control algorithm, the type of
 -- service, the traffic class, the memory, the directions, the protocol, whether for IPv6 alone, the
 -- mark, the class; or an attribute of another kind.
-abbrev pub inet_text : Attribute → Said inet → List ℕ
-inet_text a (inl m) = legacy_memory m
-inet_text a (inr (inl t)) = connection t
-inet_text a (inr (inr (inl text))) = codes " cong:" ++ flat_map escaped text
-inet_text a (inr (inr (inr (inl n)))) = hex_detail (codes "tos") n
-inet_text a (inr (inr (inr (inr (inl n))))) = hex_detail (codes "tclass") n
-inet_text a (inr (inr (inr (inr (inr (inl m)))))) = memory m
-inet_text a (inr (inr (inr (inr (inr (inr (inl n))))))) = directions n
-inet_text a (inr (inr (inr (inr (inr (inr (inr (inl n)))))))) = detail (codes "protocol") n
-inet_text a (inr (inr (inr (inr (inr (inr (inr (inr (inl flag))))))))) =
+abbrev pub inet_text : Options → Attribute → Said inet → List ℕ
+inet_text o a (inl m) = legacy_memory m
+inet_text o a (inr (inl t)) = connection t
+inet_text o a (inr (inr (inl text))) = codes " cong:" ++ shown o.utf8 text
+inet_text o a (inr (inr (inr (inl n)))) = hex_detail (codes "tos") n
+inet_text o a (inr (inr (inr (inr (inl n))))) = hex_detail (codes "tclass") n
+inet_text o a (inr (inr (inr (inr (inr (inl m)))))) = memory m
+inet_text o a (inr (inr (inr (inr (inr (inr (inl n))))))) = directions n
+inet_text o a (inr (inr (inr (inr (inr (inr (inr (inl n)))))))) = detail (codes "protocol") n
+inet_text o a (inr (inr (inr (inr (inr (inr (inr (inr (inl flag))))))))) =
     detail (codes "v6only") (if flag then 1 else 0)
-inet_text a (inr (inr (inr (inr (inr (inr (inr (inr (inr (inl n)))))))))) =
+inet_text o a (inr (inr (inr (inr (inr (inr (inr (inr (inr (inl n)))))))))) =
     hex_detail (codes "fwmark") n
-inet_text a (inr (inr (inr (inr (inr (inr (inr (inr (inr (inr (inl n))))))))))) =
+inet_text o a (inr (inr (inr (inr (inr (inr (inr (inr (inr (inr (inl n))))))))))) =
     hex_detail (codes "class_id") n
-inet_text a (inr (inr (inr (inr (inr (inr (inr (inr (inr (inr (inr other))))))))))) = unknown a
+inet_text o a (inr (inr (inr (inr (inr (inr (inr (inr (inr (inr (inr other))))))))))) = unknown a
 
 -- What one of a reply about a UNIX socket tells beside its columns: the file, the inodes of
 -- pending connections, the memory, the directions; or an attribute of another kind.
@@ -249,9 +249,9 @@ words_of text a (Ok said) = text a said
 words_of text a (Err e) = unread a e
 
 -- what is told of an attribute
-abbrev pub detail_of : Sockets → Attribute → List ℕ
-detail_of Unix a = words_of unix_text a (says unix a)
-detail_of Inet a = words_of inet_text a (says inet a)
+abbrev pub detail_of : Options → Sockets → Attribute → List ℕ
+detail_of o Unix a = words_of unix_text a (says unix a)
+detail_of o Inet a = words_of (inet_text o) a (says inet a)
 
 -- the detail that attributes of a kind tell of a UNIX socket: 5 is UNIX_DIAG_MEMINFO
 abbrev pub detail_of_unix : ℕ → Detail
@@ -274,7 +274,7 @@ detail_under Inet kind = detail_of_inet kind
 -- what is told of an attribute, where it is asked for
 abbrev pub shown_detail : Options → Sockets → Attribute → List ℕ
 shown_detail o sockets a =
-    if shows o (detail_under sockets (kind_of a)) then detail_of sockets a else []
+    if shows o (detail_under sockets (kind_of a)) then detail_of o sockets a else []
 
 -- what is told of a piece: nothing of one that is no attribute
 abbrev pub piece_detail : Options → Sockets → Piece → List ℕ

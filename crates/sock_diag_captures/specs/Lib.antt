@@ -7,6 +7,7 @@ pub mod Options
 pub mod Table
 pub mod Shown
 pub mod Details
+pub mod RequestLine
 pub mod Listing
 pub mod Streams
 pub mod Run

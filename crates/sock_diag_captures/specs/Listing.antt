@@ -18,7 +18,9 @@ use Rattle.netlink_packet_sock_diag.specs.Message.{unix_response}
 use Rattle.sock_diag_captures.specs.Capture.{Recorded}
 use Rattle.sock_diag_captures.specs.Cooked.{IsOfSockDiag}
 use Rattle.sock_diag_captures.specs.Pieces.{Piece, framing_fault, pieces}
+use Rattle.sock_diag_captures.specs.RequestLine.{shown_request}
 use Rattle.sock_diag_captures.specs.Requests.{noted, protocol_of}
+use Rattle.sock_diag_captures.specs.declared.capture.PacketHeader.{PacketHeader}
 use Rattle.sock_diag_captures.specs.declared.options.Options.{Options}
 use Rattle.sock_diag_captures.specs.declared.requests.Asked.{Asked}
 use Rattle.sock_diag_captures.specs.Details.{timer_in}
@@ -134,11 +136,9 @@ IsPlain m = (bit_and (little_number 2 (drop 6 m)) 16 ≡ 0)
 abbrev pub IsRequest : List ℕ → Type 0
 IsRequest datagram = (h : NetlinkHeader) × HasHeader datagram h × (bit_and h.flags 1 ≢ 0)
 
--- a packet of the protocol of sock_diag(7) that is no request
-pub record IsAnswer (packet : List ℕ) : Type 0 where
-  pub long : 16 ≤ length packet
-  pub sock_diag : IsOfSockDiag packet
-  pub no_request : ¬ IsRequest (drop 16 packet)
+-- a packet of the protocol of sock_diag(7)
+abbrev pub IsSockDiag : List ℕ → Type 0
+IsSockDiag packet = (16 ≤ length packet) × IsOfSockDiag packet
 
 -- The lines of the datagram follow those before: of each message that it is cut into, in order.
 -- Whether at most notes are told of them, and no fault stands behind them.
@@ -150,11 +150,13 @@ pub record Lists (o : Options) (asked : List Asked) (datagram before after : Lis
   pub lines : after ≡ before ++ flat_map (message_lines o asked) messages
   pub clean : IsTrue is_clean ↔ (AllByRecursion IsPlain messages × (end ≡ None))
 
--- the lines of a datagram that is no request, and none of a request
-abbrev pub ListsAnswer : Options → List Asked → List ℕ → List ℕ → List ℕ → Bool → Type 0
-ListsAnswer o asked datagram before after is_clean =
+-- the lines of a datagram that is no request, and of a request its own
+abbrev pub ListsDatagram : Options → List Asked → PacketHeader → List ℕ → List ℕ → List ℕ → Bool
+    → Type 0
+ListsDatagram o asked header datagram before after is_clean =
     ((IsRequest datagram → ⊥) × Lists o asked datagram before after is_clean)
-    ⊎ (IsRequest datagram × (after ≡ before) × (is_clean ≡ true))
+    ⊎ (IsRequest datagram × (after ≡ before ++ shown_request o header datagram)
+    × (is_clean ≡ true))
 
 -- The requests after a packet: those before, and where it is one of sock_diag(7), the one that its
 -- datagram begins with.
@@ -164,17 +166,19 @@ asked_after asked packet =
     else if (big_number 2 (drop 2 packet) == 824) && (big_number 2 (drop 14 packet) == 4)
     then noted asked (drop 16 packet) else asked
 
--- The lines of the packet follow those before: those of its datagram where it is an answer of
+-- The lines of the packet follow those before: those of its datagram where it is one of
 -- sock_diag(7), and none for another. Of one with fewer than 16 bytes something is told, and of no
--- other that is no answer.
-abbrev pub ListsPacket : Options → List Asked → List ℕ → List ℕ → List ℕ → Bool → Type 0
+-- other that is none.
+abbrev pub ListsPacket : Options → List Asked → Recorded → List ℕ → List ℕ → Bool → Type 0
 ListsPacket o asked packet before after is_clean =
-    (IsAnswer packet × Lists o asked (drop 16 packet) before after is_clean)
-    ⊎ ((¬ IsAnswer packet) × (after ≡ before) × (IsTrue is_clean ↔ (16 ≤ length packet)))
+    (IsSockDiag packet.bytes
+    × ListsDatagram o asked packet.header (drop 16 packet.bytes) before after is_clean)
+    ⊎ ((¬ IsSockDiag packet.bytes) × (after ≡ before)
+    × (IsTrue is_clean ↔ (16 ≤ length packet.bytes)))
 
 -- The same of a packet as a capture has it. It counts as listed whole where it also has the bytes
 -- that it had when it was captured.
 abbrev pub ListsRecorded : Options → List Asked → Recorded → List ℕ → List ℕ → Bool → Type 0
 ListsRecorded o asked packet before after is_whole =
-    (is_clean : Bool) × ListsPacket o asked packet.bytes before after is_clean
-    × (IsTrue is_whole ↔ (IsTrue is_clean × (packet.whole_length ≤ length packet.bytes)))
+    (is_clean : Bool) × ListsPacket o asked packet before after is_clean
+    × (IsTrue is_whole ↔ (IsTrue is_clean × (packet.header.whole_length ≤ length packet.bytes)))

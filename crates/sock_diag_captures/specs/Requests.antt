@@ -18,6 +18,8 @@ inet_asked r = record {
   sequence_number = little_number 4 (drop 8 r);
   port_number = little_number 4 (drop 12 r);
   protocol = protocol_told (slice_index r 17) (first_of_kind 3 (pieces 0 (drop 72 r)));
+  family = slice_index r 16;
+  states = little_number 4 (drop 20 r);
 }
 
 -- what a message with both headers asks for, where it is a request for IPv4 or IPv6 sockets: of the

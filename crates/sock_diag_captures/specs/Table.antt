@@ -1,6 +1,6 @@
 -- The lines of the table.
-use Rattle.std.specs.Prelude.{ℕ, ◌-◌, ◌==◌, if◌then◌else◌, ◌&&◌, List}
-use Rattle.std.specs.Prelude.{[], ◌∷◌, ◌++◌, length, replicate, flat_map, codes, decimal, Option}
+use Rattle.std.specs.Prelude.{ℕ, ◌-◌, ◌==◌, nat_lt, if◌then◌else◌, ◌&&◌, Bool, List}
+use Rattle.std.specs.Prelude.{[], ◌∷◌, ◌++◌, length, replicate, codes, decimal, Option}
 use Rattle.std.specs.Prelude.{None, Some, slice_get, slice_index, unwrap_or, option_map, drop, ◌||◌}
 use Rattle.std.specs.declared.net.ip_addr.IpAddr.{IpAddr}
 use Rattle.std.specs.declared.net.ip_addr.IpAddr.TheVariants.{V4, V6}
@@ -10,7 +10,7 @@ use Rattle.sock_diag_records.specs.declared.unix.response.UnixResponseHeader.{Un
 use Rattle.sock_diag_attributes.specs.Name.{SocketName, abstract, pathname}
 use Rattle.sock_diag_attributes.specs.UnixAttributes.{unix}
 use Rattle.sock_diag_captures.specs.Details.{details, no_timer, set_apart}
-use Rattle.sock_diag_captures.specs.Escapes.{byte_digits, escaped}
+use Rattle.sock_diag_captures.specs.Escapes.{byte_digits, bytes_told, shown}
 use Rattle.sock_diag_captures.specs.Options.{lists_protocol, lists_unix}
 use Rattle.sock_diag_captures.specs.Pieces.{Piece, value_told}
 use Rattle.sock_diag_captures.specs.declared.details.Sockets.TheVariants.{Inet, Unix}
@@ -38,16 +38,17 @@ state_names =
 abbrev pub state_name : ℕ → List ℕ
 state_name state = unwrap_or (slice_get state_names state) (codes "UNKNOWN")
 
--- The first byte of a path of so many bytes. As `@` it would look like an abstract name, and as `*`
--- alone like none, so these are told by their digits.
-abbrev pub path_front : ℕ → ℕ → List ℕ
-path_front c count = if (c == 64) || ((c == 42) && (count == 1)) then byte_digits c else escaped c
+-- A path begins with `@`, 64, as an abstract name is shown, or is `*`, 42, as none is. So its first
+-- byte is told by its digits.
+abbrev pub is_mistaken : List ℕ → Bool
+is_mistaken path = (nat_lt 0 (length path) && (slice_index path 0 == 64))
+    || ((length path == 1) && (slice_index path 0 == 42))
 
 -- a path
-abbrev pub path_text : List ℕ → List ℕ
-path_text path =
-    if length path == 0 then []
-    else path_front (slice_index path 0) (length path) ++ flat_map escaped (drop 1 path)
+abbrev pub path_text : Bool → List ℕ → List ℕ
+path_text utf8 path =
+    if is_mistaken path then byte_digits (slice_index path 0) ++ shown utf8 (drop 1 path)
+    else shown utf8 path
 
 -- ---- UNIX sockets
 
@@ -56,10 +57,17 @@ abbrev pub unix_kind : ℕ → List ℕ
 unix_kind kind = if kind == 1 then codes "u_str" else (if kind == 2 then codes "u_dgr" else (if kind == 5 then codes "u_seq" else codes "unix"))
 
 -- the path, or `@` and an abstract name, or `*` where none is told
-abbrev pub name_cell : Option SocketName → List ℕ
-name_cell None = codes "*"
-name_cell (Some (pathname path)) = path_text path
-name_cell (Some (abstract address)) = 64 ∷ flat_map escaped address
+abbrev pub name_cell : Bool → Option SocketName → List ℕ
+name_cell utf8 None = codes "*"
+name_cell utf8 (Some (pathname path)) = path_text utf8 path
+name_cell utf8 (Some (abstract address)) = 64 ∷ shown utf8 address
+
+-- the name that such a cell tells, which a space, 32, ends
+abbrev pub name_told : List ℕ → Option SocketName
+name_told cell =
+    if (slice_index cell 0 == 42) && (slice_index cell 1 == 32) then None
+    else if slice_index cell 0 == 64 then Some (abstract (bytes_told 0 (drop 1 cell)))
+    else Some (pathname (bytes_told 0 cell))
 
 -- the inode of the peer, or `*` where none is told
 abbrev pub peer_cell : Option ℕ → List ℕ
@@ -117,8 +125,8 @@ abbrev pub line : FirstColumns → List ℕ → List ℕ → List ℕ
 line c local peer = first_columns c ++ column 30 local ++ peer
 
 -- the columns of a UNIX socket, whose name, peer and queues attributes tell
-abbrev pub unix_line : UnixResponseHeader → List Piece → List ℕ
-unix_line h given =
+abbrev pub unix_line : Options → UnixResponseHeader → List Piece → List ℕ
+unix_line o h given =
     let queues = value_told unix 4 given in
     line (record {
       kind = unix_kind h.kind;
@@ -127,7 +135,7 @@ unix_line h given =
       send_queue = option_map (λ ns. ns.1) queues;
       inode = h.inode;
       uid = None;
-    }) (name_cell (value_told unix 0 given)) (peer_cell (value_told unix 2 given))
+    }) (name_cell o.utf8 (value_told unix 0 given)) (peer_cell (value_told unix 2 given))
 
 -- the columns of an IPv4 or IPv6 socket of this protocol
 abbrev pub inet_line : Option ℕ → InetResponseHeader → List ℕ
@@ -146,7 +154,7 @@ inet_line protocol h =
 abbrev pub unix_lines : Options → UnixResponseHeader → List Piece → List ℕ
 unix_lines o h given =
     if lists_unix o
-    then unix_line h given ++ set_apart o (details o Unix no_timer h.cookie given) ++ 10 ∷ []
+    then unix_line o h given ++ set_apart o (details o Unix no_timer h.cookie given) ++ 10 ∷ []
     else []
 
 -- the lines of an IPv4 or IPv6 socket of this protocol, with this timer, likewise

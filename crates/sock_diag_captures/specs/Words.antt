@@ -4,7 +4,8 @@ use Rattle.std.specs.List.{AllPass, list_any}
 use Rattle.sock_diag_captures.specs.declared.options.Options.{Options}
 use Rattle.sock_diag_captures.specs.declared.words.Argument.{Argument}
 use Rattle.sock_diag_captures.specs.declared.words.Argument.TheVariants.{Help, Version, Letters}
-use Rattle.sock_diag_captures.specs.declared.words.Argument.TheVariants.{File, Unknown}
+use Rattle.sock_diag_captures.specs.declared.words.Argument.TheVariants.{File, Unknown, Utf8}
+use Rattle.sock_diag_captures.specs.declared.words.Argument.TheVariants.{Requests}
 
 -- the letter stands among these
 abbrev pub has : ℕ → List ℕ → Bool
@@ -18,8 +19,8 @@ is_letter letter = has letter (codes "tuxMoemiOna")
 abbrev pub AreLetters : List ℕ → Type 0
 AreLetters letters = (0 < length letters) × AllPass is_letter letters
 
--- what an argument is that asks neither for help nor for the version: letters behind a hyphen, 45,
--- or what begins with no hyphen, or an option that is not known
+-- what an argument is that is none of the words below: letters behind a hyphen, 45, or what begins
+-- with no hyphen, or an option that is not known
 abbrev pub IsOther : List ℕ → Argument → Type 0
 IsOther word (Letters letters) = (word ≡ 45 ∷ letters.now) × AreLetters letters.now
 IsOther word File = (rest : List ℕ) → word ≢ 45 ∷ rest
@@ -30,7 +31,11 @@ IsOther word _ = ⊥
 abbrev pub IsArgument : List ℕ → Argument → Type 0
 IsArgument word Help = word ≡ codes "--help"
 IsArgument word Version = word ≡ codes "--version"
-IsArgument word other = (word ≢ codes "--help") × (word ≢ codes "--version") × IsOther word other
+IsArgument word Utf8 = word ≡ codes "--utf8"
+IsArgument word Requests = word ≡ codes "--requests"
+IsArgument word other =
+    (word ≢ codes "--help") × (word ≢ codes "--version") × (word ≢ codes "--utf8")
+    × (word ≢ codes "--requests") × IsOther word other
 
 -- the details that letters ask for, and one line, beside those asked for before
 abbrev pub with_details : List ℕ → Options → Options

@@ -7,7 +7,7 @@ ghost use Rattle.std.specs.Io.KnownBytes.{Consumes, IsAtEnd, Keeps};
 ghost use Rattle.sock_diag_captures.specs.Capture.{IsFileHeader, IsFileHeaderFault, IsHeaderStop};
 ghost use Rattle.sock_diag_captures.specs.Capture.{IsMagic, IsOtherFile};
 ghost use Rattle.sock_diag_captures.specs.Capture.{IsPacketStop, IsRecord, IsStop, number_at};
-ghost use Rattle.sock_diag_captures.specs.Capture.{recorded};
+ghost use Rattle.sock_diag_captures.specs.Capture.{packet_header, recorded, unit_of};
 ghost use Rattle.sock_diag_captures.specs.declared.capture.CaptureError.TheVariants.{Memory};
 
 use crate::streams::Source;
@@ -169,12 +169,46 @@ fn no_capture(magic: u32) -> CaptureError
     }
 }
 
+/// What a capture tells parts of a second in.
+#[derive(Clone, Copy, Debug, PartialEq, Eq)]
+pub enum TimeUnit {
+    /// A second has 1,000,000 of them.
+    Microseconds,
+    /// A second has 1,000,000,000 of them.
+    Nanoseconds,
+}
+
+/// The unit in a capture that begins with this number.
+fn unit_of(magic: u32) -> TimeUnit
+    ensures { result ≡ unit_of magic }
+{
+    match magic {
+        NANOSECONDS => TimeUnit::Nanoseconds,
+        _ => TimeUnit::Microseconds,
+    }
+}
+
+/// What the header of a packet tells of it beside the number of its bytes.
+#[derive(Clone, Copy, Debug, PartialEq, Eq)]
+pub struct PacketHeader {
+    /// When the packet was captured, in seconds since 1970 (UTC).
+    pub seconds: u32,
+    /// How many parts of a second later.
+    pub fraction: u32,
+    /// What the parts are.
+    pub unit: TimeUnit,
+    /// How many bytes the packet had when it was captured.
+    pub whole_length: u32,
+}
+
 /// What the header of a capture says of its packets. The most bytes that it says they have are not
 /// kept: tcpdump(1) too reads a longer packet.
 #[derive(Clone, Copy, Debug, PartialEq, Eq)]
 pub struct FileHeader {
     /// The order of the bytes of numbers in headers.
     order: ByteOrder,
+    /// What the parts of a second are.
+    unit: TimeUnit,
 }
 
 impl FileHeader {
@@ -196,7 +230,8 @@ impl FileHeader {
         if link_type != LINK_TYPE {
             return Err(CaptureError::OtherLinkType(link_type));
         }
-        Ok(FileHeader { order })
+        let unit = unit_of(order.word_at(bytes, 0));
+        Ok(FileHeader { order, unit })
     }
 
     /// Reads the header of a capture. No input at all is `Empty`.
@@ -215,18 +250,18 @@ impl FileHeader {
         FileHeader::parse(&bytes)
     }
 
-    /// Reads the next packet in place of what `packet` held, and answers how many bytes it had when
-    /// it was captured, or `None` where there is no packet more. It takes memory for the packet
+    /// Reads the next packet in place of what `packet` held, and answers what its header tells, or
+    /// `None` where there is no packet more. It takes memory for the packet
     /// alone, and none for one of more than 262144 bytes.
     pub fn read_packet<R: Source>(
         &self,
         input: &mut R,
         packet: &mut Vec<u8>,
-    ) -> Result<Option<u32>, CaptureError>
+    ) -> Result<Option<PacketHeader>, CaptureError>
         ensures read { IfOk result (λ told. MatchOption told
             (IsAtEnd (R.left input.new) × Keeps (R.left input.old) (R.left input.new))
-            (λ whole_length. (header : List ℕ)
-            × IsRecord self.now header (recorded packet.new.items whole_length)
+            (λ told_header. (header : List ℕ)
+            × IsRecord self.now header (recorded packet.new.items told_header)
             × Consumes (R.left input.old) (R.left input.new) (header ++ packet.new.items))) }
         ensures stopped { IfErr result (λ e. (part : List ℕ)
             × Consumes (R.left input.old) (R.left input.new) part
@@ -241,8 +276,21 @@ impl FileHeader {
             return Err(CaptureError::PacketTooLong(length));
         }
         match read_bytes(input, packet, length as usize) {
-            Ok(()) => Ok(Some(self.order.word_at(&header, 12))),
+            Ok(()) => Ok(Some(self.packet_header(&header))),
             Err(fault) => Err(fault),
+        }
+    }
+
+    /// What the header of a packet tells.
+    fn packet_header(&self, bytes: &[u8]) -> PacketHeader
+        requires { 16 ≤ length bytes.now }
+        ensures { result ≡ packet_header self.now bytes.now }
+    {
+        PacketHeader {
+            seconds: self.order.word_at(bytes, 0),
+            fraction: self.order.word_at(bytes, 4),
+            unit: self.unit,
+            whole_length: self.order.word_at(bytes, 12),
         }
     }
 }

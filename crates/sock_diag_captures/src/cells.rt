@@ -1,13 +1,16 @@
 //! The cells of a line. None takes memory but the text itself.
 
-ghost use Rattle.std.specs.Prelude.{◌≡◌, ◌++◌, ◌∷◌, [], ◌+◌, ◌-◌, ◌≤◌, decimal, replicate};
-ghost use Rattle.std.specs.Prelude.{false, flat_map, vec_len, OnOk, option_map};
+ghost use Rattle.std.specs.Prelude.{◌≡◌, ◌++◌, ◌∷◌, [], ◌+◌, ◌-◌, ◌≤◌, ℕ, List, Some, decimal};
+ghost use Rattle.std.specs.Prelude.{false, replicate, vec_len, OnOk, option_map};
 ghost use Rattle.std.specs.Fmt.{digits};
+ghost use Rattle.sock_diag_attributes.specs.Name.{abstract, pathname};
 ghost use Rattle.sock_diag_attributes.specs.SeenName.{viewed_name};
-ghost use Rattle.sock_diag_captures.specs.Escapes.{byte_digits, escaped};
-ghost use Rattle.sock_diag_captures.specs.Table.{column, endpoint, host, name_cell, path_text};
-ghost use Rattle.sock_diag_captures.specs.Table.{number_cell, peer_cell, port_text, state_name};
+ghost use Rattle.sock_diag_captures.specs.Escapes.{byte_digits, bytes_told, escaped};
+ghost use Rattle.sock_diag_captures.specs.Table.{column, endpoint, host, is_mistaken, name_cell};
+ghost use Rattle.sock_diag_captures.specs.Table.{name_told, number_cell, peer_cell, port_text};
+ghost use Rattle.sock_diag_captures.specs.Table.{state_name};
 
+use crate::names::push_shown;
 use netlink_packet_sock_diag::unix::nlas::NameView;
 use std::alloc::AllocError;
 use std::io::Write;
@@ -99,52 +102,60 @@ pub(crate) fn push_number_column(
 pub(crate) fn push_name_column(
     text: &mut Vec<u8>,
     width: usize,
+    utf8: bool,
     name: Option<NameView<'_>>,
 ) -> Result<(), AllocError>
     ensures { OnOk result (text.new.items ≡ text.old.items
-        ++ column width (name_cell (option_map viewed_name name.entry))) }
+        ++ column width (name_cell utf8 (option_map viewed_name name.entry))) }
 {
     let start = text.len();
     match name {
-        Some(NameView::Pathname(path)) => push_path(text, path)?,
-        Some(NameView::Abstract(address)) => {
-            text.push(b'@')?;
-            push_escaped(text, address)?;
-        }
+        Some(NameView::Pathname(path)) => push_path(text, utf8, path)?,
+        Some(NameView::Abstract(address)) => push_abstract(text, utf8, address)?,
         None => text.push(b'*')?,
     }
     end_column(text, start, width)
 }
 
-/// Adds a path. One that begins with `@`, as an abstract name is shown, or that is `*`, as none is,
-/// has its first byte as `\x` and two digits.
-fn push_path(text: &mut Vec<u8>, path: &[u8]) -> Result<(), AllocError>
-    ensures { OnOk result (text.new.items ≡ text.old.items ++ path_text path.now) }
+/// Adds an abstract name behind `@`.
+fn push_abstract(text: &mut Vec<u8>, utf8: bool, address: &[u8]) -> Result<(), AllocError>
+    ensures cell { OnOk result (text.new.items
+        ≡ text.old.items ++ name_cell utf8 (Some (abstract address.now))) }
+    // The cell tells the name, where a space follows.
+    ensures told { (behind : List ℕ) → bytes_told 0 behind ≡ []
+        → name_told (name_cell utf8 (Some (abstract address.now)) ++ behind)
+        ≡ Some (abstract address.now) }
 {
-    if path.is_empty() {
-        return Ok(());
-    }
-    let first = path[0];
-    if first == b'@' || (first == b'*' && path.len() == 1) {
-        push_digits(text, first)?;
-    } else {
-        push_escaped_byte(text, first)?;
-    }
-    push_escaped(text, &path[1..])
+    text.push(b'@')?;
+    push_shown(text, utf8, address)
 }
 
-/// Adds bytes, those that are not plain as `\x` and two digits.
-pub(crate) fn push_escaped(text: &mut Vec<u8>, bytes: &[u8]) -> Result<(), AllocError>
-    ensures { OnOk result (text.new.items ≡ text.old.items ++ flat_map escaped bytes.now) }
+/// Adds a path. One that begins with `@`, as an abstract name is shown, or that is `*`, as none is,
+/// has its first byte as `\x` and two digits.
+fn push_path(text: &mut Vec<u8>, utf8: bool, path: &[u8]) -> Result<(), AllocError>
+    ensures cell { OnOk result (text.new.items
+        ≡ text.old.items ++ name_cell utf8 (Some (pathname path.now))) }
+    // The cell tells the name, where a space follows.
+    ensures told { (behind : List ℕ) → bytes_told 0 behind ≡ []
+        → name_told (name_cell utf8 (Some (pathname path.now)) ++ behind)
+        ≡ Some (pathname path.now) }
 {
-    for byte in bytes {
-        push_escaped_byte(text, *byte)?;
+    if !is_mistaken(path) {
+        return push_shown(text, utf8, path);
     }
-    Ok(())
+    push_digits(text, path[0])?;
+    push_shown(text, utf8, &path[1..])
+}
+
+/// Whether a path begins with `@` or is `*`.
+fn is_mistaken(path: &[u8]) -> bool
+    ensures { result ≡ is_mistaken path.now }
+{
+    (!path.is_empty() && path[0] == b'@') || (path.len() == 1 && path[0] == b'*')
 }
 
 /// Adds a byte from `!` to `~` but the backslash as it is, and any other as `\x` and two digits.
-fn push_escaped_byte(text: &mut Vec<u8>, byte: u8) -> Result<(), AllocError>
+pub(crate) fn push_escaped_byte(text: &mut Vec<u8>, byte: u8) -> Result<(), AllocError>
     ensures { OnOk result (text.new.items ≡ text.old.items ++ escaped byte) }
 {
     if (b'!'..=b'~').contains(&byte) && byte != b'\\' {

@@ -25,10 +25,11 @@ ghost use Rattle.sock_diag_captures.specs.Details.{shown_timer, sizes};
 ghost use Rattle.sock_diag_captures.specs.Details.{some_detail, timer_in, timer_name, timer_text};
 ghost use Rattle.sock_diag_captures.specs.Details.{times, traffic, unix_text, unknown, unread};
 ghost use Rattle.sock_diag_captures.specs.Details.{words_of};
-ghost use Rattle.sock_diag_captures.specs.Escapes.{escaped};
+ghost use Rattle.sock_diag_captures.specs.Escapes.{shown};
 ghost use Rattle.sock_diag_captures.specs.Pieces.{pieces};
 
-use crate::cells::{push_escaped, push_hex, push_number};
+use crate::cells::{push_hex, push_number};
+use crate::names::push_shown;
 use crate::options::{Detail, Options};
 use crate::pieces::next_piece;
 use byteorder::{ByteOrder, LittleEndian};
@@ -225,7 +226,7 @@ fn push_shown_attribute(
     if !options.shows(detail_of_kind(sockets, nla.kind())) {
         return Ok(());
     }
-    push_attribute(text, sockets, nla)
+    push_attribute(text, options, sockets, nla)
 }
 
 /// The detail that attributes of a kind tell.
@@ -266,15 +267,16 @@ fn detail_of_inet_kind(kind: u16) -> Detail
 /// Adds what an attribute tells.
 fn push_attribute(
     text: &mut Vec<u8>,
+    options: Options,
     sockets: Sockets,
     nla: &NlaBuffer<'_>,
 ) -> Result<(), AllocError>
     ensures { OnOk result (text.new.items ≡ text.old.items
-        ++ detail_of sockets (attribute_of nla.now)) }
+        ++ detail_of options sockets (attribute_of nla.now)) }
 {
     match sockets {
         Sockets::Unix => push_unix_attribute(text, nla),
-        Sockets::Inet => push_inet_attribute(text, nla),
+        Sockets::Inet => push_inet_attribute(text, options, nla),
     }
 }
 
@@ -290,12 +292,16 @@ fn push_unix_attribute(text: &mut Vec<u8>, nla: &NlaBuffer<'_>) -> Result<(), Al
 }
 
 /// Adds what an attribute of an IPv4 or IPv6 socket tells, or that it is refused.
-fn push_inet_attribute(text: &mut Vec<u8>, nla: &NlaBuffer<'_>) -> Result<(), AllocError>
+fn push_inet_attribute(
+    text: &mut Vec<u8>,
+    options: Options,
+    nla: &NlaBuffer<'_>,
+) -> Result<(), AllocError>
     ensures { OnOk result (text.new.items ≡ text.old.items
-        ++ words_of inet_text (attribute_of nla.now) (says inet (attribute_of nla.now))) }
+        ++ words_of (inet_text options) (attribute_of nla.now) (says inet (attribute_of nla.now))) }
 {
     match InetView::parse(nla) {
-        Ok(view) => push_inet_value(text, nla, &view),
+        Ok(view) => push_inet_value(text, options, nla, &view),
         Err(fault) => push_unread(text, nla, &fault),
     }
 }
@@ -356,16 +362,17 @@ fn push_unix_value(
 /// Adds what the value of an attribute tells of an IPv4 or IPv6 socket.
 fn push_inet_value(
     text: &mut Vec<u8>,
+    options: Options,
     nla: &NlaBuffer<'_>,
     view: &InetView<'_>,
 ) -> Result<(), AllocError>
     ensures { OnOk result (text.new.items ≡ text.old.items
-        ++ inet_text (attribute_of nla.now) (viewed_inet view.now)) }
+        ++ inet_text options (attribute_of nla.now) (viewed_inet view.now)) }
 {
     match view {
         InetView::LegacyMemInfo(memory) => push_legacy_memory(text, memory),
         InetView::TcpInfo(info) => push_connection(text, info),
-        InetView::Congestion(name) => push_congestion(text, name),
+        InetView::Congestion(name) => push_congestion(text, options, name),
         InetView::Tos(tos) => push_hex_detail(text, b"tos", (*tos).into()),
         InetView::Tc(class) => push_hex_detail(text, b"tclass", (*class).into()),
         InetView::MemInfo(memory) => push_memory(text, memory),
@@ -379,12 +386,12 @@ fn push_inet_value(
 }
 
 /// Adds the name of a congestion control algorithm.
-fn push_congestion(text: &mut Vec<u8>, name: &str) -> Result<(), AllocError>
+fn push_congestion(text: &mut Vec<u8>, options: Options, name: &str) -> Result<(), AllocError>
     ensures { OnOk result (text.new.items ≡ text.old.items
-        ++ codes " cong:" ++ flat_map escaped name.now) }
+        ++ codes " cong:" ++ shown options.utf8 name.now) }
 {
     text.extend_from_slice(b" cong:")?;
-    push_escaped(text, name.as_bytes())
+    push_shown(text, options.utf8, name.as_bytes())
 }
 
 /// Adds the inodes of pending connections.
@@ -669,7 +676,11 @@ fn push_pair(text: &mut Vec<u8>, word: &[u8], first: u64, second: u64) -> Result
 }
 
 /// Adds a space, a word, a colon, `0x` and a number in hexadecimal digits.
-fn push_hex_detail(text: &mut Vec<u8>, word: &[u8], number: u64) -> Result<(), AllocError>
+pub(crate) fn push_hex_detail(
+    text: &mut Vec<u8>,
+    word: &[u8],
+    number: u64,
+) -> Result<(), AllocError>
     ensures { OnOk result (text.new.items ≡ text.old.items ++ hex_detail word.now number) }
 {
     text.push(b' ')?;

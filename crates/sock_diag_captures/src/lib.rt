@@ -13,14 +13,16 @@ mod cells;
 mod details;
 mod line;
 mod list;
+mod names;
 mod options;
 mod pieces;
+mod request_line;
 mod requests;
 mod stream;
 mod streams;
 mod words;
 
-pub use capture::{ByteOrder, CaptureError, FileHeader, Packet};
+pub use capture::{ByteOrder, CaptureError, FileHeader, Packet, PacketHeader, TimeUnit};
 pub use line::HEADING;
 pub use list::{Complaint, Written, list_packet};
 pub use options::Options;

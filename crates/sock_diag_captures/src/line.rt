@@ -136,7 +136,7 @@ fn push_unix_lines(
     if !options.lists_unix() {
         return Ok(());
     }
-    push_unix_line(text, header, attributes)?;
+    push_unix_line(text, options, header, attributes)?;
     let cookie = &header.cookie;
     push_details(text, options, Sockets::Unix, &NO_TIMER, cookie, attributes)?;
     Ok(text.push(b'\n')?)
@@ -145,14 +145,15 @@ fn push_unix_lines(
 /// Adds the columns of a UNIX socket.
 fn push_unix_line(
     text: &mut Vec<u8>,
+    options: Options,
     header: &UnixResponseHeader,
     attributes: &[u8],
 ) -> Result<(), AllocError>
     ensures { OnOk result (text.new.items ≡ text.old.items
-        ++ unix_line header.now (pieces 0 attributes.now)) }
+        ++ unix_line options header.now (pieces 0 attributes.now)) }
 {
     push_first_columns(text, &unix_cells(header, queues_in(attributes)))?;
-    push_name_column(text, LOCAL, name_in(attributes))?;
+    push_name_column(text, LOCAL, options.utf8, name_in(attributes))?;
     push_peer(text, peer_in(attributes))
 }
 
@@ -325,7 +326,7 @@ fn inet_cells(protocol: Option<u32>, header: &InetResponseHeader) -> Cells
 }
 
 /// The protocol that was asked for, as ss(8) prints it, or the family.
-fn name_of_protocol(protocol: Option<u32>, family: u8) -> &'static [u8]
+pub(crate) fn name_of_protocol(protocol: Option<u32>, family: u8) -> &'static [u8]
     ensures { result.now ≡ inet_kind protocol family }
 {
     match protocol {

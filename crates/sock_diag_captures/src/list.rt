@@ -5,7 +5,7 @@ ghost use Rattle.std.specs.Prelude.{◌≡◌, ◌↔◌, ◌≤◌, ◌++◌, I
 ghost use Rattle.std.specs.Prelude.{length, option_map};
 ghost use Rattle.byteorder.specs.Endian.{little_number};
 ghost use Rattle.sock_diag_captures.specs.Capture.{recorded};
-ghost use Rattle.sock_diag_captures.specs.Listing.{IsPlain, IsRequest, Lists, ListsAnswer};
+ghost use Rattle.sock_diag_captures.specs.Listing.{IsPlain, IsRequest, Lists, ListsDatagram};
 ghost use Rattle.sock_diag_captures.specs.Listing.{ListsPacket, ListsRecorded};
 ghost use Rattle.sock_diag_captures.specs.Requests.{noted};
 ghost use Rattle.sock_diag_captures.specs.Listing.{asked_after, complaint_under};
@@ -15,9 +15,10 @@ ghost use Rattle.sock_diag_captures.specs.Listing.{lines_under, message_complain
 ghost use Rattle.sock_diag_captures.specs.Listing.{message_lines};
 ghost use Rattle.sock_diag_captures.specs.declared.list.Complaint.TheVariants.{Refused};
 
-use crate::capture::Packet;
+use crate::capture::{Packet, PacketHeader};
 use crate::line::push_reply;
 use crate::options::Options;
+use crate::request_line::push_shown_request;
 use crate::requests::Requests;
 use byteorder::{ByteOrder, LittleEndian};
 use netlink_core::{
@@ -86,22 +87,23 @@ pub struct Written<'a> {
 /// that it had when it was captured, and none of its messages was refused, tells an error but
 /// ENOENT and EINVAL, or says that data was lost or that the dump changed.
 ///
-/// A request is kept, so that the protocol of a reply that answers it is known.
+/// A request is kept, so that the protocol of a reply that answers it is known. It has a line of
+/// its own where that is asked for.
 pub fn list_packet(
     written: &mut Written<'_>,
     requests: &mut Requests,
     options: Options,
     number: u64,
     packet: &[u8],
-    whole_length: u32,
+    header: &PacketHeader,
 ) -> Result<bool, AllocError>
     ensures lists { IfOk result (ListsRecorded options requests.new.asked.items
-        (recorded packet.now whole_length) written.old.lines.items written.new.lines.items) }
+        (recorded packet.now header.now) written.old.lines.items written.new.lines.items) }
     ensures asked { OnOk result (requests.new.asked.items
         ≡ asked_after requests.old.asked.items packet.now) }
 {
-    let is_whole = tell_cut(written, number, packet, whole_length)?;
-    let is_listed = list_content(written, requests, options, number, packet)?;
+    let is_whole = tell_cut(written, number, packet, header.whole_length)?;
+    let is_listed = list_content(written, requests, options, number, packet, header)?;
     Ok(is_listed & is_whole)
 }
 
@@ -131,14 +133,17 @@ fn list_content(
     options: Options,
     number: u64,
     packet: &[u8],
+    header: &PacketHeader,
 ) -> Result<bool, AllocError>
-    ensures lists { IfOk result (ListsPacket options requests.new.asked.items packet.now
-        written.old.lines.items written.new.lines.items) }
+    ensures lists { IfOk result (ListsPacket options requests.new.asked.items
+        (recorded packet.now header.now) written.old.lines.items written.new.lines.items) }
     ensures asked { OnOk result (requests.new.asked.items
         ≡ asked_after requests.old.asked.items packet.now) }
 {
     match Packet::parse(packet) {
-        Packet::SockDiag(datagram) => list_sock_diag(written, requests, options, number, datagram),
+        Packet::SockDiag(datagram) => {
+            list_sock_diag(written, requests, options, number, datagram, header)
+        }
         Packet::Other => Ok(true),
         Packet::Short => {
             push_short(written, number)?;
@@ -154,14 +159,16 @@ fn list_sock_diag(
     options: Options,
     number: u64,
     datagram: &[u8],
+    header: &PacketHeader,
 ) -> Result<bool, AllocError>
-    ensures lists { IfOk result (ListsAnswer options requests.new.asked.items datagram.now
-        written.old.lines.items written.new.lines.items) }
+    ensures lists { IfOk result (ListsDatagram options requests.new.asked.items header.now
+        datagram.now written.old.lines.items written.new.lines.items) }
     ensures asked { OnOk result (requests.new.asked.items
         ≡ noted requests.old.asked.items datagram.now) }
 {
     requests.note(datagram)?;
     if is_request(datagram) {
+        push_shown_request(&mut written.lines, options, header, datagram)?;
         return Ok(true);
     }
     list_datagram(written, requests, options, number, datagram)

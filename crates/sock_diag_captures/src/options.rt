@@ -13,9 +13,9 @@ const UDP: u32 = 17;
 /// IPPROTO_MPTCP.
 const MPTCP: u32 = 262;
 
-/// What is asked for, by the options of ss(8). Where none of `timer`, `extended`, `memory` and
-/// `connection` is set, each detail is told, and where none of `tcp`, `udp`, `mptcp` and `unix` is,
-/// each socket is listed.
+/// What is asked for, by the options of ss(8) and by two more. Where none of `timer`, `extended`,
+/// `memory` and `connection` is set, each detail is told, and where none of `tcp`, `udp`, `mptcp`
+/// and `unix` is, each socket is listed.
 #[derive(Clone, Copy, Debug, Default, PartialEq, Eq)]
 pub struct Options {
     /// `-o`: the timer is told.
@@ -36,6 +36,10 @@ pub struct Options {
     pub mptcp: bool,
     /// `-x`: UNIX sockets are listed.
     pub unix: bool,
+    /// `--utf8`: of names that are UTF-8 characters are shown.
+    pub utf8: bool,
+    /// `--requests`: each request has a line with its time.
+    pub requests: bool,
 }
 
 /// What options ask for beside the columns.

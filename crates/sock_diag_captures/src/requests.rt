@@ -28,7 +28,11 @@ pub struct Asked {
     /// The port of the sender, `nlmsg_pid`, which most programs leave 0.
     port_number: u32,
     /// The protocol, one of `IPPROTO_..`.
-    protocol: u32,
+    pub(crate) protocol: u32,
+    /// The family, AF_INET or AF_INET6.
+    pub(crate) family: u8,
+    /// A bit for each state that is asked for, `idiag_states`.
+    pub(crate) states: u32,
 }
 
 /// The newest requests for IPv4 and IPv6 sockets, 16 at most.
@@ -83,7 +87,7 @@ fn find_in(asked: &[Asked], sequence_number: u32, port_number: u32) -> Option<u3
 }
 
 /// The request for IPv4 or IPv6 sockets that a datagram begins with, where it does.
-fn find_request(datagram: &[u8]) -> Option<Asked>
+pub(crate) fn find_request(datagram: &[u8]) -> Option<Asked>
     ensures { result ≡ asked_in datagram.now }
 {
     if datagram.len() < REQUEST {
@@ -121,6 +125,8 @@ fn read_asked(request: &[u8]) -> Asked
         sequence_number: LittleEndian::read_u32(&request[8..]),
         port_number: LittleEndian::read_u32(&request[12..]),
         protocol: choose_protocol(request[17], find_kind(&request[REQUEST..], PROTOCOL)),
+        family: request[16],
+        states: LittleEndian::read_u32(&request[20..]),
     }
 }
 

@@ -9,7 +9,7 @@ ghost use Rattle.sock_diag_captures.specs.declared.stream.RunError.TheVariants.{
 ghost use Rattle.sock_diag_captures.specs.Run.{Fails, IsTable};
 ghost use Rattle.sock_diag_captures.specs.Streams.{IsWriteFailure};
 
-use crate::capture::{CaptureError, FileHeader};
+use crate::capture::{CaptureError, FileHeader, PacketHeader};
 use crate::line::HEADING;
 use crate::list::{Written, list_packet};
 use crate::options::Options;
@@ -105,21 +105,14 @@ fn write_table<R: Source, W: Sink, E: Write>(
     let mut requests = Requests::new(alloc);
     let mut is_whole = true;
     'packets: for number in 1..u64::MAX {
-        let Some(whole_length) = read_packet(&file, input, number, &mut packet)? else {
+        let Some(header) = read_packet(&file, input, number, &mut packet)? else {
             output.flush_all()?;
             return Ok(is_whole);
         };
         written.lines.clear();
         written.complaints.clear();
         let bytes = packet.as_slice();
-        let is_listed = list_packet(
-            &mut written,
-            &mut requests,
-            options,
-            number,
-            bytes,
-            whole_length,
-        )?;
+        let is_listed = list_packet(&mut written, &mut requests, options, number, bytes, &header)?;
         is_whole = is_whole && is_listed;
         send(output, written.lines.as_slice())?;
         let _ = errors.write_all(written.complaints.as_slice());
@@ -146,18 +139,18 @@ fn read_header<R: Source>(input: &mut R) -> Result<FileHeader, RunError>
     }
 }
 
-/// Reads the packet of a number in place of what `packet` held, and answers how many bytes it had
-/// when it was captured, or `None` where there is no packet more.
+/// Reads the packet of a number in place of what `packet` held, and answers what its header tells,
+/// or `None` where there is no packet more.
 fn read_packet<R: Source>(
     file: &FileHeader,
     input: &mut R,
     number: u64,
     packet: &mut Vec<u8>,
-) -> Result<Option<u32>, RunError>
+) -> Result<Option<PacketHeader>, RunError>
     ensures read { IfOk result (λ told. MatchOption told
         (IsAtEnd (R.left input.new) × Keeps (R.left input.old) (R.left input.new))
-        (λ whole_length. (header : List ℕ)
-        × IsRecord file.now header (recorded packet.new.items whole_length)
+        (λ told_header. (header : List ℕ)
+        × IsRecord file.now header (recorded packet.new.items told_header)
         × Consumes (R.left input.old) (R.left input.new) (header ++ packet.new.items))) }
     ensures stopped { IfErr result (λ e. (fault : CaptureError) × (e ≡ RunError.Packet number fault)
         × (part : List ℕ)

@@ -7,7 +7,7 @@ ghost use Rattle.sock_diag_captures.specs.Words.{with_details, with_letters, wit
 use crate::options::Options;
 
 /// How `sslist` is called.
-pub const HELP: &str = "sslist [-tuxMoemiOna] [FILE ..]\n\n\
+pub const HELP: &str = "sslist [-tuxMoemiOna] [--utf8] [--requests] [FILE ..]\n\n\
 Lists the sockets that captures of netlink traffic tell: that of each file, or of standard\n\
 input. A capture is one of pcap, as tcpdump -i nlmon0 -w - writes it.\n\n\
   -t -u -x -M  sockets of TCP, UDP, UNIX or MPTCP alone\n\
@@ -15,6 +15,8 @@ input. A capture is one of pcap, as tcpdump -i nlmon0 -w - writes it.\n\n\
   -e           what these don't tell\n\
   -O           one line a socket\n\
   -n -a        nothing more: all numbers are shown as numbers, and all states are listed\n\
+  --utf8       letters of names that are UTF-8, and not their bytes\n\
+  --requests   a line for each request, with its time and what it asks for\n\
   --help, --version\n\n\
 The status is 0 where all was listed, 1 where something was not, which standard error names but\n\
 where nobody reads the output, and 2 for an option that is not known.";
@@ -29,6 +31,10 @@ pub enum Argument<'a> {
     Help,
     /// It asks for the version.
     Version,
+    /// It asks that names show their UTF-8.
+    Utf8,
+    /// It asks that requests have lines.
+    Requests,
     /// Letters of options, each of which is known.
     Letters(&'a [u8]),
     /// The name of a file, which begins with no hyphen.
@@ -44,11 +50,13 @@ pub fn choose(word: &str) -> Argument<'_>
     match word {
         "--help" => Argument::Help,
         "--version" => Argument::Version,
+        "--utf8" => Argument::Utf8,
+        "--requests" => Argument::Requests,
         _ => choose_other(word.as_bytes()),
     }
 }
 
-/// What an argument is that asks neither for help nor for the version.
+/// What an argument is that is no word of those.
 fn choose_other(word: &[u8]) -> Argument<'_>
     ensures { IsOther word.entry.now result }
 {

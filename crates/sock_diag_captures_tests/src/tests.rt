@@ -119,9 +119,20 @@ fn lists(
     want: Result<bool, RunError>,
     lines: Option<&[&str]>,
 ) -> Result<(), Fail> {
+    lists_by(rt, alloc, Options::default(), capture, want, lines)
+}
+
+/// The same under options.
+fn lists_by(
+    rt: &impl Abort,
+    alloc: Global,
+    options: Options,
+    capture: &[u8],
+    want: Result<bool, RunError>,
+    lines: Option<&[&str]>,
+) -> Result<(), Fail> {
     let mut input = capture;
     let (mut output, mut errors) = (taker(alloc), taker(alloc));
-    let options = Options::default();
     let outcome = run(alloc, options, NAME, &mut input, &mut output, &mut errors);
     assert!(rt; outcome == want, "{outcome:?}");
     assert!(rt; errors.taken.is_empty() && (output.is_flushed || want.is_err()));
@@ -155,6 +166,68 @@ fn lists_captures_of_both_orders(rt: HostRuntime) -> Result<(), Fail> {
         let capture = captured(rt.alloc(), header, &packets)?;
         let lines = [UNIX_LINE, INET6_LINE];
         lists(&rt, rt.alloc(), &capture, Ok(true), Some(&lines))?;
+    }
+    Ok(())
+}
+
+/// Replies about listening sockets with the abstract name `e` with an accent, a Chinese letter, a
+/// space, U+202E and a backslash, and with a path that is no UTF-8.
+const LETTERS: &str =
+    "3000000014000200070000000000000001010a000e4f0000a0020000000000000f00000000c3a9e6bca220e280ae5c00";
+
+const NO_UTF8: &str =
+    "2c00000014000200070000000000000001010a000e4f0000a002000000000000090000002fc3a9ff00000000";
+
+const LETTERS_LINE: &str =
+    "u_str LISTEN     -      -      20238      -     @é漢\\x20\\xe2\\x80\\xae\\x5c     *\n\t sk:2a0\n";
+
+const LETTERS_ESCAPED: &str =
+    "u_str LISTEN     -      -      20238      -     @\\xc3\\xa9\\xe6\\xbc\\xa2\\x20\\xe2\\x80\\xae\\x5c *\n\t sk:2a0\n";
+
+const NO_UTF8_LINE: &str =
+    "u_str LISTEN     -      -      20238      -     /\\xc3\\xa9\\xff                  *\n\t sk:2a0\n";
+
+/// Names that are UTF-8 show characters under `utf8` alone, and never a space or what turns the
+/// direction.
+#[test]
+fn shows_names_in_utf8(rt: HostRuntime) -> Result<(), Fail> {
+    let packets = [[SOCK_DIAG, LETTERS], [SOCK_DIAG, NO_UTF8]];
+    let capture = captured(rt.alloc(), HEADERS[0], &packets)?;
+    for (utf8, name) in [(true, LETTERS_LINE), (false, LETTERS_ESCAPED)] {
+        let options = Options {
+            utf8,
+            ..Options::default()
+        };
+        let lines = [name, NO_UTF8_LINE];
+        lists_by(&rt, rt.alloc(), options, &capture, Ok(true), Some(&lines))?;
+    }
+    Ok(())
+}
+
+/// A request for MPTCP sockets, and one for netlink sockets.
+const MPTCP_REQUEST: &str =
+    "5000000014000103070000000000000002ff0000800400000000000000000000000000000000000000000000000000000000000000000000000000000000000000000000000000000800030006010000";
+
+const OTHER_REQUEST: &str = "180000001400010307000000000000001000000000000000";
+
+/// Requests with their times, in both units.
+#[test]
+fn lists_requests(rt: HostRuntime) -> Result<(), Fail> {
+    let packets = [
+        [SOCK_DIAG, REQUEST],
+        [SOCK_DIAG, UNIX],
+        [SOCK_DIAG, MPTCP_REQUEST],
+        [SOCK_DIAG, OTHER_REQUEST],
+    ];
+    let options = Options {
+        requests: true,
+        ..Options::default()
+    };
+    for (header, time) in [(0, "-- 7.000009 "), (2, "-- 7.000000009 ")] {
+        let capture = captured(rt.alloc(), HEADERS[header], &packets)?;
+        let (unix, mptcp) = ("unix states:0xffffffff\n", "mptcp states:0x480\n");
+        let lines = [time, unix, UNIX_LINE, time, mptcp, time, "other\n"];
+        lists_by(&rt, rt.alloc(), options, &capture, Ok(true), Some(&lines))?;
     }
     Ok(())
 }

@@ -35,6 +35,8 @@ fn answer(rt: &HostRuntime, words: &[String]) -> ExitCode {
             Argument::Help => return status_of(rt.println(HELP)),
             Argument::Version => return status_of(println!(rt; "sslist {VERSION}")),
             Argument::Letters(letters) => options.add(letters),
+            Argument::Utf8 => options.utf8 = true,
+            Argument::Requests => options.requests = true,
             Argument::File => {}
             Argument::Unknown => return refuse(rt, word.as_str()),
         }

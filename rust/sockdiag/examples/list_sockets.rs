@@ -3,7 +3,8 @@
 //!
 //! The library opens no socket: this example does, by the calls of the C library.
 
-use sockdiag::constants::{IPPROTO_MPTCP, IPPROTO_TCP, IPPROTO_UDP, NLM_F_DUMP, NLM_F_REQUEST};
+use sockdiag::constants::{AF_INET, AF_INET6, IPPROTO_MPTCP, IPPROTO_TCP, IPPROTO_UDP};
+use sockdiag::constants::{NLM_F_DUMP, NLM_F_REQUEST};
 use sockdiag::inet::{ExtensionFlags, InetReply, InetRequest, SocketId};
 use sockdiag::unix::{ShowFlags, UnixDiagName, UnixReply, UnixRequest};
 use sockdiag::{Dump, NetlinkHeader, NetlinkPayload, SockDiagMessage};
@@ -90,6 +91,8 @@ fn list(kernel: &mut File, protocol: &str, request: &[u8]) -> io::Result<()> {
                 Ok(NetlinkPayload::InnerMessage(SockDiagMessage::InetResponse(reply))) => {
                     print_inet(protocol, &reply)
                 }
+                // A datagram of the kernel holds no request.
+                Ok(NetlinkPayload::InnerMessage(_)) => {}
                 Ok(NetlinkPayload::Done(Some(0))) => return Ok(()),
                 Ok(NetlinkPayload::Done(Some(errno)) | NetlinkPayload::Error(Some(errno))) => {
                     let error = io::Error::from_raw_os_error(errno.wrapping_neg());
@@ -131,8 +134,12 @@ fn list_all() -> io::Result<()> {
             IPPROTO_TCP => ExtensionFlags::INFO | ExtensionFlags::CONG,
             _ => ExtensionFlags::empty(),
         };
-        for socket_id in [SocketId::new_v4(), SocketId::new_v6()] {
+        for (family, socket_id) in [
+            (AF_INET, SocketId::new_v4()),
+            (AF_INET6, SocketId::new_v6()),
+        ] {
             let request = InetRequest {
+                family,
                 protocol,
                 extensions,
                 states: sockdiag::inet::StateFlags::from_bits_retain(u32::MAX),

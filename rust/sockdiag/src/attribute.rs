@@ -2,6 +2,7 @@
 
 use crate::sys;
 use crate::DecodeError;
+use core::marker::PhantomData;
 
 /// An attribute, by its kind and its bytes: `struct nlattr` of the kernel.
 #[derive(Clone, Copy, Debug, PartialEq, Eq)]
@@ -65,6 +66,76 @@ impl<'a> Iterator for Attributes<'a> {
 }
 
 impl core::iter::FusedIterator for Attributes<'_> {}
+
+/// What the attributes of a reply say, each an `N`, in the order that they came.
+#[derive(Clone, Copy, Debug, PartialEq, Eq)]
+pub struct Nlas<'a, N> {
+    bytes: &'a [u8],
+    place: usize,
+    said: PhantomData<fn() -> N>,
+}
+
+impl<'a, N: From<Attribute<'a>>> Nlas<'a, N> {
+    /// Those behind a header of so many bytes, of a reply that was checked.
+    pub(crate) fn behind(bytes: &'a [u8], place: usize) -> Self {
+        Nlas {
+            bytes,
+            place,
+            said: PhantomData,
+        }
+    }
+
+    /// A walk over them.
+    pub fn iter(&self) -> NlaWalk<'a, N> {
+        NlaWalk {
+            attributes: Attributes::behind(self.bytes, self.place),
+            said: PhantomData,
+        }
+    }
+
+    /// How many there are. Each is passed.
+    pub fn len(&self) -> usize {
+        self.iter().count()
+    }
+
+    /// Whether there is none.
+    pub fn is_empty(&self) -> bool {
+        self.iter().next().is_none()
+    }
+}
+
+impl<'a, N: From<Attribute<'a>>> IntoIterator for Nlas<'a, N> {
+    type Item = N;
+    type IntoIter = NlaWalk<'a, N>;
+
+    fn into_iter(self) -> Self::IntoIter {
+        self.iter()
+    }
+}
+
+impl<'a, N: From<Attribute<'a>>> IntoIterator for &Nlas<'a, N> {
+    type Item = N;
+    type IntoIter = NlaWalk<'a, N>;
+
+    fn into_iter(self) -> Self::IntoIter {
+        self.iter()
+    }
+}
+
+/// A walk over what the attributes of a reply say.
+#[derive(Clone, Debug)]
+pub struct NlaWalk<'a, N> {
+    attributes: Attributes<'a>,
+    said: PhantomData<fn() -> N>,
+}
+
+impl<'a, N: From<Attribute<'a>>> Iterator for NlaWalk<'a, N> {
+    type Item = N;
+
+    fn next(&mut self) -> Option<N> {
+        self.attributes.next()?.ok().map(N::from)
+    }
+}
 
 /// The number at a place in a row of words, the low byte first.
 pub(crate) fn word(bytes: &[u8], place: usize) -> Option<u32> {

@@ -1,16 +1,18 @@
 //! Netlink messages, one after the other.
 
 use crate::constants::{NLMSG_DONE, NLMSG_ERROR, NLMSG_NOOP, NLMSG_OVERRUN, SOCK_DIAG_BY_FAMILY};
-use crate::inet::InetReply;
+use crate::inet::{InetReply, InetRequest, RequestBytes};
 use crate::sys;
-use crate::unix::UnixReply;
+use crate::unix::{UnixReply, UnixRequest};
 use crate::DecodeError;
 
-/// The header of a netlink message but its length: `struct nlmsghdr` of netlink(7).
+/// The header of a netlink message: `struct nlmsghdr` of netlink(7).
 ///
-/// A request is written under its own type, so that `message_type` is read alone.
+/// A request is written under its own length and type, so that these two are read alone.
 #[derive(Clone, Copy, Debug, Default, PartialEq, Eq, Hash)]
 pub struct NetlinkHeader {
+    /// How many bytes the message has, those of its header among them.
+    pub length: u32,
     /// What the payload is: one of the `NLMSG_` types, or `SOCK_DIAG_BY_FAMILY` for a reply.
     pub message_type: u16,
     /// The `NLM_F_` flags.
@@ -21,18 +23,71 @@ pub struct NetlinkHeader {
     pub port_number: u32,
 }
 
-/// A netlink message, read in place.
+/// A netlink message, whose payload is an `I` where it is of no control type.
 #[derive(Clone, Copy, Debug)]
-pub struct Message<'a> {
+pub struct NetlinkMessage<I> {
     /// What the header tells.
     pub header: NetlinkHeader,
     /// What the message carries.
-    pub payload: NetlinkPayload<'a>,
+    pub payload: NetlinkPayload<I>,
+}
+
+/// A message of sock_diag(7), read in place.
+pub type Message<'a> = NetlinkMessage<SockDiagMessage<'a>>;
+
+impl<I> NetlinkMessage<I> {
+    /// A message with this header and payload.
+    pub fn new(header: NetlinkHeader, payload: NetlinkPayload<I>) -> Self {
+        NetlinkMessage { header, payload }
+    }
+}
+
+impl<'a> NetlinkMessage<SockDiagMessage<'a>> {
+    /// The message in front of the bytes. The next one stands behind `header.length` bytes, at a
+    /// multiple of 4; [`Dump`] gives each.
+    pub fn deserialize(bytes: &'a [u8]) -> Result<Self, DecodeError> {
+        Dump::new(bytes)
+            .next()
+            .unwrap_or(Err(DecodeError::EnvelopeCut))
+    }
+
+    /// Sets the length and the type of a request in its header. Another message stays as it is.
+    pub fn finalize(&mut self) {
+        if let Some(bytes) = self.request_bytes() {
+            self.header.length = bytes.len() as u32;
+            self.header.message_type = SOCK_DIAG_BY_FAMILY;
+        }
+    }
+
+    /// How many bytes a request has. 0 for another message, which isn't written here.
+    pub fn buffer_len(&self) -> usize {
+        self.request_bytes().map_or(0, |bytes| bytes.len())
+    }
+
+    /// Writes a request at the front of the buffer, and tells how many bytes it has. `None`, and
+    /// nothing is written, where the buffer has fewer, or for another message.
+    pub fn serialize(&self, buffer: &mut [u8]) -> Option<usize> {
+        let bytes = self.request_bytes()?;
+        buffer.get_mut(..bytes.len())?.copy_from_slice(&bytes);
+        Some(bytes.len())
+    }
+
+    fn request_bytes(&self) -> Option<RequestBytes> {
+        match self.payload {
+            NetlinkPayload::InnerMessage(SockDiagMessage::UnixRequest(request)) => {
+                Some(RequestBytes::of_unix(request.to_message(&self.header)))
+            }
+            NetlinkPayload::InnerMessage(SockDiagMessage::InetRequest(request)) => {
+                Some(request.to_message(&self.header))
+            }
+            _ => None,
+        }
+    }
 }
 
 /// What a message carries, by its type.
 #[derive(Clone, Copy, Debug)]
-pub enum NetlinkPayload<'a> {
+pub enum NetlinkPayload<I> {
     /// Nothing.
     Noop,
     /// A request failed, with an errno under a minus sign, or is acknowledged, with 0. `None` where
@@ -42,11 +97,17 @@ pub enum NetlinkPayload<'a> {
     Done(Option<i32>),
     /// Data was lost.
     Overrun,
-    /// A reply.
-    InnerMessage(SockDiagMessage<'a>),
+    /// A message of another type.
+    InnerMessage(I),
 }
 
-/// A message of sock_diag(7), read in place. Replies alone are read.
+impl<'a> From<SockDiagMessage<'a>> for NetlinkPayload<SockDiagMessage<'a>> {
+    fn from(message: SockDiagMessage<'a>) -> Self {
+        NetlinkPayload::InnerMessage(message)
+    }
+}
+
+/// What a message of sock_diag(7) carries. Replies are read, in place, and requests are written.
 #[derive(Clone, Copy, Debug)]
 // A reply is read where it is needed, and no memory is taken for a box.
 #[allow(clippy::large_enum_variant)]
@@ -55,9 +116,38 @@ pub enum SockDiagMessage<'a> {
     UnixResponse(UnixReply<'a>),
     /// Tells one IPv4 or IPv6 socket.
     InetResponse(InetReply<'a>),
+    /// Asks for UNIX sockets.
+    UnixRequest(UnixRequest),
+    /// Asks for IPv4 or IPv6 sockets.
+    InetRequest(InetRequest),
 }
 
 impl<'a> SockDiagMessage<'a> {
+    /// Whether it asks for IPv4 or IPv6 sockets.
+    pub fn is_inet_request(&self) -> bool {
+        matches!(self, SockDiagMessage::InetRequest(_))
+    }
+
+    /// Whether it tells an IPv4 or IPv6 socket.
+    pub fn is_inet_response(&self) -> bool {
+        matches!(self, SockDiagMessage::InetResponse(_))
+    }
+
+    /// Whether it asks for UNIX sockets.
+    pub fn is_unix_request(&self) -> bool {
+        matches!(self, SockDiagMessage::UnixRequest(_))
+    }
+
+    /// Whether it tells a UNIX socket.
+    pub fn is_unix_response(&self) -> bool {
+        matches!(self, SockDiagMessage::UnixResponse(_))
+    }
+
+    /// `SOCK_DIAG_BY_FAMILY`.
+    pub fn message_type(&self) -> u16 {
+        SOCK_DIAG_BY_FAMILY
+    }
+
     /// Checks the whole of a payload under its message's type, and reads it.
     pub fn parse(payload: &'a [u8], message_type: u16) -> Result<Self, DecodeError> {
         let [family, _, ..] = *payload else {
@@ -112,6 +202,7 @@ impl<'a> Iterator for Dump<'a> {
             },
         };
         let header = NetlinkHeader {
+            length: part.length as u32 + 16,
             message_type: part.message_type,
             flags: part.flags,
             sequence_number: part.sequence_number,

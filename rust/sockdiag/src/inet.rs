@@ -4,7 +4,7 @@ use crate::constants::*;
 use crate::dump::NetlinkHeader;
 use crate::sys;
 use crate::unix::request_header;
-use crate::{Attributes, DecodeError};
+use crate::{Attributes, DecodeError, Nlas};
 use core::net::{IpAddr, Ipv4Addr, Ipv6Addr};
 use core::time::Duration;
 
@@ -102,10 +102,12 @@ impl SocketId {
 
 /// The request for IPv4 or IPv6 sockets: `struct inet_diag_req_v2` of sock_diag(7).
 ///
-/// The family is that of the source address, and an address of the other family is taken as it
-/// stands: the octets of an IPv4 address in front of zeros.
+/// An address of another family than `family` is taken as it stands: the octets of an IPv4 address
+/// in front of zeros.
 #[derive(Clone, Copy, Debug, PartialEq, Eq)]
 pub struct InetRequest {
+    /// `AF_INET` or `AF_INET6`. The message of a request with another one has no byte.
+    pub family: u8,
     /// The protocol, one of `IPPROTO_..`. One above 255, such as [`IPPROTO_MPTCP`], is told by an
     /// attribute.
     pub protocol: u32,
@@ -117,11 +119,21 @@ pub struct InetRequest {
     pub socket_id: SocketId,
 }
 
-/// The bytes of a request: 72, or 80 where its protocol is above 255.
+/// The bytes of a request: 40 about UNIX sockets, 72 about others, or 80 where its protocol is above
+/// 255.
 #[derive(Clone, Copy, Debug, PartialEq, Eq)]
 pub struct RequestBytes {
     bytes: [u8; 80],
     len: usize,
+}
+
+impl RequestBytes {
+    /// Those of a request about UNIX sockets.
+    pub(crate) fn of_unix(message: [u8; 40]) -> Self {
+        let mut bytes = [0; 80];
+        bytes[..40].copy_from_slice(&message);
+        RequestBytes { bytes, len: 40 }
+    }
 }
 
 impl AsRef<[u8]> for RequestBytes {
@@ -142,11 +154,12 @@ impl InetRequest {
     /// The netlink message that asks for the sockets.
     ///
     /// ```
-    /// use sockdiag::constants::{IPPROTO_MPTCP, NLM_F_DUMP, NLM_F_REQUEST};
+    /// use sockdiag::constants::{AF_INET, IPPROTO_MPTCP, NLM_F_DUMP, NLM_F_REQUEST};
     /// use sockdiag::inet::{ExtensionFlags, InetRequest, SocketId, StateFlags};
     /// use sockdiag::NetlinkHeader;
     ///
     /// let request = InetRequest {
+    ///     family: AF_INET,
     ///     protocol: IPPROTO_MPTCP,
     ///     extensions: ExtensionFlags::empty(),
     ///     states: StateFlags::all(),
@@ -175,7 +188,8 @@ impl InetRequest {
     /// kernel chooses among the sockets: here those of a port from 8000 to 8999.
     ///
     /// ```
-    /// use sockdiag::constants::{INET_DIAG_REQ_BYTECODE, IPPROTO_TCP, NLM_F_DUMP, NLM_F_REQUEST};
+    /// use sockdiag::constants::{AF_INET, INET_DIAG_REQ_BYTECODE, IPPROTO_TCP};
+    /// use sockdiag::constants::{NLM_F_DUMP, NLM_F_REQUEST};
     /// use sockdiag::inet::{ExtensionFlags, InetRequest, SocketId, StateFlags};
     /// use sockdiag::NetlinkHeader;
     ///
@@ -190,6 +204,7 @@ impl InetRequest {
     /// }
     ///
     /// let request = InetRequest {
+    ///     family: AF_INET,
     ///     protocol: IPPROTO_TCP,
     ///     extensions: ExtensionFlags::empty(),
     ///     states: StateFlags::all(),
@@ -228,11 +243,7 @@ impl InetRequest {
         let id = &self.socket_id;
         sys::InetRequest {
             header: request_header(header),
-            family: if id.source_address.is_ipv4() {
-                AF_INET
-            } else {
-                AF_INET6
-            },
+            family: self.family,
             extensions: self.extensions.bits(),
             protocol: self.protocol,
             states: self.states.bits(),
@@ -472,10 +483,15 @@ pub fn tcp_info(payload: &[u8]) -> Option<(TcpInfo, usize)> {
 pub struct InetReply<'a> {
     /// The header, which tells the socket.
     pub header: InetResponseHeader,
+    /// What all attributes say, in the order that they came.
+    pub nlas: Nlas<'a, nlas::Nla<'a>>,
     congestion: Option<&'a [u8]>,
     numbers: sys::InetNumbers,
     payload: &'a [u8],
 }
+
+/// The name of [`InetReply`] in `netlink-packet-sock-diag`.
+pub type InetResponse<'a> = InetReply<'a>;
 
 impl<'a> InetReply<'a> {
     /// Checks the whole of the reply, the payload of its message, and reads it. It takes no memory.
@@ -486,6 +502,7 @@ impl<'a> InetReply<'a> {
             header: InetResponseHeader::told(header),
             congestion: congestion.map(|(_, text)| text),
             numbers,
+            nlas: Nlas::behind(payload, 72),
             payload,
         })
     }
@@ -495,7 +512,7 @@ impl<'a> InetReply<'a> {
         Attributes::behind(self.payload, 72)
     }
 
-    /// What all attributes say, in the order that they came: the memory too, which no getter tells.
+    /// What all attributes say, the memory too, which no getter tells: a walk over `nlas`.
     ///
     /// ```
     /// use sockdiag::inet::nlas::Nla;
@@ -513,7 +530,7 @@ impl<'a> InetReply<'a> {
     /// # Ok::<(), sockdiag::DecodeError>(())
     /// ```
     pub fn nlas(&self) -> impl Iterator<Item = nlas::Nla<'a>> + 'a {
-        self.attributes().flatten().map(nlas::Nla::read)
+        self.nlas.iter()
     }
 
     /// What is known of the TCP connection.

@@ -38,7 +38,7 @@
 //!             assert_eq!(reply.header.inode, 78);
 //!             listening += usize::from(reply.header.state == sockdiag::constants::TCP_LISTEN);
 //!         }
-//!         NetlinkPayload::InnerMessage(SockDiagMessage::InetResponse(_)) => {}
+//!         NetlinkPayload::InnerMessage(_) => {}
 //!         NetlinkPayload::Done(Some(0)) => break,
 //!         NetlinkPayload::Done(number) | NetlinkPayload::Error(number) => panic!("{number:?}"),
 //!         NetlinkPayload::Overrun => panic!("the kernel lost data"),
@@ -51,18 +51,51 @@
 //!
 //! # From `netlink-packet-sock-diag`
 //!
+//! A lister that sends requests and reads replies changes its imports and its `match` arms alone:
+//! `tests/ported.rs` is one. What stands in both crates has one name: the constants, also at the
+//! root, the flags, the requests, `SocketId`, the headers, `nlas`, [`NetlinkMessage`] with `new`,
+//! `finalize`, `buffer_len`, `serialize` and `deserialize`, `InetResponse` and `UnixResponse`, which
+//! are other names of [`inet::InetReply`] and [`unix::UnixReply`], and their getters.
+//!
+//! What differs, in imports:
+//!
 //! | there | here |
 //! |---|---|
-//! | `UnixResponse`, `InetResponse` | [`unix::UnixReply`], [`inet::InetReply`]: they borrow the bytes |
-//! | a list `nlas` of an enum `Nla` | `nlas()`, a walk that gives an enum of the same variants, which borrow; getters for all but the memory of internet sockets; [`Attributes`], by kind and bytes |
-//! | `pending_connections`, `Option<&[u32]>` | a walk over the inodes, also empty where none are told |
-//! | `NetlinkMessage::deserialize`, of one message | [`Dump`], over all of a datagram |
-//! | `NetlinkPayload::Error(ErrorMessage)` | `Error(Option<i32>)`: 0, or `-errno` |
-//! | `finalize()` and `serialize(..)` of a message | `to_message` of a request |
-//! | `InetRequest::family`, and 8 bits of protocol | that of the source address, and 32 bits |
+//! | `netlink_packet_core::{NetlinkHeader, NetlinkMessage, NetlinkPayload, NLM_F_..}` | of this crate |
+//! | `Emitable`, `Parseable`, `ParseableParametrized`, `NetlinkSerializable`, the `..Buffer` types, `DefaultNla` | none. `parse` of a reply or a message, and what is above, need no import |
+//!
+//! In `match` arms and patterns:
+//!
+//! | there | here |
+//! |---|---|
+//! | `NetlinkPayload::Error(ErrorMessage)`, `Done(DoneMessage)` | `Option<i32>`: 0, or `-errno`, `None` where none is told |
+//! | `NetlinkPayload::Overrun(bytes)` | `Overrun` |
+//! | `UnixDiagName::Pathname(OsString)`, `Abstract(Vec<u8>)` | `&[u8]` both |
+//! | `Nla::Congestion(String)` | `&str` |
+//! | `Nla::TcpInfo(Vec<u8>)` without the feature `rich_nlas` | `TcpInfo`, always |
+//! | `Nla::PendingConnections(Vec<u32>)` | [`Numbers`], a walk |
+//! | `Nla::Other(DefaultNla)` | [`Attribute`], by kind and bytes |
+//! | `MemInfo::backlog_queue_length`, `drops`: `u32` | `Option<u32>`: older kernels don't tell them |
+//!
+//! And elsewhere:
+//!
+//! | there | here |
+//! |---|---|
+//! | replies own what they tell, in a `Box` | they are `Copy` and borrow the bytes that they were read from |
+//! | `nlas`, a `SmallVec` | [`Nlas`]: `iter`, `len`, `is_empty`, and `for` over it or a reference, which give values; no index |
+//! | `name()`, `Option<&UnixDiagName>` | `Option<UnixDiagName>` |
+//! | `pending_connections()`, `Option<&[u32]>` | a walk over the inodes, also empty where none are told |
+//! | `serialize` of each message, which panics where the buffer is short | of requests, and `None` there and for other messages |
+//! | `emit`, and `parse` of one attribute or of a value | none |
+//! | `InetRequest::protocol` of 8 bits | 32 bits, as the constants `IPPROTO_..` have here |
+//! | a family but `AF_INET` and `AF_INET6` in an `InetRequest` is written | such a request has no byte |
 //! | `SocketId::new_v4()` has a cookie of zeros | of any: `[0xff; 8]`. The kernel looks at it where one socket is asked for |
-//! | `DecodeError` with words | [`DecodeError`] by kind |
+//! | flags by `bitflags` | `empty`, `all`, `from_bits`, `from_bits_retain`, `from_bits_truncate`, `bits`, `is_empty`, `contains`, `insert`, `remove`, `\|` and `\|=` |
+//! | `DecodeError` with words | [`DecodeError`] by kind; both have `Display` |
 //! | some input panics | none does |
+//!
+//! [`Dump`] walks over a whole datagram, [`Attributes`] over attributes by kind and bytes, and
+//! `to_message` and `to_destroy` write a request at once.
 #![no_std]
 
 mod attribute;
@@ -73,8 +106,9 @@ pub mod inet;
 mod sys;
 pub mod unix;
 
-pub use attribute::{Attribute, Attributes, Numbers};
-pub use dump::{Dump, Message, NetlinkHeader, NetlinkPayload, SockDiagMessage};
+pub use attribute::{Attribute, Attributes, NlaWalk, Nlas, Numbers};
+pub use constants::*;
+pub use dump::{Dump, Message, NetlinkHeader, NetlinkMessage, NetlinkPayload, SockDiagMessage};
 pub use fault::DecodeError;
 
 /// A set of flags with their numbers, as the kernel takes them.
@@ -109,9 +143,44 @@ macro_rules! flags {
                 self.0
             }
 
+            /// The flags of these bits, where each bit has a name.
+            pub const fn from_bits(bits: $bits) -> Option<Self> {
+                if bits & !Self::all().0 == 0 {
+                    Some(Self(bits))
+                } else {
+                    None
+                }
+            }
+
+            /// The flags of these bits that have a name.
+            pub const fn from_bits_truncate(bits: $bits) -> Self {
+                Self(bits & Self::all().0)
+            }
+
+            /// Whether no flag is set.
+            pub const fn is_empty(self) -> bool {
+                self.0 == 0
+            }
+
+            /// Sets these flags.
+            pub fn insert(&mut self, other: Self) {
+                self.0 |= other.0;
+            }
+
+            /// Clears these flags.
+            pub fn remove(&mut self, other: Self) {
+                self.0 &= !other.0;
+            }
+
             /// Whether all of these flags are set.
             pub const fn contains(self, other: Self) -> bool {
                 self.0 & other.0 == other.0
+            }
+        }
+
+        impl core::ops::BitOrAssign for $name {
+            fn bitor_assign(&mut self, other: Self) {
+                self.0 |= other.0;
             }
         }
 

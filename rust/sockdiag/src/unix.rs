@@ -3,7 +3,7 @@
 use crate::constants::*;
 use crate::dump::NetlinkHeader;
 use crate::sys;
-use crate::{Attributes, DecodeError};
+use crate::{Attributes, DecodeError, Nlas};
 
 pub mod nlas;
 
@@ -147,10 +147,15 @@ pub struct Vfs {
 pub struct UnixReply<'a> {
     /// The header, which tells the socket.
     pub header: UnixResponseHeader,
+    /// What all attributes say, in the order that they came.
+    pub nlas: Nlas<'a, nlas::Nla<'a>>,
     name: Option<UnixDiagName<'a>>,
     numbers: sys::UnixNumbers,
     payload: &'a [u8],
 }
+
+/// The name of [`UnixReply`] in `netlink-packet-sock-diag`.
+pub type UnixResponse<'a> = UnixReply<'a>;
 
 impl<'a> UnixReply<'a> {
     /// Checks the whole of the reply, the payload of its message, and reads it. It takes no memory.
@@ -169,6 +174,7 @@ impl<'a> UnixReply<'a> {
                 _ => UnixDiagName::Pathname(bytes),
             }),
             numbers,
+            nlas: Nlas::behind(payload, 16),
             payload,
         })
     }
@@ -178,9 +184,9 @@ impl<'a> UnixReply<'a> {
         Attributes::behind(self.payload, 16)
     }
 
-    /// What all attributes say, in the order that they came.
+    /// What all attributes say: a walk over `nlas`.
     pub fn nlas(&self) -> impl Iterator<Item = nlas::Nla<'a>> + 'a {
-        self.attributes().flatten().map(nlas::Nla::read)
+        self.nlas.iter()
     }
 
     /// The name that the socket is bound to.

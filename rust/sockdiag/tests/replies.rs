@@ -241,6 +241,7 @@ fn writes_requests() {
     let destroy = UnixRequest::default().to_destroy(&header);
     assert_eq!((destroy[0], destroy[4], destroy[16]), (40, 21, 1));
     let request = InetRequest {
+        family: 10,
         protocol: 6,
         extensions: Default::default(),
         states: Default::default(),

@@ -72,12 +72,14 @@ pub enum Nla<'a> {
     Other(Attribute<'a>),
 }
 
-impl<'a> Nla<'a> {
-    /// What an attribute of a checked reply says.
-    pub(crate) fn read(attribute: Attribute<'a>) -> Self {
+impl<'a> From<Attribute<'a>> for Nla<'a> {
+    /// What an attribute says. One whose value is no such is `Other`; a checked reply has none.
+    fn from(attribute: Attribute<'a>) -> Self {
         Nla::known(attribute).unwrap_or(Nla::Other(attribute))
     }
+}
 
+impl<'a> Nla<'a> {
     fn known(attribute: Attribute<'a>) -> Option<Self> {
         let value = attribute.value;
         Some(match attribute.kind() {

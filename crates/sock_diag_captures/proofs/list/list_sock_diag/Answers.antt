@@ -1,4 +1,4 @@
-use Rattle.std.proofs.Common.{inl}
+use Rattle.std.proofs.Common.{inl, inr, refl}
 use Rattle.std.proofs.lemmas.Result.{IfOk-weaker}
 use Rattle.sock_diag_captures.proofs.list.list_sock_diag.Goals as goal
 
@@ -11,3 +11,11 @@ returns-clause-lists c =
       lists,
     ))
     c.list_datagram.ensures
+
+pub returns-then-is_request-clause-lists : goal.returns-then-is_request-clause-lists
+returns-then-is_request-clause-lists c =
+    inr (
+      c.is_request.ensures.0 c.if-is_request.true,
+      c.in_ok-push_shown_request.ensures,
+      refl,
+    )

@@ -1,4 +1,4 @@
-use Rattle.std.proofs.Common.{◌≡◌, ℕ, ◌++◌, ◌∙◌, arith, refl, sym}
+use Rattle.std.proofs.Common.{◌≡◌, ◌++◌, ◌∙◌, arith, refl, sym}
 use Rattle.std.specs.Prelude.{flat_map, MatchOption, Option, None, Some}
 use Rattle.std.proofs.KnownBytes.{Appends-kept, Appends-trans, Consumes-kept, Consumes-nil}
 use Rattle.std.proofs.KnownBytes.{Consumes-trans}
@@ -14,8 +14,8 @@ use Rattle.sock_diag_captures.proofs.stream.write_table.Goals.{then-is_whole, el
 use Rattle.sock_diag_captures.proofs.stream.write_table.Goals as goal
 
 -- no packet was read
-none_read : (told : Option ℕ) (P : Type 0) (Q : ℕ → Type 0) → ((n : ℕ) → told ≡ Some n → ⊥)
-    → MatchOption told P Q → P
+none_read : {A : Type 0} (told : Option A) (P : Type 0) (Q : A → Type 0)
+    → ((x : A) → told ≡ Some x → ⊥) → MatchOption told P Q → P
 none_read None P Q other h = h
 none_read (Some n) P Q other h = absurd (other n refl)
 
@@ -24,7 +24,7 @@ packets-init g c = rw c.new-requests.ensures (progress_begins _ (IsRecord _) _ _
 
 pub packets-preserved : goal.packets-preserved
 packets-preserved g c =
-    let got = rw c.in-Some.is at c.in_ok-whole_length.ensures.read in
+    let got = rw c.in-Some.is at c.in_ok-header.ensures.read in
     let listed = rw (c.as_slice-bytes.ensures.value, c.clear.ensures.items) at
     c.in_ok-is_listed.ensures.lists in
     let next = rw c.as_slice-bytes.ensures.value at c.in_ok-is_listed.ensures.asked in
@@ -40,7 +40,7 @@ packets-preserved g c =
 
 pub returns-in_default-clause-table : goal.returns-in_default-clause-table
 returns-in_default-clause-table g c =
-    let end = none_read _ _ _ c.in_default.not-Some c.in_ok-whole_length.ensures.read in (
+    let end = none_read _ _ _ c.in_default.not-Some c.in_ok-header.ensures.read in (
       c.in_ok-file.ensures.read.0 ++ c.packets.invariant.records,
       flat_map lines_told c.packets.invariant.told,
       table_of _ c.in_ok-file.file c.in_ok-file.ensures.read.0 c.in_ok-file.ensures.read.1
@@ -65,26 +65,26 @@ returns-in_err-send-clause-failed g c =
     rw (p.1, p.2) (fails_at_heading _ _ header long is _ _ _ _ _ _ _ write read front rest split
     appended)
 
-pub returns-in_err-whole_length-clause-failed : goal.returns-in_err-whole_length-clause-failed
-returns-in_err-whole_length-clause-failed g c =
-    let p = err_from_is_err_and c.from_residual-in_err-whole_length.result
-    c.from_residual-in_err-whole_length.ensures.1 in
+pub returns-in_err-header-clause-failed : goal.returns-in_err-header-clause-failed
+returns-in_err-header-clause-failed g c =
+    let p = err_from_is_err_and c.from_residual-in_err-header.result
+    c.from_residual-in_err-header.ensures.1 in
     let (header, long, is, read) = c.in_ok-file.ensures.read in
     rw (p.1, p.2) (fails_at_packet _ _ header long is _ _ _ _ _ _ _ _ _ _ c.packets.invariant read
-    c.in_ok-send.ensures.written _ _ _ c.in_err-whole_length.ensures.stopped)
+    c.in_ok-send.ensures.written _ _ _ c.in_err-header.ensures.stopped)
 
-pub returns-in_err-whole_length-clause-cause : goal.returns-in_err-whole_length-clause-cause
-returns-in_err-whole_length-clause-cause g c =
-    let p = err_from_is_err_and c.from_residual-in_err-whole_length.result
-    c.from_residual-in_err-whole_length.ensures.1 in
-    rw (p.1, p.2) (no_write _ _ _ _ c.in_err-whole_length.ensures.stopped.1)
+pub returns-in_err-header-clause-cause : goal.returns-in_err-header-clause-cause
+returns-in_err-header-clause-cause g c =
+    let p = err_from_is_err_and c.from_residual-in_err-header.result
+    c.from_residual-in_err-header.ensures.1 in
+    rw (p.1, p.2) (no_write _ _ _ _ c.in_err-header.ensures.stopped.1)
 
 pub returns-in_err-flush_all-clause-failed : goal.returns-in_err-flush_all-clause-failed
 returns-in_err-flush_all-clause-failed g c =
     let p = err_from_is_err_and c.from_residual-in_err-flush_all.result
     c.from_residual-in_err-flush_all.ensures.1 in
     let (header, long, is, read) = c.in_ok-file.ensures.read in
-    let end = none_read _ _ _ c.in_default.not-Some c.in_ok-whole_length.ensures.read in
+    let end = none_read _ _ _ c.in_default.not-Some c.in_ok-header.ensures.read in
     rw (p.1, p.2) (fails_at_flush _ _ header long is _ _ _ _ _ _ _ _ _ _ c.packets.invariant read
     c.in_ok-send.ensures.written _ _ _ _
     c.in_err-flush_all.ensures.cause.0 (Consumes-kept _ _ _ _ (Consumes-nil _) end.1)
@@ -95,7 +95,7 @@ returns-in_err-is_listed-clause-failed g c =
     let p = err_from_is_err_and c.from_residual-in_err-is_listed.result
     c.from_residual-in_err-is_listed.ensures.1 in
     let (header, long, is, read) = c.in_ok-file.ensures.read in
-    let got = rw c.in-Some.is at c.in_ok-whole_length.ensures.read in
+    let got = rw c.in-Some.is at c.in_ok-header.ensures.read in
     rw p.1 (fails_at_memory _ _ header long is _ _ _ _ _ _ _ _ _ _ c.packets.invariant read
     c.in_ok-send.ensures.written _ _ _ got.0 _ p.2 got.1 got.2)
 
@@ -104,7 +104,7 @@ returns-in_err-send-2-clause-failed g c =
     let p = err_from_is_err_and c.from_residual-in_err-send-2.result
     c.from_residual-in_err-send-2.ensures.1 in
     let (header, long, is, read) = c.in_ok-file.ensures.read in
-    let got = rw c.in-Some.is at c.in_ok-whole_length.ensures.read in
+    let got = rw c.in-Some.is at c.in_ok-header.ensures.read in
     let listed = rw (c.as_slice-bytes.ensures.value, c.clear.ensures.items) at
     c.in_ok-is_listed.ensures.lists in
     let next = rw c.as_slice-bytes.ensures.value at c.in_ok-is_listed.ensures.asked in

@@ -1,6 +1,6 @@
 use Rattle.std.proofs.Common.{◌≡◌, ◌++◌, drop, flat_map}
 use Rattle.sock_diag_captures.specs.Escapes.{escaped}
-use Rattle.sock_diag_captures.proofs.cells.push_escaped.Given as goal
+use Rattle.sock_diag_captures.proofs.names.push_escaped.Given as goal
 
 -- what was added and what is left to be added make the whole
 abbrev pub invariant-loop-byte : goal.invariant-loop-byte

@@ -1,0 +1,53 @@
+-- The line of a request: when it was captured, and what it asks for.
+use Rattle.std.specs.Prelude.{ℕ, ◌-◌, ◌==◌, ◌||◌, not, nat_lt, if◌then◌else◌, List, [], ◌∷◌, ◌++◌}
+use Rattle.std.specs.Prelude.{length, replicate, codes, decimal, drop, slice_index, Option, None}
+use Rattle.std.specs.Prelude.{Some}
+use Rattle.byteorder.specs.Endian.{little_number}
+use Rattle.sock_diag_captures.specs.Details.{hex_detail}
+use Rattle.sock_diag_captures.specs.Requests.{asked_in}
+use Rattle.sock_diag_captures.specs.Table.{inet_kind}
+use Rattle.sock_diag_captures.specs.declared.capture.PacketHeader.{PacketHeader}
+use Rattle.sock_diag_captures.specs.declared.capture.TimeUnit.{TimeUnit}
+use Rattle.sock_diag_captures.specs.declared.capture.TimeUnit.TheVariants.{Microseconds}
+use Rattle.sock_diag_captures.specs.declared.capture.TimeUnit.TheVariants.{Nanoseconds}
+use Rattle.sock_diag_captures.specs.declared.options.Options.{Options}
+use Rattle.sock_diag_captures.specs.declared.requests.Asked.{Asked}
+
+-- a number in decimal, with zeros, 48, in front up to so many digits
+abbrev pub zero_filled : ℕ → ℕ → List ℕ
+zero_filled width n = replicate (width - length (decimal n)) 48 ++ decimal n
+
+-- parts of a second, of which one has 10 ^ 6 or 10 ^ 9
+abbrev pub fraction_text : TimeUnit → ℕ → List ℕ
+fraction_text Microseconds n = zero_filled 6 n
+fraction_text Nanoseconds n = zero_filled 9 n
+
+-- the seconds since 1970, a point, 46, and the parts
+abbrev pub time_text : PacketHeader → List ℕ
+time_text h = decimal h.seconds ++ 46 ∷ fraction_text h.unit h.fraction
+
+-- the states of the UNIX sockets that are asked for, a bit each: the word at 20 of a message of the
+-- type 20, SOCK_DIAG_BY_FAMILY, for the family 1, AF_UNIX, with both headers, 40 bytes
+abbrev pub unix_states : List ℕ → Option ℕ
+unix_states b =
+    if nat_lt (length b) 40 || not (little_number 2 (drop 4 b) == 20)
+    || not (slice_index b 16 == 1)
+    then None else Some (little_number 4 (drop 20 b))
+
+-- the protocol and the states that are asked for of IPv4 or IPv6 sockets, or the states of UNIX
+-- sockets
+abbrev pub asked_for : Option Asked → Option ℕ → List ℕ
+asked_for (Some a) states =
+    inet_kind (Some a.protocol) a.family ++ hex_detail (codes "states") a.states
+asked_for None (Some states) = codes "unix" ++ hex_detail (codes "states") states
+asked_for None None = codes "other"
+
+-- `-- `, the time, a space and what is asked for
+abbrev pub request_line : PacketHeader → List ℕ → List ℕ
+request_line h datagram =
+    codes "-- " ++ time_text h ++ 32 ∷ asked_for (asked_in datagram) (unix_states datagram)
+    ++ 10 ∷ []
+
+-- that line, where such lines are asked for
+abbrev pub shown_request : Options → PacketHeader → List ℕ → List ℕ
+shown_request o h datagram = if o.requests then request_line h datagram else []

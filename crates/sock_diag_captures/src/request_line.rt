@@ -1,0 +1,109 @@
+//! The line of a request, which parts the dumps of a capture.
+
+ghost use Rattle.std.specs.Prelude.{◌≡◌, ◌++◌, OnOk};
+ghost use Rattle.sock_diag_captures.specs.RequestLine.{asked_for, fraction_text};
+ghost use Rattle.sock_diag_captures.specs.RequestLine.{request_line, shown_request, time_text};
+ghost use Rattle.sock_diag_captures.specs.RequestLine.{unix_states};
+
+use crate::capture::{PacketHeader, TimeUnit};
+use crate::cells::push_number;
+use crate::details::push_hex_detail;
+use crate::line::name_of_protocol;
+use crate::options::Options;
+use crate::requests::{Asked, find_request};
+use byteorder::{ByteOrder, LittleEndian};
+use netlink_packet_sock_diag::constants::{AF_UNIX, SOCK_DIAG_BY_FAMILY};
+use std::alloc::AllocError;
+use std::io::Write;
+
+/// How many bytes the two headers of a request for UNIX sockets have.
+const UNIX_REQUEST: usize = 40;
+
+/// Adds the line of a request, where such lines are asked for.
+pub(crate) fn push_shown_request(
+    text: &mut Vec<u8>,
+    options: Options,
+    header: &PacketHeader,
+    datagram: &[u8],
+) -> Result<(), AllocError>
+    ensures { OnOk result (text.new.items ≡ text.old.items
+        ++ shown_request options header.now datagram.now) }
+{
+    if !options.requests {
+        return Ok(());
+    }
+    push_request(text, header, datagram)
+}
+
+/// Adds the line of a request: when it was captured, and what it asks for.
+fn push_request(
+    text: &mut Vec<u8>,
+    header: &PacketHeader,
+    datagram: &[u8],
+) -> Result<(), AllocError>
+    ensures { OnOk result (text.new.items ≡ text.old.items
+        ++ request_line header.now datagram.now) }
+{
+    text.extend_from_slice(b"-- ")?;
+    push_time(text, header)?;
+    text.push(b' ')?;
+    push_asked(text, find_request(datagram), find_unix_states(datagram))?;
+    Ok(text.push(b'\n')?)
+}
+
+/// Adds the seconds since 1970 and, behind a point, the parts of a second.
+fn push_time(text: &mut Vec<u8>, header: &PacketHeader) -> Result<(), AllocError>
+    ensures { OnOk result (text.new.items ≡ text.old.items ++ time_text header.now) }
+{
+    push_number(text, header.seconds.into())?;
+    text.push(b'.')?;
+    push_fraction(text, header.unit, header.fraction)
+}
+
+/// Adds parts of a second in as many digits as their unit has at least.
+#[tactic(auto, using(crate::proofs::Filling::zero_filled_is))]
+fn push_fraction(text: &mut Vec<u8>, unit: TimeUnit, fraction: u32) -> Result<(), AllocError>
+    ensures { OnOk result (text.new.items ≡ text.old.items ++ fraction_text unit fraction) }
+{
+    let written = match unit {
+        TimeUnit::Microseconds => write!(text, "{fraction:06}"),
+        TimeUnit::Nanoseconds => write!(text, "{fraction:09}"),
+    };
+    match written {
+        Ok(()) => Ok(()),
+        Err(_) => Err(AllocError),
+    }
+}
+
+/// Adds the protocol of the sockets that are asked for, and a bit for each state.
+fn push_asked(
+    text: &mut Vec<u8>,
+    inet: Option<Asked>,
+    unix_states: Option<u32>,
+) -> Result<(), AllocError>
+    ensures { OnOk result (text.new.items ≡ text.old.items ++ asked_for inet unix_states) }
+{
+    let (name, states) = match (inet, unix_states) {
+        (Some(asked), _) => (
+            name_of_protocol(Some(asked.protocol), asked.family),
+            asked.states,
+        ),
+        (None, Some(states)) => (&b"unix"[..], states),
+        (None, None) => return text.extend_from_slice(b"other"),
+    };
+    text.extend_from_slice(name)?;
+    push_hex_detail(text, b"states", states.into())
+}
+
+/// The states of the UNIX sockets that a datagram asks for in front, where it does.
+fn find_unix_states(datagram: &[u8]) -> Option<u32>
+    ensures { result ≡ unix_states datagram.now }
+{
+    if datagram.len() < UNIX_REQUEST
+        || LittleEndian::read_u16(&datagram[4..]) != SOCK_DIAG_BY_FAMILY
+        || datagram[16] != AF_UNIX
+    {
+        return None;
+    }
+    Some(LittleEndian::read_u32(&datagram[20..]))
+}
