@@ -15,9 +15,6 @@ use crate::view::{AttributeViews, ReplyHeader, ReplyView, ReplyViews};
 use attribute_lists::check_nlas;
 use netlink_core::{Coded, DecodeError};
 
-/// The number of bytes of the header.
-const LENGTH: usize = 16;
-
 /// The reply about one UNIX socket: the header, and the attributes that were asked for, in
 /// the order that they came.
 ///
@@ -46,7 +43,7 @@ impl ReplyHeader for UnixResponseHeader {
 
     #[inline(always)]
     fn length() -> usize {
-        LENGTH
+        16
     }
 
     #[inline(always)]
