@@ -15,6 +15,9 @@ use crate::view::{AttributeViews, ReplyHeader, ReplyView, ReplyViews};
 use attribute_lists::check_nlas;
 use netlink_core::{Coded, DecodeError};
 
+/// The number of bytes of the header.
+const LENGTH: usize = 72;
+
 /// The reply about one IPv4 or IPv6 socket: the header, and the attributes that were asked for, in
 /// the order that they came.
 ///
@@ -44,7 +47,7 @@ impl ReplyHeader for InetResponseHeader {
 
     #[inline(always)]
     fn length() -> usize {
-        72
+        LENGTH
     }
 
     #[inline(always)]

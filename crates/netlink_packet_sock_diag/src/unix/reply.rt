@@ -15,6 +15,9 @@ use crate::view::{AttributeViews, ReplyHeader, ReplyView, ReplyViews};
 use attribute_lists::check_nlas;
 use netlink_core::{Coded, DecodeError};
 
+/// The number of bytes of the header.
+const LENGTH: usize = 16;
+
 /// The reply about one UNIX socket: the header, and the attributes that were asked for, in
 /// the order that they came.
 ///
@@ -43,7 +46,7 @@ impl ReplyHeader for UnixResponseHeader {
 
     #[inline(always)]
     fn length() -> usize {
-        16
+        LENGTH
     }
 
     #[inline(always)]
