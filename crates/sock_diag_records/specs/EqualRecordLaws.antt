@@ -1,5 +1,5 @@
 -- Records that hold records are equal by each of their fields.
-use Rattle.std.proofs.Common.{◌≡◌, ◌↔◌, ◌&&◌, Bool, eqb, IsTrue, ap, rules}
+use Rattle.std.proofs.Common.{◌≡◌, ◌↔◌, ◌&&◌, Bool, eqb, IsTrue, refl, rules}
 use Rattle.std.specs.Option.{option_eq}
 use Rattle.netlink_core.proofs.Equality.{and_says, numbers_equal, options_equal}
 use Rattle.sock_diag_records.specs.declared.inet.flags.ExtensionFlags.{ExtensionFlags}
@@ -37,16 +37,7 @@ module _ (socket : SocketId → SocketId → Bool) (same_socket : (a b : SocketI
               states = p.1.1.1.0 i;
               socket_id = p.1.1.1.1 i;
             },
-        λ e. fields.1 (
-          ap (λ (r : InetRequest). r.family) e,
-          (
-            ap (λ (r : InetRequest). r.protocol) e,
-            (
-              ap (λ (r : InetRequest). r.extensions) e,
-              (ap (λ (r : InetRequest). r.states) e, ap (λ (r : InetRequest). r.socket_id) e),
-            ),
-          ),
-        ),
+        λ e. fields.1 (rw (← e) (refl, (refl, (refl, (refl, refl))))),
       )
 
   module _ (timer : Timer → Timer → Bool) (same_timer : (a b : Timer) → IsTrue (timer a b)
@@ -79,26 +70,5 @@ module _ (socket : SocketId → SocketId → Bool) (same_socket : (a b : SocketI
                 uid = p.1.1.1.1.1.1.0 i;
                 inode = p.1.1.1.1.1.1.1 i;
               },
-          λ e. fields.1 (
-            ap (λ (r : InetResponseHeader). r.family) e,
-            (
-              ap (λ (r : InetResponseHeader). r.state) e,
-              (
-                ap (λ (r : InetResponseHeader). r.timer) e,
-                (
-                  ap (λ (r : InetResponseHeader). r.socket_id) e,
-                  (
-                    ap (λ (r : InetResponseHeader). r.recv_queue) e,
-                    (
-                      ap (λ (r : InetResponseHeader). r.send_queue) e,
-                      (
-                        ap (λ (r : InetResponseHeader). r.uid) e,
-                        ap (λ (r : InetResponseHeader). r.inode) e,
-                      ),
-                    ),
-                  ),
-                ),
-              ),
-            ),
-          ),
+          λ e. fields.1 (rw (← e) (refl, (refl, (refl, (refl, (refl, (refl, (refl, refl)))))))),
         )

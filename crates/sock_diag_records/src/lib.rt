@@ -3,4 +3,5 @@
 
 pub mod constants;
 pub mod inet;
+mod named;
 pub mod unix;

@@ -1,5 +1,5 @@
 -- Two memory records are equal by each of their words.
-use Rattle.std.proofs.Common.{◌≡◌, ◌↔◌, ◌&&◌, eqb, IsTrue, ap}
+use Rattle.std.proofs.Common.{◌≡◌, ◌↔◌, ◌&&◌, eqb, IsTrue, ap, refl}
 use Rattle.std.specs.Option.{option_eq}
 use lib.Pointwise.{bytes_decides}
 use Rattle.netlink_core.proofs.Equality.{and_says, apart, numbers_equal, options_equal}
@@ -41,31 +41,7 @@ mem_info_equal v w =
             p.1.1.1.1.1.1.1.0 i;
         drops = p.1.1.1.1.1.1.1.1 i;
       },
-      λ e. fields.1 (
-        ap (λ (m : MemInfo). m.receive_queue) e,
-        (
-          ap (λ (m : MemInfo). m.receive_queue_max) e,
-          (
-            ap (λ (m : MemInfo). m.bottom_send_queues) e,
-            (
-              ap (λ (m : MemInfo). m.send_queue_max) e,
-              (
-                ap (λ (m : MemInfo). m.cache) e,
-                (
-                  ap (λ (m : MemInfo). m.send_queue) e,
-                  (
-                    ap (λ (m : MemInfo). m.options) e,
-                    (
-                      ap (λ (m : MemInfo). m.backlog_queue_length) e,
-                      ap (λ (m : MemInfo). m.drops) e,
-                    ),
-                  ),
-                ),
-              ),
-            ),
-          ),
-        ),
-      ),
+      λ e. fields.1 (rw (← e) (refl, (refl, (refl, (refl, (refl, (refl, (refl, (refl, refl))))))))),
     )
 
 -- and so are their bytes

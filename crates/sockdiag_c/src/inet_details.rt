@@ -1,19 +1,16 @@
 //! All that is told of an IPv4 or IPv6 socket but its memory and its TCP connection, in one struct
 //! of C.
 
-ghost use Rattle.std.specs.Prelude.{◌≡◌, [], IfOk, IfErr};
-ghost use Rattle.netlink_core.specs.Reply.{reply_codec};
-ghost use Rattle.sock_diag_attributes.specs.InetAttributes.{inet};
+ghost use Rattle.std.specs.Prelude.{◌≡◌};
 ghost use Rattle.sock_diag_attributes.specs.SeenInet.{viewed_nla};
-ghost use Rattle.netlink_packet_sock_diag.specs.InetReply.{InetReply, inet_reply};
-ghost use Rattle.sockdiag_c.specs.Answers.{TellsOf};
+ghost use Rattle.netlink_packet_sock_diag.specs.InetReply.{inet_reply};
 ghost use Rattle.sockdiag_c.specs.Details.{text_of};
-ghost use Rattle.sockdiag_c.specs.InetDetails.{IsInetTold, TellsInet, controlled};
+ghost use Rattle.sockdiag_c.specs.Headers.{inet_header_of};
+ghost use Rattle.sockdiag_c.specs.InetDetails.{IsInetTold, controlled};
 ghost use Rattle.sockdiag_c.specs.InetDetailsSteps.{inet_with};
 ghost use Rattle.sockdiag_c.specs.TellSteps.{first_of_two};
 
-use crate::check::OK;
-use crate::details::{NO_NUMBER, Number, TEXT, Text, Told, tell_nlas};
+use crate::details::{NO_NUMBER, Number, TEXT, Text, Told};
 use crate::headers::InetHeader;
 use netlink_core::{DecodeError, NlaBuffer};
 use netlink_packet_sock_diag::inet::InetResponseHeader;
@@ -43,58 +40,7 @@ pub struct InetDetails<'a> {
     pub class_id: Number,
 }
 
-/// Checks the whole of a reply about an IPv4 or IPv6 socket, the payload of its message, and tells
-/// its header and the attributes that are texts or one number, in one walk. The answer is 0, or the
-/// number of the first fault, and then the details are left as they were. Of several attributes of
-/// a kind the first counts.
-#[unsafe(no_mangle)]
-pub extern "C" fn sockdiag_inet_get_details<'a>(
-    payload: &'a [u8],
-    details: &mut InetDetails<'a>,
-) -> u32
-    ensures { TellsOf ((reply_codec inet_reply).reads payload.entry.now tt)
-        ((reply_codec inet_reply).refuses payload.entry.now tt) TellsInet details.old details.new
-        result }
-{
-    match read_details(payload) {
-        Ok(told) => {
-            *details = told;
-            OK
-        }
-        Err(fault) => u32::from(fault.number()),
-    }
-}
-
-// What the reply tells, or the first fault.
-fn read_details<'a>(payload: &'a [u8]) -> Result<InetDetails<'a>, DecodeError>
-    ensures value { IfOk result (λ told. (v : InetReply)
-        × (reply_codec inet_reply).reads payload.entry.now tt v × TellsInet v told) }
-    ensures fault { IfErr result ((reply_codec inet_reply).refuses payload.entry.now tt) }
-{
-    let header = InetResponseHeader::from_prefix(payload)?;
-    let mut details = InetDetails::new(InetHeader::from(header));
-    tell_nlas(&payload[72..], &mut details)?;
-    Ok(details)
-}
-
 impl<'a> InetDetails<'a> {
-    // The header alone.
-    fn new(header: InetHeader) -> InetDetails<'a>
-        ensures { IsInetTold header result [] }
-    {
-        InetDetails {
-            header,
-            congestion: Text::none(),
-            tos: NO_NUMBER,
-            tclass: NO_NUMBER,
-            shutdown: NO_NUMBER,
-            protocol: NO_NUMBER,
-            v6only: NO_NUMBER,
-            mark: NO_NUMBER,
-            class_id: NO_NUMBER,
-        }
-    }
-
     // Tells what the attribute says, where nothing of its kind is told yet.
     fn tell(&mut self, nla: NlaView<'a>)
         ensures numbers { self.new ≡ inet_with self.new.congestion self.old (viewed_nla nla.entry) }
@@ -119,9 +65,26 @@ impl<'a> InetDetails<'a> {
 }
 
 impl<'a> Told<'a> for InetDetails<'a> {
-    ghost family = { inet };
+    ghost reply = { inet_reply };
 
-    ghost tells = { λ from told vs. IsInetTold from.header told vs };
+    ghost tells = { λ h told vs. IsInetTold (inet_header_of h) told vs };
+
+    #[tactic(auto, using(netlink_packet_sock_diag::specs::InetReplyLaws::header_enough))]
+    fn tell_header(payload: &'a [u8]) -> Result<(Self, &'a [u8]), DecodeError> {
+        let header = InetResponseHeader::from_prefix(payload)?;
+        let told = InetDetails {
+            header: InetHeader::from(header),
+            congestion: Text::none(),
+            tos: NO_NUMBER,
+            tclass: NO_NUMBER,
+            shutdown: NO_NUMBER,
+            protocol: NO_NUMBER,
+            v6only: NO_NUMBER,
+            mark: NO_NUMBER,
+            class_id: NO_NUMBER,
+        };
+        Ok((told, &payload[72..]))
+    }
 
     fn tell_nla(&mut self, nla: &NlaBuffer<'a>) -> Result<(), DecodeError> {
         let view = NlaView::parse(nla)?;

@@ -1,18 +1,15 @@
 //! All that is told of a UNIX socket, in one struct of C.
 
-ghost use Rattle.std.specs.Prelude.{◌≡◌, [], IfOk, IfErr};
-ghost use Rattle.netlink_core.specs.Reply.{reply_codec};
+ghost use Rattle.std.specs.Prelude.{◌≡◌};
 ghost use Rattle.sock_diag_attributes.specs.SeenUnix.{viewed_nla};
-ghost use Rattle.sock_diag_attributes.specs.UnixAttributes.{unix};
-ghost use Rattle.netlink_packet_sock_diag.specs.UnixReply.{UnixReply, unix_reply};
-ghost use Rattle.sockdiag_c.specs.Answers.{TellsOf};
+ghost use Rattle.netlink_packet_sock_diag.specs.UnixReply.{unix_reply};
 ghost use Rattle.sockdiag_c.specs.Details.{text_of};
+ghost use Rattle.sockdiag_c.specs.Headers.{unix_header_of};
 ghost use Rattle.sockdiag_c.specs.TellSteps.{first_of_two};
-ghost use Rattle.sockdiag_c.specs.UnixDetails.{IsUnixTold, TellsUnix, named};
+ghost use Rattle.sockdiag_c.specs.UnixDetails.{IsUnixTold, named};
 ghost use Rattle.sockdiag_c.specs.UnixDetailsSteps.{unix_with};
 
-use crate::check::OK;
-use crate::details::{ABSTRACT, NO_NUMBER, Number, TEXT, Text, Told, tell_nlas};
+use crate::details::{ABSTRACT, NO_NUMBER, Number, TEXT, Text, Told};
 use crate::headers::UnixHeader;
 use netlink_core::{DecodeError, NlaBuffer};
 use netlink_packet_sock_diag::unix::UnixResponseHeader;
@@ -48,59 +45,7 @@ pub struct UnixDetails<'a> {
     pub shutdown: Number,
 }
 
-/// Checks the whole of a reply about a UNIX socket, the payload of its message, and tells all of
-/// it, in one walk. The answer is 0, or the number of the first fault, and then the details are
-/// left as they were. Of several attributes of a kind the first counts.
-#[unsafe(no_mangle)]
-pub extern "C" fn sockdiag_unix_get_details<'a>(
-    payload: &'a [u8],
-    details: &mut UnixDetails<'a>,
-) -> u32
-    ensures { TellsOf ((reply_codec unix_reply).reads payload.entry.now tt)
-        ((reply_codec unix_reply).refuses payload.entry.now tt) TellsUnix details.old details.new
-        result }
-{
-    match read_details(payload) {
-        Ok(told) => {
-            *details = told;
-            OK
-        }
-        Err(fault) => u32::from(fault.number()),
-    }
-}
-
-// All of the reply, or the first fault.
-fn read_details<'a>(payload: &'a [u8]) -> Result<UnixDetails<'a>, DecodeError>
-    ensures value { IfOk result (λ told. (v : UnixReply)
-        × (reply_codec unix_reply).reads payload.entry.now tt v × TellsUnix v told) }
-    ensures fault { IfErr result ((reply_codec unix_reply).refuses payload.entry.now tt) }
-{
-    let header = UnixResponseHeader::from_prefix(payload)?;
-    let mut details = UnixDetails::new(UnixHeader::from(header));
-    tell_nlas(&payload[16..], &mut details)?;
-    Ok(details)
-}
-
 impl<'a> UnixDetails<'a> {
-    // The header alone.
-    fn new(header: UnixHeader) -> UnixDetails<'a>
-        ensures { IsUnixTold header result [] }
-    {
-        UnixDetails {
-            header,
-            name: Text::none(),
-            file_inode: NO_NUMBER,
-            file_device: NO_NUMBER,
-            peer: NO_NUMBER,
-            recv_queue: NO_NUMBER,
-            send_queue: NO_NUMBER,
-            receive_buffer: NO_NUMBER,
-            send_buffer: NO_NUMBER,
-            queued: NO_NUMBER,
-            shutdown: NO_NUMBER,
-        }
-    }
-
     // Tells what the attribute says, where nothing of its kind is told yet.
     fn tell(&mut self, nla: NlaView<'a>)
         ensures numbers { self.new ≡ unix_with self.new.name self.old (viewed_nla nla.entry) }
@@ -132,9 +77,27 @@ impl<'a> UnixDetails<'a> {
 }
 
 impl<'a> Told<'a> for UnixDetails<'a> {
-    ghost family = { unix };
+    ghost reply = { unix_reply };
 
-    ghost tells = { λ from told vs. IsUnixTold from.header told vs };
+    ghost tells = { λ h told vs. IsUnixTold (unix_header_of h) told vs };
+
+    fn tell_header(payload: &'a [u8]) -> Result<(Self, &'a [u8]), DecodeError> {
+        let header = UnixResponseHeader::from_prefix(payload)?;
+        let told = UnixDetails {
+            header: UnixHeader::from(header),
+            name: Text::none(),
+            file_inode: NO_NUMBER,
+            file_device: NO_NUMBER,
+            peer: NO_NUMBER,
+            recv_queue: NO_NUMBER,
+            send_queue: NO_NUMBER,
+            receive_buffer: NO_NUMBER,
+            send_buffer: NO_NUMBER,
+            queued: NO_NUMBER,
+            shutdown: NO_NUMBER,
+        };
+        Ok((told, &payload[16..]))
+    }
 
     fn tell_nla(&mut self, nla: &NlaBuffer<'a>) -> Result<(), DecodeError> {
         let view = NlaView::parse(nla)?;

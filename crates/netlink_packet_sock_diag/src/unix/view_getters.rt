@@ -1,6 +1,6 @@
 //! What the attributes of a reply about a UNIX socket tell, read in place.
 
-ghost use Rattle.std.specs.Prelude.{◌≡◌, None, IsSome, option_map};
+ghost use Rattle.std.specs.Prelude.{◌≡◌, if◌then◌else◌, None, IsSome, option_map};
 ghost use Rattle.sock_diag_attributes.specs.SeenName.{viewed_name};
 ghost use Rattle.sock_diag_attributes.specs.SeenNumbers.{viewed_numbers};
 ghost use Rattle.netlink_packet_sock_diag.specs.UnixGetters.{first_of};
@@ -74,7 +74,7 @@ impl<'a> UnixResponseView<'a> {
             (listening_queue_of (viewed_response self.now)) }
         ensures alone { IsSome result → other_queue_of (viewed_response self.now) ≡ None }
     {
-        let (waiting, _) = self.listening_queue()?;
+        let (waiting, _) = self.queue_where(true)?;
         Some(waiting)
     }
 
@@ -83,26 +83,8 @@ impl<'a> UnixResponseView<'a> {
     pub fn max_number_of_pending_connection(&self) -> Option<u32>
         ensures { result ≡ option_map (λ ns. ns.1) (listening_queue_of (viewed_response self.now)) }
     {
-        let (_, limit) = self.listening_queue()?;
+        let (_, limit) = self.queue_where(true)?;
         Some(limit)
-    }
-
-    /// How many bytes wait to be read, of a socket that does not listen: the first number of the
-    /// first `ReceiveQueueLength`.
-    pub fn receive_queue_size(&self) -> Option<u32>
-        ensures { result ≡ option_map (λ ns. ns.0) (other_queue_of (viewed_response self.now)) }
-    {
-        let (received, _) = self.other_queue()?;
-        Some(received)
-    }
-
-    /// How many bytes of memory are taken by what was sent and is not yet read, of a socket that
-    /// does not listen: the second number of the first `ReceiveQueueLength`.
-    pub fn send_queue_size(&self) -> Option<u32>
-        ensures { result ≡ option_map (λ ns. ns.1) (other_queue_of (viewed_response self.now)) }
-    {
-        let (_, sent) = self.other_queue()?;
-        Some(sent)
     }
 
     // The content of the first `ReceiveQueueLength`.
@@ -115,26 +97,34 @@ impl<'a> UnixResponseView<'a> {
         })
     }
 
-    // The lengths of the queues of a listening socket.
-    fn listening_queue(&self) -> Option<(u32, u32)>
-        ensures { result ≡ listening_queue_of (viewed_response self.now) }
+    // The lengths of the queues, where the socket listens or does not, as is asked.
+    fn queue_where(&self, listens: bool) -> Option<(u32, u32)>
+        ensures { result ≡ if listens then listening_queue_of (viewed_response self.now)
+            else other_queue_of (viewed_response self.now) }
     {
-        if self.header().state == TCP_LISTEN {
+        if (self.header().state == TCP_LISTEN) == listens {
             self.queue()
         } else {
             None
         }
     }
 
-    // The lengths of the queues of a socket that does not listen.
-    fn other_queue(&self) -> Option<(u32, u32)>
-        ensures { result ≡ other_queue_of (viewed_response self.now) }
+    /// How many bytes wait to be read, of a socket that does not listen: the first number of the
+    /// first `ReceiveQueueLength`.
+    pub fn receive_queue_size(&self) -> Option<u32>
+        ensures { result ≡ option_map (λ ns. ns.0) (other_queue_of (viewed_response self.now)) }
     {
-        if self.header().state == TCP_LISTEN {
-            None
-        } else {
-            self.queue()
-        }
+        let (received, _) = self.queue_where(false)?;
+        Some(received)
+    }
+
+    /// How many bytes of memory are taken by what was sent and is not yet read, of a socket that
+    /// does not listen: the second number of the first `ReceiveQueueLength`.
+    pub fn send_queue_size(&self) -> Option<u32>
+        ensures { result ≡ option_map (λ ns. ns.1) (other_queue_of (viewed_response self.now)) }
+    {
+        let (_, sent) = self.queue_where(false)?;
+        Some(sent)
     }
 }
 

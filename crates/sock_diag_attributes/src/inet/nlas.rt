@@ -60,6 +60,33 @@ pub type Nla = InetNla<String, DefaultNla>;
 /// bytes are borrowed.
 pub type NlaView<'a> = InetNla<&'a str, NlaBuffer<'a>>;
 
+impl Readable for Nla {
+    const TAKES_MEMORY: bool = true;
+
+    ghost TAKES_MEMORY = { true };
+}
+
+impl Emitable for Nla {
+    ghost use Rattle.sock_diag_attributes.specs.InetAttributes.{inet};
+    ghost use Rattle.sock_diag_attributes.specs.SeenInet.{seen_nla};
+
+    ghost bytes = { λ v. written (attribute_said inet (seen_nla v)) };
+
+    ghost writable = { λ v. HasFittingValue (attribute_said inet (seen_nla v)) };
+
+    fn is_writable(&self) -> bool {
+        self.value_fits()
+    }
+
+    fn buffer_len(&self) -> usize {
+        nla_len(self)
+    }
+
+    fn emit(&self, buffer: &mut [u8]) {
+        emit_nla(self, buffer);
+    }
+}
+
 // What stands in the places of a small vector that are not used. It takes no memory, and all of it
 // is zeros, as memory is before: so to fill the places costs nothing.
 impl MadeWith<Global> for Nla {
@@ -76,6 +103,21 @@ impl MadeWith<Global> for Nla {
             cache: 0,
             send_queue: 0,
         })
+    }
+}
+
+impl Nla {
+    ghost use Rattle.sock_diag_attributes.specs.InetAttributes.{inet};
+    ghost use Rattle.sock_diag_attributes.specs.SeenInet.{seen_nla};
+
+    /// An equal attribute. It fails only for want of memory, which only a text, and an attribute of
+    /// another kind that has bytes, need.
+    pub fn clone(&self, alloc: Global) -> Result<Self, AllocError>
+        ensures equal { IfOk result (λ copy. seen_nla copy ≡ seen_nla self.now) }
+        ensures spare { IsSpareSaid inet (seen_nla self.now) → IsOk result }
+        ensures empty { (attribute_said inet (seen_nla self.now)).value ≡ [] → IsOk result }
+    {
+        self.owned(alloc)
     }
 }
 
@@ -136,21 +178,6 @@ impl<T: AsStr, O: OtherNla> InetNla<T, O> {
     }
 }
 
-impl Nla {
-    ghost use Rattle.sock_diag_attributes.specs.InetAttributes.{inet};
-    ghost use Rattle.sock_diag_attributes.specs.SeenInet.{seen_nla};
-
-    /// An equal attribute. It fails only for want of memory, which only a text, and an attribute of
-    /// another kind that has bytes, need.
-    pub fn clone(&self, alloc: Global) -> Result<Self, AllocError>
-        ensures equal { IfOk result (λ copy. seen_nla copy ≡ seen_nla self.now) }
-        ensures spare { IsSpareSaid inet (seen_nla self.now) → IsOk result }
-        ensures empty { (attribute_said inet (seen_nla self.now)).value ≡ [] → IsOk result }
-    {
-        self.owned(alloc)
-    }
-}
-
 impl<'a> NlaView<'a> {
     ghost use Rattle.sock_diag_attributes.specs.InetAttributes.{inet};
     ghost use Rattle.sock_diag_attributes.specs.SeenInet.{seen_nla, viewed_nla};
@@ -203,12 +230,6 @@ impl<'a> NlaView<'a> {
     }
 }
 
-impl Readable for Nla {
-    const TAKES_MEMORY: bool = true;
-
-    ghost TAKES_MEMORY = { true };
-}
-
 impl<'a> Parseable<NlaBuffer<'a>> for Nla {
     /// Reads the value by the attribute's kind, whatever its flag bits. An attribute of a kind that
     /// is not known here is kept as it is.
@@ -233,26 +254,5 @@ impl<T: AsStr, O: OtherNla> NlaTrait for InetNla<T, O> {
 
     fn emit_value(&self, buffer: &mut [u8]) {
         self.parts().1.emit(buffer);
-    }
-}
-
-impl Emitable for Nla {
-    ghost use Rattle.sock_diag_attributes.specs.InetAttributes.{inet};
-    ghost use Rattle.sock_diag_attributes.specs.SeenInet.{seen_nla};
-
-    ghost bytes = { λ v. written (attribute_said inet (seen_nla v)) };
-
-    ghost writable = { λ v. HasFittingValue (attribute_said inet (seen_nla v)) };
-
-    fn is_writable(&self) -> bool {
-        self.value_fits()
-    }
-
-    fn buffer_len(&self) -> usize {
-        nla_len(self)
-    }
-
-    fn emit(&self, buffer: &mut [u8]) {
-        emit_nla(self, buffer);
     }
 }

@@ -52,6 +52,33 @@ pub type Nla = UnixNla<UnixDiagName, Vec<u32>, DefaultNla>;
 /// bytes are borrowed.
 pub type NlaView<'a> = UnixNla<NameView<'a>, NumbersView<'a>, NlaBuffer<'a>>;
 
+impl Readable for Nla {
+    const TAKES_MEMORY: bool = true;
+
+    ghost TAKES_MEMORY = { true };
+}
+
+impl Emitable for Nla {
+    ghost use Rattle.sock_diag_attributes.specs.UnixAttributes.{unix};
+    ghost use Rattle.sock_diag_attributes.specs.SeenUnix.{seen_nla};
+
+    ghost bytes = { λ v. written (attribute_said unix (seen_nla v)) };
+
+    ghost writable = { λ v. HasFittingValue (attribute_said unix (seen_nla v)) };
+
+    fn is_writable(&self) -> bool {
+        self.value_fits()
+    }
+
+    fn buffer_len(&self) -> usize {
+        nla_len(self)
+    }
+
+    fn emit(&self, buffer: &mut [u8]) {
+        emit_nla(self, buffer);
+    }
+}
+
 // What stands in the places of a small vector that are not used. It takes no memory.
 impl MadeWith<Global> for Nla {
     ghost use Rattle.sock_diag_attributes.specs.UnixAttributes.{unix};
@@ -61,6 +88,21 @@ impl MadeWith<Global> for Nla {
 
     fn made_with(_alloc: Global) -> Self {
         Nla::Peer(0)
+    }
+}
+
+impl Nla {
+    ghost use Rattle.sock_diag_attributes.specs.UnixAttributes.{unix};
+    ghost use Rattle.sock_diag_attributes.specs.SeenUnix.{seen_nla};
+
+    /// An equal attribute. It fails only for want of memory, which only a name, and a list and an
+    /// attribute of another kind that aren't empty, need.
+    pub fn clone(&self, alloc: Global) -> Result<Self, AllocError>
+        ensures equal { IfOk result (λ copy. seen_nla copy ≡ seen_nla self.now) }
+        ensures spare { IsSpareSaid unix (seen_nla self.now) → IsOk result }
+        ensures empty { (attribute_said unix (seen_nla self.now)).value ≡ [] → IsOk result }
+    {
+        self.owned(alloc)
     }
 }
 
@@ -114,21 +156,6 @@ impl<N: LendsName, L: LendsNumbers, O: OtherNla> UnixNla<N, L, O> {
             UnixNla::Shutdown(state) => (UNIX_DIAG_SHUTDOWN, Value::Byte(*state)),
             UnixNla::Other(nla) => (nla.type_word(), Value::Bytes(nla.bytes())),
         }
-    }
-}
-
-impl Nla {
-    ghost use Rattle.sock_diag_attributes.specs.UnixAttributes.{unix};
-    ghost use Rattle.sock_diag_attributes.specs.SeenUnix.{seen_nla};
-
-    /// An equal attribute. It fails only for want of memory, which only a name, and a list and an
-    /// attribute of another kind that aren't empty, need.
-    pub fn clone(&self, alloc: Global) -> Result<Self, AllocError>
-        ensures equal { IfOk result (λ copy. seen_nla copy ≡ seen_nla self.now) }
-        ensures spare { IsSpareSaid unix (seen_nla self.now) → IsOk result }
-        ensures empty { (attribute_said unix (seen_nla self.now)).value ≡ [] → IsOk result }
-    {
-        self.owned(alloc)
     }
 }
 
@@ -186,12 +213,6 @@ impl<'a> NlaView<'a> {
     }
 }
 
-impl Readable for Nla {
-    const TAKES_MEMORY: bool = true;
-
-    ghost TAKES_MEMORY = { true };
-}
-
 impl<'a> Parseable<NlaBuffer<'a>> for Nla {
     /// Reads the value by the attribute's kind, whatever its flag bits. An attribute of a kind that
     /// is not known here is kept as it is.
@@ -216,26 +237,5 @@ impl<N: LendsName, L: LendsNumbers, O: OtherNla> NlaTrait for UnixNla<N, L, O> {
 
     fn emit_value(&self, buffer: &mut [u8]) {
         self.parts().1.emit(buffer);
-    }
-}
-
-impl Emitable for Nla {
-    ghost use Rattle.sock_diag_attributes.specs.UnixAttributes.{unix};
-    ghost use Rattle.sock_diag_attributes.specs.SeenUnix.{seen_nla};
-
-    ghost bytes = { λ v. written (attribute_said unix (seen_nla v)) };
-
-    ghost writable = { λ v. HasFittingValue (attribute_said unix (seen_nla v)) };
-
-    fn is_writable(&self) -> bool {
-        self.value_fits()
-    }
-
-    fn buffer_len(&self) -> usize {
-        nla_len(self)
-    }
-
-    fn emit(&self, buffer: &mut [u8]) {
-        emit_nla(self, buffer);
     }
 }

@@ -6,6 +6,7 @@ ghost use Rattle.std.specs.Int.RustNames.{bit_or};
 ghost use Rattle.bitflags.specs.Sets.{known_bits};
 ghost use Rattle.sock_diag_records.specs.Flags.{inet_states, inet_extensions};
 
+use crate::named::named_flags;
 use bitflags::{Flag, Flags};
 use netlink_core::Exact;
 use std::ops::BitOr;
@@ -14,6 +15,17 @@ use std::ops::BitOr;
 /// the number of its state.
 #[derive(Clone, Debug, Drop, PartialEq, Eq)]
 pub struct StateFlags(u32);
+
+impl BitOr for StateFlags {
+    type Output = StateFlags;
+
+    ghost bitor_gives = { λ v w both. both.0 ≡ bit_or v.0 w.0 };
+
+    /// The flags of both sets.
+    fn bitor(self, other: StateFlags) -> StateFlags {
+        StateFlags(self.0 | other.0)
+    }
+}
 
 impl StateFlags {
     /// The state `TCP_ESTABLISHED`.
@@ -38,64 +50,6 @@ impl StateFlags {
     pub const LISTEN: StateFlags = StateFlags(0x400);
     /// The state `TCP_CLOSING`.
     pub const CLOSING: StateFlags = StateFlags(0x800);
-
-    const FLAGS: &'static [Flag<StateFlags>] = &[
-        Flag {
-            name: "ESTABLISHED",
-            value: StateFlags::ESTABLISHED,
-        },
-        Flag {
-            name: "SYN_SENT",
-            value: StateFlags::SYN_SENT,
-        },
-        Flag {
-            name: "SYN_RECV",
-            value: StateFlags::SYN_RECV,
-        },
-        Flag {
-            name: "FIN_WAIT1",
-            value: StateFlags::FIN_WAIT1,
-        },
-        Flag {
-            name: "FIN_WAIT2",
-            value: StateFlags::FIN_WAIT2,
-        },
-        Flag {
-            name: "TIME_WAIT",
-            value: StateFlags::TIME_WAIT,
-        },
-        Flag {
-            name: "CLOSE",
-            value: StateFlags::CLOSE,
-        },
-        Flag {
-            name: "CLOSE_WAIT",
-            value: StateFlags::CLOSE_WAIT,
-        },
-        Flag {
-            name: "LAST_ACK",
-            value: StateFlags::LAST_ACK,
-        },
-        Flag {
-            name: "LISTEN",
-            value: StateFlags::LISTEN,
-        },
-        Flag {
-            name: "CLOSING",
-            value: StateFlags::CLOSING,
-        },
-    ];
-}
-
-impl BitOr for StateFlags {
-    type Output = StateFlags;
-
-    ghost bitor_gives = { λ v w both. both.0 ≡ bit_or v.0 w.0 };
-
-    /// The flags of both sets.
-    fn bitor(self, other: StateFlags) -> StateFlags {
-        StateFlags(self.0 | other.0)
-    }
 }
 
 impl Exact for StateFlags {
@@ -112,7 +66,10 @@ impl Flags for StateFlags {
     ghost set_of = { λ flags. flags.0 };
 
     fn flags<'a>() -> &'a [Flag<StateFlags>] {
-        StateFlags::FLAGS
+        named_flags!(
+            StateFlags: ESTABLISHED, SYN_SENT, SYN_RECV, FIN_WAIT1, FIN_WAIT2, TIME_WAIT, CLOSE,
+            CLOSE_WAIT, LAST_ACK, LISTEN, CLOSING
+        )
     }
 
     fn bits(&self) -> u32 {
@@ -128,6 +85,17 @@ impl Flags for StateFlags {
 /// one below the kind of its attribute.
 #[derive(Clone, Debug, Drop, PartialEq, Eq)]
 pub struct ExtensionFlags(u8);
+
+impl BitOr for ExtensionFlags {
+    type Output = ExtensionFlags;
+
+    ghost bitor_gives = { λ v w both. both.0 ≡ bit_or v.0 w.0 };
+
+    /// The flags of both sets.
+    fn bitor(self, other: ExtensionFlags) -> ExtensionFlags {
+        ExtensionFlags(self.0 | other.0)
+    }
+}
 
 impl ExtensionFlags {
     /// The attribute `INET_DIAG_MEMINFO`.
@@ -146,52 +114,6 @@ impl ExtensionFlags {
     pub const SKMEMINFO: ExtensionFlags = ExtensionFlags(0x40);
     /// The attribute `INET_DIAG_SHUTDOWN`.
     pub const SHUTDOWN: ExtensionFlags = ExtensionFlags(0x80);
-
-    const FLAGS: &'static [Flag<ExtensionFlags>] = &[
-        Flag {
-            name: "MEMINFO",
-            value: ExtensionFlags::MEMINFO,
-        },
-        Flag {
-            name: "INFO",
-            value: ExtensionFlags::INFO,
-        },
-        Flag {
-            name: "VEGASINFO",
-            value: ExtensionFlags::VEGASINFO,
-        },
-        Flag {
-            name: "CONG",
-            value: ExtensionFlags::CONG,
-        },
-        Flag {
-            name: "TOS",
-            value: ExtensionFlags::TOS,
-        },
-        Flag {
-            name: "TCLASS",
-            value: ExtensionFlags::TCLASS,
-        },
-        Flag {
-            name: "SKMEMINFO",
-            value: ExtensionFlags::SKMEMINFO,
-        },
-        Flag {
-            name: "SHUTDOWN",
-            value: ExtensionFlags::SHUTDOWN,
-        },
-    ];
-}
-
-impl BitOr for ExtensionFlags {
-    type Output = ExtensionFlags;
-
-    ghost bitor_gives = { λ v w both. both.0 ≡ bit_or v.0 w.0 };
-
-    /// The flags of both sets.
-    fn bitor(self, other: ExtensionFlags) -> ExtensionFlags {
-        ExtensionFlags(self.0 | other.0)
-    }
 }
 
 impl Exact for ExtensionFlags {
@@ -208,7 +130,9 @@ impl Flags for ExtensionFlags {
     ghost set_of = { λ flags. flags.0 };
 
     fn flags<'a>() -> &'a [Flag<ExtensionFlags>] {
-        ExtensionFlags::FLAGS
+        named_flags!(
+            ExtensionFlags: MEMINFO, INFO, VEGASINFO, CONG, TOS, TCLASS, SKMEMINFO, SHUTDOWN
+        )
     }
 
     fn bits(&self) -> u8 {

@@ -6,6 +6,7 @@ ghost use Rattle.std.specs.Int.RustNames.{bit_or};
 ghost use Rattle.bitflags.specs.Sets.{known_bits};
 ghost use Rattle.sock_diag_records.specs.Flags.{unix_states, unix_shown};
 
+use crate::named::named_flags;
 use bitflags::{Flag, Flags};
 use netlink_core::Exact;
 use std::ops::BitOr;
@@ -14,24 +15,6 @@ use std::ops::BitOr;
 /// number of its state. A reader drops all others.
 #[derive(Clone, Debug, Drop, PartialEq, Eq)]
 pub struct StateFlags(u32);
-
-impl StateFlags {
-    /// The state `TCP_ESTABLISHED`.
-    pub const ESTABLISHED: StateFlags = StateFlags(0x2);
-    /// The state `TCP_LISTEN`.
-    pub const LISTEN: StateFlags = StateFlags(0x400);
-
-    const FLAGS: &'static [Flag<StateFlags>] = &[
-        Flag {
-            name: "ESTABLISHED",
-            value: StateFlags::ESTABLISHED,
-        },
-        Flag {
-            name: "LISTEN",
-            value: StateFlags::LISTEN,
-        },
-    ];
-}
 
 impl BitOr for StateFlags {
     type Output = StateFlags;
@@ -42,6 +25,13 @@ impl BitOr for StateFlags {
     fn bitor(self, other: StateFlags) -> StateFlags {
         StateFlags(self.0 | other.0)
     }
+}
+
+impl StateFlags {
+    /// The state `TCP_ESTABLISHED`.
+    pub const ESTABLISHED: StateFlags = StateFlags(0x2);
+    /// The state `TCP_LISTEN`.
+    pub const LISTEN: StateFlags = StateFlags(0x400);
 }
 
 impl Exact for StateFlags {
@@ -58,7 +48,7 @@ impl Flags for StateFlags {
     ghost set_of = { λ flags. flags.0 };
 
     fn flags<'a>() -> &'a [Flag<StateFlags>] {
-        StateFlags::FLAGS
+        named_flags!(StateFlags: ESTABLISHED, LISTEN)
     }
 
     fn bits(&self) -> u32 {
@@ -75,6 +65,17 @@ impl Flags for StateFlags {
 #[derive(Clone, Debug, Drop, PartialEq, Eq)]
 pub struct ShowFlags(u32);
 
+impl BitOr for ShowFlags {
+    type Output = ShowFlags;
+
+    ghost bitor_gives = { λ v w both. both.0 ≡ bit_or v.0 w.0 };
+
+    /// The flags of both sets.
+    fn bitor(self, other: ShowFlags) -> ShowFlags {
+        ShowFlags(self.0 | other.0)
+    }
+}
+
 impl ShowFlags {
     /// The attribute `UNIX_DIAG_NAME`, as `UDIAG_SHOW_NAME`.
     pub const NAME: ShowFlags = ShowFlags(0x1);
@@ -88,44 +89,6 @@ impl ShowFlags {
     pub const RQLEN: ShowFlags = ShowFlags(0x10);
     /// The attribute `UNIX_DIAG_MEMINFO`, as `UDIAG_SHOW_MEMINFO`.
     pub const MEMINFO: ShowFlags = ShowFlags(0x20);
-
-    const FLAGS: &'static [Flag<ShowFlags>] = &[
-        Flag {
-            name: "NAME",
-            value: ShowFlags::NAME,
-        },
-        Flag {
-            name: "VFS",
-            value: ShowFlags::VFS,
-        },
-        Flag {
-            name: "PEER",
-            value: ShowFlags::PEER,
-        },
-        Flag {
-            name: "ICONS",
-            value: ShowFlags::ICONS,
-        },
-        Flag {
-            name: "RQLEN",
-            value: ShowFlags::RQLEN,
-        },
-        Flag {
-            name: "MEMINFO",
-            value: ShowFlags::MEMINFO,
-        },
-    ];
-}
-
-impl BitOr for ShowFlags {
-    type Output = ShowFlags;
-
-    ghost bitor_gives = { λ v w both. both.0 ≡ bit_or v.0 w.0 };
-
-    /// The flags of both sets.
-    fn bitor(self, other: ShowFlags) -> ShowFlags {
-        ShowFlags(self.0 | other.0)
-    }
 }
 
 impl Exact for ShowFlags {
@@ -142,7 +105,7 @@ impl Flags for ShowFlags {
     ghost set_of = { λ flags. flags.0 };
 
     fn flags<'a>() -> &'a [Flag<ShowFlags>] {
-        ShowFlags::FLAGS
+        named_flags!(ShowFlags: NAME, VFS, PEER, ICONS, RQLEN, MEMINFO)
     }
 
     fn bits(&self) -> u32 {

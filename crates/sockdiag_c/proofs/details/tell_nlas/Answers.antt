@@ -9,8 +9,8 @@ pub loop-item-init : goal.loop-item-init
 loop-item-init g c = record {
   so_far = [];
   walk = rw (c.into_iter-item-iterator.ensures.into_iter_gives, c.new-item-items.ensures)
-      (walk_begins (says g.T.Told.family) _);
-  told = c.requires;
+      (walk_begins (says g.T.Told.reply.family) _);
+  told = λ h told. told;
 }
 
 pub loop-item-preserved : goal.loop-item-preserved
@@ -20,8 +20,9 @@ loop-item-preserved g c =
     let said = c.in_ok-tell_nla.ensures.value in
     record {
       so_far = inv.so_far ++ said.0 ∷ [];
-      walk = walk_goes_on (says g.T.Told.family) _ _ _ inv.so_far _ said.0 inv.walk start said.1;
-      told = said.2 _ inv.so_far inv.told;
+      walk = walk_goes_on (says g.T.Told.reply.family) _ _ _ inv.so_far _ said.0 inv.walk start
+          said.1;
+      told = λ h told. said.2 h inv.so_far (inv.told h told);
     }
 
 pub returns-in_err-nla-clause-fault : goal.returns-in_err-nla-clause-fault
@@ -29,7 +30,8 @@ returns-in_err-nla-clause-fault g c =
     let p = err_from_is_err_and c.from_residual.result c.from_residual.ensures.1 in
     let stop = rw c.in_err-nla.was at c.in-Some.ensures.steps in
     let inv = c.loop-item.invariant in
-    rw (p.1, p.2) (walk_is_cut_off (says g.T.Told.family) _ _ inv.so_far _ inv.walk stop.0 stop.1)
+    rw (p.1, p.2) (walk_is_cut_off (says g.T.Told.reply.family) _ _ inv.so_far _ inv.walk stop.0
+    stop.1)
 
 pub returns-in_err-tell_nla-clause-fault : goal.returns-in_err-tell_nla-clause-fault
 returns-in_err-tell_nla-clause-fault g c =
@@ -37,13 +39,13 @@ returns-in_err-tell_nla-clause-fault g c =
     c.from_residual-in_err-tell_nla.ensures.1 in
     let start = rw c.in_ok-nla.was at c.in-Some.ensures.steps in
     let inv = c.loop-item.invariant in
-    rw (p.1, p.2) (walk_is_refused (says g.T.Told.family) _ _ _ inv.so_far _ _ inv.walk start
+    rw (p.1, p.2) (walk_is_refused (says g.T.Told.reply.family) _ _ _ inv.so_far _ _ inv.walk start
     c.in_err-tell_nla.ensures.fault)
 
 pub returns-clause-value : goal.returns-clause-value
 returns-clause-value g c =
     let inv = c.loop-item.invariant in (
       inv.so_far,
-      walk_ends (says g.T.Told.family) _ _ inv.so_far inv.walk c.in-None.ensures.steps.0,
+      walk_ends (says g.T.Told.reply.family) _ _ inv.so_far inv.walk c.in-None.ensures.steps.0,
       inv.told,
     )

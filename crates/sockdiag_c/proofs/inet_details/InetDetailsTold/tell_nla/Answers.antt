@@ -7,7 +7,7 @@ pub returns-clause-value : goal.returns-clause-value
 returns-clause-value c = (
   viewed_nla c.in_ok-view.view,
   c.in_ok-view.ensures,
-  λ from before told. inet_more _ _ _ before _ c.tell.ensures.numbers c.tell.ensures.congestion
+  λ h before told. inet_more _ _ _ before _ c.tell.ensures.numbers c.tell.ensures.congestion
       told,
 )
 

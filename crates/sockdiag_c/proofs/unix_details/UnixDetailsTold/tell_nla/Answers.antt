@@ -7,7 +7,7 @@ pub returns-clause-value : goal.returns-clause-value
 returns-clause-value c = (
   viewed_nla c.in_ok-view.view,
   c.in_ok-view.ensures,
-  λ from before told. unix_more _ _ _ before _ c.tell.ensures.numbers c.tell.ensures.name told,
+  λ h before told. unix_more _ _ _ before _ c.tell.ensures.numbers c.tell.ensures.name told,
 )
 
 pub returns-in_err-view-clause-fault : goal.returns-in_err-view-clause-fault
