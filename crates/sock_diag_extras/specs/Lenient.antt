@@ -1,0 +1,53 @@
+-- The attributes of bytes, each read by itself.
+use Rattle.std.specs.Prelude.{◌≡◌, ◌≢◌, ℕ, ◌⊎◌, List, [], ◌∷◌, ◌++◌, map, Option, None, Some}
+use Rattle.std.specs.Prelude.{Result, Err, MatchOption}
+use Rattle.std.specs.Result.{result_map_both}
+use Rattle.netlink_core.specs.declared.fault.DecodeError.{DecodeError}
+use Rattle.netlink_core.specs.Attribute.{Attribute, Cut, CutOff, IsFramingFault, StartsWith}
+use Rattle.netlink_core.specs.Family.{Family, Said, says}
+use Rattle.netlink_core.specs.Walk.{attribute_of, bytes_left}
+use Rattle.sock_diag_extras.specs.declared.lenient.LenientNlas.{LenientNlas}
+use Rattle.sock_diag_extras.specs.declared.lenient.Refused.{Refused}
+use Rattle.sock_diag_extras.specs.declared.lenient.Refused.TheVariants as refused
+
+-- why something is refused, and the attribute that is, where the framing isn't at fault
+pub record Refusal : Type 0 where
+  pub attribute : Option Attribute
+  pub fault : DecodeError
+
+-- what is seen of what is refused
+abbrev pub refusal_of : Refused → Refusal
+refusal_of (refused.Attribute nla e) = record { attribute = Some (attribute_of nla); fault = e }
+refusal_of (refused.Framing e) = record { attribute = None; fault = e }
+
+-- what an attribute says, or why it is refused
+abbrev pub told : (F : Family) → Attribute → Result (Said F) Refusal
+told F a = result_map_both (λ said. said) (λ e. record { attribute = Some a; fault = e }) (says F a)
+
+-- what is seen of an item
+abbrev pub seen : {V : Type 0} (F : Family) → (V → Said F) → Result V Refused
+    → Result (Said F) Refusal
+seen F viewed item = result_map_both viewed refusal_of item
+
+-- what is told of the bytes in front, and what is left behind them: of the attribute there, or the
+-- framing fault
+abbrev pub FrontIs : (F : Family) → List ℕ → Result (Said F) Refusal → List ℕ → Type 0
+FrontIs F left item later =
+    ((a : Attribute) × StartsWith left a later × (item ≡ told F a))
+    ⊎ ((e : DecodeError) × (left ≢ []) × IsFramingFault left e × (later ≡ [])
+    × (item ≡ Err (record { attribute = None; fault = e })))
+
+-- what a step of the walk gives: what is told of the bytes in front, or None where none are left
+abbrev pub GivesLeniently : {V : Type 0} (F : Family) → (V → Said F) → LenientNlas V
+    → Option (Result V Refused) → LenientNlas V → Type 0
+GivesLeniently F viewed old given new =
+    MatchOption given ((bytes_left old.walk ≡ []) × (bytes_left new.walk ≡ []))
+    (λ item. FrontIs F (bytes_left old.walk) (seen F viewed item) (bytes_left new.walk))
+
+-- The items of bytes: of each attribute that the bytes are cut into what it says or why it is
+-- refused, in order, and last the fault of the framing, where there is one.
+abbrev pub ItemsAre : (F : Family) → List ℕ → List (Result (Said F) Refusal) → Type 0
+ItemsAre F bytes items = (attributes : List Attribute) × (
+    (Cut bytes attributes × (items ≡ map (told F) attributes))
+    ⊎ ((e : DecodeError) × CutOff IsFramingFault bytes attributes e
+    × (items ≡ map (told F) attributes ++ Err (record { attribute = None; fault = e }) ∷ [])))

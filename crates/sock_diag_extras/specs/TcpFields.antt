@@ -1,0 +1,108 @@
+-- The fields of `struct tcp_info` of linux/tcp.h, as Linux 6.18 has them.
+use Rattle.std.specs.Prelude.{ℕ, ◌+◌, List, [], ◌∷◌, drop}
+use Rattle.byteorder.specs.Endian.{little_number}
+use Rattle.sock_diag_extras.specs.declared.tcp_info.TcpField.{TcpField}
+use Rattle.sock_diag_extras.specs.declared.tcp_info.TcpField.TheVariants as field
+
+-- where a field stands, and how many bytes it has
+abbrev pub span_of : TcpField → ℕ × ℕ
+span_of field.State = (0, 1)
+span_of field.CaState = (1, 1)
+span_of field.Retransmits = (2, 1)
+span_of field.Probes = (3, 1)
+span_of field.Backoff = (4, 1)
+span_of field.Options = (5, 1)
+span_of field.Wscale = (6, 1)
+span_of field.DeliveryRateAppLimited = (7, 1)
+span_of field.Rto = (8, 4)
+span_of field.Ato = (12, 4)
+span_of field.SndMss = (16, 4)
+span_of field.RcvMss = (20, 4)
+span_of field.Unacked = (24, 4)
+span_of field.Sacked = (28, 4)
+span_of field.Lost = (32, 4)
+span_of field.Retrans = (36, 4)
+span_of field.Fackets = (40, 4)
+span_of field.LastDataSent = (44, 4)
+span_of field.LastAckSent = (48, 4)
+span_of field.LastDataRecv = (52, 4)
+span_of field.LastAckRecv = (56, 4)
+span_of field.Pmtu = (60, 4)
+span_of field.RcvSsthresh = (64, 4)
+span_of field.Rtt = (68, 4)
+span_of field.Rttvar = (72, 4)
+span_of field.SndSsthresh = (76, 4)
+span_of field.SndCwnd = (80, 4)
+span_of field.Advmss = (84, 4)
+span_of field.Reordering = (88, 4)
+span_of field.RcvRtt = (92, 4)
+span_of field.RcvSpace = (96, 4)
+span_of field.TotalRetrans = (100, 4)
+span_of field.PacingRate = (104, 8)
+span_of field.MaxPacingRate = (112, 8)
+span_of field.BytesAcked = (120, 8)
+span_of field.BytesReceived = (128, 8)
+span_of field.SegsOut = (136, 4)
+span_of field.SegsIn = (140, 4)
+span_of field.NotsentBytes = (144, 4)
+span_of field.MinRtt = (148, 4)
+span_of field.DataSegsIn = (152, 4)
+span_of field.DataSegsOut = (156, 4)
+span_of field.DeliveryRate = (160, 8)
+span_of field.BusyTime = (168, 8)
+span_of field.RwndLimited = (176, 8)
+span_of field.SndbufLimited = (184, 8)
+span_of field.Delivered = (192, 4)
+span_of field.DeliveredCe = (196, 4)
+span_of field.BytesSent = (200, 8)
+span_of field.BytesRetrans = (208, 8)
+span_of field.DsackDups = (216, 4)
+span_of field.ReordSeen = (220, 4)
+span_of field.RcvOoopack = (224, 4)
+span_of field.SndWnd = (228, 4)
+span_of field.RcvWnd = (232, 4)
+span_of field.Rehash = (236, 4)
+span_of field.TotalRto = (240, 2)
+span_of field.TotalRtoRecoveries = (242, 2)
+span_of field.TotalRtoTime = (244, 4)
+span_of field.ReceivedCe = (248, 4)
+span_of field.DeliveredE1Bytes = (252, 4)
+span_of field.DeliveredE0Bytes = (256, 4)
+span_of field.DeliveredCeBytes = (260, 4)
+span_of field.ReceivedE1Bytes = (264, 4)
+span_of field.ReceivedE0Bytes = (268, 4)
+span_of field.ReceivedCeBytes = (272, 4)
+span_of field.AccecnFailMode = (276, 2)
+span_of field.AccecnOptSeen = (278, 2)
+
+-- where it ends
+abbrev pub end_of : TcpField → ℕ
+end_of f = (span_of f).0 + (span_of f).1
+
+-- its number in bytes that have all of it
+abbrev pub value_of : TcpField → List ℕ → ℕ
+value_of f bytes = little_number (span_of f).1 (drop (span_of f).0 bytes)
+
+-- the fields that the port reads, in order
+abbrev pub first_fields : List TcpField
+first_fields =
+    field.State ∷ field.CaState ∷ field.Retransmits ∷ field.Probes ∷ field.Backoff ∷
+    field.Options ∷ field.Wscale ∷ field.DeliveryRateAppLimited ∷ field.Rto ∷ field.Ato ∷
+    field.SndMss ∷ field.RcvMss ∷ field.Unacked ∷ field.Sacked ∷ field.Lost ∷ field.Retrans ∷
+    field.Fackets ∷ field.LastDataSent ∷ field.LastAckSent ∷ field.LastDataRecv ∷
+    field.LastAckRecv ∷ field.Pmtu ∷ field.RcvSsthresh ∷ field.Rtt ∷ field.Rttvar ∷
+    field.SndSsthresh ∷ field.SndCwnd ∷ field.Advmss ∷ field.Reordering ∷ field.RcvRtt ∷
+    field.RcvSpace ∷ field.TotalRetrans ∷ field.PacingRate ∷ field.MaxPacingRate ∷
+    field.BytesAcked ∷ field.BytesReceived ∷ field.SegsOut ∷ field.SegsIn ∷ field.NotsentBytes ∷
+    field.MinRtt ∷ field.DataSegsIn ∷ field.DataSegsOut ∷ field.DeliveryRate ∷ field.BusyTime ∷
+    field.RwndLimited ∷ field.SndbufLimited ∷ field.Delivered ∷ field.DeliveredCe ∷
+    field.BytesSent ∷ field.BytesRetrans ∷ field.DsackDups ∷ field.ReordSeen ∷ field.RcvOoopack
+    ∷ field.SndWnd ∷ []
+
+-- those behind them, in order
+abbrev pub later_fields : List TcpField
+later_fields =
+    field.RcvWnd ∷ field.Rehash ∷ field.TotalRto ∷ field.TotalRtoRecoveries ∷ field.TotalRtoTime
+    ∷ field.ReceivedCe ∷ field.DeliveredE1Bytes ∷ field.DeliveredE0Bytes ∷
+    field.DeliveredCeBytes ∷ field.ReceivedE1Bytes ∷ field.ReceivedE0Bytes ∷
+    field.ReceivedCeBytes ∷ field.AccecnFailMode ∷ field.AccecnOptSeen ∷ []

@@ -1,0 +1,138 @@
+//! What algorithms of congestion control tell of a TCP connection: INET_DIAG_VEGASINFO,
+//! INET_DIAG_DCTCPINFO and INET_DIAG_BBRINFO. Which one comes is told by INET_DIAG_CONG.
+
+ghost use Rattle.std.specs.Prelude.{refl};
+ghost use Rattle.netlink_core.proofs.FormatLaws.{plain_sound, record_laws};
+ghost use Rattle.sock_diag_extras.specs.Congestion.{bbr_info, dctcp_info, vegas_info};
+ghost use Rattle.sock_diag_extras.specs.Layout.{format_under};
+
+use crate::told::Told;
+use byteorder::{ByteOrder, LittleEndian};
+use netlink_core::rows::{long_words_at, words_at};
+
+/// What TCP Vegas measures, and other algorithms that tell alike: `struct tcpvegas_info` of
+/// `linux/inet_diag.h`. It is 16 bytes, each word a `u32`, low byte first.
+#[derive(Clone, Copy, Debug, PartialEq, Eq)]
+pub struct VegasInfo {
+    /// Whether it is in use, `tcpv_enabled`, at 0: 0 for no.
+    pub enabled: u32,
+    /// How many round trips were measured, `tcpv_rttcnt`, at 4.
+    pub rtt_count: u32,
+    /// The round trip's time, `tcpv_rtt`, at 8, in microseconds.
+    pub rtt: u32,
+    /// The shortest round trip's time, `tcpv_minrtt`, at 12, in microseconds.
+    pub min_rtt: u32,
+}
+
+impl Told for VegasInfo {
+    ghost layout = { vegas_info };
+
+    fn size() -> usize {
+        16
+    }
+
+    fn from_row(row: &[u8]) -> Self {
+        let [enabled, rtt_count, rtt, min_rtt] = words_at::<4>(row, 0);
+        VegasInfo {
+            enabled,
+            rtt_count,
+            rtt,
+            min_rtt,
+        }
+    }
+
+    fn write_row(&self, row: &mut [u8]) {
+        let words = [self.enabled, self.rtt_count, self.rtt, self.min_rtt];
+        LittleEndian::write_u32_into(&words, row);
+    }
+
+    ghost laws = { λ name. record_laws (format_under vegas_info name) (plain_sound refl (λ _. refl)
+        (λ _. refl) (λ _. tt) (λ _ _. refl)) };
+}
+
+/// What DCTCP measures: `struct tcp_dctcp_info` of `linux/inet_diag.h`. It is 16 bytes, low byte
+/// first.
+#[derive(Clone, Copy, Debug, PartialEq, Eq)]
+pub struct DctcpInfo {
+    /// Whether it is in use, `dctcp_enabled`, at 0: 0 for no.
+    pub enabled: u16,
+    /// Whether the last segment came marked for congestion, `dctcp_ce_state`, at 2: 0 for no.
+    pub ce_state: u16,
+    /// The part of the bytes that is marked, `dctcp_alpha`, at 4, in 1024ths.
+    pub alpha: u32,
+    /// How many bytes the peer told to be marked, `dctcp_ab_ecn`, at 8.
+    pub marked_bytes: u32,
+    /// How many bytes were acknowledged, `dctcp_ab_tot`, at 12.
+    pub acked_bytes: u32,
+}
+
+impl Told for DctcpInfo {
+    ghost layout = { dctcp_info };
+
+    fn size() -> usize {
+        16
+    }
+
+    fn from_row(row: &[u8]) -> Self {
+        let [alpha, marked_bytes, acked_bytes] = words_at::<3>(row, 4);
+        DctcpInfo {
+            enabled: LittleEndian::read_u16(row),
+            ce_state: LittleEndian::read_u16(&row[2..]),
+            alpha,
+            marked_bytes,
+            acked_bytes,
+        }
+    }
+
+    fn write_row(&self, row: &mut [u8]) {
+        let (shorts, words) = row.split_at_mut(4);
+        LittleEndian::write_u16_into(&[self.enabled, self.ce_state], shorts);
+        let numbers = [self.alpha, self.marked_bytes, self.acked_bytes];
+        LittleEndian::write_u32_into(&numbers, words);
+    }
+
+    ghost laws = { λ name. record_laws (format_under dctcp_info name) (plain_sound refl (λ _. refl)
+        (λ _. refl) (λ _. tt) (λ _ _. refl)) };
+}
+
+/// What BBR measures: `struct tcp_bbr_info` of `linux/inet_diag.h`. It is 20 bytes, low byte first.
+#[derive(Clone, Copy, Debug, PartialEq, Eq)]
+pub struct BbrInfo {
+    /// The bandwidth, `bbr_bw_lo` at 0 and `bbr_bw_hi` at 4, in bytes a second.
+    pub bandwidth: u64,
+    /// The shortest round trip's time, `bbr_min_rtt`, at 8, in microseconds.
+    pub min_rtt: u32,
+    /// By how much the rate is above the bandwidth, `bbr_pacing_gain`, at 12, in 256ths.
+    pub pacing_gain: u32,
+    /// By how much the window is above what fills the path, `bbr_cwnd_gain`, at 16, in 256ths.
+    pub window_gain: u32,
+}
+
+impl Told for BbrInfo {
+    ghost layout = { bbr_info };
+
+    fn size() -> usize {
+        20
+    }
+
+    fn from_row(row: &[u8]) -> Self {
+        let [bandwidth] = long_words_at::<1>(row, 0);
+        let [min_rtt, pacing_gain, window_gain] = words_at::<3>(row, 8);
+        BbrInfo {
+            bandwidth,
+            min_rtt,
+            pacing_gain,
+            window_gain,
+        }
+    }
+
+    fn write_row(&self, row: &mut [u8]) {
+        let (bandwidth, words) = row.split_at_mut(8);
+        LittleEndian::write_u64(bandwidth, self.bandwidth);
+        let numbers = [self.min_rtt, self.pacing_gain, self.window_gain];
+        LittleEndian::write_u32_into(&numbers, words);
+    }
+
+    ghost laws = { λ name. record_laws (format_under bbr_info name) (plain_sound refl (λ _. refl)
+        (λ _. refl) (λ _. tt) (λ _ _. refl)) };
+}

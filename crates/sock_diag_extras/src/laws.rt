@@ -1,0 +1,34 @@
+//! Laws of what is read leniently. The functions do nothing: their contracts are the laws.
+
+ghost use Rattle.std.specs.Prelude.{◌≡◌, List, Result, Ok, map};
+ghost use Rattle.std.specs.Iterator.{Drains};
+ghost use Rattle.netlink_core.specs.Attribute.{AttributesMean};
+ghost use Rattle.netlink_core.specs.Family.{says};
+ghost use Rattle.netlink_core.specs.Walk.{bytes_left};
+ghost use Rattle.attribute_lists.specs.AttributesIn.{HasNoFault, values_in};
+ghost use Rattle.sock_diag_extras.specs.Lenient.{GivesLeniently, ItemsAre, seen};
+ghost use Rattle.sock_diag_extras.specs.declared.lenient.LenientNlas.{LenientNlas};
+ghost use Rattle.sock_diag_extras.specs.declared.lenient.Refused.{Refused};
+
+use netlink_core::FamilyView;
+
+/// A whole walk gives of each attribute that the bytes are cut into what it says or why it is
+/// refused, in order, and last the fault of the framing, where there is one.
+pub fn whole_lenient_walk<'a, V: FamilyView<'a>>()
+    ensures items { (walk : LenientNlas V) (given : List (Result V Refused))
+        → Drains (GivesLeniently V.family V.viewed) walk given
+        → ItemsAre V.family (bytes_left walk.walk) (map (seen V.family V.viewed) given) }
+{}
+
+/// Where nothing is refused a whole walk gives what the strict view does; and where a whole walk
+/// refuses nothing, neither does the strict view.
+pub fn lenient_walk_of_good_bytes<'a, V: FamilyView<'a>>()
+    ensures strict { (walk : LenientNlas V) (given : List (Result V Refused))
+        → HasNoFault (says V.family) (bytes_left walk.walk)
+        → Drains (GivesLeniently V.family V.viewed) walk given
+        → map (seen V.family V.viewed) given
+        ≡ map Ok (values_in (says V.family) (bytes_left walk.walk)) }
+    ensures accepted { (walk : LenientNlas V) (views : List V)
+        → Drains (GivesLeniently V.family V.viewed) walk (map Ok views)
+        → AttributesMean (says V.family) (bytes_left walk.walk) (map V.viewed views) }
+{}

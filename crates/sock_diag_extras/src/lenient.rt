@@ -1,0 +1,212 @@
+//! A reply of which each attribute is read by itself: one that is refused hides no other.
+
+ghost use Rattle.std.specs.Prelude.{◌≡◌, ◌+◌, ◌/◌, Ok, Err, IfOk, IfErr, IfSome, drop, length};
+ghost use Rattle.std.specs.Prelude.{refl, option_map};
+ghost use Rattle.std.specs.Iterator.{UpTo, at_most};
+ghost use Rattle.std.specs.Iterator.SizeHint.{IsWithinCount};
+ghost use Rattle.netlink_core.specs.Attribute.{kind_of};
+ghost use Rattle.netlink_core.specs.Reply.{Reply};
+ghost use Rattle.netlink_core.specs.Walk.{attribute_of, bytes_left};
+ghost use Rattle.netlink_packet_sock_diag.specs.InetReply.{inet_reply};
+ghost use Rattle.netlink_packet_sock_diag.specs.UnixReply.{unix_reply};
+
+use netlink_core::{DecodeError, FamilyView, NlaBuffer, NlasIterator};
+use netlink_packet_sock_diag::inet::InetResponseHeader;
+use netlink_packet_sock_diag::inet::nlas::NlaView as InetNlaView;
+use netlink_packet_sock_diag::unix::UnixResponseHeader;
+use netlink_packet_sock_diag::unix::nlas::NlaView as UnixNlaView;
+use std::marker::PhantomData;
+
+/// What stands in the place of an attribute and can't be read, and why.
+#[derive(Clone, Copy, Debug)]
+pub enum Refused<'a> {
+    /// An attribute whose value its kind refuses. The walk goes on behind it.
+    Attribute(NlaBuffer<'a>, DecodeError),
+    /// Bytes that no attribute begins. Nothing follows.
+    Framing(DecodeError),
+}
+
+impl<'a> Refused<'a> {
+    ghost use Rattle.sock_diag_extras.specs.Lenient.{refusal_of};
+
+    /// Why it is refused.
+    pub fn fault(&self) -> DecodeError
+        ensures { result ≡ (refusal_of self.now).fault }
+    {
+        match self {
+            Refused::Attribute(_, fault) | Refused::Framing(fault) => *fault,
+        }
+    }
+
+    /// The attribute that is refused: `kind()` is its type word without the two flag bits, and
+    /// `value()` its bytes. There is none where the framing is at fault.
+    pub fn attribute(&self) -> Option<NlaBuffer<'a>>
+        ensures { option_map attribute_of result ≡ (refusal_of self.now).attribute }
+    {
+        match self {
+            Refused::Attribute(nla, _) => Some(*nla),
+            Refused::Framing(_) => None,
+        }
+    }
+
+    /// The kind of the attribute that is refused.
+    pub fn kind(&self) -> Option<u16>
+        ensures { result ≡ option_map kind_of (refusal_of self.now).attribute }
+    {
+        match self {
+            Refused::Attribute(nla, _) => Some(nla.kind()),
+            Refused::Framing(_) => None,
+        }
+    }
+}
+
+/// The attributes in bytes, in the order that they came, each read by itself.
+///
+/// One that is refused is given with its bytes and its fault, and the walk goes on. Where the
+/// framing is at fault that is given, and then nothing. It takes no memory.
+#[derive(Drop)]
+pub struct LenientNlas<'a, V> {
+    walk: NlasIterator<'a>,
+    view: PhantomData<V>,
+}
+
+impl<'a, V> LenientNlas<'a, V> {
+    /// The walk over these bytes.
+    pub fn new(bytes: &'a [u8]) -> LenientNlas<'a, V>
+        ensures { bytes_left result.walk ≡ bytes.entry.now }
+    {
+        LenientNlas {
+            walk: NlasIterator::new(bytes),
+            view: PhantomData,
+        }
+    }
+}
+
+impl<'a, V: FamilyView<'a>> Iterator for LenientNlas<'a, V> {
+    ghost use Rattle.sock_diag_extras.specs.Lenient.{GivesLeniently};
+
+    type Item = Result<V, Refused<'a>>;
+
+    // What the attribute at the front of what was left says, or why it is refused, and then what
+    // stands behind it. Or the framing fault there, and then nothing.
+    ghost next_gives = { GivesLeniently V.family V.viewed };
+
+    // At most one item for each four bytes, rounded up.
+    ghost remaining = { λ nlas. at_most ((length (bytes_left nlas.walk) + 3) / 4) };
+
+    #[inline(always)]
+    fn next(&mut self) -> Option<Result<V, Refused<'a>>> {
+        let nla = match self.walk.next()? {
+            Ok(nla) => nla,
+            Err(fault) => return Some(Err(Refused::Framing(fault))),
+        };
+        Some(match V::read_view(&nla) {
+            Ok(view) => Ok(view),
+            Err(fault) => Err(Refused::Attribute(nla, fault)),
+        })
+    }
+
+    /// How many are left is told by the walk alone.
+    fn size_hint(&self) -> (usize, Option<usize>)
+        ensures lower { IsWithinCount result.0
+            (at_most ((length (bytes_left self.now.walk) + 3) / 4)) }
+        ensures upper { IfSome result.1
+            (UpTo (at_most ((length (bytes_left self.now.walk) + 3) / 4))) }
+        ensures unknown { result ≡ (0, None) }
+    {
+        (0, None)
+    }
+}
+
+/// The header of the replies of one family, and how the attributes behind it are read.
+pub trait LenientHeader<'a>: Sized {
+    /// An attribute, read in place.
+    type View: FamilyView<'a>;
+
+    // The replies, and what a header says in them.
+    ghost reply: { Reply };
+
+    ghost told: { Self → reply.header.Value };
+
+    /// The header, and the bytes behind it.
+    fn split(bytes: &'a [u8]) -> Result<(Self, &'a [u8]), DecodeError>
+        ensures header { IfOk result (λ parts.
+            reply.header.reads tt bytes.entry.now ≡ Ok (told parts.0)) }
+        ensures behind { IfOk result (λ parts.
+            parts.1.now ≡ drop reply.size bytes.entry.now) }
+        ensures fault { IfErr result (λ fault. reply.header.reads tt bytes.entry.now ≡ Err fault) };
+}
+
+impl<'a> LenientHeader<'a> for InetResponseHeader {
+    type View = InetNlaView<'a>;
+
+    ghost reply = { inet_reply };
+
+    ghost told = { λ header. header };
+
+    fn split(bytes: &'a [u8]) -> Result<(Self, &'a [u8]), DecodeError> {
+        let header = InetResponseHeader::from_prefix(bytes)?;
+        Ok((header, &bytes[72..]))
+    }
+}
+
+impl<'a> LenientHeader<'a> for UnixResponseHeader {
+    type View = UnixNlaView<'a>;
+
+    ghost reply = { unix_reply };
+
+    ghost told = { λ header. header };
+
+    fn split(bytes: &'a [u8]) -> Result<(Self, &'a [u8]), DecodeError> {
+        let header = UnixResponseHeader::from_prefix(bytes)?;
+        Ok((header, &bytes[16..]))
+    }
+}
+
+/// A reply of any family, of which each attribute is read by itself.
+#[derive(Drop)]
+pub struct LenientReply<'a, H> {
+    header: H,
+    // What follows the header.
+    bytes: &'a [u8],
+}
+
+/// The reply about one IPv4 or IPv6 socket, of which each attribute is read by itself.
+///
+/// Of `parse`, fewer than 72 bytes are `BufferTooSmall`, then another family than 2 and 10 is
+/// `UnsupportedFamily`.
+pub type LenientInetReply<'a> = LenientReply<'a, InetResponseHeader>;
+
+/// The reply about one UNIX socket, of which each attribute is read by itself.
+///
+/// Of `parse`, fewer than 16 bytes are `BufferTooSmall`.
+pub type LenientUnixReply<'a> = LenientReply<'a, UnixResponseHeader>;
+
+impl<'a, H: LenientHeader<'a>> LenientReply<'a, H> {
+    /// Reads the header, and looks at no attribute. It takes no memory.
+    pub fn parse(bytes: &'a [u8]) -> Result<LenientReply<'a, H>, DecodeError>
+        ensures header { IfOk result (λ lenient.
+            H.reply.header.reads tt bytes.entry.now ≡ Ok (H.told lenient.header)) }
+        ensures behind { IfOk result (λ lenient.
+            lenient.bytes.now ≡ drop H.reply.size bytes.entry.now) }
+        ensures fault { IfErr result (λ fault.
+            H.reply.header.reads tt bytes.entry.now ≡ Err fault) }
+    {
+        let (header, bytes) = H::split(bytes)?;
+        Ok(LenientReply { header, bytes })
+    }
+
+    /// The header, which tells the socket.
+    pub fn header(&self) -> &H
+        ensures { result.now ≡ self.now.header }
+    {
+        &self.header
+    }
+
+    /// The attributes in the order that they came, each what it says or why it is refused.
+    pub fn attributes(&self) -> LenientNlas<'a, H::View>
+        ensures { bytes_left result.walk ≡ self.now.bytes.now }
+    {
+        LenientNlas::new(self.bytes)
+    }
+}

@@ -1,0 +1,89 @@
+//! The options of an internet socket that INET_DIAG_SOCKOPT tells.
+
+ghost use Rattle.std.specs.Prelude.{◌≡◌, ◌↔◌, IsBitSet, IsTrue, refl};
+ghost use Rattle.netlink_core.proofs.FormatLaws.{plain_sound, record_laws};
+ghost use Rattle.sock_diag_extras.specs.Layout.{format_under};
+ghost use Rattle.sock_diag_extras.specs.SocketOptions.{socket_options};
+
+use crate::told::Told;
+use byteorder::{ByteOrder, LittleEndian};
+
+/// An option of an internet socket, by its bit in `struct inet_diag_sockopt` of
+/// `linux/inet_diag.h`; ip(7) says what most of them mean.
+#[derive(Clone, Copy, Debug, PartialEq, Eq)]
+pub enum SocketOption {
+    /// `IP_RECVERR`, bit 0.
+    RecvErr,
+    /// The socket is of a protocol with connections, bit 1.
+    IsIcsk,
+    /// `IP_FREEBIND`, bit 2.
+    FreeBind,
+    /// `IP_HDRINCL`, bit 3.
+    HdrIncl,
+    /// `IP_MULTICAST_LOOP`, bit 4.
+    McLoop,
+    /// `IP_TRANSPARENT`, bit 5.
+    Transparent,
+    /// `IP_MULTICAST_ALL`, bit 6.
+    McAll,
+    /// `IP_NODEFRAG`, bit 7.
+    NoDefrag,
+    /// `IP_BIND_ADDRESS_NO_PORT`, bit 0 of the second byte.
+    BindAddressNoPort,
+    /// `IP_RECVERR_RFC4884`, bit 1 of the second byte.
+    RecvErrRfc4884,
+    /// `TCP_FASTOPEN_CONNECT`, bit 2 of the second byte.
+    DeferConnect,
+}
+
+/// The options of an internet socket: the two bytes of INET_DIAG_SOCKOPT.
+#[derive(Clone, Copy, Debug, PartialEq, Eq)]
+pub struct SocketOptions {
+    /// The bits of both bytes, the first byte low.
+    pub bits: u16,
+}
+
+impl Told for SocketOptions {
+    ghost layout = { socket_options };
+
+    fn size() -> usize {
+        2
+    }
+
+    fn from_row(row: &[u8]) -> Self {
+        SocketOptions {
+            bits: LittleEndian::read_u16(row),
+        }
+    }
+
+    fn write_row(&self, row: &mut [u8]) {
+        LittleEndian::write_u16(row, self.bits);
+    }
+
+    ghost laws = { λ name. record_laws (format_under socket_options name) (plain_sound refl
+        (λ _. refl) (λ _. refl) (λ _. tt) (λ _ _. refl)) };
+}
+
+impl SocketOptions {
+    ghost use Rattle.sock_diag_extras.specs.SocketOptions.{bit_of};
+
+    /// Whether the option is set.
+    pub fn has(&self, option: SocketOption) -> bool
+        ensures { IsTrue result ↔ IsBitSet self.now.bits (bit_of option) }
+    {
+        let bit = match option {
+            SocketOption::RecvErr => 1,
+            SocketOption::IsIcsk => 2,
+            SocketOption::FreeBind => 4,
+            SocketOption::HdrIncl => 8,
+            SocketOption::McLoop => 16,
+            SocketOption::Transparent => 32,
+            SocketOption::McAll => 64,
+            SocketOption::NoDefrag => 128,
+            SocketOption::BindAddressNoPort => 256,
+            SocketOption::RecvErrRfc4884 => 512,
+            SocketOption::DeferConnect => 1024,
+        };
+        self.bits & bit != 0
+    }
+}

@@ -1,0 +1,301 @@
+//! What INET_DIAG_INFO tells, as far as its bytes go: fewer than the port reads, or more.
+
+ghost use Rattle.std.specs.Prelude.{◌≡◌, ◌≤◌, ◌+◌, drop, length, SomeIff};
+ghost use Rattle.std.specs.Result.{result_ok};
+ghost use Rattle.byteorder.specs.Endian.{little_number};
+ghost use Rattle.netlink_core.specs.Format.{read};
+ghost use Rattle.sock_diag_values.specs.TcpInfo.{tcp_info};
+
+use byteorder::{ByteOrder, LittleEndian};
+use netlink_packet_sock_diag::inet::nlas::TcpInfo;
+
+/// How many bytes `struct tcp_info` has in Linux 6.18.
+const WHOLE: usize = 280;
+
+/// A field of `struct tcp_info` of `linux/tcp.h`, as Linux 6.18 has it: 280 bytes, low byte first.
+/// Of those that [`TcpInfo`] has too its documentation says what they mean.
+#[derive(Clone, Copy, Debug, PartialEq, Eq)]
+pub enum TcpField {
+    /// `tcpi_state` at 0.
+    State,
+    /// `tcpi_ca_state` at 1.
+    CaState,
+    /// `tcpi_retransmits` at 2.
+    Retransmits,
+    /// `tcpi_probes` at 3.
+    Probes,
+    /// `tcpi_backoff` at 4.
+    Backoff,
+    /// `tcpi_options` at 5.
+    Options,
+    /// `tcpi_snd_wscale` and `tcpi_rcv_wscale` at 6, four bits each.
+    Wscale,
+    /// `tcpi_delivery_rate_app_limited` at 7 in bit 0, and `tcpi_fastopen_client_fail` in the next
+    /// two.
+    DeliveryRateAppLimited,
+    /// `tcpi_rto` at 8, in microseconds.
+    Rto,
+    /// `tcpi_ato` at 12, in microseconds.
+    Ato,
+    /// `tcpi_snd_mss` at 16, in bytes.
+    SndMss,
+    /// `tcpi_rcv_mss` at 20, in bytes.
+    RcvMss,
+    /// `tcpi_unacked` at 24.
+    Unacked,
+    /// `tcpi_sacked` at 28.
+    Sacked,
+    /// `tcpi_lost` at 32.
+    Lost,
+    /// `tcpi_retrans` at 36.
+    Retrans,
+    /// `tcpi_fackets` at 40.
+    Fackets,
+    /// `tcpi_last_data_sent` at 44, in milliseconds.
+    LastDataSent,
+    /// `tcpi_last_ack_sent` at 48.
+    LastAckSent,
+    /// `tcpi_last_data_recv` at 52, in milliseconds.
+    LastDataRecv,
+    /// `tcpi_last_ack_recv` at 56, in milliseconds.
+    LastAckRecv,
+    /// `tcpi_pmtu` at 60, in bytes.
+    Pmtu,
+    /// `tcpi_rcv_ssthresh` at 64, in bytes.
+    RcvSsthresh,
+    /// `tcpi_rtt` at 68, in microseconds.
+    Rtt,
+    /// `tcpi_rttvar` at 72, in microseconds.
+    Rttvar,
+    /// `tcpi_snd_ssthresh` at 76, in segments.
+    SndSsthresh,
+    /// `tcpi_snd_cwnd` at 80, in segments.
+    SndCwnd,
+    /// `tcpi_advmss` at 84, in bytes.
+    Advmss,
+    /// `tcpi_reordering` at 88, in segments.
+    Reordering,
+    /// `tcpi_rcv_rtt` at 92, in microseconds.
+    RcvRtt,
+    /// `tcpi_rcv_space` at 96, in bytes.
+    RcvSpace,
+    /// `tcpi_total_retrans` at 100.
+    TotalRetrans,
+    /// `tcpi_pacing_rate` at 104, in bytes a second.
+    PacingRate,
+    /// `tcpi_max_pacing_rate` at 112, in bytes a second.
+    MaxPacingRate,
+    /// `tcpi_bytes_acked` at 120.
+    BytesAcked,
+    /// `tcpi_bytes_received` at 128.
+    BytesReceived,
+    /// `tcpi_segs_out` at 136.
+    SegsOut,
+    /// `tcpi_segs_in` at 140.
+    SegsIn,
+    /// `tcpi_notsent_bytes` at 144.
+    NotsentBytes,
+    /// `tcpi_min_rtt` at 148, in microseconds.
+    MinRtt,
+    /// `tcpi_data_segs_in` at 152.
+    DataSegsIn,
+    /// `tcpi_data_segs_out` at 156.
+    DataSegsOut,
+    /// `tcpi_delivery_rate` at 160, in bytes a second.
+    DeliveryRate,
+    /// `tcpi_busy_time` at 168, in microseconds.
+    BusyTime,
+    /// `tcpi_rwnd_limited` at 176, in microseconds.
+    RwndLimited,
+    /// `tcpi_sndbuf_limited` at 184, in microseconds.
+    SndbufLimited,
+    /// `tcpi_delivered` at 192.
+    Delivered,
+    /// `tcpi_delivered_ce` at 196.
+    DeliveredCe,
+    /// `tcpi_bytes_sent` at 200.
+    BytesSent,
+    /// `tcpi_bytes_retrans` at 208.
+    BytesRetrans,
+    /// `tcpi_dsack_dups` at 216.
+    DsackDups,
+    /// `tcpi_reord_seen` at 220.
+    ReordSeen,
+    /// `tcpi_rcv_ooopack` at 224.
+    RcvOoopack,
+    /// `tcpi_snd_wnd` at 228, in bytes.
+    SndWnd,
+    /// The window that this end offers, in bytes. `tcpi_rcv_wnd` at 232.
+    RcvWnd,
+    /// How often another path was tried, since nothing was acknowledged. `tcpi_rehash` at 236.
+    Rehash,
+    /// How often the timer for sending again ran out in all. `tcpi_total_rto` at 240.
+    TotalRto,
+    /// How often sending again by that timer ended well. `tcpi_total_rto_recoveries` at 242.
+    TotalRtoRecoveries,
+    /// The time spent in it in all, in milliseconds. `tcpi_total_rto_time` at 244.
+    TotalRtoTime,
+    /// How many segments came that were marked for congestion. `tcpi_received_ce` at 248.
+    ReceivedCe,
+    /// How many bytes reached the peer under the mark ECT(1). `tcpi_delivered_e1_bytes` at 252.
+    DeliveredE1Bytes,
+    /// How many bytes reached the peer under the mark ECT(0). `tcpi_delivered_e0_bytes` at 256.
+    DeliveredE0Bytes,
+    /// How many bytes reached the peer marked for congestion. `tcpi_delivered_ce_bytes` at 260.
+    DeliveredCeBytes,
+    /// How many bytes came under the mark ECT(1). `tcpi_received_e1_bytes` at 264.
+    ReceivedE1Bytes,
+    /// How many bytes came under the mark ECT(0). `tcpi_received_e0_bytes` at 268.
+    ReceivedE0Bytes,
+    /// How many bytes came marked for congestion. `tcpi_received_ce_bytes` at 272.
+    ReceivedCeBytes,
+    /// In which ways accurate ECN failed, as bits. `tcpi_accecn_fail_mode` at 276.
+    AccecnFailMode,
+    /// How far the options of accurate ECN were seen. `tcpi_accecn_opt_seen` at 278.
+    AccecnOptSeen,
+}
+
+impl TcpField {
+    ghost use Rattle.sock_diag_extras.specs.TcpFields.{span_of};
+
+    /// Where the field stands, and how many bytes it has.
+    pub fn span(self) -> (usize, usize)
+        ensures { result ≡ span_of self }
+    {
+        match self {
+            TcpField::State => (0, 1),
+            TcpField::CaState => (1, 1),
+            TcpField::Retransmits => (2, 1),
+            TcpField::Probes => (3, 1),
+            TcpField::Backoff => (4, 1),
+            TcpField::Options => (5, 1),
+            TcpField::Wscale => (6, 1),
+            TcpField::DeliveryRateAppLimited => (7, 1),
+            TcpField::Rto => (8, 4),
+            TcpField::Ato => (12, 4),
+            TcpField::SndMss => (16, 4),
+            TcpField::RcvMss => (20, 4),
+            TcpField::Unacked => (24, 4),
+            TcpField::Sacked => (28, 4),
+            TcpField::Lost => (32, 4),
+            TcpField::Retrans => (36, 4),
+            TcpField::Fackets => (40, 4),
+            TcpField::LastDataSent => (44, 4),
+            TcpField::LastAckSent => (48, 4),
+            TcpField::LastDataRecv => (52, 4),
+            TcpField::LastAckRecv => (56, 4),
+            TcpField::Pmtu => (60, 4),
+            TcpField::RcvSsthresh => (64, 4),
+            TcpField::Rtt => (68, 4),
+            TcpField::Rttvar => (72, 4),
+            TcpField::SndSsthresh => (76, 4),
+            TcpField::SndCwnd => (80, 4),
+            TcpField::Advmss => (84, 4),
+            TcpField::Reordering => (88, 4),
+            TcpField::RcvRtt => (92, 4),
+            TcpField::RcvSpace => (96, 4),
+            TcpField::TotalRetrans => (100, 4),
+            TcpField::PacingRate => (104, 8),
+            TcpField::MaxPacingRate => (112, 8),
+            TcpField::BytesAcked => (120, 8),
+            TcpField::BytesReceived => (128, 8),
+            TcpField::SegsOut => (136, 4),
+            TcpField::SegsIn => (140, 4),
+            TcpField::NotsentBytes => (144, 4),
+            TcpField::MinRtt => (148, 4),
+            TcpField::DataSegsIn => (152, 4),
+            TcpField::DataSegsOut => (156, 4),
+            TcpField::DeliveryRate => (160, 8),
+            TcpField::BusyTime => (168, 8),
+            TcpField::RwndLimited => (176, 8),
+            TcpField::SndbufLimited => (184, 8),
+            TcpField::Delivered => (192, 4),
+            TcpField::DeliveredCe => (196, 4),
+            TcpField::BytesSent => (200, 8),
+            TcpField::BytesRetrans => (208, 8),
+            TcpField::DsackDups => (216, 4),
+            TcpField::ReordSeen => (220, 4),
+            TcpField::RcvOoopack => (224, 4),
+            TcpField::SndWnd => (228, 4),
+            TcpField::RcvWnd => (232, 4),
+            TcpField::Rehash => (236, 4),
+            TcpField::TotalRto => (240, 2),
+            TcpField::TotalRtoRecoveries => (242, 2),
+            TcpField::TotalRtoTime => (244, 4),
+            TcpField::ReceivedCe => (248, 4),
+            TcpField::DeliveredE1Bytes => (252, 4),
+            TcpField::DeliveredE0Bytes => (256, 4),
+            TcpField::DeliveredCeBytes => (260, 4),
+            TcpField::ReceivedE1Bytes => (264, 4),
+            TcpField::ReceivedE0Bytes => (268, 4),
+            TcpField::ReceivedCeBytes => (272, 4),
+            TcpField::AccecnFailMode => (276, 2),
+            TcpField::AccecnOptSeen => (278, 2),
+        }
+    }
+}
+
+/// The value of `INET_DIAG_INFO` of a TCP connection, of any length: kernels tell as many bytes of
+/// `struct tcp_info` as they know of. It takes no memory.
+#[derive(Clone, Copy, Debug, PartialEq, Eq)]
+pub struct TcpInfoBytes<'a> {
+    bytes: &'a [u8],
+}
+
+impl<'a> TcpInfoBytes<'a> {
+    ghost use Rattle.sock_diag_extras.specs.TcpFields.{value_of, end_of};
+
+    /// The bytes of the value, however many there are.
+    pub fn new(value: &'a [u8]) -> TcpInfoBytes<'a>
+        ensures { result.bytes.now ≡ value.entry.now }
+    {
+        TcpInfoBytes { bytes: value }
+    }
+
+    /// How many bytes were told.
+    pub fn told(&self) -> usize
+        ensures { result ≡ length self.now.bytes.now }
+    {
+        self.bytes.len()
+    }
+
+    /// The field, where all of its bytes were told.
+    pub fn get(&self, field: TcpField) -> Option<u64>
+        ensures { SomeIff result (end_of field ≤ length self.now.bytes.now)
+            (value_of field self.now.bytes.now) }
+    {
+        let (place, width) = field.span();
+        number_at(self.bytes, place, width)
+    }
+
+    /// All that the port reads, where its 232 bytes were told.
+    pub fn whole(&self) -> Option<TcpInfo>
+        ensures { result ≡ result_ok (read tcp_info tt self.now.bytes.now) }
+    {
+        TcpInfo::parse(self.bytes).ok()
+    }
+
+    /// What follows the fields that are known here.
+    pub fn rest(&self) -> &'a [u8]
+        ensures { result.now ≡ drop 280 self.now.bytes.now }
+    {
+        if self.bytes.len() < WHOLE {
+            return &[];
+        }
+        &self.bytes[WHOLE..]
+    }
+}
+
+// The number of so many bytes at the place, low byte first, where all of them are there.
+fn number_at(bytes: &[u8], place: usize, width: usize) -> Option<u64>
+    requires one { 1 ≤ width }
+    requires eight { width ≤ 8 }
+    ensures { SomeIff result (place + width ≤ length bytes.now)
+        (little_number width (drop place bytes.now)) }
+{
+    let number = bytes.get(place..)?;
+    if number.len() < width {
+        return None;
+    }
+    Some(LittleEndian::read_uint(number, width))
+}
