@@ -1,0 +1,7 @@
+pub mod Operations
+pub mod Stepping
+pub mod Auditing
+pub mod Running
+pub mod Asking
+pub mod Requesting
+pub mod ReadBack

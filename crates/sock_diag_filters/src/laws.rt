@@ -1,0 +1,24 @@
+//! What is written is read back. The function does nothing: its contract is the law.
+
+ghost use Rattle.std.specs.Prelude.{◌≡◌, List, map};
+ghost use Rattle.netlink_core.specs.declared.fault.DecodeError.{DecodeError};
+ghost use Rattle.netlink_core.specs.declared.header.NetlinkHeader.{NetlinkHeader};
+ghost use Rattle.sock_diag_records.specs.declared.inet.request.InetRequest.{InetRequest};
+ghost use Rattle.sock_diag_filters.specs.Asked.{Asks, IsRequestType, RefusesRequest};
+ghost use Rattle.sock_diag_filters.specs.ReadBack.{CanBeAsked, IsReadBack};
+ghost use Rattle.sock_diag_filters.specs.Requests.{attribute_of, request_bytes};
+ghost use Rattle.sock_diag_filters.specs.declared.request.RequestAttribute.{RequestAttribute};
+ghost use Rattle.sock_diag_filters.specs.declared.view.RequestView.{RequestView};
+
+/// What `RequestWithAttributes` writes, `RequestView::parse` reads: no fault is one of these bytes,
+/// and what they ask is what was written.
+pub fn written_request_is_read_back()
+    ensures view { (h : NetlinkHeader) (request : InetRequest) (attributes : List RequestAttribute)
+        (view : RequestView) → CanBeAsked h request attributes
+        → Asks (request_bytes h request (map attribute_of attributes)) view
+        → IsReadBack h request attributes view }
+    ensures accepted { (h : NetlinkHeader) (request : InetRequest)
+        (attributes : List RequestAttribute) (e : DecodeError) → CanBeAsked h request attributes
+        → IsRequestType h.message_type
+        → RefusesRequest (request_bytes h request (map attribute_of attributes)) e → ⊥ }
+{}
