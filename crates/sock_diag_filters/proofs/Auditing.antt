@@ -1,6 +1,6 @@
 -- The kernel takes the program of each filter that isn't too long.
-use Rattle.std.proofs.Common.{◌≡◌, ◌∙◌, ℕ, ◌+◌, ◌*◌, ◌-◌, ◌%◌, ◌<◌, ◌≤◌, ◌⊎◌, List, [], ◌∷◌, ◌++◌}
-use Rattle.std.proofs.Common.{length, drop, refl, sym, ap, subst, arith, Some, inl, inr, append-nil}
+use Rattle.std.proofs.Common.{◌≡◌, ◌∙◌, ℕ, ◌+◌, ◌*◌, ◌-◌, ◌%◌, ◌<◌, ◌≤◌, ◌⊎◌, List, [], ◌++◌}
+use Rattle.std.proofs.Common.{length, refl, sym, ap, subst, arith, Some, inl, inr, append-nil}
 use Rattle.std.proofs.Common.{append_assoc}
 use Rattle.std.specs.Prelude.{slice_index}
 use Rattle.std.proofs.lemmas.List.{length-append}
@@ -8,8 +8,8 @@ use Rattle.sock_diag_filters.specs.declared.filter.Filter.{Filter}
 use Rattle.sock_diag_filters.specs.declared.filter.Filter.TheVariants as parts
 use Rattle.sock_diag_filters.specs.Conditions.{arguments, code_of}
 use Rattle.sock_diag_filters.specs.Filters.{size}
-use Rattle.sock_diag_filters.specs.Audit.{IsAudited, IsFine, IsReachable, Passes, at_end, on}
-use Rattle.sock_diag_filters.specs.Audit.{Steps, there, code_at, least_of, no_at, yes_at}
+use Rattle.sock_diag_filters.specs.Audit.{IsAudited, IsReachable, Passes, at_end, on}
+use Rattle.sock_diag_filters.specs.Audit.{Steps, there, least_of, no_at}
 use Rattle.sock_diag_filters.specs.AssemblySteps.{jump, operation, program_of}
 use Rattle.sock_diag_filters.proofs.Operations.{arguments_in_fours, behind_operation}
 use Rattle.sock_diag_filters.proofs.Operations.{condition_bits}

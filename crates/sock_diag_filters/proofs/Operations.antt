@@ -1,5 +1,5 @@
 -- Operations: what stands in one, and how long they are.
-use Rattle.std.proofs.Common.{◌≡◌, ◌∙◌, ℕ, ◌+◌, ◌*◌, ◌-◌, ◌%◌, ◌<◌, ◌≤◌, ◌⊎◌, List, [], ◌∷◌, ◌++◌}
+use Rattle.std.proofs.Common.{◌≡◌, ℕ, ◌+◌, ◌*◌, ◌-◌, ◌%◌, ◌≤◌, ◌⊎◌, List, [], ◌∷◌, ◌++◌}
 use Rattle.std.proofs.Common.{length, drop, refl, arith, Option, Some, None}
 use Rattle.std.specs.Prelude.{slice_index, option_map, unwrap_or}
 use Rattle.std.proofs.lemmas.List.{drop_at, length-append}
@@ -22,7 +22,7 @@ use Rattle.sock_diag_filters.specs.declared.filter.Filter.TheVariants as parts
 use Rattle.sock_diag_filters.specs.Prefixes.{bits_of, family_of, octets_of}
 use Rattle.sock_diag_filters.specs.Conditions.{arguments, code_of, front_of, octets_behind}
 use Rattle.sock_diag_filters.specs.Filters.{size}
-use Rattle.sock_diag_filters.specs.Audit.{address_length, code_at, least_of, no_at, yes_at}
+use Rattle.sock_diag_filters.specs.Audit.{address_length, least_of, no_at, yes_at}
 use Rattle.sock_diag_filters.specs.AssemblySteps.{operation, program_of}
 
 -- ---- one operation before a rest

@@ -1,7 +1,7 @@
 -- A request that is written with attributes is read back.
-use Rattle.std.proofs.Common.{◌≡◌, ◌∙◌, ℕ, ◌+◌, ◌-◌, ◌<◌, ◌≤◌, List, [], ◌∷◌, ◌++◌, length, take}
-use Rattle.std.proofs.Common.{drop, refl, sym, ap, subst, arith, Result, Ok, Err, append_assoc}
-use Rattle.std.specs.Prelude.{map, slice_index, unwrap_or, None, Option}
+use Rattle.std.proofs.Common.{◌≡◌, ◌∙◌, ℕ, ◌+◌, ◌≤◌, List, [], ◌∷◌, ◌++◌, length}
+use Rattle.std.proofs.Common.{drop, refl, sym, ap, subst, arith, Result, Ok, append_assoc}
+use Rattle.std.specs.Prelude.{map, slice_index, unwrap_or, None}
 use Rattle.std.specs.List.{AllByRecursion, AllZip, filter_map, flat_map, last_or}
 use Rattle.std.proofs.lemmas.List.{append-nil, drop_at, length-append}
 use Rattle.netlink_core.specs.Attribute.{Attribute, AttributeFault, Cut, FitsWords}

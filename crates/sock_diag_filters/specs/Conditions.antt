@@ -1,6 +1,5 @@
 -- Conditions as linux/inet_diag.h tells them: INET_DIAG_BC_.. and the arguments of each.
 use Rattle.std.specs.Prelude.{◌≡◌, ℕ, ◌≤◌, List, [], ◌∷◌, ◌++◌, Option, Some, None, unwrap_or}
-use Rattle.std.specs.Prelude.{SomeIff}
 use Rattle.byteorder.specs.Endian.{little_bytes}
 use Rattle.std.specs.declared.net.ip_addr.IpAddr.{IpAddr}
 use Rattle.sock_diag_filters.specs.declared.condition.Comparison.{Comparison}

@@ -1,5 +1,5 @@
 -- Addresses and ports as a filter tells them.
-use Rattle.std.specs.Prelude.{ℕ, List, [], ◌∷◌, ◌++◌}
+use Rattle.std.specs.Prelude.{ℕ, List, ◌∷◌}
 use Rattle.std.specs.List.{flat_map}
 use Rattle.byteorder.specs.Endian.{big_bytes, little_bytes}
 use Rattle.std.specs.declared.net.ip_addr.IpAddr.{IpAddr}

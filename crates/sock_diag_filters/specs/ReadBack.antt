@@ -1,5 +1,5 @@
 -- Requests that are written, and what is read from them.
-use Rattle.std.specs.Prelude.{◌≡◌, ℕ, ◌+◌, ◌^◌, ◌<◌, ◌≤◌, List, length, map, option_map, unwrap_or}
+use Rattle.std.specs.Prelude.{◌≡◌, ◌+◌, ◌^◌, ◌<◌, ◌≤◌, List, length, map, option_map, unwrap_or}
 use Rattle.std.specs.Prelude.{None}
 use Rattle.std.specs.List.{AllByRecursion, filter_map, flat_map, last_or}
 use Rattle.netlink_core.specs.Attribute.{written}
@@ -11,7 +11,7 @@ use Rattle.sock_diag_records.specs.declared.inet.request.InetRequest.{InetReques
 use Rattle.sock_diag_filters.specs.declared.request.RequestAttribute.{RequestAttribute}
 use Rattle.sock_diag_filters.specs.declared.request.RequestAttribute.TheVariants.{Program, Protocol}
 use Rattle.sock_diag_filters.specs.declared.view.RequestView.{RequestView}
-use Rattle.sock_diag_filters.specs.Asked.{Told, told_of, program_in, protocol_in}
+use Rattle.sock_diag_filters.specs.Asked.{told_of, program_in, protocol_in}
 use Rattle.sock_diag_filters.specs.Requests.{attribute_of, header_under}
 
 -- the header that is written, with the length of all

@@ -1,6 +1,5 @@
 use Rattle.std.proofs.Common.{[], ◌∷◌, ◌++◌, refl}
 use Rattle.std.proofs.lemmas.Result.{err_from_is_err_and}
-use Rattle.netlink_core.specs.Walk.{attribute_of}
 use Rattle.netlink_core.proofs.Walking.{walk_begins, walk_ends, walk_goes_on, walk_is_cut_off}
 use Rattle.netlink_core.proofs.Walking.{walk_is_refused}
 use Rattle.sock_diag_filters.specs.Asked.{told_by}

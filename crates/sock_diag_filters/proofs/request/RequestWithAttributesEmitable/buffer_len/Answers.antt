@@ -1,4 +1,4 @@
-use Rattle.std.proofs.Common.{◌≡◌, ◌∙◌, ◌+◌, ℕ, sym, ap}
+use Rattle.std.proofs.Common.{◌∙◌, ◌+◌, ℕ, sym, ap}
 use Rattle.std.specs.Prelude.{map}
 use Rattle.sock_diag_filters.specs.Requests.{attribute_of}
 use Rattle.sock_diag_filters.proofs.Requesting.{message_length}

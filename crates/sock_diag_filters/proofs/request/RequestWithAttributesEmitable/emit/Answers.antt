@@ -1,4 +1,4 @@
-use Rattle.std.proofs.Common.{◌≡◌, ◌∙◌, ◌+◌, ℕ, sym, ap, arith}
+use Rattle.std.proofs.Common.{arith}
 use Rattle.std.specs.Prelude.{map}
 use Rattle.sock_diag_records.specs.InetRequestLaws.{request_length}
 use Rattle.sock_diag_filters.specs.Requests.{attribute_of}

@@ -1,4 +1,4 @@
-use Rattle.std.proofs.Common.{◌≡◌, rules, refl, sym}
+use Rattle.std.proofs.Common.{rules, refl, sym}
 use Rattle.std.proofs.lemmas.Result.{err_from_is_err_and}
 use Rattle.sock_diag_filters.specs.Asked.{IsRequestType, no_attributes, no_request, other_type}
 use Rattle.sock_diag_filters.proofs.Requesting.{enough}
