@@ -5,3 +5,4 @@ pub mod Running
 pub mod Asking
 pub mod Requesting
 pub mod ReadBack
+pub mod Finding

@@ -45,11 +45,11 @@ no_of_operation code args far rest near =
 -- ---- conditions
 
 -- a host: the bytes of its struct, with an address and without
-abbrev with_address : IpAddr → ℕ → ℕ → List ℕ
+abbrev pub with_address : IpAddr → ℕ → ℕ → List ℕ
 with_address a bits port =
     (family_of a ∷ bits ∷ 0 ∷ 0 ∷ []) ++ (little_bytes 4 port ++ octets_of a)
 
-abbrev host : Option Prefix → ℕ → List ℕ
+abbrev pub host : Option Prefix → ℕ → List ℕ
 host o port = front_of o ++ (little_bytes 4 port ++ octets_behind o)
 
 address_in_fours : (a : IpAddr) (bits port : ℕ) → length (with_address a bits port) % 4 ≡ 0

@@ -10,3 +10,4 @@ pub mod Asked
 pub mod AskedSteps
 pub mod Uses
 pub mod ReadBack
+pub mod Sockets

@@ -1,6 +1,6 @@
 -- What the kernel finds of a socket for a condition, and what conditions mean.
 use Rattle.std.specs.Prelude.{ℕ, ◌-◌, ◌*◌, ◌/◌, ◌^◌, ◌<◌, ◌==◌, ◌&&◌, ◌||◌, nat_le, if◌then◌else◌}
-use Rattle.std.specs.Prelude.{⊤, Bool, true, false, List, length, take, drop, slice_index, bit_and}
+use Rattle.std.specs.Prelude.{⊤, Bool, true, false, List, length, drop, slice_index, bit_and}
 use Rattle.std.specs.Prelude.{Option, Some, None}
 use Rattle.byteorder.specs.Endian.{big_number, little_number}
 use Rattle.std.specs.declared.net.ip_addr.IpAddr.{IpAddr}
@@ -53,7 +53,9 @@ abbrev pub finds_address : ℕ → List ℕ → ℕ → ℕ → List ℕ → Boo
 finds_address family octets asked bits prefix =
     if asked == 0 then bits == 0 || begins_alike bits octets prefix
     else if asked == family then bits == 0 || begins_alike bits octets prefix
-    else asked == 2 && (family == 10 && (is_mapped octets && begins_alike bits (drop 12 octets) prefix))
+    else
+    asked == 2
+    && (family == 10 && (is_mapped octets && begins_alike bits (drop 12 octets) prefix))
 
 -- struct inet_diag_hostcond: the family at 0, the bits at 1, the port at 4 (-1 is any), the address
 -- at 8
@@ -95,7 +97,9 @@ has_port (Some asked) port = asked == port
 abbrev pub is_within : IpAddr → ℕ → ℕ → List ℕ → Bool
 is_within (V4 ip) bits family octets =
     if 2 == family then bits == 0 || begins_alike bits octets (octets_of (V4 ip))
-    else family == 10 && (is_mapped octets && begins_alike bits (drop 12 octets) (octets_of (V4 ip)))
+    else
+    family == 10
+    && (is_mapped octets && begins_alike bits (drop 12 octets) (octets_of (V4 ip)))
 is_within (V6 ip) bits family octets =
     if 10 == family then bits == 0 || begins_alike bits octets (octets_of (V6 ip)) else false
 

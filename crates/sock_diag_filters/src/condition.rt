@@ -78,7 +78,8 @@ pub enum Condition {
         /// Which bits count.
         mask: u32,
     },
-    /// The number of the socket's cgroup, `INET_DIAG_BC_CGROUP_COND`.
+    /// The number of the socket's cgroup, `INET_DIAG_BC_CGROUP_COND`. A kernel without them refuses
+    /// it.
     Cgroup(u64),
     /// The kernel chose the port of this end, `INET_DIAG_BC_AUTO`.
     AutoBound,
