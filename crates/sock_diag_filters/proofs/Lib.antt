@@ -6,3 +6,4 @@ pub mod Asking
 pub mod Requesting
 pub mod ReadBack
 pub mod Finding
+pub mod Verdicts

@@ -1,12 +1,13 @@
 //! Laws. The functions do nothing: their contracts are the laws.
 
-ghost use Rattle.std.specs.Prelude.{◌≡◌, List, map};
+ghost use Rattle.std.specs.Prelude.{◌≡◌, ℕ, Bool, List, map};
 ghost use Rattle.netlink_core.specs.declared.fault.DecodeError.{DecodeError};
 ghost use Rattle.netlink_core.specs.declared.header.NetlinkHeader.{NetlinkHeader};
 ghost use Rattle.sock_diag_records.specs.declared.inet.request.InetRequest.{InetRequest};
 ghost use Rattle.sock_diag_filters.specs.declared.filter.Filter.{Filter};
 ghost use Rattle.sock_diag_filters.specs.Conditions.{arguments, code_of};
 ghost use Rattle.sock_diag_filters.specs.Filters.{meaning};
+ghost use Rattle.sock_diag_filters.specs.Run.{Runs};
 ghost use Rattle.sock_diag_filters.specs.Sockets.{AreInRange, Socket, found_by, meets};
 ghost use Rattle.sock_diag_filters.specs.Asked.{Asks, IsRequestType, RefusesRequest};
 ghost use Rattle.sock_diag_filters.specs.ReadBack.{CanBeAsked, IsReadBack};
@@ -35,4 +36,11 @@ pub fn filters_find_what_they_mean()
     ensures { (socket : Socket) (filter : Filter) → AreInRange filter
         → meaning (λ c. found_by socket (code_of c) (arguments c)) filter
         ≡ meaning (meets socket) filter }
+{}
+
+/// A run of a program has one verdict.
+#[tactic(auto, using(crate::proofs::Verdicts::one_verdict))]
+pub fn one_verdict()
+    ensures { (found : ℕ → List ℕ → Bool) (program : List ℕ) (v w : Bool)
+        → Runs found program v → Runs found program w → v ≡ w }
 {}
