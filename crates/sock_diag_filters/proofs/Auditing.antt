@@ -1,0 +1,149 @@
+-- The kernel takes the program of each filter that isn't too long.
+use Rattle.std.proofs.Common.{◌≡◌, ◌∙◌, ℕ, ◌+◌, ◌*◌, ◌-◌, ◌%◌, ◌<◌, ◌≤◌, ◌⊎◌, List, [], ◌++◌}
+use Rattle.std.proofs.Common.{length, refl, sym, ap, subst, arith, Some, inl, inr, append-nil}
+use Rattle.std.proofs.Common.{append_assoc}
+use Rattle.std.specs.Prelude.{slice_index}
+use Rattle.std.proofs.lemmas.List.{length-append}
+use Rattle.sock_diag_filters.specs.declared.filter.Filter.{Filter}
+use Rattle.sock_diag_filters.specs.declared.filter.Filter.TheVariants as parts
+use Rattle.sock_diag_filters.specs.Conditions.{arguments, code_of}
+use Rattle.sock_diag_filters.specs.Filters.{size}
+use Rattle.sock_diag_filters.specs.Audit.{IsAudited, IsReachable, Passes, at_end, on}
+use Rattle.sock_diag_filters.specs.Audit.{Steps, there, least_of, no_at}
+use Rattle.sock_diag_filters.specs.AssemblySteps.{jump, operation, program_of}
+use Rattle.sock_diag_filters.proofs.Operations.{arguments_in_fours, behind_operation}
+use Rattle.sock_diag_filters.proofs.Operations.{condition_bits}
+use Rattle.sock_diag_filters.proofs.Operations.{condition_known, no_of_operation, operation_length}
+use Rattle.sock_diag_filters.proofs.Operations.{program_length, size_in_fours, size_some}
+use Rattle.sock_diag_filters.proofs.Stepping.{Lands, before, over_operation, over_program, steps_on}
+
+-- one goes on to the end or four bytes past it at the most
+lands_within : (far : ℕ) (rest : List ℕ) → Lands far rest → far ≤ length rest + 4
+lands_within far rest lands = elim lands [
+  | inl past ↦ omega arith
+  | inr some ↦ let e = some.2 in omega arith
+]
+
+-- what is behind some operation is reachable
+lands_there : (program left : List ℕ) (own far : ℕ) (rest : List ℕ) → Steps program left
+    → Steps left rest → length left ≡ own + length rest → Lands far rest → own + far < length left
+    → IsReachable program (length left - (own + far))
+lands_there program left own far rest to passing long lands less = elim lands [
+  | inl past ↦ absurd (omega arith)
+  | inr some ↦ (
+    some.0,
+    steps_on program left some.0 to (steps_on left rest some.0 passing some.1),
+    let e = some.2 in omega arith,
+  )
+]
+
+operation_passes : (program : List ℕ) (code : ℕ) (args : List ℕ) (far : ℕ) (rest : List ℕ)
+    → least_of (operation code args far ++ rest) ≡ Some (4 + length args)
+    → ((code ≡ 7) ⊎ (code ≡ 8)
+    → slice_index (operation code args far ++ rest) 5 ≤ 8 * (4 + length args - 12))
+    → length args % 4 ≡ 0 → far % 4 ≡ 0 → 4 + length args + far ≤ 65535
+    → Steps program (operation code args far ++ rest) → Lands far rest → Passes program rest
+    → Passes program (operation code args far ++ rest)
+operation_passes program code args far rest known bits fours far_fours near to lands passes =
+    let left : List ℕ = operation code args far ++ rest in
+    let no : no_at left ≡ 4 + length args + far = no_of_operation code args far rest near in
+    let long : length left ≡ 4 + length args + length rest =
+    length-append (operation code args far) rest
+    ∙ ap (λ (n : ℕ). n + length rest) (operation_length code args far) in
+    let most = lands_within far rest lands in
+    on left (record {
+      least = 4 + length args;
+      known = known;
+      whole = omega arith;
+      bits = bits;
+      past_it = λ _. omega arith;
+      within = λ _. omega arith;
+      in_fours = λ _. rw no (omega arith);
+      lands = λ _ less.
+          subst (λ (n : ℕ). IsReachable program (length left - n)) (sym no)
+          (lands_there program left (4 + length args) far rest to
+          (over_operation code args far rest fours) long lands (omega arith));
+      steps_past = omega arith;
+      steps_within = omega arith;
+      steps_in_fours = omega arith;
+    }) (subst (Passes program) (sym (behind_operation code args far rest)) passes)
+
+-- what is so far behind the rest is as much further behind what stands before it
+lands_behind : (front rest : List ℕ) (far own : ℕ) → Steps (front ++ rest) rest
+    → length front ≡ own → Lands far rest → Lands (own + far) (front ++ rest)
+lands_behind front rest far own passing long lands =
+    let both = length-append front rest in
+    elim lands [
+      | inl past ↦ inl (omega arith)
+      | inr some ↦
+          let e = some.2 in
+          inr (some.0, steps_on (front ++ rest) rest some.0 passing some.1, omega arith)
+    ]
+
+jump_passes : (program : List ℕ) (far : ℕ) (rest : List ℕ) → far % 4 ≡ 0 → 4 + far ≤ 65535
+    → Steps program (jump far ++ rest) → Lands far rest → Passes program rest
+    → Passes program (jump far ++ rest)
+jump_passes program far rest fours near to lands passes =
+    operation_passes program 1 [] far rest refl (λ is. absurd (omega arith)) refl fours
+    (omega arith) to lands passes
+
+program_passes : (f : Filter) (far : ℕ) (program rest : List ℕ) → far % 4 ≡ 0
+    → size f + far ≤ 65535 → Steps program (program_of f far ++ rest) → Lands far rest
+    → Passes program rest → Passes program (program_of f far ++ rest)
+program_passes (parts.Condition c) far program rest fours near to lands passes =
+    operation_passes program (code_of c) (arguments c) far rest (condition_known c far rest)
+    (condition_bits c far rest) (arguments_in_fours c) fours (omega arith) to lands passes
+program_passes (parts.And' p a q b) far program rest fours near to lands passes =
+    let first : List ℕ = program_of a (size b + far) in
+    let second : List ℕ = program_of b far in
+    let to_first = subst (Steps program) (append_assoc first second rest) to in
+    let to_second = steps_on program (first ++ (second ++ rest)) (second ++ rest) to_first
+    (over_program a (size b + far) (second ++ rest)) in
+    let b_fours = size_in_fours b in
+    before (Passes program) first second rest
+    (program_passes a (size b + far) program (second ++ rest) (omega arith) (omega arith) to_first
+    (lands_behind second rest far (size b) (over_program b far rest) (program_length b far) lands)
+    (program_passes b far program rest fours (omega arith) to_second lands passes))
+program_passes (parts.Or' p a q b) far program rest fours near to lands passes =
+    let first : List ℕ = program_of a 4 in
+    let second : List ℕ = program_of b far in
+    let over : List ℕ = jump (size b) in
+    let parted : (first ++ (over ++ second)) ++ rest ≡ first ++ (over ++ (second ++ rest)) =
+    append_assoc first (over ++ second) rest
+    ∙ ap (λ (l : List ℕ). first ++ l) (append_assoc over second rest) in
+    let to_first = subst (Steps program) parted to in
+    let to_jump = steps_on program (first ++ (over ++ (second ++ rest))) (over ++ (second ++ rest))
+    to_first (over_program a 4 (over ++ (second ++ rest))) in
+    let past_jump = over_operation 1 [] (size b) (second ++ rest) refl in
+    let to_second = steps_on program (over ++ (second ++ rest)) (second ++ rest) to_jump
+    past_jump in
+    let long = length-append second rest in
+    let second_long = program_length b far in
+    subst (Passes program) (sym parted)
+    (program_passes a 4 program (over ++ (second ++ rest)) refl (omega arith) to_first
+    (inr (second ++ rest, past_jump, omega arith))
+    (jump_passes program (size b) (second ++ rest) (size_in_fours b) (omega arith) to_jump
+    (inr (rest, over_program b far rest, omega arith))
+    (program_passes b far program rest fours (omega arith) to_second lands passes)))
+program_passes (parts.Not' p a) far program rest fours near to lands passes =
+    let first : List ℕ = program_of a 4 in
+    let to_first = subst (Steps program) (append_assoc first (jump far) rest) to in
+    let past_jump = over_operation 1 [] far rest refl in
+    let to_jump = steps_on program (first ++ (jump far ++ rest)) (jump far ++ rest) to_first
+    (over_program a 4 (jump far ++ rest)) in
+    before (Passes program) first (jump far) rest
+    (program_passes a 4 program (jump far ++ rest) refl (omega arith) to_first
+    (inr (rest, past_jump, omega arith))
+    (jump_passes program far rest fours (omega arith) to_jump lands passes))
+
+pub program_audited : (f : Filter) → size f ≤ 65531 → IsAudited (program_of f 4)
+program_audited f short =
+    let program : List ℕ = program_of f 4 in
+    let whole = append-nil program in
+    let some = size_some f in
+    let long = program_length f 4 in (
+      omega arith,
+      subst (Passes program) whole
+          (program_passes f 4 program [] refl (omega arith)
+          (subst (Steps program) (sym whole) (there program)) (inl refl) at_end),
+    )

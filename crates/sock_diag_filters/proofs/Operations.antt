@@ -1,0 +1,190 @@
+-- Operations: what stands in one, and how long they are.
+use Rattle.std.proofs.Common.{◌≡◌, ℕ, ◌+◌, ◌*◌, ◌-◌, ◌%◌, ◌≤◌, ◌⊎◌, List, [], ◌∷◌, ◌++◌}
+use Rattle.std.proofs.Common.{length, drop, refl, arith, Option, Some, None}
+use Rattle.std.specs.Prelude.{slice_index, option_map, unwrap_or}
+use Rattle.std.proofs.lemmas.List.{drop_at, length-append}
+use Rattle.byteorder.specs.Endian.{little_bytes}
+use Rattle.netlink_core.specs.Table.{little_endian}
+use Rattle.netlink_core.proofs.Numbers.{number-reads_back}
+use Rattle.std.specs.declared.net.ip_addr.IpAddr.{IpAddr}
+use Rattle.std.specs.declared.net.ip_addr.IpAddr.TheVariants.{V4, V6}
+use Rattle.sock_diag_filters.specs.declared.condition.Comparison.TheVariants.{AtLeast, AtMost}
+use Rattle.sock_diag_filters.specs.declared.condition.Comparison.TheVariants.{Equal}
+use Rattle.sock_diag_filters.specs.declared.condition.Prefix.{Prefix}
+use Rattle.sock_diag_filters.specs.declared.condition.Condition.{Condition}
+use Rattle.sock_diag_filters.specs.declared.condition.Condition.TheVariants.{SourcePort, Source}
+use Rattle.sock_diag_filters.specs.declared.condition.Condition.TheVariants.{DestinationPort}
+use Rattle.sock_diag_filters.specs.declared.condition.Condition.TheVariants.{Destination, Interface}
+use Rattle.sock_diag_filters.specs.declared.condition.Condition.TheVariants.{Mark, Cgroup}
+use Rattle.sock_diag_filters.specs.declared.condition.Condition.TheVariants.{AutoBound}
+use Rattle.sock_diag_filters.specs.declared.filter.Filter.{Filter}
+use Rattle.sock_diag_filters.specs.declared.filter.Filter.TheVariants as parts
+use Rattle.sock_diag_filters.specs.Prefixes.{bits_of, family_of, octets_of}
+use Rattle.sock_diag_filters.specs.Conditions.{arguments, code_of, front_of, octets_behind}
+use Rattle.sock_diag_filters.specs.Filters.{size}
+use Rattle.sock_diag_filters.specs.Audit.{address_length, least_of, no_at, yes_at}
+use Rattle.sock_diag_filters.specs.AssemblySteps.{operation, program_of}
+
+-- ---- one operation before a rest
+
+pub operation_length : (code : ℕ) (args : List ℕ) (far : ℕ)
+    → length (operation code args far) ≡ 4 + length args
+operation_length code args far = omega arith
+
+pub behind_operation : (code : ℕ) (args : List ℕ) (far : ℕ) (rest : List ℕ)
+    → drop (yes_at (operation code args far ++ rest)) (operation code args far ++ rest) ≡ rest
+behind_operation code args far rest =
+    drop_at (operation code args far) rest (4 + length args) (operation_length code args far)
+
+pub no_of_operation : (code : ℕ) (args : List ℕ) (far : ℕ) (rest : List ℕ)
+    → 4 + length args + far ≤ 65535
+    → no_at (operation code args far ++ rest) ≡ 4 + length args + far
+no_of_operation code args far rest near =
+    number-reads_back little_endian 2 (4 + length args + far) (args ++ rest) (omega arith)
+
+-- ---- conditions
+
+-- a host: the bytes of its struct, with an address and without
+abbrev pub with_address : IpAddr → ℕ → ℕ → List ℕ
+with_address a bits port =
+    (family_of a ∷ bits ∷ 0 ∷ 0 ∷ []) ++ (little_bytes 4 port ++ octets_of a)
+
+abbrev pub host : Option Prefix → ℕ → List ℕ
+host o port = front_of o ++ (little_bytes 4 port ++ octets_behind o)
+
+address_in_fours : (a : IpAddr) (bits port : ℕ) → length (with_address a bits port) % 4 ≡ 0
+address_in_fours (V4 ip) bits port = refl
+address_in_fours (V6 ip) bits port = refl
+
+address_few : (a : IpAddr) (bits port : ℕ) → length (with_address a bits port) ≤ 24
+address_few (V4 ip) bits port = omega arith
+address_few (V6 ip) bits port = omega arith
+
+address_least : (a : IpAddr) (code far bits port : ℕ) (rest : List ℕ)
+    → option_map (λ (n : ℕ). 12 + n)
+    (address_length (slice_index (operation code (with_address a bits port) far ++ rest) 4))
+    ≡ Some (4 + length (with_address a bits port))
+address_least (V4 ip) code far bits port rest = refl
+address_least (V6 ip) code far bits port rest = refl
+
+address_bits : (a : IpAddr) (bits port : ℕ) → bits ≤ bits_of a
+    → bits ≤ 8 * (4 + length (with_address a bits port) - 12)
+address_bits (V4 ip) bits port h = h
+address_bits (V6 ip) bits port h = h
+
+host_in_fours : (o : Option Prefix) (port : ℕ) → length (host o port) % 4 ≡ 0
+host_in_fours None port = refl
+host_in_fours (Some p) port = address_in_fours p.address p.bits port
+
+host_few : (o : Option Prefix) (port : ℕ) → length (host o port) ≤ 24
+host_few None port = omega arith
+host_few (Some p) port = address_few p.address p.bits port
+
+host_least : (o : Option Prefix) (code far port : ℕ) (rest : List ℕ)
+    → option_map (λ (n : ℕ). 12 + n)
+    (address_length (slice_index (operation code (host o port) far ++ rest) 4))
+    ≡ Some (4 + length (host o port))
+host_least None code far port rest = refl
+host_least (Some p) code far port rest = address_least p.address code far p.bits port rest
+
+host_bits : (o : Option Prefix) (code far port : ℕ) (rest : List ℕ)
+    → slice_index (operation code (host o port) far ++ rest) 5
+    ≤ 8 * (4 + length (host o port) - 12)
+host_bits None code far port rest = omega arith
+host_bits (Some p) code far port rest = address_bits p.address p.bits port p.in_range
+
+-- the arguments of a condition come in fours, and are few
+pub arguments_in_fours : (c : Condition) → length (arguments c) % 4 ≡ 0
+arguments_in_fours (SourcePort comparison port) = refl
+arguments_in_fours (DestinationPort comparison port) = refl
+arguments_in_fours (Source h) = host_in_fours h.prefix (unwrap_or h.port 0xffffffff)
+arguments_in_fours (Destination h) = host_in_fours h.prefix (unwrap_or h.port 0xffffffff)
+arguments_in_fours (Interface number) = refl
+arguments_in_fours (Mark mark mask) = refl
+arguments_in_fours (Cgroup number) = refl
+arguments_in_fours AutoBound = refl
+
+pub arguments_few : (c : Condition) → length (arguments c) ≤ 24
+arguments_few (SourcePort comparison port) = omega arith
+arguments_few (DestinationPort comparison port) = omega arith
+arguments_few (Source h) = host_few h.prefix (unwrap_or h.port 0xffffffff)
+arguments_few (Destination h) = host_few h.prefix (unwrap_or h.port 0xffffffff)
+arguments_few (Interface number) = omega arith
+arguments_few (Mark mark mask) = omega arith
+arguments_few (Cgroup number) = omega arith
+arguments_few AutoBound = omega arith
+
+-- the kernel knows it, and wants no more bytes than it has
+pub condition_known : (c : Condition) (far : ℕ) (rest : List ℕ)
+    → least_of (operation (code_of c) (arguments c) far ++ rest)
+    ≡ Some (4 + length (arguments c))
+condition_known (SourcePort AtLeast port) far rest = refl
+condition_known (SourcePort AtMost port) far rest = refl
+condition_known (SourcePort Equal port) far rest = refl
+condition_known (DestinationPort AtLeast port) far rest = refl
+condition_known (DestinationPort AtMost port) far rest = refl
+condition_known (DestinationPort Equal port) far rest = refl
+condition_known (Source h) far rest =
+    host_least h.prefix 7 far (unwrap_or h.port 0xffffffff) rest
+condition_known (Destination h) far rest =
+    host_least h.prefix 8 far (unwrap_or h.port 0xffffffff) rest
+condition_known (Interface number) far rest = refl
+condition_known (Mark mark mask) far rest = refl
+condition_known (Cgroup number) far rest = refl
+condition_known AutoBound far rest = refl
+
+-- and no more bits than its address has
+pub condition_bits : (c : Condition) (far : ℕ) (rest : List ℕ)
+    → (code_of c ≡ 7) ⊎ (code_of c ≡ 8)
+    → slice_index (operation (code_of c) (arguments c) far ++ rest) 5
+    ≤ 8 * (4 + length (arguments c) - 12)
+condition_bits (SourcePort AtLeast port) far rest h = absurd (omega arith)
+condition_bits (SourcePort AtMost port) far rest h = absurd (omega arith)
+condition_bits (SourcePort Equal port) far rest h = absurd (omega arith)
+condition_bits (DestinationPort AtLeast port) far rest h = absurd (omega arith)
+condition_bits (DestinationPort AtMost port) far rest h = absurd (omega arith)
+condition_bits (DestinationPort Equal port) far rest h = absurd (omega arith)
+condition_bits (Source h) far rest is = host_bits h.prefix 7 far (unwrap_or h.port 0xffffffff) rest
+condition_bits (Destination h) far rest is =
+    host_bits h.prefix 8 far (unwrap_or h.port 0xffffffff) rest
+condition_bits (Interface number) far rest h = absurd (omega arith)
+condition_bits (Mark mark mask) far rest h = absurd (omega arith)
+condition_bits (Cgroup number) far rest h = absurd (omega arith)
+condition_bits AutoBound far rest h = absurd (omega arith)
+
+-- ---- programs
+
+pub program_length : (f : Filter) (far : ℕ) → length (program_of f far) ≡ size f
+program_length (parts.Condition c) far = operation_length (code_of c) (arguments c) far
+program_length (parts.And' p a q b) far =
+    let first = program_length a (size b + far) in
+    let second = program_length b far in
+    omega (arith, length-append (program_of a (size b + far)) (program_of b far))
+program_length (parts.Or' p a q b) far =
+    let first = program_length a 4 in
+    let second = program_length b far in
+    let behind : List ℕ = operation 1 [] (size b) ++ program_of b far in
+    omega (arith, length-append (program_of a 4) behind)
+program_length (parts.Not' p a) far =
+    let first = program_length a 4 in
+    omega (arith, length-append (program_of a 4) (operation 1 [] far))
+
+-- a program comes in fours
+pub size_in_fours : (f : Filter) → size f % 4 ≡ 0
+size_in_fours (parts.Condition c) = let four = arguments_in_fours c in omega arith
+size_in_fours (parts.And' p a q b) =
+    let first = size_in_fours a in
+    let second = size_in_fours b in
+    omega arith
+size_in_fours (parts.Or' p a q b) =
+    let first = size_in_fours a in
+    let second = size_in_fours b in
+    omega arith
+size_in_fours (parts.Not' p a) = let first = size_in_fours a in omega arith
+
+-- and isn't empty
+pub size_some : (f : Filter) → 4 ≤ size f
+size_some (parts.Condition c) = omega arith
+size_some (parts.And' p a q b) = let first = size_some a in omega arith
+size_some (parts.Or' p a q b) = omega arith
+size_some (parts.Not' p a) = omega arith

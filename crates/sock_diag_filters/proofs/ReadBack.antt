@@ -1,0 +1,178 @@
+-- A request that is written with attributes is read back.
+use Rattle.std.proofs.Common.{◌≡◌, ◌∙◌, ℕ, ◌+◌, ◌≤◌, List, [], ◌∷◌, ◌++◌, length}
+use Rattle.std.proofs.Common.{drop, refl, sym, ap, subst, arith, Result, Ok, append_assoc}
+use Rattle.std.specs.Prelude.{map, slice_index, unwrap_or, None}
+use Rattle.std.specs.List.{AllByRecursion, AllZip, filter_map, flat_map, last_or}
+use Rattle.std.proofs.lemmas.List.{append-nil, drop_at, length-append}
+use Rattle.netlink_core.specs.Attribute.{Attribute, AttributeFault, Cut, FitsWords}
+use Rattle.netlink_core.specs.Attribute.{written}
+use Rattle.netlink_core.specs.declared.fault.DecodeError.{DecodeError}
+use Rattle.netlink_core.specs.declared.fault.DecodeError.TheVariants.{EnvelopeCut}
+use Rattle.netlink_core.specs.declared.fault.DecodeError.TheVariants.{EnvelopeLengthPast}
+use Rattle.netlink_core.specs.declared.fault.DecodeError.TheVariants.{EnvelopeLengthUnder16}
+use Rattle.netlink_core.specs.declared.header.NetlinkHeader.{NetlinkHeader}
+use Rattle.netlink_core.specs.Format.{bytes, read}
+use Rattle.netlink_core.specs.Header.{HasHeader, IsEnvelopeFault, header_bytes}
+use Rattle.netlink_core.specs.Table.{little_endian}
+use Rattle.netlink_core.proofs.Cutting.{full_is_cut, means_or_fault_apart, one_cut, written_is_cut}
+use Rattle.netlink_core.proofs.Cutting.{written_values_are_read}
+use Rattle.netlink_core.proofs.Headers.{header_length, header_stands, one_header}
+use Rattle.netlink_core.proofs.Numbers.{number-reads_back}
+use Rattle.netlink_core.proofs.Prefixes.{stands_in_front}
+use Rattle.sock_diag_records.specs.InetRequest.{inet_request}
+use Rattle.sock_diag_records.specs.InetRequestLaws.{inet_request_size, inet_request_sound}
+use Rattle.sock_diag_records.specs.InetRequestLaws.{request_length}
+use Rattle.sock_diag_records.specs.Kinds.{Kinds, kinds_of_family}
+use Rattle.sock_diag_records.specs.declared.inet.request.InetRequest.{InetRequest}
+use Rattle.sock_diag_filters.specs.declared.request.RequestAttribute.{RequestAttribute}
+use Rattle.sock_diag_filters.specs.declared.request.RequestAttribute.TheVariants.{Program, Protocol}
+use Rattle.sock_diag_filters.specs.declared.view.RequestView.{RequestView}
+use Rattle.sock_diag_filters.specs.Asked.{Asks, IsRequestType, RefusesRequest, Told, no_attributes}
+use Rattle.sock_diag_filters.specs.Asked.{no_message, no_request, other_type, payload_of}
+use Rattle.sock_diag_filters.specs.Asked.{program_in, protocol_in, protocol_told, told_by, told_of}
+use Rattle.sock_diag_filters.specs.ReadBack.{CanBeAsked, Fits, IsReadBack, written_header}
+use Rattle.sock_diag_filters.specs.Requests.{attribute_of, request_bytes}
+
+-- ---- attributes
+
+fit_words : (attributes : List RequestAttribute) → AllByRecursion Fits attributes
+    → AllByRecursion FitsWords (map attribute_of attributes)
+fit_words [] fit = tt
+fit_words (Program program ∷ more) fit = ((omega arith, fit.0), fit_words more fit.1)
+fit_words (Protocol protocol ∷ more) fit = ((omega arith, omega arith), fit_words more fit.1)
+
+tells : (a : RequestAttribute) → Fits a → told_by (attribute_of a) ≡ Ok (told_of a)
+tells (Program program) fit = refl
+tells (Protocol protocol) fit =
+    ap (λ (n : ℕ). ok (protocol_told n)) (number-reads_back little_endian 4 protocol [] fit)
+  where
+    ok : Told → Result Told DecodeError
+    ok t = Ok t
+
+all_tell : (attributes : List RequestAttribute) → AllByRecursion Fits attributes
+    → AllZip (λ a told. told_by a ≡ Ok told) (map attribute_of attributes) (map told_of attributes)
+all_tell [] fit = tt
+all_tell (a ∷ more) fit = (tells a fit.0, all_tell more fit.1)
+
+same_value : (t u : Told) (r : Result Told DecodeError) → r ≡ Ok t → r ≡ Ok u → t ≡ u
+same_value t u r h k = cc
+
+-- what is told of each is one
+told_once : (all : List Attribute) (told others : List Told)
+    → AllZip (λ a t. told_by a ≡ Ok t) all told → AllZip (λ a t. told_by a ≡ Ok t) all others
+    → told ≡ others
+told_once [] [] [] h k = refl
+told_once [] [] (u ∷ others) h k = absurd k
+told_once [] (t ∷ told) others h k = absurd h
+told_once (a ∷ all) [] others h k = absurd h
+told_once (a ∷ all) (t ∷ told) [] h k = absurd k
+told_once (a ∷ all) (t ∷ told) (u ∷ others) h k =
+    let first = same_value t u (told_by a) h.0 k.0 in
+    let later = told_once all told others h.1 k.1 in
+    cc
+
+-- ---- the message
+
+-- where a header stands is no fault of framing
+no_fault_at_header : (b : List ℕ) (h : NetlinkHeader) (e : DecodeError) → HasHeader b h
+    → IsEnvelopeFault b e → ⊥
+no_fault_at_header b h (EnvelopeCut got) head k = omega (arith, head.2, head.3, k.1)
+no_fault_at_header b h (EnvelopeLengthUnder16 word) head k =
+    omega (arith, head.2, header_length b h head, k.0, k.2)
+no_fault_at_header b h (EnvelopeLengthPast word got) head k =
+    omega (arith, head.3, header_length b h head, k.0, k.4)
+no_fault_at_header b h _ head k = k
+
+-- a family stands in front of whatever follows
+goes_on : (kinds : Kinds) (left rest : List ℕ) → 56 ≤ length left
+    → kinds_of_family (slice_index left 0) ≡ Ok kinds
+    → kinds_of_family (slice_index (left ++ rest) 0) ≡ Ok kinds
+goes_on kinds [] rest long h = absurd (omega arith)
+goes_on kinds (x ∷ left) rest long h = h
+
+module _ (h : NetlinkHeader) (request : InetRequest) (attributes : List RequestAttribute)
+    (can : CanBeAsked h request attributes) where
+  abbrev header : NetlinkHeader
+  header = written_header h attributes
+
+  abbrev record_bytes : List ℕ
+  record_bytes = bytes inet_request request
+
+  abbrev behind : List ℕ
+  behind = flat_map written (map attribute_of attributes)
+
+  abbrev message : List ℕ
+  message = request_bytes h request (map attribute_of attributes)
+
+  stands : HasHeader message header × (payload_of message header ≡ record_bytes ++ behind)
+  stands =
+      let size : header.length ≡ 16 + length (record_bytes ++ behind) =
+      omega (arith, length-append record_bytes behind, request_length request) in
+      let whole : header_bytes header ++ ((record_bytes ++ behind) ++ []) ≡ message =
+      ap (λ (l : List ℕ). header_bytes header ++ l) (append-nil (record_bytes ++ behind))
+      ∙ sym (append_assoc (header_bytes header) record_bytes behind) in
+      subst (λ (m : List ℕ). HasHeader m header × (payload_of m header ≡ record_bytes ++ behind))
+      whole (header_stands header (record_bytes ++ behind) [] can.header size)
+
+  is_read : read inet_request tt (record_bytes ++ behind) ≡ Ok request
+  unfolding inet_request
+  is_read =
+      (stands_in_front inet_request inet_request_sound inet_request_size goes_on).reads_in_front
+      request behind can.typed can.normal
+
+  is_behind : (k : NetlinkHeader) → k ≡ header → drop 56 (payload_of message k) ≡ behind
+  is_behind k same = ap (λ (g : NetlinkHeader). drop 56 (payload_of message g)) same
+      ∙ ap (drop 56) stands.1 ∙ drop_at record_bytes behind 56 (request_length request)
+
+  reads_as : (k : NetlinkHeader) → k ≡ header → read inet_request tt (payload_of message k)
+      ≡ Ok request
+  reads_as k same = ap (λ (g : NetlinkHeader). read inet_request tt (payload_of message g)) same
+      ∙ ap (read inet_request tt) stands.1 ∙ is_read
+
+  pub read_back : (view : RequestView) → Asks message view → IsReadBack h request attributes view
+  read_back view asks =
+      let all : List Attribute = map attribute_of attributes in
+      let same = one_header message view.header header asks.framed stands.0 in
+      let asked : view.request ≡ request =
+      same_request view.request request (sym asks.asked ∙ reads_as view.header same) in
+      let cut = subst (λ (b : List ℕ). Cut b asks.means.0) (is_behind view.header same)
+      asks.means.1 in
+      let one = one_cut behind asks.means.0 all cut
+      (full_is_cut behind all (written_is_cut all (fit_words attributes can.fit))) in
+      let told = told_once all asks.told (map told_of attributes)
+      (subst (λ (l : List Attribute). AllZip (λ a t. told_by a ≡ Ok t) l asks.told) one
+      asks.means.2)
+      (all_tell attributes can.fit) in
+      record {
+        header = same;
+        same_request = asked;
+        program = asks.program
+            ∙ ap (λ (l : List Told). last_or None (filter_map program_in l)) told;
+        protocol = asks.protocol
+            ∙ ap (λ (l : List Told).
+            unwrap_or (last_or None (filter_map protocol_in l)) view.request.protocol) told
+            ∙ ap (λ (r : InetRequest). unwrap_or
+            (last_or None (filter_map protocol_in (map told_of attributes))) r.protocol) asked;
+      }
+    where
+      read_as : InetRequest → Result InetRequest DecodeError
+      read_as r = Ok r
+
+      same_request : (r s : InetRequest) → read_as r ≡ read_as s → r ≡ s
+      same_request r s e = cc
+
+  pub never_refused : (e : DecodeError) → IsRequestType h.message_type → RefusesRequest message e
+      → ⊥
+  never_refused e kind (no_message fault) = no_fault_at_header message header e stands.0 fault
+  never_refused e kind (other_type k framed other unknown) =
+      other (subst (λ (g : NetlinkHeader). IsRequestType g.message_type)
+      (one_header message header k stands.0 framed) kind)
+  never_refused e kind (no_request k framed also refused) =
+      absurd (cc (reads_as k (one_header message k header framed stands.0), refused))
+  never_refused e kind (no_attributes k asked framed also reads fault) =
+      let all : List Attribute = map attribute_of attributes in
+      let same = one_header message k header framed stands.0 in
+      means_or_fault_apart told_by behind (map told_of attributes) e
+      (written_values_are_read told_by all (map told_of attributes) (fit_words attributes can.fit)
+      (all_tell attributes can.fit))
+      (subst (λ (b : List ℕ). AttributeFault told_by b e) (is_behind k same) fault)

@@ -1,0 +1,48 @@
+-- How long requests with attributes are, and what is written where nothing follows them.
+use Rattle.std.proofs.Common.{◌≡◌, ◌∙◌, ℕ, ◌+◌, ◌≤◌, List, ◌++◌, length, drop, sym, ap, arith}
+use Rattle.std.proofs.Common.{Ok, append_assoc}
+use Rattle.std.proofs.lemmas.List.{drop-drop, length-append}
+use Rattle.std.specs.List.{flat_map}
+use Rattle.netlink_core.specs.Attribute.{Attribute, written}
+use Rattle.netlink_core.specs.declared.header.NetlinkHeader.{NetlinkHeader}
+use Rattle.netlink_core.specs.Format.{bytes, read}
+use Rattle.netlink_core.specs.Header.{header_bytes}
+use Rattle.netlink_core.proofs.FormatLaws.{accepted}
+use Rattle.sock_diag_records.specs.InetRequest.{inet_request}
+use Rattle.sock_diag_records.specs.InetRequestLaws.{request_length}
+use Rattle.sock_diag_records.specs.declared.inet.request.InetRequest.{InetRequest}
+use Rattle.sock_diag_filters.specs.Requests.{header_under, request_bytes}
+
+pub message_length : (h : NetlinkHeader) (r : InetRequest) (attributes : List Attribute)
+    → length (request_bytes h r attributes) ≡ 72 + length (flat_map written attributes)
+message_length h r attributes =
+    let behind : length (bytes inet_request r ++ flat_map written attributes)
+    ≡ 56 + length (flat_map written attributes) =
+    length-append (bytes inet_request r) (flat_map written attributes)
+    ∙ ap (λ (n : ℕ). n + length (flat_map written attributes)) (request_length r) in
+    omega (arith, behind)
+
+-- header, record and attributes, written one after the other, are the request
+pub all_written : (h : NetlinkHeader) (r : InetRequest) (attributes : List Attribute) (len : ℕ)
+    (front behind rest old : List ℕ) → len ≡ length (request_bytes h r attributes)
+    → front ≡ header_bytes (header_under h len) ++ bytes inet_request r
+    → behind ≡ flat_map written attributes ++ drop (length (flat_map written attributes)) rest
+    → rest ≡ drop 72 old
+    → front ++ behind
+    ≡ request_bytes h r attributes ++ drop (length (request_bytes h r attributes)) old
+all_written h r attributes len front behind rest old size is_front is_behind is_rest =
+    let given : List ℕ = flat_map written attributes in
+    let whole = message_length h r attributes in
+    let own : List ℕ = header_bytes (header_under h (72 + length given)) ++ bytes inet_request r in
+    let left : drop (length given) rest ≡ drop (length (request_bytes h r attributes)) old =
+    ap (drop (length given)) is_rest ∙ drop-drop (length given) 72 old
+    ∙ ap (λ (n : ℕ). drop n old) (sym whole) in
+    ap (λ (l : List ℕ). l ++ behind) (is_front
+    ∙ ap (λ (n : ℕ). header_bytes (header_under h n) ++ bytes inet_request r) (size ∙ whole))
+    ∙ ap (λ (l : List ℕ). own ++ l) (is_behind ∙ ap (λ (l : List ℕ). given ++ l) left)
+    ∙ sym (append_assoc own given (drop (length (request_bytes h r attributes)) old))
+
+-- a string that a request is read from has its 56 bytes
+pub enough : (left : List ℕ) (r : InetRequest) → read inet_request tt left ≡ Ok r → 56 ≤ length left
+unfolding inet_request
+enough left r is = (accepted inet_request tt left r is).long

@@ -1,0 +1,43 @@
+use Rattle.std.proofs.Common.{◌≡◌, ◌∙◌, ◌≤◌, ℕ, List, ◌++◌, length, take, drop, sym, ap}
+use Rattle.std.proofs.Common.{subst, arith}
+use Rattle.std.proofs.Common.{rules}
+use Rattle.std.proofs.Math.Seq.{take-append_seam}
+use Rattle.sock_diag_filters.specs.Audit.{IsAudited}
+use Rattle.sock_diag_filters.specs.declared.condition.Condition.{Condition}
+use Rattle.sock_diag_filters.specs.Conditions.{arguments, code_of}
+use Rattle.sock_diag_filters.specs.AssemblySteps.{program_of}
+use Rattle.sock_diag_filters.specs.Filters.{meaning, size}
+use Rattle.sock_diag_filters.specs.Run.{Runs}
+use Rattle.sock_diag_filters.proofs.Auditing.{program_audited}
+use Rattle.sock_diag_filters.proofs.Operations.{program_length}
+use Rattle.sock_diag_filters.proofs.Running.{program_wants}
+use Rattle.sock_diag_filters.proofs.assembly.assemble.Goals as goal
+
+-- what was written over all of a list is the list
+filled : (n : ℕ) (program new old : List ℕ) → new ≡ program → length program ≡ n
+    → program ≡ take n (new ++ drop (length new) old)
+filled n program new old same long =
+    sym (ap (λ (k : ℕ). take k (new ++ drop (length new) old)) (sym long ∙ sym (ap length same))
+    ∙ take-append_seam new (drop (length new) old) ∙ same)
+
+pub returns-clause-audited : goal.returns-clause-audited
+returns-clause-audited c =
+    let filter = c.args.filter.now in
+    let long = program_length filter 4 in
+    let short : size filter ≤ 65531 = omega arith in
+    let some : c.in-Some.len ≡ size filter = search rules in
+    let all : c.in_ok-program.program.len ≡ c.in-Some.len = search rules in
+    subst IsAudited (filled c.in_ok-program.program.len (program_of filter 4) _ _
+    c.write_program.ensures (omega arith)) (program_audited filter short)
+
+pub returns-clause-runs : goal.returns-clause-runs
+returns-clause-runs c = λ found.
+    let filter = c.args.filter.now in
+    let long = program_length filter 4 in
+    let short : size filter ≤ 65531 = omega arith in
+    let some : c.in-Some.len ≡ size filter = search rules in
+    let all : c.in_ok-program.program.len ≡ c.in-Some.len = search rules in
+    let wants = meaning (λ (d : Condition). found (code_of d) (arguments d)) filter in
+    subst (λ (l : List ℕ). Runs found l wants) (filled c.in_ok-program.program.len
+    (program_of filter 4) _ _ c.write_program.ensures (omega arith))
+    (program_wants found filter short)

@@ -1,0 +1,37 @@
+use Rattle.std.proofs.Common.{arith}
+use Rattle.std.specs.Prelude.{map}
+use Rattle.sock_diag_records.specs.InetRequestLaws.{request_length}
+use Rattle.sock_diag_filters.specs.Requests.{attribute_of}
+use Rattle.sock_diag_filters.proofs.Requesting.{all_written, message_length}
+use Rattle.sock_diag_filters.proofs.request.RequestWithAttributesEmitable.emit.Goals as goal
+
+pub split_at_mut-front-requires : goal.split_at_mut-front-requires
+split_at_mut-front-requires c =
+    let request = c.args.self.now in
+    let long = message_length request.header request.request
+    (map attribute_of request.attributes.now) in
+    omega (arith, long, c.requires.room)
+
+pub overflow_cast-len : goal.overflow_cast-len
+overflow_cast-len c =
+    let request = c.args.self.now in
+    let long = message_length request.header request.request
+    (map attribute_of request.attributes.now) in
+    omega (arith, long, c.buffer_len-len.ensures, c.requires.writable.1)
+
+pub write_front-requires-clause-whole : goal.write_front-requires-clause-whole
+write_front-requires-clause-whole c = omega (arith, request_length c.args.self.now.request)
+
+pub emit_nlas-requires-clause-room : goal.emit_nlas-requires-clause-room
+emit_nlas-requires-clause-room c =
+    let request = c.args.self.now in
+    let long = message_length request.header request.request
+    (map attribute_of request.attributes.now) in
+    omega (arith, long, c.requires.room)
+
+pub returns : goal.returns
+returns c =
+    let request = c.args.self.now in
+    all_written request.header request.request (map attribute_of request.attributes.now) _ _ _ _ _
+    c.buffer_len-len.ensures c.write_front.ensures c.emit_nlas.ensures
+    c.split_at_mut-front.ensures.back

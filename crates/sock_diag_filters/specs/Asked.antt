@@ -1,0 +1,86 @@
+-- What a request for internet sockets asks, with its attributes.
+use Rattle.std.specs.Prelude.{◌≡◌, ℕ, ◌-◌, ◌==◌, ◌⊎◌, if◌then◌else◌, List, Option, Some, None}
+use Rattle.std.specs.Prelude.{Result, Ok, Err, take, drop, option_map, unwrap_or}
+use Rattle.std.specs.List.{filter_map, last_or}
+use Rattle.netlink_core.specs.Attribute.{Attribute, AttributeFault, AttributesMean, kind_of}
+use Rattle.netlink_core.specs.Faults.{said_as}
+use Rattle.netlink_core.specs.Format.{read}
+use Rattle.netlink_core.specs.Header.{HasHeader, IsEnvelopeFault}
+use Rattle.netlink_core.specs.Parse.{exact_number}
+use Rattle.netlink_core.specs.declared.fault.DecodeError.{DecodeError}
+use Rattle.netlink_core.specs.declared.fault.DecodeError.TheVariants.{UnknownMessageType}
+use Rattle.netlink_core.specs.declared.header.NetlinkHeader.{NetlinkHeader}
+use Rattle.sock_diag_records.specs.InetRequest.{inet_request}
+use Rattle.sock_diag_records.specs.declared.inet.request.InetRequest.{InetRequest}
+use Rattle.sock_diag_filters.specs.declared.request.RequestAttribute.{RequestAttribute}
+use Rattle.sock_diag_filters.specs.declared.request.RequestAttribute.TheVariants.{Program, Protocol}
+use Rattle.sock_diag_filters.specs.declared.view.Found.{Found}
+use Rattle.sock_diag_filters.specs.declared.view.RequestView.{RequestView}
+
+-- what an attribute tells
+pub data Told : Type 0 where
+  program_told : List ℕ → Told
+  protocol_told : ℕ → Told
+  nothing_told : Told
+
+-- INET_DIAG_REQ_BYTECODE, 1, carries a program, and INET_DIAG_REQ_PROTOCOL, 3, tells the protocol,
+-- in exactly four bytes
+abbrev pub told_by : Attribute → Result Told DecodeError
+told_by a =
+    if kind_of a == 1 then Ok (program_told a.value)
+    else if kind_of a == 3 then said_as protocol_told (exact_number None 4 a.value)
+    else Ok nothing_told
+
+-- what an attribute tells that is written
+abbrev pub told_of : RequestAttribute → Told
+told_of (Program program) = program_told program.now
+told_of (Protocol protocol) = protocol_told protocol
+
+abbrev pub program_in : Told → Option (List ℕ)
+program_in (program_told program) = Some program
+program_in (protocol_told protocol) = None
+program_in nothing_told = None
+
+abbrev pub protocol_in : Told → Option ℕ
+protocol_in (program_told program) = None
+protocol_in (protocol_told protocol) = Some protocol
+protocol_in nothing_told = None
+
+-- of each the last that is told, where one is
+pub record Keeps (found : Found) (told : List Told) : Type 0 where
+  pub program : option_map (λ program. program.now) found.program
+      ≡ last_or None (filter_map program_in told)
+  pub protocol : found.protocol ≡ last_or None (filter_map protocol_in told)
+
+-- what stands behind the netlink header
+abbrev pub payload_of : List ℕ → NetlinkHeader → List ℕ
+payload_of message h = take (h.length - 16) (drop 16 message)
+
+-- the message has the type 20 or 21
+abbrev pub IsRequestType : ℕ → Type 0
+IsRequestType t = (t ≡ 20) ⊎ (t ≡ 21)
+
+-- The message has this header and this request, and from 56 on the attributes that are told. The
+-- request's own protocol counts where none of them tells one.
+pub record Asks (message : List ℕ) (view : RequestView) : Type 0 where
+  pub framed : HasHeader message view.header
+  pub kind : IsRequestType view.header.message_type
+  pub asked : read inet_request tt (payload_of message view.header) ≡ Ok view.request
+  pub told : List Told
+  pub means : AttributesMean told_by (drop 56 (payload_of message view.header)) told
+  pub program : option_map (λ program. program.now) view.program
+      ≡ last_or None (filter_map program_in told)
+  pub protocol : view.protocol
+      ≡ unwrap_or (last_or None (filter_map protocol_in told)) view.request.protocol
+
+-- of several faults the first
+pub data RefusesRequest (message : List ℕ) (e : DecodeError) : Type 0 where
+  no_message : IsEnvelopeFault message e → RefusesRequest message e
+  other_type : (h : NetlinkHeader) → HasHeader message h → ¬ IsRequestType h.message_type
+      → e ≡ UnknownMessageType h.message_type → RefusesRequest message e
+  no_request : (h : NetlinkHeader) → HasHeader message h → IsRequestType h.message_type
+      → read inet_request tt (payload_of message h) ≡ Err e → RefusesRequest message e
+  no_attributes : (h : NetlinkHeader) (asked : InetRequest) → HasHeader message h
+      → IsRequestType h.message_type → read inet_request tt (payload_of message h) ≡ Ok asked
+      → AttributeFault told_by (drop 56 (payload_of message h)) e
+      → RefusesRequest message e

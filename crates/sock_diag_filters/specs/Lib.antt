@@ -1,0 +1,13 @@
+pub mod Prefixes
+pub mod Conditions
+pub mod Filters
+pub mod Audit
+pub mod Run
+pub mod AssemblySteps
+pub mod Assembled
+pub mod Requests
+pub mod Asked
+pub mod AskedSteps
+pub mod Uses
+pub mod ReadBack
+pub mod Sockets

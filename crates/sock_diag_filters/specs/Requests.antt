@@ -1,0 +1,33 @@
+-- Requests for internet sockets with attributes: linux/inet_diag.h.
+use Rattle.std.specs.Prelude.{ℕ, ◌+◌, List, ◌++◌, length}
+use Rattle.std.specs.List.{flat_map}
+use Rattle.byteorder.specs.Endian.{little_bytes}
+use Rattle.netlink_core.specs.Attribute.{Attribute, written}
+use Rattle.netlink_core.specs.declared.header.NetlinkHeader.{NetlinkHeader}
+use Rattle.netlink_core.specs.Format.{bytes}
+use Rattle.netlink_core.specs.Header.{header_bytes}
+use Rattle.sock_diag_records.specs.InetRequest.{inet_request}
+use Rattle.sock_diag_records.specs.declared.inet.request.InetRequest.{InetRequest}
+use Rattle.sock_diag_filters.specs.declared.request.RequestAttribute.{RequestAttribute}
+use Rattle.sock_diag_filters.specs.declared.request.RequestAttribute.TheVariants.{Program, Protocol}
+
+-- INET_DIAG_REQ_BYTECODE is 1, and INET_DIAG_REQ_PROTOCOL 3, a number of 32 bits
+abbrev pub attribute_of : RequestAttribute → Attribute
+attribute_of (Program program) = record { type_word = 1; value = program.now }
+attribute_of (Protocol protocol) = record { type_word = 3; value = little_bytes 4 protocol }
+
+-- the same header, with this length
+abbrev pub header_under : NetlinkHeader → ℕ → NetlinkHeader
+header_under h len = record {
+  length = len;
+  message_type = h.message_type;
+  flags = h.flags;
+  sequence_number = h.sequence_number;
+  port_number = h.port_number;
+}
+
+-- the header with the length of all, the request, and the attributes, each with its padding
+abbrev pub request_bytes : NetlinkHeader → InetRequest → List Attribute → List ℕ
+request_bytes h request attributes =
+    header_bytes (header_under h (72 + length (flat_map written attributes)))
+    ++ bytes inet_request request ++ flat_map written attributes

@@ -1,0 +1,112 @@
+//! Filters as programs: bytecode of `INET_DIAG_REQ_BYTECODE`.
+
+ghost use Rattle.std.specs.Prelude.{◌≡◌, ◌+◌, ◌<◌, ◌≤◌, ℕ, List, Bool, length, IfOk, IfErr};
+ghost use Rattle.sock_diag_filters.specs.Audit.{IsAudited};
+ghost use Rattle.sock_diag_filters.specs.AssemblySteps.{front_bytes, operation, program_of};
+ghost use Rattle.sock_diag_filters.specs.Filters.{meaning, size};
+ghost use Rattle.sock_diag_filters.specs.Conditions.{arguments, code_of};
+ghost use Rattle.sock_diag_filters.specs.Run.{Runs};
+ghost use Rattle.sock_diag_filters.specs.declared.assembly.AssembleError.TheVariants.{Memory};
+ghost use Rattle.sock_diag_filters.specs.Assembled.{IsRefused};
+
+use crate::condition::Condition;
+use crate::filter::Filter;
+use byteorder::{ByteOrder, LittleEndian};
+use std::alloc::{AllocError, Global};
+use thiserror::Error;
+
+/// The most bytes of a program: an attribute carries no more, and no jump goes further.
+pub const MAX_PROGRAM: usize = 65531;
+
+// The code of an operation whose condition is never met.
+const JMP: u8 = 1;
+
+/// Why there is no program.
+#[derive(Debug, Drop, PartialEq, Eq, Error)]
+pub enum AssembleError {
+    /// It has more than [`MAX_PROGRAM`] bytes.
+    #[error("a filter of more than {MAX_PROGRAM} bytes")]
+    TooLong,
+    /// Memory ran out.
+    #[error("out of memory")]
+    Memory,
+}
+
+impl From<AllocError> for AssembleError {
+    ghost from_gives = { λ _ e. e ≡ Memory };
+
+    fn from(_e: AllocError) -> AssembleError {
+        AssembleError::Memory
+    }
+}
+
+/// The program of a filter: the value of an attribute `INET_DIAG_REQ_BYTECODE`. The kernel takes
+/// it, and wants exactly the sockets that the filter means, whatever is found of their conditions.
+pub fn assemble(alloc: Global, filter: &Filter) -> Result<Vec<u8>, AssembleError>
+    ensures size { IfOk result (λ program. length program.items ≡ size filter.now) }
+    ensures short { IfOk result (λ program. length program.items ≤ 65531) }
+    ensures audited { IfOk result (λ program. IsAudited program.items) }
+    ensures runs { IfOk result (λ program. (found : ℕ → List ℕ → Bool) → Runs found program.items
+        (meaning (λ c. found (code_of c) (arguments c)) filter.now)) }
+    ensures refused { IfErr result (λ e. IsRefused filter.now e) }
+{
+    let Some(len) = filter.len_within(MAX_PROGRAM) else {
+        return Err(AssembleError::TooLong);
+    };
+    let mut program = vec![in alloc; 0; len]?;
+    write_program(filter, 4, &mut program);
+    Ok(program)
+}
+
+// Writes the program of a filter over as many bytes: who is wanted comes to its end, and who isn't
+// so many bytes past it.
+fn write_program(filter: &Filter, far: usize, row: &mut [u8])
+    requires whole { length row.old ≡ size filter.now }
+    requires near { size filter.now + far ≤ 65535 }
+    ensures { row.new ≡ program_of filter.now far }
+{
+    match filter {
+        Filter::Condition(condition) => write_condition(*condition, far, row),
+        Filter::And(first, second) => {
+            let (front, behind) = row.split_at_mut(first.len());
+            write_program(first, behind.len() + far, front);
+            write_program(second, far, behind);
+        }
+        Filter::Or(first, second) => {
+            let (front, rest) = row.split_at_mut(first.len());
+            let (jump, behind) = rest.split_at_mut(4);
+            write_program(first, 4, front);
+            write_operation(JMP, 0, behind.len(), jump);
+            write_program(second, far, behind);
+        }
+        Filter::Not(filter) => {
+            let (front, jump) = row.split_at_mut(filter.len());
+            write_program(filter, 4, front);
+            write_operation(JMP, 0, far, jump);
+        }
+    }
+}
+
+// Writes the operation of a condition.
+fn write_condition(condition: Condition, far: usize, row: &mut [u8])
+    requires whole { length row.old ≡ 4 + length (arguments condition) }
+    requires near { 4 + length (arguments condition) + far ≤ 65535 }
+    ensures { row.new ≡ operation (code_of condition) (arguments condition) far }
+{
+    let (front, behind) = row.split_at_mut(4);
+    condition.write_arguments(behind);
+    write_operation(condition.code(), behind.len(), far, front);
+}
+
+// Writes the front of an operation that has so many bytes of arguments behind it.
+fn write_operation(code: u8, arguments_len: usize, far: usize, front: &mut [u8])
+    requires front { length front.old ≡ 4 }
+    requires short { 4 + arguments_len ≤ 255 }
+    requires near { 4 + arguments_len + far ≤ 65535 }
+    ensures { front.new ≡ front_bytes code arguments_len far }
+{
+    let yes = 4 + arguments_len;
+    let (kind, no) = front.split_at_mut(2);
+    kind.copy_from_slice(&[code, yes as u8]);
+    LittleEndian::write_u16(no, (yes + far) as u16);
+}

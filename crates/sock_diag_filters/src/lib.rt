@@ -1,0 +1,19 @@
+//! Filters of internet sockets as the bytecode that the kernel runs, and requests that carry it.
+#![tactic(auto)]
+
+mod assembly;
+mod condition;
+mod filter;
+pub mod laws;
+mod request;
+pub mod uses;
+mod view;
+
+pub use crate::assembly::{AssembleError, MAX_PROGRAM, assemble};
+pub use crate::condition::{Comparison, Condition, Host, Prefix};
+pub use crate::filter::Filter;
+pub use crate::request::{
+    INET_DIAG_REQ_BYTECODE, INET_DIAG_REQ_PROTOCOL, REQUEST_FRONT, RequestAttribute,
+    RequestWithAttributes,
+};
+pub use crate::view::RequestView;

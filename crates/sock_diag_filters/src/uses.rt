@@ -1,0 +1,99 @@
+//! Callers to copy from.
+
+ghost use Rattle.std.specs.Prelude.{◌≡◌, ◌&&◌, [], ◌∷◌, IfOk, ℕ, List, Bool};
+ghost use Rattle.sock_diag_filters.specs.Audit.{IsAudited};
+ghost use Rattle.sock_diag_filters.specs.Prefixes.{port_bytes};
+ghost use Rattle.sock_diag_filters.specs.Requests.{request_bytes};
+ghost use Rattle.sock_diag_filters.specs.Run.{Runs};
+ghost use Rattle.sock_diag_filters.specs.Uses.{asked_header, asked_tcp, no_socket};
+ghost use Rattle.sock_diag_filters.specs.Uses.{program_attribute};
+
+use crate::condition::family;
+use crate::request::write_all;
+use crate::{
+    AssembleError, Comparison, Condition, Filter, REQUEST_FRONT, RequestAttribute,
+    RequestWithAttributes, assemble,
+};
+use bitflags::Flags;
+use netlink_core::{Emitable, NLM_F_DUMP, NLM_F_REQUEST, NetlinkHeader};
+use netlink_packet_sock_diag::constants::{IPPROTO_TCP, SOCK_DESTROY, SOCK_DIAG_BY_FAMILY};
+use netlink_packet_sock_diag::inet::{ExtensionFlags, InetRequest, SocketId, StateFlags};
+use std::alloc::Global;
+
+/// The flag of a header that asks for an acknowledgement, `NLM_F_ACK` of netlink(7).
+pub const NLM_F_ACK: u16 = 4;
+
+/// The request for the TCP sockets over IPv4 that listen on a port from the first to the last: the
+/// kernel runs a program that wants exactly those whose port is found to be at least the first
+/// (`INET_DIAG_BC_S_GE`, 2) and at most the last (`INET_DIAG_BC_S_LE`, 3).
+pub fn listening_on(
+    alloc: Global,
+    first: u16,
+    last: u16,
+    sequence_number: u32,
+) -> Result<Vec<u8>, AssembleError>
+    ensures { IfOk result (λ message. (program : List ℕ) × IsAudited program
+        × ((found : ℕ → List ℕ → Bool)
+        → Runs found program (found 2 (port_bytes first) && found 3 (port_bytes last)))
+        × (message.items ≡ request_bytes (asked_header 20 0x301 sequence_number)
+        (asked_tcp 0x400 no_socket) (program_attribute program ∷ []))) }
+{
+    let from = Filter::Condition(Condition::SourcePort(Comparison::AtLeast, first));
+    let to = Filter::Condition(Condition::SourcePort(Comparison::AtMost, last));
+    let program = assemble(alloc, &Filter::And(&from, &to))?;
+    let attributes = [RequestAttribute::Program(&program)];
+    let request = RequestWithAttributes {
+        header: header(
+            SOCK_DIAG_BY_FAMILY,
+            NLM_F_REQUEST | NLM_F_DUMP,
+            sequence_number,
+        ),
+        request: tcp(StateFlags::LISTEN, SocketId::new_v4()),
+        attributes: &attributes,
+    };
+    let mut message = vec![in alloc; 0; request.buffer_len()]?;
+    request.emit(&mut message);
+    Ok(message)
+}
+
+/// The request to close one TCP socket, told by its addresses, ports and cookie, and to acknowledge
+/// that. It needs `CAP_NET_ADMIN`.
+pub fn close_tcp(socket_id: SocketId, sequence_number: u32) -> [u8; REQUEST_FRONT]
+    ensures { result ≡ request_bytes (asked_header 21 5 sequence_number)
+        (asked_tcp 0xffffffff socket_id) [] }
+{
+    let request = RequestWithAttributes {
+        header: header(SOCK_DESTROY, NLM_F_REQUEST | NLM_F_ACK, sequence_number),
+        request: tcp(StateFlags::from_bits_retain(u32::MAX), socket_id),
+        attributes: &[],
+    };
+    let mut message = [0; REQUEST_FRONT];
+    write_all(&request, &mut message);
+    message
+}
+
+// A header of a request, without a length.
+fn header(message_type: u16, flags: u16, sequence_number: u32) -> NetlinkHeader
+    ensures { result ≡ asked_header message_type flags sequence_number }
+{
+    NetlinkHeader {
+        message_type,
+        flags,
+        sequence_number,
+        ..NetlinkHeader::default()
+    }
+}
+
+// A request for sockets of TCP in these states, or for the one with this identity, and for none of
+// their attributes.
+fn tcp(states: StateFlags, socket_id: SocketId) -> InetRequest
+    ensures { result ≡ asked_tcp states.0 socket_id }
+{
+    InetRequest {
+        family: family(socket_id.source_address),
+        protocol: IPPROTO_TCP,
+        extensions: ExtensionFlags::empty(),
+        states,
+        socket_id,
+    }
+}

@@ -1,0 +1,100 @@
+use netlink_core::Emitable;
+use sock_diag_filters::uses::listening_on;
+use sock_diag_filters::{
+    Comparison, Condition, Filter, Host, Prefix, RequestAttribute, RequestView,
+    RequestWithAttributes, assemble,
+};
+use std::alloc::Global;
+use std::net::{IpAddr, Ipv4Addr, Ipv6Addr};
+use std::process::Abort;
+use std::test::Fail;
+
+// What ss(8) sends for `sport >= :1024 and ( dport <= :99 or not src 10.0.0.0/8 )`.
+const JOINED: [u8; 40] = [
+    2, 8, 44, 0, 0, 0, 0, 4, 5, 8, 12, 0, 0, 0, 99, 0, 1, 4, 24, 0, 7, 16, 20, 0, 2, 8, 0, 0, 255,
+    255, 255, 255, 10, 0, 0, 0, 1, 4, 8, 0,
+];
+
+// For `dst [::1]:53`.
+const IPV6: [u8; 28] = [
+    8, 28, 32, 0, 10, 128, 0, 0, 53, 0, 0, 0, 0, 0, 0, 0, 0, 0, 0, 0, 0, 0, 0, 0, 0, 0, 0, 1,
+];
+
+// For `autobound`, `cgroup /` (of the number 0) and `fwmark = 0x01/0x03`; and of interface 3.
+const AUTO: [u8; 4] = [6, 4, 8, 0];
+
+const CGROUP: [u8; 12] = [13, 12, 16, 0, 0, 0, 0, 0, 0, 0, 0, 0];
+
+const MARK: [u8; 12] = [10, 12, 16, 0, 1, 0, 0, 0, 3, 0, 0, 0];
+
+const INTERFACE: [u8; 8] = [9, 8, 12, 0, 3, 0, 0, 0];
+
+fn assembles(rt: &impl Abort, alloc: Global, filter: &Filter, program: &[u8]) -> Result<(), Fail> {
+    let made = assemble(alloc, filter)?;
+    assert!(rt; made.as_slice() == program);
+    Ok(())
+}
+
+#[test]
+fn conditions_are_those_of_ss(rt: HostRuntime) -> Result<(), Fail> {
+    let local = Host {
+        prefix: Prefix::new(IpAddr::V6(Ipv6Addr::LOCALHOST), 128),
+        port: Some(53),
+    };
+    for (condition, program) in [
+        (Condition::Destination(local), &IPV6[..]),
+        (Condition::AutoBound, &AUTO),
+        (Condition::Cgroup(0), &CGROUP),
+        (Condition::Mark { mark: 1, mask: 3 }, &MARK),
+        (Condition::Interface(3), &INTERFACE),
+    ] {
+        assembles(&rt, rt.alloc(), &Filter::Condition(condition), program)?;
+    }
+    Ok(())
+}
+
+#[test]
+fn a_filter_is_that_of_ss(rt: HostRuntime) -> Result<(), Fail> {
+    let source = Filter::Condition(Condition::Source(Host {
+        prefix: Prefix::new(IpAddr::V4(Ipv4Addr::new(10, 0, 0, 0)), 8),
+        port: None,
+    }));
+    let elsewhere = Filter::Not(&source);
+    let low = Filter::Condition(Condition::DestinationPort(Comparison::AtMost, 99));
+    let either = Filter::Or(&low, &elsewhere);
+    let high = Filter::Condition(Condition::SourcePort(Comparison::AtLeast, 1024));
+    assembles(&rt, rt.alloc(), &Filter::And(&high, &either), &JOINED)
+}
+
+// A dump of the sockets over IPv4 that listen, by the number 9: the program AUTO, and MPTCP.
+const ASKED: [u8; 88] = [
+    88, 0, 0, 0, 20, 0, 1, 3, 9, 0, 0, 0, 0, 0, 0, 0, 2, 6, 0, 0, 0, 4, 0, 0, 0, 0, 0, 0, 0, 0, 0,
+    0, 0, 0, 0, 0, 0, 0, 0, 0, 0, 0, 0, 0, 0, 0, 0, 0, 0, 0, 0, 0, 0, 0, 0, 0, 0, 0, 0, 0, 0, 0, 0,
+    0, 0, 0, 0, 0, 0, 0, 0, 0, 8, 0, 1, 0, 6, 4, 8, 0, 8, 0, 3, 0, 6, 1, 0, 0,
+];
+
+#[test]
+fn requests_are_read(rt: HostRuntime) -> Result<(), Fail> {
+    let alloc = rt.alloc();
+    let message = listening_on(alloc, 80, 443, 9)?;
+    let view = RequestView::parse(&message).expect(&rt, "a request");
+    assert!(rt; view.protocol == 6);
+    assert!(rt; view.program == Some(&message[76..]));
+    let mptcp = [
+        RequestAttribute::Program(&AUTO),
+        RequestAttribute::Protocol(262),
+    ];
+    let request = RequestWithAttributes {
+        header: view.header,
+        request: view.request,
+        attributes: &mptcp,
+    };
+    assert!(rt; request.is_writable());
+    let mut bytes = vec![in alloc; 0; request.buffer_len()]?;
+    request.emit(&mut bytes);
+    let view = RequestView::parse(&bytes).expect(&rt, "a request");
+    assert!(rt; view.protocol == 262);
+    assert!(rt; view.program == Some(&AUTO[..]));
+    assert!(rt; bytes.as_slice() == ASKED.as_slice());
+    Ok(())
+}
