@@ -22,8 +22,8 @@ escaped c = if is_plain c then c ∷ [] else byte_digits c
 
 -- Characters in a row, the first and the last: of Latin, of Greek and Cyrillic, punctuation,
 -- currencies, arrows, shapes, and of Chinese, Japanese and Korean. Each is a letter, a number or a
--- sign that is seen: none is a control, a separator, a format or combining character, unassigned, or
--- written from right to left (Unicode 14, UnicodeData.txt).
+-- sign that is seen: none is a control, a separator, a format or combining character, unassigned,
+-- or written from right to left (Unicode 14, UnicodeData.txt).
 abbrev pub shown_ranges : List (ℕ × ℕ)
 shown_ranges =
     (0xa1, 0xac) ∷ (0xae, 0x2ff) ∷ (0x386, 0x38a) ∷ (0x38c, 0x38c) ∷ (0x38e, 0x3a1) ∷ (0x3a3, 0x482)
@@ -58,5 +58,6 @@ bytes_told (suc n) (c ∷ text) = bytes_told n text
 bytes_told zero (c ∷ text) =
     if c == 32 then []
     else if c == 92
-    then (16 * digit_worth (slice_index text 1) + digit_worth (slice_index text 2)) ∷ bytes_told 3 text
+    then (16 * digit_worth (slice_index text 1) + digit_worth (slice_index text 2))
+    ∷ bytes_told 3 text
     else c ∷ bytes_told 0 text

@@ -2,8 +2,8 @@
 -- What is left of the program from some operation on is a string, and the operation stands at its
 -- front: struct inet_diag_bc_op of linux/inet_diag.h.
 use Rattle.std.specs.Prelude.{◌≡◌, ◌≢◌, ℕ, ◌+◌, ◌-◌, ◌*◌, ◌%◌, ◌<◌, ◌≤◌, ◌⊎◌, ◌==◌, if◌then◌else◌}
-use Rattle.std.specs.Prelude.{List, [], ◌∷◌, length, drop, slice_index, slice_get, Option, Some, None}
-use Rattle.std.specs.Prelude.{option_map}
+use Rattle.std.specs.Prelude.{List, [], ◌∷◌, length, drop, slice_index, slice_get, Option, Some}
+use Rattle.std.specs.Prelude.{None, option_map}
 use Rattle.byteorder.specs.Endian.{little_number}
 
 -- the code of the operation at the front, and how far one goes on where its condition is met, and
