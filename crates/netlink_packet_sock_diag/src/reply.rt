@@ -23,7 +23,7 @@ pub(crate) fn without_memory<T: Drop>(_begun: T) -> DecodeError
 
 /// Whether the same attributes stand in both places, in the same order, by any test that `==` of
 /// two attributes is.
-pub(crate) fn same_views<'a, V: FamilyView<'a> + Drop>(left: &'a [u8], right: &'a [u8]) -> bool
+pub fn same_views<'a, V: FamilyView<'a> + Drop>(left: &'a [u8], right: &'a [u8]) -> bool
     requires left { HasNoFault (says V.family) left.now }
     requires right { HasNoFault (says V.family) right.now }
     ensures { (test : Said V.family → Said V.family → Bool)
@@ -84,7 +84,7 @@ pub(crate) fn emit_reply<H: Emitable, T: FamilyNla>(header: &H, nlas: &[T], buff
 
 /// How many bytes the header and the attributes behind it are written as, where each value fits and
 /// all of it has at most 4,294,967,295.
-pub(crate) fn viewed_reply_len<'a, H: Emitable, V: FamilyView<'a> + Drop>(
+pub fn viewed_reply_len<'a, H: Emitable, V: FamilyView<'a> + Drop>(
     header: &H,
     bytes: &'a [u8],
 ) -> Option<usize>
@@ -105,7 +105,7 @@ pub(crate) fn viewed_reply_len<'a, H: Emitable, V: FamilyView<'a> + Drop>(
 }
 
 /// Writes the header and the attributes behind it at the front of the buffer, and leaves the rest.
-pub(crate) fn emit_viewed_reply<'a, H: Emitable, V: FamilyView<'a> + Drop>(
+pub fn emit_viewed_reply<'a, H: Emitable, V: FamilyView<'a> + Drop>(
     header: &H,
     bytes: &'a [u8],
     buffer: &mut [u8],
