@@ -28,7 +28,7 @@ pub use dump::PayloadView;
 pub use message::SockDiagDestroy;
 pub use message::SockDiagMessage;
 pub use message::SockDiagView;
-pub use reply::{emit_viewed_reply, same_views, viewed_reply_len};
+pub use reply::same_views;
 pub use sock_diag_records::constants;
 pub use sock_diag_records::constants::AF_ALG;
 pub use sock_diag_records::constants::AF_APPLETALK;

@@ -84,7 +84,7 @@ pub(crate) fn emit_reply<H: Emitable, T: FamilyNla>(header: &H, nlas: &[T], buff
 
 /// How many bytes the header and the attributes behind it are written as, where each value fits and
 /// all of it has at most 4,294,967,295.
-pub fn viewed_reply_len<'a, H: Emitable, V: FamilyView<'a> + Drop>(
+pub(crate) fn viewed_reply_len<'a, H: Emitable, V: FamilyView<'a> + Drop>(
     header: &H,
     bytes: &'a [u8],
 ) -> Option<usize>
@@ -105,7 +105,7 @@ pub fn viewed_reply_len<'a, H: Emitable, V: FamilyView<'a> + Drop>(
 }
 
 /// Writes the header and the attributes behind it at the front of the buffer, and leaves the rest.
-pub fn emit_viewed_reply<'a, H: Emitable, V: FamilyView<'a> + Drop>(
+pub(crate) fn emit_viewed_reply<'a, H: Emitable, V: FamilyView<'a> + Drop>(
     header: &H,
     bytes: &'a [u8],
     buffer: &mut [u8],

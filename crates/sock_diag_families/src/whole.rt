@@ -7,11 +7,9 @@ ghost use Rattle.netlink_packet_sock_diag.specs.EqualReplyLaws.{reply_test, repl
 ghost use Rattle.netlink_packet_sock_diag.specs.HeaderLaws.{enough};
 ghost use Rattle.sock_diag_families.specs.WholeReply.{OneTable, whole_reply, whole_reply_laws};
 
-use attribute_lists::check_nlas;
-use netlink_core::{DecodeError, FamilyView, Nla, NlaBuffer, Record, read_record};
-use netlink_packet_sock_diag::{
-    ReplyHeader, ReplyView, ReplyViews, emit_viewed_reply, same_views, viewed_reply_len,
-};
+use attribute_lists::{check_nlas, emit_views, views_len};
+use netlink_core::{DecodeError, Emitable, FamilyView, Nla, NlaBuffer, Record, read_record};
+use netlink_packet_sock_diag::{ReplyHeader, ReplyView, ReplyViews, same_views};
 
 /// An attribute that is kept whole, read in place: its type word and its value's bytes.
 #[derive(Clone, Copy, Debug, PartialEq, Eq)]
@@ -98,12 +96,18 @@ impl<H: FamilyHeader> ReplyHeader for Whole<H> {
 
     #[inline(always)]
     fn len_with(&self, bytes: &[u8]) -> Option<usize> {
-        viewed_reply_len::<_, WholeNla<'_>>(&self.0, bytes)
+        let len = self.0.buffer_len();
+        if len > u32::MAX as usize {
+            return None;
+        }
+        views_len::<WholeNla<'_>>(len, bytes)
     }
 
     #[inline(always)]
     fn emit_with(&self, bytes: &[u8], buffer: &mut [u8]) {
-        emit_viewed_reply::<_, WholeNla<'_>>(&self.0, bytes, buffer);
+        let (front, rest) = buffer.split_at_mut(self.0.buffer_len());
+        self.0.emit(front);
+        emit_views::<WholeNla<'_>>(bytes, rest);
     }
 
     ghost enough = { enough H.format (refl, H.table.fixed) };
