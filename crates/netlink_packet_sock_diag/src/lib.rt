@@ -28,6 +28,7 @@ pub use dump::PayloadView;
 pub use message::SockDiagDestroy;
 pub use message::SockDiagMessage;
 pub use message::SockDiagView;
+pub use reply::same_views;
 pub use sock_diag_records::constants;
 pub use sock_diag_records::constants::AF_ALG;
 pub use sock_diag_records::constants::AF_APPLETALK;
@@ -168,6 +169,7 @@ pub use sock_diag_records::constants::UNIX_DIAG_PEER;
 pub use sock_diag_records::constants::UNIX_DIAG_RQLEN;
 pub use sock_diag_records::constants::UNIX_DIAG_SHUTDOWN;
 pub use sock_diag_records::constants::UNIX_DIAG_VFS;
+pub use view::{AttributeViews, ReplyHeader, ReplyView, ReplyViews};
 
 /// The constants that stand at the root too are the numbers of these names. It is for proofs, and
 /// does nothing.

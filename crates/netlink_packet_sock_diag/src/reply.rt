@@ -23,7 +23,7 @@ pub(crate) fn without_memory<T: Drop>(_begun: T) -> DecodeError
 
 /// Whether the same attributes stand in both places, in the same order, by any test that `==` of
 /// two attributes is.
-pub(crate) fn same_views<'a, V: FamilyView<'a> + Drop>(left: &'a [u8], right: &'a [u8]) -> bool
+pub fn same_views<'a, V: FamilyView<'a> + Drop>(left: &'a [u8], right: &'a [u8]) -> bool
     requires left { HasNoFault (says V.family) left.now }
     requires right { HasNoFault (says V.family) right.now }
     ensures { (test : Said V.family → Said V.family → Bool)

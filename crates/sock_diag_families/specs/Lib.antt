@@ -1,0 +1,11 @@
+pub mod WholeReply
+pub mod Found
+pub mod ShowRequest
+pub mod VsockRequest
+pub mod VsockResponseHeader
+pub mod NetlinkResponseHeader
+pub mod PacketResponseHeader
+pub mod PacketAttributes
+pub mod XdpResponseHeader
+pub mod XdpAttributes
+pub mod AnyMessage

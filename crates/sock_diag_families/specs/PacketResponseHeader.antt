@@ -1,0 +1,28 @@
+-- The header of a reply about a packet socket: 16 bytes, the byte at 0 not read and written 17.
+use Rattle.std.specs.Prelude.{⊤, ℕ, List, [], ◌∷◌, slice_index, refl}
+use Rattle.netlink_core.specs.Format.{Format, plain}
+use Rattle.netlink_core.specs.SoundLaws.{IsSound}
+use Rattle.netlink_core.specs.Table.{byte, number, unread, little_endian}
+use Rattle.netlink_core.specs.declared.fault.RecordName.TheVariants as name
+use Rattle.netlink_core.proofs.FormatLaws.{plain_sound}
+use Rattle.sock_diag_families.specs.declared.packet.response.PacketResponseHeader.{PacketResponseHeader}
+
+-- the header with the numbers of its rows
+abbrev pub packet_header_of : List ℕ → PacketResponseHeader
+packet_header_of values = record {
+  kind = slice_index values 0;
+  protocol = slice_index values 1;
+  inode = slice_index values 2;
+  cookie = slice_index values 3;
+}
+
+-- the byte at 1, and numbers of 16, 32 and 64 bits at 2, 4 and 8, low byte first
+abbrev pub packet_header : Format (Unit {0}) (Unit {0}) PacketResponseHeader
+packet_header = plain (name.FamilyResponseHeader 17) 16
+    (unread 0 (17 ∷ []) ∷ byte 1 ∷ number 2 2 little_endian ∷ number 4 4 little_endian
+    ∷ number 8 8 little_endian ∷ [])
+    (λ value. value.kind ∷ value.protocol ∷ value.inode ∷ value.cookie ∷ [])
+    packet_header_of (λ value. ⊤)
+
+pub packet_header_sound : IsSound packet_header
+packet_header_sound = plain_sound refl (λ _. refl) (λ _. refl) (λ _. tt) (λ _ _. refl)

@@ -1,0 +1,33 @@
+-- The header of a reply about a vsock socket: 32 bytes, the byte at 0 not read and written 40.
+use Rattle.std.specs.Prelude.{⊤, ℕ, List, [], ◌∷◌, ◌++◌, slice_index, refl}
+use Rattle.netlink_core.specs.Format.{Format, plain}
+use Rattle.netlink_core.specs.SoundLaws.{IsSound}
+use Rattle.netlink_core.specs.Table.{bytes_at, number, numbers, unread, little_endian}
+use Rattle.netlink_core.specs.declared.fault.RecordName.TheVariants as name
+use Rattle.netlink_core.proofs.FormatLaws.{plain_sound}
+use Rattle.sock_diag_families.specs.declared.vsock.response.VsockResponseHeader.{VsockResponseHeader}
+
+-- the header with the numbers of its rows
+abbrev pub vsock_header_of : List ℕ → VsockResponseHeader
+vsock_header_of values = record {
+  kind = slice_index values 0;
+  state = slice_index values 1;
+  shutdown = slice_index values 2;
+  source_context = slice_index values 3;
+  source_port = slice_index values 4;
+  destination_context = slice_index values 5;
+  destination_port = slice_index values 6;
+  inode = slice_index values 7;
+  cookie = slice_index values 8;
+}
+
+-- the bytes at 1, 2 and 3, five words of 32 bits from 4 on, and one of 64 at 24, low byte first
+abbrev pub vsock_header : Format (Unit {0}) (Unit {0}) VsockResponseHeader
+vsock_header = plain (name.FamilyResponseHeader 40) 32
+    (unread 0 (40 ∷ []) ∷ bytes_at 1 3 ++ numbers 4 4 little_endian 5 ++ number 24 8 little_endian ∷ [])
+    (λ value. value.kind ∷ value.state ∷ value.shutdown ∷ value.source_context ∷ value.source_port
+    ∷ value.destination_context ∷ value.destination_port ∷ value.inode ∷ value.cookie ∷ [])
+    vsock_header_of (λ value. ⊤)
+
+pub vsock_header_sound : IsSound vsock_header
+vsock_header_sound = plain_sound refl (λ _. refl) (λ _. refl) (λ _. tt) (λ _ _. refl)

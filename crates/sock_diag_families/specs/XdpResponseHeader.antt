@@ -1,0 +1,28 @@
+-- The header of a reply about an XDP socket: 16 bytes, the byte at 0 not read and written 44,
+-- those at 2 and 3 not read and written 0.
+use Rattle.std.specs.Prelude.{⊤, ℕ, List, [], ◌∷◌, slice_index, refl}
+use Rattle.netlink_core.specs.Format.{Format, plain}
+use Rattle.netlink_core.specs.SoundLaws.{IsSound}
+use Rattle.netlink_core.specs.Table.{byte, number, unread, little_endian}
+use Rattle.netlink_core.specs.declared.fault.RecordName.TheVariants as name
+use Rattle.netlink_core.proofs.FormatLaws.{plain_sound}
+use Rattle.sock_diag_families.specs.declared.xdp.response.XdpResponseHeader.{XdpResponseHeader}
+
+-- the header with the numbers of its rows
+abbrev pub xdp_header_of : List ℕ → XdpResponseHeader
+xdp_header_of values = record {
+  kind = slice_index values 0;
+  inode = slice_index values 1;
+  cookie = slice_index values 2;
+}
+
+-- the byte at 1, and numbers of 32 and 64 bits at 4 and 8, low byte first
+abbrev pub xdp_header : Format (Unit {0}) (Unit {0}) XdpResponseHeader
+xdp_header = plain (name.FamilyResponseHeader 44) 16
+    (unread 0 (44 ∷ []) ∷ byte 1 ∷ unread 2 (0 ∷ 0 ∷ []) ∷ number 4 4 little_endian
+    ∷ number 8 8 little_endian ∷ [])
+    (λ value. value.kind ∷ value.inode ∷ value.cookie ∷ [])
+    xdp_header_of (λ value. ⊤)
+
+pub xdp_header_sound : IsSound xdp_header
+xdp_header_sound = plain_sound refl (λ _. refl) (λ _. refl) (λ _. tt) (λ _ _. refl)

@@ -1,0 +1,76 @@
+//! What the attributes of a reply tell, each by its kind.
+
+ghost use Rattle.std.specs.Prelude.{◌≡◌, List, option_map};
+ghost use Rattle.netlink_core.specs.Attribute.{Attribute};
+ghost use Rattle.netlink_core.specs.Faults.{said_as};
+ghost use Rattle.netlink_core.specs.Format.{read};
+ghost use Rattle.netlink_core.specs.Parse.{exact_number};
+ghost use Rattle.sock_diag_families.specs.Found.{first_value, enough, within};
+
+use crate::{FamilyHeader, WholeView};
+use netlink_core::{DecodeError, Record, RecordName, parse_u32, read_record};
+
+/// The attributes of a reply, of which each getter takes the first of a kind, whatever its flag
+/// bits. None takes memory.
+pub trait WholeAttributes {
+    // The attributes, in the order that they came.
+    ghost attributes: { Self → List Attribute };
+
+    /// The value of the first attribute of the kind.
+    fn value_of(&self, kind: u16) -> Option<&[u8]>
+        ensures { option_map (λ value. value.now) result
+            ≡ first_value kind (attributes self.now) };
+
+    /// The number of 32 bits that is all of the value, low byte first. Another length is
+    /// `WrongLength`.
+    fn number_of(&self, kind: u16) -> Result<Option<u32>, DecodeError>
+        ensures { result ≡ within (exact_number None 4) (first_value kind (attributes self.now)) }
+    {
+        match self.value_of(kind) {
+            Some(value) => Ok(Some(parse_u32(value)?)),
+            None => Ok(None),
+        }
+    }
+
+    /// The record at the front of the value. A fault is that of the record's reader.
+    fn record_of<T: Record<Told = ()>>(&self, kind: u16) -> Result<Option<T>, DecodeError>
+        ensures { result ≡ within (read T.format tt) (first_value kind (attributes self.now)) }
+    {
+        match self.value_of(kind) {
+            Some(value) => Ok(Some(read_record(value, ())?)),
+            None => Ok(None),
+        }
+    }
+
+    /// The value, where it has at least so many bytes. Fewer are `BufferTooSmall`, which names the
+    /// attribute by this family and the kind.
+    fn enough_of(&self, family: u8, kind: u16, need: usize) -> Result<Option<&[u8]>, DecodeError>
+        ensures { said_as (option_map (λ value. value.now)) result
+            ≡ within (enough family kind need) (first_value kind (attributes self.now)) }
+    {
+        match self.value_of(kind) {
+            Some(value) if value.len() < need => Err(DecodeError::BufferTooSmall {
+                which: RecordName::FamilyAttribute { family, kind },
+                got: value.len(),
+                need,
+            }),
+            found => Ok(found),
+        }
+    }
+}
+
+impl<H: FamilyHeader> WholeAttributes for WholeView<'_, H> {
+    ghost use Rattle.netlink_packet_sock_diag.specs.Viewed.{viewed};
+
+    ghost attributes = { λ view. (viewed view).nlas };
+
+    fn value_of(&self, kind: u16) -> Option<&[u8]> {
+        let mut views = self.attributes();
+        while let Some(nla) = views.next() {
+            if nla.0.kind() == kind {
+                return Some(nla.0.value());
+            }
+        }
+        None
+    }
+}

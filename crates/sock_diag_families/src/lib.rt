@@ -1,0 +1,17 @@
+//! Sockets of the families beside the port's: vsock, netlink, packet and XDP, by requests and by
+//! replies that are read in place.
+#![tactic(auto)]
+
+mod any;
+mod attributes;
+pub mod netlink;
+pub mod packet;
+mod request;
+pub mod vsock;
+mod whole;
+pub mod xdp;
+
+pub use any::AnySockDiagView;
+pub use attributes::WholeAttributes;
+pub use request::ShowRequest;
+pub use whole::{FamilyHeader, Whole, WholeNla, WholeView};

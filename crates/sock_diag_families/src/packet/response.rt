@@ -1,0 +1,87 @@
+//! The reply about one packet socket.
+
+ghost use Rattle.std.proofs.Common.{rules};
+ghost use Rattle.netlink_core.proofs.FormatLaws.{record_laws};
+ghost use Rattle.sock_diag_families.specs.PacketResponseHeader.{packet_header};
+ghost use Rattle.sock_diag_families.specs.PacketResponseHeader.{packet_header_sound};
+ghost use Rattle.sock_diag_families.specs.WholeReply.{plain_header};
+
+use crate::{FamilyHeader, WholeView};
+use byteorder::{ByteOrder, LittleEndian};
+use netlink_core::rows::{long_words_at, words_at};
+use netlink_core::{DecodeError, Exact, Record, RecordName};
+use netlink_packet_sock_diag::AF_PACKET;
+
+/// The header of a reply about a packet socket: `struct packet_diag_msg`, 16 bytes, numbers low
+/// byte first. The byte at 0 is not read, and is written AF_PACKET (17).
+#[derive(Clone, Copy, Debug, PartialEq, Eq)]
+pub struct PacketResponseHeader {
+    /// The type of the socket, one of `SOCK_..`, `pdiag_type`, at 1.
+    pub kind: u8,
+    /// The protocol, one of `linux/if_ether.h`, `pdiag_num`, at 2.
+    pub protocol: u16,
+    /// The inode of the socket, `pdiag_ino`, at 4.
+    pub inode: u32,
+    /// What tells the socket from others of its inode, `pdiag_cookie`, at 8.
+    pub cookie: u64,
+}
+
+/// The reply about one packet socket, read in place.
+///
+/// Of `parse`, fewer than 16 bytes are `BufferTooSmall`; else the first fault of an attribute is
+/// told.
+pub type PacketResponseView<'a> = WholeView<'a, PacketResponseHeader>;
+
+impl Exact for PacketResponseHeader {
+    ghost exact = { Prim.search rules };
+}
+
+impl Record for PacketResponseHeader {
+    type Told = ();
+
+    ghost format = { packet_header };
+
+    fn name_and_least() -> (RecordName, usize) {
+        (RecordName::FamilyResponseHeader { family: AF_PACKET }, 16)
+    }
+
+    fn size(&self) -> usize {
+        16
+    }
+
+    /// Reads the first 16 bytes. What follows them is ignored, and fewer are
+    /// [`DecodeError::BufferTooSmall`].
+    fn from_row(payload: &[u8], _told: ()) -> Result<Self, DecodeError> {
+        let [inode] = words_at::<1>(payload, 4);
+        let [cookie] = long_words_at::<1>(payload, 8);
+        Ok(PacketResponseHeader {
+            kind: payload[1],
+            protocol: LittleEndian::read_u16(&payload[2..]),
+            inode,
+            cookie,
+        })
+    }
+
+    fn write_row(&self, row: &mut [u8]) {
+        let (start, rest) = row.split_at_mut(2);
+        let (protocol, rest) = rest.split_at_mut(2);
+        let (inode, cookie) = rest.split_at_mut(4);
+        start.copy_from_slice(&[AF_PACKET, self.kind]);
+        LittleEndian::write_u16(protocol, self.protocol);
+        LittleEndian::write_u32(inode, self.inode);
+        LittleEndian::write_u64(cookie, self.cookie);
+    }
+
+    fn row_typed(&self) {
+        let (_kind, _protocol) = (self.kind, self.protocol);
+        let (_inode, _cookie) = (self.inode, self.cookie);
+    }
+
+    ghost laws = { record_laws packet_header packet_header_sound };
+}
+
+impl FamilyHeader for PacketResponseHeader {
+    const NAME: &'static str = "PacketResponseView";
+
+    ghost table = { plain_header packet_header_sound };
+}

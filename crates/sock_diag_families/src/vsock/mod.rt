@@ -1,0 +1,10 @@
+//! Sockets between a virtual machine and its host, after `linux/vm_sockets_diag.h`.
+
+mod request;
+mod response;
+
+pub use request::VsockRequest;
+pub use response::{VsockResponseHeader, VsockResponseView};
+
+/// The family of these sockets, `AF_VSOCK` of `linux/socket.h`.
+pub const AF_VSOCK: u8 = 40;

@@ -1,0 +1,60 @@
+//! The request for vsock sockets.
+
+ghost use Rattle.std.proofs.Common.{rules};
+ghost use Rattle.netlink_core.proofs.FormatLaws.{record_laws};
+ghost use Rattle.sock_diag_families.specs.VsockRequest.{vsock_request, vsock_request_sound};
+
+use super::AF_VSOCK;
+use byteorder::{ByteOrder, LittleEndian};
+use netlink_core::rows::{long_words_at, words_at};
+use netlink_core::{DecodeError, Exact, Record, RecordName};
+
+/// The request for vsock sockets: `struct vsock_diag_req`, 24 bytes, numbers low byte first. The
+/// bytes at 0 to 3 and 8 to 15 are not read; they are written AF_VSOCK (40) and zeros, as the
+/// kernel asks. It lists sockets alone: none is asked for by itself.
+#[derive(Clone, Copy, Debug, PartialEq, Eq)]
+pub struct VsockRequest {
+    /// Which states are asked for, `vdiag_states`, at 4: the bit `1 << TCP_LISTEN` for the state
+    /// `TCP_LISTEN`.
+    pub states: u32,
+    /// What tells a socket from others, `vdiag_cookie`, at 16. Linux doesn't look at it.
+    pub cookie: u64,
+}
+
+impl Exact for VsockRequest {
+    ghost exact = { Prim.search rules };
+}
+
+impl Record for VsockRequest {
+    type Told = ();
+
+    ghost format = { vsock_request };
+
+    fn name_and_least() -> (RecordName, usize) {
+        (RecordName::FamilyRequest { family: AF_VSOCK }, 24)
+    }
+
+    fn size(&self) -> usize {
+        24
+    }
+
+    /// Reads the first 24 bytes. What follows them is ignored, and fewer are
+    /// [`DecodeError::BufferTooSmall`].
+    fn from_row(payload: &[u8], _told: ()) -> Result<Self, DecodeError> {
+        let [states] = words_at::<1>(payload, 4);
+        let [cookie] = long_words_at::<1>(payload, 16);
+        Ok(VsockRequest { states, cookie })
+    }
+
+    fn write_row(&self, row: &mut [u8]) {
+        let (words, cookie) = row.split_at_mut(16);
+        LittleEndian::write_u32_into(&[AF_VSOCK as u32, self.states, 0, 0], words);
+        LittleEndian::write_u64(cookie, self.cookie);
+    }
+
+    fn row_typed(&self) {
+        let (_states, _cookie) = (self.states, self.cookie);
+    }
+
+    ghost laws = { record_laws vsock_request vsock_request_sound };
+}

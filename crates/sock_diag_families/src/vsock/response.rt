@@ -1,0 +1,123 @@
+//! The reply about one vsock socket.
+
+ghost use Rattle.std.proofs.Common.{rules};
+ghost use Rattle.netlink_core.proofs.FormatLaws.{record_laws};
+ghost use Rattle.sock_diag_families.specs.VsockResponseHeader.{vsock_header, vsock_header_sound};
+ghost use Rattle.sock_diag_families.specs.WholeReply.{plain_header};
+
+use super::AF_VSOCK;
+use crate::{FamilyHeader, WholeView};
+use byteorder::{ByteOrder, LittleEndian};
+use netlink_core::rows::{long_words_at, long_words_typed, words_at};
+use netlink_core::{DecodeError, Exact, Record, RecordName};
+
+/// The header of a reply about a vsock socket: `struct vsock_diag_msg`, 32 bytes, numbers low byte
+/// first. The byte at 0 is not read, and is written AF_VSOCK (40). No attributes follow it.
+#[derive(Clone, Copy, Debug, PartialEq, Eq)]
+pub struct VsockResponseHeader {
+    /// The type of the socket, one of `SOCK_..`, `vdiag_type`, at 1.
+    pub kind: u8,
+    /// The state, one of `TCP_..`, `vdiag_state`, at 2.
+    pub state: u8,
+    /// Which directions the socket shut down, `vdiag_shutdown`, at 3: the bit 1 for receiving, the
+    /// bit 2 for sending.
+    pub shutdown: u8,
+    /// The context of the socket, `vdiag_src_cid`, at 4: 2 is the host.
+    pub source_context: u32,
+    /// The port of the socket, `vdiag_src_port`, at 8.
+    pub source_port: u32,
+    /// The context of the peer, `vdiag_dst_cid`, at 12.
+    pub destination_context: u32,
+    /// The port of the peer, `vdiag_dst_port`, at 16.
+    pub destination_port: u32,
+    /// The inode of the socket, `vdiag_ino`, at 20.
+    pub inode: u32,
+    /// What tells the socket from others of its inode, `vdiag_cookie`, at 24.
+    pub cookie: u64,
+}
+
+/// The reply about one vsock socket, read in place.
+///
+/// Of `parse`, fewer than 32 bytes are `BufferTooSmall`; else the first fault of an attribute is
+/// told.
+pub type VsockResponseView<'a> = WholeView<'a, VsockResponseHeader>;
+
+impl Exact for VsockResponseHeader {
+    ghost exact = { Prim.search rules };
+}
+
+impl Record for VsockResponseHeader {
+    type Told = ();
+
+    ghost format = { vsock_header };
+
+    fn name_and_least() -> (RecordName, usize) {
+        (RecordName::FamilyResponseHeader { family: AF_VSOCK }, 32)
+    }
+
+    fn size(&self) -> usize {
+        32
+    }
+
+    /// Reads the first 32 bytes. What follows them is ignored, and fewer are
+    /// [`DecodeError::BufferTooSmall`].
+    fn from_row(payload: &[u8], _told: ()) -> Result<Self, DecodeError> {
+        let [
+            source_context,
+            source_port,
+            destination_context,
+            destination_port,
+            inode,
+        ] = words_at::<5>(payload, 4);
+        let [cookie] = long_words_at::<1>(payload, 24);
+        Ok(VsockResponseHeader {
+            kind: payload[1],
+            state: payload[2],
+            shutdown: payload[3],
+            source_context,
+            source_port,
+            destination_context,
+            destination_port,
+            inode,
+            cookie,
+        })
+    }
+
+    fn write_row(&self, row: &mut [u8]) {
+        let (start, rest) = row.split_at_mut(4);
+        let (words, cookie) = rest.split_at_mut(20);
+        start.copy_from_slice(&[AF_VSOCK, self.kind, self.state, self.shutdown]);
+        let numbers = [
+            self.source_context,
+            self.source_port,
+            self.destination_context,
+            self.destination_port,
+            self.inode,
+        ];
+        LittleEndian::write_u32_into(&numbers, words);
+        LittleEndian::write_u64(cookie, self.cookie);
+    }
+
+    fn row_typed(&self) {
+        let VsockResponseHeader {
+            kind: _a,
+            state: _b,
+            shutdown: _c,
+            source_context: _d,
+            source_port: _e,
+            destination_context: _f,
+            destination_port: _g,
+            inode: _h,
+            cookie: _,
+        } = *self;
+        long_words_typed(&[self.cookie]);
+    }
+
+    ghost laws = { record_laws vsock_header vsock_header_sound };
+}
+
+impl FamilyHeader for VsockResponseHeader {
+    const NAME: &'static str = "VsockResponseView";
+
+    ghost table = { plain_header vsock_header_sound };
+}

@@ -1,0 +1,125 @@
+//! Replies whose attributes are kept whole.
+
+ghost use Rattle.std.specs.Prelude.{[], refl};
+ghost use Rattle.netlink_core.proofs.Replies.{replies_keep_laws};
+ghost use Rattle.netlink_core.specs.Walk.{attribute_of};
+ghost use Rattle.netlink_packet_sock_diag.specs.EqualReplyLaws.{reply_test, reply_test_says};
+ghost use Rattle.netlink_packet_sock_diag.specs.HeaderLaws.{enough};
+ghost use Rattle.sock_diag_families.specs.WholeReply.{OneTable, whole_reply, whole_reply_laws};
+
+use attribute_lists::{check_nlas, emit_views, views_len};
+use netlink_core::{DecodeError, Emitable, FamilyView, Nla, NlaBuffer, Record, read_record};
+use netlink_packet_sock_diag::{ReplyHeader, ReplyView, ReplyViews, same_views};
+
+/// An attribute that is kept whole, read in place: its type word and its value's bytes.
+#[derive(Clone, Copy, Debug, PartialEq, Eq)]
+pub struct WholeNla<'a>(pub NlaBuffer<'a>);
+
+impl Nla for WholeNla<'_> {
+    ghost attribute = { λ nla. attribute_of nla.0 };
+
+    fn value_len(&self) -> usize {
+        self.0.value().len()
+    }
+
+    fn kind(&self) -> u16 {
+        self.0.type_word()
+    }
+
+    fn emit_value(&self, buffer: &mut [u8]) {
+        let value = self.0.value();
+        buffer[..value.len()].copy_from_slice(value);
+    }
+}
+
+// Of a family without kinds.
+impl<'a> FamilyView<'a> for WholeNla<'a> {
+    ghost family = { [] };
+
+    ghost viewed = { λ nla. attribute_of nla.0 };
+
+    ghost written_as = { λ _. refl };
+
+    fn read_view(nla: &NlaBuffer<'a>) -> Result<Self, DecodeError> {
+        Ok(WholeNla(*nla))
+    }
+
+    fn read_accepted(nla: &NlaBuffer<'a>) -> Self {
+        WholeNla(*nla)
+    }
+}
+
+/// The header of the replies of one family.
+pub trait FamilyHeader: Record<Told = ()> + Drop {
+    /// The name of the view of such a reply, as `Debug` prints it.
+    const NAME: &'static str;
+
+    // What is shown of the header's table.
+    ghost table: { OneTable Self.format };
+}
+
+/// The header of a reply whose attributes are kept whole.
+#[derive(Debug, Drop, PartialEq, Eq)]
+pub struct Whole<H>(pub H);
+
+/// A reply whose attributes are kept whole, read in place.
+pub type WholeView<'a, H> = ReplyView<'a, Whole<H>>;
+
+impl<H: FamilyHeader> ReplyHeader for Whole<H> {
+    const VIEW: &'static str = H::NAME;
+
+    ghost reply = { whole_reply H.format };
+
+    ghost told = { λ header. header.0 };
+
+    ghost test = { reply_test H.PartialEq.eq [] tt };
+
+    #[inline(always)]
+    fn length() -> usize {
+        let (_, least) = H::name_and_least();
+        least
+    }
+
+    #[inline(always)]
+    fn read_header(bytes: &[u8]) -> Result<Self, DecodeError> {
+        Ok(Whole(read_record(bytes, ())?))
+    }
+
+    #[inline(always)]
+    fn check(bytes: &[u8]) -> Result<usize, DecodeError> {
+        check_nlas::<WholeNla<'_>>(bytes)
+    }
+
+    fn is_same(&self, left: &[u8], other: &Self, right: &[u8]) -> bool {
+        self.0 == other.0 && same_views::<WholeNla<'_>>(left, right)
+    }
+
+    #[inline(always)]
+    fn len_with(&self, bytes: &[u8]) -> Option<usize> {
+        let len = self.0.buffer_len();
+        if len > u32::MAX as usize {
+            return None;
+        }
+        views_len::<WholeNla<'_>>(len, bytes)
+    }
+
+    #[inline(always)]
+    fn emit_with(&self, bytes: &[u8], buffer: &mut [u8]) {
+        let (front, rest) = buffer.split_at_mut(self.0.buffer_len());
+        self.0.emit(front);
+        emit_views::<WholeNla<'_>>(bytes, rest);
+    }
+
+    ghost enough = { enough H.format (refl, H.table.fixed) };
+
+    ghost keeps = { replies_keep_laws (whole_reply H.format)
+        (whole_reply_laws H.format H.table) };
+
+    ghost compared = { reply_test_says H.PartialEq.eq [] tt H.exact.0 };
+}
+
+impl<'a, H: FamilyHeader> ReplyViews<'a> for Whole<H> {
+    type View = WholeNla<'a>;
+
+    ghost same = { (λ _. (λ h. h, λ h. h), λ _. refl) };
+}

@@ -1,0 +1,184 @@
+//! What the attributes of a reply about an XDP socket tell.
+
+ghost use Rattle.std.specs.Prelude.{◌≡◌, ◌≤◌, length};
+ghost use Rattle.netlink_core.specs.Format.{read};
+ghost use Rattle.netlink_core.specs.Parse.{exact_number};
+ghost use Rattle.sock_diag_values.specs.MemInfo.{mem_info};
+ghost use Rattle.netlink_packet_sock_diag.specs.Viewed.{viewed};
+ghost use Rattle.sock_diag_families.specs.Found.{first_value, within};
+ghost use Rattle.netlink_core.specs.Table.{values_of};
+ghost use Rattle.sock_diag_families.specs.XdpAttributes.{xdp_info, xdp_umem, xdp_umem_of};
+ghost use Rattle.sock_diag_families.specs.XdpAttributes.{xdp_umem_rows, xdp_statistics};
+ghost use Rattle.sock_diag_families.specs.XdpAttributes.{xdp_statistics_of, xdp_statistics_rows};
+
+use super::{
+    AF_XDP, XDP_DIAG_INFO, XDP_DIAG_MEMINFO, XDP_DIAG_RX_RING, XDP_DIAG_STATS, XDP_DIAG_TX_RING,
+    XDP_DIAG_UID, XDP_DIAG_UMEM, XdpResponseView,
+};
+use crate::WholeAttributes;
+use netlink_core::DecodeError;
+use netlink_core::rows::{long_words_at, words_at};
+use sock_diag_values::inet::MemInfo;
+
+/// Where an XDP socket is bound: `struct xdp_diag_info`, the first 8 bytes of `XDP_DIAG_INFO`.
+#[derive(Clone, Copy, Debug, PartialEq, Eq)]
+pub struct XdpInfo {
+    /// The interface, a `u32` at 0.
+    pub interface: u32,
+    /// Its queue, a `u32` at 4.
+    pub queue: u32,
+}
+
+/// The memory that an XDP socket shares with its program: `struct xdp_diag_umem`, the first 40
+/// bytes of `XDP_DIAG_UMEM`.
+#[derive(Clone, Copy, Debug, PartialEq, Eq)]
+pub struct XdpUmem {
+    /// Its bytes, a `u64` at 0. What follows is a `u32` each.
+    pub size: u64,
+    /// Its number, at 8.
+    pub id: u32,
+    /// Its pages, at 12.
+    pub pages: u32,
+    /// The bytes of a chunk, at 16.
+    pub chunk_size: u32,
+    /// The bytes of a chunk that are the program's, at 20.
+    pub headroom: u32,
+    /// The interface that it is bound to, at 24.
+    pub interface: u32,
+    /// The queue of the interface, at 28.
+    pub queue: u32,
+    /// The bit `XDP_DU_F_ZEROCOPY`, 1, at 32.
+    pub flags: u32,
+    /// How many sockets share it, at 36.
+    pub references: u32,
+}
+
+/// What an XDP socket counted: `struct xdp_diag_stats`, the first 48 bytes of `XDP_DIAG_STATS`, six
+/// `u64`.
+#[derive(Clone, Copy, Debug, PartialEq, Eq)]
+pub struct XdpStatistics {
+    /// Packets dropped for another reason than those below, at 0.
+    pub received_dropped: u64,
+    /// Packets with a bad address of a frame, at 8.
+    pub received_invalid: u64,
+    /// Packets dropped since the ring was full, at 16.
+    pub received_full: u64,
+    /// Packets without a frame to fill, at 24.
+    pub fill_ring_empty: u64,
+    /// Bad addresses of frames to send, at 32.
+    pub sent_invalid: u64,
+    /// How often nothing was there to send, at 40.
+    pub send_ring_empty: u64,
+}
+
+/// Where the socket is bound, `XDP_DIAG_INFO`. Fewer than 8 bytes are `BufferTooSmall`.
+pub fn info(reply: &XdpResponseView<'_>) -> Result<Option<XdpInfo>, DecodeError>
+    ensures { result ≡ within xdp_info (first_value 1 (viewed reply.now).nlas) }
+{
+    let Some(value) = reply.enough_of(AF_XDP, XDP_DIAG_INFO, 8)? else {
+        return Ok(None);
+    };
+    let [interface, queue] = words_at::<2>(value, 0);
+    Ok(Some(XdpInfo { interface, queue }))
+}
+
+/// The user who owns the socket, `XDP_DIAG_UID`.
+pub fn owner(reply: &XdpResponseView<'_>) -> Result<Option<u32>, DecodeError>
+    ensures { result ≡ within (exact_number None 4) (first_value 2 (viewed reply.now).nlas) }
+{
+    reply.number_of(XDP_DIAG_UID)
+}
+
+/// How many entries the ring for what is received has, `XDP_DIAG_RX_RING`.
+pub fn receive_ring(reply: &XdpResponseView<'_>) -> Result<Option<u32>, DecodeError>
+    ensures { result ≡ within (exact_number None 4) (first_value 3 (viewed reply.now).nlas) }
+{
+    reply.number_of(XDP_DIAG_RX_RING)
+}
+
+/// How many the ring for what is sent has, `XDP_DIAG_TX_RING`.
+pub fn send_ring(reply: &XdpResponseView<'_>) -> Result<Option<u32>, DecodeError>
+    ensures { result ≡ within (exact_number None 4) (first_value 4 (viewed reply.now).nlas) }
+{
+    reply.number_of(XDP_DIAG_TX_RING)
+}
+
+/// The memory that the socket shares, `XDP_DIAG_UMEM`. Fewer than 40 bytes are
+/// `BufferTooSmall`.
+pub fn shared_memory(reply: &XdpResponseView<'_>) -> Result<Option<XdpUmem>, DecodeError>
+    ensures { result ≡ within xdp_umem (first_value 5 (viewed reply.now).nlas) }
+{
+    let Some(value) = reply.enough_of(AF_XDP, XDP_DIAG_UMEM, 40)? else {
+        return Ok(None);
+    };
+    Ok(Some(umem_in(value)))
+}
+
+/// The memory of the socket, `XDP_DIAG_MEMINFO`.
+pub fn memory(reply: &XdpResponseView<'_>) -> Result<Option<MemInfo>, DecodeError>
+    ensures { result ≡ within (read mem_info tt) (first_value 8 (viewed reply.now).nlas) }
+{
+    reply.record_of(XDP_DIAG_MEMINFO)
+}
+
+/// What the socket counted, `XDP_DIAG_STATS`. Fewer than 48 bytes are `BufferTooSmall`.
+pub fn statistics(reply: &XdpResponseView<'_>) -> Result<Option<XdpStatistics>, DecodeError>
+    ensures { result ≡ within xdp_statistics (first_value 9 (viewed reply.now).nlas) }
+{
+    let Some(value) = reply.enough_of(AF_XDP, XDP_DIAG_STATS, 48)? else {
+        return Ok(None);
+    };
+    Ok(Some(statistics_in(value)))
+}
+
+// The memory that so many bytes tell.
+fn umem_in(value: &[u8]) -> XdpUmem
+    requires { 40 ≤ length value.now }
+    ensures { result ≡ xdp_umem_of (values_of xdp_umem_rows value.now) }
+{
+    let [size] = long_words_at::<1>(value, 0);
+    let [
+        id,
+        pages,
+        chunk_size,
+        headroom,
+        interface,
+        queue,
+        flags,
+        references,
+    ] = words_at::<8>(value, 8);
+    XdpUmem {
+        size,
+        id,
+        pages,
+        chunk_size,
+        headroom,
+        interface,
+        queue,
+        flags,
+        references,
+    }
+}
+
+// The counts that so many bytes tell.
+fn statistics_in(value: &[u8]) -> XdpStatistics
+    requires { 48 ≤ length value.now }
+    ensures { result ≡ xdp_statistics_of (values_of xdp_statistics_rows value.now) }
+{
+    let [
+        received_dropped,
+        received_invalid,
+        received_full,
+        fill_ring_empty,
+        sent_invalid,
+        send_ring_empty,
+    ] = long_words_at::<6>(value, 0);
+    XdpStatistics {
+        received_dropped,
+        received_invalid,
+        received_full,
+        fill_ring_empty,
+        sent_invalid,
+        send_ring_empty,
+    }
+}

@@ -1,0 +1,81 @@
+//! The reply about one XDP socket.
+
+ghost use Rattle.std.proofs.Common.{rules};
+ghost use Rattle.netlink_core.proofs.FormatLaws.{record_laws};
+ghost use Rattle.sock_diag_families.specs.XdpResponseHeader.{xdp_header};
+ghost use Rattle.sock_diag_families.specs.XdpResponseHeader.{xdp_header_sound};
+ghost use Rattle.sock_diag_families.specs.WholeReply.{plain_header};
+
+use super::AF_XDP;
+use crate::{FamilyHeader, WholeView};
+use byteorder::{ByteOrder, LittleEndian};
+use netlink_core::rows::{long_words_at, words_at};
+use netlink_core::{DecodeError, Exact, Record, RecordName};
+
+/// The header of a reply about an XDP socket: `struct xdp_diag_msg`, 16 bytes, numbers low
+/// byte first. The bytes at 0, 2 and 3 are not read, and are written AF_XDP (44) and zeros.
+#[derive(Clone, Copy, Debug, PartialEq, Eq)]
+pub struct XdpResponseHeader {
+    /// The type of the socket, SOCK_RAW (3), `xdiag_type`, at 1.
+    pub kind: u8,
+    /// The inode of the socket, `xdiag_ino`, at 4.
+    pub inode: u32,
+    /// What tells the socket from others of its inode, `xdiag_cookie`, at 8.
+    pub cookie: u64,
+}
+
+/// The reply about one XDP socket, read in place.
+///
+/// Of `parse`, fewer than 16 bytes are `BufferTooSmall`; else the first fault of an attribute is
+/// told.
+pub type XdpResponseView<'a> = WholeView<'a, XdpResponseHeader>;
+
+impl Exact for XdpResponseHeader {
+    ghost exact = { Prim.search rules };
+}
+
+impl Record for XdpResponseHeader {
+    type Told = ();
+
+    ghost format = { xdp_header };
+
+    fn name_and_least() -> (RecordName, usize) {
+        (RecordName::FamilyResponseHeader { family: AF_XDP }, 16)
+    }
+
+    fn size(&self) -> usize {
+        16
+    }
+
+    /// Reads the first 16 bytes. What follows them is ignored, and fewer are
+    /// [`DecodeError::BufferTooSmall`].
+    fn from_row(payload: &[u8], _told: ()) -> Result<Self, DecodeError> {
+        let [inode] = words_at::<1>(payload, 4);
+        let [cookie] = long_words_at::<1>(payload, 8);
+        Ok(XdpResponseHeader {
+            kind: payload[1],
+            inode,
+            cookie,
+        })
+    }
+
+    fn write_row(&self, row: &mut [u8]) {
+        let (start, rest) = row.split_at_mut(4);
+        let (inode, cookie) = rest.split_at_mut(4);
+        start.copy_from_slice(&[AF_XDP, self.kind, 0, 0]);
+        LittleEndian::write_u32(inode, self.inode);
+        LittleEndian::write_u64(cookie, self.cookie);
+    }
+
+    fn row_typed(&self) {
+        let (_kind, _inode, _cookie) = (self.kind, self.inode, self.cookie);
+    }
+
+    ghost laws = { record_laws xdp_header xdp_header_sound };
+}
+
+impl FamilyHeader for XdpResponseHeader {
+    const NAME: &'static str = "XdpResponseView";
+
+    ghost table = { plain_header xdp_header_sound };
+}

@@ -1,0 +1,163 @@
+//! The bytes of netlink and packet replies are what Linux 6.18 sent. Those of vsock and XDP are
+//! worked out by hand from the kernel's headers, as are the requests.
+
+use netlink_core::{DecodeError, Emitable, write_new};
+use sock_diag_families::AnySockDiagView;
+use sock_diag_families::netlink::{self, NetlinkRequest, NetlinkResponseView};
+use sock_diag_families::packet::{self, PacketResponseView};
+use sock_diag_families::vsock::{VsockRequest, VsockResponseView};
+use sock_diag_families::xdp::{self, XdpResponseView};
+use std::alloc::Global;
+use std::fmt::Debug;
+use std::process::Abort;
+use std::test::Fail;
+
+/// A socket of the route protocol that listens to the groups 1 and 5.
+const NETLINK: &str = "100300076a1800000000000000000000ff53010001100000000000000c000100110000000000\
+00002800000000000000004003000000000000400300000000000000000000000000000000000000000008000400200000\
+00";
+
+/// A socket for IPv4 packets of the loopback interface, with a ring, a filter and a fanout.
+const PACKET: &str = "110300080054010003100000000000001c000000010000000000000000000000000000000000\
+00000100000008000500000000003000010001000000010000000000060001005e0000fb00000000000000000000000000\
+00000000000000000000000000200002000010000002000000000800000400000000000000000000000000000008000400\
+07000000280006000000000000400300000000000040030000000000000000008800000000000000000000000c00070006\
+000000ffff0000";
+
+/// A listening socket of the host at port 22.
+const VSOCK: &str = "28010a000200000016000000ffffffffffffffff0a5000000500000000000000";
+
+/// A socket at queue 1 of interface 3, with rings, memory and counts.
+const XDP: &str = "2c0300000b00000006000000000000000c000100030000000100000008000200e803000008000300\
+000800002c0005000000400000000000020000000004000000100000000000000300000001000000010000000100000008\
+00060000100000340009000100000000000000020000000000000003000000000000000400000000000000050000000000\
+00000600000000000000";
+
+/// The value is written as these digits say.
+fn writes<T: Emitable>(rt: &impl Abort, alloc: Global, value: &T, row: &str) -> Result<(), Fail> {
+    let written = write_new(alloc, value).ok().ok_or("unwritable")?;
+    assert!(rt; written == hex::decode(alloc, row)?, "{written:?}");
+    Ok(())
+}
+
+/// What `Debug` shows of the value has this part.
+fn shows<T: Debug>(rt: &impl Abort, alloc: Global, value: &T, part: &str) -> Result<(), Fail> {
+    let shown = format!(in alloc; "{value:?}")?;
+    assert!(rt; shown.contains(part), "{shown}");
+    Ok(())
+}
+
+/// How many packets were dropped at the netlink socket that a reply tells.
+fn dropped_packets(reply: &[u8]) -> Result<Option<u32>, DecodeError> {
+    let reply = NetlinkResponseView::parse(reply)?;
+    let Some(memory) = netlink::memory(&reply)? else {
+        return Ok(None);
+    };
+    Ok(memory.drops)
+}
+
+#[test]
+fn what_linux_sent(rt: HostRuntime) -> Result<(), Fail> {
+    let alloc = rt.alloc();
+    let bytes = hex::decode(alloc, NETLINK)?;
+    let reply = NetlinkResponseView::parse(&bytes)?;
+    let text = "kind: 3, protocol: 0, state: 7, port: 6250, destination_port: 0, \
+        destination_group: 0, inode: 87039, cookie: 4097";
+    shows(&rt, alloc, &reply.header(), text)?;
+    let told = (netlink::groups(&reply), netlink::flags(&reply)?);
+    shows(
+        &rt,
+        alloc,
+        &told,
+        "(Some([17, 0, 0, 0, 0, 0, 0, 0]), Some(32))",
+    )?;
+    shows(&rt, alloc, &dropped_packets(&bytes)?, "Some(0)")?;
+    let bytes = hex::decode(alloc, PACKET)?;
+    let reply = PacketResponseView::parse(&bytes)?;
+    let text = "kind: 3, protocol: 2048, inode: 87040, cookie: 4099";
+    shows(&rt, alloc, &reply.header(), text)?;
+    let text = "interface: 1, version: 0, reserve: 0, copy_threshold: 0, timestamp: 0, flags: 1";
+    shows(&rt, alloc, &packet::info(&reply)?, text)?;
+    let text = "block_size: 4096, blocks: 2, frame_size: 2048, frames: 4, retire_timeout: 0";
+    shows(&rt, alloc, &packet::receive_ring(&reply)?, text)?;
+    let told = (packet::fanout(&reply)?, packet::filter(&reply));
+    shows(
+        &rt,
+        alloc,
+        &told,
+        "(Some(7), Some([6, 0, 0, 0, 255, 255, 0, 0]))",
+    )
+}
+
+#[test]
+fn what_the_headers_say(rt: HostRuntime) -> Result<(), Fail> {
+    let alloc = rt.alloc();
+    let bytes = hex::decode(alloc, VSOCK)?;
+    let text = "kind: 1, state: 10, shutdown: 0, source_context: 2, source_port: 22, \
+        destination_context: 4294967295, destination_port: 4294967295, inode: 20490, cookie: 5";
+    shows(
+        &rt,
+        alloc,
+        &VsockResponseView::parse(&bytes)?.header(),
+        text,
+    )?;
+    let bytes = hex::decode(alloc, XDP)?;
+    let reply = XdpResponseView::parse(&bytes)?;
+    shows(&rt, alloc, &reply.header(), "kind: 3, inode: 11, cookie: 6")?;
+    let text = "size: 4194304, id: 2, pages: 1024, chunk_size: 4096, headroom: 0, interface: 3, \
+        queue: 1, flags: 1, references: 1";
+    shows(&rt, alloc, &xdp::shared_memory(&reply)?, text)?;
+    let vsock = VsockRequest {
+        states: 0x400,
+        cookie: 0,
+    };
+    writes(
+        &rt,
+        alloc,
+        &vsock,
+        "280000000004000000000000000000000000000000000000",
+    )?;
+    let netlink = NetlinkRequest {
+        protocol: 255,
+        inode: 0,
+        show: 0xb,
+        cookie: 0,
+    };
+    writes(
+        &rt,
+        alloc,
+        &netlink,
+        "10ff0000000000000b0000000000000000000000",
+    )
+}
+
+// By the first byte, under the type 20.
+#[test]
+fn any_family(rt: HostRuntime) -> Result<(), Fail> {
+    let alloc = rt.alloc();
+    for digits in [
+        NETLINK,
+        PACKET,
+        VSOCK,
+        XDP,
+        "01010a000e4f0000a002000000000000",
+    ] {
+        let bytes = hex::decode(alloc, digits)?;
+        writes(&rt, alloc, &AnySockDiagView::parse(&bytes, 20)?, digits)?;
+    }
+    let short = "BufferTooSmall { which: FamilyResponseHeader { family: 16 }, got: 5, need: 28 }";
+    for (bytes, message_type, fault) in [
+        (&[16, 3, 0, 7, 1][..], 20, short),
+        (&[16][..], 20, "MessageTooShort { got: 1 }"),
+        (&[16, 3][..], 3, "UnknownMessageType { message_type: 3 }"),
+        (&[29, 3][..], 20, "UnknownFamily { family: 29 }"),
+    ] {
+        shows(
+            &rt,
+            alloc,
+            &AnySockDiagView::parse(bytes, message_type).err(),
+            fault,
+        )?;
+    }
+    Ok(())
+}
