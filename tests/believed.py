@@ -23,7 +23,7 @@ CRATES = ["netlink_core", "attribute_lists", "sock_diag_values", "sock_diag_reco
     "sock_diag_lines"]
 ROOT = Path(__file__).resolve().parent.parent / "crates"
 # So many lines have to be believed at most.
-MOST = 1100
+MOST = 1101
 # Ghost members that say something: their types and their bodies are read.
 MEANING = set("""codec seen type_written bytes writable held TAKES_MEMORY attribute format Tag Value view inverse is_clone
     is_made_with

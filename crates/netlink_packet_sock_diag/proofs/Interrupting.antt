@@ -143,7 +143,8 @@ saw_one was is now messages m h head saw step = (
     | inl w ↦ step.1 (inl (saw.1 (inl w)))
     | inr f ↦ elim (last_or_before messages f.front f.back m f.message f.parts) [
       | inl here ↦
-          let own : HasHeader m f.header = subst (λ (b : List ℕ). HasHeader b f.header) here.1 f.head
+          let own : HasHeader m f.header =
+          subst (λ (b : List ℕ). HasHeader b f.header) here.1 f.head
           in
           let same : f.header ≡ h = one_header m f.header h own head in
           step.1 (inr (subst (λ (k : NetlinkHeader). IsBitSet k.flags 4) same f.flag))
@@ -174,7 +175,8 @@ module _ (C : Codec ℕ) where
   Plain items = AllByRecursion (λ item. end_of item ≡ None) items
 
   -- the messages that a dump passed, with the flag that was seen among them
-  pub record Looked (datagram rest : List ℕ) (before after : List C.Value) (was is : Bool) : Type 0 where
+  pub record Looked (datagram rest : List ℕ) (before after : List C.Value)
+      (was is : Bool) : Type 0 where
     pub passing : Passing C datagram rest before after
     pub strings : List (List ℕ)
     pub cut : (later : List (List ℕ)) (end : Option DecodeError)
@@ -211,10 +213,12 @@ module _ (C : Codec ℕ) where
   -- a message behind some that were passed is one that the dump comes to
   comes_to : (datagram message : List ℕ) (front more later : List (List ℕ)) (h : NetlinkHeader)
       (end : Option DecodeError) (items : List (Item C.Value)) (before after : List C.Value)
-      → AllZip (ItemIs C) (front ++ more) items → Plain items → (after ≡ before ++ flat_map kept items)
+      → AllZip (ItemIs C) (front ++ more) items → Plain items
+      → (after ≡ before ++ flat_map kept items)
       → CutIntoMessages datagram (front ++ (message ∷ later)) end → HasHeader message h
       → IsBitSet h.flags 4 → IsInterrupted C before datagram after
-  comes_to datagram message front more later h end items before after each plain keeps cut head flag =
+  comes_to datagram message front more later h end items before after each plain keeps cut head
+      flag =
       let z = zip_front (ItemIs C) front more items each in
       let first = z.0 in
       let plainly : Plain (first ++ z.1) = subst Plain z.2 plain in
@@ -267,8 +271,8 @@ module _ (C : Codec ℕ) where
   within one [] [] later back stop message items others item typed same each also is plain fewer
       stops =
       let here : stop ≡ message = cc in ([], λ i. here i ∷ [])
-  within one [] (f ∷ front) later back stop message [] (o ∷ others) item typed same each also is plain
-      fewer stops =
+  within one [] (f ∷ front) later back stop message [] (o ∷ others) item typed same each also is
+      plain fewer stops =
       let here : f ≡ stop = cc in
       let alone : o ≡ item = one_item one stop typed.0 o item
       (subst (λ (m : List ℕ). ItemIs C m o) here also.0) is in
@@ -284,11 +288,11 @@ module _ (C : Codec ℕ) where
   within one [] (f ∷ front) later back stop message (x ∷ items) others item typed same each also is
       plain fewer stops =
       absurd each
-  within one (s ∷ strings) [] later back stop message items others item typed same each also is plain
-      fewer stops =
-      let here : s ≡ message = cc in (strings ++ stop ∷ [], λ i. here i ∷ (strings ++ stop ∷ []))
-  within one (s ∷ strings) (f ∷ front) later back stop message [] others item typed same each also is
+  within one (s ∷ strings) [] later back stop message items others item typed same each also is
       plain fewer stops =
+      let here : s ≡ message = cc in (strings ++ stop ∷ [], λ i. here i ∷ (strings ++ stop ∷ []))
+  within one (s ∷ strings) (f ∷ front) later back stop message [] others item typed same each
+      also is plain fewer stops =
       absurd each
   within one (s ∷ strings) (f ∷ front) later back stop message (x ∷ items) [] item typed same each
       also is plain fewer stops =
@@ -316,8 +320,8 @@ module _ (C : Codec ℕ) where
       → (end_of item ≡ None → 1 ≤ length (kept item)) → HasHeader message h
       → (IsTrue now ↔ (IsTrue is ⊎ IsBitSet h.flags 4))
       → (IsTrue now ↔ (IsTrue was ⊎ IsInterrupted C before datagram after))
-  looked_stops answers one datagram rest next message before after was is now item h typed l s carried
-      stops head step =
+  looked_stops answers one datagram rest next message before after was is now item h typed l s
+      carried stops head step =
       let p = l.passing in
       let behind = items_of C answers next (rest_typed rest message next s (p.walk.typed typed)) in
       let later = behind.1.0 in
@@ -343,18 +347,19 @@ module _ (C : Codec ℕ) where
         ],
         λ e. saw.1 (elim e [
           | inl w ↦ inl w
-          | inr (front, back, m, k, last, others, middle, more, also, own, flag, each, dump, whole) ↦
+          | inr (front, back, m, k, last, others, middle, more, also, own, flag, each, dump, sum) ↦
               let same = one_cut_into_messages datagram (l.strings ++ (message ∷ later))
               (front ++ (m ∷ back)) end last cut also in
               let all : others ≡ dump.0 = dump.2
-              ∙ ap (λ (t : List (Item C.Value)). dump.0 ++ t) (none_later dump.1 (Ok unended) dump.5 refl)
+              ∙ ap (λ (t : List (Item C.Value)). dump.0 ++ t)
+              (none_later dump.1 (Ok unended) dump.5 refl)
               ∙ append-nil dump.0 in
               let found = within one l.strings front later back message m p.passed others item
-              (strings_of datagram (l.strings ++ (message ∷ later)) end typed cut) same.0 l.each each
-              carried (subst Plain (sym all) dump.3) (omega (
+              (strings_of datagram (l.strings ++ (message ∷ later)) end typed cut) same.0 l.each
+              each carried (subst Plain (sym all) dump.3) (omega (
                 arith,
                 ap length p.keeps ∙ length-append before (flat_map kept p.passed),
-                ap length whole ∙ length-append middle more,
+                ap length sum ∙ length-append middle more,
                 ap length dump.4 ∙ length-append before (flat_map kept dump.0),
                 ap (λ (t : List (Item C.Value)). length (flat_map kept t)) all,
               )) stops in
@@ -398,8 +403,8 @@ module _ (C : Codec ℕ) where
             looked_stops answers one datagram rest next message before after was is now
             (Ok (inner m.0)) h typed l s m.1 (λ plain. omega arith) head step
         | inr named ↦
-            looked_ends answers one datagram rest next message before after was is now (Err e) (Err e) h
-            typed l s (fault named) refl head step
+            looked_ends answers one datagram rest next message before after was is now (Err e)
+            (Err e) h typed l s (fault named) refl head step
       ]
 
   -- where no message is left
@@ -412,15 +417,15 @@ module _ (C : Codec ℕ) where
       let cut : CutIntoMessages datagram l.strings end = rw append-nil at (l.cut [] end none) in (
         λ t. elim (l.saw.0 t) [
           | inl w ↦ inl w
-          | inr f ↦ inr (comes_to datagram f.message f.front (f.message ∷ f.back) f.back f.header end
-              p.passed before after
+          | inr f ↦ inr (comes_to datagram f.message f.front (f.message ∷ f.back) f.back f.header
+              end p.passed before after
               (subst (λ (b : List (List ℕ)). AllZip (ItemIs C) b p.passed) f.parts l.each) p.plain
               p.keeps (subst (λ (b : List (List ℕ)). CutIntoMessages datagram b end) f.parts cut)
               f.head f.flag)
         ],
         λ e. l.saw.1 (elim e [
           | inl w ↦ inl w
-          | inr (front, back, m, k, last, others, middle, more, also, own, flag, each, dump, whole) ↦
+          | inr (front, back, m, k, last, others, middle, more, also, own, flag, each, dump, all) ↦
               inr (record {
                 front = front;
                 back = back;

@@ -1,5 +1,5 @@
-use Rattle.std.proofs.Common.{◌-◌, ℤ, Option, Some, None, Result, Ok, Err, take, drop, arith, refl, sym}
-use Rattle.std.proofs.Common.{ap, rules}
+use Rattle.std.proofs.Common.{◌-◌, ℤ, Option, Some, None, Result, Ok, Err, take, drop, arith, refl}
+use Rattle.std.proofs.Common.{sym, ap, rules}
 use Rattle.std.proofs.lemmas.Result.{err_from_is_err_and}
 use Rattle.std.proofs.lemmas.List.{append-nil, map_push}
 use Rattle.netlink_core.specs.declared.fault.DecodeError.{DecodeError}
@@ -25,7 +25,8 @@ pub returns-in_err-message-clause-fault : goal.returns-in_err-message-clause-fau
 returns-in_err-message-clause-fault g c =
     let p = err_from_is_err_and c.from_residual.result c.from_residual.ensures.1 in
     let fault = rw c.in_err-message.was at c.in-Some.ensures.steps in
-    rw (p.1, p.2) (λ _. cut_off_at g.I.Coded.codec _ _ _ _ _ c.loop-item.invariant.passing fault.0 fault.1)
+    rw (p.1, p.2) (λ _. cut_off_at g.I.Coded.codec _ _ _ _ _ c.loop-item.invariant.passing fault.0
+    fault.1)
 
 pub loop-item-preserved-in-1 : goal.loop-item-preserved-in-1
 loop-item-preserved-in-1 g c =
