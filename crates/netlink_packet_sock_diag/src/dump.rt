@@ -82,6 +82,7 @@ fn take_messages<I: NetlinkDeserializable + Drop>(
         ⊎ IsInterrupted I.codec (map I.seen messages.old.items) datagram.now
         (map I.seen messages.new.items)) }
 {
+    // It does nothing, and says that the messages in front of one are the same however found.
     laws::one_list_of_items::<I>();
     for item in MessageStrings::new(datagram) {
         let message = item?;
