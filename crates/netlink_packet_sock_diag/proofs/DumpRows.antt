@@ -125,7 +125,7 @@ module _ {A : Type 0} where
   plain_append [] ys h k = k
   plain_append (x ∷ xs) ys h k = (h.0, plain_append xs ys h.1 k)
 
-  none_later : (later : List (Item A))
+  pub none_later : (later : List (Item A))
       (state : End) → Ends later state → state ≡ Ok unended → later ≡ []
   none_later [] state ends is = refl
   none_later (item ∷ later) state ends is = absurd (no_end_reading item (ends ∙ ap Some is))

@@ -11,20 +11,20 @@ use Rattle.netlink_core.specs.declared.fault.DecodeError.{DecodeError}
 use Rattle.netlink_core.specs.declared.header.NetlinkHeader.{NetlinkHeader}
 use Rattle.netlink_core.specs.Header.{HasHeader, IsEnvelopeFault}
 use Rattle.netlink_core.specs.Datagram.{StartsWithMessage}
-use Rattle.netlink_core.specs.Envelope.{Payload, no_payload, inner, PayloadIs}
+use Rattle.netlink_core.specs.Envelope.{Payload, inner, PayloadIs}
 use Rattle.netlink_core.specs.Items.{Item, ItemIs, ItemsAre}
 use Rattle.netlink_core.proofs.Items.{Following, items_begin, items_go_on, items_with, no_items}
 use Rattle.netlink_core.proofs.Items.{fault_alone}
 use Rattle.netlink_packet_sock_diag.specs.Dump.{end_of, kept, DatagramDump, DatagramStopped}
 use Rattle.netlink_packet_sock_diag.specs.Dump.{Standing, unended}
 
-plain_push : {A : Type 0} (xs : List (Item A))
+pub plain_push : {A : Type 0} (xs : List (Item A))
     (item : Item A) → AllByRecursion (λ item. end_of item ≡ None) xs
     → end_of item ≡ None → AllByRecursion (λ item. end_of item ≡ None) (xs ++ item ∷ [])
 plain_push [] item h is = (is, tt)
 plain_push (x ∷ xs) item h is = (h.0, plain_push xs item h.1 is)
 
-kept_push : {A : Type 0} (xs : List (Item A)) (item : Item A)
+pub kept_push : {A : Type 0} (xs : List (Item A)) (item : Item A)
     → flat_map kept (xs ++ item ∷ []) ≡ flat_map kept xs ++ kept item
 kept_push xs item = flat_map-append kept xs (item ∷ []) ∙ ap (λ (t : List _). flat_map kept xs ++ t)
     (append-nil (kept item))
@@ -37,7 +37,7 @@ module _ (C : Codec ℕ) where
     pub plain : AllByRecursion (λ item. end_of item ≡ None) passed
     pub keeps : after ≡ before ++ flat_map kept passed
 
-  pub passing_begins : (datagram : List ℕ) (before : List C.Value)
+  abbrev pub passing_begins : (datagram : List ℕ) (before : List C.Value)
       → Passing datagram datagram before before
   passing_begins datagram before = record {
     passed = [];
@@ -52,7 +52,7 @@ module _ (C : Codec ℕ) where
       h.message_type carried → ItemIs C message (Ok carried)
   carries message h carried head is = (h, (head, is))
 
-  passes : (datagram rest next message : List ℕ) (before after : List C.Value)
+  abbrev pub passes : (datagram rest next message : List ℕ) (before after : List C.Value)
       (item : Item C.Value) → end_of item ≡ None
       → Passing datagram rest before after → StartsWithMessage rest message next
       → ItemIs C message item → Passing datagram next before (after ++ kept item)
@@ -64,18 +64,6 @@ module _ (C : Codec ℕ) where
         ∙ append_assoc before (flat_map kept p.passed) (kept item)
         ∙ ap (λ (t : List C.Value). before ++ t) (sym (kept_push p.passed item));
   }
-
-  pub passes_nothing : (datagram rest next message : List ℕ) (before after : List C.Value)
-      → Passing datagram rest before after → StartsWithMessage rest message next
-      → ItemIs C message (Ok no_payload) → Passing datagram next before after
-  passes_nothing datagram rest next message before after p s is =
-      rw append-nil at (passes datagram rest next message before after (Ok no_payload) refl p s is)
-
-  pub passes_inner : (datagram rest next message : List ℕ) (before after : List C.Value)
-      (value : C.Value) → Passing datagram rest before after → StartsWithMessage rest message next
-      → ItemIs C message (Ok (inner value)) → Passing datagram next before (after ++ value ∷ [])
-  passes_inner datagram rest next message before after value p s is =
-      passes datagram rest next message before after (Ok (inner value)) refl p s is
 
   pub ends_at : ((b : List ℕ) (t : ℕ) → IsBytes b
       → ((m : C.Value) × C.reads b t m) ⊎ ((e : DecodeError) × C.refuses b t e))

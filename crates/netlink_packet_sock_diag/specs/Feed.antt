@@ -1,11 +1,18 @@
 -- What feeding datagrams to the reader of a dump leaves and answers.
-use Rattle.std.specs.Prelude.{◌≡◌, ◌≢◌, ℕ, List, [], ◌∷◌, Result, Ok, Err, None}
+use Rattle.std.specs.Prelude.{◌≡◌, ◌≢◌, ℕ, List, [], ◌∷◌, ◌++◌, Option, Result, Ok, Err, None}
+use Rattle.std.specs.Prelude.{IsBitSet}
+use Rattle.std.specs.List.{AllZip}
 use Rattle.netlink_core.specs.Codec.{Codec}
+use Rattle.netlink_core.specs.Datagram.{CutIntoMessages}
+use Rattle.netlink_core.specs.Header.{HasHeader}
+use Rattle.netlink_core.specs.Items.{Item, ItemIs}
+use Rattle.netlink_core.specs.declared.fault.DecodeError.{DecodeError}
+use Rattle.netlink_core.specs.declared.header.NetlinkHeader.{NetlinkHeader}
 use Rattle.netlink_core.specs.declared.fault.DecodeError.TheVariants.{Memory}
 use Rattle.netlink_packet_sock_diag.specs.declared.dump.DumpState.TheVariants.{Failed}
 use Rattle.netlink_packet_sock_diag.specs.declared.dump.DumpError.{DumpError}
 use Rattle.netlink_packet_sock_diag.specs.declared.dump.DumpError.TheVariants.{Ended, Fault}
-use Rattle.netlink_packet_sock_diag.specs.Dump.{DatagramDump, DatagramStopped, Standing, unended}
+use Rattle.netlink_packet_sock_diag.specs.Dump.{Dump, DatagramDump, DatagramStopped, Standing, unended}
 
 -- by the codec of inner messages under a type
 module _ (C : Codec ℕ) where
@@ -25,3 +32,8 @@ module _ (C : Codec ℕ) where
   FeedsLeave before state (datagram ∷ later) after left =
       (middle : List C.Value) × (next : Standing) × (answer : Result Unit DumpError)
       × FeedLeaves before state datagram middle next answer × (answer ≢ Err (Fault Memory)) × FeedsLeave middle next later after left
+
+  -- A message of the datagram has the flag NLM_F_DUMP_INTR, 16, which is the bit 4, and the dump
+  -- comes to it: over those in front of it it is still read, and what it keeps of them is kept.
+  abbrev pub IsInterrupted : List C.Value → List ℕ → List C.Value → Type 0
+  IsInterrupted before datagram after = (passed later : List (List ℕ)) × (message : List ℕ) × (h : NetlinkHeader) × (end : Option DecodeError) × (items : List (Item C.Value)) × (middle more : List C.Value) × CutIntoMessages datagram (passed ++ (message ∷ later)) end × HasHeader message h × IsBitSet h.flags 4 × AllZip (ItemIs C) passed items × Dump before items middle (Ok unended) × (after ≡ middle ++ more)

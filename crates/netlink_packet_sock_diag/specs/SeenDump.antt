@@ -1,5 +1,5 @@
 -- What contracts see of a dump that is read.
-use Rattle.std.specs.Prelude.{List, map}
+use Rattle.std.specs.Prelude.{Bool, List, map}
 use Rattle.netlink_packet_sock_diag.specs.declared.dump.DumpReader.{DumpReader}
 use Rattle.netlink_packet_sock_diag.specs.Dump.{Standing}
 use Rattle.netlink_packet_sock_diag.specs.Message.{Message}
@@ -12,3 +12,7 @@ kept_messages reader = map seen_message reader.messages.items
 -- how it stands
 abbrev pub standing : DumpReader → Standing
 standing reader = (reader.state, reader.number)
+
+-- whether a message had NLM_F_DUMP_INTR
+abbrev pub was_interrupted : DumpReader → Bool
+was_interrupted reader = reader.interrupted

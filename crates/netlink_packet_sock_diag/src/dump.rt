@@ -1,12 +1,12 @@
 //! Dumps: the messages of several datagrams, up to the one that ends them.
 
-ghost use Rattle.std.specs.Prelude.{◌≡◌, ◌≢◌, ◌⊎◌, ℕ, List, [], map, Result, Ok as ok, Err as err};
-ghost use Rattle.std.specs.Prelude.{IfOk, IfErr, None};
+ghost use Rattle.std.specs.Prelude.{◌≡◌, ◌≢◌, ◌⊎◌, ◌↔◌, ℕ, List, [], map, Result, Ok as ok};
+ghost use Rattle.std.specs.Prelude.{Err as err, IfOk, IfErr, IsBitSet, IsTrue, None, false};
 ghost use Rattle.std.proofs.Common.{rules};
 ghost use Rattle.netlink_core.specs.declared.fault.DecodeError.TheVariants.{Memory};
 ghost use Rattle.netlink_packet_sock_diag.specs.Dump.{DatagramDump, DatagramStopped, Standing};
 ghost use Rattle.netlink_packet_sock_diag.specs.Dump.{unended};
-ghost use Rattle.netlink_packet_sock_diag.specs.Feed.{FeedLeaves, FeedsLeave};
+ghost use Rattle.netlink_packet_sock_diag.specs.Feed.{FeedLeaves, FeedsLeave, IsInterrupted};
 ghost use Rattle.netlink_packet_sock_diag.specs.Message.{Message, message_codec};
 ghost use Rattle.netlink_packet_sock_diag.specs.SeenMessage.{seen_message};
 ghost use Rattle.netlink_packet_sock_diag.specs.declared.dump.DumpError.{DumpError as Refusal};
@@ -19,9 +19,12 @@ pub use self::views::{DumpViews, MessageView, PayloadView};
 use crate::message::SockDiagMessage;
 use netlink_core::{
     DecodeError, Exact, MessageStrings, NETLINK_HEADER_LEN, NLMSG_DONE, NLMSG_ERROR, NLMSG_NOOP,
-    NLMSG_OVERRUN, NetlinkDeserializable, NetlinkHeader, error_number,
+    NLMSG_OVERRUN, NetlinkDeserializable, NetlinkHeader, error_number, laws,
 };
 use std::alloc::Global;
+
+/// The flag of a header that says that what is dumped changed meanwhile, `NLM_F_DUMP_INTR`.
+const NLM_F_DUMP_INTR: u16 = 0x10;
 
 /// How far a dump is.
 #[derive(Clone, Copy, Debug, PartialEq, Eq)]
@@ -51,12 +54,21 @@ impl Exact for DumpState {
     ghost exact = { Prim.search rules };
 }
 
+// Whether a dump was interrupted, where a message with this header comes.
+#[inline(always)]
+fn interrupted_by(was: bool, header: &NetlinkHeader) -> bool
+    ensures { IsTrue result ↔ (IsTrue was ⊎ IsBitSet header.now.flags 4) }
+{
+    was || header.flags & NLM_F_DUMP_INTR != 0
+}
+
 // Takes the messages of a datagram up to the end of the dump, and tells how the dump then stands:
-// its state, and the number that its end tells. The type of each is looked at before memory is
-// taken.
+// its state, and the number that its end tells. The type and the flags of each are looked at before
+// memory is taken.
 fn take_messages<I: NetlinkDeserializable + Drop>(
     alloc: Global,
     messages: &mut Vec<I>,
+    interrupted: &mut bool,
     datagram: &[u8],
 ) -> Result<(DumpState, Option<i32>), DecodeError>
     ensures state { IfOk result (λ standing. DatagramDump I.codec
@@ -66,10 +78,16 @@ fn take_messages<I: NetlinkDeserializable + Drop>(
         (map I.seen messages.old.items) datagram.now (map I.seen messages.new.items) (err e)) }
     ensures memory { IfErr result (λ e. e ≡ Memory → DatagramStopped I.codec
         (map I.seen messages.old.items) datagram.now (map I.seen messages.new.items)) }
+    ensures interrupted { IsTrue interrupted.new ↔ (IsTrue interrupted.old
+        ⊎ IsInterrupted I.codec (map I.seen messages.old.items) datagram.now
+        (map I.seen messages.new.items)) }
 {
+    // It does nothing, and says that the messages in front of one are the same however found.
+    laws::one_list_of_items::<I>();
     for item in MessageStrings::new(datagram) {
         let message = item?;
         let header = NetlinkHeader::from_prefix(message)?;
+        *interrupted = interrupted_by(*interrupted, &header);
         let payload = &message[NETLINK_HEADER_LEN..header.length as usize];
         match header.message_type {
             NLMSG_NOOP => {}
@@ -91,6 +109,8 @@ pub struct DumpReader {
     state: DumpState,
     // The number that the end of the dump tells.
     number: Option<i32>,
+    // Whether a message had the flag that says that what is dumped changed meanwhile.
+    interrupted: bool,
     // A dump that is still read has no number.
     ghost unnumbered: { (state ≡ Reading) → (number ≡ None) },
     // Datagrams were fed, with memory for all, and left these messages and this state; or one more
@@ -106,17 +126,20 @@ pub struct DumpReader {
 
 impl DumpReader {
     ghost use Rattle.netlink_packet_sock_diag.specs.SeenDump.{kept_messages, standing};
+    ghost use Rattle.netlink_packet_sock_diag.specs.SeenDump.{was_interrupted};
 
     /// A dump of which nothing has come. The allocator is kept.
     pub fn new(alloc: Global) -> Self
         ensures messages { kept_messages result ≡ [] }
         ensures state { standing result ≡ unended }
+        ensures interrupted { was_interrupted result ≡ false }
     {
         DumpReader {
             alloc,
             messages: Vec::new(alloc),
             state: DumpState::Reading,
             number: None,
+            interrupted: false,
         }
     }
 
@@ -124,13 +147,22 @@ impl DumpReader {
     /// and where memory runs out, the messages in front are kept and the dump has failed. Once the
     /// dump has ended nothing changes.
     pub fn feed(&mut self, datagram: &[u8]) -> Result<(), DumpError>
-        ensures { FeedLeaves message_codec (kept_messages self.old) (standing self.old)
+        ensures leaves { FeedLeaves message_codec (kept_messages self.old) (standing self.old)
             datagram.now (kept_messages self.new) (standing self.new) result }
+        ensures interrupted { IsTrue (was_interrupted self.new)
+            ↔ (IsTrue (was_interrupted self.old) ⊎ ((standing self.old ≡ unended)
+            × IsInterrupted message_codec (kept_messages self.old) datagram.now
+            (kept_messages self.new))) }
     {
         if self.state != DumpState::Reading {
             return Err(DumpError::Ended);
         }
-        match take_messages(self.alloc, &mut self.messages, datagram) {
+        match take_messages(
+            self.alloc,
+            &mut self.messages,
+            &mut self.interrupted,
+            datagram,
+        ) {
             Ok((state, number)) => {
                 self.state = state;
                 self.number = number;
@@ -171,5 +203,14 @@ impl DumpReader {
         ensures { result ≡ (standing self.now).1 }
     {
         self.number
+    }
+
+    /// Whether what is dumped changed meanwhile, so that the kernel may have left out entries or
+    /// told some twice: a message up to the end, or the end, had `NLM_F_DUMP_INTR` of netlink(7).
+    /// Make the request again then.
+    pub fn is_interrupted(&self) -> bool
+        ensures { result ≡ was_interrupted self.now }
+    {
+        self.interrupted
     }
 }

@@ -1,10 +1,11 @@
 use Rattle.std.specs.Prelude.{map}
 use Rattle.netlink_core.specs.DatagramWalk.{datagram_left}
-use Rattle.netlink_packet_sock_diag.proofs.Dumping.{Passing}
+use Rattle.netlink_packet_sock_diag.proofs.Interrupting.{Looked}
 use Rattle.netlink_packet_sock_diag.proofs.dump.take_messages.Given as goal
 
--- the dump goes on with what is left
+-- the dump goes on with what is left, and the flags of what it passed were seen
 abbrev pub invariant-loop-item : goal.invariant-loop-item
 invariant-loop-item g l =
-    Passing g.I.Coded.codec l.datagram (datagram_left l.item-iterator)
+    Looked g.I.Coded.codec l.datagram (datagram_left l.item-iterator)
     (map g.I.Coded.seen l.fn.messages.items) (map g.I.Coded.seen l.messages.items)
+    l.fn.interrupted l.interrupted

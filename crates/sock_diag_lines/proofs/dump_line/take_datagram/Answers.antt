@@ -9,7 +9,7 @@ returns-in-Ok c = λ datagrams read.
     let new = c.feed.new.self in
     let t = took datagrams c.args.datagram.now (λ i. omega (arith, c.type_inv.datagram i))
     (kept_messages old.reader) (kept_messages new) (standing old.reader) (standing new) old.fault
-    read.is read.faultless c.in-Ok.ensures in
+    read.is read.faultless c.in-Ok.ensures.leaves in
     record { is = t.0; faultless = t.1 }
 
 pub returns-in-Err-Ended : goal.returns-in-Err-Ended
@@ -18,7 +18,7 @@ returns-in-Err-Ended c = λ datagrams read.
     let new = c.feed.new.self in
     let t = left_as_it_was datagrams c.args.datagram.now (λ i. omega (arith, c.type_inv.datagram i))
     (kept_messages old.reader) (kept_messages new) (standing old.reader) (standing new) old.fault
-    read.is read.faultless (rw c.in-Err-Ended.field-0-is at c.in-Err-Ended.ensures) in
+    read.is read.faultless (rw c.in-Err-Ended.field-0-is at c.in-Err-Ended.ensures.leaves) in
     record { is = t.0; faultless = t.1 }
 
 pub returns-in_default : goal.returns-in_default
@@ -28,5 +28,5 @@ returns-in_default c = λ datagrams read.
     let t = failed_at datagrams c.args.datagram.now (λ i. omega (arith, c.type_inv.datagram i))
     (kept_messages old.reader) (kept_messages new) (standing old.reader) (standing new) old.fault
     read.is read.faultless c.in-Err-Fault.fault c.in_default.not-Memory
-    (rw c.in-Err-Fault.field-0-is at c.in-Err-Fault.ensures) in
+    (rw c.in-Err-Fault.field-0-is at c.in-Err-Fault.ensures.leaves) in
     record { is = t.0; faultless = t.1 }
