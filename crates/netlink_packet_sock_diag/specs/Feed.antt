@@ -12,7 +12,8 @@ use Rattle.netlink_core.specs.declared.fault.DecodeError.TheVariants.{Memory}
 use Rattle.netlink_packet_sock_diag.specs.declared.dump.DumpState.TheVariants.{Failed}
 use Rattle.netlink_packet_sock_diag.specs.declared.dump.DumpError.{DumpError}
 use Rattle.netlink_packet_sock_diag.specs.declared.dump.DumpError.TheVariants.{Ended, Fault}
-use Rattle.netlink_packet_sock_diag.specs.Dump.{Dump, DatagramDump, DatagramStopped, Standing, unended}
+use Rattle.netlink_packet_sock_diag.specs.Dump.{Dump, DatagramDump, DatagramStopped, Standing}
+use Rattle.netlink_packet_sock_diag.specs.Dump.{unended}
 
 -- by the codec of inner messages under a type
 module _ (C : Codec ℕ) where
@@ -36,4 +37,8 @@ module _ (C : Codec ℕ) where
   -- A message of the datagram has the flag NLM_F_DUMP_INTR, 16, which is the bit 4, and the dump
   -- comes to it: over those in front of it it is still read, and what it keeps of them is kept.
   abbrev pub IsInterrupted : List C.Value → List ℕ → List C.Value → Type 0
-  IsInterrupted before datagram after = (passed later : List (List ℕ)) × (message : List ℕ) × (h : NetlinkHeader) × (end : Option DecodeError) × (items : List (Item C.Value)) × (middle more : List C.Value) × CutIntoMessages datagram (passed ++ (message ∷ later)) end × HasHeader message h × IsBitSet h.flags 4 × AllZip (ItemIs C) passed items × Dump before items middle (Ok unended) × (after ≡ middle ++ more)
+  IsInterrupted before datagram after = (passed later : List (List ℕ)) × (message : List ℕ)
+      × (h : NetlinkHeader) × (end : Option DecodeError) × (items : List (Item C.Value))
+      × (middle more : List C.Value) × CutIntoMessages datagram (passed ++ (message ∷ later)) end
+      × HasHeader message h × IsBitSet h.flags 4 × AllZip (ItemIs C) passed items
+      × Dump before items middle (Ok unended) × (after ≡ middle ++ more)

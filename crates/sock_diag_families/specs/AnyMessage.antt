@@ -53,7 +53,8 @@ viewed_any (view.Xdp reply) = of_family xdp (viewed reply)
 -- the message belongs to the bytes under the type: that family is told, and so it is read
 abbrev pub AnyReads : List ℕ → ℕ → AnyMessage → Type 0
 AnyReads b t (of_port message) = (other_family b t ≡ None) × message_codec.reads b t message
-AnyReads b t (of_family family v) = (other_family b t ≡ Some family) × (codec_of family).reads b tt v
+AnyReads b t (of_family family v) =
+    (other_family b t ≡ Some family) × (codec_of family).reads b tt v
 
 -- the reader of the family that is told, or the port's, refuses the bytes
 abbrev pub refuses_by : Option OtherFamily → List ℕ → ℕ → DecodeError → Type 0

@@ -14,7 +14,8 @@ first_value kind [] = None
 first_value kind (a ∷ later) = if kind_of a == kind then Some a.value else first_value kind later
 
 -- what is read of the value, where there is one
-abbrev pub within : {A : Type 0} → (List ℕ → Result A DecodeError) → Option (List ℕ) → Result (Option A) DecodeError
+abbrev pub within : {A : Type 0} → (List ℕ → Result A DecodeError) → Option (List ℕ)
+    → Result (Option A) DecodeError
 within reads None = Ok None
 within reads (Some value) = said_as Some (reads value)
 
@@ -26,5 +27,7 @@ enough family kind least value =
     then Err (BufferTooSmall (name.FamilyAttribute family kind) (length value) least) else Ok value
 
 -- what such a value tells by the rows of a table
-abbrev pub fields : {A : Type 0} → ℕ → ℕ → ℕ → List Row → (List ℕ → A) → List ℕ → Result A DecodeError
-fields family kind least rows of value = said_as (λ found. of (values_of rows found)) (enough family kind least value)
+abbrev pub fields : {A : Type 0} → ℕ → ℕ → ℕ → List Row → (List ℕ → A) → List ℕ
+    → Result A DecodeError
+fields family kind least rows of value =
+    said_as (λ found. of (values_of rows found)) (enough family kind least value)

@@ -23,7 +23,8 @@ netlink_header_of values = record {
 -- the bytes at 1, 2 and 3, four words of 32 bits from 4 on, and one of 64 at 20, low byte first
 abbrev pub netlink_header : Format (Unit {0}) (Unit {0}) NetlinkResponseHeader
 netlink_header = plain (name.FamilyResponseHeader 16) 28
-    (unread 0 (16 ∷ []) ∷ bytes_at 1 3 ++ numbers 4 4 little_endian 4 ++ number 20 8 little_endian ∷ [])
+    (unread 0 (16 ∷ []) ∷ bytes_at 1 3 ++ numbers 4 4 little_endian 4
+    ++ number 20 8 little_endian ∷ [])
     (λ value. value.kind ∷ value.protocol ∷ value.state ∷ value.port ∷ value.destination_port
     ∷ value.destination_group ∷ value.inode ∷ value.cookie ∷ [])
     netlink_header_of (λ value. ⊤)

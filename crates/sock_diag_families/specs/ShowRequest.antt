@@ -28,7 +28,8 @@ show_rows family =
 -- those of the family with that number, which a byte holds
 abbrev pub show_request : (family : ℕ) → Format (Unit {0}) (Unit {0}) (ShowRequest family)
 show_request family = plain (name.FamilyRequest family) 20 (show_rows family)
-    (λ value. value.protocol ∷ value.inode ∷ value.show ∷ value.cookie ∷ []) show_request_of (λ value. ⊤)
+    (λ value. value.protocol ∷ value.inode ∷ value.show ∷ value.cookie ∷ []) show_request_of
+    (λ value. ⊤)
 
 rows_stand : (family : ℕ) → IsTrue (is_table 0 (show_rows family) 20)
 rows_stand family =

@@ -15,7 +15,8 @@ vsock_request_of values = record { states = slice_index values 0; cookie = slice
 -- the states at 4, a word of 32 bits, and the cookie at 16, one of 64, low byte first
 abbrev pub vsock_request : Format (Unit {0}) (Unit {0}) VsockRequest
 vsock_request = plain (name.FamilyRequest 40) 24
-    (unread 0 (40 ∷ 0 ∷ 0 ∷ 0 ∷ []) ∷ number 4 4 little_endian ∷ unread 8 (replicate 8 0) ∷ number 16 8 little_endian ∷ [])
+    (unread 0 (40 ∷ 0 ∷ 0 ∷ 0 ∷ []) ∷ number 4 4 little_endian ∷ unread 8 (replicate 8 0)
+    ∷ number 16 8 little_endian ∷ [])
     (λ value. value.states ∷ value.cookie ∷ []) vsock_request_of (λ value. ⊤)
 
 pub vsock_request_sound : IsSound vsock_request

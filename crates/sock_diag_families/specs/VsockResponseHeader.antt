@@ -24,7 +24,8 @@ vsock_header_of values = record {
 -- the bytes at 1, 2 and 3, five words of 32 bits from 4 on, and one of 64 at 24, low byte first
 abbrev pub vsock_header : Format (Unit {0}) (Unit {0}) VsockResponseHeader
 vsock_header = plain (name.FamilyResponseHeader 40) 32
-    (unread 0 (40 ∷ []) ∷ bytes_at 1 3 ++ numbers 4 4 little_endian 5 ++ number 24 8 little_endian ∷ [])
+    (unread 0 (40 ∷ []) ∷ bytes_at 1 3 ++ numbers 4 4 little_endian 5
+    ++ number 24 8 little_endian ∷ [])
     (λ value. value.kind ∷ value.state ∷ value.shutdown ∷ value.source_context ∷ value.source_port
     ∷ value.destination_context ∷ value.destination_port ∷ value.inode ∷ value.cookie ∷ [])
     vsock_header_of (λ value. ⊤)
