@@ -96,9 +96,6 @@ fn datagram(alloc: Global, names: &str) -> Result<Vec<u8>, Fail> {
             "reply" => "2000000014000200070000000000000001010a000e4f0000a002000000000000",
             "unknown" => "2000000015000200070000000000000001010a000e4f0000a002000000000000",
             "done" => "1400000003000200070000000000000000000000",
-            "changed" => "10000000010010000000000000000000",
-            "done_changed" => "1400000003001200070000000000000000000000",
-            "unknown_changed" => "1000000015001000070000000000000000",
             "error" => "14000000020002000700000000000000ee000000",
             "lost" => "14000000040002000700000000000000ee000000",
             "odd" => "2500000014000000000000000000000001010a000e4f0000a0020000000000000500060000",
@@ -168,11 +165,11 @@ fn a_long_dump_keeps_all(rt: HostRuntime) -> Result<(), Fail> {
 fn interrupted_dumps_are_known(rt: HostRuntime) -> Result<(), Fail> {
     for (names, interrupted) in [
         ("reply+done", false),
-        ("reply+changed+done", true),
-        ("reply+done_changed", true),
-        ("unknown_changed", true),
-        ("done+changed", false),
-        ("unknown+changed", false),
+        ("reply+10000000010010000000000000000000+done", true),
+        ("reply+1400000003001200070000000000000000000000", true),
+        ("10000000150010000700000000000000", true),
+        ("done+10000000010010000000000000000000", false),
+        ("unknown+10000000010010000000000000000000", false),
     ] {
         let mut reader = DumpReader::new(rt.alloc());
         let _ = reader.feed(&datagram(rt.alloc(), names)?);
