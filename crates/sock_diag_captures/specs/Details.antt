@@ -23,7 +23,7 @@ use Rattle.sock_diag_captures.specs.Escapes.{shown}
 use Rattle.sock_diag_captures.specs.Options.{shows}
 use Rattle.sock_diag_captures.specs.Pieces.{Piece}
 use Rattle.sock_diag_captures.specs.declared.details.Sockets.{Sockets}
-use Rattle.sock_diag_captures.specs.declared.details.Sockets.TheVariants.{Unix, Inet}
+use Rattle.sock_diag_captures.specs.declared.details.Sockets.TheVariants.{Unix, Inet, Other}
 use Rattle.sock_diag_captures.specs.declared.details.TimerWords.{TimerWords}
 use Rattle.sock_diag_captures.specs.declared.options.Detail.{Detail}
 use Rattle.sock_diag_captures.specs.declared.options.Detail.TheVariants.{Timer, Extended, Memory}
@@ -252,6 +252,7 @@ words_of text a (Err e) = unread a e
 abbrev pub detail_of : Options → Sockets → Attribute → List ℕ
 detail_of o Unix a = words_of unix_text a (says unix a)
 detail_of o Inet a = words_of (inet_text o) a (says inet a)
+detail_of o Other a = unknown a
 
 -- the detail that attributes of a kind tell of a UNIX socket: 5 is UNIX_DIAG_MEMINFO
 abbrev pub detail_of_unix : ℕ → Detail
@@ -266,10 +267,11 @@ detail_of_inet kind =
     else if (kind == 2) || (kind == 3) || (kind == 4) || (kind == 9) || (kind == 16)
     then Connection else Extended
 
--- that of either
+-- that of each
 abbrev pub detail_under : Sockets → ℕ → Detail
 detail_under Unix kind = detail_of_unix kind
 detail_under Inet kind = detail_of_inet kind
+detail_under Other kind = Extended
 
 -- what is told of an attribute, where it is asked for
 abbrev pub shown_detail : Options → Sockets → Attribute → List ℕ

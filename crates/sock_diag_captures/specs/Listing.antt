@@ -24,7 +24,13 @@ use Rattle.sock_diag_captures.specs.declared.capture.PacketHeader.{PacketHeader}
 use Rattle.sock_diag_captures.specs.declared.options.Options.{Options}
 use Rattle.sock_diag_captures.specs.declared.requests.Asked.{Asked}
 use Rattle.sock_diag_captures.specs.Details.{timer_in}
+use Rattle.sock_diag_captures.specs.Others.{netlink_socket, other_lines, packet_socket}
+use Rattle.sock_diag_captures.specs.Others.{vsock_socket, xdp_socket}
 use Rattle.sock_diag_captures.specs.Table.{inet_lines, unix_lines}
+use Rattle.sock_diag_families.specs.NetlinkResponseHeader.{netlink_header}
+use Rattle.sock_diag_families.specs.PacketResponseHeader.{packet_header}
+use Rattle.sock_diag_families.specs.VsockResponseHeader.{vsock_header}
+use Rattle.sock_diag_families.specs.XdpResponseHeader.{xdp_header}
 use Rattle.sock_diag_captures.specs.declared.list.Complaint.{Complaint}
 use Rattle.sock_diag_captures.specs.declared.list.Complaint.TheVariants.{Refused, Answered, Lost}
 use Rattle.sock_diag_captures.specs.declared.list.Complaint.TheVariants.{Invalid, NoEntry}
@@ -43,6 +49,29 @@ abbrev pub fault_behind : {H : Type 0} → Result H DecodeError → List Piece �
 fault_behind (Ok h) given = framing_fault given
 fault_behind (Err e) given = Some e
 
+-- the lines of a reply about a netlink, packet, vsock or XDP socket, by the number of its family:
+-- their headers have 28, 16, 32 and 16 bytes
+abbrev pub family_lines : Options → ℕ → List ℕ → List ℕ
+family_lines o family b =
+    if family == 16 then lines_behind (λ h given. other_lines o (netlink_socket h given) given)
+    (read netlink_header tt b) (pieces 0 (drop 28 b))
+    else if family == 17 then lines_behind (λ h given. other_lines o (packet_socket h given) given)
+    (read packet_header tt b) (pieces 0 (drop 16 b))
+    else if family == 40 then lines_behind (λ h given. other_lines o (vsock_socket h given) given)
+    (read vsock_header tt b) (pieces 0 (drop 32 b))
+    else if family == 44 then lines_behind (λ h given. other_lines o (xdp_socket h given) given)
+    (read xdp_header tt b) (pieces 0 (drop 16 b))
+    else []
+
+-- the fault of such a reply
+abbrev pub family_fault : ℕ → List ℕ → Option DecodeError
+family_fault family b =
+    if family == 16 then fault_behind (read netlink_header tt b) (pieces 0 (drop 28 b))
+    else if family == 17 then fault_behind (read packet_header tt b) (pieces 0 (drop 16 b))
+    else if family == 40 then fault_behind (read vsock_header tt b) (pieces 0 (drop 32 b))
+    else if family == 44 then fault_behind (read xdp_header tt b) (pieces 0 (drop 16 b))
+    else None
+
 -- the lines of a reply of that kind, whose header has 16 bytes or 72, and of the protocol that was
 -- asked for
 abbrev pub kind_lines : Options → Option ℕ → Result MessageKind DecodeError → List ℕ → List ℕ
@@ -51,15 +80,17 @@ kind_lines o protocol (Ok unix_response) b =
 kind_lines o protocol (Ok inet_response) b =
     lines_behind (inet_lines o protocol (timer_in b)) (read inet_response_header tt b)
     (pieces 0 (drop 72 b))
+kind_lines o protocol (Err (UnknownFamily family)) b = family_lines o family b
 kind_lines o protocol _ b = []
 
--- the fault of such a reply, or that it is none. Nothing is told of a socket of another family
+-- the fault of such a reply, or that it is none. Nothing is told of a socket of a family that isn't
+-- known
 abbrev pub kind_fault : Result MessageKind DecodeError → List ℕ → Option DecodeError
 kind_fault (Ok unix_response) b =
     fault_behind (read unix_response_header tt b) (pieces 0 (drop 16 b))
 kind_fault (Ok inet_response) b =
     fault_behind (read inet_response_header tt b) (pieces 0 (drop 72 b))
-kind_fault (Err (UnknownFamily family)) b = None
+kind_fault (Err (UnknownFamily family)) b = family_fault family b
 kind_fault (Err e) b = Some e
 kind_fault _ b = None
 

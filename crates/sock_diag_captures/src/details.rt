@@ -56,6 +56,8 @@ pub(crate) enum Sockets {
     Unix,
     /// IPv4 and IPv6 sockets.
     Inet,
+    /// Others, whose attributes are told by number and length.
+    Other,
 }
 
 /// What the header of a reply about an IPv4 or IPv6 socket tells of the timer that runs.
@@ -236,6 +238,7 @@ fn detail_of_kind(sockets: Sockets, kind: u16) -> Detail
     match sockets {
         Sockets::Unix => detail_of_unix_kind(kind),
         Sockets::Inet => detail_of_inet_kind(kind),
+        Sockets::Other => Detail::Extended,
     }
 }
 
@@ -277,6 +280,7 @@ fn push_attribute(
     match sockets {
         Sockets::Unix => push_unix_attribute(text, nla),
         Sockets::Inet => push_inet_attribute(text, options, nla),
+        Sockets::Other => push_unknown(text, nla),
     }
 }
 

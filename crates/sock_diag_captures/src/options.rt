@@ -93,7 +93,7 @@ impl Options {
     }
 
     /// Whether some sockets alone are asked for.
-    fn selects(self) -> bool
+    pub(crate) fn selects(self) -> bool
         ensures { result ≡ selects self }
     {
         self.tcp || self.udp || self.mptcp || self.unix
