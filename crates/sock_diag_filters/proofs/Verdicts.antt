@@ -1,5 +1,5 @@
 -- A run of a program has one verdict.
-use Rattle.std.proofs.Common.{◌≡◌, ℕ, List, length, drop, refl, arith, Bool, true, false}
+use Rattle.std.proofs.Common.{◌≡◌, ℕ, List, drop, refl, arith, Bool}
 use Rattle.sock_diag_filters.specs.Run.{Runs, ends, goes_on, goes_past, step}
 
 module _ (found : ℕ → List ℕ → Bool) where
