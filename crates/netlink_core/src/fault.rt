@@ -32,18 +32,11 @@ pub enum RecordName {
     /// The value of `UNIX_DIAG_MEMINFO`, 36 bytes.
     UnixMemInfo,
     /// A request for sockets of another family, which is told by its number, one of `AF_..`.
-    FamilyRequest {
-        family: u8,
-    },
+    FamilyRequest { family: u8 },
     /// The header of a reply about a socket of another family.
-    FamilyResponseHeader {
-        family: u8,
-    },
+    FamilyResponseHeader { family: u8 },
     /// The value of an attribute of such a reply, which is told by its family and its kind.
-    FamilyAttribute {
-        family: u8,
-        kind: u16,
-    },
+    FamilyAttribute { family: u8, kind: u16 },
 }
 
 impl fmt::Display for RecordName {

@@ -169,7 +169,10 @@ pub use sock_diag_records::constants::UNIX_DIAG_PEER;
 pub use sock_diag_records::constants::UNIX_DIAG_RQLEN;
 pub use sock_diag_records::constants::UNIX_DIAG_SHUTDOWN;
 pub use sock_diag_records::constants::UNIX_DIAG_VFS;
-pub use view::{AttributeViews, ReplyHeader, ReplyView, ReplyViews};
+pub use view::AttributeViews;
+pub use view::ReplyHeader;
+pub use view::ReplyView;
+pub use view::ReplyViews;
 
 /// The constants that stand at the root too are the numbers of these names. It is for proofs, and
 /// does nothing.

@@ -1,0 +1,5 @@
+//! The tests of `sock_diag_extras`.
+#![tactic(auto)]
+
+#[cfg(test)]
+mod tests;
