@@ -1,7 +1,7 @@
 //! The lines of netlink, packet, vsock and XDP sockets.
 
 ghost use Rattle.std.specs.Prelude.{◌≡◌, ◌++◌, ◌≤◌, drop, IfOk, OnOk, List, option_and_then};
-ghost use Rattle.netlink_core.specs.Format.{read};
+ghost use Rattle.netlink_core.specs.Layout.{read};
 ghost use Rattle.sock_diag_captures.specs.Listing.{fault_behind, family_fault, family_lines};
 ghost use Rattle.sock_diag_captures.specs.Listing.{lines_behind};
 ghost use Rattle.sock_diag_captures.specs.Others.{OtherSocket as SocketShown, end_cell};
@@ -54,7 +54,7 @@ pub(crate) struct OtherSocket {
 }
 
 /// The header of a reply about a socket that is listed here.
-pub(crate) trait Listed: Record<Told = ()> + Drop {
+pub(crate) trait Listed: Record<Param = ()> + Drop {
     // What is shown of the socket, by the header and the attributes behind it.
     ghost listed: { Self → List Piece → SocketShown };
 
@@ -92,9 +92,9 @@ fn push_listed<H: Listed>(
 ) -> Result<Option<DecodeError>, AllocError>
     ensures lines { OnOk result (text.new.items ≡ text.old.items
         ++ lines_behind (λ header given. other_lines options (H.listed header given) given)
-        (read H.format tt payload.now) (pieces 0 (drop H.format.least payload.now))) }
-    ensures fault { IfOk result (λ fault. fault ≡ fault_behind (read H.format tt payload.now)
-        (pieces 0 (drop H.format.least payload.now))) }
+        (read H.layout tt payload.now) (pieces 0 (drop H.layout.least payload.now))) }
+    ensures fault { IfOk result (λ fault. fault ≡ fault_behind (read H.layout tt payload.now)
+        (pieces 0 (drop H.layout.least payload.now))) }
 {
     match read_record::<H>(payload, ()) {
         Ok(header) => {
@@ -108,7 +108,7 @@ fn push_listed<H: Listed>(
 
 /// The bytes behind the header.
 fn attributes_of<H: Listed>(payload: &[u8]) -> &[u8]
-    ensures { result.now ≡ drop H.format.least payload.now }
+    ensures { result.now ≡ drop H.layout.least payload.now }
 {
     let (_, least) = H::name_and_least();
     if payload.len() < least {
