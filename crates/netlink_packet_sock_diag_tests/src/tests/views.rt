@@ -160,24 +160,6 @@ fn a_long_dump_keeps_all(rt: HostRuntime) -> Result<(), Fail> {
     Ok(())
 }
 
-// The flag is that of a message up to the end, or of the end, also where one is refused.
-#[test]
-fn interrupted_dumps_are_known(rt: HostRuntime) -> Result<(), Fail> {
-    for (names, interrupted) in [
-        ("reply+done", false),
-        ("reply+10000000010010000000000000000000+done", true),
-        ("reply+1400000003001200070000000000000000000000", true),
-        ("10000000150010000700000000000000", true),
-        ("done+10000000010010000000000000000000", false),
-        ("unknown+10000000010010000000000000000000", false),
-    ] {
-        let mut reader = DumpReader::new(rt.alloc());
-        let _ = reader.feed(&datagram(rt.alloc(), names)?);
-        assert!(rt; reader.is_interrupted() == interrupted);
-    }
-    Ok(())
-}
-
 /// A datagram, and the answers of the walk over it.
 const WALKS: &str = "reply: [Ok(InnerMessage(UnixResponse(UnixResponseView { bytes: [1, 1, 10, \
 0, 14, 79, 0, 0, 160, 2, 0, 0, 0, 0, 0, 0], count: 0 })))]
