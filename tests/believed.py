@@ -24,24 +24,25 @@ CRATES = ["netlink_core", "attribute_lists", "sock_diag_values", "sock_diag_reco
     "sock_diag_lines"]
 ROOT = Path(__file__).resolve().parent.parent / "crates"
 # The libraries beside the port, by figures of their own.
-BESIDE = ["sock_diag_uses", "sock_diag_captures", "sockdiag_c"]
+BESIDE = ["sock_diag_extras", "sock_diag_families", "sock_diag_filters", "sock_diag_uses", "sock_diag_captures",
+    "sockdiag_c"]
 # So many lines have to be believed at most.
 MOST = 1100
 # Ghost members that say something: their types and their bodies are read.
-MEANING = set("""codec seen type_written bytes writable held TAKES_MEMORY attribute format Tag Value view inverse is_clone
+MEANING = set("""codec model type_written bytes writable held input TAKES_MEMORY attribute layout Tag Value view inverse is_clone
     is_made_with
-    is_infallible from_gives bitor_gives next_gives remaining table set_of family viewed contents answer left reads failed
-    reply told name numbers flushed tells""".split())
+    is_infallible from_gives bitor_gives next_gives remaining table set_of attribute_set contents answer left reads failed
+    reply header_model name numbers flushed describes listed attributes""".split())
 # Ghost members that are laws: the type that a trait declares is read, and their bodies are proofs. `eq` and `tests` are
-# among them: what `==` answers is computed there, and said in the words of contracts by `eq_is_seen` and in laws.rt.
-LAWS = set("""laws fills exact eq_is_seen written_is fits_is emitted_is writable_is written_as
+# among them: what `==` answers is computed there, and said in the words of contracts by `eq_is_model` and in laws.rt.
+LAWS = set("""laws fills exact eq_is_model written_is fits_is emitted_is writable_is written_as
     compared idle_reflexive idle_symmetric idle_transitive one_value equal_by_bytes idle_with_written reads_back_exactly
     written_alike eq tests test enough keeps same written fits answers asks good""".split())
 # Private functions whose clauses docs/PROMISES.md cites.
 CITED = {"serve", "read_prompt"}
 # A module of specs/ with this ending holds lemmas and what they stand on, and one with that the words of private functions.
 LEMMAS, STEPS = "Laws", "Steps"
-# One with this ending holds the inverse of a format's `values`. A format alone may lead there, and the way ends: the law
+# One with this ending holds the inverse of a layout's `values`. A layout alone may lead there, and the way ends: the law
 # `read_where_it_stands` says what is read without it.
 INVERSE = "Inverse"
 # Definitions of the tests.
@@ -50,7 +51,7 @@ OF_TESTS = set()
 BUILT_IN = set("record data module let in if then else Type Unit tt absurd abbrev unfoldable pub where _".split())
 RUST = set("Ok Err Some None self Self result".split())
 # A function without a keyword that ends in one of these computes. One that ends in anything else is a lemma.
-COMPUTES = re.compile(r"ℕ|(List|Bool|Option|Result|Type|Codec|Format|Family|Kind|Prefix)\b")
+COMPUTES = re.compile(r"ℕ|(List|Bool|Option|Result|Type|Codec|Layout|AttributeSet|AttributeSpec|ValueCodec|IpVersion)\b")
 WORD = r"[A-Za-z_](?:[A-Za-z0-9_']|-(?=[A-Za-z]))*"
 TOKEN = re.compile(rf"⟦[^⟧]*⟧|(?<=[)\]}}⟧])\.[\w.]+|(?P<path>{WORD}(?:\.(?:{WORD}|\d+))*)|\d\w*|\"[^\"]*\"|==|\S")
 USE = re.compile(r"\buse\s+([\w.]+?)(?:\.\{([^}]*)\}|\s+as\s+(\w+))\s*(?:;|$)", re.M)
@@ -113,14 +114,14 @@ class Item:
     def close(self):
         """Takes the item apart: its head, its equations, and its fields or constructors. Tells what it is."""
         text = "\n".join(self.lines)
-        self.head, *self.equations = re.split(rf"^\s*{re.escape(self.name)}(?=\s)", text, flags=re.M)
+        self.head, *self.equations = re.split(rf"^ {{{self.indent}}}{re.escape(self.name)}(?=\s)", text, flags=re.M)
         labels = re.findall(rf"^\s+(?:pub )?({WORD}(?: {WORD})*) :", text, re.M) if self.kind in ("record", "data") else []
         self.parts = " ".join(labels).split()
         self.bound = {name for group in re.findall(r"[({]([^(){}:]*?) :", self.head) for name in group.split()}
         answer = self.head[max(at_depth_zero(self.head, "→"), default=self.head.find(":")) + 1:].strip()
         computes = COMPUTES.match(answer) and not re.search("[≡≢≤<↔]", answer)
         self.is_lemma = self.kind == "" and not computes
-        self.is_format = answer.startswith("Format ")
+        self.is_layout = answer.startswith("Layout ")
         self.is_definition = self.kind != "module" and not self.is_lemma
 
     def names(self, is_constructor):
@@ -214,7 +215,7 @@ class Specs:
             if not one.reached:
                 one.reached = by
                 for name in one.names(lambda name: self.is_constructor(name, module)):
-                    if not (one.is_format and self.is_inverse(name, module)):
+                    if not (one.is_layout and self.is_inverse(name, module)):
                         self.reach(name, module.names, f"{module.name}: {one.name}", by)
 
 

@@ -4,30 +4,30 @@ use Rattle.std.proofs.Common.{Option, Result, Ok, Err, Some, ◌≡◌, List, []
 use Rattle.std.specs.Prelude.{map}
 use Rattle.std.specs.Iterator.{Drains, YieldsThen}
 use Rattle.netlink_core.specs.declared.fault.DecodeError.{DecodeError}
-use Rattle.netlink_core.specs.Attribute.{Attribute, StartsWith, AttributesMean, FaultAtFront}
+use Rattle.netlink_core.specs.Attribute.{Attribute, StartsWith, AttributesMean, IsPrefixFault}
 use Rattle.netlink_core.specs.Attribute.{AttributeFault}
-use Rattle.netlink_core.specs.Family.{Family, Said, says}
+use Rattle.netlink_core.specs.AttributeSet.{AttributeSet, AttributeValue, decodes}
 use Rattle.netlink_core.specs.Gives.{Gives}
 use Rattle.netlink_core.specs.Walk.{bytes_left}
 use Rattle.netlink_core.proofs.Walking.{later_fault, fault_here}
 use Rattle.attribute_lists.specs.declared.checked.CheckedNlas.{CheckedNlas}
 
 -- what a step of the walk gives
-abbrev GivesSaid : {V : Type 0} → (F : Family) → (V → Said F) → CheckedNlas V
+abbrev GivesValue : {V : Type 0} → (F : AttributeSet) → (V → AttributeValue F) → CheckedNlas V
     → Option (Result V DecodeError) → CheckedNlas V → Type 0
-GivesSaid F viewed old given new =
+GivesValue F model old given new =
     Gives (λ left view later. (a : Attribute) × StartsWith left a later
-    × (says F a ≡ Ok (viewed view))) (FaultAtFront (says F)) (bytes_left old.walk) given
+    × (decodes F a ≡ Ok (model view))) (IsPrefixFault (decodes F)) (bytes_left old.walk) given
     (bytes_left new.walk)
 
 -- items that are attributes
 abbrev found : {V : Type 0} → List V → List (Result V DecodeError)
 found {V} given = map (λ (v : V). Ok v) given
 
-module _ {V : Type 0} (F : Family) (viewed : V → Said F) where
+module _ {V : Type 0} (F : AttributeSet) (model : V → AttributeValue F) where
   pub checked_walk : (walk : CheckedNlas V) (given : List V)
-      → Drains (GivesSaid F viewed) walk (found given)
-      → AttributesMean (says F) (bytes_left walk.walk) (map viewed given)
+      → Drains (GivesValue F model) walk (found given)
+      → AttributesMean (decodes F) (bytes_left walk.walk) (map model given)
   checked_walk walk [] h =
       ([], subst (λ (w : CheckedNlas V). bytes_left w.walk ≡ []) (sym h.1.1) h.1.2.0, tt)
   checked_walk walk (g ∷ given) h =
@@ -39,16 +39,16 @@ module _ {V : Type 0} (F : Family) (viewed : V → Said F) where
       )
 
   pub cut_off_walk : (walk last : CheckedNlas V) (given : List V) (e : DecodeError)
-      → YieldsThen (GivesSaid F viewed) walk (found given) (Some (Err e)) last
-      → AttributeFault (says F) (bytes_left walk.walk) e × (bytes_left last.walk ≡ [])
+      → YieldsThen (GivesValue F model) walk (found given) (Some (Err e)) last
+      → AttributeFault (decodes F) (bytes_left walk.walk) e × (bytes_left last.walk ≡ [])
   cut_off_walk walk last [] e h =
-      let at : GivesSaid F viewed walk (Some (Err e)) last =
-      subst (λ (w : CheckedNlas V). GivesSaid F viewed w (Some (Err e)) last) (sym h.1) h.2 in
-      (fault_here (says F) (bytes_left walk.walk) e at.0 at.1, at.2)
+      let at : GivesValue F model walk (Some (Err e)) last =
+      subst (λ (w : CheckedNlas V). GivesValue F model w (Some (Err e)) last) (sym h.1) h.2 in
+      (fault_here (decodes F) (bytes_left walk.walk) e at.0 at.1, at.2)
   cut_off_walk walk last (g ∷ given) e h =
       let first = h.1.1 in
       let later = cut_off_walk h.1.0 last given e (h.0, h.1.2, h.2) in (
-        later_fault (says F) (bytes_left walk.walk) (bytes_left h.1.0.walk) first.0 (viewed g) e
+        later_fault (decodes F) (bytes_left walk.walk) (bytes_left h.1.0.walk) first.0 (model g) e
             first.1 first.2 later.0,
         later.1,
       )

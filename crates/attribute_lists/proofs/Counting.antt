@@ -40,11 +40,11 @@ module _ {A : Type 0} (reads : Attribute → Result A DecodeError) where
   pub count_goes_on : (bytes rest after : List ℕ) (count : ℕ) (a : Attribute) (v : A)
       → Counted bytes rest count → StartsWith rest a after → reads a ≡ Ok v
       → Counted bytes after (count + 1)
-  count_goes_on bytes rest after count a v c s says_v =
+  count_goes_on bytes rest after count a v c s reads_v =
       let room : 4 * count + length rest ≤ length bytes = c.room in
       record {
         so_far = c.so_far ++ v ∷ [];
-        walk = walk_goes_on reads bytes rest after c.so_far a v c.walk s says_v;
+        walk = walk_goes_on reads bytes rest after c.so_far a v c.walk s reads_v;
         many = length-append c.so_far (v ∷ []) ∙ ap (λ (n : ℕ). n + 1) c.many;
         room = omega (arith, four_and_more rest after a s);
       }

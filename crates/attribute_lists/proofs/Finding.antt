@@ -6,20 +6,20 @@ use Rattle.std.specs.List.{AllZip}
 use Rattle.std.proofs.lemmas.List.{take_at, drop_at, drop_all, length-append}
 use Rattle.netlink_core.specs.declared.fault.DecodeError.{DecodeError}
 use Rattle.netlink_core.specs.Bytes.{IsBytes}
-use Rattle.netlink_core.specs.Attribute.{Attribute, StartsWith, Cut, HeadIs, IsFramingFault}
+use Rattle.netlink_core.specs.Attribute.{Attribute, StartsWith, Cut, HasPrefix, IsFramingFault}
 use Rattle.netlink_core.specs.Attribute.{AttributesMean, AttributeFault, fill, unpadded}
 use Rattle.netlink_core.specs.Table.{number_in, little_endian}
-use Rattle.netlink_core.specs.Family.{says}
-use Rattle.netlink_core.specs.Reply.{Reply, ValueOf, reply_codec}
-use Rattle.netlink_core.specs.FrontLaws.{word_is}
+use Rattle.netlink_core.specs.AttributeSet.{decodes}
+use Rattle.netlink_core.specs.Response.{ResponseSpec, ValueOf, response_codec}
+use Rattle.netlink_core.specs.PrefixLaws.{word_is}
 use Rattle.netlink_core.proofs.TableLaws.{AreBytes-drop}
-use Rattle.netlink_core.proofs.Walking.{StartsWith-some, head_of_start, later_fault, fault_here}
+use Rattle.netlink_core.proofs.Walking.{StartsWith-some, prefix_of_start, later_fault, fault_here}
 use Rattle.netlink_core.proofs.Cutting.{means_or_fault, means_or_fault_apart}
-use Rattle.attribute_lists.specs.AttributesIn.{front_attribute, attributes_behind}
+use Rattle.attribute_lists.specs.AttributesIn.{leading_attribute, attributes_behind}
 use Rattle.attribute_lists.specs.AttributesIn.{HasNoFault, values_in, value_in, IsAccepted}
-use Rattle.attribute_lists.specs.AttributesIn.{reply_behind}
+use Rattle.attribute_lists.specs.AttributesIn.{response_behind}
 
--- those behind so many bytes are those at the front of what follows them
+-- those behind so many bytes are those at the start of what follows them
 behind_is : (n : ℕ) (bytes : List ℕ) → attributes_behind n bytes ≡ attributes_behind 0
     (drop n bytes)
 unfolding attributes_behind
@@ -28,8 +28,8 @@ behind_is zero (b ∷ bs) = refl
 behind_is (suc n) [] = refl
 behind_is (suc n) (b ∷ bs) = behind_is n bs
 
--- the two words tell the attribute in front
-front_is : (bytes : List ℕ) (a : Attribute) → HeadIs bytes a → front_attribute bytes ≡ a
+-- the two words tell the first attribute
+front_is : (bytes : List ℕ) (a : Attribute) → HasPrefix bytes a → leading_attribute bytes ≡ a
 front_is bytes a head =
     let fits : length a.value ≤ 65531 = head.2.1 in
     let word : number_in little_endian 2 bytes ≡ 4 + length a.value = (word_is bytes a head).0 in
@@ -48,7 +48,7 @@ rest_is : (bytes rest : List ℕ) (a : Attribute) → StartsWith bytes a rest
     → drop (number_in little_endian 2 bytes + fill (number_in little_endian 2 bytes)) bytes ≡ rest
 rest_is bytes rest a s =
     let word : number_in little_endian 2 bytes ≡ 4 + length a.value =
-    (word_is bytes a (head_of_start bytes rest a s)).0 in
+    (word_is bytes a (prefix_of_start bytes rest a s)).0 in
     let front : List ℕ = unpadded a ++ s.padding in
     let parts : bytes ≡ front ++ rest = s.parts ∙ sym (append_assoc (unpadded a) s.padding rest) in
     let long : length front ≡ 4 + length a.value + length s.padding =
@@ -73,12 +73,12 @@ unfolding attributes_behind
 found_first [] rest a s = absurd (StartsWith-some [] rest a s refl)
 found_first (b ∷ bs) rest a s =
     let all : List ℕ = b ∷ bs in
-    let head : HeadIs all a = head_of_start all rest a s in
+    let head : HasPrefix all a = prefix_of_start all rest a s in
     let n : ℕ = number_in little_endian 2 all + fill (number_in little_endian 2 all) - 1 in
     let next : suc n ≡ number_in little_endian 2 all + fill (number_in little_endian 2 all) =
     omega (arith, word_is all a head) in
     let behind : drop n bs ≡ rest = ap (λ (k : ℕ). drop k all) next ∙ rest_is all rest a s in
-    let first : front_attribute all ≡ a = front_is all a head in
+    let first : leading_attribute all ≡ a = front_is all a head in
     let later : attributes_behind n bs ≡ attributes_behind 0 rest = behind_is n bs
     ∙ ap (attributes_behind 0) behind in
     λ i. first i ∷ later i
@@ -92,7 +92,7 @@ module _ {A : Type 0} (reads : Attribute → Result A DecodeError) where
   -- what the first one says comes first
   pub value_first : (bytes rest : List ℕ) (a : Attribute) (v : A) → StartsWith bytes a rest
       → reads a ≡ Ok v → values_in reads bytes ≡ v ∷ values_in reads rest
-  value_first bytes rest a v s says_v = rw (found_first bytes rest a s, says_v) refl
+  value_first bytes rest a v s reads_v = rw (found_first bytes rest a s, reads_v) refl
 
   -- what bytes mean is what is found in them
   pub values_are : (bytes : List ℕ) (attributes : List Attribute) (values : List A)
@@ -107,8 +107,8 @@ module _ {A : Type 0} (reads : Attribute → Result A DecodeError) where
   -- bytes with no fault mean what is found in them
   pub values_mean : (bytes : List ℕ) → IsBytes bytes → HasNoFault reads bytes
       → AttributesMean reads bytes (values_in reads bytes)
-  values_mean bytes typed clean =
-      elim (means_or_fault reads bytes typed) [
+  values_mean bytes in_range clean =
+      elim (means_or_fault reads bytes in_range) [
         | inl m ↦ subst (AttributesMean reads bytes) (sym (values_are bytes m.1.0 m.0 m.1.1 m.1.2))
             m.1
         | inr f ↦ absurd (clean.none f.0 f.1)
@@ -117,8 +117,8 @@ module _ {A : Type 0} (reads : Attribute → Result A DecodeError) where
   -- behind an attribute that says something there is no fault either
   pub rest_has_no_fault : (bytes rest : List ℕ) (a : Attribute) (v : A) → StartsWith bytes a rest
       → reads a ≡ Ok v → HasNoFault reads bytes → HasNoFault reads rest
-  rest_has_no_fault bytes rest a v s says_v clean =
-      record { none = λ e f. clean.none e (later_fault reads bytes rest a v e s says_v f) }
+  rest_has_no_fault bytes rest a v s reads_v clean =
+      record { none = λ e f. clean.none e (later_fault reads bytes rest a v e s reads_v f) }
 
   -- nor is there one in no bytes
   pub nothing_has_no_fault : HasNoFault reads []
@@ -126,20 +126,20 @@ module _ {A : Type 0} (reads : Attribute → Result A DecodeError) where
     none = λ e f. means_or_fault_apart reads [] [] e ([], refl, tt) f;
   }
 
-  -- no framing fault, and the attribute in front says something
+  -- no framing fault, and the first attribute decodes to something
   pub no_framing_fault : (bytes : List ℕ) (e : DecodeError) → HasNoFault reads bytes → bytes ≢ []
       → IsFramingFault bytes e → ⊥
   no_framing_fault bytes e clean some f = clean.none e (fault_here reads bytes e some (inl f))
 
-  pub front_says : (bytes rest : List ℕ) (a : Attribute) → HasNoFault reads bytes
+  pub first_is_accepted : (bytes rest : List ℕ) (a : Attribute) → HasNoFault reads bytes
       → StartsWith bytes a rest → IsOk (reads a)
-  front_says bytes rest a clean s = said (reads a) refl
+  first_is_accepted bytes rest a clean s = said (reads a) refl
     where
       said : (answer : Result A DecodeError) → reads a ≡ answer → IsOk answer
       said (Ok v) h = refl
       said (Err e) h = absurd (clean.none e
           (fault_here reads bytes e (StartsWith-some bytes rest a s)
-          (inr (a, head_of_start bytes rest a s, h))))
+          (inr (a, prefix_of_start bytes rest a s, h))))
 
 -- the value that was read is the one in the answer
 pub value_in_is : {A : Type 0} (answer : Result A DecodeError) (good : (e : DecodeError)
@@ -147,26 +147,27 @@ pub value_in_is : {A : Type 0} (answer : Result A DecodeError) (good : (e : Deco
 value_in_is (Ok v) good = refl
 value_in_is (Err e) good = absurd (good e refl)
 
-module _ (R : Reply) (bytes part : List ℕ) (same : part ≡ drop R.size bytes) where
+module _ (R : ResponseSpec) (bytes part : List ℕ) (same : part ≡ drop R.size bytes) where
   -- bytes whose header can be read, and behind it no fault, are accepted
-  pub reply_accepted : (h : R.header.Value) → R.header.reads tt bytes ≡ Ok h
-      → HasNoFault (says R.family) part → IsAccepted R bytes
-  reply_accepted h good clean = record {
+  pub response_accepted : (h : R.header.Value) → R.header.reads tt bytes ≡ Ok h
+      → HasNoFault (decodes R.attribute_set) part → IsAccepted R bytes
+  response_accepted h good clean = record {
     none = λ e refused. elim refused [
       | inl header ↦ cc (header, good)
-      | inr behind ↦ clean.none e (subst (λ (b : List ℕ). AttributeFault (says R.family) b e)
+      | inr behind ↦ clean.none e (subst (λ (b : List ℕ).
+          AttributeFault (decodes R.attribute_set) b e)
           (sym same) behind.2)
     ];
   }
 
   -- a fault behind such a header is that of the bytes
   pub behind_refused : (h : R.header.Value) (e : DecodeError) → R.header.reads tt bytes ≡ Ok h
-      → AttributeFault (says R.family) part e → (reply_codec R).refuses bytes tt e
+      → AttributeFault (decodes R.attribute_set) part e → (response_codec R).refuses bytes tt e
   behind_refused h e good f =
-      inr (h, good, subst (λ (b : List ℕ). AttributeFault (says R.family) b e) same f)
+      inr (h, good, subst (λ (b : List ℕ). AttributeFault (decodes R.attribute_set) b e) same f)
 
   -- behind the header of accepted bytes is no fault
-  pub behind_accepted : IsAccepted R bytes → HasNoFault (says R.family) part
+  pub behind_accepted : IsAccepted R bytes → HasNoFault (decodes R.attribute_set) part
   behind_accepted accepted = record {
     none = λ e f. accepted.none e
         (behind_refused _ e (value_in_is (R.header.reads tt bytes) (λ e h. accepted.none e (inl h)))
@@ -174,17 +175,18 @@ module _ (R : Reply) (bytes part : List ℕ) (same : part ≡ drop R.size bytes)
   }
 
 -- the reply in bytes that nothing refuses
-abbrev pub reply_in : (R : Reply) (bytes : List ℕ) → IsAccepted R bytes → ValueOf R
-reply_in R bytes accepted =
-    reply_behind R (value_in (R.header.reads tt bytes) (λ e h. accepted.none e (inl h)))
+abbrev pub response_in : (R : ResponseSpec) (bytes : List ℕ) → IsAccepted R bytes → ValueOf R
+response_in R bytes accepted =
+    response_behind R (value_in (R.header.reads tt bytes) (λ e h. accepted.none e (inl h)))
     (drop R.size bytes)
 
 -- accepted bytes mean it
-pub accepted_means : (R : Reply) (bytes : List ℕ) (accepted : IsAccepted R bytes) → IsBytes bytes
-    → (reply_codec R).reads bytes tt (reply_in R bytes accepted)
-accepted_means R bytes accepted typed = (
+pub accepted_means : (R : ResponseSpec) (bytes : List ℕ) (accepted : IsAccepted R bytes)
+    → IsBytes bytes
+    → (response_codec R).reads bytes tt (response_in R bytes accepted)
+accepted_means R bytes accepted in_range = (
   value_in_is (R.header.reads tt bytes) (λ e h. accepted.none e (inl h)),
-  values_mean (says R.family) (drop R.size bytes) (AreBytes-drop R.size bytes typed)
+  values_mean (decodes R.attribute_set) (drop R.size bytes) (AreBytes-drop R.size bytes in_range)
       (behind_accepted R bytes (drop R.size bytes) refl accepted),
 )
 
@@ -195,5 +197,5 @@ pub ruleset finding = (
   rest_has_no_fault,
   nothing_has_no_fault,
   no_framing_fault,
-  front_says,
+  first_is_accepted,
 )

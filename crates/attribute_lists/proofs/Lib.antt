@@ -2,7 +2,7 @@ pub mod Finding
 pub mod Checking
 pub mod Kept
 mod Elements
-mod SaidAttributes
+mod EncodedAttributes
 mod Counting
 mod Owning
 mod Emitting

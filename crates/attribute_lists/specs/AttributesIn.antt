@@ -6,25 +6,25 @@ use Rattle.std.specs.Result.{result_ok}
 use Rattle.netlink_core.specs.declared.fault.DecodeError.{DecodeError}
 use Rattle.netlink_core.specs.Attribute.{Attribute, AttributeFault, fill}
 use Rattle.netlink_core.specs.Table.{number_in, little_endian}
-use Rattle.netlink_core.specs.Family.{Family, says}
-use Rattle.netlink_core.specs.Reply.{Reply, ValueOf, reply_codec}
+use Rattle.netlink_core.specs.AttributeSet.{AttributeSet, decodes}
+use Rattle.netlink_core.specs.Response.{ResponseSpec, ValueOf, response_codec}
 
--- the attribute at the front of the bytes, by its two words
-abbrev pub front_attribute : List ℕ → Attribute
-front_attribute bytes = record { type_word = number_in little_endian 2 (drop 2 bytes); value = take (number_in little_endian 2 bytes - 4) (drop 4 bytes) }
+-- the attribute at the start of the bytes, by its two words
+abbrev pub leading_attribute : List ℕ → Attribute
+leading_attribute bytes = record { type_word = number_in little_endian 2 (drop 2 bytes); value = take (number_in little_endian 2 bytes - 4) (drop 4 bytes) }
 
 -- those behind the next so many bytes, each at the next multiple of four
 unfoldable pub attributes_behind : ℕ → List ℕ → List Attribute
 attributes_behind n [] = []
 attributes_behind zero (byte ∷ bytes) =
-    front_attribute (byte ∷ bytes) ∷ attributes_behind (number_in little_endian 2 (byte ∷ bytes) + fill (number_in little_endian 2 (byte ∷ bytes)) - 1) bytes
+    leading_attribute (byte ∷ bytes) ∷ attributes_behind (number_in little_endian 2 (byte ∷ bytes) + fill (number_in little_endian 2 (byte ∷ bytes)) - 1) bytes
 attributes_behind (suc n) (byte ∷ bytes) = attributes_behind n bytes
 
 -- no fault is in the bytes
 pub record HasNoFault {A : Type 0} (reads : Attribute → Result A DecodeError) (bytes : List ℕ) : Type 0 where
   pub none : (e : DecodeError) → AttributeFault reads bytes e → ⊥
 
--- what the attributes in bytes say, in order
+-- what the attributes in bytes decode to, in order
 abbrev pub values_in : {A : Type 0} → (Attribute → Result A DecodeError) → List ℕ → List A
 values_in reads bytes = filter_map (λ a. result_ok (reads a)) (attributes_behind 0 bytes)
 
@@ -34,13 +34,14 @@ value_in (Ok value) good = value
 value_in (Err e) good = absurd (good e refl)
 
 -- nothing refuses the bytes as a reply
-pub record IsAccepted (R : Reply) (bytes : List ℕ) : Type 0 where
-  pub none : (e : DecodeError) → (reply_codec R).refuses bytes tt e → ⊥
+pub record IsAccepted (R : ResponseSpec) (bytes : List ℕ) : Type 0 where
+  pub none : (e : DecodeError) → (response_codec R).refuses bytes tt e → ⊥
 
--- such a reply with attributes of that family
-abbrev pub reply_with : Reply → Family → Reply
-reply_with R F = record { header = R.header; size = R.size; family = F }
+-- such a reply with attributes of that set
+abbrev pub response_with : ResponseSpec → AttributeSet → ResponseSpec
+response_with R F = record { header = R.header; size = R.size; attribute_set = F }
 
--- the reply of a header's value, and what each attribute in the bytes behind it says
-abbrev pub reply_behind : (R : Reply) → R.header.Value → List ℕ → ValueOf R
-reply_behind R header bytes = record { header = header; nlas = values_in (says R.family) bytes }
+-- the reply of a header's value, and what each attribute in the bytes behind it decodes to
+abbrev pub response_behind : (R : ResponseSpec) → R.header.Value → List ℕ → ValueOf R
+response_behind R header bytes =
+    record { header = header; nlas = values_in (decodes R.attribute_set) bytes }

@@ -3,8 +3,8 @@
 ghost use Rattle.std.specs.Prelude.{◌≡◌, ◌+◌, ◌/◌, length, None, IfSome, Ok};
 ghost use Rattle.std.specs.Iterator.{UpTo, at_most};
 ghost use Rattle.std.specs.Iterator.SizeHint.{IsWithinCount};
-ghost use Rattle.netlink_core.specs.Attribute.{Attribute, FaultAtFront, StartsWith};
-ghost use Rattle.netlink_core.specs.Family.{says};
+ghost use Rattle.netlink_core.specs.Attribute.{Attribute, IsPrefixFault, StartsWith};
+ghost use Rattle.netlink_core.specs.AttributeSet.{decodes};
 ghost use Rattle.netlink_core.specs.Gives.{Gives};
 ghost use Rattle.netlink_core.specs.Walk.{bytes_left};
 
@@ -37,12 +37,13 @@ impl<'a, V> CheckedNlas<'a, V> {
 impl<'a, V: FamilyView<'a>> Iterator for CheckedNlas<'a, V> {
     type Item = Result<V, DecodeError>;
 
-    // What the attribute at the front of what was left says, of which the rest then stands behind
-    // its padding. Or the first fault there.
+    // What the attribute at the start of what was left decodes to, of which the rest then stands
+    // behind its padding. Or the first fault there.
     ghost next_gives = { λ old given new. Gives
         (λ left view later. (a : Attribute) × StartsWith left a later
-        × (says V.family a ≡ Ok (V.viewed view)))
-        (FaultAtFront (says V.family)) (bytes_left old.walk) given (bytes_left new.walk) };
+        × (decodes V.attribute_set a ≡ Ok (V.model view)))
+        (IsPrefixFault (decodes V.attribute_set)) (bytes_left old.walk) given
+        (bytes_left new.walk) };
 
     // At most one item for each four bytes, rounded up.
     ghost remaining = { λ nlas. at_most ((length (bytes_left nlas.walk) + 3) / 4) };

@@ -7,5 +7,5 @@ mod owned;
 mod views;
 
 pub use checked::CheckedNlas;
-pub use owned::{copy_nlas, emit_said, nlas_typed, own_nlas, said_len, said_len_within};
+pub use owned::{copy_nlas, emit_values, nlas_in_range, own_nlas, values_len, values_len_within};
 pub use views::{check_nlas, emit_views, next_view, views_len};

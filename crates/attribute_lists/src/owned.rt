@@ -4,7 +4,8 @@ ghost use Rattle.std.specs.Prelude.{◌≡◌, ◌≤◌, ◌++◌, ◌∷◌, [
 ghost use Rattle.std.specs.Prelude.{OnOk, OnErr, SomeIff};
 ghost use Rattle.std.specs.List.{AllByRecursion, flat_map};
 ghost use Rattle.netlink_core.specs.Attribute.{AreWritable, written};
-ghost use Rattle.netlink_core.specs.Family.{Said, says, attribute_said, IsSpareSaid, IsTypedSaid};
+ghost use Rattle.netlink_core.specs.AttributeSet.{AttributeValue, decodes, encodes};
+ghost use Rattle.netlink_core.specs.AttributeSet.{IsSpareBy, IsInRangeBy};
 ghost use Rattle.netlink_core.specs.Walk.{attribute_of};
 ghost use Rattle.attribute_lists.specs.AttributesIn.{HasNoFault, values_in};
 ghost use Rattle.smallvec.specs.SmallVec.{HasRoomFor};
@@ -17,9 +18,10 @@ use std::default::MadeWith;
 /// Equal attributes, in the same order.
 #[tactic(auto, using(std::proofs::lemmas::List::map_push))]
 pub fn copy_nlas<T: FamilyNla>(alloc: Global, nlas: &[T]) -> Result<SmallVec<T, 8>, AllocError>
-    ensures equal { IfOk result (λ copy. map T.seen copy.items ≡ map T.seen nlas.now) }
+    ensures equal { IfOk result (λ copy. map T.model copy.items ≡ map T.model nlas.now) }
     ensures spare { length nlas.now ≤ 8
-        → AllByRecursion (IsSpareSaid T.family) (map T.seen nlas.now) → IsOk result }
+        → AllByRecursion (IsSpareBy T.attribute_set) (map T.model nlas.now)
+        → IsOk result }
 {
     let mut copy = SmallVec::with_capacity(alloc, nlas.len())?;
     for nla in nlas {
@@ -40,12 +42,14 @@ pub fn own_nlas<T: FamilyNla>(
     count: usize,
     nlas: &mut SmallVec<T, 8>,
 ) -> Result<(), AllocError>
-    requires clean { HasNoFault (says T.family) bytes.now }
-    requires count { count ≡ length (values_in (says T.family) bytes.now) }
+    requires clean { HasNoFault (decodes T.attribute_set) bytes.now }
+    requires count { count ≡ length (values_in (decodes T.attribute_set) bytes.now) }
     requires empty { nlas.old.items ≡ [] }
-    ensures equal { OnOk result (map T.seen nlas.new.items ≡ values_in (says T.family) bytes.now) }
+    ensures equal { OnOk result (map T.model nlas.new.items
+        ≡ values_in (decodes T.attribute_set) bytes.now) }
     ensures spare { count ≤ nlas.old.capacity
-        → AllByRecursion (IsSpareSaid T.family) (values_in (says T.family) bytes.now)
+        → AllByRecursion (IsSpareBy T.attribute_set)
+        (values_in (decodes T.attribute_set) bytes.now)
         → IsOk result }
 {
     if count > nlas.capacity() {
@@ -68,14 +72,15 @@ fn push_accepted<T: FamilyNla>(
     nla: &NlaBuffer<'_>,
     nlas: &mut SmallVec<T, 8>,
 ) -> Result<(), AllocError>
-    requires accepted { IsOk (says T.family (attribute_of nla.now)) }
+    requires accepted { IsOk (decodes T.attribute_set (attribute_of nla.now)) }
     requires room { HasRoomFor nlas.old 1 }
     ensures pushed { OnOk result ((own : T) × (nlas.new.items ≡ nlas.old.items ++ own ∷ [])
-        × (says T.family (attribute_of nla.now) ≡ Ok (T.seen own))) }
+        × (decodes T.attribute_set (attribute_of nla.now) ≡ Ok (T.model own))) }
     ensures capacity { nlas.new.capacity ≡ nlas.old.capacity }
     ensures kept { OnErr result (nlas.new ≡ nlas.old) }
-    ensures spare { (said : Said T.family) → says T.family (attribute_of nla.now) ≡ Ok said
-        → IsSpareSaid T.family said → IsOk result }
+    ensures spare { (value : AttributeValue T.attribute_set)
+        → decodes T.attribute_set (attribute_of nla.now) ≡ Ok value
+        → IsSpareBy T.attribute_set value → IsOk result }
 {
     if T::is_large(nla) {
         nlas.push_reserved(T::own_accepted(alloc, nla)?);
@@ -101,38 +106,38 @@ fn make_room<T: MadeWith<Global> + Drop>(
 }
 
 /// Tells the prover that each attribute's numbers are within their types. It does nothing.
-pub fn nlas_typed<T: FamilyNla>(nlas: &[T])
-    ensures { AllByRecursion (IsTypedSaid T.family) (map T.seen nlas.now) }
+pub fn nlas_in_range<T: FamilyNla>(nlas: &[T])
+    ensures { AllByRecursion (IsInRangeBy T.attribute_set) (map T.model nlas.now) }
 {
     for nla in nlas {
-        nla.said_typed();
+        nla.value_in_range();
     }
 }
 
 /// How many bytes the attributes have as they are written, where each value fits and they have so
 /// many at most.
-pub fn said_len_within<T: FamilyNla>(nlas: &[T], limit: usize) -> Option<usize>
-    ensures { let attributes = map (attribute_said T.family) (map T.seen nlas.now) in
+pub fn values_len_within<T: FamilyNla>(nlas: &[T], limit: usize) -> Option<usize>
+    ensures { let attributes = map (encodes T.attribute_set) (map T.model nlas.now) in
         SomeIff result (AreWritable attributes limit) (length (flat_map written attributes)) }
 {
     nlas_len_within(nlas, limit)
 }
 
 /// How many bytes the attributes have as they are written.
-pub fn said_len<T: FamilyNla>(nlas: &[T]) -> usize
-    requires { AreWritable (map (attribute_said T.family) (map T.seen nlas.now)) 4294967295 }
+pub fn values_len<T: FamilyNla>(nlas: &[T]) -> usize
+    requires { AreWritable (map (encodes T.attribute_set) (map T.model nlas.now)) 4294967295 }
     ensures { result ≡ length
-        (flat_map written (map (attribute_said T.family) (map T.seen nlas.now))) }
+        (flat_map written (map (encodes T.attribute_set) (map T.model nlas.now))) }
 {
     nlas_len(nlas)
 }
 
-/// Writes the attributes one after the other at the front of the buffer, and leaves the rest.
-pub fn emit_said<T: FamilyNla>(nlas: &[T], buffer: &mut [u8])
-    requires fits { AreWritable (map (attribute_said T.family) (map T.seen nlas.now)) 4294967295 }
-    requires room { length (flat_map written (map (attribute_said T.family) (map T.seen nlas.now)))
+/// Writes the attributes one after the other at the start of the buffer, and leaves the rest.
+pub fn emit_values<T: FamilyNla>(nlas: &[T], buffer: &mut [u8])
+    requires fits { AreWritable (map (encodes T.attribute_set) (map T.model nlas.now)) 4294967295 }
+    requires room { length (flat_map written (map (encodes T.attribute_set) (map T.model nlas.now)))
         ≤ length buffer.old }
-    ensures { let all = flat_map written (map (attribute_said T.family) (map T.seen nlas.now)) in
+    ensures { let all = flat_map written (map (encodes T.attribute_set) (map T.model nlas.now)) in
         buffer.new ≡ all ++ drop (length all) buffer.old }
 {
     emit_nlas(nlas, buffer);

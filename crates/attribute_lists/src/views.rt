@@ -6,20 +6,20 @@ ghost use Rattle.std.specs.List.{AllByRecursion, flat_map};
 ghost use Rattle.std.specs.Iterator.{YieldsFirstBy};
 ghost use Rattle.netlink_core.specs.Attribute.{AreWritable, AttributeFault, HasFittingValue};
 ghost use Rattle.netlink_core.specs.Attribute.{written};
-ghost use Rattle.netlink_core.specs.Family.{says, attribute_said};
+ghost use Rattle.netlink_core.specs.AttributeSet.{decodes, encodes};
 ghost use Rattle.netlink_core.specs.Walk.{bytes_left};
 ghost use Rattle.attribute_lists.specs.AttributesIn.{HasNoFault, values_in};
 
 use netlink_core::{DecodeError, FamilyView, NlasIterator, emit_nla, nla_len};
 
-/// Reads each attribute and counts them, or tells the first fault. It takes no memory.
+/// Reads each attribute and counts them, or returns the first fault. It takes no memory.
 #[tactic(auto, using(crate::proofs::Counting::counting))]
 #[inline(always)]
 pub fn check_nlas<'a, V: FamilyView<'a> + Drop>(bytes: &'a [u8]) -> Result<usize, DecodeError>
-    ensures clean { OnOk result (HasNoFault (says V.family) bytes.entry.now) }
+    ensures clean { OnOk result (HasNoFault (decodes V.attribute_set) bytes.entry.now) }
     ensures count { IfOk result
-        (λ count. count ≡ length (values_in (says V.family) bytes.entry.now)) }
-    ensures fault { IfErr result (AttributeFault (says V.family) bytes.entry.now) }
+        (λ count. count ≡ length (values_in (decodes V.attribute_set) bytes.entry.now)) }
+    ensures fault { IfErr result (AttributeFault (decodes V.attribute_set) bytes.entry.now) }
 {
     let mut count = 0;
     for item in NlasIterator::new(bytes) {
@@ -33,10 +33,11 @@ pub fn check_nlas<'a, V: FamilyView<'a> + Drop>(bytes: &'a [u8]) -> Result<usize
 #[tactic(auto, using(crate::proofs::Finding::finding))]
 #[inline(always)]
 pub fn next_view<'a, V: FamilyView<'a>>(walk: &mut NlasIterator<'a>) -> Option<V>
-    requires { HasNoFault (says V.family) (bytes_left walk.old) }
-    ensures next { YieldsFirstBy V.viewed (λ s. values_in (says V.family) (bytes_left s)) walk.old
+    requires { HasNoFault (decodes V.attribute_set) (bytes_left walk.old) }
+    ensures next { YieldsFirstBy V.model (λ s.
+        values_in (decodes V.attribute_set) (bytes_left s)) walk.old
         result walk.new }
-    ensures rest { HasNoFault (says V.family) (bytes_left walk.new) }
+    ensures rest { HasNoFault (decodes V.attribute_set) (bytes_left walk.new) }
 {
     match walk.next() {
         None => None,
@@ -48,14 +49,14 @@ pub fn next_view<'a, V: FamilyView<'a>>(walk: &mut NlasIterator<'a>) -> Option<V
 /// How many bytes a header of so many and the attributes behind it are written as, where each value
 /// fits and all of it has at most 4,294,967,295 bytes.
 pub fn views_len<'a, V: FamilyView<'a> + Drop>(header: usize, bytes: &'a [u8]) -> Option<usize>
-    requires clean { HasNoFault (says V.family) bytes.now }
+    requires clean { HasNoFault (decodes V.attribute_set) bytes.now }
     requires small { header ≤ 4294967295 }
-    ensures fits { let attributes = map (attribute_said V.family)
-        (values_in (says V.family) bytes.entry.now) in
+    ensures fits { let attributes = map (encodes V.attribute_set)
+        (values_in (decodes V.attribute_set) bytes.entry.now) in
         IsSome result ↔ (AllByRecursion HasFittingValue attributes
         × (header + length (flat_map written attributes) ≤ 4294967295)) }
-    ensures len { let attributes = map (attribute_said V.family)
-        (values_in (says V.family) bytes.entry.now) in
+    ensures len { let attributes = map (encodes V.attribute_set)
+        (values_in (decodes V.attribute_set) bytes.entry.now) in
         IfSome result (λ len. len ≡ header + length (flat_map written attributes)) }
 {
     let mut len = header;
@@ -72,17 +73,18 @@ pub fn views_len<'a, V: FamilyView<'a> + Drop>(header: usize, bytes: &'a [u8]) -
     Some(len)
 }
 
-/// Writes the attributes one after the other at the front of the buffer, and leaves the rest.
+/// Writes the attributes one after the other at the start of the buffer, and leaves the rest.
 pub fn emit_views<'a, V: FamilyView<'a> + Drop>(bytes: &'a [u8], buffer: &mut [u8])
-    requires clean { HasNoFault (says V.family) bytes.now }
+    requires clean { HasNoFault (decodes V.attribute_set) bytes.now }
     requires fits { AreWritable
-        (map (attribute_said V.family) (values_in (says V.family) bytes.now)) 4294967295 }
+        (map (encodes V.attribute_set) (values_in (decodes V.attribute_set) bytes.now)) 4294967295 }
     requires room { length (flat_map written
-        (map (attribute_said V.family) (values_in (says V.family) bytes.now))) ≤ length buffer.old }
+        (map (encodes V.attribute_set) (values_in (decodes V.attribute_set) bytes.now)))
+        ≤ length buffer.old }
     ensures { buffer.new ≡ flat_map written
-        (map (attribute_said V.family) (values_in (says V.family) bytes.entry.now))
+        (map (encodes V.attribute_set) (values_in (decodes V.attribute_set) bytes.entry.now))
         ++ drop (length (flat_map written
-        (map (attribute_said V.family) (values_in (says V.family) bytes.entry.now))))
+        (map (encodes V.attribute_set) (values_in (decodes V.attribute_set) bytes.entry.now))))
         buffer.old }
 {
     let mut at = 0;

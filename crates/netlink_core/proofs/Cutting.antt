@@ -8,23 +8,23 @@ use Rattle.std.specs.List.{AllZip, AllByRecursion, flat_map}
 use Rattle.byteorder.specs.Endian.{little_bytes}
 use Rattle.netlink_core.specs.declared.fault.DecodeError.{DecodeError}
 use Rattle.netlink_core.specs.Bytes.{IsBytes}
-use Rattle.netlink_core.specs.Attribute.{Attribute, IsTypedAttribute, FitsWords, fill, unpadded}
-use Rattle.netlink_core.specs.Attribute.{written, StartsWith, Cut, CutInFull, FaultAtFront}
+use Rattle.netlink_core.specs.Attribute.{Attribute, IsAttributeInRange, FitsWords, fill, unpadded}
+use Rattle.netlink_core.specs.Attribute.{written, StartsWith, Cut, CutInFull, IsPrefixFault}
 use Rattle.netlink_core.specs.Attribute.{AttributesMean, AttributeFault}
 use Rattle.netlink_core.specs.ByteLaws.{IsBytes-nil, IsBytes-append, IsBytes-left, IsBytes-right}
-use Rattle.netlink_core.specs.FrontLaws.{same_parts, one_head, written_typed, word_is}
-use Rattle.netlink_core.specs.FrontLaws.{head_or_fault_apart, head_or_fault, value_or_reason}
-use Rattle.netlink_core.specs.FrontLaws.{one_fault_at_front}
-use Rattle.netlink_core.proofs.Front.{starts_with}
-use Rattle.netlink_core.proofs.Walking.{StartsWith-some, head_of_start, later_fault, fault_here}
+use Rattle.netlink_core.specs.PrefixLaws.{same_parts, one_prefix, written_in_range, word_is}
+use Rattle.netlink_core.specs.PrefixLaws.{prefix_or_fault_apart, prefix_or_fault, value_or_reason}
+use Rattle.netlink_core.specs.PrefixLaws.{one_prefix_fault}
+use Rattle.netlink_core.proofs.Padding.{starts_with}
+use Rattle.netlink_core.proofs.Walking.{StartsWith-some, prefix_of_start, later_fault, fault_here}
 
 -- ---- one cut
 
--- the attribute in front and the rest behind it are fixed by the bytes
+-- the first attribute and the rest behind it are fixed by the bytes
 pub one_start : (bytes rest after : List ℕ) (a b : Attribute) → StartsWith bytes a rest
     → StartsWith bytes b after → (a ≡ b) × (rest ≡ after)
 one_start bytes rest after a b s t =
-    let heads = one_head a b (s.padding ++ rest) (t.padding ++ after) s.fits t.fits (sym s.parts
+    let heads = one_prefix a b (s.padding ++ rest) (t.padding ++ after) s.fits t.fits (sym s.parts
     ∙ t.parts) in
     let fills : fill (length a.value) ≡ fill (length b.value) =
     ap (λ (x : Attribute). fill (length x.value)) heads.0 in
@@ -80,28 +80,28 @@ written_is_cut (x ∷ xs) fits = (
   written_is_cut xs fits.1,
 )
 
--- ---- attributes in bytes are typed
+-- ---- attributes in bytes are in range
 
 -- the bytes of written attributes
-pub all_written_typed : (xs : List Attribute) → AllByRecursion IsTypedAttribute xs
+pub all_written_in_range : (xs : List Attribute) → AllByRecursion IsAttributeInRange xs
     → IsBytes (flat_map written xs)
-all_written_typed [] typed = IsBytes-nil
-all_written_typed (x ∷ xs) typed = IsBytes-append (written x) (flat_map written xs)
-    (written_typed x typed.0) (all_written_typed xs typed.1)
+all_written_in_range [] in_range = IsBytes-nil
+all_written_in_range (x ∷ xs) in_range = IsBytes-append (written x) (flat_map written xs)
+    (written_in_range x in_range.0) (all_written_in_range xs in_range.1)
 
 -- the attributes that bytes are cut into
-pub cut_typed : (bytes : List ℕ) (xs : List Attribute) → IsBytes bytes → Cut bytes xs
-    → AllByRecursion IsTypedAttribute xs
-cut_typed bytes [] typed h = tt
-cut_typed bytes (x ∷ xs) typed h =
-    let whole : IsBytes (unpadded x ++ (h.1.padding ++ h.0)) = subst IsBytes h.1.parts typed in
+pub cut_in_range : (bytes : List ℕ) (xs : List Attribute) → IsBytes bytes → Cut bytes xs
+    → AllByRecursion IsAttributeInRange xs
+cut_in_range bytes [] in_range h = tt
+cut_in_range bytes (x ∷ xs) in_range h =
+    let whole : IsBytes (unpadded x ++ (h.1.padding ++ h.0)) = subst IsBytes h.1.parts in_range in
     let head : IsBytes (unpadded x) = IsBytes-left (unpadded x) (h.1.padding ++ h.0) whole in
     let behind : IsBytes (h.1.padding ++ h.0) = IsBytes-right (unpadded x) (h.1.padding ++ h.0)
     whole in
     let value : IsBytes x.value = IsBytes-right (little_bytes 2 x.type_word) x.value
     (IsBytes-right (little_bytes 2 (4 + length x.value)) (little_bytes 2 x.type_word ++ x.value)
     head) in
-    ((h.1.fits.0, value), cut_typed h.0 xs (IsBytes-right h.1.padding h.0 behind) h.2)
+    ((h.1.fits.0, value), cut_in_range h.0 xs (IsBytes-right h.1.padding h.0 behind) h.2)
 
 -- ---- no fault where bytes are cut
 
@@ -142,13 +142,13 @@ module _ {A : Type 0} (reads : Attribute → Result A DecodeError) where
 
   -- an attribute that can be read has no fault
   no_fault_at_value : (bytes rest : List ℕ) (a : Attribute) (e : DecodeError)
-      → StartsWith bytes a rest → IsOk (reads a) → FaultAtFront reads bytes e → ⊥
+      → StartsWith bytes a rest → IsOk (reads a) → IsPrefixFault reads bytes e → ⊥
   no_fault_at_value bytes rest a e start good f =
-      let own = head_of_start bytes rest a start in
+      let own = prefix_of_start bytes rest a start in
       elim f [
-        | inl framing ↦ head_or_fault_apart bytes a e own framing
+        | inl framing ↦ prefix_or_fault_apart bytes a e own framing
         | inr refused ↦
-            let same = one_head refused.0 a refused.1.0 own.0 refused.1.2 own.2 (sym refused.1.1
+            let same = one_prefix refused.0 a refused.1.0 own.0 refused.1.2 own.2 (sym refused.1.1
             ∙ own.1) in
             let bad : reads a ≡ Err e = subst (λ (x : Attribute). reads x ≡ Err e) same.0
             refused.2 in
@@ -158,7 +158,7 @@ module _ {A : Type 0} (reads : Attribute → Result A DecodeError) where
 
   -- at a fault nothing is cut
   no_cut_at_fault : (after : List ℕ) (later : List Attribute) (values : List A) (e : DecodeError)
-      → after ≢ [] → FaultAtFront reads after e → Cut after later
+      → after ≢ [] → IsPrefixFault reads after e → Cut after later
       → AllZip (λ a value. reads a ≡ Ok value) later values → ⊥
   no_cut_at_fault after [] values e some f k h = some k
   no_cut_at_fault after (x ∷ later) [] e some f k h = h
@@ -190,7 +190,7 @@ module _ {A : Type 0} (reads : Attribute → Result A DecodeError) where
   means_or_fault_of (suc n) (b ∷ bytes) le fits =
       let all : List ℕ = b ∷ bytes in
       let some : all ≢ [] = λ e. cc in
-      elim (head_or_fault all fits) [
+      elim (prefix_or_fault all fits) [
         | inr f ↦ inr (f.0, fault_here reads all f.0 some (inl f.1))
         | inl h ↦
             let a : Attribute = h.0 in
@@ -225,26 +225,26 @@ module _ {A : Type 0} (reads : Attribute → Result A DecodeError) where
       (e f : DecodeError) → bytes ≡ before ++ after → bytes ≡ before' ++ after'
       → CutInFull before front → CutInFull before' front'
       → AllByRecursion (λ a. IsOk (reads a)) front → AllByRecursion (λ a. IsOk (reads a)) front'
-      → FaultAtFront reads after e → FaultAtFront reads after' f → e ≡ f
+      → IsPrefixFault reads after e → IsPrefixFault reads after' f → e ≡ f
   one_fault_of bytes before after before' after' [] [] e f parts parts' cut cut' good good' h k =
       let here : after ≡ bytes = sym (parts ∙ ap (λ (b : List ℕ). b ++ after) cut) in
       let there : after' ≡ bytes = sym (parts' ∙ ap (λ (b : List ℕ). b ++ after') cut') in
-      one_fault_at_front reads bytes e f (subst (λ (b : List ℕ). FaultAtFront reads b e) here h)
-      (subst (λ (b : List ℕ). FaultAtFront reads b f) there k)
+      one_prefix_fault reads bytes e f (subst (λ (b : List ℕ). IsPrefixFault reads b e) here h)
+      (subst (λ (b : List ℕ). IsPrefixFault reads b f) there k)
   one_fault_of bytes before after before' after' [] (a ∷ front') e f parts parts' cut cut' good
       good' h k =
       let here : after ≡ before' ++ after' = sym (parts ∙ ap (λ (b : List ℕ). b ++ after) cut)
       ∙ parts' in
       absurd (no_fault_at_value reads (before' ++ after') (cut'.1 ++ after') a e
       (front_start before' after' a front' cut') good'.0
-      (subst (λ (b : List ℕ). FaultAtFront reads b e) here h))
+      (subst (λ (b : List ℕ). IsPrefixFault reads b e) here h))
   one_fault_of bytes before after before' after' (a ∷ front) [] e f parts parts' cut cut' good good'
       h k =
       let there : after' ≡ before ++ after = sym (parts' ∙ ap (λ (b : List ℕ). b ++ after') cut')
       ∙ parts in
       absurd (no_fault_at_value reads (before ++ after) (cut.1 ++ after) a f
       (front_start before after a front cut) good.0
-      (subst (λ (b : List ℕ). FaultAtFront reads b f) there k))
+      (subst (λ (b : List ℕ). IsPrefixFault reads b f) there k))
   one_fault_of bytes before after before' after' (a ∷ front) (b ∷ front') e f parts parts' cut cut'
       good good' h k =
       let other : StartsWith (before ++ after) b (cut'.1 ++ after') =

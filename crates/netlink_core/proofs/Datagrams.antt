@@ -1,4 +1,4 @@
--- A message at the front of bytes, and messages one after the other.
+-- A message at the start of bytes, and messages one after the other.
 use Rattle.std.proofs.Common.{◌≡◌, ℕ, ◌+◌, ◌-◌, ◌<◌, ◌≤◌, inl, inr, List, [], ◌∷◌, ◌++◌, length}
 use Rattle.std.proofs.Common.{take, drop, refl, sym, ap, subst, ◌∙◌, append_assoc, arith}
 use Rattle.std.specs.Prelude.{Option, Some, None}
@@ -29,9 +29,9 @@ same_parts (x ∷ xs) (y ∷ ys) s t len e =
     (cc, rest.1)
 
 -- the length word stands in the first four bytes
-word_in_front : (n : ℕ) (bytes : List ℕ) → 4 ≤ n → little_number 4 (take n bytes) ≡ little_number 4
+leading_word : (n : ℕ) (bytes : List ℕ) → 4 ≤ n → little_number 4 (take n bytes) ≡ little_number 4
     bytes
-word_in_front n bytes long =
+leading_word n bytes long =
     sym (number-take little_endian 4 (take n bytes))
     ∙ ap (little_number 4) (take-take 4 n bytes long) ∙ number-take little_endian 4 bytes
 
@@ -49,7 +49,7 @@ starts_with_message bytes message rest h end head message-is end-is rest-is =
     ∙ omega (arith, length-take h.length bytes) in
     let word : little_number 4 bytes ≡ h.length = header_length bytes h head in
     let own : little_number 4 message ≡ little_number 4 bytes = ap (little_number 4) message-is
-    ∙ word_in_front h.length bytes (omega arith) in
+    ∙ leading_word h.length bytes (omega arith) in
     let n : ℕ = end - h.length in
     let tail : List ℕ = drop h.length bytes in
     let rest-at : rest ≡ drop n tail = rest-is ∙ ap (λ (k : ℕ). drop k bytes) (omega arith)
@@ -79,7 +79,7 @@ message_word bytes message rest s =
     let front : take (length message) bytes ≡ message = ap (take (length message)) s.parts
     ∙ take_at message (s.padding ++ rest) (length message) refl in
     let own : little_number 4 bytes ≡ little_number 4 message =
-    sym (word_in_front (length message) bytes (omega arith)) ∙ ap (little_number 4) front in (
+    sym (leading_word (length message) bytes (omega arith)) ∙ ap (little_number 4) front in (
       own ∙ s.whole.1,
       low,
       omega (
@@ -143,12 +143,13 @@ one_message bytes m n rest after s t =
 -- ---- messages in a row
 
 -- what whole messages and then more bytes are cut into
-pub messages_in_a_row : (front back : List ℕ) (xs ys : List (List ℕ)) (end : Option DecodeError)
+pub messages_of_concatenation : (front back : List ℕ) (xs ys : List (List ℕ))
+    (end : Option DecodeError)
     → AreWholeMessages front xs → CutIntoMessages back ys end
     → CutIntoMessages (front ++ back) (xs ++ ys) end
-messages_in_a_row front back [] ys end h k =
+messages_of_concatenation front back [] ys end h k =
     subst (λ (b : List ℕ). CutIntoMessages (b ++ back) ys end) (sym h.0) k
-messages_in_a_row front back (x ∷ xs) ys end h k =
+messages_of_concatenation front back (x ∷ xs) ys end h k =
     let rest : List ℕ = h.0.0 in
     let s = h.0.1 in
     let long : length front ≡ length x + (length s.padding + length rest) = ap length s.parts
@@ -165,7 +166,7 @@ messages_in_a_row front back (x ∷ xs) ys end h k =
           whole = s.whole;
           filled = inl full;
         },
-        messages_in_a_row rest back xs ys end (h.0.2, omega (arith, long, full, h.1)) k,
+        messages_of_concatenation rest back xs ys end (h.0.2, omega (arith, long, full, h.1)) k,
       )
       | inr short ↦
           let none : length rest ≡ 0 = ap length short.1 in

@@ -1,4 +1,4 @@
--- A message at the front of bytes: one of it, or one fault.
+-- A message at the start of bytes: one of it, or one fault.
 use Rattle.std.proofs.Common.{cond, ltb, ◌≡◌, ◌∙◌, ℕ, ◌-◌, ◌<◌, ◌≤◌, ◌⊎◌, inl, inr, List, length}
 use Rattle.std.proofs.Common.{take, drop, refl, sym, ap, subst, arith}
 use Rattle.std.specs.Prelude.{Option, Some, None}
@@ -26,8 +26,8 @@ pub payload_there : (b : List ℕ) (h : NetlinkHeader) → HasHeader b h
 payload_there b h head = ap (λ (n : ℕ). take (n - 16) (drop 16 b)) (header_length b h head)
 
 -- in bytes it is bytes
-pub payload_typed : (n : ℕ) (b : List ℕ) → IsBytes b → IsBytes (take (n - 16) (drop 16 b))
-payload_typed n b tb = AreBytes-take (n - 16) (drop 16 b) (AreBytes-drop 16 b tb)
+pub payload_in_range : (n : ℕ) (b : List ℕ) → IsBytes b → IsBytes (take (n - 16) (drop 16 b))
+payload_in_range n b tb = AreBytes-take (n - 16) (drop 16 b) (AreBytes-drop 16 b tb)
 
 -- a fault of the inner message is one of the whole message
 pub fault_within : (C : Codec ℕ) (bytes : List ℕ) (h : NetlinkHeader) (e : DecodeError)
@@ -118,7 +118,7 @@ module _ (C : Codec ℕ) where
         let x : List ℕ = take (h.length - 16) (drop 16 b) in
         elim (of_kept_type C.reads x h.message_type) [
           | inr kept ↦ inl (record { header = h; payload = kept.0 }, (found.1, kept.1))
-          | inl kind ↦ elim (law x h.message_type (payload_typed h.length b tb)) [
+          | inl kind ↦ elim (law x h.message_type (payload_in_range h.length b tb)) [
             | inl answer ↦ inl (
               record { header = h; payload = inner answer.0 },
               (found.1, (kind, answer.1)),

@@ -12,7 +12,7 @@ use Rattle.netlink_core.specs.declared.fault.DecodeError.TheVariants.{EnvelopeLe
 use Rattle.netlink_core.specs.Bytes.{IsBytes}
 use Rattle.netlink_core.specs.ByteLaws.{IsBytes-left}
 use Rattle.netlink_core.specs.Table.{values_of, Fit}
-use Rattle.netlink_core.specs.Header.{header_rows, header_values, header_bytes, IsTypedHeader}
+use Rattle.netlink_core.specs.Header.{header_fields, header_values, header_bytes, IsHeaderInRange}
 use Rattle.netlink_core.specs.Header.{HasHeader, IsEnvelopeFault}
 use Rattle.netlink_core.proofs.Numbers.{masked-all}
 use Rattle.netlink_core.proofs.TableLaws.{IsTable, table_from_test, values-bytes_of, values-fit}
@@ -23,15 +23,15 @@ pub AreBytes-take : (n : ℕ) (bytes : List ℕ) → IsBytes bytes → IsBytes (
 AreBytes-take n bytes fits =
     IsBytes-left (take n bytes) (drop n bytes) (subst IsBytes (sym (take-append-drop n bytes)) fits)
 
--- the five rows are sixteen bytes
-header_table : IsTable 0 header_rows 16
-header_table = table_from_test 0 header_rows 16 refl
+-- the five fields are sixteen bytes
+header_table : IsTable 0 header_fields 16
+header_table = table_from_test 0 header_fields 16 refl
 
 -- a number in the slice from a place on is the one at that place
-there : (bytes : List ℕ) (width place n : ℕ)
-    → n ≡ little_number width (take (length bytes - place) (drop place bytes))
-    → little_number width (drop place bytes) ≡ n
-there bytes width place n is = sym (is ∙ ap (little_number width) (take_rest bytes place))
+there : (bytes : List ℕ) (width offset n : ℕ)
+    → n ≡ little_number width (take (length bytes - offset) (drop offset bytes))
+    → little_number width (drop offset bytes) ≡ n
+there bytes width offset n is = sym (is ∙ ap (little_number width) (take_rest bytes offset))
 
 -- what is read from the five places is the header
 pub header_read : (bytes : List ℕ) (h : NetlinkHeader) → IsBytes bytes
@@ -46,10 +46,10 @@ header_read bytes h fits length-is type-is flags-is sequence-is port-is low high
     let flags = there bytes 2 6 h.flags flags-is in
     let sequences = there bytes 4 8 h.sequence_number sequence-is in
     let ports = there bytes 4 12 h.port_number port-is in
-    let same : values_of header_rows bytes ≡ header_values h = λ i. sym length-is i ∷ types i
+    let same : values_of header_fields bytes ≡ header_values h = λ i. sym length-is i ∷ types i
     ∷ flags i ∷ sequences i ∷ ports i ∷ [] in (
       same,
-      subst (λ (vs : List ℕ). Fit header_rows vs) same (values-fit header_rows bytes fits),
+      subst (λ (vs : List ℕ). Fit header_fields vs) same (values-fit header_fields bytes fits),
       low,
       high,
     )
@@ -74,7 +74,7 @@ header_or_fault bytes fits = elim (cases_lt (length bytes) 16) [
           sequence_number = little_number 4 (drop 8 bytes);
           port_number = little_number 4 (drop 12 bytes);
         },
-        (refl, values-fit header_rows bytes fits, low, high),
+        (refl, values-fit header_fields bytes fits, low, high),
       )
     ]
   ]
@@ -104,41 +104,42 @@ pub one_header : (bytes : List ℕ) (h k : NetlinkHeader) → HasHeader bytes h 
 one_header bytes h k head other = same_header h k (sym head.0 ∙ other.0)
 
 -- headers are equal exactly where the first sixteen bytes are
-pub same_front : (b c : List ℕ) (h k : NetlinkHeader) → IsBytes b → IsBytes c → HasHeader b h
+pub same_leading_header : (b c : List ℕ) (h k : NetlinkHeader) → IsBytes b → IsBytes c
+    → HasHeader b h
     → HasHeader c k → ((h ≡ k) ↔ (take 16 b ≡ take 16 c))
-same_front b c h k tb tc head other =
+same_leading_header b c h k tb tc head other =
     let long : 16 ≤ length b = omega (arith, head.2, head.3) in
     let also : 16 ≤ length c = omega (arith, other.2, other.3) in (
-      λ e. sym (masked-all 16 b tb) ∙ same_live 0 header_rows 16 b c header_table tb tc long also
+      λ e. sym (masked-all 16 b tb) ∙ same_live 0 header_fields 16 b c header_table tb tc long also
           (head.0 ∙ ap header_values e ∙ sym other.0) ∙ masked-all 16 c tc,
-      λ e. same_header h k (sym head.0 ∙ same_values 0 header_rows 16 b c header_table tb tc long
+      λ e. same_header h k (sym head.0 ∙ same_values 0 header_fields 16 b c header_table tb tc long
           also (masked-all 16 b tb ∙ e ∙ sym (masked-all 16 c tc)) ∙ other.0),
     )
 
 -- written, the fields are read again, whatever follows
-values_back : (h : NetlinkHeader) (rest : List ℕ) → IsTypedHeader h
-    → values_of header_rows (header_bytes h ++ rest) ≡ header_values h
-values_back h rest typed = values-bytes_of 0 header_rows 16 (header_values h)
-    (header_bytes h ++ rest) rest header_table typed tt refl
+values_back : (h : NetlinkHeader) (rest : List ℕ) → IsHeaderInRange h
+    → values_of header_fields (header_bytes h ++ rest) ≡ header_values h
+values_back h rest in_range = values-bytes_of 0 header_fields 16 (header_values h)
+    (header_bytes h ++ rest) rest header_table in_range tt refl
 
--- so typed headers are known by their bytes
-pub known_by_bytes : (h k : NetlinkHeader) → IsTypedHeader h → IsTypedHeader k
+-- so headers in range are known by their bytes
+pub known_by_bytes : (h k : NetlinkHeader) → IsHeaderInRange h → IsHeaderInRange k
     → header_bytes h ≡ header_bytes k → h ≡ k
 known_by_bytes h k th tk e =
     same_header h k (sym (values_back h [] th)
-    ∙ ap (λ (b : List ℕ). values_of header_rows (b ++ [])) e ∙ values_back k [] tk)
+    ∙ ap (λ (b : List ℕ). values_of header_fields (b ++ [])) e ∙ values_back k [] tk)
 
 -- in front of its payload and more bytes a header stands, and behind it its payload
-pub header_stands : (h : NetlinkHeader) (payload rest : List ℕ) → IsTypedHeader h
+pub header_stands : (h : NetlinkHeader) (payload rest : List ℕ) → IsHeaderInRange h
     → h.length ≡ 16 + length payload
     → HasHeader (header_bytes h ++ (payload ++ rest)) h
     × (take (h.length - 16) (drop 16 (header_bytes h ++ (payload ++ rest))) ≡ payload)
-header_stands h payload rest typed size =
+header_stands h payload rest in_range size =
     let all : length (header_bytes h ++ (payload ++ rest)) ≡ 16 + length (payload ++ rest) =
     length-append (header_bytes h) (payload ++ rest) in (
       (
-        values_back h (payload ++ rest) typed,
-        typed,
+        values_back h (payload ++ rest) in_range,
+        in_range,
         omega (arith, size),
         omega (arith, size, all, length-append payload rest),
       ),

@@ -6,14 +6,15 @@ use Rattle.std.proofs.lemmas.List.{append-nil}
 use Rattle.netlink_core.specs.declared.header.NetlinkHeader.{NetlinkHeader}
 use Rattle.byteorder.specs.Endian.{little_number}
 use Rattle.netlink_core.specs.Bytes.{IsBytes}
-use Rattle.netlink_core.specs.Header.{IsTypedHeader, HasHeader, header_bytes}
+use Rattle.netlink_core.specs.Header.{IsHeaderInRange, HasHeader, header_bytes}
 use Rattle.netlink_core.specs.Envelope.{Payload, done_with, error_with, no_payload, overrun_with}
 use Rattle.netlink_core.specs.Envelope.{inner, Envelope, IsInnerType, PayloadIs, payload_bytes}
 use Rattle.netlink_core.specs.Envelope.{payload_type, OfInner, finalized, payload_at, IdlePayloads}
 use Rattle.netlink_core.specs.Envelope.{envelope_codec}
 use Rattle.netlink_core.specs.Codec.{Codec}
-use Rattle.netlink_core.proofs.Headers.{header_stands, header_type, known_by_bytes, same_front}
-use Rattle.netlink_core.proofs.Framing.{payload_there, payload_typed}
+use Rattle.netlink_core.proofs.Headers.{header_stands, header_type, known_by_bytes}
+use Rattle.netlink_core.proofs.Headers.{same_leading_header}
+use Rattle.netlink_core.proofs.Framing.{payload_there, payload_in_range}
 
 -- the type where one payload alone belongs to it, or 0 where an inner message does
 abbrev kind_under : ℕ → ℕ
@@ -157,8 +158,8 @@ module _ (C : Codec ℕ) where
       s.1 in
       let same : v.payload ≡ w.payload =
       payloads_alike C.reads C.written C.fits v.header.message_type x y
-      (λ m n. law x y v.header.message_type m n (payload_typed v.header.length b tb)
-      (payload_typed w.header.length c tc))
+      (λ m n. law x y v.header.message_type m n (payload_in_range v.header.length b tb)
+      (payload_in_range w.header.length c tc))
       v.payload w.payload r.1 read fv fw (ap (drop 16) e) in
       λ z. record { header = headers z; payload = same z }
 
@@ -176,13 +177,13 @@ module _ (C : Codec ℕ) where
       λ e. subst (λ (h : NetlinkHeader). PayloadIs C.reads y h.message_type w.payload) (sym e)
       s.1 in
       let payloads = λ (e : v.header ≡ w.header). payloads_idle C.reads C.idle t x y
-      (λ m n. law x y t m n (payload_typed v.header.length b tb)
-      (payload_typed w.header.length c tc)) v.payload w.payload r.1 (read e) in
+      (λ m n. law x y t m n (payload_in_range v.header.length b tb)
+      (payload_in_range w.header.length c tc)) v.payload w.payload r.1 (read e) in
       let there : IdlePayloads C.idle (little_number 2 (drop 4 b)) (payload_at b) (payload_at c)
       ≡ IdlePayloads C.idle t x y =
       λ i. IdlePayloads C.idle (header_type b v.header r.0 i) (payload_there b v.header r.0 i)
       (payload_there c w.header s.0 i) in
-      let fronts = same_front b c v.header w.header tb tc r.0 s.0 in (
+      let fronts = same_leading_header b c v.header w.header tb tc r.0 s.0 in (
         λ e.
             let headers : v.header ≡ w.header = ap (λ (m : Envelope C.Value). m.header) e in (
               fronts.0 headers,
@@ -197,17 +198,17 @@ module _ (C : Codec ℕ) where
       )
 
   -- the bytes of a finalized message begin with its own header, and behind it its payload
-  finalized_stands : (type_of : C.Value → ℕ) (v : Envelope C.Value) → IsTypedHeader v.header
+  finalized_stands : (type_of : C.Value → ℕ) (v : Envelope C.Value) → IsHeaderInRange v.header
       → v.header ≡ finalized C.written type_of v
       → HasHeader ((envelope_codec C).written v) v.header
       × (take (v.header.length - 16) (drop 16 ((envelope_codec C).written v))
       ≡ payload_bytes C.written v.payload)
-  finalized_stands type_of v typed done =
+  finalized_stands type_of v in_range done =
       let payload : List ℕ = payload_bytes C.written v.payload in
       subst (λ (tail : List ℕ). HasHeader (header_bytes v.header ++ tail) v.header
       × (take (v.header.length - 16) (drop 16 (header_bytes v.header ++ tail)) ≡ payload))
       (append-nil payload)
-      (header_stands v.header payload [] typed (ap (λ (h : NetlinkHeader). h.length) done))
+      (header_stands v.header payload [] in_range (ap (λ (h : NetlinkHeader). h.length) done))
 
   -- the bytes of a payload read back as it exactly where it is in normal form
   payload_itself : (type_of : C.Value → ℕ) (t : ℕ) (p : Payload C.Value)
@@ -221,14 +222,14 @@ module _ (C : Codec ℕ) where
   payload_itself type_of t (inner m) e law = (λ r. (r.0, law.0 r.1), λ n. (n.0, law.1 n.1))
 
   -- the bytes of a finalized message read back as it exactly where it is in normal form
-  pub reads_back_exactly : (type_of : C.Value → ℕ) (v : Envelope C.Value) → IsTypedHeader v.header
+  pub reads_back_exactly : (type_of : C.Value → ℕ) (v : Envelope C.Value) → IsHeaderInRange v.header
       → v.header ≡ finalized C.written type_of v
       → OfInner (λ m. C.reads (C.written m) v.header.message_type m
       ↔ C.is_normal v.header.message_type m) v.payload
       → ((envelope_codec C).reads ((envelope_codec C).written v) tt v
       ↔ (envelope_codec C).is_normal tt v)
-  reads_back_exactly type_of v typed done law =
-      let stands = finalized_stands type_of v typed done in
+  reads_back_exactly type_of v in_range done law =
+      let stands = finalized_stands type_of v in_range done in
       let itself = payload_itself type_of v.header.message_type v.payload
       (ap (λ (h : NetlinkHeader). h.message_type) done) law in (
         λ r. itself.0 (subst (λ (x : List ℕ). PayloadIs C.reads x v.header.message_type v.payload)
@@ -240,11 +241,12 @@ module _ (C : Codec ℕ) where
         ),
       )
 
--- what holds of typed inner messages that fit holds of the payload's
-pub inner_law : {A : Type 0} (typed fits law : A → Type 0) → ((m : A) → typed m → fits m → law m)
-    → (p : Payload A) → OfInner typed p → OfInner fits p → OfInner law p
-inner_law typed fits law all (inner m) t f = all m t f
-inner_law typed fits law all no_payload t f = tt
-inner_law typed fits law all (error_with g) t f = tt
-inner_law typed fits law all (done_with g) t f = tt
-inner_law typed fits law all (overrun_with g) t f = tt
+-- what holds of inner messages in range that fit holds of the payload's
+pub inner_law : {A : Type 0} (in_range fits law : A → Type 0)
+    → ((m : A) → in_range m → fits m → law m)
+    → (p : Payload A) → OfInner in_range p → OfInner fits p → OfInner law p
+inner_law in_range fits law all (inner m) t f = all m t f
+inner_law in_range fits law all no_payload t f = tt
+inner_law in_range fits law all (error_with g) t f = tt
+inner_law in_range fits law all (done_with g) t f = tt
+inner_law in_range fits law all (overrun_with g) t f = tt

@@ -16,27 +16,29 @@ use Rattle.netlink_core.specs.Envelope.{Payload, Envelope, envelope_codec}
 use Rattle.netlink_core.specs.Items.{ItemIs, ItemsAre}
 use Rattle.netlink_core.proofs.Headers.{header_or_fault}
 use Rattle.netlink_core.proofs.Framing.{envelope_or_fault}
-use Rattle.netlink_core.proofs.Datagrams.{starts_with_message, shorter-rest, messages_in_a_row}
+use Rattle.netlink_core.proofs.Datagrams.{starts_with_message, shorter-rest}
+use Rattle.netlink_core.proofs.Datagrams.{messages_of_concatenation}
 use Rattle.netlink_core.proofs.Datagrams.{one_cut_into_messages}
 
 -- what stands behind a message in bytes is bytes
-pub rest_typed : (bytes message rest : List ℕ) → StartsWithMessage bytes message rest
+pub rest_in_range : (bytes message rest : List ℕ) → StartsWithMessage bytes message rest
     → IsBytes bytes → IsBytes rest
-rest_typed bytes message rest s typed =
+rest_in_range bytes message rest s in_range =
     IsBytes-right s.padding rest
-    (IsBytes-right message (s.padding ++ rest) (subst IsBytes s.parts typed))
+    (IsBytes-right message (s.padding ++ rest) (subst IsBytes s.parts in_range))
 
 -- a message in bytes is bytes
-message_typed : (bytes message rest : List ℕ) → StartsWithMessage bytes message rest → IsBytes bytes
+message_in_range : (bytes message rest : List ℕ) → StartsWithMessage bytes message rest
+    → IsBytes bytes
     → IsBytes message
-message_typed bytes message rest s typed =
-    IsBytes-left message (s.padding ++ rest) (subst IsBytes s.parts typed)
+message_in_range bytes message rest s in_range =
+    IsBytes-left message (s.padding ++ rest) (subst IsBytes s.parts in_range)
 
 -- bytes begin with a message, or have a fault
 message_or_fault : (bytes : List ℕ) → IsBytes bytes
     → ((message rest : List ℕ) × StartsWithMessage bytes message rest)
     ⊎ ((e : DecodeError) × IsEnvelopeFault bytes e)
-message_or_fault bytes typed = elim (header_or_fault bytes typed) [
+message_or_fault bytes in_range = elim (header_or_fault bytes in_range) [
   | inl p ↦ inl (
     take p.0.length bytes,
     drop (p.0.length + fill p.0.length) bytes,
@@ -59,17 +61,17 @@ module _ (C : Codec ℕ) where
       ⊎ ((e : DecodeError) × C.refuses b t e))
       → (message : List ℕ) → IsBytes message → (item : Result (Payload C.Value) DecodeError)
       × ItemIs C message item
-  item_of law message typed = elim (envelope_or_fault C message typed law) [
+  item_of law message in_range = elim (envelope_or_fault C message in_range law) [
     | inl v ↦ (Ok v.0.payload, (v.0.header, v.1))
     | inr e ↦ (Err e.0, e.1)
   ]
 
   -- the item of a message in front of others
-  pub item_in_front : (bytes message rest : List ℕ) (item : Result (Payload C.Value) DecodeError)
+  pub leading_item : (bytes message rest : List ℕ) (item : Result (Payload C.Value) DecodeError)
       (later : List (Result (Payload C.Value) DecodeError))
       → StartsWithMessage bytes message rest → ItemIs C message item → ItemsAre C rest later
       → ItemsAre C bytes (item ∷ later)
-  item_in_front bytes message rest item later s is (messages, end, carried, cut, each, parts) = (
+  leading_item bytes message rest item later s is (messages, end, carried, cut, each, parts) = (
     message ∷ messages,
     end,
     item ∷ carried,
@@ -92,30 +94,31 @@ module _ (C : Codec ℕ) where
       ⊎ ((e : DecodeError) × C.refuses b t e))
       → (n : ℕ) (bytes : List ℕ) → length bytes < n → IsBytes bytes
       → (items : List (Result (Payload C.Value) DecodeError)) × ItemsAre C bytes items
-  items_within law zero bytes short typed = absurd (omega arith)
-  items_within law (suc n) [] short typed = ([], no_items)
-  items_within law (suc n) (b ∷ bytes) short typed = elim (message_or_fault (b ∷ bytes) typed) [
-    | inl p ↦
-        let size = shorter-rest (b ∷ bytes) p.0 p.1 p.2 in
-        let later = items_within law n p.1 (omega arith)
-        (rest_typed (b ∷ bytes) p.0 p.1 p.2 typed) in
-        let item = item_of law p.0 (message_typed (b ∷ bytes) p.0 p.1 p.2 typed) in
-        (item.0 ∷ later.0, item_in_front (b ∷ bytes) p.0 p.1 item.0 later.0 p.2 item.1 later.1)
-    | inr f ↦ (Err f.0 ∷ [], fault_alone (b ∷ bytes) f.0 (λ none. cc) f.1)
-  ]
+  items_within law zero bytes short in_range = absurd (omega arith)
+  items_within law (suc n) [] short in_range = ([], no_items)
+  items_within law (suc n) (b ∷ bytes) short in_range =
+      elim (message_or_fault (b ∷ bytes) in_range) [
+        | inl p ↦
+            let size = shorter-rest (b ∷ bytes) p.0 p.1 p.2 in
+            let later = items_within law n p.1 (omega arith)
+            (rest_in_range (b ∷ bytes) p.0 p.1 p.2 in_range) in
+            let item = item_of law p.0 (message_in_range (b ∷ bytes) p.0 p.1 p.2 in_range) in
+            (item.0 ∷ later.0, leading_item (b ∷ bytes) p.0 p.1 item.0 later.0 p.2 item.1 later.1)
+        | inr f ↦ (Err f.0 ∷ [], fault_alone (b ∷ bytes) f.0 (λ none. cc) f.1)
+      ]
 
   -- each datagram has items
   pub items_of : ((b : List ℕ) (t : ℕ) → IsBytes b → ((m : C.Value) × C.reads b t m)
       ⊎ ((e : DecodeError) × C.refuses b t e))
       → (bytes : List ℕ) → IsBytes bytes → (items : List (Result (Payload C.Value) DecodeError))
       × ItemsAre C bytes items
-  items_of law bytes typed = items_within law (suc (length bytes)) bytes (omega arith) typed
+  items_of law bytes in_range = items_within law (suc (length bytes)) bytes (omega arith) in_range
 
   -- whole messages and then more bytes have the items of the one and then of the other
-  pub items_in_a_row : (front back : List ℕ) (messages : List (List ℕ))
+  pub items_of_concatenation : (front back : List ℕ) (messages : List (List ℕ))
       (xs ys : List (Result (Payload C.Value) DecodeError)) → AreWholeMessages front messages
       → ItemsAre C front xs → ItemsAre C back ys → ItemsAre C (front ++ back) (xs ++ ys)
-  items_in_a_row front back messages xs ys whole a b =
+  items_of_concatenation front back messages xs ys whole a b =
       let same = one_cut_into_messages front a.0 messages a.1 None a.3 whole.0 in
       let all : xs ≡ a.2 = a.5
       ∙ ap (λ (e : Option DecodeError). a.2 ++ option_to_list (option_map Err e)) same.1
@@ -123,7 +126,7 @@ module _ (C : Codec ℕ) where
         messages ++ b.0,
         b.1,
         a.2 ++ b.2,
-        messages_in_a_row front back messages b.0 b.1 whole b.3,
+        messages_of_concatenation front back messages b.0 b.1 whole b.3,
         zip_append (ItemIs C) messages b.0 a.2 b.2
             (subst (λ (s : List (List ℕ)). AllZip (ItemIs C) s a.2) same.0 a.4) b.4,
         ap (λ (l : List (Result (Payload C.Value) DecodeError)). l ++ ys) all
@@ -138,11 +141,11 @@ module _ (C : Codec ℕ) where
       (rest : List ℕ) : Type 0 where
     pub items : (later : List (Result (Payload C.Value) DecodeError)) → ItemsAre C rest later
         → ItemsAre C bytes (so_far ++ later)
-    pub typed : IsBytes bytes → IsBytes rest
+    pub in_range : IsBytes bytes → IsBytes rest
 
   -- the walk begins with all the bytes
   pub items_begin : (bytes : List ℕ) → Following bytes [] bytes
-  items_begin bytes = record { items = λ later h. h; typed = λ h. h }
+  items_begin bytes = record { items = λ later h. h; in_range = λ h. h }
 
   -- it goes on behind a message
   pub items_go_on : (bytes rest after message : List ℕ)
@@ -152,8 +155,8 @@ module _ (C : Codec ℕ) where
       → Following bytes (so_far ++ item ∷ []) after
   items_go_on bytes rest after message so_far item walk s is = record {
     items = λ later h. rw append_assoc
-        (walk.items (item ∷ later) (item_in_front rest message after item later s is h));
-    typed = λ h. rest_typed rest message after s (walk.typed h);
+        (walk.items (item ∷ later) (leading_item rest message after item later s is h));
+    in_range = λ h. rest_in_range rest message after s (walk.in_range h);
   }
 
   -- all items, where one that was found is followed by others
@@ -164,10 +167,11 @@ module _ (C : Codec ℕ) where
       → Following bytes so_far rest → StartsWithMessage rest message after → ItemIs C message item
       → (later : List (Result (Payload C.Value) DecodeError))
       × ItemsAre C bytes (so_far ++ (item ∷ later))
-  items_with law bytes rest after message so_far item typed walk s is =
-      let later = items_of law after (rest_typed rest message after s (walk.typed typed)) in (
+  items_with law bytes rest after message so_far item in_range walk s is =
+      let later = items_of law after (rest_in_range rest message after s
+      (walk.in_range in_range)) in (
         later.0,
-        walk.items (item ∷ later.0) (item_in_front rest message after item later.0 s is
+        walk.items (item ∷ later.0) (leading_item rest message after item later.0 s is
             later.1),
       )
 
@@ -183,37 +187,38 @@ module _ (C : Codec ℕ)
   -- one item
   one_item : (b : List ℕ) → IsBytes b → (i j : Result (Payload C.Value) DecodeError) → ItemIs C b i
       → ItemIs C b j → i ≡ j
-  one_item b typed (Ok p) (Ok q) h k =
+  one_item b in_range (Ok p) (Ok q) h k =
       ap (λ (v : Envelope C.Value). Ok v.payload)
       (one_value b (record { header = h.0; payload = p }) (record { header = k.0; payload = q })
-      typed h.1 k.1)
-  one_item b typed (Ok p) (Err f) h k =
+      in_range h.1 k.1)
+  one_item b in_range (Ok p) (Err f) h k =
       absurd (one_answer b (record { header = h.0; payload = p }) f h.1 k)
-  one_item b typed (Err e) (Ok q) h k =
+  one_item b in_range (Err e) (Ok q) h k =
       absurd (one_answer b (record { header = k.0; payload = q }) e k.1 h)
-  one_item b typed (Err e) (Err f) h k = ap Err (one_fault b e f h k)
+  one_item b in_range (Err e) (Err f) h k = ap Err (one_fault b e f h k)
 
   -- the items of messages
   one_carried : (b : List ℕ) → IsBytes b → (messages : List (List ℕ)) (end : Option DecodeError)
       → CutIntoMessages b messages end → (vs ws : List (Result (Payload C.Value) DecodeError))
       → AllZip (ItemIs C) messages vs → AllZip (ItemIs C) messages ws → vs ≡ ws
-  one_carried b typed [] end cut [] [] h k = refl
-  one_carried b typed [] end cut (v ∷ vs) ws h k = absurd h
-  one_carried b typed [] end cut [] (w ∷ ws) h k = absurd k
-  one_carried b typed (m ∷ messages) end cut [] ws h k = absurd h
-  one_carried b typed (m ∷ messages) end cut (v ∷ vs) [] h k = absurd k
-  one_carried b typed (m ∷ messages) end cut (v ∷ vs) (w ∷ ws) h k =
-      let first = one_item m (message_typed b m cut.0 cut.1 typed) v w h.0 k.0 in
-      let rest = one_carried cut.0 (rest_typed b m cut.0 cut.1 typed) messages end cut.2 vs ws h.1
+  one_carried b in_range [] end cut [] [] h k = refl
+  one_carried b in_range [] end cut (v ∷ vs) ws h k = absurd h
+  one_carried b in_range [] end cut [] (w ∷ ws) h k = absurd k
+  one_carried b in_range (m ∷ messages) end cut [] ws h k = absurd h
+  one_carried b in_range (m ∷ messages) end cut (v ∷ vs) [] h k = absurd k
+  one_carried b in_range (m ∷ messages) end cut (v ∷ vs) (w ∷ ws) h k =
+      let first = one_item m (message_in_range b m cut.0 cut.1 in_range) v w h.0 k.0 in
+      let rest = one_carried cut.0 (rest_in_range b m cut.0 cut.1 in_range) messages end cut.2 vs ws
+      h.1
       k.1 in
       λ z. first z ∷ rest z
 
   -- one list of items
   pub one_list : (b : List ℕ) → IsBytes b → (xs ys : List (Result (Payload C.Value) DecodeError))
       → ItemsAre C b xs → ItemsAre C b ys → xs ≡ ys
-  one_list b typed xs ys h k =
+  one_list b in_range xs ys h k =
       let same = one_cut_into_messages b h.0 k.0 h.1 k.1 h.3 k.3 in
-      let carried = one_carried b typed k.0 k.1 k.3 h.2 k.2
+      let carried = one_carried b in_range k.0 k.1 k.3 h.2 k.2
       (subst (λ (s : List (List ℕ)). AllZip (ItemIs C) s h.2) same.0 h.4) k.4 in
       h.5 ∙ ap (λ (c : List (Result (Payload C.Value) DecodeError)). c
       ++ option_to_list (option_map Err h.1)) carried

@@ -6,11 +6,11 @@ use Rattle.netlink_core.specs.declared.canon.CanonError.TheVariants.{Refused, Un
 use Rattle.netlink_core.specs.Canonical.{GivesUp}
 
 -- a value in hand that isn't written, where it is what a string is read as
-pub gives_up : {W V : Type 0} (seen : W → V) (reads : V → Type 0) (refuses : DecodeError → Type 0)
-    (fits : V → Type 0) (writable : W → Type 0) (w : W) → reads (seen w)
-    → ((x : W) → fits (seen x) → writable x) → (e : CanonError)
+pub gives_up : {W V : Type 0} (model : W → V) (reads : V → Type 0) (refuses : DecodeError → Type 0)
+    (fits : V → Type 0) (writable : W → Type 0) (w : W) → reads (model w)
+    → ((x : W) → fits (model x) → writable x) → (e : CanonError)
     → GivesUp (λ x. x ≡ w) (λ _. ⊥) writable e → GivesUp reads refuses fits e
-gives_up seen reads refuses fits writable w r f (Refused e) h = absurd h.0
-gives_up seen reads refuses fits writable w r f Unwritable (x, same, not) =
-    (seen x, subst (λ (y : _). reads (seen y)) (sym same) r, λ fit. not (f x fit))
-gives_up seen reads refuses fits writable w r f Memory h = (seen w, r)
+gives_up model reads refuses fits writable w r f (Refused e) h = absurd h.0
+gives_up model reads refuses fits writable w r f Unwritable (x, same, not) =
+    (model x, subst (λ (y : _). reads (model y)) (sym same) r, λ fit. not (f x fit))
+gives_up model reads refuses fits writable w r f Memory h = (model w, r)

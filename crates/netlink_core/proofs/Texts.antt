@@ -8,16 +8,16 @@ use Rattle.netlink_core.specs.declared.fault.DecodeError.TheVariants.{NotUtf8}
 use Rattle.netlink_core.specs.Parse.{without_end_zero, text_in}
 
 -- nothing is taken off in front of more bytes
-in_front : (byte next : ℕ) (bytes : List ℕ) → without_end_zero (byte ∷ next ∷ bytes) ≡ byte
+as_prefix : (byte next : ℕ) (bytes : List ℕ) → without_end_zero (byte ∷ next ∷ bytes) ≡ byte
     ∷ without_end_zero (next ∷ bytes)
-in_front zero next bytes = refl
-in_front (suc n) next bytes = refl
+as_prefix zero next bytes = refl
+as_prefix (suc n) next bytes = refl
 
 -- a zero at the end is taken off
 pub end_zero : (text : List ℕ) → without_end_zero (text ++ 0 ∷ []) ≡ text
 end_zero [] = refl
-end_zero (byte ∷ []) = in_front byte 0 []
-end_zero (byte ∷ next ∷ text) = in_front byte next (text ++ 0 ∷ [])
+end_zero (byte ∷ []) = as_prefix byte 0 []
+end_zero (byte ∷ next ∷ text) = as_prefix byte next (text ++ 0 ∷ [])
     ∙ ap (λ (others : List ℕ). byte ∷ others) (end_zero (next ∷ text))
 
 -- another byte there stays
@@ -25,9 +25,9 @@ pub other_end : (text : List ℕ) (last : ℕ) → last ≢ 0 → without_end_ze
     ++ last ∷ []
 other_end [] zero other = absurd (other refl)
 other_end [] (suc n) other = refl
-other_end (byte ∷ []) last other = in_front byte last [] ∙ ap (λ (others : List ℕ). byte ∷ others)
+other_end (byte ∷ []) last other = as_prefix byte last [] ∙ ap (λ (others : List ℕ). byte ∷ others)
     (other_end [] last other)
-other_end (byte ∷ next ∷ text) last other = in_front byte next (text ++ last ∷ [])
+other_end (byte ∷ next ∷ text) last other = as_prefix byte next (text ++ last ∷ [])
     ∙ ap (λ (others : List ℕ). byte ∷ others) (other_end (next ∷ text) last other)
 
 -- UTF-8 is a text

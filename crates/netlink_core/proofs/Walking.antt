@@ -3,16 +3,17 @@ use Rattle.std.proofs.Common.{Result, Ok, Err, ◌≡◌, ◌≢◌, ℕ, inl, i
 use Rattle.std.proofs.Common.{sym, ap, ◌∙◌, append_assoc}
 use Rattle.std.proofs.lemmas.List.{append-nil}
 use Rattle.netlink_core.specs.declared.fault.DecodeError.{DecodeError}
-use Rattle.netlink_core.specs.Attribute.{Attribute, StartsWith, HeadIs, CutOff, IsFramingFault}
-use Rattle.netlink_core.specs.Attribute.{FaultAtFront, AttributesMean, AttributeFault, unpadded}
+use Rattle.netlink_core.specs.Attribute.{Attribute, StartsWith, HasPrefix, CutOff, IsFramingFault}
+use Rattle.netlink_core.specs.Attribute.{IsPrefixFault, AttributesMean, AttributeFault, unpadded}
 
 -- bytes that an attribute begins are some
 pub StartsWith-some : (bytes rest : List ℕ) (a : Attribute) → StartsWith bytes a rest → bytes ≢ []
 StartsWith-some bytes rest a s none = cc (s.parts, none)
 
--- the attribute that bytes begin with stands at their front
-pub head_of_start : (bytes rest : List ℕ) (a : Attribute) → StartsWith bytes a rest → HeadIs bytes a
-head_of_start bytes rest a s = (s.padding ++ rest, s.parts, s.fits)
+-- the attribute that bytes begin with stands at their start
+pub prefix_of_start : (bytes rest : List ℕ) (a : Attribute) → StartsWith bytes a rest
+    → HasPrefix bytes a
+prefix_of_start bytes rest a s = (s.padding ++ rest, s.parts, s.fits)
 
 both_empty : (xs ys : List ℕ) → xs ++ ys ≡ [] → ys ≡ []
 both_empty [] ys e = e
@@ -48,7 +49,7 @@ module _ {A : Type 0} (reads : Attribute → Result A DecodeError) where
       → StartsWith bytes a rest → reads a ≡ Ok meaning → AttributeFault reads rest e
       → AttributeFault reads bytes e
   later_fault bytes rest a meaning e s means f =
-      (a ∷ f.0, cut_off_behind (FaultAtFront reads) bytes rest a f.0 e s f.1, (rw means refl, f.2))
+      (a ∷ f.0, cut_off_behind (IsPrefixFault reads) bytes rest a f.0 e s f.1, (rw means refl, f.2))
 
   -- the walk begins with all the bytes
   pub walk_begins : (bytes : List ℕ) → Continues bytes [] bytes
@@ -70,7 +71,7 @@ module _ {A : Type 0} (reads : Attribute → Result A DecodeError) where
   walk_ends bytes rest so_far walk none = rw append-nil at (walk.mean [] ([], none, tt))
 
   -- a fault where it stands is the fault of the bytes
-  pub fault_here : (rest : List ℕ) (e : DecodeError) → rest ≢ [] → FaultAtFront reads rest e
+  pub fault_here : (rest : List ℕ) (e : DecodeError) → rest ≢ [] → IsPrefixFault reads rest e
       → AttributeFault reads rest e
   fault_here rest e some f = ([], ([], rest, refl, refl, some, f), tt)
 
@@ -85,7 +86,7 @@ module _ {A : Type 0} (reads : Attribute → Result A DecodeError) where
       → AttributeFault reads bytes e
   walk_is_refused bytes rest after so_far a e walk s refused =
       walk.fault e (fault_here rest e (StartsWith-some rest after a s)
-      (inr (a, head_of_start rest after a s, refused)))
+      (inr (a, prefix_of_start rest after a s, refused)))
 
 -- what a loop over the walk keeps, and what holds where it ends
 pub ruleset walking = (walk_begins, walk_goes_on, walk_ends, walk_is_cut_off, walk_is_refused)

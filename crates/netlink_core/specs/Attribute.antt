@@ -15,12 +15,12 @@ pub record Attribute : Type 0 where
   pub value : List ℕ
 
 -- the type word without its two flag bits
-abbrev pub kind_of : Attribute → ℕ
-kind_of a = bit_and a.type_word 0x3fff
+abbrev pub attribute_type : Attribute → ℕ
+attribute_type a = bit_and a.type_word 0x3fff
 
 -- a type word of 16 bits, and a value of bytes
-abbrev pub IsTypedAttribute : Attribute → Type 0
-IsTypedAttribute a = (a.type_word < 2 ^ 16) × IsBytes a.value
+abbrev pub IsAttributeInRange : Attribute → Type 0
+IsAttributeInRange a = (a.type_word < 2 ^ 16) × IsBytes a.value
 
 -- a type word of 16 bits, and a value whose length word is one of 16 bits
 abbrev pub FitsWords : Attribute → Type 0
@@ -47,8 +47,8 @@ abbrev pub AreWritable : List Attribute → ℕ → Type 0
 AreWritable attributes limit = AllByRecursion HasFittingValue attributes × (length (flat_map written attributes) ≤ limit)
 
 -- the bytes begin with the attribute
-abbrev pub HeadIs : List ℕ → Attribute → Type 0
-HeadIs bytes a = (tail : List ℕ) × (bytes ≡ unpadded a ++ tail) × FitsWords a
+abbrev pub HasPrefix : List ℕ → Attribute → Type 0
+HasPrefix bytes a = (tail : List ℕ) × (bytes ≡ unpadded a ++ tail) × FitsWords a
 
 -- The bytes are the attribute, its padding and the rest. Where nothing follows, the padding may be
 -- short.
@@ -68,7 +68,7 @@ abbrev pub CutInFull : List ℕ → List Attribute → Type 0
 CutInFull bytes [] = bytes ≡ []
 CutInFull bytes (a ∷ later) = (padding rest : List ℕ) × (bytes ≡ unpadded a ++ (padding ++ rest)) × FitsWords a × (length padding ≡ fill (length a.value)) × CutInFull rest later
 
--- No attribute stands at the front of the bytes, and why. Of several faults it is the first.
+-- No attribute stands at the start of the bytes, and why. Of several faults it is the first.
 abbrev pub IsFramingFault : List ℕ → DecodeError → Type 0
 IsFramingFault bytes (AttributeHeaderCut left) = (left ≡ length bytes) × (length bytes < 4)
 IsFramingFault bytes (AttributeLengthUnder4 word) = (word ≡ little_number 2 bytes) × (4 ≤ length bytes) × (word < 4)
@@ -86,10 +86,10 @@ module _ {A : Type 0} (reads : Attribute → Result A DecodeError) where
   abbrev pub AttributesMean : List ℕ → List A → Type 0
   AttributesMean bytes values = (attributes : List Attribute) × Cut bytes attributes × AllZip (λ a value. reads a ≡ Ok value) attributes values
 
-  -- the first fault that applies at the front of the bytes
-  abbrev pub FaultAtFront : List ℕ → DecodeError → Type 0
-  FaultAtFront bytes e = IsFramingFault bytes e ⊎ ((a : Attribute) × HeadIs bytes a × (reads a ≡ Err e))
+  -- the first fault that applies at the start of the bytes
+  abbrev pub IsPrefixFault : List ℕ → DecodeError → Type 0
+  IsPrefixFault bytes e = IsFramingFault bytes e ⊎ ((a : Attribute) × HasPrefix bytes a × (reads a ≡ Err e))
 
   -- the first fault stands behind attributes that can be read
   abbrev pub AttributeFault : List ℕ → DecodeError → Type 0
-  AttributeFault bytes e = (attributes : List Attribute) × CutOff FaultAtFront bytes attributes e × AllByRecursion (λ a. IsOk (reads a)) attributes
+  AttributeFault bytes e = (attributes : List Attribute) × CutOff IsPrefixFault bytes attributes e × AllByRecursion (λ a. IsOk (reads a)) attributes

@@ -19,7 +19,7 @@ IsBytes-append [] ys hx hy = hy
 IsBytes-append (x ∷ xs) ys hx hy =
     IsBytes-cons x (xs ++ ys) (hx 0) (IsBytes-append xs ys (λ i. hx (suc i)) hy)
 
--- the front of bytes, and what follows it
+-- the start of bytes, and what follows it
 pub IsBytes-left : (xs ys : List ℕ) → IsBytes (xs ++ ys) → IsBytes xs
 IsBytes-left [] ys h = IsBytes-nil
 IsBytes-left (x ∷ xs) ys h = IsBytes-cons x xs (h 0) (IsBytes-left xs ys (λ i. h (suc i)))

@@ -1,17 +1,17 @@
 -- A reader joined with a writer, and the laws between them.
 use Rattle.std.specs.Prelude.{⊤, ◌≡◌, ◌↔◌, ◌⊎◌, ℕ, List, length, Ok, Err}
 use Rattle.netlink_core.specs.Bytes.{IsBytes}
-use Rattle.netlink_core.specs.Format.{Format, read, StandsIn, bytes}
-use Rattle.netlink_core.specs.Prefix.{Prefix, prefix_of}
+use Rattle.netlink_core.specs.Layout.{Layout, read, StandsIn, bytes}
+use Rattle.netlink_core.specs.ValueCodec.{ValueCodec, value_codec}
 use Rattle.netlink_core.specs.declared.fault.DecodeError.{DecodeError}
 use Rattle.netlink_core.specs.declared.fault.DecodeError.TheVariants.{Memory}
 
--- Values that are read under a parameter, and written: which values are typed, what a string's
+-- Values that are read under a parameter, and written: which values are in range, what a string's
 -- value or first fault is, which values are kept without memory (their strings are spare), which
 -- strings are idle, which values are in normal form, what is written, and whether that has room.
 pub record Codec (Param : Type 0) : Type 1 where
   pub Value : Type 0
-  pub is_typed : Value → Type 0
+  pub is_in_range : Value → Type 0
   pub reads : List ℕ → Param → Value → Type 0
   pub refuses : List ℕ → Param → DecodeError → Type 0
   pub is_spare : Value → Type 0
@@ -29,18 +29,18 @@ pub record KeepsLaws {Param : Type 0} (C : Codec Param) : Type 0 where
   pub named_fault : (b : List ℕ) (p : Param) → C.refuses b p Memory → ⊥
   -- two accepted strings have equal values exactly where they are idle
   pub same_value : (b c : List ℕ) (p : Param) (v w : C.Value) → IsBytes b → IsBytes c → C.reads b p v → C.reads c p w → ((v ≡ w) ↔ C.idle p b c)
-  -- what is read is typed and in normal form
-  pub reads_normal : (b : List ℕ) (p : Param) (v : C.Value) → IsBytes b → C.reads b p v → C.is_typed v × C.is_normal p v
-  -- what a typed value is written as is bytes, and a writable one in normal form reads back as
+  -- what is read is in range and in normal form
+  pub reads_normal : (b : List ℕ) (p : Param) (v : C.Value) → IsBytes b → C.reads b p v → C.is_in_range v × C.is_normal p v
+  -- what a value in range is written as is bytes, and a writable one in normal form reads back as
   -- itself
-  pub written_bytes : (v : C.Value) → C.is_typed v → IsBytes (C.written v)
-  pub reads_back : (p : Param) (v : C.Value) → C.is_typed v → C.is_normal p v → C.fits v → C.reads (C.written v) p v
+  pub written_bytes : (v : C.Value) → C.is_in_range v → IsBytes (C.written v)
+  pub reads_back : (p : Param) (v : C.Value) → C.is_in_range v → C.is_normal p v → C.fits v → C.reads (C.written v) p v
 
 -- a part of a string on its own; each value is kept without memory, and has room
-abbrev pub prefix_codec : {Param : Type 0} → Prefix Param → Codec Param
-prefix_codec P = record {
+abbrev pub as_codec : {Param : Type 0} → ValueCodec Param → Codec Param
+as_codec P = record {
   Value = P.Value;
-  is_typed = P.is_typed;
+  is_in_range = P.is_in_range;
   reads = λ b p v. P.reads p b ≡ Ok v;
   refuses = λ b p e. P.reads p b ≡ Err e;
   is_spare = λ v. ⊤;
@@ -50,13 +50,13 @@ prefix_codec P = record {
   fits = λ v. ⊤;
 }
 
--- a record that is given as a format
-abbrev pub record_codec : {Param Tag Value : Type 0} → Format Param Tag Value → Codec Param
-record_codec format = prefix_codec (prefix_of format)
+-- a record that is given as a layout
+abbrev pub record_codec : {Param Tag Value : Type 0} → Layout Param Tag Value → Codec Param
+record_codec layout = as_codec (value_codec layout)
 
 -- the laws of a record: its codec's, each value has as many bytes as its table, and what is read is
 -- what stands in a string
-pub record RecordLaws {Param Tag Value : Type 0} (format : Format Param Tag Value) : Type 0 where
-  pub codec : KeepsLaws (record_codec format)
-  pub long : (value : Value) → length (bytes format value) ≡ format.size (format.tag_of value)
-  pub stands : (b : List ℕ) (p : Param) (v : Value) → IsBytes b → (read format p b ≡ Ok v) ↔ StandsIn format b p v
+pub record RecordLaws {Param Tag Value : Type 0} (layout : Layout Param Tag Value) : Type 0 where
+  pub codec : KeepsLaws (record_codec layout)
+  pub long : (value : Value) → length (bytes layout value) ≡ layout.size (layout.tag_of value)
+  pub stands : (b : List ℕ) (p : Param) (v : Value) → IsBytes b → (read layout p b ≡ Ok v) ↔ StandsIn layout b p v

@@ -1,4 +1,4 @@
--- What contracts see of an attribute of any kind.
+-- The model of an attribute of any type: what contracts see of it.
 use Rattle.netlink_core.specs.declared.nla.DefaultNla.{DefaultNla}
 use Rattle.netlink_core.specs.Attribute.{Attribute}
 

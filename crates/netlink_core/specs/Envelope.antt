@@ -4,7 +4,7 @@ use Rattle.std.specs.Prelude.{nat_lt, if◌then◌else◌, Option, None, Some}
 use Rattle.std.specs.Int.{cast_signed, w32}
 use Rattle.byteorder.specs.Endian.{little_number}
 use Rattle.netlink_core.specs.declared.header.NetlinkHeader.{NetlinkHeader}
-use Rattle.netlink_core.specs.Header.{IsTypedHeader, header_bytes, HasHeader, IsEnvelopeFault}
+use Rattle.netlink_core.specs.Header.{IsHeaderInRange, header_bytes, HasHeader, IsEnvelopeFault}
 use Rattle.netlink_core.specs.Codec.{Codec}
 
 -- what a message carries, without where it lies in memory
@@ -56,13 +56,13 @@ OfInner is _ = ⊤
 
 -- the number of errno(3), with its sign, that an error or an end begins with: none where there are
 -- fewer than four bytes
-abbrev pub number_in_front : List ℕ → Option ℤ
-number_in_front given = if nat_lt (length given) 4 then None else Some (cast_signed w32 (little_number 4 given))
+abbrev pub leading_number : List ℕ → Option ℤ
+leading_number given = if nat_lt (length given) 4 then None else Some (cast_signed w32 (little_number 4 given))
 
 -- that of a payload
 abbrev pub error_number_of : {A : Type 0} → Payload A → Option ℤ
-error_number_of (error_with given) = number_in_front given
-error_number_of (done_with given) = number_in_front given
+error_number_of (error_with given) = leading_number given
+error_number_of (done_with given) = leading_number given
 error_number_of _ = None
 
 -- the header with the message's own length and type, and else as it was
@@ -87,7 +87,7 @@ payload_at bytes = take (little_number 4 bytes - 16) (drop 16 bytes)
 abbrev pub envelope_codec : Codec ℕ → Codec (Unit {0})
 envelope_codec C = record {
   Value = Envelope C.Value;
-  is_typed = λ e. IsTypedHeader e.header × OfInner C.is_typed e.payload;
+  is_in_range = λ e. IsHeaderInRange e.header × OfInner C.is_in_range e.payload;
   -- the bytes begin with its header, and with the payload that the header's length counts
   reads = λ b p e. HasHeader b e.header
       × PayloadIs C.reads (take (e.header.length - 16) (drop 16 b)) e.header.message_type e.payload;

@@ -38,11 +38,11 @@ number_of (EnvelopeCut got) = 16
 number_of (EnvelopeLengthUnder16 len) = 17
 number_of (EnvelopeLengthPast len got) = 18
 
--- the fault with the kind filled in where a wrong length told none
-abbrev pub of_kind : ℕ → DecodeError → DecodeError
-of_kind k (WrongLength None got need) = WrongLength (Some k) got need
-of_kind k other = other
+-- the fault with the attribute type filled in where a wrong length has none
+abbrev pub with_attribute_type : ℕ → DecodeError → DecodeError
+with_attribute_type k (WrongLength None got need) = WrongLength (Some k) got need
+with_attribute_type k other = other
 
--- what was read, said as something else; a fault stays
-abbrev pub said_as : {A B : Type 0} → (A → B) → Result A DecodeError → Result B DecodeError
-said_as made answer = result_map_both made (λ fault. fault) answer
+-- what was read, as something else; a fault stays
+abbrev pub map_ok : {A B : Type 0} → (A → B) → Result A DecodeError → Result B DecodeError
+map_ok made answer = result_map_both made (λ fault. fault) answer

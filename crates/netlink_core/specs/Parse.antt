@@ -6,8 +6,8 @@ use Rattle.byteorder.specs.Endian.{little_number}
 use Rattle.netlink_core.specs.declared.fault.DecodeError.{DecodeError}
 use Rattle.netlink_core.specs.declared.fault.DecodeError.TheVariants.{WrongLength, NotUtf8}
 
--- the number in exactly so many bytes, the low byte first; the fault of another length tells a
--- kind, where there is one
+-- the number in exactly so many bytes, the low byte first; the fault of another length has a type,
+-- where there is one
 abbrev pub exact_number : Option ℕ → ℕ → List ℕ → Result ℕ DecodeError
 exact_number kind width bytes =
     if length bytes == width then Ok (little_number width bytes) else Err (WrongLength kind (length bytes) width)

@@ -1,4 +1,4 @@
--- Records of a fixed length, as tables: rows one after the other, each with its place. A list of
+-- Records of a fixed length, as tables: fields one after the other, each with its offset. A list of
 -- bytes is a list of numbers below 256.
 use Rattle.std.specs.Prelude.{◌≡◌, ◌<◌, ℕ, zero, suc, ◌+◌, ◌^◌, List, [], ◌∷◌, ◌++◌, length, drop}
 use Rattle.std.specs.Prelude.{replicate, slice_index, bit_and}
@@ -8,23 +8,23 @@ use Rattle.byteorder.specs.Endian.{little_number, big_number, little_bytes, big_
 pub data Order : Type 0 where
   little_endian big_endian : Order
 
--- What stands at a place: a byte; a number of so many bytes; a little-endian number of which only
+-- What stands at a offset: a byte; a number of so many bytes; a little-endian number of which only
 -- the bits of the mask are defined; or bytes that no reader looks at, with what is written there.
-pub data Row : Type 0 where
-  byte : (place : ℕ) → Row
-  number : (place width : ℕ) → Order → Row
-  flags : (place width mask : ℕ) → Row
-  unread : (place : ℕ) → (written : List ℕ) → Row
+pub data Field : Type 0 where
+  byte : (offset : ℕ) → Field
+  number : (offset width : ℕ) → Order → Field
+  flags : (offset width mask : ℕ) → Field
+  unread : (offset : ℕ) → (written : List ℕ) → Field
 
--- so many bytes, the first at that place
-abbrev pub bytes_at : ℕ → ℕ → List Row
-bytes_at place zero = []
-bytes_at place (suc count) = byte place ∷ bytes_at (place + 1) count
+-- so many bytes, the first at that offset
+abbrev pub bytes_at : ℕ → ℕ → List Field
+bytes_at offset zero = []
+bytes_at offset (suc count) = byte offset ∷ bytes_at (offset + 1) count
 
--- so many numbers of one width, the first at that place
-abbrev pub numbers : ℕ → ℕ → Order → ℕ → List Row
-numbers place width order zero = []
-numbers place width order (suc count) = number place width order ∷ numbers (place + width) width order count
+-- so many numbers of one width, the first at that offset
+abbrev pub numbers : ℕ → ℕ → Order → ℕ → List Field
+numbers offset width order zero = []
+numbers offset width order (suc count) = number offset width order ∷ numbers (offset + width) width order count
 
 -- the number in the first bytes, in that order
 abbrev pub number_in : Order → ℕ → List ℕ → ℕ
@@ -36,29 +36,29 @@ abbrev pub bytes_in : Order → ℕ → ℕ → List ℕ
 bytes_in little_endian width n = little_bytes width n
 bytes_in big_endian width n = big_bytes width n
 
--- the values of the rows that are read, in a string
-abbrev pub values_of : List Row → List ℕ → List ℕ
+-- the values of the fields that are read, in a string
+abbrev pub values_of : List Field → List ℕ → List ℕ
 values_of [] bytes = []
-values_of (byte place ∷ rows) bytes = slice_index bytes place ∷ values_of rows bytes
-values_of (number place width order ∷ rows) bytes = number_in order width (drop place bytes) ∷ values_of rows bytes
-values_of (flags place width mask ∷ rows) bytes = bit_and (little_number width (drop place bytes)) mask ∷ values_of rows bytes
-values_of (unread place written ∷ rows) bytes = values_of rows bytes
+values_of (byte offset ∷ fields) bytes = slice_index bytes offset ∷ values_of fields bytes
+values_of (number offset width order ∷ fields) bytes = number_in order width (drop offset bytes) ∷ values_of fields bytes
+values_of (flags offset width mask ∷ fields) bytes = bit_and (little_number width (drop offset bytes)) mask ∷ values_of fields bytes
+values_of (unread offset written ∷ fields) bytes = values_of fields bytes
 
--- the bytes of the table with these values in the rows that are read
-abbrev pub bytes_of : List Row → List ℕ → List ℕ
-bytes_of (unread place written ∷ rows) values = written ++ bytes_of rows values
-bytes_of (byte place ∷ rows) (value ∷ values) = value ∷ bytes_of rows values
-bytes_of (number place width order ∷ rows) (value ∷ values) = bytes_in order width value ++ bytes_of rows values
-bytes_of (flags place width mask ∷ rows) (value ∷ values) = little_bytes width value ++ bytes_of rows values
+-- the bytes of the table with these values in the fields that are read
+abbrev pub bytes_of : List Field → List ℕ → List ℕ
+bytes_of (unread offset written ∷ fields) values = written ++ bytes_of fields values
+bytes_of (byte offset ∷ fields) (value ∷ values) = value ∷ bytes_of fields values
+bytes_of (number offset width order ∷ fields) (value ∷ values) = bytes_in order width value ++ bytes_of fields values
+bytes_of (flags offset width mask ∷ fields) (value ∷ values) = little_bytes width value ++ bytes_of fields values
 bytes_of _ _ = []
 
 -- the bits that are live: all of a number's, the mask's, none of what isn't read
-abbrev pub live_bits : List Row → List ℕ
+abbrev pub live_bits : List Field → List ℕ
 live_bits [] = []
-live_bits (byte place ∷ rows) = 255 ∷ live_bits rows
-live_bits (number place width order ∷ rows) = replicate width 255 ++ live_bits rows
-live_bits (flags place width mask ∷ rows) = little_bytes width mask ++ live_bits rows
-live_bits (unread place written ∷ rows) = replicate (length written) 0 ++ live_bits rows
+live_bits (byte offset ∷ fields) = 255 ∷ live_bits fields
+live_bits (number offset width order ∷ fields) = replicate width 255 ++ live_bits fields
+live_bits (flags offset width mask ∷ fields) = little_bytes width mask ++ live_bits fields
+live_bits (unread offset written ∷ fields) = replicate (length written) 0 ++ live_bits fields
 
 -- the bytes with the bits outside the masks taken off, as far as the masks go
 abbrev pub masked : List ℕ → List ℕ → List ℕ
@@ -70,18 +70,19 @@ abbrev pub first : ℕ → List ℕ → List ℕ
 first zero xs = []
 first (suc n) xs = slice_index xs 0 ∷ first n (drop 1 xs)
 
--- a value for each row that is read, and each within its row's width
-abbrev pub Fit : List Row → List ℕ → Type 0
+-- a value for each field that is read, and each within its field's width
+abbrev pub Fit : List Field → List ℕ → Type 0
 Fit [] [] = Unit {0}
-Fit (unread place written ∷ rows) values = Fit rows values
-Fit (byte place ∷ rows) (value ∷ values) = (value < 256) × Fit rows values
-Fit (number place width order ∷ rows) (value ∷ values) = (value < 256 ^ width) × Fit rows values
-Fit (flags place width mask ∷ rows) (value ∷ values) = (value < 256 ^ width) × Fit rows values
+Fit (unread offset written ∷ fields) values = Fit fields values
+Fit (byte offset ∷ fields) (value ∷ values) = (value < 256) × Fit fields values
+Fit (number offset width order ∷ fields) (value ∷ values) =
+    (value < 256 ^ width) × Fit fields values
+Fit (flags offset width mask ∷ fields) (value ∷ values) = (value < 256 ^ width) × Fit fields values
 Fit _ _ = ⊥
 
 -- no flag has a bit outside its mask
-abbrev pub AreDefined : List Row → List ℕ → Type 0
-AreDefined (unread place written ∷ rows) values = AreDefined rows values
-AreDefined (flags place width mask ∷ rows) (value ∷ values) = (bit_and value mask ≡ value) × AreDefined rows values
-AreDefined (row ∷ rows) (value ∷ values) = AreDefined rows values
+abbrev pub AreDefined : List Field → List ℕ → Type 0
+AreDefined (unread offset written ∷ fields) values = AreDefined fields values
+AreDefined (flags offset width mask ∷ fields) (value ∷ values) = (bit_and value mask ≡ value) × AreDefined fields values
+AreDefined (field ∷ fields) (value ∷ values) = AreDefined fields values
 AreDefined _ _ = Unit {0}

@@ -5,9 +5,10 @@
 
 ghost use Rattle.std.specs.Prelude.{◌≡◌, ◌+◌, ◌/◌, ◌≤◌, ◌<◌, ◌^◌, ◌↔◌, length, IsTrue, IsBitSet};
 ghost use Rattle.std.specs.Prelude.{MatchResult, IfSome, None};
-ghost use Rattle.netlink_core.specs.Attribute.{HeadIs, IsFramingFault, fill, kind_of, written};
+ghost use Rattle.netlink_core.specs.Attribute.{HasPrefix, IsFramingFault, fill, attribute_type};
+ghost use Rattle.netlink_core.specs.Attribute.{written};
 
-use crate::codec::Holds;
+use crate::codec::Input;
 use crate::fault::DecodeError;
 use byteorder::{ByteOrder, LittleEndian};
 
@@ -39,13 +40,13 @@ pub struct NlaBuffer<'a> {
 impl<'a> NlaBuffer<'a> {
     ghost use Rattle.netlink_core.specs.Walk.{attribute_of};
 
-    /// The attribute at the front of the bytes. Its padding and what follows it are not looked at.
+    /// The attribute at the start of the bytes. Its padding and what follows it are not looked at.
     ///
     /// Refused are fewer than 4 bytes as `AttributeHeaderCut`, then a length word under 4 as
     /// `AttributeLengthUnder4`, then one past the bytes as `AttributeLengthPast`.
     pub fn new_checked(bytes: &'a [u8]) -> Result<NlaBuffer<'a>, DecodeError>
         ensures { MatchResult result
-            (λ buffer. HeadIs bytes.entry.now (attribute_of buffer))
+            (λ buffer. HasPrefix bytes.entry.now (attribute_of buffer))
             (IsFramingFault bytes.entry.now) }
     {
         let left = bytes.len();
@@ -82,7 +83,7 @@ impl<'a> NlaBuffer<'a> {
 
     /// The type word without its two flag bits.
     pub fn kind(&self) -> u16
-        ensures { result ≡ kind_of (attribute_of self.now) }
+        ensures { result ≡ attribute_type (attribute_of self.now) }
     {
         self.type_word & KIND
     }
@@ -110,10 +111,10 @@ impl<'a> NlaBuffer<'a> {
 }
 
 // An attribute is read as its bytes, with the padding.
-impl Holds for NlaBuffer<'_> {
+impl Input for NlaBuffer<'_> {
     ghost use Rattle.netlink_core.specs.Walk.{attribute_of};
 
-    ghost held = { λ nla. written (attribute_of nla) };
+    ghost input = { λ nla. written (attribute_of nla) };
 }
 
 /// The walk over attributes that stand one after the other, each at a multiple of 4.

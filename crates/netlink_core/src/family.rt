@@ -1,8 +1,9 @@
 //! What an attribute of one family is, in place and with memory of its own.
 
 ghost use Rattle.std.specs.Prelude.{◌≡◌, ◌↔◌, Ok, Err, IfOk, IfErr, IsOk, IsTrue};
-ghost use Rattle.netlink_core.specs.Family.{Family, Said, says, attribute_said, IsSpareSaid};
-ghost use Rattle.netlink_core.specs.Family.{IsTypedSaid};
+ghost use Rattle.netlink_core.specs.AttributeSet.{AttributeSet, AttributeValue, decodes, encodes};
+ghost use Rattle.netlink_core.specs.AttributeSet.{IsSpareBy};
+ghost use Rattle.netlink_core.specs.AttributeSet.{IsInRangeBy};
 ghost use Rattle.netlink_core.specs.Walk.{attribute_of};
 
 use crate::attribute::NlaBuffer;
@@ -13,40 +14,42 @@ use std::default::MadeWith;
 
 /// An attribute of one family of replies, read in place.
 pub trait FamilyView<'a>: Nla + PartialEq + Sized {
-    // The family, and what an attribute says in it.
-    ghost family: { Family };
+    // The set of attributes, and what an attribute decodes to in it.
+    ghost attribute_set: { AttributeSet };
 
-    ghost viewed: { Self → Said family };
+    ghost model: { Self → AttributeValue attribute_set };
 
     /// Reads one attribute.
     fn read_view(nla: &NlaBuffer<'a>) -> Result<Self, DecodeError>
-        ensures value { IfOk result (λ view. says family (attribute_of nla.now)
-            ≡ Ok (viewed view)) }
-        ensures fault { IfErr result (λ e. says family (attribute_of nla.now) ≡ Err e) };
+        ensures value { IfOk result (λ view. decodes attribute_set (attribute_of nla.now)
+            ≡ Ok (model view)) }
+        ensures fault { IfErr result (λ e. decodes attribute_set (attribute_of nla.now) ≡ Err e) };
 
     /// Reads one attribute that is accepted.
     fn read_accepted(nla: &NlaBuffer<'a>) -> Self
-        requires { IsOk (says family (attribute_of nla.now)) }
-        ensures { says family (attribute_of nla.now) ≡ Ok (viewed result) };
+        requires { IsOk (decodes attribute_set (attribute_of nla.now)) }
+        ensures { decodes attribute_set (attribute_of nla.now) ≡ Ok (model result) };
 
-    // An attribute is written as what it says.
-    ghost written_as: { (view : Self) → Self.Nla.attribute view ≡ attribute_said family
-        (viewed view) };
+    // An attribute is written as what it decodes to.
+    ghost written_as: { (view : Self) → Self.Nla.attribute view ≡ encodes attribute_set
+        (model view) };
 }
 
 /// An attribute of one family of replies, with memory of its own.
 pub trait FamilyNla: Nla + PartialEq + MadeWith<Global> + Drop + Sized {
-    // The family, and what an attribute says in it.
-    ghost family: { Family };
+    // The set of attributes, and what an attribute decodes to in it.
+    ghost attribute_set: { AttributeSet };
 
-    ghost seen: { Self → Said family };
+    ghost model: { Self → AttributeValue attribute_set };
 
     /// The attribute in bytes that are accepted.
     fn own_accepted(alloc: Global, nla: &NlaBuffer<'_>) -> Result<Self, AllocError>
-        requires { IsOk (says family (attribute_of nla.now)) }
-        ensures equal { IfOk result (λ own. says family (attribute_of nla.now) ≡ Ok (seen own)) }
-        ensures spare { (said : Said family) → says family (attribute_of nla.now) ≡ Ok said
-            → IsSpareSaid family said → IsOk result };
+        requires { IsOk (decodes attribute_set (attribute_of nla.now)) }
+        ensures equal { IfOk result (λ own.
+            decodes attribute_set (attribute_of nla.now) ≡ Ok (model own)) }
+        ensures spare { (value : AttributeValue attribute_set)
+            → decodes attribute_set (attribute_of nla.now) ≡ Ok value
+            → IsSpareBy attribute_set value → IsOk result };
 
     /// Whether the value takes much more room than those of other kinds. It is a hint for speed.
     #[inline(always)]
@@ -56,15 +59,15 @@ pub trait FamilyNla: Nla + PartialEq + MadeWith<Global> + Drop + Sized {
 
     /// An equal attribute.
     fn copy_nla(&self, alloc: Global) -> Result<Self, AllocError>
-        ensures equal { IfOk result (λ copy. seen copy ≡ seen self.now) }
-        ensures spare { IsSpareSaid family (seen self.now) → IsOk result };
+        ensures equal { IfOk result (λ copy. model copy ≡ model self.now) }
+        ensures spare { IsSpareBy attribute_set (model self.now) → IsOk result };
 
     /// Tells the prover that the attribute's numbers are within their types. It does nothing.
-    fn said_typed(&self)
-        ensures { IsTypedSaid family (seen self.now) };
+    fn value_in_range(&self)
+        ensures { IsInRangeBy attribute_set (model self.now) };
 
-    // It is written as what it says, and `==` compares that.
-    ghost written_as: { (nla : Self) → Self.Nla.attribute nla ≡ attribute_said family (seen nla) };
+    // It is written as what it decodes to, and `==` compares that.
+    ghost written_as: { (nla : Self) → Self.Nla.attribute nla ≡ encodes attribute_set (model nla) };
 
-    ghost eq_is_seen: { (v w : Self) → IsTrue (Self.PartialEq.eq v w) ↔ (seen v ≡ seen w) };
+    ghost eq_is_model: { (v w : Self) → IsTrue (Self.PartialEq.eq v w) ↔ (model v ≡ model w) };
 }

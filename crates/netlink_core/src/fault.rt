@@ -1,7 +1,7 @@
 //! Why bytes were refused. Lengths and places are in bytes.
 
 ghost use Rattle.std.specs.Prelude.{◌≡◌};
-ghost use Rattle.netlink_core.specs.Faults.{number_of, of_kind};
+ghost use Rattle.netlink_core.specs.Faults.{number_of, with_attribute_type};
 ghost use Rattle.netlink_core.specs.declared.fault.DecodeError.TheVariants.{Memory};
 
 use std::alloc::{AllocError, AllocFailed};
@@ -170,7 +170,7 @@ impl DecodeError {
 
     /// The same fault. A `WrongLength` that told no kind tells this one.
     pub fn with_kind(self, kind: u16) -> Self
-        ensures { result ≡ of_kind kind self }
+        ensures { result ≡ with_attribute_type kind self }
     {
         match self {
             DecodeError::WrongLength {

@@ -1,7 +1,7 @@
 //! The header of a netlink message.
 
 ghost use Rattle.std.specs.Prelude.{◌≡◌, length, MatchResult};
-ghost use Rattle.netlink_core.specs.Header.{HasHeader, IsEnvelopeFault, IsTypedHeader};
+ghost use Rattle.netlink_core.specs.Header.{HasHeader, IsEnvelopeFault, IsHeaderInRange};
 ghost use Rattle.netlink_core.specs.Header.{header_bytes};
 
 use crate::fault::DecodeError;
@@ -30,7 +30,7 @@ pub struct NetlinkHeader {
 }
 
 impl NetlinkHeader {
-    /// The header at the front of the bytes, which hold the whole message. What follows the header
+    /// The header at the start of the bytes, which hold the whole message. What follows the header
     /// is not looked at, and no memory is taken.
     ///
     /// Refused are fewer than 16 bytes as `EnvelopeCut`, then a length under 16 as
@@ -60,8 +60,8 @@ impl NetlinkHeader {
     }
 
     /// Tells the prover that its numbers are within their types. It does nothing.
-    pub fn typed(&self)
-        ensures { IsTypedHeader self.now }
+    pub fn in_range(&self)
+        ensures { IsHeaderInRange self.now }
     {
         let NetlinkHeader {
             length: _length,
@@ -73,11 +73,11 @@ impl NetlinkHeader {
     }
 
     // Writes the five fields over sixteen bytes of any content.
-    pub(crate) fn write_row(&self, row: &mut [u8])
-        requires { length row.old ≡ 16 }
-        ensures { row.new ≡ header_bytes self.now }
+    pub(crate) fn write_fields(&self, buffer: &mut [u8])
+        requires { length buffer.old ≡ 16 }
+        ensures { buffer.new ≡ header_bytes self.now }
     {
-        let (length, rest) = row.split_at_mut(4);
+        let (length, rest) = buffer.split_at_mut(4);
         let (kind, numbers) = rest.split_at_mut(4);
         LittleEndian::write_u32_into(&[self.length], length);
         LittleEndian::write_u16_into(&[self.message_type, self.flags], kind);

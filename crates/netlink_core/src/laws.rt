@@ -9,13 +9,13 @@ ghost use Rattle.std.specs.Iterator.{Drains, YieldsThen};
 ghost use Rattle.std.specs.List.{AllByRecursion, flat_map};
 ghost use Rattle.netlink_core.specs.Attribute.{Attribute, FitsWords, Cut, CutInFull, CutOff};
 ghost use Rattle.netlink_core.specs.Attribute.{IsFramingFault, fill, unpadded, written};
-ghost use Rattle.netlink_core.specs.Format.{read, StandsIn};
+ghost use Rattle.netlink_core.specs.Layout.{read, StandsIn};
 ghost use Rattle.netlink_core.specs.Bytes.{IsBytes};
 ghost use Rattle.netlink_core.specs.Walk.{attribute_of, bytes_left, GivesAttribute};
 ghost use Rattle.netlink_core.specs.Datagram.{CutIntoMessages, AreWholeMessages};
 ghost use Rattle.netlink_core.specs.DatagramWalk.{datagram_left, GivesMessage};
 ghost use Rattle.netlink_core.specs.Items.{ItemsAre};
-ghost use Rattle.netlink_core.specs.Seen.{envelope_of, payload_of};
+ghost use Rattle.netlink_core.specs.EnvelopeModel.{envelope_of, payload_of};
 ghost use Rattle.netlink_core.specs.declared.attribute.NlaBuffer.{NlaBuffer};
 ghost use Rattle.netlink_core.specs.declared.attribute.NlasIterator.{NlasIterator};
 ghost use Rattle.netlink_core.specs.declared.datagram.MessageStrings.{MessageStrings};
@@ -64,11 +64,12 @@ pub fn written_attributes_are_cut()
         → CutInFull (flat_map written xs) xs × Cut (flat_map written xs) xs }
 {}
 
-/// A record is read exactly where it stands: a string that is long enough, tells the value's table
-/// and has its numbers is read as the typed value in normal form with these, and as no other.
+/// A record is read exactly where it stands: a string that is long enough, has the tag of the value
+/// and has its numbers is read as the value in range and in normal form with these, and as no
+/// other.
 pub fn read_where_it_stands<T: Record>()
-    ensures { (bytes : List ℕ) (told : T.Told) (value : T) → IsBytes bytes
-        → (read T.format told bytes ≡ Ok value) ↔ StandsIn T.format bytes told value }
+    ensures { (bytes : List ℕ) (param : T.Param) (value : T) → IsBytes bytes
+        → (read T.layout param bytes ≡ Ok value) ↔ StandsIn T.layout bytes param value }
 {}
 
 /// Whether reading a record takes memory: of none it does.
@@ -144,20 +145,20 @@ pub fn copies_are_the_same<T: Exact>(v: &T) -> Result<T, AllocError>
 
 /// `==` says whether two messages have the same header and carry the same.
 pub fn equal_messages<I: Coded>(v: &NetlinkMessage<I>, w: &NetlinkMessage<I>) -> bool
-    ensures { IsTrue result ↔ (envelope_of I.seen v.now ≡ envelope_of I.seen w.now) }
+    ensures { IsTrue result ↔ (envelope_of I.model v.now ≡ envelope_of I.model w.now) }
 {
     v == w
 }
 
 /// `==` says whether two payloads carry the same.
 pub fn equal_payloads<I: Coded>(v: &NetlinkPayload<I>, w: &NetlinkPayload<I>) -> bool
-    ensures { IsTrue result ↔ (payload_of I.seen v.now ≡ payload_of I.seen w.now) }
+    ensures { IsTrue result ↔ (payload_of I.model v.now ≡ payload_of I.model w.now) }
 {
     v == w
 }
 
 /// `==` says whether two attributes in place are the same attribute.
-#[tactic(auto, using(crate::proofs::SaidTests::attribute_test_says))]
+#[tactic(auto, using(crate::proofs::ValueTests::attribute_test_decides))]
 pub fn equal_buffers(v: &NlaBuffer<'_>, w: &NlaBuffer<'_>) -> bool
     ensures { IsTrue result ↔ (attribute_of v.now ≡ attribute_of w.now) }
 {
@@ -201,7 +202,7 @@ pub fn default_header() -> NetlinkHeader
     NetlinkHeader::default()
 }
 
-/// Bytes have one message at their front or one fault, which has a name.
+/// Bytes have one message at their start or one fault, which has a name.
 pub fn one_message_or_fault<I: Coded<Param = u16>>()
     ensures answered { (b : List ℕ) → IsBytes b
         → ((v : Envelope I.codec.Value) × (envelope_codec I.codec).reads b tt v)
@@ -237,7 +238,7 @@ pub fn messages_written_alike<I: Coded<Param = u16>>()
 /// them, read back as itself exactly where it is in normal form.
 pub fn finalized_message_reads_back<I: Coded<Param = u16>>()
     ensures { (type_of : I.codec.Value → ℕ) (v : Envelope I.codec.Value)
-        → (envelope_codec I.codec).is_typed v → (envelope_codec I.codec).fits v
+        → (envelope_codec I.codec).is_in_range v → (envelope_codec I.codec).fits v
         → (v.header ≡ finalized I.codec.written type_of v)
         → ((envelope_codec I.codec).reads ((envelope_codec I.codec).written v) tt v
         ↔ (envelope_codec I.codec).is_normal tt v) }
@@ -279,7 +280,7 @@ pub fn one_list_of_items<I: Coded<Param = u16>>()
 
 /// Messages with all their padding, and then more bytes, have the items of those messages and then
 /// those of the others.
-pub fn items_in_a_row<I: Coded<Param = u16>>()
+pub fn items_of_concatenation<I: Coded<Param = u16>>()
     ensures { (front back : List ℕ) (messages : List (List ℕ))
         (xs ys : List (Result (Payload I.codec.Value) DecodeError))
         → AreWholeMessages front messages

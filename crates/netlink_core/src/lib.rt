@@ -9,18 +9,18 @@ mod datagram;
 mod exact;
 mod family;
 mod fault;
+pub mod fields;
 mod header;
 pub mod laws;
 mod message;
 mod nla;
 mod parse;
 mod record;
-pub mod rows;
 mod wire;
 
 pub use crate::attribute::{NLA_HEADER_SIZE, NlaBuffer, NlasIterator, padded};
 pub use crate::canon::{CanonError, canonical};
-pub use crate::codec::{Emitable, Holds, Parseable, ParseableParametrized, Readable};
+pub use crate::codec::{Emitable, Input, Parseable, ParseableParametrized, Readable};
 pub use crate::datagram::MessageStrings;
 pub use crate::exact::Exact;
 pub use crate::family::{FamilyNla, FamilyView};
@@ -36,4 +36,4 @@ pub use crate::nla::{
 };
 pub use crate::parse::{emit_u32, parse_str, parse_string, parse_u8, parse_u32};
 pub use crate::record::{Fills, Record, RecordBuffer, read_record};
-pub use crate::wire::{Coded, Wire, bytes_typed, word_typed, write_new};
+pub use crate::wire::{Coded, Wire, bytes_in_range, word_in_range, write_new};

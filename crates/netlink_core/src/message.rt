@@ -4,10 +4,10 @@ ghost use Rattle.std.specs.Prelude.{◌≡◌, ◌≢◌, ◌≤◌, ◌<◌, �
 ghost use Rattle.std.specs.Prelude.{IsTrue};
 ghost use Rattle.byteorder.specs.Endian.{little_number};
 ghost use Rattle.netlink_core.specs.declared.fault.DecodeError.TheVariants.{Memory};
-ghost use Rattle.netlink_core.specs.Envelope.{Payload, Envelope, number_in_front, error_number_of};
+ghost use Rattle.netlink_core.specs.Envelope.{Payload, Envelope, leading_number, error_number_of};
 ghost use Rattle.netlink_core.specs.Envelope.{PayloadIs, IsInnerType, payload_bytes, payload_type};
 ghost use Rattle.netlink_core.specs.Envelope.{OfInner, finalized, envelope_codec};
-ghost use Rattle.netlink_core.specs.Seen.{payload_of, envelope_of};
+ghost use Rattle.netlink_core.specs.EnvelopeModel.{payload_of, envelope_of};
 
 use crate::fault::DecodeError;
 use crate::header::{NETLINK_HEADER_LEN, NetlinkHeader};
@@ -40,29 +40,29 @@ const LONGEST: usize = 4_294_967_295;
 pub trait NetlinkSerializable: Coded<Param = u16> {
     /// Whether the message can be written.
     fn is_writable(&self) -> bool
-        ensures { IsTrue result ↔ Self.codec.fits (Self.seen self.now) };
+        ensures { IsTrue result ↔ Self.codec.fits (Self.model self.now) };
 
     /// The message's type.
     fn message_type(&self) -> u16
-        ensures { result ≡ Self.type_written (Self.seen self.now) };
+        ensures { result ≡ Self.type_written (Self.model self.now) };
 
     /// How many bytes `serialize` writes.
     fn buffer_len(&self) -> usize
-        requires { Self.codec.fits (Self.seen self.now) }
-        ensures { result ≡ length (Self.codec.written (Self.seen self.now)) };
+        requires { Self.codec.fits (Self.model self.now) }
+        ensures { result ≡ length (Self.codec.written (Self.model self.now)) };
 
-    /// Writes the message at the front of the buffer, and leaves the rest.
+    /// Writes the message at the start of the buffer, and leaves the rest.
     fn serialize(&self, buffer: &mut [u8])
-        requires writable { Self.codec.fits (Self.seen self.now) }
-        requires room { length (Self.codec.written (Self.seen self.now)) ≤ length buffer.old }
-        ensures { buffer.new ≡ Self.codec.written (Self.seen self.now)
-            ++ drop (length (Self.codec.written (Self.seen self.now))) buffer.old };
+        requires writable { Self.codec.fits (Self.model self.now) }
+        requires room { length (Self.codec.written (Self.model self.now)) ≤ length buffer.old }
+        ensures { buffer.new ≡ Self.codec.written (Self.model self.now)
+            ++ drop (length (Self.codec.written (Self.model self.now))) buffer.old };
 }
 
 /// A message of a protocol that is read from a payload under the type that the netlink header
 /// tells.
 pub trait NetlinkDeserializable: Coded<Param = u16> {
-    /// Reads a message under the header's type, or tells the first fault. No other field of the
+    /// Reads a message under the header's type, or returns the first fault. No other field of the
     /// header is looked at.
     fn deserialize(
         alloc: Global,
@@ -70,7 +70,7 @@ pub trait NetlinkDeserializable: Coded<Param = u16> {
         payload: &[u8],
     ) -> Result<Self, DecodeError>
         ensures value { IfOk result
-            (λ m. Self.codec.reads payload.now header.now.message_type (Self.seen m)) }
+            (λ m. Self.codec.reads payload.now header.now.message_type (Self.model m)) }
         ensures fault { IfErr result (λ e. e ≢ Memory
             → Self.codec.refuses payload.now header.now.message_type e) }
         // Memory is wanted only for a payload that has a message.
@@ -97,7 +97,7 @@ pub enum NetlinkPayload<I> {
 /// acknowledgement or a dump that went well, else `-errno` (errno(3)). `None` where there are fewer
 /// than four bytes.
 pub fn error_number(payload: &[u8]) -> Option<i32>
-    ensures { result ≡ number_in_front payload.now }
+    ensures { result ≡ leading_number payload.now }
 {
     if payload.len() < 4 {
         return None;
@@ -109,7 +109,7 @@ impl<I: Coded> NetlinkPayload<I> {
     /// The number that an error or an end tells, as [`error_number`] reads it, and `None` of any
     /// other payload.
     pub fn error_number(&self) -> Option<i32>
-        ensures { result ≡ error_number_of (payload_of I.seen self.now) }
+        ensures { result ≡ error_number_of (payload_of I.model self.now) }
     {
         match self {
             NetlinkPayload::Done(bytes) | NetlinkPayload::Error(bytes) => error_number(bytes),
@@ -122,7 +122,7 @@ impl<I: NetlinkSerializable> NetlinkPayload<I> {
     /// The type that the message's header is to tell: `NLMSG_DONE`, `NLMSG_ERROR`, `NLMSG_NOOP`,
     /// `NLMSG_OVERRUN`, or that of the inner message.
     pub fn message_type(&self) -> u16
-        ensures { result ≡ payload_type I.type_written (payload_of I.seen self.now) }
+        ensures { result ≡ payload_type I.type_written (payload_of I.model self.now) }
     {
         match self {
             NetlinkPayload::Done(_) => NLMSG_DONE,
@@ -135,7 +135,7 @@ impl<I: NetlinkSerializable> NetlinkPayload<I> {
 
     // Whether an inner message, if there is one, can be written.
     fn is_writable(&self) -> bool
-        ensures { IsTrue result ↔ OfInner I.codec.fits (payload_of I.seen self.now) }
+        ensures { IsTrue result ↔ OfInner I.codec.fits (payload_of I.model self.now) }
     {
         match self {
             NetlinkPayload::InnerMessage(message) => message.is_writable(),
@@ -145,8 +145,8 @@ impl<I: NetlinkSerializable> NetlinkPayload<I> {
 
     // How many bytes the payload is written as.
     fn buffer_len(&self) -> usize
-        requires { OfInner I.codec.fits (payload_of I.seen self.now) }
-        ensures { result ≡ length (payload_bytes I.codec.written (payload_of I.seen self.now)) }
+        requires { OfInner I.codec.fits (payload_of I.model self.now) }
+        ensures { result ≡ length (payload_bytes I.codec.written (payload_of I.model self.now)) }
     {
         match self {
             NetlinkPayload::Done(bytes)
@@ -157,13 +157,13 @@ impl<I: NetlinkSerializable> NetlinkPayload<I> {
         }
     }
 
-    // Writes the payload at the front of the buffer, and leaves the rest.
+    // Writes the payload at the start of the buffer, and leaves the rest.
     fn serialize(&self, buffer: &mut [u8])
-        requires writable { OfInner I.codec.fits (payload_of I.seen self.now) }
-        requires room { length (payload_bytes I.codec.written (payload_of I.seen self.now))
+        requires writable { OfInner I.codec.fits (payload_of I.model self.now) }
+        requires room { length (payload_bytes I.codec.written (payload_of I.model self.now))
             ≤ length buffer.old }
-        ensures { buffer.new ≡ payload_bytes I.codec.written (payload_of I.seen self.now)
-            ++ drop (length (payload_bytes I.codec.written (payload_of I.seen self.now)))
+        ensures { buffer.new ≡ payload_bytes I.codec.written (payload_of I.model self.now)
+            ++ drop (length (payload_bytes I.codec.written (payload_of I.model self.now)))
             buffer.old }
     {
         match self {
@@ -180,7 +180,7 @@ impl<I: NetlinkDeserializable> NetlinkPayload<I> {
     // The payload under the header's type. A payload of nothing never wants memory.
     fn read(alloc: Global, header: &NetlinkHeader, bytes: &[u8]) -> Result<Self, DecodeError>
         ensures value { IfOk result (λ p. PayloadIs I.codec.reads bytes.now header.now.message_type
-            (payload_of I.seen p)) }
+            (payload_of I.model p)) }
         ensures fault { IfErr result (λ e. e ≢ Memory
             → IsInnerType header.now.message_type
             × I.codec.refuses bytes.now header.now.message_type e) }
@@ -230,18 +230,18 @@ impl<I> NetlinkMessage<I> {
 impl<I: Coded<Param = u16>> NetlinkMessage<I> {
     /// Tells the prover that its numbers are within their types, so that the laws of messages hold
     /// of it. It does nothing.
-    pub fn typed(&self)
-        ensures { (envelope_codec I.codec).is_typed (envelope_of I.seen self.now) }
+    pub fn in_range(&self)
+        ensures { (envelope_codec I.codec).is_in_range (envelope_of I.model self.now) }
     {
-        self.header.typed();
+        self.header.in_range();
         if let NetlinkPayload::InnerMessage(message) = &self.payload {
-            message.typed();
+            message.in_range();
         }
     }
 }
 
 impl<I: NetlinkDeserializable> NetlinkMessage<I> {
-    /// Reads the message at the front of the bytes. What follows its length is unread.
+    /// Reads the message at the start of the bytes. What follows its length is unread.
     ///
     /// Refused are fewer than 16 bytes as `EnvelopeCut`, then a length under 16 as
     /// `EnvelopeLengthUnder16`, then one past the bytes as `EnvelopeLengthPast`, then what the
@@ -249,7 +249,7 @@ impl<I: NetlinkDeserializable> NetlinkMessage<I> {
     /// payload is dropped.
     pub fn deserialize(alloc: Global, bytes: &[u8]) -> Result<Self, DecodeError>
         ensures value { IfOk result
-            (λ m. (envelope_codec I.codec).reads bytes.now tt (envelope_of I.seen m)) }
+            (λ m. (envelope_codec I.codec).reads bytes.now tt (envelope_of I.model m)) }
         ensures fault { IfErr result (λ e. e ≢ Memory
             → (envelope_codec I.codec).refuses bytes.now tt e) }
         ensures memory { IfErr result (λ e. e ≡ Memory → little_number 2 (drop 4 bytes.now) ≢ 1) }
@@ -267,9 +267,9 @@ impl<I: NetlinkDeserializable> NetlinkMessage<I> {
 impl<I: NetlinkSerializable> NetlinkMessage<I> {
     /// Sets the header's length to that of the message, and its type to the payload's.
     pub fn finalize(&mut self)
-        requires { (envelope_codec I.codec).fits (envelope_of I.seen self.old) }
+        requires { (envelope_codec I.codec).fits (envelope_of I.model self.old) }
         ensures header { self.new.header ≡ finalized I.codec.written I.type_written
-            (envelope_of I.seen self.old) }
+            (envelope_of I.model self.old) }
         ensures payload { self.new.payload ≡ self.old.payload }
     {
         self.header.length = self.buffer_len() as u32;
@@ -279,30 +279,31 @@ impl<I: NetlinkSerializable> NetlinkMessage<I> {
     /// Whether the message can be written: its inner message can be, and the whole has at most
     /// 4,294,967,295 bytes, the header's 16 among them.
     pub fn is_writable(&self) -> bool
-        ensures { IsTrue result ↔ (envelope_codec I.codec).fits (envelope_of I.seen self.now) }
+        ensures { IsTrue result ↔ (envelope_codec I.codec).fits (envelope_of I.model self.now) }
     {
         self.payload.is_writable() && self.payload.buffer_len() <= LONGEST - NETLINK_HEADER_LEN
     }
 
     /// How many bytes `serialize` writes.
     pub fn buffer_len(&self) -> usize
-        requires { (envelope_codec I.codec).fits (envelope_of I.seen self.now) }
-        ensures { result ≡ length ((envelope_codec I.codec).written (envelope_of I.seen self.now)) }
+        requires { (envelope_codec I.codec).fits (envelope_of I.model self.now) }
+        ensures { result ≡ length ((envelope_codec I.codec).written
+            (envelope_of I.model self.now)) }
     {
         NETLINK_HEADER_LEN + self.payload.buffer_len()
     }
 
     /// Writes the header as it stands and then the payload, and leaves the rest of the buffer.
     pub fn serialize(&self, buffer: &mut [u8])
-        requires writable { (envelope_codec I.codec).fits (envelope_of I.seen self.now) }
-        requires room { length ((envelope_codec I.codec).written (envelope_of I.seen self.now))
+        requires writable { (envelope_codec I.codec).fits (envelope_of I.model self.now) }
+        requires room { length ((envelope_codec I.codec).written (envelope_of I.model self.now))
             ≤ length buffer.old }
-        ensures { buffer.new ≡ (envelope_codec I.codec).written (envelope_of I.seen self.now)
-            ++ drop (length ((envelope_codec I.codec).written (envelope_of I.seen self.now)))
+        ensures { buffer.new ≡ (envelope_codec I.codec).written (envelope_of I.model self.now)
+            ++ drop (length ((envelope_codec I.codec).written (envelope_of I.model self.now)))
             buffer.old }
     {
         let (header, rest) = buffer.split_at_mut(NETLINK_HEADER_LEN);
-        self.header.write_row(header);
+        self.header.write_fields(header);
         self.payload.serialize(rest);
     }
 }

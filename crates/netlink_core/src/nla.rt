@@ -5,13 +5,13 @@ ghost use Rattle.std.specs.Prelude.{true, refl, IsTrue, IsOk, IfOk, SomeIff};
 ghost use Rattle.std.specs.List.{flat_map};
 ghost use Rattle.std.proofs.Common.{rules};
 ghost use Rattle.netlink_core.specs.Attribute.{Attribute, HasFittingValue, AreWritable, written};
-ghost use Rattle.netlink_core.specs.Heads.{head_codec};
-ghost use Rattle.netlink_core.specs.HeadLaws.{heads_keep_laws};
+ghost use Rattle.netlink_core.specs.FirstAttribute.{first_attribute_codec};
+ghost use Rattle.netlink_core.specs.FirstAttributeLaws.{first_attribute_keeps_laws};
 
 use crate::attribute::{MAX_VALUE, NLA_HEADER_SIZE, NlaBuffer, padded};
 use crate::codec::{Emitable, Parseable, Readable};
 use crate::fault::DecodeError;
-use crate::wire::{Coded, Wire, bytes_typed};
+use crate::wire::{Coded, Wire, bytes_in_range};
 use byteorder::{ByteOrder, LittleEndian};
 use std::alloc::{AllocError, Global};
 
@@ -28,7 +28,7 @@ pub trait Nla {
     fn kind(&self) -> u16
         ensures { result ≡ (attribute self.now).type_word };
 
-    /// Writes the value at the front of the buffer, and leaves the rest.
+    /// Writes the value at the start of the buffer, and leaves the rest.
     fn emit_value(&self, buffer: &mut [u8])
         requires fits { HasFittingValue (attribute self.now) }
         requires room { length (attribute self.now).value ≤ length buffer.old }
@@ -59,7 +59,7 @@ pub fn nla_len<T: Nla>(nla: &T) -> usize
     padded(NLA_HEADER_SIZE + nla.value_len())
 }
 
-/// Writes the attribute at the front of the buffer, with zeros as its padding, and leaves the rest.
+/// Writes the attribute at the start of the buffer, with zeros as its padding, and leaves the rest.
 pub fn emit_nla<T: Nla>(nla: &T, buffer: &mut [u8])
     requires fits { HasFittingValue (T.attribute nla.now) }
     requires room { length (written (T.attribute nla.now)) ≤ length buffer.old }
@@ -136,7 +136,7 @@ pub fn nlas_len<T: Nla>(nlas: &[T]) -> usize
     len
 }
 
-/// Writes the attributes one after the other at the front of the buffer, and leaves the rest.
+/// Writes the attributes one after the other at the start of the buffer, and leaves the rest.
 pub fn emit_nlas<T: Nla>(nlas: &[T], buffer: &mut [u8])
     requires fits { AreWritable (map T.attribute nlas.now) 4294967295 }
     requires room { length (flat_map written (map T.attribute nlas.now)) ≤ length buffer.old }
@@ -227,7 +227,7 @@ impl Readable for DefaultNla {
 }
 
 impl<'a> Parseable<NlaBuffer<'a>> for DefaultNla {
-    #[tactic(auto, using(crate::specs::HeadLaws::kept_is_read))]
+    #[tactic(auto, using(crate::specs::FirstAttributeLaws::kept_is_read))]
     fn parse(alloc: Global, buf: NlaBuffer<'a>) -> Result<Self, DecodeError> {
         Ok(DefaultNla::keep(alloc, &buf)?)
     }
@@ -277,20 +277,20 @@ impl Coded for DefaultNla {
     type Param = ();
 
     // Of no kind: each attribute says itself.
-    ghost codec = { head_codec [] };
+    ghost codec = { first_attribute_codec [] };
 
-    ghost seen = { kept_attribute };
+    ghost model = { kept_attribute };
 
     ghost type_written = { λ _. 0 };
 
-    fn typed(&self) {
+    fn in_range(&self) {
         let _kind = self.kind;
-        bytes_typed(self.value.as_slice());
+        bytes_in_range(self.value.as_slice());
     }
 
-    ghost eq_is_seen = { Prim.search rules };
+    ghost eq_is_model = { Prim.search rules };
 
-    ghost laws = { heads_keep_laws [] tt };
+    ghost laws = { first_attribute_keeps_laws [] tt };
 }
 
 impl Wire for DefaultNla {

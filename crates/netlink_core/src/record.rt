@@ -2,7 +2,7 @@
 
 ghost use Rattle.std.specs.Prelude.{◌≡◌, ◌≢◌, ◌≤◌, IfErr, ℕ, List, length, take, SomeIff, false, ⊤};
 ghost use Rattle.std.specs.Prelude.{refl};
-ghost use Rattle.netlink_core.specs.Format.{Format, read, read_row, bytes, IsTyped};
+ghost use Rattle.netlink_core.specs.Layout.{Layout, read, read_fields, bytes, IsInRange};
 ghost use Rattle.netlink_core.specs.declared.fault.DecodeError.TheVariants.{Memory};
 ghost use Rattle.netlink_core.specs.Codec.{record_codec, RecordLaws};
 
@@ -17,44 +17,44 @@ use std::marker::{Model, PhantomData};
 ///
 /// What follows its bytes is ignored, and fewer bytes are [`DecodeError::BufferTooSmall`].
 pub trait Record: Exact + Sized {
-    /// What the reader is told beside the bytes.
-    type Told: Copy;
+    /// What the reader takes beside the bytes.
+    type Param: Copy;
 
     ghost Tag: { Type 0 } = { Unit {0} };
 
     // How the record stands in bytes.
-    ghost format: { Format Self.Told Tag Self };
+    ghost layout: { Layout Self.Param Tag Self };
 
     /// The record's name in faults, and the fewest bytes that it is read from.
     fn name_and_least() -> (RecordName, usize)
-        ensures { result ≡ (format.name, format.least) };
+        ensures { result ≡ (layout.name, layout.least) };
 
     /// The number of the value's bytes.
     fn size(&self) -> usize
-        ensures { result ≡ format.size (format.tag_of self.now) };
+        ensures { result ≡ layout.size (layout.tag_of self.now) };
 
     /// The value in bytes that are enough, or the first fault there.
-    fn from_row(bytes: &[u8], told: Self::Told) -> Result<Self, DecodeError>
-        requires { format.least ≤ length bytes.now }
-        ensures { result ≡ read_row format told bytes.now };
+    fn from_fields(bytes: &[u8], param: Self::Param) -> Result<Self, DecodeError>
+        requires { layout.least ≤ length bytes.now }
+        ensures { result ≡ read_fields layout param bytes.now };
 
     /// Writes the value over bytes of any content.
-    fn write_row(&self, row: &mut [u8])
-        requires { length row.old ≡ format.size (format.tag_of self.now) }
-        ensures { row.new ≡ bytes format self.now };
+    fn write_fields(&self, buffer: &mut [u8])
+        requires { length buffer.old ≡ layout.size (layout.tag_of self.now) }
+        ensures { buffer.new ≡ bytes layout self.now };
 
-    /// Tells the prover that the value's numbers are within their rows. It does nothing.
-    fn row_typed(&self)
-        ensures { IsTyped format self.now };
+    /// Tells the prover that the value's numbers are within their fields. It does nothing.
+    fn fields_in_range(&self)
+        ensures { IsInRange layout self.now };
 
     // What is read is what stands in the bytes, and the codec keeps the laws.
-    ghost laws: { RecordLaws format };
+    ghost laws: { RecordLaws layout };
 }
 
 /// Reads the value in front of the bytes.
 #[inline(always)]
-pub fn read_record<T: Record>(bytes: &[u8], told: T::Told) -> Result<T, DecodeError>
-    ensures value { result ≡ read T.format told bytes.now }
+pub fn read_record<T: Record>(bytes: &[u8], param: T::Param) -> Result<T, DecodeError>
+    ensures value { result ≡ read T.layout param bytes.now }
     ensures named { IfErr result (λ fault. fault ≢ Memory) }
 {
     let (which, need) = T::name_and_least();
@@ -62,7 +62,7 @@ pub fn read_record<T: Record>(bytes: &[u8], told: T::Told) -> Result<T, DecodeEr
         let got = bytes.len();
         return Err(DecodeError::BufferTooSmall { which, got, need });
     }
-    T::from_row(bytes, told)
+    T::from_fields(bytes, param)
 }
 
 impl<T: Record> Readable for T {
@@ -71,20 +71,20 @@ impl<T: Record> Readable for T {
     ghost TAKES_MEMORY = { false };
 }
 
-impl<'a, T: Record<Told = ()>> Parseable<&'a [u8]> for T {
+impl<'a, T: Record<Param = ()>> Parseable<&'a [u8]> for T {
     fn parse(_alloc: Global, payload: &'a [u8]) -> Result<Self, DecodeError> {
         read_record(payload, ())
     }
 }
 
-impl<'a, T: Record<Told = u8>> ParseableParametrized<&'a [u8], u8> for T {
-    fn parse_with_param(_alloc: Global, payload: &'a [u8], told: u8) -> Result<Self, DecodeError> {
-        read_record(payload, told)
+impl<'a, T: Record<Param = u8>> ParseableParametrized<&'a [u8], u8> for T {
+    fn parse_with_param(_alloc: Global, payload: &'a [u8], param: u8) -> Result<Self, DecodeError> {
+        read_record(payload, param)
     }
 }
 
 impl<T: Record> Emitable for T {
-    ghost bytes = { bytes T.format };
+    ghost bytes = { bytes T.layout };
 
     ghost writable = { λ _. ⊤ };
 
@@ -97,24 +97,24 @@ impl<T: Record> Emitable for T {
     }
 
     fn emit(&self, buffer: &mut [u8]) {
-        self.write_row(&mut buffer[..self.size()]);
+        self.write_fields(&mut buffer[..self.size()]);
     }
 }
 
 impl<T: Record> Coded for T {
-    type Param = T::Told;
+    type Param = T::Param;
 
-    ghost codec = { record_codec T.format };
+    ghost codec = { record_codec T.layout };
 
-    ghost seen = { λ value. value };
+    ghost model = { λ value. value };
 
     ghost type_written = { λ _. 0 };
 
-    fn typed(&self) {
-        self.row_typed();
+    fn in_range(&self) {
+        self.fields_in_range();
     }
 
-    ghost eq_is_seen = { T.exact.0 };
+    ghost eq_is_model = { T.exact.0 };
 
     ghost laws = { T.Record.laws.codec };
 }
@@ -124,15 +124,15 @@ impl<T: Record> Wire for T {
 
     ghost fits_is = { λ _. (λ h. h, λ h. h) };
 
-    fn read(_alloc: Global, bytes: &[u8], told: T::Told) -> Result<Self, DecodeError> {
-        read_record(bytes, told)
+    fn read(_alloc: Global, bytes: &[u8], param: T::Param) -> Result<Self, DecodeError> {
+        read_record(bytes, param)
     }
 }
 
 /// A record whose values are `N` bytes each.
 pub trait Fills<const N: usize>: Record {
     // All its tables are of one size, which is the least.
-    ghost fills: { (Self.format.least ≡ N) × ((tag : Self.Tag) → Self.format.size tag ≡ N) };
+    ghost fills: { (Self.layout.least ≡ N) × ((tag : Self.Tag) → Self.layout.size tag ≡ N) };
 }
 
 /// The bytes of a record, in the order that they came, those too that no reader looks at.
@@ -184,11 +184,11 @@ impl<T, const N: usize> RecordBuffer<T, N> {
 }
 
 impl<T: Fills<N>, const N: usize> From<&T> for RecordBuffer<T, N> {
-    ghost from_gives = { λ value buffer. buffer ≡ bytes T.format value.now };
+    ghost from_gives = { λ value buffer. buffer ≡ bytes T.layout value.now };
 
     fn from(value: &T) -> Self {
         let mut bytes = [0; N];
-        value.write_row(&mut bytes);
+        value.write_fields(&mut bytes);
         RecordBuffer {
             bytes,
             of: PhantomData,

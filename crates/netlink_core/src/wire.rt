@@ -14,31 +14,31 @@ use std::alloc::Global;
 /// A value that stands in bytes: how it is read and written, what is compared of it, and the laws
 /// between them.
 pub trait Coded: PartialEq + Sized {
-    /// What the reader is told beside the bytes.
+    /// What the reader takes beside the bytes.
     type Param: Copy;
 
-    // How it stands in bytes, and what is compared of a value: each field, and lists by their
+    // How it stands in bytes, and the model of a value: each field, and lists by their
     // elements.
     ghost codec: { Codec Self.Param };
 
-    ghost seen: { Self → codec.Value };
+    ghost model: { Self → codec.Value };
 
-    // The type that a header tells in front of a message. It is 0 where the values are no messages.
+    // The type that a header has in front of a message. It is 0 where the values are no messages.
     ghost type_written: { codec.Value → ℕ };
 
-    /// Whether the same is seen of both: what `==` answers.
+    /// Whether both have the same model: what `==` answers.
     fn equal(&self, other: &Self) -> bool
-        ensures { IsTrue result ↔ (seen self.now ≡ seen other.now) }
+        ensures { IsTrue result ↔ (model self.now ≡ model other.now) }
     {
         self == other
     }
 
     /// Tells the prover that the value's numbers are within their types. It does nothing.
-    fn typed(&self)
-        ensures { codec.is_typed (seen self.now) };
+    fn in_range(&self)
+        ensures { codec.is_in_range (model self.now) };
 
-    // `==` compares what is seen.
-    ghost eq_is_seen: { (v w : Self) → IsTrue (Self.eq v w) ↔ (seen v ≡ seen w) };
+    // `==` compares the models.
+    ghost eq_is_model: { (v w : Self) → IsTrue (Self.eq v w) ↔ (model v ≡ model w) };
 
     // A string has one value or one fault, idle strings have equal values, and a value in normal
     // form reads back.
@@ -72,8 +72,8 @@ pub trait Coded: PartialEq + Sized {
             ((laws.same_value b b p v v tb tb r r).0 refl) };
 
     // Writable values in normal form with equal bytes are equal.
-    ghost equal_by_bytes: { (p : Self.Param) (v w : codec.Value) → codec.is_typed v
-        → codec.is_typed w → codec.is_normal p v → codec.is_normal p w
+    ghost equal_by_bytes: { (p : Self.Param) (v w : codec.Value) → codec.is_in_range v
+        → codec.is_in_range w → codec.is_normal p v → codec.is_normal p w
         → codec.fits v → codec.fits w → codec.written v ≡ codec.written w
         → v ≡ w } = { λ p v w tv tw nv nw fv fw e.
             one_value (codec.written w) p v w (laws.written_bytes w tw)
@@ -88,8 +88,9 @@ pub trait Coded: PartialEq + Sized {
             (laws.same_value b (codec.written v) p v v tb (laws.written_bytes v n.0) r
             (laws.reads_back p v n.0 n.1 f)).0 refl };
 
-    // A writable typed value reads back as itself exactly where it is in normal form.
-    ghost reads_back_exactly: { (p : Self.Param) (v : codec.Value) → codec.is_typed v → codec.fits v
+    // A writable value in range reads back as itself exactly where it is in normal form.
+    ghost reads_back_exactly: { (p : Self.Param) (v : codec.Value) → codec.is_in_range v
+        → codec.fits v
         → (codec.reads (codec.written v) p v ↔ codec.is_normal p v) } = { λ p v tv f. (
           λ r. (laws.reads_normal (codec.written v) p v (laws.written_bytes v tv) r).1,
           λ n. laws.reads_back p v tv n f,
@@ -111,10 +112,10 @@ pub trait Coded: PartialEq + Sized {
 
 /// A type whose reader and writer are those of its codec.
 pub trait Wire: Coded + Readable + Emitable {
-    /// Reads a value, or tells the first fault.
+    /// Reads a value, or returns the first fault.
     fn read(alloc: Global, bytes: &[u8], param: Self::Param) -> Result<Self, DecodeError>
-        ensures typed { IsBytes bytes.now }
-        ensures value { IfOk result (λ v. Self.codec.reads bytes.now param (Self.seen v)) }
+        ensures in_range { IsBytes bytes.now }
+        ensures value { IfOk result (λ v. Self.codec.reads bytes.now param (Self.model v)) }
         ensures fault { IfErr result (λ e. e ≢ Memory → Self.codec.refuses bytes.now param e) }
         ensures memory { IfErr result (λ e. e ≡ Memory → IsTrue Self.TAKES_MEMORY) }
         // Memory is wanted only where the string has a value, and one that is not spare.
@@ -126,7 +127,7 @@ pub trait Wire: Coded + Readable + Emitable {
     fn rewrite(alloc: Global, bytes: &[u8], param: Self::Param) -> Result<Vec<u8>, CanonError>
     where
         Self: Drop,
-        ensures typed { IsBytes bytes.now }
+        ensures in_range { IsBytes bytes.now }
         ensures written { IfOk result (λ c.
             (v : Self.codec.Value) × Self.codec.reads bytes.now param v × Self.codec.fits v
             × (c.items ≡ Self.codec.written v)) }
@@ -145,9 +146,9 @@ pub trait Wire: Coded + Readable + Emitable {
     }
 
     // The writer is that of `Emitable`.
-    ghost written_is: { (v : Self) → Self.bytes v ≡ Self.codec.written (Self.seen v) };
+    ghost written_is: { (v : Self) → Self.bytes v ≡ Self.codec.written (Self.model v) };
 
-    ghost fits_is: { (v : Self) → (Self.writable v ↔ Self.codec.fits (Self.seen v)) };
+    ghost fits_is: { (v : Self) → (Self.writable v ↔ Self.codec.fits (Self.model v)) };
 }
 
 /// The bytes of a value that can be written, in a list of their own.
@@ -166,13 +167,13 @@ pub fn write_new<T: Emitable>(alloc: Global, value: &T) -> Result<Vec<u8>, Canon
     Ok(written)
 }
 
-/// Tells the prover that bytes are numbers below 256. Like [`word_typed`] it is for a type's own
-/// [`Coded::typed`], and does nothing.
-pub fn bytes_typed(_bytes: &[u8])
+/// Tells the prover that bytes are numbers below 256. Like [`word_in_range`] it is for a type's own
+/// [`Coded::in_range`], and does nothing.
+pub fn bytes_in_range(_bytes: &[u8])
     ensures { IsBytes _bytes.now }
 {}
 
 /// Tells the prover that a word is a number of four bytes. It does nothing.
-pub fn word_typed(_word: u32)
+pub fn word_in_range(_word: u32)
     ensures { _word < 256 ^ 4 }
 {}

@@ -14,14 +14,14 @@ use Rattle.netlink_core.specs.Codec.{Codec}
 use Rattle.netlink_core.specs.declared.fault.DecodeError.TheVariants.{Memory}
 use Rattle.netlink_core.specs.ByteLaws.{IsBytes-nil, IsBytes-append}
 use Rattle.netlink_core.specs.Items.{Item, ItemsAre}
-use Rattle.netlink_core.proofs.Items.{no_items, items_in_a_row}
+use Rattle.netlink_core.proofs.Items.{no_items, items_of_concatenation}
 use Rattle.netlink_packet_sock_diag.specs.declared.dump.DumpState.{DumpState}
 use Rattle.netlink_packet_sock_diag.specs.declared.dump.DumpState.TheVariants.{Reading, Failed}
 use Rattle.netlink_packet_sock_diag.specs.declared.dump.DumpState.TheVariants.{Done, Error}
 use Rattle.netlink_packet_sock_diag.specs.declared.dump.DumpState.TheVariants.{Overrun}
 use Rattle.netlink_packet_sock_diag.specs.declared.dump.DumpError.{DumpError}
 use Rattle.netlink_packet_sock_diag.specs.declared.dump.DumpError.TheVariants.{Ended, Fault}
-use Rattle.netlink_packet_sock_diag.specs.Dump.{in_a_row, end_of, kept, Ends, Dump, DumpGoesOn}
+use Rattle.netlink_packet_sock_diag.specs.Dump.{concatenation, end_of, kept, Ends, Dump, DumpGoesOn}
 use Rattle.netlink_packet_sock_diag.specs.Dump.{DatagramDump, DatagramsDump, AreSplit, Standing}
 use Rattle.netlink_packet_sock_diag.specs.Dump.{unended}
 use Rattle.netlink_packet_sock_diag.specs.Feed.{FeedLeaves, FeedsLeave}
@@ -198,11 +198,11 @@ module _ {A : Type 0} where
       ]
 
 -- bytes one after the other are bytes
-bytes-in_a_row : (datagrams : List (List ℕ)) → AllByRecursion IsBytes datagrams
-    → IsBytes (in_a_row datagrams)
-bytes-in_a_row [] typed = IsBytes-nil
-bytes-in_a_row (b ∷ later) typed =
-    IsBytes-append b (in_a_row later) typed.0 (bytes-in_a_row later typed.1)
+bytes-concatenation : (datagrams : List (List ℕ)) → AllByRecursion IsBytes datagrams
+    → IsBytes (concatenation datagrams)
+bytes-concatenation [] in_range = IsBytes-nil
+bytes-concatenation (b ∷ later) in_range =
+    IsBytes-append b (concatenation later) in_range.0 (bytes-concatenation later in_range.1)
 
 module _ (C : Codec ℕ) where
   -- bytes have items, and one list of them
@@ -217,27 +217,27 @@ module _ (C : Codec ℕ) where
   pub one_row : OneList → (datagrams : List (List ℕ)) → AllByRecursion IsBytes datagrams
       → (xs ys : List (List (Item C.Value))) → AllZip (ItemsAre C) datagrams xs
       → AllZip (ItemsAre C) datagrams ys → xs ≡ ys
-  one_row one [] typed [] [] h k = refl
-  one_row one [] typed [] (y ∷ ys) h k = absurd k
-  one_row one [] typed (x ∷ xs) ys h k = absurd h
-  one_row one (b ∷ later) typed [] ys h k = absurd h
-  one_row one (b ∷ later) typed (x ∷ xs) [] h k = absurd k
-  one_row one (b ∷ later) typed (x ∷ xs) (y ∷ ys) h k =
-      let first = one b typed.0 x y h.0 k.0 in
-      let rest = one_row one later typed.1 xs ys h.1 k.1 in
+  one_row one [] in_range [] [] h k = refl
+  one_row one [] in_range [] (y ∷ ys) h k = absurd k
+  one_row one [] in_range (x ∷ xs) ys h k = absurd h
+  one_row one (b ∷ later) in_range [] ys h k = absurd h
+  one_row one (b ∷ later) in_range (x ∷ xs) [] h k = absurd k
+  one_row one (b ∷ later) in_range (x ∷ xs) (y ∷ ys) h k =
+      let first = one b in_range.0 x y h.0 k.0 in
+      let rest = one_row one later in_range.1 xs ys h.1 k.1 in
       λ i. first i ∷ rest i
 
   pub same_dump : OneList
       → (datagrams others : List (List ℕ)) (xs ys : List (List (Item C.Value)))
       → AllByRecursion IsBytes datagrams → AllZip (ItemsAre C) datagrams xs
-      → AllZip (ItemsAre C) others ys → in_a_row xs ≡ in_a_row ys
+      → AllZip (ItemsAre C) others ys → concatenation xs ≡ concatenation ys
       → (before after : List C.Value) (end : End) → DatagramsDump C before datagrams after end
       → DatagramsDump C before others after end
-  same_dump one datagrams others xs ys typed each also same before after end (row, items, d) =
-      let rows : row ≡ in_a_row ys =
-      items.2 ∙ ap (λ (parts : List (List (Item C.Value))). in_a_row
-      parts) (one_row one datagrams typed items.0 xs items.1 each) ∙ same in (
-        in_a_row ys,
+  same_dump one datagrams others xs ys in_range each also same before after end (row, items, d) =
+      let rows : row ≡ concatenation ys =
+      items.2 ∙ ap (λ (parts : List (List (Item C.Value))). concatenation
+      parts) (one_row one datagrams in_range items.0 xs items.1 each) ∙ same in (
+        concatenation ys,
         (ys, also, refl),
         subst (λ (l : List (Item C.Value)). Dump before l after end) rows
             d,
@@ -248,7 +248,7 @@ module _ (C : Codec ℕ) where
   -- the last datagram has its items
   last_items : (b : List ℕ) (p : List (Item C.Value)) (later : List (List ℕ)) (parts : List (List
       (Item C.Value))) → later ≡ [] → AllZip (ItemsAre C) later parts → ItemsAre C b p → ItemsAre C
-      (b ++ in_a_row later) (p ++ in_a_row parts)
+      (b ++ concatenation later) (p ++ concatenation parts)
   last_items b p [] [] none each is = rw (append-nil b, append-nil p) is
   last_items b p [] (q ∷ parts) none each is = absurd each
   last_items b p (d ∷ later) parts none each is = absurd cc
@@ -256,31 +256,33 @@ module _ (C : Codec ℕ) where
   -- the items of split datagrams are those of all their bytes
   split_items : (datagrams : List (List ℕ))
       (parts : List (List (Item C.Value))) → AreSplit datagrams
-      → AllZip (ItemsAre C) datagrams parts → ItemsAre C (in_a_row datagrams) (in_a_row parts)
+      → AllZip (ItemsAre C) datagrams parts
+      → ItemsAre C (concatenation datagrams) (concatenation parts)
   split_items [] [] split each = no_items C
   split_items [] (p ∷ parts) split each = absurd each
   split_items (b ∷ later) [] split each = absurd each
   split_items (b ∷ later) (p ∷ parts) split each = elim split.0 [
     | inl none ↦ last_items b p later parts none each.1 each.0
-    | inr whole ↦ items_in_a_row C b (in_a_row later) whole.0 p (in_a_row parts) whole.1 each.0
+    | inr whole ↦ items_of_concatenation C b (concatenation later) whole.0 p (concatenation parts)
+        whole.1 each.0
         (split_items later parts split.1 each.1)
   ]
 
   -- datagrams have items
   pub items_of_each : SomeItems → (datagrams : List (List ℕ)) → AllByRecursion IsBytes datagrams
       → (parts : List (List (Item C.Value))) × AllZip (ItemsAre C) datagrams parts
-  items_of_each some [] typed = ([], tt)
-  items_of_each some (b ∷ later) typed =
-      let first = some b typed.0 in
-      let rest = items_of_each some later typed.1 in
+  items_of_each some [] in_range = ([], tt)
+  items_of_each some (b ∷ later) in_range =
+      let first = some b in_range.0 in
+      let rest = items_of_each some later in_range.1 in
       (first.0 ∷ rest.0, (first.1, rest.1))
 
   -- the dump of split datagrams is that of the items of all their bytes
   pub dump_of_split : (datagrams : List (List ℕ)) → AreSplit datagrams
       → (before after : List C.Value) (end : End) → DatagramsDump C before datagrams after end
-      → DatagramDump C before (in_a_row datagrams) after end
+      → DatagramDump C before (concatenation datagrams) after end
   dump_of_split datagrams split before after end (row, items, d) = (
-    in_a_row items.0,
+    concatenation items.0,
     split_items datagrams items.0 split items.1,
     subst (λ (l : List (Item C.Value)). Dump before l after end)
         items.2 d,
@@ -290,13 +292,14 @@ module _ (C : Codec ℕ) where
   pub split_of_dump : SomeItems → OneList → (datagrams : List (List ℕ))
       → AllByRecursion IsBytes datagrams → AreSplit datagrams
       → (before after : List C.Value) (end : End)
-      → DatagramDump C before (in_a_row datagrams) after end
+      → DatagramDump C before (concatenation datagrams) after end
       → DatagramsDump C before datagrams after end
-  split_of_dump some one datagrams typed split before after end d =
-      let parts = items_of_each some datagrams typed in
-      let same = one (in_a_row datagrams) (bytes-in_a_row datagrams typed) d.0 (in_a_row parts.0)
+  split_of_dump some one datagrams in_range split before after end d =
+      let parts = items_of_each some datagrams in_range in
+      let same = one (concatenation datagrams) (bytes-concatenation datagrams in_range) d.0
+      (concatenation parts.0)
       d.1 (split_items datagrams parts.0 split parts.1) in (
-        in_a_row parts.0,
+        concatenation parts.0,
         (parts.0, parts.1, refl),
         subst (λ (l : List (Item C.Value)). Dump before l after end) same
             d.2,
@@ -306,10 +309,10 @@ module _ (C : Codec ℕ) where
   pub one_datagram_dump : OneList → (datagram : List ℕ) → IsBytes datagram
       → (before a b : List C.Value) (e f : End) → DatagramDump C before datagram a e
       → DatagramDump C before datagram b f → (a ≡ b) × (e ≡ f)
-  one_datagram_dump one datagram typed before a b e f d t =
+  one_datagram_dump one datagram in_range before a b e f d t =
       one_dump before d.0 a b e f d.2
       (subst (λ (l : List (Item C.Value)). Dump before l b f)
-      (one datagram typed t.0 d.0 t.1 d.1) t.2)
+      (one datagram in_range t.0 d.0 t.1 d.1) t.2)
 
   -- ---- what feeding leaves
 
@@ -358,17 +361,17 @@ module _ (C : Codec ℕ) where
       → (before after : List C.Value) (left : Standing)
       → FeedsLeave C before unended datagrams after left
       → (end : End) × DatagramsDump C before datagrams after end × (left ≡ state_left end)
-  feeds_dump some [] typed before after left f =
+  feeds_dump some [] in_range before after left f =
       let none : Dump before [] after (Ok unended) =
       ([], [], refl, tt, f.0 ∙ sym (append-nil before), refl) in
       (Ok unended, ([], ([], tt, refl), none), f.1 ∙ sym state_left-reading)
-  feeds_dump some (datagram ∷ later) typed before after left f =
+  feeds_dump some (datagram ∷ later) in_range before after left f =
       let one = feed_step before datagram f.0 f.1 f.2 f.3 f.4 in
       let items = one.1.0 in
       elim (reading_or_not one.1.2.1 one.0 one.1.2.5) [
         | inl on ↦
             let going : f.1 ≡ unended = one.2 ∙ ap state_left on ∙ state_left-reading in
-            let rest = feeds_dump some later typed.1 f.0 after left
+            let rest = feeds_dump some later in_range.1 f.0 after left
             (subst (λ (s : Standing). FeedsLeave C f.0 s later after left) going f.5) in
             let row = rest.1.0 in
             let have = rest.1.1 in (
@@ -387,12 +390,12 @@ module _ (C : Codec ℕ) where
         | inr off ↦
             let stays = ended_stays later f.0 after f.1 left
             (λ is. left_reading one.0 off (sym one.2 ∙ is)) f.5 in
-            let parts = items_of_each some later typed.1 in (
+            let parts = items_of_each some later in_range.1 in (
               one.0,
               (
-                items ++ in_a_row parts.0,
+                items ++ concatenation parts.0,
                 (items ∷ parts.0, (one.1.1, parts.1), refl),
-                joined before f.0 after one.0 one.0 items (in_a_row parts.0) one.1.2
+                joined before f.0 after one.0 one.0 items (concatenation parts.0) one.1.2
                     (inr (off, stays.0, refl)),
               ),
               stays.1 ∙ one.2,
@@ -402,17 +405,19 @@ module _ (C : Codec ℕ) where
   -- feeding the same bytes in split datagrams leaves the same messages and state
   pub same_feeds : SomeItems → OneList → (datagrams others : List (List ℕ))
       → AllByRecursion IsBytes datagrams → AllByRecursion IsBytes others → AreSplit datagrams
-      → AreSplit others → in_a_row datagrams ≡ in_a_row others
+      → AreSplit others → concatenation datagrams ≡ concatenation others
       → (before after also : List C.Value) (left state : Standing)
       → FeedsLeave C before unended datagrams after left
       → FeedsLeave C before unended others also state → (after ≡ also) × (left ≡ state)
-  same_feeds some one datagrams others typed fits split cut same before after also left state f g =
-      let a = feeds_dump some datagrams typed before after left f in
+  same_feeds some one datagrams others in_range fits split cut same before after also left state f
+      g =
+      let a = feeds_dump some datagrams in_range before after left f in
       let b = feeds_dump some others fits before also state g in
-      let whole : DatagramDump C before (in_a_row others) after a.0 =
+      let whole : DatagramDump C before (concatenation others) after a.0 =
       subst (λ (bytes : List ℕ). DatagramDump C before bytes after a.0) same
       (dump_of_split datagrams split before after a.0 a.1) in
-      let ends = one_datagram_dump one (in_a_row others) (bytes-in_a_row others fits) before after
+      let ends = one_datagram_dump one (concatenation others) (bytes-concatenation others fits)
+      before after
       also a.0 b.0 whole (dump_of_split others cut before also b.0 b.1) in
       (ends.0, a.2 ∙ ap state_left ends.1 ∙ sym b.2)
 
@@ -420,17 +425,20 @@ module _ (C : Codec ℕ) where
   pub same_items_feeds : SomeItems → OneList
       → (datagrams others : List (List ℕ)) (xs ys : List (List (Item C.Value)))
       → AllByRecursion IsBytes datagrams → AllByRecursion IsBytes others
-      → AllZip (ItemsAre C) datagrams xs → AllZip (ItemsAre C) others ys → in_a_row xs ≡ in_a_row ys
+      → AllZip (ItemsAre C) datagrams xs → AllZip (ItemsAre C) others ys
+      → concatenation xs ≡ concatenation ys
       → (before after also : List C.Value) (left state : Standing)
       → FeedsLeave C before unended datagrams after left
       → FeedsLeave C before unended others also state → (after ≡ also) × (left ≡ state)
-  same_items_feeds some one datagrams others xs ys typed fits each them same before after also left
+  same_items_feeds some one datagrams others xs ys in_range fits each them same before after also
+      left
       state f g =
-      let a = feeds_dump some datagrams typed before after left f in
+      let a = feeds_dump some datagrams in_range before after left f in
       let b = feeds_dump some others fits before also state g in
-      let moved = same_dump one datagrams others xs ys typed each them same before after a.0 a.1 in
+      let moved = same_dump one datagrams others xs ys in_range each them same before after a.0
+      a.1 in
       let rows : moved.0 ≡ b.1.0 =
-      moved.1.2 ∙ ap (λ (parts : List (List (Item C.Value))). in_a_row
+      moved.1.2 ∙ ap (λ (parts : List (List (Item C.Value))). concatenation
       parts) (one_row one others fits moved.1.0 b.1.1.0 moved.1.1 b.1.1.1) ∙ sym b.1.1.2 in
       let ends = one_dump before b.1.0 after also a.0 b.0
       (subst (λ (l : List (Item C.Value)). Dump before l after a.0) rows

@@ -71,8 +71,9 @@ module _ (C : Codec ℕ) where
       (end : Result Standing DecodeError) → IsBytes datagram → Passing datagram rest before after
       → StartsWithMessage rest message next → ItemIs C message item → end_of item ≡ Some end
       → DatagramDump C before datagram after end
-  ends_at answers datagram rest next message before after item end typed p s is ends =
-      let all = items_with C answers datagram rest next message p.passed item typed p.walk s is in
+  ends_at answers datagram rest next message before after item end in_range p s is ends =
+      let all = items_with C answers datagram rest next message p.passed item in_range p.walk s
+      is in
       (p.passed ++ (item ∷ all.0), all.1, (p.passed, item ∷ all.0, refl, p.plain, p.keeps, ends))
 
   pub stops_at : ((b : List ℕ) (t : ℕ) → IsBytes b
@@ -80,8 +81,8 @@ module _ (C : Codec ℕ) where
       → (datagram rest next message : List ℕ) (before after : List C.Value) (value : C.Value)
       → IsBytes datagram → Passing datagram rest before after → StartsWithMessage rest message next
       → ItemIs C message (Ok (inner value)) → DatagramStopped C before datagram after
-  stops_at answers datagram rest next message before after value typed p s is =
-      let all = items_with C answers datagram rest next message p.passed (Ok (inner value)) typed
+  stops_at answers datagram rest next message before after value in_range p s is =
+      let all = items_with C answers datagram rest next message p.passed (Ok (inner value)) in_range
       p.walk s is in (
         p.passed ++ (Ok (inner value) ∷ all.0),
         all.1,

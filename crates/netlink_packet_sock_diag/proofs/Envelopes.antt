@@ -8,9 +8,9 @@ use Rattle.netlink_core.specs.declared.header.NetlinkHeader.{NetlinkHeader}
 use Rattle.netlink_core.specs.declared.message.NetlinkMessage.{NetlinkMessage}
 use Rattle.netlink_core.specs.declared.message.NetlinkPayload.{NetlinkPayload}
 use Rattle.netlink_core.specs.declared.message.NetlinkPayload.TheVariants.{InnerMessage}
-use Rattle.netlink_core.specs.Header.{IsTypedHeader}
-use Rattle.netlink_core.specs.Seen.{envelope_of, payload_of}
-use Rattle.netlink_packet_sock_diag.specs.SeenMessage.{seen_destroy}
+use Rattle.netlink_core.specs.Header.{IsHeaderInRange}
+use Rattle.netlink_core.specs.EnvelopeModel.{envelope_of, payload_of}
+use Rattle.netlink_packet_sock_diag.specs.MessageModel.{destroy_model}
 use Rattle.netlink_packet_sock_diag.specs.declared.message.SockDiagDestroy.{SockDiagDestroy}
 use Rattle.netlink_core.specs.Envelope.{Payload, done_with, error_with, no_payload, overrun_with}
 use Rattle.netlink_core.specs.Envelope.{inner, Envelope, IsInnerType, OfInner, finalized}
@@ -20,7 +20,7 @@ use Rattle.netlink_core.proofs.Headers.{header_stands}
 use Rattle.netlink_packet_sock_diag.specs.Message.{MessageKind, inet_request, inet_response}
 use Rattle.netlink_packet_sock_diag.specs.Message.{unix_request, unix_response, Message}
 use Rattle.netlink_packet_sock_diag.specs.Message.{message_kind, message_codec}
-use Rattle.netlink_packet_sock_diag.specs.MessageLaws.{length-message_bytes, type_told}
+use Rattle.netlink_packet_sock_diag.specs.MessageLaws.{length-message_bytes, other_type_refused}
 
 -- whether two kinds are the same
 abbrev is_kind : MessageKind → MessageKind → Bool
@@ -37,10 +37,10 @@ kind_is unix_request unix_request = (λ _. refl, λ _. refl)
 kind_is unix_response unix_response = (λ _. refl, λ _. refl)
 kind_is kind other = apart (λ e. cc)
 
-abbrev Kinds : List MessageKind
-Kinds = inet_request ∷ inet_response ∷ unix_request ∷ unix_response ∷ []
+abbrev IpVersions : List MessageKind
+IpVersions = inet_request ∷ inet_response ∷ unix_request ∷ unix_response ∷ []
 
-kind_counted : (kind : MessageKind) → count_by (is_kind kind) Kinds ≡ 1
+kind_counted : (kind : MessageKind) → count_by (is_kind kind) IpVersions ≡ 1
 kind_counted inet_request = refl
 kind_counted inet_response = refl
 kind_counted unix_request = refl
@@ -48,16 +48,16 @@ kind_counted unix_response = refl
 
 pub one_kind : (m : Message) (tests : MessageKind → Bool)
     → ((kind : MessageKind) → IsTrue (tests kind) ↔ (message_kind m ≡ kind))
-    → count_by tests Kinds ≡ 1
+    → count_by tests IpVersions ≡ 1
 one_kind m tests tell =
     let own = message_kind m in
     let same : is_kind own ≡ tests =
     λ i kind. same_test (is_kind own kind) (tests kind) (kind_is own kind) (tell kind) i in
-    subst (λ (test : MessageKind → Bool). count_by test Kinds ≡ 1) same (kind_counted own)
+    subst (λ (test : MessageKind → Bool). count_by test IpVersions ≡ 1) same (kind_counted own)
 
 -- the message stands under the type 21, which no message is read under, and so it does with more
 -- bytes behind it
-destroy_before_is_refused : (h : NetlinkHeader) (m : Message) (rest : List ℕ) → IsTypedHeader h
+destroy_before_is_refused : (h : NetlinkHeader) (m : Message) (rest : List ℕ) → IsHeaderInRange h
     → (envelope_codec message_codec).fits (record { header = h; payload = inner m })
     → (envelope_codec message_codec).refuses
     ((envelope_codec message_codec).written
@@ -67,14 +67,14 @@ destroy_before_is_refused : (h : NetlinkHeader) (m : Message) (rest : List ℕ) 
       payload = inner m;
     }) ++ rest) tt
     (UnknownMessageType 21)
-destroy_before_is_refused h m rest typed fits =
+destroy_before_is_refused h m rest in_range fits =
     let own = finalized message_codec.written
     (λ _. 21) (record { header = h; payload = inner m }) in
-    let own-typed : IsTypedHeader own =
-    (let whole = fits.1 in omega arith, (omega arith, typed.1.1)) in
-    let stands = header_stands own (message_codec.written m) rest own-typed refl in
+    let own-in_range : IsHeaderInRange own =
+    (let whole = fits.1 in omega arith, (omega arith, in_range.1.1)) in
+    let stands = header_stands own (message_codec.written m) rest own-in_range refl in
     let refused : message_codec.refuses (message_codec.written m) 21 (UnknownMessageType 21) =
-    inl (type_told (message_codec.written m) 21 (length-message_bytes m)
+    inl (other_type_refused (message_codec.written m) 21 (length-message_bytes m)
     (λ is. omega (arith, is))) in
     inr (
       own,
@@ -84,7 +84,7 @@ destroy_before_is_refused h m rest typed fits =
           refused,
     )
 
-pub destroy_is_refused : (h : NetlinkHeader) (m : Message) → IsTypedHeader h
+pub destroy_is_refused : (h : NetlinkHeader) (m : Message) → IsHeaderInRange h
     → (envelope_codec message_codec).fits (record { header = h; payload = inner m })
     → (envelope_codec message_codec).refuses
     ((envelope_codec message_codec).written
@@ -94,7 +94,7 @@ pub destroy_is_refused : (h : NetlinkHeader) (m : Message) → IsTypedHeader h
       payload = inner m;
     })) tt
     (UnknownMessageType 21)
-destroy_is_refused h m typed fits =
+destroy_is_refused h m in_range fits =
     let written = (envelope_codec message_codec).written
     (record {
       header = finalized message_codec.written
@@ -102,34 +102,34 @@ destroy_is_refused h m typed fits =
       payload = inner m;
     }) in
     subst (λ (bytes : List ℕ). (envelope_codec message_codec).refuses bytes tt
-    (UnknownMessageType 21)) (append-nil written) (destroy_before_is_refused h m [] typed fits)
+    (UnknownMessageType 21)) (append-nil written) (destroy_before_is_refused h m [] in_range fits)
 
 -- a message in hand that carries the request, its header finalized
 pub destroy_in_hand_is_refused : (message : NetlinkMessage SockDiagDestroy)
     (destroy : SockDiagDestroy) (rest : List ℕ) → message.payload ≡ InnerMessage destroy
-    → IsTypedHeader message.header
-    → (envelope_codec message_codec).fits (envelope_of seen_destroy message)
+    → IsHeaderInRange message.header
+    → (envelope_codec message_codec).fits (envelope_of destroy_model message)
     → (envelope_codec message_codec).refuses
     ((envelope_codec message_codec).written
-    (envelope_of seen_destroy
+    (envelope_of destroy_model
     (record message {
       header = finalized message_codec.written
-          (λ _. 21) (envelope_of seen_destroy message);
+          (λ _. 21) (envelope_of destroy_model message);
     })) ++ rest) tt (UnknownMessageType 21)
-destroy_in_hand_is_refused message destroy rest is typed =
+destroy_in_hand_is_refused message destroy rest is in_range =
     subst
     (λ (p : NetlinkPayload SockDiagDestroy). (envelope_codec message_codec).fits
-    (record { header = message.header; payload = payload_of seen_destroy p })
+    (record { header = message.header; payload = payload_of destroy_model p })
     → (envelope_codec message_codec).refuses
     ((envelope_codec message_codec).written
     (record {
       header = finalized message_codec.written
-          (λ _. 21) (record { header = message.header; payload = payload_of seen_destroy p });
-      payload = payload_of seen_destroy p;
+          (λ _. 21) (record { header = message.header; payload = payload_of destroy_model p });
+      payload = payload_of destroy_model p;
     }) ++ rest) tt
     (UnknownMessageType 21))
     (sym is)
-    (destroy_before_is_refused message.header (seen_destroy destroy) rest typed)
+    (destroy_before_is_refused message.header (destroy_model destroy) rest in_range)
 
 -- the type of a finalized inner message is 20, a type of inner messages
 normal_payload : (t : ℕ) (p : Payload Message) → t ≡ payload_type (λ _. 20) p

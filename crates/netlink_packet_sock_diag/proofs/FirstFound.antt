@@ -11,19 +11,19 @@ use Rattle.std.specs.Slice.Iter.{iter_rest, iter_steps}
 use Rattle.std.proofs.lemmas.Iterator.{YieldsList}
 use Rattle.std.proofs.lemmas.Iterator.Consumers.{YieldsList-so_far, YieldsList-end}
 use Rattle.std.proofs.lemmas.Iterator.Consumers.{YieldsList-from_shown, YieldsList-from_first}
-use Rattle.netlink_core.specs.Family.{Said, ValueAt, content}
+use Rattle.netlink_core.specs.AttributeSet.{AttributeValue, ValueAt, content}
 use Rattle.netlink_core.specs.declared.attribute.NlaBuffer.{NlaBuffer}
 use Rattle.netlink_core.specs.declared.nla.DefaultNla.{DefaultNla}
 use Rattle.sock_diag_attributes.specs.declared.numbers.NumbersView.{NumbersView}
 use Rattle.sock_diag_attributes.specs.declared.unix.name.NameView.{NameView}
 use Rattle.sock_diag_attributes.specs.declared.unix.name.UnixDiagName.{UnixDiagName}
 use Rattle.sock_diag_attributes.specs.declared.unix.nlas.UnixNla.{UnixNla}
-use Rattle.sock_diag_attributes.specs.SeenUnix.{seen_nla, viewed_nla}
+use Rattle.sock_diag_attributes.specs.UnixModel.{nla_model, nla_view_model}
 use Rattle.sock_diag_attributes.specs.UnixAttributes.{unix}
 use Rattle.netlink_packet_sock_diag.specs.declared.view.AttributeViews.{AttributeViews}
 use Rattle.netlink_packet_sock_diag.specs.declared.view.ReplyHeader.{Ghosts}
 use Rattle.netlink_packet_sock_diag.specs.UnixGetters.{first_of}
-use Rattle.netlink_packet_sock_diag.specs.Viewed.{left_in}
+use Rattle.netlink_packet_sock_diag.specs.ViewModel.{left_in}
 use denote.Param.Members.{Mut}
 use lib.ListN.{length-map}
 
@@ -39,10 +39,10 @@ module _ {A : Type 0} {P Q : A → Type 0} (weaker : (x : A) → P x → Q x) wh
 
 module _ {A B D : Type 0} (told : B → Option D) (v : A → B) where
   -- the first content where the item in front tells this
-  abbrev in_front : List B → Option D → Option D
-  in_front more o = slice_get (cons_option o (filter_map told more)) 0
+  abbrev as_prefix : List B → Option D → Option D
+  as_prefix more o = slice_get (cons_option o (filter_map told more)) 0
 
-  stays : (more : List B) (o : Option D) → IsSome o → in_front more o ≡ o
+  stays : (more : List B) (o : Option D) → IsSome o → as_prefix more o ≡ o
   stays more None some = absurd (true≢false (sym some))
   stays more (Some y) some = refl
 
@@ -50,7 +50,7 @@ module _ {A B D : Type 0} (told : B → Option D) (v : A → B) where
   none_in : (xs : List A) → ((k : ℕ) → IfSome (slice_get xs k) (λ x. told (v x) ≡ None))
       → first_of told (map v xs) ≡ None
   none_in [] none = refl
-  none_in (x ∷ xs) none = ap (in_front (map v xs)) (none 0) ∙ none_in xs (λ k. none (suc k))
+  none_in (x ∷ xs) none = ap (as_prefix (map v xs)) (none 0) ∙ none_in xs (λ k. none (suc k))
 
   -- behind such items stands the first
   first_at : (xs : List A) (i : ℕ) (more : List B) (o : Option D) → IsSome o
@@ -58,10 +58,10 @@ module _ {A B D : Type 0} (told : B → Option D) (v : A → B) where
       → ((k : ℕ) → k < i → IsSomeAnd (slice_get xs k) (λ x. told (v x) ≡ None))
       → first_of told (map v xs ++ more) ≡ o
   first_at [] i more o some here none = absurd here
-  first_at (x ∷ xs) zero more o some here none = ap (in_front (map v xs ++ more)) here
+  first_at (x ∷ xs) zero more o some here none = ap (as_prefix (map v xs ++ more)) here
       ∙ stays (map v xs ++ more) o some
   first_at (x ∷ xs) (suc i) more o some here none =
-      ap (in_front (map v xs ++ more)) (none 0 (omega arith)) ∙ first_at xs i more o some here
+      ap (as_prefix (map v xs ++ more)) (none 0 (omega arith)) ∙ first_at xs i more o some here
       (λ k low. none (suc k) (omega arith))
 
 -- what `find_map` says of its answer
@@ -116,26 +116,26 @@ pub first_owned : {C F : Type 0} {g : Mut F (Bor Nla × Unit {0}) (Option C)} {f
     → shows None ≡ None → ((y : C) → IsSome (shows (Some y)))
     → (xs : List Nla) → iter_rest s ≡ xs
     → ((x : Bor Nla) (o : Option C) (q : F) → Called g f (x, tt) o q → (q ≡ f)
-    × (shows o ≡ content unix k (seen_nla x.now)))
+    × (shows o ≡ content unix k (nla_model x.now)))
     → (r : Option C) → Finds iter_steps g s f r
-    → shows r ≡ first_of (content unix k) (map seen_nla xs)
+    → shows r ≡ first_of (content unix k) (map nla_model xs)
 first_owned {s = s} k shows blank filled xs rest told =
-    let said = YieldsList-from_shown iter_steps (λ x. seen_nla x.now)
-    (λ j. map seen_nla (iter_rest j)) (λ j t h. length-map (iter_rest j) seen_nla ∙ h.0)
-    (λ j x t h. ap (map seen_nla) h) s in
-    first_found (λ x. seen_nla x.now) (content unix k) shows blank filled told
-    (subst (λ ys. YieldsList iter_steps (λ x. seen_nla x.now) s (map seen_nla ys)) rest said)
+    let said = YieldsList-from_shown iter_steps (λ x. nla_model x.now)
+    (λ j. map nla_model (iter_rest j)) (λ j t h. length-map (iter_rest j) nla_model ∙ h.0)
+    (λ j x t h. ap (map nla_model) h) s in
+    first_found (λ x. nla_model x.now) (content unix k) shows blank filled told
+    (subst (λ ys. YieldsList iter_steps (λ x. nla_model x.now) s (map nla_model ys)) rest said)
 
 -- and in a walk over such as are read in place
-pub first_viewed : {H : Type 0} {of : Ghosts H} {C F : Type 0}
+pub first_in_view : {H : Type 0} {of : Ghosts H} {C F : Type 0}
     {g : Mut F (NlaView × Unit {0}) (Option C)} {f : F} {s : AttributeViews H of} (k : ℕ)
     (shows : Option C → Option (ValueAt unix k))
     → shows None ≡ None → ((y : C) → IsSome (shows (Some y)))
-    → (all : List (Said unix)) → left_in unix s ≡ all
+    → (all : List (AttributeValue unix)) → left_in unix s ≡ all
     → ((x : NlaView) (o : Option C) (q : F) → Called g f (x, tt) o q → (q ≡ f)
-    × (shows o ≡ content unix k (viewed_nla x)))
-    → (r : Option C) → Finds (YieldsFirstBy viewed_nla (left_in unix)) g s f r
+    × (shows o ≡ content unix k (nla_view_model x)))
+    → (r : Option C) → Finds (YieldsFirstBy nla_view_model (left_in unix)) g s f r
     → shows r ≡ first_of (content unix k) all
-first_viewed k shows blank filled all rest told =
-    first_found viewed_nla (content unix k) shows blank filled told
-    (YieldsList-from_first viewed_nla (left_in unix) all rest)
+first_in_view k shows blank filled all rest told =
+    first_found nla_view_model (content unix k) shows blank filled told
+    (YieldsList-from_first nla_view_model (left_in unix) all rest)

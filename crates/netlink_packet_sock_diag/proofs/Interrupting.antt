@@ -22,7 +22,7 @@ use Rattle.netlink_core.specs.Header.{HasHeader, IsEnvelopeFault}
 use Rattle.netlink_core.specs.Items.{Item, ItemIs, ItemsAre}
 use Rattle.netlink_core.proofs.Datagrams.{one_cut_into_messages}
 use Rattle.netlink_core.proofs.Headers.{one_header}
-use Rattle.netlink_core.proofs.Items.{item_in_front, items_of, no_items, rest_typed, zip_append}
+use Rattle.netlink_core.proofs.Items.{leading_item, items_of, no_items, rest_in_range, zip_append}
 use Rattle.netlink_packet_sock_diag.specs.Dump.{end_of, kept, Standing, unended}
 use Rattle.netlink_packet_sock_diag.specs.Feed.{IsInterrupted}
 use Rattle.netlink_packet_sock_diag.proofs.Dumping.{Passing, passes, passing_begins}
@@ -59,7 +59,7 @@ all_front : {A : Type 0} (P : A → Type 0) (xs ys : List A) → AllByRecursion 
 all_front P [] ys h = tt
 all_front P (x ∷ xs) ys h = (h.0, all_front P xs ys h.1)
 
--- no fault stands at the front of a message
+-- no fault stands at the start of a message
 pub no_fault_in_message : (message : List ℕ) (e : DecodeError) → IsMessageString message
     → IsEnvelopeFault message e → ⊥
 no_fault_in_message message (EnvelopeCut got) whole f = omega arith
@@ -78,13 +78,13 @@ Strings messages = AllByRecursion (λ m. IsBytes m × IsMessageString m) message
 
 strings_of : (bytes : List ℕ) (messages : List (List ℕ)) (end : Option DecodeError) → IsBytes bytes
     → CutIntoMessages bytes messages end → Strings messages
-strings_of bytes [] end typed cut = tt
-strings_of bytes (m ∷ messages) end typed cut = (
+strings_of bytes [] end in_range cut = tt
+strings_of bytes (m ∷ messages) end in_range cut = (
   (
-    IsBytes-left m (cut.1.padding ++ cut.0) (subst IsBytes cut.1.parts typed),
+    IsBytes-left m (cut.1.padding ++ cut.0) (subst IsBytes cut.1.parts in_range),
     cut.1.whole,
   ),
-  strings_of cut.0 messages end (rest_typed bytes m cut.0 cut.1 typed) cut.2,
+  strings_of cut.0 messages end (rest_in_range bytes m cut.0 cut.1 in_range) cut.2,
 )
 
 -- a message of these has the flag
@@ -256,8 +256,8 @@ module _ (C : Codec ℕ) where
         ];
       } in
       let same : i ∷ [] ≡ j ∷ [] = one m string.0 (i ∷ []) (j ∷ [])
-      (item_in_front C m m [] i [] start h (no_items C))
-      (item_in_front C m m [] j [] start k (no_items C)) in
+      (leading_item C m m [] i [] start h (no_items C))
+      (leading_item C m m [] j [] start k (no_items C)) in
       cc
 
   -- a message that the dump comes to is no later one than that at which it stops
@@ -268,13 +268,13 @@ module _ (C : Codec ℕ) where
       → Plain others → length (flat_map kept others) ≤ length (flat_map kept items)
       → (end_of item ≡ None → 1 ≤ length (kept item))
       → (more : List (List ℕ)) × (strings ++ stop ∷ [] ≡ front ++ (message ∷ more))
-  within one [] [] later back stop message items others item typed same each also is plain fewer
+  within one [] [] later back stop message items others item in_range same each also is plain fewer
       stops =
       let here : stop ≡ message = cc in ([], λ i. here i ∷ [])
-  within one [] (f ∷ front) later back stop message [] (o ∷ others) item typed same each also is
+  within one [] (f ∷ front) later back stop message [] (o ∷ others) item in_range same each also is
       plain fewer stops =
       let here : f ≡ stop = cc in
-      let alone : o ≡ item = one_item one stop typed.0 o item
+      let alone : o ≡ item = one_item one stop in_range.0 o item
       (subst (λ (m : List ℕ). ItemIs C m o) here also.0) is in
       let low = stops (sym (ap end_of alone) ∙ plain.0) in
       absurd (omega (
@@ -282,28 +282,32 @@ module _ (C : Codec ℕ) where
         length-append (kept o) (flat_map kept others),
         ap (λ (i : Item C.Value). length (kept i)) alone,
       ))
-  within one [] (f ∷ front) later back stop message [] [] item typed same each also is plain fewer
+  within one [] (f ∷ front) later back stop message [] [] item in_range same each also is plain
+      fewer
       stops =
       absurd also
-  within one [] (f ∷ front) later back stop message (x ∷ items) others item typed same each also is
+  within one [] (f ∷ front) later back stop message (x
+      ∷ items) others item in_range same each also is
       plain fewer stops =
       absurd each
-  within one (s ∷ strings) [] later back stop message items others item typed same each also is
+  within one (s ∷ strings) [] later back stop message items others item in_range same each also is
       plain fewer stops =
       let here : s ≡ message = cc in (strings ++ stop ∷ [], λ i. here i ∷ (strings ++ stop ∷ []))
-  within one (s ∷ strings) (f ∷ front) later back stop message [] others item typed same each
+  within one (s ∷ strings) (f ∷ front) later back stop message [] others item in_range same each
       also is plain fewer stops =
       absurd each
-  within one (s ∷ strings) (f ∷ front) later back stop message (x ∷ items) [] item typed same each
+  within one (s ∷ strings) (f ∷ front) later back stop message (x
+      ∷ items) [] item in_range same each
       also is plain fewer stops =
       absurd also
-  within one (s ∷ strings) (f ∷ front) later back stop message (x ∷ items) (o ∷ others) item typed
+  within one (s ∷ strings) (f ∷ front) later back stop message (x ∷ items) (o
+      ∷ others) item in_range
       same each also is plain fewer stops =
       let here : s ≡ f = cc in
       let tails : strings ++ (stop ∷ later) ≡ front ++ (message ∷ back) = cc in
-      let alone : o ≡ x = one_item one s typed.0 o x
+      let alone : o ≡ x = one_item one s in_range.0 o x
       (subst (λ (m : List ℕ). ItemIs C m o) (sym here) also.0) each.0 in
-      let rest = within one strings front later back stop message items others item typed.1 tails
+      let rest = within one strings front later back stop message items others item in_range.1 tails
       each.1 also.1 is plain.1 (omega (
         arith,
         length-append (kept o) (flat_map kept others),
@@ -320,10 +324,11 @@ module _ (C : Codec ℕ) where
       → (end_of item ≡ None → 1 ≤ length (kept item)) → HasHeader message h
       → (IsTrue now ↔ (IsTrue is ⊎ IsBitSet h.flags 4))
       → (IsTrue now ↔ (IsTrue was ⊎ IsInterrupted C before datagram after))
-  looked_stops answers one datagram rest next message before after was is now item h typed l s
+  looked_stops answers one datagram rest next message before after was is now item h in_range l s
       carried stops head step =
       let p = l.passing in
-      let behind = items_of C answers next (rest_typed rest message next s (p.walk.typed typed)) in
+      let behind = items_of C answers next
+      (rest_in_range rest message next s (p.walk.in_range in_range)) in
       let later = behind.1.0 in
       let end = behind.1.1 in
       let cut : CutIntoMessages datagram (l.strings ++ (message ∷ later)) end =
@@ -355,7 +360,7 @@ module _ (C : Codec ℕ) where
               (none_later dump.1 (Ok unended) dump.5 refl)
               ∙ append-nil dump.0 in
               let found = within one l.strings front later back message m p.passed others item
-              (strings_of datagram (l.strings ++ (message ∷ later)) end typed cut) same.0 l.each
+              (strings_of datagram (l.strings ++ (message ∷ later)) end in_range cut) same.0 l.each
               each carried (subst Plain (sym all) dump.3) (omega (
                 arith,
                 ap length p.keeps ∙ length-append before (flat_map kept p.passed),
@@ -383,9 +388,10 @@ module _ (C : Codec ℕ) where
       → StartsWithMessage rest message next → ItemIs C message item → end_of item ≡ Some end
       → HasHeader message h → (IsTrue now ↔ (IsTrue is ⊎ IsBitSet h.flags 4))
       → (IsTrue now ↔ (IsTrue was ⊎ IsInterrupted C before datagram after))
-  looked_ends answers one datagram rest next message before after was is now item end h typed l s
+  looked_ends answers one datagram rest next message before after was is now item end h in_range l s
       carried ends head step =
-      looked_stops answers one datagram rest next message before after was is now item h typed l s
+      looked_stops answers one datagram rest next message before after was is now item h in_range l
+      s
       carried (λ none. let no = sym none ∙ ends in absurd cc) head step
 
   -- where it ends at a fault of the inner message, or memory runs out for it
@@ -396,15 +402,16 @@ module _ (C : Codec ℕ) where
       → (e ≡ Memory → (m : C.Value) × ItemIs C message (Ok (inner m)))
       → HasHeader message h → (IsTrue now ↔ (IsTrue is ⊎ IsBitSet h.flags 4))
       → (IsTrue now ↔ (IsTrue was ⊎ IsInterrupted C before datagram after))
-  looked_refused answers one datagram rest next message before after was is now e h typed l s fault
+  looked_refused answers one datagram rest next message before after was is now e h in_range l s
+      fault
       wanted head step = elim (memory_or_named e) [
         | inl none ↦
             let m = wanted none in
             looked_stops answers one datagram rest next message before after was is now
-            (Ok (inner m.0)) h typed l s m.1 (λ plain. omega arith) head step
+            (Ok (inner m.0)) h in_range l s m.1 (λ plain. omega arith) head step
         | inr named ↦
             looked_ends answers one datagram rest next message before after was is now (Err e)
-            (Err e) h typed l s (fault named) refl head step
+            (Err e) h in_range l s (fault named) refl head step
       ]
 
   -- where no message is left

@@ -3,9 +3,9 @@ use Rattle.std.proofs.Common.{◌≡◌, ℕ, ◌%◌, List, [], ◌∷◌, leng
 use Rattle.std.specs.List.{flat_map}
 use Rattle.std.proofs.lemmas.List.{length-append, length-replicate}
 use Rattle.netlink_core.specs.Attribute.{Attribute, fill, unpadded, written}
-use Rattle.netlink_core.specs.Family.{attribute_said}
-use Rattle.netlink_core.specs.Reply.{Reply, ValueOf, reply_bytes}
-use Rattle.netlink_core.specs.ShownLaws.{ReplyLaws}
+use Rattle.netlink_core.specs.AttributeSet.{encodes}
+use Rattle.netlink_core.specs.Response.{ResponseSpec, ValueOf, response_bytes}
+use Rattle.netlink_core.specs.ShownLaws.{ResponseLaws}
 
 -- an attribute with its padding is a multiple of four
 written_multiple : (a : Attribute) → length (written a) % 4 ≡ 0
@@ -26,14 +26,14 @@ all_multiple (x ∷ xs) = omega (
 )
 
 -- and a reply, behind a header that is one
-pub reply_multiple : (R : Reply) → ReplyLaws R → R.size % 4 ≡ 0 → (v : ValueOf R)
-    → R.header.is_typed v.header → length (reply_bytes R v) % 4 ≡ 0
-reply_multiple R laws four v typed =
-    let nlas : List Attribute = map (attribute_said R.family) v.nlas in
+pub reply_multiple : (R : ResponseSpec) → ResponseLaws R → R.size % 4 ≡ 0 → (v : ValueOf R)
+    → R.header.is_in_range v.header → length (response_bytes R v) % 4 ≡ 0
+reply_multiple R laws four v in_range =
+    let nlas : List Attribute = map (encodes R.attribute_set) v.nlas in
     omega (
       arith,
       length-append (R.header.bytes v.header) (flat_map written nlas),
-      laws.in_front.bytes_long v.header typed,
+      laws.as_prefix.bytes_long v.header in_range,
       all_multiple nlas,
       four,
     )

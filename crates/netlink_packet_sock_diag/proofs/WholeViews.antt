@@ -7,13 +7,13 @@ use Rattle.std.specs.Iterator.{Drains}
 use Rattle.netlink_core.specs.declared.fault.DecodeError.{DecodeError}
 use Rattle.netlink_core.specs.Items.{ItemsAre}
 use Rattle.netlink_core.proofs.Datagrams.{shorter-rest}
-use Rattle.netlink_core.proofs.Items.{item_in_front, no_items, fault_alone}
+use Rattle.netlink_core.proofs.Items.{leading_item, no_items, fault_alone}
 use Rattle.netlink_packet_sock_diag.specs.declared.dump.views.DumpViews.{DumpViews}
 use Rattle.netlink_packet_sock_diag.specs.declared.dump.views.PayloadView.{PayloadView}
 use Rattle.netlink_core.specs.DatagramWalk.{datagram_left}
 use Rattle.netlink_packet_sock_diag.specs.DumpWalk.{GivesView}
 use Rattle.netlink_packet_sock_diag.specs.Message.{message_codec}
-use Rattle.netlink_packet_sock_diag.specs.ViewedPayload.{viewed_item}
+use Rattle.netlink_packet_sock_diag.specs.PayloadViewModel.{item_view_model}
 
 -- where nothing is left nothing is given
 nothing_more : (walk : DumpViews) (given : List (Result PayloadView DecodeError))
@@ -28,7 +28,7 @@ nothing_more walk (g ∷ given) h none = elim h.1.1.1 [
 
 pub whole_views : (walk : DumpViews) (given : List (Result PayloadView DecodeError))
     → Drains GivesView walk given → ItemsAre message_codec (datagram_left walk.messages)
-    (map viewed_item given)
+    (map item_view_model given)
 whole_views walk [] h =
     let none : datagram_left walk.messages ≡ [] =
     subst (λ (w : DumpViews). datagram_left w.messages ≡ []) (sym h.1.1) h.1.2.0 in
@@ -36,13 +36,13 @@ whole_views walk [] h =
 whole_views walk (g ∷ given) h =
     let later : Drains GivesView h.1.1.0 given = (h.0, (h.1.0, h.1.1.2, h.1.2)) in
     elim h.1.1.1 [
-      | inl s ↦ item_in_front message_codec (datagram_left walk.messages) s.0
-          (datagram_left h.1.1.0.messages) (viewed_item g) (map viewed_item given) s.1 s.2
+      | inl s ↦ leading_item message_codec (datagram_left walk.messages) s.0
+          (datagram_left h.1.1.0.messages) (item_view_model g) (map item_view_model given) s.1 s.2
           (whole_views h.1.1.0 given later)
       | inr f ↦
           let all : g ∷ given ≡ Err f.0 ∷ [] = rw (f.1, nothing_more h.1.1.0 given later f.4)
           refl in
           subst (λ (items : List (Result PayloadView DecodeError)). ItemsAre message_codec
-          (datagram_left walk.messages) (map viewed_item items)) (sym all)
+          (datagram_left walk.messages) (map item_view_model items)) (sym all)
           (fault_alone message_codec (datagram_left walk.messages) f.0 f.2 f.3)
     ]

@@ -6,15 +6,15 @@ use Rattle.netlink_core.specs.declared.fault.DecodeError.{DecodeError}
 use Rattle.netlink_core.specs.Codec.{Codec}
 use Rattle.netlink_core.specs.Datagram.{AreWholeMessages}
 use Rattle.netlink_core.specs.Envelope.{done_with, error_with, overrun_with, inner}
-use Rattle.netlink_core.specs.Envelope.{number_in_front}
+use Rattle.netlink_core.specs.Envelope.{leading_number}
 use Rattle.netlink_core.specs.Items.{Item, ItemsAre}
 use Rattle.netlink_packet_sock_diag.specs.declared.dump.DumpState.{DumpState}
 use Rattle.netlink_packet_sock_diag.specs.declared.dump.DumpState.TheVariants.{Reading, Done, Error}
 use Rattle.netlink_packet_sock_diag.specs.declared.dump.DumpState.TheVariants.{Overrun}
 
 -- lists one after the other, as one
-abbrev pub in_a_row : {A : Type 0} → List (List A) → List A
-in_a_row lists = flat_map (λ one. one) lists
+abbrev pub concatenation : {A : Type 0} → List (List A) → List A
+concatenation lists = flat_map (λ one. one) lists
 
 -- how a dump stands: its state, and the number that the message which ended it begins with
 abbrev pub Standing : Type 0
@@ -33,8 +33,8 @@ module _ {A : Type 0} where
   -- how a dump stands that the item ends, or its fault; after a message, or one of nothing, it goes
   -- on
   abbrev pub end_of : Item A → Option (Result Standing DecodeError)
-  end_of (Ok (done_with given)) = Some (Ok (Done, number_in_front given))
-  end_of (Ok (error_with given)) = Some (Ok (Error, number_in_front given))
+  end_of (Ok (done_with given)) = Some (Ok (Done, leading_number given))
+  end_of (Ok (error_with given)) = Some (Ok (Error, leading_number given))
   end_of (Ok (overrun_with given)) = Some (Ok (Overrun, None))
   end_of (Err e) = Some (Err e)
   end_of _ = None
@@ -78,7 +78,7 @@ module _ (C : Codec ℕ) where
   -- these are the items of the datagrams, in a row
   abbrev pub HaveItems : List (List ℕ) → List (Item C.Value) → Type 0
   HaveItems datagrams row = (items : List (List (Item C.Value)))
-      × AllZip (ItemsAre C) datagrams items × (row ≡ in_a_row items)
+      × AllZip (ItemsAre C) datagrams items × (row ≡ concatenation items)
 
   -- the dump over several datagrams, one after the other
   abbrev pub DatagramsDump : List C.Value → List (List ℕ) → List C.Value → Result Standing DecodeError → Type 0

@@ -8,9 +8,9 @@ use Rattle.netlink_core.specs.Items.{ItemIs}
 use Rattle.netlink_packet_sock_diag.specs.declared.dump.views.DumpViews.{DumpViews}
 use Rattle.netlink_packet_sock_diag.specs.declared.dump.views.PayloadView.{PayloadView}
 use Rattle.netlink_packet_sock_diag.specs.Message.{message_codec}
-use Rattle.netlink_packet_sock_diag.specs.ViewedPayload.{viewed_item}
+use Rattle.netlink_packet_sock_diag.specs.PayloadViewModel.{item_view_model}
 
--- What the message at the front of what was left carries, or its fault, and the rest then stands
+-- What the message at the start of what was left carries, or its fault, and the rest then stands
 -- behind its padding. Or the fault where there is no message, and then nothing is left. None only
 -- where nothing was left.
 abbrev pub GivesView : DumpViews → Option (Result PayloadView DecodeError) → DumpViews → Type 0
@@ -18,5 +18,5 @@ GivesView old given new =
     let left = datagram_left old.messages in
     let later = datagram_left new.messages in
     MatchOption given ((left ≡ []) × (later ≡ []))
-    (λ item. ((message : List ℕ) × StartsWithMessage left message later × ItemIs message_codec message (viewed_item item))
+    (λ item. ((message : List ℕ) × StartsWithMessage left message later × ItemIs message_codec message (item_view_model item))
     ⊎ ((e : DecodeError) × (item ≡ Err e) × (left ≢ []) × IsEnvelopeFault left e × (later ≡ [])))

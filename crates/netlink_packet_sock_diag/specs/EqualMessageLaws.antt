@@ -1,12 +1,12 @@
--- Messages are equal where the same is seen of them.
+-- Messages are equal where their models are.
 use Rattle.std.proofs.Common.{◌≡◌, ◌↔◌, Bool, IsTrue, ap}
 use Rattle.netlink_core.proofs.Equality.{apart}
 use Rattle.sock_diag_records.specs.contracts.inet.exact.InetRequestExact.TheImpl.Laws.{exact-law as exact_inet_request}
 use Rattle.sock_diag_records.specs.contracts.unix.request.UnixRequestExact.TheImpl.Laws.{exact-law as exact_unix_request}
-use Rattle.sock_diag_attributes.specs.contracts.inet.coded.NlaCoded.TheImpl.Laws.{eq_is_seen-law as same_inet}
-use Rattle.sock_diag_attributes.specs.contracts.unix.coded.NlaCoded.TheImpl.Laws.{eq_is_seen-law as same_unix}
-use Rattle.sock_diag_attributes.specs.SeenInet as inet
-use Rattle.sock_diag_attributes.specs.SeenUnix as unix
+use Rattle.sock_diag_attributes.specs.contracts.inet.coded.NlaCoded.TheImpl.Laws.{eq_is_model-law as same_inet}
+use Rattle.sock_diag_attributes.specs.contracts.unix.coded.NlaCoded.TheImpl.Laws.{eq_is_model-law as same_unix}
+use Rattle.sock_diag_attributes.specs.InetModel as inet
+use Rattle.sock_diag_attributes.specs.UnixModel as unix
 use Rattle.sock_diag_records.specs.contracts.inet.exact.InetResponseHeaderExact.TheImpl.Laws.{exact-law as exact_inet}
 use Rattle.sock_diag_records.specs.contracts.unix.response.UnixResponseHeaderExact.TheImpl.Laws.{exact-law as exact_unix}
 use Rattle.netlink_packet_sock_diag.specs.declared.message.SockDiagMessage.{SockDiagMessage}
@@ -15,15 +15,15 @@ use Rattle.netlink_packet_sock_diag.specs.contracts.message.SockDiagMessageParti
 use Rattle.netlink_packet_sock_diag.specs.Message.{MessageKind, inet_request, inet_response}
 use Rattle.netlink_packet_sock_diag.specs.Message.{unix_request, unix_response, codec_of, Message}
 use Rattle.netlink_packet_sock_diag.specs.Message.{message_of, message_kind}
-use Rattle.netlink_packet_sock_diag.specs.SeenMessage.{seen_message}
+use Rattle.netlink_packet_sock_diag.specs.MessageModel.{message_model}
 use Rattle.netlink_packet_sock_diag.specs.declared.message.SockDiagView.{SockDiagView}
 use Rattle.netlink_packet_sock_diag.specs.declared.message.SockDiagView.TheVariants as view
 use Rattle.netlink_packet_sock_diag.specs.contracts.message.SockDiagViewPartialEq.TheImpl.{ghosts as views}
-use Rattle.netlink_packet_sock_diag.specs.EqualReplyLaws.{replies_equal}
-use Rattle.netlink_packet_sock_diag.specs.InetReplyLaws.{inet_test_says}
-use Rattle.netlink_packet_sock_diag.specs.UnixReplyLaws.{unix_test_says}
-use Rattle.netlink_packet_sock_diag.specs.Viewed.{viewed}
-use Rattle.netlink_packet_sock_diag.specs.ViewedMessage.{viewed_message}
+use Rattle.netlink_packet_sock_diag.specs.EqualResponseLaws.{responses_equal}
+use Rattle.netlink_packet_sock_diag.specs.InetResponseSpecLaws.{inet_test_decides}
+use Rattle.netlink_packet_sock_diag.specs.UnixResponseSpecLaws.{unix_test_decides}
+use Rattle.netlink_packet_sock_diag.specs.ViewModel.{view_model}
+use Rattle.netlink_packet_sock_diag.specs.MessageViewModel.{message_view_model}
 
 -- what a message of a kind holds, and else something given
 abbrev held_as : (kind : MessageKind) → (codec_of kind).Value → Message → (codec_of kind).Value
@@ -48,24 +48,24 @@ by_held kind is v w same =
     (λ h. ap (message_of kind) (same.0 h), λ e. same.1 (same_held kind v w e))
 
 pub message_equal : (v w : SockDiagMessage) → IsTrue (ghosts.eq v w)
-    ↔ (seen_message v ≡ seen_message w)
+    ↔ (message_model v ≡ message_model w)
 message_equal (message.InetRequest a) (message.InetRequest x) =
     by_held inet_request _ _ _ (exact_inet_request.0 a x)
 message_equal (message.InetResponse a) (message.InetResponse x) =
     by_held inet_response _ _ _
-    (replies_equal (λ h. h) inet.seen_nla exact_inet.0 same_inet a.value x.value)
+    (responses_equal (λ h. h) inet.nla_model exact_inet.0 same_inet a.value x.value)
 message_equal (message.UnixRequest a) (message.UnixRequest x) =
     by_held unix_request _ _ _ (exact_unix_request.0 a x)
 message_equal (message.UnixResponse a) (message.UnixResponse x) =
     by_held unix_response _ _ _
-    (replies_equal (λ h. h) unix.seen_nla exact_unix.0 same_unix a.value x.value)
+    (responses_equal (λ h. h) unix.nla_model exact_unix.0 same_unix a.value x.value)
 message_equal v w = apart (λ e. let kinds = ap message_kind e in cc)
 
 -- and so are messages that are read in place
 pub view_equal : (v w : SockDiagView) → IsTrue (views.eq v w)
-    ↔ (viewed_message v ≡ viewed_message w)
+    ↔ (message_view_model v ≡ message_view_model w)
 view_equal (view.InetResponse a) (view.InetResponse x) =
-    by_held inet_response _ _ _ (inet_test_says (viewed a) (viewed x))
+    by_held inet_response _ _ _ (inet_test_decides (view_model a) (view_model x))
 view_equal (view.UnixResponse a) (view.UnixResponse x) =
-    by_held unix_response _ _ _ (unix_test_says (viewed a) (viewed x))
+    by_held unix_response _ _ _ (unix_test_decides (view_model a) (view_model x))
 view_equal v w = apart (λ e. let kinds = ap message_kind e in cc)

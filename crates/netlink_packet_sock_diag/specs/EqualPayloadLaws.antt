@@ -9,10 +9,10 @@ use Rattle.netlink_packet_sock_diag.specs.declared.dump.views.PayloadView.TheVar
 use Rattle.netlink_packet_sock_diag.specs.declared.dump.views.PayloadView.TheVariants.{Overrun}
 use Rattle.netlink_packet_sock_diag.specs.declared.dump.views.PayloadView.TheVariants.{InnerMessage}
 use Rattle.netlink_packet_sock_diag.specs.contracts.dump.views.PayloadViewPartialEq.TheImpl.{ghosts}
-use Rattle.netlink_packet_sock_diag.specs.ViewedPayload.{viewed_payload}
+use Rattle.netlink_packet_sock_diag.specs.PayloadViewModel.{payload_view_model}
 
 pub payload_equal : (v w : PayloadView) → IsTrue (ghosts.eq v w)
-    ↔ (viewed_payload v ≡ viewed_payload w)
+    ↔ (payload_view_model v ≡ payload_view_model w)
 payload_equal (Done a) (Done x) = search rules
 payload_equal (Error a) (Error x) = search rules
 payload_equal Noop Noop = search rules

@@ -1,26 +1,31 @@
 -- The laws of replies whose header is a record of one size.
 use Rattle.std.proofs.Common.{◌≡◌, ℕ, ◌≤◌, List, ◌++◌, length, Ok, arith}
-use Rattle.netlink_core.specs.Format.{Format, read}
-use Rattle.netlink_core.specs.Family.{Family}
-use Rattle.netlink_core.specs.Prefix.{prefix_of}
-use Rattle.netlink_core.specs.ShownLaws.{FamilyLaws, ReplyLaws}
+use Rattle.netlink_core.specs.Layout.{Layout, read}
+use Rattle.netlink_core.specs.AttributeSet.{AttributeSet}
+use Rattle.netlink_core.specs.ValueCodec.{value_codec}
+use Rattle.netlink_core.specs.ShownLaws.{AttributeSetLaws, ResponseLaws}
 use Rattle.netlink_core.specs.SoundLaws.{IsSound, IsFixed}
-use Rattle.netlink_core.proofs.FormatLaws.{accepted, keeps_laws}
-use Rattle.netlink_core.proofs.Prefixes.{stands_in_front}
+use Rattle.netlink_core.proofs.LayoutLaws.{accepted, keeps_laws}
+use Rattle.netlink_core.proofs.PrefixCodecs.{is_prefix_codec}
 
-module _ {Tag Value : Type 0} (format : Format (Unit {0}) Tag Value) {size : ℕ}
-    (fixed : IsFixed format size) where
+module _ {Tag Value : Type 0} (layout : Layout (Unit {0}) Tag Value) {size : ℕ}
+    (fixed : IsFixed layout size) where
   -- a string with a header has all its bytes
-  pub enough : (b : List ℕ) (h : Value) → read format tt b ≡ Ok h → size ≤ length b
-  enough b h e = let long = (accepted format tt b h e).long in omega (arith, long, fixed.0)
+  pub enough : (b : List ℕ) (h : Value) → read layout tt b ≡ Ok h → size ≤ length b
+  enough b h e = let long = (accepted layout tt b h e).long in omega (arith, long, fixed.0)
 
   -- of the header, which bytes behind it don't change, and of the attributes
-  pub reply_laws : {F : Family} → IsSound format
-      → ((tag : Tag) (left rest : List ℕ) → format.least ≤ length left
-      → format.tag_at tt left ≡ Ok tag → format.tag_at tt (left ++ rest) ≡ Ok tag)
-      → FamilyLaws F → ReplyLaws (record { header = prefix_of format; size = size; family = F })
-  reply_laws sound goes_on family = record {
-    header = keeps_laws format sound;
-    in_front = stands_in_front format sound fixed goes_on;
-    family = family;
+  pub response_laws : {F : AttributeSet} → IsSound layout
+      → ((tag : Tag) (left rest : List ℕ) → layout.least ≤ length left
+      → layout.tag_at tt left ≡ Ok tag → layout.tag_at tt (left ++ rest) ≡ Ok tag)
+      → AttributeSetLaws F → ResponseLaws (record {
+        header = value_codec layout;
+        size =
+            size;
+        attribute_set = F;
+      })
+  response_laws sound goes_on attribute_set = record {
+    header = keeps_laws layout sound;
+    as_prefix = is_prefix_codec layout sound fixed goes_on;
+    attribute_set = attribute_set;
   }

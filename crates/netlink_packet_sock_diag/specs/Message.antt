@@ -7,11 +7,11 @@ use Rattle.netlink_core.specs.declared.fault.DecodeError.TheVariants.{MessageToo
 use Rattle.netlink_core.specs.declared.fault.DecodeError.TheVariants.{UnknownFamily}
 use Rattle.netlink_core.specs.declared.fault.DecodeError.TheVariants.{UnknownMessageType}
 use Rattle.netlink_core.specs.Codec.{Codec, record_codec}
-use Rattle.netlink_core.specs.Reply.{reply_codec}
-use Rattle.sock_diag_records.specs.InetRequest.{inet_request as inet_request_format}
-use Rattle.sock_diag_records.specs.UnixRequest.{unix_request as unix_request_format}
-use Rattle.netlink_packet_sock_diag.specs.InetReply.{inet_reply}
-use Rattle.netlink_packet_sock_diag.specs.UnixReply.{unix_reply}
+use Rattle.netlink_core.specs.Response.{response_codec}
+use Rattle.sock_diag_records.specs.InetRequest.{inet_request as inet_request_layout}
+use Rattle.sock_diag_records.specs.UnixRequest.{unix_request as unix_request_layout}
+use Rattle.netlink_packet_sock_diag.specs.InetResponseSpec.{inet_response_spec}
+use Rattle.netlink_packet_sock_diag.specs.UnixResponseSpec.{unix_response_spec}
 
 -- the four kinds of messages
 pub data MessageKind : Type 0 where
@@ -19,12 +19,12 @@ pub data MessageKind : Type 0 where
 
 -- how what a message of each kind holds is read and written
 abbrev pub codec_of : MessageKind → Codec (Unit {0})
-codec_of inet_request = record_codec inet_request_format
-codec_of inet_response = reply_codec inet_reply
-codec_of unix_request = record_codec unix_request_format
-codec_of unix_response = reply_codec unix_reply
+codec_of inet_request = record_codec inet_request_layout
+codec_of inet_response = response_codec inet_response_spec
+codec_of unix_request = record_codec unix_request_layout
+codec_of unix_response = response_codec unix_response_spec
 
--- what a message says, without where it lies in memory
+-- the value of a message, without where it lies in memory
 pub data Message : Type 0 where
   message_of : (kind : MessageKind) → (codec_of kind).Value → Message
 
@@ -35,8 +35,8 @@ message_kind (message_of kind v) = kind
 -- The kind of the reply that bytes are under a type, or the fault of bytes that are none. The type
 -- 20 is SOCK_DIAG_BY_FAMILY, and the first byte is 1 for AF_UNIX, 2 for AF_INET and 10 for
 -- AF_INET6.
-abbrev pub reply_kind : List ℕ → ℕ → Result MessageKind DecodeError
-reply_kind b t =
+abbrev pub response_kind : List ℕ → ℕ → Result MessageKind DecodeError
+response_kind b t =
     if nat_lt (length b) 2 then Err (MessageTooShort (length b))
     else if not (t == 20) then Err (UnknownMessageType t)
     else if slice_index b 0 == 1 then Ok unix_response
@@ -55,16 +55,16 @@ message_bytes (message_of kind v) = (codec_of kind).written v
 abbrev pub message_codec : Codec ℕ
 message_codec = record {
   Value = Message;
-  is_typed = OfMessage (λ kind v. (codec_of kind).is_typed v);
+  is_in_range = OfMessage (λ kind v. (codec_of kind).is_in_range v);
   -- it is of the kind of reply that the bytes are under the type, and so read
-  reads = λ b t m. OfMessage (λ kind v. (reply_kind b t ≡ Ok kind) × (codec_of kind).reads b tt v) m;
+  reads = λ b t m. OfMessage (λ kind v. (response_kind b t ≡ Ok kind) × (codec_of kind).reads b tt v) m;
   -- the bytes are no reply, or the reply of their kind is refused
-  refuses = λ b t e. (reply_kind b t ≡ Err e)
-      ⊎ ((kind : MessageKind) × (reply_kind b t ≡ Ok kind) × (codec_of kind).refuses b tt e);
+  refuses = λ b t e. (response_kind b t ≡ Err e)
+      ⊎ ((kind : MessageKind) × (response_kind b t ≡ Ok kind) × (codec_of kind).refuses b tt e);
   is_spare = λ m. ⊥;
   -- both are replies of one kind under the type, and idle
-  idle = λ t b c. (kind : MessageKind) × (reply_kind b t ≡ Ok kind) × (reply_kind c t ≡ Ok kind)
-      × (codec_of kind).idle tt b c;
+  idle = λ t b c. (kind : MessageKind) × (response_kind b t ≡ Ok kind)
+      × (response_kind c t ≡ Ok kind) × (codec_of kind).idle tt b c;
   -- a reply in normal form, under the type 20
   is_normal = λ t m. OfMessage (λ kind v. (t ≡ 20) × ((kind ≡ inet_response) ⊎ (kind ≡ unix_response))
       × (codec_of kind).is_normal tt v) m;

@@ -6,54 +6,55 @@ use Rattle.std.specs.Prelude.{◌||◌, not, nat_lt, MatchResult}
 use Rattle.std.proofs.lemmas.Bool.{cases_eq, eqb-true, ne_eqb, not-false}
 use Rattle.netlink_core.specs.Bytes.{IsBytes}
 use Rattle.netlink_core.specs.Codec.{KeepsLaws}
-use Rattle.netlink_core.specs.Reply.{reply_bytes}
+use Rattle.netlink_core.specs.Response.{response_bytes}
 use Rattle.netlink_core.specs.declared.fault.DecodeError.{DecodeError}
 use Rattle.netlink_core.specs.declared.fault.DecodeError.TheVariants.{Memory, MessageTooShort}
 use Rattle.netlink_core.specs.declared.fault.DecodeError.TheVariants.{UnknownFamily}
 use Rattle.netlink_core.specs.declared.fault.DecodeError.TheVariants.{UnknownMessageType}
-use Rattle.netlink_core.proofs.FormatLaws.{keeps_laws}
-use Rattle.netlink_core.proofs.Replies.{replies_keep_laws}
-use Rattle.sock_diag_records.specs.Kinds.{Kinds, kinds_of_family}
-use Rattle.sock_diag_records.specs.InetRequest.{inet_request as inet_request_format}
+use Rattle.netlink_core.proofs.LayoutLaws.{keeps_laws}
+use Rattle.netlink_core.proofs.Responses.{responses_keep_laws}
+use Rattle.sock_diag_records.specs.IpVersions.{IpVersions, versions_of_family}
+use Rattle.sock_diag_records.specs.InetRequest.{inet_request as inet_request_layout}
 use Rattle.sock_diag_records.specs.InetResponse.{inet_response_header}
 use Rattle.sock_diag_records.specs.InetRequestLaws.{inet_request_sound}
-use Rattle.sock_diag_records.specs.UnixRequest.{unix_request as unix_request_format}
+use Rattle.sock_diag_records.specs.UnixRequest.{unix_request as unix_request_layout}
 use Rattle.sock_diag_records.specs.UnixRequestLaws.{unix_request_sound}
-use Rattle.netlink_packet_sock_diag.specs.InetReply.{inet_reply}
-use Rattle.netlink_packet_sock_diag.specs.UnixReply.{unix_reply}
-use Rattle.netlink_packet_sock_diag.specs.InetReplyLaws.{inet_reply_laws}
-use Rattle.netlink_packet_sock_diag.specs.UnixReplyLaws.{unix_reply_laws}
+use Rattle.netlink_packet_sock_diag.specs.InetResponseSpec.{inet_response_spec}
+use Rattle.netlink_packet_sock_diag.specs.UnixResponseSpec.{unix_response_spec}
+use Rattle.netlink_packet_sock_diag.specs.InetResponseSpecLaws.{inet_response_laws}
+use Rattle.netlink_packet_sock_diag.specs.UnixResponseSpecLaws.{unix_response_laws}
 use Rattle.netlink_packet_sock_diag.specs.Message.{MessageKind, inet_request, inet_response}
 use Rattle.netlink_packet_sock_diag.specs.Message.{unix_request, unix_response, codec_of, Message}
 use Rattle.netlink_packet_sock_diag.specs.Message.{message_of, message_kind, message_codec}
-use Rattle.netlink_packet_sock_diag.specs.Message.{reply_kind}
+use Rattle.netlink_packet_sock_diag.specs.Message.{response_kind}
 
 -- each kind's codec keeps the laws
 laws_of : (kind : MessageKind) → KeepsLaws (codec_of kind)
-laws_of inet_request = keeps_laws inet_request_format inet_request_sound
-laws_of inet_response = replies_keep_laws inet_reply inet_reply_laws
-laws_of unix_request = keeps_laws unix_request_format unix_request_sound
-laws_of unix_response = replies_keep_laws unix_reply unix_reply_laws
+laws_of inet_request = keeps_laws inet_request_layout inet_request_sound
+laws_of inet_response = responses_keep_laws inet_response_spec inet_response_laws
+laws_of unix_request = keeps_laws unix_request_layout unix_request_sound
+laws_of unix_response = responses_keep_laws unix_response_spec unix_response_laws
 
--- ---- which kind is told
+-- ---- which kind is found
 
 -- under the type 20 the first byte tells it, as that of two bytes does
-pub first_tells : (b : List ℕ) (t first : ℕ) → 2 ≤ length b → t ≡ 20 → slice_index b 0 ≡ first
-    → reply_kind b t ≡ reply_kind (first ∷ 0 ∷ []) 20
-first_tells b t first long is e = rw (le-ltb (length b) 2 long, is, e) refl
+pub kind_by_first_byte : (b : List ℕ) (t first : ℕ) → 2 ≤ length b → t ≡ 20
+    → slice_index b 0 ≡ first
+    → response_kind b t ≡ response_kind (first ∷ 0 ∷ []) 20
+kind_by_first_byte b t first long is e = rw (le-ltb (length b) 2 long, is, e) refl
 
-pub type_told : (b : List ℕ) (t : ℕ) → 2 ≤ length b
-    → t ≢ 20 → reply_kind b t ≡ Err (UnknownMessageType t)
-type_told b t long other = rw (le-ltb (length b) 2 long, ne_eqb t 20 other) refl
+pub other_type_refused : (b : List ℕ) (t : ℕ) → 2 ≤ length b
+    → t ≢ 20 → response_kind b t ≡ Err (UnknownMessageType t)
+other_type_refused b t long other = rw (le-ltb (length b) 2 long, ne_eqb t 20 other) refl
 
 -- what each answer tells
-abbrev Tells : ℕ → Result MessageKind DecodeError → Type 0
-Tells t told =
-    MatchResult told (λ kind. (t ≡ 20) × ((kind ≡ inet_response) ⊎ (kind ≡ unix_response)))
+abbrev IsResponseKind : ℕ → Result MessageKind DecodeError → Type 0
+IsResponseKind t found =
+    MatchResult found (λ kind. (t ≡ 20) × ((kind ≡ inet_response) ⊎ (kind ≡ unix_response)))
     (λ e. e ≢ Memory)
 
 chosen : (t got given family : ℕ) (short other unix inet : Bool) → (other ≡ false → t ≡ 20)
-    → Tells t
+    → IsResponseKind t
     (if short then Err (MessageTooShort got)
     else if other then Err (UnknownMessageType given)
     else if unix then Ok unix_response
@@ -65,11 +66,12 @@ chosen t got given family false false true inet is = (is refl, inr refl)
 chosen t got given family false false false true is = (is refl, inl refl)
 chosen t got given family false false false false is = λ e. cc
 
-tells : (b : List ℕ) (t : ℕ) (told : Result MessageKind DecodeError) → reply_kind b t ≡ told
-    → Tells t told
-tells b t told h =
+response_kinds : (b : List ℕ) (t : ℕ) (found : Result MessageKind DecodeError)
+    → response_kind b t ≡ found
+    → IsResponseKind t found
+response_kinds b t found h =
     let first = slice_index b 0 in
-    subst (Tells t) h
+    subst (IsResponseKind t) h
     (chosen t (length b) t first
     (nat_lt (length b) 2) (not (t == 20)) (first == 1) ((first == 2) || (first == 10))
     (λ e. eqb-true t 20 (not-false (t == 20) e)))
@@ -77,17 +79,18 @@ tells b t told h =
 -- what is read is a reply, under the type 20
 pub read_reply : (b : List ℕ) (t : ℕ) (m : Message) → message_codec.reads b t m
     → (t ≡ 20) × ((message_kind m ≡ inet_response) ⊎ (message_kind m ≡ unix_response))
-read_reply b t (message_of kind v) r = tells b t (Ok kind) r.0
+read_reply b t (message_of kind v) r = response_kinds b t (Ok kind) r.0
 
 -- ---- one message or one fault
 
-same_kind : (told : Result MessageKind DecodeError) (k l : MessageKind) → told ≡ Ok k → told ≡ Ok l
+same_kind : (found : Result MessageKind DecodeError) (k l : MessageKind) → found ≡ Ok k
+    → found ≡ Ok l
     → k ≡ l
-same_kind told k l h g = cc
+same_kind found k l h g = cc
 
--- the message or the fault by the kind that is told, or its fault
-answered_as : (b : List ℕ) (t : ℕ) (told : Result MessageKind DecodeError) → IsBytes b
-    → reply_kind b t ≡ told
+-- the message or the fault by the kind that is found, or its fault
+answered_as : (b : List ℕ) (t : ℕ) (found : Result MessageKind DecodeError) → IsBytes b
+    → response_kind b t ≡ found
     → ((m : Message) × message_codec.reads b t m)
     ⊎ ((e : DecodeError) × message_codec.refuses b t e)
 answered_as b t (Err e) tb h = inr (e, inl h)
@@ -96,32 +99,32 @@ answered_as b t (Ok kind) tb h = elim ((laws_of kind).answered b tt tb) [
   | inr fault ↦ inr (fault.0, inr (kind, h, fault.1))
 ]
 
--- the fault of a kind is that of another one that is told
+-- the fault of a kind is that of another one that is found
 refused_as : (b : List ℕ) (t : ℕ) (e : DecodeError) (kind other : MessageKind)
-    → reply_kind b t ≡ Ok kind → reply_kind b t ≡ Ok other
+    → response_kind b t ≡ Ok kind → response_kind b t ≡ Ok other
     → (codec_of other).refuses b tt e → (codec_of kind).refuses b tt e
-refused_as b t e kind other told said refused =
+refused_as b t e kind other found as_other refused =
     subst (λ (k : MessageKind). (codec_of k).refuses b tt e)
-    (same_kind (reply_kind b t) other kind said told) refused
+    (same_kind (response_kind b t) other kind as_other found) refused
 
 one_answer : (b : List ℕ) (t : ℕ) (m : Message) (e : DecodeError) → message_codec.reads b t m
     → message_codec.refuses b t e → ⊥
-one_answer b t (message_of kind v) e (told, r) (inl none) = cc
-one_answer b t (message_of kind v) e (told, r) (inr (other, said, refused)) =
-    (laws_of kind).one_answer b tt v e r (refused_as b t e kind other told said refused)
+one_answer b t (message_of kind v) e (found, r) (inl none) = cc
+one_answer b t (message_of kind v) e (found, r) (inr (other, as_other, refused)) =
+    (laws_of kind).one_answer b tt v e r (refused_as b t e kind other found as_other refused)
 
 one_fault : (b : List ℕ) (t : ℕ) (e f : DecodeError) → message_codec.refuses b t e
     → message_codec.refuses b t f
     → e ≡ f
 one_fault b t e f (inl h) (inl k) = cc
-one_fault b t e f (inl h) (inr (kind, told, refused)) = absurd cc
-one_fault b t e f (inr (kind, told, refused)) (inl k) = absurd cc
-one_fault b t e f (inr (kind, told, refused)) (inr (other, said, also)) =
-    (laws_of kind).one_fault b tt e f refused (refused_as b t f kind other told said also)
+one_fault b t e f (inl h) (inr (kind, found, refused)) = absurd cc
+one_fault b t e f (inr (kind, found, refused)) (inl k) = absurd cc
+one_fault b t e f (inr (kind, found, refused)) (inr (other, as_other, also)) =
+    (laws_of kind).one_fault b tt e f refused (refused_as b t f kind other found as_other also)
 
 named_fault : (b : List ℕ) (t : ℕ) → message_codec.refuses b t Memory → ⊥
-named_fault b t (inl none) = tells b t (Err Memory) none refl
-named_fault b t (inr (kind, told, refused)) = (laws_of kind).named_fault b tt refused
+named_fault b t (inl none) = response_kinds b t (Err Memory) none refl
+named_fault b t (inr (kind, found, refused)) = (laws_of kind).named_fault b tt refused
 
 -- ---- equal messages
 
@@ -132,16 +135,16 @@ idle_of b c t (message_of kind v) tb tc r s =
     let law = (laws_of kind).same_value b c tt v v tb tc r.1 s.1 in
     (kind, r.0, s.0, law.0 refl)
 
--- what belongs to a string that tells a kind is of that kind
-of_kind : (b : List ℕ) (t : ℕ) (kind : MessageKind) (m : Message) → reply_kind b t ≡ Ok kind
+-- what belongs to a string of a kind is of that kind
+of_kind : (b : List ℕ) (t : ℕ) (kind : MessageKind) (m : Message) → response_kind b t ≡ Ok kind
     → message_codec.reads b t m
     → (v : (codec_of kind).Value) × (m ≡ message_of kind v) × (codec_of kind).reads b tt v
-of_kind b t kind (message_of other v) told r =
+of_kind b t kind (message_of other v) found r =
     subst
     (λ (k : MessageKind). (x : (codec_of k).Value)
     × (message_of other v ≡ message_of k x)
     × (codec_of k).reads b tt x)
-    (same_kind (reply_kind b t) other kind r.0 told) (v, refl, r.1)
+    (same_kind (response_kind b t) other kind r.0 found) (v, refl, r.1)
 
 same_value : (b c : List ℕ) (t : ℕ) (m n : Message) → IsBytes b → IsBytes c
     → message_codec.reads b t m → message_codec.reads c t n → ((m ≡ n) ↔ message_codec.idle t b c)
@@ -157,19 +160,19 @@ same_value b c t m n tb tc r s = (
 -- ---- what is read and written
 
 reads_normal : (b : List ℕ) (t : ℕ) (m : Message) → IsBytes b → message_codec.reads b t m
-    → message_codec.is_typed m × message_codec.is_normal t m
-reads_normal b t (message_of kind v) tb (told, r) =
-    let reply = tells b t (Ok kind) told in
+    → message_codec.is_in_range m × message_codec.is_normal t m
+reads_normal b t (message_of kind v) tb (found, r) =
+    let reply = response_kinds b t (Ok kind) found in
     let parts = (laws_of kind).reads_normal b tt v tb r in
     (parts.0, (reply.0, reply.1, parts.1))
 
-written_bytes : (m : Message) → message_codec.is_typed m → IsBytes (message_codec.written m)
-written_bytes (message_of kind v) typed = (laws_of kind).written_bytes v typed
+written_bytes : (m : Message) → message_codec.is_in_range m → IsBytes (message_codec.written m)
+written_bytes (message_of kind v) in_range = (laws_of kind).written_bytes v in_range
 
 -- the family of an internet reply in normal form tells its kind
-inet_told : (family : ℕ) (kinds : Kinds) → kinds_of_family family ≡ Ok kinds
-    → reply_kind (family ∷ 0 ∷ []) 20 ≡ Ok inet_response
-inet_told family kinds h = elim (cases_eq family 2) [
+kind_of_versions : (family : ℕ) (versions : IpVersions) → versions_of_family family ≡ Ok versions
+    → response_kind (family ∷ 0 ∷ []) 20 ≡ Ok inet_response
+kind_of_versions family versions h = elim (cases_eq family 2) [
   | inl two ↦ rw two refl
   | inr other ↦ elim (cases_eq family 10) [
     | inl ten ↦ rw ten refl
@@ -179,29 +182,29 @@ inet_told family kinds h = elim (cases_eq family 2) [
 
 -- a message in normal form is written as a reply of its kind
 kind_written : (t : ℕ) (m : Message) → message_codec.is_normal t m
-    → reply_kind (message_codec.written m) t ≡ Ok (message_kind m)
+    → response_kind (message_codec.written m) t ≡ Ok (message_kind m)
 unfolding inet_response_header
 kind_written t (message_of inet_request v) (is, reply, normal) =
     elim reply [ inl other ↦ absurd cc | inr other ↦ absurd cc ]
 kind_written t (message_of unix_request v) (is, reply, normal) =
     elim reply [ inl other ↦ absurd cc | inr other ↦ absurd cc ]
 kind_written t (message_of inet_response v) (is, reply, normal) =
-    first_tells (reply_bytes inet_reply v) t v.header.family (omega arith) is refl
-    ∙ inet_told v.header.family _ normal.0.own.0
+    kind_by_first_byte (response_bytes inet_response_spec v) t v.header.family (omega arith) is refl
+    ∙ kind_of_versions v.header.family _ normal.0.own.0
 kind_written t (message_of unix_response v) (is, reply, normal) =
-    first_tells (reply_bytes unix_reply v) t 1 (omega arith) is refl
+    kind_by_first_byte (response_bytes unix_response_spec v) t 1 (omega arith) is refl
 
-reads_back : (t : ℕ) (m : Message) → message_codec.is_typed m → message_codec.is_normal t m
+reads_back : (t : ℕ) (m : Message) → message_codec.is_in_range m → message_codec.is_normal t m
     → message_codec.fits m
     → message_codec.reads (message_codec.written m) t m
-reads_back t (message_of kind v) typed normal fits = (
+reads_back t (message_of kind v) in_range normal fits = (
   kind_written t (message_of kind v) normal,
-  (laws_of kind).reads_back tt v typed normal.2 fits,
+  (laws_of kind).reads_back tt v in_range normal.2 fits,
 )
 
 pub message_laws : KeepsLaws message_codec
 message_laws = record {
-  answered = λ b t tb. answered_as b t (reply_kind b t) tb refl;
+  answered = λ b t tb. answered_as b t (response_kind b t) tb refl;
   one_answer = one_answer;
   one_fault = one_fault;
   named_fault = named_fault;
@@ -213,7 +216,7 @@ message_laws = record {
 
 -- a message is written as two bytes and more
 pub length-message_bytes : (m : Message) → 2 ≤ length (message_codec.written m)
-unfolding inet_request_format inet_response_header
+unfolding inet_request_layout inet_response_header
 length-message_bytes (message_of inet_request v) = omega arith
 length-message_bytes (message_of inet_response v) = omega arith
 length-message_bytes (message_of unix_request v) = omega arith

@@ -2,9 +2,9 @@
 
 ghost use Rattle.netlink_packet_sock_diag.specs.Message.{message_codec};
 ghost use Rattle.netlink_packet_sock_diag.specs.MessageLaws.{message_laws};
-ghost use Rattle.netlink_packet_sock_diag.specs.SeenMessage.{seen_message, seen_destroy};
+ghost use Rattle.netlink_packet_sock_diag.specs.MessageModel.{message_model, destroy_model};
 ghost use Rattle.netlink_packet_sock_diag.specs.EqualMessageLaws.{message_equal};
-ghost use Rattle.netlink_packet_sock_diag.specs.ViewedMessage.{viewed_message};
+ghost use Rattle.netlink_packet_sock_diag.specs.MessageViewModel.{message_view_model};
 
 use crate::message::{SockDiagDestroy, SockDiagMessage, SockDiagView};
 use netlink_core::{Coded, Emitable};
@@ -32,9 +32,9 @@ macro_rules! lent {
 }
 
 impl Emitable for SockDiagMessage {
-    ghost bytes = { λ v. message_codec.written (seen_message v) };
+    ghost bytes = { λ v. message_codec.written (message_model v) };
 
-    ghost writable = { λ v. message_codec.fits (seen_message v) };
+    ghost writable = { λ v. message_codec.fits (message_model v) };
 
     fn is_writable(&self) -> bool {
         held!(self, held => held.is_writable())
@@ -51,9 +51,9 @@ impl Emitable for SockDiagMessage {
 
 /// Writes the bytes of the message's canonical form, and takes no memory.
 impl Emitable for SockDiagView<'_> {
-    ghost bytes = { λ v. message_codec.written (viewed_message v) };
+    ghost bytes = { λ v. message_codec.written (message_view_model v) };
 
-    ghost writable = { λ v. message_codec.fits (viewed_message v) };
+    ghost writable = { λ v. message_codec.fits (message_view_model v) };
 
     fn is_writable(&self) -> bool {
         lent!(self, reply => reply.is_writable())
@@ -77,15 +77,15 @@ impl Coded for SockDiagMessage {
 
     ghost codec = { message_codec };
 
-    ghost seen = { seen_message };
+    ghost model = { message_model };
 
     ghost type_written = { λ _. 20 };
 
-    fn typed(&self) {
-        held!(self, held => held.typed())
+    fn in_range(&self) {
+        held!(self, held => held.in_range())
     }
 
-    ghost eq_is_seen = { message_equal };
+    ghost eq_is_model = { message_equal };
 
     ghost laws = { message_laws };
 }
@@ -95,15 +95,15 @@ impl Coded for SockDiagDestroy {
 
     ghost codec = { message_codec };
 
-    ghost seen = { seen_destroy };
+    ghost model = { destroy_model };
 
     ghost type_written = { λ _. 21 };
 
-    fn typed(&self) {
-        self.0.typed();
+    fn in_range(&self) {
+        self.0.in_range();
     }
 
-    ghost eq_is_seen = { λ v w. message_equal v.0 w.0 };
+    ghost eq_is_model = { λ v w. message_equal v.0 w.0 };
 
     ghost laws = { message_laws };
 }

@@ -8,7 +8,7 @@ ghost use Rattle.netlink_packet_sock_diag.specs.Dump.{DatagramDump, DatagramStop
 ghost use Rattle.netlink_packet_sock_diag.specs.Dump.{unended};
 ghost use Rattle.netlink_packet_sock_diag.specs.Feed.{FeedLeaves, FeedsLeave, IsInterrupted};
 ghost use Rattle.netlink_packet_sock_diag.specs.Message.{Message, message_codec};
-ghost use Rattle.netlink_packet_sock_diag.specs.SeenMessage.{seen_message};
+ghost use Rattle.netlink_packet_sock_diag.specs.MessageModel.{message_model};
 ghost use Rattle.netlink_packet_sock_diag.specs.declared.dump.DumpError.{DumpError as Refusal};
 ghost use Rattle.netlink_packet_sock_diag.specs.declared.dump.DumpState.TheVariants.{Reading};
 ghost use Rattle.netlink_packet_sock_diag.specs.declared.dump.DumpState.TheVariants.{Failed};
@@ -72,15 +72,15 @@ fn take_messages<I: NetlinkDeserializable + Drop>(
     datagram: &[u8],
 ) -> Result<(DumpState, Option<i32>), DecodeError>
     ensures state { IfOk result (λ standing. DatagramDump I.codec
-        (map I.seen messages.old.items) datagram.now (map I.seen messages.new.items)
+        (map I.model messages.old.items) datagram.now (map I.model messages.new.items)
         (ok standing)) }
     ensures fault { IfErr result (λ e. e ≢ Memory → DatagramDump I.codec
-        (map I.seen messages.old.items) datagram.now (map I.seen messages.new.items) (err e)) }
+        (map I.model messages.old.items) datagram.now (map I.model messages.new.items) (err e)) }
     ensures memory { IfErr result (λ e. e ≡ Memory → DatagramStopped I.codec
-        (map I.seen messages.old.items) datagram.now (map I.seen messages.new.items)) }
+        (map I.model messages.old.items) datagram.now (map I.model messages.new.items)) }
     ensures interrupted { IsTrue interrupted.new ↔ (IsTrue interrupted.old
-        ⊎ IsInterrupted I.codec (map I.seen messages.old.items) datagram.now
-        (map I.seen messages.new.items)) }
+        ⊎ IsInterrupted I.codec (map I.model messages.old.items) datagram.now
+        (map I.model messages.new.items)) }
 {
     // It does nothing, and says that the messages in front of one are the same however found.
     laws::one_list_of_items::<I>();
@@ -118,15 +118,15 @@ pub struct DumpReader {
     ghost fed: { let now : Standing = (state, number) in
         ∥ ((datagrams : List (List ℕ)) × (before : List Message) × (was : Standing)
         × FeedsLeave message_codec [] unended datagrams before was
-        × (((map seen_message messages.items ≡ before) × (now ≡ was))
+        × (((map message_model messages.items ≡ before) × (now ≡ was))
         ⊎ ((now ≡ (Failed, None)) × (last : List ℕ) × (answer : Result Unit Refusal)
         × FeedLeaves message_codec before was last
-        (map seen_message messages.items) now answer))) ∥₁ },
+        (map message_model messages.items) now answer))) ∥₁ },
 }
 
 impl DumpReader {
-    ghost use Rattle.netlink_packet_sock_diag.specs.SeenDump.{kept_messages, standing};
-    ghost use Rattle.netlink_packet_sock_diag.specs.SeenDump.{was_interrupted};
+    ghost use Rattle.netlink_packet_sock_diag.specs.DumpModel.{kept_messages, standing};
+    ghost use Rattle.netlink_packet_sock_diag.specs.DumpModel.{was_interrupted};
 
     /// A dump of which nothing has come. The allocator is kept.
     pub fn new(alloc: Global) -> Self
@@ -178,14 +178,14 @@ impl DumpReader {
 
     /// The messages so far.
     pub fn messages(&self) -> &[SockDiagMessage]
-        ensures { map seen_message result.now ≡ kept_messages self.now }
+        ensures { map message_model result.now ≡ kept_messages self.now }
     {
         self.messages.as_slice()
     }
 
     /// The messages, once no more datagrams are fed.
     pub fn into_messages(self) -> Vec<SockDiagMessage>
-        ensures { map seen_message result.items ≡ kept_messages self }
+        ensures { map message_model result.items ≡ kept_messages self }
     {
         self.messages
     }

@@ -9,32 +9,36 @@ ghost use Rattle.netlink_core.specs.declared.fault.DecodeError.{DecodeError};
 ghost use Rattle.netlink_core.specs.declared.fault.DecodeError.TheVariants.{Memory};
 ghost use Rattle.netlink_core.specs.declared.fault.DecodeError.TheVariants.{UnknownMessageType};
 ghost use Rattle.netlink_core.specs.declared.header.NetlinkHeader.{NetlinkHeader};
-ghost use Rattle.netlink_core.specs.Header.{IsTypedHeader};
+ghost use Rattle.netlink_core.specs.Header.{IsHeaderInRange};
 ghost use Rattle.netlink_core.specs.Envelope.{Payload, Envelope, inner, OfInner, finalized};
 ghost use Rattle.netlink_core.specs.Envelope.{envelope_codec};
 ghost use Rattle.netlink_core.specs.declared.message.NetlinkMessage.{NetlinkMessage};
 ghost use Rattle.netlink_core.specs.declared.message.NetlinkPayload.TheVariants.{InnerMessage};
 ghost use Rattle.netlink_core.specs.Items.{ItemsAre};
-ghost use Rattle.netlink_core.specs.Seen.{envelope_of};
-ghost use Rattle.netlink_core.specs.Reply.{reply_bytes, reply_codec};
-ghost use Rattle.netlink_packet_sock_diag.specs.SeenMessage.{seen_destroy};
+ghost use Rattle.netlink_core.specs.EnvelopeModel.{envelope_of};
+ghost use Rattle.netlink_core.specs.Response.{response_bytes, response_codec};
+ghost use Rattle.netlink_packet_sock_diag.specs.MessageModel.{destroy_model};
 ghost use Rattle.netlink_packet_sock_diag.specs.contracts.coded.SockDiagMessageEmitable.TheImpl.{ghosts as owned_messages};
 ghost use Rattle.netlink_packet_sock_diag.specs.contracts.coded.SockDiagViewEmitable.TheImpl.{ghosts as message_views};
 ghost use Rattle.netlink_packet_sock_diag.specs.contracts.coded.SockDiagDestroyCoded.TheImpl.{ghosts as destroys};
 ghost use Rattle.netlink_packet_sock_diag.specs.contracts.coded.SockDiagMessageCoded.TheImpl.{ghosts as messages};
 ghost use Rattle.netlink_packet_sock_diag.specs.declared.message.SockDiagDestroy.{SockDiagDestroy};
-ghost use Rattle.netlink_packet_sock_diag.specs.Dump.{in_a_row, Dump, DumpGoesOn, DatagramsDump};
+ghost use Rattle.netlink_packet_sock_diag.specs.Dump.{concatenation, Dump, DumpGoesOn};
+ghost use Rattle.netlink_packet_sock_diag.specs.Dump.{DatagramsDump};
 ghost use Rattle.netlink_packet_sock_diag.specs.Dump.{AreSplit, Standing, unended};
 ghost use Rattle.netlink_packet_sock_diag.specs.Feed.{FeedsLeave};
 ghost use Rattle.netlink_packet_sock_diag.specs.declared.dump.views.DumpViews.{DumpViews};
 ghost use Rattle.netlink_packet_sock_diag.specs.declared.dump.views.PayloadView.{PayloadView};
 ghost use Rattle.netlink_core.specs.DatagramWalk.{datagram_left};
 ghost use Rattle.netlink_packet_sock_diag.specs.DumpWalk.{GivesView};
-ghost use Rattle.netlink_packet_sock_diag.specs.ViewedPayload.{viewed_payload, viewed_item};
-ghost use Rattle.netlink_packet_sock_diag.specs.UnixReply.{UnixReply, unix_reply};
-ghost use Rattle.netlink_packet_sock_diag.specs.InetReply.{InetReply, inet_reply};
-ghost use Rattle.netlink_packet_sock_diag.specs.Viewed.{viewed};
-ghost use Rattle.netlink_packet_sock_diag.specs.ViewedMessage.{viewed_message};
+ghost use Rattle.netlink_packet_sock_diag.specs.PayloadViewModel.{payload_view_model};
+ghost use Rattle.netlink_packet_sock_diag.specs.PayloadViewModel.{item_view_model};
+ghost use Rattle.netlink_packet_sock_diag.specs.UnixResponseSpec.{UnixResponseValue};
+ghost use Rattle.netlink_packet_sock_diag.specs.UnixResponseSpec.{unix_response_spec};
+ghost use Rattle.netlink_packet_sock_diag.specs.InetResponseSpec.{InetResponseValue};
+ghost use Rattle.netlink_packet_sock_diag.specs.InetResponseSpec.{inet_response_spec};
+ghost use Rattle.netlink_packet_sock_diag.specs.ViewModel.{view_model};
+ghost use Rattle.netlink_packet_sock_diag.specs.MessageViewModel.{message_view_model};
 ghost use Rattle.netlink_packet_sock_diag.specs.Message.{Message, MessageKind, message_kind};
 ghost use Rattle.netlink_packet_sock_diag.specs.Message.{inet_request, inet_response, unix_request};
 ghost use Rattle.netlink_packet_sock_diag.specs.Message.{unix_response, message_codec};
@@ -49,10 +53,10 @@ use std::alloc::{AllocError, Global};
 /// The number of bytes that a reply is written as, `buffer_len`, is a multiple of 4, for both
 /// families.
 pub fn reply_lengths_are_multiples_of_four()
-    ensures unix { (v : UnixReply) → (reply_codec unix_reply).is_typed v
-        → length (reply_bytes unix_reply v) % 4 ≡ 0 }
-    ensures inet { (v : InetReply) → (reply_codec inet_reply).is_typed v
-        → length (reply_bytes inet_reply v) % 4 ≡ 0 }
+    ensures unix { (v : UnixResponseValue) → (response_codec unix_response_spec).is_in_range v
+        → length (response_bytes unix_response_spec v) % 4 ≡ 0 }
+    ensures inet { (v : InetResponseValue) → (response_codec inet_response_spec).is_in_range v
+        → length (response_bytes inet_response_spec v) % 4 ≡ 0 }
 {}
 
 /// Exactly one of four tests, each for one kind, is true of a message.
@@ -93,7 +97,7 @@ pub fn readers_take_memory() -> (bool, bool, bool)
 /// A finalized request to close sockets is refused by its own reader: it is written under a type of
 /// its own, and messages are read under 20 alone.
 pub fn finalized_destroy_is_refused()
-    ensures { (h : NetlinkHeader) (m : Message) → IsTypedHeader h
+    ensures { (h : NetlinkHeader) (m : Message) → IsHeaderInRange h
         → (envelope_codec message_codec).fits (record { header = h; payload = inner m })
         → (envelope_codec message_codec).refuses
         ((envelope_codec message_codec).written (record {
@@ -109,17 +113,17 @@ pub fn finalized_destroy_is_refused()
 pub fn finalized_destroy_in_hand_is_refused()
     ensures { (message : NetlinkMessage SockDiagDestroy) (destroy : SockDiagDestroy) (rest : List ℕ)
         → message.payload ≡ InnerMessage destroy
-        → IsTypedHeader message.header
-        → (envelope_codec message_codec).fits (envelope_of seen_destroy message)
+        → IsHeaderInRange message.header
+        → (envelope_codec message_codec).fits (envelope_of destroy_model message)
         → (envelope_codec message_codec).refuses
-        ((envelope_codec message_codec).written (envelope_of seen_destroy (record message {
+        ((envelope_codec message_codec).written (envelope_of destroy_model (record message {
           header = finalized message_codec.written destroys.type_written
-              (envelope_of seen_destroy message);
+              (envelope_of destroy_model message);
         })) ++ rest) tt
-        (UnknownMessageType (destroys.type_written (seen_destroy destroy))) }
+        (UnknownMessageType (destroys.type_written (destroy_model destroy))) }
 {}
 
-/// Bytes have one netlink message of sock_diag(7) at their front or one fault, which has a name.
+/// Bytes have one netlink message of sock_diag(7) at their start or one fault, which has a name.
 pub fn one_message_or_fault()
     ensures answered { (b : List ℕ) → IsBytes b
         → ((v : Envelope Message) × (envelope_codec message_codec).reads b tt v)
@@ -163,7 +167,7 @@ pub fn messages_written_alike()
 /// sets them, read back as itself exactly where it carries nothing or bytes that are kept, or a
 /// message in normal form under the type 20.
 pub fn finalized_message_reads_back()
-    ensures { (v : Envelope Message) → (envelope_codec message_codec).is_typed v
+    ensures { (v : Envelope Message) → (envelope_codec message_codec).is_in_range v
         → (envelope_codec message_codec).fits v
         → (v.header ≡ finalized message_codec.written messages.type_written v)
         → ((envelope_codec message_codec).reads ((envelope_codec message_codec).written v) tt v
@@ -183,7 +187,7 @@ pub fn items_have_one_dump()
 {}
 
 /// The dump over items in a row is that over the first part, continued by the second.
-pub fn dump_over_items_in_a_row()
+pub fn dump_over_concatenation()
     ensures { (before after : List Message) (end : Result Standing DecodeError)
         (xs ys : List (Result (Payload Message) DecodeError))
         → (Dump before (xs ++ ys) after end
@@ -197,7 +201,7 @@ pub fn same_items_have_one_dump()
         (xs ys : List (List (Result (Payload Message) DecodeError)))
         → AllByRecursion IsBytes datagrams
         → AllZip (ItemsAre message_codec) datagrams xs → AllZip (ItemsAre message_codec) others ys
-        → in_a_row xs ≡ in_a_row ys
+        → concatenation xs ≡ concatenation ys
         → (before after : List Message) (end : Result Standing DecodeError)
         → DatagramsDump message_codec before datagrams after end
         → DatagramsDump message_codec before others after end }
@@ -210,7 +214,7 @@ pub fn same_items_have_one_dump()
 pub fn split_changes_no_dump()
     ensures { (datagrams others : List (List ℕ)) → AllByRecursion IsBytes datagrams
         → AllByRecursion IsBytes others
-        → AreSplit datagrams → AreSplit others → in_a_row datagrams ≡ in_a_row others
+        → AreSplit datagrams → AreSplit others → concatenation datagrams ≡ concatenation others
         → (before after : List Message) (end : Result Standing DecodeError)
         → DatagramsDump message_codec before datagrams after end
         → DatagramsDump message_codec before others after end }
@@ -224,7 +228,7 @@ pub fn split_changes_no_dump()
 pub fn split_changes_no_feed()
     ensures { (datagrams others : List (List ℕ)) → AllByRecursion IsBytes datagrams
         → AllByRecursion IsBytes others
-        → AreSplit datagrams → AreSplit others → in_a_row datagrams ≡ in_a_row others
+        → AreSplit datagrams → AreSplit others → concatenation datagrams ≡ concatenation others
         → (messages same : List Message) (state end : Standing)
         → FeedsLeave message_codec [] unended datagrams messages state
         → FeedsLeave message_codec [] unended others same end
@@ -242,7 +246,7 @@ pub fn same_items_change_no_feed()
         (xs ys : List (List (Result (Payload Message) DecodeError)))
         → AllByRecursion IsBytes datagrams → AllByRecursion IsBytes others
         → AllZip (ItemsAre message_codec) datagrams xs → AllZip (ItemsAre message_codec) others ys
-        → in_a_row xs ≡ in_a_row ys
+        → concatenation xs ≡ concatenation ys
         → (messages same : List Message) (state end : Standing)
         → FeedsLeave message_codec [] unended datagrams messages state
         → FeedsLeave message_codec [] unended others same end
@@ -257,7 +261,7 @@ pub fn same_items_change_no_feed()
 pub fn whole_views_are_the_datagram()
     ensures { (walk : DumpViews) (given : List (Result PayloadView DecodeError))
         → Drains GivesView walk given
-        → ItemsAre message_codec (datagram_left walk.messages) (map viewed_item given) }
+        → ItemsAre message_codec (datagram_left walk.messages) (map item_view_model given) }
 {}
 
 /// `==` says whether two errors of a dump are the same.
@@ -286,14 +290,14 @@ pub fn copied_views<'a>(walk: &Views<'a>) -> Result<Views<'a>, AllocError>
 
 /// `==` says whether two replies in place, about UNIX sockets, tell the same.
 pub fn equal_unix_views(v: &UnixResponseView<'_>, w: &UnixResponseView<'_>) -> bool
-    ensures { IsTrue result ↔ (viewed v.now ≡ viewed w.now) }
+    ensures { IsTrue result ↔ (view_model v.now ≡ view_model w.now) }
 {
     v == w
 }
 
 /// `==` says whether two replies in place, about IPv4 and IPv6 sockets, tell the same.
 pub fn equal_inet_views(v: &InetResponseView<'_>, w: &InetResponseView<'_>) -> bool
-    ensures { IsTrue result ↔ (viewed v.now ≡ viewed w.now) }
+    ensures { IsTrue result ↔ (view_model v.now ≡ view_model w.now) }
 {
     v == w
 }
@@ -301,7 +305,7 @@ pub fn equal_inet_views(v: &InetResponseView<'_>, w: &InetResponseView<'_>) -> b
 /// `==` says whether two payloads in place tell the same.
 #[tactic(auto, using(crate::specs::EqualPayloadLaws::payload_equal))]
 pub fn equal_payload_views(v: &View<'_>, w: &View<'_>) -> bool
-    ensures { IsTrue result ↔ (viewed_payload v.now ≡ viewed_payload w.now) }
+    ensures { IsTrue result ↔ (payload_view_model v.now ≡ payload_view_model w.now) }
 {
     v == w
 }
@@ -309,7 +313,7 @@ pub fn equal_payload_views(v: &View<'_>, w: &View<'_>) -> bool
 /// `==` says whether two messages in place tell the same.
 #[tactic(auto, using(crate::specs::EqualMessageLaws::view_equal))]
 pub fn equal_message_views(v: &SockDiagView<'_>, w: &SockDiagView<'_>) -> bool
-    ensures { IsTrue result ↔ (viewed_message v.now ≡ viewed_message w.now) }
+    ensures { IsTrue result ↔ (message_view_model v.now ≡ message_view_model w.now) }
 {
     v == w
 }
@@ -317,7 +321,7 @@ pub fn equal_message_views(v: &SockDiagView<'_>, w: &SockDiagView<'_>) -> bool
 /// The copy of a reply in place, about a UNIX socket, tells the same.
 pub fn copied_unix_view<'a>(view: &UnixResponseView<'a>) -> Result<UnixResponseView<'a>, AllocError>
     ensures ok { IsOk result }
-    ensures same { IfOk result (λ copy. viewed copy ≡ viewed view.now) }
+    ensures same { IfOk result (λ copy. view_model copy ≡ view_model view.now) }
 {
     view.clone()
 }
@@ -325,7 +329,7 @@ pub fn copied_unix_view<'a>(view: &UnixResponseView<'a>) -> Result<UnixResponseV
 /// The copy of a reply in place, about an IPv4 or IPv6 socket, tells the same.
 pub fn copied_inet_view<'a>(view: &InetResponseView<'a>) -> Result<InetResponseView<'a>, AllocError>
     ensures ok { IsOk result }
-    ensures same { IfOk result (λ copy. viewed copy ≡ viewed view.now) }
+    ensures same { IfOk result (λ copy. view_model copy ≡ view_model view.now) }
 {
     view.clone()
 }
@@ -333,7 +337,7 @@ pub fn copied_inet_view<'a>(view: &InetResponseView<'a>) -> Result<InetResponseV
 /// The copy of a message in place tells the same.
 pub fn copied_message_view<'a>(view: &SockDiagView<'a>) -> Result<SockDiagView<'a>, AllocError>
     ensures ok { IsOk result }
-    ensures same { IfOk result (λ copy. viewed_message copy ≡ viewed_message view.now) }
+    ensures same { IfOk result (λ copy. message_view_model copy ≡ message_view_model view.now) }
 {
     view.clone()
 }
@@ -341,7 +345,7 @@ pub fn copied_message_view<'a>(view: &SockDiagView<'a>) -> Result<SockDiagView<'
 /// The copy of a payload in place tells the same.
 pub fn copied_payload_view<'a>(view: &View<'a>) -> Result<View<'a>, AllocError>
     ensures ok { IsOk result }
-    ensures same { IfOk result (λ copy. viewed_payload copy ≡ viewed_payload view.now) }
+    ensures same { IfOk result (λ copy. payload_view_model copy ≡ payload_view_model view.now) }
 {
     view.clone()
 }
@@ -352,10 +356,11 @@ pub fn owned_unix_view(
     alloc: Global,
 ) -> Result<UnixResponse, AllocError>
     ensures bytes { IfOk result (λ reply.
-        ⟦<UnixResponse as Emitable>⟧.bytes reply ≡ reply_bytes unix_reply (viewed view.now)) }
+        ⟦<UnixResponse as Emitable>⟧.bytes reply
+        ≡ response_bytes unix_response_spec (view_model view.now)) }
     ensures writable { IfOk result (λ reply.
         ⟦<UnixResponse as Emitable>⟧.writable reply
-        ↔ (reply_codec unix_reply).fits (viewed view.now)) }
+        ↔ (response_codec unix_response_spec).fits (view_model view.now)) }
 {
     view.to_owned(alloc)
 }
@@ -366,10 +371,11 @@ pub fn owned_inet_view(
     alloc: Global,
 ) -> Result<InetResponse, AllocError>
     ensures bytes { IfOk result (λ reply.
-        ⟦<InetResponse as Emitable>⟧.bytes reply ≡ reply_bytes inet_reply (viewed view.now)) }
+        ⟦<InetResponse as Emitable>⟧.bytes reply
+        ≡ response_bytes inet_response_spec (view_model view.now)) }
     ensures writable { IfOk result (λ reply.
         ⟦<InetResponse as Emitable>⟧.writable reply
-        ↔ (reply_codec inet_reply).fits (viewed view.now)) }
+        ↔ (response_codec inet_response_spec).fits (view_model view.now)) }
 {
     view.to_owned(alloc)
 }

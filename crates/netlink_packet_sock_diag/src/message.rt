@@ -31,32 +31,32 @@ pub enum SockDiagMessage {
 }
 
 impl SockDiagMessage {
-    ghost use Rattle.netlink_packet_sock_diag.specs.SeenMessage.{seen_message};
+    ghost use Rattle.netlink_packet_sock_diag.specs.MessageModel.{message_model};
 
     /// Whether the message asks for IPv4 or IPv6 sockets.
     pub fn is_inet_request(&self) -> bool
-        ensures { IsTrue result ↔ (message_kind (seen_message self.now) ≡ inet_request) }
+        ensures { IsTrue result ↔ (message_kind (message_model self.now) ≡ inet_request) }
     {
         matches!(self, SockDiagMessage::InetRequest(_))
     }
 
     /// Whether the message tells an IPv4 or IPv6 socket.
     pub fn is_inet_response(&self) -> bool
-        ensures { IsTrue result ↔ (message_kind (seen_message self.now) ≡ inet_response) }
+        ensures { IsTrue result ↔ (message_kind (message_model self.now) ≡ inet_response) }
     {
         matches!(self, SockDiagMessage::InetResponse(_))
     }
 
     /// Whether the message asks for UNIX sockets.
     pub fn is_unix_request(&self) -> bool
-        ensures { IsTrue result ↔ (message_kind (seen_message self.now) ≡ unix_request) }
+        ensures { IsTrue result ↔ (message_kind (message_model self.now) ≡ unix_request) }
     {
         matches!(self, SockDiagMessage::UnixRequest(_))
     }
 
     /// Whether the message tells a UNIX socket.
     pub fn is_unix_response(&self) -> bool
-        ensures { IsTrue result ↔ (message_kind (seen_message self.now) ≡ unix_response) }
+        ensures { IsTrue result ↔ (message_kind (message_model self.now) ≡ unix_response) }
     {
         matches!(self, SockDiagMessage::UnixResponse(_))
     }
@@ -70,8 +70,8 @@ impl SockDiagMessage {
 
     /// An equal message. It fails only for want of memory, and a request never does.
     pub fn clone(&self, alloc: Global) -> Result<Self, AllocError>
-        ensures equal { IfOk result (λ copy. seen_message copy ≡ seen_message self.now) }
-        ensures spare { let kind = message_kind (seen_message self.now) in
+        ensures equal { IfOk result (λ copy. message_model copy ≡ message_model self.now) }
+        ensures spare { let kind = message_kind (message_model self.now) in
             (kind ≡ inet_request) ⊎ (kind ≡ unix_request) → IsOk result }
     {
         Ok(match self {
@@ -97,7 +97,7 @@ impl SockDiagMessage {
         message_type: u16,
     ) -> Result<SockDiagMessage, DecodeError>
         ensures value { IfOk result
-            (λ m. message_codec.reads payload.now message_type (seen_message m)) }
+            (λ m. message_codec.reads payload.now message_type (message_model m)) }
         ensures fault { IfErr result (λ e. e ≢ Memory
             → message_codec.refuses payload.now message_type e) }
         // Memory is wanted only for bytes that have a message.
@@ -119,8 +119,8 @@ pub enum SockDiagView<'a> {
 }
 
 impl<'a> SockDiagView<'a> {
-    ghost use Rattle.netlink_packet_sock_diag.specs.SeenMessage.{seen_message};
-    ghost use Rattle.netlink_packet_sock_diag.specs.ViewedMessage.{viewed_message};
+    ghost use Rattle.netlink_packet_sock_diag.specs.MessageModel.{message_model};
+    ghost use Rattle.netlink_packet_sock_diag.specs.MessageViewModel.{message_view_model};
 
     /// Checks the whole of the bytes under a message type, and takes no memory. Fewer than 2 bytes
     /// are `MessageTooShort`; then a type but `SOCK_DIAG_BY_FAMILY` is `UnknownMessageType`; then a
@@ -128,7 +128,7 @@ impl<'a> SockDiagView<'a> {
     /// family's replies decides.
     pub fn parse(payload: &'a [u8], message_type: u16) -> Result<SockDiagView<'a>, DecodeError>
         ensures value { IfOk result
-            (λ view. message_codec.reads payload.entry.now message_type (viewed_message view)) }
+            (λ view. message_codec.reads payload.entry.now message_type (message_view_model view)) }
         ensures fault { IfErr result (message_codec.refuses payload.entry.now message_type) }
     {
         if payload.len() < 2 {
@@ -146,7 +146,7 @@ impl<'a> SockDiagView<'a> {
 
     /// The message with memory of its own. It fails only for want of memory.
     pub fn to_owned(&self, alloc: Global) -> Result<SockDiagMessage, AllocError>
-        ensures { IfOk result (λ message. seen_message message ≡ viewed_message self.now) }
+        ensures { IfOk result (λ message. message_model message ≡ message_view_model self.now) }
     {
         Ok(match self {
             SockDiagView::InetResponse(reply) => {
@@ -242,19 +242,19 @@ impl From<SockDiagMessage> for NetlinkPayload<SockDiagMessage> {
 pub struct SockDiagDestroy(pub(crate) SockDiagMessage);
 
 impl SockDiagDestroy {
-    ghost use Rattle.netlink_packet_sock_diag.specs.SeenMessage.{seen_message, seen_destroy};
+    ghost use Rattle.netlink_packet_sock_diag.specs.MessageModel.{message_model, destroy_model};
 
     /// The request to close what the message tells.
     pub fn new(message: SockDiagMessage) -> Self
-        ensures { seen_destroy result ≡ seen_message message }
+        ensures { destroy_model result ≡ message_model message }
     {
         SockDiagDestroy(message)
     }
 
     /// An equal request. It fails only for want of memory, and not where it holds a request.
     pub fn clone(&self, alloc: Global) -> Result<Self, AllocError>
-        ensures equal { IfOk result (λ copy. seen_destroy copy ≡ seen_destroy self.now) }
-        ensures spare { let kind = message_kind (seen_destroy self.now) in
+        ensures equal { IfOk result (λ copy. destroy_model copy ≡ destroy_model self.now) }
+        ensures spare { let kind = message_kind (destroy_model self.now) in
             (kind ≡ inet_request) ⊎ (kind ≡ unix_request) → IsOk result }
     {
         Ok(SockDiagDestroy(self.0.clone(alloc)?))

@@ -5,10 +5,12 @@ ghost use Rattle.std.specs.Prelude.{SomeIff};
 ghost use lib.Pointwise.{pointwise};
 ghost use Rattle.attribute_lists.specs.AttributesIn.{HasNoFault, values_in};
 ghost use Rattle.netlink_core.specs.declared.fault.DecodeError.TheVariants.{Memory};
-ghost use Rattle.netlink_core.specs.Family.{Said, says, attribute_said};
-ghost use Rattle.netlink_core.specs.ReplySteps.{framed, FramedFits};
+ghost use Rattle.netlink_core.specs.AttributeSet.{AttributeValue, decodes, encodes};
+ghost use Rattle.netlink_core.specs.ResponseSteps.{framed, FramedFits};
 
-use attribute_lists::{emit_said, emit_views, next_view, said_len, said_len_within, views_len};
+use attribute_lists::{
+    emit_values, emit_views, next_view, values_len, values_len_within, views_len,
+};
 use netlink_core::{DecodeError, Emitable, FamilyNla, FamilyView, NlasIterator};
 
 /// Want of memory, in the place of what was begun. It stands apart, so that what drops a list takes
@@ -24,12 +26,12 @@ pub(crate) fn without_memory<T: Drop>(_begun: T) -> DecodeError
 /// Whether the same attributes stand in both places, in the same order, by any test that `==` of
 /// two attributes is.
 pub fn same_views<'a, V: FamilyView<'a> + Drop>(left: &'a [u8], right: &'a [u8]) -> bool
-    requires left { HasNoFault (says V.family) left.now }
-    requires right { HasNoFault (says V.family) right.now }
-    ensures { (test : Said V.family → Said V.family → Bool)
-        → ((v w : V) → V.PartialEq.eq v w ≡ test (V.viewed v) (V.viewed w))
-        → result ≡ pointwise test (values_in (says V.family) left.entry.now)
-        (values_in (says V.family) right.entry.now) }
+    requires left { HasNoFault (decodes V.attribute_set) left.now }
+    requires right { HasNoFault (decodes V.attribute_set) right.now }
+    ensures { (test : AttributeValue V.attribute_set → AttributeValue V.attribute_set → Bool)
+        → ((v w : V) → V.PartialEq.eq v w ≡ test (V.model v) (V.model w))
+        → result ≡ pointwise test (values_in (decodes V.attribute_set) left.entry.now)
+        (values_in (decodes V.attribute_set) right.entry.now) }
 {
     let mut walk = NlasIterator::new(left);
     let mut others = NlasIterator::new(right);
@@ -46,56 +48,56 @@ pub fn same_views<'a, V: FamilyView<'a> + Drop>(left: &'a [u8], right: &'a [u8])
 /// 4,294,967,295 bytes.
 pub(crate) fn reply_len<H: Emitable, T: FamilyNla>(header: &H, nlas: &[T]) -> Option<usize>
     requires { H.writable header.now }
-    ensures { let attributes = map (attribute_said T.family) (map T.seen nlas.now) in
+    ensures { let attributes = map (encodes T.attribute_set) (map T.model nlas.now) in
         SomeIff result (FramedFits (H.bytes header.now) attributes)
         (length (framed (H.bytes header.now) attributes)) }
 {
     let len = header.buffer_len();
     let room = (u32::MAX as usize).checked_sub(len)?;
-    Some(len + said_len_within(nlas, room)?)
+    Some(len + values_len_within(nlas, room)?)
 }
 
 /// How many bytes header and attributes have.
 pub(crate) fn fitting_reply_len<H: Emitable, T: FamilyNla>(header: &H, nlas: &[T]) -> usize
     requires header { H.writable header.now }
     requires fits { FramedFits (H.bytes header.now)
-        (map (attribute_said T.family) (map T.seen nlas.now)) }
+        (map (encodes T.attribute_set) (map T.model nlas.now)) }
     ensures { result ≡ length
-        (framed (H.bytes header.now) (map (attribute_said T.family) (map T.seen nlas.now))) }
+        (framed (H.bytes header.now) (map (encodes T.attribute_set) (map T.model nlas.now))) }
 {
-    header.buffer_len() + said_len(nlas)
+    header.buffer_len() + values_len(nlas)
 }
 
-/// Writes header and attributes at the front of the buffer, and leaves the rest.
+/// Writes header and attributes at the start of the buffer, and leaves the rest.
 pub(crate) fn emit_reply<H: Emitable, T: FamilyNla>(header: &H, nlas: &[T], buffer: &mut [u8])
     requires header { H.writable header.now }
     requires fits { FramedFits (H.bytes header.now)
-        (map (attribute_said T.family) (map T.seen nlas.now)) }
+        (map (encodes T.attribute_set) (map T.model nlas.now)) }
     requires room { length (framed (H.bytes header.now)
-        (map (attribute_said T.family) (map T.seen nlas.now))) ≤ length buffer.old }
+        (map (encodes T.attribute_set) (map T.model nlas.now))) ≤ length buffer.old }
     ensures { let all = framed (H.bytes header.now)
-        (map (attribute_said T.family) (map T.seen nlas.now)) in
+        (map (encodes T.attribute_set) (map T.model nlas.now)) in
         buffer.new ≡ all ++ drop (length all) buffer.old }
 {
     let (front, rest) = buffer.split_at_mut(header.buffer_len());
     header.emit(front);
-    emit_said(nlas, rest);
+    emit_values(nlas, rest);
 }
 
 /// How many bytes the header and the attributes behind it are written as, where each value fits and
 /// all of it has at most 4,294,967,295.
-pub(crate) fn viewed_reply_len<'a, H: Emitable, V: FamilyView<'a> + Drop>(
+pub(crate) fn reply_view_len<'a, H: Emitable, V: FamilyView<'a> + Drop>(
     header: &H,
     bytes: &'a [u8],
 ) -> Option<usize>
     requires header { H.writable header.now }
-    requires clean { HasNoFault (says V.family) bytes.now }
+    requires clean { HasNoFault (decodes V.attribute_set) bytes.now }
     ensures fits { IsSome result
         ↔ FramedFits (H.bytes header.now)
-        (map (attribute_said V.family) (values_in (says V.family) bytes.entry.now)) }
+        (map (encodes V.attribute_set) (values_in (decodes V.attribute_set) bytes.entry.now)) }
     ensures len { IfSome result (λ len. len
         ≡ length (framed (H.bytes header.now)
-        (map (attribute_said V.family) (values_in (says V.family) bytes.entry.now)))) }
+        (map (encodes V.attribute_set) (values_in (decodes V.attribute_set) bytes.entry.now)))) }
 {
     let len = header.buffer_len();
     if len > u32::MAX as usize {
@@ -104,20 +106,21 @@ pub(crate) fn viewed_reply_len<'a, H: Emitable, V: FamilyView<'a> + Drop>(
     views_len::<V>(len, bytes)
 }
 
-/// Writes the header and the attributes behind it at the front of the buffer, and leaves the rest.
-pub(crate) fn emit_viewed_reply<'a, H: Emitable, V: FamilyView<'a> + Drop>(
+/// Writes the header and the attributes behind it at the start of the buffer, and leaves the rest.
+pub(crate) fn emit_reply_view<'a, H: Emitable, V: FamilyView<'a> + Drop>(
     header: &H,
     bytes: &'a [u8],
     buffer: &mut [u8],
 )
     requires header { H.writable header.now }
-    requires clean { HasNoFault (says V.family) bytes.now }
+    requires clean { HasNoFault (decodes V.attribute_set) bytes.now }
     requires fits { FramedFits (H.bytes header.now)
-        (map (attribute_said V.family) (values_in (says V.family) bytes.now)) }
+        (map (encodes V.attribute_set) (values_in (decodes V.attribute_set) bytes.now)) }
     requires room { length (framed (H.bytes header.now)
-        (map (attribute_said V.family) (values_in (says V.family) bytes.now))) ≤ length buffer.old }
+        (map (encodes V.attribute_set) (values_in (decodes V.attribute_set) bytes.now)))
+        ≤ length buffer.old }
     ensures { let all = framed (H.bytes header.now)
-        (map (attribute_said V.family) (values_in (says V.family) bytes.entry.now)) in
+        (map (encodes V.attribute_set) (values_in (decodes V.attribute_set) bytes.entry.now)) in
         buffer.new ≡ all ++ drop (length all) buffer.old }
 {
     let (front, rest) = buffer.split_at_mut(header.buffer_len());

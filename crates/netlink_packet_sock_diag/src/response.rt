@@ -6,14 +6,14 @@ ghost use Rattle.std.specs.List.{AllByRecursion};
 ghost use Rattle.netlink_core.specs.Attribute.{AttributeFault};
 ghost use Rattle.netlink_core.specs.Codec.{KeepsLaws};
 ghost use Rattle.netlink_core.specs.declared.fault.DecodeError.{DecodeError};
-ghost use Rattle.netlink_core.specs.Family.{says, attribute_said, IsSpareSaid};
-ghost use Rattle.netlink_core.specs.Reply.{reply_bytes, reply_codec};
-ghost use Rattle.attribute_lists.specs.AttributesIn.{HasNoFault, reply_behind, reply_with};
+ghost use Rattle.netlink_core.specs.AttributeSet.{decodes, encodes, IsSpareBy};
+ghost use Rattle.netlink_core.specs.Response.{response_bytes, response_codec};
+ghost use Rattle.attribute_lists.specs.AttributesIn.{HasNoFault, response_behind, response_with};
 ghost use Rattle.attribute_lists.specs.AttributesIn.{values_in};
 
 use crate::reply::{emit_reply, fitting_reply_len, reply_len, without_memory};
 use crate::view::{ReplyHeader, ReplyView};
-use attribute_lists::{copy_nlas, nlas_typed, own_nlas};
+use attribute_lists::{copy_nlas, nlas_in_range, own_nlas};
 use netlink_core::{
     CanonError, Coded, DecodeError, Emitable, Exact, FamilyNla, Parseable, Readable, Wire,
     write_new,
@@ -40,30 +40,31 @@ pub trait ReplyOwned: ReplyHeader + Exact + Emitable {
     const REPLY: &'static str;
 
     /// Tells the prover that the header's numbers are within their types. It does nothing.
-    fn told_typed(&self)
-        ensures { Self.reply.header.is_typed (Self.told self.now) };
+    fn header_in_range(&self)
+        ensures { Self.reply.header.is_in_range (Self.header_model self.now) };
 
     // `==` compares what a header tells, and it is written as that.
-    ghost eq_is_seen: { (v w : Self) → IsTrue (Self.PartialEq.eq v w)
-        ↔ (Self.ReplyHeader.told v ≡ Self.ReplyHeader.told w) };
+    ghost eq_is_model: { (v w : Self) → IsTrue (Self.PartialEq.eq v w)
+        ↔ (Self.ReplyHeader.header_model v ≡ Self.ReplyHeader.header_model w) };
 
     ghost written: { (header : Self) → Self.Emitable.bytes header
-        ≡ Self.ReplyHeader.reply.header.bytes (Self.ReplyHeader.told header) };
+        ≡ Self.ReplyHeader.reply.header.bytes (Self.ReplyHeader.header_model header) };
 
     ghost fits: { (header : Self) → Self.Emitable.writable header };
 
     // The attributes are those of the reply's family, and a reply keeps the laws.
-    ghost same: { let family = Self.Nla.FamilyNla.family in
-        let viewed = Self.ReplyHeader.reply.family in
+    ghost same: { let set = Self.Nla.FamilyNla.attribute_set in
+        let view_set = Self.ReplyHeader.reply.attribute_set in
         ((b : List ℕ) (e : DecodeError)
-        → AttributeFault (says viewed) b e → AttributeFault (says family) b e)
-        × ((b : List ℕ) → HasNoFault (says viewed) b → HasNoFault (says family) b)
-        × ((b : List ℕ) → length (values_in (says viewed) b) ≡ length (values_in (says family) b))
-        × ((b : List ℕ) → map (attribute_said viewed) (values_in (says viewed) b)
-        ≡ map (attribute_said family) (values_in (says family) b)) };
+        → AttributeFault (decodes view_set) b e → AttributeFault (decodes set) b e)
+        × ((b : List ℕ) → HasNoFault (decodes view_set) b → HasNoFault (decodes set) b)
+        × ((b : List ℕ) → length (values_in (decodes view_set) b)
+        ≡ length (values_in (decodes set) b))
+        × ((b : List ℕ) → map (encodes view_set) (values_in (decodes view_set) b)
+        ≡ map (encodes set) (values_in (decodes set) b)) };
 
-    ghost keeps: { KeepsLaws (reply_codec
-        (reply_with Self.ReplyHeader.reply Self.Nla.FamilyNla.family)) };
+    ghost keeps: { KeepsLaws (response_codec
+        (response_with Self.ReplyHeader.reply Self.Nla.FamilyNla.attribute_set)) };
 }
 
 impl<H: ReplyOwned + Debug, N: Debug> Debug for Reply<H, N> {
@@ -76,16 +77,18 @@ impl<H: ReplyOwned + Debug, N: Debug> Debug for Reply<H, N> {
 }
 
 impl<H: ReplyOwned> Reply<H, H::Nla> {
-    ghost use Rattle.netlink_packet_sock_diag.specs.SeenReply.{seen_reply};
+    ghost use Rattle.netlink_packet_sock_diag.specs.ResponseModel.{response_model};
 
     /// An equal reply. It fails only for want of memory, which up to eight attributes that need
     /// none do not want.
     pub fn clone(&self, alloc: Global) -> Result<Self, AllocError>
         ensures equal { IfOk result (λ copy.
-            seen_reply H.told H.Nla.FamilyNla.seen copy ≡ seen_reply H.told H.Nla.FamilyNla.seen
+            response_model H.header_model H.Nla.FamilyNla.model copy
+            ≡ response_model H.header_model H.Nla.FamilyNla.model
             self.now) }
-        ensures spare { (reply_codec (reply_with H.reply H.Nla.FamilyNla.family)).is_spare
-            (seen_reply H.told H.Nla.FamilyNla.seen self.now)
+        ensures spare { (response_codec (response_with H.reply
+            H.Nla.FamilyNla.attribute_set)).is_spare
+            (response_model H.header_model H.Nla.FamilyNla.model self.now)
             → IsOk result }
     {
         let nlas = copy_nlas(alloc, self.nlas.as_slice())?;
@@ -104,7 +107,7 @@ impl<H, N> Readable for Reply<H, N> {
 
 impl<'a, H: ReplyOwned> Parseable<&'a [u8]> for Reply<H, H::Nla> {
     /// Reads the header, and then the attributes up to the end of the bytes. A fault of the header
-    /// is told, or else the first fault of an attribute.
+    /// is returned, or else the first fault of an attribute.
     #[inline(always)]
     fn parse(alloc: Global, payload: &'a [u8]) -> Result<Self, DecodeError> {
         let view = ReplyView::<H>::parse(payload)?;
@@ -120,19 +123,21 @@ impl<'a, H: ReplyOwned> Parseable<&'a [u8]> for Reply<H, H::Nla> {
 }
 
 impl<H: ReplyOwned> ReplyView<'_, H> {
-    ghost use Rattle.netlink_packet_sock_diag.specs.SeenReply.{seen_reply};
-    ghost use Rattle.netlink_packet_sock_diag.specs.Viewed.{viewed};
+    ghost use Rattle.netlink_packet_sock_diag.specs.ResponseModel.{response_model};
+    ghost use Rattle.netlink_packet_sock_diag.specs.ViewModel.{view_model};
 
     // Puts the attributes, with memory of their own, into the empty list. They are not moved again
     // where the list is already in its place.
     fn own_into(&self, alloc: Global, nlas: &mut SmallVec<H::Nla, 8>) -> Result<(), AllocError>
         requires { nlas.old.items ≡ [] }
-        ensures equal { OnOk result (map H.Nla.FamilyNla.seen nlas.new.items
-            ≡ values_in (says H.Nla.FamilyNla.family) (drop H.reply.size self.now.bytes.now)) }
-        ensures spare { let family = H.Nla.FamilyNla.family in
-            let said = values_in (says family) (drop H.reply.size self.now.bytes.now) in
+        ensures equal { OnOk result (map H.Nla.FamilyNla.model nlas.new.items
+            ≡ values_in (decodes H.Nla.FamilyNla.attribute_set)
+            (drop H.reply.size self.now.bytes.now)) }
+        ensures spare { let set = H.Nla.FamilyNla.attribute_set in
+            let values = values_in (decodes set) (drop H.reply.size self.now.bytes.now) in
             nlas.old.capacity ≡ 8
-            → (length said ≤ 8) × AllByRecursion (IsSpareSaid family) said → IsOk result }
+            → (length values ≤ 8) × AllByRecursion (IsSpareBy set) values
+            → IsOk result }
     {
         if self.count() == 0 {
             return Ok(());
@@ -142,11 +147,15 @@ impl<H: ReplyOwned> ReplyView<'_, H> {
 
     /// The reply with memory of its own. It fails only for want of memory.
     pub fn to_owned(&self, alloc: Global) -> Result<Reply<H, H::Nla>, AllocError>
-        ensures equal { IfOk result (λ reply. seen_reply H.told H.Nla.FamilyNla.seen reply
-            ≡ reply_behind (reply_with H.reply H.Nla.FamilyNla.family) (viewed self.now).header
+        ensures equal { IfOk result (λ reply.
+            response_model H.header_model H.Nla.FamilyNla.model reply
+            ≡ response_behind (response_with H.reply H.Nla.FamilyNla.attribute_set)
+            (view_model self.now).header
             (drop H.reply.size self.now.bytes.now)) }
-        ensures spare { (reply_codec (reply_with H.reply H.Nla.FamilyNla.family)).is_spare
-            (reply_behind (reply_with H.reply H.Nla.FamilyNla.family) (viewed self.now).header
+        ensures spare { (response_codec (response_with H.reply
+            H.Nla.FamilyNla.attribute_set)).is_spare
+            (response_behind (response_with H.reply H.Nla.FamilyNla.attribute_set)
+            (view_model self.now).header
             (drop H.reply.size self.now.bytes.now)) → IsOk result }
     {
         let mut nlas = SmallVec::new(alloc);
@@ -160,8 +169,10 @@ impl<H: ReplyOwned> ReplyView<'_, H> {
     // The same in a box: the attributes are built where they stay.
     #[inline(always)]
     pub(crate) fn to_boxed(&self, alloc: Global) -> Result<Box<Reply<H, H::Nla>>, AllocError>
-        ensures { IfOk result (λ reply. seen_reply H.told H.Nla.FamilyNla.seen reply.value
-            ≡ reply_behind (reply_with H.reply H.Nla.FamilyNla.family) (viewed self.now).header
+        ensures { IfOk result (λ reply. response_model H.header_model H.Nla.FamilyNla.model
+            reply.value
+            ≡ response_behind (response_with H.reply H.Nla.FamilyNla.attribute_set)
+            (view_model self.now).header
             (drop H.reply.size self.now.bytes.now)) }
     {
         let empty = Reply {
@@ -175,13 +186,14 @@ impl<H: ReplyOwned> ReplyView<'_, H> {
 }
 
 impl<H: ReplyOwned> Emitable for Reply<H, H::Nla> {
-    ghost use Rattle.netlink_packet_sock_diag.specs.SeenReply.{seen_reply};
+    ghost use Rattle.netlink_packet_sock_diag.specs.ResponseModel.{response_model};
 
-    ghost bytes = { λ v. reply_bytes (reply_with H.reply H.Nla.FamilyNla.family)
-        (seen_reply H.told H.Nla.FamilyNla.seen v) };
+    ghost bytes = { λ v. response_bytes (response_with H.reply H.Nla.FamilyNla.attribute_set)
+        (response_model H.header_model H.Nla.FamilyNla.model v) };
 
-    ghost writable = { λ v. (reply_codec (reply_with H.reply H.Nla.FamilyNla.family)).fits
-        (seen_reply H.told H.Nla.FamilyNla.seen v) };
+    ghost writable = { λ v. (response_codec
+        (response_with H.reply H.Nla.FamilyNla.attribute_set)).fits
+        (response_model H.header_model H.Nla.FamilyNla.model v) };
 
     fn is_writable(&self) -> bool {
         self.writable_len().is_some()
@@ -201,24 +213,25 @@ impl<H: ReplyOwned> Emitable for Reply<H, H::Nla> {
 }
 
 impl<H: ReplyOwned> Coded for Reply<H, H::Nla> {
-    ghost use Rattle.netlink_packet_sock_diag.specs.EqualReplyLaws.{replies_equal};
-    ghost use Rattle.netlink_packet_sock_diag.specs.SeenReply.{seen_reply};
+    ghost use Rattle.netlink_packet_sock_diag.specs.EqualResponseLaws.{responses_equal};
+    ghost use Rattle.netlink_packet_sock_diag.specs.ResponseModel.{response_model};
 
     type Param = ();
 
-    ghost codec = { reply_codec (reply_with H.reply H.Nla.FamilyNla.family) };
+    ghost codec = { response_codec (response_with H.reply H.Nla.FamilyNla.attribute_set) };
 
-    ghost seen = { seen_reply H.told H.Nla.FamilyNla.seen };
+    ghost model = { response_model H.header_model H.Nla.FamilyNla.model };
 
     ghost type_written = { λ _. 0 };
 
-    fn typed(&self) {
-        self.header.told_typed();
-        nlas_typed(self.nlas.as_slice());
+    fn in_range(&self) {
+        self.header.header_in_range();
+        nlas_in_range(self.nlas.as_slice());
     }
 
-    ghost eq_is_seen = { replies_equal H.told H.Nla.FamilyNla.seen H.ReplyOwned.eq_is_seen
-        H.Nla.FamilyNla.eq_is_seen };
+    ghost eq_is_model = { responses_equal H.header_model H.Nla.FamilyNla.model
+        H.ReplyOwned.eq_is_model
+        H.Nla.FamilyNla.eq_is_model };
 
     ghost laws = { H.ReplyOwned.keeps };
 }

@@ -9,12 +9,13 @@ ghost use Rattle.netlink_core.specs.declared.fault.DecodeError.{DecodeError as F
 ghost use Rattle.netlink_core.specs.declared.fault.DecodeError.TheVariants.{Memory};
 ghost use Rattle.netlink_core.specs.Attribute.{AttributeFault};
 ghost use Rattle.netlink_core.specs.Codec.{KeepsLaws};
-ghost use Rattle.netlink_core.specs.Family.{says};
-ghost use Rattle.netlink_core.specs.Reply.{Reply, ValueOf, reply_bytes, reply_codec};
+ghost use Rattle.netlink_core.specs.AttributeSet.{decodes};
+ghost use Rattle.netlink_core.specs.Response.{ResponseSpec, ValueOf, response_bytes};
+ghost use Rattle.netlink_core.specs.Response.{response_codec};
 ghost use Rattle.netlink_core.specs.Walk.{bytes_left};
 ghost use Rattle.netlink_core.proofs.Equality.{equivalence};
-ghost use Rattle.attribute_lists.specs.AttributesIn.{HasNoFault, IsAccepted, reply_behind};
-ghost use Rattle.attribute_lists.specs.AttributesIn.{reply_with, values_in};
+ghost use Rattle.attribute_lists.specs.AttributesIn.{HasNoFault, IsAccepted, response_behind};
+ghost use Rattle.attribute_lists.specs.AttributesIn.{response_with, values_in};
 
 use attribute_lists::{CheckedNlas, next_view};
 use netlink_core::{DecodeError, Emitable, FamilyView, NlasIterator};
@@ -28,9 +29,9 @@ pub trait ReplyHeader: Drop + Sized {
     const VIEW: &'static str;
 
     // The replies, what a header says in them, and how two of them are compared.
-    ghost reply: { Reply };
+    ghost reply: { ResponseSpec };
 
-    ghost told: { Self → reply.header.Value };
+    ghost header_model: { Self → reply.header.Value };
 
     ghost test: { ValueOf reply → ValueOf reply → Bool };
 
@@ -40,38 +41,42 @@ pub trait ReplyHeader: Drop + Sized {
 
     /// Reads the header.
     fn read_header(bytes: &[u8]) -> Result<Self, DecodeError>
-        ensures value { IfOk result (λ header. reply.header.reads tt bytes.now ≡ Ok (told header)) }
+        ensures value { IfOk result (λ header.
+            reply.header.reads tt bytes.now ≡ Ok (header_model header)) }
         ensures fault { IfErr result (λ fault. reply.header.reads tt bytes.now ≡ Err fault) };
 
-    /// Reads each attribute and counts them, or tells the first fault. It takes no memory.
+    /// Reads each attribute and counts them, or returns the first fault. It takes no memory.
     fn check(bytes: &[u8]) -> Result<usize, DecodeError>
-        ensures clean { OnOk result (HasNoFault (says reply.family) bytes.now) }
+        ensures clean { OnOk result (HasNoFault (decodes reply.attribute_set) bytes.now) }
         ensures count { IfOk result (λ count.
-            count ≡ length (values_in (says reply.family) bytes.now)) }
-        ensures fault { IfErr result (AttributeFault (says reply.family) bytes.now) };
+            count ≡ length (values_in (decodes reply.attribute_set) bytes.now)) }
+        ensures fault { IfErr result (AttributeFault (decodes reply.attribute_set) bytes.now) };
 
     /// Whether the headers are equal, and the same attributes stand in both places.
     fn is_same(&self, left: &[u8], other: &Self, right: &[u8]) -> bool
-        requires left { HasNoFault (says reply.family) left.now }
-        requires right { HasNoFault (says reply.family) right.now }
+        requires left { HasNoFault (decodes reply.attribute_set) left.now }
+        requires right { HasNoFault (decodes reply.attribute_set) right.now }
         ensures { result ≡ test
-            (reply_behind reply (told self.now) left.now)
-            (reply_behind reply (told other.now) right.now) };
+            (response_behind reply (header_model self.now) left.now)
+            (response_behind reply (header_model other.now) right.now) };
 
     /// How many bytes the header and the attributes are written as, where each value and the whole
     /// fit their lengths.
     fn len_with(&self, bytes: &[u8]) -> Option<usize>
-        requires { HasNoFault (says reply.family) bytes.now }
-        ensures { let v = reply_behind reply (told self.now) bytes.now in
-            SomeIff result ((reply_codec reply).fits v) (length (reply_bytes reply v)) };
+        requires { HasNoFault (decodes reply.attribute_set) bytes.now }
+        ensures { let v = response_behind reply (header_model self.now) bytes.now in
+            SomeIff result ((response_codec reply).fits v) (length (response_bytes reply v)) };
 
-    /// Writes the header and the attributes at the front of the buffer, and leaves the rest.
+    /// Writes the header and the attributes at the start of the buffer, and leaves the rest.
     fn emit_with(&self, bytes: &[u8], buffer: &mut [u8])
-        requires clean { HasNoFault (says reply.family) bytes.now }
-        requires fits { (reply_codec reply).fits (reply_behind reply (told self.now) bytes.now) }
-        requires room { length (reply_bytes reply (reply_behind reply (told self.now) bytes.now))
+        requires clean { HasNoFault (decodes reply.attribute_set) bytes.now }
+        requires fits { (response_codec reply).fits
+            (response_behind reply (header_model self.now) bytes.now) }
+        requires room { length (response_bytes reply
+            (response_behind reply (header_model self.now) bytes.now))
             ≤ length buffer.old }
-        ensures { let all = reply_bytes reply (reply_behind reply (told self.now) bytes.now) in
+        ensures { let all = response_bytes reply
+            (response_behind reply (header_model self.now) bytes.now) in
             buffer.new ≡ all ++ drop (length all) buffer.old };
 
     // A string with a header has all its bytes, a reply keeps the laws, and equal replies pass the
@@ -79,7 +84,7 @@ pub trait ReplyHeader: Drop + Sized {
     ghost enough: { (b : List ℕ) (h : reply.header.Value) → reply.header.reads tt b ≡ Ok h
         → reply.size ≤ length b };
 
-    ghost keeps: { KeepsLaws (reply_codec reply) };
+    ghost keeps: { KeepsLaws (response_codec reply) };
 
     ghost compared: { (v w : ValueOf reply) → IsTrue (test v w) ↔ (v ≡ w) };
 }
@@ -90,11 +95,11 @@ pub trait ReplyViews<'a>: ReplyHeader {
     type View: FamilyView<'a> + Drop;
 
     // The attributes are those of the reply's family.
-    ghost same: { let viewed = Self.View.FamilyView.family in
-        let family = Self.ReplyHeader.reply.family in
-        ((b : List ℕ) → HasNoFault (says viewed) b ↔ HasNoFault (says family) b)
-        × ((b : List ℕ) → length (values_in (says viewed) b)
-        ≡ length (values_in (says family) b)) };
+    ghost same: { let view_set = Self.View.FamilyView.attribute_set in
+        let set = Self.ReplyHeader.reply.attribute_set in
+        ((b : List ℕ) → HasNoFault (decodes view_set) b ↔ HasNoFault (decodes set) b)
+        × ((b : List ℕ) → length (values_in (decodes view_set) b)
+        ≡ length (values_in (decodes set) b)) };
 }
 
 /// A reply, read in place: its bytes, of which all were checked.
@@ -106,7 +111,7 @@ pub struct ReplyView<'a, H: ReplyHeader> {
     ghost long: { H.reply.size ≤ length bytes.now },
     ghost accepted: { IsAccepted H.reply bytes.now },
     ghost counted: { count
-        ≡ length (values_in (says H.reply.family) (drop H.reply.size bytes.now)) },
+        ≡ length (values_in (decodes H.reply.attribute_set) (drop H.reply.size bytes.now)) },
 }
 
 impl<H: ReplyHeader> Copy for ReplyView<'_, H> {}
@@ -131,17 +136,17 @@ impl<H: ReplyHeader> Debug for ReplyView<'_, H> {
 }
 
 impl<'a, H: ReplyHeader> ReplyView<'a, H> {
-    ghost use Rattle.netlink_packet_sock_diag.specs.Viewed.{viewed};
+    ghost use Rattle.netlink_packet_sock_diag.specs.ViewModel.{view_model};
 
-    /// Checks the whole of the bytes, and takes no memory. A fault of the header is told, or else
-    /// the first fault of an attribute. Fewer bytes than the header has are `BufferTooSmall`.
+    /// Checks the whole of the bytes, and takes no memory. A fault of the header is returned, or
+    /// else the first fault of an attribute. Fewer bytes than the header has are `BufferTooSmall`.
     // It stands apart: its walk takes no time where a list is made.
     #[inline(never)]
     pub fn parse(bytes: &'a [u8]) -> Result<ReplyView<'a, H>, DecodeError>
         ensures value { IfOk result (λ view.
-            (reply_codec H.reply).reads bytes.entry.now tt (viewed view)) }
+            (response_codec H.reply).reads bytes.entry.now tt (view_model view)) }
         ensures kept { IfOk result (λ view. view.bytes.now ≡ bytes.entry.now) }
-        ensures fault { IfErr result ((reply_codec H.reply).refuses bytes.entry.now tt) }
+        ensures fault { IfErr result ((response_codec H.reply).refuses bytes.entry.now tt) }
         ensures named { IfErr result (λ fault. fault ≢ Memory) }
     {
         let _header = H::read_header(bytes)?;
@@ -156,7 +161,7 @@ impl<'a, H: ReplyHeader> ReplyView<'a, H> {
     // How many attributes there are.
     #[inline(always)]
     pub(crate) fn count(&self) -> usize
-        ensures { result ≡ length (viewed self.now).nlas }
+        ensures { result ≡ length (view_model self.now).nlas }
     {
         self.count
     }
@@ -164,7 +169,7 @@ impl<'a, H: ReplyHeader> ReplyView<'a, H> {
     /// The header, which tells the socket.
     #[inline(always)]
     pub fn header(&self) -> H
-        ensures { H.told result ≡ (viewed self.now).header }
+        ensures { H.header_model result ≡ (view_model self.now).header }
     {
         let Ok(header) = H::read_header(self.bytes) else {
             unreachable!();
@@ -175,7 +180,7 @@ impl<'a, H: ReplyHeader> ReplyView<'a, H> {
     // The bytes behind the header.
     pub(crate) fn attribute_bytes(&self) -> &'a [u8]
         ensures part { result.now ≡ drop H.reply.size self.now.bytes.now }
-        ensures clean { HasNoFault (says H.reply.family) result.now }
+        ensures clean { HasNoFault (decodes H.reply.attribute_set) result.now }
     {
         &self.bytes[H::length()..]
     }
@@ -183,7 +188,7 @@ impl<'a, H: ReplyHeader> ReplyView<'a, H> {
 
 impl<'a, H: ReplyViews<'a>> ReplyView<'a, H> {
     ghost use Rattle.attribute_lists.specs.declared.checked.CheckedNlas.{CheckedNlas};
-    ghost use Rattle.netlink_packet_sock_diag.specs.Viewed.{left_in};
+    ghost use Rattle.netlink_packet_sock_diag.specs.ViewModel.{left_in};
 
     /// The header, and the attributes, each of which is checked as it is given: for who wants each
     /// once. It takes no memory. A fault of the header is told here, and that of an attribute in
@@ -194,18 +199,20 @@ impl<'a, H: ReplyViews<'a>> ReplyView<'a, H> {
     #[inline(always)]
     pub fn walk(bytes: &'a [u8]) -> Result<(H, CheckedNlas<'a, H::View>), DecodeError>
         ensures header { IfOk result (λ parts.
-            H.reply.header.reads tt bytes.entry.now ≡ Ok (H.told parts.0)) }
+            H.reply.header.reads tt bytes.entry.now ≡ Ok (H.header_model parts.0)) }
         ensures left { IfOk result (λ parts.
             bytes_left parts.1.walk ≡ drop H.reply.size bytes.entry.now) }
-        ensures value { let reply = reply_codec (reply_with H.reply H.View.FamilyView.family) in
+        ensures value { let reply = response_codec
+            (response_with H.reply H.View.FamilyView.attribute_set) in
             let gives = ⟦<CheckedNlas<'a, H::View> as Iterator>⟧.next_gives in
             IfOk result (λ parts. (nlas : List H.View)
             → Drains gives parts.1 (map (λ (nla : H.View). Ok nla) nlas)
             → reply.reads bytes.entry.now tt (record {
-              header = H.told parts.0;
-              nlas = map H.View.FamilyView.viewed nlas;
+              header = H.header_model parts.0;
+              nlas = map H.View.FamilyView.model nlas;
             })) }
-        ensures refused { let reply = reply_codec (reply_with H.reply H.View.FamilyView.family) in
+        ensures refused { let reply = response_codec
+            (response_with H.reply H.View.FamilyView.attribute_set) in
             let gives = ⟦<CheckedNlas<'a, H::View> as Iterator>⟧.next_gives in
             IfOk result (λ parts. (nlas : List H.View) (e : Fault) (last : CheckedNlas H.View)
             → YieldsThen gives parts.1 (map (λ (nla : H.View). Ok nla) nlas) (Some (Err e)) last
@@ -219,8 +226,9 @@ impl<'a, H: ReplyViews<'a>> ReplyView<'a, H> {
 
     /// The attributes, in the order that they came.
     pub fn attributes(&self) -> AttributeViews<'a, H>
-        ensures { left_in H.View.FamilyView.family result
-            ≡ values_in (says H.View.FamilyView.family) (drop H.reply.size self.now.bytes.now) }
+        ensures { left_in H.View.FamilyView.attribute_set result
+            ≡ values_in (decodes H.View.FamilyView.attribute_set)
+            (drop H.reply.size self.now.bytes.now) }
     {
         AttributeViews {
             walk: NlasIterator::new(self.attribute_bytes()),
@@ -233,11 +241,11 @@ impl<'a, H: ReplyViews<'a>> ReplyView<'a, H> {
 /// Two replies are equal where they tell the same: equal headers, and the same attributes in the
 /// same order.
 impl<H: ReplyHeader> PartialEq for ReplyView<'_, H> {
-    ghost use Rattle.netlink_packet_sock_diag.specs.Viewed.{viewed};
+    ghost use Rattle.netlink_packet_sock_diag.specs.ViewModel.{view_model};
 
-    ghost eq = { λ v w. H.test (viewed v) (viewed w) };
+    ghost eq = { λ v w. H.test (view_model v) (view_model w) };
 
-    ghost laws = { partial_equiv_from_equiv (equivalence _ viewed (λ v w. H.compared _ _)) };
+    ghost laws = { partial_equiv_from_equiv (equivalence _ view_model (λ v w. H.compared _ _)) };
 
     fn eq(&self, other: &Self) -> bool {
         self.header().is_same(
@@ -249,18 +257,18 @@ impl<H: ReplyHeader> PartialEq for ReplyView<'_, H> {
 }
 
 impl<H: ReplyHeader> Eq for ReplyView<'_, H> {
-    ghost use Rattle.netlink_packet_sock_diag.specs.Viewed.{viewed};
+    ghost use Rattle.netlink_packet_sock_diag.specs.ViewModel.{view_model};
 
-    ghost laws = { equivalence _ viewed (λ v w. H.compared _ _) };
+    ghost laws = { equivalence _ view_model (λ v w. H.compared _ _) };
 }
 
 /// Writes the bytes of the reply's canonical form, and takes no memory.
 impl<H: ReplyHeader> Emitable for ReplyView<'_, H> {
-    ghost use Rattle.netlink_packet_sock_diag.specs.Viewed.{viewed};
+    ghost use Rattle.netlink_packet_sock_diag.specs.ViewModel.{view_model};
 
-    ghost bytes = { λ v. reply_bytes H.reply (viewed v) };
+    ghost bytes = { λ v. response_bytes H.reply (view_model v) };
 
-    ghost writable = { λ v. (reply_codec H.reply).fits (viewed v) };
+    ghost writable = { λ v. (response_codec H.reply).fits (view_model v) };
 
     fn is_writable(&self) -> bool {
         self.writable_len().is_some()
@@ -289,14 +297,15 @@ pub struct AttributeViews<'a, H: ReplyHeader> {
     // How many are left.
     count: usize,
     header: PhantomData<H>,
-    ghost clean: { HasNoFault (says H.reply.family) (bytes_left walk) },
-    ghost counted: { count ≡ length (values_in (says H.reply.family) (bytes_left walk)) },
+    ghost clean: { HasNoFault (decodes H.reply.attribute_set) (bytes_left walk) },
+    ghost counted: { count ≡ length (values_in (decodes H.reply.attribute_set) (bytes_left walk)) },
 }
 
 impl<H: ReplyHeader> Clone for AttributeViews<'_, H> {
-    ghost use Rattle.netlink_packet_sock_diag.specs.Viewed.{left_in};
+    ghost use Rattle.netlink_packet_sock_diag.specs.ViewModel.{left_in};
 
-    ghost is_clone = { λ views copy. left_in H.reply.family copy ≡ left_in H.reply.family views };
+    ghost is_clone = { λ views copy. left_in H.reply.attribute_set copy
+        ≡ left_in H.reply.attribute_set views };
 
     ghost is_infallible = { λ _. ⊤ };
 
@@ -310,14 +319,14 @@ impl<H: ReplyHeader> Clone for AttributeViews<'_, H> {
 }
 
 impl<'a, H: ReplyViews<'a>> Iterator for AttributeViews<'a, H> {
-    ghost use Rattle.netlink_packet_sock_diag.specs.Viewed.{left_in};
+    ghost use Rattle.netlink_packet_sock_diag.specs.ViewModel.{left_in};
 
     type Item = H::View;
 
-    ghost next_gives = { YieldsFirstBy H.View.FamilyView.viewed
-        (left_in H.View.FamilyView.family) };
+    ghost next_gives = { YieldsFirstBy H.View.FamilyView.model
+        (left_in H.View.FamilyView.attribute_set) };
 
-    ghost remaining = { item_count (left_in H.View.FamilyView.family) };
+    ghost remaining = { item_count (left_in H.View.FamilyView.attribute_set) };
 
     #[inline(always)]
     fn next(&mut self) -> Option<H::View> {
@@ -329,10 +338,10 @@ impl<'a, H: ReplyViews<'a>> Iterator for AttributeViews<'a, H> {
     /// How many attributes are left, exactly.
     fn size_hint(&self) -> (usize, Option<usize>)
         ensures lower { IsWithinCount result.0
-            (item_count (left_in H.View.FamilyView.family) self.now) }
+            (item_count (left_in H.View.FamilyView.attribute_set) self.now) }
         ensures upper { IfSome result.1
-            (UpTo (item_count (left_in H.View.FamilyView.family) self.now)) }
-        ensures exact { let left = length (left_in H.View.FamilyView.family self.now) in
+            (UpTo (item_count (left_in H.View.FamilyView.attribute_set) self.now)) }
+        ensures exact { let left = length (left_in H.View.FamilyView.attribute_set self.now) in
             result ≡ (left, Some left) }
     {
         (self.count, Some(self.count))

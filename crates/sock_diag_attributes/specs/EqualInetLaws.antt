@@ -1,4 +1,4 @@
--- Attributes of replies are equal where the same is seen of them.
+-- Attributes of replies are equal where their models are.
 use Rattle.std.proofs.Common.{◌≡◌, ◌↔◌, ℕ, List, Bool, eqb, IsTrue, refl, rules, subst, sym}
 use mathlib.Core.Bool.{beq}
 use mir.Syntax.{given}
@@ -6,9 +6,9 @@ use denote.RattleType.{RattleType}
 use lib.Pointwise.{pointwise, bytes_decides}
 use Rattle.std.specs.declared.cmp.PartialEq.{Ghosts}
 use Rattle.netlink_core.specs.Attribute.{Attribute}
-use Rattle.netlink_core.proofs.RowLaws.{◌⊕◌}
-use Rattle.netlink_core.proofs.SaidTests.{Tests, attribute_test, number_test, said_test}
-use Rattle.netlink_core.proofs.SaidTests.{said_test_says}
+use Rattle.netlink_core.proofs.FieldLaws.{◌⊕◌}
+use Rattle.netlink_core.proofs.ValueTests.{Tests, attribute_test, number_test, value_test}
+use Rattle.netlink_core.proofs.ValueTests.{value_test_decides}
 use Rattle.sock_diag_values.specs.contracts.inet.legacy_mem_info.LegacyMemInfoExact.TheImpl.Laws.{exact-law as exact_legacy}
 use Rattle.sock_diag_values.specs.contracts.inet.legacy_mem_info.LegacyMemInfoPartialEq.TheImpl.{ghosts as legacy}
 use Rattle.sock_diag_values.specs.contracts.inet.tcp_info.TcpInfoExact.TheImpl.Laws.{exact-law as exact_tcp}
@@ -16,7 +16,7 @@ use Rattle.sock_diag_values.specs.contracts.inet.tcp_info.TcpInfoPartialEq.TheIm
 use Rattle.sock_diag_values.specs.contracts.inet.mem_info.MemInfoExact.TheImpl.Laws.{exact-law as exact_memory}
 use Rattle.sock_diag_values.specs.contracts.inet.mem_info.MemInfoPartialEq.TheImpl.{ghosts as memory}
 use Rattle.sock_diag_attributes.specs.InetAttributes.{inet}
-use Rattle.sock_diag_attributes.specs.SeenInet.{seen}
+use Rattle.sock_diag_attributes.specs.InetModel.{model}
 use Rattle.sock_diag_attributes.specs.declared.inet.nlas.InetNla.{InetNla}
 use Rattle.sock_diag_attributes.specs.declared.inet.nlas.InetNla.TheVariants as nla
 use Rattle.sock_diag_attributes.specs.contracts.inet.nlas.InetNlaPartialEq.TheImpl.{ghosts}
@@ -24,7 +24,7 @@ use Rattle.sock_diag_attributes.specs.contracts.inet.nlas.InetNlaPartialEq.TheIm
 pub truth : (a b : Bool) → IsTrue (beq a b) ↔ (a ≡ b)
 truth a b = search rules
 
--- the test of each kind's values
+-- the test of each type's values
 abbrev pub inet_tests : Tests inet
 inet_tests =
     (legacy.eq, exact_legacy.0) ⊕ (tcp.eq, exact_tcp.0) ⊕ (pointwise eqb, bytes_decides)
@@ -32,20 +32,21 @@ inet_tests =
     ⊕ (memory.eq, exact_memory.0) ⊕ number_test ⊕ number_test ⊕ (beq, truth) ⊕ number_test
     ⊕ number_test ⊕ tt
 
--- over what a text and an attribute of another kind lend, by which they are compared
+-- over what a text and an attribute of another type lend, by which they are compared
 module _ (T O : RattleType) (t : Ghosts T.Denot) (o : Ghosts O.Denot) (text : T.Denot → List ℕ)
     (other : O.Denot → Attribute)
     (texts : (a b : T.Denot) → t.eq a b ≡ pointwise eqb (text a) (text b)) (others : (a b : O.Denot)
     → o.eq a b ≡ attribute_test (other a) (other b)) where
   -- the third clause splits w, so that the last stands for each other pair of variants
   pub tests : (v w : InetNla T.Denot O.Denot) → (ghosts T O t (given 0) o (given 0)).eq v w
-      ≡ said_test inet inet_tests (seen text other v) (seen text other w)
+      ≡ value_test inet inet_tests (model text other v) (model text other w)
   tests (nla.Congestion a) (nla.Congestion x) = texts a x
   tests (nla.Other a) (nla.Other x) = others a x
   tests v (nla.LegacyMemInfo x) = refl
   tests v w = refl
 
   pub equal : (v w : InetNla T.Denot O.Denot) → IsTrue ((ghosts T O t (given 0) o (given 0)).eq v w)
-      ↔ (seen text other v ≡ seen text other w)
-  equal v w = subst (λ (b : Bool). IsTrue b ↔ (seen text other v ≡ seen text other w))
-      (sym (tests v w)) (said_test_says inet inet_tests (seen text other v) (seen text other w))
+      ↔ (model text other v ≡ model text other w)
+  equal v w = subst (λ (b : Bool). IsTrue b ↔ (model text other v ≡ model text other w))
+      (sym (tests v w)) (value_test_decides inet inet_tests (model text other v)
+      (model text other w))

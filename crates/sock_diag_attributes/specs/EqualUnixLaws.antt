@@ -1,4 +1,4 @@
--- Attributes of replies are equal where the same is seen of them.
+-- Attributes of replies are equal where their models are.
 use Rattle.std.proofs.Common.{◌≡◌, ◌↔◌, ℕ, List, ◌&&◌, Bool, false, eqb, IsTrue, ap, refl, rules}
 use Rattle.std.proofs.Common.{subst, sym}
 use mir.Syntax.{given}
@@ -7,20 +7,20 @@ use lib.Pointwise.{pointwise, bytes_decides}
 use Rattle.std.specs.declared.cmp.PartialEq.{Ghosts}
 use Rattle.netlink_core.specs.Attribute.{Attribute}
 use Rattle.netlink_core.proofs.Equality.{apart, same_test}
-use Rattle.netlink_core.proofs.RowLaws.{◌⊕◌}
-use Rattle.netlink_core.proofs.SaidTests.{Tests, attribute_test, number_test, said_test}
-use Rattle.netlink_core.proofs.SaidTests.{said_test_says}
+use Rattle.netlink_core.proofs.FieldLaws.{◌⊕◌}
+use Rattle.netlink_core.proofs.ValueTests.{Tests, attribute_test, number_test, value_test}
+use Rattle.netlink_core.proofs.ValueTests.{value_test_decides}
 use Rattle.sock_diag_values.specs.contracts.unix.vfs.VfsExact.TheImpl.Laws.{exact-law as exact_vfs}
 use Rattle.sock_diag_values.specs.contracts.unix.vfs.VfsPartialEq.TheImpl.{ghosts as vfs}
 use Rattle.sock_diag_values.specs.contracts.unix.mem_info.MemInfoExact.TheImpl.Laws.{exact-law as exact_memory}
 use Rattle.sock_diag_values.specs.contracts.unix.mem_info.MemInfoPartialEq.TheImpl.{ghosts as memory}
 use Rattle.sock_diag_attributes.specs.Name.{SocketName, pathname, abstract}
-use Rattle.sock_diag_attributes.specs.SeenName.{seen_name, viewed_name}
-use Rattle.sock_diag_attributes.specs.SeenNumbers.{viewed_numbers}
+use Rattle.sock_diag_attributes.specs.NameModel.{name_model, name_view_model}
+use Rattle.sock_diag_attributes.specs.NumbersModel.{numbers_view_model}
 use Rattle.sock_diag_attributes.specs.NumberLaws.{numbers_in_same}
 use Rattle.sock_diag_attributes.specs.Numbers.{numbers_in}
 use Rattle.sock_diag_attributes.specs.UnixAttributes.{unix}
-use Rattle.sock_diag_attributes.specs.SeenUnix.{seen}
+use Rattle.sock_diag_attributes.specs.UnixModel.{model}
 use Rattle.sock_diag_attributes.specs.declared.unix.name.UnixDiagName.{UnixDiagName}
 use Rattle.sock_diag_attributes.specs.declared.unix.name.UnixDiagName.TheVariants.{Pathname}
 use Rattle.sock_diag_attributes.specs.declared.unix.name.UnixDiagName.TheVariants.{Abstract}
@@ -40,59 +40,62 @@ name_test (pathname x) (abstract y) = false
 name_test (abstract x) (pathname y) = false
 name_test (abstract x) (abstract y) = pointwise eqb x y
 
-pub name_test_says : (n m : SocketName) → IsTrue (name_test n m) ↔ (n ≡ m)
-name_test_says (pathname x) (pathname y) =
+pub name_test_decides : (n m : SocketName) → IsTrue (name_test n m) ↔ (n ≡ m)
+name_test_decides (pathname x) (pathname y) =
     (λ h. ap pathname ((bytes_decides x y).0 h), λ e. (bytes_decides x y).1 cc)
-name_test_says (pathname x) (abstract y) = apart (λ e. cc)
-name_test_says (abstract x) (pathname y) = apart (λ e. cc)
-name_test_says (abstract x) (abstract y) =
+name_test_decides (pathname x) (abstract y) = apart (λ e. cc)
+name_test_decides (abstract x) (pathname y) = apart (λ e. cc)
+name_test_decides (abstract x) (abstract y) =
     (λ h. ap abstract ((bytes_decides x y).0 h), λ e. (bytes_decides x y).1 cc)
 
 abbrev two_test : ℕ × ℕ → ℕ × ℕ → Bool
 two_test a b = eqb a.0 b.0 && eqb a.1 b.1
 
-pub two_test_says : (a b : ℕ × ℕ) → IsTrue (two_test a b) ↔ (a ≡ b)
-two_test_says a b = (λ h. search rules, λ e. search rules)
+pub two_test_decides : (a b : ℕ × ℕ) → IsTrue (two_test a b) ↔ (a ≡ b)
+two_test_decides a b = (λ h. search rules, λ e. search rules)
 
--- the test of each kind's values
+-- the test of each type's values
 abbrev pub unix_tests : Tests unix
 unix_tests =
-    (name_test, name_test_says) ⊕ (vfs.eq, exact_vfs.0) ⊕ number_test
+    (name_test, name_test_decides) ⊕ (vfs.eq, exact_vfs.0) ⊕ number_test
     ⊕ (pointwise eqb, bytes_decides)
-    ⊕ (two_test, two_test_says) ⊕ (memory.eq, exact_memory.0) ⊕ number_test ⊕ tt
+    ⊕ (two_test, two_test_decides) ⊕ (memory.eq, exact_memory.0) ⊕ number_test ⊕ tt
 
-pub same_names : (a x : UnixDiagName) → names.eq a x ≡ name_test (seen_name a) (seen_name x)
+pub same_names : (a x : UnixDiagName) → names.eq a x ≡ name_test (name_model a) (name_model x)
 same_names (Pathname a) (Pathname x) = refl
 same_names (Pathname a) (Abstract x) = refl
 same_names (Abstract a) (Pathname x) = refl
 same_names (Abstract a) (Abstract x) = refl
 
-pub viewed_names : (a x : NameView) → name_views.eq a x ≡ name_test (viewed_name a) (viewed_name x)
-viewed_names (name_view.Pathname a) (name_view.Pathname x) = refl
-viewed_names (name_view.Pathname a) (name_view.Abstract x) = refl
-viewed_names (name_view.Abstract a) (name_view.Pathname x) = refl
-viewed_names (name_view.Abstract a) (name_view.Abstract x) = refl
+pub name_views_model : (a x : NameView)
+    → name_views.eq a x ≡ name_test (name_view_model a) (name_view_model x)
+name_views_model (name_view.Pathname a) (name_view.Pathname x) = refl
+name_views_model (name_view.Pathname a) (name_view.Abstract x) = refl
+name_views_model (name_view.Abstract a) (name_view.Pathname x) = refl
+name_views_model (name_view.Abstract a) (name_view.Abstract x) = refl
 
 pub name_views_equal : (v w : NameView) → IsTrue (name_views.eq v w)
-    ↔ (viewed_name v ≡ viewed_name w)
-name_views_equal v w = subst (λ (t : Bool). IsTrue t ↔ (viewed_name v ≡ viewed_name w))
-    (sym (viewed_names v w)) (name_test_says (viewed_name v) (viewed_name w))
+    ↔ (name_view_model v ≡ name_view_model w)
+name_views_equal v w = subst (λ (t : Bool). IsTrue t ↔ (name_view_model v ≡ name_view_model w))
+    (sym (name_views_model v w)) (name_test_decides (name_view_model v) (name_view_model w))
 
 pub number_views_equal : (v w : NumbersView) → IsTrue (number_views.eq v w)
-    ↔ (viewed_numbers v ≡ viewed_numbers w)
+    ↔ (numbers_view_model v ≡ numbers_view_model w)
 number_views_equal v w =
     let bytes = bytes_decides v.bytes.now w.bytes.now in (
       λ h. ap numbers_in (bytes.0 h),
-      λ e. bytes.1 (numbers_in_same v.bytes.now w.bytes.now v.typed w.typed v.whole w.whole e),
+      λ e. bytes.1 (numbers_in_same v.bytes.now w.bytes.now v.in_range w.in_range v.whole w.whole
+          e),
     )
 
-pub viewed_lists : (v w : NumbersView) → number_views.eq v w ≡ pointwise eqb (viewed_numbers v)
-    (viewed_numbers w)
-viewed_lists v w = same_test (number_views.eq v w)
-    (pointwise eqb (viewed_numbers v) (viewed_numbers w)) (number_views_equal v w)
-    (bytes_decides (viewed_numbers v) (viewed_numbers w))
+pub list_views_model : (v w : NumbersView)
+    → number_views.eq v w ≡ pointwise eqb (numbers_view_model v)
+    (numbers_view_model w)
+list_views_model v w = same_test (number_views.eq v w)
+    (pointwise eqb (numbers_view_model v) (numbers_view_model w)) (number_views_equal v w)
+    (bytes_decides (numbers_view_model v) (numbers_view_model w))
 
--- over what a name, a list and an attribute of another kind lend, by which they are compared
+-- over what a name, a list and an attribute of another type lend, by which they are compared
 module _ (N L O : RattleType) (n : Ghosts N.Denot) (l : Ghosts L.Denot) (o : Ghosts O.Denot)
     (name : N.Denot → SocketName) (list : L.Denot → List ℕ) (other : O.Denot → Attribute)
     (names : (a b : N.Denot) → n.eq a b ≡ name_test (name a) (name b)) (lists : (a b : L.Denot)
@@ -100,8 +103,8 @@ module _ (N L O : RattleType) (n : Ghosts N.Denot) (l : Ghosts L.Denot) (o : Gho
     (others : (a b : O.Denot) → o.eq a b ≡ attribute_test (other a) (other b)) where
   -- the fourth clause splits w, so that the last stands for each other pair of variants
   pub tests : (v w : UnixNla N.Denot L.Denot O.Denot)
-      → (ghosts N L O n (given 0) l (given 0) o (given 0)).eq v w ≡ said_test unix unix_tests
-      (seen name list other v) (seen name list other w)
+      → (ghosts N L O n (given 0) l (given 0) o (given 0)).eq v w ≡ value_test unix unix_tests
+      (model name list other v) (model name list other w)
   tests (nla.Name a) (nla.Name x) = names a x
   tests (nla.PendingConnections a) (nla.PendingConnections x) = lists a x
   tests (nla.Other a) (nla.Other x) = others a x
@@ -110,7 +113,7 @@ module _ (N L O : RattleType) (n : Ghosts N.Denot) (l : Ghosts L.Denot) (o : Gho
 
   pub equal : (v w : UnixNla N.Denot L.Denot O.Denot)
       → IsTrue ((ghosts N L O n (given 0) l (given 0) o (given 0)).eq v w)
-      ↔ (seen name list other v ≡ seen name list other w)
-  equal v w = subst (λ (b : Bool). IsTrue b ↔ (seen name list other v ≡ seen name list other w))
-      (sym (tests v w)) (said_test_says unix unix_tests (seen name list other v)
-      (seen name list other w))
+      ↔ (model name list other v ≡ model name list other w)
+  equal v w = subst (λ (b : Bool). IsTrue b ↔ (model name list other v ≡ model name list other w))
+      (sym (tests v w)) (value_test_decides unix unix_tests (model name list other v)
+      (model name list other w))

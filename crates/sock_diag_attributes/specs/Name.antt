@@ -3,9 +3,9 @@ use Rattle.std.specs.Prelude.{◌≢◌, ◌+◌, ◌==◌, if◌then◌else◌,
 use Rattle.std.specs.Prelude.{take, ◌≤◌, All, Option, Some, None, Result, Ok, Err, ⊤}
 use Rattle.std.specs.List.{position}
 use Rattle.netlink_core.specs.Bytes.{IsBytes}
-use Rattle.netlink_core.specs.Codec.{Codec, prefix_codec}
-use Rattle.netlink_core.specs.Prefix.{Prefix}
-use Rattle.netlink_core.specs.Rows.{exact_value}
+use Rattle.netlink_core.specs.Codec.{Codec, as_codec}
+use Rattle.netlink_core.specs.ValueCodec.{ValueCodec}
+use Rattle.netlink_core.specs.AttributeSpecs.{exact_value}
 use Rattle.netlink_core.specs.declared.fault.DecodeError.{DecodeError}
 use Rattle.netlink_core.specs.declared.fault.DecodeError.TheVariants.{NameEmpty, NameInnerZero}
 use Rattle.netlink_core.specs.declared.fault.DecodeError.TheVariants.{NameWithoutEnd}
@@ -25,9 +25,9 @@ IsNormalName (pathname path) = All (λ byte. byte ≢ 0) path × (path ≢ [])
 IsNormalName (abstract address) = ⊤
 
 -- a name whose text is bytes
-abbrev pub IsTypedName : SocketName → Type 0
-IsTypedName (pathname path) = IsBytes path
-IsTypedName (abstract address) = IsBytes address
+abbrev pub IsNameInRange : SocketName → Type 0
+IsNameInRange (pathname path) = IsBytes path
+IsNameInRange (abstract address) = IsBytes address
 
 -- the path in a string x, by the place of its first zero, if it has one: that must be the last byte
 abbrev pub path_in : List ℕ → Option ℕ → Result SocketName DecodeError
@@ -41,9 +41,9 @@ read_name (zero ∷ address) = Ok (abstract address)
 read_name bytes = path_in bytes (position (λ byte. byte == 0) bytes)
 
 -- a name as the value of an attribute
-abbrev pub name_value : Prefix (Unit {0})
-name_value = exact_value read_name name_bytes IsTypedName IsNormalName
+abbrev pub name_value : ValueCodec (Unit {0})
+name_value = exact_value read_name name_bytes IsNameInRange IsNormalName
 
 -- a name by itself, which takes memory
 abbrev pub name_codec : Codec (Unit {0})
-name_codec = record (prefix_codec name_value) { is_spare = λ v. ⊥; fits = λ v. length (name_bytes v) ≤ 4294967295 }
+name_codec = record (as_codec name_value) { is_spare = λ v. ⊥; fits = λ v. length (name_bytes v) ≤ 4294967295 }

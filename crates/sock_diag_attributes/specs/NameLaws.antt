@@ -1,6 +1,6 @@
 -- The laws of the name of a UNIX socket.
-use Rattle.netlink_core.specs.Codec.{KeepsLaws, prefix_codec}
-use Rattle.netlink_core.proofs.RowLaws.{exact_laws}
+use Rattle.netlink_core.specs.Codec.{KeepsLaws, as_codec}
+use Rattle.netlink_core.proofs.FieldLaws.{exact_laws}
 use Rattle.sock_diag_attributes.specs.Name.{name_value}
 use Rattle.std.proofs.Common.{Result, Ok, Err, IsOk, ◌≡◌, ◌≢◌, ◌∙◌, ℕ, zero, suc, ◌+◌, ◌<◌, ◌≤◌}
 use Rattle.std.proofs.Common.{false, cond, ltb, ◌==◌, Option, Some, None, position, List, [], ◌∷◌}
@@ -21,7 +21,7 @@ use Rattle.netlink_core.specs.declared.fault.DecodeError.TheVariants.{Memory, Na
 use Rattle.netlink_core.specs.declared.fault.DecodeError.TheVariants.{NameWithoutEnd}
 use Rattle.netlink_core.specs.ByteLaws.{IsBytes-left, IsBytes-append, IsBytes-cons, IsBytes-nil}
 use Rattle.sock_diag_attributes.specs.Name.{SocketName, pathname, abstract, name_bytes}
-use Rattle.sock_diag_attributes.specs.Name.{IsNormalName, IsTypedName, path_in, read_name}
+use Rattle.sock_diag_attributes.specs.Name.{IsNormalName, IsNameInRange, path_in, read_name}
 use Rattle.sock_diag_attributes.specs.Name.{name_codec}
 
 -- no byte is a zero
@@ -145,24 +145,24 @@ known_path bytes path last parts first ok = answer_is (read_name bytes) refl ok
         ∙ take-append_seam path (last ∷ []))
 
 -- of a string of bytes the name is one of bytes
-pub name_typed : (u : SocketName) → IsBytes (name_bytes u) → IsTypedName u
-name_typed (pathname path) typed = IsBytes-left path (0 ∷ []) typed
-name_typed (abstract address) typed = λ i. typed (suc i)
+pub name_in_range : (u : SocketName) → IsBytes (name_bytes u) → IsNameInRange u
+name_in_range (pathname path) in_range = IsBytes-left path (0 ∷ []) in_range
+name_in_range (abstract address) in_range = λ i. in_range (suc i)
 
--- and the bytes of a typed name are bytes
-pub name_bytes_typed : (u : SocketName) → IsTypedName u → IsBytes (name_bytes u)
-name_bytes_typed (pathname path) typed =
-    IsBytes-append path (0 ∷ []) typed (IsBytes-cons 0 [] (omega arith) IsBytes-nil)
-name_bytes_typed (abstract address) typed = IsBytes-cons 0 address (omega arith) typed
+-- and the bytes of a name in range are bytes
+pub name_bytes_in_range : (u : SocketName) → IsNameInRange u → IsBytes (name_bytes u)
+name_bytes_in_range (pathname path) in_range =
+    IsBytes-append path (0 ∷ []) in_range (IsBytes-cons 0 [] (omega arith) IsBytes-nil)
+name_bytes_in_range (abstract address) in_range = IsBytes-cons 0 address (omega arith) in_range
 
 -- a name as the value of an attribute: its reader, its bytes, equal strings alone being idle, and
 -- its normal form
-pub name_laws : KeepsLaws (prefix_codec name_value)
-name_laws = exact_laws read_name name_bytes IsTypedName IsNormalName name_named
-    (λ x u typed h. let exact = name_exact x u h in
-    (exact.0, name_typed u (subst IsBytes exact.0 typed), exact.1))
-    name_bytes_typed
-    (λ u typed normal. name_reads_back u normal)
+pub name_laws : KeepsLaws (as_codec name_value)
+name_laws = exact_laws read_name name_bytes IsNameInRange IsNormalName name_named
+    (λ x u in_range h. let exact = name_exact x u h in
+    (exact.0, name_in_range u (subst IsBytes exact.0 in_range), exact.1))
+    name_bytes_in_range
+    (λ u in_range normal. name_reads_back u normal)
 
 -- and by itself
 pub name_keeps_laws : KeepsLaws name_codec
@@ -174,5 +174,5 @@ name_keeps_laws = record {
   same_value = name_laws.same_value;
   reads_normal = name_laws.reads_normal;
   written_bytes = name_laws.written_bytes;
-  reads_back = λ p v typed normal room. name_laws.reads_back p v typed normal tt;
+  reads_back = λ p v in_range normal room. name_laws.reads_back p v in_range normal tt;
 }

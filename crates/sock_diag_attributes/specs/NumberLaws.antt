@@ -13,8 +13,8 @@ use Rattle.netlink_core.specs.declared.fault.DecodeError.TheVariants.{Memory, No
 use Rattle.netlink_core.specs.Bytes.{IsBytes}
 use Rattle.netlink_core.specs.ByteLaws.{IsBytes-append, IsBytes-left, IsBytes-nil, IsBytes-number}
 use Rattle.netlink_core.specs.ByteLaws.{IsBytes-right}
-use Rattle.netlink_core.proofs.RowLaws.{same_bytes, exact_laws}
-use Rattle.netlink_core.specs.Codec.{KeepsLaws, prefix_codec}
+use Rattle.netlink_core.proofs.FieldLaws.{same_bytes, exact_laws}
+use Rattle.netlink_core.specs.Codec.{KeepsLaws, as_codec}
 use Rattle.std.specs.Prelude.{⊤, slice_index}
 use Rattle.sock_diag_attributes.specs.ChoiceLaws.{if_equal, if_equal_err}
 use Rattle.sock_diag_attributes.specs.Numbers.{two_numbers, bytes_of_two, numbers_in, read_numbers}
@@ -28,11 +28,11 @@ number_back width n fits = ap (little_number width) (sym (append-nil (little_byt
 -- the bytes of the number in a string of that width
 number_exact : (width : ℕ) (x : List ℕ) → IsBytes x → length x ≡ width
     → x ≡ little_bytes width (little_number width x)
-number_exact width x typed long =
+number_exact width x in_range long =
     let n : ℕ = little_number width x in
-    same_bytes width x (little_bytes width n) typed (IsBytes-number 0 width n) long
+    same_bytes width x (little_bytes width n) in_range (IsBytes-number 0 width n) long
     (length-bytes_low_first 0 width n)
-    (sym (number_back width n (little_from-lt 0 width x typed)))
+    (sym (number_back width n (little_from-lt 0 width x in_range)))
 
 -- ---- two numbers
 
@@ -43,9 +43,10 @@ two_named k x h = let no = if_equal_err (length x) 8 _ _ Memory h in cc
 -- two numbers that were read fit their bytes, and these are all
 pub two_exact : (k : ℕ) (x : List ℕ) (u : ℕ × ℕ) → IsBytes x → two_numbers k x ≡ Ok u
     → (x ≡ bytes_of_two u) × (u.0 < 2 ^ 32) × (u.1 < 2 ^ 32)
-two_exact k x u typed h =
+two_exact k x u in_range h =
     let read = if_equal (length x) 8 _ u _ h in
-    let parts : IsBytes (take 4 x ++ drop 4 x) = subst IsBytes (sym (take-append-drop 4 x)) typed in
+    let parts : IsBytes (take 4 x ++ drop 4 x) =
+    subst IsBytes (sym (take-append-drop 4 x)) in_range in
     let front : IsBytes (take 4 x) = IsBytes-left (take 4 x) (drop 4 x) parts in
     let behind : IsBytes (drop 4 x) = IsBytes-right (take 4 x) (drop 4 x) parts in
     let first : take 4 x ≡ little_bytes 4 (little_number 4 x) =
@@ -57,7 +58,7 @@ two_exact k x u typed h =
     sym (take-append-drop 4 x) ∙ ap (λ (s : List ℕ). s ++ drop 4 x) first
     ∙ ap (λ (s : List ℕ). little_bytes 4 (little_number 4 x) ++ s) second in
     subst (λ (v : ℕ × ℕ). (x ≡ bytes_of_two v) × (v.0 < 2 ^ 32) × (v.1 < 2 ^ 32)) read.1
-    (exact, little_from-lt 0 4 x typed, little_from-lt 0 4 (drop 4 x) behind)
+    (exact, little_from-lt 0 4 x in_range, little_from-lt 0 4 (drop 4 x) behind)
 
 -- two numbers read back
 pub two_read_back : (k : ℕ) (u : ℕ × ℕ) → u.0 < 2 ^ 32 → u.1 < 2 ^ 32
@@ -69,8 +70,8 @@ two_read_back k u first second =
     λ i. Ok (left i, right i)
 
 -- their bytes are bytes
-pub two_typed : (u : ℕ × ℕ) → IsBytes (bytes_of_two u)
-two_typed u = IsBytes-append (little_bytes 4 u.0) (little_bytes 4 u.1) (IsBytes-number 0 4 u.0)
+pub two_in_range : (u : ℕ × ℕ) → IsBytes (bytes_of_two u)
+two_in_range u = IsBytes-append (little_bytes 4 u.0) (little_bytes 4 u.1) (IsBytes-number 0 4 u.0)
     (IsBytes-number 0 4 u.1)
 
 -- ---- many numbers
@@ -82,15 +83,15 @@ numbers_named x h = let no = if_equal_err (length x % 4) 0 _ _ Memory h in cc
 -- bytes whose number is a multiple of four are numbers
 whole : (x : List ℕ) → IsBytes x → length x % 4 ≡ 0 → (x ≡ bytes_of_numbers (numbers_in x))
     × AllByRecursion (λ n. n < 2 ^ 32) (numbers_in x)
-whole [] typed four = (refl, tt)
-whole (a ∷ []) typed four = absurd (omega (arith, four))
-whole (a ∷ b ∷ []) typed four = absurd (omega (arith, four))
-whole (a ∷ b ∷ c ∷ []) typed four = absurd (omega (arith, four))
-whole (a ∷ b ∷ c ∷ d ∷ rest) typed four =
+whole [] in_range four = (refl, tt)
+whole (a ∷ []) in_range four = absurd (omega (arith, four))
+whole (a ∷ b ∷ []) in_range four = absurd (omega (arith, four))
+whole (a ∷ b ∷ c ∷ []) in_range four = absurd (omega (arith, four))
+whole (a ∷ b ∷ c ∷ d ∷ rest) in_range four =
     let word : List ℕ = a ∷ b ∷ c ∷ d ∷ [] in
-    let front : IsBytes word = IsBytes-left word rest typed in
+    let front : IsBytes word = IsBytes-left word rest in_range in
     let here : word ≡ little_bytes 4 (little_number 4 word) = number_exact 4 word front refl in
-    let later = whole rest (IsBytes-right word rest typed) (omega (arith, four)) in (
+    let later = whole rest (IsBytes-right word rest in_range) (omega (arith, four)) in (
       ap (λ (s : List ℕ). s ++ rest) here
           ∙ ap (λ (s : List ℕ). little_bytes 4 (little_number 4 word) ++ s) later.0,
       (little_from-lt 0 4 word front, later.1),
@@ -99,10 +100,10 @@ whole (a ∷ b ∷ c ∷ d ∷ rest) typed four =
 -- numbers that were read fit their bytes, and these are all
 pub numbers_exact : (x : List ℕ) (u : List ℕ) → IsBytes x → read_numbers x ≡ Ok u
     → (x ≡ bytes_of_numbers u) × AllByRecursion (λ n. n < 2 ^ 32) u
-numbers_exact x u typed h =
+numbers_exact x u in_range h =
     let read = if_equal (length x % 4) 0 _ u _ h in
     subst (λ (v : List ℕ). (x ≡ bytes_of_numbers v) × AllByRecursion (λ n. n < 2 ^ 32) v) read.1
-    (whole x typed read.0)
+    (whole x in_range read.0)
 
 -- numbers that are below a bound place by place
 pub each_below : (bound : ℕ) (u : List ℕ) → ((i : ℕ) → slice_index u i < bound)
@@ -140,10 +141,10 @@ numbers_read_back u fit =
     refl
 
 -- their bytes are bytes
-pub numbers_typed : (u : List ℕ) → IsBytes (bytes_of_numbers u)
-numbers_typed [] = IsBytes-nil
-numbers_typed (n ∷ u) = IsBytes-append (little_bytes 4 n) (bytes_of_numbers u)
-    (IsBytes-number 0 4 n) (numbers_typed u)
+pub numbers_in_range : (u : List ℕ) → IsBytes (bytes_of_numbers u)
+numbers_in_range [] = IsBytes-nil
+numbers_in_range (n ∷ u) = IsBytes-append (little_bytes 4 n) (bytes_of_numbers u)
+    (IsBytes-number 0 4 n) (numbers_in_range u)
 
 -- numbers that were read place by place
 pub places : (x u : List ℕ) → length x ≡ 4 * length u → IsRead little_number 4 x u
@@ -164,18 +165,18 @@ places (a ∷ b ∷ c ∷ d ∷ rest) (n ∷ u) long each =
     λ i. first i ∷ later i
 
 -- both keep the laws of the value of an attribute
-pub two_laws : (k : ℕ) → KeepsLaws (prefix_codec (two_value k))
+pub two_laws : (k : ℕ) → KeepsLaws (as_codec (two_value k))
 two_laws k = exact_laws (two_numbers k) bytes_of_two (λ ns. (ns.0 < 2 ^ 32) × (ns.1 < 2 ^ 32))
     (λ ns. ⊤) (two_named k)
-    (λ x u typed h. let exact = two_exact k x u typed h in (exact.0, (exact.1, exact.2), tt))
-    (λ u fits. two_typed u)
+    (λ x u in_range h. let exact = two_exact k x u in_range h in (exact.0, (exact.1, exact.2), tt))
+    (λ u fits. two_in_range u)
     (λ u fits normal. two_read_back k u fits.0 fits.1)
 
-pub numbers_laws : KeepsLaws (prefix_codec numbers_value)
+pub numbers_laws : KeepsLaws (as_codec numbers_value)
 numbers_laws = exact_laws read_numbers bytes_of_numbers (AllByRecursion (λ n. n < 2 ^ 32))
     (λ ns. ⊤) numbers_named
-    (λ x u typed h. let exact = numbers_exact x u typed h in (exact.0, exact.1, tt))
-    (λ u fits. numbers_typed u)
+    (λ x u in_range h. let exact = numbers_exact x u in_range h in (exact.0, exact.1, tt))
+    (λ u fits. numbers_in_range u)
     (λ u fits normal. numbers_read_back u fits)
 
 -- ---- numbers in place
@@ -236,12 +237,12 @@ numbers_in_first (a ∷ b ∷ c ∷ d ∷ rest) long = refl
 -- such numbers are below 2^32
 pub numbers_below : (x : List ℕ) → IsBytes x → length x % 4 ≡ 0
     → AllByRecursion (λ n. n < 2 ^ 32) (numbers_in x)
-numbers_below x typed four = (whole x typed four).1
+numbers_below x in_range four = (whole x in_range four).1
 
 -- numbers are written as the bytes in which they stand
 pub numbers_are_bytes : (x : List ℕ) → IsBytes x → length x % 4 ≡ 0
     → x ≡ bytes_of_numbers (numbers_in x)
-numbers_are_bytes x typed four = (whole x typed four).0
+numbers_are_bytes x in_range four = (whole x in_range four).0
 
 -- equal numbers stand in equal bytes
 pub numbers_in_same : (x y : List ℕ) → IsBytes x → IsBytes y → length x % 4 ≡ 0 → length y % 4 ≡ 0

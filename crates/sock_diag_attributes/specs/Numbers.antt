@@ -1,7 +1,7 @@
 -- Numbers that fill the value of an attribute, the low byte of each first.
 use Rattle.std.specs.List.{AllByRecursion}
-use Rattle.netlink_core.specs.Prefix.{Prefix}
-use Rattle.netlink_core.specs.Rows.{exact_value}
+use Rattle.netlink_core.specs.ValueCodec.{ValueCodec}
+use Rattle.netlink_core.specs.AttributeSpecs.{exact_value}
 use Rattle.std.specs.Prelude.{⊤, ◌<◌, ◌^◌, ℕ, ◌%◌, ◌==◌, if◌then◌else◌, List, [], ◌∷◌, ◌++◌, length}
 use Rattle.std.specs.Prelude.{drop, flat_map, Some, Result, Ok, Err}
 use Rattle.byteorder.specs.Endian.{little_number, little_bytes}
@@ -9,7 +9,7 @@ use Rattle.netlink_core.specs.declared.fault.DecodeError.{DecodeError}
 use Rattle.netlink_core.specs.declared.fault.DecodeError.TheVariants.{WrongLength}
 use Rattle.netlink_core.specs.declared.fault.DecodeError.TheVariants.{NotMultipleOfFour}
 
--- the two numbers in exactly eight bytes, as the value of an attribute of kind k
+-- the two numbers in exactly eight bytes, as the value of an attribute of type k
 abbrev pub two_numbers : ℕ → List ℕ → Result (ℕ × ℕ) DecodeError
 two_numbers k value = if length value == 8 then Ok (little_number 4 value, little_number 4 (drop 4 value)) else Err (WrongLength (Some k) (length value) 8)
 
@@ -30,10 +30,10 @@ read_numbers value = if length value % 4 == 0 then Ok (numbers_in value) else Er
 abbrev pub bytes_of_numbers : List ℕ → List ℕ
 bytes_of_numbers numbers = flat_map (little_bytes 4) numbers
 
--- two numbers as the value of an attribute of kind k
-abbrev pub two_value : ℕ → Prefix (Unit {0})
+-- two numbers as the value of an attribute of type k
+abbrev pub two_value : ℕ → ValueCodec (Unit {0})
 two_value k = exact_value (two_numbers k) bytes_of_two (λ ns. (ns.0 < 2 ^ 32) × (ns.1 < 2 ^ 32)) (λ ns. ⊤)
 
 -- numbers as the value of an attribute
-abbrev pub numbers_value : Prefix (Unit {0})
+abbrev pub numbers_value : ValueCodec (Unit {0})
 numbers_value = exact_value read_numbers bytes_of_numbers (AllByRecursion (λ n. n < 2 ^ 32)) (λ ns. ⊤)

@@ -8,8 +8,8 @@ use Rattle.std.proofs.lemmas.Str.{IsUtf8-from_is_utf8}
 use Rattle.netlink_core.specs.Bytes.{IsBytes}
 use Rattle.netlink_core.specs.ByteLaws.{IsBytes-append, IsBytes-cons, IsBytes-left, IsBytes-nil}
 use Rattle.netlink_core.specs.Parse.{without_end_zero, text_in}
-use Rattle.netlink_core.specs.Codec.{KeepsLaws, prefix_codec}
-use Rattle.netlink_core.specs.FrontLaws.{value_or_reason}
+use Rattle.netlink_core.specs.Codec.{KeepsLaws, as_codec}
+use Rattle.netlink_core.specs.PrefixLaws.{value_or_reason}
 use Rattle.netlink_core.specs.declared.fault.DecodeError.TheVariants.{Memory, NotUtf8}
 use Rattle.netlink_core.proofs.Texts.{end_zero, text_there}
 use Rattle.sock_diag_attributes.specs.Text.{text_bytes, EndsInZero, AreIdleTexts, text_value}
@@ -105,31 +105,31 @@ text_named b h =
     ] h
 
 -- what is kept of bytes is bytes
-kept_typed : (b : List ℕ) → IsBytes b → IsBytes (without_end_zero b)
-kept_typed b typed =
+kept_in_range : (b : List ℕ) → IsBytes b → IsBytes (without_end_zero b)
+kept_in_range b in_range =
     elim (end_of b).told [
       | inl ends ↦ subst IsBytes (sym (ap without_end_zero ends.1 ∙ end_zero ends.0))
-          (IsBytes-left ends.0 (0 ∷ []) (subst IsBytes ends.1 typed))
-      | inr kept ↦ subst IsBytes (sym kept.1) typed
+          (IsBytes-left ends.0 (0 ∷ []) (subst IsBytes ends.1 in_range))
+      | inr kept ↦ subst IsBytes (sym kept.1) in_range
     ]
 
 -- a text keeps the laws
-pub text_laws : KeepsLaws (prefix_codec text_value)
+pub text_laws : KeepsLaws (as_codec text_value)
 text_laws = record {
-  answered = λ b p typed. value_or_reason (text_in b);
+  answered = λ b p in_range. value_or_reason (text_in b);
   one_answer = λ b p v e h k. cc;
   one_fault = λ b p e f h k. cc;
   named_fault = λ b p h. text_named b h;
-  same_value = λ b c p v w b-typed c-typed h k.
+  same_value = λ b c p v w b-in_range c-in_range h k.
       let left = (text_is b v h).0 in
       let right = (text_is c w k).0 in
       let idle = idle_where_kept b c in
       (λ e. idle.0 (left ∙ e ∙ sym right), λ n. sym left ∙ idle.1 n ∙ right);
-  reads_normal = λ b p v typed h.
+  reads_normal = λ b p v in_range h.
       let read = text_is b v h in
-      (subst (λ (t : List ℕ). IsUtf8 t × IsBytes t) read.0 (read.1, kept_typed b typed), tt);
-  written_bytes = λ v typed. IsBytes-append v (0 ∷ []) typed.1
+      (subst (λ (t : List ℕ). IsUtf8 t × IsBytes t) read.0 (read.1, kept_in_range b in_range), tt);
+  written_bytes = λ v in_range. IsBytes-append v (0 ∷ []) in_range.1
       (IsBytes-cons 0 [] (omega arith) IsBytes-nil);
-  reads_back = λ p v typed normal room. text_there (text_bytes v) v (sym (end_zero v))
-      (subst IsUtf8 (sym (end_zero v)) typed.0);
+  reads_back = λ p v in_range normal room. text_there (text_bytes v) v (sym (end_zero v))
+      (subst IsUtf8 (sym (end_zero v)) in_range.0);
 }

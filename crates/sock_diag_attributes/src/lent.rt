@@ -7,9 +7,9 @@ ghost use Rattle.netlink_core.specs.DefaultNla.{kept_attribute};
 ghost use Rattle.netlink_core.specs.Walk.{attribute_of};
 ghost use Rattle.sock_diag_attributes.specs.Name.{SocketName};
 ghost use Rattle.sock_diag_attributes.specs.Numbers.{bytes_of_numbers};
-ghost use Rattle.sock_diag_attributes.specs.SeenName.{seen_name, viewed_name};
-ghost use Rattle.sock_diag_attributes.specs.SeenNumbers.{viewed_numbers};
-ghost use Rattle.sock_diag_attributes.specs.ValueSteps.{value_bytes, IsTypedValue};
+ghost use Rattle.sock_diag_attributes.specs.NameModel.{name_model, name_view_model};
+ghost use Rattle.sock_diag_attributes.specs.NumbersModel.{numbers_view_model};
+ghost use Rattle.sock_diag_attributes.specs.ValueSteps.{value_bytes, IsValueInRange};
 
 use crate::numbers::NumbersView;
 use crate::unix::nlas::{NameView, UnixDiagName};
@@ -81,11 +81,11 @@ pub(crate) trait LendsName {
 
     /// The name, its bytes borrowed.
     fn lent_name(&self) -> NameView<'_>
-        ensures { viewed_name result ≡ name self.now };
+        ensures { name_view_model result ≡ name self.now };
 }
 
 impl LendsName for UnixDiagName {
-    ghost name = { seen_name };
+    ghost name = { name_model };
 
     #[inline(always)]
     fn lent_name(&self) -> NameView<'_> {
@@ -94,7 +94,7 @@ impl LendsName for UnixDiagName {
 }
 
 impl LendsName for NameView<'_> {
-    ghost name = { viewed_name };
+    ghost name = { name_view_model };
 
     #[inline(always)]
     fn lent_name(&self) -> NameView<'_> {
@@ -110,7 +110,8 @@ pub(crate) trait LendsNumbers {
     /// The numbers as the value of an attribute.
     fn lent_value(&self) -> Value<'_>
         ensures bytes { value_bytes result ≡ bytes_of_numbers (numbers self.now) }
-        ensures typed { IsTypedValue result → AllByRecursion (λ n. n < 2 ^ 32) (numbers self.now) };
+        ensures in_range { IsValueInRange result
+            → AllByRecursion (λ n. n < 2 ^ 32) (numbers self.now) };
 
     /// The numbers in a list of their own. It fails only for want of memory, which no numbers need.
     fn to_list(&self, alloc: Global) -> Result<Vec<u32>, AllocError>
@@ -133,7 +134,7 @@ impl LendsNumbers for Vec<u32> {
 }
 
 impl LendsNumbers for NumbersView<'_> {
-    ghost numbers = { viewed_numbers };
+    ghost numbers = { numbers_view_model };
 
     #[inline(always)]
     #[tactic(auto, using(crate::specs::NumberLaws::numbers_below))]

@@ -61,17 +61,17 @@ pub(crate) fn exact_u32_pair(kind: u16, value: &[u8]) -> Result<(u32, u32), Deco
 pub struct NumbersView<'a> {
     bytes: &'a [u8],
     ghost whole: { length bytes.now % 4 ≡ 0 },
-    ghost typed: { IsBytes bytes.now },
+    ghost in_range: { IsBytes bytes.now },
 }
 
 impl<'a> NumbersView<'a> {
-    ghost use Rattle.sock_diag_attributes.specs.SeenNumbers.{viewed_numbers, numbers_left};
+    ghost use Rattle.sock_diag_attributes.specs.NumbersModel.{numbers_view_model, numbers_left};
 
     /// The numbers in the bytes. A length that is no multiple of four is `NotMultipleOfFour`.
     #[tactic(auto, using(crate::specs::NumberLaws::reads_whole, crate::specs::NumberLaws::reads_cut))]
     pub(crate) fn parse(bytes: &'a [u8]) -> Result<NumbersView<'a>, DecodeError>
         ensures { MatchResult result
-            (λ numbers. read_numbers bytes.entry.now ≡ Ok (viewed_numbers numbers))
+            (λ numbers. read_numbers bytes.entry.now ≡ Ok (numbers_view_model numbers))
             (λ e. read_numbers bytes.entry.now ≡ Err e) }
     {
         if bytes.len() % 4 != 0 {
@@ -83,7 +83,7 @@ impl<'a> NumbersView<'a> {
     /// How many numbers there are.
     #[tactic(auto, using(crate::specs::NumberLaws::how_many))]
     pub fn len(&self) -> usize
-        ensures { result ≡ length (viewed_numbers self.now) }
+        ensures { result ≡ length (numbers_view_model self.now) }
     {
         self.bytes.len() / 4
     }
@@ -91,7 +91,7 @@ impl<'a> NumbersView<'a> {
     /// The number at this place, the first one at 0.
     #[tactic(auto, using(crate::specs::NumberLaws::number_at, crate::specs::NumberLaws::no_number_at))]
     pub fn get(&self, index: usize) -> Option<u32>
-        ensures { result ≡ slice_get (viewed_numbers self.now) index }
+        ensures { result ≡ slice_get (numbers_view_model self.now) index }
     {
         if index >= self.bytes.len() / 4 {
             return None;
@@ -102,14 +102,14 @@ impl<'a> NumbersView<'a> {
     /// Whether there are none.
     #[tactic(auto, using(crate::specs::NumberLaws::how_many))]
     pub fn is_empty(&self) -> bool
-        ensures { IsTrue result ↔ (viewed_numbers self.now ≡ []) }
+        ensures { IsTrue result ↔ (numbers_view_model self.now ≡ []) }
     {
         self.bytes.is_empty()
     }
 
     /// The numbers, one after the other.
     pub fn iter(&self) -> NumbersIterator<'a>
-        ensures { numbers_left result ≡ viewed_numbers self.now }
+        ensures { numbers_left result ≡ numbers_view_model self.now }
     {
         NumbersIterator { rest: *self }
     }
@@ -117,15 +117,15 @@ impl<'a> NumbersView<'a> {
     // The bytes in which they stand, as which they are written.
     #[tactic(auto, using(crate::specs::NumberLaws::numbers_are_bytes))]
     pub(crate) fn bytes(&self) -> &'a [u8]
-        ensures { result.now ≡ bytes_of_numbers (viewed_numbers self.now) }
+        ensures { result.now ≡ bytes_of_numbers (numbers_view_model self.now) }
     {
         self.bytes
     }
 
     /// The numbers in a list. It fails only for want of memory, which no numbers need.
     pub fn to_owned(&self, alloc: Global) -> Result<Vec<u32>, AllocError>
-        ensures equal { IfOk result (λ numbers. numbers.items ≡ viewed_numbers self.now) }
-        ensures spare { viewed_numbers self.now ≡ [] → IsOk result }
+        ensures equal { IfOk result (λ numbers. numbers.items ≡ numbers_view_model self.now) }
+        ensures spare { numbers_view_model self.now ≡ [] → IsOk result }
     {
         if self.is_empty() {
             return Ok(Vec::new(alloc));
@@ -143,7 +143,7 @@ pub struct NumbersIterator<'a> {
 }
 
 impl<'a> Iterator for NumbersIterator<'a> {
-    ghost use Rattle.sock_diag_attributes.specs.SeenNumbers.{numbers_left};
+    ghost use Rattle.sock_diag_attributes.specs.NumbersModel.{numbers_left};
 
     type Item = u32;
 
@@ -193,12 +193,12 @@ pub(crate) fn emit_numbers(numbers: &[u32], buffer: &mut [u8])
 }
 
 /// Tells the prover that a byte is below 256. It does nothing.
-pub(crate) fn byte_typed(_byte: u8)
+pub(crate) fn byte_in_range(_byte: u8)
     ensures { _byte < 256 }
 {}
 
 /// Tells the prover that each word is a number of four bytes. It does nothing.
 #[tactic(auto, using(crate::specs::NumberLaws::each_below))]
-pub(crate) fn words_typed(_words: &[u32])
+pub(crate) fn words_in_range(_words: &[u32])
     ensures { AllByRecursion (λ n. n < 2 ^ 32) _words.now }
 {}

@@ -14,6 +14,6 @@ pub(crate) fn emit_text(text: &str, buffer: &mut [u8])
 }
 
 /// Tells the prover that a text is UTF-8. It does nothing.
-pub(crate) fn text_typed(_text: &str)
+pub(crate) fn text_in_range(_text: &str)
     ensures { IsUtf8 _text.now × IsBytes _text.now }
 {}

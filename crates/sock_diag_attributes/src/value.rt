@@ -1,12 +1,12 @@
-//! What the value of an attribute is made of, whatever kind it is of.
+//! What the value of an attribute is made of, whatever type it is of.
 
 ghost use Rattle.std.specs.Prelude.{◌≡◌, ◌≤◌, ◌++◌, length, drop};
-ghost use Rattle.sock_diag_attributes.specs.ValueSteps.{value_bytes, IsTypedValue};
+ghost use Rattle.sock_diag_attributes.specs.ValueSteps.{value_bytes, IsValueInRange};
 
-use crate::numbers::{byte_typed, emit_numbers, emit_u32_pair, words_typed};
-use crate::text::{emit_text, text_typed};
+use crate::numbers::{byte_in_range, emit_numbers, emit_u32_pair, words_in_range};
+use crate::text::{emit_text, text_in_range};
 use crate::unix::nlas::NameView;
-use netlink_core::{Coded, Emitable, bytes_typed, emit_u32, word_typed};
+use netlink_core::{Coded, Emitable, bytes_in_range, emit_u32, word_in_range};
 use sock_diag_values::inet::{LegacyMemInfo, MemInfo, TcpInfo};
 use sock_diag_values::unix::{MemInfo as UnixMemInfo, Vfs};
 
@@ -50,7 +50,7 @@ impl Value<'_> {
         }
     }
 
-    /// Writes it at the front of the buffer, and leaves the rest.
+    /// Writes it at the start of the buffer, and leaves the rest.
     #[inline(always)]
     pub(crate) fn emit(&self, buffer: &mut [u8])
         requires { length (value_bytes self.now) ≤ length buffer.old }
@@ -74,25 +74,25 @@ impl Value<'_> {
     }
 
     /// Tells the prover that its numbers are within their types. It does nothing.
-    pub(crate) fn typed(&self)
-        ensures { IsTypedValue self.now }
+    pub(crate) fn in_range(&self)
+        ensures { IsValueInRange self.now }
     {
         match self {
-            Value::Byte(byte) => byte_typed(*byte),
-            Value::Word(word) => word_typed(*word),
+            Value::Byte(byte) => byte_in_range(*byte),
+            Value::Word(word) => word_in_range(*word),
             Value::Pair(first, second) => {
-                word_typed(*first);
-                word_typed(*second);
+                word_in_range(*first);
+                word_in_range(*second);
             }
-            Value::Numbers(numbers) => words_typed(numbers),
-            Value::Text(text) => text_typed(text),
-            Value::Name(name) => name.typed(),
-            Value::LegacyMemInfo(info) => info.typed(),
-            Value::TcpInfo(info) => info.typed(),
-            Value::MemInfo(info) => info.typed(),
-            Value::UnixMemInfo(info) => info.typed(),
-            Value::Vfs(vfs) => vfs.typed(),
-            Value::Bytes(bytes) => bytes_typed(bytes),
+            Value::Numbers(numbers) => words_in_range(numbers),
+            Value::Text(text) => text_in_range(text),
+            Value::Name(name) => name.in_range(),
+            Value::LegacyMemInfo(info) => info.in_range(),
+            Value::TcpInfo(info) => info.in_range(),
+            Value::MemInfo(info) => info.in_range(),
+            Value::UnixMemInfo(info) => info.in_range(),
+            Value::Vfs(vfs) => vfs.in_range(),
+            Value::Bytes(bytes) => bytes_in_range(bytes),
         }
     }
 }

@@ -1,2 +1,2 @@
 pub mod Counted
-pub mod Said
+pub mod PeerValues

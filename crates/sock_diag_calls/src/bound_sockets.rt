@@ -1,12 +1,13 @@
 //! A reply, by `netlink_packet_sock_diag`.
 
 ghost use Rattle.std.specs.Prelude.{◌≡◌, ◌↔◌, Some, IsTrue, IfOk, IfErr};
-ghost use Rattle.netlink_core.specs.Family.{content};
-ghost use Rattle.netlink_core.specs.Reply.{reply_codec};
+ghost use Rattle.netlink_core.specs.AttributeSet.{content};
+ghost use Rattle.netlink_core.specs.Response.{response_codec};
 ghost use Rattle.sock_diag_attributes.specs.Name.{pathname};
 ghost use Rattle.sock_diag_attributes.specs.UnixAttributes.{unix};
 ghost use Rattle.netlink_packet_sock_diag.specs.UnixGetters.{first_of};
-ghost use Rattle.netlink_packet_sock_diag.specs.UnixReply.{UnixReply, unix_reply};
+ghost use Rattle.netlink_packet_sock_diag.specs.UnixResponseSpec.{UnixResponseValue};
+ghost use Rattle.netlink_packet_sock_diag.specs.UnixResponseSpec.{unix_response_spec};
 
 use netlink_core::DecodeError;
 use netlink_packet_sock_diag::unix::UnixResponseView;
@@ -14,10 +15,11 @@ use netlink_packet_sock_diag::unix::nlas::NameView;
 
 /// Whether a reply about a UNIX socket tells that it is bound to this path.
 pub fn is_bound_to(reply: &[u8], path: &[u8]) -> Result<bool, DecodeError>
-    ensures value { IfOk result (λ bound. (v : UnixReply) × (reply_codec unix_reply).reads reply.now
+    ensures value { IfOk result (λ bound.
+        (v : UnixResponseValue) × (response_codec unix_response_spec).reads reply.now
         tt v
         × (IsTrue bound ↔ (first_of (content unix 0) v.nlas ≡ Some (pathname path.now)))) }
-    ensures fault { IfErr result ((reply_codec unix_reply).refuses reply.now tt) }
+    ensures fault { IfErr result ((response_codec unix_response_spec).refuses reply.now tt) }
 {
     let view = UnixResponseView::parse(reply)?;
     Ok(view.name() == Some(NameView::Pathname(path)))

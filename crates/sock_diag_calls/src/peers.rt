@@ -2,7 +2,7 @@
 
 ghost use Rattle.std.specs.Prelude.{◌≡◌, length, SomeIff};
 ghost use Rattle.byteorder.specs.Endian.{little_number};
-ghost use Rattle.netlink_core.specs.Attribute.{kind_of};
+ghost use Rattle.netlink_core.specs.Attribute.{attribute_type};
 ghost use Rattle.netlink_core.specs.Walk.{attribute_of};
 
 use netlink_core::NlaBuffer;
@@ -12,7 +12,7 @@ use sock_diag_attributes::unix::nlas::NlaView;
 /// four bytes.
 pub fn peer(nla: &NlaBuffer<'_>) -> Option<u32>
     ensures { SomeIff result
-        ((kind_of (attribute_of nla.now) ≡ 2) × (length (attribute_of nla.now).value ≡ 4))
+        ((attribute_type (attribute_of nla.now) ≡ 2) × (length (attribute_of nla.now).value ≡ 4))
         (little_number 4 (attribute_of nla.now).value) }
 {
     match NlaView::parse(nla) {

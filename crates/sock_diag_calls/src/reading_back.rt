@@ -13,13 +13,13 @@ pub fn copy_by_bytes<T: Wire + Drop>(
     value: &T,
     param: T::Param,
 ) -> Result<T, DecodeError>
-    requires normal { T.codec.is_normal param (T.seen value.now) }
+    requires normal { T.codec.is_normal param (T.model value.now) }
     requires writable { T.writable value.now }
-    ensures equal { IfOk result (λ copy. T.seen copy ≡ T.seen value.now) }
+    ensures equal { IfOk result (λ copy. T.model copy ≡ T.model value.now) }
     ensures fault { IfErr result (λ e. e ≡ Memory) }
 {
     let mut bytes = vec![in alloc; 0; value.buffer_len()]?;
     value.emit(&mut bytes);
-    value.typed();
+    value.in_range();
     T::read(alloc, &bytes, param)
 }

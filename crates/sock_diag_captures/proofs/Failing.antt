@@ -22,7 +22,8 @@ use Rattle.sock_diag_captures.specs.Listing.{asked_after}
 use Rattle.sock_diag_captures.specs.declared.options.Options.{Options}
 use Rattle.sock_diag_captures.specs.declared.requests.Asked.{Asked}
 use Rattle.sock_diag_captures.specs.Streams.{IsWriteFailure}
-use Rattle.sock_diag_captures.specs.Run.{Breaks, Fails, IsListed, IsTable, Stands, Told, lines_told}
+use Rattle.sock_diag_captures.specs.Run.{Breaks, Fails, IsListed, IsTable, Stands, ListedPacket}
+use Rattle.sock_diag_captures.specs.Run.{lines_of_packet}
 use Rattle.sock_diag_captures.proofs.Progress.{Progress, goes_on_part, goes_on_whole, lines_push}
 use Rattle.sock_diag_captures.proofs.Progress.{progress_begins}
 
@@ -34,7 +35,7 @@ stop_weaker file left A B part Cut h = h
 stop_weaker file left A B part Read h = (h.0, inl h.1)
 stop_weaker file left A B part Directory h = (h.0, inl h.1)
 stop_weaker file left A B part NoMemory h = h
-stop_weaker file left A B part (PacketTooLong told) h = h
+stop_weaker file left A B part (PacketTooLong listings) h = h
 stop_weaker file left A B part _ h = h
 
 bool_cases : (b : Bool) → (b ≡ true) ⊎ (b ≡ false)
@@ -81,13 +82,13 @@ module _ (o : Options) (file : FileHeader) (header : List ℕ) (long : length he
   -- the table of the packets so far
   abbrev pub table_of : (b c y z : Option (List ℕ)) (asked : List Asked) (whole : Bool) (number : ℕ)
       (p : Progress o (IsRecord file) b c y z asked whole number)
-      → IsTable o (header ++ p.records) (flat_map lines_told p.told) whole
+      → IsTable o (header ++ p.records) (flat_map lines_of_packet p.listings) whole
   table_of b c y z asked whole number p = record {
     file = file;
     header = header;
     records = p.records;
     packets = p.packets;
-    told = p.told;
+    listings = p.listings;
     parts = refl;
     long = long;
     is_header = is;
@@ -105,14 +106,14 @@ module _ (o : Options) (file : FileHeader) (header : List ℕ) (long : length he
       → Stands o a d x z heading file (length p.packets) more
   stands a b c d x y z heading more asked whole number p first last begun = record {
     bytes = header ++ p.records;
-    lines = flat_map lines_told p.told;
+    lines = flat_map lines_of_packet p.listings;
     is_whole = whole;
     table = table_of b c y z asked whole number p;
     of_file = refl;
     counted = refl;
     read = Consumes-trans a c d (header ++ p.records) more
         (Consumes-trans a b c header p.records first p.read) last;
-    appended = Appends-trans x y z heading (flat_map lines_told p.told) begun p.appended;
+    appended = Appends-trans x y z heading (flat_map lines_of_packet p.listings) begun p.appended;
   }
 
   -- the heading could not be written
@@ -178,7 +179,7 @@ module _ (o : Options) (file : FileHeader) (header : List ℕ) (long : length he
         → Consumes c d [] → Keeps z z'
         → Fails o a d x z' heading unread e
     fails_at_flush d z' unread e write last kept =
-        let lines = flat_map lines_told p.told in
+        let lines = flat_map lines_of_packet p.listings in
         let read : Consumes a d (header ++ p.records) =
         subst (Consumes a d) (append-nil (header ++ p.records))
         (Consumes-trans a c d (header ++ p.records) []
@@ -200,13 +201,14 @@ module _ (o : Options) (file : FileHeader) (header : List ℕ) (long : length he
         → Fails o a d x z' heading unread e
     fails_at_lines d z' unread e head lines packet asked' one write record_of next listed read
         front rest split appended =
-        let before = flat_map lines_told p.told in
-        let new : Told = record { lines = lines; whole = one } in
+        let before = flat_map lines_of_packet p.listings in
+        let new : ListedPacket = record { lines = lines; whole = one } in
         let w = append_known z lines in
         let wrote = appended_known z lines in
-        let joined : heading ++ flat_map lines_told (p.told ++ new ∷ []) ≡ ((heading ++ before)
+        let joined : heading ++ flat_map lines_of_packet (p.listings ++ new ∷ [])
+        ≡ ((heading ++ before)
         ++ front) ++ rest =
-        ap (λ (t : List ℕ). heading ++ t) (lines_push p.told new)
+        ap (λ (t : List ℕ). heading ++ t) (lines_push p.listings new)
         ∙ sym (append_assoc heading before lines)
         ∙ ap (λ (t : List ℕ). (heading ++ before) ++ t) split
         ∙ sym (append_assoc (heading ++ before) front rest) in

@@ -7,18 +7,18 @@ use Rattle.std.proofs.lemmas.Bool.{lt-ltb, le-ltb}
 use Rattle.byteorder.specs.Endian.{little_number}
 use Rattle.netlink_core.specs.Attribute.{Attribute, IsFramingFault, StartsWith, fill}
 use Rattle.netlink_core.specs.Attribute.{unpadded}
-use Rattle.netlink_core.specs.FrontLaws.{word_is}
+use Rattle.netlink_core.specs.PrefixLaws.{word_is}
 use Rattle.netlink_core.specs.declared.fault.DecodeError.{DecodeError}
 use Rattle.netlink_core.specs.declared.fault.DecodeError.TheVariants.{AttributeHeaderCut}
 use Rattle.netlink_core.specs.declared.fault.DecodeError.TheVariants.{AttributeLengthUnder4}
 use Rattle.netlink_core.specs.declared.fault.DecodeError.TheVariants.{AttributeLengthPast}
-use Rattle.netlink_core.proofs.Walking.{StartsWith-some, head_of_start}
-use Rattle.attribute_lists.specs.AttributesIn.{attributes_behind, front_attribute}
+use Rattle.netlink_core.proofs.Walking.{StartsWith-some, prefix_of_start}
+use Rattle.attribute_lists.specs.AttributesIn.{attributes_behind, leading_attribute}
 use Rattle.attribute_lists.proofs.Finding.{found_first}
 use Rattle.sock_diag_captures.specs.Pieces.{Piece, followed}
 use Rattle.sock_diag_captures.specs.Pieces.{front_piece, pieces}
 
--- those behind so many bytes are those at the front of what follows them
+-- those behind so many bytes are those at the start of what follows them
 behind_is : (n : ℕ) (bytes : List ℕ) → pieces n bytes ≡ pieces 0 (drop n bytes)
 unfolding pieces
 behind_is zero [] = refl
@@ -26,9 +26,9 @@ behind_is zero (b ∷ bs) = refl
 behind_is (suc n) [] = refl
 behind_is (suc n) (b ∷ bs) = behind_is n bs
 
--- the attribute in front by its two words
+-- the first attribute by its two words
 front_is : (bytes rest : List ℕ) (a : Attribute) → StartsWith bytes a rest
-    → front_attribute bytes ≡ a
+    → leading_attribute bytes ≡ a
 unfolding attributes_behind
 front_is [] rest a s = absurd (StartsWith-some [] rest a s refl)
 front_is (b ∷ bs) rest a s = let found = found_first (b ∷ bs) rest a s in cc
@@ -38,12 +38,12 @@ word_of : (bytes rest : List ℕ) (a : Attribute) (s : StartsWith bytes a rest)
     → (little_number 2 bytes ≡ 4 + length a.value)
     × (length bytes ≡ 4 + length a.value + (length s.padding + length rest))
 word_of bytes rest a s = (
-  (word_is bytes a (head_of_start bytes rest a s)).0,
+  (word_is bytes a (prefix_of_start bytes rest a s)).0,
   ap length s.parts ∙ length-append (unpadded a) (s.padding ++ rest)
       ∙ omega (arith, length-append s.padding rest),
 )
 
--- the attribute in front is the first piece
+-- the first attribute is the first piece
 front_stands : (bytes rest : List ℕ) (a : Attribute) → StartsWith bytes a rest
     → front_piece bytes ≡ Ok a
 front_stands bytes rest a s =

@@ -9,32 +9,34 @@ use Rattle.std.proofs.KnownBytes.{Appends-nil, Appends-trans, Consumes-nil, Cons
 use Rattle.std.proofs.lemmas.Grind.{flat_map-append}
 use Rattle.sock_diag_captures.specs.Capture.{Recorded}
 use Rattle.sock_diag_captures.specs.Listing.{asked_after}
-use Rattle.sock_diag_captures.specs.Run.{AreListed, ArePackets, IsListed, IsWhole, Told}
-use Rattle.sock_diag_captures.specs.Run.{lines_told}
+use Rattle.sock_diag_captures.specs.Run.{AreListed, ArePackets, IsListed, IsWhole, ListedPacket}
+use Rattle.sock_diag_captures.specs.Run.{lines_of_packet}
 use Rattle.sock_diag_captures.specs.declared.options.Options.{Options}
 use Rattle.sock_diag_captures.specs.declared.requests.Asked.{Asked}
 
 pub not_both : (b : Bool) → b ≡ false → b ≡ true → ⊥
 not_both b is_false is_true = cc
 
-pub whole_push : (xs : List Told) (x : Told) → AllByRecursion IsWhole xs → IsWhole x
+pub whole_push : (xs : List ListedPacket) (x : ListedPacket) → AllByRecursion IsWhole xs → IsWhole x
     → AllByRecursion IsWhole (xs ++ x ∷ [])
 whole_push [] x h is = (is, tt)
 whole_push (y ∷ xs) x h is = (h.0, whole_push xs x h.1 is)
 
-pub whole_front : (xs : List Told) (x : Told) → AllByRecursion IsWhole (xs ++ x ∷ [])
+pub whole_front : (xs : List ListedPacket) (x : ListedPacket)
+    → AllByRecursion IsWhole (xs ++ x ∷ [])
     → AllByRecursion IsWhole xs
 whole_front [] x h = tt
 whole_front (y ∷ xs) x h = (h.0, whole_front xs x h.1)
 
-pub whole_last : (xs : List Told) (x : Told) → AllByRecursion IsWhole (xs ++ x ∷ []) → IsWhole x
+pub whole_last : (xs : List ListedPacket) (x : ListedPacket) → AllByRecursion IsWhole (xs ++ x ∷ [])
+    → IsWhole x
 whole_last [] x h = h.0
 whole_last (y ∷ xs) x h = whole_last xs x h.1
 
-pub lines_push : (xs : List Told) (x : Told)
-    → flat_map lines_told (xs ++ x ∷ []) ≡ flat_map lines_told xs ++ x.lines
-lines_push xs x = flat_map-append lines_told xs (x ∷ [])
-    ∙ ap (λ (t : List ℕ). flat_map lines_told xs ++ t) (append-nil x.lines)
+pub lines_push : (xs : List ListedPacket) (x : ListedPacket)
+    → flat_map lines_of_packet (xs ++ x ∷ []) ≡ flat_map lines_of_packet xs ++ x.lines
+lines_push xs x = flat_map-append lines_of_packet xs (x ∷ [])
+    ∙ ap (λ (t : List ℕ). flat_map lines_of_packet xs ++ t) (append-nil x.lines)
 
 -- the requests that were seen after these packets
 pub asked_from : List Asked → List Recorded → List Asked
@@ -42,8 +44,8 @@ asked_from asked [] = asked
 asked_from asked (p ∷ ps) = asked_from (asked_after asked p.bytes) ps
 
 -- one more packet is listed
-pub listed_push : (o : Options) (asked : List Asked) (ps : List Recorded) (xs : List Told)
-    (p : Recorded) (x : Told)
+pub listed_push : (o : Options) (asked : List Asked) (ps : List Recorded) (xs : List ListedPacket)
+    (p : Recorded) (x : ListedPacket)
     → AreListed o asked ps xs → IsListed o (asked_after (asked_from asked ps) p.bytes) p x
     → AreListed o asked (ps ++ p ∷ []) (xs ++ x ∷ [])
 unfolding asked_from
@@ -92,14 +94,14 @@ module _ (o : Options) (R : List ℕ → Recorded → Type 0) where
       (asked : List Asked) (is_whole : Bool) (number : ℕ) : Type 0 where
     pub records : List ℕ
     pub packets : List Recorded
-    pub told : List Told
+    pub listings : List ListedPacket
     pub read : Consumes remaining remaining' records
     pub are_packets : ArePackets R records packets
-    pub listed : AreListed o [] packets told
+    pub listed : AreListed o [] packets listings
     pub seen : asked ≡ asked_from [] packets
-    pub appended : Appends contents contents' (flat_map lines_told told)
-    pub flagged : IsTrue is_whole → AllByRecursion IsWhole told
-    pub whole_only : AllByRecursion IsWhole told → IsTrue is_whole
+    pub appended : Appends contents contents' (flat_map lines_of_packet listings)
+    pub flagged : IsTrue is_whole → AllByRecursion IsWhole listings
+    pub whole_only : AllByRecursion IsWhole listings → IsTrue is_whole
     pub next : number ≡ length packets + 1
 
   abbrev pub progress_begins : (remaining contents : Option (List ℕ))
@@ -107,7 +109,7 @@ module _ (o : Options) (R : List ℕ → Recorded → Type 0) where
   progress_begins remaining contents = record {
     records = [];
     packets = [];
-    told = [];
+    listings = [];
     read = Consumes-nil remaining;
     are_packets = refl;
     listed = tt;
@@ -132,22 +134,23 @@ module _ (o : Options) (R : List ℕ → Recorded → Type 0) where
       → Progress a c x z asked' whole' (number + 1)
   progress_goes_on a b c x y z header lines p asked asked' one whole whole' number so_far is next
       listed read appended front last both =
-      let new : Told = record { lines = lines; whole = one } in
+      let new : ListedPacket = record { lines = lines; whole = one } in
       let after : asked' ≡ asked_after (asked_from [] so_far.packets) p.bytes =
       next ∙ ap (λ (q : List Asked). asked_after q p.bytes) so_far.seen in record {
         records = so_far.records ++ (header ++ p.bytes);
         packets = so_far.packets ++ p ∷ [];
-        told = so_far.told ++ new ∷ [];
+        listings = so_far.listings ++ new ∷ [];
         read = Consumes-trans a b c so_far.records (header ++ p.bytes) so_far.read read;
         are_packets = packets_push so_far.records so_far.packets header p so_far.are_packets is;
-        listed = listed_push o [] so_far.packets so_far.told p new so_far.listed
+        listed = listed_push o [] so_far.packets so_far.listings p new so_far.listed
             (subst (λ (q : List Asked). IsListed o q p new) after listed);
         seen = after ∙ sym (asked_push [] so_far.packets p);
-        appended = subst (λ (t : List ℕ). Appends x z t) (sym (lines_push so_far.told new))
-            (Appends-trans x y z (flat_map lines_told so_far.told) lines so_far.appended appended);
-        flagged = λ h. whole_push so_far.told new (so_far.flagged (front h)) (last h);
-        whole_only = λ h. both (so_far.whole_only (whole_front so_far.told new h))
-            (whole_last so_far.told new h);
+        appended = subst (λ (t : List ℕ). Appends x z t) (sym (lines_push so_far.listings new))
+            (Appends-trans x y z (flat_map lines_of_packet so_far.listings) lines so_far.appended
+            appended);
+        flagged = λ h. whole_push so_far.listings new (so_far.flagged (front h)) (last h);
+        whole_only = λ h. both (so_far.whole_only (whole_front so_far.listings new h))
+            (whole_last so_far.listings new h);
         next = omega (arith, so_far.next, length-append so_far.packets (p ∷ []));
       }
 

@@ -134,18 +134,18 @@ told_chars (c ∷ cs) t ok =
     ∙ sym (append_assoc (encode c) (encodes cs) (bytes_told 0 t))
 
 all_bytes : (bs : List ℕ) → IsBytes bs → AllByRecursion (λ (b : ℕ). b < 256) bs
-all_bytes [] typed = tt
-all_bytes (b ∷ bs) typed = (typed 0, all_bytes bs (λ i. typed (suc i)))
+all_bytes [] in_range = tt
+all_bytes (b ∷ bs) in_range = (in_range 0, all_bytes bs (λ i. in_range (suc i)))
 
 -- the bytes of a text that is shown, and what is told behind it
 pub shown_told : (utf8 : Bool) (bs t : List ℕ) → IsBytes bs
     → bytes_told 0 (shown utf8 bs ++ t) ≡ bs ++ bytes_told 0 t
-shown_told utf8 bs t typed = elim (cases_Bool (utf8 && is_utf8 bs)) [
+shown_told utf8 bs t in_range = elim (cases_Bool (utf8 && is_utf8 bs)) [
   | inl held ↦
       let is = IsUtf8-from_is_utf8 bs (and_parts _ _ held).1 in
       rw held (told_chars (chars bs) t (scalars-chars bs is)
       ∙ ap (λ (l : List ℕ). l ++ bytes_told 0 t) (encodes-chars bs is))
-  | inr other ↦ rw other (told_bytes bs t (all_bytes bs typed))
+  | inr other ↦ rw other (told_bytes bs t (all_bytes bs in_range))
 ]
 
 -- ---- names
@@ -159,19 +159,20 @@ and_false false = refl
 
 mistaken_told : (utf8 : Bool) (path t : List ℕ) → IsBytes path → is_mistaken path ≡ true
     → bytes_told 0 (path_text utf8 path ++ t) ≡ path ++ bytes_told 0 t
-mistaken_told utf8 [] t typed held = cc
-mistaken_told utf8 (p ∷ ps) t typed held =
+mistaken_told utf8 [] t in_range held = cc
+mistaken_told utf8 (p ∷ ps) t in_range held =
     rw held (ap (bytes_told 0) (append_assoc (byte_digits p) (shown utf8 ps) t)
-    ∙ told_digits p (shown utf8 ps ++ t) (typed 0)
-    ∙ ap (λ (l : List ℕ). p ∷ l) (shown_told utf8 ps t (λ i. typed (suc i))))
+    ∙ told_digits p (shown utf8 ps ++ t) (in_range 0)
+    ∙ ap (λ (l : List ℕ). p ∷ l) (shown_told utf8 ps t (λ i. in_range (suc i))))
 
 -- a path of which the first byte is told by its digits
 mistaken_cell : (utf8 : Bool) (path t : List ℕ) → IsBytes path → is_mistaken path ≡ true
     → bytes_told 0 t ≡ [] → name_told (path_text utf8 path ++ t) ≡ Some (pathname path)
-mistaken_cell utf8 path t typed held none =
-    let told : bytes_told 0 (path_text utf8 path ++ t) ≡ path = mistaken_told utf8 path t typed held
+mistaken_cell utf8 path t in_range held none =
+    let found : bytes_told 0 (path_text utf8 path ++ t) ≡ path =
+    mistaken_told utf8 path t in_range held
     ∙ ap (λ (l : List ℕ). path ++ l) none ∙ append-nil path in
-    rw held (ap (λ (l : List ℕ). Some (pathname l)) (rw held at told))
+    rw held (ap (λ (l : List ℕ). Some (pathname l)) (rw held at found))
 
 at_mistaken : (xs : List ℕ) → is_mistaken (64 ∷ xs) ≡ true
 at_mistaken xs = rw (lt-ltb 0 (length (64 ∷ xs)) (omega arith)) refl
@@ -183,21 +184,21 @@ star_told t = refl
 -- a path whose text begins neither so nor so
 plain_cell : (text path : List ℕ) → is_mistaken path ≡ false → bytes_told 0 text ≡ path
     → name_told text ≡ Some (pathname path)
-plain_cell [] path other told = ap (λ (l : List ℕ). Some (pathname l)) told
-plain_cell (c ∷ []) path other told = elim (cases_eq c 64) [
+plain_cell [] path other found = ap (λ (l : List ℕ). Some (pathname l)) found
+plain_cell (c ∷ []) path other found = elim (cases_eq c 64) [
   | inl at ↦
       let begins : 64 ∷ bytes_told 0 [] ≡ path = sym (told_plain 64 [] (λ e. omega (arith, e))
-      (λ e. omega (arith, e))) ∙ subst (λ (x : ℕ). bytes_told 0 (x ∷ []) ≡ path) at told in
+      (λ e. omega (arith, e))) ∙ subst (λ (x : ℕ). bytes_told 0 (x ∷ []) ≡ path) at found in
       let wrong = sym (at_mistaken (bytes_told 0 [])) ∙ ap is_mistaken begins ∙ other in
       absurd (not_false wrong)
   | inr different ↦ rw (ne_eqb c 64 different, and_false (c == 42))
-      (ap (λ (l : List ℕ). Some (pathname l)) told)
+      (ap (λ (l : List ℕ). Some (pathname l)) found)
 ]
-plain_cell (c ∷ d ∷ text) path other told = elim (cases_eq c 64) [
+plain_cell (c ∷ d ∷ text) path other found = elim (cases_eq c 64) [
   | inl at ↦
       let begins : 64 ∷ bytes_told 0 (d ∷ text) ≡ path = sym (told_plain 64 (d ∷ text)
       (λ e. omega (arith, e)) (λ e. omega (arith, e)))
-      ∙ subst (λ (x : ℕ). bytes_told 0 (x ∷ d ∷ text) ≡ path) at told in
+      ∙ subst (λ (x : ℕ). bytes_told 0 (x ∷ d ∷ text) ≡ path) at found in
       let wrong = sym (at_mistaken (bytes_told 0 (d ∷ text))) ∙ ap is_mistaken begins ∙ other in
       absurd (not_false wrong)
   | inr different ↦ elim (cases_Bool ((c == 42) && (d == 32))) [
@@ -207,24 +208,25 @@ plain_cell (c ∷ d ∷ text) path other told = elim (cases_eq c 64) [
         let space : d ≡ 32 = eqb-true d 32 p.1 in
         let alone : 42 ∷ [] ≡ path = sym (star_told text)
         ∙ subst (λ (x : ℕ). bytes_told 0 (42 ∷ x ∷ text) ≡ path) space
-        (subst (λ (x : ℕ). bytes_told 0 (x ∷ d ∷ text) ≡ path) star told) in
+        (subst (λ (x : ℕ). bytes_told 0 (x ∷ d ∷ text) ≡ path) star found) in
         absurd (not_false (ap is_mistaken alone ∙ other))
-    | inr single ↦ rw (single, ne_eqb c 64 different) (ap (λ (l : List ℕ). Some (pathname l)) told)
+    | inr single ↦ rw (single, ne_eqb c 64 different) (ap (λ (l : List ℕ). Some (pathname l)) found)
   ]
 ]
 
 -- the cell of a path tells it
 pub path_cell : (utf8 : Bool) (path t : List ℕ) → IsBytes path → bytes_told 0 t ≡ []
     → name_told (name_cell utf8 (Some (pathname path)) ++ t) ≡ Some (pathname path)
-path_cell utf8 path t typed none = elim (cases_Bool (is_mistaken path)) [
-  | inl held ↦ mistaken_cell utf8 path t typed held none
-  | inr other ↦ rw other (plain_cell (shown utf8 path ++ t) path other (shown_told utf8 path t typed
+path_cell utf8 path t in_range none = elim (cases_Bool (is_mistaken path)) [
+  | inl held ↦ mistaken_cell utf8 path t in_range held none
+  | inr other ↦ rw other (plain_cell (shown utf8 path
+      ++ t) path other (shown_told utf8 path t in_range
       ∙ ap (λ (l : List ℕ). path ++ l) none ∙ append-nil path))
 ]
 
 -- the cell of an abstract name tells it
 pub abstract_cell : (utf8 : Bool) (address t : List ℕ) → IsBytes address → bytes_told 0 t ≡ []
     → name_told (name_cell utf8 (Some (abstract address)) ++ t) ≡ Some (abstract address)
-abstract_cell utf8 address t typed none =
-    ap (λ (l : List ℕ). Some (abstract l)) (shown_told utf8 address t typed
+abstract_cell utf8 address t in_range none =
+    ap (λ (l : List ℕ). Some (abstract l)) (shown_told utf8 address t in_range
     ∙ ap (λ (l : List ℕ). address ++ l) none ∙ append-nil address)

@@ -5,9 +5,9 @@ use Rattle.std.specs.Prelude.{Some, Result, Ok, Err}
 use Rattle.std.specs.Fmt.{digits}
 use Rattle.std.proofs.Common.{inl, inr}
 use Rattle.byteorder.specs.Endian.{little_number}
-use Rattle.netlink_core.specs.Attribute.{Attribute, kind_of}
-use Rattle.netlink_core.specs.Family.{Said, says}
-use Rattle.netlink_core.specs.Format.{read}
+use Rattle.netlink_core.specs.Attribute.{Attribute, attribute_type}
+use Rattle.netlink_core.specs.AttributeSet.{AttributeValue, decodes}
+use Rattle.netlink_core.specs.Layout.{read}
 use Rattle.netlink_core.specs.declared.fault.DecodeError.{DecodeError}
 use Rattle.netlink_core.specs.declared.fault.DecodeError.TheVariants.{BufferTooSmall, WrongLength}
 use Rattle.netlink_core.specs.declared.fault.DecodeError.TheVariants.{NotMultipleOfFour, NotUtf8}
@@ -66,7 +66,7 @@ fault_word _ = codes "refused"
 -- the number of an attribute that is refused, the length of its value, and why
 abbrev pub unread : Attribute → DecodeError → List ℕ
 unread a e =
-    codes " unread:(" ++ decimal (kind_of a) ++ 44 ∷ decimal (length a.value)
+    codes " unread:(" ++ decimal (attribute_type a) ++ 44 ∷ decimal (length a.value)
     ++ 44 ∷ fault_word e ++ 41 ∷ []
 
 -- ---- TCP connections
@@ -91,8 +91,7 @@ abbrev pub options : TcpInfo → List ℕ
 options t =
     flag_detail (codes "ts") 1 t.options ++ flag_detail (codes "sack") 2 t.options
     ++ flag_detail (codes "ecn") 8 t.options ++ flag_detail (codes "ecnseen") 16 t.options
-    ++ flag_detail (codes "fastopen") 32 t.options
-    ++ (if bit_and t.options 4 == 0 then []
+    ++ flag_detail (codes "fastopen") 32 t.options ++ (if bit_and t.options 4 == 0 then []
     else pair_detail (codes "wscale") (t.wscale % 16) (t.wscale / 16))
 
 -- times, sizes and windows that are told where they are not 0
@@ -205,15 +204,15 @@ directions state =
     32 ∷ (if bit_and state 1 == 0 then 60 else 45) ∷ 45
     ∷ (if bit_and state 2 == 0 then 62 else 45) ∷ []
 
--- the number and the length of an attribute of another kind
+-- the number and the length of an attribute of another type
 abbrev pub unknown : Attribute → List ℕ
-unknown a = pair_detail (codes "unknown") (kind_of a) (length a.value)
+unknown a = pair_detail (codes "unknown") (attribute_type a) (length a.value)
 
 -- What an attribute of a reply about an IPv4 or IPv6 socket tells, in the order of its family: the
 -- memory as older kernels tell it, the connection, the congestion control algorithm, the type of
 -- service, the traffic class, the memory, the directions, the protocol, whether for IPv6 alone, the
--- mark, the class; or an attribute of another kind.
-abbrev pub inet_text : Options → Attribute → Said inet → List ℕ
+-- mark, the class; or an attribute of another type.
+abbrev pub inet_text : Options → Attribute → AttributeValue inet → List ℕ
 inet_text o a (inl m) = legacy_memory m
 inet_text o a (inr (inl t)) = connection t
 inet_text o a (inr (inr (inl text))) = codes " cong:" ++ shown o.utf8 text
@@ -231,8 +230,8 @@ inet_text o a (inr (inr (inr (inr (inr (inr (inr (inr (inr (inr (inl n))))))))))
 inet_text o a (inr (inr (inr (inr (inr (inr (inr (inr (inr (inr (inr other))))))))))) = unknown a
 
 -- What one of a reply about a UNIX socket tells beside its columns: the file, the inodes of
--- pending connections, the memory, the directions; or an attribute of another kind.
-abbrev pub unix_text : Attribute → Said unix → List ℕ
+-- pending connections, the memory, the directions; or an attribute of another type.
+abbrev pub unix_text : Attribute → AttributeValue unix → List ℕ
 unix_text a (inl name) = []
 unix_text a (inr (inl v)) = pair_detail (codes "vfs") v.inode v.device
 unix_text a (inr (inr (inl peer))) = []
@@ -245,13 +244,13 @@ unix_text a (inr (inr (inr (inr (inr (inr (inr other))))))) = unknown a
 -- the words of an attribute's value, or why it is refused
 abbrev pub words_of : {A : Type 0} → (Attribute → A → List ℕ) → Attribute
     → Result A DecodeError → List ℕ
-words_of text a (Ok said) = text a said
+words_of text a (Ok value) = text a value
 words_of text a (Err e) = unread a e
 
 -- what is told of an attribute
 abbrev pub detail_of : Options → Sockets → Attribute → List ℕ
-detail_of o Unix a = words_of unix_text a (says unix a)
-detail_of o Inet a = words_of (inet_text o) a (says inet a)
+detail_of o Unix a = words_of unix_text a (decodes unix a)
+detail_of o Inet a = words_of (inet_text o) a (decodes inet a)
 
 -- the detail that attributes of a kind tell of a UNIX socket: 5 is UNIX_DIAG_MEMINFO
 abbrev pub detail_of_unix : ℕ → Detail
@@ -272,13 +271,13 @@ detail_under Unix kind = detail_of_unix kind
 detail_under Inet kind = detail_of_inet kind
 
 -- what is told of an attribute, where it is asked for
-abbrev pub shown_detail : Options → Sockets → Attribute → List ℕ
-shown_detail o sockets a =
-    if shows o (detail_under sockets (kind_of a)) then detail_of o sockets a else []
+abbrev pub detail_if_asked : Options → Sockets → Attribute → List ℕ
+detail_if_asked o sockets a =
+    if shows o (detail_under sockets (attribute_type a)) then detail_of o sockets a else []
 
 -- what is told of a piece: nothing of one that is no attribute
 abbrev pub piece_detail : Options → Sockets → Piece → List ℕ
-piece_detail o sockets (Ok a) = shown_detail o sockets a
+piece_detail o sockets (Ok a) = detail_if_asked o sockets a
 piece_detail o sockets (Err e) = []
 
 -- the timers by their numbers, as ss(8) names them
@@ -308,18 +307,18 @@ abbrev pub no_timer : TimerWords
 no_timer = record { class = 0; retransmits = 0; expires = 0 }
 
 -- the timer, where it is asked for
-abbrev pub shown_timer : Options → TimerWords → List ℕ
-shown_timer o timer = if shows o Timer then timer_text timer else []
+abbrev pub timer_if_asked : Options → TimerWords → List ℕ
+timer_if_asked o timer = if shows o Timer then timer_text timer else []
 
 -- the cookie of eight bytes, where it is asked for
-abbrev pub shown_cookie : Options → List ℕ → List ℕ
-shown_cookie o cookie =
+abbrev pub cookie_if_asked : Options → List ℕ → List ℕ
+cookie_if_asked o cookie =
     if shows o Extended then codes " sk:" ++ digits 16 false (little_number 8 cookie) else []
 
 -- what is told beside the columns: the timer, the cookie, and what each attribute tells
 abbrev pub details : Options → Sockets → TimerWords → List ℕ → List Piece → List ℕ
 details o sockets timer cookie given =
-    shown_timer o timer ++ shown_cookie o cookie ++ flat_map (piece_detail o sockets) given
+    timer_if_asked o timer ++ cookie_if_asked o cookie ++ flat_map (piece_detail o sockets) given
 
 -- a line of its own behind a tab, or the same line where one is asked for
 abbrev pub separator : Options → List ℕ

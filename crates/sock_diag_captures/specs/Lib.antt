@@ -5,7 +5,7 @@ pub mod Requests
 pub mod Escapes
 pub mod Options
 pub mod Table
-pub mod Shown
+pub mod CellsModel
 pub mod Details
 pub mod RequestLine
 pub mod Listing

@@ -6,14 +6,14 @@ use Rattle.std.specs.Prelude.{length, flat_map, Option, None, Some, option_map, 
 use Rattle.byteorder.specs.Endian.{big_number, little_number}
 use Rattle.std.specs.List.{AllByRecursion}
 use Rattle.netlink_core.specs.Datagram.{CutIntoMessages}
-use Rattle.netlink_core.specs.Format.{read}
+use Rattle.netlink_core.specs.Layout.{read}
 use Rattle.netlink_core.specs.Header.{HasHeader}
 use Rattle.netlink_core.specs.declared.fault.DecodeError.{DecodeError}
 use Rattle.netlink_core.specs.declared.fault.DecodeError.TheVariants.{UnknownFamily}
 use Rattle.netlink_core.specs.declared.header.NetlinkHeader.{NetlinkHeader}
 use Rattle.sock_diag_records.specs.InetResponse.{inet_response_header}
 use Rattle.sock_diag_records.specs.UnixResponseHeader.{unix_response_header}
-use Rattle.netlink_packet_sock_diag.specs.Message.{MessageKind, inet_response, reply_kind}
+use Rattle.netlink_packet_sock_diag.specs.Message.{MessageKind, inet_response, response_kind}
 use Rattle.netlink_packet_sock_diag.specs.Message.{unix_response}
 use Rattle.sock_diag_captures.specs.Capture.{Recorded}
 use Rattle.sock_diag_captures.specs.Cooked.{IsOfSockDiag}
@@ -25,10 +25,10 @@ use Rattle.sock_diag_captures.specs.declared.options.Options.{Options}
 use Rattle.sock_diag_captures.specs.declared.requests.Asked.{Asked}
 use Rattle.sock_diag_captures.specs.Details.{timer_in}
 use Rattle.sock_diag_captures.specs.Table.{inet_lines, unix_lines}
-use Rattle.sock_diag_captures.specs.declared.list.Complaint.{Complaint}
-use Rattle.sock_diag_captures.specs.declared.list.Complaint.TheVariants.{Refused, Answered, Lost}
-use Rattle.sock_diag_captures.specs.declared.list.Complaint.TheVariants.{Invalid, NoEntry}
-use Rattle.netlink_core.specs.Envelope.{number_in_front}
+use Rattle.sock_diag_captures.specs.declared.list.Issue.{Issue}
+use Rattle.sock_diag_captures.specs.declared.list.Issue.TheVariants.{Refused, Answered, Lost}
+use Rattle.sock_diag_captures.specs.declared.list.Issue.TheVariants.{Invalid, NoEntry}
+use Rattle.netlink_core.specs.Envelope.{leading_number}
 
 -- ---- replies
 
@@ -77,7 +77,7 @@ is_control t = nat_le 1 t && nat_le t 4
 -- protocol that was asked for
 abbrev pub lines_under : Options → Option ℕ → ℕ → List ℕ → List ℕ
 lines_under o protocol t payload =
-    if is_control t then [] else kind_lines o protocol (reply_kind payload t) payload
+    if is_control t then [] else kind_lines o protocol (response_kind payload t) payload
 
 -- the protocol that a message answers for, by its sequence number and its port
 abbrev pub protocol_for : List Asked → List ℕ → Option ℕ
@@ -95,40 +95,40 @@ below_zero (Some (negsuc n)) = n + 1
 
 -- that of the payload of an error or of the end of a dump
 abbrev pub errno_in : List ℕ → ℕ
-errno_in payload = below_zero (number_in_front payload)
+errno_in payload = below_zero (leading_number payload)
 
 -- what is told of an error: ENOENT is 2, and EINVAL 22
-abbrev pub error_complaint : ℕ → Option Complaint
-error_complaint n =
+abbrev pub error_issue : ℕ → Option Issue
+error_issue n =
     if n == 0 then None else if n == 2 then Some NoEntry else if n == 22 then Some Invalid
     else Some (Answered n)
 
 -- what is told of a message of such a type: that it is an error, or says that data was lost
-abbrev pub control_complaint : ℕ → List ℕ → Option Complaint
-control_complaint t payload =
-    if t == 1 then None else if t == 4 then Some Lost else error_complaint (errno_in payload)
+abbrev pub control_issue : ℕ → List ℕ → Option Issue
+control_issue t payload =
+    if t == 1 then None else if t == 4 then Some Lost else error_issue (errno_in payload)
 
 -- what is told of a message of a type, also that it is refused
-abbrev pub complaint_under : ℕ → List ℕ → Option Complaint
-complaint_under t payload =
-    if is_control t then control_complaint t payload
-    else option_map Refused (kind_fault (reply_kind payload t) payload)
+abbrev pub issue_under : ℕ → List ℕ → Option Issue
+issue_under t payload =
+    if is_control t then control_issue t payload
+    else option_map Refused (kind_fault (response_kind payload t) payload)
 
 -- what is told of a message
-abbrev pub message_complaint : List ℕ → Option Complaint
-message_complaint m = complaint_under (type_of m) (drop 16 m)
+abbrev pub message_issue : List ℕ → Option Issue
+message_issue m = issue_under (type_of m) (drop 16 m)
 
 -- what is told, if anything is, says of nothing that it is missing
-abbrev pub is_nothing_missing : Option Complaint → Bool
+abbrev pub is_nothing_missing : Option Issue → Bool
 is_nothing_missing None = true
 is_nothing_missing (Some NoEntry) = true
 is_nothing_missing (Some Invalid) = true
-is_nothing_missing (Some complaint) = false
+is_nothing_missing (Some issue) = false
 
 -- the message hasn't NLM_F_DUMP_INTR, 16, among its flags, and what is told of it is at most a note
 abbrev pub IsPlain : List ℕ → Type 0
 IsPlain m = (bit_and (little_number 2 (drop 6 m)) 16 ≡ 0)
-    × IsTrue (is_nothing_missing (message_complaint m))
+    × IsTrue (is_nothing_missing (message_issue m))
 
 -- ---- datagrams and packets
 
@@ -155,8 +155,7 @@ abbrev pub ListsDatagram : Options → List Asked → PacketHeader → List ℕ 
     → Type 0
 ListsDatagram o asked header datagram before after is_clean =
     ((IsRequest datagram → ⊥) × Lists o asked datagram before after is_clean)
-    ⊎ (IsRequest datagram × (after ≡ before ++ shown_request o header datagram)
-    × (is_clean ≡ true))
+    ⊎ (IsRequest datagram × (after ≡ before ++ shown_request o header datagram) × (is_clean ≡ true))
 
 -- The requests after a packet: those before, and where it is one of sock_diag(7), the one that its
 -- datagram begins with.

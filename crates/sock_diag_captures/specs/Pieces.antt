@@ -2,9 +2,9 @@
 use Rattle.std.specs.Prelude.{ℕ, zero, suc, ◌+◌, ◌-◌, ◌==◌, nat_lt, if◌then◌else◌, List, [], ◌∷◌}
 use Rattle.std.specs.Prelude.{length, Option, None, Some, option_and_then, Result, Ok, Err}
 use Rattle.byteorder.specs.Endian.{little_number}
-use Rattle.netlink_core.specs.Attribute.{Attribute, fill, kind_of}
-use Rattle.netlink_core.specs.Family.{Family, Said, ValueAt, content, says}
-use Rattle.netlink_core.specs.Faults.{said_as}
+use Rattle.netlink_core.specs.Attribute.{Attribute, fill, attribute_type}
+use Rattle.netlink_core.specs.AttributeSet.{AttributeSet, AttributeValue, ValueAt, content, decodes}
+use Rattle.netlink_core.specs.Faults.{map_ok}
 use Rattle.netlink_core.specs.Walk.{attribute_of, bytes_left}
 use Rattle.netlink_core.specs.declared.attribute.NlaBuffer.{NlaBuffer}
 use Rattle.netlink_core.specs.declared.attribute.NlasIterator.{NlasIterator}
@@ -12,20 +12,20 @@ use Rattle.netlink_core.specs.declared.fault.DecodeError.{DecodeError}
 use Rattle.netlink_core.specs.declared.fault.DecodeError.TheVariants.{AttributeHeaderCut}
 use Rattle.netlink_core.specs.declared.fault.DecodeError.TheVariants.{AttributeLengthUnder4}
 use Rattle.netlink_core.specs.declared.fault.DecodeError.TheVariants.{AttributeLengthPast}
-use Rattle.attribute_lists.specs.AttributesIn.{front_attribute}
+use Rattle.attribute_lists.specs.AttributesIn.{leading_attribute}
 
 -- an attribute, or why none stands there
 abbrev pub Piece : Type 0
 Piece = Result Attribute DecodeError
 
--- the attribute in front, or the first reason why none stands there
+-- the first attribute, or the first reason why none stands there
 abbrev pub front_piece : List ℕ → Piece
 front_piece bytes =
     let word = little_number 2 bytes in
     if nat_lt (length bytes) 4 then Err (AttributeHeaderCut (length bytes))
     else if nat_lt word 4 then Err (AttributeLengthUnder4 word)
     else if nat_lt (length bytes) word then Err (AttributeLengthPast word (length bytes))
-    else Ok (front_attribute bytes)
+    else Ok (leading_attribute bytes)
 
 -- nothing follows a fault
 abbrev pub followed : Piece → List Piece → List Piece
@@ -40,9 +40,9 @@ pieces zero (byte ∷ bytes) =
     followed (front_piece (byte ∷ bytes)) (pieces (word + fill word - 1) bytes)
 pieces (suc n) (byte ∷ bytes) = pieces n bytes
 
--- what is seen of an item of a walk
+-- the model of an item of a walk
 abbrev pub piece_of : Result NlaBuffer DecodeError → Piece
-piece_of item = said_as attribute_of item
+piece_of item = map_ok attribute_of item
 
 -- the pieces that a walk has not given yet
 abbrev pub pieces_left : NlasIterator → List Piece
@@ -57,14 +57,15 @@ framing_fault (Err e ∷ later) = Some e
 -- the first attribute of a kind
 abbrev pub first_of_kind : ℕ → List Piece → Option Attribute
 first_of_kind k [] = None
-first_of_kind k (Ok a ∷ later) = if kind_of a == k then Some a else first_of_kind k later
+first_of_kind k (Ok a ∷ later) = if attribute_type a == k then Some a else first_of_kind k later
 first_of_kind k (Err e ∷ later) = first_of_kind k later
 
 -- the value of a kind that was read
-abbrev pub value_read : (F : Family) → (k : ℕ) → Result (Said F) DecodeError → Option (ValueAt F k)
-value_read F k (Ok said) = content F k said
+abbrev pub value_read : (F : AttributeSet) → (k : ℕ) → Result (AttributeValue F) DecodeError
+    → Option (ValueAt F k)
+value_read F k (Ok value) = content F k value
 value_read F k (Err e) = None
 
 -- what the first attribute of a kind says, where it can be read
-abbrev pub value_told : (F : Family) → (k : ℕ) → List Piece → Option (ValueAt F k)
-value_told F k given = option_and_then (λ a. value_read F k (says F a)) (first_of_kind k given)
+abbrev pub first_value : (F : AttributeSet) → (k : ℕ) → List Piece → Option (ValueAt F k)
+first_value F k given = option_and_then (λ a. value_read F k (decodes F a)) (first_of_kind k given)

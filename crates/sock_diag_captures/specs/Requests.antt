@@ -8,16 +8,16 @@ use Rattle.sock_diag_captures.specs.declared.requests.Asked.{Asked}
 
 -- the protocol in the byte at 17, or the one that an attribute of the kind 3,
 -- INET_DIAG_REQ_PROTOCOL, tells in four bytes
-abbrev pub protocol_told : ℕ → Option Attribute → ℕ
-protocol_told byte None = byte
-protocol_told byte (Some a) = if length a.value == 4 then little_number 4 a.value else byte
+abbrev pub protocol_by : ℕ → Option Attribute → ℕ
+protocol_by byte None = byte
+protocol_by byte (Some a) = if length a.value == 4 then little_number 4 a.value else byte
 
 -- what a request with both headers, 72 bytes, asks for
 abbrev pub inet_asked : List ℕ → Asked
 inet_asked r = record {
   sequence_number = little_number 4 (drop 8 r);
   port_number = little_number 4 (drop 12 r);
-  protocol = protocol_told (slice_index r 17) (first_of_kind 3 (pieces 0 (drop 72 r)));
+  protocol = protocol_by (slice_index r 17) (first_of_kind 3 (pieces 0 (drop 72 r)));
   family = slice_index r 16;
   states = little_number 4 (drop 20 r);
 }
@@ -30,7 +30,7 @@ request_in r =
     then None
     else if (slice_index r 16 == 2) || (slice_index r 16 == 10) then Some (inet_asked r) else None
 
--- that of the message in front of a datagram, whose length counts no more than is there
+-- that of the first message of a datagram, whose length counts no more than is there
 abbrev pub asked_in : List ℕ → Option Asked
 asked_in b =
     if nat_lt (length b) 72 then None

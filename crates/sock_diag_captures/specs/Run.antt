@@ -14,29 +14,29 @@ use Rattle.sock_diag_captures.specs.declared.options.Options.{Options}
 use Rattle.sock_diag_captures.specs.declared.requests.Asked.{Asked}
 
 -- the lines of a packet, and whether it was listed whole
-pub record Told : Type 0 where
+pub record ListedPacket : Type 0 where
   pub lines : List ℕ
   pub whole : Bool
 
 -- the lines
-abbrev pub lines_told : Told → List ℕ
-lines_told told = told.lines
+abbrev pub lines_of_packet : ListedPacket → List ℕ
+lines_of_packet listings = listings.lines
 
 -- the packet was listed whole
-abbrev pub IsWhole : Told → Type 0
-IsWhole told = IsTrue told.whole
+abbrev pub IsWhole : ListedPacket → Type 0
+IsWhole listings = IsTrue listings.whole
 
 -- a packet by itself is listed so, where these requests were seen
-abbrev pub IsListed : Options → List Asked → Recorded → Told → Type 0
-IsListed o asked packet told = ListsRecorded o asked packet [] told.lines told.whole
+abbrev pub IsListed : Options → List Asked → Recorded → ListedPacket → Type 0
+IsListed o asked packet listings = ListsRecorded o asked packet [] listings.lines listings.whole
 
 -- packets are listed so one after the other, where these requests were seen in front of them
-abbrev pub AreListed : Options → List Asked → List Recorded → List Told → Type 0
+abbrev pub AreListed : Options → List Asked → List Recorded → List ListedPacket → Type 0
 AreListed o asked [] [] = ⊤
-AreListed o asked [] (told ∷ later) = ⊥
+AreListed o asked [] (listings ∷ later) = ⊥
 AreListed o asked (packet ∷ packets) [] = ⊥
-AreListed o asked (packet ∷ packets) (told ∷ later) =
-    IsListed o (asked_after asked packet.bytes) packet told
+AreListed o asked (packet ∷ packets) (listings ∷ later) =
+    IsListed o (asked_after asked packet.bytes) packet listings
     × AreListed o (asked_after asked packet.bytes) packets later
 
 -- the bytes are these packets one after the other, each behind its header; R says which header a
@@ -54,14 +54,14 @@ pub record IsTable (o : Options) (bytes lines : List ℕ) (is_whole : Bool) : Ty
   pub header : List ℕ
   pub records : List ℕ
   pub packets : List Recorded
-  pub told : List Told
+  pub listings : List ListedPacket
   pub parts : bytes ≡ header ++ records
   pub long : length header ≡ 24
   pub is_header : IsFileHeader header file
   pub are_packets : ArePackets (IsRecord file) records packets
-  pub listed : AreListed o [] packets told
-  pub written : lines ≡ flat_map lines_told told
-  pub whole : IsTrue is_whole ↔ AllByRecursion IsWhole told
+  pub listed : AreListed o [] packets listings
+  pub written : lines ≡ flat_map lines_of_packet listings
+  pub whole : IsTrue is_whole ↔ AllByRecursion IsWhole listings
 
 -- Of a run: the bytes that are left to read and held as written, before and after it, where they
 -- are known, and the heading.

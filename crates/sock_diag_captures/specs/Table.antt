@@ -12,7 +12,7 @@ use Rattle.sock_diag_attributes.specs.UnixAttributes.{unix}
 use Rattle.sock_diag_captures.specs.Details.{details, no_timer, set_apart}
 use Rattle.sock_diag_captures.specs.Escapes.{byte_digits, bytes_told, shown}
 use Rattle.sock_diag_captures.specs.Options.{lists_protocol, lists_unix}
-use Rattle.sock_diag_captures.specs.Pieces.{Piece, value_told}
+use Rattle.sock_diag_captures.specs.Pieces.{Piece, first_value}
 use Rattle.sock_diag_captures.specs.declared.details.Sockets.TheVariants.{Inet, Unix}
 use Rattle.sock_diag_captures.specs.declared.details.TimerWords.{TimerWords}
 use Rattle.sock_diag_captures.specs.declared.options.Options.{Options}
@@ -127,7 +127,7 @@ line c local peer = first_columns c ++ column 30 local ++ peer
 -- the columns of a UNIX socket, whose name, peer and queues attributes tell
 abbrev pub unix_line : Options → UnixResponseHeader → List Piece → List ℕ
 unix_line o h given =
-    let queues = value_told unix 4 given in
+    let queues = first_value unix 4 given in
     line (record {
       kind = unix_kind h.kind;
       state = h.state;
@@ -135,7 +135,7 @@ unix_line o h given =
       send_queue = option_map (λ ns. ns.1) queues;
       inode = h.inode;
       uid = None;
-    }) (name_cell o.utf8 (value_told unix 0 given)) (peer_cell (value_told unix 2 given))
+    }) (name_cell o.utf8 (first_value unix 0 given)) (peer_cell (first_value unix 2 given))
 
 -- the columns of an IPv4 or IPv6 socket of this protocol
 abbrev pub inet_line : Option ℕ → InetResponseHeader → List ℕ

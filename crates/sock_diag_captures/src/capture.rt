@@ -258,7 +258,7 @@ impl FileHeader {
         input: &mut R,
         packet: &mut Vec<u8>,
     ) -> Result<Option<PacketHeader>, CaptureError>
-        ensures read { IfOk result (λ told. MatchOption told
+        ensures read { IfOk result (λ found. MatchOption found
             (IsAtEnd (R.left input.new) × Keeps (R.left input.old) (R.left input.new))
             (λ told_header. (header : List ℕ)
             × IsRecord self.now header (recorded packet.new.items told_header)

@@ -4,7 +4,7 @@ ghost use Rattle.std.specs.Prelude.{◌≡◌, ◌++◌, ◌∷◌, [], ◌+◌,
 ghost use Rattle.std.specs.Prelude.{false, replicate, vec_len, OnOk, option_map};
 ghost use Rattle.std.specs.Fmt.{digits};
 ghost use Rattle.sock_diag_attributes.specs.Name.{abstract, pathname};
-ghost use Rattle.sock_diag_attributes.specs.SeenName.{viewed_name};
+ghost use Rattle.sock_diag_attributes.specs.NameModel.{name_view_model};
 ghost use Rattle.sock_diag_captures.specs.Escapes.{byte_digits, bytes_told, escaped};
 ghost use Rattle.sock_diag_captures.specs.Table.{column, endpoint, host, is_mistaken, name_cell};
 ghost use Rattle.sock_diag_captures.specs.Table.{name_told, number_cell, peer_cell, port_text};
@@ -106,7 +106,7 @@ pub(crate) fn push_name_column(
     name: Option<NameView<'_>>,
 ) -> Result<(), AllocError>
     ensures { OnOk result (text.new.items ≡ text.old.items
-        ++ column width (name_cell utf8 (option_map viewed_name name.entry))) }
+        ++ column width (name_cell utf8 (option_map name_view_model name.entry))) }
 {
     let start = text.len();
     match name {

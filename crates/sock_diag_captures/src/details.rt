@@ -2,14 +2,14 @@
 //! read.
 
 ghost use Rattle.std.specs.Prelude.{◌≡◌, ◌≤◌, ◌++◌, codes, flat_map, length, OnOk};
-ghost use Rattle.netlink_core.specs.Family.{says};
-ghost use Rattle.netlink_core.specs.Format.{read};
+ghost use Rattle.netlink_core.specs.AttributeSet.{decodes};
+ghost use Rattle.netlink_core.specs.Layout.{read};
 ghost use Rattle.netlink_core.specs.Walk.{attribute_of};
 ghost use Rattle.sock_diag_values.specs.MemInfo.{mem_info};
 ghost use Rattle.sock_diag_attributes.specs.InetAttributes.{inet};
-ghost use Rattle.sock_diag_attributes.specs.SeenInet.{viewed_nla as viewed_inet};
-ghost use Rattle.sock_diag_attributes.specs.SeenNumbers.{viewed_numbers};
-ghost use Rattle.sock_diag_attributes.specs.SeenUnix.{viewed_nla as viewed_unix};
+ghost use Rattle.sock_diag_attributes.specs.InetModel.{nla_view_model as inet_view_model};
+ghost use Rattle.sock_diag_attributes.specs.NumbersModel.{numbers_view_model};
+ghost use Rattle.sock_diag_attributes.specs.UnixModel.{nla_view_model as unix_view_model};
 ghost use Rattle.sock_diag_attributes.specs.UnixAttributes.{unix};
 ghost use Rattle.sock_diag_captures.specs.Details.{ages, connection, counts, detail};
 ghost use Rattle.sock_diag_captures.specs.Details.{detail_of, detail_of_inet, detail_of_unix};
@@ -20,8 +20,8 @@ ghost use Rattle.sock_diag_captures.specs.Details.{memory_in, memory_limits, mem
 ghost use Rattle.sock_diag_captures.specs.Details.{memory_used};
 ghost use Rattle.sock_diag_captures.specs.Details.{memory_received, options, pair_detail};
 ghost use Rattle.sock_diag_captures.specs.Details.{piece_detail, rates, receiver, separator};
-ghost use Rattle.sock_diag_captures.specs.Details.{set_apart, shown_cookie, shown_detail};
-ghost use Rattle.sock_diag_captures.specs.Details.{shown_timer, sizes};
+ghost use Rattle.sock_diag_captures.specs.Details.{set_apart, cookie_if_asked, detail_if_asked};
+ghost use Rattle.sock_diag_captures.specs.Details.{timer_if_asked, sizes};
 ghost use Rattle.sock_diag_captures.specs.Details.{some_detail, timer_in, timer_name, timer_text};
 ghost use Rattle.sock_diag_captures.specs.Details.{times, traffic, unix_text, unknown, unread};
 ghost use Rattle.sock_diag_captures.specs.Details.{words_of};
@@ -142,7 +142,7 @@ fn push_shown_timer(
     options: Options,
     timer: &TimerWords,
 ) -> Result<(), AllocError>
-    ensures { OnOk result (text.new.items ≡ text.old.items ++ shown_timer options timer.now) }
+    ensures { OnOk result (text.new.items ≡ text.old.items ++ timer_if_asked options timer.now) }
 {
     if !options.shows(Detail::Timer) {
         return Ok(());
@@ -156,7 +156,7 @@ fn push_shown_cookie(
     options: Options,
     cookie: &[u8; 8],
 ) -> Result<(), AllocError>
-    ensures { OnOk result (text.new.items ≡ text.old.items ++ shown_cookie options cookie.now) }
+    ensures { OnOk result (text.new.items ≡ text.old.items ++ cookie_if_asked options cookie.now) }
 {
     if !options.shows(Detail::Extended) {
         return Ok(());
@@ -221,7 +221,7 @@ fn push_shown_attribute(
     nla: &NlaBuffer<'_>,
 ) -> Result<(), AllocError>
     ensures { OnOk result (text.new.items ≡ text.old.items
-        ++ shown_detail options sockets (attribute_of nla.now)) }
+        ++ detail_if_asked options sockets (attribute_of nla.now)) }
 {
     if !options.shows(detail_of_kind(sockets, nla.kind())) {
         return Ok(());
@@ -283,7 +283,7 @@ fn push_attribute(
 /// Adds what an attribute of a UNIX socket tells beside its columns, or that it is refused.
 fn push_unix_attribute(text: &mut Vec<u8>, nla: &NlaBuffer<'_>) -> Result<(), AllocError>
     ensures { OnOk result (text.new.items ≡ text.old.items
-        ++ words_of unix_text (attribute_of nla.now) (says unix (attribute_of nla.now))) }
+        ++ words_of unix_text (attribute_of nla.now) (decodes unix (attribute_of nla.now))) }
 {
     match UnixView::parse(nla) {
         Ok(view) => push_unix_value(text, nla, &view),
@@ -298,7 +298,8 @@ fn push_inet_attribute(
     nla: &NlaBuffer<'_>,
 ) -> Result<(), AllocError>
     ensures { OnOk result (text.new.items ≡ text.old.items
-        ++ words_of (inet_text options) (attribute_of nla.now) (says inet (attribute_of nla.now))) }
+        ++ words_of (inet_text options) (attribute_of nla.now)
+        (decodes inet (attribute_of nla.now))) }
 {
     match InetView::parse(nla) {
         Ok(view) => push_inet_value(text, options, nla, &view),
@@ -347,7 +348,7 @@ fn push_unix_value(
     view: &UnixView<'_>,
 ) -> Result<(), AllocError>
     ensures { OnOk result (text.new.items ≡ text.old.items
-        ++ unix_text (attribute_of nla.now) (viewed_unix view.now)) }
+        ++ unix_text (attribute_of nla.now) (unix_view_model view.now)) }
 {
     match view {
         UnixView::Name(_) | UnixView::Peer(_) | UnixView::ReceiveQueueLength(_, _) => Ok(()),
@@ -367,7 +368,7 @@ fn push_inet_value(
     view: &InetView<'_>,
 ) -> Result<(), AllocError>
     ensures { OnOk result (text.new.items ≡ text.old.items
-        ++ inet_text options (attribute_of nla.now) (viewed_inet view.now)) }
+        ++ inet_text options (attribute_of nla.now) (inet_view_model view.now)) }
 {
     match view {
         InetView::LegacyMemInfo(memory) => push_legacy_memory(text, memory),
@@ -397,7 +398,7 @@ fn push_congestion(text: &mut Vec<u8>, options: Options, name: &str) -> Result<(
 /// Adds the inodes of pending connections.
 fn push_pending(text: &mut Vec<u8>, inodes: &NumbersView<'_>) -> Result<(), AllocError>
     ensures { OnOk result (text.new.items ≡ text.old.items
-        ++ flat_map (detail (codes "pending")) (viewed_numbers inodes.now)) }
+        ++ flat_map (detail (codes "pending")) (numbers_view_model inodes.now)) }
 {
     for inode in inodes.iter() {
         push_detail(text, b"pending", inode.into())?;
@@ -423,7 +424,7 @@ fn push_directions(text: &mut Vec<u8>, state: u8) -> Result<(), AllocError>
     })?)
 }
 
-/// Adds the number and the length of an attribute of another kind.
+/// Adds the number and the length of an attribute of another type.
 fn push_unknown(text: &mut Vec<u8>, nla: &NlaBuffer<'_>) -> Result<(), AllocError>
     ensures { OnOk result (text.new.items ≡ text.old.items ++ unknown (attribute_of nla.now)) }
 {
@@ -447,14 +448,14 @@ fn push_memory_in(text: &mut Vec<u8>, value: &[u8]) -> Result<(), AllocError>
 }
 
 /// Adds the memory of a socket, in bytes, as ss(8) does.
-fn push_memory(text: &mut Vec<u8>, told: &MemInfo) -> Result<(), AllocError>
-    ensures { OnOk result (text.new.items ≡ text.old.items ++ memory told.now) }
+fn push_memory(text: &mut Vec<u8>, info: &MemInfo) -> Result<(), AllocError>
+    ensures { OnOk result (text.new.items ≡ text.old.items ++ memory info.now) }
 {
-    push_received(text, told.receive_queue.into())?;
-    push_limits_of_memory(text, told)?;
-    push_used_memory(text, told)?;
-    push_part(text, b"bl", told.backlog_queue_length)?;
-    push_part(text, b"d", told.drops)?;
+    push_received(text, info.receive_queue.into())?;
+    push_limits_of_memory(text, info)?;
+    push_used_memory(text, info)?;
+    push_part(text, b"bl", info.backlog_queue_length)?;
+    push_part(text, b"d", info.drops)?;
     Ok(text.push(b')')?)
 }
 
@@ -467,32 +468,32 @@ fn push_received(text: &mut Vec<u8>, number: u64) -> Result<(), AllocError>
 }
 
 /// Adds the most memory that a socket may take, and that of what was handed down.
-fn push_limits_of_memory(text: &mut Vec<u8>, told: &MemInfo) -> Result<(), AllocError>
-    ensures { OnOk result (text.new.items ≡ text.old.items ++ memory_limits told.now) }
+fn push_limits_of_memory(text: &mut Vec<u8>, info: &MemInfo) -> Result<(), AllocError>
+    ensures { OnOk result (text.new.items ≡ text.old.items ++ memory_limits info.now) }
 {
-    push_part(text, b"rb", Some(told.receive_queue_max))?;
-    push_part(text, b"t", Some(told.bottom_send_queues))?;
-    push_part(text, b"tb", Some(told.send_queue_max))
+    push_part(text, b"rb", Some(info.receive_queue_max))?;
+    push_part(text, b"t", Some(info.bottom_send_queues))?;
+    push_part(text, b"tb", Some(info.send_queue_max))
 }
 
 /// Adds the memory that a socket holds.
-fn push_used_memory(text: &mut Vec<u8>, told: &MemInfo) -> Result<(), AllocError>
-    ensures { OnOk result (text.new.items ≡ text.old.items ++ memory_used told.now) }
+fn push_used_memory(text: &mut Vec<u8>, info: &MemInfo) -> Result<(), AllocError>
+    ensures { OnOk result (text.new.items ≡ text.old.items ++ memory_used info.now) }
 {
-    push_part(text, b"f", Some(told.cache))?;
-    push_part(text, b"w", Some(told.send_queue))?;
-    push_part(text, b"o", Some(told.options))
+    push_part(text, b"f", Some(info.cache))?;
+    push_part(text, b"w", Some(info.send_queue))?;
+    push_part(text, b"o", Some(info.options))
 }
 
 /// Adds the memory of a socket as older kernels tell it, in bytes.
-fn push_legacy_memory(text: &mut Vec<u8>, told: &LegacyMemInfo) -> Result<(), AllocError>
-    ensures { OnOk result (text.new.items ≡ text.old.items ++ legacy_memory told.now) }
+fn push_legacy_memory(text: &mut Vec<u8>, info: &LegacyMemInfo) -> Result<(), AllocError>
+    ensures { OnOk result (text.new.items ≡ text.old.items ++ legacy_memory info.now) }
 {
     text.extend_from_slice(b" mem:(r")?;
-    push_number(text, told.receive_queue.into())?;
-    push_part(text, b"w", Some(told.bottom_send_queue))?;
-    push_part(text, b"f", Some(told.cache))?;
-    push_part(text, b"t", Some(told.send_queue))?;
+    push_number(text, info.receive_queue.into())?;
+    push_part(text, b"w", Some(info.bottom_send_queue))?;
+    push_part(text, b"f", Some(info.cache))?;
+    push_part(text, b"t", Some(info.send_queue))?;
     Ok(text.push(b')')?)
 }
 

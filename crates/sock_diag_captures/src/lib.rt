@@ -24,7 +24,7 @@ mod words;
 
 pub use capture::{ByteOrder, CaptureError, FileHeader, Packet, PacketHeader, TimeUnit};
 pub use line::HEADING;
-pub use list::{Complaint, Written, list_packet};
+pub use list::{Issue, Written, list_packet};
 pub use options::Options;
 pub use requests::{Asked, Requests};
 use std::alloc::Global;

@@ -1,17 +1,17 @@
 //! The lines that replies tell of.
 
 ghost use Rattle.std.specs.Prelude.{◌≡◌, ◌++◌, None, Some, drop, IfOk, OnOk, option_map};
-ghost use Rattle.netlink_core.specs.Format.{read};
+ghost use Rattle.netlink_core.specs.Layout.{read};
 ghost use Rattle.sock_diag_records.specs.InetResponse.{inet_response_header};
 ghost use Rattle.sock_diag_records.specs.UnixResponseHeader.{unix_response_header};
-ghost use Rattle.sock_diag_attributes.specs.SeenName.{viewed_name};
+ghost use Rattle.sock_diag_attributes.specs.NameModel.{name_view_model};
 ghost use Rattle.sock_diag_attributes.specs.UnixAttributes.{unix};
-ghost use Rattle.netlink_packet_sock_diag.specs.Message.{reply_kind};
+ghost use Rattle.netlink_packet_sock_diag.specs.Message.{response_kind};
 ghost use Rattle.sock_diag_captures.specs.Details.{timer_in};
 ghost use Rattle.sock_diag_captures.specs.Listing.{fault_behind, kind_fault, kind_lines};
 ghost use Rattle.sock_diag_captures.specs.Listing.{lines_behind};
-ghost use Rattle.sock_diag_captures.specs.Pieces.{pieces, value_told};
-ghost use Rattle.sock_diag_captures.specs.Shown.{shown_cells};
+ghost use Rattle.sock_diag_captures.specs.Pieces.{pieces, first_value};
+ghost use Rattle.sock_diag_captures.specs.CellsModel.{cells_model};
 ghost use Rattle.sock_diag_captures.specs.Table.{family_name, first_columns, inet_kind, inet_line};
 ghost use Rattle.sock_diag_captures.specs.Table.{inet_lines};
 ghost use Rattle.sock_diag_captures.specs.Table.{unix_kind, unix_line, unix_lines};
@@ -60,7 +60,7 @@ const LOCAL: usize = 30;
 /// Adds the first columns of a line.
 fn push_first_columns(text: &mut Vec<u8>, cells: &Cells) -> Result<(), AllocError>
     ensures { OnOk result (text.new.items ≡ text.old.items
-        ++ first_columns (shown_cells cells.now)) }
+        ++ first_columns (cells_model cells.now)) }
 {
     push_column(text, 5, cells.kind)?;
     push_column(text, 10, name_of_state(cells.state))?;
@@ -81,9 +81,9 @@ pub(crate) fn push_reply(
     payload: &[u8],
 ) -> Result<Option<DecodeError>, AllocError>
     ensures lines { OnOk result (text.new.items ≡ text.old.items
-        ++ kind_lines options protocol (reply_kind payload.now message_type) payload.now) }
+        ++ kind_lines options protocol (response_kind payload.now message_type) payload.now) }
     ensures fault { IfOk result (λ fault.
-        fault ≡ kind_fault (reply_kind payload.now message_type) payload.now) }
+        fault ≡ kind_fault (response_kind payload.now message_type) payload.now) }
 {
     if payload.len() < 2 {
         let got = payload.len();
@@ -100,7 +100,7 @@ pub(crate) fn push_reply(
 }
 
 /// Adds the lines of a UNIX socket, and gives the fault of the reply, if it has one.
-#[tactic(auto, using(netlink_packet_sock_diag::specs::UnixReplyLaws::header_enough))]
+#[tactic(auto, using(netlink_packet_sock_diag::specs::UnixResponseSpecLaws::header_enough))]
 fn push_unix(
     text: &mut Vec<u8>,
     options: Options,
@@ -160,7 +160,7 @@ fn push_unix_line(
 /// The first columns of a UNIX socket, whose queues have these lengths. Those of a listening one
 /// are connections.
 fn unix_cells(header: &UnixResponseHeader, queues: Option<(u32, u32)>) -> Cells
-    ensures { shown_cells result ≡ record {
+    ensures { cells_model result ≡ record {
       kind = unix_kind header.now.kind;
       state = header.now.state;
       receive_queue = option_map (λ ns. ns.0) queues;
@@ -185,8 +185,8 @@ fn unix_cells(header: &UnixResponseHeader, queues: Option<(u32, u32)>) -> Cells
 
 /// The name of a UNIX socket, where one is told that can be read.
 fn name_in<'a>(attributes: &'a [u8]) -> Option<NameView<'a>>
-    ensures { option_map viewed_name result
-        ≡ value_told unix 0 (pieces 0 attributes.entry.now) }
+    ensures { option_map name_view_model result
+        ≡ first_value unix 0 (pieces 0 attributes.entry.now) }
 {
     match find_kind(attributes, UNIX_DIAG_NAME) {
         Some(nla) => match NlaView::parse(&nla) {
@@ -199,7 +199,7 @@ fn name_in<'a>(attributes: &'a [u8]) -> Option<NameView<'a>>
 
 /// The inode of its peer, likewise.
 fn peer_in(attributes: &[u8]) -> Option<u32>
-    ensures { result ≡ value_told unix 2 (pieces 0 attributes.now) }
+    ensures { result ≡ first_value unix 2 (pieces 0 attributes.now) }
 {
     match find_kind(attributes, UNIX_DIAG_PEER) {
         Some(nla) => match NlaView::parse(&nla) {
@@ -212,7 +212,7 @@ fn peer_in(attributes: &[u8]) -> Option<u32>
 
 /// The lengths of its queues, likewise.
 fn queues_in(attributes: &[u8]) -> Option<(u32, u32)>
-    ensures { result ≡ value_told unix 4 (pieces 0 attributes.now) }
+    ensures { result ≡ first_value unix 4 (pieces 0 attributes.now) }
 {
     match find_kind(attributes, UNIX_DIAG_RQLEN) {
         Some(nla) => match NlaView::parse(&nla) {
@@ -236,7 +236,7 @@ fn name_of_kind(kind: u8) -> &'static [u8]
 }
 
 /// Adds the lines of an IPv4 or IPv6 socket, and gives the fault of the reply, if it has one.
-#[tactic(auto, using(netlink_packet_sock_diag::specs::InetReplyLaws::header_enough))]
+#[tactic(auto, using(netlink_packet_sock_diag::specs::InetResponseSpecLaws::header_enough))]
 fn push_inet(
     text: &mut Vec<u8>,
     options: Options,
@@ -306,7 +306,7 @@ fn push_inet_line(
 
 /// The first columns of an IPv4 or IPv6 socket.
 fn inet_cells(protocol: Option<u32>, header: &InetResponseHeader) -> Cells
-    ensures { shown_cells result ≡ record {
+    ensures { cells_model result ≡ record {
       kind = inet_kind protocol header.now.family;
       state = header.now.state;
       receive_queue = Some header.now.recv_queue;

@@ -8,12 +8,12 @@ ghost use Rattle.sock_diag_captures.specs.Capture.{recorded};
 ghost use Rattle.sock_diag_captures.specs.Listing.{IsPlain, IsRequest, Lists, ListsDatagram};
 ghost use Rattle.sock_diag_captures.specs.Listing.{ListsPacket, ListsRecorded};
 ghost use Rattle.sock_diag_captures.specs.Requests.{noted};
-ghost use Rattle.sock_diag_captures.specs.Listing.{asked_after, complaint_under};
-ghost use Rattle.sock_diag_captures.specs.Listing.{control_complaint, errno_in};
-ghost use Rattle.sock_diag_captures.specs.Listing.{error_complaint, is_nothing_missing};
-ghost use Rattle.sock_diag_captures.specs.Listing.{lines_under, message_complaint, protocol_for};
+ghost use Rattle.sock_diag_captures.specs.Listing.{asked_after, issue_under};
+ghost use Rattle.sock_diag_captures.specs.Listing.{control_issue, errno_in};
+ghost use Rattle.sock_diag_captures.specs.Listing.{error_issue, is_nothing_missing};
+ghost use Rattle.sock_diag_captures.specs.Listing.{lines_under, message_issue, protocol_for};
 ghost use Rattle.sock_diag_captures.specs.Listing.{message_lines};
-ghost use Rattle.sock_diag_captures.specs.declared.list.Complaint.TheVariants.{Refused};
+ghost use Rattle.sock_diag_captures.specs.declared.list.Issue.TheVariants.{Refused};
 
 use crate::capture::{Packet, PacketHeader};
 use crate::line::push_reply;
@@ -40,7 +40,7 @@ const EINVAL: u32 = 22;
 
 /// What is told of a message on standard error.
 #[derive(Debug, Drop, PartialEq, Eq, Error)]
-pub enum Complaint {
+pub enum Issue {
     /// A message was refused.
     #[error("{0}")]
     Refused(DecodeError),
@@ -79,7 +79,7 @@ pub struct Written<'a> {
     /// The lines of the table.
     pub lines: Vec<u8>,
     /// The lines for standard error.
-    pub complaints: Vec<u8>,
+    pub issues: Vec<u8>,
 }
 
 /// Adds the lines of the sockets that a packet of this number tells, and what is told of it. It
@@ -102,14 +102,14 @@ pub fn list_packet(
     ensures asked { OnOk result (requests.new.asked.items
         ≡ asked_after requests.old.asked.items packet.now) }
 {
-    let is_whole = tell_cut(written, number, packet, header.whole_length)?;
+    let is_whole = push_cut_note(written, number, packet, header.whole_length)?;
     let is_listed = list_content(written, requests, options, number, packet, header)?;
     Ok(is_listed & is_whole)
 }
 
 /// Tells that a packet had more bytes when it was captured, where it had, and answers whether it
 /// had not.
-fn tell_cut(
+fn push_cut_note(
     written: &mut Written<'_>,
     number: u64,
     packet: &[u8],
@@ -209,7 +209,7 @@ fn list_datagram(
                 is_clean = is_clean && is_plain;
             }
             Err(fault) => {
-                push_complaint(written, place, &Complaint::Refused(fault))?;
+                push_issue(written, place, &Issue::Refused(fault))?;
                 return Ok(false);
             }
         }
@@ -233,13 +233,13 @@ fn list_message(
 {
     let is_steady = is_steady(message);
     if !is_steady {
-        push_complaint(written, place, &Complaint::Interrupted)?;
+        push_issue(written, place, &Issue::Interrupted)?;
     }
-    let told = push_message(&mut written.lines, requests, options, message)?;
-    if let Some(complaint) = &told {
-        push_complaint(written, place, complaint)?;
+    let issue = push_message(&mut written.lines, requests, options, message)?;
+    if let Some(issue) = &issue {
+        push_issue(written, place, issue)?;
     }
-    Ok(is_steady && is_note(&told))
+    Ok(is_steady && is_note(&issue))
 }
 
 /// Whether a message doesn't say that what is dumped changed meanwhile.
@@ -251,10 +251,10 @@ fn is_steady(message: &[u8]) -> bool
 }
 
 /// Whether what is told, if anything is, says of nothing that it is missing.
-fn is_note(told: &Option<Complaint>) -> bool
-    ensures { result ≡ is_nothing_missing told.now }
+fn is_note(issue: &Option<Issue>) -> bool
+    ensures { result ≡ is_nothing_missing issue.now }
 {
-    matches!(told, None | Some(Complaint::NoEntry | Complaint::Invalid))
+    matches!(issue, None | Some(Issue::NoEntry | Issue::Invalid))
 }
 
 /// Adds the lines of a message, where it is a reply, and gives what is told of it: that it is
@@ -264,11 +264,11 @@ fn push_message(
     requests: &Requests,
     options: Options,
     message: &[u8],
-) -> Result<Option<Complaint>, AllocError>
+) -> Result<Option<Issue>, AllocError>
     requires { 16 ≤ length message.now }
     ensures lines { OnOk result (lines.new.items ≡ lines.old.items
         ++ message_lines options requests.now.asked.items message.now) }
-    ensures complaint { IfOk result (λ told. told ≡ message_complaint message.now) }
+    ensures issue { IfOk result (λ issue. issue ≡ message_issue message.now) }
 {
     push_payload(
         lines,
@@ -287,27 +287,27 @@ fn push_payload(
     protocol: Option<u32>,
     message_type: u16,
     payload: &[u8],
-) -> Result<Option<Complaint>, AllocError>
+) -> Result<Option<Issue>, AllocError>
     ensures lines { OnOk result (lines.new.items ≡ lines.old.items
         ++ lines_under options protocol message_type payload.now) }
-    ensures complaint { IfOk result (λ told. told ≡ complaint_under message_type payload.now) }
+    ensures issue { IfOk result (λ issue. issue ≡ issue_under message_type payload.now) }
 {
     if (NLMSG_NOOP..=NLMSG_OVERRUN).contains(&message_type) {
-        return Ok(complaint_about_control(message_type, payload));
+        return Ok(issue_about_control(message_type, payload));
     }
     let fault = push_reply(lines, options, protocol, message_type, payload)?;
-    Ok(complaint_about_fault(fault))
+    Ok(issue_about_fault(fault))
 }
 
 /// What is told of a message that says nothing, tells an error, ends a dump, or says that data was
 /// lost.
-fn complaint_about_control(message_type: u16, payload: &[u8]) -> Option<Complaint>
-    ensures { result ≡ control_complaint message_type payload.now }
+fn issue_about_control(message_type: u16, payload: &[u8]) -> Option<Issue>
+    ensures { result ≡ control_issue message_type payload.now }
 {
     match message_type {
         NLMSG_NOOP => None,
-        NLMSG_OVERRUN => Some(Complaint::Lost),
-        _ => complaint_about_error(error_of(payload)),
+        NLMSG_OVERRUN => Some(Issue::Lost),
+        _ => issue_about_error(error_of(payload)),
     }
 }
 
@@ -323,24 +323,24 @@ fn protocol_of(requests: &Requests, message: &[u8]) -> Option<u32>
 }
 
 /// What is told of a fault, if there is one.
-fn complaint_about_fault(fault: Option<DecodeError>) -> Option<Complaint>
+fn issue_about_fault(fault: Option<DecodeError>) -> Option<Issue>
     ensures { result ≡ option_map Refused fault }
 {
     match fault {
-        Some(fault) => Some(Complaint::Refused(fault)),
+        Some(fault) => Some(Issue::Refused(fault)),
         None => None,
     }
 }
 
 /// What is told of an error of this number, 0 for none.
-fn complaint_about_error(number: u32) -> Option<Complaint>
-    ensures { result ≡ error_complaint number }
+fn issue_about_error(number: u32) -> Option<Issue>
+    ensures { result ≡ error_issue number }
 {
     match number {
         0 => None,
-        ENOENT => Some(Complaint::NoEntry),
-        EINVAL => Some(Complaint::Invalid),
-        _ => Some(Complaint::Answered(number)),
+        ENOENT => Some(Issue::NoEntry),
+        EINVAL => Some(Issue::Invalid),
+        _ => Some(Issue::Answered(number)),
     }
 }
 
@@ -356,18 +356,14 @@ fn error_of(payload: &[u8]) -> u32
 }
 
 /// Adds a line about a message.
-fn push_complaint(
-    written: &mut Written<'_>,
-    place: Place,
-    complaint: &Complaint,
-) -> Result<(), AllocError>
+fn push_issue(written: &mut Written<'_>, place: Place, issue: &Issue) -> Result<(), AllocError>
     ensures { OnOk result (written.new.lines.items ≡ written.old.lines.items) }
 {
     let front = written.front;
     let Place { packet, message } = place;
     match writeln!(
-        written.complaints,
-        "{front}packet {packet}, message {message}: {complaint}"
+        written.issues,
+        "{front}packet {packet}, message {message}: {issue}"
     ) {
         Ok(()) => Ok(()),
         Err(_) => Err(AllocError),
@@ -385,7 +381,7 @@ fn push_cut(
 {
     let front = written.front;
     match writeln!(
-        written.complaints,
+        written.issues,
         "{front}packet {packet}: cut to {length} of {whole_length} bytes"
     ) {
         Ok(()) => Ok(()),
@@ -399,7 +395,7 @@ fn push_short(written: &mut Written<'_>, packet: u64) -> Result<(), AllocError>
 {
     let front = written.front;
     match writeln!(
-        written.complaints,
+        written.issues,
         "{front}packet {packet}: fewer than 16 bytes"
     ) {
         Ok(()) => Ok(()),

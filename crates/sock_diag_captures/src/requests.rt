@@ -3,7 +3,7 @@
 ghost use Rattle.std.specs.Prelude.{◌≡◌, ◌≤◌, [], length, OnOk, option_map};
 ghost use Rattle.netlink_core.specs.Walk.{attribute_of};
 ghost use Rattle.sock_diag_captures.specs.Requests.{asked_in, inet_asked, noted, protocol_of};
-ghost use Rattle.sock_diag_captures.specs.Requests.{protocol_told, request_in};
+ghost use Rattle.sock_diag_captures.specs.Requests.{protocol_by, request_in};
 
 use crate::pieces::find_kind;
 use byteorder::{ByteOrder, LittleEndian};
@@ -131,10 +131,10 @@ fn read_asked(request: &[u8]) -> Asked
 }
 
 /// The protocol that an attribute tells in four bytes, or else the one of a byte.
-fn choose_protocol(byte: u8, told: Option<NlaBuffer<'_>>) -> u32
-    ensures { result ≡ protocol_told byte (option_map attribute_of told.entry) }
+fn choose_protocol(byte: u8, attribute: Option<NlaBuffer<'_>>) -> u32
+    ensures { result ≡ protocol_by byte (option_map attribute_of attribute.entry) }
 {
-    match told {
+    match attribute {
         Some(nla) if nla.value().len() == 4 => LittleEndian::read_u32(nla.value()),
         _ => byte.into(),
     }

@@ -100,7 +100,7 @@ fn write_table<R: Source, W: Sink, E: Write>(
     let mut written = Written {
         front,
         lines: Vec::new(alloc),
-        complaints: Vec::new(alloc),
+        issues: Vec::new(alloc),
     };
     let mut requests = Requests::new(alloc);
     let mut is_whole = true;
@@ -110,12 +110,12 @@ fn write_table<R: Source, W: Sink, E: Write>(
             return Ok(is_whole);
         };
         written.lines.clear();
-        written.complaints.clear();
+        written.issues.clear();
         let bytes = packet.as_slice();
         let is_listed = list_packet(&mut written, &mut requests, options, number, bytes, &header)?;
         is_whole = is_whole && is_listed;
         send(output, written.lines.as_slice())?;
-        let _ = errors.write_all(written.complaints.as_slice());
+        let _ = errors.write_all(written.issues.as_slice());
     }
     Err(RunError::Packet {
         packet: u64::MAX,
@@ -147,7 +147,7 @@ fn read_packet<R: Source>(
     number: u64,
     packet: &mut Vec<u8>,
 ) -> Result<Option<PacketHeader>, RunError>
-    ensures read { IfOk result (λ told. MatchOption told
+    ensures read { IfOk result (λ found. MatchOption found
         (IsAtEnd (R.left input.new) × Keeps (R.left input.old) (R.left input.new))
         (λ told_header. (header : List ℕ)
         × IsRecord file.now header (recorded packet.new.items told_header)
@@ -158,7 +158,7 @@ fn read_packet<R: Source>(
         × IsPacketStop file.now (R.left input.new) (R.failed input.new) part fault) }
 {
     match file.read_packet(input, packet) {
-        Ok(told) => Ok(told),
+        Ok(found) => Ok(found),
         Err(fault) => Err(RunError::Packet {
             packet: number,
             fault,

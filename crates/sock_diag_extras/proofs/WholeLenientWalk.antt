@@ -5,38 +5,39 @@ use Rattle.std.specs.Prelude.{map}
 use Rattle.std.specs.Iterator.{Drains}
 use Rattle.netlink_core.specs.declared.fault.DecodeError.{DecodeError}
 use Rattle.netlink_core.specs.Attribute.{Attribute, StartsWith, AttributesMean, IsFramingFault}
-use Rattle.netlink_core.specs.Family.{Family, Said, says}
+use Rattle.netlink_core.specs.AttributeSet.{AttributeSet, AttributeValue, decodes}
 use Rattle.netlink_core.specs.Walk.{bytes_left}
 use Rattle.netlink_core.proofs.Walking.{StartsWith-some, cut_off_behind}
 use Rattle.attribute_lists.specs.AttributesIn.{HasNoFault, values_in}
 use Rattle.attribute_lists.proofs.Finding.{value_first, found_none, rest_has_no_fault}
-use Rattle.attribute_lists.proofs.Finding.{no_framing_fault, front_says}
-use Rattle.sock_diag_extras.specs.Lenient.{GivesLeniently, ItemsAre, Refusal, seen, told}
+use Rattle.attribute_lists.proofs.Finding.{no_framing_fault, first_is_accepted}
+use Rattle.sock_diag_extras.specs.Lenient.{GivesLeniently, ItemsAre, Refusal, model, item_of}
 use Rattle.sock_diag_extras.specs.declared.lenient.LenientNlas.{LenientNlas}
 use Rattle.sock_diag_extras.specs.declared.lenient.Refused.{Refused}
 
-module _ (F : Family) where
+module _ (F : AttributeSet) where
   -- what is told of the bytes in front, where all is told
   abbrev Items : Type 0
-  Items = List (Result (Said F) Refusal)
+  Items = List (Result (AttributeValue F) Refusal)
 
-  -- the items of bytes are what is told of the attribute in front, and then those of the rest
+  -- the items of bytes are what is told of the first attribute, and then those of the rest
   item_first : (bytes rest : List ℕ) (a : Attribute) (items : Items) → StartsWith bytes a rest
-      → ItemsAre F rest items → ItemsAre F bytes (told F a ∷ items)
+      → ItemsAre F rest items → ItemsAre F bytes (item_of F a ∷ items)
   item_first bytes rest a items s (later, how) = (
     a ∷ later,
     elim how [
-      | inl whole ↦ inl ((rest, s, whole.0), ap (λ (r : Items). told F a ∷ r) whole.1)
+      | inl whole ↦ inl ((rest, s, whole.0), ap (λ (r : Items). item_of F a ∷ r) whole.1)
       | inr stop ↦ inr (
         stop.0,
         cut_off_behind IsFramingFault bytes rest a later stop.0 s stop.1,
-        ap (λ (r : Items). told F a ∷ r) stop.2,
+        ap (λ (r : Items). item_of F a ∷ r) stop.2,
       )
     ],
   )
 
   -- bytes that no attribute begins have one item, their fault
-  framing_last : (bytes : List ℕ) (e : DecodeError) (item : Result (Said F) Refusal) (later : Items)
+  framing_last : (bytes : List ℕ) (e : DecodeError) (item : Result (AttributeValue F) Refusal)
+      (later : Items)
       → bytes ≢ [] → IsFramingFault bytes e
       → item ≡ Err (record { attribute = None; fault = e }) → later ≡ []
       → ItemsAre F bytes (item ∷ later)
@@ -44,22 +45,22 @@ module _ (F : Family) where
       ([], inr (e, ([], bytes, refl, refl, some, fault), λ z. same z ∷ none z))
 
   -- what is told of an attribute in front of good bytes is what it says
-  told_good : (a : Attribute) (item : Result (Said F) Refusal) → item ≡ told F a
-      → (answer : Result (Said F) DecodeError) → says F a ≡ answer → IsOk answer
-      → (v : Said F) × (item ≡ Ok v) × (says F a ≡ Ok v)
-  told_good a item same (Ok v) h ok = (v, rw h at same, h)
-  told_good a item same (Err e) h ok = absurd cc
+  item_good : (a : Attribute) (item : Result (AttributeValue F) Refusal) → item ≡ item_of F a
+      → (answer : Result (AttributeValue F) DecodeError) → decodes F a ≡ answer → IsOk answer
+      → (v : AttributeValue F) × (item ≡ Ok v) × (decodes F a ≡ Ok v)
+  item_good a item same (Ok v) h ok = (v, rw h at same, h)
+  item_good a item same (Err e) h ok = absurd cc
 
   -- an attribute of which a value is told says it
-  told_ok : (a : Attribute) (v : Said F) → Ok v ≡ told F a
-      → (answer : Result (Said F) DecodeError) → says F a ≡ answer → says F a ≡ Ok v
-  told_ok a v same (Ok w) h = let t = rw h at same in cc
-  told_ok a v same (Err e) h = let t = rw h at same in absurd cc
+  item_ok : (a : Attribute) (v : AttributeValue F) → Ok v ≡ item_of F a
+      → (answer : Result (AttributeValue F) DecodeError) → decodes F a ≡ answer → decodes F a ≡ Ok v
+  item_ok a v same (Ok w) h = let t = rw h at same in cc
+  item_ok a v same (Err e) h = let t = rw h at same in absurd cc
 
-module _ {V : Type 0} (F : Family) (viewed : V → Said F) where
+module _ {V : Type 0} (F : AttributeSet) (view_model : V → AttributeValue F) where
   -- where nothing is left nothing comes
   nothing_given : (walk : LenientNlas V) (given : List (Result V Refused))
-      → Drains (GivesLeniently F viewed) walk given → bytes_left walk.walk ≡ [] → given ≡ []
+      → Drains (GivesLeniently F view_model) walk given → bytes_left walk.walk ≡ [] → given ≡ []
   nothing_given walk [] h none = refl
   nothing_given walk (g ∷ given) h none = elim h.1.1.1 [
     | inl front ↦ absurd (StartsWith-some _ _ front.0 front.1 none)
@@ -67,47 +68,52 @@ module _ {V : Type 0} (F : Family) (viewed : V → Said F) where
   ]
 
   pub whole_walk : (walk : LenientNlas V) (given : List (Result V Refused))
-      → Drains (GivesLeniently F viewed) walk given
-      → ItemsAre F (bytes_left walk.walk) (map (seen F viewed) given)
+      → Drains (GivesLeniently F view_model) walk given
+      → ItemsAre F (bytes_left walk.walk) (map (model F view_model) given)
   whole_walk walk [] h =
       ([], inl (subst (λ (w : LenientNlas V). bytes_left w.walk ≡ []) (sym h.1.1) h.1.2.0, refl))
   whole_walk walk (g ∷ given) h =
       let rest = h.1.1.0 in
-      let behind : Drains (GivesLeniently F viewed) rest given = (h.0, (h.1.0, h.1.1.2, h.1.2)) in
+      let behind : Drains (GivesLeniently F view_model) rest given =
+      (h.0, (h.1.0, h.1.1.2, h.1.2)) in
       elim h.1.1.1 [
-        | inl front ↦ subst (λ (item : Result (Said F) Refusal). ItemsAre F (bytes_left walk.walk)
-            (item ∷ map (seen F viewed) given)) (sym front.2)
+        | inl front ↦ subst (λ (item : Result (AttributeValue F) Refusal).
+            ItemsAre F (bytes_left walk.walk)
+            (item ∷ map (model F view_model) given)) (sym front.2)
             (item_first F _ _ front.0 _ front.1 (whole_walk rest given behind))
         | inr stop ↦ framing_last F _ stop.0 _ _ stop.1 stop.2 stop.4
-            (ap (map (seen F viewed)) (nothing_given rest given behind stop.3))
+            (ap (map (model F view_model)) (nothing_given rest given behind stop.3))
       ]
 
   -- in good bytes each item is what its attribute says
   pub good_walk : (walk : LenientNlas V) (given : List (Result V Refused))
-      → HasNoFault (says F) (bytes_left walk.walk) → Drains (GivesLeniently F viewed) walk given
-      → map (seen F viewed) given ≡ map Ok (values_in (says F) (bytes_left walk.walk))
+      → HasNoFault (decodes F) (bytes_left walk.walk)
+      → Drains (GivesLeniently F view_model) walk given
+      → map (model F view_model) given ≡ map Ok (values_in (decodes F) (bytes_left walk.walk))
   good_walk walk [] clean h =
       let none : bytes_left walk.walk ≡ [] =
       subst (λ (w : LenientNlas V). bytes_left w.walk ≡ []) (sym h.1.1) h.1.2.0 in
       rw (none, found_none) refl
   good_walk walk (g ∷ given) clean h =
       let rest = h.1.1.0 in
-      let behind : Drains (GivesLeniently F viewed) rest given = (h.0, (h.1.0, h.1.1.2, h.1.2)) in
+      let behind : Drains (GivesLeniently F view_model) rest given =
+      (h.0, (h.1.0, h.1.1.2, h.1.2)) in
       elim h.1.1.1 [
         | inl front ↦
-            let good = told_good F front.0 _ front.2 (says F front.0) refl
-            (front_says (says F) _ _ front.0 clean front.1) in
-            let first = value_first (says F) _ _ front.0 good.0 front.1 good.2 in
-            let later = good_walk rest given (rest_has_no_fault (says F) _ _ front.0 good.0 front.1
+            let good = item_good F front.0 _ front.2 (decodes F front.0) refl
+            (first_is_accepted (decodes F) _ _ front.0 clean front.1) in
+            let first = value_first (decodes F) _ _ front.0 good.0 front.1 good.2 in
+            let later = good_walk rest given
+            (rest_has_no_fault (decodes F) _ _ front.0 good.0 front.1
             good.2 clean) behind in
             (λ z. good.1 z ∷ later z) ∙ sym (ap (map Ok) first)
-        | inr stop ↦ absurd (no_framing_fault (says F) _ stop.0 clean stop.1 stop.2)
+        | inr stop ↦ absurd (no_framing_fault (decodes F) _ stop.0 clean stop.1 stop.2)
       ]
 
   -- where nothing is refused the values are what the bytes mean
   pub accepted_walk : (walk : LenientNlas V) (views : List V)
-      → Drains (GivesLeniently F viewed) walk (map Ok views)
-      → AttributesMean (says F) (bytes_left walk.walk) (map viewed views)
+      → Drains (GivesLeniently F view_model) walk (map Ok views)
+      → AttributesMean (decodes F) (bytes_left walk.walk) (map view_model views)
   accepted_walk walk [] h =
       ([], subst (λ (w : LenientNlas V). bytes_left w.walk ≡ []) (sym h.1.1) h.1.2.0, tt)
   accepted_walk walk (g ∷ views) h =
@@ -117,7 +123,7 @@ module _ {V : Type 0} (F : Family) (viewed : V → Said F) where
         | inl front ↦ (
           front.0 ∷ later.0,
           (bytes_left rest.walk, front.1, later.1),
-          (told_ok F front.0 (viewed g) front.2 (says F front.0) refl, later.2),
+          (item_ok F front.0 (view_model g) front.2 (decodes F front.0) refl, later.2),
         )
         | inr stop ↦ absurd cc
       ]

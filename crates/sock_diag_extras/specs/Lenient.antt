@@ -4,7 +4,7 @@ use Rattle.std.specs.Prelude.{Result, Err, MatchOption}
 use Rattle.std.specs.Result.{result_map_both}
 use Rattle.netlink_core.specs.declared.fault.DecodeError.{DecodeError}
 use Rattle.netlink_core.specs.Attribute.{Attribute, Cut, CutOff, IsFramingFault, StartsWith}
-use Rattle.netlink_core.specs.Family.{Family, Said, says}
+use Rattle.netlink_core.specs.AttributeSet.{AttributeSet, AttributeValue, decodes}
 use Rattle.netlink_core.specs.Walk.{attribute_of, bytes_left}
 use Rattle.sock_diag_extras.specs.declared.lenient.LenientNlas.{LenientNlas}
 use Rattle.sock_diag_extras.specs.declared.lenient.Refused.{Refused}
@@ -20,34 +20,35 @@ abbrev pub refusal_of : Refused → Refusal
 refusal_of (refused.Attribute nla e) = record { attribute = Some (attribute_of nla); fault = e }
 refusal_of (refused.Framing e) = record { attribute = None; fault = e }
 
--- what an attribute says, or why it is refused
-abbrev pub told : (F : Family) → Attribute → Result (Said F) Refusal
-told F a = result_map_both (λ said. said) (λ e. record { attribute = Some a; fault = e }) (says F a)
+-- what an attribute decodes to, or why it is refused
+abbrev pub item_of : (F : AttributeSet) → Attribute → Result (AttributeValue F) Refusal
+item_of F a = result_map_both (λ said. said) (λ e.
+    record { attribute = Some a; fault = e }) (decodes F a)
 
--- what is seen of an item
-abbrev pub seen : {V : Type 0} (F : Family) → (V → Said F) → Result V Refused
-    → Result (Said F) Refusal
-seen F viewed item = result_map_both viewed refusal_of item
+-- the model of an item
+abbrev pub model : {V : Type 0} (F : AttributeSet) → (V → AttributeValue F) → Result V Refused
+    → Result (AttributeValue F) Refusal
+model F view_model item = result_map_both view_model refusal_of item
 
 -- what is told of the bytes in front, and what is left behind them: of the attribute there, or the
 -- framing fault
-abbrev pub FrontIs : (F : Family) → List ℕ → Result (Said F) Refusal → List ℕ → Type 0
+abbrev pub FrontIs : (F : AttributeSet) → List ℕ → Result (AttributeValue F) Refusal → List ℕ → Type 0
 FrontIs F left item later =
-    ((a : Attribute) × StartsWith left a later × (item ≡ told F a))
+    ((a : Attribute) × StartsWith left a later × (item ≡ item_of F a))
     ⊎ ((e : DecodeError) × (left ≢ []) × IsFramingFault left e × (later ≡ [])
     × (item ≡ Err (record { attribute = None; fault = e })))
 
 -- what a step of the walk gives: what is told of the bytes in front, or None where none are left
-abbrev pub GivesLeniently : {V : Type 0} (F : Family) → (V → Said F) → LenientNlas V
+abbrev pub GivesLeniently : {V : Type 0} (F : AttributeSet) → (V → AttributeValue F) → LenientNlas V
     → Option (Result V Refused) → LenientNlas V → Type 0
-GivesLeniently F viewed old given new =
+GivesLeniently F view_model old given new =
     MatchOption given ((bytes_left old.walk ≡ []) × (bytes_left new.walk ≡ []))
-    (λ item. FrontIs F (bytes_left old.walk) (seen F viewed item) (bytes_left new.walk))
+    (λ item. FrontIs F (bytes_left old.walk) (model F view_model item) (bytes_left new.walk))
 
 -- The items of bytes: of each attribute that the bytes are cut into what it says or why it is
 -- refused, in order, and last the fault of the framing, where there is one.
-abbrev pub ItemsAre : (F : Family) → List ℕ → List (Result (Said F) Refusal) → Type 0
+abbrev pub ItemsAre : (F : AttributeSet) → List ℕ → List (Result (AttributeValue F) Refusal) → Type 0
 ItemsAre F bytes items = (attributes : List Attribute) × (
-    (Cut bytes attributes × (items ≡ map (told F) attributes))
+    (Cut bytes attributes × (items ≡ map (item_of F) attributes))
     ⊎ ((e : DecodeError) × CutOff IsFramingFault bytes attributes e
-    × (items ≡ map (told F) attributes ++ Err (record { attribute = None; fault = e }) ∷ [])))
+    × (items ≡ map (item_of F) attributes ++ Err (record { attribute = None; fault = e }) ∷ [])))

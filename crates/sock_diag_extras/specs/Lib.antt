@@ -1,5 +1,5 @@
 pub mod Lenient
 pub mod TcpFields
-pub mod Layout
+pub mod RecordTable
 pub mod Congestion
 pub mod SocketOptions

@@ -2,13 +2,13 @@
 //! INET_DIAG_DCTCPINFO and INET_DIAG_BBRINFO. Which one comes is told by INET_DIAG_CONG.
 
 ghost use Rattle.std.specs.Prelude.{refl};
-ghost use Rattle.netlink_core.proofs.FormatLaws.{plain_sound, record_laws};
+ghost use Rattle.netlink_core.proofs.LayoutLaws.{plain_sound, record_laws};
 ghost use Rattle.sock_diag_extras.specs.Congestion.{bbr_info, dctcp_info, vegas_info};
-ghost use Rattle.sock_diag_extras.specs.Layout.{format_under};
+ghost use Rattle.sock_diag_extras.specs.RecordTable.{format_under};
 
-use crate::told::Told;
+use crate::record::AttributeRecord;
 use byteorder::{ByteOrder, LittleEndian};
-use netlink_core::rows::{long_words_at, words_at};
+use netlink_core::fields::{long_words_at, words_at};
 
 /// What TCP Vegas measures, and other algorithms that tell alike: `struct tcpvegas_info` of
 /// `linux/inet_diag.h`. It is 16 bytes, each word a `u32`, low byte first.
@@ -24,14 +24,14 @@ pub struct VegasInfo {
     pub min_rtt: u32,
 }
 
-impl Told for VegasInfo {
+impl AttributeRecord for VegasInfo {
     ghost layout = { vegas_info };
 
     fn size() -> usize {
         16
     }
 
-    fn from_row(row: &[u8]) -> Self {
+    fn from_fields(row: &[u8]) -> Self {
         let [enabled, rtt_count, rtt, min_rtt] = words_at::<4>(row, 0);
         VegasInfo {
             enabled,
@@ -41,7 +41,7 @@ impl Told for VegasInfo {
         }
     }
 
-    fn write_row(&self, row: &mut [u8]) {
+    fn write_fields(&self, row: &mut [u8]) {
         let words = [self.enabled, self.rtt_count, self.rtt, self.min_rtt];
         LittleEndian::write_u32_into(&words, row);
     }
@@ -66,14 +66,14 @@ pub struct DctcpInfo {
     pub acked_bytes: u32,
 }
 
-impl Told for DctcpInfo {
+impl AttributeRecord for DctcpInfo {
     ghost layout = { dctcp_info };
 
     fn size() -> usize {
         16
     }
 
-    fn from_row(row: &[u8]) -> Self {
+    fn from_fields(row: &[u8]) -> Self {
         let [alpha, marked_bytes, acked_bytes] = words_at::<3>(row, 4);
         DctcpInfo {
             enabled: LittleEndian::read_u16(row),
@@ -84,7 +84,7 @@ impl Told for DctcpInfo {
         }
     }
 
-    fn write_row(&self, row: &mut [u8]) {
+    fn write_fields(&self, row: &mut [u8]) {
         let (shorts, words) = row.split_at_mut(4);
         LittleEndian::write_u16_into(&[self.enabled, self.ce_state], shorts);
         let numbers = [self.alpha, self.marked_bytes, self.acked_bytes];
@@ -108,14 +108,14 @@ pub struct BbrInfo {
     pub window_gain: u32,
 }
 
-impl Told for BbrInfo {
+impl AttributeRecord for BbrInfo {
     ghost layout = { bbr_info };
 
     fn size() -> usize {
         20
     }
 
-    fn from_row(row: &[u8]) -> Self {
+    fn from_fields(row: &[u8]) -> Self {
         let [bandwidth] = long_words_at::<1>(row, 0);
         let [min_rtt, pacing_gain, window_gain] = words_at::<3>(row, 8);
         BbrInfo {
@@ -126,7 +126,7 @@ impl Told for BbrInfo {
         }
     }
 
-    fn write_row(&self, row: &mut [u8]) {
+    fn write_fields(&self, row: &mut [u8]) {
         let (bandwidth, words) = row.split_at_mut(8);
         LittleEndian::write_u64(bandwidth, self.bandwidth);
         let numbers = [self.min_rtt, self.pacing_gain, self.window_gain];

@@ -4,12 +4,12 @@
 ghost use Rattle.std.specs.Prelude.{◌≡◌, List, Result, Ok, IsTrue, map};
 ghost use Rattle.std.specs.Iterator.{Drains};
 ghost use Rattle.netlink_core.specs.Attribute.{AttributesMean};
-ghost use Rattle.netlink_core.specs.Family.{says};
+ghost use Rattle.netlink_core.specs.AttributeSet.{decodes};
 ghost use Rattle.netlink_core.specs.SoundLaws.{is_table};
 ghost use Rattle.netlink_core.specs.Walk.{bytes_left};
 ghost use Rattle.attribute_lists.specs.AttributesIn.{HasNoFault, values_in};
-ghost use Rattle.sock_diag_values.specs.TcpInfo.{tcp_info_rows};
-ghost use Rattle.sock_diag_extras.specs.Lenient.{GivesLeniently, ItemsAre, seen};
+ghost use Rattle.sock_diag_values.specs.TcpInfo.{tcp_info_fields};
+ghost use Rattle.sock_diag_extras.specs.Lenient.{GivesLeniently, ItemsAre, model};
 ghost use Rattle.sock_diag_extras.specs.TcpFields.{first_fields, later_fields, row_of};
 ghost use Rattle.sock_diag_extras.specs.declared.lenient.LenientNlas.{LenientNlas};
 ghost use Rattle.sock_diag_extras.specs.declared.lenient.Refused.{Refused};
@@ -20,26 +20,27 @@ use netlink_core::FamilyView;
 /// refused, in order, and last the fault of the framing, where there is one.
 pub fn whole_lenient_walk<'a, V: FamilyView<'a>>()
     ensures items { (walk : LenientNlas V) (given : List (Result V Refused))
-        → Drains (GivesLeniently V.family V.viewed) walk given
-        → ItemsAre V.family (bytes_left walk.walk) (map (seen V.family V.viewed) given) }
+        → Drains (GivesLeniently V.attribute_set V.model) walk given
+        → ItemsAre V.attribute_set (bytes_left walk.walk)
+        (map (model V.attribute_set V.model) given) }
 {}
 
 /// Where nothing is refused a whole walk gives what the strict view does; and where a whole walk
 /// refuses nothing, neither does the strict view.
 pub fn lenient_walk_of_good_bytes<'a, V: FamilyView<'a>>()
     ensures strict { (walk : LenientNlas V) (given : List (Result V Refused))
-        → HasNoFault (says V.family) (bytes_left walk.walk)
-        → Drains (GivesLeniently V.family V.viewed) walk given
-        → map (seen V.family V.viewed) given
-        ≡ map Ok (values_in (says V.family) (bytes_left walk.walk)) }
+        → HasNoFault (decodes V.attribute_set) (bytes_left walk.walk)
+        → Drains (GivesLeniently V.attribute_set V.model) walk given
+        → map (model V.attribute_set V.model) given
+        ≡ map Ok (values_in (decodes V.attribute_set) (bytes_left walk.walk)) }
     ensures accepted { (walk : LenientNlas V) (views : List V)
-        → Drains (GivesLeniently V.family V.viewed) walk (map Ok views)
-        → AttributesMean (says V.family) (bytes_left walk.walk) (map V.viewed views) }
+        → Drains (GivesLeniently V.attribute_set V.model) walk (map Ok views)
+        → AttributesMean (decodes V.attribute_set) (bytes_left walk.walk) (map V.model views) }
 {}
 
 /// The first fields are the rows of the port's `TcpInfo`, and the later ones stand behind them, one
 /// after the other, up to byte 280.
 pub fn tcp_fields_are_rows()
-    ensures first { map row_of first_fields ≡ tcp_info_rows }
+    ensures first { map row_of first_fields ≡ tcp_info_fields }
     ensures later { IsTrue (is_table 232 (map row_of later_fields) 280) }
 {}

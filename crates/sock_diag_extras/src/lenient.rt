@@ -4,11 +4,11 @@ ghost use Rattle.std.specs.Prelude.{◌≡◌, ◌+◌, ◌/◌, Ok, Err, IfOk, 
 ghost use Rattle.std.specs.Prelude.{refl, option_map};
 ghost use Rattle.std.specs.Iterator.{UpTo, at_most};
 ghost use Rattle.std.specs.Iterator.SizeHint.{IsWithinCount};
-ghost use Rattle.netlink_core.specs.Attribute.{kind_of};
-ghost use Rattle.netlink_core.specs.Reply.{Reply};
+ghost use Rattle.netlink_core.specs.Attribute.{attribute_type};
+ghost use Rattle.netlink_core.specs.Response.{ResponseSpec};
 ghost use Rattle.netlink_core.specs.Walk.{attribute_of, bytes_left};
-ghost use Rattle.netlink_packet_sock_diag.specs.InetReply.{inet_reply};
-ghost use Rattle.netlink_packet_sock_diag.specs.UnixReply.{unix_reply};
+ghost use Rattle.netlink_packet_sock_diag.specs.InetResponseSpec.{inet_response_spec};
+ghost use Rattle.netlink_packet_sock_diag.specs.UnixResponseSpec.{unix_response_spec};
 
 use netlink_core::{DecodeError, FamilyView, NlaBuffer, NlasIterator};
 use netlink_packet_sock_diag::inet::InetResponseHeader;
@@ -51,7 +51,7 @@ impl<'a> Refused<'a> {
 
     /// The kind of the attribute that is refused.
     pub fn kind(&self) -> Option<u16>
-        ensures { result ≡ option_map kind_of (refusal_of self.now).attribute }
+        ensures { result ≡ option_map attribute_type (refusal_of self.now).attribute }
     {
         match self {
             Refused::Attribute(nla, _) => Some(nla.kind()),
@@ -87,9 +87,9 @@ impl<'a, V: FamilyView<'a>> Iterator for LenientNlas<'a, V> {
 
     type Item = Result<V, Refused<'a>>;
 
-    // What the attribute at the front of what was left says, or why it is refused, and then what
-    // stands behind it. Or the framing fault there, and then nothing.
-    ghost next_gives = { GivesLeniently V.family V.viewed };
+    // What the attribute at the start of what was left decodes to, or why it is refused, and then
+    // what stands behind it. Or the framing fault there, and then nothing.
+    ghost next_gives = { GivesLeniently V.attribute_set V.model };
 
     // At most one item for each four bytes, rounded up.
     ghost remaining = { λ nlas. at_most ((length (bytes_left nlas.walk) + 3) / 4) };
@@ -124,14 +124,14 @@ pub trait LenientHeader<'a>: Sized {
     type View: FamilyView<'a>;
 
     // The replies, and what a header says in them.
-    ghost reply: { Reply };
+    ghost reply: { ResponseSpec };
 
-    ghost told: { Self → reply.header.Value };
+    ghost header_model: { Self → reply.header.Value };
 
     /// The header, and the bytes behind it.
     fn split(bytes: &'a [u8]) -> Result<(Self, &'a [u8]), DecodeError>
         ensures header { IfOk result (λ parts.
-            reply.header.reads tt bytes.entry.now ≡ Ok (told parts.0)) }
+            reply.header.reads tt bytes.entry.now ≡ Ok (header_model parts.0)) }
         ensures behind { IfOk result (λ parts.
             parts.1.now ≡ drop reply.size bytes.entry.now) }
         ensures fault { IfErr result (λ fault. reply.header.reads tt bytes.entry.now ≡ Err fault) };
@@ -140,9 +140,9 @@ pub trait LenientHeader<'a>: Sized {
 impl<'a> LenientHeader<'a> for InetResponseHeader {
     type View = InetNlaView<'a>;
 
-    ghost reply = { inet_reply };
+    ghost reply = { inet_response_spec };
 
-    ghost told = { λ header. header };
+    ghost header_model = { λ header. header };
 
     fn split(bytes: &'a [u8]) -> Result<(Self, &'a [u8]), DecodeError> {
         let header = InetResponseHeader::from_prefix(bytes)?;
@@ -153,9 +153,9 @@ impl<'a> LenientHeader<'a> for InetResponseHeader {
 impl<'a> LenientHeader<'a> for UnixResponseHeader {
     type View = UnixNlaView<'a>;
 
-    ghost reply = { unix_reply };
+    ghost reply = { unix_response_spec };
 
-    ghost told = { λ header. header };
+    ghost header_model = { λ header. header };
 
     fn split(bytes: &'a [u8]) -> Result<(Self, &'a [u8]), DecodeError> {
         let header = UnixResponseHeader::from_prefix(bytes)?;
@@ -186,7 +186,7 @@ impl<'a, H: LenientHeader<'a>> LenientReply<'a, H> {
     /// Reads the header, and looks at no attribute. It takes no memory.
     pub fn parse(bytes: &'a [u8]) -> Result<LenientReply<'a, H>, DecodeError>
         ensures header { IfOk result (λ lenient.
-            H.reply.header.reads tt bytes.entry.now ≡ Ok (H.told lenient.header)) }
+            H.reply.header.reads tt bytes.entry.now ≡ Ok (H.header_model lenient.header)) }
         ensures behind { IfOk result (λ lenient.
             lenient.bytes.now ≡ drop H.reply.size bytes.entry.now) }
         ensures fault { IfErr result (λ fault.

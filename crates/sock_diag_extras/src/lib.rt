@@ -11,7 +11,7 @@ mod lenient;
 mod numbers;
 mod options;
 mod tcp_info;
-mod told;
+mod record;
 
 pub use congestion::{BbrInfo, DctcpInfo, VegasInfo};
 pub use lenient::{
@@ -20,4 +20,4 @@ pub use lenient::{
 pub use numbers::{parse_cgroup_id, parse_uid};
 pub use options::{SocketOption, SocketOptions};
 pub use tcp_info::{TcpField, TcpInfoBytes};
-pub use told::{Told, read_told, write_told};
+pub use record::{AttributeRecord, read_attribute_record, write_attribute_record};

@@ -1,11 +1,11 @@
 //! The options of an internet socket that INET_DIAG_SOCKOPT tells.
 
 ghost use Rattle.std.specs.Prelude.{◌≡◌, ◌↔◌, IsBitSet, IsTrue, refl};
-ghost use Rattle.netlink_core.proofs.FormatLaws.{plain_sound, record_laws};
-ghost use Rattle.sock_diag_extras.specs.Layout.{format_under};
+ghost use Rattle.netlink_core.proofs.LayoutLaws.{plain_sound, record_laws};
+ghost use Rattle.sock_diag_extras.specs.RecordTable.{format_under};
 ghost use Rattle.sock_diag_extras.specs.SocketOptions.{socket_options};
 
-use crate::told::Told;
+use crate::record::AttributeRecord;
 use byteorder::{ByteOrder, LittleEndian};
 
 /// An option of an internet socket, by its bit in `struct inet_diag_sockopt` of
@@ -43,20 +43,20 @@ pub struct SocketOptions {
     pub bits: u16,
 }
 
-impl Told for SocketOptions {
+impl AttributeRecord for SocketOptions {
     ghost layout = { socket_options };
 
     fn size() -> usize {
         2
     }
 
-    fn from_row(row: &[u8]) -> Self {
+    fn from_fields(row: &[u8]) -> Self {
         SocketOptions {
             bits: LittleEndian::read_u16(row),
         }
     }
 
-    fn write_row(&self, row: &mut [u8]) {
+    fn write_fields(&self, row: &mut [u8]) {
         LittleEndian::write_u16(row, self.bits);
     }
 

@@ -3,7 +3,7 @@
 ghost use Rattle.std.specs.Prelude.{◌≡◌, ◌≤◌, ◌+◌, drop, length, SomeIff};
 ghost use Rattle.std.specs.Result.{result_ok};
 ghost use Rattle.byteorder.specs.Endian.{little_number};
-ghost use Rattle.netlink_core.specs.Format.{read};
+ghost use Rattle.netlink_core.specs.Layout.{read};
 ghost use Rattle.sock_diag_values.specs.TcpInfo.{tcp_info};
 
 use byteorder::{ByteOrder, LittleEndian};
@@ -253,7 +253,7 @@ impl<'a> TcpInfoBytes<'a> {
     }
 
     /// How many bytes were told.
-    pub fn told(&self) -> usize
+    pub fn len(&self) -> usize
         ensures { result ≡ length self.now.bytes.now }
     {
         self.bytes.len()

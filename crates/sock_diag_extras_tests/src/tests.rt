@@ -1,8 +1,8 @@
 //! The bytes are worked out by hand from the layouts of sock_diag(7) and `linux/inet_diag.h`.
 
 use sock_diag_extras::{
-    BbrInfo, DctcpInfo, LenientInetReply, SocketOptions, TcpField, TcpInfoBytes, Told, VegasInfo,
-    read_told, write_told,
+    BbrInfo, DctcpInfo, LenientInetReply, SocketOptions, TcpField, TcpInfoBytes, AttributeRecord, VegasInfo,
+    read_attribute_record, write_attribute_record,
 };
 use std::alloc::Global;
 use std::fmt::Debug;
@@ -71,17 +71,17 @@ fn as_far_as_the_bytes_go(rt: HostRuntime) -> Result<(), Fail> {
     Ok(())
 }
 
-fn shows<T: Told + Debug + Drop>(
+fn shows<T: AttributeRecord + Debug + Drop>(
     rt: &impl Abort,
     alloc: Global,
     digits: &str,
     text: &str,
 ) -> Result<(), Fail> {
     let bytes = hex::decode(alloc, digits)?;
-    let told = read_told::<T>(&bytes).ok_or("too short")?;
+    let told = read_attribute_record::<T>(&bytes).ok_or("too short")?;
     assert!(rt; format!(in alloc; "{told:?}")?.as_str() == text, "{text}");
     let mut back = vec![in alloc; 0; bytes.len()]?;
-    write_told(&told, &mut back);
+    write_attribute_record(&told, &mut back);
     assert!(rt; back == bytes, "{text}");
     Ok(())
 }

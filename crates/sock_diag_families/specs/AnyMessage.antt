@@ -2,11 +2,11 @@
 use Rattle.std.specs.Prelude.{◌≡◌, ℕ, ◌==◌, ◌||◌, not, nat_lt, if◌then◌else◌, List, length}
 use Rattle.std.specs.Prelude.{slice_index, Option, Some, None}
 use Rattle.netlink_core.specs.Codec.{Codec}
-use Rattle.netlink_core.specs.Reply.{reply_codec}
+use Rattle.netlink_core.specs.Response.{response_codec}
 use Rattle.netlink_core.specs.declared.fault.DecodeError.{DecodeError}
 use Rattle.netlink_packet_sock_diag.specs.Message.{Message, message_codec}
-use Rattle.netlink_packet_sock_diag.specs.Viewed.{viewed}
-use Rattle.netlink_packet_sock_diag.specs.ViewedMessage.{viewed_message}
+use Rattle.netlink_packet_sock_diag.specs.ViewModel.{view_model}
+use Rattle.netlink_packet_sock_diag.specs.MessageViewModel.{message_view_model}
 use Rattle.sock_diag_families.specs.NetlinkResponseHeader.{netlink_header}
 use Rattle.sock_diag_families.specs.PacketResponseHeader.{packet_header}
 use Rattle.sock_diag_families.specs.VsockResponseHeader.{vsock_header}
@@ -21,10 +21,10 @@ pub data OtherFamily : Type 0 where
 
 -- how a reply of each is read and written
 abbrev pub codec_of : OtherFamily → Codec (Unit {0})
-codec_of netlink = reply_codec (whole_reply netlink_header)
-codec_of packet = reply_codec (whole_reply packet_header)
-codec_of vsock = reply_codec (whole_reply vsock_header)
-codec_of xdp = reply_codec (whole_reply xdp_header)
+codec_of netlink = response_codec (whole_reply netlink_header)
+codec_of packet = response_codec (whole_reply packet_header)
+codec_of vsock = response_codec (whole_reply vsock_header)
+codec_of xdp = response_codec (whole_reply xdp_header)
 
 -- The family that the first byte of two or more tells under the type 20, SOCK_DIAG_BY_FAMILY: 16
 -- for AF_NETLINK, 17 for AF_PACKET, 40 for AF_VSOCK and 44 for AF_XDP. All else is the port's.
@@ -37,18 +37,18 @@ other_family b t =
     else if slice_index b 0 == 44 then Some xdp
     else None
 
--- what a message says: one of the port, or a reply of another family
+-- the value of a message: one of the port, or a reply of another family
 pub data AnyMessage : Type 0 where
   of_port : Message → AnyMessage
   of_family : (family : OtherFamily) → (codec_of family).Value → AnyMessage
 
 -- what the view says
 abbrev pub viewed_any : AnySockDiagView → AnyMessage
-viewed_any (view.Port message) = of_port (viewed_message message)
-viewed_any (view.Netlink reply) = of_family netlink (viewed reply)
-viewed_any (view.Packet reply) = of_family packet (viewed reply)
-viewed_any (view.Vsock reply) = of_family vsock (viewed reply)
-viewed_any (view.Xdp reply) = of_family xdp (viewed reply)
+viewed_any (view.Port message) = of_port (message_view_model message)
+viewed_any (view.Netlink reply) = of_family netlink (view_model reply)
+viewed_any (view.Packet reply) = of_family packet (view_model reply)
+viewed_any (view.Vsock reply) = of_family vsock (view_model reply)
+viewed_any (view.Xdp reply) = of_family xdp (view_model reply)
 
 -- the message belongs to the bytes under the type: that family is told, and so it is read
 abbrev pub AnyReads : List ℕ → ℕ → AnyMessage → Type 0

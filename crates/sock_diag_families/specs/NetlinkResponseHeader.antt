@@ -1,10 +1,10 @@
 -- The header of a reply about a netlink socket: 28 bytes, the byte at 0 not read and written 16.
 use Rattle.std.specs.Prelude.{⊤, ℕ, List, [], ◌∷◌, ◌++◌, slice_index, refl}
-use Rattle.netlink_core.specs.Format.{Format, plain}
+use Rattle.netlink_core.specs.Layout.{Layout, plain}
 use Rattle.netlink_core.specs.SoundLaws.{IsSound}
 use Rattle.netlink_core.specs.Table.{bytes_at, number, numbers, unread, little_endian}
 use Rattle.netlink_core.specs.declared.fault.RecordName.TheVariants as name
-use Rattle.netlink_core.proofs.FormatLaws.{plain_sound}
+use Rattle.netlink_core.proofs.LayoutLaws.{plain_sound}
 use Rattle.sock_diag_families.specs.declared.netlink.response.NetlinkResponseHeader.{NetlinkResponseHeader}
 
 -- the header with the numbers of its rows
@@ -21,7 +21,7 @@ netlink_header_of values = record {
 }
 
 -- the bytes at 1, 2 and 3, four words of 32 bits from 4 on, and one of 64 at 20, low byte first
-abbrev pub netlink_header : Format (Unit {0}) (Unit {0}) NetlinkResponseHeader
+abbrev pub netlink_header : Layout (Unit {0}) (Unit {0}) NetlinkResponseHeader
 netlink_header = plain (name.FamilyResponseHeader 16) 28
     (unread 0 (16 ∷ []) ∷ bytes_at 1 3 ++ numbers 4 4 little_endian 4
     ++ number 20 8 little_endian ∷ [])

@@ -1,11 +1,11 @@
 -- The request for netlink, packet and XDP sockets: 20 bytes, the byte at 0 not read and written the
 -- family, those at 2 and 3 not read and written 0.
 use Rattle.std.specs.Prelude.{⊤, ℕ, ◌%◌, List, [], ◌∷◌, slice_index, refl}
-use Rattle.netlink_core.specs.Format.{Format, plain}
+use Rattle.netlink_core.specs.Layout.{Layout, plain}
 use Rattle.netlink_core.specs.SoundLaws.{IsSound, is_table}
-use Rattle.netlink_core.specs.Table.{Row, byte, number, unread, little_endian}
+use Rattle.netlink_core.specs.Table.{Field, byte, number, unread, little_endian}
 use Rattle.netlink_core.specs.declared.fault.RecordName.TheVariants as name
-use Rattle.netlink_core.proofs.FormatLaws.{plain_sound}
+use Rattle.netlink_core.proofs.LayoutLaws.{plain_sound}
 use Rattle.std.proofs.Common.{◌<◌, true, IsTrue, ap, lt-ltb, arith}
 use Rattle.sock_diag_families.specs.declared.request.ShowRequest.{ShowRequest}
 
@@ -20,13 +20,13 @@ show_request_of values = record {
 
 -- the rows: the protocol at 1, the words at 4 and 8, and the cookie at 12, a word of 64 bits, low
 -- byte first
-abbrev pub show_rows : ℕ → List Row
+abbrev pub show_rows : ℕ → List Field
 show_rows family =
     unread 0 (family % 256 ∷ []) ∷ byte 1 ∷ unread 2 (0 ∷ 0 ∷ []) ∷ number 4 4 little_endian
     ∷ number 8 4 little_endian ∷ number 12 8 little_endian ∷ []
 
 -- those of the family with that number, which a byte holds
-abbrev pub show_request : (family : ℕ) → Format (Unit {0}) (Unit {0}) (ShowRequest family)
+abbrev pub show_request : (family : ℕ) → Layout (Unit {0}) (Unit {0}) (ShowRequest family)
 show_request family = plain (name.FamilyRequest family) 20 (show_rows family)
     (λ value. value.protocol ∷ value.inode ∷ value.show ∷ value.cookie ∷ []) show_request_of
     (λ value. ⊤)

@@ -1,11 +1,11 @@
 -- The request for vsock sockets: 24 bytes, the bytes at 0 to 3 not read and written 40, 0, 0, 0,
 -- those at 8 to 15 not read and written 0.
 use Rattle.std.specs.Prelude.{⊤, ℕ, List, [], ◌∷◌, replicate, slice_index, refl}
-use Rattle.netlink_core.specs.Format.{Format, plain}
+use Rattle.netlink_core.specs.Layout.{Layout, plain}
 use Rattle.netlink_core.specs.SoundLaws.{IsSound}
 use Rattle.netlink_core.specs.Table.{number, unread, little_endian}
 use Rattle.netlink_core.specs.declared.fault.RecordName.TheVariants as name
-use Rattle.netlink_core.proofs.FormatLaws.{plain_sound}
+use Rattle.netlink_core.proofs.LayoutLaws.{plain_sound}
 use Rattle.sock_diag_families.specs.declared.vsock.request.VsockRequest.{VsockRequest}
 
 -- the request with the numbers of its rows
@@ -13,7 +13,7 @@ abbrev pub vsock_request_of : List ℕ → VsockRequest
 vsock_request_of values = record { states = slice_index values 0; cookie = slice_index values 1 }
 
 -- the states at 4, a word of 32 bits, and the cookie at 16, one of 64, low byte first
-abbrev pub vsock_request : Format (Unit {0}) (Unit {0}) VsockRequest
+abbrev pub vsock_request : Layout (Unit {0}) (Unit {0}) VsockRequest
 vsock_request = plain (name.FamilyRequest 40) 24
     (unread 0 (40 ∷ 0 ∷ 0 ∷ 0 ∷ []) ∷ number 4 4 little_endian ∷ unread 8 (replicate 8 0)
     ∷ number 16 8 little_endian ∷ [])

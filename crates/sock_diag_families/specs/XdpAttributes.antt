@@ -1,6 +1,6 @@
 -- The tables of what the attributes of a reply about an XDP socket tell, all low byte first.
 use Rattle.std.specs.Prelude.{ℕ, List, ◌∷◌, slice_index, Result}
-use Rattle.netlink_core.specs.Table.{Row, number, numbers, little_endian}
+use Rattle.netlink_core.specs.Table.{Field, number, numbers, little_endian}
 use Rattle.netlink_core.specs.declared.fault.DecodeError.{DecodeError}
 use Rattle.sock_diag_families.specs.Found.{fields}
 use Rattle.sock_diag_families.specs.declared.xdp.attributes.XdpInfo.{XdpInfo}
@@ -15,7 +15,7 @@ xdp_info = fields 44 1 8 (numbers 0 4 little_endian 2) (λ words. record {
 })
 
 -- a word of 64 bits, and eight of 32
-abbrev pub xdp_umem_rows : List Row
+abbrev pub xdp_umem_rows : List Field
 xdp_umem_rows = number 0 8 little_endian ∷ numbers 8 4 little_endian 8
 
 abbrev pub xdp_umem_of : List ℕ → XdpUmem
@@ -35,7 +35,7 @@ abbrev pub xdp_umem : List ℕ → Result XdpUmem DecodeError
 xdp_umem = fields 44 5 40 xdp_umem_rows xdp_umem_of
 
 -- six words of 64 bits
-abbrev pub xdp_statistics_rows : List Row
+abbrev pub xdp_statistics_rows : List Field
 xdp_statistics_rows = numbers 0 8 little_endian 6
 
 abbrev pub xdp_statistics_of : List ℕ → XdpStatistics

@@ -2,8 +2,8 @@
 
 ghost use Rattle.std.specs.Prelude.{◌≡◌, List, option_map};
 ghost use Rattle.netlink_core.specs.Attribute.{Attribute};
-ghost use Rattle.netlink_core.specs.Faults.{said_as};
-ghost use Rattle.netlink_core.specs.Format.{read};
+ghost use Rattle.netlink_core.specs.Faults.{map_ok};
+ghost use Rattle.netlink_core.specs.Layout.{read};
 ghost use Rattle.netlink_core.specs.Parse.{exact_number};
 ghost use Rattle.sock_diag_families.specs.Found.{first_value, enough, within};
 
@@ -32,9 +32,9 @@ pub trait WholeAttributes {
         }
     }
 
-    /// The record at the front of the value. A fault is that of the record's reader.
-    fn record_of<T: Record<Told = ()>>(&self, kind: u16) -> Result<Option<T>, DecodeError>
-        ensures { result ≡ within (read T.format tt) (first_value kind (attributes self.now)) }
+    /// The record at the start of the value. A fault is that of the record's reader.
+    fn record_of<T: Record<Param = ()>>(&self, kind: u16) -> Result<Option<T>, DecodeError>
+        ensures { result ≡ within (read T.layout tt) (first_value kind (attributes self.now)) }
     {
         match self.value_of(kind) {
             Some(value) => Ok(Some(read_record(value, ())?)),
@@ -45,7 +45,7 @@ pub trait WholeAttributes {
     /// The value, where it has at least so many bytes. Fewer are `BufferTooSmall`, which names the
     /// attribute by this family and the kind.
     fn enough_of(&self, family: u8, kind: u16, need: usize) -> Result<Option<&[u8]>, DecodeError>
-        ensures { said_as (option_map (λ value. value.now)) result
+        ensures { map_ok (option_map (λ value. value.now)) result
             ≡ within (enough family kind need) (first_value kind (attributes self.now)) }
     {
         match self.value_of(kind) {
@@ -60,9 +60,9 @@ pub trait WholeAttributes {
 }
 
 impl<H: FamilyHeader> WholeAttributes for WholeView<'_, H> {
-    ghost use Rattle.netlink_packet_sock_diag.specs.Viewed.{viewed};
+    ghost use Rattle.netlink_packet_sock_diag.specs.ViewModel.{view_model};
 
-    ghost attributes = { λ view. (viewed view).nlas };
+    ghost attributes = { λ view. (view_model view).nlas };
 
     fn value_of(&self, kind: u16) -> Option<&[u8]> {
         let mut views = self.attributes();

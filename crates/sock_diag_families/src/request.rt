@@ -1,11 +1,11 @@
 //! The request for sockets that three of the families share.
 
 ghost use Rattle.std.proofs.Common.{rules};
-ghost use Rattle.netlink_core.proofs.FormatLaws.{record_laws};
+ghost use Rattle.netlink_core.proofs.LayoutLaws.{record_laws};
 ghost use Rattle.sock_diag_families.specs.ShowRequest.{show_request, show_request_sound};
 
 use byteorder::{ByteOrder, LittleEndian};
-use netlink_core::rows::{long_words_at, words_at};
+use netlink_core::fields::{long_words_at, words_at};
 use netlink_core::{DecodeError, Exact, Record, RecordName};
 
 /// A request for the sockets of the family: 20 bytes, numbers low byte first. The byte at 0 is not
@@ -27,9 +27,9 @@ impl<const FAMILY: u8> Exact for ShowRequest<FAMILY> {
 }
 
 impl<const FAMILY: u8> Record for ShowRequest<FAMILY> {
-    type Told = ();
+    type Param = ();
 
-    ghost format = { show_request FAMILY };
+    ghost layout = { show_request FAMILY };
 
     fn name_and_least() -> (RecordName, usize) {
         (RecordName::FamilyRequest { family: FAMILY }, 20)
@@ -41,7 +41,7 @@ impl<const FAMILY: u8> Record for ShowRequest<FAMILY> {
 
     /// Reads the first 20 bytes. What follows them is ignored, and fewer are
     /// [`DecodeError::BufferTooSmall`].
-    fn from_row(payload: &[u8], _told: ()) -> Result<Self, DecodeError> {
+    fn from_fields(payload: &[u8], _param: ()) -> Result<Self, DecodeError> {
         let [inode, show] = words_at::<2>(payload, 4);
         let [cookie] = long_words_at::<1>(payload, 12);
         Ok(ShowRequest {
@@ -52,15 +52,15 @@ impl<const FAMILY: u8> Record for ShowRequest<FAMILY> {
         })
     }
 
-    fn write_row(&self, row: &mut [u8]) {
-        let (start, rest) = row.split_at_mut(4);
+    fn write_fields(&self, buffer: &mut [u8]) {
+        let (start, rest) = buffer.split_at_mut(4);
         let (words, cookie) = rest.split_at_mut(8);
         start.copy_from_slice(&[FAMILY, self.protocol, 0, 0]);
         LittleEndian::write_u32_into(&[self.inode, self.show], words);
         LittleEndian::write_u64(cookie, self.cookie);
     }
 
-    fn row_typed(&self) {
+    fn fields_in_range(&self) {
         let (_protocol, _inode) = (self.protocol, self.inode);
         let (_show, _cookie) = (self.show, self.cookie);
     }

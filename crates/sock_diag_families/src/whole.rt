@@ -1,9 +1,10 @@
 //! Replies whose attributes are kept whole.
 
 ghost use Rattle.std.specs.Prelude.{[], refl};
-ghost use Rattle.netlink_core.proofs.Replies.{replies_keep_laws};
+ghost use Rattle.netlink_core.proofs.Responses.{responses_keep_laws};
 ghost use Rattle.netlink_core.specs.Walk.{attribute_of};
-ghost use Rattle.netlink_packet_sock_diag.specs.EqualReplyLaws.{reply_test, reply_test_says};
+ghost use Rattle.netlink_packet_sock_diag.specs.EqualResponseLaws.{response_test};
+ghost use Rattle.netlink_packet_sock_diag.specs.EqualResponseLaws.{response_test_decides};
 ghost use Rattle.netlink_packet_sock_diag.specs.HeaderLaws.{enough};
 ghost use Rattle.sock_diag_families.specs.WholeReply.{OneTable, whole_reply, whole_reply_laws};
 
@@ -34,9 +35,9 @@ impl Nla for WholeNla<'_> {
 
 // Of a family without kinds.
 impl<'a> FamilyView<'a> for WholeNla<'a> {
-    ghost family = { [] };
+    ghost attribute_set = { [] };
 
-    ghost viewed = { λ nla. attribute_of nla.0 };
+    ghost model = { λ nla. attribute_of nla.0 };
 
     ghost written_as = { λ _. refl };
 
@@ -50,12 +51,12 @@ impl<'a> FamilyView<'a> for WholeNla<'a> {
 }
 
 /// The header of the replies of one family.
-pub trait FamilyHeader: Record<Told = ()> + Drop {
+pub trait FamilyHeader: Record<Param = ()> + Drop {
     /// The name of the view of such a reply, as `Debug` prints it.
     const NAME: &'static str;
 
     // What is shown of the header's table.
-    ghost table: { OneTable Self.format };
+    ghost table: { OneTable Self.layout };
 }
 
 /// The header of a reply whose attributes are kept whole.
@@ -68,11 +69,11 @@ pub type WholeView<'a, H> = ReplyView<'a, Whole<H>>;
 impl<H: FamilyHeader> ReplyHeader for Whole<H> {
     const VIEW: &'static str = H::NAME;
 
-    ghost reply = { whole_reply H.format };
+    ghost reply = { whole_reply H.layout };
 
-    ghost told = { λ header. header.0 };
+    ghost header_model = { λ header. header.0 };
 
-    ghost test = { reply_test H.PartialEq.eq [] tt };
+    ghost test = { response_test H.PartialEq.eq [] tt };
 
     #[inline(always)]
     fn length() -> usize {
@@ -110,12 +111,12 @@ impl<H: FamilyHeader> ReplyHeader for Whole<H> {
         emit_views::<WholeNla<'_>>(bytes, rest);
     }
 
-    ghost enough = { enough H.format (refl, H.table.fixed) };
+    ghost enough = { enough H.layout (refl, H.table.fixed) };
 
-    ghost keeps = { replies_keep_laws (whole_reply H.format)
-        (whole_reply_laws H.format H.table) };
+    ghost keeps = { responses_keep_laws (whole_reply H.layout)
+        (whole_reply_laws H.layout H.table) };
 
-    ghost compared = { reply_test_says H.PartialEq.eq [] tt H.exact.0 };
+    ghost compared = { response_test_decides H.PartialEq.eq [] tt H.exact.0 };
 }
 
 impl<'a, H: FamilyHeader> ReplyViews<'a> for Whole<H> {

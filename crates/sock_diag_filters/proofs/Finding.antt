@@ -10,7 +10,7 @@ use Rattle.std.specs.declared.net.ip_addr.IpAddr.{IpAddr}
 use Rattle.std.specs.declared.net.ip_addr.IpAddr.TheVariants.{V4, V6}
 use Rattle.sock_diag_filters.specs.declared.condition.Comparison.TheVariants.{AtLeast, AtMost}
 use Rattle.sock_diag_filters.specs.declared.condition.Comparison.TheVariants.{Equal}
-use Rattle.sock_diag_filters.specs.declared.condition.Prefix.{Prefix}
+use Rattle.sock_diag_filters.specs.declared.condition.ValueCodec.{ValueCodec}
 use Rattle.sock_diag_filters.specs.declared.condition.Host.{Host}
 use Rattle.sock_diag_filters.specs.declared.condition.Condition.{Condition}
 use Rattle.sock_diag_filters.specs.declared.condition.Condition.TheVariants.{SourcePort, Source}
@@ -61,13 +61,13 @@ address_found : (a : IpAddr) (bits port family : ℕ) (octets : List ℕ)
 address_found (V4 ip) bits port family octets = refl
 address_found (V6 ip) bits port family octets = refl
 
-prefix_found : (o : Option Prefix) (port family : ℕ) (octets : List ℕ)
+prefix_found : (o : Option ValueCodec) (port family : ℕ) (octets : List ℕ)
     → finds_address family octets (slice_index (host o port) 0) (slice_index (host o port) 1)
     (drop 8 (host o port)) ≡ has_prefix o family octets
 prefix_found None port family octets = refl
 prefix_found (Some p) port family octets = address_found p.address p.bits port family octets
 
-port_at : (o : Option Prefix) (port : ℕ) → port < 2 ^ 32
+port_at : (o : Option ValueCodec) (port : ℕ) → port < 2 ^ 32
     → little_number 4 (drop 4 (host o port)) ≡ port
 port_at None port fits = back 4 port [] fits
 port_at (Some p) port fits = back 4 port (octets_of p.address) fits

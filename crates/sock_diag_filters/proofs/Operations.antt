@@ -10,7 +10,7 @@ use Rattle.std.specs.declared.net.ip_addr.IpAddr.{IpAddr}
 use Rattle.std.specs.declared.net.ip_addr.IpAddr.TheVariants.{V4, V6}
 use Rattle.sock_diag_filters.specs.declared.condition.Comparison.TheVariants.{AtLeast, AtMost}
 use Rattle.sock_diag_filters.specs.declared.condition.Comparison.TheVariants.{Equal}
-use Rattle.sock_diag_filters.specs.declared.condition.Prefix.{Prefix}
+use Rattle.sock_diag_filters.specs.declared.condition.ValueCodec.{ValueCodec}
 use Rattle.sock_diag_filters.specs.declared.condition.Condition.{Condition}
 use Rattle.sock_diag_filters.specs.declared.condition.Condition.TheVariants.{SourcePort, Source}
 use Rattle.sock_diag_filters.specs.declared.condition.Condition.TheVariants.{DestinationPort}
@@ -49,7 +49,7 @@ abbrev pub with_address : IpAddr → ℕ → ℕ → List ℕ
 with_address a bits port =
     (family_of a ∷ bits ∷ 0 ∷ 0 ∷ []) ++ (little_bytes 4 port ++ octets_of a)
 
-abbrev pub host : Option Prefix → ℕ → List ℕ
+abbrev pub host : Option ValueCodec → ℕ → List ℕ
 host o port = front_of o ++ (little_bytes 4 port ++ octets_behind o)
 
 address_in_fours : (a : IpAddr) (bits port : ℕ) → length (with_address a bits port) % 4 ≡ 0
@@ -72,22 +72,22 @@ address_bits : (a : IpAddr) (bits port : ℕ) → bits ≤ bits_of a
 address_bits (V4 ip) bits port h = h
 address_bits (V6 ip) bits port h = h
 
-host_in_fours : (o : Option Prefix) (port : ℕ) → length (host o port) % 4 ≡ 0
+host_in_fours : (o : Option ValueCodec) (port : ℕ) → length (host o port) % 4 ≡ 0
 host_in_fours None port = refl
 host_in_fours (Some p) port = address_in_fours p.address p.bits port
 
-host_few : (o : Option Prefix) (port : ℕ) → length (host o port) ≤ 24
+host_few : (o : Option ValueCodec) (port : ℕ) → length (host o port) ≤ 24
 host_few None port = omega arith
 host_few (Some p) port = address_few p.address p.bits port
 
-host_least : (o : Option Prefix) (code far port : ℕ) (rest : List ℕ)
+host_least : (o : Option ValueCodec) (code far port : ℕ) (rest : List ℕ)
     → option_map (λ (n : ℕ). 12 + n)
     (address_length (slice_index (operation code (host o port) far ++ rest) 4))
     ≡ Some (4 + length (host o port))
 host_least None code far port rest = refl
 host_least (Some p) code far port rest = address_least p.address code far p.bits port rest
 
-host_bits : (o : Option Prefix) (code far port : ℕ) (rest : List ℕ)
+host_bits : (o : Option ValueCodec) (code far port : ℕ) (rest : List ℕ)
     → slice_index (operation code (host o port) far ++ rest) 5
     ≤ 8 * (4 + length (host o port) - 12)
 host_bits None code far port rest = omega arith

@@ -11,18 +11,18 @@ use Rattle.netlink_core.specs.declared.fault.DecodeError.TheVariants.{EnvelopeCu
 use Rattle.netlink_core.specs.declared.fault.DecodeError.TheVariants.{EnvelopeLengthPast}
 use Rattle.netlink_core.specs.declared.fault.DecodeError.TheVariants.{EnvelopeLengthUnder16}
 use Rattle.netlink_core.specs.declared.header.NetlinkHeader.{NetlinkHeader}
-use Rattle.netlink_core.specs.Format.{bytes, read}
+use Rattle.netlink_core.specs.Layout.{bytes, read}
 use Rattle.netlink_core.specs.Header.{HasHeader, IsEnvelopeFault, header_bytes}
 use Rattle.netlink_core.specs.Table.{little_endian}
 use Rattle.netlink_core.proofs.Cutting.{full_is_cut, means_or_fault_apart, one_cut, written_is_cut}
 use Rattle.netlink_core.proofs.Cutting.{written_values_are_read}
 use Rattle.netlink_core.proofs.Headers.{header_length, header_stands, one_header}
 use Rattle.netlink_core.proofs.Numbers.{number-reads_back}
-use Rattle.netlink_core.proofs.Prefixes.{stands_in_front}
+use Rattle.netlink_core.proofs.PrefixCodecs.{is_prefix_codec}
 use Rattle.sock_diag_records.specs.InetRequest.{inet_request}
 use Rattle.sock_diag_records.specs.InetRequestLaws.{inet_request_size, inet_request_sound}
 use Rattle.sock_diag_records.specs.InetRequestLaws.{request_length}
-use Rattle.sock_diag_records.specs.Kinds.{Kinds, kinds_of_family}
+use Rattle.sock_diag_records.specs.IpVersions.{IpVersions, versions_of_family}
 use Rattle.sock_diag_records.specs.declared.inet.request.InetRequest.{InetRequest}
 use Rattle.sock_diag_filters.specs.declared.request.RequestAttribute.{RequestAttribute}
 use Rattle.sock_diag_filters.specs.declared.request.RequestAttribute.TheVariants.{Program, Protocol}
@@ -84,9 +84,9 @@ no_fault_at_header b h (EnvelopeLengthPast word got) head k =
 no_fault_at_header b h _ head k = k
 
 -- a family stands in front of whatever follows
-goes_on : (kinds : Kinds) (left rest : List ℕ) → 56 ≤ length left
-    → kinds_of_family (slice_index left 0) ≡ Ok kinds
-    → kinds_of_family (slice_index (left ++ rest) 0) ≡ Ok kinds
+goes_on : (kinds : IpVersions) (left rest : List ℕ) → 56 ≤ length left
+    → versions_of_family (slice_index left 0) ≡ Ok kinds
+    → versions_of_family (slice_index (left ++ rest) 0) ≡ Ok kinds
 goes_on kinds [] rest long h = absurd (omega arith)
 goes_on kinds (x ∷ left) rest long h = h
 
@@ -117,8 +117,8 @@ module _ (h : NetlinkHeader) (request : InetRequest) (attributes : List RequestA
   is_read : read inet_request tt (record_bytes ++ behind) ≡ Ok request
   unfolding inet_request
   is_read =
-      (stands_in_front inet_request inet_request_sound inet_request_size goes_on).reads_in_front
-      request behind can.typed can.normal
+      (is_prefix_codec inet_request inet_request_sound inet_request_size goes_on).reads_as_prefix
+      request behind can.in_range can.normal
 
   is_behind : (k : NetlinkHeader) → k ≡ header → drop 56 (payload_of message k) ≡ behind
   is_behind k same = ap (λ (g : NetlinkHeader). drop 56 (payload_of message g)) same

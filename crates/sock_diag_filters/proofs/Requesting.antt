@@ -5,9 +5,9 @@ use Rattle.std.proofs.lemmas.List.{drop-drop, length-append}
 use Rattle.std.specs.List.{flat_map}
 use Rattle.netlink_core.specs.Attribute.{Attribute, written}
 use Rattle.netlink_core.specs.declared.header.NetlinkHeader.{NetlinkHeader}
-use Rattle.netlink_core.specs.Format.{bytes, read}
+use Rattle.netlink_core.specs.Layout.{bytes, read}
 use Rattle.netlink_core.specs.Header.{header_bytes}
-use Rattle.netlink_core.proofs.FormatLaws.{accepted}
+use Rattle.netlink_core.proofs.LayoutLaws.{accepted}
 use Rattle.sock_diag_records.specs.InetRequest.{inet_request}
 use Rattle.sock_diag_records.specs.InetRequestLaws.{request_length}
 use Rattle.sock_diag_records.specs.declared.inet.request.InetRequest.{InetRequest}

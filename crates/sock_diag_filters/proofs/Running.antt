@@ -107,7 +107,7 @@ module _ (found : ℕ → List ℕ → Bool) where
       ∙ ap (λ (b : Bool). if b then false else asked) (no_jump c)
       ∙ ap (found (code_of c)) (arguments_are (code_of c) (arguments c) far rest)
 
-  -- the verdict so many bytes on from the front of the rest
+  -- the verdict so many bytes on from the start of the rest
   abbrev Goes : ℕ → List ℕ → Bool → Type 0
   Goes far rest v =
       ((far ≤ length rest) × Runs found (drop far rest) v) ⊎ ((length rest < far) × (v ≡ false))

@@ -53,7 +53,7 @@ over_program (parts.Not' p a) far rest =
     (steps_on _ (jump far ++ rest) rest (over_program a 4 (jump far ++ rest))
     (over_operation 1 [] far rest refl))
 
--- From the front of the rest so many bytes on stands an operation, or the end; or they lead four
+-- From the start of the rest so many bytes on stands an operation, or the end; or they lead four
 -- bytes past it.
 abbrev pub Lands : ℕ → List ℕ → Type 0
 Lands far rest =

@@ -2,9 +2,9 @@
 use Rattle.std.specs.Prelude.{◌≡◌, ℕ, ◌-◌, ◌==◌, ◌⊎◌, if◌then◌else◌, List, Option, Some, None}
 use Rattle.std.specs.Prelude.{Result, Ok, Err, take, drop, option_map, unwrap_or}
 use Rattle.std.specs.List.{filter_map, last_or}
-use Rattle.netlink_core.specs.Attribute.{Attribute, AttributeFault, AttributesMean, kind_of}
-use Rattle.netlink_core.specs.Faults.{said_as}
-use Rattle.netlink_core.specs.Format.{read}
+use Rattle.netlink_core.specs.Attribute.{Attribute, AttributeFault, AttributesMean, attribute_type}
+use Rattle.netlink_core.specs.Faults.{map_ok}
+use Rattle.netlink_core.specs.Layout.{read}
 use Rattle.netlink_core.specs.Header.{HasHeader, IsEnvelopeFault}
 use Rattle.netlink_core.specs.Parse.{exact_number}
 use Rattle.netlink_core.specs.declared.fault.DecodeError.{DecodeError}
@@ -27,8 +27,8 @@ pub data Told : Type 0 where
 -- in exactly four bytes
 abbrev pub told_by : Attribute → Result Told DecodeError
 told_by a =
-    if kind_of a == 1 then Ok (program_told a.value)
-    else if kind_of a == 3 then said_as protocol_told (exact_number None 4 a.value)
+    if attribute_type a == 1 then Ok (program_told a.value)
+    else if attribute_type a == 3 then map_ok protocol_told (exact_number None 4 a.value)
     else Ok nothing_told
 
 -- what an attribute tells that is written
@@ -82,5 +82,4 @@ pub data RefusesRequest (message : List ℕ) (e : DecodeError) : Type 0 where
       → read inet_request tt (payload_of message h) ≡ Err e → RefusesRequest message e
   no_attributes : (h : NetlinkHeader) (asked : InetRequest) → HasHeader message h
       → IsRequestType h.message_type → read inet_request tt (payload_of message h) ≡ Ok asked
-      → AttributeFault told_by (drop 56 (payload_of message h)) e
-      → RefusesRequest message e
+      → AttributeFault told_by (drop 56 (payload_of message h)) e → RefusesRequest message e

@@ -1,6 +1,6 @@
 -- What the kernel asks of a program before it runs it: inet_diag_bc_audit of net/ipv4/inet_diag.c.
 -- What is left of the program from some operation on is a string, and the operation stands at its
--- front: struct inet_diag_bc_op of linux/inet_diag.h.
+-- start: struct inet_diag_bc_op of linux/inet_diag.h.
 use Rattle.std.specs.Prelude.{◌≡◌, ◌≢◌, ℕ, ◌+◌, ◌-◌, ◌*◌, ◌%◌, ◌<◌, ◌≤◌, ◌⊎◌, ◌==◌, if◌then◌else◌}
 use Rattle.std.specs.Prelude.{List, [], ◌∷◌, length, drop, slice_index, slice_get, Option, Some}
 use Rattle.std.specs.Prelude.{None, option_map}
@@ -45,7 +45,7 @@ pub data Steps : List ℕ → List ℕ → Type 0 where
 abbrev pub IsReachable : List ℕ → ℕ → Type 0
 IsReachable program n = (later : List ℕ) × Steps program later × (length later ≡ n)
 
--- the operation at the front of what is left of the program is fine
+-- the operation at the start of what is left of the program is fine
 pub record IsFine (program left : List ℕ) : Type 0 where
   -- it is known, and all of it is there
   pub least : ℕ

@@ -60,27 +60,27 @@ pub fn assemble(alloc: Global, filter: &Filter) -> Result<Vec<u8>, AssembleError
 
 // Writes the program of a filter over as many bytes: who is wanted comes to its end, and who isn't
 // so many bytes past it.
-fn write_program(filter: &Filter, far: usize, row: &mut [u8])
-    requires whole { length row.old ≡ size filter.now }
+fn write_program(filter: &Filter, far: usize, buffer: &mut [u8])
+    requires whole { length buffer.old ≡ size filter.now }
     requires near { size filter.now + far ≤ 65535 }
-    ensures { row.new ≡ program_of filter.now far }
+    ensures { buffer.new ≡ program_of filter.now far }
 {
     match filter {
-        Filter::Condition(condition) => write_condition(*condition, far, row),
+        Filter::Condition(condition) => write_condition(*condition, far, buffer),
         Filter::And(first, second) => {
-            let (front, behind) = row.split_at_mut(first.len());
+            let (front, behind) = buffer.split_at_mut(first.len());
             write_program(first, behind.len() + far, front);
             write_program(second, far, behind);
         }
         Filter::Or(first, second) => {
-            let (front, rest) = row.split_at_mut(first.len());
+            let (front, rest) = buffer.split_at_mut(first.len());
             let (jump, behind) = rest.split_at_mut(4);
             write_program(first, 4, front);
             write_operation(JMP, 0, behind.len(), jump);
             write_program(second, far, behind);
         }
         Filter::Not(filter) => {
-            let (front, jump) = row.split_at_mut(filter.len());
+            let (front, jump) = buffer.split_at_mut(filter.len());
             write_program(filter, 4, front);
             write_operation(JMP, 0, far, jump);
         }
@@ -88,17 +88,17 @@ fn write_program(filter: &Filter, far: usize, row: &mut [u8])
 }
 
 // Writes the operation of a condition.
-fn write_condition(condition: Condition, far: usize, row: &mut [u8])
-    requires whole { length row.old ≡ 4 + length (arguments condition) }
+fn write_condition(condition: Condition, far: usize, buffer: &mut [u8])
+    requires whole { length buffer.old ≡ 4 + length (arguments condition) }
     requires near { 4 + length (arguments condition) + far ≤ 65535 }
-    ensures { row.new ≡ operation (code_of condition) (arguments condition) far }
+    ensures { buffer.new ≡ operation (code_of condition) (arguments condition) far }
 {
-    let (front, behind) = row.split_at_mut(4);
+    let (front, behind) = buffer.split_at_mut(4);
     condition.write_arguments(behind);
     write_operation(condition.code(), behind.len(), far, front);
 }
 
-// Writes the front of an operation that has so many bytes of arguments behind it.
+// Writes the start of an operation that has so many bytes of arguments behind it.
 fn write_operation(code: u8, arguments_len: usize, far: usize, front: &mut [u8])
     requires front { length front.old ≡ 4 }
     requires short { 4 + arguments_len ≤ 255 }

@@ -21,7 +21,7 @@ pub enum Comparison {
 
 /// The first bits of an IPv4 or IPv6 address.
 #[derive(Clone, Copy, Debug, PartialEq, Eq)]
-pub struct Prefix {
+pub struct ValueCodec {
     /// The address that has them.
     pub address: IpAddr,
     /// How many they are: at most 32 of an IPv4 address, and at most 128 of an IPv6 address.
@@ -29,11 +29,11 @@ pub struct Prefix {
     ghost in_range: { bits ≤ bits_of address },
 }
 
-impl Prefix {
+impl ValueCodec {
     ghost use Rattle.sock_diag_filters.specs.Conditions.{IsPrefix};
 
     /// The first so many bits of an address, or none where it hasn't as many.
-    pub fn new(address: IpAddr, bits: u8) -> Option<Prefix>
+    pub fn new(address: IpAddr, bits: u8) -> Option<ValueCodec>
         ensures { IsPrefix result address bits }
     {
         let most = match address {
@@ -43,7 +43,7 @@ impl Prefix {
         if bits > most {
             return None;
         }
-        Some(Prefix { address, bits })
+        Some(ValueCodec { address, bits })
     }
 }
 
@@ -52,7 +52,7 @@ impl Prefix {
 #[derive(Clone, Copy, Debug, PartialEq, Eq)]
 pub struct Host {
     /// The address begins with these bits.
-    pub prefix: Option<Prefix>,
+    pub prefix: Option<ValueCodec>,
     /// The port.
     pub port: Option<u16>,
 }
@@ -122,18 +122,18 @@ impl Condition {
     }
 
     // Writes its arguments over as many bytes.
-    pub(crate) fn write_arguments(self, row: &mut [u8])
-        requires { length row.old ≡ length (arguments self) }
-        ensures { row.new ≡ arguments self }
+    pub(crate) fn write_arguments(self, buffer: &mut [u8])
+        requires { length buffer.old ≡ length (arguments self) }
+        ensures { buffer.new ≡ arguments self }
     {
         match self {
             Condition::SourcePort(_, port) | Condition::DestinationPort(_, port) => {
-                write_port(port, row)
+                write_port(port, buffer)
             }
-            Condition::Source(host) | Condition::Destination(host) => host.write(row),
-            Condition::Interface(number) => LittleEndian::write_u32(row, number),
-            Condition::Mark { mark, mask } => LittleEndian::write_u32_into(&[mark, mask], row),
-            Condition::Cgroup(number) => LittleEndian::write_u64(row, number),
+            Condition::Source(host) | Condition::Destination(host) => host.write(buffer),
+            Condition::Interface(number) => LittleEndian::write_u32(buffer, number),
+            Condition::Mark { mark, mask } => LittleEndian::write_u32_into(&[mark, mask], buffer),
+            Condition::Cgroup(number) => LittleEndian::write_u64(buffer, number),
             Condition::AutoBound => {}
         }
     }
@@ -149,13 +149,13 @@ impl Host {
         match self.prefix {
             None => 8,
             Some(
-                Prefix {
+                ValueCodec {
                     address: IpAddr::V4(_),
                     ..
                 },
             ) => 12,
             Some(
-                Prefix {
+                ValueCodec {
                     address: IpAddr::V6(_),
                     ..
                 },
@@ -164,11 +164,11 @@ impl Host {
     }
 
     // Writes that struct over as many bytes.
-    fn write(self, row: &mut [u8])
-        requires { length row.old ≡ length (host_bytes self) }
-        ensures { row.new ≡ host_bytes self }
+    fn write(self, buffer: &mut [u8])
+        requires { length buffer.old ≡ length (host_bytes self) }
+        ensures { buffer.new ≡ host_bytes self }
     {
-        let (front, rest) = row.split_at_mut(4);
+        let (front, rest) = buffer.split_at_mut(4);
         let (port, address) = rest.split_at_mut(4);
         let (family, bits) = match self.prefix {
             None => (0, 0),
@@ -184,12 +184,12 @@ impl Host {
 
 // Writes the port as the second operation that a comparison has, of code 0 and with the port in
 // place of its `no`.
-fn write_port(port: u16, row: &mut [u8])
-    requires { length row.old ≡ 4 }
-    ensures { row.new ≡ port_bytes port }
+fn write_port(port: u16, buffer: &mut [u8])
+    requires { length buffer.old ≡ 4 }
+    ensures { buffer.new ≡ port_bytes port }
 {
-    row[..2].fill(0);
-    LittleEndian::write_u16(&mut row[2..], port);
+    buffer[..2].fill(0);
+    LittleEndian::write_u16(&mut buffer[2..], port);
 }
 
 // The family of an address.
@@ -203,20 +203,20 @@ pub(crate) fn family(address: IpAddr) -> u8
 }
 
 // Writes the octets of an address over as many bytes.
-fn write_address(address: IpAddr, row: &mut [u8])
-    requires { 8 * length row.old ≡ bits_of address }
-    ensures { row.new ≡ octets_of address }
+fn write_address(address: IpAddr, buffer: &mut [u8])
+    requires { 8 * length buffer.old ≡ bits_of address }
+    ensures { buffer.new ≡ octets_of address }
 {
     match address {
-        IpAddr::V4(ip) => row.copy_from_slice(&ip.octets()),
-        IpAddr::V6(ip) => write_segments(ip, row),
+        IpAddr::V4(ip) => buffer.copy_from_slice(&ip.octets()),
+        IpAddr::V6(ip) => write_segments(ip, buffer),
     }
 }
 
 // The same of an IPv6 address.
-fn write_segments(ip: Ipv6Addr, row: &mut [u8])
-    requires { length row.old ≡ 16 }
-    ensures { row.new ≡ octets_of (V6 ip) }
+fn write_segments(ip: Ipv6Addr, buffer: &mut [u8])
+    requires { length buffer.old ≡ 16 }
+    ensures { buffer.new ≡ octets_of (V6 ip) }
 {
-    BigEndian::write_u16_into(&ip.segments(), row);
+    BigEndian::write_u16_into(&ip.segments(), buffer);
 }

@@ -10,7 +10,7 @@ pub mod uses;
 mod view;
 
 pub use crate::assembly::{AssembleError, MAX_PROGRAM, assemble};
-pub use crate::condition::{Comparison, Condition, Host, Prefix};
+pub use crate::condition::{Comparison, Condition, Host, ValueCodec};
 pub use crate::filter::Filter;
 pub use crate::request::{
     INET_DIAG_REQ_BYTECODE, INET_DIAG_REQ_PROTOCOL, REQUEST_FRONT, RequestAttribute,

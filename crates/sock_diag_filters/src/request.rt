@@ -108,20 +108,20 @@ fn write_front<R: Emitable>(header: &NetlinkHeader, len: u32, value: &R, front: 
 }
 
 // Writes a value over as many bytes.
-pub(crate) fn write_all<R: Emitable>(value: &R, row: &mut [u8])
+pub(crate) fn write_all<R: Emitable>(value: &R, buffer: &mut [u8])
     requires writable { R.writable value.now }
-    requires whole { length row.old ≡ length (R.bytes value.now) }
-    ensures { row.new ≡ R.bytes value.now }
+    requires whole { length buffer.old ≡ length (R.bytes value.now) }
+    ensures { buffer.new ≡ R.bytes value.now }
 {
-    value.emit(row);
+    value.emit(buffer);
 }
 
 // Writes a header with this length over sixteen bytes.
-fn write_header(header: &NetlinkHeader, len: u32, row: &mut [u8])
-    requires { length row.old ≡ 16 }
-    ensures { row.new ≡ header_bytes (header_under header.now len) }
+fn write_header(header: &NetlinkHeader, len: u32, buffer: &mut [u8])
+    requires { length buffer.old ≡ 16 }
+    ensures { buffer.new ≡ header_bytes (header_under header.now len) }
 {
-    let (first, rest) = row.split_at_mut(4);
+    let (first, rest) = buffer.split_at_mut(4);
     let (kind, numbers) = rest.split_at_mut(4);
     LittleEndian::write_u32_into(&[len], first);
     LittleEndian::write_u16_into(&[header.message_type, header.flags], kind);

@@ -3,7 +3,7 @@
 ghost use Rattle.std.specs.Prelude.{◌≡◌, ◌↔◌, List, IsTrue, IfOk, IfErr};
 ghost use Rattle.netlink_core.specs.Attribute.{AttributeFault, AttributesMean};
 ghost use Rattle.netlink_core.specs.Walk.{attribute_of};
-ghost use Rattle.netlink_core.specs.Faults.{said_as};
+ghost use Rattle.netlink_core.specs.Faults.{map_ok};
 ghost use Rattle.sock_diag_filters.specs.Asked.{Asks, IsRequestType, Keeps, Told, told_by};
 ghost use Rattle.sock_diag_filters.specs.Asked.{RefusesRequest};
 ghost use Rattle.sock_diag_filters.specs.AskedSteps.{found_with, told_or_nothing};
@@ -111,7 +111,7 @@ fn find_attributes<'a>(bytes: &'a [u8]) -> Result<Found<'a>, DecodeError>
 
 // What an attribute tells, or nothing.
 fn tell<'a>(attribute: &NlaBuffer<'a>) -> Result<Option<RequestAttribute<'a>>, DecodeError>
-    ensures { told_by (attribute_of attribute.entry.now) ≡ said_as told_or_nothing result }
+    ensures { told_by (attribute_of attribute.entry.now) ≡ map_ok told_or_nothing result }
 {
     match attribute.kind() {
         INET_DIAG_REQ_BYTECODE => Ok(Some(RequestAttribute::Program(attribute.value()))),

@@ -17,14 +17,14 @@ use Rattle.hex.specs.declared.error.FromHexError.{FromHexError}
 use Rattle.netlink_core.specs.Bytes.{IsBytes}
 use Rattle.netlink_core.specs.Envelope.{Payload}
 use Rattle.netlink_core.specs.declared.fault.DecodeError.{DecodeError}
-use Rattle.netlink_packet_sock_diag.specs.Dump.{AreSplit, HaveItems, in_a_row}
+use Rattle.netlink_packet_sock_diag.specs.Dump.{AreSplit, HaveItems, concatenation}
 use Rattle.netlink_packet_sock_diag.specs.Message.{Message as MessageValue, message_codec}
-use Rattle.sock_diag_lines.specs.Answer.{IsAnswerOf, IsRequest, row_of}
+use Rattle.sock_diag_lines.specs.Answer.{IsAnswerOf, IsRequest, entry_of}
 use Rattle.sock_diag_lines.specs.AskedSteps.{IsAnswerTo, IsNoRequest, IsReadAs}
-use Rattle.sock_diag_lines.specs.DumpLine.{IsDumpRequest, TellsDump, shown_dump}
+use Rattle.sock_diag_lines.specs.DumpLine.{IsDumpRequest, IsDumpAnswer, dump_text}
 use Rattle.sock_diag_lines.specs.HexField.{IsHexField}
-use Rattle.sock_diag_lines.specs.ReadDumpSteps.{IsDumpOf, IsWritable, told_dump}
-use Rattle.sock_diag_lines.specs.Told.{IsAccepted, TellsOf}
+use Rattle.sock_diag_lines.specs.ReadDumpSteps.{IsDumpOf, IsWritable, dump_outcome}
+use Rattle.sock_diag_lines.specs.AnswerText.{IsAccepted, IsAnswerAs}
 use Rattle.sock_diag_lines.specs.declared.answers.Asked.{Asked}
 use Rattle.sock_diag_lines.specs.declared.answers.Asked.TheVariants.{Field, Dump, Nothing}
 use Rattle.sock_diag_lines.specs.declared.answers.Name.{Name}
@@ -32,12 +32,13 @@ use Rattle.sock_diag_lines.specs.declared.answers.Name.TheVariants.{UnixRequest,
 use Rattle.sock_diag_lines.specs.declared.answers.Name.TheVariants.{InetRequest, InetResponse}
 use Rattle.sock_diag_lines.specs.declared.answers.Name.TheVariants.{SocketId4, SocketId6, Message}
 use Rattle.sock_diag_lines.specs.declared.answers.Name.TheVariants.{NetlinkMessage, UnixView}
-use Rattle.sock_diag_lines.proofs.DumpLaws.{fields_typed, has_dump_text, one_dump_text}
-use Rattle.sock_diag_lines.proofs.DumpLaws.{tells_same_items, tells_split}
+use Rattle.sock_diag_lines.proofs.DumpLaws.{fields_in_range, has_dump_text, one_dump_text}
+use Rattle.sock_diag_lines.proofs.DumpLaws.{answers_same_items, answers_split}
 use Rattle.sock_diag_lines.proofs.FieldLaws.{IsBytes-field}
-use Rattle.sock_diag_lines.proofs.NameLaws.{laws_of, shows_all}
-use Rattle.sock_diag_lines.proofs.SubjectLaws.{told}
-use Rattle.sock_diag_lines.proofs.Telling.{one_text, tells_same, told-tells, told_alike, told_apart}
+use Rattle.sock_diag_lines.proofs.NameLaws.{laws_of, has_full_text}
+use Rattle.sock_diag_lines.proofs.SubjectLaws.{answer_text}
+use Rattle.sock_diag_lines.proofs.AnswerTexts.{one_text, answers_same, answer_text-tells}
+use Rattle.sock_diag_lines.proofs.AnswerTexts.{texts_alike, texts_apart}
 
 -- ---- what a line asks for, as a function of the line
 
@@ -57,7 +58,7 @@ names = UnixRequest ∷ UnixResponse ∷ InetRequest ∷ InetResponse ∷ Socket
 
 -- the name that a word is
 abbrev pub name_of : List ℕ → Option Name
-name_of word = find (λ name. bytes_eq word (row_of name).0) names
+name_of word = find (λ name. bytes_eq word (entry_of name).0) names
 
 -- the bytes that a field stands for, where there are such
 abbrev pub field_bytes : List ℕ → Option (List ℕ)
@@ -149,7 +150,7 @@ no_field field bytes h (inr digits) =
 
 -- ---- names
 
-name_of-word : (name : Name) → name_of (row_of name).0 ≡ Some name
+name_of-word : (name : Name) → name_of (entry_of name).0 ≡ Some name
 name_of-word UnixRequest = refl
 name_of-word UnixResponse = refl
 name_of-word InetRequest = refl
@@ -173,14 +174,16 @@ find-passes p (y ∷ xs) x h =
     some_same : (a b : Name) → Some b ≡ Some a → b ≡ a
     some_same a b e = cc
 
-name_of-spelled : (word : List ℕ) (name : Name) → name_of word ≡ Some name → word ≡ (row_of name).0
+name_of-spelled : (word : List ℕ) (name : Name) → name_of word ≡ Some name
+    → word ≡ (entry_of name).0
 name_of-spelled word name h =
-    (bytes_eq-Decides word (row_of name).0).0 (find-passes (λ n. bytes_eq word (row_of n).0) names
+    (bytes_eq-Decides word (entry_of name).0).0 (find-passes (λ n.
+    bytes_eq word (entry_of n).0) names
     name h)
 
 -- the first space of a line stands behind its name
 word_place : (name : Name) (field : List ℕ)
-    → position_or_len is_space ((row_of name).0 ++ 32 ∷ field) ≡ length (row_of name).0
+    → position_or_len is_space ((entry_of name).0 ++ 32 ∷ field) ≡ length (entry_of name).0
 word_place UnixRequest field = refl
 word_place UnixResponse field = refl
 word_place InetRequest field = refl
@@ -192,7 +195,7 @@ word_place NetlinkMessage field = refl
 word_place UnixView field = refl
 
 word_left : (name : Name) (field : List ℕ)
-    → drop (length (row_of name).0 + 1) ((row_of name).0 ++ 32 ∷ field) ≡ field
+    → drop (length (entry_of name).0 + 1) ((entry_of name).0 ++ 32 ∷ field) ≡ field
 word_left UnixRequest field = refl
 word_left UnixResponse field = refl
 word_left InetRequest field = refl
@@ -204,7 +207,7 @@ word_left NetlinkMessage field = refl
 word_left UnixView field = refl
 
 -- no name is `dump`
-name_is_no_dump : (name : Name) → bytes_eq (row_of name).0 (codes "dump") ≡ false
+name_is_no_dump : (name : Name) → bytes_eq (entry_of name).0 (codes "dump") ≡ false
 name_is_no_dump UnixRequest = refl
 name_is_no_dump UnixResponse = refl
 name_is_no_dump InetRequest = refl
@@ -279,8 +282,8 @@ asking-spelled word text first behind =
 asking-named : (line : List ℕ) (name : Name) (bytes : List ℕ) → IsRequest line name bytes
     → asking line ≡ named name bytes
 asking-named line name bytes h =
-    ap asking h.1 ∙ asking-spelled (row_of name).0 h.0 (word_place name h.0) (word_left name h.0)
-    ∙ ap (λ b. asking_by b (row_of name).0 h.0) (name_is_no_dump name)
+    ap asking h.1 ∙ asking-spelled (entry_of name).0 h.0 (word_place name h.0) (word_left name h.0)
+    ∙ ap (λ b. asking_by b (entry_of name).0 h.0) (name_is_no_dump name)
     ∙ ap₂ asking_name (name_of-word name) (field_bytes-Some h.0 bytes h.2)
 
 asking-dumped : (line : List ℕ) (datagrams : List (List ℕ)) → IsDumpRequest line datagrams
@@ -386,22 +389,22 @@ kind_of line = by_place (position is_space line) refl
 
 -- what answers the name and bytes of a line answers the line
 asked_answer : (line : List ℕ) (name : Name) (bytes text : List ℕ) → IsRequest line name bytes
-    → TellsOf (row_of name).1 bytes text → IsAnswerOf line text
+    → IsAnswerAs (entry_of name).1 bytes text → IsAnswerOf line text
 asked_answer line name bytes text asked tells = record {
   asked = λ other bytes' also.
       let same = one_request line name other bytes bytes' asked also in
-      subst (λ (n : Name). TellsOf (row_of n).1 bytes' text) same.0
-      (subst (λ (b : List ℕ). TellsOf (row_of name).1 b text) same.1 tells);
+      subst (λ (n : Name). IsAnswerAs (entry_of n).1 bytes' text) same.0
+      (subst (λ (b : List ℕ). IsAnswerAs (entry_of name).1 b text) same.1 tells);
   dumped = λ datagrams dump. absurd (request_is_no_dump line name bytes datagrams asked dump);
   other = λ unnamed undumped. absurd (unnamed name bytes asked);
 }
 
--- what tells of its datagrams does
+-- what answers its datagrams does
 dump_answer : (line : List ℕ) (datagrams : List (List ℕ)) (text : List ℕ)
-    → IsDumpRequest line datagrams → TellsDump datagrams text → IsAnswerOf line text
+    → IsDumpRequest line datagrams → IsDumpAnswer datagrams text → IsAnswerOf line text
 dump_answer line datagrams text dump tells = record {
   asked = λ name bytes asked. absurd (request_is_no_dump line name bytes datagrams asked dump);
-  dumped = λ others also. subst (λ (d : List (List ℕ)). TellsDump d text)
+  dumped = λ others also. subst (λ (d : List (List ℕ)). IsDumpAnswer d text)
       (one_dump_request line datagrams others dump also) tells;
   other = λ unnamed undumped. absurd (undumped datagrams dump);
 }
@@ -415,13 +418,14 @@ bad_answer line text none e = record {
   other = λ unnamed undumped. e;
 }
 
-request_typed : (line : List ℕ) (name : Name) (bytes : List ℕ) → IsRequest line name bytes
+request_in_range : (line : List ℕ) (name : Name) (bytes : List ℕ) → IsRequest line name bytes
     → IsBytes bytes
-request_typed line name bytes asked = IsBytes-field asked.0 bytes asked.2
+request_in_range line name bytes asked = IsBytes-field asked.0 bytes asked.2
 
-datagrams_typed : (line : List ℕ) (datagrams : List (List ℕ)) → IsDumpRequest line datagrams
+datagrams_in_range : (line : List ℕ) (datagrams : List (List ℕ)) → IsDumpRequest line datagrams
     → AllByRecursion IsBytes datagrams
-datagrams_typed line datagrams dump = fields_typed (slice_split is_space dump.0) datagrams dump.2
+datagrams_in_range line datagrams dump =
+    fields_in_range (slice_split is_space dump.0) datagrams dump.2
 
 -- each line has an answer
 has_answer : (line : List ℕ) → (text : List ℕ) × IsAnswerOf line text
@@ -430,14 +434,14 @@ has_answer line = by_kind (kind_of line)
   where
     by_kind : Kind line → (text : List ℕ) × IsAnswerOf line text
     by_kind (inl (name, bytes, asked)) =
-        let text = told (row_of name).1 (laws_of name) bytes in (
+        let text = answer_text (entry_of name).1 (laws_of name) bytes in (
           text,
           asked_answer line name bytes text asked
-              (told-tells (row_of name).1 (laws_of name) bytes
-              (request_typed line name bytes asked)),
+              (answer_text-tells (entry_of name).1 (laws_of name) bytes
+              (request_in_range line name bytes asked)),
         )
     by_kind (inr (inl (datagrams, dump))) =
-        let text = has_dump_text datagrams (datagrams_typed line datagrams dump) in
+        let text = has_dump_text datagrams (datagrams_in_range line datagrams dump) in
         (text.0, dump_answer line datagrams text.0 dump text.1)
     by_kind (inr (inr none)) = (codes "bad line", bad_answer line (codes "bad line") none refl)
 
@@ -447,10 +451,12 @@ unfolding Kind
 one_answer line a b h k = by_kind (kind_of line)
   where
     by_kind : Kind line → a ≡ b
-    by_kind (inl (name, bytes, asked)) = one_text (row_of name).1 (laws_of name) bytes a b
-        (request_typed line name bytes asked) (h.asked name bytes asked) (k.asked name bytes asked)
+    by_kind (inl (name, bytes, asked)) = one_text (entry_of name).1 (laws_of name) bytes a b
+        (request_in_range line name bytes asked) (h.asked name bytes asked)
+        (k.asked name bytes asked)
     by_kind (inr (inl (datagrams, dump))) =
-        one_dump_text datagrams (datagrams_typed line datagrams dump) a b (h.dumped datagrams dump)
+        one_dump_text datagrams (datagrams_in_range line datagrams dump) a b
+        (h.dumped datagrams dump)
         (k.dumped datagrams dump)
     by_kind (inr (inr none)) = h.other none.unnamed none.undumped
         ∙ sym (k.other none.unnamed none.undumped)
@@ -473,7 +479,7 @@ one_function f h = λ i line. one_answer line (answer_of line) (f line) (answer_
 
 -- a name before the first space, and a hex field behind it
 pub request_at : (line : List ℕ) (i : ℕ) (name : Name) (bytes : List ℕ)
-    → Some i ≡ position is_space line → take i line ≡ (row_of name).0
+    → Some i ≡ position is_space line → take i line ≡ (entry_of name).0
     → IsHexField (drop (i + 1) line) bytes → IsRequest line name bytes
 request_at line i name bytes place word field = (
   drop (i + 1) line,
@@ -487,41 +493,42 @@ pub read_answer : (line : List ℕ) (asked : Asked) (bytes text : List ℕ) → 
 read_answer line (Field name) bytes text asked tells = asked_answer line name bytes text asked tells
 read_answer line (Dump dump) bytes text (datagrams, asked, read) tells =
     dump_answer line datagrams text asked
-    (tells_same IsWritable shown_dump (λ d. IsDumpOf datagrams d) (λ fault. ⊥) (told_dump dump)
+    (answers_same IsWritable dump_text (λ d. IsDumpOf datagrams d) (λ fault. ⊥) (dump_outcome dump)
     text read.is tells)
 read_answer line Nothing bytes text none e = bad_answer line text none e
 
 -- ---- answers of two lines
 
-told_is : (line : List ℕ) (name : Name) (bytes text : List ℕ) → IsAnswerOf line text
-    → IsRequest line name bytes → text ≡ told (row_of name).1 (laws_of name) bytes
-told_is line name bytes text h asked =
-    let typed = request_typed line name bytes asked in
-    one_text (row_of name).1 (laws_of name) bytes text _ typed (h.asked name bytes asked)
-    (told-tells (row_of name).1 (laws_of name) bytes typed)
+text_is : (line : List ℕ) (name : Name) (bytes text : List ℕ) → IsAnswerOf line text
+    → IsRequest line name bytes → text ≡ answer_text (entry_of name).1 (laws_of name) bytes
+text_is line name bytes text h asked =
+    let in_range = request_in_range line name bytes asked in
+    one_text (entry_of name).1 (laws_of name) bytes text _ in_range (h.asked name bytes asked)
+    (answer_text-tells (entry_of name).1 (laws_of name) bytes in_range)
 
 -- two fields of one name have one answer where they are idle
 pub answers_alike : (name : Name) (line other bytes bytes' text text' : List ℕ)
     → IsAnswerOf line text → IsAnswerOf other text'
-    → IsRequest line name bytes → IsRequest other name bytes' → IsAccepted (row_of name).1 bytes
-    → IsAccepted (row_of name).1 bytes'
-    → (row_of name).1.idle bytes bytes' → text ≡ text'
+    → IsRequest line name bytes → IsRequest other name bytes' → IsAccepted (entry_of name).1 bytes
+    → IsAccepted (entry_of name).1 bytes'
+    → (entry_of name).1.idle bytes bytes' → text ≡ text'
 answers_alike name line other bytes bytes' text text' h k asked asked' ok ok' i =
-    told_is line name bytes text h asked
-    ∙ told_alike (row_of name).1 (laws_of name) bytes bytes' (request_typed line name bytes asked)
-    (request_typed other name bytes' asked') ok ok' i
-    ∙ sym (told_is other name bytes' text' k asked')
+    text_is line name bytes text h asked
+    ∙ texts_alike (entry_of name).1 (laws_of name) bytes bytes'
+    (request_in_range line name bytes asked)
+    (request_in_range other name bytes' asked') ok ok' i
+    ∙ sym (text_is other name bytes' text' k asked')
 
 -- and but for `unixview` nowhere else
 pub answers_apart : (name : Name) → name ≢ UnixView → (line other bytes bytes' text text' : List ℕ)
     → IsAnswerOf line text → IsAnswerOf other text'
-    → IsRequest line name bytes → IsRequest other name bytes' → IsAccepted (row_of name).1 bytes
-    → IsAccepted (row_of name).1 bytes'
-    → text ≡ text' → (row_of name).1.idle bytes bytes'
+    → IsRequest line name bytes → IsRequest other name bytes' → IsAccepted (entry_of name).1 bytes
+    → IsAccepted (entry_of name).1 bytes'
+    → text ≡ text' → (entry_of name).1.idle bytes bytes'
 answers_apart name all line other bytes bytes' text text' h k asked asked' ok ok' e =
-    told_apart (row_of name).1 (laws_of name) (shows_all name all) bytes bytes'
-    (request_typed line name bytes asked) (request_typed other name bytes' asked') ok ok'
-    (sym (told_is line name bytes text h asked) ∙ e ∙ told_is other name bytes' text' k asked')
+    texts_apart (entry_of name).1 (laws_of name) (has_full_text name all) bytes bytes'
+    (request_in_range line name bytes asked) (request_in_range other name bytes' asked') ok ok'
+    (sym (text_is line name bytes text h asked) ∙ e ∙ text_is other name bytes' text' k asked')
 
 -- dumps over the same items have one answer
 pub dumps_alike : (line other text text' : List ℕ) (datagrams datagrams' : List (List ℕ))
@@ -530,17 +537,18 @@ pub dumps_alike : (line other text text' : List ℕ) (datagrams datagrams' : Lis
     → IsDumpRequest other datagrams'
     → HaveItems message_codec datagrams row → HaveItems message_codec datagrams' row → text ≡ text'
 dumps_alike line other text text' datagrams datagrams' row h k dump dump' have have' =
-    one_dump_text datagrams' (datagrams_typed other datagrams' dump') text text'
-    (tells_same_items datagrams datagrams' row (datagrams_typed line datagrams dump) have have' text
+    one_dump_text datagrams' (datagrams_in_range other datagrams' dump') text text'
+    (answers_same_items datagrams datagrams' row (datagrams_in_range line datagrams dump) have have'
+    text
     (h.dumped datagrams dump)) (k.dumped datagrams' dump')
 
 -- and dumps of the same bytes in whole messages
 pub dumps_split : (line other text text' : List ℕ) (datagrams datagrams' : List (List ℕ))
     → IsAnswerOf line text → IsAnswerOf other text'
     → IsDumpRequest line datagrams → IsDumpRequest other datagrams' → AreSplit datagrams
-    → AreSplit datagrams' → in_a_row datagrams ≡ in_a_row datagrams' → text ≡ text'
+    → AreSplit datagrams' → concatenation datagrams ≡ concatenation datagrams' → text ≡ text'
 dumps_split line other text text' datagrams datagrams' h k dump dump' split split' same =
-    one_dump_text datagrams' (datagrams_typed other datagrams' dump') text text'
-    (tells_split datagrams datagrams' (datagrams_typed line datagrams dump)
-    (datagrams_typed other datagrams' dump') split split' same text (h.dumped datagrams dump))
+    one_dump_text datagrams' (datagrams_in_range other datagrams' dump') text text'
+    (answers_split datagrams datagrams' (datagrams_in_range line datagrams dump)
+    (datagrams_in_range other datagrams' dump') split split' same text (h.dumped datagrams dump))
     (k.dumped datagrams' dump')

@@ -1,11 +1,11 @@
--- What is shown of a type whose reader and writer keep the laws; its written bytes show all.
+-- The text of a type whose reader and writer keep the laws; its written bytes have all.
 use Rattle.std.proofs.Common.{◌≡◌, ◌⊎◌, ℕ, List, refl, ap, subst}
 use Rattle.netlink_core.specs.Bytes.{IsBytes}
 use Rattle.netlink_core.specs.Codec.{Codec, KeepsLaws}
 use Rattle.sock_diag_lines.proofs.FieldLaws.{field_of-same}
 use Rattle.sock_diag_lines.specs.HexField.{field_of}
 use Rattle.sock_diag_lines.specs.Subjects.{subject}
-use Rattle.sock_diag_lines.proofs.SubjectLaws.{LawsOf, ShowsAll, SubjectLaws}
+use Rattle.sock_diag_lines.proofs.SubjectLaws.{LawsOf, HasFullText, SubjectLaws}
 
 module _ {Param : Type 0} (C : Codec Param) (laws : KeepsLaws C) (param : Param) where
   -- bytes have one value
@@ -25,27 +25,28 @@ module _ {Param : Type 0} (C : Codec Param) (laws : KeepsLaws C) (param : Param)
       same_read (C.written w) v w (laws.written_bytes w m.0)
       (subst (λ (x : List ℕ). C.reads x param v) e back) other
 
-  -- what is shown of the values of a type that keeps the laws
-  pub shown_laws : (fits : C.Value → Type 0) (shown : C.Value → List ℕ)
+  -- the text of the values of a type that keeps the laws
+  pub text_laws : (fits : C.Value → Type 0) (text_of : C.Value → List ℕ)
       → ((v : C.Value) → fits v ⊎ ¬ fits v)
-      → SubjectLaws (λ b v. C.reads b param v) (λ b e. C.refuses b param e) fits shown
+      → SubjectLaws (λ b v. C.reads b param v) (λ b e. C.refuses b param e) fits text_of
       (C.idle param)
-  shown_laws fits shown fits_or_not = record {
+  text_laws fits text_of fits_or_not = record {
     answered = λ b h. laws.answered b param h;
     one_value = same_read;
     one_answer = λ b v e. laws.one_answer b param v e;
     one_fault = λ b e f. laws.one_fault b param e f;
     fits_or_not = fits_or_not;
-    shown_alike = λ b c v w hb hc r s i. ap shown ((laws.same_value b c param v w hb hc r s).1 i);
+    written_texts_alike = λ b c v w hb hc r s i.
+        ap text_of ((laws.same_value b c param v w hb hc r s).1 i);
   }
 
   -- its written bytes, as a hex field
   pub written_laws : ((v : C.Value) → C.fits v ⊎ ¬ C.fits v) → LawsOf (subject C param)
-  written_laws fits_or_not = shown_laws C.fits (λ v. field_of (C.written v)) fits_or_not
+  written_laws fits_or_not = text_laws C.fits (λ v. field_of (C.written v)) fits_or_not
 
   -- the written bytes show all of a value
-  pub canonical_shows_all : ShowsAll (subject C param)
-  canonical_shows_all b c v w hb hc r s f g e =
+  pub canonical_has_full_text : HasFullText (subject C param)
+  canonical_has_full_text b c v w hb hc r s f g e =
       let n = laws.reads_normal b param v hb r in
       let m = laws.reads_normal c param w hc s in
       let same = field_of-same (C.written v) (C.written w) (laws.written_bytes v n.0)

@@ -3,12 +3,12 @@ use Rattle.std.proofs.Common.{◌⊎◌, inl, inr, ℕ, ◌+◌, ◌≤◌, List
 use Rattle.std.specs.List.{AllByRecursion}
 use Rattle.std.proofs.lemmas.Bool.{cases_lt}
 use Rattle.netlink_core.specs.Attribute.{Attribute, HasFittingValue}
-use Rattle.netlink_core.specs.Family.{attribute_said}
-use Rattle.netlink_core.specs.Reply.{Reply, ValueOf, reply_bytes, reply_codec}
+use Rattle.netlink_core.specs.AttributeSet.{encodes}
+use Rattle.netlink_core.specs.Response.{ResponseSpec, ValueOf, response_bytes, response_codec}
 use Rattle.netlink_core.specs.Envelope.{Payload, done_with, error_with, no_payload, overrun_with}
 use Rattle.netlink_core.specs.Envelope.{inner, Envelope, OfInner, payload_bytes, envelope_codec}
-use Rattle.netlink_packet_sock_diag.specs.InetReply.{inet_reply}
-use Rattle.netlink_packet_sock_diag.specs.UnixReply.{unix_reply}
+use Rattle.netlink_packet_sock_diag.specs.InetResponseSpec.{inet_response_spec}
+use Rattle.netlink_packet_sock_diag.specs.UnixResponseSpec.{unix_response_spec}
 use Rattle.netlink_packet_sock_diag.specs.Message.{Message, message_of, inet_request, inet_response}
 use Rattle.netlink_packet_sock_diag.specs.Message.{unix_request, unix_response, message_codec}
 
@@ -35,10 +35,10 @@ all_fit : (attributes : List Attribute) → AllByRecursion HasFittingValue attri
     ⊎ ¬ AllByRecursion HasFittingValue attributes
 all_fit attributes = each_or_not HasFittingValue (λ a. at_most (length a.value) 65531) attributes
 
-pub reply_fits_or_not : (R : Reply) (value : ValueOf R) → (reply_codec R).fits value
-    ⊎ ¬ (reply_codec R).fits value
-reply_fits_or_not R value = elim (all_fit (map (attribute_said R.family) value.nlas)) [
-  | inl fits ↦ elim (at_most (length (reply_bytes R value)) 4294967295) [
+pub reply_fits_or_not : (R : ResponseSpec) (value : ValueOf R) → (response_codec R).fits value
+    ⊎ ¬ (response_codec R).fits value
+reply_fits_or_not R value = elim (all_fit (map (encodes R.attribute_set) value.nlas)) [
+  | inl fits ↦ elim (at_most (length (response_bytes R value)) 4294967295) [
     | inl room ↦
         inl (fits, room)
     | inr full ↦ inr (λ h. full h.1)
@@ -48,9 +48,9 @@ reply_fits_or_not R value = elim (all_fit (map (attribute_said R.family) value.n
 
 pub message_fits_or_not : (value : Message) → message_codec.fits value ⊎ ¬ message_codec.fits value
 message_fits_or_not (message_of inet_request request) = inl tt
-message_fits_or_not (message_of inet_response reply) = reply_fits_or_not inet_reply reply
+message_fits_or_not (message_of inet_response reply) = reply_fits_or_not inet_response_spec reply
 message_fits_or_not (message_of unix_request request) = inl tt
-message_fits_or_not (message_of unix_response reply) = reply_fits_or_not unix_reply reply
+message_fits_or_not (message_of unix_response reply) = reply_fits_or_not unix_response_spec reply
 
 inner_fits_or_not : (payload : Payload Message) → OfInner message_codec.fits payload
     ⊎ ¬ OfInner message_codec.fits payload

@@ -13,18 +13,18 @@ use Rattle.netlink_packet_sock_diag.specs.declared.dump.DumpState.TheVariants.{R
 use Rattle.netlink_packet_sock_diag.specs.declared.dump.DumpError.TheVariants.{Ended, Fault}
 use Rattle.netlink_packet_sock_diag.specs.Feed.{FeedLeaves}
 use Rattle.netlink_packet_sock_diag.specs.Dump.{AreSplit, Dump, DatagramDump, DatagramsDump}
-use Rattle.netlink_packet_sock_diag.specs.Dump.{HaveItems, Standing, in_a_row, unended}
+use Rattle.netlink_packet_sock_diag.specs.Dump.{HaveItems, Standing, concatenation, unended}
 use Rattle.netlink_packet_sock_diag.specs.Message.{Message, message_codec}
 use Rattle.netlink_packet_sock_diag.specs.MessageLaws.{message_laws}
 use Rattle.netlink_packet_sock_diag.proofs.DumpRows.{dump_of_split, has_dump, items_of_each, joined}
 use Rattle.netlink_packet_sock_diag.proofs.DumpRows.{one_dump, one_row, same_dump, split_of_dump}
-use Rattle.sock_diag_lines.specs.DumpLine.{TellsDump, shown_dump}
+use Rattle.sock_diag_lines.specs.DumpLine.{IsDumpAnswer, dump_text}
 use Rattle.sock_diag_lines.specs.HexField.{IsHexField}
-use Rattle.sock_diag_lines.specs.ReadDumpSteps.{ToldDump, IsDumpOf, IsWritable, ended_with}
+use Rattle.sock_diag_lines.specs.ReadDumpSteps.{DumpOutcome, IsDumpOf, IsWritable, ended_with}
 use Rattle.sock_diag_lines.proofs.Deciding.{each_or_not, message_fits_or_not}
 use Rattle.sock_diag_lines.proofs.EnvelopeLaws.{envelope_laws}
 use Rattle.sock_diag_lines.proofs.FieldLaws.{IsBytes-field}
-use Rattle.sock_diag_lines.proofs.Telling.{one_telling, tells_value}
+use Rattle.sock_diag_lines.proofs.AnswerTexts.{one_answer_text, answers_value}
 
 -- each datagram has items
 some_items : (b : List ℕ) → IsBytes b → (items : List (Result (Payload Message) DecodeError))
@@ -43,20 +43,20 @@ one_items = one_list message_codec envelope_laws.one_value envelope_laws.one_ans
 has_dumps : (before : List Message) (datagrams : List (List ℕ)) → AllByRecursion IsBytes datagrams
     → (after : List Message) × (end : Result Standing DecodeError)
     × DatagramsDump message_codec before datagrams after end
-has_dumps before datagrams typed =
-    let parts = items_of_each message_codec some_items datagrams typed in
-    let dump = has_dump before (in_a_row parts.0) in
-    (dump.0, dump.1, (in_a_row parts.0, (parts.0, parts.1, refl), dump.2))
+has_dumps before datagrams in_range =
+    let parts = items_of_each message_codec some_items datagrams in_range in
+    let dump = has_dump before (concatenation parts.0) in
+    (dump.0, dump.1, (concatenation parts.0, (parts.0, parts.1, refl), dump.2))
 
 -- and no other
 one_dumps : (before : List Message) (datagrams : List (List ℕ)) → AllByRecursion IsBytes datagrams
     → (a b : List Message) (e f : Result Standing DecodeError)
     → DatagramsDump message_codec before datagrams a e
     → DatagramsDump message_codec before datagrams b f → (a ≡ b) × (e ≡ f)
-one_dumps before datagrams typed a b e f (row, items, d) t =
+one_dumps before datagrams in_range a b e f (row, items, d) t =
     let rows : t.0 ≡ row = t.1.2
-    ∙ ap (λ (parts : List (List (Result (Payload Message) DecodeError))). in_a_row parts)
-    (one_row message_codec one_items datagrams typed t.1.0 items.0 t.1.1 items.1)
+    ∙ ap (λ (parts : List (List (Result (Payload Message) DecodeError))). concatenation parts)
+    (one_row message_codec one_items datagrams in_range t.1.0 items.0 t.1.1 items.1)
     ∙ sym items.2 in
     one_dump before row a b e f d
     (subst (λ (l : List (Result (Payload Message) DecodeError)). Dump before l b f) rows t.2)
@@ -64,60 +64,60 @@ one_dumps before datagrams typed a b e f (row, items, d) t =
 -- ---- one text
 
 -- hex fields stand for bytes
-pub fields_typed : (fields datagrams : List (List ℕ)) → AllZip IsHexField fields datagrams
+pub fields_in_range : (fields datagrams : List (List ℕ)) → AllZip IsHexField fields datagrams
     → AllByRecursion IsBytes datagrams
-fields_typed [] [] each = tt
-fields_typed [] (d ∷ datagrams) each = absurd each
-fields_typed (f ∷ fields) [] each = absurd each
-fields_typed (f ∷ fields) (d ∷ datagrams) each =
-    (IsBytes-field f d each.0, fields_typed fields datagrams each.1)
+fields_in_range [] [] each = tt
+fields_in_range [] (d ∷ datagrams) each = absurd each
+fields_in_range (f ∷ fields) [] each = absurd each
+fields_in_range (f ∷ fields) (d ∷ datagrams) each =
+    (IsBytes-field f d each.0, fields_in_range fields datagrams each.1)
 
--- a text tells of datagrams
+-- a text answers datagrams
 pub has_dump_text : (datagrams : List (List ℕ)) → AllByRecursion IsBytes datagrams → (text : List ℕ)
-    × TellsDump datagrams text
-has_dump_text datagrams typed =
-    let dump = has_dumps [] datagrams typed in
-    tells_value IsWritable shown_dump (λ d. IsDumpOf datagrams d) (λ fault. ⊥) (dump.0, dump.1)
+    × IsDumpAnswer datagrams text
+has_dump_text datagrams in_range =
+    let dump = has_dumps [] datagrams in_range in
+    answers_value IsWritable dump_text (λ d. IsDumpOf datagrams d) (λ fault. ⊥) (dump.0, dump.1)
     dump.2
     (each_or_not _ message_fits_or_not dump.0)
 
 -- and no other
 pub one_dump_text : (datagrams : List (List ℕ)) → AllByRecursion IsBytes datagrams → (x y : List ℕ)
-    → TellsDump datagrams x → TellsDump datagrams y → x ≡ y
-one_dump_text datagrams typed = one_telling IsWritable shown_dump (λ d. IsDumpOf datagrams d)
+    → IsDumpAnswer datagrams x → IsDumpAnswer datagrams y → x ≡ y
+one_dump_text datagrams in_range = one_answer_text IsWritable dump_text (λ d. IsDumpOf datagrams d)
     (λ fault. ⊥) one (λ d fault is never. never) (λ fault other never also. absurd never)
   where
-    one : (d e : ToldDump) → IsDumpOf datagrams d → IsDumpOf datagrams e → d ≡ e
-    one d e is also = let same = one_dumps [] datagrams typed d.0 e.0 d.1 e.1 is also in
+    one : (d e : DumpOutcome) → IsDumpOf datagrams d → IsDumpOf datagrams e → d ≡ e
+    one d e is also = let same = one_dumps [] datagrams in_range d.0 e.0 d.1 e.1 is also in
         λ i. (same.0 i, same.1 i)
 
--- what tells of datagrams tells of others that have the same dumps
-tells_others : (datagrams others : List (List ℕ))
-    → ((d : ToldDump) → IsDumpOf datagrams d → IsDumpOf others d) → (text : List ℕ)
-    → TellsDump datagrams text → TellsDump others text
-tells_others datagrams others same text (inl (d, is, fits, e)) = inl (d, same d is, fits, e)
-tells_others datagrams others same text (inr (inl (d, is, unfit, e))) =
+-- what answers datagrams answers others that have the same dumps
+answers_others : (datagrams others : List (List ℕ))
+    → ((d : DumpOutcome) → IsDumpOf datagrams d → IsDumpOf others d) → (text : List ℕ)
+    → IsDumpAnswer datagrams text → IsDumpAnswer others text
+answers_others datagrams others same text (inl (d, is, fits, e)) = inl (d, same d is, fits, e)
+answers_others datagrams others same text (inr (inl (d, is, unfit, e))) =
     inr (inl (d, same d is, unfit, e))
-tells_others datagrams others same text (inr (inr (fault, never, e))) = absurd never
+answers_others datagrams others same text (inr (inr (fault, never, e))) = absurd never
 
 -- the same items
-pub tells_same_items : (datagrams others : List (List ℕ))
+pub answers_same_items : (datagrams others : List (List ℕ))
     (row : List (Result (Payload Message) DecodeError))
     → AllByRecursion IsBytes datagrams → HaveItems message_codec datagrams row
     → HaveItems message_codec others row
-    → (text : List ℕ) → TellsDump datagrams text → TellsDump others text
-tells_same_items datagrams others row typed h k =
-    tells_others datagrams others
-    (λ d. same_dump message_codec one_items datagrams others h.0 k.0 typed h.1 k.1
+    → (text : List ℕ) → IsDumpAnswer datagrams text → IsDumpAnswer others text
+answers_same_items datagrams others row in_range h k =
+    answers_others datagrams others
+    (λ d. same_dump message_codec one_items datagrams others h.0 k.0 in_range h.1 k.1
     (sym h.2 ∙ k.2) [] d.0 d.1)
 
 -- another split
-pub tells_split : (datagrams others : List (List ℕ)) → AllByRecursion IsBytes datagrams
+pub answers_split : (datagrams others : List (List ℕ)) → AllByRecursion IsBytes datagrams
     → AllByRecursion IsBytes others → AreSplit datagrams → AreSplit others
-    → in_a_row datagrams ≡ in_a_row others → (text : List ℕ) → TellsDump datagrams text
-    → TellsDump others text
-tells_split datagrams others typed fits split cut same =
-    tells_others datagrams others (λ d is. split_of_dump message_codec some_items one_items others
+    → concatenation datagrams ≡ concatenation others → (text : List ℕ) → IsDumpAnswer datagrams text
+    → IsDumpAnswer others text
+answers_split datagrams others in_range fits split cut same =
+    answers_others datagrams others (λ d is. split_of_dump message_codec some_items one_items others
     fits cut [] d.0 d.1
     (subst (λ (bytes : List ℕ). DatagramDump message_codec [] bytes d.0 d.1) same
     (dump_of_split message_codec datagrams split [] d.0 d.1 is)))
@@ -132,13 +132,14 @@ Next middle state datagram after end =
     ⊎ ((state ≢ Ok unended) × (after ≡ middle) × (end ≡ state))
 
 -- the items of datagrams and of one more
-in_a_row-push : (parts : List (List (Result (Payload Message) DecodeError)))
-    (items : List (Result (Payload Message) DecodeError)) → in_a_row (parts ++ items ∷ [])
-    ≡ in_a_row parts ++ items
-in_a_row-push [] items = append-nil items
-in_a_row-push (part ∷ parts) items =
-    ap (λ (l : List (Result (Payload Message) DecodeError)). part ++ l) (in_a_row-push parts items)
-    ∙ sym (append_assoc part (in_a_row parts) items)
+concatenation-push : (parts : List (List (Result (Payload Message) DecodeError)))
+    (items : List (Result (Payload Message) DecodeError)) → concatenation (parts ++ items ∷ [])
+    ≡ concatenation parts ++ items
+concatenation-push [] items = append-nil items
+concatenation-push (part ∷ parts) items =
+    ap (λ (l : List (Result (Payload Message) DecodeError)).
+    part ++ l) (concatenation-push parts items)
+    ∙ sym (append_assoc part (concatenation parts) items)
 
 -- and their row
 grown : (datagrams : List (List ℕ)) (datagram : List ℕ)
@@ -150,7 +151,7 @@ grown datagrams datagram row items have are = (
   zip_append (ItemsAre message_codec) datagrams (datagram ∷ []) have.0 (items ∷ []) have.1
       (are, tt),
   ap (λ (l : List (Result (Payload Message) DecodeError)). l ++ items) have.2
-      ∙ sym (in_a_row-push have.0 items),
+      ∙ sym (concatenation-push have.0 items),
 )
 
 one_more : (datagrams : List (List ℕ)) (datagram : List ℕ) → IsBytes datagram
@@ -159,14 +160,14 @@ one_more : (datagrams : List (List ℕ)) (datagram : List ℕ) → IsBytes datag
     → Next middle state datagram after end
     → DatagramsDump message_codec before (datagrams ++ datagram ∷ []) after end
 unfolding Next
-one_more datagrams datagram typed before middle after state end (row, have, d)
+one_more datagrams datagram in_range before middle after state end (row, have, d)
     (inl (reading, (items, are, dump))) = (
       row ++ items,
       grown datagrams datagram row items have are,
       joined before middle after state end row items d (inl (reading, dump)),
     )
-one_more datagrams datagram typed before middle after state end (row, have, d) (inr off) =
-    let more = some_items datagram typed in (
+one_more datagrams datagram in_range before middle after state end (row, have, d) (inr off) =
+    let more = some_items datagram in_range in (
       row ++ more.0,
       grown datagrams datagram row more.0 have more.1,
       joined before middle after state end row more.0 d (inr off),
@@ -184,7 +185,7 @@ over_at state None over = λ e. over (bare state e)
     bare s e = cc
 over_at state (Some fault) over = λ e. cc
 
-module _ (datagrams : List (List ℕ)) (datagram : List ℕ) (typed : IsBytes datagram)
+module _ (datagrams : List (List ℕ)) (datagram : List ℕ) (in_range : IsBytes datagram)
     (before after : List Message) (state left : Standing) (fault : Option DecodeError)
     (d : DatagramsDump message_codec [] datagrams before (ended_with state fault))
     (none : state ≡ unended → fault ≡ None) where
@@ -194,7 +195,7 @@ module _ (datagrams : List (List ℕ)) (datagram : List ℕ) (typed : IsBytes da
       × (left ≡ unended → fault ≡ None)
   unfolding Next
   took fed = (
-    one_more datagrams datagram typed [] before after (ended_with state fault)
+    one_more datagrams datagram in_range [] before after (ended_with state fault)
         (ended_with left fault) d
         (inl (
           reading_at state fault none fed.0,
@@ -210,7 +211,7 @@ module _ (datagrams : List (List ℕ)) (datagram : List ℕ) (typed : IsBytes da
       × (left ≡ unended → fault ≡ None)
   unfolding Next
   left_as_it_was fed = (
-    one_more datagrams datagram typed [] before after (ended_with state fault)
+    one_more datagrams datagram in_range [] before after (ended_with state fault)
         (ended_with left fault) d
         (inr (over_at state fault fed.0, fed.1, ap (λ (s : Standing). ended_with s fault) fed.2)),
     λ reading. absurd (fed.0 (sym fed.2 ∙ reading)),
@@ -223,7 +224,7 @@ module _ (datagrams : List (List ℕ)) (datagram : List ℕ) (typed : IsBytes da
       × (left ≡ unended → Some e ≡ None)
   unfolding Next
   failed_at e named fed = (
-    one_more datagrams datagram typed [] before after (ended_with state fault) (Err e) d
+    one_more datagrams datagram in_range [] before after (ended_with state fault) (Err e) d
         (inl (reading_at state fault none fed.0, fed.2 named)),
     λ still. absurd (apart (sym fed.1 ∙ still)),
   )

@@ -1,4 +1,4 @@
--- What is shown of netlink messages, which is all of them.
+-- The text of netlink messages, which is all of them.
 use Rattle.std.proofs.Common.{◌≡◌, ◌↔◌, ℕ, ◌-◌, ◌<◌, ◌^◌, List, take, drop, decimal, refl, sym, ap}
 use Rattle.std.proofs.Common.{subst, arith}
 use Rattle.std.proofs.lemmas.Fmt.{decimal_injective}
@@ -6,17 +6,17 @@ use Rattle.netlink_core.specs.Bytes.{IsBytes}
 use Rattle.netlink_core.specs.Envelope.{Payload, done_with, error_with, no_payload, overrun_with}
 use Rattle.netlink_core.specs.Envelope.{inner, Envelope, PayloadIs, payload_bytes, envelope_codec}
 use Rattle.netlink_core.proofs.Framing.{envelope_or_fault, envelope_or_fault_apart}
-use Rattle.netlink_core.proofs.Framing.{one_envelope_fault, payload_typed}
+use Rattle.netlink_core.proofs.Framing.{one_envelope_fault, payload_in_range}
 use Rattle.netlink_core.proofs.Idle.{equal_where_idle, payloads_alike}
 use Rattle.netlink_packet_sock_diag.specs.Message.{message_codec, Message}
 use Rattle.netlink_packet_sock_diag.specs.MessageLaws.{message_laws}
 use Rattle.sock_diag_lines.proofs.CanonicalLaws.{same_written}
 use Rattle.sock_diag_lines.proofs.Deciding.{envelope_fits_or_not}
-use Rattle.sock_diag_lines.specs.EnvelopeLine.{shown_envelope}
+use Rattle.sock_diag_lines.specs.EnvelopeLine.{envelope_text}
 use Rattle.sock_diag_lines.specs.TextSteps.{word}
 use Rattle.sock_diag_lines.proofs.FieldLaws.{decimal_digits, field_of-same, word_and_rest}
 use Rattle.sock_diag_lines.specs.Subjects.{envelope_subject}
-use Rattle.sock_diag_lines.proofs.SubjectLaws.{LawsOf, ShowsAll}
+use Rattle.sock_diag_lines.proofs.SubjectLaws.{LawsOf, HasFullText}
 
 -- ---- words
 
@@ -47,12 +47,12 @@ equal_idle : (b c : List ℕ) (v w : Envelope Message) → IsBytes b → IsBytes
 equal_idle b c v w hb hc r s =
     equal_where_idle message_codec message_laws.same_value b c v w hb hc r s
 
--- messages of which the same is shown are equal
-same_shown : (b c : List ℕ) (v w : Envelope Message) → IsBytes b → IsBytes c
+-- messages of one text are equal
+same_text : (b c : List ℕ) (v w : Envelope Message) → IsBytes b → IsBytes c
     → (envelope_codec message_codec).reads b tt v → (envelope_codec message_codec).reads c tt w
     → (envelope_codec message_codec).fits v → (envelope_codec message_codec).fits w
-    → shown_envelope v ≡ shown_envelope w → v ≡ w
-same_shown b c v w hb hc (head, r) (other, s) f g e =
+    → envelope_text v ≡ envelope_text w → v ≡ w
+same_text b c v w hb hc (head, r) (other, s) f g e =
     let h = head.1 in
     let k = other.1 in
     let lengths = word-same v.header.length w.header.length _ _ h.0 k.0 e in
@@ -66,8 +66,8 @@ same_shown b c v w hb hc (head, r) (other, s) f g e =
     sequences.1 in
     let x : List ℕ = take (v.header.length - 16) (drop 16 b) in
     let y : List ℕ = take (w.header.length - 16) (drop 16 c) in
-    let hx = payload_typed v.header.length b hb in
-    let hy = payload_typed w.header.length c hc in
+    let hx = payload_in_range v.header.length b hb in
+    let hy = payload_in_range w.header.length c hc in
     let p = payload_written v.header.message_type x v.payload hx r in
     let q = payload_written w.header.message_type y w.payload hy s in
     let written = field_of-same (payload_bytes message_codec.written v.payload)
@@ -98,10 +98,11 @@ envelope_laws = record {
   one_fault = λ b e f. one_envelope_fault message_codec b e f
       (λ x t. message_laws.one_fault x t e f);
   fits_or_not = envelope_fits_or_not;
-  shown_alike = λ b c v w hb hc r s i. ap shown_envelope ((equal_idle b c v w hb hc r s).1 i);
+  written_texts_alike = λ b c v w hb hc r s i.
+      ap envelope_text ((equal_idle b c v w hb hc r s).1 i);
 }
 
 -- the fields of the header and the written payload show all of a message
-pub envelope_shows_all : ShowsAll envelope_subject
-envelope_shows_all b c v w hb hc r s f g e =
-    (equal_idle b c v w hb hc r s).0 (same_shown b c v w hb hc r s f g e)
+pub envelope_has_full_text : HasFullText envelope_subject
+envelope_has_full_text b c v w hb hc r s f g e =
+    (equal_idle b c v w hb hc r s).0 (same_text b c v w hb hc r s f g e)

@@ -4,7 +4,7 @@ pub mod SubjectLaws
 pub mod Deciding
 pub mod CanonicalLaws
 pub mod EnvelopeLaws
-pub mod Telling
+pub mod AnswerTexts
 pub mod NameLaws
 pub mod DumpLaws
 pub mod AnswerLemmas

@@ -7,61 +7,65 @@ use Rattle.sock_diag_records.specs.InetRequest.{inet_request}
 use Rattle.sock_diag_records.specs.InetRequestLaws.{inet_request_sound}
 use Rattle.sock_diag_records.specs.SocketId.{socket_id}
 use Rattle.sock_diag_records.specs.SocketIdLaws.{socket_id_sound}
-use Rattle.netlink_packet_sock_diag.specs.UnixReply.{unix_reply}
-use Rattle.netlink_packet_sock_diag.specs.UnixReplyLaws.{unix_reply_laws}
-use Rattle.netlink_packet_sock_diag.specs.InetReply.{inet_reply}
-use Rattle.netlink_packet_sock_diag.specs.InetReplyLaws.{inet_reply_laws}
+use Rattle.netlink_packet_sock_diag.specs.UnixResponseSpec.{unix_response_spec}
+use Rattle.netlink_packet_sock_diag.specs.UnixResponseSpecLaws.{unix_response_laws}
+use Rattle.netlink_packet_sock_diag.specs.InetResponseSpec.{inet_response_spec}
+use Rattle.netlink_packet_sock_diag.specs.InetResponseSpecLaws.{inet_response_laws}
 use Rattle.netlink_packet_sock_diag.specs.Message.{message_codec}
 use Rattle.netlink_packet_sock_diag.specs.MessageLaws.{message_laws}
 use Rattle.netlink_core.specs.Codec.{record_codec}
-use Rattle.netlink_core.specs.Reply.{reply_codec}
-use Rattle.netlink_core.proofs.FormatLaws.{keeps_laws}
-use Rattle.netlink_core.proofs.Replies.{replies_keep_laws}
-use Rattle.sock_diag_lines.specs.Answer.{row_of}
+use Rattle.netlink_core.specs.Response.{response_codec}
+use Rattle.netlink_core.proofs.LayoutLaws.{keeps_laws}
+use Rattle.netlink_core.proofs.Responses.{responses_keep_laws}
+use Rattle.sock_diag_lines.specs.Answer.{entry_of}
 use Rattle.sock_diag_lines.specs.declared.answers.Name.{Name}
 use Rattle.sock_diag_lines.specs.declared.answers.Name.TheVariants.{UnixRequest, UnixResponse}
 use Rattle.sock_diag_lines.specs.declared.answers.Name.TheVariants.{InetRequest, InetResponse}
 use Rattle.sock_diag_lines.specs.declared.answers.Name.TheVariants.{SocketId4, SocketId6, Message}
 use Rattle.sock_diag_lines.specs.declared.answers.Name.TheVariants.{NetlinkMessage, UnixView}
-use Rattle.sock_diag_lines.specs.ViewLine.{shown_reply}
-use Rattle.sock_diag_lines.proofs.CanonicalLaws.{canonical_shows_all, shown_laws, written_laws}
+use Rattle.sock_diag_lines.specs.ViewLine.{reply_text}
+use Rattle.sock_diag_lines.proofs.CanonicalLaws.{canonical_has_full_text, text_laws, written_laws}
 use Rattle.sock_diag_lines.proofs.Deciding.{message_fits_or_not, reply_fits_or_not}
-use Rattle.sock_diag_lines.proofs.EnvelopeLaws.{envelope_laws, envelope_shows_all}
-use Rattle.sock_diag_lines.proofs.SubjectLaws.{LawsOf, ShowsAll}
+use Rattle.sock_diag_lines.proofs.EnvelopeLaws.{envelope_laws, envelope_has_full_text}
+use Rattle.sock_diag_lines.proofs.SubjectLaws.{LawsOf, HasFullText}
 
--- what is shown of each
-pub laws_of : (name : Name) → LawsOf (row_of name).1
+-- the text of each
+pub laws_of : (name : Name) → LawsOf (entry_of name).1
 laws_of UnixRequest = written_laws (record_codec unix_request)
     (keeps_laws unix_request unix_request_sound) tt (λ v. inl tt)
-laws_of UnixResponse = written_laws (reply_codec unix_reply)
-    (replies_keep_laws unix_reply unix_reply_laws) tt (reply_fits_or_not unix_reply)
+laws_of UnixResponse = written_laws (response_codec unix_response_spec)
+    (responses_keep_laws unix_response_spec unix_response_laws) tt
+    (reply_fits_or_not unix_response_spec)
 laws_of InetRequest = written_laws (record_codec inet_request)
     (keeps_laws inet_request inet_request_sound) tt (λ v. inl tt)
-laws_of InetResponse = written_laws (reply_codec inet_reply)
-    (replies_keep_laws inet_reply inet_reply_laws) tt (reply_fits_or_not inet_reply)
+laws_of InetResponse = written_laws (response_codec inet_response_spec)
+    (responses_keep_laws inet_response_spec inet_response_laws) tt
+    (reply_fits_or_not inet_response_spec)
 laws_of SocketId4 = written_laws (record_codec socket_id) (keeps_laws socket_id socket_id_sound) 2
     (λ v. inl tt)
 laws_of SocketId6 = written_laws (record_codec socket_id) (keeps_laws socket_id socket_id_sound) 10
     (λ v. inl tt)
 laws_of Message = written_laws message_codec message_laws 20 message_fits_or_not
 laws_of NetlinkMessage = envelope_laws
-laws_of UnixView = shown_laws (reply_codec unix_reply)
-    (replies_keep_laws unix_reply unix_reply_laws) tt (λ v. ⊤) shown_reply (λ v. inl tt)
+laws_of UnixView = text_laws (response_codec unix_response_spec)
+    (responses_keep_laws unix_response_spec unix_response_laws) tt (λ v. ⊤) reply_text (λ v. inl tt)
 
 -- all names but `unixview` show all
-pub shows_all : (name : Name) → name ≢ UnixView → ShowsAll (row_of name).1
-shows_all UnixRequest h = canonical_shows_all (record_codec unix_request)
+pub has_full_text : (name : Name) → name ≢ UnixView → HasFullText (entry_of name).1
+has_full_text UnixRequest h = canonical_has_full_text (record_codec unix_request)
     (keeps_laws unix_request unix_request_sound) tt
-shows_all UnixResponse h =
-    canonical_shows_all (reply_codec unix_reply) (replies_keep_laws unix_reply unix_reply_laws) tt
-shows_all InetRequest h = canonical_shows_all (record_codec inet_request)
+has_full_text UnixResponse h =
+    canonical_has_full_text (response_codec unix_response_spec)
+    (responses_keep_laws unix_response_spec unix_response_laws) tt
+has_full_text InetRequest h = canonical_has_full_text (record_codec inet_request)
     (keeps_laws inet_request inet_request_sound) tt
-shows_all InetResponse h =
-    canonical_shows_all (reply_codec inet_reply) (replies_keep_laws inet_reply inet_reply_laws) tt
-shows_all SocketId4 h = canonical_shows_all (record_codec socket_id)
+has_full_text InetResponse h =
+    canonical_has_full_text (response_codec inet_response_spec)
+    (responses_keep_laws inet_response_spec inet_response_laws) tt
+has_full_text SocketId4 h = canonical_has_full_text (record_codec socket_id)
     (keeps_laws socket_id socket_id_sound) 2
-shows_all SocketId6 h = canonical_shows_all (record_codec socket_id)
+has_full_text SocketId6 h = canonical_has_full_text (record_codec socket_id)
     (keeps_laws socket_id socket_id_sound) 10
-shows_all Message h = canonical_shows_all message_codec message_laws 20
-shows_all NetlinkMessage h = envelope_shows_all
-shows_all UnixView h = absurd (h refl)
+has_full_text Message h = canonical_has_full_text message_codec message_laws 20
+has_full_text NetlinkMessage h = envelope_has_full_text
+has_full_text UnixView h = absurd (h refl)

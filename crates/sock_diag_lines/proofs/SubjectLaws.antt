@@ -1,14 +1,15 @@
--- What is proved of a subject, and the one text that tells of its bytes.
+-- What is proved of a subject, and the one text that answers its bytes.
 use Rattle.std.proofs.Common.{◌≡◌, ◌⊎◌, inl, inr, ℕ, List}
 use Rattle.netlink_core.specs.Bytes.{IsBytes}
 use Rattle.netlink_core.specs.declared.fault.DecodeError.{DecodeError}
-use Rattle.sock_diag_lines.specs.Told.{Subject}
+use Rattle.sock_diag_lines.specs.AnswerText.{Subject}
 use Rattle.sock_diag_lines.specs.TextSteps.{accepted, refused, unwritable}
 use Rattle.sock_diag_lines.proofs.ByteLaws.{as_bytes, IsBytes-as_bytes}
 
 -- what is proved of a subject
 pub record SubjectLaws {Value : Type 0} (reads : List ℕ → Value → Type 0) (refuses : List ℕ
-    → DecodeError → Type 0) (fits : Value → Type 0) (shown : Value → List ℕ) (idle : List ℕ → List ℕ
+    → DecodeError → Type 0) (fits : Value → Type 0) (text_of : Value → List ℕ) (idle : List ℕ
+    → List ℕ
     → Type 0) : Type 0 where
   -- bytes have one value or one fault, not both
   pub answered : (b : List ℕ) → IsBytes b → ((v : Value) × reads b v)
@@ -19,32 +20,33 @@ pub record SubjectLaws {Value : Type 0} (reads : List ℕ → Value → Type 0) 
   -- whether a value can be written is decided
   pub fits_or_not : (v : Value) → fits v ⊎ ¬ fits v
   -- idle bytes show the same
-  pub shown_alike : (b c : List ℕ) (v w : Value) → IsBytes b → IsBytes c → reads b v → reads c w
-      → idle b c → shown v ≡ shown w
+  pub written_texts_alike : (b c : List ℕ) (v w : Value) → IsBytes b → IsBytes c → reads b v
+      → reads c w
+      → idle b c → text_of v ≡ text_of w
 
 abbrev pub LawsOf : Subject → Type 0
-LawsOf S = SubjectLaws S.reads S.refuses S.fits S.shown S.idle
+LawsOf S = SubjectLaws S.reads S.refuses S.fits S.text_of S.idle
 
 -- bytes whose values can be written and show the same are idle
-abbrev pub ShowsAll : Subject → Type 0
-ShowsAll S = (b c : List ℕ) (v w : S.Value) → IsBytes b → IsBytes c → S.reads b v → S.reads c w
-    → S.fits v → S.fits w → S.shown v ≡ S.shown w → S.idle b c
+abbrev pub HasFullText : Subject → Type 0
+HasFullText S = (b c : List ℕ) (v w : S.Value) → IsBytes b → IsBytes c → S.reads b v → S.reads c w
+    → S.fits v → S.fits w → S.text_of v ≡ S.text_of w → S.idle b c
 
--- ---- the one text that tells of bytes, by the laws
+-- ---- the one text that answers bytes, by the laws
 
--- what is told of a value
-abbrev pub told_value : (S : Subject) (value : S.Value) → S.fits value ⊎ ¬ S.fits value → List ℕ
-told_value S value (inl fits) = accepted (S.shown value)
-told_value S value (inr unfit) = unwritable
+-- the answer to a value
+abbrev pub text_of_value : (S : Subject) (value : S.Value) → S.fits value ⊎ ¬ S.fits value → List ℕ
+text_of_value S value (inl fits) = accepted (S.text_of value)
+text_of_value S value (inr unfit) = unwritable
 
--- what is told of a value or a fault
-abbrev pub told_answer : (S : Subject) → LawsOf S → (field : List ℕ)
+-- the answer to a value or a fault
+abbrev pub text_of_answer : (S : Subject) → LawsOf S → (field : List ℕ)
     → ((value : S.Value) × S.reads field value) ⊎ ((fault : DecodeError) × S.refuses field fault)
     → List ℕ
-told_answer S laws field (inl (value, reads)) = told_value S value (laws.fits_or_not value)
-told_answer S laws field (inr (fault, refuses)) = refused fault
+text_of_answer S laws field (inl (value, reads)) = text_of_value S value (laws.fits_or_not value)
+text_of_answer S laws field (inr (fault, refuses)) = refused fault
 
--- what is told of a subject's bytes; each number is taken as a byte
-unfoldable pub told : (S : Subject) → LawsOf S → List ℕ → List ℕ
-told S laws field = told_answer S laws (as_bytes field)
+-- the answer to a subject's bytes; each number is taken as a byte
+unfoldable pub answer_text : (S : Subject) → LawsOf S → List ℕ → List ℕ
+answer_text S laws field = text_of_answer S laws (as_bytes field)
     (laws.answered (as_bytes field) (IsBytes-as_bytes field))

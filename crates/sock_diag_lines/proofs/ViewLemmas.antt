@@ -6,14 +6,14 @@ use Rattle.std.specs.Prelude.{option_map}
 use Rattle.std.specs.List.{join_with_byte}
 use Rattle.std.proofs.lemmas.List.{take_more, length-take}
 use Rattle.std.proofs.lemmas.Option.{get_or_from_slice_get, slice_get_within}
-use Rattle.netlink_core.specs.Family.{content}
+use Rattle.netlink_core.specs.AttributeSet.{content}
 use Rattle.sock_diag_attributes.specs.Name.{SocketName}
 use Rattle.sock_diag_attributes.specs.UnixAttributes.{unix}
 use Rattle.sock_diag_records.specs.declared.unix.response.UnixResponseHeader.{UnixResponseHeader}
 use Rattle.netlink_packet_sock_diag.specs.UnixGetters.{first_of, listening_queue_of, other_queue_of}
-use Rattle.netlink_packet_sock_diag.specs.UnixReply.{UnixReply}
+use Rattle.netlink_packet_sock_diag.specs.UnixResponseSpec.{UnixResponseValue}
 use Rattle.sock_diag_lines.specs.TextSteps.{accepted}
-use Rattle.sock_diag_lines.specs.ViewLine.{comma_list, name_word, or_none, shown_reply}
+use Rattle.sock_diag_lines.specs.ViewLine.{comma_list, name_word, or_none, reply_text}
 
 -- ---- numbers with commas between
 
@@ -50,10 +50,10 @@ next_listed xs i x low h =
 -- ---- words with one space between
 
 -- what is told as something else
-or_none-map : {A B : Type 0} (shown : B → List ℕ) (f : A → B) (told : Option A)
-    → or_none shown (option_map f told) ≡ or_none (λ a. shown (f a)) told
-or_none-map shown f None = refl
-or_none-map shown f (Some a) = refl
+or_none-map : {A B : Type 0} (text_of : B → List ℕ) (f : A → B) (found : Option A)
+    → or_none text_of (option_map f found) ≡ or_none (λ a. text_of (f a)) found
+or_none-map text_of f None = refl
+or_none-map text_of f (Some a) = refl
 
 -- the text is a front and these words
 record Joined (front first : List ℕ) (words : List (List ℕ)) (text : List ℕ) : Type 0 where
@@ -93,7 +93,7 @@ header_words h h' front text e same = record {
 }
 
 -- `ok` and the words of a reply, one after the other
-pub reply_told : (v : UnixReply) (h : UnixResponseHeader) (peer : Option ℕ)
+pub reply_words : (v : UnixResponseValue) (h : UnixResponseHeader) (peer : Option ℕ)
     (name : Option SocketName) (pending : Option (List ℕ))
     (shutdown waiting limit received sent datagram memory : Option ℕ)
     (old t0 t1 t2 t3 t4 t5 t6 t7 t8 t9 t10 t11 : List ℕ)
@@ -120,8 +120,8 @@ pub reply_told : (v : UnixReply) (h : UnixResponseHeader) (peer : Option ℕ)
     → t9 ≡ t8 ++ 32 ∷ or_none decimal sent
     → t10 ≡ t9 ++ 32 ∷ or_none decimal datagram
     → t11 ≡ t10 ++ 32 ∷ or_none decimal memory
-    → t11 ≡ old ++ accepted (shown_reply v)
-reply_told v h peer name pending shutdown waiting limit received sent datagram memory old t0 t1 t2
+    → t11 ≡ old ++ accepted (reply_text v)
+reply_words v h peer name pending shutdown waiting limit received sent datagram memory old t0 t1 t2
     t3 t4 t5 t6 t7 t8 t9 t10 t11
     h_is peer_is name_is pending_is shutdown_is waiting_is limit_is received_is sent_is datagram_is
     memory_is e0 e1 e2 e3 e4 e5 e6 e7 e8 e9 e10 e11 =
@@ -142,4 +142,4 @@ reply_told v h peer name pending shutdown waiting limit received sent datagram m
     (ap (or_none decimal) datagram_is ∙ or_none-map decimal (λ info. info.max_datagram_size) _) in
     let j11 = then_word _ _ _ t10 t11 _ _ j10 e11
     (ap (or_none decimal) memory_is ∙ or_none-map decimal (λ info. info.alloc) _) in
-    j11.is ∙ ap (λ t. t ++ shown_reply v) e0 ∙ append_assoc old (codes "ok ") (shown_reply v)
+    j11.is ∙ ap (λ t. t ++ reply_text v) e0 ∙ append_assoc old (codes "ok ") (reply_text v)

@@ -4,14 +4,14 @@ use Rattle.std.specs.List.{starts_with}
 use Rattle.sock_diag_records.specs.UnixRequest.{unix_request}
 use Rattle.sock_diag_records.specs.InetRequest.{inet_request}
 use Rattle.sock_diag_records.specs.SocketId.{socket_id}
-use Rattle.netlink_packet_sock_diag.specs.UnixReply.{unix_reply}
-use Rattle.netlink_packet_sock_diag.specs.InetReply.{inet_reply}
+use Rattle.netlink_packet_sock_diag.specs.UnixResponseSpec.{unix_response_spec}
+use Rattle.netlink_packet_sock_diag.specs.InetResponseSpec.{inet_response_spec}
 use Rattle.netlink_packet_sock_diag.specs.Message.{message_codec}
 use Rattle.netlink_core.specs.Codec.{record_codec}
-use Rattle.netlink_core.specs.Reply.{reply_codec}
-use Rattle.sock_diag_lines.specs.DumpLine.{IsDumpRequest, TellsDump}
+use Rattle.netlink_core.specs.Response.{response_codec}
+use Rattle.sock_diag_lines.specs.DumpLine.{IsDumpRequest, IsDumpAnswer}
 use Rattle.sock_diag_lines.specs.HexField.{IsHexField}
-use Rattle.sock_diag_lines.specs.Told.{Subject, TellsOf}
+use Rattle.sock_diag_lines.specs.AnswerText.{Subject, IsAnswerAs}
 use Rattle.sock_diag_lines.specs.Subjects.{subject, envelope_subject, view_subject}
 use Rattle.sock_diag_lines.specs.declared.answers.Name.{Name}
 use Rattle.sock_diag_lines.specs.declared.answers.Name.TheVariants.{UnixRequest, UnixResponse}
@@ -21,26 +21,26 @@ use Rattle.sock_diag_lines.specs.declared.answers.Name.TheVariants.{NetlinkMessa
 
 -- How each name is spelled, and what its bytes are read as; the socket identities under AF_INET, 2,
 -- and AF_INET6, 10, and a message under the type 20, SOCK_DIAG_BY_FAMILY.
-abbrev pub row_of : Name → List ℕ × Subject
-row_of UnixRequest = (codes "unixreq", subject (record_codec unix_request) tt)
-row_of UnixResponse = (codes "unix", subject (reply_codec unix_reply) tt)
-row_of InetRequest = (codes "inetreq", subject (record_codec inet_request) tt)
-row_of InetResponse = (codes "inet", subject (reply_codec inet_reply) tt)
-row_of SocketId4 = (codes "sockid4", subject (record_codec socket_id) 2)
-row_of SocketId6 = (codes "sockid6", subject (record_codec socket_id) 10)
-row_of Message = (codes "message", subject message_codec 20)
-row_of NetlinkMessage = (codes "netlink", envelope_subject)
-row_of UnixView = (codes "unixview", view_subject)
+abbrev pub entry_of : Name → List ℕ × Subject
+entry_of UnixRequest = (codes "unixreq", subject (record_codec unix_request) tt)
+entry_of UnixResponse = (codes "unix", subject (response_codec unix_response_spec) tt)
+entry_of InetRequest = (codes "inetreq", subject (record_codec inet_request) tt)
+entry_of InetResponse = (codes "inet", subject (response_codec inet_response_spec) tt)
+entry_of SocketId4 = (codes "sockid4", subject (record_codec socket_id) 2)
+entry_of SocketId6 = (codes "sockid6", subject (record_codec socket_id) 10)
+entry_of Message = (codes "message", subject message_codec 20)
+entry_of NetlinkMessage = (codes "netlink", envelope_subject)
+entry_of UnixView = (codes "unixview", view_subject)
 
 -- the line is a name, one space and a hex field of these bytes
 abbrev pub IsRequest : List ℕ → Name → List ℕ → Type 0
-IsRequest line name b = (hex : List ℕ) × (line ≡ (row_of name).0 ++ 32 ∷ hex) × IsHexField hex b
+IsRequest line name b = (hex : List ℕ) × (line ≡ (entry_of name).0 ++ 32 ∷ hex) × IsHexField hex b
 
--- The text answers the line: it tells of the bytes of its name, or of its dump, and is `bad line`
+-- The text answers the line: it answers the bytes of its name, or of its dump, and is `bad line`
 -- where the line is no name with a hex field, and no dump.
 pub record IsAnswerOf (line text : List ℕ) : Type 0 where
-  pub asked : (name : Name) (b : List ℕ) → IsRequest line name b → TellsOf (row_of name).1 b text
-  pub dumped : (datagrams : List (List ℕ)) → IsDumpRequest line datagrams → TellsDump datagrams text
+  pub asked : (n : Name) (b : List ℕ) → IsRequest line n b → IsAnswerAs (entry_of n).1 b text
+  pub dumped : (given : List (List ℕ)) → IsDumpRequest line given → IsDumpAnswer given text
   pub other : ((name : Name) (b : List ℕ) → ¬ IsRequest line name b)
       → ((datagrams : List (List ℕ)) → ¬ IsDumpRequest line datagrams) → text ≡ codes "bad line"
 

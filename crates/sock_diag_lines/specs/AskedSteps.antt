@@ -1,9 +1,9 @@
 -- What a line is read as, and what answers that.
 use Rattle.std.specs.Prelude.{◌≡◌, ℕ, List, codes}
-use Rattle.sock_diag_lines.specs.Answer.{IsRequest, row_of}
-use Rattle.sock_diag_lines.specs.DumpLine.{IsDumpRequest, shown_dump}
-use Rattle.sock_diag_lines.specs.ReadDumpSteps.{IsReadDump, IsWritable, told_dump}
-use Rattle.sock_diag_lines.specs.Told.{Tells, TellsOf}
+use Rattle.sock_diag_lines.specs.Answer.{IsRequest, entry_of}
+use Rattle.sock_diag_lines.specs.DumpLine.{IsDumpRequest, dump_text}
+use Rattle.sock_diag_lines.specs.ReadDumpSteps.{IsReadDump, IsWritable, dump_outcome}
+use Rattle.sock_diag_lines.specs.AnswerText.{IsAnswerText, IsAnswerAs}
 use Rattle.sock_diag_lines.specs.declared.answers.Name.{Name}
 use Rattle.sock_diag_lines.specs.declared.answers.Asked.{Asked}
 use Rattle.sock_diag_lines.specs.declared.answers.Asked.TheVariants.{Field, Dump, Nothing}
@@ -22,7 +22,8 @@ IsReadAs line Nothing bytes = IsNoRequest line
 
 -- the text answers what a line was read as
 abbrev pub IsAnswerTo : Asked → List ℕ → List ℕ → Type 0
-IsAnswerTo (Field name) bytes text = TellsOf (row_of name).1 bytes text
-IsAnswerTo (Dump dump) bytes text = Tells (λ d. d ≡ told_dump dump) (λ fault. ⊥) IsWritable
-    shown_dump text
+IsAnswerTo (Field name) bytes text = IsAnswerAs (entry_of name).1 bytes text
+IsAnswerTo (Dump dump) bytes text =
+    IsAnswerText (λ d. d ≡ dump_outcome dump) (λ fault. ⊥) IsWritable
+    dump_text text
 IsAnswerTo Nothing bytes text = text ≡ codes "bad line"

@@ -1,4 +1,4 @@
--- A line that asks for the dump over some datagrams, and what is shown of it.
+-- A line that asks for the dump over some datagrams, and the text of it.
 use Rattle.std.specs.Prelude.{◌≡◌, ◌==◌, ℕ, List, [], ◌∷◌, ◌++◌, length, codes, decimal, Result, Ok}
 use Rattle.std.specs.Prelude.{Err}
 use Rattle.std.specs.List.{AllByRecursion, AllZip, flat_map, slice_split}
@@ -9,7 +9,7 @@ use Rattle.netlink_packet_sock_diag.specs.declared.dump.DumpState.TheVariants.{O
 use Rattle.netlink_packet_sock_diag.specs.Dump.{DatagramsDump, Standing}
 use Rattle.netlink_packet_sock_diag.specs.Message.{Message, message_codec}
 use Rattle.sock_diag_lines.specs.HexField.{IsHexField, field_of}
-use Rattle.sock_diag_lines.specs.Told.{Tells}
+use Rattle.sock_diag_lines.specs.AnswerText.{IsAnswerText}
 
 -- the line is `dump`, a space, and hex fields of these datagrams with one space, 32, between
 abbrev pub IsDumpRequest : List ℕ → List (List ℕ) → Type 0
@@ -27,12 +27,13 @@ end_word (Err fault) = codes "failed:" ++ decimal (number_of fault)
 
 -- of a dump's messages and its end: how it ends, a space, how many messages it keeps, and a space
 -- and a hex field for each of them
-abbrev pub shown_dump : List Message × Result Standing DecodeError → List ℕ
-shown_dump dump = end_word dump.1 ++ 32 ∷ decimal (length dump.0)
+abbrev pub dump_text : List Message × Result Standing DecodeError → List ℕ
+dump_text dump = end_word dump.1 ++ 32 ∷ decimal (length dump.0)
     ++ flat_map (λ message. 32 ∷ field_of (message_codec.written message)) dump.0
 
--- The text tells of the dump over the datagrams, which is never refused. It can be written where
+-- The text answers the dump over the datagrams, which is never refused. It can be written where
 -- each message that it keeps can be.
-abbrev pub TellsDump : List (List ℕ) → List ℕ → Type 0
-TellsDump datagrams text = Tells (λ dump. DatagramsDump message_codec [] datagrams dump.0 dump.1)
-    (λ fault. ⊥) (λ dump. AllByRecursion message_codec.fits dump.0) shown_dump text
+abbrev pub IsDumpAnswer : List (List ℕ) → List ℕ → Type 0
+IsDumpAnswer datagrams text = IsAnswerText (λ dump.
+    DatagramsDump message_codec [] datagrams dump.0 dump.1)
+    (λ fault. ⊥) (λ dump. AllByRecursion message_codec.fits dump.0) dump_text text

@@ -1,4 +1,4 @@
--- What is shown of a netlink message: the five fields of its header in decimal, and its payload's
+-- The text of a netlink message: the five fields of its header in decimal, and its payload's
 -- bytes as a hex field.
 use Rattle.std.specs.Prelude.{ℕ, List, [], ◌∷◌, ◌++◌, map, decimal}
 use Rattle.std.specs.List.{join_with_byte}
@@ -8,7 +8,7 @@ use Rattle.sock_diag_lines.specs.HexField.{field_of}
 
 -- length, type, flags, sequence number and port number as they were read, and the payload as it is
 -- written, with one space, 32, between
-abbrev pub shown_envelope : Envelope Message → List ℕ
-shown_envelope e = let h = e.header in join_with_byte 32 (
+abbrev pub envelope_text : Envelope Message → List ℕ
+envelope_text e = let h = e.header in join_with_byte 32 (
     map decimal (h.length ∷ h.message_type ∷ h.flags ∷ h.sequence_number ∷ h.port_number ∷ [])
     ++ field_of (payload_bytes message_codec.written e.payload) ∷ [])

@@ -1,5 +1,5 @@
 pub mod HexField
-pub mod Told
+pub mod AnswerText
 pub mod TextSteps
 pub mod EnvelopeLine
 pub mod ViewLine

@@ -9,7 +9,7 @@ Adds old new P = (more : List ℕ) × (new ≡ old ++ more) × P more
 
 -- `ok` and what is shown
 abbrev pub accepted : List ℕ → List ℕ
-accepted shown = codes "ok " ++ shown
+accepted text_of = codes "ok " ++ text_of
 
 -- `unwritable`, for a value that can't be written
 abbrev pub unwritable : List ℕ

@@ -1,17 +1,17 @@
--- What is shown of a reply about a UNIX socket: thirteen words with one space between.
+-- The text of a reply about a UNIX socket: thirteen words with one space between.
 use Rattle.std.specs.Prelude.{ℕ, List, [], ◌∷◌, ◌++◌, map, codes, decimal, Option, None, Some}
 use Rattle.std.specs.List.{join_with_byte}
-use Rattle.netlink_core.specs.Family.{content}
+use Rattle.netlink_core.specs.AttributeSet.{content}
 use Rattle.sock_diag_attributes.specs.Name.{SocketName, abstract, pathname}
 use Rattle.sock_diag_attributes.specs.UnixAttributes.{unix}
 use Rattle.netlink_packet_sock_diag.specs.UnixGetters.{first_of, listening_queue_of, other_queue_of}
-use Rattle.netlink_packet_sock_diag.specs.UnixReply.{UnixReply}
+use Rattle.netlink_packet_sock_diag.specs.UnixResponseSpec.{UnixResponseValue}
 use Rattle.sock_diag_lines.specs.HexField.{field_of}
 
 -- what is told, shown so, or `none`
 abbrev pub or_none : {A : Type 0} → (A → List ℕ) → Option A → List ℕ
-or_none shown None = codes "none"
-or_none shown (Some told) = shown told
+or_none text_of None = codes "none"
+or_none text_of (Some found) = text_of found
 
 -- the sort of a name, and its bytes as a hex field
 abbrev pub name_word : SocketName → List ℕ
@@ -24,18 +24,18 @@ comma_list [] = codes "-"
 comma_list (n ∷ ns) = join_with_byte 44 (map decimal (n ∷ ns))
 
 -- thirteen words with one space, 32, between: three of the header, and one for each getter
-abbrev pub shown_reply : UnixReply → List ℕ
-shown_reply v =
-    let told = λ (k : ℕ). first_of (content unix k) v.nlas in
+abbrev pub reply_text : UnixResponseValue → List ℕ
+reply_text v =
+    let found = λ (k : ℕ). first_of (content unix k) v.nlas in
     join_with_byte 32 (decimal v.header.kind ∷ decimal v.header.state ∷ decimal v.header.inode ∷
     -- the peer, the name, the pending connections, and which directions are shut down
-    or_none decimal (told 2) ∷ or_none name_word (told 0) ∷
-    or_none comma_list (told 3) ∷ or_none decimal (told 6) ∷
+    or_none decimal (found 2) ∷ or_none name_word (found 0) ∷
+    or_none comma_list (found 3) ∷ or_none decimal (found 6) ∷
     -- the queues of a listening socket, and those of any other
     or_none (λ queue. decimal queue.0) (listening_queue_of v) ∷
     or_none (λ queue. decimal queue.1) (listening_queue_of v) ∷
     or_none (λ queue. decimal queue.0) (other_queue_of v) ∷
     or_none (λ queue. decimal queue.1) (other_queue_of v) ∷
     -- the memory
-    or_none (λ info. decimal info.max_datagram_size) (told 5) ∷
-    or_none (λ info. decimal info.alloc) (told 5) ∷ [])
+    or_none (λ info. decimal info.max_datagram_size) (found 5) ∷
+    or_none (λ info. decimal info.alloc) (found 5) ∷ [])

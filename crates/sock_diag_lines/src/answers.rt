@@ -6,17 +6,17 @@ ghost use Rattle.std.specs.Prelude.{◌≡◌, ◌≢◌, ◌↔◌, ◌++◌, �
 ghost use Rattle.std.specs.Prelude.{IfOk, OnOk, MatchOption};
 ghost use Rattle.netlink_core.specs.Envelope.{Payload, inner as of_inner, envelope_codec};
 ghost use Rattle.netlink_core.specs.declared.fault.DecodeError.{DecodeError};
-ghost use Rattle.netlink_packet_sock_diag.specs.Dump.{AreSplit, HaveItems, in_a_row};
+ghost use Rattle.netlink_packet_sock_diag.specs.Dump.{AreSplit, HaveItems, concatenation};
 ghost use Rattle.netlink_packet_sock_diag.specs.Message.{Message, message_codec};
-ghost use Rattle.netlink_packet_sock_diag.specs.ViewedMessage.{viewed_message};
-ghost use Rattle.netlink_packet_sock_diag.specs.ViewedPayload.{viewed_envelope};
-ghost use Rattle.sock_diag_lines.specs.Answer.{IsAnswerOf, IsRequest, row_of};
+ghost use Rattle.netlink_packet_sock_diag.specs.MessageViewModel.{message_view_model};
+ghost use Rattle.netlink_packet_sock_diag.specs.PayloadViewModel.{envelope_view_model};
+ghost use Rattle.sock_diag_lines.specs.Answer.{IsAnswerOf, IsRequest, entry_of};
 ghost use Rattle.sock_diag_lines.specs.AskedSteps.{IsAnswerTo, IsReadAs};
 ghost use Rattle.sock_diag_lines.specs.DumpLine.{IsDumpRequest};
-ghost use Rattle.sock_diag_lines.specs.EnvelopeLine.{shown_envelope};
+ghost use Rattle.sock_diag_lines.specs.EnvelopeLine.{envelope_text};
 ghost use Rattle.sock_diag_lines.specs.HexField.{field_of};
 ghost use Rattle.sock_diag_lines.specs.Subjects.{envelope_subject};
-ghost use Rattle.sock_diag_lines.specs.Told.{IsAccepted, Tells, TellsOf};
+ghost use Rattle.sock_diag_lines.specs.AnswerText.{IsAccepted, IsAnswerText, IsAnswerAs};
 ghost use Rattle.sock_diag_lines.specs.TextSteps.{Adds, accepted, word};
 
 use crate::dump_line::{ReadDump, push_dump, read_dump};
@@ -30,7 +30,7 @@ use netlink_packet_sock_diag::unix::{UnixRequest, UnixResponse};
 use netlink_packet_sock_diag::{MessageView, PayloadView, SockDiagMessage, SockDiagView};
 use std::alloc::{AllocError, Global};
 
-/// The name at the front of a line, which says what the bytes are.
+/// The name at the start of a line, which says what the bytes are.
 #[derive(Clone, Copy, Debug, PartialEq, Eq)]
 pub(crate) enum Name {
     UnixRequest,
@@ -66,7 +66,7 @@ const DUMP: &[u8] = b"dump";
 /// The answer to a line of another form.
 const BAD_LINE: &[u8] = b"bad line";
 
-/// The answer to a line, without its line feed: `ok` and what is shown of the value that was read,
+/// The answer to a line, without its line feed: `ok` and the text of the value that was read,
 /// `unwritable`, `refused` and the number of the first fault, or `bad line`. Shown are the bytes
 /// written back, for `netlink` behind the five fields of the header, and for `unixview` thirteen
 /// words.
@@ -78,13 +78,13 @@ pub fn answer(alloc: Global, line: &[u8]) -> Result<Vec<u8>, AllocError>
     ensures same { IfOk result (λ text. (name : Name) → name ≢ UnixView
         → (other bytes bytes' text' : List ℕ)
         → IsRequest line.now name bytes → IsRequest other name bytes'
-        → IsAccepted (row_of name).1 bytes → IsAccepted (row_of name).1 bytes'
-        → IsAnswerOf other text' → ((text.items ≡ text') ↔ (row_of name).1.idle bytes bytes')) }
+        → IsAccepted (entry_of name).1 bytes → IsAccepted (entry_of name).1 bytes'
+        → IsAnswerOf other text' → ((text.items ≡ text') ↔ (entry_of name).1.idle bytes bytes')) }
     // Two fields of any name that differ in idle details alone have one answer.
     ensures alike { IfOk result (λ text. (name : Name) (other bytes bytes' text' : List ℕ)
         → IsRequest line.now name bytes → IsRequest other name bytes'
-        → IsAccepted (row_of name).1 bytes → IsAccepted (row_of name).1 bytes'
-        → IsAnswerOf other text' → (row_of name).1.idle bytes bytes' → text.items ≡ text') }
+        → IsAccepted (entry_of name).1 bytes → IsAccepted (entry_of name).1 bytes'
+        → IsAnswerOf other text' → (entry_of name).1.idle bytes bytes' → text.items ≡ text') }
     // Two dumps whose datagrams have the same items in a row have one answer.
     ensures dumps { IfOk result
         (λ text. (other text' : List ℕ) (datagrams datagrams' : List (List ℕ))
@@ -96,7 +96,8 @@ pub fn answer(alloc: Global, line: &[u8]) -> Result<Vec<u8>, AllocError>
     ensures split { IfOk result
         (λ text. (other text' : List ℕ) (datagrams datagrams' : List (List ℕ))
         → IsDumpRequest line.now datagrams → IsDumpRequest other datagrams'
-        → AreSplit datagrams → AreSplit datagrams' → in_a_row datagrams ≡ in_a_row datagrams'
+        → AreSplit datagrams → AreSplit datagrams'
+        → concatenation datagrams ≡ concatenation datagrams'
         → IsAnswerOf other text' → text.items ≡ text') }
 {
     let mut text = Vec::new(alloc);
@@ -122,7 +123,7 @@ pub(crate) fn push_answer(
     ensures { OnOk result (Adds text.old.items text.new.items (IsAnswerOf line.now)) }
 {
     let asked = read_request(alloc, bytes, line)?;
-    push_told(alloc, text, asked, bytes.as_slice())
+    push_answer_text(alloc, text, asked, bytes.as_slice())
 }
 
 /// What a line asks for. The bytes of its last field are put in place of what `bytes` held.
@@ -161,7 +162,7 @@ fn read_dump_request(alloc: Global, bytes: &mut Vec<u8>, fields: &[u8]) -> Resul
 }
 
 /// Adds the answer to what a line asks for, which may be about the bytes of its field.
-pub(crate) fn push_told(
+pub(crate) fn push_answer_text(
     alloc: Global,
     text: &mut Vec<u8>,
     asked: Asked,
@@ -178,7 +179,8 @@ pub(crate) fn push_told(
 
 /// Adds the answer to a name and the bytes of its field.
 fn push_named(alloc: Global, text: &mut Vec<u8>, name: Name, bytes: &[u8]) -> Result<(), AllocError>
-    ensures { OnOk result (Adds text.old.items text.new.items (TellsOf (row_of name).1 bytes.now)) }
+    ensures { OnOk result (Adds text.old.items text.new.items
+        (IsAnswerAs (entry_of name).1 bytes.now)) }
 {
     match name {
         Name::UnixRequest => push_canonical::<UnixRequest>(alloc, text, bytes, ()),
@@ -203,7 +205,7 @@ fn push_canonical<T: Wire + Drop>(
     param: T::Param,
 ) -> Result<(), AllocError>
     ensures { OnOk result (Adds text.old.items text.new.items
-        (Tells (T.codec.reads bytes.now param) (T.codec.refuses bytes.now param) T.codec.fits
+        (IsAnswerText (T.codec.reads bytes.now param) (T.codec.refuses bytes.now param) T.codec.fits
         (λ v. field_of (T.codec.written v)))) }
 {
     match canonical::<T>(alloc, bytes, param) {
@@ -214,27 +216,27 @@ fn push_canonical<T: Wire + Drop>(
     }
 }
 
-/// Adds `ok` and what is shown of a netlink message, `unwritable`, or `refused` and the number of
+/// Adds `ok` and the text of a netlink message, `unwritable`, or `refused` and the number of
 /// the fault.
 fn push_netlink_message(alloc: Global, text: &mut Vec<u8>, bytes: &[u8]) -> Result<(), AllocError>
     ensures { OnOk result (Adds text.old.items text.new.items
-        (TellsOf envelope_subject bytes.now)) }
+        (IsAnswerAs envelope_subject bytes.now)) }
 {
     match MessageView::parse(bytes) {
-        Ok(message) => push_shown(alloc, text, &message),
+        Ok(message) => push_envelope_text(alloc, text, &message),
         Err(fault) => push_refused(text, &fault),
     }
 }
 
 /// Adds `ok`, the five fields of the header and the payload as it is written back, or `unwritable`.
-fn push_shown(
+fn push_envelope_text(
     alloc: Global,
     text: &mut Vec<u8>,
     message: &MessageView<'_>,
 ) -> Result<(), AllocError>
     ensures { OnOk result (Adds text.old.items text.new.items
-        (Tells (λ e. e ≡ viewed_envelope message.now) (λ fault. ⊥)
-        (envelope_codec message_codec).fits shown_envelope)) }
+        (IsAnswerText (λ e. e ≡ envelope_view_model message.now) (λ fault. ⊥)
+        (envelope_codec message_codec).fits envelope_text)) }
 {
     if !message.is_writable() {
         return text.extend_from_slice(UNWRITABLE);
@@ -255,11 +257,11 @@ fn push_inner(
     header: &NetlinkHeader,
     inner: &SockDiagView<'_>,
 ) -> Result<(), AllocError>
-    requires { message_codec.fits (viewed_message inner.now) }
+    requires { message_codec.fits (message_view_model inner.now) }
     ensures { OnOk result (text.new.items ≡ text.old.items ++ accepted
-        (shown_envelope (record {
+        (envelope_text (record {
           header = header.now;
-          payload = of_inner (viewed_message inner.now);
+          payload = of_inner (message_view_model inner.now);
         }))) }
 {
     let mut bytes = vec![in alloc; 0; inner.buffer_len()]?;
@@ -296,8 +298,8 @@ fn push_word(text: &mut Vec<u8>, number: u32) -> Result<(), AllocError>
 
 /// The name that a word is.
 fn find_name(word: &[u8]) -> Option<Name>
-    ensures { MatchOption result ((name : Name) → word.now ≢ (row_of name).0)
-        (λ name. word.now ≡ (row_of name).0) }
+    ensures { MatchOption result ((name : Name) → word.now ≢ (entry_of name).0)
+        (λ name. word.now ≡ (entry_of name).0) }
 {
     if word == b"unixreq".as_slice() {
         Some(Name::UnixRequest)

@@ -4,13 +4,13 @@ ghost use Rattle.std.specs.Prelude.{◌≡◌, ◌↔◌, ◌++◌, ℕ, ℤ, Li
 ghost use Rattle.std.specs.Prelude.{MatchBool, MatchOption, Ok};
 ghost use Rattle.std.specs.List.{AllByRecursion, flat_map};
 ghost use Rattle.netlink_packet_sock_diag.specs.Message.{message_codec};
-ghost use Rattle.netlink_packet_sock_diag.specs.SeenMessage.{seen_message};
-ghost use Rattle.sock_diag_lines.specs.DumpLine.{end_word, shown_dump};
+ghost use Rattle.netlink_packet_sock_diag.specs.MessageModel.{message_model};
+ghost use Rattle.sock_diag_lines.specs.DumpLine.{end_word, dump_text};
 ghost use Rattle.sock_diag_lines.specs.HexField.{IsHexField};
 ghost use Rattle.sock_diag_lines.specs.ReadDumpSteps.{AreHexFields, IsReadDump, IsWritable};
 ghost use Rattle.sock_diag_lines.specs.ReadDumpSteps.{TakesDatagram};
-ghost use Rattle.sock_diag_lines.specs.ReadDumpSteps.{end_of, shown_message, told_dump};
-ghost use Rattle.sock_diag_lines.specs.Told.{Tells};
+ghost use Rattle.sock_diag_lines.specs.ReadDumpSteps.{end_of, message_text, dump_outcome};
+ghost use Rattle.sock_diag_lines.specs.AnswerText.{IsAnswerText};
 ghost use Rattle.sock_diag_lines.specs.TextSteps.{Adds};
 
 use crate::fields::{find_space, read_field};
@@ -96,7 +96,7 @@ pub(crate) fn push_dump(
     dump: &ReadDump,
 ) -> Result<(), AllocError>
     ensures { OnOk result (Adds text.old.items text.new.items
-        (Tells (λ d. d ≡ told_dump dump.now) (λ fault. ⊥) IsWritable shown_dump)) }
+        (IsAnswerText (λ d. d ≡ dump_outcome dump.now) (λ fault. ⊥) IsWritable dump_text)) }
 {
     let messages = dump.reader.messages();
     if !are_writable(messages) {
@@ -135,7 +135,7 @@ fn state_word(state: DumpState) -> &'static [u8]
 
 /// Whether each message can be written.
 fn are_writable(messages: &[SockDiagMessage]) -> bool
-    ensures { IsTrue result ↔ AllByRecursion message_codec.fits (map seen_message messages.now) }
+    ensures { IsTrue result ↔ AllByRecursion message_codec.fits (map message_model messages.now) }
 {
     for message in messages {
         if !message.is_writable() {
@@ -151,9 +151,9 @@ fn push_messages(
     text: &mut Vec<u8>,
     messages: &[SockDiagMessage],
 ) -> Result<(), AllocError>
-    requires { AllByRecursion message_codec.fits (map seen_message messages.now) }
-    ensures { OnOk result (text.new.items ≡ text.old.items ++ flat_map shown_message
-        (map seen_message messages.now)) }
+    requires { AllByRecursion message_codec.fits (map message_model messages.now) }
+    ensures { OnOk result (text.new.items ≡ text.old.items ++ flat_map message_text
+        (map message_model messages.now)) }
 {
     for message in messages {
         push_message(alloc, text, message)?;
@@ -167,9 +167,9 @@ fn push_message(
     text: &mut Vec<u8>,
     message: &SockDiagMessage,
 ) -> Result<(), AllocError>
-    requires { message_codec.fits (seen_message message.now) }
+    requires { message_codec.fits (message_model message.now) }
     ensures { OnOk result (text.new.items ≡ text.old.items
-        ++ shown_message (seen_message message.now)) }
+        ++ message_text (message_model message.now)) }
 {
     let mut bytes = vec![in alloc; 0; message.buffer_len()]?;
     message.emit(&mut bytes);

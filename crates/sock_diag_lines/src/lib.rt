@@ -26,7 +26,7 @@ use std::alloc::Global;
 use std::io::{Read, Write};
 use std::process::ExitCode;
 pub use stream::{RunError, run};
-use stream::{answer_all, tell};
+use stream::{answer_all, report};
 
 /// The version, that of the repository's file `VERSION`.
 pub const VERSION: &str = "0.9.0";
@@ -60,15 +60,16 @@ pub fn run_to_status<R: Read, W: Write, E: Write>(
         (λ _. exit_status result ≡ 1)
         × Answers answer (R.remaining input.old) (R.remaining input.new)
         (W.contents output.old) (W.contents output.new) is_good outcome
-        × IfErr outcome (λ e. (told more : List ℕ)
-        × Appends (E.contents errors.old) (E.contents errors.new) told
-        × (e ≡ ServeError.Read → told ++ more ≡ codes "sockdiag: reading failed" ++ 10 ∷ [])
-        × (e ≡ ServeError.Write false → told ++ more ≡ codes "sockdiag: writing failed" ++ 10 ∷ [])
-        × (e ≡ ServeError.Write true → told ++ more ≡ [])
-        × (e ≡ ServeError.Memory → told ++ more ≡ codes "sockdiag: out of memory" ++ 10 ∷ [])) }
+        × IfErr outcome (λ e. (reported more : List ℕ)
+        × Appends (E.contents errors.old) (E.contents errors.new) reported
+        × (e ≡ ServeError.Read → reported ++ more ≡ codes "sockdiag: reading failed" ++ 10 ∷ [])
+        × (e ≡ ServeError.Write false → reported ++ more
+        ≡ codes "sockdiag: writing failed" ++ 10 ∷ [])
+        × (e ≡ ServeError.Write true → reported ++ more ≡ [])
+        × (e ≡ ServeError.Memory → reported ++ more ≡ codes "sockdiag: out of memory" ++ 10 ∷ [])) }
 {
     let outcome = answer_all(alloc, input, output);
-    tell(errors, &outcome);
+    report(errors, &outcome);
     exit_code(&outcome, is_strict)
 }
 

@@ -9,7 +9,7 @@ ghost use Rattle.sock_diag_lines.specs.Answer.{IsAnswerOf, is_good};
 ghost use Rattle.sock_diag_lines.specs.AskedSteps.{IsReadAs};
 ghost use Rattle.sock_diag_lines.specs.RunSteps.{failure_line};
 
-use crate::answers::{Asked, push_told, read_request};
+use crate::answers::{Asked, push_answer_text, read_request};
 use crate::words::OK;
 use line_server::{LineAnswers, ServeError, serve, try_send};
 use std::alloc::{AllocError, Global};
@@ -54,7 +54,7 @@ impl LineAnswers for Protocol {
         bytes: &[u8],
     ) -> Result<bool, AllocError> {
         let start = text.len();
-        push_told(alloc, text, asked, bytes)?;
+        push_answer_text(alloc, text, asked, bytes)?;
         Ok(is_good(&text[start..]))
     }
 }
@@ -122,12 +122,12 @@ pub(crate) fn answer_all<R: Read, W: Write>(
 }
 
 /// Tells why a run failed, but where nobody reads the output any more. Where this can't be written
-/// either, the exit status alone tells of it.
-pub(crate) fn tell<E: Write>(errors: &mut E, outcome: &Result<bool, ServeError>)
+/// either, the exit status alone answers it.
+pub(crate) fn report<E: Write>(errors: &mut E, outcome: &Result<bool, ServeError>)
     ensures silent { IsOk outcome.now → Keeps (E.contents errors.old) (E.contents errors.new) }
-    ensures told { IfErr outcome.now (λ e. (told : List ℕ)
-        × ((more : List ℕ) × (failure_line e ≡ told ++ more))
-        × Appends (E.contents errors.old) (E.contents errors.new) told) }
+    ensures reported { IfErr outcome.now (λ e. (reported : List ℕ)
+        × ((more : List ℕ) × (failure_line e ≡ reported ++ more))
+        × Appends (E.contents errors.old) (E.contents errors.new) reported) }
 {
     if let Err(error) = outcome {
         try_send(errors, failure_line(*error));

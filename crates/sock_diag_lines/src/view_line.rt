@@ -1,11 +1,11 @@
 //! The answer to a line that looks at a reply about a UNIX socket without a copy of it.
 
 ghost use Rattle.std.specs.Prelude.{◌≡◌, ◌∷◌, ◌++◌, decimal, OnOk};
-ghost use Rattle.netlink_packet_sock_diag.specs.Viewed.{viewed};
+ghost use Rattle.netlink_packet_sock_diag.specs.ViewModel.{view_model};
 ghost use Rattle.sock_diag_lines.specs.Subjects.{view_subject};
-ghost use Rattle.sock_diag_lines.specs.Told.{TellsOf};
+ghost use Rattle.sock_diag_lines.specs.AnswerText.{IsAnswerAs};
 ghost use Rattle.sock_diag_lines.specs.TextSteps.{Adds, accepted};
-ghost use Rattle.sock_diag_lines.specs.ViewLine.{shown_reply};
+ghost use Rattle.sock_diag_lines.specs.ViewLine.{reply_text};
 
 use crate::words::{
     OK, push_name_word, push_number, push_number_word, push_numbers_word, push_refused,
@@ -16,7 +16,7 @@ use std::alloc::AllocError;
 /// Adds `ok` and thirteen words of a reply that is read in place, or `refused` and the number of
 /// the fault.
 pub(crate) fn push_view(text: &mut Vec<u8>, bytes: &[u8]) -> Result<(), AllocError>
-    ensures { OnOk result (Adds text.old.items text.new.items (TellsOf view_subject bytes.now)) }
+    ensures { OnOk result (Adds text.old.items text.new.items (IsAnswerAs view_subject bytes.now)) }
 {
     match UnixResponseView::parse(bytes) {
         Ok(view) => push_reply(text, &view),
@@ -27,7 +27,7 @@ pub(crate) fn push_view(text: &mut Vec<u8>, bytes: &[u8]) -> Result<(), AllocErr
 /// Adds `ok` and the words of a reply.
 fn push_reply(text: &mut Vec<u8>, view: &UnixResponseView<'_>) -> Result<(), AllocError>
     ensures { OnOk result (text.new.items ≡ text.old.items
-        ++ accepted (shown_reply (viewed view.now))) }
+        ++ accepted (reply_text (view_model view.now))) }
 {
     text.extend_from_slice(OK)?;
     push_header(text, &view.header())?;

@@ -3,8 +3,8 @@
 ghost use Rattle.std.specs.Prelude.{◌≡◌, ◌≢◌, ◌∷◌, ◌++◌, decimal, OnOk, option_map};
 ghost use Rattle.hex.specs.Hex.{encode_lower};
 ghost use Rattle.netlink_core.specs.declared.fault.DecodeError.TheVariants.{Memory};
-ghost use Rattle.sock_diag_attributes.specs.SeenName.{viewed_name};
-ghost use Rattle.sock_diag_attributes.specs.SeenNumbers.{viewed_numbers};
+ghost use Rattle.sock_diag_attributes.specs.NameModel.{name_view_model};
+ghost use Rattle.sock_diag_attributes.specs.NumbersModel.{numbers_view_model};
 ghost use Rattle.sock_diag_lines.specs.HexField.{field_of};
 ghost use Rattle.sock_diag_lines.specs.TextSteps.{accepted, refused};
 ghost use Rattle.sock_diag_lines.specs.ViewLine.{comma_list, name_word, or_none};
@@ -14,7 +14,7 @@ use netlink_packet_sock_diag::unix::nlas::{NameView, NumbersView};
 use std::alloc::AllocError;
 use std::io::Write;
 
-/// What stands before what is shown of a value.
+/// What stands before the text of a value.
 pub(crate) const OK: &[u8] = b"ok ";
 
 /// The answer to bytes whose value can't be written.
@@ -100,7 +100,7 @@ pub(crate) fn push_name_word(
     name: Option<NameView<'_>>,
 ) -> Result<(), AllocError>
     ensures { OnOk result (text.new.items
-        ≡ text.old.items ++ 32 ∷ or_none name_word (option_map viewed_name name.entry)) }
+        ≡ text.old.items ++ 32 ∷ or_none name_word (option_map name_view_model name.entry)) }
 {
     match name {
         Some(NameView::Pathname(path)) => {
@@ -121,7 +121,7 @@ pub(crate) fn push_numbers_word(
     numbers: Option<NumbersView<'_>>,
 ) -> Result<(), AllocError>
     ensures { OnOk result (text.new.items
-        ≡ text.old.items ++ 32 ∷ or_none comma_list (option_map viewed_numbers numbers.entry)) }
+        ≡ text.old.items ++ 32 ∷ or_none comma_list (option_map numbers_view_model numbers.entry)) }
 {
     let Some(numbers) = numbers else {
         return text.extend_from_slice(NONE);
@@ -133,7 +133,7 @@ pub(crate) fn push_numbers_word(
 /// Adds numbers with commas between, or `-` for none.
 fn push_numbers(text: &mut Vec<u8>, numbers: NumbersView<'_>) -> Result<(), AllocError>
     ensures { OnOk result (text.new.items ≡ text.old.items
-        ++ comma_list (viewed_numbers numbers.entry)) }
+        ++ comma_list (numbers_view_model numbers.entry)) }
 {
     let Some(first) = numbers.get(0) else {
         return Ok(text.push(b'-')?);

@@ -1,7 +1,7 @@
 -- Records that hold records are equal by each of their fields.
 use Rattle.std.proofs.Common.{◌≡◌, ◌↔◌, ◌&&◌, Bool, eqb, IsTrue, refl, rules}
 use Rattle.std.specs.Option.{option_eq}
-use Rattle.netlink_core.proofs.Equality.{and_says, numbers_equal, options_equal}
+use Rattle.netlink_core.proofs.Equality.{and_decides, numbers_equal, options_equal}
 use Rattle.sock_diag_records.specs.declared.inet.flags.ExtensionFlags.{ExtensionFlags}
 use Rattle.sock_diag_records.specs.declared.inet.flags.StateFlags.{StateFlags}
 use Rattle.sock_diag_records.specs.declared.inet.socket_id.SocketId.{SocketId}
@@ -24,10 +24,10 @@ module _ (socket : SocketId → SocketId → Bool) (same_socket : (a b : SocketI
       && (eqb v.states.0 w.states.0 && socket v.socket_id w.socket_id)))) ↔ (v ≡ w)
   request_equal v w =
       let fields =
-      and_says (numbers_equal v.family w.family)
-      (and_says (numbers_equal v.protocol w.protocol)
-      (and_says (extension_flags v.extensions w.extensions)
-      (and_says (state_flags v.states w.states)
+      and_decides (numbers_equal v.family w.family)
+      (and_decides (numbers_equal v.protocol w.protocol)
+      (and_decides (extension_flags v.extensions w.extensions)
+      (and_decides (state_flags v.states w.states)
       (same_socket v.socket_id w.socket_id)))) in (
         λ h. let p = fields.0 h in
             λ i. record {
@@ -51,13 +51,13 @@ module _ (socket : SocketId → SocketId → Bool) (same_socket : (a b : SocketI
         ↔ (v ≡ w)
     header_equal v w =
         let fields =
-        and_says (numbers_equal v.family w.family)
-        (and_says (numbers_equal v.state w.state)
-        (and_says (options_equal timer same_timer v.timer w.timer)
-        (and_says (same_socket v.socket_id w.socket_id)
-        (and_says (numbers_equal v.recv_queue w.recv_queue)
-        (and_says (numbers_equal v.send_queue w.send_queue)
-        (and_says (numbers_equal v.uid w.uid)
+        and_decides (numbers_equal v.family w.family)
+        (and_decides (numbers_equal v.state w.state)
+        (and_decides (options_equal timer same_timer v.timer w.timer)
+        (and_decides (same_socket v.socket_id w.socket_id)
+        (and_decides (numbers_equal v.recv_queue w.recv_queue)
+        (and_decides (numbers_equal v.send_queue w.send_queue)
+        (and_decides (numbers_equal v.uid w.uid)
         (numbers_equal v.inode w.inode))))))) in (
           λ h. let p = fields.0 h in
               λ i. record {

@@ -1,4 +1,4 @@
--- The header of a reply about an IPv4 or IPv6 socket with the numbers of its rows.
+-- The header of a reply about an IPv4 or IPv6 socket with the numbers of its fields.
 use Rattle.std.specs.Prelude.{ℕ, ◌+◌, ◌*◌, ◌/◌, ◌%◌, ◌==◌, ◌||◌, if◌then◌else◌, List, drop}
 use Rattle.std.specs.Prelude.{slice_index, Option, Some, None}
 use Rattle.std.specs.declared.time.Duration.{Duration}
@@ -6,7 +6,7 @@ use Rattle.sock_diag_records.specs.declared.inet.response.Timer.{Timer}
 use Rattle.sock_diag_records.specs.declared.inet.response.Timer.TheVariants.{Retransmit, KeepAlive}
 use Rattle.sock_diag_records.specs.declared.inet.response.Timer.TheVariants.{TimeWait, Probe}
 use Rattle.sock_diag_records.specs.declared.inet.response.InetResponseHeader.{InetResponseHeader}
-use Rattle.sock_diag_records.specs.Kinds.{Kinds}
+use Rattle.sock_diag_records.specs.IpVersions.{IpVersions}
 use Rattle.sock_diag_records.specs.SocketIdInverse.{count_of, socket_id_of}
 
 -- so many milliseconds
@@ -33,11 +33,11 @@ timer_of class count expires =
     else if class == 4 then Some (Probe (duration expires)) else None
 
 -- how many values a socket's identity has
-abbrev pub socket_id_count : Kinds → ℕ
-socket_id_count kinds = 2 + count_of kinds.0 + count_of kinds.1 + 9
+abbrev pub socket_id_count : IpVersions → ℕ
+socket_id_count versions = 2 + count_of versions.0 + count_of versions.1 + 9
 
 -- the header with these values
-abbrev pub header_of : Kinds × ℕ → List ℕ → InetResponseHeader
+abbrev pub header_of : IpVersions × ℕ → List ℕ → InetResponseHeader
 header_of tag values =
     let socket = drop (retransmits_count tag.1) (drop 2 values) in
     let behind = drop (socket_id_count tag.0) socket in

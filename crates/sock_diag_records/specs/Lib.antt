@@ -3,10 +3,10 @@ pub mod Flags
 pub mod UnixRequestInverse
 pub mod UnixRequest
 pub mod UnixRequestLaws
-pub mod Kinds
+pub mod IpVersions
 pub mod SocketIdInverse
 pub mod SocketId
-pub mod TablesInARowLaws
+pub mod ConcatenatedTablesLaws
 pub mod SocketIdLaws
 pub mod UnixResponseHeaderInverse
 pub mod UnixResponseHeader

@@ -5,20 +5,22 @@ use Rattle.std.specs.List.{flat_map}
 use Rattle.byteorder.specs.Endian.{big_bytes}
 use Rattle.std.specs.declared.net.ip_addr.IpAddr.{IpAddr}
 use Rattle.std.specs.declared.net.ip_addr.IpAddr.TheVariants.{V4, V6}
-use Rattle.netlink_core.specs.Table.{Row, number, unread, bytes_at, numbers, little_endian}
+use Rattle.netlink_core.specs.Table.{Field, number, unread, bytes_at, numbers, little_endian}
 use Rattle.netlink_core.specs.Table.{big_endian, first}
-use Rattle.netlink_core.specs.Format.{Format}
+use Rattle.netlink_core.specs.Layout.{Layout}
 use Rattle.sock_diag_records.specs.declared.inet.socket_id.SocketId.{SocketId}
 use Rattle.netlink_core.specs.declared.fault.RecordName.TheVariants as name
-use Rattle.sock_diag_records.specs.Kinds.{Kind, ipv4, ipv6, Kinds, kinds_of_family, kinds_of}
+use Rattle.sock_diag_records.specs.IpVersions.{IpVersion, ipv4, ipv6, IpVersions}
+use Rattle.sock_diag_records.specs.IpVersions.{versions_of_family, versions_of}
 use Rattle.sock_diag_records.specs.SocketIdInverse.{socket_id_of}
 
--- the rows of an address at that place: four bytes and twelve that are not read, or eight segments
-abbrev pub address_rows : ℕ → Kind → List Row
-address_rows place ipv4 = bytes_at place 4 ++ unread (place + 4) (replicate 12 0) ∷ []
-address_rows place ipv6 = numbers place 2 big_endian 8
+-- the fields of an address at that offset: four bytes and twelve that are not read, or eight
+-- segments
+abbrev pub address_fields : ℕ → IpVersion → List Field
+address_fields offset ipv4 = bytes_at offset 4 ++ unread (offset + 4) (replicate 12 0) ∷ []
+address_fields offset ipv6 = numbers offset 2 big_endian 8
 
--- the values of an address in its rows
+-- the values of an address in its fields
 abbrev pub address_values : IpAddr → List ℕ
 address_values (V4 ip) = first 4 ip.octets
 address_values (V6 ip) = first 8 ip.segments
@@ -30,15 +32,14 @@ address_bytes (V6 ip) = flat_map (big_bytes 2) (first 8 ip.segments)
 
 -- ---- the record
 
--- the rows, where the record begins at that place
-abbrev pub socket_id_rows : ℕ → Kinds → List Row
-socket_id_rows place kinds =
-    numbers place 2 big_endian 2
-    ++ (address_rows (place + 4) kinds.0
-    ++ (address_rows (place + 20) kinds.1
-    ++ (number (place + 36) 4 little_endian ∷ bytes_at (place + 40) 8)))
+-- the fields, where the record begins at that offset
+abbrev pub socket_id_fields : ℕ → IpVersions → List Field
+socket_id_fields offset versions =
+    numbers offset 2 big_endian 2 ++ (address_fields (offset + 4) versions.0
+    ++ (address_fields (offset + 20) versions.1
+    ++ (number (offset + 36) 4 little_endian ∷ bytes_at (offset + 40) 8)))
 
--- the values in the rows
+-- the values in the fields
 abbrev pub socket_id_values : SocketId → List ℕ
 socket_id_values value =
     value.source_port ∷ value.destination_port ∷
@@ -49,7 +50,7 @@ abbrev pub IsAddress : IpAddr → Type 0
 IsAddress (V4 ip) = length ip.octets ≡ 4
 IsAddress (V6 ip) = length ip.segments ≡ 8
 
--- each array is as long as its type tells
+-- each array is as long as its type has it
 pub record IsShaped (value : SocketId) : Type 0 where
   pub source : IsAddress value.source_address
   pub destination : IsAddress value.destination_address
@@ -57,16 +58,16 @@ pub record IsShaped (value : SocketId) : Type 0 where
 
 -- 48 bytes. A string of as many is refused where the family is another; in normal form the
 -- addresses are of its kind
-unfoldable pub socket_id : Format ℕ Kinds SocketId
+unfoldable pub socket_id : Layout ℕ IpVersions SocketId
 socket_id = record {
   name = name.SocketId;
   least = 48;
-  size = λ kinds. 48;
-  tag_at = λ family left. kinds_of_family family;
-  tag_of = kinds_of;
-  table = socket_id_rows 0;
+  size = λ versions. 48;
+  tag_at = λ family left. versions_of_family family;
+  tag_of = versions_of;
+  table = socket_id_fields 0;
   values = socket_id_values;
   value = socket_id_of;
   is_shaped = IsShaped;
-  is_own = λ family value. kinds_of_family family ≡ Ok (kinds_of value);
+  is_own = λ family value. versions_of_family family ≡ Ok (versions_of value);
 }

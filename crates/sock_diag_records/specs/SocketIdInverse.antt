@@ -1,17 +1,17 @@
--- The identity of a socket with the numbers of its rows.
+-- The identity of a socket with the numbers of its fields.
 use Rattle.std.specs.Prelude.{ℕ, List, take, drop, slice_index}
 use Rattle.std.specs.declared.net.ip_addr.IpAddr.{IpAddr}
 use Rattle.std.specs.declared.net.ip_addr.IpAddr.TheVariants.{V4, V6}
 use Rattle.sock_diag_records.specs.declared.inet.socket_id.SocketId.{SocketId}
-use Rattle.sock_diag_records.specs.Kinds.{Kind, ipv4, ipv6, Kinds}
+use Rattle.sock_diag_records.specs.IpVersions.{IpVersion, ipv4, ipv6, IpVersions}
 
 -- how many values an address has
-abbrev pub count_of : Kind → ℕ
+abbrev pub count_of : IpVersion → ℕ
 count_of ipv4 = 4
 count_of ipv6 = 8
 
 -- the address with these values
-abbrev pub address_of : Kind → List ℕ → IpAddr
+abbrev pub address_of : IpVersion → List ℕ → IpAddr
 address_of ipv4 values = V4 record { octets = take 4 values }
 address_of ipv6 values = V6 record { segments = take 8 values }
 
@@ -27,9 +27,9 @@ socket_id_with source_port destination_port source destination rest = record {
 }
 
 -- the identity with these values, its addresses of these kinds
-abbrev pub socket_id_of : Kinds → List ℕ → SocketId
-socket_id_of kinds values =
+abbrev pub socket_id_of : IpVersions → List ℕ → SocketId
+socket_id_of versions values =
     let addresses = drop 2 values in
-    let destination = drop (count_of kinds.0) addresses in
-    socket_id_with (slice_index values 0) (slice_index values 1) (address_of kinds.0 addresses)
-    (address_of kinds.1 destination) (drop (count_of kinds.1) destination)
+    let destination = drop (count_of versions.0) addresses in
+    socket_id_with (slice_index values 0) (slice_index values 1) (address_of versions.0 addresses)
+    (address_of versions.1 destination) (drop (count_of versions.1) destination)

@@ -1,4 +1,4 @@
--- The request for UNIX sockets with the numbers of its rows.
+-- The request for UNIX sockets with the numbers of its fields.
 use Rattle.std.specs.Prelude.{ℕ, List, take, drop, slice_index}
 use Rattle.sock_diag_records.specs.declared.unix.request.UnixRequest.{UnixRequest}
 

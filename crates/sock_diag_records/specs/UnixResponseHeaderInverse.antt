@@ -1,4 +1,4 @@
--- The header of a reply about a UNIX socket with the numbers of its rows.
+-- The header of a reply about a UNIX socket with the numbers of its fields.
 use Rattle.std.specs.Prelude.{ℕ, List, take, drop, slice_index}
 use Rattle.sock_diag_records.specs.declared.unix.response.UnixResponseHeader.{UnixResponseHeader}
 

@@ -1,8 +1,8 @@
--- The format of the header of a reply about a UNIX socket is sound.
+-- The layout of the header of a reply about a UNIX socket is sound.
 use Rattle.std.proofs.Common.{List, ℕ, refl, ap}
 use Rattle.netlink_core.specs.SoundLaws.{IsSound}
-use Rattle.netlink_core.proofs.FormatLaws.{plain_sound}
-use Rattle.netlink_core.proofs.RowReads.{first_all}
+use Rattle.netlink_core.proofs.LayoutLaws.{plain_sound}
+use Rattle.netlink_core.proofs.FieldReads.{first_all}
 use Rattle.sock_diag_records.specs.declared.unix.response.UnixResponseHeader.{UnixResponseHeader}
 use Rattle.sock_diag_records.specs.UnixResponseHeader.{unix_response_header}
 

@@ -70,7 +70,7 @@ fn reads<T: Fills<N> + Debug + Drop, const N: usize>(
     rt: &impl Abort,
     alloc: Global,
     bytes: &[u8],
-    told: T::Told,
+    told: T::Param,
     (text, short): (&str, &str),
     written: &[u8],
 ) -> Result<(), Fail> {

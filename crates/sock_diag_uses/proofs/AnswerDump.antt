@@ -9,18 +9,18 @@ use Rattle.byteorder.specs.Numbers.{little_number-reads_back}
 use Rattle.netlink_core.specs.Attribute.{fill}
 use Rattle.netlink_core.specs.declared.fault.DecodeError.{DecodeError}
 use Rattle.netlink_core.specs.declared.header.NetlinkHeader.{NetlinkHeader}
-use Rattle.netlink_core.specs.Header.{IsTypedHeader}
+use Rattle.netlink_core.specs.Header.{IsHeaderInRange}
 use Rattle.netlink_core.specs.Datagram.{AreWholeMessages, CutIntoMessages, IsMessageString}
 use Rattle.netlink_core.specs.Datagram.{StartsWithMessage}
 use Rattle.netlink_core.specs.Envelope.{Envelope, Payload, done_with, inner, finalized, OfInner}
 use Rattle.netlink_core.specs.Envelope.{payload_bytes, payload_type, envelope_codec}
 use Rattle.netlink_core.specs.Items.{ItemIs, ItemsAre}
-use Rattle.netlink_core.specs.Reply.{reply_bytes, reply_codec}
+use Rattle.netlink_core.specs.Response.{response_bytes, response_codec}
 use Rattle.netlink_packet_sock_diag.specs.Dump.{end_of, kept}
 use Rattle.netlink_packet_sock_diag.specs.Message.{Message, message_of, unix_response}
 use Rattle.netlink_packet_sock_diag.specs.Message.{message_codec}
-use Rattle.netlink_packet_sock_diag.specs.UnixReply.{UnixReply, unix_reply}
-use Rattle.sock_diag_uses.specs.TestKernel.{CanBeTold, IsAnswer, IsWholeDump, end_under}
+use Rattle.netlink_packet_sock_diag.specs.UnixResponseSpec.{UnixResponseValue, unix_response_spec}
+use Rattle.sock_diag_uses.specs.TestKernel.{CanBeSent, IsAnswer, IsWholeDump, end_under}
 use Rattle.sock_diag_uses.specs.TestKernel.{message_under, reply_under}
 
 -- no padding stands behind a message whose length is a multiple of four
@@ -85,10 +85,10 @@ header_under n payload = record {
 abbrev envelope_under : ℕ → Payload Message → Envelope Message
 envelope_under n payload = record { header = header_under n payload; payload = payload }
 
-typed_header : (n : ℕ) (payload : Payload Message) → n < 2 ^ 32
+header_in_range : (n : ℕ) (payload : Payload Message) → n < 2 ^ 32
     → 16 + length (payload_bytes message_codec.written payload) ≤ 4294967295
-    → payload_type (λ _. 20) payload < 2 ^ 16 → IsTypedHeader (header_under n payload)
-typed_header n carried small short kind =
+    → payload_type (λ _. 20) payload < 2 ^ 16 → IsHeaderInRange (header_under n payload)
+header_in_range n carried small short kind =
     (omega arith, (kind, (omega arith, (small, (omega arith, tt)))))
 
 -- it is as long as its length word says
@@ -111,86 +111,93 @@ even_message : (n : ℕ) (payload : Payload Message)
 unfolding message_under
 even_message n carried even = omega arith
 
-module _ (reads_back : (v : Envelope Message) → (envelope_codec message_codec).is_typed v
+module _ (reads_back : (v : Envelope Message) → (envelope_codec message_codec).is_in_range v
     → (envelope_codec message_codec).fits v → v.header ≡ finalized message_codec.written (λ _. 20) v
     → ((envelope_codec message_codec).reads ((envelope_codec message_codec).written v) tt v
     ↔ OfInner (message_codec.is_normal 20) v.payload)) where
   carries_payload : (n : ℕ) (payload : Payload Message)
-      → (envelope_codec message_codec).is_typed (envelope_under n payload)
+      → (envelope_codec message_codec).is_in_range (envelope_under n payload)
       → (envelope_codec message_codec).fits (envelope_under n payload)
       → OfInner (message_codec.is_normal 20) payload
       → length (payload_bytes message_codec.written payload) % 4 ≡ 0
       → Carries (message_under n payload) (Ok payload)
   unfolding message_under
-  carries_payload n payload typed fits normal even = record {
+  carries_payload n payload in_range fits normal even = record {
     whole = whole_message n payload fits.1;
     even = even_message n payload even;
-    is = (header_under n payload, (reads_back (envelope_under n payload) typed fits refl).1 normal);
+    is = (
+      header_under n payload,
+      (reads_back (envelope_under n payload) in_range fits refl).1
+          normal,
+    );
   }
 
-  carries_reply : ((v : UnixReply) → (reply_codec unix_reply).is_typed v
-      → length (reply_bytes unix_reply v) % 4 ≡ 0)
-      → (n : ℕ) → n < 2 ^ 32 → (r : UnixReply) → CanBeTold r
+  carries_reply : ((v : UnixResponseValue) → (response_codec unix_response_spec).is_in_range v
+      → length (response_bytes unix_response_spec v) % 4 ≡ 0)
+      → (n : ℕ) → n < 2 ^ 32 → (r : UnixResponseValue) → CanBeSent r
       → Carries (reply_under n r) (Ok (inner (message_of unix_response r)))
-  carries_reply even n small r told = carries_payload n (inner (message_of unix_response r)) (
-    typed_header n (inner (message_of unix_response r)) small told.short (omega arith),
-    told.typed,
-  ) (told.fits, told.short) (refl, inr refl, told.normal) (even r told.typed)
+  carries_reply even n small r found = carries_payload n (inner (message_of unix_response r)) (
+    header_in_range n (inner (message_of unix_response r)) small found.short (omega arith),
+    found.in_range,
+  ) (found.fits, found.short) (refl, inr refl, found.normal) (even r found.in_range)
 
-  carries_all : ((v : UnixReply) → (reply_codec unix_reply).is_typed v
-      → length (reply_bytes unix_reply v) % 4 ≡ 0)
-      → (n : ℕ) → n < 2 ^ 32 → (rs : List UnixReply) → AllByRecursion CanBeTold rs
+  carries_all : ((v : UnixResponseValue) → (response_codec unix_response_spec).is_in_range v
+      → length (response_bytes unix_response_spec v) % 4 ≡ 0)
+      → (n : ℕ) → n < 2 ^ 32 → (rs : List UnixResponseValue) → AllByRecursion CanBeSent rs
       → AllByRecursion (λ r. Carries (reply_under n r) (Ok (inner (message_of unix_response r)))) rs
-  carries_all even n small [] told = tt
-  carries_all even n small (r ∷ rs) told =
-      (carries_reply even n small r told.0, carries_all even n small rs told.1)
+  carries_all even n small [] found = tt
+  carries_all even n small (r ∷ rs) found =
+      (carries_reply even n small r found.0, carries_all even n small rs found.1)
 
   carries_end : (n : ℕ) → n < 2 ^ 32 → Carries (end_under n) (Ok (done_with (0 ∷ 0 ∷ 0 ∷ 0 ∷ [])))
   carries_end n small = carries_payload n (done_with (0 ∷ 0 ∷ 0 ∷ 0 ∷ []))
-      (typed_header n (done_with (0 ∷ 0 ∷ 0 ∷ 0 ∷ [])) small (omega arith) (omega arith), tt)
+      (header_in_range n (done_with (0 ∷ 0 ∷ 0 ∷ 0 ∷ [])) small (omega arith) (omega arith), tt)
       (tt, omega arith) tt refl
 
 -- ---- the dump
 
-plain_all : (rs : List UnixReply) → AllByRecursion (λ item. end_of {A = Message} item ≡ None)
+plain_all : (rs : List UnixResponseValue)
+    → AllByRecursion (λ item. end_of {A = Message} item ≡ None)
     (map (λ r. Ok (inner (message_of unix_response r))) rs)
 plain_all [] = tt
 plain_all (r ∷ rs) = (refl, plain_all rs)
 
-keeps_all : (rs : List UnixReply) → map (message_of unix_response) rs
-    ≡ flat_map kept (map (λ (r : UnixReply). Ok (inner (message_of unix_response r))) rs)
+keeps_all : (rs : List UnixResponseValue) → map (message_of unix_response) rs
+    ≡ flat_map kept (map (λ (r : UnixResponseValue). Ok (inner (message_of unix_response r))) rs)
 keeps_all [] = refl
 keeps_all (r ∷ rs) = ap (λ (ms : List Message). message_of unix_response r ∷ ms) (keeps_all rs)
 
-pub whole_dump : ((v : Envelope Message) → (envelope_codec message_codec).is_typed v
+pub whole_dump : ((v : Envelope Message) → (envelope_codec message_codec).is_in_range v
     → (envelope_codec message_codec).fits v → v.header ≡ finalized message_codec.written (λ _. 20) v
     → ((envelope_codec message_codec).reads ((envelope_codec message_codec).written v) tt v
     ↔ OfInner (message_codec.is_normal 20) v.payload))
-    → ((v : UnixReply) → (reply_codec unix_reply).is_typed v → length (reply_bytes unix_reply v) % 4
+    → ((v : UnixResponseValue) → (response_codec unix_response_spec).is_in_range v
+    → length (response_bytes unix_response_spec v) % 4
     ≡ 0)
     → ((front back : List ℕ) (messages : List (List ℕ))
     (xs ys : List (Result (Payload Message) DecodeError)) → AreWholeMessages front messages
     → ItemsAre message_codec front xs → ItemsAre message_codec back ys
     → ItemsAre message_codec (front ++ back) (xs ++ ys))
-    → (request : List ℕ) (replies : List UnixReply) (datagram : List ℕ)
-    → IsAnswer request replies datagram → AllByRecursion CanBeTold replies
+    → (request : List ℕ) (replies : List UnixResponseValue) (datagram : List ℕ)
+    → IsAnswer request replies datagram → AllByRecursion CanBeSent replies
     → IsWholeDump datagram replies
-whole_dump reads_back even in_a_row request replies datagram answer told =
+whole_dump reads_back even concatenation request replies datagram answer found =
     let n = answer.header.sequence_number in
     let small = answer.framed.1.1.1.1.0 in
     let ends = one_item (end_under n) (Ok (done_with (0 ∷ 0 ∷ 0 ∷ 0 ∷ [])))
     (carries_end reads_back n small) in
-    let items = map (λ (r : UnixReply). Ok (inner (message_of unix_response r))) replies
+    let items = map (λ (r : UnixResponseValue). Ok (inner (message_of unix_response r))) replies
     ++ (Ok (done_with (0 ∷ 0 ∷ 0 ∷ 0 ∷ [])) ∷ []) in
-    let all = items_of_all in_a_row (reply_under n) (λ r. Ok (inner (message_of unix_response r)))
+    let all = items_of_all concatenation (reply_under n) (λ r.
+    Ok (inner (message_of unix_response r)))
     (end_under n) (Ok (done_with (0 ∷ 0 ∷ 0 ∷ 0 ∷ [])) ∷ []) replies
-    (carries_all reads_back even n small replies told) ends in
+    (carries_all reads_back even n small replies found) ends in
     record {
       dump = (
         items,
         subst (λ (bytes : List ℕ). ItemsAre message_codec bytes items) (sym answer.written) all,
         (
-          map (λ (r : UnixReply). Ok (inner (message_of unix_response r))) replies,
+          map (λ (r : UnixResponseValue). Ok (inner (message_of unix_response r))) replies,
           Ok (done_with (0 ∷ 0 ∷ 0 ∷ 0 ∷ [])) ∷ [],
           refl,
           plain_all replies,

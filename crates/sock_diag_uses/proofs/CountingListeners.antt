@@ -19,7 +19,7 @@ use Rattle.netlink_packet_sock_diag.specs.Dump.{end_of}
 use Rattle.netlink_packet_sock_diag.specs.DumpWalk.{GivesView}
 use Rattle.netlink_packet_sock_diag.specs.Message.{Message, message_codec}
 use Rattle.netlink_packet_sock_diag.specs.MessageLaws.{message_laws}
-use Rattle.netlink_packet_sock_diag.specs.ViewedPayload.{viewed_item}
+use Rattle.netlink_packet_sock_diag.specs.PayloadViewModel.{item_view_model}
 use Rattle.sock_diag_uses.specs.Readme.{EndsWith, IsCounted, listens}
 
 -- so many were counted in front of what is left
@@ -50,9 +50,10 @@ pub data Step (left : List ℕ) (item : Item Message) (later : List ℕ) : Type 
 -- so it is by the walk
 pub step_of : (old new : DumpViews) (item : Result PayloadView DecodeError)
     → GivesView old (Some item) new
-    → Step (datagram_left old.messages) (viewed_item item) (datagram_left new.messages)
+    → Step (datagram_left old.messages) (item_view_model item) (datagram_left new.messages)
 step_of old new item (inl (bytes, s, is)) = message bytes s is
-step_of old new item (inr (e, is, some, fault, none)) = no_message e (ap viewed_item is) some fault
+step_of old new item (inr (e, is, some, fault, none)) =
+    no_message e (ap item_view_model is) some fault
 
 go_on_push : (xs : List (Item Message)) (item : Item Message)
     → AllByRecursion (λ item. end_of item ≡ None) xs → end_of item ≡ None
@@ -109,9 +110,9 @@ pub counts_to : (datagram left later : List ℕ) (count : ℕ) (item : Item Mess
     → Step left item later
     → ((more : List (Item Message)) → EndsWith count (item ∷ more) answer)
     → IsCounted datagram answer
-counts_to datagram left later count item answer typed c (message bytes s is) ends =
+counts_to datagram left later count item answer in_range c (message bytes s is) ends =
     let all = items_with message_codec message_laws.answered datagram left later bytes c.passed item
-    typed c.walk s is in
+    in_range c.walk s is in
     record {
       passed = c.passed;
       later = item ∷ all.0;
@@ -119,14 +120,16 @@ counts_to datagram left later count item answer typed c (message bytes s is) end
       go_on = c.go_on;
       ends = subst (λ n. EndsWith n (item ∷ all.0) answer) c.counted (ends all.0);
     }
-counts_to datagram left later count item answer typed c (no_message e is some fault) ends = record {
-  passed = c.passed;
-  later = item ∷ [];
-  are = c.walk.items (item ∷ []) (subst (λ (i : Item Message). ItemsAre message_codec left (i ∷ []))
-      (sym is) (fault_alone message_codec left e some fault));
-  go_on = c.go_on;
-  ends = subst (λ n. EndsWith n (item ∷ []) answer) c.counted (ends []);
-}
+counts_to datagram left later count item answer in_range c (no_message e is some fault) ends =
+    record {
+      passed = c.passed;
+      later = item ∷ [];
+      are = c.walk.items (item ∷ []) (subst (λ (i : Item Message).
+          ItemsAre message_codec left (i ∷ []))
+          (sym is) (fault_alone message_codec left e some fault));
+      go_on = c.go_on;
+      ends = subst (λ n. EndsWith n (item ∷ []) answer) c.counted (ends []);
+    }
 
 -- or where nothing is left
 pub counts_all : (datagram left : List ℕ) (count : ℕ) → Counting datagram left count → left ≡ []

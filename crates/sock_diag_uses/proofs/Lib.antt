@@ -1,4 +1,4 @@
 pub mod Pushing
-pub mod LinkTells
+pub mod LinkDecodes
 pub mod AnswerDump
 pub mod CountingListeners

@@ -1,4 +1,4 @@
--- What the attributes of a message about an interface tell.
+-- What the attributes of a message about an interface decode to.
 use Rattle.std.specs.Prelude.{◌≡◌, ◌≢◌, ℕ, ◌<◌, ◌≤◌, ◌==◌, if◌then◌else◌, List, length, drop}
 use Rattle.std.specs.Prelude.{Option, Some, None, Result, Ok, Err, IsOk, String, string_bytes}
 use Rattle.std.specs.Prelude.{option_map}
@@ -6,41 +6,43 @@ use Rattle.std.specs.List.{AllByRecursion}
 use Rattle.std.specs.declared.alloc.Global.{Global}
 use Rattle.netlink_core.specs.declared.fault.DecodeError.{DecodeError}
 use Rattle.netlink_core.specs.declared.fault.DecodeError.TheVariants.{Memory}
-use Rattle.netlink_core.specs.Attribute.{Attribute, AttributeFault, CutOff, HeadIs, kind_of}
+use Rattle.netlink_core.specs.Attribute.{Attribute, AttributeFault, CutOff, HasPrefix}
+use Rattle.netlink_core.specs.Attribute.{attribute_type}
 use Rattle.netlink_core.specs.Parse.{exact_number, text_in}
 use Rattle.sock_diag_uses.specs.declared.link.LinkError.{LinkError}
 use Rattle.sock_diag_uses.specs.declared.link.LinkError.TheVariants as errors
 
--- what one attribute tells
-pub data Told : Type 0 where
-  name_told : List ℕ → Told
-  mtu_told : ℕ → Told
-  nothing_told : Told
+-- what one attribute decodes to
+pub data LinkAttribute : Type 0 where
+  name_attribute : List ℕ → LinkAttribute
+  mtu_attribute : ℕ → LinkAttribute
+  other_attribute : LinkAttribute
 
--- what was read, told as something
-abbrev pub told_as : {A : Type 0} → (A → Told) → Result A DecodeError → Result Told DecodeError
-told_as made (Ok x) = Ok (made x)
-told_as made (Err e) = Err e
+-- what was read, as something
+abbrev pub decoded_as : {A : Type 0} → (A → LinkAttribute) → Result A DecodeError
+    → Result LinkAttribute DecodeError
+decoded_as made (Ok x) = Ok (made x)
+decoded_as made (Err e) = Err e
 
--- The attribute of kind 3 tells a name, a text without its end zero, and that of kind 4 a number of
+-- The attribute of type 3 is a name, a text without its end zero, and that of type 4 a number of
 -- exactly four bytes.
-abbrev pub told_by : Attribute → Result Told DecodeError
-told_by a =
-    if kind_of a == 3 then told_as name_told (text_in a.value)
-    else if kind_of a == 4 then told_as mtu_told (exact_number None 4 a.value)
-    else Ok nothing_told
+abbrev pub decodes_link : Attribute → Result LinkAttribute DecodeError
+decodes_link a =
+    if attribute_type a == 3 then decoded_as name_attribute (text_in a.value)
+    else if attribute_type a == 4 then decoded_as mtu_attribute (exact_number None 4 a.value)
+    else Ok other_attribute
 
--- the name, where one is told
-abbrev pub name_in : Told → Option (List ℕ)
-name_in (name_told name) = Some name
-name_in (mtu_told mtu) = None
-name_in nothing_told = None
+-- the name, where there is one
+abbrev pub name_in : LinkAttribute → Option (List ℕ)
+name_in (name_attribute name) = Some name
+name_in (mtu_attribute mtu) = None
+name_in other_attribute = None
 
--- the MTU, where one is told
-abbrev pub mtu_in : Told → Option ℕ
-mtu_in (name_told name) = None
-mtu_in (mtu_told mtu) = Some mtu
-mtu_in nothing_told = None
+-- the MTU, where there is one
+abbrev pub mtu_in : LinkAttribute → Option ℕ
+mtu_in (name_attribute name) = None
+mtu_in (mtu_attribute mtu) = Some mtu
+mtu_in other_attribute = None
 
 -- the bytes of a text
 abbrev pub text_of : Option (String Global) → Option (List ℕ)
@@ -50,20 +52,20 @@ text_of text = option_map string_bytes text
 abbrev pub from_fault : DecodeError → LinkError
 from_fault fault = errors.Attribute fault
 
--- an attribute that tells a name stands at the front of the bytes
-abbrev pub NameAtFront : List ℕ → Type 0
-NameAtFront bytes = (a : Attribute) × HeadIs bytes a × (name : List ℕ) × (told_by a ≡ Ok (name_told name))
+-- an attribute with a name stands at the start of the bytes
+abbrev pub IsNamePrefix : List ℕ → Type 0
+IsNamePrefix bytes = (a : Attribute) × HasPrefix bytes a × (name : List ℕ) × (decodes_link a ≡ Ok (name_attribute name))
 
--- behind attributes that tell something stands one that tells a name
+-- behind attributes that can be read stands one with a name
 abbrev pub HasName : List ℕ → Type 0
 HasName bytes =
-    (attributes : List Attribute) × CutOff (λ left _. NameAtFront left) bytes attributes Memory
-    × AllByRecursion (λ a. IsOk (told_by a)) attributes
+    (attributes : List Attribute) × CutOff (λ left _. IsNamePrefix left) bytes attributes Memory
+    × AllByRecursion (λ a. IsOk (decodes_link a)) attributes
 
 -- fewer than 16 bytes; or behind them the first fault of the attributes, or want of memory for a
 -- name, which is there
 abbrev pub GivesUp : List ℕ → LinkError → Type 0
 GivesUp payload (errors.TooShort got) = (got ≡ length payload) × (length payload < 16)
 GivesUp payload (errors.Attribute e) =
-    (16 ≤ length payload) × (e ≢ Memory → AttributeFault told_by (drop 16 payload) e)
+    (16 ≤ length payload) × (e ≢ Memory → AttributeFault decodes_link (drop 16 payload) e)
     × (e ≡ Memory → HasName (drop 16 payload))

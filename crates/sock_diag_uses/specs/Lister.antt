@@ -10,7 +10,7 @@ use Rattle.netlink_packet_sock_diag.specs.Message.{unix_request, unix_response, 
 use Rattle.sock_diag_uses.specs.declared.lister.Line.{Line}
 use Rattle.sock_diag_uses.specs.declared.lister.Line.TheVariants.{Socket, End, Failure, Refused}
 
--- the socket that a reply tells
+-- the socket that a reply is about
 abbrev pub socket_of : Message → Option Line
 socket_of (message_of inet_request v) = None
 socket_of (message_of inet_response v) = Some (Socket v.header.state v.header.inode)
@@ -30,4 +30,4 @@ line_of (Err e) = Some (Refused e)
 pub record AreLinesOf (datagram : List ℕ) (lines : List Line) : Type 0 where
   pub items : List (Result (Payload Message) DecodeError)
   pub are : ItemsAre message_codec datagram items
-  pub told : lines ≡ filter_map line_of items
+  pub found : lines ≡ filter_map line_of items

@@ -7,7 +7,7 @@ use Rattle.std.specs.List.{AllByRecursion, starts_with}
 use Rattle.std.specs.Option.{option_and_then}
 use Rattle.netlink_core.specs.declared.fault.DecodeError.{DecodeError}
 use Rattle.netlink_core.specs.Envelope.{done_with, error_with, overrun_with, inner}
-use Rattle.netlink_core.specs.Family.{content}
+use Rattle.netlink_core.specs.AttributeSet.{content}
 use Rattle.netlink_core.specs.Items.{Item, ItemsAre}
 use Rattle.sock_diag_attributes.specs.Name.{SocketName, pathname, abstract}
 use Rattle.sock_diag_attributes.specs.UnixAttributes.{unix}

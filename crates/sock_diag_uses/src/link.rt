@@ -6,8 +6,9 @@ ghost use Rattle.std.specs.List.{filter_map, last_or};
 ghost use Rattle.netlink_core.specs.Attribute.{Attribute, AttributesMean, HasFittingValue, written};
 ghost use Rattle.netlink_core.specs.Bytes.{IsBytes};
 ghost use Rattle.netlink_core.specs.Canonical as canon;
-ghost use Rattle.netlink_core.specs.Heads.{head_codec};
-ghost use Rattle.sock_diag_uses.specs.Link.{Told, told_by, name_in, mtu_in, text_of, from_fault};
+ghost use Rattle.netlink_core.specs.FirstAttribute.{first_attribute_codec};
+ghost use Rattle.sock_diag_uses.specs.Link.{LinkAttribute, decodes_link, name_in, mtu_in, text_of};
+ghost use Rattle.sock_diag_uses.specs.Link.{from_fault};
 ghost use Rattle.sock_diag_uses.specs.Link.{GivesUp};
 
 use netlink_core::{
@@ -15,10 +16,10 @@ use netlink_core::{
 };
 use std::alloc::Global;
 
-/// The kind of the attribute that tells the name, a text with a zero at its end.
+/// The type of the attribute with the name, a text with a zero at its end.
 pub const IFLA_IFNAME: u16 = 3;
 
-/// The kind of the attribute that tells the MTU, 4 bytes.
+/// The type of the attribute with the MTU, 4 bytes.
 pub const IFLA_MTU: u16 = 4;
 
 /// How many bytes stand in front of the attributes: `struct ifinfomsg`.
@@ -55,10 +56,10 @@ impl From<DecodeError> for LinkError {
 
 /// Reads the payload of a message about an interface: what stands behind the netlink header.
 pub fn parse_link(alloc: Global, payload: &[u8]) -> Result<Link, LinkError>
-    ensures value { IfOk result (λ link. (told : List Told) × (16 ≤ length payload.now)
-        × AttributesMean told_by (drop 16 payload.now) told
-        × (text_of link.name ≡ last_or None (filter_map name_in told))
-        × (link.mtu ≡ last_or None (filter_map mtu_in told))) }
+    ensures value { IfOk result (λ link. (found : List LinkAttribute) × (16 ≤ length payload.now)
+        × AttributesMean decodes_link (drop 16 payload.now) found
+        × (text_of link.name ≡ last_or None (filter_map name_in found))
+        × (link.mtu ≡ last_or None (filter_map mtu_in found))) }
     ensures fault { IfErr result (GivesUp payload.now) }
 {
     if payload.len() < HEADER {
@@ -79,17 +80,19 @@ pub fn parse_link(alloc: Global, payload: &[u8]) -> Result<Link, LinkError>
     Ok(link)
 }
 
-/// The canonical bytes of the attribute in front, of whatever family: one string for all that
+/// The canonical bytes of the first attribute, of whatever family: one string for all that
 /// differ in paddings and in what follows alone.
 pub fn attribute_key(alloc: Global, attribute: &[u8]) -> Result<Vec<u8>, CanonError>
-    ensures written { IfOk result (λ key. (a : Attribute) × (head_codec []).reads attribute.now tt a
+    ensures written { IfOk result (λ key.
+        (a : Attribute) × (first_attribute_codec []).reads attribute.now tt a
         × (key.items ≡ written a)) }
     ensures alike { IfOk result (λ key. (other : List ℕ) (theirs : Attribute) → IsBytes other
-        → (head_codec []).reads other tt theirs
+        → (first_attribute_codec []).reads other tt theirs
         → HasFittingValue theirs
-        → ((written theirs ≡ key.items) ↔ (head_codec []).idle tt attribute.now other)) }
-    ensures err { IfErr result (canon.GivesUp (λ a. (head_codec []).reads attribute.now tt a)
-        (λ e. (head_codec []).refuses attribute.now tt e) HasFittingValue) }
+        → ((written theirs ≡ key.items) ↔ (first_attribute_codec []).idle tt attribute.now other)) }
+    ensures err { IfErr result (canon.GivesUp (λ a.
+        (first_attribute_codec []).reads attribute.now tt a)
+        (λ e. (first_attribute_codec []).refuses attribute.now tt e) HasFittingValue) }
 {
     canonical::<DefaultNla>(alloc, attribute, ())
 }

@@ -2,10 +2,10 @@
 
 ghost use Rattle.std.specs.Prelude.{◌≡◌, [], ◌∷◌, ◌++◌, replicate};
 ghost use Rattle.byteorder.specs.Endian.{little_bytes};
-ghost use Rattle.netlink_core.specs.Seen.{envelope_of};
+ghost use Rattle.netlink_core.specs.EnvelopeModel.{envelope_of};
 ghost use Rattle.netlink_core.specs.Envelope.{envelope_codec};
 ghost use Rattle.netlink_packet_sock_diag.specs.Message.{message_codec};
-ghost use Rattle.netlink_packet_sock_diag.specs.SeenMessage.{seen_message};
+ghost use Rattle.netlink_packet_sock_diag.specs.MessageModel.{message_model};
 ghost use Rattle.sock_diag_uses.specs.ListeningTcp.{family_number, listening_request};
 
 use bitflags::Flags;
@@ -30,7 +30,7 @@ pub enum Family {
 /// kernel's replies repeat the sequence number.
 #[tactic(auto, unfolding(sock_diag_records::specs::InetRequest::inet_request))]
 pub fn listening_tcp(family: Family, sequence_number: u32) -> NetlinkMessage<SockDiagMessage>
-    ensures { envelope_of seen_message result ≡ listening_request family sequence_number }
+    ensures { envelope_of message_model result ≡ listening_request family sequence_number }
 {
     let (family, socket_id) = match family {
         Family::Inet => (AF_INET, SocketId::new_v4()),

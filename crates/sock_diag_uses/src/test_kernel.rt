@@ -2,11 +2,11 @@
 
 ghost use Rattle.std.specs.Prelude.{◌≡◌, ◌++◌, ℕ, List, map, OnOk, IfOk, IfErr};
 ghost use Rattle.std.specs.List.{AllByRecursion, flat_map};
-ghost use Rattle.netlink_core.specs.Seen.{payload_of};
-ghost use Rattle.netlink_packet_sock_diag.specs.SeenMessage.{seen_message};
-ghost use Rattle.netlink_packet_sock_diag.specs.SeenUnixReply.{seen_response};
-ghost use Rattle.netlink_packet_sock_diag.specs.UnixReply.{UnixReply};
-ghost use Rattle.sock_diag_uses.specs.TestKernel.{CanBeTold, FailsFor, GivesNoAnswer, HasRoom};
+ghost use Rattle.netlink_core.specs.EnvelopeModel.{payload_of};
+ghost use Rattle.netlink_packet_sock_diag.specs.MessageModel.{message_model};
+ghost use Rattle.netlink_packet_sock_diag.specs.UnixResponseModel.{unix_response_model};
+ghost use Rattle.netlink_packet_sock_diag.specs.UnixResponseSpec.{UnixResponseValue};
+ghost use Rattle.sock_diag_uses.specs.TestKernel.{CanBeSent, FailsFor, GivesNoAnswer, HasRoom};
 ghost use Rattle.sock_diag_uses.specs.TestKernel.{IsAnswer, IsWholeDump, ReplyHasRoom};
 ghost use Rattle.sock_diag_uses.specs.TestKernel.{message_under, reply_under};
 ghost use Rattle.sock_diag_uses.specs.declared.test_kernel.AnswerError.TheVariants.{Request};
@@ -66,9 +66,11 @@ pub fn answer(
     request: &[u8],
     replies: &[UnixResponse],
 ) -> Result<Vec<u8>, AnswerError>
-    ensures answer { IfOk result (λ datagram. IsAnswer request.now (map seen_response replies.now)
+    ensures answer { IfOk result (λ datagram.
+        IsAnswer request.now (map unix_response_model replies.now)
         datagram.items) }
-    ensures refused { IfErr result (GivesNoAnswer request.now (map seen_response replies.now)) }
+    ensures refused { IfErr result (GivesNoAnswer request.now
+        (map unix_response_model replies.now)) }
 {
     let header = NetlinkHeader::from_prefix(request)?;
     if header.message_type != SOCK_DIAG_BY_FAMILY {
@@ -88,11 +90,11 @@ pub fn answer(
 /// The dump over an answer is done, and has the given replies, where each is as readers give it and
 /// can be written. The function does nothing: its contract is the law.
 pub fn answer_is_a_whole_dump()
-    ensures { (request : List ℕ) (replies : List UnixReply) (datagram : List ℕ)
+    ensures { (request : List ℕ) (replies : List UnixResponseValue) (datagram : List ℕ)
         → IsAnswer request replies datagram
-        → AllByRecursion CanBeTold replies → IsWholeDump datagram replies }
+        → AllByRecursion CanBeSent replies → IsWholeDump datagram replies }
 {
-    netlink_core::laws::items_in_a_row::<SockDiagMessage>();
+    netlink_core::laws::items_of_concatenation::<SockDiagMessage>();
     laws::finalized_message_reads_back();
     laws::reply_lengths_are_multiples_of_four();
 }
@@ -105,9 +107,9 @@ fn push_replies(
     replies: &[UnixResponse],
 ) -> Result<(), AnswerError>
     ensures added { OnOk result (datagram.new.items ≡ datagram.old.items
-        ++ flat_map (reply_under sequence_number) (map seen_response replies.now)) }
+        ++ flat_map (reply_under sequence_number) (map unix_response_model replies.now)) }
     ensures err { IfErr result
-        (FailsFor (¬ AllByRecursion ReplyHasRoom (map seen_response replies.now))) }
+        (FailsFor (¬ AllByRecursion ReplyHasRoom (map unix_response_model replies.now))) }
 {
     for reply in replies {
         push_reply(alloc, datagram, sequence_number, reply)?;
@@ -123,8 +125,8 @@ fn push_reply(
     reply: &UnixResponse,
 ) -> Result<(), AnswerError>
     ensures added { OnOk result (datagram.new.items ≡ datagram.old.items
-        ++ reply_under sequence_number (seen_response reply.now)) }
-    ensures err { IfErr result (FailsFor (¬ ReplyHasRoom (seen_response reply.now))) }
+        ++ reply_under sequence_number (unix_response_model reply.now)) }
+    ensures err { IfErr result (FailsFor (¬ ReplyHasRoom (unix_response_model reply.now))) }
 {
     let message = SockDiagMessage::UnixResponse(Box::new(
         alloc,
@@ -147,8 +149,8 @@ fn push_message(
     payload: NetlinkPayload<SockDiagMessage>,
 ) -> Result<(), AnswerError>
     ensures added { OnOk result (datagram.new.items ≡ datagram.old.items
-        ++ message_under sequence_number (payload_of seen_message payload)) }
-    ensures err { IfErr result (FailsFor (¬ HasRoom (payload_of seen_message payload))) }
+        ++ message_under sequence_number (payload_of message_model payload)) }
+    ensures err { IfErr result (FailsFor (¬ HasRoom (payload_of message_model payload))) }
 {
     let header = NetlinkHeader {
         flags: NLM_F_MULTI,

@@ -3,7 +3,7 @@
 use Rattle.std.specs.Prelude.{⊤, ℕ, ◌+◌, ◌*◌, List, [], ◌∷◌, Option, Some, None, Ok, nat_lt}
 use Rattle.std.specs.Prelude.{if◌then◌else◌, length, unwrap_or, IfSome, IsSome}
 use Rattle.netlink_core.specs.Table.{numbers, little_endian}
-use Rattle.netlink_core.specs.Format.{Format}
+use Rattle.netlink_core.specs.Layout.{Layout}
 use Rattle.netlink_core.specs.declared.fault.RecordName.TheVariants as name
 use Rattle.sock_diag_values.specs.declared.inet.mem_info.MemInfo.{MemInfo}
 use Rattle.sock_diag_values.specs.MemInfoInverse.{mem_info_of}
@@ -30,7 +30,7 @@ words_before value others =
     others
 
 -- the words at 0, 4, .. as many as there are; in normal form drops come behind a backlog
-abbrev pub mem_info : Format (Unit {0}) ℕ MemInfo
+abbrev pub mem_info : Layout (Unit {0}) ℕ MemInfo
 mem_info = record {
   name = name.MemInfo;
   least = 28;

@@ -2,7 +2,7 @@
 use Rattle.std.proofs.Common.{◌≡◌, ◌↔◌, ◌&&◌, eqb, IsTrue, ap, refl}
 use Rattle.std.specs.Option.{option_eq}
 use lib.Pointwise.{bytes_decides}
-use Rattle.netlink_core.proofs.Equality.{and_says, apart, numbers_equal, options_equal}
+use Rattle.netlink_core.proofs.Equality.{and_decides, apart, numbers_equal, options_equal}
 use Rattle.sock_diag_values.specs.declared.inet.mem_info.MemInfo.{MemInfo}
 use Rattle.sock_diag_values.specs.declared.inet.mem_info.MemInfoBytes.{MemInfoBytes}
 use Rattle.sock_diag_values.specs.declared.inet.mem_info.MemInfoBytes.TheVariants.{Seven, Eight}
@@ -20,14 +20,14 @@ pub mem_info_equal : (v w : MemInfo)
     && option_eq eqb v.drops w.drops)))))))) ↔ (v ≡ w)
 mem_info_equal v w =
     let fields =
-    and_says (numbers_equal v.receive_queue w.receive_queue)
-    (and_says (numbers_equal v.receive_queue_max w.receive_queue_max)
-    (and_says (numbers_equal v.bottom_send_queues w.bottom_send_queues)
-    (and_says (numbers_equal v.send_queue_max w.send_queue_max)
-    (and_says (numbers_equal v.cache w.cache)
-    (and_says (numbers_equal v.send_queue w.send_queue)
-    (and_says (numbers_equal v.options w.options)
-    (and_says (options_equal eqb numbers_equal v.backlog_queue_length w.backlog_queue_length)
+    and_decides (numbers_equal v.receive_queue w.receive_queue)
+    (and_decides (numbers_equal v.receive_queue_max w.receive_queue_max)
+    (and_decides (numbers_equal v.bottom_send_queues w.bottom_send_queues)
+    (and_decides (numbers_equal v.send_queue_max w.send_queue_max)
+    (and_decides (numbers_equal v.cache w.cache)
+    (and_decides (numbers_equal v.send_queue w.send_queue)
+    (and_decides (numbers_equal v.options w.options)
+    (and_decides (options_equal eqb numbers_equal v.backlog_queue_length w.backlog_queue_length)
     (options_equal eqb numbers_equal v.drops w.drops)))))))) in (
       λ h. let p = fields.0 h in λ i. record {
         receive_queue = p.0 i;

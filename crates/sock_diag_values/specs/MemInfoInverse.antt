@@ -1,4 +1,4 @@
--- The memory of a socket with the numbers of its rows.
+-- The memory of a socket with the numbers of its fields.
 use Rattle.std.specs.Prelude.{ℕ, List, slice_index, slice_get}
 use Rattle.sock_diag_values.specs.declared.inet.mem_info.MemInfo.{MemInfo}
 

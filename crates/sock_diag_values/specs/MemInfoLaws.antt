@@ -17,11 +17,11 @@ chosen P p q r true under_nine = p
 chosen P p q r false true = q
 chosen P p q r false false = r
 
-abbrev told : ℕ → Result ℕ DecodeError
-told words = Ok words
+abbrev as_tag : ℕ → Result ℕ DecodeError
+as_tag words = Ok words
 
 each : (P : ℕ → Type 0) → P 7 → P 8 → P 9 → (left : List ℕ) (words : ℕ)
-    → told (words_in (length left)) ≡ Ok words → P words
+    → as_tag (words_in (length left)) ≡ Ok words → P words
 each P p q r left words e =
     let same : words_in (length left) ≡ words = cc in
     subst P same (chosen P p q r (nat_lt (length left) 32) (nat_lt (length left) 36))
@@ -70,9 +70,9 @@ drops_back value None None = refl
 abbrev with_last : MemInfo → Option ℕ → Option ℕ → MemInfo
 with_last value backlog drops = record value { backlog_queue_length = backlog; drops = drops }
 
-words_told : (backlog drops : Option ℕ) → words_in (4 * words_of backlog drops) ≡ words_of backlog
+words_of_tag : (backlog drops : Option ℕ) → words_in (4 * words_of backlog drops) ≡ words_of backlog
     drops
-words_told = each_written (λ words. words_in (4 * words) ≡ words) refl refl refl
+words_of_tag = each_written (λ words. words_in (4 * words) ≡ words) refl refl refl
 
 pub mem_info_sound : IsSound mem_info
 mem_info_sound = record {
@@ -101,7 +101,7 @@ mem_info_sound = record {
   back = λ param value t n.
       ap₂ (with_last value) (backlog_back value value.backlog_queue_length value.drops n.own)
       (drops_back value value.backlog_queue_length value.drops);
-  told = λ param value t n. ap (λ (bytes : ℕ). told (words_in bytes))
+  tag_written = λ param value t n. ap (λ (bytes : ℕ). as_tag (words_in bytes))
       (length_is value value.backlog_queue_length value.drops)
-      ∙ ap told (words_told value.backlog_queue_length value.drops);
+      ∙ ap as_tag (words_of_tag value.backlog_queue_length value.drops);
 }

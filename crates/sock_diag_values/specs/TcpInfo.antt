@@ -1,21 +1,21 @@
--- The record of a TCP connection: 232 bytes, in eleven rows of numbers, low byte first.
+-- The record of a TCP connection: 232 bytes, in eleven groups of numbers, low byte first.
 use Rattle.std.specs.Prelude.{⊤, ℕ, List, [], ◌∷◌, ◌++◌}
-use Rattle.netlink_core.specs.Table.{Row, bytes_at, numbers, little_endian}
-use Rattle.netlink_core.specs.Format.{Format, plain}
+use Rattle.netlink_core.specs.Table.{Field, bytes_at, numbers, little_endian}
+use Rattle.netlink_core.specs.Layout.{Layout, plain}
 use Rattle.sock_diag_values.specs.declared.inet.tcp_info.TcpInfo.{TcpInfo}
 use Rattle.sock_diag_values.specs.TcpInfoInverse.{tcp_info_of}
 use Rattle.netlink_core.specs.declared.fault.RecordName.TheVariants as name
 
--- the rows: place, width, and how many numbers
-abbrev pub tcp_info_rows : List Row
-tcp_info_rows =
+-- the fields: offset, width, and how many numbers
+abbrev pub tcp_info_fields : List Field
+tcp_info_fields =
     bytes_at 0 8 ++ numbers 8 4 little_endian 9 ++ numbers 44 4 little_endian 4
     ++ numbers 60 4 little_endian 8 ++ numbers 92 4 little_endian 3 ++ numbers 104 8 little_endian 4
     ++ numbers 136 4 little_endian 6 ++ numbers 160 8 little_endian 4
     ++ numbers 192 4 little_endian 2 ++ numbers 200 8 little_endian 2
     ++ numbers 216 4 little_endian 4
 
--- the fields in the order of the rows
+-- the numbers in the order of the table
 abbrev pub tcp_info_values : TcpInfo → List ℕ
 tcp_info_values value =
     -- the bytes at 0
@@ -46,5 +46,5 @@ tcp_info_values value =
     value.dsack_dups ∷ value.reord_seen ∷ value.rcv_ooopack ∷ value.snd_wnd ∷ []
 
 -- 232 bytes
-unfoldable pub tcp_info : Format (Unit {0}) (Unit {0}) TcpInfo
-tcp_info = plain name.TcpInfo 232 tcp_info_rows tcp_info_values tcp_info_of (λ value. ⊤)
+unfoldable pub tcp_info : Layout (Unit {0}) (Unit {0}) TcpInfo
+tcp_info = plain name.TcpInfo 232 tcp_info_fields tcp_info_values tcp_info_of (λ value. ⊤)

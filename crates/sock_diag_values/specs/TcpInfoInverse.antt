@@ -1,11 +1,13 @@
--- The record of a TCP connection with the numbers of its rows.
+-- The record of a TCP connection with the numbers of its fields.
 use Rattle.std.specs.Prelude.{ℕ, List, drop, slice_index}
 use Rattle.sock_diag_values.specs.declared.inet.tcp_info.TcpInfo.{TcpInfo}
 
--- the fields with the numbers of each of the rows
-abbrev pub with_rows : (states counts ages metrics receiver rates segments limits deliveries totals
+-- the value with the numbers of each group of fields
+abbrev pub with_fields : (states counts ages metrics receiver rates segments limits deliveries
+    totals
     reorderings : List ℕ) → TcpInfo
-with_rows states counts ages metrics receiver rates segments limits deliveries totals reorderings =
+with_fields states counts ages metrics receiver rates segments limits deliveries totals
+    reorderings =
     record {
       state = slice_index states 0;
       ca_state = slice_index states 1;
@@ -63,8 +65,8 @@ with_rows states counts ages metrics receiver rates segments limits deliveries t
       snd_wnd = slice_index reorderings 3;
     }
 
--- the fields with the numbers of all rows, in the same order
+-- the value with the numbers of all fields, in the same order
 abbrev pub tcp_info_of : List ℕ → TcpInfo
-tcp_info_of values = with_rows values (drop 8 values) (drop 17 values) (drop 21 values)
+tcp_info_of values = with_fields values (drop 8 values) (drop 17 values) (drop 21 values)
     (drop 29 values) (drop 32 values) (drop 36 values) (drop 42 values) (drop 46 values)
     (drop 48 values) (drop 50 values)

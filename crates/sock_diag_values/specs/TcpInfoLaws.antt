@@ -3,10 +3,10 @@ use Rattle.std.proofs.Common.{◌≡◌, ◌++◌, ℕ, List, length, refl, subs
 use Rattle.netlink_core.specs.Bytes.{IsBytes}
 use Rattle.netlink_core.specs.Table.{bytes_at, numbers, little_endian, Fit}
 use Rattle.netlink_core.specs.SoundLaws.{IsSound, IsFixed}
-use Rattle.netlink_core.proofs.FormatLaws.{plain_sound}
-use Rattle.netlink_core.proofs.RowReads.{fit-append, fit-bytes}
+use Rattle.netlink_core.proofs.LayoutLaws.{plain_sound}
+use Rattle.netlink_core.proofs.FieldReads.{fit-append, fit-bytes}
 use Rattle.sock_diag_values.specs.declared.inet.tcp_info.TcpInfo.{TcpInfo}
-use Rattle.sock_diag_values.specs.TcpInfo.{tcp_info, tcp_info_rows, tcp_info_values}
+use Rattle.sock_diag_values.specs.TcpInfo.{tcp_info, tcp_info_fields, tcp_info_values}
 use Rattle.sock_diag_values.specs.TcpInfoSteps.{states, counts, ages, metrics, receiver, rates}
 use Rattle.sock_diag_values.specs.TcpInfoSteps.{segments, limits, deliveries, totals, reorderings}
 
@@ -18,17 +18,17 @@ pub tcp_info_long : IsFixed tcp_info 232
 unfolding tcp_info
 tcp_info_long = (refl, λ tag. refl)
 
--- ---- a connection in hand is typed
+-- ---- a connection in hand is in range
 
 -- numbers that were told of an equal list
-pub fits : (place width : ℕ) (xs ys : List ℕ) → xs ≡ ys
+pub fits : (offset width : ℕ) (xs ys : List ℕ) → xs ≡ ys
     → ((at : ℕ) → Fit (numbers at width little_endian (length xs)) xs)
-    → Fit (numbers place width little_endian (length ys)) ys
-fits place width xs ys e fit =
-    subst (λ (l : List ℕ). Fit (numbers place width little_endian (length l)) l) e (fit place)
+    → Fit (numbers offset width little_endian (length ys)) ys
+fits offset width xs ys e fit =
+    subst (λ (l : List ℕ). Fit (numbers offset width little_endian (length l)) l) e (fit offset)
 
--- the numbers are within their rows where each row's are
-pub rows_fit : (v : TcpInfo) → IsBytes (states v)
+-- the numbers are within their fields where each field's are
+pub fields_fit : (v : TcpInfo) → IsBytes (states v)
     → Fit (numbers 8 4 little_endian 9) (counts v)
     → Fit (numbers 44 4 little_endian 4) (ages v)
     → Fit (numbers 60 4 little_endian 8) (metrics v)
@@ -39,8 +39,8 @@ pub rows_fit : (v : TcpInfo) → IsBytes (states v)
     → Fit (numbers 192 4 little_endian 2) (deliveries v)
     → Fit (numbers 200 8 little_endian 2) (totals v)
     → Fit (numbers 216 4 little_endian 4) (reorderings v)
-    → Fit tcp_info_rows (tcp_info_values v)
-rows_fit v of_states of_counts of_ages of_metrics of_receiver of_rates of_segments of_limits
+    → Fit tcp_info_fields (tcp_info_values v)
+fields_fit v of_states of_counts of_ages of_metrics of_receiver of_rates of_segments of_limits
     of_deliveries of_totals of_reorderings =
     let from_totals : Fit ((numbers 200 8 little_endian 2) ++ (numbers 216 4 little_endian 4))
     (totals v ++ (reorderings v)) =

@@ -1,4 +1,4 @@
--- The fields of each of the rows.
+-- The numbers of each group of fields.
 use Rattle.std.specs.Prelude.{ℕ, List, ◌++◌, take, drop}
 use Rattle.std.specs.List.{flat_map}
 use Rattle.byteorder.specs.Endian.{little_bytes}

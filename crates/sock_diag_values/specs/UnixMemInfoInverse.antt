@@ -1,4 +1,4 @@
--- The memory of a UNIX socket with the numbers of its rows.
+-- The memory of a UNIX socket with the numbers of its fields.
 use Rattle.std.specs.Prelude.{ℕ, List, slice_index}
 use Rattle.sock_diag_values.specs.declared.unix.mem_info.MemInfo.{MemInfo}
 

@@ -7,22 +7,22 @@ use Rattle.netlink_core.specs.declared.fault.DecodeError.{DecodeError}
 use Rattle.netlink_core.specs.Faults.{number_of}
 use Rattle.netlink_core.proofs.Datagrams.{one_cut_into_messages}
 use Rattle.netlink_core.proofs.Framing.{one_framing_fault}
-use Rattle.netlink_core.proofs.Items.{items_of, rest_typed}
+use Rattle.netlink_core.proofs.Items.{items_of, rest_in_range}
 use Rattle.netlink_packet_sock_diag.specs.Message.{message_codec}
 use Rattle.netlink_packet_sock_diag.specs.MessageLaws.{message_laws}
 use Rattle.sockdiag_c.specs.declared.walks.Cursor.{Cursor}
 use Rattle.sockdiag_c.specs.declared.walks.MessagePart.{MessagePart}
-use Rattle.sockdiag_c.specs.Walks.{IsTold, NextMessage, left_of}
+use Rattle.sockdiag_c.specs.Walks.{IsMessageAt, NextMessage, left_of}
 
 -- what a step over a message leaves is cut, and so all that was left before it
 cut_with_step : (bytes : List ℕ) (old new : Cursor) (now : MessagePart) (answer : ℕ)
-    → IsBytes (left_of bytes old) → IsTold bytes old new now answer
+    → IsBytes (left_of bytes old) → IsMessageAt bytes old new now answer
     → (message : List ℕ) × (later : List (List ℕ)) × (end : Option DecodeError)
     × CutIntoMessages (left_of bytes new) later end
     × CutIntoMessages (left_of bytes old) (message ∷ later) end
-cut_with_step bytes old new now answer typed s =
+cut_with_step bytes old new now answer in_range s =
     let items = (items_of message_codec message_laws.answered (left_of bytes new)
-    (rest_typed (left_of bytes old) s.0.0 (left_of bytes new) s.0.1 typed)).1 in
+    (rest_in_range (left_of bytes old) s.0.0 (left_of bytes new) s.0.1 in_range)).1 in
     (s.0.0, items.0, items.1, items.3, (left_of bytes new, s.0.1, items.3))
 
 -- a step tells the first message, and leaves what the others are cut from
@@ -30,14 +30,14 @@ pub step_at_message : (bytes : List ℕ) (old new : Cursor) (was now : MessagePa
     (message : List ℕ) (later : List (List ℕ)) (end : Option DecodeError)
     → IsBytes (left_of bytes old)
     → CutIntoMessages (left_of bytes old) (message ∷ later) end
-    → NextMessage bytes old new was now answer → IsTold bytes old new now answer
+    → NextMessage bytes old new was now answer → IsMessageAt bytes old new now answer
     × CutIntoMessages (left_of bytes new) later end
-step_at_message bytes old new was now answer message later end typed h (inl ends) =
+step_at_message bytes old new was now answer message later end in_range h (inl ends) =
     let none = (one_cut_into_messages (left_of bytes old) (message ∷ later) [] end None h
     ends.1).0 in
     absurd cc
-step_at_message bytes old new was now answer message later end typed h (inr (inl s)) =
-    let own = cut_with_step bytes old new now answer typed s in
+step_at_message bytes old new was now answer message later end in_range h (inr (inl s)) =
+    let own = cut_with_step bytes old new now answer in_range s in
     let same = one_cut_into_messages (left_of bytes old) (message ∷ later) (own.0 ∷ own.1) end own.2
     h own.4 in
     let others : own.1 ≡ later = let e = same.0 in cc in (
@@ -46,7 +46,7 @@ step_at_message bytes old new was now answer message later end typed h (inr (inl
           (subst (λ (xs : List (List ℕ)). CutIntoMessages (left_of bytes new) xs own.2) others
           own.3),
     )
-step_at_message bytes old new was now answer message later end typed h (inr (inr fails)) =
+step_at_message bytes old new was now answer message later end in_range h (inr (inr fails)) =
     let none = (one_cut_into_messages (left_of bytes old) (message ∷ later) [] end (Some fails.0) h
     (fails.3, fails.1)).0 in
     absurd cc
@@ -56,24 +56,24 @@ pub step_at_no_message : (bytes : List ℕ) (old new : Cursor) (was now : Messag
     → IsBytes (left_of bytes old)
     → CutIntoMessages (left_of bytes old) [] None → NextMessage bytes old new was now answer
     → answer ≡ 0
-step_at_no_message bytes old new was now answer typed h (inl ends) = ends.0
-step_at_no_message bytes old new was now answer typed h (inr (inl s)) =
-    let own = cut_with_step bytes old new now answer typed s in
+step_at_no_message bytes old new was now answer in_range h (inl ends) = ends.0
+step_at_no_message bytes old new was now answer in_range h (inr (inl s)) =
+    let own = cut_with_step bytes old new now answer in_range s in
     let none = (one_cut_into_messages (left_of bytes old) [] (own.0 ∷ own.1) None own.2 h
     own.4).0 in
     absurd cc
-step_at_no_message bytes old new was now answer typed h (inr (inr fails)) = absurd (fails.3 h)
+step_at_no_message bytes old new was now answer in_range h (inr (inr fails)) = absurd (fails.3 h)
 
 -- where the fault stands, the walk fails
 pub step_at_fault : (bytes : List ℕ) (old new : Cursor) (was now : MessagePart) (answer : ℕ)
     (e : DecodeError) → IsBytes (left_of bytes old)
     → CutIntoMessages (left_of bytes old) [] (Some e) → NextMessage bytes old new was now answer
     → (answer ≡ number_of e) × (left_of bytes new ≡ [])
-step_at_fault bytes old new was now answer e typed h (inl ends) = absurd (h.0 ends.1)
-step_at_fault bytes old new was now answer e typed h (inr (inl s)) =
-    let own = cut_with_step bytes old new now answer typed s in
+step_at_fault bytes old new was now answer e in_range h (inl ends) = absurd (h.0 ends.1)
+step_at_fault bytes old new was now answer e in_range h (inr (inl s)) =
+    let own = cut_with_step bytes old new now answer in_range s in
     let none = (one_cut_into_messages (left_of bytes old) [] (own.0 ∷ own.1) (Some e) own.2 h
     own.4).0 in
     absurd cc
-step_at_fault bytes old new was now answer e typed h (inr (inr fails)) =
+step_at_fault bytes old new was now answer e in_range h (inr (inr fails)) =
     (fails.2 ∙ ap number_of (one_framing_fault (left_of bytes old) fails.0 e fails.1 h.1), fails.4)

@@ -7,11 +7,11 @@ use Rattle.netlink_core.specs.Datagram.{StartsWithMessage}
 use Rattle.netlink_core.specs.declared.header.NetlinkHeader.{NetlinkHeader}
 use Rattle.netlink_core.specs.Envelope.{done_with, error_with, no_payload, overrun_with}
 use Rattle.netlink_core.specs.Header.{HasHeader}
-use Rattle.netlink_core.specs.FrontLaws.{head_or_fault_apart}
+use Rattle.netlink_core.specs.PrefixLaws.{prefix_or_fault_apart}
 use Rattle.netlink_core.proofs.Cutting.{one_start}
 use Rattle.netlink_core.proofs.Datagrams.{starts_with_message}
-use Rattle.netlink_core.proofs.Front.{starts_with}
-use Rattle.netlink_core.proofs.Walking.{StartsWith-some, head_of_start}
+use Rattle.netlink_core.proofs.Padding.{starts_with}
+use Rattle.netlink_core.proofs.Walking.{StartsWith-some, prefix_of_start}
 use Rattle.sockdiag_c.specs.declared.walks.AttributePart.{AttributePart}
 use Rattle.sockdiag_c.specs.declared.walks.Cursor.{Cursor}
 use Rattle.sockdiag_c.specs.declared.walks.MessagePart.{MessagePart}
@@ -19,11 +19,11 @@ use Rattle.sockdiag_c.specs.Walks.{Carries, NextAttribute, attribute_in, header_
 use Rattle.sockdiag_c.specs.Walks.{payload_in}
 
 -- the attribute at a place is the one whose value stands behind the two words there
-attribute_told : (bytes rest : List ℕ) (place : ℕ) (a : Attribute)
+attribute_read : (bytes rest : List ℕ) (place : ℕ) (a : Attribute)
     → StartsWith (drop place bytes) a rest
     → a ≡ attribute_in bytes
     (record { offset = place + 4; length = length a.value; type_word = a.type_word })
-attribute_told bytes rest place a s =
+attribute_read bytes rest place a s =
     let behind : drop (place + 4) bytes ≡ a.value ++ (s.padding ++ rest) =
     sym (drop-drop 4 place bytes) ∙ ap (drop 4) s.parts in
     let value : take (length a.value) (drop (place + 4) bytes) ≡ a.value =
@@ -42,9 +42,9 @@ pub attribute_passed : (bytes rest : List ℕ) (place end : ℕ) (a : Attribute)
     })) (drop (place + end) bytes)
 attribute_passed bytes rest place end a s end-is =
     subst (λ (x : Attribute). StartsWith (drop place bytes) x (drop (place + end) bytes))
-    (attribute_told bytes rest place a s)
+    (attribute_read bytes rest place a s)
     (starts_with (drop place bytes) (drop (place + end) bytes) a end
-    (head_of_start (drop place bytes) rest a s) end-is (sym (drop-drop end place bytes)))
+    (prefix_of_start (drop place bytes) rest a s) end-is (sym (drop-drop end place bytes)))
 
 -- the part of a message that its header tells, at a place
 abbrev pub part_of : ℕ → NetlinkHeader → MessagePart
@@ -58,23 +58,23 @@ part_of place h = record {
 }
 
 -- the payload behind the header
-pub payload_told : (bytes : List ℕ) (place : ℕ) (h : NetlinkHeader)
+pub payload_read : (bytes : List ℕ) (place : ℕ) (h : NetlinkHeader)
     → take (h.length - 16) (drop 16 (drop place bytes)) ≡ payload_in bytes (part_of place h)
-payload_told bytes place h = ap (take (h.length - 16)) (drop-drop 16 place bytes)
+payload_read bytes place h = ap (take (h.length - 16)) (drop-drop 16 place bytes)
 
 -- the header that is told is the one that was read
-header_told : (bytes : List ℕ) (place : ℕ) (h : NetlinkHeader) → HasHeader bytes h
+header_read : (bytes : List ℕ) (place : ℕ) (h : NetlinkHeader) → HasHeader bytes h
     → h ≡ header_in (part_of place h)
-header_told bytes place h head =
+header_read bytes place h head =
     let low : 16 ≤ h.length = head.2 in
     let all : h.length ≡ 16 + (h.length - 16) = omega arith in
     λ i. record h { length = all i }
 
 -- the header that is told stands at a place
-pub told_header_stands : (bytes : List ℕ) (place : ℕ) (h : NetlinkHeader) → HasHeader bytes h
+pub header_is_framed : (bytes : List ℕ) (place : ℕ) (h : NetlinkHeader) → HasHeader bytes h
     → HasHeader bytes (header_in (part_of place h))
-told_header_stands bytes place h head = subst (λ (k : NetlinkHeader). HasHeader bytes k)
-    (header_told bytes place h head) head
+header_is_framed bytes place h head = subst (λ (k : NetlinkHeader). HasHeader bytes k)
+    (header_read bytes place h head) head
 
 -- a step over a message, to the place behind its padding
 pub message_passed : (bytes : List ℕ) (place end : ℕ) (h : NetlinkHeader)
@@ -107,8 +107,8 @@ step_at_attribute bytes old new was now answer first later h (inr (inl s)) =
     h.1 s.1 in
     (s.0, sym same.0, subst (λ (b : List ℕ). Cut b later) same.1 h.2)
 step_at_attribute bytes old new was now answer first later h (inr (inr fails)) =
-    absurd (head_or_fault_apart (left_of bytes old) first fails.0
-    (head_of_start (left_of bytes old) h.0 first h.1) fails.1)
+    absurd (prefix_or_fault_apart (left_of bytes old) first fails.0
+    (prefix_of_start (left_of bytes old) h.0 first h.1) fails.1)
 
 -- where none is left, the walk ends
 pub step_at_end : (bytes : List ℕ) (old new : Cursor) (was now : AttributePart) (answer : ℕ)

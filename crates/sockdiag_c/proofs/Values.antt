@@ -4,24 +4,25 @@ use Rattle.std.proofs.Common.{Option, rules, append_assoc}
 use Rattle.std.proofs.Common.{◌+◌, ◌-◌, ◌++◌, length, take, replicate, min, inl, inr, arith}
 use Rattle.std.proofs.lemmas.Bool.{cases_lt, ne_eqb}
 use Rattle.std.proofs.lemmas.List.{take_all}
-use Rattle.netlink_core.specs.Attribute.{Attribute, CutInFull, IsFramingFault, StartsWith, kind_of}
+use Rattle.netlink_core.specs.Attribute.{Attribute, CutInFull, IsFramingFault, StartsWith}
+use Rattle.netlink_core.specs.Attribute.{attribute_type}
 use Rattle.netlink_core.specs.Attribute.{unpadded}
 use Rattle.netlink_core.specs.declared.fault.DecodeError.{DecodeError}
-use Rattle.netlink_core.specs.FrontLaws.{head_or_fault_apart}
+use Rattle.netlink_core.specs.PrefixLaws.{prefix_or_fault_apart}
 use Rattle.netlink_core.proofs.Cutting.{one_start}
-use Rattle.netlink_core.proofs.Walking.{StartsWith-some, head_of_start}
+use Rattle.netlink_core.proofs.Walking.{StartsWith-some, prefix_of_start}
 use Rattle.netlink_packet_sock_diag.specs.UnixGetters.{first_of}
 use Rattle.sockdiag_c.specs.TcpInfo.{StandIn, filled, value_of}
 
 -- the bytes of a value that there is room for, and zeros behind them
-pub filled_is : (n : ℕ) (value : List ℕ) (told left : ℕ) → told ≡ min (length value) n
-    → left + told ≡ n → take told value ++ replicate left 0 ≡ filled n value
-filled_is n value told left is all =
+pub filled_is : (n : ℕ) (value : List ℕ) (found left : ℕ) → found ≡ min (length value) n
+    → left + found ≡ n → take found value ++ replicate left 0 ≡ filled n value
+filled_is n value found left is all =
     let zeros : left ≡ n - length value = omega arith in
-    let front : take told value ≡ take n value =
+    let front : take found value ≡ take n value =
     elim (cases_lt n (length value)) [
       | inl long ↦ ap (λ (k : ℕ). take k value) (omega arith)
-      | inr short ↦ take_all told value (omega arith) ∙ sym (take_all n value short)
+      | inr short ↦ take_all found value (omega arith) ∙ sym (take_all n value short)
     ] in
     λ i. front i ++ replicate (zeros i) 0
 
@@ -56,7 +57,7 @@ stands_first : (bytes rest : List ℕ) (a : Attribute) → StartsWith bytes a re
 stands_first bytes rest a start [] (inl none) = absurd (StartsWith-some bytes rest a start none)
 stands_first bytes rest a start [] (inr (e, off)) =
     let whole : bytes ≡ off.1 = off.2 ∙ ap (λ (b : List ℕ). b ++ off.1) off.3 in
-    absurd (head_or_fault_apart bytes a e (head_of_start bytes rest a start)
+    absurd (prefix_or_fault_apart bytes a e (prefix_of_start bytes rest a start)
     (subst (λ (b : List ℕ). IsFramingFault b e) (sym whole) off.5))
 stands_first bytes rest a start (b ∷ more) stand =
     let first = first_stands bytes b more stand in
@@ -73,13 +74,13 @@ pub record FoundBehind (k : ℕ) (bytes rest : List ℕ) : Type 0 where
 pub found_begins : (k : ℕ) (bytes : List ℕ) → FoundBehind k bytes bytes
 found_begins k bytes = record { behind = λ attributes stand. (attributes, stand, refl) }
 
-skipped : (k : ℕ) (a : Attribute) (more : List Attribute) → kind_of a ≢ k
+skipped : (k : ℕ) (a : Attribute) (more : List Attribute) → attribute_type a ≢ k
     → first_of (value_of k) (a ∷ more) ≡ first_of (value_of k) more
-skipped k a more other = rw (ne_eqb (kind_of a) k other) refl
+skipped k a more other = rw (ne_eqb (attribute_type a) k other) refl
 
--- an attribute of another kind is passed
+-- an attribute of another type is passed
 pub found_goes_on : (k : ℕ) (bytes rest after : List ℕ) (a : Attribute) → StartsWith rest a after
-    → FoundBehind k bytes rest → kind_of a ≢ k → FoundBehind k bytes after
+    → FoundBehind k bytes rest → attribute_type a ≢ k → FoundBehind k bytes after
 found_goes_on k bytes rest after a start found other = record {
   behind = λ attributes stand.
       let f = found.behind attributes stand in
@@ -95,12 +96,12 @@ abbrev value_in : ℕ → List Attribute → List ℕ
 value_in k attributes = unwrap_or (first_of (value_of k) attributes) []
 
 -- one of the kind is found
-first_value_is : (k : ℕ) (a : Attribute) (more : List Attribute) → kind_of a ≡ k
+first_value_is : (k : ℕ) (a : Attribute) (more : List Attribute) → attribute_type a ≡ k
     → a.value ≡ value_in k (a ∷ more)
 first_value_is k a more is = rw is (search rules)
 
 pub found_here : (k : ℕ) (bytes rest after : List ℕ) (a : Attribute) → StartsWith rest a after
-    → FoundBehind k bytes rest → kind_of a ≡ k
+    → FoundBehind k bytes rest → attribute_type a ≡ k
     → (attributes : List Attribute) → StandIn bytes attributes → a.value ≡ value_in k attributes
 found_here k bytes rest after a start found is attributes stand =
     let f = found.behind attributes stand in
@@ -131,4 +132,4 @@ pub found_fault : (k : ℕ) (bytes rest : List ℕ) (e : DecodeError) → FoundB
     → IsFramingFault rest e
     → (attributes : List Attribute) → StandIn bytes attributes → [] ≡ value_in k attributes
 found_fault k bytes rest e found fault = found_none k bytes rest found (λ a after start.
-    head_or_fault_apart rest a e (head_of_start rest after a start) fault)
+    prefix_or_fault_apart rest a e (prefix_of_start rest after a start) fault)

@@ -3,7 +3,7 @@ use Rattle.std.proofs.Common.{◌≡◌, ℕ, ◌+◌, ◌<◌, ◌≤◌, List,
 use Rattle.std.proofs.Common.{refl}
 use Rattle.std.proofs.lemmas.Bool.{lt-ltb, le-ltb}
 use Rattle.byteorder.specs.Endian.{little_bytes}
-use Rattle.netlink_core.specs.Format.{bytes}
+use Rattle.netlink_core.specs.Layout.{bytes}
 use Rattle.netlink_core.specs.Header.{header_bytes}
 use Rattle.sock_diag_records.specs.declared.inet.request.InetRequest as inet
 use Rattle.sock_diag_records.specs.InetRequest.{inet_request}
@@ -28,15 +28,15 @@ pub message_written : (t : ℕ) (r : InetRequest) (it : inet.InetRequest)
     (header_bytes (header_of (16 + length (bytes inet_request it) + length attribute) t r.header)
     ++ bytes inet_request it ++ attribute) old new answer
     → WritesWhole (72 + length (protocol_attribute r.protocol)) (inet_message t r) old new answer
-message_written t r it attribute old new answer is told given =
+message_written t r it attribute old new answer is found given =
     let whole = λ (len : ℕ). header_bytes (header_of len t r.header) ++ bytes inet_request it
     ++ attribute in
     let size : 16 + length (bytes inet_request it) + length attribute
     ≡ 72 + length (protocol_attribute r.protocol) =
-    omega (arith, request_length it, ap length told) in
+    omega (arith, request_length it, ap length found) in
     let sized = subst (λ (len : ℕ). WritesWhole len (whole len) old new answer) size given in
     let all : whole (72 + length (protocol_attribute r.protocol)) ≡ inet_message t r = λ i.
     header_bytes (header_of (72 + length (protocol_attribute r.protocol)) t r.header)
-    ++ bytes inet_request (is i) ++ told i in
+    ++ bytes inet_request (is i) ++ found i in
     subst (λ (x : List ℕ). WritesWhole (72 + length (protocol_attribute r.protocol)) x old new
     answer) all sized

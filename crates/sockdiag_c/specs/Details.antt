@@ -1,6 +1,6 @@
 -- What C is told of the values in a reply.
 use Rattle.std.specs.Prelude.{ℕ, ◌==◌, if◌then◌else◌, List, Option, Some, None, option_map}
-use Rattle.netlink_core.specs.Family.{Family, Said, ValueAt, content}
+use Rattle.netlink_core.specs.AttributeSet.{AttributeSet, AttributeValue, ValueAt, content}
 use Rattle.netlink_packet_sock_diag.specs.UnixGetters.{first_of}
 use Rattle.sockdiag_c.specs.declared.details.Number.{Number}
 use Rattle.sockdiag_c.specs.declared.details.Text.{Text}
@@ -11,8 +11,9 @@ number_of (Some n) = record { is_told = 1; value = n }
 number_of None = record { is_told = 0; value = 0 }
 
 -- a number in the first value of the kind k, where the reply tells one
-abbrev pub told : (F : Family) (k : ℕ) → (ValueAt F k → ℕ) → List (Said F) → Number
-told F k part vs = number_of (first_of (λ s. option_map part (content F k s)) vs)
+abbrev pub first_number : (F : AttributeSet) (k : ℕ) → (ValueAt F k → ℕ) → List (AttributeValue F)
+    → Number
+first_number F k part vs = number_of (first_of (λ s. option_map part (content F k s)) vs)
 
 -- a text that is told, with its kind
 abbrev pub text_of : Text → Option (ℕ × List ℕ)

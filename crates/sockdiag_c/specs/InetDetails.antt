@@ -1,38 +1,38 @@
 -- What C is told of an IPv4 or IPv6 socket.
 use Rattle.std.specs.Prelude.{◌≡◌, ℕ, if◌then◌else◌, Bool, List, Option, option_map}
-use Rattle.netlink_core.specs.Family.{Said, content}
+use Rattle.netlink_core.specs.AttributeSet.{AttributeValue, content}
 use Rattle.sock_diag_attributes.specs.InetAttributes.{inet}
-use Rattle.netlink_packet_sock_diag.specs.InetReply.{InetReply}
+use Rattle.netlink_packet_sock_diag.specs.InetResponseSpec.{InetResponseValue}
 use Rattle.netlink_packet_sock_diag.specs.UnixGetters.{first_of}
 use Rattle.sockdiag_c.specs.declared.details.Text.{Text}
 use Rattle.sockdiag_c.specs.declared.headers.InetHeader.{InetHeader}
 use Rattle.sockdiag_c.specs.declared.inet_details.InetDetails.{InetDetails}
-use Rattle.sockdiag_c.specs.Details.{text_of, told}
+use Rattle.sockdiag_c.specs.Details.{text_of, first_number}
 use Rattle.sockdiag_c.specs.Headers.{inet_header_of}
 
 -- the algorithm of congestion control, where one is said: a text of the kind 1
-abbrev pub controlled : Said inet → Option (ℕ × List ℕ)
+abbrev pub controlled : AttributeValue inet → Option (ℕ × List ℕ)
 controlled v = option_map (λ (t : List ℕ). (1, t)) (content inet 4 v)
 
 -- behind a header and an algorithm, each number of the first value of its kind
-abbrev pub inet_details_of : InetHeader → Text → List (Said inet) → InetDetails
+abbrev pub inet_details_of : InetHeader → Text → List (AttributeValue inet) → InetDetails
 inet_details_of header congestion vs = record {
   header = header;
   congestion = congestion;
-  tos = told inet 5 (λ (n : ℕ). n) vs;
-  tclass = told inet 6 (λ (n : ℕ). n) vs;
-  shutdown = told inet 8 (λ (n : ℕ). n) vs;
-  protocol = told inet 10 (λ (n : ℕ). n) vs;
-  v6only = told inet 11 (λ (only : Bool). if only then 1 else 0) vs;
-  mark = told inet 15 (λ (n : ℕ). n) vs;
-  class_id = told inet 17 (λ (n : ℕ). n) vs;
+  tos = first_number inet 5 (λ (n : ℕ). n) vs;
+  tclass = first_number inet 6 (λ (n : ℕ). n) vs;
+  shutdown = first_number inet 8 (λ (n : ℕ). n) vs;
+  protocol = first_number inet 10 (λ (n : ℕ). n) vs;
+  v6only = first_number inet 11 (λ (only : Bool). if only then 1 else 0) vs;
+  mark = first_number inet 15 (λ (n : ℕ). n) vs;
+  class_id = first_number inet 17 (λ (n : ℕ). n) vs;
 }
 
 -- this header and these attributes are told, and nothing else
-abbrev pub IsInetTold : InetHeader → InetDetails → List (Said inet) → Type 0
-IsInetTold header d vs =
+abbrev pub HasInetDetails : InetHeader → InetDetails → List (AttributeValue inet) → Type 0
+HasInetDetails header d vs =
     (d ≡ inet_details_of header d.congestion vs) × (text_of d.congestion ≡ first_of controlled vs)
 
 -- all of the reply is told
-abbrev pub TellsInet : InetReply → InetDetails → Type 0
-TellsInet v d = IsInetTold (inet_header_of v.header) d v.nlas
+abbrev pub IsInetDetailsOf : InetResponseValue → InetDetails → Type 0
+IsInetDetailsOf v d = HasInetDetails (inet_header_of v.header) d v.nlas

@@ -1,13 +1,13 @@
 -- What C is told once one more attribute of an IPv4 or IPv6 socket says something.
 use Rattle.std.specs.Prelude.{ℕ, if◌then◌else◌, Bool}
-use Rattle.netlink_core.specs.Family.{Said}
+use Rattle.netlink_core.specs.AttributeSet.{AttributeValue}
 use Rattle.sock_diag_attributes.specs.InetAttributes.{inet}
 use Rattle.sockdiag_c.specs.declared.details.Text.{Text}
 use Rattle.sockdiag_c.specs.declared.inet_details.InetDetails.{InetDetails}
-use Rattle.sockdiag_c.specs.TellSteps.{next}
+use Rattle.sockdiag_c.specs.FirstNumberSteps.{next}
 
 -- each number, where none was told before; the algorithm is given
-abbrev pub inet_with : Text → InetDetails → Said inet → InetDetails
+abbrev pub inet_with : Text → InetDetails → AttributeValue inet → InetDetails
 inet_with congestion d v = record {
   header = d.header;
   congestion = congestion;

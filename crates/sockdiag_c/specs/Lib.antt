@@ -4,7 +4,7 @@ pub mod Walks
 pub mod Requests
 pub mod Rewriting
 pub mod Details
-pub mod TellSteps
+pub mod FirstNumberSteps
 pub mod UnixDetails
 pub mod UnixDetailsSteps
 pub mod InetDetails

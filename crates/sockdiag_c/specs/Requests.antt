@@ -8,7 +8,7 @@ use Rattle.std.specs.Net.Addr.{segments_of}
 use Rattle.netlink_core.specs.declared.header.NetlinkHeader.{NetlinkHeader}
 use Rattle.netlink_core.specs.Attribute.{Attribute, CutOff, IsFramingFault, fill, written}
 use Rattle.netlink_core.specs.declared.fault.DecodeError.{DecodeError}
-use Rattle.netlink_core.specs.Format.{bytes}
+use Rattle.netlink_core.specs.Layout.{bytes}
 use Rattle.netlink_core.specs.Header.{header_bytes}
 use Rattle.sock_diag_records.specs.InetRequest.{inet_request}
 use Rattle.sock_diag_records.specs.UnixRequest.{unix_request}
@@ -75,7 +75,7 @@ inet_message t r =
     header_bytes (header_of (72 + length (protocol_attribute r.protocol)) t r.header)
     ++ bytes inet_request (inet_request_of r) ++ protocol_attribute r.protocol
 
--- Where there is room for so many bytes, all of them stand at the front of the buffer, the rest is
+-- Where there is room for so many bytes, all of them stand at the start of the buffer, the rest is
 -- as it was, and the answer is how many they are. Else nothing is written.
 abbrev pub WritesWhole : ℕ → List ℕ → List ℕ → List ℕ → ℕ → Type 0
 WritesWhole len all old new answer =

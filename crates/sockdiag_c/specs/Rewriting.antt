@@ -3,7 +3,7 @@ use Rattle.std.specs.Prelude.{◌≡◌, ℕ, ◌<◌, ◌≤◌, ◌↔◌, ◌
 use Rattle.netlink_core.specs.Bytes.{IsBytes}
 use Rattle.netlink_core.specs.declared.fault.DecodeError.{DecodeError}
 use Rattle.netlink_core.specs.Faults.{number_of}
-use Rattle.netlink_core.specs.Reply.{Reply, ValueOf, reply_bytes, reply_codec}
+use Rattle.netlink_core.specs.Response.{ResponseSpec, ValueOf, response_bytes, response_codec}
 use Rattle.sockdiag_c.specs.declared.rewriting.Outcome.{Outcome}
 
 -- a fault by its number, or 0, and how many bytes are needed
@@ -14,7 +14,7 @@ outcome_of fault needed = record { fault = fault; needed = needed }
 abbrev pub StaysAsItWas : List ℕ → List ℕ → ℕ → Type 0
 StaysAsItWas old new answer = (answer ≡ 0) × (new ≡ old)
 
--- The bytes stand at the front of the buffer, and the rest is as it was; or there is no room for so
+-- The bytes stand at the start of the buffer, and the rest is as it was; or there is no room for so
 -- many; or the value can't be written.
 abbrev pub Writes : Type 0 → List ℕ → List ℕ → List ℕ → Outcome → ℕ → Type 0
 Writes fits bytes old new outcome answer =
@@ -30,7 +30,7 @@ Rewrites {V} reads refuses fits bytes old new outcome answer =
 
 -- Where something was written, it is the one string for all strings that are idle with these bytes:
 -- of the strings with a value that can be written, exactly the idle ones are written so.
-abbrev pub IsCanonical : Reply → List ℕ → List ℕ → ℕ → Type 0
+abbrev pub IsCanonical : ResponseSpec → List ℕ → List ℕ → ℕ → Type 0
 IsCanonical R payload new answer =
-    0 < answer → (d : List ℕ) (w : ValueOf R) → IsBytes d → (reply_codec R).reads d tt w → (reply_codec R).fits w
-    → ((reply_bytes R w ≡ take answer new) ↔ (reply_codec R).idle tt payload d)
+    0 < answer → (d : List ℕ) (w : ValueOf R) → IsBytes d → (response_codec R).reads d tt w → (response_codec R).fits w
+    → ((response_bytes R w ≡ take answer new) ↔ (response_codec R).idle tt payload d)

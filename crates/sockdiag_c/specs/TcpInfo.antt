@@ -1,7 +1,7 @@
 -- The bytes that tell of a TCP connection.
 use Rattle.std.specs.Prelude.{ℕ, ◌-◌, ◌⊎◌, ◌==◌, if◌then◌else◌, List, ◌++◌, length, take, replicate}
 use Rattle.std.specs.Prelude.{Option, Some, None}
-use Rattle.netlink_core.specs.Attribute.{Attribute, Cut, CutOff, IsFramingFault, kind_of}
+use Rattle.netlink_core.specs.Attribute.{Attribute, Cut, CutOff, IsFramingFault, attribute_type}
 use Rattle.netlink_core.specs.declared.fault.DecodeError.{DecodeError}
 
 -- the attributes that stand in bytes, up to their end or to a fault of the framing
@@ -11,7 +11,7 @@ StandIn bytes attributes =
 
 -- the value of an attribute of the kind
 abbrev pub value_of : ℕ → Attribute → Option (List ℕ)
-value_of k a = if kind_of a == k then Some a.value else None
+value_of k a = if attribute_type a == k then Some a.value else None
 
 -- so many bytes of a value, zeros behind one that is shorter
 abbrev pub filled : ℕ → List ℕ → List ℕ

@@ -1,16 +1,16 @@
 -- What C is told of a UNIX socket.
 use Rattle.std.specs.Prelude.{◌≡◌, ℕ, List, [], Option, option_map, unwrap_or}
-use Rattle.netlink_core.specs.Family.{Said, content}
+use Rattle.netlink_core.specs.AttributeSet.{AttributeValue, content}
 use Rattle.sock_diag_values.specs.declared.unix.mem_info.MemInfo.{MemInfo}
 use Rattle.sock_diag_values.specs.declared.unix.vfs.Vfs.{Vfs}
 use Rattle.sock_diag_attributes.specs.Name.{SocketName, pathname, abstract}
 use Rattle.sock_diag_attributes.specs.UnixAttributes.{unix}
 use Rattle.netlink_packet_sock_diag.specs.UnixGetters.{first_of}
-use Rattle.netlink_packet_sock_diag.specs.UnixReply.{UnixReply}
+use Rattle.netlink_packet_sock_diag.specs.UnixResponseSpec.{UnixResponseValue}
 use Rattle.sockdiag_c.specs.declared.details.Text.{Text}
 use Rattle.sockdiag_c.specs.declared.headers.UnixHeader.{UnixHeader}
 use Rattle.sockdiag_c.specs.declared.unix_details.UnixDetails.{UnixDetails}
-use Rattle.sockdiag_c.specs.Details.{text_of, told}
+use Rattle.sockdiag_c.specs.Details.{text_of, first_number}
 use Rattle.sockdiag_c.specs.Headers.{unix_header_of}
 
 -- a path is of the kind 1, and an abstract name of the kind 2
@@ -19,34 +19,34 @@ name_parts (pathname path) = (1, path)
 name_parts (abstract address) = (2, address)
 
 -- the name, where one is said
-abbrev pub named : Said unix → Option (ℕ × List ℕ)
+abbrev pub named : AttributeValue unix → Option (ℕ × List ℕ)
 named v = option_map name_parts (content unix 0 v)
 
 -- the inodes that wait to be accepted: those of the first list
-abbrev pub pending : List (Said unix) → List ℕ
+abbrev pub pending : List (AttributeValue unix) → List ℕ
 pending vs = unwrap_or (first_of (content unix 3) vs) []
 
 -- behind a header and a name, each number of the first value of its kind
-abbrev pub unix_details_of : UnixHeader → Text → List (Said unix) → UnixDetails
+abbrev pub unix_details_of : UnixHeader → Text → List (AttributeValue unix) → UnixDetails
 unix_details_of header name vs = record {
   header = header;
   name = name;
-  file_inode = told unix 1 (λ (f : Vfs). f.inode) vs;
-  file_device = told unix 1 (λ (f : Vfs). f.device) vs;
-  peer = told unix 2 (λ (n : ℕ). n) vs;
-  recv_queue = told unix 4 (λ (q : ℕ × ℕ). q.0) vs;
-  send_queue = told unix 4 (λ (q : ℕ × ℕ). q.1) vs;
-  receive_buffer = told unix 5 (λ (m : MemInfo). m.so_rcvbuf) vs;
-  send_buffer = told unix 5 (λ (m : MemInfo). m.max_datagram_size) vs;
-  queued = told unix 5 (λ (m : MemInfo). m.alloc) vs;
-  shutdown = told unix 6 (λ (n : ℕ). n) vs;
+  file_inode = first_number unix 1 (λ (f : Vfs). f.inode) vs;
+  file_device = first_number unix 1 (λ (f : Vfs). f.device) vs;
+  peer = first_number unix 2 (λ (n : ℕ). n) vs;
+  recv_queue = first_number unix 4 (λ (q : ℕ × ℕ). q.0) vs;
+  send_queue = first_number unix 4 (λ (q : ℕ × ℕ). q.1) vs;
+  receive_buffer = first_number unix 5 (λ (m : MemInfo). m.so_rcvbuf) vs;
+  send_buffer = first_number unix 5 (λ (m : MemInfo). m.max_datagram_size) vs;
+  queued = first_number unix 5 (λ (m : MemInfo). m.alloc) vs;
+  shutdown = first_number unix 6 (λ (n : ℕ). n) vs;
 }
 
 -- this header and these attributes are told, and nothing else
-abbrev pub IsUnixTold : UnixHeader → UnixDetails → List (Said unix) → Type 0
-IsUnixTold header d vs =
+abbrev pub HasUnixDetails : UnixHeader → UnixDetails → List (AttributeValue unix) → Type 0
+HasUnixDetails header d vs =
     (d ≡ unix_details_of header d.name vs) × (text_of d.name ≡ first_of named vs)
 
 -- all of the reply is told
-abbrev pub TellsUnix : UnixReply → UnixDetails → Type 0
-TellsUnix v d = IsUnixTold (unix_header_of v.header) d v.nlas
+abbrev pub IsUnixDetailsOf : UnixResponseValue → UnixDetails → Type 0
+IsUnixDetailsOf v d = HasUnixDetails (unix_header_of v.header) d v.nlas

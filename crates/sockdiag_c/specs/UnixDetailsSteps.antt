@@ -1,15 +1,15 @@
 -- What C is told once one more attribute of a UNIX socket says something.
 use Rattle.std.specs.Prelude.{ℕ}
-use Rattle.netlink_core.specs.Family.{Said}
+use Rattle.netlink_core.specs.AttributeSet.{AttributeValue}
 use Rattle.sock_diag_values.specs.declared.unix.mem_info.MemInfo.{MemInfo}
 use Rattle.sock_diag_values.specs.declared.unix.vfs.Vfs.{Vfs}
 use Rattle.sock_diag_attributes.specs.UnixAttributes.{unix}
 use Rattle.sockdiag_c.specs.declared.details.Text.{Text}
 use Rattle.sockdiag_c.specs.declared.unix_details.UnixDetails.{UnixDetails}
-use Rattle.sockdiag_c.specs.TellSteps.{next}
+use Rattle.sockdiag_c.specs.FirstNumberSteps.{next}
 
 -- each number, where none was told before; the name is given
-abbrev pub unix_with : Text → UnixDetails → Said unix → UnixDetails
+abbrev pub unix_with : Text → UnixDetails → AttributeValue unix → UnixDetails
 unix_with name d v = record {
   header = d.header;
   name = name;

@@ -32,7 +32,7 @@ FailsAt IsFault bytes old new was now answer =
 abbrev pub attribute_in : List ℕ → AttributePart → Attribute
 attribute_in bytes part = record { type_word = part.type_word; value = take part.length (drop part.offset bytes) }
 
--- The attribute at the front of what was left is told, its value behind the two words, and the walk
+-- The attribute at the start of what was left is told, its value behind the two words, and the walk
 -- passes it and its padding. Or the walk ends, or fails.
 abbrev pub NextAttribute : List ℕ → Cursor → Cursor → AttributePart → AttributePart → ℕ → Type 0
 NextAttribute bytes old new was now answer =
@@ -63,7 +63,7 @@ Carries payload t answer =
     ((answer ≡ 1) × ((carried : Payload Message) × PayloadIs message_codec.reads payload t carried))
     ⊎ ((e : DecodeError) × IsInnerType t × message_codec.refuses payload t e × (answer ≡ number_of e))
 
--- The message at the front of what was left is told, its payload behind the header, and the walk
+-- The message at the start of what was left is told, its payload behind the header, and the walk
 -- passes it and its padding.
 abbrev pub IsFramed : List ℕ → Cursor → Cursor → MessagePart → Type 0
 IsFramed bytes old new now =
@@ -71,15 +71,15 @@ IsFramed bytes old new now =
     × HasHeader (left_of bytes old) (header_in now) × (now.offset ≡ old.place + 16)
 
 -- the same, and what it carries
-abbrev pub IsTold : List ℕ → Cursor → Cursor → MessagePart → ℕ → Type 0
-IsTold bytes old new now answer =
+abbrev pub IsMessageAt : List ℕ → Cursor → Cursor → MessagePart → ℕ → Type 0
+IsMessageAt bytes old new now answer =
     IsFramed bytes old new now × Carries (payload_in bytes now) now.message_type answer
 
 -- A message is told, or the walk ends, or fails.
 abbrev pub NextMessage : List ℕ → Cursor → Cursor → MessagePart → MessagePart → ℕ → Type 0
 NextMessage bytes old new was now answer =
     EndsAt bytes old new was now answer
-    ⊎ (IsTold bytes old new now answer ⊎ FailsAt IsEnvelopeFault bytes old new was now answer)
+    ⊎ (IsMessageAt bytes old new now answer ⊎ FailsAt IsEnvelopeFault bytes old new was now answer)
 
 -- The same of a walk that doesn't look at what is carried.
 abbrev pub NextEnvelope : List ℕ → Cursor → Cursor → MessagePart → MessagePart → ℕ → Type 0

@@ -1,10 +1,10 @@
 //! Checks of replies in place.
 
-ghost use Rattle.netlink_core.specs.Reply.{reply_codec};
-ghost use Rattle.netlink_packet_sock_diag.specs.InetReply.{inet_reply};
+ghost use Rattle.netlink_core.specs.Response.{response_codec};
+ghost use Rattle.netlink_packet_sock_diag.specs.InetResponseSpec.{inet_response_spec};
 ghost use Rattle.netlink_packet_sock_diag.specs.Message.{message_codec};
-ghost use Rattle.netlink_packet_sock_diag.specs.UnixReply.{unix_reply};
-ghost use Rattle.sockdiag_c.specs.Answers.{Tells};
+ghost use Rattle.netlink_packet_sock_diag.specs.UnixResponseSpec.{unix_response_spec};
+ghost use Rattle.sockdiag_c.specs.Answers.{Answers};
 ghost use Rattle.sockdiag_c.specs.Headers.{inet_header_of, reply_of, unix_header_of};
 
 use crate::headers::{INET, InetHeader, Reply, UNIX, UnixHeader};
@@ -20,8 +20,8 @@ pub(crate) const OK: u32 = 0;
 /// was.
 #[unsafe(no_mangle)]
 pub extern "C" fn sockdiag_check_unix_reply(payload: &[u8], header: &mut UnixHeader) -> u32
-    ensures { Tells ((reply_codec unix_reply).reads payload.now tt)
-        ((reply_codec unix_reply).refuses payload.now tt)
+    ensures { Answers ((response_codec unix_response_spec).reads payload.now tt)
+        ((response_codec unix_response_spec).refuses payload.now tt)
         (λ v. unix_header_of v.header) header.old header.new result }
 {
     match UnixResponseView::parse(payload) {
@@ -36,8 +36,8 @@ pub extern "C" fn sockdiag_check_unix_reply(payload: &[u8], header: &mut UnixHea
 /// The same of a reply about an IPv4 or IPv6 socket.
 #[unsafe(no_mangle)]
 pub extern "C" fn sockdiag_check_inet_reply(payload: &[u8], header: &mut InetHeader) -> u32
-    ensures { Tells ((reply_codec inet_reply).reads payload.now tt)
-        ((reply_codec inet_reply).refuses payload.now tt)
+    ensures { Answers ((response_codec inet_response_spec).reads payload.now tt)
+        ((response_codec inet_response_spec).refuses payload.now tt)
         (λ v. inet_header_of v.header) header.old header.new result }
 {
     match InetResponseView::parse(payload) {
@@ -58,7 +58,7 @@ pub extern "C" fn sockdiag_check_message(
     message_type: u16,
     reply: &mut Reply,
 ) -> u32
-    ensures { Tells (message_codec.reads payload.now message_type)
+    ensures { Answers (message_codec.reads payload.now message_type)
         (message_codec.refuses payload.now message_type)
         (reply_of reply.old) reply.old reply.new result }
 {

@@ -3,16 +3,16 @@
 ghost use Rattle.std.specs.Prelude.{◌≡◌, ◌≢◌, List, [], ◌∷◌, ◌++◌, drop, Ok, Err, IfOk};
 ghost use Rattle.std.specs.Prelude.{IfErr, None, OnOk, Some};
 ghost use Rattle.netlink_core.specs.Attribute.{AttributeFault, AttributesMean};
-ghost use Rattle.netlink_core.specs.Family.{Said, says};
-ghost use Rattle.netlink_core.specs.Reply.{Reply, ValueOf, reply_codec};
+ghost use Rattle.netlink_core.specs.AttributeSet.{AttributeValue, decodes};
+ghost use Rattle.netlink_core.specs.Response.{ResponseSpec, ValueOf, response_codec};
 ghost use Rattle.netlink_core.specs.Walk.{attribute_of};
-ghost use Rattle.netlink_packet_sock_diag.specs.InetReply.{inet_reply};
-ghost use Rattle.netlink_packet_sock_diag.specs.UnixReply.{unix_reply};
-ghost use Rattle.sockdiag_c.specs.Answers.{TellsOf};
+ghost use Rattle.netlink_packet_sock_diag.specs.InetResponseSpec.{inet_response_spec};
+ghost use Rattle.netlink_packet_sock_diag.specs.UnixResponseSpec.{unix_response_spec};
+ghost use Rattle.sockdiag_c.specs.Answers.{AnswersBy};
 ghost use Rattle.sockdiag_c.specs.Details.{text_of};
-ghost use Rattle.sockdiag_c.specs.InetDetails.{TellsInet};
-ghost use Rattle.sockdiag_c.specs.UnixDetails.{TellsUnix};
-ghost use Rattle.sockdiag_c.specs.TellSteps.{next_number, first_of_two};
+ghost use Rattle.sockdiag_c.specs.InetDetails.{IsInetDetailsOf};
+ghost use Rattle.sockdiag_c.specs.UnixDetails.{IsUnixDetailsOf};
+ghost use Rattle.sockdiag_c.specs.FirstNumberSteps.{next_number, first_of_two};
 
 use crate::check::OK;
 use crate::inet_details::InetDetails;
@@ -54,7 +54,7 @@ pub(crate) const NO_NUMBER: Number = Number {
 
 impl Number {
     /// Tells the number, where none is told yet.
-    pub(crate) fn tell(&mut self, value: u32)
+    pub(crate) fn set(&mut self, value: u32)
         ensures { self.new ≡ next_number self.old (Some value) }
     {
         if self.is_told == 0 {
@@ -75,7 +75,7 @@ impl<'a> Text<'a> {
     }
 
     /// Tells the text, where none is told yet.
-    pub(crate) fn tell(&mut self, kind: u32, bytes: &'a [u8])
+    pub(crate) fn set(&mut self, kind: u32, bytes: &'a [u8])
         requires { kind ≢ 0 }
         ensures { text_of self.new
             ≡ first_of_two (text_of self.old) (Some (kind, bytes.entry.now)) }
@@ -87,27 +87,29 @@ impl<'a> Text<'a> {
 }
 
 /// What C is told of the replies of one family.
-pub(crate) trait Told<'a>: Copy {
+pub(crate) trait KeepsDetails<'a>: Copy {
     // The replies, and whether the value tells what this header and these attributes say, and
     // nothing else.
-    ghost reply: { Reply };
+    ghost reply: { ResponseSpec };
 
-    ghost tells: { reply.header.Value → Self → List (Said reply.family) → Type 0 };
+    ghost describes: { reply.header.Value → Self → List (AttributeValue reply.attribute_set)
+        → Type 0 };
 
     /// Tells the header, before the bytes behind it, or why it is refused.
     fn tell_header(payload: &'a [u8]) -> Result<(Self, &'a [u8]), DecodeError>
         ensures value { IfOk result (λ parts. (h : reply.header.Value)
-            × (reply.header.reads tt payload.entry.now ≡ Ok h) × tells h parts.0 []) }
+            × (reply.header.reads tt payload.entry.now ≡ Ok h) × describes h parts.0 []) }
         ensures rest { IfOk result (λ parts. parts.1.now ≡ drop reply.size payload.entry.now) }
         ensures fault { IfErr result (λ e. reply.header.reads tt payload.entry.now ≡ Err e) };
 
     /// Tells what the attribute says too, or why it is refused.
-    fn tell_nla(&mut self, nla: &NlaBuffer<'a>) -> Result<(), DecodeError>
-        ensures value { OnOk result ((v : Said reply.family)
-            × (says reply.family (attribute_of nla.now) ≡ Ok v)
-            × ((h : reply.header.Value) (before : List (Said reply.family))
-            → tells h self.old before → tells h self.new (before ++ v ∷ []))) }
-        ensures fault { IfErr result (λ e. says reply.family (attribute_of nla.now) ≡ Err e) };
+    fn set_detail(&mut self, nla: &NlaBuffer<'a>) -> Result<(), DecodeError>
+        ensures value { OnOk result ((v : AttributeValue reply.attribute_set)
+            × (decodes reply.attribute_set (attribute_of nla.now) ≡ Ok v)
+            × ((h : reply.header.Value) (before : List (AttributeValue reply.attribute_set))
+            → describes h self.old before → describes h self.new (before ++ v ∷ []))) }
+        ensures fault { IfErr result (λ e.
+            decodes reply.attribute_set (attribute_of nla.now) ≡ Err e) };
 }
 
 /// Checks the whole of a reply about a UNIX socket, the payload of its message, and tells all of
@@ -118,8 +120,9 @@ pub extern "C" fn sockdiag_unix_get_details<'a>(
     payload: &'a [u8],
     details: &mut UnixDetails<'a>,
 ) -> u32
-    ensures { TellsOf ((reply_codec unix_reply).reads payload.entry.now tt)
-        ((reply_codec unix_reply).refuses payload.entry.now tt) TellsUnix details.old details.new
+    ensures { AnswersBy ((response_codec unix_response_spec).reads payload.entry.now tt)
+        ((response_codec unix_response_spec).refuses payload.entry.now tt) IsUnixDetailsOf
+        details.old details.new
         result }
 {
     tell_reply(payload, details)
@@ -134,22 +137,23 @@ pub extern "C" fn sockdiag_inet_get_details<'a>(
     payload: &'a [u8],
     details: &mut InetDetails<'a>,
 ) -> u32
-    ensures { TellsOf ((reply_codec inet_reply).reads payload.entry.now tt)
-        ((reply_codec inet_reply).refuses payload.entry.now tt) TellsInet details.old details.new
+    ensures { AnswersBy ((response_codec inet_response_spec).reads payload.entry.now tt)
+        ((response_codec inet_response_spec).refuses payload.entry.now tt) IsInetDetailsOf
+        details.old details.new
         result }
 {
     tell_reply(payload, details)
 }
 
 // Tells the whole of the reply, or answers the number of the first fault.
-fn tell_reply<'a, T: Told<'a>>(payload: &'a [u8], details: &mut T) -> u32
-    ensures { TellsOf ((reply_codec T.reply).reads payload.entry.now tt)
-        ((reply_codec T.reply).refuses payload.entry.now tt)
-        (λ v told. T.tells v.header told v.nlas) details.old details.new result }
+fn tell_reply<'a, T: KeepsDetails<'a>>(payload: &'a [u8], details: &mut T) -> u32
+    ensures { AnswersBy ((response_codec T.reply).reads payload.entry.now tt)
+        ((response_codec T.reply).refuses payload.entry.now tt)
+        (λ v details. T.describes v.header details v.nlas) details.old details.new result }
 {
     match read_details::<T>(payload) {
-        Ok(told) => {
-            *details = told;
+        Ok(details) => {
+            *details = details;
             OK
         }
         Err(fault) => u32::from(fault.number()),
@@ -157,26 +161,28 @@ fn tell_reply<'a, T: Told<'a>>(payload: &'a [u8], details: &mut T) -> u32
 }
 
 // What the reply tells, or the first fault.
-fn read_details<'a, T: Told<'a>>(payload: &'a [u8]) -> Result<T, DecodeError>
-    ensures value { IfOk result (λ told. (v : ValueOf T.reply)
-        × (reply_codec T.reply).reads payload.entry.now tt v × T.tells v.header told v.nlas) }
-    ensures fault { IfErr result ((reply_codec T.reply).refuses payload.entry.now tt) }
+fn read_details<'a, T: KeepsDetails<'a>>(payload: &'a [u8]) -> Result<T, DecodeError>
+    ensures value { IfOk result (λ details. (v : ValueOf T.reply)
+        × (response_codec T.reply).reads payload.entry.now tt v
+        × T.describes v.header details v.nlas) }
+    ensures fault { IfErr result ((response_codec T.reply).refuses payload.entry.now tt) }
 {
     let (mut details, rest) = T::tell_header(payload)?;
-    tell_nlas(rest, &mut details)?;
+    set_details(rest, &mut details)?;
     Ok(details)
 }
 
-// Tells what each attribute says, or the first fault.
-fn tell_nlas<'a, T: Told<'a>>(bytes: &'a [u8], told: &mut T) -> Result<(), DecodeError>
-    ensures value { OnOk result ((vs : List (Said T.reply.family))
-        × AttributesMean (says T.reply.family) bytes.entry.now vs
-        × ((h : T.reply.header.Value) → T.tells h told.old [] → T.tells h told.new vs)) }
-    ensures fault { IfErr result (AttributeFault (says T.reply.family) bytes.entry.now) }
+// Sets what each attribute decodes to, or returns the first fault.
+fn set_details<'a, T: KeepsDetails<'a>>(bytes: &'a [u8], details: &mut T) -> Result<(), DecodeError>
+    ensures value { OnOk result ((vs : List (AttributeValue T.reply.attribute_set))
+        × AttributesMean (decodes T.reply.attribute_set) bytes.entry.now vs
+        × ((h : T.reply.header.Value) → T.describes h details.old []
+        → T.describes h details.new vs)) }
+    ensures fault { IfErr result (AttributeFault (decodes T.reply.attribute_set) bytes.entry.now) }
 {
     for item in NlasIterator::new(bytes) {
         let nla = item?;
-        told.tell_nla(&nla)?;
+        details.set_detail(&nla)?;
     }
     Ok(())
 }

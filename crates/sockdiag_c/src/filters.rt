@@ -2,7 +2,7 @@
 
 ghost use Rattle.std.specs.Prelude.{◌≡◌, ◌+◌, ◌≤◌, ◌⊎◌, ◌++◌, List, length, drop, OnOk, IfErr};
 ghost use Rattle.netlink_core.specs.Attribute.{Attribute, Cut, fill};
-ghost use Rattle.netlink_core.specs.Format.{bytes};
+ghost use Rattle.netlink_core.specs.Layout.{bytes};
 ghost use Rattle.netlink_core.specs.Header.{header_bytes};
 ghost use Rattle.sock_diag_records.specs.InetRequest.{inet_request};
 ghost use Rattle.sockdiag_c.specs.Requests.{AreCutOff, HasRoomForLength, filtered_message};
@@ -115,7 +115,7 @@ fn write_front(len: u32, request: &InetRequest, front: &mut [u8])
     LittleEndian::write_u32(front, len);
 }
 
-// Writes the attributes at the front of the buffer, and zeros up to a multiple of 4.
+// Writes the attributes at the start of the buffer, and zeros up to a multiple of 4.
 fn write_padded(attributes: &[u8], buffer: &mut [u8])
     requires small { length attributes.now ≤ 4294967295 }
     requires room { length attributes.now + fill (length attributes.now) ≤ length buffer.old }

@@ -84,7 +84,7 @@ pub(crate) const UNIX: u32 = 1;
 pub(crate) const INET: u32 = 2;
 
 impl From<UnixResponseHeader> for UnixHeader {
-    ghost from_gives = { λ header told. told ≡ unix_header_of header };
+    ghost from_gives = { λ header found. found ≡ unix_header_of header };
 
     fn from(header: UnixResponseHeader) -> UnixHeader {
         let UnixResponseHeader {
@@ -103,7 +103,7 @@ impl From<UnixResponseHeader> for UnixHeader {
 }
 
 impl From<InetResponseHeader> for InetHeader {
-    ghost from_gives = { λ header told. told ≡ inet_header_of header };
+    ghost from_gives = { λ header found. found ≡ inet_header_of header };
 
     fn from(header: InetResponseHeader) -> InetHeader {
         let (timer, retransmits, expires) = timer_numbers(&header.timer);

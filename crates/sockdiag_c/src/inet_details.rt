@@ -2,15 +2,15 @@
 //! of C.
 
 ghost use Rattle.std.specs.Prelude.{◌≡◌};
-ghost use Rattle.sock_diag_attributes.specs.SeenInet.{viewed_nla};
-ghost use Rattle.netlink_packet_sock_diag.specs.InetReply.{inet_reply};
+ghost use Rattle.sock_diag_attributes.specs.InetModel.{nla_view_model};
+ghost use Rattle.netlink_packet_sock_diag.specs.InetResponseSpec.{inet_response_spec};
 ghost use Rattle.sockdiag_c.specs.Details.{text_of};
 ghost use Rattle.sockdiag_c.specs.Headers.{inet_header_of};
-ghost use Rattle.sockdiag_c.specs.InetDetails.{IsInetTold, controlled};
+ghost use Rattle.sockdiag_c.specs.InetDetails.{HasInetDetails, controlled};
 ghost use Rattle.sockdiag_c.specs.InetDetailsSteps.{inet_with};
-ghost use Rattle.sockdiag_c.specs.TellSteps.{first_of_two};
+ghost use Rattle.sockdiag_c.specs.FirstNumberSteps.{first_of_two};
 
-use crate::details::{NO_NUMBER, Number, TEXT, Text, Told};
+use crate::details::{KeepsDetails, NO_NUMBER, Number, TEXT, Text};
 use crate::headers::InetHeader;
 use netlink_core::{DecodeError, NlaBuffer};
 use netlink_packet_sock_diag::inet::InetResponseHeader;
@@ -42,20 +42,21 @@ pub struct InetDetails<'a> {
 
 impl<'a> InetDetails<'a> {
     // Tells what the attribute says, where nothing of its kind is told yet.
-    fn tell(&mut self, nla: NlaView<'a>)
-        ensures numbers { self.new ≡ inet_with self.new.congestion self.old (viewed_nla nla.entry) }
+    fn set(&mut self, nla: NlaView<'a>)
+        ensures numbers { self.new ≡ inet_with self.new.congestion self.old
+            (nla_view_model nla.entry) }
         ensures congestion { text_of self.new.congestion
-            ≡ first_of_two (text_of self.old.congestion) (controlled (viewed_nla nla.entry)) }
+            ≡ first_of_two (text_of self.old.congestion) (controlled (nla_view_model nla.entry)) }
     {
         match nla {
-            NlaView::Congestion(name) => self.congestion.tell(TEXT, name.as_bytes()),
-            NlaView::Tos(tos) => self.tos.tell(u32::from(tos)),
-            NlaView::Tc(class) => self.tclass.tell(u32::from(class)),
-            NlaView::Shutdown(state) => self.shutdown.tell(u32::from(state)),
-            NlaView::Protocol(protocol) => self.protocol.tell(u32::from(protocol)),
-            NlaView::SkV6Only(only) => self.v6only.tell(u32::from(only)),
-            NlaView::Mark(mark) => self.mark.tell(mark),
-            NlaView::ClassId(class) => self.class_id.tell(class),
+            NlaView::Congestion(name) => self.congestion.set(TEXT, name.as_bytes()),
+            NlaView::Tos(tos) => self.tos.set(u32::from(tos)),
+            NlaView::Tc(class) => self.tclass.set(u32::from(class)),
+            NlaView::Shutdown(state) => self.shutdown.set(u32::from(state)),
+            NlaView::Protocol(protocol) => self.protocol.set(u32::from(protocol)),
+            NlaView::SkV6Only(only) => self.v6only.set(u32::from(only)),
+            NlaView::Mark(mark) => self.mark.set(mark),
+            NlaView::ClassId(class) => self.class_id.set(class),
             NlaView::LegacyMemInfo(_) => {}
             NlaView::TcpInfo(_) => {}
             NlaView::MemInfo(_) => {}
@@ -64,15 +65,15 @@ impl<'a> InetDetails<'a> {
     }
 }
 
-impl<'a> Told<'a> for InetDetails<'a> {
-    ghost reply = { inet_reply };
+impl<'a> KeepsDetails<'a> for InetDetails<'a> {
+    ghost reply = { inet_response_spec };
 
-    ghost tells = { λ h told vs. IsInetTold (inet_header_of h) told vs };
+    ghost describes = { λ h found vs. HasInetDetails (inet_header_of h) found vs };
 
-    #[tactic(auto, using(netlink_packet_sock_diag::specs::InetReplyLaws::header_enough))]
+    #[tactic(auto, using(netlink_packet_sock_diag::specs::InetResponseSpecLaws::header_enough))]
     fn tell_header(payload: &'a [u8]) -> Result<(Self, &'a [u8]), DecodeError> {
         let header = InetResponseHeader::from_prefix(payload)?;
-        let told = InetDetails {
+        let found = InetDetails {
             header: InetHeader::from(header),
             congestion: Text::none(),
             tos: NO_NUMBER,
@@ -83,12 +84,12 @@ impl<'a> Told<'a> for InetDetails<'a> {
             mark: NO_NUMBER,
             class_id: NO_NUMBER,
         };
-        Ok((told, &payload[72..]))
+        Ok((found, &payload[72..]))
     }
 
-    fn tell_nla(&mut self, nla: &NlaBuffer<'a>) -> Result<(), DecodeError> {
+    fn set_detail(&mut self, nla: &NlaBuffer<'a>) -> Result<(), DecodeError> {
         let view = NlaView::parse(nla)?;
-        self.tell(view);
+        self.set(view);
         Ok(())
     }
 }

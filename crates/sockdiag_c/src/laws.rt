@@ -9,12 +9,13 @@ ghost use Rattle.netlink_core.specs.Faults.{number_of};
 ghost use Rattle.sockdiag_c.specs.declared.walks.AttributePart.{AttributePart};
 ghost use Rattle.sockdiag_c.specs.declared.walks.Cursor.{Cursor};
 ghost use Rattle.sockdiag_c.specs.declared.walks.MessagePart.{MessagePart};
-ghost use Rattle.sockdiag_c.specs.Walks.{IsTold, NextAttribute, NextMessage, attribute_in, left_of};
+ghost use Rattle.sockdiag_c.specs.Walks.{IsMessageAt, NextAttribute, NextMessage, attribute_in};
+ghost use Rattle.sockdiag_c.specs.Walks.{left_of};
 
 /// Where what is left is cut into attributes, as it is behind the header of each reply that a check
 /// accepts, a step tells the first of them and leaves what the others are cut from; where no
 /// attribute is left, the walk ends.
-pub fn a_step_tells_the_first_attribute()
+pub fn a_step_passes_the_first_attribute()
     ensures next { (bytes : List ℕ) (old new : Cursor) (was now : AttributePart) (answer : ℕ)
         (first : Attribute) (later : List Attribute)
         → Cut (left_of bytes old) (first ∷ later) → NextAttribute bytes old new was now answer
@@ -26,12 +27,12 @@ pub fn a_step_tells_the_first_attribute()
 /// Where what is left is cut into messages, a step tells the first of them and leaves what the
 /// others are cut from; where no message is left, the walk ends, or fails with the fault that
 /// stands there.
-pub fn a_step_tells_the_first_message()
+pub fn a_step_passes_the_first_message()
     ensures next { (bytes : List ℕ) (old new : Cursor) (was now : MessagePart) (answer : ℕ)
         (message : List ℕ) (later : List (List ℕ)) (end : Option DecodeError)
         → IsBytes (left_of bytes old) → CutIntoMessages (left_of bytes old) (message ∷ later) end
         → NextMessage bytes old new was now answer
-        → IsTold bytes old new now answer × CutIntoMessages (left_of bytes new) later end }
+        → IsMessageAt bytes old new now answer × CutIntoMessages (left_of bytes new) later end }
     ensures end { (bytes : List ℕ) (old new : Cursor) (was now : MessagePart) (answer : ℕ)
         → IsBytes (left_of bytes old) → CutIntoMessages (left_of bytes old) [] None
         → NextMessage bytes old new was now answer → answer ≡ 0 }

@@ -2,9 +2,10 @@
 
 ghost use Rattle.std.specs.Prelude.{◌≡◌, ◌⊎◌, slice_get};
 ghost use Rattle.netlink_core.specs.declared.fault.DecodeError.{DecodeError};
-ghost use Rattle.netlink_core.specs.Reply.{reply_codec};
-ghost use Rattle.netlink_packet_sock_diag.specs.UnixReply.{UnixReply, unix_reply};
-ghost use Rattle.sockdiag_c.specs.Answers.{TellsItem};
+ghost use Rattle.netlink_core.specs.Response.{response_codec};
+ghost use Rattle.netlink_packet_sock_diag.specs.UnixResponseSpec.{UnixResponseValue};
+ghost use Rattle.netlink_packet_sock_diag.specs.UnixResponseSpec.{unix_response_spec};
+ghost use Rattle.sockdiag_c.specs.Answers.{AnswersItem};
 ghost use Rattle.sockdiag_c.specs.UnixDetails.{pending};
 
 use crate::walks::{END, ITEM};
@@ -15,9 +16,10 @@ use netlink_packet_sock_diag::unix::UnixResponseView;
 /// reply is refused, and then the inode is left as it was.
 #[unsafe(no_mangle)]
 pub extern "C" fn sockdiag_unix_get_pending(payload: &[u8], index: usize, inode: &mut u32) -> u32
-    ensures { ((v : UnixReply) × (reply_codec unix_reply).reads payload.now tt v
-        × TellsItem (slice_get (pending v.nlas) index) inode.old inode.new result)
-        ⊎ ((e : DecodeError) × (reply_codec unix_reply).refuses payload.now tt e × (result ≡ 0)
+    ensures { ((v : UnixResponseValue) × (response_codec unix_response_spec).reads payload.now tt v
+        × AnswersItem (slice_get (pending v.nlas) index) inode.old inode.new result)
+        ⊎ ((e : DecodeError) × (response_codec unix_response_spec).refuses payload.now tt e
+        × (result ≡ 0)
         × (inode.new ≡ inode.old)) }
 {
     let Ok(view) = UnixResponseView::parse(payload) else {
@@ -27,8 +29,8 @@ pub extern "C" fn sockdiag_unix_get_pending(payload: &[u8], index: usize, inode:
         return END;
     };
     match inodes.get(index) {
-        Some(told) => {
-            *inode = told;
+        Some(found) => {
+            *inode = found;
             ITEM
         }
         None => END,

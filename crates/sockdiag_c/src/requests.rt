@@ -2,7 +2,7 @@
 
 ghost use Rattle.std.specs.Prelude.{◌≡◌, ◌≢◌, ◌+◌, ◌<◌, ◌≤◌, ◌⊎◌, ◌++◌, length, drop};
 ghost use Rattle.netlink_core.specs.Attribute.{written};
-ghost use Rattle.netlink_core.specs.Format.{bytes};
+ghost use Rattle.netlink_core.specs.Layout.{bytes};
 ghost use Rattle.netlink_core.specs.Header.{header_bytes};
 ghost use Rattle.sock_diag_records.specs.InetRequest.{inet_request};
 ghost use Rattle.sock_diag_records.specs.UnixRequest.{unix_request};
@@ -80,7 +80,7 @@ pub struct InetRequest {
 /// The kind of the attribute of a request that tells the protocol, `INET_DIAG_REQ_PROTOCOL`.
 const PROTOCOL: u8 = 3;
 
-/// Writes a request for UNIX sockets, a netlink message of 40 bytes, at the front of the buffer. It
+/// Writes a request for UNIX sockets, a netlink message of 40 bytes, at the start of the buffer. It
 /// answers 40, or 0 where the buffer is shorter, and then nothing is written.
 #[unsafe(no_mangle)]
 pub extern "C" fn sockdiag_write_unix_request(request: &UnixRequest, buffer: &mut [u8]) -> usize
@@ -98,7 +98,7 @@ pub extern "C" fn sockdiag_write_unix_destroy(request: &UnixRequest, buffer: &mu
 }
 
 /// Writes a request for IPv4 or IPv6 sockets, a netlink message of 72 bytes, or of 80 where the
-/// protocol is above 255, at the front of the buffer. It answers how many bytes were written, or 0
+/// protocol is above 255, at the start of the buffer. It answers how many bytes were written, or 0
 /// where the buffer is shorter or the family is neither `AF_INET` nor `AF_INET6`, and then nothing
 /// is written.
 #[unsafe(no_mangle)]

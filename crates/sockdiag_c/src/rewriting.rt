@@ -2,9 +2,9 @@
 
 ghost use Rattle.std.specs.Prelude.{◌≡◌};
 ghost use Rattle.netlink_core.specs.Faults.{number_of};
-ghost use Rattle.netlink_core.specs.Reply.{reply_bytes, reply_codec};
-ghost use Rattle.netlink_packet_sock_diag.specs.InetReply.{inet_reply};
-ghost use Rattle.netlink_packet_sock_diag.specs.UnixReply.{unix_reply};
+ghost use Rattle.netlink_core.specs.Response.{response_bytes, response_codec};
+ghost use Rattle.netlink_packet_sock_diag.specs.InetResponseSpec.{inet_response_spec};
+ghost use Rattle.netlink_packet_sock_diag.specs.UnixResponseSpec.{unix_response_spec};
 ghost use Rattle.sockdiag_c.specs.Rewriting.{IsCanonical, Rewrites, Writes, outcome_of};
 
 use netlink_core::{DecodeError, Emitable};
@@ -23,7 +23,7 @@ pub struct Outcome {
 }
 
 /// Writes the canonical form of a reply about a UNIX socket, the payload of its message, at the
-/// front of the buffer. It answers how many bytes were written, or 0, and then nothing is written:
+/// start of the buffer. It answers how many bytes were written, or 0, and then nothing is written:
 /// the reply is refused, or it can't be written, or the buffer is shorter than is needed.
 #[unsafe(no_mangle)]
 pub extern "C" fn sockdiag_rewrite_unix_reply(
@@ -31,11 +31,12 @@ pub extern "C" fn sockdiag_rewrite_unix_reply(
     buffer: &mut [u8],
     outcome: &mut Outcome,
 ) -> usize
-    ensures rewrites { Rewrites ((reply_codec unix_reply).reads payload.now tt)
-        ((reply_codec unix_reply).refuses payload.now tt) (reply_codec unix_reply).fits
-        (reply_bytes unix_reply)
+    ensures rewrites { Rewrites ((response_codec unix_response_spec).reads payload.now tt)
+        ((response_codec unix_response_spec).refuses payload.now tt)
+        (response_codec unix_response_spec).fits
+        (response_bytes unix_response_spec)
         buffer.old buffer.new outcome.new result }
-    ensures canonical { IsCanonical unix_reply payload.now buffer.new result }
+    ensures canonical { IsCanonical unix_response_spec payload.now buffer.new result }
 {
     match UnixResponseView::parse(payload) {
         Ok(view) => write_value(&view, buffer, outcome),
@@ -50,11 +51,12 @@ pub extern "C" fn sockdiag_rewrite_inet_reply(
     buffer: &mut [u8],
     outcome: &mut Outcome,
 ) -> usize
-    ensures rewrites { Rewrites ((reply_codec inet_reply).reads payload.now tt)
-        ((reply_codec inet_reply).refuses payload.now tt) (reply_codec inet_reply).fits
-        (reply_bytes inet_reply)
+    ensures rewrites { Rewrites ((response_codec inet_response_spec).reads payload.now tt)
+        ((response_codec inet_response_spec).refuses payload.now tt)
+        (response_codec inet_response_spec).fits
+        (response_bytes inet_response_spec)
         buffer.old buffer.new outcome.new result }
-    ensures canonical { IsCanonical inet_reply payload.now buffer.new result }
+    ensures canonical { IsCanonical inet_response_spec payload.now buffer.new result }
 {
     match InetResponseView::parse(payload) {
         Ok(view) => write_value(&view, buffer, outcome),

@@ -70,11 +70,11 @@ fn first_value(bytes: &[u8], kind: u16) -> &[u8]
 }
 
 // The bytes of the value, and zeros behind them.
-fn fill<const N: usize>(value: &[u8], told: &mut [u8; N])
-    ensures { told.new ≡ filled N value.now }
+fn fill<const N: usize>(value: &[u8], found: &mut [u8; N])
+    ensures { found.new ≡ filled N value.now }
 {
     let len = value.len().min(N);
-    let (front, behind) = told.split_at_mut(len);
+    let (front, behind) = found.split_at_mut(len);
     front.copy_from_slice(&value[..len]);
     behind.fill(0);
 }

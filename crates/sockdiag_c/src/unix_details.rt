@@ -1,15 +1,15 @@
 //! All that is told of a UNIX socket, in one struct of C.
 
 ghost use Rattle.std.specs.Prelude.{◌≡◌};
-ghost use Rattle.sock_diag_attributes.specs.SeenUnix.{viewed_nla};
-ghost use Rattle.netlink_packet_sock_diag.specs.UnixReply.{unix_reply};
+ghost use Rattle.sock_diag_attributes.specs.UnixModel.{nla_view_model};
+ghost use Rattle.netlink_packet_sock_diag.specs.UnixResponseSpec.{unix_response_spec};
 ghost use Rattle.sockdiag_c.specs.Details.{text_of};
 ghost use Rattle.sockdiag_c.specs.Headers.{unix_header_of};
-ghost use Rattle.sockdiag_c.specs.TellSteps.{first_of_two};
-ghost use Rattle.sockdiag_c.specs.UnixDetails.{IsUnixTold, named};
+ghost use Rattle.sockdiag_c.specs.FirstNumberSteps.{first_of_two};
+ghost use Rattle.sockdiag_c.specs.UnixDetails.{HasUnixDetails, named};
 ghost use Rattle.sockdiag_c.specs.UnixDetailsSteps.{unix_with};
 
-use crate::details::{ABSTRACT, NO_NUMBER, Number, TEXT, Text, Told};
+use crate::details::{ABSTRACT, KeepsDetails, NO_NUMBER, Number, TEXT, Text};
 use crate::headers::UnixHeader;
 use netlink_core::{DecodeError, NlaBuffer};
 use netlink_packet_sock_diag::unix::UnixResponseHeader;
@@ -47,43 +47,43 @@ pub struct UnixDetails<'a> {
 
 impl<'a> UnixDetails<'a> {
     // Tells what the attribute says, where nothing of its kind is told yet.
-    fn tell(&mut self, nla: NlaView<'a>)
-        ensures numbers { self.new ≡ unix_with self.new.name self.old (viewed_nla nla.entry) }
+    fn set(&mut self, nla: NlaView<'a>)
+        ensures numbers { self.new ≡ unix_with self.new.name self.old (nla_view_model nla.entry) }
         ensures name { text_of self.new.name
-            ≡ first_of_two (text_of self.old.name) (named (viewed_nla nla.entry)) }
+            ≡ first_of_two (text_of self.old.name) (named (nla_view_model nla.entry)) }
     {
         match nla {
-            NlaView::Name(NameView::Pathname(path)) => self.name.tell(TEXT, path),
-            NlaView::Name(NameView::Abstract(address)) => self.name.tell(ABSTRACT, address),
+            NlaView::Name(NameView::Pathname(path)) => self.name.set(TEXT, path),
+            NlaView::Name(NameView::Abstract(address)) => self.name.set(ABSTRACT, address),
             NlaView::Vfs(file) => {
-                self.file_inode.tell(file.inode());
-                self.file_device.tell(file.device());
+                self.file_inode.set(file.inode());
+                self.file_device.set(file.device());
             }
-            NlaView::Peer(inode) => self.peer.tell(inode),
+            NlaView::Peer(inode) => self.peer.set(inode),
             NlaView::ReceiveQueueLength(first, second) => {
-                self.recv_queue.tell(first);
-                self.send_queue.tell(second);
+                self.recv_queue.set(first);
+                self.send_queue.set(second);
             }
             NlaView::MemInfo(memory) => {
-                self.receive_buffer.tell(memory.so_rcvbuf);
-                self.send_buffer.tell(memory.max_datagram_size);
-                self.queued.tell(memory.alloc);
+                self.receive_buffer.set(memory.so_rcvbuf);
+                self.send_buffer.set(memory.max_datagram_size);
+                self.queued.set(memory.alloc);
             }
-            NlaView::Shutdown(state) => self.shutdown.tell(u32::from(state)),
+            NlaView::Shutdown(state) => self.shutdown.set(u32::from(state)),
             NlaView::PendingConnections(_) => {}
             NlaView::Other(_) => {}
         }
     }
 }
 
-impl<'a> Told<'a> for UnixDetails<'a> {
-    ghost reply = { unix_reply };
+impl<'a> KeepsDetails<'a> for UnixDetails<'a> {
+    ghost reply = { unix_response_spec };
 
-    ghost tells = { λ h told vs. IsUnixTold (unix_header_of h) told vs };
+    ghost describes = { λ h found vs. HasUnixDetails (unix_header_of h) found vs };
 
     fn tell_header(payload: &'a [u8]) -> Result<(Self, &'a [u8]), DecodeError> {
         let header = UnixResponseHeader::from_prefix(payload)?;
-        let told = UnixDetails {
+        let found = UnixDetails {
             header: UnixHeader::from(header),
             name: Text::none(),
             file_inode: NO_NUMBER,
@@ -96,12 +96,12 @@ impl<'a> Told<'a> for UnixDetails<'a> {
             queued: NO_NUMBER,
             shutdown: NO_NUMBER,
         };
-        Ok((told, &payload[16..]))
+        Ok((found, &payload[16..]))
     }
 
-    fn tell_nla(&mut self, nla: &NlaBuffer<'a>) -> Result<(), DecodeError> {
+    fn set_detail(&mut self, nla: &NlaBuffer<'a>) -> Result<(), DecodeError> {
         let view = NlaView::parse(nla)?;
-        self.tell(view);
+        self.set(view);
         Ok(())
     }
 }

@@ -1,8 +1,8 @@
 //! Walks over the attributes of a reply and over the messages of a datagram, in place.
 
 ghost use Rattle.std.specs.Prelude.{◌≡◌, ◌+◌, ◌<◌, ◌^◌, ◌⊎◌, OnOk, IfErr};
-ghost use Rattle.netlink_core.specs.Envelope.{number_in_front};
-ghost use Rattle.sockdiag_c.specs.Answers.{TellsItem};
+ghost use Rattle.netlink_core.specs.Envelope.{leading_number};
+ghost use Rattle.sockdiag_c.specs.Answers.{AnswersItem};
 ghost use Rattle.netlink_core.specs.Header.{IsEnvelopeFault};
 ghost use Rattle.sockdiag_c.specs.Walks.{Carries, EndsAt, FailsAt, IsFramed, NextAttribute};
 ghost use Rattle.sockdiag_c.specs.Walks.{NextEnvelope, NextMessage};
@@ -133,7 +133,7 @@ pub extern "C" fn sockdiag_next_envelope(
 // told, it answers what the walk does.
 #[inline(always)]
 fn take_message(datagram: &[u8], cursor: &mut Cursor, message: &mut MessagePart) -> Result<(), u32>
-    ensures told { OnOk result (IsFramed datagram.now cursor.old cursor.new message.new) }
+    ensures found { OnOk result (IsFramed datagram.now cursor.old cursor.new message.new) }
     ensures ended { IfErr result (λ answer.
         EndsAt datagram.now cursor.old cursor.new message.old message.new answer
         ⊎ FailsAt IsEnvelopeFault datagram.now cursor.old cursor.new message.old message.new
@@ -169,11 +169,11 @@ fn take_message(datagram: &[u8], cursor: &mut Cursor, message: &mut MessagePart)
 /// the number is left as it was.
 #[unsafe(no_mangle)]
 pub extern "C" fn sockdiag_get_error_number(payload: &[u8], number: &mut i32) -> u32
-    ensures { TellsItem (number_in_front payload.now) number.old number.new result }
+    ensures { AnswersItem (leading_number payload.now) number.old number.new result }
 {
     match error_number(payload) {
-        Some(told) => {
-            *number = told;
+        Some(found) => {
+            *number = found;
             ITEM
         }
         None => END,

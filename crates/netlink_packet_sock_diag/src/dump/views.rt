@@ -5,7 +5,7 @@ ghost use Rattle.netlink_core.specs.Envelope.{IsInnerType, OfInner, PayloadIs, e
 ghost use Rattle.netlink_core.specs.Envelope.{payload_bytes};
 ghost use Rattle.netlink_core.specs.Items.{ItemIs};
 ghost use Rattle.netlink_packet_sock_diag.specs.Message.{message_codec};
-ghost use Rattle.netlink_packet_sock_diag.specs.ViewedPayload.{viewed_item};
+ghost use Rattle.netlink_packet_sock_diag.specs.PayloadViewModel.{item_view_model};
 
 use crate::message::SockDiagView;
 use netlink_core::{
@@ -31,12 +31,12 @@ pub enum PayloadView<'a> {
 
 impl<'a> PayloadView<'a> {
     ghost use Rattle.netlink_core.specs.Envelope.{error_number_of};
-    ghost use Rattle.netlink_packet_sock_diag.specs.ViewedPayload.{viewed_payload};
+    ghost use Rattle.netlink_packet_sock_diag.specs.PayloadViewModel.{payload_view_model};
 
     /// The number that an error or an end tells, as [`error_number`] reads it, and `None` of any
     /// other payload.
     pub fn error_number(&self) -> Option<i32>
-        ensures { result ≡ error_number_of (viewed_payload self.now) }
+        ensures { result ≡ error_number_of (payload_view_model self.now) }
     {
         match self {
             PayloadView::Done(bytes) | PayloadView::Error(bytes) => error_number(bytes),
@@ -48,7 +48,7 @@ impl<'a> PayloadView<'a> {
     #[inline(always)]
     fn read(header: &NetlinkHeader, payload: &'a [u8]) -> Result<PayloadView<'a>, DecodeError>
         ensures value { IfOk result (λ view. PayloadIs message_codec.reads payload.entry.now
-            header.now.message_type (viewed_payload view)) }
+            header.now.message_type (payload_view_model view)) }
         ensures fault { IfErr result (λ e. IsInnerType header.now.message_type
             × message_codec.refuses payload.entry.now header.now.message_type e) }
     {
@@ -63,12 +63,12 @@ impl<'a> PayloadView<'a> {
 }
 
 impl PayloadView<'_> {
-    ghost use Rattle.netlink_packet_sock_diag.specs.ViewedPayload.{viewed_payload};
+    ghost use Rattle.netlink_packet_sock_diag.specs.PayloadViewModel.{payload_view_model};
 
     // How many bytes are written of it, where it can be written.
     fn writable_len(&self) -> Option<usize>
-        ensures { SomeIff result (OfInner message_codec.fits (viewed_payload self.now))
-            (length (payload_bytes message_codec.written (viewed_payload self.now))) }
+        ensures { SomeIff result (OfInner message_codec.fits (payload_view_model self.now))
+            (length (payload_bytes message_codec.written (payload_view_model self.now))) }
     {
         match self {
             PayloadView::Noop => Some(0),
@@ -91,14 +91,14 @@ pub struct MessageView<'a> {
 }
 
 impl<'a> MessageView<'a> {
-    ghost use Rattle.netlink_packet_sock_diag.specs.ViewedPayload.{viewed_envelope};
+    ghost use Rattle.netlink_packet_sock_diag.specs.PayloadViewModel.{envelope_view_model};
 
-    /// Reads the message at the front of the bytes, and takes no memory. What follows its length is
+    /// Reads the message at the start of the bytes, and takes no memory. What follows its length is
     /// unread. The faults are those of [`netlink_core::NetlinkMessage::deserialize`].
     #[inline(always)]
     pub fn parse(bytes: &'a [u8]) -> Result<MessageView<'a>, DecodeError>
         ensures value { IfOk result (λ view.
-            (envelope_codec message_codec).reads bytes.entry.now tt (viewed_envelope view)) }
+            (envelope_codec message_codec).reads bytes.entry.now tt (envelope_view_model view)) }
         ensures fault { IfErr result ((envelope_codec message_codec).refuses bytes.entry.now tt) }
     {
         let header = NetlinkHeader::from_prefix(bytes)?;
@@ -111,7 +111,7 @@ impl<'a> MessageView<'a> {
     /// 4,294,967,295 bytes, the header's 16 among them.
     pub fn is_writable(&self) -> bool
         ensures { IsTrue result
-            ↔ (envelope_codec message_codec).fits (viewed_envelope self.now) }
+            ↔ (envelope_codec message_codec).fits (envelope_view_model self.now) }
     {
         match self.payload.writable_len() {
             Some(len) => len <= u32::MAX as usize - NETLINK_HEADER_LEN,
@@ -123,7 +123,7 @@ impl<'a> MessageView<'a> {
 // What the message in these bytes carries, or the first fault.
 #[inline(always)]
 fn carried<'a>(message: &'a [u8]) -> Result<PayloadView<'a>, DecodeError>
-    ensures { ItemIs message_codec message.entry.now (viewed_item result) }
+    ensures { ItemIs message_codec message.entry.now (item_view_model result) }
 {
     match MessageView::parse(message) {
         Ok(view) => Ok(view.payload),

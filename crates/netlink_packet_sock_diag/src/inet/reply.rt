@@ -1,15 +1,16 @@
 //! The reply about one IPv4 or IPv6 socket, with memory of its own and read in place.
 
 ghost use Rattle.std.specs.Prelude.{refl};
-ghost use Rattle.netlink_core.proofs.Replies.{replies_keep_laws};
-ghost use Rattle.netlink_packet_sock_diag.specs.InetReply.{inet_reply};
-ghost use Rattle.netlink_packet_sock_diag.specs.InetReplyLaws.{header_enough, inet_reply_laws};
-ghost use Rattle.netlink_packet_sock_diag.specs.InetReplyLaws.{inet_test, inet_test_says};
+ghost use Rattle.netlink_core.proofs.Responses.{responses_keep_laws};
+ghost use Rattle.netlink_packet_sock_diag.specs.InetResponseSpec.{inet_response_spec};
+ghost use Rattle.netlink_packet_sock_diag.specs.InetResponseSpecLaws.{header_enough};
+ghost use Rattle.netlink_packet_sock_diag.specs.InetResponseSpecLaws.{inet_response_laws};
+ghost use Rattle.netlink_packet_sock_diag.specs.InetResponseSpecLaws.{inet_test, inet_test_decides};
 ghost use Rattle.sock_diag_records.specs.contracts.inet.exact.InetResponseHeaderExact.TheImpl.Laws.{exact-law as exact_header};
 
 use crate::inet::InetResponseHeader;
 use crate::inet::nlas::{Nla, NlaView};
-use crate::reply::{emit_viewed_reply, same_views, viewed_reply_len};
+use crate::reply::{emit_reply_view, reply_view_len, same_views};
 use crate::response::{Reply, ReplyOwned};
 use crate::view::{AttributeViews, ReplyHeader, ReplyView, ReplyViews};
 use attribute_lists::check_nlas;
@@ -39,9 +40,9 @@ pub type InetResponseView<'a> = ReplyView<'a, InetResponseHeader>;
 impl ReplyHeader for InetResponseHeader {
     const VIEW: &'static str = "InetResponseView";
 
-    ghost reply = { inet_reply };
+    ghost reply = { inet_response_spec };
 
-    ghost told = { λ header. header };
+    ghost header_model = { λ header. header };
 
     ghost test = { inet_test };
 
@@ -66,19 +67,19 @@ impl ReplyHeader for InetResponseHeader {
 
     #[inline(always)]
     fn len_with(&self, bytes: &[u8]) -> Option<usize> {
-        viewed_reply_len::<_, NlaView<'_>>(self, bytes)
+        reply_view_len::<_, NlaView<'_>>(self, bytes)
     }
 
     #[inline(always)]
     fn emit_with(&self, bytes: &[u8], buffer: &mut [u8]) {
-        emit_viewed_reply::<_, NlaView<'_>>(self, bytes, buffer);
+        emit_reply_view::<_, NlaView<'_>>(self, bytes, buffer);
     }
 
     ghost enough = { header_enough };
 
-    ghost keeps = { replies_keep_laws inet_reply inet_reply_laws };
+    ghost keeps = { responses_keep_laws inet_response_spec inet_response_laws };
 
-    ghost compared = { inet_test_says };
+    ghost compared = { inet_test_decides };
 }
 
 impl<'a> ReplyViews<'a> for InetResponseHeader {
@@ -92,11 +93,11 @@ impl ReplyOwned for InetResponseHeader {
 
     const REPLY: &'static str = "InetResponse";
 
-    fn told_typed(&self) {
-        self.typed();
+    fn header_in_range(&self) {
+        self.in_range();
     }
 
-    ghost eq_is_seen = { exact_header.0 };
+    ghost eq_is_model = { exact_header.0 };
 
     ghost written = { λ _. refl };
 
@@ -104,5 +105,5 @@ impl ReplyOwned for InetResponseHeader {
 
     ghost same = { (λ _ _ h. h, λ _ h. h, λ _. refl, λ _. refl) };
 
-    ghost keeps = { replies_keep_laws inet_reply inet_reply_laws };
+    ghost keeps = { responses_keep_laws inet_response_spec inet_response_laws };
 }

@@ -1,13 +1,14 @@
 //! The reply about one UNIX socket, with memory of its own and read in place.
 
 ghost use Rattle.std.specs.Prelude.{refl};
-ghost use Rattle.netlink_core.proofs.Replies.{replies_keep_laws};
-ghost use Rattle.netlink_packet_sock_diag.specs.UnixReply.{unix_reply};
-ghost use Rattle.netlink_packet_sock_diag.specs.UnixReplyLaws.{header_enough, unix_reply_laws};
-ghost use Rattle.netlink_packet_sock_diag.specs.UnixReplyLaws.{unix_test, unix_test_says};
+ghost use Rattle.netlink_core.proofs.Responses.{responses_keep_laws};
+ghost use Rattle.netlink_packet_sock_diag.specs.UnixResponseSpec.{unix_response_spec};
+ghost use Rattle.netlink_packet_sock_diag.specs.UnixResponseSpecLaws.{header_enough};
+ghost use Rattle.netlink_packet_sock_diag.specs.UnixResponseSpecLaws.{unix_response_laws};
+ghost use Rattle.netlink_packet_sock_diag.specs.UnixResponseSpecLaws.{unix_test, unix_test_decides};
 ghost use Rattle.sock_diag_records.specs.contracts.unix.response.UnixResponseHeaderExact.TheImpl.Laws.{exact-law as exact_header};
 
-use crate::reply::{emit_viewed_reply, same_views, viewed_reply_len};
+use crate::reply::{emit_reply_view, reply_view_len, same_views};
 use crate::response::{Reply, ReplyOwned};
 use crate::unix::UnixResponseHeader;
 use crate::unix::nlas::{Nla, NlaView};
@@ -38,9 +39,9 @@ pub type UnixResponseView<'a> = ReplyView<'a, UnixResponseHeader>;
 impl ReplyHeader for UnixResponseHeader {
     const VIEW: &'static str = "UnixResponseView";
 
-    ghost reply = { unix_reply };
+    ghost reply = { unix_response_spec };
 
-    ghost told = { λ header. header };
+    ghost header_model = { λ header. header };
 
     ghost test = { unix_test };
 
@@ -65,19 +66,19 @@ impl ReplyHeader for UnixResponseHeader {
 
     #[inline(always)]
     fn len_with(&self, bytes: &[u8]) -> Option<usize> {
-        viewed_reply_len::<_, NlaView<'_>>(self, bytes)
+        reply_view_len::<_, NlaView<'_>>(self, bytes)
     }
 
     #[inline(always)]
     fn emit_with(&self, bytes: &[u8], buffer: &mut [u8]) {
-        emit_viewed_reply::<_, NlaView<'_>>(self, bytes, buffer);
+        emit_reply_view::<_, NlaView<'_>>(self, bytes, buffer);
     }
 
     ghost enough = { header_enough };
 
-    ghost keeps = { replies_keep_laws unix_reply unix_reply_laws };
+    ghost keeps = { responses_keep_laws unix_response_spec unix_response_laws };
 
-    ghost compared = { unix_test_says };
+    ghost compared = { unix_test_decides };
 }
 
 impl<'a> ReplyViews<'a> for UnixResponseHeader {
@@ -91,11 +92,11 @@ impl ReplyOwned for UnixResponseHeader {
 
     const REPLY: &'static str = "UnixResponse";
 
-    fn told_typed(&self) {
-        self.typed();
+    fn header_in_range(&self) {
+        self.in_range();
     }
 
-    ghost eq_is_seen = { exact_header.0 };
+    ghost eq_is_model = { exact_header.0 };
 
     ghost written = { λ _. refl };
 
@@ -103,5 +104,5 @@ impl ReplyOwned for UnixResponseHeader {
 
     ghost same = { (λ _ _ h. h, λ _ h. h, λ _. refl, λ _. refl) };
 
-    ghost keeps = { replies_keep_laws unix_reply unix_reply_laws };
+    ghost keeps = { responses_keep_laws unix_response_spec unix_response_laws };
 }

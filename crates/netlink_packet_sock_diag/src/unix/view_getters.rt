@@ -1,10 +1,10 @@
 //! What the attributes of a reply about a UNIX socket tell, read in place.
 
 ghost use Rattle.std.specs.Prelude.{◌≡◌, if◌then◌else◌, None, IsSome, option_map};
-ghost use Rattle.sock_diag_attributes.specs.SeenName.{viewed_name};
-ghost use Rattle.sock_diag_attributes.specs.SeenNumbers.{viewed_numbers};
+ghost use Rattle.sock_diag_attributes.specs.NameModel.{name_view_model};
+ghost use Rattle.sock_diag_attributes.specs.NumbersModel.{numbers_view_model};
 ghost use Rattle.netlink_packet_sock_diag.specs.UnixGetters.{first_of};
-ghost use Rattle.netlink_core.specs.Family.{content};
+ghost use Rattle.netlink_core.specs.AttributeSet.{content};
 ghost use Rattle.sock_diag_attributes.specs.UnixAttributes.{unix};
 
 use crate::unix::UnixResponseView;
@@ -12,12 +12,15 @@ use crate::unix::nlas::{MemInfo, NameView, NlaView, NumbersView};
 use sock_diag_records::constants::TCP_LISTEN;
 
 impl<'a> UnixResponseView<'a> {
-    ghost use Rattle.netlink_packet_sock_diag.specs.Viewed.{viewed as viewed_response};
+    ghost use Rattle.netlink_packet_sock_diag.specs.ViewModel.{
+      view_model as
+          unix_response_view_model,
+    };
 
     /// The inode of the socket's peer, where an attribute tells it: the content of the first
     /// `Peer`.
     pub fn peer(&self) -> Option<u32>
-        ensures { result ≡ first_of (content unix 2) (viewed_response self.now).nlas }
+        ensures { result ≡ first_of (content unix 2) (unix_response_view_model self.now).nlas }
     {
         self.attributes().find_map(|nla| match nla {
             NlaView::Peer(inode) => Some(inode),
@@ -27,8 +30,8 @@ impl<'a> UnixResponseView<'a> {
 
     /// The socket's name, where an attribute tells it: the content of the first `Name`.
     pub fn name(&self) -> Option<NameView<'a>>
-        ensures { option_map viewed_name result ≡ first_of (content unix 0)
-            (viewed_response self.now).nlas }
+        ensures { option_map name_view_model result ≡ first_of (content unix 0)
+            (unix_response_view_model self.now).nlas }
     {
         self.attributes().find_map(|nla| match nla {
             NlaView::Name(name) => Some(name),
@@ -39,8 +42,8 @@ impl<'a> UnixResponseView<'a> {
     /// The inodes of the connections that wait to be accepted: the content of the first
     /// `PendingConnections`.
     pub fn pending_connections(&self) -> Option<NumbersView<'a>>
-        ensures { option_map viewed_numbers result ≡ first_of (content unix 3)
-            (viewed_response self.now).nlas }
+        ensures { option_map numbers_view_model result ≡ first_of (content unix 3)
+            (unix_response_view_model self.now).nlas }
     {
         self.attributes().find_map(|nla| match nla {
             NlaView::PendingConnections(inodes) => Some(inodes),
@@ -50,7 +53,7 @@ impl<'a> UnixResponseView<'a> {
 
     /// Which directions are shut down: the content of the first `Shutdown`.
     pub fn shutdown_state(&self) -> Option<u8>
-        ensures { result ≡ first_of (content unix 6) (viewed_response self.now).nlas }
+        ensures { result ≡ first_of (content unix 6) (unix_response_view_model self.now).nlas }
     {
         self.attributes().find_map(|nla| match nla {
             NlaView::Shutdown(state) => Some(state),
@@ -60,7 +63,10 @@ impl<'a> UnixResponseView<'a> {
 }
 
 impl<'a> UnixResponseView<'a> {
-    ghost use Rattle.netlink_packet_sock_diag.specs.Viewed.{viewed as viewed_response};
+    ghost use Rattle.netlink_packet_sock_diag.specs.ViewModel.{
+      view_model as
+          unix_response_view_model,
+    };
     ghost use Rattle.netlink_packet_sock_diag.specs.UnixGetters.{listening_queue_of};
     ghost use Rattle.netlink_packet_sock_diag.specs.UnixGetters.{other_queue_of};
 
@@ -71,8 +77,8 @@ impl<'a> UnixResponseView<'a> {
     /// [`send_queue_size`](Self::send_queue_size) are not.
     pub fn number_of_pending_connection(&self) -> Option<u32>
         ensures value { result ≡ option_map (λ ns. ns.0)
-            (listening_queue_of (viewed_response self.now)) }
-        ensures alone { IsSome result → other_queue_of (viewed_response self.now) ≡ None }
+            (listening_queue_of (unix_response_view_model self.now)) }
+        ensures alone { IsSome result → other_queue_of (unix_response_view_model self.now) ≡ None }
     {
         let (waiting, _) = self.queue_where(true)?;
         Some(waiting)
@@ -81,7 +87,8 @@ impl<'a> UnixResponseView<'a> {
     /// How many connections may wait to be accepted, of a listening socket: the second number of
     /// the first `ReceiveQueueLength`.
     pub fn max_number_of_pending_connection(&self) -> Option<u32>
-        ensures { result ≡ option_map (λ ns. ns.1) (listening_queue_of (viewed_response self.now)) }
+        ensures { result ≡ option_map (λ ns.
+            ns.1) (listening_queue_of (unix_response_view_model self.now)) }
     {
         let (_, limit) = self.queue_where(true)?;
         Some(limit)
@@ -89,7 +96,7 @@ impl<'a> UnixResponseView<'a> {
 
     // The content of the first `ReceiveQueueLength`.
     fn queue(&self) -> Option<(u32, u32)>
-        ensures { result ≡ first_of (content unix 4) (viewed_response self.now).nlas }
+        ensures { result ≡ first_of (content unix 4) (unix_response_view_model self.now).nlas }
     {
         self.attributes().find_map(|nla| match nla {
             NlaView::ReceiveQueueLength(first, second) => Some((first, second)),
@@ -99,8 +106,8 @@ impl<'a> UnixResponseView<'a> {
 
     // The lengths of the queues, where the socket listens or does not, as is asked.
     fn queue_where(&self, listens: bool) -> Option<(u32, u32)>
-        ensures { result ≡ if listens then listening_queue_of (viewed_response self.now)
-            else other_queue_of (viewed_response self.now) }
+        ensures { result ≡ if listens then listening_queue_of (unix_response_view_model self.now)
+            else other_queue_of (unix_response_view_model self.now) }
     {
         if (self.header().state == TCP_LISTEN) == listens {
             self.queue()
@@ -112,7 +119,8 @@ impl<'a> UnixResponseView<'a> {
     /// How many bytes wait to be read, of a socket that does not listen: the first number of the
     /// first `ReceiveQueueLength`.
     pub fn receive_queue_size(&self) -> Option<u32>
-        ensures { result ≡ option_map (λ ns. ns.0) (other_queue_of (viewed_response self.now)) }
+        ensures { result ≡ option_map (λ ns.
+            ns.0) (other_queue_of (unix_response_view_model self.now)) }
     {
         let (received, _) = self.queue_where(false)?;
         Some(received)
@@ -121,7 +129,8 @@ impl<'a> UnixResponseView<'a> {
     /// How many bytes of memory are taken by what was sent and is not yet read, of a socket that
     /// does not listen: the second number of the first `ReceiveQueueLength`.
     pub fn send_queue_size(&self) -> Option<u32>
-        ensures { result ≡ option_map (λ ns. ns.1) (other_queue_of (viewed_response self.now)) }
+        ensures { result ≡ option_map (λ ns.
+            ns.1) (other_queue_of (unix_response_view_model self.now)) }
     {
         let (_, sent) = self.queue_where(false)?;
         Some(sent)
@@ -129,13 +138,16 @@ impl<'a> UnixResponseView<'a> {
 }
 
 impl<'a> UnixResponseView<'a> {
-    ghost use Rattle.netlink_packet_sock_diag.specs.Viewed.{viewed as viewed_response};
+    ghost use Rattle.netlink_packet_sock_diag.specs.ViewModel.{
+      view_model as
+          unix_response_view_model,
+    };
 
     /// The size of the send buffer, which bounds a datagram: the field `max_datagram_size` of the
     /// first `MemInfo`.
     pub fn max_datagram_size(&self) -> Option<u32>
         ensures { result ≡ option_map (λ info. info.max_datagram_size)
-            (first_of (content unix 5) (viewed_response self.now).nlas) }
+            (first_of (content unix 5) (unix_response_view_model self.now).nlas) }
     {
         Some(self.memory()?.max_datagram_size)
     }
@@ -144,14 +156,14 @@ impl<'a> UnixResponseView<'a> {
     /// of the first `MemInfo`.
     pub fn memory_used_for_outgoing_data(&self) -> Option<u32>
         ensures { result ≡ option_map (λ info. info.alloc)
-            (first_of (content unix 5) (viewed_response self.now).nlas) }
+            (first_of (content unix 5) (unix_response_view_model self.now).nlas) }
     {
         Some(self.memory()?.alloc)
     }
 
     // The content of the first `MemInfo`.
     fn memory(&self) -> Option<MemInfo>
-        ensures { result ≡ first_of (content unix 5) (viewed_response self.now).nlas }
+        ensures { result ≡ first_of (content unix 5) (unix_response_view_model self.now).nlas }
     {
         self.attributes().find_map(|nla| match nla {
             NlaView::MemInfo(info) => Some(info),

@@ -2,11 +2,11 @@
 
 ghost use Rattle.std.specs.Prelude.{refl, string_bytes};
 ghost use Rattle.netlink_core.specs.DefaultNla.{kept_attribute};
-ghost use Rattle.netlink_core.specs.Heads.{head_codec};
-ghost use Rattle.netlink_core.specs.HeadLaws.{heads_keep_laws};
+ghost use Rattle.netlink_core.specs.FirstAttribute.{first_attribute_codec};
+ghost use Rattle.netlink_core.specs.FirstAttributeLaws.{first_attribute_keeps_laws};
 ghost use Rattle.sock_diag_attributes.specs.InetAttributes.{inet};
 ghost use Rattle.sock_diag_attributes.specs.InetAttributeLaws.{inet_laws};
-ghost use Rattle.sock_diag_attributes.specs.SeenInet.{seen_nla};
+ghost use Rattle.sock_diag_attributes.specs.InetModel.{nla_model};
 ghost use Rattle.sock_diag_attributes.specs.EqualInetLaws.{equal};
 ghost use Rattle.sock_diag_attributes.specs.LentLaws.{kept_row, text_row};
 
@@ -17,20 +17,20 @@ use std::alloc::Global;
 impl Coded for Nla {
     type Param = ();
 
-    ghost codec = { head_codec inet };
+    ghost codec = { first_attribute_codec inet };
 
-    ghost seen = { seen_nla };
+    ghost model = { nla_model };
 
     ghost type_written = { λ _. 0 };
 
-    fn typed(&self) {
-        self.parts().1.typed();
+    fn in_range(&self) {
+        self.parts().1.in_range();
     }
 
-    ghost eq_is_seen = { equal text_row kept_row _ _ string_bytes kept_attribute
+    ghost eq_is_model = { equal text_row kept_row _ _ string_bytes kept_attribute
         (λ _ _. refl) (λ _ _. refl) };
 
-    ghost laws = { heads_keep_laws inet inet_laws };
+    ghost laws = { first_attribute_keeps_laws inet inet_laws };
 }
 
 impl Wire for Nla {

@@ -2,8 +2,8 @@
 
 ghost use Rattle.std.specs.Prelude.{refl};
 ghost use Rattle.sock_diag_attributes.specs.InetAttributes.{inet};
-ghost use Rattle.sock_diag_attributes.specs.SeenInet.{seen_nla, viewed_nla};
-ghost use Rattle.sock_diag_attributes.specs.contracts.inet.coded.NlaCoded.TheImpl.Laws.{eq_is_seen-law as same_nla};
+ghost use Rattle.sock_diag_attributes.specs.InetModel.{nla_model, nla_view_model};
+ghost use Rattle.sock_diag_attributes.specs.contracts.inet.coded.NlaCoded.TheImpl.Laws.{eq_is_model-law as same_nla};
 
 use super::nlas::{Nla, NlaView};
 use netlink_core::{Coded, DecodeError, FamilyNla, FamilyView, NlaBuffer};
@@ -11,9 +11,9 @@ use sock_diag_records::constants::INET_DIAG_INFO;
 use std::alloc::{AllocError, Global};
 
 impl<'a> FamilyView<'a> for NlaView<'a> {
-    ghost family = { inet };
+    ghost attribute_set = { inet };
 
-    ghost viewed = { viewed_nla };
+    ghost model = { nla_view_model };
 
     ghost written_as = { λ _. refl };
 
@@ -29,9 +29,9 @@ impl<'a> FamilyView<'a> for NlaView<'a> {
 }
 
 impl FamilyNla for Nla {
-    ghost family = { inet };
+    ghost attribute_set = { inet };
 
-    ghost seen = { seen_nla };
+    ghost model = { nla_model };
 
     #[inline(always)]
     fn own_accepted(alloc: Global, nla: &NlaBuffer<'_>) -> Result<Self, AllocError> {
@@ -47,11 +47,11 @@ impl FamilyNla for Nla {
         self.clone(alloc)
     }
 
-    fn said_typed(&self) {
-        self.typed();
+    fn value_in_range(&self) {
+        self.in_range();
     }
 
     ghost written_as = { λ _. refl };
 
-    ghost eq_is_seen = { same_nla };
+    ghost eq_is_model = { same_nla };
 }

@@ -2,9 +2,10 @@
 
 ghost use Rattle.std.specs.Prelude.{◌≡◌, [], Ok, Err, IsOk, IfOk, MatchResult, true};
 ghost use Rattle.netlink_core.specs.Attribute.{HasFittingValue, written};
-ghost use Rattle.netlink_core.specs.Family.{says, attribute_said, IsSpareSaid, IsTypedSaid};
+ghost use Rattle.netlink_core.specs.AttributeSet.{decodes, encodes, IsSpareBy};
+ghost use Rattle.netlink_core.specs.AttributeSet.{IsInRangeBy};
 ghost use Rattle.netlink_core.specs.Walk.{attribute_of};
-ghost use Rattle.sock_diag_attributes.specs.ValueSteps.{value_bytes, IsTypedValue};
+ghost use Rattle.sock_diag_attributes.specs.ValueSteps.{value_bytes, IsValueInRange};
 
 use crate::lent::OtherNla;
 use crate::numbers::{exact_flag, exact_u8, exact_u32};
@@ -68,11 +69,11 @@ impl Readable for Nla {
 
 impl Emitable for Nla {
     ghost use Rattle.sock_diag_attributes.specs.InetAttributes.{inet};
-    ghost use Rattle.sock_diag_attributes.specs.SeenInet.{seen_nla};
+    ghost use Rattle.sock_diag_attributes.specs.InetModel.{nla_model};
 
-    ghost bytes = { λ v. written (attribute_said inet (seen_nla v)) };
+    ghost bytes = { λ v. written (encodes inet (nla_model v)) };
 
-    ghost writable = { λ v. HasFittingValue (attribute_said inet (seen_nla v)) };
+    ghost writable = { λ v. HasFittingValue (encodes inet (nla_model v)) };
 
     fn is_writable(&self) -> bool {
         self.value_fits()
@@ -91,9 +92,9 @@ impl Emitable for Nla {
 // is zeros, as memory is before: so to fill the places costs nothing.
 impl MadeWith<Global> for Nla {
     ghost use Rattle.sock_diag_attributes.specs.InetAttributes.{inet};
-    ghost use Rattle.sock_diag_attributes.specs.SeenInet.{seen_nla};
+    ghost use Rattle.sock_diag_attributes.specs.InetModel.{nla_model};
 
-    ghost is_made_with = { λ nla. IsSpareSaid inet (seen_nla nla) };
+    ghost is_made_with = { λ nla. IsSpareBy inet (nla_model nla) };
 
     #[inline(always)]
     fn made_with(_alloc: Global) -> Self {
@@ -108,14 +109,14 @@ impl MadeWith<Global> for Nla {
 
 impl Nla {
     ghost use Rattle.sock_diag_attributes.specs.InetAttributes.{inet};
-    ghost use Rattle.sock_diag_attributes.specs.SeenInet.{seen_nla};
+    ghost use Rattle.sock_diag_attributes.specs.InetModel.{nla_model};
 
     /// An equal attribute. It fails only for want of memory, which only a text, and an attribute of
-    /// another kind that has bytes, need.
+    /// another type that has bytes, need.
     pub fn clone(&self, alloc: Global) -> Result<Self, AllocError>
-        ensures equal { IfOk result (λ copy. seen_nla copy ≡ seen_nla self.now) }
-        ensures spare { IsSpareSaid inet (seen_nla self.now) → IsOk result }
-        ensures empty { (attribute_said inet (seen_nla self.now)).value ≡ [] → IsOk result }
+        ensures equal { IfOk result (λ copy. nla_model copy ≡ nla_model self.now) }
+        ensures spare { IsSpareBy inet (nla_model self.now) → IsOk result }
+        ensures empty { (encodes inet (nla_model self.now)).value ≡ [] → IsOk result }
     {
         self.owned(alloc)
     }
@@ -123,14 +124,15 @@ impl Nla {
 
 impl<T: AsStr, O: OtherNla> InetNla<T, O> {
     ghost use Rattle.sock_diag_attributes.specs.InetAttributes.{inet};
-    ghost use Rattle.sock_diag_attributes.specs.SeenInet.{seen, seen_nla};
+    ghost use Rattle.sock_diag_attributes.specs.InetModel.{model, nla_model};
 
     // The attribute with a text and bytes of its own.
     #[inline(always)]
     fn owned(&self, alloc: Global) -> Result<Nla, AllocError>
-        ensures equal { IfOk result (λ nla. seen_nla nla ≡ seen T.text O.attribute self.now) }
-        ensures spare { IsSpareSaid inet (seen T.text O.attribute self.now) → IsOk result }
-        ensures empty { (attribute_said inet (seen T.text O.attribute self.now)).value ≡ []
+        ensures equal { IfOk result (λ nla. nla_model nla ≡ model T.text O.attribute self.now) }
+        ensures spare { IsSpareBy inet (model T.text O.attribute self.now)
+            → IsOk result }
+        ensures empty { (encodes inet (model T.text O.attribute self.now)).value ≡ []
             → IsOk result }
     {
         Ok(match self {
@@ -155,11 +157,11 @@ impl<T: AsStr, O: OtherNla> InetNla<T, O> {
     #[inline(always)]
     pub(super) fn parts(&self) -> (u16, Value<'_>)
         ensures kind { result.0
-            ≡ (attribute_said inet (seen T.text O.attribute self.now)).type_word }
+            ≡ (encodes inet (model T.text O.attribute self.now)).type_word }
         ensures value { value_bytes result.1
-            ≡ (attribute_said inet (seen T.text O.attribute self.now)).value }
-        ensures typed { IsTypedValue result.1
-            → IsTypedSaid inet (seen T.text O.attribute self.now) }
+            ≡ (encodes inet (model T.text O.attribute self.now)).value }
+        ensures in_range { IsValueInRange result.1
+            → IsInRangeBy inet (model T.text O.attribute self.now) }
     {
         match self {
             InetNla::LegacyMemInfo(info) => (INET_DIAG_MEMINFO, Value::LegacyMemInfo(info)),
@@ -180,15 +182,15 @@ impl<T: AsStr, O: OtherNla> InetNla<T, O> {
 
 impl<'a> NlaView<'a> {
     ghost use Rattle.sock_diag_attributes.specs.InetAttributes.{inet};
-    ghost use Rattle.sock_diag_attributes.specs.SeenInet.{seen_nla, viewed_nla};
+    ghost use Rattle.sock_diag_attributes.specs.InetModel.{nla_model, nla_view_model};
 
     /// Reads the value by the attribute's kind, whatever its flag bits. An attribute of a kind that
     /// is not known here is `Other`.
     #[inline(always)]
     pub fn parse(nla: &NlaBuffer<'a>) -> Result<NlaView<'a>, DecodeError>
         ensures { MatchResult result
-            (λ view. says inet (attribute_of nla.now) ≡ Ok (viewed_nla view))
-            (λ e. says inet (attribute_of nla.now) ≡ Err e) }
+            (λ view. decodes inet (attribute_of nla.now) ≡ Ok (nla_view_model view))
+            (λ e. decodes inet (attribute_of nla.now) ≡ Err e) }
     {
         let value = nla.value();
         Ok(match nla.kind() {
@@ -210,8 +212,8 @@ impl<'a> NlaView<'a> {
     /// Reads the value where [`NlaView::parse`] accepts it.
     #[inline(always)]
     pub fn new(nla: &NlaBuffer<'a>) -> NlaView<'a>
-        requires { IsOk (says inet (attribute_of nla.now)) }
-        ensures { says inet (attribute_of nla.now) ≡ Ok (viewed_nla result) }
+        requires { IsOk (decodes inet (attribute_of nla.now)) }
+        ensures { decodes inet (attribute_of nla.now) ≡ Ok (nla_view_model result) }
     {
         let Ok(view) = NlaView::parse(nla) else {
             unreachable!();
@@ -222,9 +224,9 @@ impl<'a> NlaView<'a> {
     /// The attribute with a text and bytes of its own. It fails only for want of memory.
     #[inline(always)]
     pub fn to_owned(&self, alloc: Global) -> Result<Nla, AllocError>
-        ensures equal { IfOk result (λ nla. seen_nla nla ≡ viewed_nla self.now) }
-        ensures spare { IsSpareSaid inet (viewed_nla self.now) → IsOk result }
-        ensures empty { (attribute_said inet (viewed_nla self.now)).value ≡ [] → IsOk result }
+        ensures equal { IfOk result (λ nla. nla_model nla ≡ nla_view_model self.now) }
+        ensures spare { IsSpareBy inet (nla_view_model self.now) → IsOk result }
+        ensures empty { (encodes inet (nla_view_model self.now)).value ≡ [] → IsOk result }
     {
         self.owned(alloc)
     }
@@ -240,9 +242,9 @@ impl<'a> Parseable<NlaBuffer<'a>> for Nla {
 
 impl<T: AsStr, O: OtherNla> NlaTrait for InetNla<T, O> {
     ghost use Rattle.sock_diag_attributes.specs.InetAttributes.{inet};
-    ghost use Rattle.sock_diag_attributes.specs.SeenInet.{seen};
+    ghost use Rattle.sock_diag_attributes.specs.InetModel.{model};
 
-    ghost attribute = { λ v. attribute_said inet (seen T.text O.attribute v) };
+    ghost attribute = { λ v. encodes inet (model T.text O.attribute v) };
 
     fn value_len(&self) -> usize {
         self.parts().1.len()

@@ -2,12 +2,12 @@
 
 ghost use Rattle.std.specs.Prelude.{refl, vec_items};
 ghost use Rattle.netlink_core.specs.DefaultNla.{kept_attribute};
-ghost use Rattle.netlink_core.specs.Heads.{head_codec};
-ghost use Rattle.netlink_core.specs.HeadLaws.{heads_keep_laws};
+ghost use Rattle.netlink_core.specs.FirstAttribute.{first_attribute_codec};
+ghost use Rattle.netlink_core.specs.FirstAttributeLaws.{first_attribute_keeps_laws};
 ghost use Rattle.sock_diag_attributes.specs.UnixAttributes.{unix};
 ghost use Rattle.sock_diag_attributes.specs.UnixAttributeLaws.{unix_laws};
-ghost use Rattle.sock_diag_attributes.specs.SeenUnix.{seen_nla};
-ghost use Rattle.sock_diag_attributes.specs.SeenName.{seen_name};
+ghost use Rattle.sock_diag_attributes.specs.UnixModel.{nla_model};
+ghost use Rattle.sock_diag_attributes.specs.NameModel.{name_model};
 ghost use Rattle.sock_diag_attributes.specs.EqualUnixLaws.{equal, same_names};
 ghost use Rattle.sock_diag_attributes.specs.LentLaws.{kept_row, list_row, name_row};
 
@@ -18,20 +18,20 @@ use std::alloc::Global;
 impl Coded for Nla {
     type Param = ();
 
-    ghost codec = { head_codec unix };
+    ghost codec = { first_attribute_codec unix };
 
-    ghost seen = { seen_nla };
+    ghost model = { nla_model };
 
     ghost type_written = { λ _. 0 };
 
-    fn typed(&self) {
-        self.parts().1.typed();
+    fn in_range(&self) {
+        self.parts().1.in_range();
     }
 
-    ghost eq_is_seen = { equal name_row list_row kept_row _ _ _ seen_name vec_items
+    ghost eq_is_model = { equal name_row list_row kept_row _ _ _ name_model vec_items
         kept_attribute same_names (λ _ _. refl) (λ _ _. refl) };
 
-    ghost laws = { heads_keep_laws unix unix_laws };
+    ghost laws = { first_attribute_keeps_laws unix unix_laws };
 }
 
 impl Wire for Nla {

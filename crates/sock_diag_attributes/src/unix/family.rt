@@ -2,17 +2,17 @@
 
 ghost use Rattle.std.specs.Prelude.{refl};
 ghost use Rattle.sock_diag_attributes.specs.UnixAttributes.{unix};
-ghost use Rattle.sock_diag_attributes.specs.SeenUnix.{seen_nla, viewed_nla};
-ghost use Rattle.sock_diag_attributes.specs.contracts.unix.coded.NlaCoded.TheImpl.Laws.{eq_is_seen-law as same_nla};
+ghost use Rattle.sock_diag_attributes.specs.UnixModel.{nla_model, nla_view_model};
+ghost use Rattle.sock_diag_attributes.specs.contracts.unix.coded.NlaCoded.TheImpl.Laws.{eq_is_model-law as same_nla};
 
 use super::nlas::{Nla, NlaView};
 use netlink_core::{Coded, DecodeError, FamilyNla, FamilyView, NlaBuffer};
 use std::alloc::{AllocError, Global};
 
 impl<'a> FamilyView<'a> for NlaView<'a> {
-    ghost family = { unix };
+    ghost attribute_set = { unix };
 
-    ghost viewed = { viewed_nla };
+    ghost model = { nla_view_model };
 
     ghost written_as = { λ _. refl };
 
@@ -28,9 +28,9 @@ impl<'a> FamilyView<'a> for NlaView<'a> {
 }
 
 impl FamilyNla for Nla {
-    ghost family = { unix };
+    ghost attribute_set = { unix };
 
-    ghost seen = { seen_nla };
+    ghost model = { nla_model };
 
     #[inline(always)]
     fn own_accepted(alloc: Global, nla: &NlaBuffer<'_>) -> Result<Self, AllocError> {
@@ -41,11 +41,11 @@ impl FamilyNla for Nla {
         self.clone(alloc)
     }
 
-    fn said_typed(&self) {
-        self.typed();
+    fn value_in_range(&self) {
+        self.in_range();
     }
 
     ghost written_as = { λ _. refl };
 
-    ghost eq_is_seen = { same_nla };
+    ghost eq_is_model = { same_nla };
 }

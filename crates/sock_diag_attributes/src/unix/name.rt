@@ -3,11 +3,11 @@
 ghost use Rattle.std.proofs.Common.{rules};
 ghost use Rattle.std.specs.Prelude.{◌≡◌, ◌<◌, ◌≤◌, ◌++◌, length, take, drop, slice_index, IfOk};
 ghost use Rattle.std.specs.Prelude.{IsOk, MatchOption, MatchResult, Ok, Err, true, refl};
-ghost use Rattle.sock_diag_attributes.specs.Name.{IsTypedName, read_name, name_bytes, name_codec};
+ghost use Rattle.sock_diag_attributes.specs.Name.{IsNameInRange, read_name, name_bytes, name_codec};
 ghost use Rattle.sock_diag_attributes.specs.NameLaws.{HasNoZero, name_keeps_laws};
 
 use netlink_core::{
-    Coded, DecodeError, Emitable, Parseable, Readable, Wire, bytes_typed, copy_list,
+    Coded, DecodeError, Emitable, Parseable, Readable, Wire, bytes_in_range, copy_list,
 };
 use std::alloc::{AllocError, Global};
 
@@ -24,19 +24,19 @@ pub enum UnixDiagName {
 }
 
 impl UnixDiagName {
-    ghost use Rattle.sock_diag_attributes.specs.SeenName.{seen_name, viewed_name};
+    ghost use Rattle.sock_diag_attributes.specs.NameModel.{name_model, name_view_model};
 
     /// An equal name. It fails only for want of memory, which a name of one byte doesn't need.
     pub fn clone(&self, alloc: Global) -> Result<Self, AllocError>
-        ensures equal { IfOk result (λ name. seen_name name ≡ seen_name self.now) }
-        ensures spare { length (name_bytes (seen_name self.now)) ≤ 1 → IsOk result }
+        ensures equal { IfOk result (λ name. name_model name ≡ name_model self.now) }
+        ensures spare { length (name_bytes (name_model self.now)) ≤ 1 → IsOk result }
     {
         self.view().to_owned(alloc)
     }
 
     // The same name, its bytes borrowed.
     pub(crate) fn view(&self) -> NameView<'_>
-        ensures { viewed_name result ≡ seen_name self.now }
+        ensures { name_view_model result ≡ name_model self.now }
     {
         match self {
             UnixDiagName::Pathname(path) => NameView::Pathname(path),
@@ -56,7 +56,7 @@ pub enum NameView<'a> {
 }
 
 impl<'a> NameView<'a> {
-    ghost use Rattle.sock_diag_attributes.specs.SeenName.{seen_name, viewed_name};
+    ghost use Rattle.sock_diag_attributes.specs.NameModel.{name_model, name_view_model};
 
     /// The whole of the bytes as a name. No bytes are `NameEmpty`. Of a path, a first zero before
     /// the last byte is `NameInnerZero`, and no zero is `NameWithoutEnd`.
@@ -64,7 +64,7 @@ impl<'a> NameView<'a> {
     #[tactic(auto, using(crate::specs::NameLaws::reads_inner_zero, crate::specs::NameLaws::reads_path, crate::specs::NameLaws::reads_no_end))]
     pub fn parse(bytes: &'a [u8]) -> Result<NameView<'a>, DecodeError>
         ensures { MatchResult result
-            (λ name. read_name bytes.entry.now ≡ Ok (viewed_name name))
+            (λ name. read_name bytes.entry.now ≡ Ok (name_view_model name))
             (λ e. read_name bytes.entry.now ≡ Err e) }
     {
         let Some((last, path)) = bytes.split_last() else {
@@ -86,7 +86,7 @@ impl<'a> NameView<'a> {
     #[tactic(auto, using(crate::specs::NameLaws::known_path))]
     pub fn new(bytes: &'a [u8]) -> NameView<'a>
         requires { IsOk (read_name bytes.now) }
-        ensures { read_name bytes.entry.now ≡ Ok (viewed_name result) }
+        ensures { read_name bytes.entry.now ≡ Ok (name_view_model result) }
     {
         let Some((_, path)) = bytes.split_last() else {
             unreachable!();
@@ -99,7 +99,7 @@ impl<'a> NameView<'a> {
 
     // How many bytes it is written as.
     pub(crate) fn len(&self) -> usize
-        ensures { result ≡ length (name_bytes (viewed_name self.now)) }
+        ensures { result ≡ length (name_bytes (name_view_model self.now)) }
     {
         match self {
             NameView::Pathname(path) => path.len() + 1,
@@ -107,11 +107,11 @@ impl<'a> NameView<'a> {
         }
     }
 
-    // Writes the name with its zero at the front of the buffer, and leaves the rest.
+    // Writes the name with its zero at the start of the buffer, and leaves the rest.
     pub(crate) fn emit(&self, buffer: &mut [u8])
-        requires { length (name_bytes (viewed_name self.now)) ≤ length buffer.old }
-        ensures { buffer.new ≡ name_bytes (viewed_name self.now)
-            ++ drop (length (name_bytes (viewed_name self.now))) buffer.old }
+        requires { length (name_bytes (name_view_model self.now)) ≤ length buffer.old }
+        ensures { buffer.new ≡ name_bytes (name_view_model self.now)
+            ++ drop (length (name_bytes (name_view_model self.now))) buffer.old }
     {
         match self {
             NameView::Pathname(path) => {
@@ -126,20 +126,20 @@ impl<'a> NameView<'a> {
     }
 
     // Tells the prover that its bytes are bytes. It does nothing.
-    pub(crate) fn typed(&self)
-        ensures { IsTypedName (viewed_name self.now) }
+    pub(crate) fn in_range(&self)
+        ensures { IsNameInRange (name_view_model self.now) }
     {
         match self {
-            NameView::Pathname(path) => bytes_typed(path),
-            NameView::Abstract(address) => bytes_typed(address),
+            NameView::Pathname(path) => bytes_in_range(path),
+            NameView::Abstract(address) => bytes_in_range(address),
         }
     }
 
     /// The name with bytes of its own. It fails only for want of memory, which a name of one byte
     /// doesn't need.
     pub fn to_owned(&self, alloc: Global) -> Result<UnixDiagName, AllocError>
-        ensures equal { IfOk result (λ name. seen_name name ≡ viewed_name self.now) }
-        ensures spare { length (name_bytes (viewed_name self.now)) ≤ 1 → IsOk result }
+        ensures equal { IfOk result (λ name. name_model name ≡ name_view_model self.now) }
+        ensures spare { length (name_bytes (name_view_model self.now)) ≤ 1 → IsOk result }
     {
         Ok(match self {
             NameView::Pathname(path) => UnixDiagName::Pathname(copy_list(alloc, path)?),
@@ -163,11 +163,11 @@ impl<'a> Parseable<&'a [u8]> for UnixDiagName {
 }
 
 impl Emitable for UnixDiagName {
-    ghost use Rattle.sock_diag_attributes.specs.SeenName.{seen_name};
+    ghost use Rattle.sock_diag_attributes.specs.NameModel.{name_model};
 
-    ghost bytes = { λ v. name_bytes (seen_name v) };
+    ghost bytes = { λ v. name_bytes (name_model v) };
 
-    ghost writable = { λ v. length (name_bytes (seen_name v)) ≤ 4294967295 };
+    ghost writable = { λ v. length (name_bytes (name_model v)) ≤ 4294967295 };
 
     fn is_writable(&self) -> bool {
         self.view().len() <= u32::MAX as usize
@@ -183,21 +183,21 @@ impl Emitable for UnixDiagName {
 }
 
 impl Coded for UnixDiagName {
-    ghost use Rattle.sock_diag_attributes.specs.SeenName.{seen_name};
+    ghost use Rattle.sock_diag_attributes.specs.NameModel.{name_model};
 
     type Param = ();
 
     ghost codec = { name_codec };
 
-    ghost seen = { seen_name };
+    ghost model = { name_model };
 
     ghost type_written = { λ _. 0 };
 
-    fn typed(&self) {
-        self.view().typed();
+    fn in_range(&self) {
+        self.view().in_range();
     }
 
-    ghost eq_is_seen = { Prim.search rules };
+    ghost eq_is_model = { Prim.search rules };
 
     ghost laws = { name_keeps_laws };
 }

@@ -2,9 +2,10 @@
 
 ghost use Rattle.std.specs.Prelude.{◌≡◌, [], Ok, Err, IsOk, IfOk, MatchResult, true};
 ghost use Rattle.netlink_core.specs.Attribute.{HasFittingValue, written};
-ghost use Rattle.netlink_core.specs.Family.{says, attribute_said, IsSpareSaid, IsTypedSaid};
+ghost use Rattle.netlink_core.specs.AttributeSet.{decodes, encodes, IsSpareBy};
+ghost use Rattle.netlink_core.specs.AttributeSet.{IsInRangeBy};
 ghost use Rattle.netlink_core.specs.Walk.{attribute_of};
-ghost use Rattle.sock_diag_attributes.specs.ValueSteps.{value_bytes, IsTypedValue};
+ghost use Rattle.sock_diag_attributes.specs.ValueSteps.{value_bytes, IsValueInRange};
 
 use crate::lent::{LendsName, LendsNumbers, OtherNla};
 pub use crate::numbers::{NumbersIterator, NumbersView};
@@ -60,11 +61,11 @@ impl Readable for Nla {
 
 impl Emitable for Nla {
     ghost use Rattle.sock_diag_attributes.specs.UnixAttributes.{unix};
-    ghost use Rattle.sock_diag_attributes.specs.SeenUnix.{seen_nla};
+    ghost use Rattle.sock_diag_attributes.specs.UnixModel.{nla_model};
 
-    ghost bytes = { λ v. written (attribute_said unix (seen_nla v)) };
+    ghost bytes = { λ v. written (encodes unix (nla_model v)) };
 
-    ghost writable = { λ v. HasFittingValue (attribute_said unix (seen_nla v)) };
+    ghost writable = { λ v. HasFittingValue (encodes unix (nla_model v)) };
 
     fn is_writable(&self) -> bool {
         self.value_fits()
@@ -82,9 +83,9 @@ impl Emitable for Nla {
 // What stands in the places of a small vector that are not used. It takes no memory.
 impl MadeWith<Global> for Nla {
     ghost use Rattle.sock_diag_attributes.specs.UnixAttributes.{unix};
-    ghost use Rattle.sock_diag_attributes.specs.SeenUnix.{seen_nla};
+    ghost use Rattle.sock_diag_attributes.specs.UnixModel.{nla_model};
 
-    ghost is_made_with = { λ nla. IsSpareSaid unix (seen_nla nla) };
+    ghost is_made_with = { λ nla. IsSpareBy unix (nla_model nla) };
 
     fn made_with(_alloc: Global) -> Self {
         Nla::Peer(0)
@@ -93,14 +94,14 @@ impl MadeWith<Global> for Nla {
 
 impl Nla {
     ghost use Rattle.sock_diag_attributes.specs.UnixAttributes.{unix};
-    ghost use Rattle.sock_diag_attributes.specs.SeenUnix.{seen_nla};
+    ghost use Rattle.sock_diag_attributes.specs.UnixModel.{nla_model};
 
     /// An equal attribute. It fails only for want of memory, which only a name, and a list and an
-    /// attribute of another kind that aren't empty, need.
+    /// attribute of another type that aren't empty, need.
     pub fn clone(&self, alloc: Global) -> Result<Self, AllocError>
-        ensures equal { IfOk result (λ copy. seen_nla copy ≡ seen_nla self.now) }
-        ensures spare { IsSpareSaid unix (seen_nla self.now) → IsOk result }
-        ensures empty { (attribute_said unix (seen_nla self.now)).value ≡ [] → IsOk result }
+        ensures equal { IfOk result (λ copy. nla_model copy ≡ nla_model self.now) }
+        ensures spare { IsSpareBy unix (nla_model self.now) → IsOk result }
+        ensures empty { (encodes unix (nla_model self.now)).value ≡ [] → IsOk result }
     {
         self.owned(alloc)
     }
@@ -108,17 +109,17 @@ impl Nla {
 
 impl<N: LendsName, L: LendsNumbers, O: OtherNla> UnixNla<N, L, O> {
     ghost use Rattle.sock_diag_attributes.specs.UnixAttributes.{unix};
-    ghost use Rattle.sock_diag_attributes.specs.SeenUnix.{seen, seen_nla};
+    ghost use Rattle.sock_diag_attributes.specs.UnixModel.{model, nla_model};
 
     // The attribute with a name, numbers and bytes of its own.
     #[inline(always)]
     #[tactic(auto, using(crate::specs::NumberLaws::no_numbers))]
     fn owned(&self, alloc: Global) -> Result<Nla, AllocError>
         ensures equal { IfOk result (λ nla.
-            seen_nla nla ≡ seen N.name L.numbers O.attribute self.now) }
-        ensures spare { IsSpareSaid unix (seen N.name L.numbers O.attribute self.now)
+            nla_model nla ≡ model N.name L.numbers O.attribute self.now) }
+        ensures spare { IsSpareBy unix (model N.name L.numbers O.attribute self.now)
             → IsOk result }
-        ensures empty { (attribute_said unix (seen N.name L.numbers O.attribute self.now)).value
+        ensures empty { (encodes unix (model N.name L.numbers O.attribute self.now)).value
             ≡ []
             → IsOk result }
     {
@@ -138,11 +139,11 @@ impl<N: LendsName, L: LendsNumbers, O: OtherNla> UnixNla<N, L, O> {
     #[inline(always)]
     pub(super) fn parts(&self) -> (u16, Value<'_>)
         ensures kind { result.0
-            ≡ (attribute_said unix (seen N.name L.numbers O.attribute self.now)).type_word }
+            ≡ (encodes unix (model N.name L.numbers O.attribute self.now)).type_word }
         ensures value { value_bytes result.1
-            ≡ (attribute_said unix (seen N.name L.numbers O.attribute self.now)).value }
-        ensures typed { IsTypedValue result.1
-            → IsTypedSaid unix (seen N.name L.numbers O.attribute self.now) }
+            ≡ (encodes unix (model N.name L.numbers O.attribute self.now)).value }
+        ensures in_range { IsValueInRange result.1
+            → IsInRangeBy unix (model N.name L.numbers O.attribute self.now) }
     {
         match self {
             UnixNla::Name(name) => (UNIX_DIAG_NAME, Value::Name(name.lent_name())),
@@ -161,15 +162,15 @@ impl<N: LendsName, L: LendsNumbers, O: OtherNla> UnixNla<N, L, O> {
 
 impl<'a> NlaView<'a> {
     ghost use Rattle.sock_diag_attributes.specs.UnixAttributes.{unix};
-    ghost use Rattle.sock_diag_attributes.specs.SeenUnix.{seen_nla, viewed_nla};
+    ghost use Rattle.sock_diag_attributes.specs.UnixModel.{nla_model, nla_view_model};
 
     /// Reads the value by the attribute's kind, whatever its flag bits. An attribute of a kind that
     /// is not known here is `Other`.
     #[inline(always)]
     pub fn parse(nla: &NlaBuffer<'a>) -> Result<NlaView<'a>, DecodeError>
         ensures { MatchResult result
-            (λ view. says unix (attribute_of nla.now) ≡ Ok (viewed_nla view))
-            (λ e. says unix (attribute_of nla.now) ≡ Err e) }
+            (λ view. decodes unix (attribute_of nla.now) ≡ Ok (nla_view_model view))
+            (λ e. decodes unix (attribute_of nla.now) ≡ Err e) }
     {
         let value = nla.value();
         Ok(match nla.kind() {
@@ -190,8 +191,8 @@ impl<'a> NlaView<'a> {
     /// Reads the value where [`NlaView::parse`] accepts it. A name is not searched again.
     #[inline(always)]
     pub fn new(nla: &NlaBuffer<'a>) -> NlaView<'a>
-        requires { IsOk (says unix (attribute_of nla.now)) }
-        ensures { says unix (attribute_of nla.now) ≡ Ok (viewed_nla result) }
+        requires { IsOk (decodes unix (attribute_of nla.now)) }
+        ensures { decodes unix (attribute_of nla.now) ≡ Ok (nla_view_model result) }
     {
         if nla.kind() == UNIX_DIAG_NAME {
             return NlaView::Name(NameView::new(nla.value()));
@@ -205,9 +206,9 @@ impl<'a> NlaView<'a> {
     /// The attribute with a name, numbers and bytes of its own. It fails only for want of memory.
     #[inline(always)]
     pub fn to_owned(&self, alloc: Global) -> Result<Nla, AllocError>
-        ensures equal { IfOk result (λ nla. seen_nla nla ≡ viewed_nla self.now) }
-        ensures spare { IsSpareSaid unix (viewed_nla self.now) → IsOk result }
-        ensures empty { (attribute_said unix (viewed_nla self.now)).value ≡ [] → IsOk result }
+        ensures equal { IfOk result (λ nla. nla_model nla ≡ nla_view_model self.now) }
+        ensures spare { IsSpareBy unix (nla_view_model self.now) → IsOk result }
+        ensures empty { (encodes unix (nla_view_model self.now)).value ≡ [] → IsOk result }
     {
         self.owned(alloc)
     }
@@ -223,9 +224,9 @@ impl<'a> Parseable<NlaBuffer<'a>> for Nla {
 
 impl<N: LendsName, L: LendsNumbers, O: OtherNla> NlaTrait for UnixNla<N, L, O> {
     ghost use Rattle.sock_diag_attributes.specs.UnixAttributes.{unix};
-    ghost use Rattle.sock_diag_attributes.specs.SeenUnix.{seen};
+    ghost use Rattle.sock_diag_attributes.specs.UnixModel.{model};
 
-    ghost attribute = { λ v. attribute_said unix (seen N.name L.numbers O.attribute v) };
+    ghost attribute = { λ v. encodes unix (model N.name L.numbers O.attribute v) };
 
     fn value_len(&self) -> usize {
         self.parts().1.len()

@@ -1,10 +1,10 @@
 //! What the attributes of a reply about a netlink socket tell.
 
 ghost use Rattle.std.specs.Prelude.{◌≡◌, option_map};
-ghost use Rattle.netlink_core.specs.Format.{read};
+ghost use Rattle.netlink_core.specs.Layout.{read};
 ghost use Rattle.netlink_core.specs.Parse.{exact_number};
 ghost use Rattle.sock_diag_values.specs.MemInfo.{mem_info};
-ghost use Rattle.netlink_packet_sock_diag.specs.Viewed.{viewed};
+ghost use Rattle.netlink_packet_sock_diag.specs.ViewModel.{view_model};
 ghost use Rattle.sock_diag_families.specs.Found.{first_value, within};
 
 use super::{NETLINK_DIAG_FLAGS, NETLINK_DIAG_GROUPS, NETLINK_DIAG_MEMINFO, NetlinkResponseView};
@@ -14,7 +14,7 @@ use sock_diag_values::inet::MemInfo;
 
 /// The memory of the socket, `NETLINK_DIAG_MEMINFO`.
 pub fn memory(reply: &NetlinkResponseView<'_>) -> Result<Option<MemInfo>, DecodeError>
-    ensures { result ≡ within (read mem_info tt) (first_value 0 (viewed reply.now).nlas) }
+    ensures { result ≡ within (read mem_info tt) (first_value 0 (view_model reply.now).nlas) }
 {
     reply.record_of(NETLINK_DIAG_MEMINFO)
 }
@@ -23,14 +23,14 @@ pub fn memory(reply: &NetlinkResponseView<'_>) -> Result<Option<MemInfo>, Decode
 /// group 1 the lowest of the first byte.
 pub fn groups<'r>(reply: &'r NetlinkResponseView<'_>) -> Option<&'r [u8]>
     ensures { option_map (λ groups. groups.now) result
-        ≡ first_value 1 (viewed reply.now).nlas }
+        ≡ first_value 1 (view_model reply.now).nlas }
 {
     reply.value_of(NETLINK_DIAG_GROUPS)
 }
 
 /// The bits `NDIAG_FLAG_..` of the socket, `NETLINK_DIAG_FLAGS`.
 pub fn flags(reply: &NetlinkResponseView<'_>) -> Result<Option<u32>, DecodeError>
-    ensures { result ≡ within (exact_number None 4) (first_value 4 (viewed reply.now).nlas) }
+    ensures { result ≡ within (exact_number None 4) (first_value 4 (view_model reply.now).nlas) }
 {
     reply.number_of(NETLINK_DIAG_FLAGS)
 }

@@ -1,14 +1,14 @@
 //! The reply about one netlink socket.
 
 ghost use Rattle.std.proofs.Common.{rules};
-ghost use Rattle.netlink_core.proofs.FormatLaws.{record_laws};
+ghost use Rattle.netlink_core.proofs.LayoutLaws.{record_laws};
 ghost use Rattle.sock_diag_families.specs.NetlinkResponseHeader.{netlink_header};
 ghost use Rattle.sock_diag_families.specs.NetlinkResponseHeader.{netlink_header_sound};
 ghost use Rattle.sock_diag_families.specs.WholeReply.{plain_header};
 
 use crate::{FamilyHeader, WholeView};
 use byteorder::{ByteOrder, LittleEndian};
-use netlink_core::rows::{long_words_at, words_at};
+use netlink_core::fields::{long_words_at, words_at};
 use netlink_core::{DecodeError, Exact, Record, RecordName};
 use netlink_packet_sock_diag::AF_NETLINK;
 
@@ -45,9 +45,9 @@ impl Exact for NetlinkResponseHeader {
 }
 
 impl Record for NetlinkResponseHeader {
-    type Told = ();
+    type Param = ();
 
-    ghost format = { netlink_header };
+    ghost layout = { netlink_header };
 
     fn name_and_least() -> (RecordName, usize) {
         (RecordName::FamilyResponseHeader { family: AF_NETLINK }, 28)
@@ -59,7 +59,7 @@ impl Record for NetlinkResponseHeader {
 
     /// Reads the first 28 bytes. What follows them is ignored, and fewer are
     /// [`DecodeError::BufferTooSmall`].
-    fn from_row(payload: &[u8], _told: ()) -> Result<Self, DecodeError> {
+    fn from_fields(payload: &[u8], _param: ()) -> Result<Self, DecodeError> {
         let [port, destination_port, destination_group, inode] = words_at::<4>(payload, 4);
         let [cookie] = long_words_at::<1>(payload, 20);
         Ok(NetlinkResponseHeader {
@@ -74,8 +74,8 @@ impl Record for NetlinkResponseHeader {
         })
     }
 
-    fn write_row(&self, row: &mut [u8]) {
-        let (start, rest) = row.split_at_mut(4);
+    fn write_fields(&self, buffer: &mut [u8]) {
+        let (start, rest) = buffer.split_at_mut(4);
         let (words, cookie) = rest.split_at_mut(16);
         start.copy_from_slice(&[AF_NETLINK, self.kind, self.protocol, self.state]);
         let numbers = [
@@ -88,7 +88,7 @@ impl Record for NetlinkResponseHeader {
         LittleEndian::write_u64(cookie, self.cookie);
     }
 
-    fn row_typed(&self) {
+    fn fields_in_range(&self) {
         let (_kind, _protocol, _state) = (self.kind, self.protocol, self.state);
         let (_port, _to_port) = (self.port, self.destination_port);
         let (_group, _inode, _cookie) = (self.destination_group, self.inode, self.cookie);

@@ -1,10 +1,10 @@
 //! What the attributes of a reply about a packet socket tell.
 
 ghost use Rattle.std.specs.Prelude.{◌≡◌, option_map};
-ghost use Rattle.netlink_core.specs.Format.{read};
+ghost use Rattle.netlink_core.specs.Layout.{read};
 ghost use Rattle.netlink_core.specs.Parse.{exact_number};
 ghost use Rattle.sock_diag_values.specs.MemInfo.{mem_info};
-ghost use Rattle.netlink_packet_sock_diag.specs.Viewed.{viewed};
+ghost use Rattle.netlink_packet_sock_diag.specs.ViewModel.{view_model};
 ghost use Rattle.sock_diag_families.specs.Found.{first_value, within};
 ghost use Rattle.sock_diag_families.specs.PacketAttributes.{packet_info, packet_ring};
 
@@ -15,7 +15,7 @@ use super::{
 };
 use crate::WholeAttributes;
 use netlink_core::DecodeError;
-use netlink_core::rows::words_at;
+use netlink_core::fields::words_at;
 use netlink_packet_sock_diag::AF_PACKET;
 use sock_diag_values::inet::MemInfo;
 
@@ -59,7 +59,7 @@ pub struct PacketRing {
 
 // The ring that an attribute of this kind tells.
 fn ring(reply: &PacketResponseView<'_>, kind: u16) -> Result<Option<PacketRing>, DecodeError>
-    ensures { result ≡ within (packet_ring kind) (first_value kind (viewed reply.now).nlas) }
+    ensures { result ≡ within (packet_ring kind) (first_value kind (view_model reply.now).nlas) }
 {
     let Some(value) = reply.enough_of(AF_PACKET, kind, 28)? else {
         return Ok(None);
@@ -86,7 +86,7 @@ fn ring(reply: &PacketResponseView<'_>, kind: u16) -> Result<Option<PacketRing>,
 
 /// What the socket is set to, `PACKET_DIAG_INFO`. Fewer than 24 bytes are `BufferTooSmall`.
 pub fn info(reply: &PacketResponseView<'_>) -> Result<Option<PacketInfo>, DecodeError>
-    ensures { result ≡ within packet_info (first_value 0 (viewed reply.now).nlas) }
+    ensures { result ≡ within packet_info (first_value 0 (view_model reply.now).nlas) }
 {
     let Some(value) = reply.enough_of(AF_PACKET, PACKET_DIAG_INFO, 24)? else {
         return Ok(None);
@@ -113,7 +113,7 @@ pub fn info(reply: &PacketResponseView<'_>) -> Result<Option<PacketInfo>, Decode
 /// bytes each, `struct packet_diag_mclist`.
 pub fn addresses<'r>(reply: &'r PacketResponseView<'_>) -> Option<&'r [u8]>
     ensures { option_map (λ value. value.now) result
-        ≡ first_value 1 (viewed reply.now).nlas }
+        ≡ first_value 1 (view_model reply.now).nlas }
 {
     reply.value_of(PACKET_DIAG_MCLIST)
 }
@@ -121,35 +121,35 @@ pub fn addresses<'r>(reply: &'r PacketResponseView<'_>) -> Option<&'r [u8]>
 /// The ring for what is received, `PACKET_DIAG_RX_RING`. Fewer than 28 bytes are
 /// `BufferTooSmall`.
 pub fn receive_ring(reply: &PacketResponseView<'_>) -> Result<Option<PacketRing>, DecodeError>
-    ensures { result ≡ within (packet_ring 2) (first_value 2 (viewed reply.now).nlas) }
+    ensures { result ≡ within (packet_ring 2) (first_value 2 (view_model reply.now).nlas) }
 {
     ring(reply, PACKET_DIAG_RX_RING)
 }
 
 /// The ring for what is sent, `PACKET_DIAG_TX_RING`. Fewer than 28 bytes are `BufferTooSmall`.
 pub fn send_ring(reply: &PacketResponseView<'_>) -> Result<Option<PacketRing>, DecodeError>
-    ensures { result ≡ within (packet_ring 3) (first_value 3 (viewed reply.now).nlas) }
+    ensures { result ≡ within (packet_ring 3) (first_value 3 (view_model reply.now).nlas) }
 {
     ring(reply, PACKET_DIAG_TX_RING)
 }
 
 /// The number of the fanout, and its way in the high 16 bits, `PACKET_DIAG_FANOUT`.
 pub fn fanout(reply: &PacketResponseView<'_>) -> Result<Option<u32>, DecodeError>
-    ensures { result ≡ within (exact_number None 4) (first_value 4 (viewed reply.now).nlas) }
+    ensures { result ≡ within (exact_number None 4) (first_value 4 (view_model reply.now).nlas) }
 {
     reply.number_of(PACKET_DIAG_FANOUT)
 }
 
 /// The user who owns the socket, `PACKET_DIAG_UID`.
 pub fn owner(reply: &PacketResponseView<'_>) -> Result<Option<u32>, DecodeError>
-    ensures { result ≡ within (exact_number None 4) (first_value 5 (viewed reply.now).nlas) }
+    ensures { result ≡ within (exact_number None 4) (first_value 5 (view_model reply.now).nlas) }
 {
     reply.number_of(PACKET_DIAG_UID)
 }
 
 /// The memory of the socket, `PACKET_DIAG_MEMINFO`.
 pub fn memory(reply: &PacketResponseView<'_>) -> Result<Option<MemInfo>, DecodeError>
-    ensures { result ≡ within (read mem_info tt) (first_value 6 (viewed reply.now).nlas) }
+    ensures { result ≡ within (read mem_info tt) (first_value 6 (view_model reply.now).nlas) }
 {
     reply.record_of(PACKET_DIAG_MEMINFO)
 }
@@ -157,7 +157,7 @@ pub fn memory(reply: &PacketResponseView<'_>) -> Result<Option<MemInfo>, DecodeE
 /// The steps of the filter, `PACKET_DIAG_FILTER`: 8 bytes each, `struct sock_filter`.
 pub fn filter<'r>(reply: &'r PacketResponseView<'_>) -> Option<&'r [u8]>
     ensures { option_map (λ value. value.now) result
-        ≡ first_value 7 (viewed reply.now).nlas }
+        ≡ first_value 7 (view_model reply.now).nlas }
 {
     reply.value_of(PACKET_DIAG_FILTER)
 }

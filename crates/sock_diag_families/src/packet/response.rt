@@ -1,14 +1,14 @@
 //! The reply about one packet socket.
 
 ghost use Rattle.std.proofs.Common.{rules};
-ghost use Rattle.netlink_core.proofs.FormatLaws.{record_laws};
+ghost use Rattle.netlink_core.proofs.LayoutLaws.{record_laws};
 ghost use Rattle.sock_diag_families.specs.PacketResponseHeader.{packet_header};
 ghost use Rattle.sock_diag_families.specs.PacketResponseHeader.{packet_header_sound};
 ghost use Rattle.sock_diag_families.specs.WholeReply.{plain_header};
 
 use crate::{FamilyHeader, WholeView};
 use byteorder::{ByteOrder, LittleEndian};
-use netlink_core::rows::{long_words_at, words_at};
+use netlink_core::fields::{long_words_at, words_at};
 use netlink_core::{DecodeError, Exact, Record, RecordName};
 use netlink_packet_sock_diag::AF_PACKET;
 
@@ -37,9 +37,9 @@ impl Exact for PacketResponseHeader {
 }
 
 impl Record for PacketResponseHeader {
-    type Told = ();
+    type Param = ();
 
-    ghost format = { packet_header };
+    ghost layout = { packet_header };
 
     fn name_and_least() -> (RecordName, usize) {
         (RecordName::FamilyResponseHeader { family: AF_PACKET }, 16)
@@ -51,7 +51,7 @@ impl Record for PacketResponseHeader {
 
     /// Reads the first 16 bytes. What follows them is ignored, and fewer are
     /// [`DecodeError::BufferTooSmall`].
-    fn from_row(payload: &[u8], _told: ()) -> Result<Self, DecodeError> {
+    fn from_fields(payload: &[u8], _param: ()) -> Result<Self, DecodeError> {
         let [inode] = words_at::<1>(payload, 4);
         let [cookie] = long_words_at::<1>(payload, 8);
         Ok(PacketResponseHeader {
@@ -62,8 +62,8 @@ impl Record for PacketResponseHeader {
         })
     }
 
-    fn write_row(&self, row: &mut [u8]) {
-        let (start, rest) = row.split_at_mut(2);
+    fn write_fields(&self, buffer: &mut [u8]) {
+        let (start, rest) = buffer.split_at_mut(2);
         let (protocol, rest) = rest.split_at_mut(2);
         let (inode, cookie) = rest.split_at_mut(4);
         start.copy_from_slice(&[AF_PACKET, self.kind]);
@@ -72,7 +72,7 @@ impl Record for PacketResponseHeader {
         LittleEndian::write_u64(cookie, self.cookie);
     }
 
-    fn row_typed(&self) {
+    fn fields_in_range(&self) {
         let (_kind, _protocol) = (self.kind, self.protocol);
         let (_inode, _cookie) = (self.inode, self.cookie);
     }

@@ -1,12 +1,12 @@
 //! The request for vsock sockets.
 
 ghost use Rattle.std.proofs.Common.{rules};
-ghost use Rattle.netlink_core.proofs.FormatLaws.{record_laws};
+ghost use Rattle.netlink_core.proofs.LayoutLaws.{record_laws};
 ghost use Rattle.sock_diag_families.specs.VsockRequest.{vsock_request, vsock_request_sound};
 
 use super::AF_VSOCK;
 use byteorder::{ByteOrder, LittleEndian};
-use netlink_core::rows::{long_words_at, words_at};
+use netlink_core::fields::{long_words_at, words_at};
 use netlink_core::{DecodeError, Exact, Record, RecordName};
 
 /// The request for vsock sockets: `struct vsock_diag_req`, 24 bytes, numbers low byte first. The
@@ -26,9 +26,9 @@ impl Exact for VsockRequest {
 }
 
 impl Record for VsockRequest {
-    type Told = ();
+    type Param = ();
 
-    ghost format = { vsock_request };
+    ghost layout = { vsock_request };
 
     fn name_and_least() -> (RecordName, usize) {
         (RecordName::FamilyRequest { family: AF_VSOCK }, 24)
@@ -40,19 +40,19 @@ impl Record for VsockRequest {
 
     /// Reads the first 24 bytes. What follows them is ignored, and fewer are
     /// [`DecodeError::BufferTooSmall`].
-    fn from_row(payload: &[u8], _told: ()) -> Result<Self, DecodeError> {
+    fn from_fields(payload: &[u8], _param: ()) -> Result<Self, DecodeError> {
         let [states] = words_at::<1>(payload, 4);
         let [cookie] = long_words_at::<1>(payload, 16);
         Ok(VsockRequest { states, cookie })
     }
 
-    fn write_row(&self, row: &mut [u8]) {
-        let (words, cookie) = row.split_at_mut(16);
+    fn write_fields(&self, buffer: &mut [u8]) {
+        let (words, cookie) = buffer.split_at_mut(16);
         LittleEndian::write_u32_into(&[AF_VSOCK as u32, self.states, 0, 0], words);
         LittleEndian::write_u64(cookie, self.cookie);
     }
 
-    fn row_typed(&self) {
+    fn fields_in_range(&self) {
         let (_states, _cookie) = (self.states, self.cookie);
     }
 

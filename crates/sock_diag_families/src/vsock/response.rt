@@ -1,14 +1,14 @@
 //! The reply about one vsock socket.
 
 ghost use Rattle.std.proofs.Common.{rules};
-ghost use Rattle.netlink_core.proofs.FormatLaws.{record_laws};
+ghost use Rattle.netlink_core.proofs.LayoutLaws.{record_laws};
 ghost use Rattle.sock_diag_families.specs.VsockResponseHeader.{vsock_header, vsock_header_sound};
 ghost use Rattle.sock_diag_families.specs.WholeReply.{plain_header};
 
 use super::AF_VSOCK;
 use crate::{FamilyHeader, WholeView};
 use byteorder::{ByteOrder, LittleEndian};
-use netlink_core::rows::{long_words_at, long_words_typed, words_at};
+use netlink_core::fields::{long_words_at, long_words_in_range, words_at};
 use netlink_core::{DecodeError, Exact, Record, RecordName};
 
 /// The header of a reply about a vsock socket: `struct vsock_diag_msg`, 32 bytes, numbers low byte
@@ -47,9 +47,9 @@ impl Exact for VsockResponseHeader {
 }
 
 impl Record for VsockResponseHeader {
-    type Told = ();
+    type Param = ();
 
-    ghost format = { vsock_header };
+    ghost layout = { vsock_header };
 
     fn name_and_least() -> (RecordName, usize) {
         (RecordName::FamilyResponseHeader { family: AF_VSOCK }, 32)
@@ -61,7 +61,7 @@ impl Record for VsockResponseHeader {
 
     /// Reads the first 32 bytes. What follows them is ignored, and fewer are
     /// [`DecodeError::BufferTooSmall`].
-    fn from_row(payload: &[u8], _told: ()) -> Result<Self, DecodeError> {
+    fn from_fields(payload: &[u8], _param: ()) -> Result<Self, DecodeError> {
         let [
             source_context,
             source_port,
@@ -83,8 +83,8 @@ impl Record for VsockResponseHeader {
         })
     }
 
-    fn write_row(&self, row: &mut [u8]) {
-        let (start, rest) = row.split_at_mut(4);
+    fn write_fields(&self, buffer: &mut [u8]) {
+        let (start, rest) = buffer.split_at_mut(4);
         let (words, cookie) = rest.split_at_mut(20);
         start.copy_from_slice(&[AF_VSOCK, self.kind, self.state, self.shutdown]);
         let numbers = [
@@ -98,7 +98,7 @@ impl Record for VsockResponseHeader {
         LittleEndian::write_u64(cookie, self.cookie);
     }
 
-    fn row_typed(&self) {
+    fn fields_in_range(&self) {
         let VsockResponseHeader {
             kind: _a,
             state: _b,
@@ -110,7 +110,7 @@ impl Record for VsockResponseHeader {
             inode: _h,
             cookie: _,
         } = *self;
-        long_words_typed(&[self.cookie]);
+        long_words_in_range(&[self.cookie]);
     }
 
     ghost laws = { record_laws vsock_header vsock_header_sound };

@@ -1,10 +1,10 @@
 //! What the attributes of a reply about an XDP socket tell.
 
 ghost use Rattle.std.specs.Prelude.{◌≡◌, ◌≤◌, length};
-ghost use Rattle.netlink_core.specs.Format.{read};
+ghost use Rattle.netlink_core.specs.Layout.{read};
 ghost use Rattle.netlink_core.specs.Parse.{exact_number};
 ghost use Rattle.sock_diag_values.specs.MemInfo.{mem_info};
-ghost use Rattle.netlink_packet_sock_diag.specs.Viewed.{viewed};
+ghost use Rattle.netlink_packet_sock_diag.specs.ViewModel.{view_model};
 ghost use Rattle.sock_diag_families.specs.Found.{first_value, within};
 ghost use Rattle.netlink_core.specs.Table.{values_of};
 ghost use Rattle.sock_diag_families.specs.XdpAttributes.{xdp_info, xdp_umem, xdp_umem_of};
@@ -17,7 +17,7 @@ use super::{
 };
 use crate::WholeAttributes;
 use netlink_core::DecodeError;
-use netlink_core::rows::{long_words_at, words_at};
+use netlink_core::fields::{long_words_at, words_at};
 use sock_diag_values::inet::MemInfo;
 
 /// Where an XDP socket is bound: `struct xdp_diag_info`, the first 8 bytes of `XDP_DIAG_INFO`.
@@ -73,7 +73,7 @@ pub struct XdpStatistics {
 
 /// Where the socket is bound, `XDP_DIAG_INFO`. Fewer than 8 bytes are `BufferTooSmall`.
 pub fn info(reply: &XdpResponseView<'_>) -> Result<Option<XdpInfo>, DecodeError>
-    ensures { result ≡ within xdp_info (first_value 1 (viewed reply.now).nlas) }
+    ensures { result ≡ within xdp_info (first_value 1 (view_model reply.now).nlas) }
 {
     let Some(value) = reply.enough_of(AF_XDP, XDP_DIAG_INFO, 8)? else {
         return Ok(None);
@@ -84,21 +84,21 @@ pub fn info(reply: &XdpResponseView<'_>) -> Result<Option<XdpInfo>, DecodeError>
 
 /// The user who owns the socket, `XDP_DIAG_UID`.
 pub fn owner(reply: &XdpResponseView<'_>) -> Result<Option<u32>, DecodeError>
-    ensures { result ≡ within (exact_number None 4) (first_value 2 (viewed reply.now).nlas) }
+    ensures { result ≡ within (exact_number None 4) (first_value 2 (view_model reply.now).nlas) }
 {
     reply.number_of(XDP_DIAG_UID)
 }
 
 /// How many entries the ring for what is received has, `XDP_DIAG_RX_RING`.
 pub fn receive_ring(reply: &XdpResponseView<'_>) -> Result<Option<u32>, DecodeError>
-    ensures { result ≡ within (exact_number None 4) (first_value 3 (viewed reply.now).nlas) }
+    ensures { result ≡ within (exact_number None 4) (first_value 3 (view_model reply.now).nlas) }
 {
     reply.number_of(XDP_DIAG_RX_RING)
 }
 
 /// How many the ring for what is sent has, `XDP_DIAG_TX_RING`.
 pub fn send_ring(reply: &XdpResponseView<'_>) -> Result<Option<u32>, DecodeError>
-    ensures { result ≡ within (exact_number None 4) (first_value 4 (viewed reply.now).nlas) }
+    ensures { result ≡ within (exact_number None 4) (first_value 4 (view_model reply.now).nlas) }
 {
     reply.number_of(XDP_DIAG_TX_RING)
 }
@@ -106,7 +106,7 @@ pub fn send_ring(reply: &XdpResponseView<'_>) -> Result<Option<u32>, DecodeError
 /// The memory that the socket shares, `XDP_DIAG_UMEM`. Fewer than 40 bytes are
 /// `BufferTooSmall`.
 pub fn shared_memory(reply: &XdpResponseView<'_>) -> Result<Option<XdpUmem>, DecodeError>
-    ensures { result ≡ within xdp_umem (first_value 5 (viewed reply.now).nlas) }
+    ensures { result ≡ within xdp_umem (first_value 5 (view_model reply.now).nlas) }
 {
     let Some(value) = reply.enough_of(AF_XDP, XDP_DIAG_UMEM, 40)? else {
         return Ok(None);
@@ -116,14 +116,14 @@ pub fn shared_memory(reply: &XdpResponseView<'_>) -> Result<Option<XdpUmem>, Dec
 
 /// The memory of the socket, `XDP_DIAG_MEMINFO`.
 pub fn memory(reply: &XdpResponseView<'_>) -> Result<Option<MemInfo>, DecodeError>
-    ensures { result ≡ within (read mem_info tt) (first_value 8 (viewed reply.now).nlas) }
+    ensures { result ≡ within (read mem_info tt) (first_value 8 (view_model reply.now).nlas) }
 {
     reply.record_of(XDP_DIAG_MEMINFO)
 }
 
 /// What the socket counted, `XDP_DIAG_STATS`. Fewer than 48 bytes are `BufferTooSmall`.
 pub fn statistics(reply: &XdpResponseView<'_>) -> Result<Option<XdpStatistics>, DecodeError>
-    ensures { result ≡ within xdp_statistics (first_value 9 (viewed reply.now).nlas) }
+    ensures { result ≡ within xdp_statistics (first_value 9 (view_model reply.now).nlas) }
 {
     let Some(value) = reply.enough_of(AF_XDP, XDP_DIAG_STATS, 48)? else {
         return Ok(None);

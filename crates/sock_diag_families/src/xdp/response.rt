@@ -1,7 +1,7 @@
 //! The reply about one XDP socket.
 
 ghost use Rattle.std.proofs.Common.{rules};
-ghost use Rattle.netlink_core.proofs.FormatLaws.{record_laws};
+ghost use Rattle.netlink_core.proofs.LayoutLaws.{record_laws};
 ghost use Rattle.sock_diag_families.specs.XdpResponseHeader.{xdp_header};
 ghost use Rattle.sock_diag_families.specs.XdpResponseHeader.{xdp_header_sound};
 ghost use Rattle.sock_diag_families.specs.WholeReply.{plain_header};
@@ -9,7 +9,7 @@ ghost use Rattle.sock_diag_families.specs.WholeReply.{plain_header};
 use super::AF_XDP;
 use crate::{FamilyHeader, WholeView};
 use byteorder::{ByteOrder, LittleEndian};
-use netlink_core::rows::{long_words_at, words_at};
+use netlink_core::fields::{long_words_at, words_at};
 use netlink_core::{DecodeError, Exact, Record, RecordName};
 
 /// The header of a reply about an XDP socket: `struct xdp_diag_msg`, 16 bytes, numbers low
@@ -35,9 +35,9 @@ impl Exact for XdpResponseHeader {
 }
 
 impl Record for XdpResponseHeader {
-    type Told = ();
+    type Param = ();
 
-    ghost format = { xdp_header };
+    ghost layout = { xdp_header };
 
     fn name_and_least() -> (RecordName, usize) {
         (RecordName::FamilyResponseHeader { family: AF_XDP }, 16)
@@ -49,7 +49,7 @@ impl Record for XdpResponseHeader {
 
     /// Reads the first 16 bytes. What follows them is ignored, and fewer are
     /// [`DecodeError::BufferTooSmall`].
-    fn from_row(payload: &[u8], _told: ()) -> Result<Self, DecodeError> {
+    fn from_fields(payload: &[u8], _param: ()) -> Result<Self, DecodeError> {
         let [inode] = words_at::<1>(payload, 4);
         let [cookie] = long_words_at::<1>(payload, 8);
         Ok(XdpResponseHeader {
@@ -59,15 +59,15 @@ impl Record for XdpResponseHeader {
         })
     }
 
-    fn write_row(&self, row: &mut [u8]) {
-        let (start, rest) = row.split_at_mut(4);
+    fn write_fields(&self, buffer: &mut [u8]) {
+        let (start, rest) = buffer.split_at_mut(4);
         let (inode, cookie) = rest.split_at_mut(4);
         start.copy_from_slice(&[AF_XDP, self.kind, 0, 0]);
         LittleEndian::write_u32(inode, self.inode);
         LittleEndian::write_u64(cookie, self.cookie);
     }
 
-    fn row_typed(&self) {
+    fn fields_in_range(&self) {
         let (_kind, _inode, _cookie) = (self.kind, self.inode, self.cookie);
     }
 

@@ -28,32 +28,33 @@ returns-clause-complete g c =
 
 pub returns-clause-silent : goal.returns-clause-silent
 returns-clause-silent g c =
-    λ other. c.tell.ensures.silent
+    λ other. c.report.ensures.silent
     (ended_well c.answer_all-outcome.result _ _ c.exit_code.ensures other)
 
 -- the line is that of the failure
-tells : (contents contents' : Option (List ℕ)) (outcome : Result Bool ServeError)
-    → IfErr outcome (λ e. (told : List ℕ) × ((more : List ℕ) × (failure_line e ≡ told ++ more))
-    × Appends contents contents' told)
-    → IfErr outcome (λ e. (told more : List ℕ) × Appends contents contents' told
-    × (e ≡ Read → told ++ more ≡ codes "sockdiag: reading failed" ++ 10 ∷ [])
-    × (e ≡ Write false → told ++ more ≡ codes "sockdiag: writing failed" ++ 10 ∷ [])
-    × (e ≡ Write true → told ++ more ≡ [])
-    × (e ≡ Memory → told ++ more ≡ codes "sockdiag: out of memory" ++ 10 ∷ []))
-tells contents contents' (Ok good) h = h
-tells contents contents' (Err Read) (told, (more, e), appended) =
-    (told, more, appended, λ is. sym e, λ is. cc, λ is. cc, λ is. cc)
-tells contents contents' (Err (Write false)) (told, (more, e), appended) =
-    (told, more, appended, λ is. cc, λ is. sym e, λ is. cc, λ is. cc)
-tells contents contents' (Err (Write true)) (told, (more, e), appended) =
-    (told, more, appended, λ is. cc, λ is. cc, λ is. sym e, λ is. cc)
-tells contents contents' (Err Memory) (told, (more, e), appended) =
-    (told, more, appended, λ is. cc, λ is. cc, λ is. cc, λ is. sym e)
+reported_as : (contents contents' : Option (List ℕ)) (outcome : Result Bool ServeError)
+    → IfErr outcome (λ e. (reported : List ℕ)
+    × ((more : List ℕ) × (failure_line e ≡ reported ++ more))
+    × Appends contents contents' reported)
+    → IfErr outcome (λ e. (reported more : List ℕ) × Appends contents contents' reported
+    × (e ≡ Read → reported ++ more ≡ codes "sockdiag: reading failed" ++ 10 ∷ [])
+    × (e ≡ Write false → reported ++ more ≡ codes "sockdiag: writing failed" ++ 10 ∷ [])
+    × (e ≡ Write true → reported ++ more ≡ [])
+    × (e ≡ Memory → reported ++ more ≡ codes "sockdiag: out of memory" ++ 10 ∷ []))
+reported_as contents contents' (Ok good) h = h
+reported_as contents contents' (Err Read) (reported, (more, e), appended) =
+    (reported, more, appended, λ is. sym e, λ is. cc, λ is. cc, λ is. cc)
+reported_as contents contents' (Err (Write false)) (reported, (more, e), appended) =
+    (reported, more, appended, λ is. cc, λ is. sym e, λ is. cc, λ is. cc)
+reported_as contents contents' (Err (Write true)) (reported, (more, e), appended) =
+    (reported, more, appended, λ is. cc, λ is. cc, λ is. sym e, λ is. cc)
+reported_as contents contents' (Err Memory) (reported, (more, e), appended) =
+    (reported, more, appended, λ is. cc, λ is. cc, λ is. cc, λ is. sym e)
 
 pub returns-clause-answered : goal.returns-clause-answered
 returns-clause-answered g c = λ f right. (
   c.answer_all-outcome.result,
   c.exit_code.ensures,
   c.answer_all-outcome.ensures.answered f right,
-  tells _ _ c.answer_all-outcome.result c.tell.ensures.told,
+  reported_as _ _ c.answer_all-outcome.result c.report.ensures.reported,
 )

@@ -1,14 +1,14 @@
 //! The request for IPv4 or IPv6 sockets.
 
-ghost use Rattle.netlink_core.proofs.FormatLaws.{record_laws};
+ghost use Rattle.netlink_core.proofs.LayoutLaws.{record_laws};
 ghost use Rattle.sock_diag_records.specs.InetRequest.{inet_request};
-ghost use Rattle.sock_diag_records.specs.Kinds.{Kinds};
+ghost use Rattle.sock_diag_records.specs.IpVersions.{IpVersions};
 ghost use Rattle.sock_diag_records.specs.InetRequestLaws.{inet_request_sound, inet_request_size};
 
 use super::{ExtensionFlags, SocketId, StateFlags};
 use bitflags::Flags;
 use byteorder::{ByteOrder, LittleEndian};
-use netlink_core::rows::words_at;
+use netlink_core::fields::words_at;
 use netlink_core::{DecodeError, Fills, Record, RecordBuffer, RecordName};
 
 /// The request for IPv4 or IPv6 sockets: `struct inet_diag_req_v2` of sock_diag(7), 56 bytes. The
@@ -31,11 +31,11 @@ pub struct InetRequest {
 pub type InetRequestBuffer = RecordBuffer<InetRequest, 56>;
 
 impl Record for InetRequest {
-    type Told = ();
+    type Param = ();
 
-    ghost Tag = { Kinds };
+    ghost Tag = { IpVersions };
 
-    ghost format = { inet_request };
+    ghost layout = { inet_request };
 
     #[tactic(auto, unfolding(crate::specs::InetRequest::inet_request))]
     fn name_and_least() -> (RecordName, usize) {
@@ -51,9 +51,9 @@ impl Record for InetRequest {
     /// [`DecodeError::BufferTooSmall`]; then a family but AF_INET and AF_INET6 is
     /// [`DecodeError::UnsupportedFamily`].
     #[tactic(auto, unfolding(crate::specs::InetRequest::inet_request, crate::specs::SocketId::socket_id))]
-    fn from_row(payload: &[u8], _told: ()) -> Result<Self, DecodeError> {
+    fn from_fields(payload: &[u8], _param: ()) -> Result<Self, DecodeError> {
         let family = payload[0];
-        let socket_id = SocketId::from_row(&payload[8..], family)?;
+        let socket_id = SocketId::from_fields(&payload[8..], family)?;
         let [states] = words_at::<1>(payload, 4);
         Ok(InetRequest {
             family,
@@ -65,21 +65,21 @@ impl Record for InetRequest {
     }
 
     #[tactic(auto, unfolding(crate::specs::InetRequest::inet_request, crate::specs::SocketId::socket_id))]
-    fn write_row(&self, row: &mut [u8]) {
-        let (start, rest) = row.split_at_mut(4);
+    fn write_fields(&self, buffer: &mut [u8]) {
+        let (start, rest) = buffer.split_at_mut(4);
         let (states, socket_id) = rest.split_at_mut(4);
         start.copy_from_slice(&[self.family, self.protocol, self.extensions.bits(), 0]);
         LittleEndian::write_u32_into(&[self.states.bits()], states);
-        self.socket_id.write_row(socket_id);
+        self.socket_id.write_fields(socket_id);
     }
 
     #[tactic(auto, unfolding(crate::specs::InetRequest::inet_request, crate::specs::SocketId::socket_id), using(crate::specs::InetRequestLaws::fit_inside))]
-    fn row_typed(&self) {
+    fn fields_in_range(&self) {
         let _family = self.family;
         let _protocol = self.protocol;
         let _extensions = self.extensions.bits();
         let _states = self.states.bits();
-        self.socket_id.row_typed();
+        self.socket_id.fields_in_range();
     }
 
     ghost laws = { record_laws inet_request inet_request_sound };

@@ -3,20 +3,20 @@
 ghost use Rattle.std.proofs.Common.{rules};
 ghost use Rattle.std.specs.Prelude.{ℕ, [], ◌∷◌, ◌≡◌, ◌≢◌, slice_index, IfErr};
 ghost use Rattle.netlink_core.specs.declared.fault.DecodeError.TheVariants.{Memory};
-ghost use Rattle.netlink_core.specs.Format.{read};
+ghost use Rattle.netlink_core.specs.Layout.{read};
 ghost use Rattle.netlink_core.specs.Table.{Fit};
-ghost use Rattle.netlink_core.proofs.FormatLaws.{record_laws};
-ghost use Rattle.sock_diag_records.specs.Kinds.{Kinds};
+ghost use Rattle.netlink_core.proofs.LayoutLaws.{record_laws};
+ghost use Rattle.sock_diag_records.specs.IpVersions.{IpVersions};
 ghost use Rattle.sock_diag_records.specs.InetResponse.{inet_response_header};
 ghost use Rattle.sock_diag_records.specs.InetResponseInverse.{timer_of};
 ghost use Rattle.sock_diag_records.specs.Timer.{class_of_byte, class_of, milliseconds};
-ghost use Rattle.sock_diag_records.specs.Timer.{retransmits_row, retransmits_values};
+ghost use Rattle.sock_diag_records.specs.Timer.{retransmits_field, retransmits_values};
 ghost use Rattle.sock_diag_records.specs.Timer.{expires_values};
 ghost use Rattle.sock_diag_records.specs.InetResponseLaws.{header_sound, header_size};
 
 use super::SocketId;
 use byteorder::{ByteOrder, LittleEndian};
-use netlink_core::rows::words_at;
+use netlink_core::fields::words_at;
 use netlink_core::{DecodeError, Exact, Fills, Record, RecordBuffer, RecordName, read_record};
 use std::time::Duration;
 
@@ -72,11 +72,11 @@ impl Exact for Timer {
 }
 
 impl Record for InetResponseHeader {
-    type Told = ();
+    type Param = ();
 
-    ghost Tag = { Kinds × ℕ };
+    ghost Tag = { IpVersions × ℕ };
 
-    ghost format = { inet_response_header };
+    ghost layout = { inet_response_header };
 
     #[tactic(auto, unfolding(crate::specs::InetResponse::inet_response_header))]
     fn name_and_least() -> (RecordName, usize) {
@@ -93,9 +93,9 @@ impl Record for InetResponseHeader {
     /// [`DecodeError::UnsupportedFamily`].
     #[tactic(auto, unfolding(crate::specs::InetResponse::inet_response_header, crate::specs::SocketId::socket_id))]
     #[inline(always)]
-    fn from_row(payload: &[u8], _told: ()) -> Result<Self, DecodeError> {
+    fn from_fields(payload: &[u8], _param: ()) -> Result<Self, DecodeError> {
         let family = payload[0];
-        let socket_id = SocketId::from_row(&payload[4..], family)?;
+        let socket_id = SocketId::from_fields(&payload[4..], family)?;
         let [expires, recv_queue, send_queue, uid, inode] = words_at::<5>(payload, 52);
         Ok(InetResponseHeader {
             family,
@@ -110,12 +110,12 @@ impl Record for InetResponseHeader {
     }
 
     #[tactic(auto, unfolding(crate::specs::InetResponse::inet_response_header, crate::specs::SocketId::socket_id))]
-    fn write_row(&self, row: &mut [u8]) {
+    fn write_fields(&self, buffer: &mut [u8]) {
         let (timer, retransmits, expires) = timer_words(&self.timer);
-        let (start, rest) = row.split_at_mut(4);
+        let (start, rest) = buffer.split_at_mut(4);
         let (socket_id, rest) = rest.split_at_mut(48);
         start.copy_from_slice(&[self.family, self.state, timer, retransmits]);
-        self.socket_id.write_row(socket_id);
+        self.socket_id.write_fields(socket_id);
         let words = [
             expires,
             self.recv_queue,
@@ -127,11 +127,11 @@ impl Record for InetResponseHeader {
     }
 
     #[tactic(auto, unfolding(crate::specs::InetResponse::inet_response_header, crate::specs::SocketId::socket_id), using(crate::specs::InetResponseLaws::header_fit))]
-    fn row_typed(&self) {
+    fn fields_in_range(&self) {
         let _family = self.family;
         let _state = self.state;
-        timer_typed(&self.timer);
-        self.socket_id.row_typed();
+        timer_in_range(&self.timer);
+        self.socket_id.fields_in_range();
         let _recv_queue = self.recv_queue;
         let _send_queue = self.send_queue;
         let _uid = self.uid;
@@ -197,8 +197,8 @@ fn timer_from(timer: u8, retransmits: u8, milliseconds: u32) -> Option<Timer>
 }
 
 // The number of retransmits is within its type.
-fn timer_typed(timer: &Option<Timer>)
-    ensures { Fit (retransmits_row (class_of timer.now) ∷ []) (retransmits_values timer.now) }
+fn timer_in_range(timer: &Option<Timer>)
+    ensures { Fit (retransmits_field (class_of timer.now) ∷ []) (retransmits_values timer.now) }
 {
     if let Some(Timer::Retransmit(_, retransmits)) = timer {
         let _retransmits = *retransmits;

@@ -6,27 +6,27 @@ ghost use Rattle.std.specs.declared.net.ip_addr.IpAddr.TheVariants.{V4, V6};
 ghost use Rattle.std.specs.Net.Addr.{ipv4_octets, ipv6_segments};
 ghost use Rattle.netlink_core.specs.Table.{bytes_at, numbers, big_endian, values_of};
 ghost use Rattle.netlink_core.specs.declared.fault.DecodeError.TheVariants.{Memory};
-ghost use Rattle.netlink_core.specs.Format.{read};
-ghost use Rattle.netlink_core.proofs.FormatLaws.{record_laws};
+ghost use Rattle.netlink_core.specs.Layout.{read};
+ghost use Rattle.netlink_core.proofs.LayoutLaws.{record_laws};
 ghost use Rattle.std.specs.Prelude.{ℕ, slice_index, ◌<◌};
 ghost use Rattle.netlink_core.specs.Table.{Fit};
-ghost use Rattle.sock_diag_records.specs.SocketId.{IsAddress, address_rows, address_values};
+ghost use Rattle.sock_diag_records.specs.SocketId.{IsAddress, address_fields, address_values};
 ghost use Rattle.sock_diag_records.specs.SocketId.{socket_id, address_bytes};
-ghost use Rattle.sock_diag_records.specs.Kinds.{kind_of, Kinds};
+ghost use Rattle.sock_diag_records.specs.IpVersions.{version_of, IpVersions};
 ghost use Rattle.sock_diag_records.specs.SocketIdLaws.{socket_id_sound, socket_id_size};
 
 use crate::constants::{AF_INET, AF_INET6};
 use byteorder::{BigEndian, ByteOrder, LittleEndian};
-use netlink_core::rows::{array_at, big_shorts_at, words_at};
+use netlink_core::fields::{array_at, big_shorts_at, words_at};
 use netlink_core::{
-    DecodeError, Exact, Fills, Record, RecordBuffer, RecordName, bytes_typed, read_record,
+    DecodeError, Exact, Fills, Record, RecordBuffer, RecordName, bytes_in_range, read_record,
 };
 use std::net::{IpAddr, Ipv4Addr, Ipv6Addr};
 
 /// The identity of an IPv4 or IPv6 socket: `struct inet_diag_sockid` of sock_diag(7), 48 bytes.
 ///
-/// The family isn't among them, so the reader is told it: AF_INET (2) or AF_INET6 (10). The writer
-/// goes by the addresses.
+/// The family isn't among them, so the reader takes it as a parameter: AF_INET (2) or AF_INET6
+/// (10). The writer goes by the addresses.
 #[derive(Clone, Debug, Drop, PartialEq, Eq)]
 pub struct SocketId {
     /// The port of this end, `idiag_sport`, at 0, high byte first.
@@ -94,37 +94,37 @@ impl SocketId {
 pub type SocketIdBuffer = RecordBuffer<SocketId, 48>;
 
 // The IPv4 address at a place.
-fn ipv4_at(bytes: &[u8], place: usize) -> Ipv4Addr
-    requires { place + 4 ≤ length bytes.now }
-    ensures { ipv4_octets result ≡ values_of (bytes_at place 4) bytes.now }
+fn ipv4_at(bytes: &[u8], offset: usize) -> Ipv4Addr
+    requires { offset + 4 ≤ length bytes.now }
+    ensures { ipv4_octets result ≡ values_of (bytes_at offset 4) bytes.now }
 {
     Ipv4Addr::new(
-        bytes[place],
-        bytes[place + 1],
-        bytes[place + 2],
-        bytes[place + 3],
+        bytes[offset],
+        bytes[offset + 1],
+        bytes[offset + 2],
+        bytes[offset + 3],
     )
 }
 
 // The IPv6 address at a place.
-fn ipv6_at(bytes: &[u8], place: usize) -> Ipv6Addr
-    requires { place + 16 ≤ length bytes.now }
-    ensures { ipv6_segments result ≡ values_of (numbers place 2 big_endian 8) bytes.now }
+fn ipv6_at(bytes: &[u8], offset: usize) -> Ipv6Addr
+    requires { offset + 16 ≤ length bytes.now }
+    ensures { ipv6_segments result ≡ values_of (numbers offset 2 big_endian 8) bytes.now }
 {
-    Ipv6Addr::from_segments(big_shorts_at(bytes, place))
+    Ipv6Addr::from_segments(big_shorts_at(bytes, offset))
 }
 
 // Writes an address, and zeros behind an IPv4 address.
-fn write_address(address: IpAddr, row: &mut [u8])
-    requires { length row.old ≡ 16 }
-    ensures { row.new ≡ address_bytes address }
+fn write_address(address: IpAddr, buffer: &mut [u8])
+    requires { length buffer.old ≡ 16 }
+    ensures { buffer.new ≡ address_bytes address }
 {
     match address {
         IpAddr::V4(ip) => {
-            row[..4].copy_from_slice(&ip.octets());
-            row[4..].fill(0);
+            buffer[..4].copy_from_slice(&ip.octets());
+            buffer[4..].fill(0);
         }
-        IpAddr::V6(ip) => BigEndian::write_u16_into(&ip.segments(), row),
+        IpAddr::V6(ip) => BigEndian::write_u16_into(&ip.segments(), buffer),
     }
 }
 
@@ -133,11 +133,11 @@ impl Exact for SocketId {
 }
 
 impl Record for SocketId {
-    type Told = u8;
+    type Param = u8;
 
-    ghost Tag = { Kinds };
+    ghost Tag = { IpVersions };
 
-    ghost format = { socket_id };
+    ghost layout = { socket_id };
 
     #[tactic(auto, unfolding(crate::specs::SocketId::socket_id))]
     fn name_and_least() -> (RecordName, usize) {
@@ -154,7 +154,7 @@ impl Record for SocketId {
     /// [`DecodeError::UnsupportedFamily`].
     #[tactic(auto, unfolding(crate::specs::SocketId::socket_id))]
     #[inline(always)]
-    fn from_row(payload: &[u8], family: u8) -> Result<Self, DecodeError> {
+    fn from_fields(payload: &[u8], family: u8) -> Result<Self, DecodeError> {
         let (source_address, destination_address) = match family {
             AF_INET => (
                 IpAddr::V4(ipv4_at(payload, 4)),
@@ -179,8 +179,8 @@ impl Record for SocketId {
     }
 
     #[tactic(auto, unfolding(crate::specs::SocketId::socket_id))]
-    fn write_row(&self, row: &mut [u8]) {
-        let (ports, rest) = row.split_at_mut(4);
+    fn write_fields(&self, buffer: &mut [u8]) {
+        let (ports, rest) = buffer.split_at_mut(4);
         let (source, rest) = rest.split_at_mut(16);
         let (destination, rest) = rest.split_at_mut(16);
         let (interface, cookie) = rest.split_at_mut(4);
@@ -191,13 +191,13 @@ impl Record for SocketId {
         cookie.copy_from_slice(&self.cookie);
     }
 
-    fn row_typed(&self) {
+    fn fields_in_range(&self) {
         let _source_port = self.source_port;
         let _destination_port = self.destination_port;
-        address_typed(self.source_address);
-        address_typed(self.destination_address);
+        address_in_range(self.source_address);
+        address_in_range(self.destination_address);
         let _interface_id = self.interface_id;
-        bytes_typed(&self.cookie);
+        bytes_in_range(&self.cookie);
     }
 
     ghost laws = { record_laws socket_id socket_id_sound };
@@ -221,18 +221,18 @@ impl Fills<48> for SocketId {
 }
 
 // The parts of an address are within their types, wherever it stands.
-fn address_typed(address: IpAddr)
+fn address_in_range(address: IpAddr)
     ensures shaped { IsAddress address }
-    ensures fit { (place : ℕ)
-        → Fit (address_rows place (kind_of address)) (address_values address) }
+    ensures fit { (offset : ℕ)
+        → Fit (address_fields offset (version_of address)) (address_values address) }
 {
     match address {
-        IpAddr::V4(ip) => bytes_typed(&ip.octets()),
-        IpAddr::V6(ip) => shorts_typed(&ip.segments()),
+        IpAddr::V4(ip) => bytes_in_range(&ip.octets()),
+        IpAddr::V6(ip) => shorts_in_range(&ip.segments()),
     }
 }
 
 // Numbers are of 16 bits.
-fn shorts_typed(_numbers: &[u16])
+fn shorts_in_range(_numbers: &[u16])
     ensures { (i : ℕ) → slice_index _numbers.now i < 65536 }
 {}

@@ -2,7 +2,7 @@
 
 ghost use Rattle.std.proofs.Common.{rules};
 ghost use Rattle.std.specs.Prelude.{refl};
-ghost use Rattle.netlink_core.proofs.FormatLaws.{record_laws};
+ghost use Rattle.netlink_core.proofs.LayoutLaws.{record_laws};
 ghost use Rattle.sock_diag_records.specs.UnixRequest.{unix_request};
 ghost use Rattle.sock_diag_records.specs.UnixRequestLaws.{unix_request_sound};
 
@@ -10,8 +10,8 @@ use super::{ShowFlags, StateFlags};
 use crate::constants::AF_UNIX;
 use bitflags::Flags;
 use byteorder::{ByteOrder, LittleEndian};
-use netlink_core::rows::{array_at, words_at};
-use netlink_core::{DecodeError, Exact, Fills, Record, RecordBuffer, RecordName, bytes_typed};
+use netlink_core::fields::{array_at, words_at};
+use netlink_core::{DecodeError, Exact, Fills, Record, RecordBuffer, RecordName, bytes_in_range};
 
 /// The request for UNIX sockets: `struct unix_diag_req` of sock_diag(7), 24 bytes, numbers low byte
 /// first. The bytes at 0 to 3 are not read, and are written AF_UNIX (1), 0, 0, 0.
@@ -37,9 +37,9 @@ impl Exact for UnixRequest {
 }
 
 impl Record for UnixRequest {
-    type Told = ();
+    type Param = ();
 
-    ghost format = { unix_request };
+    ghost layout = { unix_request };
 
     fn name_and_least() -> (RecordName, usize) {
         (RecordName::UnixRequest, 24)
@@ -51,7 +51,7 @@ impl Record for UnixRequest {
 
     /// Reads the first 24 bytes. What follows them is ignored, and fewer are
     /// [`DecodeError::BufferTooSmall`].
-    fn from_row(payload: &[u8], _told: ()) -> Result<Self, DecodeError> {
+    fn from_fields(payload: &[u8], _param: ()) -> Result<Self, DecodeError> {
         let [state_flags, inode, show_flags] = words_at::<3>(payload, 4);
         Ok(UnixRequest {
             state_flags: StateFlags::from_bits_truncate(state_flags),
@@ -61,8 +61,8 @@ impl Record for UnixRequest {
         })
     }
 
-    fn write_row(&self, row: &mut [u8]) {
-        let (start, rest) = row.split_at_mut(4);
+    fn write_fields(&self, buffer: &mut [u8]) {
+        let (start, rest) = buffer.split_at_mut(4);
         let (words, cookie) = rest.split_at_mut(12);
         start.copy_from_slice(&[AF_UNIX, 0, 0, 0]);
         LittleEndian::write_u32_into(
@@ -72,11 +72,11 @@ impl Record for UnixRequest {
         cookie.copy_from_slice(&self.cookie);
     }
 
-    fn row_typed(&self) {
+    fn fields_in_range(&self) {
         let _state_flags = self.state_flags.bits();
         let _inode = self.inode;
         let _show_flags = self.show_flags.bits();
-        bytes_typed(&self.cookie);
+        bytes_in_range(&self.cookie);
     }
 
     ghost laws = { record_laws unix_request unix_request_sound };

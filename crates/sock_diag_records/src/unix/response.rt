@@ -2,16 +2,16 @@
 
 ghost use Rattle.std.proofs.Common.{rules};
 ghost use Rattle.std.specs.Prelude.{◌≡◌, refl};
-ghost use Rattle.netlink_core.specs.Format.{read};
-ghost use Rattle.netlink_core.proofs.FormatLaws.{record_laws};
+ghost use Rattle.netlink_core.specs.Layout.{read};
+ghost use Rattle.netlink_core.proofs.LayoutLaws.{record_laws};
 ghost use Rattle.sock_diag_records.specs.UnixResponseHeader.{unix_response_header};
 ghost use Rattle.sock_diag_records.specs.UnixResponseHeaderLaws.{unix_response_header_sound};
 
 use crate::constants::AF_UNIX;
 use byteorder::{ByteOrder, LittleEndian};
-use netlink_core::rows::{array_at, words_at};
+use netlink_core::fields::{array_at, words_at};
 use netlink_core::{
-    DecodeError, Exact, Fills, Record, RecordBuffer, RecordName, bytes_typed, read_record,
+    DecodeError, Exact, Fills, Record, RecordBuffer, RecordName, bytes_in_range, read_record,
 };
 
 /// The header of a reply about a UNIX socket: `struct unix_diag_msg` of sock_diag(7), 16 bytes. The
@@ -38,9 +38,9 @@ impl Exact for UnixResponseHeader {
 }
 
 impl Record for UnixResponseHeader {
-    type Told = ();
+    type Param = ();
 
-    ghost format = { unix_response_header };
+    ghost layout = { unix_response_header };
 
     fn name_and_least() -> (RecordName, usize) {
         (RecordName::UnixResponseHeader, 16)
@@ -52,7 +52,7 @@ impl Record for UnixResponseHeader {
 
     /// Reads the first 16 bytes. What follows them is ignored, and fewer are
     /// [`DecodeError::BufferTooSmall`].
-    fn from_row(payload: &[u8], _told: ()) -> Result<Self, DecodeError> {
+    fn from_fields(payload: &[u8], _param: ()) -> Result<Self, DecodeError> {
         let [inode] = words_at::<1>(payload, 4);
         Ok(UnixResponseHeader {
             kind: payload[1],
@@ -62,17 +62,17 @@ impl Record for UnixResponseHeader {
         })
     }
 
-    fn write_row(&self, row: &mut [u8]) {
-        let (start, rest) = row.split_at_mut(4);
+    fn write_fields(&self, buffer: &mut [u8]) {
+        let (start, rest) = buffer.split_at_mut(4);
         let (inode, cookie) = rest.split_at_mut(4);
         start.copy_from_slice(&[AF_UNIX, self.kind, self.state, 0]);
         LittleEndian::write_u32_into(&[self.inode], inode);
         cookie.copy_from_slice(&self.cookie);
     }
 
-    fn row_typed(&self) {
+    fn fields_in_range(&self) {
         let (_kind, _state, _inode) = (self.kind, self.state, self.inode);
-        bytes_typed(&self.cookie);
+        bytes_in_range(&self.cookie);
     }
 
     ghost laws = { record_laws unix_response_header unix_response_header_sound };

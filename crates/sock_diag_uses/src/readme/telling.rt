@@ -1,8 +1,8 @@
 //! A reply is made from its parts.
 
 ghost use Rattle.std.specs.Prelude.{◌≡◌, [], ◌∷◌, replicate, IfOk};
-ghost use Rattle.netlink_core.specs.Family.{said};
-ghost use Rattle.netlink_packet_sock_diag.specs.SeenUnixReply.{seen_response};
+ghost use Rattle.netlink_core.specs.AttributeSet.{of_type};
+ghost use Rattle.netlink_packet_sock_diag.specs.UnixResponseModel.{unix_response_model};
 ghost use Rattle.sock_diag_attributes.specs.Name.{pathname};
 ghost use Rattle.sock_diag_attributes.specs.UnixAttributes.{unix};
 
@@ -22,7 +22,7 @@ pub fn listener(alloc: Global, inode: u32, path: &[u8]) -> Result<UnixResponse, 
           cookie = replicate 8 0;
         }) }
     ensures name { IfOk result
-        (λ reply. (seen_response reply).nlas ≡ said unix 0 (pathname path.now) ∷ []) }
+        (λ reply. (unix_response_model reply).nlas ≡ of_type unix 0 (pathname path.now) ∷ []) }
 {
     let mut nlas = SmallVec::new(alloc);
     let name = UnixDiagName::Pathname(Vec::from_slice(alloc, path)?);

@@ -2,12 +2,12 @@
 
 ghost use Rattle.std.specs.Prelude.{◌≡◌, refl};
 ghost use Rattle.std.proofs.Common.{rules};
-ghost use Rattle.netlink_core.specs.Format.{read};
-ghost use Rattle.netlink_core.proofs.FormatLaws.{plain_sound, record_laws};
+ghost use Rattle.netlink_core.specs.Layout.{read};
+ghost use Rattle.netlink_core.proofs.LayoutLaws.{plain_sound, record_laws};
 ghost use Rattle.sock_diag_values.specs.LegacyMemInfo.{legacy_mem_info};
 
 use byteorder::{ByteOrder, LittleEndian};
-use netlink_core::rows::words_at;
+use netlink_core::fields::words_at;
 use netlink_core::{DecodeError, Exact, Fills, Record, RecordBuffer, RecordName, read_record};
 
 /// The memory of a socket, as the attribute `INET_DIAG_MEMINFO` tells it: `struct
@@ -33,9 +33,9 @@ impl Exact for LegacyMemInfo {
 }
 
 impl Record for LegacyMemInfo {
-    type Told = ();
+    type Param = ();
 
-    ghost format = { legacy_mem_info };
+    ghost layout = { legacy_mem_info };
 
     fn name_and_least() -> (RecordName, usize) {
         (RecordName::LegacyMemInfo, 16)
@@ -45,7 +45,7 @@ impl Record for LegacyMemInfo {
         16
     }
 
-    fn from_row(payload: &[u8], _told: ()) -> Result<Self, DecodeError> {
+    fn from_fields(payload: &[u8], _param: ()) -> Result<Self, DecodeError> {
         let [receive_queue, bottom_send_queue, cache, send_queue] = words_at::<4>(payload, 0);
         Ok(LegacyMemInfo {
             receive_queue,
@@ -55,7 +55,7 @@ impl Record for LegacyMemInfo {
         })
     }
 
-    fn write_row(&self, row: &mut [u8]) {
+    fn write_fields(&self, buffer: &mut [u8]) {
         LittleEndian::write_u32_into(
             &[
                 self.receive_queue,
@@ -63,11 +63,11 @@ impl Record for LegacyMemInfo {
                 self.cache,
                 self.send_queue,
             ],
-            row,
+            buffer,
         );
     }
 
-    fn row_typed(&self) {
+    fn fields_in_range(&self) {
         let LegacyMemInfo {
             receive_queue: _a,
             bottom_send_queue: _b,

@@ -3,8 +3,8 @@
 ghost use Rattle.std.specs.Prelude.{ℕ, [], ◌≡◌, ◌≤◌, ◌+◌, ◌↔◌, ◌<◌, ◌^◌, length, take, drop};
 ghost use Rattle.std.specs.Prelude.{SomeIff, IfSome, IsSome};
 ghost use Rattle.std.proofs.Common.{rules};
-ghost use Rattle.netlink_core.specs.Format.{read, bytes};
-ghost use Rattle.netlink_core.proofs.FormatLaws.{record_laws};
+ghost use Rattle.netlink_core.specs.Layout.{read, bytes};
+ghost use Rattle.netlink_core.proofs.LayoutLaws.{record_laws};
 ghost use Rattle.netlink_core.specs.Table.{Fit, numbers, little_endian};
 ghost use Rattle.sock_diag_values.specs.MemInfo.{words_before, words_in, mem_info, held_bytes};
 ghost use Rattle.sock_diag_values.specs.MemInfo.{buffer_bytes};
@@ -14,8 +14,8 @@ ghost use Rattle.sock_diag_values.specs.MemInfoEqualLaws.{mem_info_equal};
 ghost use Rattle.byteorder.specs.Endian.{little_number};
 
 use byteorder::{ByteOrder, LittleEndian};
-use netlink_core::rows::words_at;
-use netlink_core::{DecodeError, Exact, Record, RecordName, read_record, word_typed};
+use netlink_core::fields::words_at;
+use netlink_core::{DecodeError, Exact, Record, RecordName, read_record, word_in_range};
 
 /// The memory of a socket, as the attribute `INET_DIAG_SKMEMINFO` tells it: the nine words
 /// `SK_MEMINFO_..` of `linux/sock_diag.h`. It is 36 bytes, each word a `u32`, low byte first. Older
@@ -76,11 +76,11 @@ impl Exact for MemInfoBuffer {
 }
 
 impl Record for MemInfo {
-    type Told = ();
+    type Param = ();
 
     ghost Tag = { ℕ };
 
-    ghost format = { mem_info };
+    ghost layout = { mem_info };
 
     fn name_and_least() -> (RecordName, usize) {
         (RecordName::MemInfo, 28)
@@ -94,7 +94,7 @@ impl Record for MemInfo {
         }
     }
 
-    fn from_row(payload: &[u8], _told: ()) -> Result<Self, DecodeError> {
+    fn from_fields(payload: &[u8], _param: ()) -> Result<Self, DecodeError> {
         let [
             receive_queue,
             receive_queue_max,
@@ -117,8 +117,8 @@ impl Record for MemInfo {
         })
     }
 
-    fn write_row(&self, row: &mut [u8]) {
-        let (words, rest) = row.split_at_mut(28);
+    fn write_fields(&self, buffer: &mut [u8]) {
+        let (words, rest) = buffer.split_at_mut(28);
         LittleEndian::write_u32_into(
             &[
                 self.receive_queue,
@@ -140,15 +140,15 @@ impl Record for MemInfo {
         }
     }
 
-    fn row_typed(&self) {
-        self.typed_words();
+    fn fields_in_range(&self) {
+        self.words_are_in_range();
         match (self.backlog_queue_length, self.drops) {
             (Some(backlog), Some(drops)) => {
-                word_typed(backlog);
-                word_typed(drops);
+                word_in_range(backlog);
+                word_in_range(drops);
             }
-            (None, Some(drops)) => word_typed(drops),
-            (Some(backlog), None) => word_typed(backlog),
+            (None, Some(drops)) => word_in_range(drops),
+            (Some(backlog), None) => word_in_range(backlog),
             (None, None) => {}
         }
     }
@@ -158,7 +158,7 @@ impl Record for MemInfo {
 
 impl MemInfo {
     // The first seven words are within their types.
-    fn typed_words(&self)
+    fn words_are_in_range(&self)
         ensures { Fit (numbers 0 4 little_endian 7) (words_before self.now []) }
     {
         let _receive_queue = self.receive_queue;
@@ -232,12 +232,12 @@ impl MemInfoBytes {
 }
 
 // The word at the place, where the bytes have it whole.
-fn word_at(payload: &[u8], place: usize) -> Option<u32>
-    requires { place + 4 < 2 ^ 64 }
-    ensures { SomeIff result (place + 4 ≤ length payload.now)
-        (little_number 4 (drop place payload.now)) }
+fn word_at(payload: &[u8], offset: usize) -> Option<u32>
+    requires { offset + 4 < 2 ^ 64 }
+    ensures { SomeIff result (offset + 4 ≤ length payload.now)
+        (little_number 4 (drop offset payload.now)) }
 {
-    Some(LittleEndian::read_u32(payload.get(place..place + 4)?))
+    Some(LittleEndian::read_u32(payload.get(offset..offset + 4)?))
 }
 
 // The bytes of a value that has so many.
@@ -245,7 +245,7 @@ fn row_of<const N: usize>(value: &MemInfo) -> [u8; N]
     requires { mem_info.size (mem_info.tag_of value.now) ≡ N }
     ensures { result ≡ bytes mem_info value.now }
 {
-    let mut row = [0; N];
-    value.write_row(&mut row);
-    row
+    let mut buffer = [0; N];
+    value.write_fields(&mut buffer);
+    buffer
 }

@@ -2,8 +2,8 @@
 
 ghost use Rattle.std.specs.Prelude.{◌≡◌, ⊤, length};
 ghost use Rattle.std.proofs.Common.{rules};
-ghost use Rattle.netlink_core.specs.Format.{read};
-ghost use Rattle.netlink_core.proofs.FormatLaws.{record_laws};
+ghost use Rattle.netlink_core.specs.Layout.{read};
+ghost use Rattle.netlink_core.proofs.LayoutLaws.{record_laws};
 ghost use Rattle.sock_diag_values.specs.TcpInfo.{tcp_info};
 ghost use Rattle.sock_diag_values.specs.TcpInfoSteps.{states, counts, ages, metrics, receiver};
 ghost use Rattle.sock_diag_values.specs.TcpInfoSteps.{rates, segments, limits, deliveries, totals};
@@ -12,9 +12,11 @@ ghost use Rattle.sock_diag_values.specs.TcpInfoEqualLaws.{tcp_info_equal};
 ghost use Rattle.sock_diag_values.specs.TcpInfoLaws.{tcp_info_sound};
 
 use byteorder::{ByteOrder, LittleEndian};
-use netlink_core::rows::{array_at, long_words_at, long_words_typed, words_at, words_typed};
+use netlink_core::fields::{
+    array_at, long_words_at, long_words_in_range, words_at, words_in_range,
+};
 use netlink_core::{
-    DecodeError, Exact, Fills, Record, RecordBuffer, RecordName, bytes_typed, read_record,
+    DecodeError, Exact, Fills, Record, RecordBuffer, RecordName, bytes_in_range, read_record,
 };
 use std::alloc::AllocError;
 
@@ -161,9 +163,9 @@ impl Exact for TcpInfo {
 }
 
 impl Record for TcpInfo {
-    type Told = ();
+    type Param = ();
 
-    ghost format = { tcp_info };
+    ghost layout = { tcp_info };
 
     #[tactic(auto, unfolding(crate::specs::TcpInfo::tcp_info))]
     fn name_and_least() -> (RecordName, usize) {
@@ -176,7 +178,7 @@ impl Record for TcpInfo {
     }
 
     #[tactic(auto, unfolding(crate::specs::TcpInfo::tcp_info))]
-    fn from_row(payload: &[u8], _told: ()) -> Result<Self, DecodeError> {
+    fn from_fields(payload: &[u8], _param: ()) -> Result<Self, DecodeError> {
         let states = array_at::<8>(payload, 0);
         let counts = words_at::<9>(payload, 8);
         let ages = words_at::<4>(payload, 44);
@@ -247,26 +249,26 @@ impl Record for TcpInfo {
     }
 
     #[tactic(auto, unfolding(crate::specs::TcpInfo::tcp_info))]
-    fn write_row(&self, row: &mut [u8]) {
-        let (front, rest) = row.split_at_mut(92);
+    fn write_fields(&self, buffer: &mut [u8]) {
+        let (front, rest) = buffer.split_at_mut(92);
         let (middle, back) = rest.split_at_mut(100);
         self.write_front(front);
         self.write_middle(middle);
         self.write_back(back);
     }
 
-    fn row_typed(&self) {
-        bytes_typed(&self.states());
-        words_typed(&self.counts());
-        words_typed(&self.ages());
-        words_typed(&self.metrics());
-        words_typed(&self.receiver());
-        long_words_typed(&self.rates());
-        words_typed(&self.segments());
-        long_words_typed(&self.limits());
-        words_typed(&self.deliveries());
-        long_words_typed(&self.totals());
-        words_typed(&self.reorderings());
+    fn fields_in_range(&self) {
+        bytes_in_range(&self.states());
+        words_in_range(&self.counts());
+        words_in_range(&self.ages());
+        words_in_range(&self.metrics());
+        words_in_range(&self.receiver());
+        long_words_in_range(&self.rates());
+        words_in_range(&self.segments());
+        long_words_in_range(&self.limits());
+        words_in_range(&self.deliveries());
+        long_words_in_range(&self.totals());
+        words_in_range(&self.reorderings());
     }
 
     ghost laws = { record_laws tcp_info tcp_info_sound };
@@ -288,12 +290,12 @@ impl TcpInfo {
         read_record(payload, ())
     }
 
-    // Writes the rows at 0 to 60.
-    fn write_front(&self, row: &mut [u8])
-        requires { length row.old ≡ 92 }
-        ensures { row.new ≡ front self.now }
+    // Writes the fields at 0 to 60.
+    fn write_front(&self, buffer: &mut [u8])
+        requires { length buffer.old ≡ 92 }
+        ensures { buffer.new ≡ front self.now }
     {
-        let (states, rest) = row.split_at_mut(8);
+        let (states, rest) = buffer.split_at_mut(8);
         let (counts, rest) = rest.split_at_mut(36);
         let (ages, metrics) = rest.split_at_mut(16);
         states.copy_from_slice(&self.states());
@@ -302,12 +304,12 @@ impl TcpInfo {
         LittleEndian::write_u32_into(&self.metrics(), metrics);
     }
 
-    // Writes the rows at 92 to 160.
-    fn write_middle(&self, row: &mut [u8])
-        requires { length row.old ≡ 100 }
-        ensures { row.new ≡ middle self.now }
+    // Writes the fields at 92 to 160.
+    fn write_middle(&self, buffer: &mut [u8])
+        requires { length buffer.old ≡ 100 }
+        ensures { buffer.new ≡ middle self.now }
     {
-        let (receiver, rest) = row.split_at_mut(12);
+        let (receiver, rest) = buffer.split_at_mut(12);
         let (rates, rest) = rest.split_at_mut(32);
         let (segments, limits) = rest.split_at_mut(24);
         LittleEndian::write_u32_into(&self.receiver(), receiver);
@@ -316,12 +318,12 @@ impl TcpInfo {
         LittleEndian::write_u64_into(&self.limits(), limits);
     }
 
-    // Writes the rows at 192 to 216.
-    fn write_back(&self, row: &mut [u8])
-        requires { length row.old ≡ 40 }
-        ensures { row.new ≡ back self.now }
+    // Writes the fields at 192 to 216.
+    fn write_back(&self, buffer: &mut [u8])
+        requires { length buffer.old ≡ 40 }
+        ensures { buffer.new ≡ back self.now }
     {
-        let (deliveries, rest) = row.split_at_mut(8);
+        let (deliveries, rest) = buffer.split_at_mut(8);
         let (totals, reorderings) = rest.split_at_mut(16);
         LittleEndian::write_u32_into(&self.deliveries(), deliveries);
         LittleEndian::write_u64_into(&self.totals(), totals);

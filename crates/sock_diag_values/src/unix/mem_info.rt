@@ -2,12 +2,12 @@
 
 ghost use Rattle.std.specs.Prelude.{◌≡◌, refl};
 ghost use Rattle.std.proofs.Common.{rules};
-ghost use Rattle.netlink_core.specs.Format.{read};
-ghost use Rattle.netlink_core.proofs.FormatLaws.{plain_sound, record_laws};
+ghost use Rattle.netlink_core.specs.Layout.{read};
+ghost use Rattle.netlink_core.proofs.LayoutLaws.{plain_sound, record_laws};
 ghost use Rattle.sock_diag_values.specs.UnixMemInfo.{unix_mem_info};
 
 use byteorder::{ByteOrder, LittleEndian};
-use netlink_core::rows::words_at;
+use netlink_core::fields::words_at;
 use netlink_core::{DecodeError, Exact, Fills, Record, RecordBuffer, RecordName, read_record};
 
 /// The memory of a UNIX socket, as the attribute `UNIX_DIAG_MEMINFO` tells it: the nine words
@@ -36,9 +36,9 @@ impl Exact for MemInfo {
 }
 
 impl Record for MemInfo {
-    type Told = ();
+    type Param = ();
 
-    ghost format = { unix_mem_info };
+    ghost layout = { unix_mem_info };
 
     fn name_and_least() -> (RecordName, usize) {
         (RecordName::UnixMemInfo, 36)
@@ -48,7 +48,7 @@ impl Record for MemInfo {
         36
     }
 
-    fn from_row(payload: &[u8], _told: ()) -> Result<Self, DecodeError> {
+    fn from_fields(payload: &[u8], _param: ()) -> Result<Self, DecodeError> {
         let [_, so_rcvbuf, _, max_datagram_size, _, alloc, _, _, _] = words_at::<9>(payload, 0);
         Ok(MemInfo {
             so_rcvbuf,
@@ -57,7 +57,7 @@ impl Record for MemInfo {
         })
     }
 
-    fn write_row(&self, row: &mut [u8]) {
+    fn write_fields(&self, buffer: &mut [u8]) {
         let words = [
             0,
             self.so_rcvbuf,
@@ -69,10 +69,10 @@ impl Record for MemInfo {
             0,
             0,
         ];
-        LittleEndian::write_u32_into(&words, row);
+        LittleEndian::write_u32_into(&words, buffer);
     }
 
-    fn row_typed(&self) {
+    fn fields_in_range(&self) {
         let MemInfo {
             so_rcvbuf: _a,
             max_datagram_size: _b,

@@ -2,12 +2,12 @@
 
 ghost use Rattle.std.specs.Prelude.{◌≡◌, refl};
 ghost use Rattle.std.proofs.Common.{rules};
-ghost use Rattle.netlink_core.specs.Format.{read};
-ghost use Rattle.netlink_core.proofs.FormatLaws.{plain_sound, record_laws};
+ghost use Rattle.netlink_core.specs.Layout.{read};
+ghost use Rattle.netlink_core.proofs.LayoutLaws.{plain_sound, record_laws};
 ghost use Rattle.sock_diag_values.specs.Vfs.{vfs};
 
 use byteorder::{ByteOrder, LittleEndian};
-use netlink_core::rows::words_at;
+use netlink_core::fields::words_at;
 use netlink_core::{DecodeError, Exact, Fills, Record, RecordBuffer, RecordName, read_record};
 
 /// The file that a UNIX socket is bound to, as the attribute `UNIX_DIAG_VFS` tells it: `struct
@@ -29,9 +29,9 @@ impl Exact for Vfs {
 }
 
 impl Record for Vfs {
-    type Told = ();
+    type Param = ();
 
-    ghost format = { vfs };
+    ghost layout = { vfs };
 
     fn name_and_least() -> (RecordName, usize) {
         (RecordName::Vfs, 8)
@@ -41,16 +41,16 @@ impl Record for Vfs {
         8
     }
 
-    fn from_row(payload: &[u8], _told: ()) -> Result<Self, DecodeError> {
+    fn from_fields(payload: &[u8], _param: ()) -> Result<Self, DecodeError> {
         let [inode, device] = words_at::<2>(payload, 0);
         Ok(Vfs { inode, device })
     }
 
-    fn write_row(&self, row: &mut [u8]) {
-        LittleEndian::write_u32_into(&[self.inode, self.device], row);
+    fn write_fields(&self, buffer: &mut [u8]) {
+        LittleEndian::write_u32_into(&[self.inode, self.device], buffer);
     }
 
-    fn row_typed(&self) {
+    fn fields_in_range(&self) {
         let (_inode, _device) = (self.inode, self.device);
     }
 

@@ -2,7 +2,7 @@ use Rattle.std.proofs.Common.{◌≡◌, ℕ, ◌+◌, ◌≤◌, List, ◌++◌
 use Rattle.std.specs.List.{flat_map}
 use Rattle.std.proofs.lemmas.List.{length-append}
 use Rattle.netlink_core.specs.Attribute.{Attribute, AreWritable, written}
-use Rattle.netlink_core.specs.Family.{attribute_said}
+use Rattle.netlink_core.specs.AttributeSet.{encodes}
 use Rattle.netlink_core.specs.Walk.{bytes_left}
 use Rattle.netlink_core.proofs.Writing.{one_more, behind_one_more}
 use Rattle.attribute_lists.proofs.Emitting.{attributes_in, attributes_next}
@@ -10,13 +10,13 @@ use Rattle.attribute_lists.proofs.views.emit_views.Goals as goal
 
 pub loop-view-preserved : goal.loop-view-preserved
 loop-view-preserved g c =
-    let F = g.V.FamilyView.family in
+    let F = g.V.FamilyView.attribute_set in
     let a : Attribute = g.V.Nla.attribute c.in-Some.view in
     let rest : List ℕ = flat_map written (attributes_in F (bytes_left c.loop-view.walk)) in
     let later : List ℕ = flat_map written (attributes_in F (bytes_left c.next_view.new.walk)) in
-    let as_said : a ≡ attribute_said F (g.V.FamilyView.viewed c.in-Some.view) = search rules in
+    let as_encoded : a ≡ encodes F (g.V.FamilyView.model c.in-Some.view) = search rules in
     let parts = attributes_next F (bytes_left c.loop-view.walk) (bytes_left c.next_view.new.walk) a
-    (g.V.FamilyView.viewed c.in-Some.view) as_said c.in-Some.ensures.next in
+    (g.V.FamilyView.model c.in-Some.view) as_encoded c.in-Some.ensures.next in
     let next : rest ≡ written a ++ later = ap (flat_map written) parts in
     let end : ℕ = c.loop-view.at + c.nla_len.result in
     let end-is : end ≡ c.loop-view.at + length (written a) =

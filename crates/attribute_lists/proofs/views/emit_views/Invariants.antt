@@ -2,7 +2,7 @@ use Rattle.std.proofs.Common.{◌≡◌, ◌+◌, ◌++◌, take, drop, length}
 use Rattle.std.specs.List.{flat_map}
 use Rattle.netlink_core.specs.Attribute.{AreWritable, written}
 use Rattle.netlink_core.specs.Walk.{bytes_left}
-use Rattle.netlink_core.specs.Family.{says}
+use Rattle.netlink_core.specs.AttributeSet.{decodes}
 use Rattle.attribute_lists.specs.AttributesIn.{HasNoFault, values_in}
 use Rattle.attribute_lists.proofs.Emitting.{attributes_in}
 use Rattle.attribute_lists.proofs.views.emit_views.Given as goal
@@ -11,10 +11,10 @@ use Rattle.attribute_lists.proofs.views.emit_views.Given as goal
 -- was
 abbrev pub invariant-loop-view : goal.invariant-loop-view
 invariant-loop-view g l =
-    let left = attributes_in g.V.FamilyView.family (bytes_left l.walk) in
-    let all = attributes_in g.V.FamilyView.family l.bytes in
+    let left = attributes_in g.V.FamilyView.attribute_set (bytes_left l.walk) in
+    let all = attributes_in g.V.FamilyView.attribute_set l.bytes in
     record {
-      clean : HasNoFault (says g.V.FamilyView.family) (bytes_left l.walk);
+      clean : HasNoFault (decodes g.V.FamilyView.attribute_set) (bytes_left l.walk);
       fits : AreWritable left 4294967295;
       len : l.at + length (flat_map written left) ≡ length (flat_map written all);
       done : take l.at l.buffer ++ flat_map written left ≡ flat_map written all;
@@ -22,4 +22,5 @@ invariant-loop-view g l =
     }
 
 abbrev pub decreases-loop-view : goal.decreases-loop-view
-decreases-loop-view g l = length (values_in (says g.V.FamilyView.family) (bytes_left l.walk))
+decreases-loop-view g l = length (values_in (decodes g.V.FamilyView.attribute_set)
+    (bytes_left l.walk))

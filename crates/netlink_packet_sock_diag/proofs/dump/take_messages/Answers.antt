@@ -101,7 +101,7 @@ pub loop-item-preserved : goal.loop-item-preserved
 loop-item-preserved g c =
     let start = rw c.in_ok-message.was at c.in-Some.ensures.steps in
     let h = c.in_ok-header.header in
-    let value = g.I.Coded.seen c.in_ok-deserialize-in_default.field-0 in
+    let value = g.I.Coded.model c.in_ok-deserialize-in_default.field-0 in
     let other : IsInnerType h.message_type = search rules in
     let more = looked_on g.I.Coded.codec _ _ _ _ _ _ _ _ _ (Ok (inner value)) h refl
     c.loop-item.invariant start (carries g.I.Coded.codec _ h (inner value) c.in_ok-header.ensures
@@ -115,7 +115,7 @@ returns-in_err-push-in_default-clause-memory g c =
     c.from_residual-in_err-push-in_default.ensures.1 in
     let start = rw c.in_ok-message.was at c.in-Some.ensures.steps in
     let h = c.in_ok-header.header in
-    let value = g.I.Coded.seen c.in_ok-deserialize-in_default.field-0 in
+    let value = g.I.Coded.model c.in_ok-deserialize-in_default.field-0 in
     let other : IsInnerType h.message_type = search rules in
     rw (p.1, c.in_err-push-in_default.ensures.items)
     (λ _. stops_at g.I.Coded.codec g.met.I.Coded.laws.answered _ _ _ _ _ _ value
@@ -188,7 +188,7 @@ pub returns-in_err-push-in_default-clause-interrupted :
 returns-in_err-push-in_default-clause-interrupted g c =
     let start = rw c.in_ok-message.was at c.in-Some.ensures.steps in
     let h = c.in_ok-header.header in
-    let value = g.I.Coded.seen c.in_ok-deserialize-in_default.field-0 in
+    let value = g.I.Coded.model c.in_ok-deserialize-in_default.field-0 in
     let other : IsInnerType h.message_type = search rules in
     rw c.in_err-push-in_default.ensures.items
     (looked_stops g.I.Coded.codec g.met.I.Coded.laws.answered c.one_list_of_items.ensures _ _ _ _ _

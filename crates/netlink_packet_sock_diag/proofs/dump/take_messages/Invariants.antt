@@ -7,5 +7,5 @@ use Rattle.netlink_packet_sock_diag.proofs.dump.take_messages.Given as goal
 abbrev pub invariant-loop-item : goal.invariant-loop-item
 invariant-loop-item g l =
     Looked g.I.Coded.codec l.datagram (datagram_left l.item-iterator)
-    (map g.I.Coded.seen l.fn.messages.items) (map g.I.Coded.seen l.messages.items)
+    (map g.I.Coded.model l.fn.messages.items) (map g.I.Coded.model l.messages.items)
     l.fn.interrupted l.interrupted

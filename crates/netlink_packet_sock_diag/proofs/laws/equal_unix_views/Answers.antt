@@ -1,5 +1,5 @@
-use Rattle.netlink_packet_sock_diag.specs.UnixReplyLaws.{unix_test_says}
+use Rattle.netlink_packet_sock_diag.specs.UnixResponseSpecLaws.{unix_test_decides}
 use Rattle.netlink_packet_sock_diag.proofs.laws.equal_unix_views.Goals as goal
 
 pub returns : goal.returns
-returns c = rw c.eq.ensures (unix_test_says _ _)
+returns c = rw c.eq.ensures (unix_test_decides _ _)

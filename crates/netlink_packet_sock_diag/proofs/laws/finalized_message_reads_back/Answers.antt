@@ -4,7 +4,7 @@ use Rattle.netlink_packet_sock_diag.proofs.Envelopes.{normal_envelope}
 use Rattle.netlink_packet_sock_diag.proofs.laws.finalized_message_reads_back.Goals as goal
 
 pub returns : goal.returns
-returns c = λ v typed fits own.
-    let back = c.finalized_message_reads_back.ensures (λ _. 20) v typed fits own in
+returns c = λ v in_range fits own.
+    let back = c.finalized_message_reads_back.ensures (λ _. 20) v in_range fits own in
     let normal = normal_envelope v (ap (λ (h : NetlinkHeader). h.message_type) own) in
     (λ r. normal.0 (back.0 r), λ n. back.1 (normal.1 n))

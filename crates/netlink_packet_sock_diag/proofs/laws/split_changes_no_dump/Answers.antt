@@ -5,7 +5,7 @@ use Rattle.netlink_packet_sock_diag.proofs.DumpRows.{dump_of_split, split_of_dum
 use Rattle.netlink_packet_sock_diag.proofs.laws.split_changes_no_dump.Goals as goal
 
 pub returns : goal.returns
-returns c = λ datagrams others typed fits split cut same before after end d.
+returns c = λ datagrams others in_range fits split cut same before after end d.
     let some = c.datagram_has_items.ensures in
     let one = c.one_list_of_items.ensures in
     split_of_dump message_codec some one others fits cut before after end

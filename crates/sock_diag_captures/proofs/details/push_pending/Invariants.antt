@@ -1,5 +1,5 @@
 use Rattle.std.proofs.Common.{◌≡◌, ◌++◌, codes, flat_map}
-use Rattle.sock_diag_attributes.specs.SeenNumbers.{numbers_left, viewed_numbers}
+use Rattle.sock_diag_attributes.specs.NumbersModel.{numbers_left, numbers_view_model}
 use Rattle.sock_diag_captures.specs.Details.{detail}
 use Rattle.sock_diag_captures.proofs.details.push_pending.Given as goal
 
@@ -7,4 +7,4 @@ use Rattle.sock_diag_captures.proofs.details.push_pending.Given as goal
 abbrev pub invariant-loop-inode : goal.invariant-loop-inode
 invariant-loop-inode l =
     l.text.items ++ flat_map (detail (codes "pending")) (numbers_left l.inode-iterator)
-    ≡ l.fn.text.items ++ flat_map (detail (codes "pending")) (viewed_numbers l.inodes)
+    ≡ l.fn.text.items ++ flat_map (detail (codes "pending")) (numbers_view_model l.inodes)

@@ -6,20 +6,20 @@ use Rattle.sock_diag_captures.proofs.list.list_content.Goals as goal
 
 pub returns-in-SockDiag-clause-lists : goal.returns-in-SockDiag-clause-lists
 returns-in-SockDiag-clause-lists c =
-    let told = c.in-SockDiag.ensures in
+    let found = c.in-SockDiag.ensures in
     IfOk-weaker c.list_sock_diag.result _ _
     (λ is_clean lists. inl (
-      (told.0, told.1),
+      (found.0, found.1),
       subst (λ (d : List ℕ). ListsDatagram c.args.options c.list_sock_diag.new.requests.asked.items
           c.args.header.now d c.args.written.now.lines.items
-          c.list_sock_diag.new.written.lines.items is_clean) told.2 lists,
+          c.list_sock_diag.new.written.lines.items is_clean) found.2 lists,
     ))
     c.list_sock_diag.ensures.lists
 
 pub returns-in-SockDiag-clause-asked : goal.returns-in-SockDiag-clause-asked
 returns-in-SockDiag-clause-asked c =
-    let told = c.in-SockDiag.ensures in
+    let found = c.in-SockDiag.ensures in
     on_ok_weaker c.list_sock_diag.result
     (λ noted. noted ∙ asked_of c.args.requests.now.asked.items c.args.packet.now
-    c.in-SockDiag.datagram.now told.0 told.1 told.2)
+    c.in-SockDiag.datagram.now found.0 found.1 found.2)
     c.list_sock_diag.ensures.asked

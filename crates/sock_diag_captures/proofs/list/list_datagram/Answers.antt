@@ -32,7 +32,7 @@ returns-in-Err c =
       cut = listing_stops (message_lines c.args.options c.args.requests.now.asked.items) IsPlain
           _ _ _ _ _ c.in-Err.fault c.loop-item.invariant
           stop.0 stop.1;
-      lines = c.in_ok-push_complaint-in-Err.ensures ∙ c.loop-item.invariant.lines;
+      lines = c.in_ok-push_issue-in-Err.ensures ∙ c.loop-item.invariant.lines;
       clean = (λ wrong. absurd cc, λ both. absurd (let none = both.1 in cc));
     }
 

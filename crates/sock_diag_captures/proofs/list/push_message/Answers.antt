@@ -2,7 +2,7 @@ use Rattle.std.proofs.Common.{◌++◌, ◌∙◌, ap}
 use Rattle.std.proofs.lemmas.List.{take_rest}
 use Rattle.std.proofs.lemmas.Result.{IfOk-weaker, on_ok_weaker}
 use Rattle.byteorder.specs.Endian.{little_number}
-use Rattle.sock_diag_captures.specs.Listing.{complaint_under, lines_under}
+use Rattle.sock_diag_captures.specs.Listing.{issue_under, lines_under}
 use Rattle.sock_diag_captures.proofs.list.push_message.Goals as goal
 
 pub returns-clause-lines : goal.returns-clause-lines
@@ -15,11 +15,11 @@ returns-clause-lines c =
     ++ lines_under c.args.options (c.protocol_of.ensures i) (of_type i) (behind i)))
     c.push_payload.ensures.lines
 
-pub returns-clause-complaint : goal.returns-clause-complaint
-returns-clause-complaint c =
+pub returns-clause-issue : goal.returns-clause-issue
+returns-clause-issue c =
     let message = c.args.message.now in
     let of_type = c.read_u16.ensures ∙ ap (little_number 2) (take_rest message 4) in
     let behind = take_rest message 16 in
     IfOk-weaker c.push_payload.result _ _
-    (λ told is. is ∙ (λ i. complaint_under (of_type i) (behind i)))
-    c.push_payload.ensures.complaint
+    (λ issue is. is ∙ (λ i. issue_under (of_type i) (behind i)))
+    c.push_payload.ensures.issue

@@ -5,8 +5,8 @@ use Rattle.sock_diag_captures.proofs.requests.read_asked.Goals as goal
 pub returns : goal.returns
 returns c =
     let request = c.args.request.now in
-    let told = rw (take_rest request 72) at c.find_kind.ensures in
-    let protocol = rw told at c.choose_protocol.ensures in
+    let found = rw (take_rest request 72) at c.find_kind.ensures in
+    let protocol = rw found at c.choose_protocol.ensures in
     let sequence = rw (take_rest request 8) at c.read_u32.ensures in
     let port = rw (take_rest request 12) at c.read_u32-2.ensures in
     let states = rw (take_rest request 20) at c.read_u32-3.ensures in

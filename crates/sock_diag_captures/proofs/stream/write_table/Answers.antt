@@ -4,7 +4,7 @@ use Rattle.std.proofs.KnownBytes.{Appends-kept, Appends-trans, Consumes-kept, Co
 use Rattle.std.proofs.KnownBytes.{Consumes-trans}
 use Rattle.std.proofs.lemmas.Result.{err_from_is_err_and}
 use Rattle.sock_diag_captures.specs.Capture.{IsRecord}
-use Rattle.sock_diag_captures.specs.Run.{lines_told}
+use Rattle.sock_diag_captures.specs.Run.{lines_of_packet}
 use Rattle.sock_diag_captures.proofs.Failing.{fails_at_flush, fails_at_header, fails_at_heading}
 use Rattle.sock_diag_captures.proofs.Failing.{fails_at_lines}
 use Rattle.sock_diag_captures.proofs.Failing.{fails_at_memory, fails_at_packet, fails_past_numbers}
@@ -14,8 +14,8 @@ use Rattle.sock_diag_captures.proofs.stream.write_table.Goals.{then-is_whole, el
 use Rattle.sock_diag_captures.proofs.stream.write_table.Goals as goal
 
 -- no packet was read
-none_read : {A : Type 0} (told : Option A) (P : Type 0) (Q : A → Type 0)
-    → ((x : A) → told ≡ Some x → ⊥) → MatchOption told P Q → P
+none_read : {A : Type 0} (listings : Option A) (P : Type 0) (Q : A → Type 0)
+    → ((x : A) → listings ≡ Some x → ⊥) → MatchOption listings P Q → P
 none_read None P Q other h = h
 none_read (Some n) P Q other h = absurd (other n refl)
 
@@ -42,7 +42,7 @@ pub returns-in_default-clause-table : goal.returns-in_default-clause-table
 returns-in_default-clause-table g c =
     let end = none_read _ _ _ c.in_default.not-Some c.in_ok-header.ensures.read in (
       c.in_ok-file.ensures.read.0 ++ c.packets.invariant.records,
-      flat_map lines_told c.packets.invariant.told,
+      flat_map lines_of_packet c.packets.invariant.listings,
       table_of _ c.in_ok-file.file c.in_ok-file.ensures.read.0 c.in_ok-file.ensures.read.1
           c.in_ok-file.ensures.read.2 _ _ _ _ _ _ _ c.packets.invariant,
       Consumes-trans _ _ _ _ _ c.in_ok-file.ensures.read.3

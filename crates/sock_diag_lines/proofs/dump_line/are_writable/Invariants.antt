@@ -1,11 +1,11 @@
 use Rattle.std.proofs.Common.{◌↔◌, drop, map}
 use Rattle.std.specs.List.{AllByRecursion}
 use Rattle.netlink_packet_sock_diag.specs.Message.{message_codec}
-use Rattle.netlink_packet_sock_diag.specs.SeenMessage.{seen_message}
+use Rattle.netlink_packet_sock_diag.specs.MessageModel.{message_model}
 use Rattle.sock_diag_lines.proofs.dump_line.are_writable.Given as goal
 
 -- all can be written exactly where those that are left can
 abbrev pub invariant-loop-message : goal.invariant-loop-message
 invariant-loop-message l =
-    AllByRecursion message_codec.fits (map seen_message (drop l.message-index l.messages))
-    ↔ AllByRecursion message_codec.fits (map seen_message l.messages)
+    AllByRecursion message_codec.fits (map message_model (drop l.message-index l.messages))
+    ↔ AllByRecursion message_codec.fits (map message_model l.messages)

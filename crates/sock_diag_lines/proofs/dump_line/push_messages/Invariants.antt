@@ -1,14 +1,14 @@
 use Rattle.std.proofs.Common.{◌≡◌, ◌++◌, drop, map}
 use Rattle.std.specs.List.{AllByRecursion, flat_map}
 use Rattle.netlink_packet_sock_diag.specs.Message.{message_codec}
-use Rattle.netlink_packet_sock_diag.specs.SeenMessage.{seen_message}
-use Rattle.sock_diag_lines.specs.ReadDumpSteps.{shown_message}
+use Rattle.netlink_packet_sock_diag.specs.MessageModel.{message_model}
+use Rattle.sock_diag_lines.specs.ReadDumpSteps.{message_text}
 use Rattle.sock_diag_lines.proofs.dump_line.push_messages.Given as goal
 
 -- what was added and what is left to be added make the whole
 abbrev pub invariant-loop-message : goal.invariant-loop-message
 invariant-loop-message l = record {
-  fits : AllByRecursion message_codec.fits (map seen_message (drop l.message-index l.messages));
-  all : l.text.items ++ flat_map shown_message (map seen_message (drop l.message-index l.messages))
-      ≡ l.fn.text.items ++ flat_map shown_message (map seen_message l.messages);
+  fits : AllByRecursion message_codec.fits (map message_model (drop l.message-index l.messages));
+  all : l.text.items ++ flat_map message_text (map message_model (drop l.message-index l.messages))
+      ≡ l.fn.text.items ++ flat_map message_text (map message_model l.messages);
 }

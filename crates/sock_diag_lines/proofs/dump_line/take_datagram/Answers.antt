@@ -1,5 +1,5 @@
 use Rattle.std.proofs.Common.{arith}
-use Rattle.netlink_packet_sock_diag.specs.SeenDump.{kept_messages, standing}
+use Rattle.netlink_packet_sock_diag.specs.DumpModel.{kept_messages, standing}
 use Rattle.sock_diag_lines.proofs.DumpLaws.{failed_at, left_as_it_was, took}
 use Rattle.sock_diag_lines.proofs.dump_line.take_datagram.Goals as goal
 

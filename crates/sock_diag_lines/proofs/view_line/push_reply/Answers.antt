@@ -1,18 +1,18 @@
 use Rattle.std.proofs.Common.{◌∙◌}
 use Rattle.std.specs.Prelude.{option_map}
 use Rattle.std.proofs.lemmas.Result.{on_ok_weaker}
-use Rattle.sock_diag_attributes.specs.SeenName.{viewed_name}
-use Rattle.sock_diag_attributes.specs.SeenNumbers.{viewed_numbers}
-use Rattle.netlink_packet_sock_diag.specs.Viewed.{viewed}
-use Rattle.sock_diag_lines.proofs.ViewLemmas.{reply_told}
+use Rattle.sock_diag_attributes.specs.NameModel.{name_view_model}
+use Rattle.sock_diag_attributes.specs.NumbersModel.{numbers_view_model}
+use Rattle.netlink_packet_sock_diag.specs.ViewModel.{view_model}
+use Rattle.sock_diag_lines.proofs.ViewLemmas.{reply_words}
 use Rattle.sock_diag_lines.proofs.view_line.push_reply.Goals as goal
 
 pub returns : goal.returns
 returns c =
     on_ok_weaker c.push_number_word-8.result
-    (reply_told (viewed c.args.view.now) c.header.result
-    c.peer.result (option_map viewed_name c.name.result)
-    (option_map viewed_numbers c.pending_connections.result)
+    (reply_words (view_model c.args.view.now) c.header.result
+    c.peer.result (option_map name_view_model c.name.result)
+    (option_map numbers_view_model c.pending_connections.result)
     c.widened.result c.number_of_pending_connection.result c.max_number_of_pending_connection.result
     c.receive_queue_size.result c.send_queue_size.result c.max_datagram_size.result
     c.memory_used_for_outgoing_data.result

@@ -1,11 +1,12 @@
 use Rattle.std.proofs.Common.{inl, inr, refl}
 use Rattle.std.proofs.lemmas.Result.{on_ok_weaker}
-use Rattle.netlink_packet_sock_diag.specs.Viewed.{viewed}
+use Rattle.netlink_packet_sock_diag.specs.ViewModel.{view_model}
 use Rattle.sock_diag_lines.proofs.view_line.push_view.Goals as goal
 
 pub returns-in-Ok : goal.returns-in-Ok
 returns-in-Ok c = on_ok_weaker c.push_reply.result
-    (λ e. (_, e, inl (viewed c.in-Ok.view, c.in-Ok.ensures.value, tt, refl))) c.push_reply.ensures
+    (λ e. (_, e, inl (view_model c.in-Ok.view, c.in-Ok.ensures.value, tt, refl)))
+    c.push_reply.ensures
 
 pub returns-in-Err : goal.returns-in-Err
 returns-in-Err c = on_ok_weaker c.push_refused.result

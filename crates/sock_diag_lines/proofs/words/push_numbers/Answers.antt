@@ -1,6 +1,6 @@
 use Rattle.std.proofs.Common.{◌++◌, ◌∷◌, ℕ, [], sym, ap, ◌∙◌, append_assoc, take, arith, decimal}
 use Rattle.std.proofs.lemmas.List.{take_all}
-use Rattle.sock_diag_attributes.specs.SeenNumbers.{viewed_numbers}
+use Rattle.sock_diag_attributes.specs.NumbersModel.{numbers_view_model}
 use Rattle.sock_diag_lines.specs.ViewLine.{comma_list}
 use Rattle.sock_diag_lines.proofs.ViewLemmas.{first_listed, next_listed}
 use Rattle.sock_diag_lines.proofs.words.push_numbers.Goals as goal
@@ -8,11 +8,11 @@ use Rattle.sock_diag_lines.proofs.words.push_numbers.Goals as goal
 pub rest-init : goal.rest-init
 rest-init c = c.in_ok-push_number.ensures ∙ ap (λ (n : ℕ). c.args.text.now.items ++ decimal n)
     c.into.ensures ∙ ap (λ t. c.args.text.now.items ++ t)
-    (sym (first_listed (viewed_numbers c.args.numbers) c.in-Some.first (sym c.in-Some.ensures)))
+    (sym (first_listed (numbers_view_model c.args.numbers) c.in-Some.first (sym c.in-Some.ensures)))
 
 pub rest-preserved : goal.rest-preserved
 rest-preserved c =
-    let all = viewed_numbers c.args.numbers in
+    let all = numbers_view_model c.args.numbers in
     let old = c.args.text.now.items in
     let number = c.in-Some-get.number in
     c.in_ok-push_number-2.ensures
@@ -26,6 +26,6 @@ rest-preserved c =
 
 pub returns : goal.returns
 returns c =
-    let all = viewed_numbers c.args.numbers in
+    let all = numbers_view_model c.args.numbers in
     c.rest.invariant ∙ ap (λ t. c.args.text.now.items ++ comma_list t)
     (take_all c.rest.index all (omega arith))

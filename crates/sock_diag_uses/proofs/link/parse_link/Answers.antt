@@ -3,22 +3,23 @@ use Rattle.std.specs.Prelude.{string_bytes}
 use Rattle.std.proofs.lemmas.List.{take_rest}
 use Rattle.std.proofs.lemmas.Result.{err_from_is_err_and}
 use Rattle.netlink_core.specs.Walk.{attribute_of}
-use Rattle.sock_diag_uses.specs.Link.{told_by, name_told, mtu_told, nothing_told, name_in, mtu_in}
+use Rattle.sock_diag_uses.specs.Link.{decodes_link, name_attribute, mtu_attribute, other_attribute}
+use Rattle.sock_diag_uses.specs.Link.{name_in, mtu_in}
 use Rattle.netlink_core.proofs.Walking.{walk_begins, walk_ends, walk_goes_on, walk_is_cut_off}
 use Rattle.netlink_core.proofs.Walking.{walk_is_refused}
-use Rattle.sock_diag_uses.proofs.LinkTells.{frame_named, last_told, later_name, name_here}
-use Rattle.sock_diag_uses.proofs.LinkTells.{none_told, number_named, refuses_mtu, refuses_name}
-use Rattle.sock_diag_uses.proofs.LinkTells.{tells_mtu, tells_name, tells_nothing}
+use Rattle.sock_diag_uses.proofs.LinkDecodes.{frame_named, last_found, later_name, name_here}
+use Rattle.sock_diag_uses.proofs.LinkDecodes.{none_found, number_named, refuses_mtu, refuses_name}
+use Rattle.sock_diag_uses.proofs.LinkDecodes.{decodes_mtu, decodes_name, decodes_other}
 use Rattle.sock_diag_uses.proofs.link.parse_link.Goals as goal
 
 pub loop-item-init : goal.loop-item-init
 loop-item-init c = record {
-  told = [];
+  found = [];
   walk = rw (
     c.into_iter-item-iterator.ensures.into_iter_gives,
     c.new-item-items.ensures,
     take_rest c.args.payload.now 16,
-  ) (walk_begins told_by _);
+  ) (walk_begins decodes_link _);
   later = rw (
     c.into_iter-item-iterator.ensures.into_iter_gives,
     c.new-item-items.ensures,
@@ -35,7 +36,7 @@ returns-in_err-attribute-clause-fault c =
     let inv = c.loop-item.invariant in
     rw (p.1, p.2) (
       c.if-payload-lt-HEADER.false,
-      λ _. walk_is_cut_off told_by _ _ inv.told _
+      λ _. walk_is_cut_off decodes_link _ _ inv.found _
           inv.walk stop.0 stop.1,
       λ memory. absurd (frame_named _ _ stop.1 memory),
     )
@@ -52,7 +53,7 @@ returns-in_err-parse_string-in-3-clause-fault c =
     c.from_residual-in_err-parse_string-in-3.ensures.1 in
     rw (p.1, p.2) (
       c.if-payload-lt-HEADER.false,
-      λ named. walk_is_refused told_by _ _ _ inv.told a _ inv.walk start
+      λ named. walk_is_refused decodes_link _ _ _ inv.found a _ inv.walk start
           (refuses_name a _ (sym c.kind.ensures ∙ c.in-3.is) (fault named)),
       λ memory. inv.later (name_here _ _ a start (sym c.kind.ensures ∙ c.in-3.is) (wanted memory)),
     )
@@ -63,14 +64,14 @@ loop-item-preserved-in_ok-parse_string-in-3 c =
     let a = attribute_of c.in_ok-attribute.attribute in
     let start = rw c.in_ok-attribute.was at c.in-Some.ensures.steps in
     let name = string_bytes c.in_ok-parse_string-in-3.field-0 in
-    let tells = tells_name a name (sym c.kind.ensures ∙ c.in-3.is)
+    let tells = decodes_name a name (sym c.kind.ensures ∙ c.in-3.is)
     (rw c.value.ensures at c.in_ok-parse_string-in-3.ensures.value) in
     record {
-      told = inv.told ++ name_told name ∷ [];
-      walk = walk_goes_on told_by _ _ _ inv.told a (name_told name) inv.walk start tells;
-      later = λ w. inv.later (later_name _ _ a (name_told name) start tells w);
-      name = sym (last_told name_in inv.told (name_told name) name refl);
-      mtu = inv.mtu ∙ sym (none_told mtu_in inv.told (name_told name) refl);
+      found = inv.found ++ name_attribute name ∷ [];
+      walk = walk_goes_on decodes_link _ _ _ inv.found a (name_attribute name) inv.walk start tells;
+      later = λ w. inv.later (later_name _ _ a (name_attribute name) start tells w);
+      name = sym (last_found name_in inv.found (name_attribute name) name refl);
+      mtu = inv.mtu ∙ sym (none_found mtu_in inv.found (name_attribute name) refl);
     }
 
 pub loop-item-preserved-in_ok-parse_string-in-3-2 :
@@ -80,14 +81,14 @@ loop-item-preserved-in_ok-parse_string-in-3-2 c =
     let a = attribute_of c.in_ok-attribute.attribute in
     let start = rw c.in_ok-attribute.was at c.in-Some.ensures.steps in
     let name = string_bytes c.in_ok-parse_string-in-3.field-0 in
-    let tells = tells_name a name (sym c.kind.ensures ∙ c.in-3.is)
+    let tells = decodes_name a name (sym c.kind.ensures ∙ c.in-3.is)
     (rw c.value.ensures at c.in_ok-parse_string-in-3.ensures.value) in
     record {
-      told = inv.told ++ name_told name ∷ [];
-      walk = walk_goes_on told_by _ _ _ inv.told a (name_told name) inv.walk start tells;
-      later = λ w. inv.later (later_name _ _ a (name_told name) start tells w);
-      name = sym (last_told name_in inv.told (name_told name) name refl);
-      mtu = inv.mtu ∙ sym (none_told mtu_in inv.told (name_told name) refl);
+      found = inv.found ++ name_attribute name ∷ [];
+      walk = walk_goes_on decodes_link _ _ _ inv.found a (name_attribute name) inv.walk start tells;
+      later = λ w. inv.later (later_name _ _ a (name_attribute name) start tells w);
+      name = sym (last_found name_in inv.found (name_attribute name) name refl);
+      mtu = inv.mtu ∙ sym (none_found mtu_in inv.found (name_attribute name) refl);
     }
 
 pub returns-in_err-parse_u32-in-4-clause-fault : goal.returns-in_err-parse_u32-in-4-clause-fault
@@ -100,7 +101,7 @@ returns-in_err-parse_u32-in-4-clause-fault c =
     c.from_residual-in_err-parse_u32-in-4.ensures.1 in
     rw (p.1, p.2) (
       c.if-payload-lt-HEADER.false,
-      λ _. walk_is_refused told_by _ _ _ inv.told a _ inv.walk start
+      λ _. walk_is_refused decodes_link _ _ _ inv.found a _ inv.walk start
           (refuses_mtu a _ (sym c.kind.ensures ∙ c.in-4.is) (sym fault)),
       λ memory. absurd (number_named _ _ (sym fault) memory),
     )
@@ -112,13 +113,13 @@ loop-item-preserved-in-4 c =
     let start = rw c.in_ok-attribute.was at c.in-Some.ensures.steps in
     let mtu = c.in_ok-parse_u32-in-4.field-0 in
     let number = rw c.value-in-4.ensures at c.in_ok-parse_u32-in-4.ensures in
-    let tells = tells_mtu a mtu (sym c.kind.ensures ∙ c.in-4.is) (sym number) in
+    let tells = decodes_mtu a mtu (sym c.kind.ensures ∙ c.in-4.is) (sym number) in
     record {
-      told = inv.told ++ mtu_told mtu ∷ [];
-      walk = walk_goes_on told_by _ _ _ inv.told a (mtu_told mtu) inv.walk start tells;
-      later = λ w. inv.later (later_name _ _ a (mtu_told mtu) start tells w);
-      name = inv.name ∙ sym (none_told name_in inv.told (mtu_told mtu) refl);
-      mtu = sym (last_told mtu_in inv.told (mtu_told mtu) mtu refl);
+      found = inv.found ++ mtu_attribute mtu ∷ [];
+      walk = walk_goes_on decodes_link _ _ _ inv.found a (mtu_attribute mtu) inv.walk start tells;
+      later = λ w. inv.later (later_name _ _ a (mtu_attribute mtu) start tells w);
+      name = inv.name ∙ sym (none_found name_in inv.found (mtu_attribute mtu) refl);
+      mtu = sym (last_found mtu_in inv.found (mtu_attribute mtu) mtu refl);
     }
 
 pub loop-item-preserved : goal.loop-item-preserved
@@ -128,22 +129,22 @@ loop-item-preserved c =
     let start = rw c.in_ok-attribute.was at c.in-Some.ensures.steps in
     let no_name : c.kind.result ≢ 3 = search rules in
     let no_mtu : c.kind.result ≢ 4 = search rules in
-    let tells = tells_nothing a (λ is. no_name (c.kind.ensures ∙ is))
+    let tells = decodes_other a (λ is. no_name (c.kind.ensures ∙ is))
     (λ is. no_mtu (c.kind.ensures ∙ is)) in
     record {
-      told = inv.told ++ nothing_told ∷ [];
-      walk = walk_goes_on told_by _ _ _ inv.told a nothing_told inv.walk start tells;
-      later = λ w. inv.later (later_name _ _ a nothing_told start tells w);
-      name = inv.name ∙ sym (none_told name_in inv.told nothing_told refl);
-      mtu = inv.mtu ∙ sym (none_told mtu_in inv.told nothing_told refl);
+      found = inv.found ++ other_attribute ∷ [];
+      walk = walk_goes_on decodes_link _ _ _ inv.found a other_attribute inv.walk start tells;
+      later = λ w. inv.later (later_name _ _ a other_attribute start tells w);
+      name = inv.name ∙ sym (none_found name_in inv.found other_attribute refl);
+      mtu = inv.mtu ∙ sym (none_found mtu_in inv.found other_attribute refl);
     }
 
 pub returns-clause-value : goal.returns-clause-value
 returns-clause-value c =
     let inv = c.loop-item.invariant in (
-      inv.told,
+      inv.found,
       c.if-payload-lt-HEADER.false,
-      walk_ends told_by _ _ inv.told inv.walk
+      walk_ends decodes_link _ _ inv.found inv.walk
           c.in-None.ensures.steps.0,
       inv.name,
       inv.mtu,

@@ -7,7 +7,7 @@ use Rattle.netlink_core.specs.declared.fault.DecodeError.{DecodeError}
 use Rattle.netlink_packet_sock_diag.specs.declared.dump.views.PayloadView.{PayloadView}
 use Rattle.netlink_packet_sock_diag.specs.DumpWalk.{GivesView}
 use Rattle.netlink_packet_sock_diag.specs.Message.{message_codec}
-use Rattle.netlink_packet_sock_diag.specs.ViewedPayload.{viewed_item}
+use Rattle.netlink_packet_sock_diag.specs.PayloadViewModel.{item_view_model}
 use Rattle.sock_diag_uses.specs.Lister.{AreLinesOf, line_of}
 use Rattle.sock_diag_uses.proofs.lister.list.Goals as goal
 
@@ -20,13 +20,13 @@ on_ok P Q (Err e) follows h = h
 pub returns : goal.returns
 returns c = on_ok
     (λ lines. (given : List (Result PayloadView DecodeError)) × Drains GivesView c.new.result given
-    × (lines.items ≡ filter_map line_of (map viewed_item given)))
+    × (lines.items ≡ filter_map line_of (map item_view_model given)))
     (λ lines. AreLinesOf c.args.datagram.now lines.items)
     c.lines_of.result
     (λ lines h. record {
-      items = map viewed_item h.0;
-      are = subst (λ (bytes : List ℕ). ItemsAre message_codec bytes (map viewed_item h.0))
+      items = map item_view_model h.0;
+      are = subst (λ (bytes : List ℕ). ItemsAre message_codec bytes (map item_view_model h.0))
           c.new.ensures (c.whole_views_are_the_datagram.ensures c.new.result h.0 h.1);
-      told = h.2;
+      found = h.2;
     })
     c.lines_of.ensures

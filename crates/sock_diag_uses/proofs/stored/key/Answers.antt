@@ -6,7 +6,7 @@ pub returns-clause-key : goal.returns-clause-key
 returns-clause-key c =
     IfOk-weaker c.canonical.result _ _
     (λ key (m, is, fits, written). record {
-      typed = λ i. omega (arith, c.type_inv.reply i);
+      in_range = λ i. omega (arith, c.type_inv.reply i);
       message = m;
       is = is;
       fits = fits;

@@ -2,7 +2,7 @@ use Rattle.std.proofs.Common.{◌≡◌, ℕ, zero, suc, List, [], ◌∷◌, ma
 use Rattle.std.specs.List.{AllByRecursion, slice_get}
 use Rattle.std.proofs.lemmas.Option.{slice_get_read}
 use Rattle.std.proofs.lemmas.Result.{err_from_is_err_and}
-use Rattle.netlink_packet_sock_diag.specs.SeenUnixReply.{seen_response}
+use Rattle.netlink_packet_sock_diag.specs.UnixResponseModel.{unix_response_model}
 use Rattle.sock_diag_uses.specs.TestKernel.{FailsFor, ReplyHasRoom}
 use Rattle.sock_diag_uses.specs.declared.test_kernel.AnswerError.{AnswerError}
 use Rattle.sock_diag_uses.specs.declared.test_kernel.AnswerError.TheVariants.{Request, Unwritable}
@@ -27,7 +27,7 @@ pub returns-in_err-push_reply-clause-err : goal.returns-in_err-push_reply-clause
 returns-in_err-push_reply-clause-err c =
     let p = err_from_is_err_and c.from_residual.result c.from_residual.ensures.1 in
     rw (p.1, p.2) (of_one c.in_err-push_reply.field-0.0
-    (holds_at ReplyHasRoom seen_response c.args.replies.now c.loop-reply.reply-index
+    (holds_at ReplyHasRoom unix_response_model c.args.replies.now c.loop-reply.reply-index
     c.reply-item.result
     (slice_get_read c.args.replies.now (length c.args.replies.now) c.loop-reply.reply-index
     c.reply-item.result refl c.loop-reply-test.true c.reply-item.is))

@@ -1,6 +1,6 @@
 use Rattle.std.proofs.Common.{◌≡◌, ◌++◌, drop, map}
 use Rattle.std.specs.List.{flat_map}
-use Rattle.netlink_packet_sock_diag.specs.SeenUnixReply.{seen_response}
+use Rattle.netlink_packet_sock_diag.specs.UnixResponseModel.{unix_response_model}
 use Rattle.sock_diag_uses.specs.TestKernel.{reply_under}
 use Rattle.sock_diag_uses.proofs.test_kernel.push_replies.Given as goal
 
@@ -8,5 +8,6 @@ use Rattle.sock_diag_uses.proofs.test_kernel.push_replies.Given as goal
 abbrev pub invariant-loop-reply : goal.invariant-loop-reply
 invariant-loop-reply l =
     l.datagram.items ++ flat_map (reply_under l.sequence_number)
-    (map seen_response (drop l.reply-index l.replies))
-    ≡ l.fn.datagram.items ++ flat_map (reply_under l.sequence_number) (map seen_response l.replies)
+    (map unix_response_model (drop l.reply-index l.replies))
+    ≡ l.fn.datagram.items ++ flat_map (reply_under l.sequence_number)
+    (map unix_response_model l.replies)

@@ -1,18 +1,18 @@
 use Rattle.std.proofs.Common.{inl, refl}
-use Rattle.netlink_packet_sock_diag.specs.ViewedMessage.{viewed_message}
+use Rattle.netlink_packet_sock_diag.specs.MessageViewModel.{message_view_model}
 use Rattle.sockdiag_c.proofs.check.sockdiag_check_message.Goals as goal
 
 pub returns-in-Ok-UnixResponse : goal.returns-in-Ok-UnixResponse
 returns-in-Ok-UnixResponse c =
     let read = c.in-Ok-UnixResponse in
     let header = c.header.ensures in
-    let told = c.from-reply.ensures in
+    let found = c.from-reply.ensures in
     inl (
       refl,
       (
-        viewed_message read.field-0,
+        message_view_model read.field-0,
         read.ensures.value,
-        rw (read.field-0-is, told, header) refl,
+        rw (read.field-0-is, found, header) refl,
       ),
     )
 
@@ -20,12 +20,12 @@ pub returns-in-Ok-InetResponse : goal.returns-in-Ok-InetResponse
 returns-in-Ok-InetResponse c =
     let read = c.in-Ok-InetResponse in
     let header = c.header-in-Ok-InetResponse.ensures in
-    let told = c.from-reply-in-Ok-InetResponse.ensures in
+    let found = c.from-reply-in-Ok-InetResponse.ensures in
     inl (
       refl,
       (
-        viewed_message read.field-0,
+        message_view_model read.field-0,
         read.ensures.value,
-        rw (read.field-0-is, told, header) refl,
+        rw (read.field-0-is, found, header) refl,
       ),
     )

@@ -1,5 +1,5 @@
 use Rattle.std.proofs.Common.{◌∙◌, ap, inl, refl}
-use Rattle.netlink_packet_sock_diag.specs.Viewed.{viewed}
+use Rattle.netlink_packet_sock_diag.specs.ViewModel.{view_model}
 use Rattle.sockdiag_c.specs.Headers.{unix_header_of}
 use Rattle.sockdiag_c.proofs.check.sockdiag_check_unix_reply.Goals as goal
 
@@ -8,7 +8,7 @@ returns-in-Ok c =
     inl (
       refl,
       (
-        viewed c.in-Ok.view,
+        view_model c.in-Ok.view,
         c.in-Ok.ensures.value,
         c.from.ensures
             ∙ ap unix_header_of c.header.ensures,

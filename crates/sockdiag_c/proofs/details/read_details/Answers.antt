@@ -1,7 +1,7 @@
 use Rattle.std.proofs.Common.{List, ℕ, inl, subst}
 use Rattle.std.proofs.lemmas.Result.{err_from_is_err_and}
 use Rattle.netlink_core.specs.Attribute.{AttributesMean}
-use Rattle.netlink_core.specs.Family.{says}
+use Rattle.netlink_core.specs.AttributeSet.{decodes}
 use Rattle.attribute_lists.proofs.Finding.{behind_refused}
 use Rattle.sockdiag_c.proofs.details.read_details.Goals as goal
 
@@ -10,22 +10,22 @@ returns-in_err-details-clause-fault g c =
     let p = err_from_is_err_and c.from_residual.result c.from_residual.ensures.1 in
     rw (p.1, p.2) (inl c.in_err-details.ensures.fault)
 
-pub returns-in_err-tell_nlas-clause-fault : goal.returns-in_err-tell_nlas-clause-fault
-returns-in_err-tell_nlas-clause-fault g c =
-    let residual = c.from_residual-in_err-tell_nlas in
+pub returns-in_err-set_details-clause-fault : goal.returns-in_err-set_details-clause-fault
+returns-in_err-set_details-clause-fault g c =
+    let residual = c.from_residual-in_err-set_details in
     let p = err_from_is_err_and residual.result residual.ensures.1 in
-    rw (p.1, p.2) (behind_refused g.T.Told.reply _ _ c.in_ok-details.ensures.rest _ _
-    c.in_ok-details.ensures.value.1 c.in_err-tell_nlas.ensures.fault)
+    rw (p.1, p.2) (behind_refused g.T.KeepsDetails.reply _ _ c.in_ok-details.ensures.rest _ _
+    c.in_ok-details.ensures.value.1 c.in_err-set_details.ensures.fault)
 
 pub returns-clause-value : goal.returns-clause-value
 returns-clause-value g c =
-    let F = g.T.Told.reply.family in
+    let F = g.T.KeepsDetails.reply.attribute_set in
     let head = c.in_ok-details.ensures.value in
-    let said = c.in_ok-tell_nlas.ensures.value in (
+    let said = c.in_ok-set_details.ensures.value in (
       record { header = head.0; nlas = said.0 },
       (
         head.1,
-        subst (λ (b : List ℕ). AttributesMean (says F) b said.0)
+        subst (λ (b : List ℕ). AttributesMean (decodes F) b said.0)
             c.in_ok-details.ensures.rest said.1,
       ),
       said.2 head.0 head.2,

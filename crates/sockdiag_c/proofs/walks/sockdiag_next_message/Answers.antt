@@ -7,7 +7,7 @@ returns-in-Ok c =
     let m = c.take_message.new.message in
     let len : m.offset + m.length - m.offset ≡ m.length = omega arith in
     inr (inl (
-      c.in-Ok.ensures.told,
+      c.in-Ok.ensures.found,
       subst (λ (n : ℕ). Carries (take n (drop m.offset c.args.datagram.now)) m.message_type
           c.check_payload.result) len c.check_payload.ensures,
     ))

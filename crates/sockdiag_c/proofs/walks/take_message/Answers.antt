@@ -1,11 +1,11 @@
 use Rattle.std.proofs.Common.{◌≡◌, ℕ, ◌-◌, List, length, take, drop, refl, subst}
 use Rattle.std.proofs.lemmas.List.{take_rest}
 use Rattle.netlink_core.specs.Header.{HasHeader}
-use Rattle.sockdiag_c.proofs.Steps.{told_header_stands, message_passed}
+use Rattle.sockdiag_c.proofs.Steps.{header_is_framed, message_passed}
 use Rattle.sockdiag_c.proofs.walks.take_message.Goals as goal
 
-pub returns-in-Ok-clause-told : goal.returns-in-Ok-clause-told
-returns-in-Ok-clause-told c =
+pub returns-in-Ok-clause-found : goal.returns-in-Ok-clause-found
+returns-in-Ok-clause-found c =
     let bytes = c.args.datagram.now in
     let place = c.args.cursor.now.place in
     let h = c.in-Ok.header in
@@ -16,6 +16,6 @@ returns-in-Ok-clause-told c =
       take h.length (drop place bytes),
       message_passed bytes place c.padded.result h head
           c.padded.ensures,
-      told_header_stands (drop place bytes) place h head,
+      header_is_framed (drop place bytes) place h head,
       refl,
     )

@@ -8,8 +8,8 @@ use Rattle.netlink_packet_sock_diag.specs.declared.dump.DumpState.TheVariants.{D
 use Rattle.netlink_packet_sock_diag.specs.declared.dump.DumpState.TheVariants.{Overrun}
 use Rattle.netlink_packet_sock_diag.specs.Dump.{Standing, unended}
 use Rattle.netlink_packet_sock_diag.specs.Message.{message_codec}
-use Rattle.netlink_packet_sock_diag.specs.SeenDump.{standing}
-use Rattle.netlink_packet_sock_diag.specs.SeenMessage.{seen_message}
+use Rattle.netlink_packet_sock_diag.specs.DumpModel.{standing}
+use Rattle.netlink_packet_sock_diag.specs.MessageModel.{message_model}
 use Rattle.netlink_packet_sock_diag.proofs.DumpRows.{unnumbered}
 use Rattle.netlink_packet_sock_diag.proofs.Feeding.{fed_on}
 use Rattle.netlink_packet_sock_diag.proofs.dump.DumpReader.feed.Goals as goal
@@ -29,8 +29,8 @@ invariant_of-self c =
     let reader = c.args.self.now in
     let read = still_reading reader.state c.ne.result c.ne.ensures c.if-ne.false in
     let whole : standing reader ≡ unended = λ i. (read i, reader.unnumbered read i) in
-    let before = map seen_message reader.messages.items in
-    let after = map seen_message c.take_messages.new.messages.items in
+    let before = map message_model reader.messages.items in
+    let after = map message_model c.take_messages.new.messages.items in
     let left : Standing = (c.in-Ok.state, c.in-Ok.number) in
     record {
       unnumbered = λ is. let one = unnumbered c.in-Ok.ensures.state.2.1 left
@@ -44,8 +44,8 @@ invariant_of-self-in-Err c =
     let reader = c.args.self.now in
     let read = still_reading reader.state c.ne.result c.ne.ensures c.if-ne.false in
     let whole : standing reader ≡ unended = λ i. (read i, reader.unnumbered read i) in
-    let before = map seen_message reader.messages.items in
-    let after = map seen_message c.take_messages.new.messages.items in
+    let before = map message_model reader.messages.items in
+    let after = map message_model c.take_messages.new.messages.items in
     record {
       unnumbered = λ is. refl;
       fed = fed_on message_codec before after (standing reader) (Failed, None)

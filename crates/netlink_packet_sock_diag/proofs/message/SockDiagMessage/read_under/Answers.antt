@@ -1,6 +1,6 @@
 use Rattle.std.proofs.lemmas.Result.{err_from_is_err_and}
 use Rattle.netlink_packet_sock_diag.specs.MessageLaws.{message_laws}
-use Rattle.netlink_packet_sock_diag.specs.ViewedMessage.{viewed_message}
+use Rattle.netlink_packet_sock_diag.specs.MessageViewModel.{message_view_model}
 use Rattle.netlink_packet_sock_diag.proofs.message.SockDiagMessage.read_under.Goals as goal
 
 pub returns-in_err-parse-clause-wanted : goal.returns-in_err-parse-clause-wanted
@@ -14,7 +14,7 @@ returns-in_err-to_owned-clause-wanted c =
     let p = err_from_is_err_and c.from_residual-in_err-to_owned.result
     c.from_residual-in_err-to_owned.ensures.1 in
     rw (p.1, p.2) (λ memory. (
-      viewed_message c.in_ok-parse.field-0,
+      message_view_model c.in_ok-parse.field-0,
       c.in_ok-parse.ensures.value,
       λ spare. spare,
     ))

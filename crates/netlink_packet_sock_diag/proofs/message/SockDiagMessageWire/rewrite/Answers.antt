@@ -2,7 +2,7 @@ use Rattle.std.proofs.lemmas.Result.{IfOk-weaker, IfErr-weaker}
 use Rattle.netlink_core.proofs.Rewriting.{gives_up}
 use Rattle.netlink_packet_sock_diag.specs.Message.{message_codec}
 use Rattle.netlink_packet_sock_diag.specs.MessageLaws.{message_laws}
-use Rattle.netlink_packet_sock_diag.specs.ViewedMessage.{viewed_message}
+use Rattle.netlink_packet_sock_diag.specs.MessageViewModel.{message_view_model}
 use Rattle.netlink_packet_sock_diag.proofs.message.SockDiagMessageWire.rewrite.Goals as goal
 
 pub returns-in-Ok-clause-written : goal.returns-in-Ok-clause-written
@@ -16,7 +16,8 @@ returns-in-Ok-clause-err g c =
     let bytes = c.args.bytes.now in
     let param = c.args.param in
     IfErr-weaker c.write_new.result _ _
-    (gives_up viewed_message (message_codec.reads bytes param) (message_codec.refuses bytes param)
+    (gives_up message_view_model (message_codec.reads bytes param)
+    (message_codec.refuses bytes param)
     message_codec.fits _ c.in-Ok.view c.in-Ok.ensures.value (λ _ h. h))
     c.write_new.ensures.err
 

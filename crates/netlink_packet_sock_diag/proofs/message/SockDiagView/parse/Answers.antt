@@ -1,7 +1,7 @@
 use Rattle.std.proofs.Common.{inr, arith}
 use Rattle.std.proofs.lemmas.Result.{err_from_is_err_and}
 use Rattle.netlink_packet_sock_diag.specs.Message.{unix_response}
-use Rattle.netlink_packet_sock_diag.specs.MessageLaws.{first_tells}
+use Rattle.netlink_packet_sock_diag.specs.MessageLaws.{kind_by_first_byte}
 use Rattle.netlink_packet_sock_diag.proofs.message.SockDiagView.parse.Goals as goal
 
 pub returns-in_err-parse-in-1-clause-fault : goal.returns-in_err-parse-in-1-clause-fault
@@ -9,6 +9,7 @@ returns-in_err-parse-in-1-clause-fault c =
     let p = err_from_is_err_and c.from_residual.result c.from_residual.ensures.1 in
     rw (p.1, p.2) (inr (
       unix_response,
-      first_tells c.args.payload.now c.args.message_type 1 (omega arith) (omega arith) c.in-1.is,
+      kind_by_first_byte c.args.payload.now c.args.message_type 1 (omega arith) (omega arith)
+          c.in-1.is,
       c.in_err-parse-in-1.ensures.fault,
     ))

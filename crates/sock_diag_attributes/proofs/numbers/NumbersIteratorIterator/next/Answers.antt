@@ -9,5 +9,5 @@ invariant_of-self c =
     let same : take (length bytes - 4) (drop 4 bytes) ≡ drop 4 bytes = take_rest bytes 4 in
     record {
       whole = omega (arith, ap length same, length-drop 4 bytes, c.args.self.now.rest.whole);
-      typed = rw same (AreBytes-drop 4 bytes c.args.self.now.rest.typed);
+      in_range = rw same (AreBytes-drop 4 bytes c.args.self.now.rest.in_range);
     }

@@ -5,6 +5,6 @@ use Rattle.sock_diag_captures.proofs.capture.FileHeader.read_packet.Goals as goa
 pub returns-in-Err-clause-stopped : goal.returns-in-Err-clause-stopped
 returns-in-Err-clause-stopped g c =
     let got = rw c.if-not-branch.false at c.in_ok-fill_or_end.ensures.filled in
-    let told = c.word_at-length.ensures in
+    let found = c.word_at-length.ensures in
     packet_stops c.args.self.now _ _ _ _ c.fill_or_end.new.bytes _ (search rules)
-    (omega (arith, told)) got (rw told at c.in-Err.ensures.stopped)
+    (omega (arith, found)) got (rw found at c.in-Err.ensures.stopped)

@@ -7,7 +7,7 @@ use Rattle.sock_diag_lines.proofs.stream.ProtocolLineAnswers.push_answer.Goals a
 
 pub returns : goal.returns
 returns c = λ line answer asks right.
-    let (more, is, adds) = c.in_ok-push_told.ensures in
+    let (more, is, adds) = c.in_ok-push_answer_text.ensures in
     let old = c.args.text.now.items in
     let start = c.len-start.result in
     let same : more ≡ answer = one_answer line more answer

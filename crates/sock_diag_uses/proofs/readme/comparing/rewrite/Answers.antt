@@ -1,12 +1,12 @@
 use Rattle.std.proofs.Common.{refl, arith}
-use Rattle.netlink_packet_sock_diag.specs.Viewed.{viewed}
+use Rattle.netlink_packet_sock_diag.specs.ViewModel.{view_model}
 use Rattle.sock_diag_uses.proofs.readme.comparing.rewrite.Goals as goal
 use Rattle.sock_diag_uses.proofs.readme.comparing.rewrite.Goals.{then-not-is_writable-via-then-not-is_writable}
 use Rattle.sock_diag_uses.proofs.readme.comparing.rewrite.Goals.{then-not-is_writable-via-else-not-is_writable+then-buffer_len-buffer}
 
 pub returns-then-not-is_writable-clause-value : goal.returns-then-not-is_writable-clause-value
 returns-then-not-is_writable-clause-value c = (
-  viewed c.in_ok-reply.reply,
+  view_model c.in_ok-reply.reply,
   c.in_ok-reply.ensures.value,
   (
     refl,
@@ -21,7 +21,7 @@ returns-then-not-is_writable-clause-value c = (
 
 pub returns-clause-value : goal.returns-clause-value
 returns-clause-value c = (
-  viewed c.in_ok-reply.reply,
+  view_model c.in_ok-reply.reply,
   c.in_ok-reply.ensures.value,
   (
     rw c.buffer_len-2.ensures c.emit.ensures,

@@ -1,29 +1,30 @@
 use Rattle.std.proofs.Common.{arith, inr}
 use Rattle.std.proofs.lemmas.Result.{err_from_is_err_and}
-use Rattle.netlink_packet_sock_diag.specs.Viewed.{viewed}
-use Rattle.netlink_packet_sock_diag.specs.UnixReply.{unix_reply}
-use Rattle.netlink_packet_sock_diag.specs.UnixReplyLaws.{unix_reply_laws, unix_test_says}
-use Rattle.netlink_core.proofs.Replies.{replies_keep_laws}
+use Rattle.netlink_packet_sock_diag.specs.ViewModel.{view_model}
+use Rattle.netlink_packet_sock_diag.specs.UnixResponseSpec.{unix_response_spec}
+use Rattle.netlink_packet_sock_diag.specs.UnixResponseSpecLaws.{unix_response_laws}
+use Rattle.netlink_packet_sock_diag.specs.UnixResponseSpecLaws.{unix_test_decides}
+use Rattle.netlink_core.proofs.Responses.{responses_keep_laws}
 use Rattle.sock_diag_uses.proofs.readme.comparing.tell_the_same.Goals as goal
 
 -- `==` compares what the two tell, and that is equal exactly where the bytes are idle
 pub returns-clause-value : goal.returns-clause-value
 returns-clause-value c =
-    let v = viewed c.in_ok-parse.field-0 in
-    let w = viewed c.in_ok-parse-2.field-0 in
-    let told = unix_test_says v w in
-    let laws = replies_keep_laws unix_reply unix_reply_laws in
+    let v = view_model c.in_ok-parse.field-0 in
+    let w = view_model c.in_ok-parse-2.field-0 in
+    let found = unix_test_decides v w in
+    let laws = responses_keep_laws unix_response_spec unix_response_laws in
     let idle = laws.same_value c.args.one.now c.args.other.now tt v w
     (λ i. omega (arith, c.type_inv.one i)) (λ i. omega (arith, c.type_inv.other i))
     c.in_ok-parse.ensures.value c.in_ok-parse-2.ensures.value in
-    rw c.eq.ensures (λ same. idle.0 (told.0 same), λ i. told.1 (idle.1 i))
+    rw c.eq.ensures (λ same. idle.0 (found.0 same), λ i. found.1 (idle.1 i))
 
 pub returns-in_err-parse-2-clause-fault : goal.returns-in_err-parse-2-clause-fault
 returns-in_err-parse-2-clause-fault c =
     let p = err_from_is_err_and c.from_residual-in_err-parse-2.result
     c.from_residual-in_err-parse-2.ensures.1 in
     rw (p.1, p.2) (inr (
-      viewed c.in_ok-parse.field-0,
+      view_model c.in_ok-parse.field-0,
       c.in_ok-parse.ensures.value,
       c.in_err-parse-2.ensures.fault,
     ))

@@ -1,5 +1,5 @@
 use Rattle.std.proofs.Common.{◌∙◌, Ok, ap, sym}
-use Rattle.netlink_core.specs.HeadLaws.{said_is_read}
+use Rattle.netlink_core.specs.FirstAttributeLaws.{value_is_read}
 use Rattle.netlink_core.specs.Walk.{attribute_of}
 use Rattle.sock_diag_attributes.specs.InetAttributes.{inet}
 use Rattle.sock_diag_attributes.specs.InetAttributeLaws.{inet_laws}
@@ -13,12 +13,12 @@ returns-in_err-parse-clause-wanted c =
 
 pub returns-in_err-to_owned-clause-wanted : goal.returns-in_err-to_owned-clause-wanted
 returns-in_err-to_owned-clause-wanted c =
-    let read = said_is_read inet (attribute_of c.args.buf)
+    let read = value_is_read inet (attribute_of c.args.buf)
     (c.args.buf.word_fits, c.args.buf.value_fits) _ c.in_ok-parse.ensures in
     unkept_wants inet read.0 _ read.1 read.2 _ _ c.in_err-to_owned.was
     c.to_owned.ensures.spare _ c.from_residual-in_err-to_owned.ensures.1
 
 pub returns-clause-value : goal.returns-clause-value
 returns-clause-value c =
-    said_is_read inet (attribute_of c.args.buf) (c.args.buf.word_fits, c.args.buf.value_fits) _
+    value_is_read inet (attribute_of c.args.buf) (c.args.buf.word_fits, c.args.buf.value_fits) _
     (c.in_ok-parse.ensures ∙ ap Ok (sym c.in_ok-to_owned.ensures.equal))

@@ -4,12 +4,13 @@ use Rattle.byteorder.specs.Endian.{little_bytes}
 use Rattle.netlink_core.proofs.Congruence.{◌⊛◌}
 use Rattle.sock_diag_values.proofs.inet.tcp_info.TcpInfo.write_back.Goals as goal
 
--- these rows, one after the other
-abbrev in_a_row : (deliveries totals reorderings : List ℕ) → List ℕ
-in_a_row deliveries totals reorderings = deliveries ++ (totals ++ reorderings)
+-- these fields, one after the other
+abbrev concatenation : (deliveries totals reorderings : List ℕ) → List ℕ
+concatenation deliveries totals reorderings = deliveries ++ (totals ++ reorderings)
 
 pub returns : goal.returns
 returns c =
-    ap in_a_row (c.write_u32_into.ensures ∙ ap (flat_map (little_bytes 4)) c.deliveries.ensures)
+    ap concatenation (c.write_u32_into.ensures
+    ∙ ap (flat_map (little_bytes 4)) c.deliveries.ensures)
     ⊛ (c.write_u64_into.ensures ∙ ap (flat_map (little_bytes 8)) c.totals.ensures)
     ⊛ (c.write_u32_into-2.ensures ∙ ap (flat_map (little_bytes 4)) c.reorderings.ensures)

@@ -1,0 +1,50 @@
+-- Tests of equality on what attributes decode to, from those of the values of each type.
+use Rattle.std.proofs.Common.{◌≡◌, ◌↔◌, ◌&&◌, inl, inr, ℕ, [], ◌∷◌, Bool, false, eqb, IsTrue, ap}
+use lib.Pointwise.{pointwise, bytes_decides}
+use Rattle.netlink_core.specs.Attribute.{Attribute}
+use Rattle.netlink_core.specs.AttributeSet.{AttributeSet, AttributeValue}
+use Rattle.netlink_core.proofs.Equality.{and_decides, numbers_equal, apart}
+
+-- a test that says whether two values are the same
+abbrev pub Test : Type 0 → Type 0
+Test A = (test : A → A → Bool) × ((x y : A) → IsTrue (test x y) ↔ (x ≡ y))
+
+-- of two numbers
+abbrev pub number_test : Test ℕ
+number_test = (eqb, numbers_equal)
+
+-- one for the values of each type
+abbrev pub Tests : AttributeSet → Type 0
+Tests [] = Unit {0}
+Tests (spec ∷ others) = Test spec.value.Value × Tests others
+
+-- of two attributes, and of what they decode to
+abbrev pub attribute_test : Attribute → Attribute → Bool
+attribute_test a b = eqb a.type_word b.type_word && pointwise eqb a.value b.value
+
+abbrev pub value_test : (F : AttributeSet) → Tests F → AttributeValue F → AttributeValue F → Bool
+value_test [] tests a b = attribute_test a b
+value_test (spec ∷ others) tests (inl x) (inl y) = tests.0.0 x y
+value_test (spec ∷ others) tests (inl x) (inr w) = false
+value_test (spec ∷ others) tests (inr v) (inl y) = false
+value_test (spec ∷ others) tests (inr v) (inr w) = value_test others tests.1 v w
+
+pub attribute_test_decides : (a b : Attribute) → IsTrue (attribute_test a b) ↔ (a ≡ b)
+attribute_test_decides a b =
+    let both = and_decides (numbers_equal a.type_word b.type_word)
+    (bytes_decides a.value b.value) in (
+      λ h. let p = both.0 h in λ i. record { type_word = p.0 i; value = p.1 i },
+      λ e. both.1 (ap (λ (x : Attribute). x.type_word) e, ap (λ (x : Attribute). x.value) e),
+    )
+
+pub value_test_decides : (F : AttributeSet) (tests : Tests F) (v w : AttributeValue F)
+    → IsTrue (value_test F tests v w)
+    ↔ (v ≡ w)
+value_test_decides [] tests a b = attribute_test_decides a b
+value_test_decides (spec ∷ others) tests (inl x) (inl y) =
+    (λ h. ap inl ((tests.0.1 x y).0 h), λ e. (tests.0.1 x y).1 cc)
+value_test_decides (spec ∷ others) tests (inl x) (inr w) = apart (λ e. cc)
+value_test_decides (spec ∷ others) tests (inr v) (inl y) = apart (λ e. cc)
+value_test_decides (spec ∷ others) tests (inr v) (inr w) = let later =
+    value_test_decides others tests.1 v w in
+    (λ h. ap inr (later.0 h), λ e. later.1 cc)

@@ -1,0 +1,5 @@
+use Rattle.netlink_core.proofs.Items.{items_of_concatenation}
+use Rattle.netlink_core.proofs.laws.items_of_concatenation.Goals as goal
+
+pub returns : goal.returns
+returns g c = items_of_concatenation g.I.Coded.codec

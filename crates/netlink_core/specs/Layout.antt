@@ -1,0 +1,75 @@
+-- Layouts of records, by tables.
+use Rattle.std.specs.Prelude.{◌≡◌, ◌≤◌, ⊤, ℕ, nat_lt, if◌then◌else◌, List, length, Result, Ok, Err}
+use Rattle.netlink_core.specs.Table.{Field, values_of, bytes_of, live_bits, masked, Fit, AreDefined}
+use Rattle.netlink_core.specs.Faults.{map_ok}
+use Rattle.netlink_core.specs.declared.fault.DecodeError.{DecodeError}
+use Rattle.netlink_core.specs.declared.fault.DecodeError.TheVariants.{BufferTooSmall}
+use Rattle.netlink_core.specs.declared.fault.RecordName.{RecordName}
+
+-- How a record stands in bytes: its name in faults, the fewest bytes that it is read from, and the
+-- tables of its fields. A tag chooses between tables, each of its size: a string that is long
+-- enough has the tag by which it is read, or the fault that refuses it, and a value has the one by
+-- which it is written. Beside the fields, a shape says that arrays are as long as their type has
+-- it, and `is_own` what normal form asks. `value` is the inverse of `values`: `StandsIn` says what
+-- belongs to a string without it, and the law `read_where_it_stands` that this is the same.
+pub record Layout (Param Tag Value : Type 0) : Type 1 where
+  pub name : RecordName
+  pub least : ℕ
+  pub size : Tag → ℕ
+  pub tag_at : Param → List ℕ → Result Tag DecodeError
+  pub tag_of : Value → Tag
+  pub table : Tag → List Field
+  pub values : Value → List ℕ
+  pub value : Tag → List ℕ → Value
+  pub is_shaped : Value → Type 0
+  pub is_own : Param → Value → Type 0
+
+-- a record with one table
+abbrev pub plain : {Value : Type 0} → RecordName → ℕ → List Field → (Value → List ℕ) → (List ℕ → Value) → (Value → Type 0) → Layout (Unit {0}) (Unit {0}) Value
+plain name size fields values value is_shaped = record {
+  name = name;
+  least = size;
+  size = λ tag. size;
+  tag_at = λ param left. Ok tt;
+  tag_of = λ value. tt;
+  table = λ tag. fields;
+  values = values;
+  value = λ tag vs. value vs;
+  is_shaped = is_shaped;
+  is_own = λ param value. ⊤;
+}
+
+module _ {Param Tag Value : Type 0} (layout : Layout Param Tag Value) where
+  -- the value in a string that is long enough, by the table of its tag, or the fault of its tag
+  abbrev pub read_fields : Param → List ℕ → Result Value DecodeError
+  read_fields param left = map_ok (λ tag. layout.value tag (values_of (layout.table tag) left)) (layout.tag_at param left)
+
+  -- the value in a string, or the first fault
+  abbrev pub read : Param → List ℕ → Result Value DecodeError
+  read param left = if nat_lt (length left) layout.least then Err (BufferTooSmall layout.name (length left) layout.least) else read_fields param left
+
+  -- the bytes of a value
+  abbrev pub bytes : Value → List ℕ
+  bytes value = bytes_of (layout.table (layout.tag_of value)) (layout.values value)
+
+  -- both strings are long enough, have the same tag, and agree in its live bits
+  abbrev pub AreIdle : Param → List ℕ → List ℕ → Type 0
+  AreIdle param b c = (layout.least ≤ length b) × (layout.least ≤ length c)
+      × (tag : Tag) × (layout.tag_at param b ≡ Ok tag) × (layout.tag_at param c ≡ Ok tag)
+      × (masked (live_bits (layout.table tag)) b ≡ masked (live_bits (layout.table tag)) c)
+
+  -- each number is within its type: the numbers fit their fields, and what else the shape asks
+  pub record IsInRange (value : Value) : Type 0 where
+    pub shaped : layout.is_shaped value
+    pub fit : Fit (layout.table (layout.tag_of value)) (layout.values value)
+
+  -- no flag is undefined, and what else the layout asks
+  pub record IsNormal (param : Param) (value : Value) : Type 0 where
+    pub flags : AreDefined (layout.table (layout.tag_of value)) (layout.values value)
+    pub own : layout.is_own param value
+
+  -- What belongs to a string, said without `value`: the string is long enough and has the tag of
+  -- the value, its numbers are those of the value, and the value is in range and in normal form.
+  abbrev pub StandsIn : List ℕ → Param → Value → Type 0
+  StandsIn b param value = (layout.least ≤ length b) × (layout.tag_at param b ≡ Ok (layout.tag_of value))
+      × (values_of (layout.table (layout.tag_of value)) b ≡ layout.values value) × IsInRange value × IsNormal param value

@@ -1,0 +1,22 @@
+-- The model of a message: what contracts see of it.
+use Rattle.netlink_packet_sock_diag.specs.declared.message.SockDiagMessage.{SockDiagMessage}
+use Rattle.netlink_packet_sock_diag.specs.declared.message.SockDiagMessage.TheVariants as message
+use Rattle.netlink_packet_sock_diag.specs.declared.message.SockDiagDestroy.{SockDiagDestroy}
+use Rattle.sock_diag_attributes.specs.InetModel as inet
+use Rattle.sock_diag_attributes.specs.UnixModel as unix
+use Rattle.netlink_packet_sock_diag.specs.ResponseModel.{response_model}
+use Rattle.netlink_packet_sock_diag.specs.Message.{Message, message_of, inet_request, inet_response}
+use Rattle.netlink_packet_sock_diag.specs.Message.{unix_request, unix_response}
+
+-- the value of a message
+abbrev pub message_model : SockDiagMessage → Message
+message_model (message.InetRequest request) = message_of inet_request request
+message_model (message.InetResponse reply) =
+    message_of inet_response (response_model (λ h. h) inet.nla_model reply.value)
+message_model (message.UnixRequest request) = message_of unix_request request
+message_model (message.UnixResponse reply) =
+    message_of unix_response (response_model (λ h. h) unix.nla_model reply.value)
+
+-- the value of the message that asks to close sockets
+abbrev pub destroy_model : SockDiagDestroy → Message
+destroy_model destroy = message_model destroy.0

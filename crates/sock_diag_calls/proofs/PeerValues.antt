@@ -1,0 +1,73 @@
+-- What an attribute says, row by row of its family.
+use Rattle.std.proofs.Common.{Some, Result, Ok, Err, ◌≡◌, ◌⊎◌, inl, inr, ℕ, List, length}
+use Rattle.std.proofs.lemmas.Bool.{cases_eq, eq-eqb, ne_eqb}
+use Rattle.byteorder.specs.Endian.{little_number}
+use Rattle.netlink_core.specs.declared.fault.DecodeError.{DecodeError}
+use Rattle.netlink_core.specs.Attribute.{Attribute, attribute_type}
+use Rattle.netlink_core.specs.AttributeSet.{of_type, decodes}
+use Rattle.netlink_core.specs.Faults.{map_ok}
+use Rattle.netlink_core.specs.Parse.{exact_number}
+use Rattle.sock_diag_attributes.specs.UnixAttributes.{unix}
+
+-- What a row says of an attribute, where it is of its kind, and what is left to the later rows.
+module _ {A B : Type 0} where
+  abbrev one : A → A ⊎ B
+  one x = inl x
+
+  abbrev other : B → A ⊎ B
+  other y = inr y
+
+  -- a value of the row was read by it, and by no other
+  was_one : (read : Result A DecodeError) (x : A) → map_ok one read ≡ Ok (one x) → read ≡ Ok x
+  was_one (Ok u) x h = cc
+  was_one (Err e) x h = absurd cc
+
+  not_one : (read : Result A DecodeError) (y : B) → map_ok one read ≡ Ok (other y) → ⊥
+  not_one (Ok u) y h = cc
+  not_one (Err e) y h = cc
+
+  -- what is left to the later rows was read by them
+  was_other : (read : Result B DecodeError) (y : B) → map_ok other read ≡ Ok (other y)
+      → read ≡ Ok y
+  was_other (Ok u) y h = cc
+  was_other (Err e) y h = absurd cc
+
+  not_other : (read : Result B DecodeError) (x : A) → map_ok other read ≡ Ok (one x) → ⊥
+  not_other (Ok u) x h = cc
+  not_other (Err e) x h = cc
+
+-- a number of so many bytes
+number_there : (k width n : ℕ) (value : List ℕ) → exact_number (Some k) width value ≡ Ok n
+    → (length value ≡ width) × (n ≡ little_number width value)
+number_there k width n value h = elim (cases_eq (length value) width) [
+  | inl same ↦ (
+    same,
+    let read : Ok (little_number width value)
+        ≡ Ok n = rw (eq-eqb (length value) width same) at h in cc,
+  )
+  | inr differs ↦ absurd (let refused = rw (ne_eqb (length value) width differs) at h in cc)
+]
+
+-- an attribute that says a peer is of the kind 2, and its value is the peer's number
+pub peer_value : (a : Attribute) (n : ℕ) → decodes unix a ≡ Ok (of_type unix 2 n)
+    → (attribute_type a ≡ 2)
+    × (length a.value ≡ 4) × (n ≡ little_number 4 a.value)
+peer_value a n h =
+    elim (cases_eq (attribute_type a) 0) [
+      | inl zero ↦ absurd (not_one _ _ (rw (eq-eqb (attribute_type a) 0 zero) at h))
+      | inr not_0 ↦
+          let at_1 = was_other _ _ (rw (ne_eqb (attribute_type a) 0 not_0) at h) in
+          elim (cases_eq (attribute_type a) 1) [
+            | inl one ↦ absurd (not_one _ _ (rw (eq-eqb (attribute_type a) 1 one) at at_1))
+            | inr not_1 ↦
+                let at_2 = was_other _ _ (rw (ne_eqb (attribute_type a) 1 not_1) at at_1) in
+                elim (cases_eq (attribute_type a) 2) [
+                  | inl two ↦
+                      let number = number_there 2 4 n a.value
+                      (was_one _ _ (rw (eq-eqb (attribute_type a) 2 two) at at_2)) in
+                      (two, number.0, number.1)
+                  | inr not_2 ↦ absurd (not_other
+                      _ _ (rw (ne_eqb (attribute_type a) 2 not_2) at at_2))
+                ]
+          ]
+    ]

@@ -1,0 +1,30 @@
+-- The versions of a socket's addresses, and which the family tells.
+use Rattle.std.specs.Prelude.{ℕ, ◌==◌, if◌then◌else◌, Result, Ok, Err}
+use Rattle.std.specs.declared.net.ip_addr.IpAddr.{IpAddr}
+use Rattle.std.specs.declared.net.ip_addr.IpAddr.TheVariants.{V4, V6}
+use Rattle.sock_diag_records.specs.declared.inet.socket_id.SocketId.{SocketId}
+use Rattle.netlink_core.specs.declared.fault.DecodeError.{DecodeError}
+use Rattle.netlink_core.specs.declared.fault.DecodeError.TheVariants.{UnsupportedFamily}
+
+-- the version of an address
+pub data IpVersion : Type 0 where
+  ipv4 ipv6 : IpVersion
+
+-- the versions of the source's and the destination's address
+abbrev pub IpVersions : Type 0
+IpVersions = IpVersion × IpVersion
+
+-- what a family tells: AF_INET is 2 and AF_INET6 is 10
+abbrev pub versions_of_family : ℕ → Result IpVersions DecodeError
+versions_of_family family =
+    if family == 2 then Ok (ipv4, ipv4)
+    else if family == 10 then Ok (ipv6, ipv6) else Err (UnsupportedFamily family)
+
+-- of which version an address is
+abbrev pub version_of : IpAddr → IpVersion
+version_of (V4 ip) = ipv4
+version_of (V6 ip) = ipv6
+
+-- of which versions the addresses of an identity are
+abbrev pub versions_of : SocketId → IpVersions
+versions_of value = (version_of value.source_address, version_of value.destination_address)

@@ -1,0 +1,17 @@
+use Rattle.std.proofs.lemmas.Result.{err_from_is_err_and}
+use Rattle.sock_diag_attributes.specs.InetModel.{nla_view_model}
+use Rattle.sockdiag_c.proofs.DetailLemmas.{inet_more}
+use Rattle.sockdiag_c.proofs.inet_details.InetDetailsKeepsDetails.set_detail.Goals as goal
+
+pub returns-clause-value : goal.returns-clause-value
+returns-clause-value c = (
+  nla_view_model c.in_ok-view.view,
+  c.in_ok-view.ensures,
+  λ h before found. inet_more _ _ _ before _ c.set.ensures.numbers c.set.ensures.congestion
+      found,
+)
+
+pub returns-in_err-view-clause-fault : goal.returns-in_err-view-clause-fault
+returns-in_err-view-clause-fault c =
+    let p = err_from_is_err_and c.from_residual.result c.from_residual.ensures.1 in
+    rw (p.1, p.2) c.in_err-view.ensures

@@ -1,0 +1,18 @@
+use Rattle.std.proofs.Common.{◌∙◌, [], ap, sym}
+use Rattle.std.proofs.lemmas.List.{take_rest}
+use Rattle.sockdiag_c.specs.declared.headers.InetHeader.{InetHeader}
+use Rattle.sockdiag_c.specs.InetDetails.{inet_details_of}
+use Rattle.sockdiag_c.proofs.inet_details.InetDetailsKeepsDetails.tell_header.Goals as goal
+
+pub returns-clause-value : goal.returns-clause-value
+returns-clause-value c = (
+  c.in_ok-header.header,
+  sym c.from_prefix.ensures.value ∙ c.in_ok-header.was,
+  (
+    ap (λ (x : InetHeader). inet_details_of x c.none.result []) c.from.ensures,
+    c.none.ensures,
+  ),
+)
+
+pub returns-clause-rest : goal.returns-clause-rest
+returns-clause-rest c = take_rest c.args.payload.now 72

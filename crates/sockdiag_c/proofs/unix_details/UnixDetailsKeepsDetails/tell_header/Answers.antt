@@ -1,0 +1,18 @@
+use Rattle.std.proofs.Common.{◌∙◌, [], ap, sym}
+use Rattle.std.proofs.lemmas.List.{take_rest}
+use Rattle.sockdiag_c.specs.declared.headers.UnixHeader.{UnixHeader}
+use Rattle.sockdiag_c.specs.UnixDetails.{unix_details_of}
+use Rattle.sockdiag_c.proofs.unix_details.UnixDetailsKeepsDetails.tell_header.Goals as goal
+
+pub returns-clause-value : goal.returns-clause-value
+returns-clause-value c = (
+  c.in_ok-header.header,
+  sym c.from_prefix.ensures ∙ c.in_ok-header.was,
+  (
+    ap (λ (x : UnixHeader). unix_details_of x c.none.result []) c.from.ensures,
+    c.none.ensures,
+  ),
+)
+
+pub returns-clause-rest : goal.returns-clause-rest
+returns-clause-rest c = take_rest c.args.payload.now 16
