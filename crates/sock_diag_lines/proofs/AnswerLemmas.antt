@@ -24,7 +24,7 @@ use Rattle.sock_diag_lines.specs.AskedSteps.{IsAnswerTo, IsNoRequest, IsReadAs}
 use Rattle.sock_diag_lines.specs.DumpLine.{IsDumpRequest, IsDumpAnswer, dump_text}
 use Rattle.sock_diag_lines.specs.HexField.{IsHexField}
 use Rattle.sock_diag_lines.specs.ReadDumpSteps.{IsDumpOf, IsWritable, dump_outcome}
-use Rattle.sock_diag_lines.specs.AnswerText.{IsAccepted, IsAnswerAs}
+use Rattle.sock_diag_lines.specs.AnswerText.{AreIdleAs, IsAccepted, IsAnswerAs}
 use Rattle.sock_diag_lines.specs.declared.answers.Asked.{Asked}
 use Rattle.sock_diag_lines.specs.declared.answers.Asked.TheVariants.{Field, Dump, Nothing}
 use Rattle.sock_diag_lines.specs.declared.answers.Name.{Name}
@@ -511,7 +511,7 @@ pub answers_alike : (name : Name) (line other bytes bytes' text text' : List ℕ
     → IsAnswerOf line text → IsAnswerOf other text'
     → IsRequest line name bytes → IsRequest other name bytes' → IsAccepted (entry_of name).1 bytes
     → IsAccepted (entry_of name).1 bytes'
-    → (entry_of name).1.idle bytes bytes' → text ≡ text'
+    → AreIdleAs (entry_of name).1 bytes bytes' → text ≡ text'
 answers_alike name line other bytes bytes' text text' h k asked asked' ok ok' i =
     text_is line name bytes text h asked
     ∙ texts_alike (entry_of name).1 (laws_of name) bytes bytes'
@@ -524,7 +524,7 @@ pub answers_apart : (name : Name) → name ≢ UnixView → (line other bytes by
     → IsAnswerOf line text → IsAnswerOf other text'
     → IsRequest line name bytes → IsRequest other name bytes' → IsAccepted (entry_of name).1 bytes
     → IsAccepted (entry_of name).1 bytes'
-    → text ≡ text' → (entry_of name).1.idle bytes bytes'
+    → text ≡ text' → AreIdleAs (entry_of name).1 bytes bytes'
 answers_apart name all line other bytes bytes' text text' h k asked asked' ok ok' e =
     texts_apart (entry_of name).1 (laws_of name) (has_full_text name all) bytes bytes'
     (request_in_range line name bytes asked) (request_in_range other name bytes' asked') ok ok'

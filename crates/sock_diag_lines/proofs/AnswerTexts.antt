@@ -3,7 +3,8 @@ use Rattle.std.proofs.Common.{◌≡◌, ◌⊎◌, ◌∙◌, inl, inr, ℕ, Li
 use Rattle.netlink_core.specs.Bytes.{IsBytes}
 use Rattle.netlink_core.specs.declared.fault.DecodeError.{DecodeError}
 use Rattle.sock_diag_lines.proofs.ByteLaws.{as_bytes, as_bytes-same, IsBytes-as_bytes}
-use Rattle.sock_diag_lines.specs.AnswerText.{IsAccepted, Subject, IsAnswerText, IsAnswerAs}
+use Rattle.sock_diag_lines.specs.AnswerText.{AreIdleAs, IsAccepted, IsAnswerAs}
+use Rattle.sock_diag_lines.specs.AnswerText.{IsAnswerText, Subject}
 use Rattle.sock_diag_lines.specs.TextSteps.{accepted, refused, unwritable}
 use Rattle.sock_diag_lines.proofs.SubjectLaws.{LawsOf, HasFullText, answer_text, text_of_answer}
 use Rattle.sock_diag_lines.proofs.SubjectLaws.{text_of_value}
@@ -65,13 +66,15 @@ module _ {Value : Type 0} (fits : Value → Type 0) (text_of : Value → List �
       e ∙ ap refused (fault a b r s) ∙ sym k
 
 module _ (S : Subject) (laws : LawsOf S) where
-  text_of_value-tells : (field : List ℕ) (value : S.Value) → S.reads field value
-      → (room : S.fits value ⊎ ¬ S.fits value) → IsAnswerAs S field (text_of_value S value room)
+  text_of_value-tells : (field : List ℕ) (value : S.codec.Value) → S.codec.reads field S.param value
+      → (room : S.codec.fits value ⊎ ¬ S.codec.fits value)
+      → IsAnswerAs S field (text_of_value S value room)
   text_of_value-tells field value r (inl fits) = inl (value, r, fits, refl)
   text_of_value-tells field value r (inr unfit) = inr (inl (value, r, unfit, refl))
 
-  answers_answer : (field : List ℕ) (answer : ((value : S.Value) × S.reads field value)
-      ⊎ ((fault : DecodeError) × S.refuses field fault))
+  answers_answer : (field : List ℕ) (answer : ((value : S.codec.Value)
+      × S.codec.reads field S.param value)
+      ⊎ ((fault : DecodeError) × S.codec.refuses field S.param fault))
       → IsAnswerAs S field (text_of_answer S laws field answer)
   answers_answer field (inl (value, r)) = text_of_value-tells field value r (laws.fits_or_not value)
   answers_answer field (inr (fault, r)) = inr (inr (fault, r, refl))
@@ -87,19 +90,22 @@ module _ (S : Subject) (laws : LawsOf S) where
   -- no two texts answer the same bytes
   pub one_text : (field x y : List ℕ) → IsBytes field → IsAnswerAs S field x → IsAnswerAs S field y
       → x ≡ y
-  one_text field x y h = one_answer_text S.fits S.text_of (S.reads field) (S.refuses field)
+  one_text field x y h = one_answer_text S.codec.fits S.text_of (S.codec.reads field S.param)
+      (S.codec.refuses field S.param)
       (λ v w. laws.one_value field v w h) (λ v e. laws.one_answer field v e)
       (λ e f. laws.one_fault field e f) x y
 
   -- a value that can be written is answered by its text
-  text_is_shown : (field : List ℕ) (v : S.Value) → IsBytes field → S.reads field v → S.fits v
+  text_is_shown : (field : List ℕ) (v : S.codec.Value) → IsBytes field
+      → S.codec.reads field S.param v → S.codec.fits v
       → answer_text S laws field ≡ accepted (S.text_of v)
   text_is_shown field v h r f = one_text field (answer_text S laws field) (accepted (S.text_of v)) h
       (answer_text-tells field h) (inl (v, r, f, refl))
 
   -- idle bytes whose values can be written are answered alike
   pub texts_alike : (left right : List ℕ) → IsBytes left → IsBytes right → IsAccepted S left
-      → IsAccepted S right → S.idle left right → answer_text S laws left ≡ answer_text S laws right
+      → IsAccepted S right → AreIdleAs S left right
+      → answer_text S laws left ≡ answer_text S laws right
   texts_alike left right hl hr (v, r, f) (w, s, g) i =
       text_is_shown left v hl r f ∙ ap accepted
       (laws.written_texts_alike left right v w hl hr r s i)
@@ -108,7 +114,7 @@ module _ (S : Subject) (laws : LawsOf S) where
   -- where the text has all, bytes whose values can be written and that are answered alike are idle
   pub texts_apart : HasFullText S → (left right : List ℕ) → IsBytes left → IsBytes right
       → IsAccepted S left → IsAccepted S right → answer_text S laws left ≡ answer_text S laws right
-      → S.idle left right
+      → AreIdleAs S left right
   texts_apart has_full_text left right hl hr (v, r, f) (w, s, g) e =
       has_full_text left right v w hl hr r s f g
       (accepted-same (S.text_of v) (S.text_of w) (sym (text_is_shown left v hl r f) ∙ e

@@ -2,7 +2,7 @@
 use Rattle.std.proofs.Common.{◌≡◌, ◌⊎◌, inl, inr, ℕ, List}
 use Rattle.netlink_core.specs.Bytes.{IsBytes}
 use Rattle.netlink_core.specs.declared.fault.DecodeError.{DecodeError}
-use Rattle.sock_diag_lines.specs.AnswerText.{Subject}
+use Rattle.sock_diag_lines.specs.AnswerText.{AreIdleAs, Subject}
 use Rattle.sock_diag_lines.specs.TextSteps.{accepted, refused, unwritable}
 use Rattle.sock_diag_lines.proofs.ByteLaws.{as_bytes, IsBytes-as_bytes}
 
@@ -25,23 +25,27 @@ pub record SubjectLaws {Value : Type 0} (reads : List ℕ → Value → Type 0) 
       → idle b c → text_of v ≡ text_of w
 
 abbrev pub LawsOf : Subject → Type 0
-LawsOf S = SubjectLaws S.reads S.refuses S.fits S.text_of S.idle
+LawsOf S = SubjectLaws (λ b v. S.codec.reads b S.param v) (λ b e. S.codec.refuses b S.param e)
+    S.codec.fits S.text_of (S.codec.idle S.param)
 
 -- bytes whose values can be written and show the same are idle
 abbrev pub HasFullText : Subject → Type 0
-HasFullText S = (b c : List ℕ) (v w : S.Value) → IsBytes b → IsBytes c → S.reads b v → S.reads c w
-    → S.fits v → S.fits w → S.text_of v ≡ S.text_of w → S.idle b c
+HasFullText S = (b c : List ℕ) (v w : S.codec.Value) → IsBytes b → IsBytes c
+    → S.codec.reads b S.param v → S.codec.reads c S.param w
+    → S.codec.fits v → S.codec.fits w → S.text_of v ≡ S.text_of w → AreIdleAs S b c
 
 -- ---- the one text that answers bytes, by the laws
 
 -- the answer to a value
-abbrev pub text_of_value : (S : Subject) (value : S.Value) → S.fits value ⊎ ¬ S.fits value → List ℕ
+abbrev pub text_of_value : (S : Subject) (value : S.codec.Value)
+    → S.codec.fits value ⊎ ¬ S.codec.fits value → List ℕ
 text_of_value S value (inl fits) = accepted (S.text_of value)
 text_of_value S value (inr unfit) = unwritable
 
 -- the answer to a value or a fault
 abbrev pub text_of_answer : (S : Subject) → LawsOf S → (field : List ℕ)
-    → ((value : S.Value) × S.reads field value) ⊎ ((fault : DecodeError) × S.refuses field fault)
+    → ((value : S.codec.Value) × S.codec.reads field S.param value)
+        ⊎ ((fault : DecodeError) × S.codec.refuses field S.param fault)
     → List ℕ
 text_of_answer S laws field (inl (value, reads)) = text_of_value S value (laws.fits_or_not value)
 text_of_answer S laws field (inr (fault, refuses)) = refused fault

@@ -12,14 +12,7 @@ use Rattle.sock_diag_lines.specs.AnswerText.{Subject}
 
 -- what a codec reads under a parameter, whose written bytes are shown
 abbrev pub subject : {Param : Type 0} → Codec Param → Param → Subject
-subject C p = record {
-  Value = C.Value;
-  reads = λ b v. C.reads b p v;
-  refuses = λ b e. C.refuses b p e;
-  fits = C.fits;
-  text_of = λ v. field_of (C.written v);
-  idle = C.idle p;
-}
+subject {P} C p = record { Param = P; codec = C; param = p; text_of = λ v. field_of (C.written v) }
 
 -- a netlink message; the fields of its header as they were read and the written bytes of its
 -- payload are shown
@@ -28,7 +21,5 @@ envelope_subject = record (subject (envelope_codec message_codec) tt) { text_of 
 
 -- a reply about a UNIX socket, of which thirteen words are shown whether or not it can be written
 abbrev pub view_subject : Subject
-view_subject = record (subject (response_codec unix_response_spec) tt) {
-  fits = λ v. ⊤;
-  text_of = reply_text;
-}
+view_subject =
+    record (subject (record (response_codec unix_response_spec) { fits = λ v. ⊤ }) tt) { text_of = reply_text }

@@ -16,7 +16,8 @@ ghost use Rattle.sock_diag_lines.specs.DumpLine.{IsDumpRequest};
 ghost use Rattle.sock_diag_lines.specs.EnvelopeLine.{envelope_text};
 ghost use Rattle.sock_diag_lines.specs.HexField.{field_of};
 ghost use Rattle.sock_diag_lines.specs.Subjects.{envelope_subject};
-ghost use Rattle.sock_diag_lines.specs.AnswerText.{IsAccepted, IsAnswerText, IsAnswerAs};
+ghost use Rattle.sock_diag_lines.specs.AnswerText.{AreIdleAs, IsAccepted, IsAnswerAs};
+ghost use Rattle.sock_diag_lines.specs.AnswerText.{IsAnswerText};
 ghost use Rattle.sock_diag_lines.specs.TextSteps.{Adds, accepted, word};
 
 use crate::dump_line::{ReadDump, push_dump, read_dump};
@@ -79,12 +80,13 @@ pub fn answer(alloc: Global, line: &[u8]) -> Result<Vec<u8>, AllocError>
         → (other bytes bytes' text' : List ℕ)
         → IsRequest line.now name bytes → IsRequest other name bytes'
         → IsAccepted (entry_of name).1 bytes → IsAccepted (entry_of name).1 bytes'
-        → IsAnswerOf other text' → ((text.items ≡ text') ↔ (entry_of name).1.idle bytes bytes')) }
+        → IsAnswerOf other text' → ((text.items ≡ text')
+            ↔ AreIdleAs (entry_of name).1 bytes bytes')) }
     // Two fields of any name that differ in idle details alone have one answer.
     ensures alike { IfOk result (λ text. (name : Name) (other bytes bytes' text' : List ℕ)
         → IsRequest line.now name bytes → IsRequest other name bytes'
         → IsAccepted (entry_of name).1 bytes → IsAccepted (entry_of name).1 bytes'
-        → IsAnswerOf other text' → (entry_of name).1.idle bytes bytes' → text.items ≡ text') }
+        → IsAnswerOf other text' → AreIdleAs (entry_of name).1 bytes bytes' → text.items ≡ text') }
     // Two dumps whose datagrams have the same items in a row have one answer.
     ensures dumps { IfOk result
         (λ text. (other text' : List ℕ) (datagrams datagrams' : List (List ℕ))
