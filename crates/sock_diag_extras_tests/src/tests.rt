@@ -1,8 +1,8 @@
 //! The bytes are worked out by hand from the layouts of sock_diag(7) and `linux/inet_diag.h`.
 
 use sock_diag_extras::{
-    BbrInfo, DctcpInfo, LenientInetReply, SocketOptions, TcpField, TcpInfoBytes, AttributeRecord, VegasInfo,
-    read_attribute_record, write_attribute_record,
+    AttributeRecord, BbrInfo, DctcpInfo, LenientInetReply, SocketOptions, TcpField, TcpInfoBytes,
+    VegasInfo, read_attribute_record, write_attribute_record,
 };
 use std::alloc::Global;
 use std::fmt::Debug;
