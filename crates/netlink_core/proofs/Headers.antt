@@ -54,7 +54,7 @@ header_read bytes h fits length-is type-is flags-is sequence-is port-is low high
       high,
     )
 
--- a header stands at the front, or a fault tells why not
+-- a header stands at the start, or a fault tells why not
 pub header_or_fault : (bytes : List ℕ) → IsBytes bytes → ((h : NetlinkHeader) × HasHeader bytes h)
     ⊎ ((e : DecodeError) × IsEnvelopeFault bytes e)
 header_or_fault bytes fits = elim (cases_lt (length bytes) 16) [

@@ -276,7 +276,7 @@ impl Coded for DefaultNla {
 
     type Param = ();
 
-    // Of no kind: each attribute says itself.
+    // Under a set of no types, where each attribute decodes to itself.
     ghost codec = { first_attribute_codec [] };
 
     ghost model = { kept_attribute };

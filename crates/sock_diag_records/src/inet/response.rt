@@ -49,7 +49,7 @@ pub struct InetResponseHeader {
     /// first. Any byte but 1, 2, 3 and 4 is no timer, which is written 0, as are the places that a
     /// timer doesn't keep.
     pub timer: Option<Timer>,
-    /// The socket, `id`, at 4, its addresses of the family's kind.
+    /// The socket, `id`, at 4, its addresses of the family's version.
     pub socket_id: SocketId,
     /// How many connections are pending on a listening socket, or how many bytes wait to be read,
     /// `idiag_rqueue`, at 56, low byte first.
