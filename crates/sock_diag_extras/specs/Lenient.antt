@@ -15,7 +15,7 @@ pub record Refusal : Type 0 where
   pub attribute : Option Attribute
   pub fault : DecodeError
 
--- what is seen of what is refused
+-- the model of what is refused
 abbrev pub refusal_of : Refused → Refusal
 refusal_of (refused.Attribute nla e) = record { attribute = Some (attribute_of nla); fault = e }
 refusal_of (refused.Framing e) = record { attribute = None; fault = e }

@@ -9,7 +9,7 @@ ghost use Rattle.sock_diag_extras.specs.RecordTable.{RecordTable, bytes_in, form
 
 /// A record that an attribute of sock_diag(7) carries and the port leaves as bytes.
 pub trait AttributeRecord: Sized {
-    // The table of its rows.
+    // The table of its fields.
     ghost layout: { RecordTable Self };
 
     /// The number of its bytes.
@@ -30,7 +30,7 @@ pub trait AttributeRecord: Sized {
     ghost laws: { (name : RecordName) → RecordLaws (format_under layout name) };
 }
 
-/// Reads the value in front of the bytes, where there are enough. What follows is ignored.
+/// Reads the record at the start of the bytes, where there are enough. What follows is ignored.
 #[inline(always)]
 pub fn read_attribute_record<T: AttributeRecord>(value: &[u8]) -> Option<T>
     ensures value { SomeIff result (T.layout.size ≤ length value.now)

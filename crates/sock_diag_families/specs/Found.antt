@@ -27,7 +27,7 @@ enough family kind least value =
     if nat_lt (length value) least
     then Err (BufferTooSmall (name.FamilyAttribute family kind) (length value) least) else Ok value
 
--- what such a value tells by the rows of a table
+-- what such a value tells by the fields of a table
 abbrev pub fields : {A : Type 0} → ℕ → ℕ → ℕ → List Field → (List ℕ → A) → List ℕ
     → Result A DecodeError
 fields family kind least table of value =

@@ -43,8 +43,8 @@ address_under family octets =
     if family == 2 then V4 record { octets = slice_index octets 0 ∷ slice_index octets 1 ∷ slice_index octets 2 ∷ slice_index octets 3 ∷ [] }
     else V6 record { segments = segments_of octets }
 
--- the record that is asked for, each field by its name, its addresses of the family's kind, and of
--- the protocol the low byte
+-- the record that is asked for, each field by its name, its addresses of the family's version, and
+-- of the protocol the low byte
 abbrev pub inet_request_of : InetRequest → inet.InetRequest
 inet_request_of r = record {
   family = r.family;
