@@ -111,7 +111,7 @@ pub enum ByteOrder {
 }
 
 impl ByteOrder {
-    /// The number of two bytes at a place.
+    /// The number of two bytes at an offset.
     fn short_at(self, bytes: &[u8], place: usize) -> u16
         requires { place + 2 ≤ length bytes.now }
         ensures { result ≡ number_at self 2 place bytes.now }
@@ -122,7 +122,7 @@ impl ByteOrder {
         }
     }
 
-    /// The number of four bytes at a place.
+    /// The number of four bytes at an offset.
     fn word_at(self, bytes: &[u8], place: usize) -> u32
         requires { place + 4 ≤ length bytes.now }
         ensures { result ≡ number_at self 4 place bytes.now }

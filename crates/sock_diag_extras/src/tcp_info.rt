@@ -286,7 +286,7 @@ impl<'a> TcpInfoBytes<'a> {
     }
 }
 
-// The number of so many bytes at the place, low byte first, where all of them are there.
+// The number of so many bytes at the offset, low byte first, where all of them are there.
 fn number_at(bytes: &[u8], place: usize, width: usize) -> Option<u64>
     requires one { 1 ≤ width }
     requires eight { width ≤ 8 }

@@ -61,7 +61,7 @@ inet_request_of r = record {
   };
 }
 
--- a protocol above 255 is told by the attribute of kind 3, INET_DIAG_REQ_PROTOCOL
+-- a protocol above 255 is told by the attribute of type 3, INET_DIAG_REQ_PROTOCOL
 abbrev pub protocol_attribute : ℕ → List ℕ
 protocol_attribute p =
     if nat_lt p 256 then [] else written record { type_word = 3; value = little_bytes 4 p }
