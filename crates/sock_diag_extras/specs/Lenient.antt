@@ -22,7 +22,7 @@ refusal_of (refused.Framing e) = record { attribute = None; fault = e }
 
 -- what an attribute decodes to, or why it is refused
 abbrev pub item_of : (F : AttributeSet) → Attribute → Result (AttributeValue F) Refusal
-item_of F a = result_map_both (λ said. said) (λ e.
+item_of F a = result_map_both (λ value. value) (λ e.
     record { attribute = Some a; fault = e }) (decodes F a)
 
 -- the model of an item

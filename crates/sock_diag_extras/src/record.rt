@@ -17,14 +17,14 @@ pub trait AttributeRecord: Sized {
         ensures { result ≡ layout.size };
 
     /// The value in bytes that are enough.
-    fn from_fields(row: &[u8]) -> Self
-        requires { layout.size ≤ length row.now }
-        ensures { result ≡ value_in layout row.now };
+    fn from_fields(bytes: &[u8]) -> Self
+        requires { layout.size ≤ length bytes.now }
+        ensures { result ≡ value_in layout bytes.now };
 
     /// Writes the value over bytes of any content.
-    fn write_fields(&self, row: &mut [u8])
-        requires { length row.old ≡ layout.size }
-        ensures { row.new ≡ bytes_in layout self.now };
+    fn write_fields(&self, buffer: &mut [u8])
+        requires { length buffer.old ≡ layout.size }
+        ensures { buffer.new ≡ bytes_in layout self.now };
 
     // It keeps the laws of records, whatever a fault would call it.
     ghost laws: { (name : RecordName) → RecordLaws (format_under layout name) };
