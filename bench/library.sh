@@ -27,7 +27,11 @@ cat > "$crate/BUILD.bazel" <<'BUILD'
 rattle_crate(
     name = "reply_bench",
     crate_type = "staticlib",
-    deps = ["//crates/netlink_core", "//crates/netlink_packet_sock_diag"],
+    deps = [
+        "//crates/netlink_core",
+        "//crates/netlink_packet_sock_diag",
+        "//crates/sock_diag_attributes",
+    ],
 )
 BUILD
 echo "proving and building the library; what rt says is in out/bench/rt.log" >&2

@@ -199,7 +199,7 @@ class Specs:
         return path.split(".")[-1] in found[1].parts if found else is_kits
 
     def is_inverse(self, path, module):
-        """Whether a name stands for something that inverts a format's `values`."""
+        """Whether a name stands for something that inverts a layout's `values`."""
         found = self.find(path, module.names)
         return bool(found) and found[0].name.endswith(INVERSE)
 

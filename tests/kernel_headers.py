@@ -1,8 +1,8 @@
 #!/usr/bin/env python3
 """Compares the tables in specs/ and the constants with the headers of Linux, by a C program that gcc compiles.
 
-Run it by hand, where gcc and /usr/include/linux are. Each row of a table is compared with the place and the width of
-the field of the C struct, and each constant with the header's. What the headers don't have is named: those of an older
+Run it by hand, where gcc and /usr/include/linux are. Each field of a table is compared with the offset and width of
+that of the C struct, and each constant with the header's. What the headers don't have is named: those of an older
 Linux lack the newest fields and constants. It fails, with status 1, where something differs.
 """
 
@@ -31,8 +31,8 @@ STATES = f"{STATES} NEW_SYN_RECV BOUND_INACTIVE".split()
 CONTROL = "Open Disorder Recovery Loss".split()
 OTHERS = {f"TCP_{name}": f"BPF_TCP_{name}" for name in STATES}
 OTHERS |= {f"{kind}_{name.upper()}": f"{kind}_{name}" for name in CONTROL for kind in ("TCP_CA", "TCPF_CA")}
-# A table: where it stands, its C struct, the number of its bytes (None: more fields follow), and for each row that is
-# read the field of the struct.
+# A table: where it stands, its C struct, the number of its bytes (None: more fields follow), and for each field that is
+# read that of the struct.
 TABLES = [
     ("sock_diag_values/specs/Vfs.antt", "vfs", "unix_diag_vfs", 8, ["udiag_vfs_ino", "udiag_vfs_dev"]),
     ("sock_diag_values/specs/LegacyMemInfo.antt", "legacy_mem_info", "inet_diag_meminfo", 16,
@@ -41,13 +41,13 @@ TABLES = [
      ["udiag_states", "udiag_ino", "udiag_show", "udiag_cookie"]),
     ("sock_diag_records/specs/UnixResponseHeader.antt", "unix_response_header", "unix_diag_msg", 16,
      ["udiag_type", "udiag_state", "udiag_ino", "udiag_cookie"]),
-    ("sock_diag_records/specs/SocketId.antt", "socket_id_rows", "inet_diag_sockid", 48,
+    ("sock_diag_records/specs/SocketId.antt", "socket_id_fields", "inet_diag_sockid", 48,
      ["idiag_sport", "idiag_dport", "idiag_src", "idiag_dst", "idiag_if", "idiag_cookie"]),
-    ("sock_diag_records/specs/InetRequest.antt", "inet_request_rows", "inet_diag_req_v2", 56,
+    ("sock_diag_records/specs/InetRequest.antt", "inet_request_fields", "inet_diag_req_v2", 56,
      ["sdiag_family", "sdiag_protocol", "idiag_ext", "idiag_states", "id"]),
-    ("sock_diag_records/specs/InetResponse.antt", "header_rows", "inet_diag_msg", 72,
+    ("sock_diag_records/specs/InetResponse.antt", "header_fields", "inet_diag_msg", 72,
      ["idiag_family", "idiag_state", "id", "idiag_rqueue", "idiag_wqueue", "idiag_uid", "idiag_inode"]),
-    ("netlink_core/specs/Header.antt", "header_rows", "nlmsghdr", 16,
+    ("netlink_core/specs/Header.antt", "header_fields", "nlmsghdr", 16,
      ["nlmsg_len", "nlmsg_type", "nlmsg_flags", "nlmsg_seq", "nlmsg_pid"]),
     ("sock_diag_extras/specs/Congestion.antt", "vegas_info", "tcpvegas_info", 16,
      ["tcpv_enabled", "tcpv_rttcnt", "tcpv_rtt", "tcpv_minrtt"]),
@@ -57,10 +57,10 @@ TABLES = [
      ["bbr_bw_lo bbr_bw_hi", "bbr_min_rtt", "bbr_pacing_gain", "bbr_cwnd_gain"]),
     ("sock_diag_extras/specs/SocketOptions.antt", "socket_options", "inet_diag_sockopt", 2, None),
 ]
-# A row, or rows, of a table: what, its place, and its width or count.
-PLACE = r"(?:\(place \+ (\d+)\)|(\d+)|place)"
-ROW = re.compile(
-    rf"\b(numbers|number|bytes_at|byte|flags|address_rows|socket_id_rows) {PLACE}(?: (\d+))?(?: \w+_endian)?(?: (\d+))?"
+# A field, or fields, of a table: what, its offset, and its width or count.
+OFFSET = r"(?:\(offset \+ (\d+)\)|(\d+)|offset)"
+FIELD = re.compile(
+    rf"\b(numbers|number|bytes_at|byte|flags|address_fields|socket_id_fields) {OFFSET}(?: (\d+))?(?: \w+_endian)?(?: (\d+))?"
 )
 
 
@@ -71,21 +71,21 @@ def definition(path, name):
     return found.group(1)
 
 
-def rows_of(body):
-    """The place and the width of each row that is read; bytes in a row are one."""
-    rows = []
-    for what, behind, place, second, third in ROW.findall(body):
-        at = int(behind or place or 0)
+def fields_of(body):
+    """The offset and the width of each field that is read; bytes in a row are one."""
+    fields = []
+    for what, behind, offset, second, third in FIELD.findall(body):
+        at = int(behind or offset or 0)
         if what == "numbers":
-            rows += [(at + n * int(second), int(second)) for n in range(int(third or 1))]
+            fields += [(at + n * int(second), int(second)) for n in range(int(third or 1))]
         else:
-            width = {"byte": 1, "address_rows": 16, "socket_id_rows": 48}.get(what) or int(second)
-            rows.append((at, width))
-    return rows
+            width = {"byte": 1, "address_fields": 16, "socket_id_fields": 48}.get(what) or int(second)
+            fields.append((at, width))
+    return fields
 
 
 def tcp_fields():
-    """The name, the place and the width of each field of struct tcp_info."""
+    """The name, the offset and the width of each field of struct tcp_info."""
     text = (ROOT / "sock_diag_extras/specs/TcpFields.antt").read_text()
     found = re.findall(r"^span_of field\.(\w+) = \((\d+), (\d+)\)", text, re.M)
     return [("tcpi_" + re.sub(r"(?<!^)(?=[A-Z])", "_", name).lower(), int(at), int(width)) for name, at, width in found]
@@ -103,12 +103,12 @@ def questions():
     """Each question to the headers: what is asked, as an expression in C, and what the repository says."""
     for path, name, struct, size, fields in TABLES:
         yield f"sizeof(struct {struct})", size
-        rows = rows_of(definition(path, name))
+        ours = fields_of(definition(path, name))
         if fields is None:
             continue
-        if len(rows) != len(fields):
-            sys.exit(f"{path}: {name} has {len(rows)} rows, and {len(fields)} fields are known")
-        for (at, width), names in zip(rows, fields):
+        if len(ours) != len(fields):
+            sys.exit(f"{path}: {name} has {len(ours)} fields, and {len(fields)} are known")
+        for (at, width), names in zip(ours, fields):
             first, *others = names.split()
             sizes = " + ".join(f"sizeof(((struct {struct} *)0)->{one})" for one in [first, *others])
             yield f"offsetof(struct {struct}, {first})", at
@@ -150,7 +150,7 @@ def main():
         if told.get(one, number) != number:
             wrong += 1
             print(f"{one} is {told[one]}, and {number} here")
-    print(f"{len(told)} places, sizes and numbers compared, {wrong} differ")
+    print(f"{len(told)} offsets, sizes and numbers compared, {wrong} differ")
     sys.exit(1 if wrong else 0)
 
 

@@ -1,4 +1,4 @@
--- Replies whose attributes are kept as those of a family that says the same.
+-- Replies whose attributes are kept as those of a set that decodes the same.
 use Rattle.std.proofs.Common.{◌≡◌, ◌↔◌, List, ℕ, ◌++◌, drop, map, inl, inr, refl, sym, ap, subst}
 use Rattle.std.specs.List.{flat_map}
 use Rattle.netlink_core.specs.declared.fault.DecodeError.{DecodeError}
@@ -24,7 +24,7 @@ module _ (R : ResponseSpec) (F : AttributeSet) where
     | inr behind ↦ inr (behind.0, behind.1, faults _ e behind.2)
   ]
 
-  -- accepted bytes mean the same header, and what that family says of the attributes
+  -- accepted bytes mean the same header, and what the attributes decode to in that set
   pub kept_reads : ((b : List ℕ) → HasNoFault (decodes R.attribute_set) b
       → HasNoFault (decodes F) b)
       → (b c : List ℕ) (accepted : IsAccepted R b) → b ≡ c → IsBytes c

@@ -37,8 +37,8 @@ impl<'a, V> CheckedNlas<'a, V> {
 impl<'a, V: FamilyView<'a>> Iterator for CheckedNlas<'a, V> {
     type Item = Result<V, DecodeError>;
 
-    // What the attribute at the start of what was left decodes to, of which the rest then stands
-    // behind its padding. Or the first fault there.
+    // A step gives what the first attribute of what was left decodes to, and what follows its
+    // padding is left then. Or it gives the first fault there.
     ghost next_gives = { λ old given new. Gives
         (λ left view later. (a : Attribute) × StartsWith left a later
         × (decodes V.attribute_set a ≡ Ok (V.model view)))

@@ -37,7 +37,7 @@ module _ {T : Type 0} (test : T → T → Bool) (decides : (a b : T)
   pub options_equal : (a b : Option T) → IsTrue (option_eq test a b) ↔ (a ≡ b)
   options_equal a b = (same_option a b, λ e. rw e (own_option b))
 
--- lists, over a test of what is seen of their elements
+-- lists, over a test of the models of their elements
 module _ {A V : Type 0} (test : A → A → Bool) (model : A → V) (decides : (a b : A)
     → IsTrue (test a b)
     ↔ (model a ≡ model b)) where

@@ -100,7 +100,7 @@ module _ (k width : ℕ) where
         ) refl);
   }
 
--- a kind of values that keep the laws
+-- a type whose values keep the laws
 pub spec_laws : (k : ℕ) {P : ValueCodec (Unit {0})} → bit_and k 0x3fff ≡ k → KeepsLaws (as_codec P)
     → AttributeSpecLaws (spec k P)
 spec_laws k plain value = record { plain = plain; value = value }
@@ -109,7 +109,7 @@ pub memory_spec_laws : (k : ℕ) {P : ValueCodec (Unit {0})} → bit_and k 0x3ff
     → KeepsLaws (as_codec P) → AttributeSpecLaws (memory_spec k P)
 memory_spec_laws k plain value = record { plain = plain; value = value }
 
--- the laws of a family: those of its first kind and those of the others
+-- the laws of a set: those of its first type and those of the others
 infixr 4 ◌⊕◌
 abbrev pub ◌⊕◌ : {A B : Type 0} → A → B → A × B
 first ⊕ others = (first, others)

@@ -1,5 +1,5 @@
--- Numbers that were read in a row are a field of the table, and fields that were written one after
--- the other are the bytes of the table.
+-- Numbers that were read one after the other are fields of the table, and fields that were written
+-- one after the other are the bytes of the table.
 use Rattle.std.proofs.Common.{◌≡◌, ℕ, zero, suc, ap₂, ◌+◌, ◌-◌, ◌*◌, ◌^◌, ◌<◌, ◌≤◌, List, [], ◌∷◌}
 use Rattle.std.proofs.Common.{◌++◌, length, take, drop, slice_index, bit_and, refl, sym, ap, ◌∙◌}
 use Rattle.std.proofs.Common.{arith, mul-le-mul_left, mul-suc}

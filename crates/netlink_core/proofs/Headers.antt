@@ -27,13 +27,13 @@ AreBytes-take n bytes fits =
 header_table : IsTable 0 header_fields 16
 header_table = table_from_test 0 header_fields 16 refl
 
--- a number in the slice from a place on is the one at that place
+-- a number in the slice from an offset on is the one at that offset
 there : (bytes : List ℕ) (width offset n : ℕ)
     → n ≡ little_number width (take (length bytes - offset) (drop offset bytes))
     → little_number width (drop offset bytes) ≡ n
 there bytes width offset n is = sym (is ∙ ap (little_number width) (take_rest bytes offset))
 
--- what is read from the five places is the header
+-- what is read from the five offsets is the header
 pub header_read : (bytes : List ℕ) (h : NetlinkHeader) → IsBytes bytes
     → h.length ≡ little_number 4 bytes
     → h.message_type ≡ little_number 2 (take (length bytes - 4) (drop 4 bytes))
@@ -54,7 +54,7 @@ header_read bytes h fits length-is type-is flags-is sequence-is port-is low high
       high,
     )
 
--- a header stands at the front, or a fault tells why not
+-- a header stands at the start, or a fault tells why not
 pub header_or_fault : (bytes : List ℕ) → IsBytes bytes → ((h : NetlinkHeader) × HasHeader bytes h)
     ⊎ ((e : DecodeError) × IsEnvelopeFault bytes e)
 header_or_fault bytes fits = elim (cases_lt (length bytes) 16) [

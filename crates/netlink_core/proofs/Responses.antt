@@ -1,4 +1,4 @@
--- The laws of a reply, from those of its header and its family.
+-- The laws of a reply, from those of its header and its attributes' set.
 use Rattle.std.proofs.Common.{Ok, Err, ◌≡◌, ◌∙◌, ◌↔◌, ◌⊎◌, inl, inr, ℕ, List, [], ◌∷◌, refl, ap}
 use Rattle.std.proofs.Common.{sym, subst}
 use Rattle.std.specs.Prelude.{drop, map}

@@ -207,7 +207,7 @@ values-defined (unread offset written ∷ fields) bytes = values-defined fields 
 
 -- ---- equal values, and the same live bits
 
--- what is left from a place on is long enough
+-- what is left from an offset on is long enough
 left_at : (from width : ℕ) (b : List ℕ) → from + width ≤ length b → width ≤ length (drop from b)
 left_at from width b h = rw (length-drop from b) (omega arith)
 

@@ -11,7 +11,7 @@ use Rattle.netlink_core.specs.Gives.{Gives}
 abbrev pub datagram_left : MessageStrings → List ℕ
 datagram_left walk = drop walk.at walk.bytes.now
 
--- The message at the start of what was left, of which the rest then stands behind its padding. Or
--- the fault there.
+-- A step gives the first message of what was left, and what follows its padding is left then. Or it
+-- gives the fault there.
 abbrev pub GivesMessage : MessageStrings → Option (Result (Bor (List ℕ)) DecodeError) → MessageStrings → Type 0
 GivesMessage old given new = Gives (λ left message later. StartsWithMessage left message.now later) IsEnvelopeFault (datagram_left old) given (datagram_left new)

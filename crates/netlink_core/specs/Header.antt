@@ -25,7 +25,7 @@ IsHeaderInRange h = Fit header_fields (header_values h)
 abbrev pub header_bytes : NetlinkHeader → List ℕ
 header_bytes h = bytes_of header_fields (header_values h)
 
--- the header stands at the front, and its length counts itself and bytes that are there
+-- the header stands at the start, and its length counts itself and bytes that are there
 abbrev pub HasHeader : List ℕ → NetlinkHeader → Type 0
 HasHeader bytes h = (values_of header_fields bytes ≡ header_values h) × IsHeaderInRange h
     × (16 ≤ h.length) × (h.length ≤ length bytes)

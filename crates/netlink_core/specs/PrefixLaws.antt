@@ -15,7 +15,7 @@ use Rattle.netlink_core.specs.Attribute.{written, HasPrefix, IsFramingFault, IsP
 use Rattle.netlink_core.specs.ByteLaws.{IsBytes-append, IsBytes-left, IsBytes-right, IsBytes-number}
 use Rattle.netlink_core.specs.ByteLaws.{IsBytes-zeros}
 
--- ---- the attribute at the front
+-- ---- the attribute at the start
 
 -- what stands between the header and the length word's end is the value
 pub has_prefix : (bytes : List ℕ) (word type_word : ℕ) → IsBytes bytes
@@ -55,7 +55,7 @@ same_parts (x ∷ xs) (y ∷ ys) s t len e =
     let rest = same_parts xs ys s t (omega arith) cc in
     (cc, rest.1)
 
--- the head is fixed by the bytes, and so is what follows
+-- the attribute is fixed by the bytes, and so is what follows
 pub one_prefix : (a b : Attribute) (s t : List ℕ) → FitsWords a → FitsWords b
     → unpadded a ++ s ≡ unpadded b ++ t → (a ≡ b) × (s ≡ t)
 one_prefix a b s t a-fits b-fits e =
@@ -80,7 +80,7 @@ prefix_in_range b a in_range h =
     whole in
     (h.2.0, IsBytes-right (little_bytes 2 a.type_word) a.value behind)
 
--- one attribute stands at the front
+-- one attribute stands at the start
 pub one_attribute : (b : List ℕ) (x y : Attribute) → HasPrefix b x → HasPrefix b y → x ≡ y
 one_attribute b x y h k = (one_prefix x y h.0 k.0 h.2 k.2 (sym h.1 ∙ k.1)).0
 
@@ -96,7 +96,7 @@ written_in_range a in_range =
 
 -- ---- an attribute or a fault
 
--- the length word of an attribute at the front
+-- the length word of an attribute at the start
 pub word_is : (bytes : List ℕ) (a : Attribute) → HasPrefix bytes a
     → (little_number 2 bytes ≡ 4 + length a.value) × (4 + length a.value ≤ length bytes)
 word_is bytes a head =
@@ -143,7 +143,7 @@ pub value_or_reason : {A : Type 0} (read : Result A DecodeError) → ((value : A
 value_or_reason (Ok value) = inl (value, refl)
 value_or_reason (Err e) = inr (e, refl)
 
--- the fault at the front, if there is one
+-- the fault at the start, if there is one
 first_fault : List ℕ → Option DecodeError
 first_fault bytes =
     cond (ltb (length bytes) 4) (Some (AttributeHeaderCut (length bytes)))

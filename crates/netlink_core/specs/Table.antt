@@ -8,7 +8,7 @@ use Rattle.byteorder.specs.Endian.{little_number, big_number, little_bytes, big_
 pub data Order : Type 0 where
   little_endian big_endian : Order
 
--- What stands at a offset: a byte; a number of so many bytes; a little-endian number of which only
+-- What stands at an offset: a byte; a number of so many bytes; a little-endian number of which only
 -- the bits of the mask are defined; or bytes that no reader looks at, with what is written there.
 pub data Field : Type 0 where
   byte : (offset : ℕ) → Field

@@ -25,7 +25,7 @@ const NESTED: u16 = 0x8000;
 /// `NLA_F_NET_BYTEORDER`.
 const NETWORK_BYTE_ORDER: u16 = 0x4000;
 
-/// The bits of the type word that are the kind, `NLA_TYPE_MASK`.
+/// The bits of the type word that are the attribute's type, `NLA_TYPE_MASK`.
 const KIND: u16 = 0x3fff;
 
 /// One attribute, read in place.

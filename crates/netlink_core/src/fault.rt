@@ -1,4 +1,4 @@
-//! Why bytes were refused. Lengths and places are in bytes.
+//! Why bytes were refused. Lengths and offsets are in bytes.
 
 ghost use Rattle.std.specs.Prelude.{◌≡◌};
 ghost use Rattle.netlink_core.specs.Faults.{number_of, with_attribute_type};

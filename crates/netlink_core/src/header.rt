@@ -16,16 +16,16 @@ pub const NETLINK_HEADER_LEN: usize = 16;
 /// A default header has zeros.
 #[derive(Clone, Debug, Default, Drop, PartialEq, Eq)]
 pub struct NetlinkHeader {
-    /// How many bytes the message has, with these 16. At place 0, 4 bytes.
+    /// How many bytes the message has, with these 16. At offset 0, 4 bytes.
     pub length: u32,
-    /// What the payload is: one of the `NLMSG_` types, or a type of the protocol. At place 4, 2
+    /// What the payload is: one of the `NLMSG_` types, or a type of the protocol. At offset 4, 2
     /// bytes.
     pub message_type: u16,
-    /// The `NLM_F_` flags. At place 6, 2 bytes.
+    /// The `NLM_F_` flags. At offset 6, 2 bytes.
     pub flags: u16,
-    /// The sender's number for the message, which a reply repeats. At place 8, 4 bytes.
+    /// The sender's number for the message, which a reply repeats. At offset 8, 4 bytes.
     pub sequence_number: u32,
-    /// The port of the sender, 0 for the kernel. At place 12, 4 bytes.
+    /// The port of the sender, 0 for the kernel. At offset 12, 4 bytes.
     pub port_number: u32,
 }
 

@@ -79,7 +79,7 @@ pub fn records_take_memory<T: Record>() -> bool
     T::TAKES_MEMORY
 }
 
-/// Whether reading an attribute of any kind takes memory: it does.
+/// Whether reading an attribute of any type takes memory: it does.
 pub fn attributes_take_memory() -> bool
     ensures { result ≡ true }
 {

@@ -1,4 +1,4 @@
-//! Attributes that are written, and the attribute of any kind.
+//! Attributes that are written, and the attribute of any type.
 
 ghost use Rattle.std.specs.Prelude.{◌≡◌, ◌≤◌, ◌<◌, ◌↔◌, replicate, ◌++◌, length, drop, [], map};
 ghost use Rattle.std.specs.Prelude.{true, refl, IsTrue, IsOk, IfOk, SomeIff};
@@ -151,7 +151,7 @@ pub fn emit_nlas<T: Nla>(nlas: &[T], buffer: &mut [u8])
     }
 }
 
-/// An attribute of any kind: its whole type word, with the two flag bits, and its value's bytes.
+/// An attribute of any type: its whole type word, with the two flag bits, and its value's bytes.
 #[derive(Debug, Drop, PartialEq, Eq)]
 pub struct DefaultNla {
     kind: u16,
@@ -276,7 +276,7 @@ impl Coded for DefaultNla {
 
     type Param = ();
 
-    // Of no kind: each attribute says itself.
+    // Under a set of no types, where each attribute decodes to itself.
     ghost codec = { first_attribute_codec [] };
 
     ghost model = { kept_attribute };

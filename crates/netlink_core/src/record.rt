@@ -51,7 +51,7 @@ pub trait Record: Exact + Sized {
     ghost laws: { RecordLaws layout };
 }
 
-/// Reads the value in front of the bytes.
+/// Reads the record at the start of the bytes.
 #[inline(always)]
 pub fn read_record<T: Record>(bytes: &[u8], param: T::Param) -> Result<T, DecodeError>
     ensures value { result ≡ read T.layout param bytes.now }

@@ -17,8 +17,7 @@ pub trait Coded: PartialEq + Sized {
     /// What the reader takes beside the bytes.
     type Param: Copy;
 
-    // How it stands in bytes, and the model of a value: each field, and lists by their
-    // elements.
+    // How it stands in bytes, and the model of a value: each field, and lists by their elements.
     ghost codec: { Codec Self.Param };
 
     ghost model: { Self → codec.Value };

@@ -10,9 +10,9 @@ use Rattle.netlink_packet_sock_diag.specs.declared.dump.views.PayloadView.{Paylo
 use Rattle.netlink_packet_sock_diag.specs.Message.{message_codec}
 use Rattle.netlink_packet_sock_diag.specs.PayloadViewModel.{item_view_model}
 
--- What the message at the start of what was left carries, or its fault, and the rest then stands
--- behind its padding. Or the fault where there is no message, and then nothing is left. None only
--- where nothing was left.
+-- A step gives what the first message of what was left carries, or its fault, and what follows its
+-- padding is left then. Or it gives the fault where there is no message, and then nothing is left.
+-- None comes only where nothing was left.
 abbrev pub GivesView : DumpViews → Option (Result PayloadView DecodeError) → DumpViews → Type 0
 GivesView old given new =
     let left = datagram_left old.messages in

@@ -94,7 +94,7 @@ pub trait ReplyViews<'a>: ReplyHeader {
     /// An attribute, read in place.
     type View: FamilyView<'a> + Drop;
 
-    // The attributes are those of the reply's family.
+    // The set of the views accepts the bytes that the reply's does, and has as many values of them.
     ghost same: { let view_set = Self.View.FamilyView.attribute_set in
         let set = Self.ReplyHeader.reply.attribute_set in
         ((b : List ℕ) → HasNoFault (decodes view_set) b ↔ HasNoFault (decodes set) b)

@@ -1,4 +1,4 @@
--- What an attribute says, row by row of its family.
+-- What an attribute decodes to, type by type of its set.
 use Rattle.std.proofs.Common.{Some, Result, Ok, Err, ◌≡◌, ◌⊎◌, inl, inr, ℕ, List, length}
 use Rattle.std.proofs.lemmas.Bool.{cases_eq, eq-eqb, ne_eqb}
 use Rattle.byteorder.specs.Endian.{little_number}
@@ -9,7 +9,7 @@ use Rattle.netlink_core.specs.Faults.{map_ok}
 use Rattle.netlink_core.specs.Parse.{exact_number}
 use Rattle.sock_diag_attributes.specs.UnixAttributes.{unix}
 
--- What a row says of an attribute, where it is of its kind, and what is left to the later rows.
+-- What an attribute of the first type decodes to, and what is left to the later types.
 module _ {A B : Type 0} where
   abbrev one : A → A ⊎ B
   one x = inl x
@@ -17,7 +17,7 @@ module _ {A B : Type 0} where
   abbrev other : B → A ⊎ B
   other y = inr y
 
-  -- a value of the row was read by it, and by no other
+  -- a value of the type was read by it, and by no other
   was_one : (read : Result A DecodeError) (x : A) → map_ok one read ≡ Ok (one x) → read ≡ Ok x
   was_one (Ok u) x h = cc
   was_one (Err e) x h = absurd cc
@@ -26,7 +26,7 @@ module _ {A B : Type 0} where
   not_one (Ok u) y h = cc
   not_one (Err e) y h = cc
 
-  -- what is left to the later rows was read by them
+  -- what is left to the later types was read by them
   was_other : (read : Result B DecodeError) (y : B) → map_ok other read ≡ Ok (other y)
       → read ≡ Ok y
   was_other (Ok u) y h = cc
@@ -48,7 +48,7 @@ number_there k width n value h = elim (cases_eq (length value) width) [
   | inr differs ↦ absurd (let refused = rw (ne_eqb (length value) width differs) at h in cc)
 ]
 
--- an attribute that says a peer is of the kind 2, and its value is the peer's number
+-- an attribute that decodes to a peer is of the type 2, and its value is the peer's number
 pub peer_value : (a : Attribute) (n : ℕ) → decodes unix a ≡ Ok (of_type unix 2 n)
     → (attribute_type a ≡ 2)
     × (length a.value ≡ 4) × (n ≡ little_number 4 a.value)

@@ -1,4 +1,4 @@
-//! A reply, by `netlink_packet_sock_diag`.
+//! The name in a reply about a UNIX socket, by `netlink_packet_sock_diag`.
 
 ghost use Rattle.std.specs.Prelude.{◌≡◌, ◌↔◌, Some, IsTrue, IfOk, IfErr};
 ghost use Rattle.netlink_core.specs.AttributeSet.{content};

@@ -19,10 +19,10 @@ use Rattle.sock_diag_captures.specs.declared.capture.TimeUnit.{TimeUnit}
 use Rattle.sock_diag_captures.specs.declared.capture.TimeUnit.TheVariants.{Microseconds}
 use Rattle.sock_diag_captures.specs.declared.capture.TimeUnit.TheVariants.{Nanoseconds}
 
--- the number of so many bytes at a place, in the order of the file
+-- the number of so many bytes at an offset, in the order of the file
 abbrev pub number_at : ByteOrder → ℕ → ℕ → List ℕ → ℕ
-number_at LowFirst count place bytes = little_number count (drop place bytes)
-number_at HighFirst count place bytes = big_number count (drop place bytes)
+number_at LowFirst count offset bytes = little_number count (drop offset bytes)
+number_at HighFirst count offset bytes = big_number count (drop offset bytes)
 
 -- a capture whose times are in microseconds or in nanoseconds begins so, in the order of the file
 abbrev pub IsMagic : ℕ → Type 0

@@ -1,7 +1,7 @@
 -- What stands below the line of a socket: a tab, and a word for each thing that is told.
 use Rattle.std.specs.Prelude.{ℕ, ◌==◌, ◌||◌, ◌/◌, ◌%◌, if◌then◌else◌, List, [], ◌∷◌, ◌++◌, length}
-use Rattle.std.specs.Prelude.{drop, false, flat_map, codes, decimal, bit_and, slice_index, Option, None}
-use Rattle.std.specs.Prelude.{Some, Result, Ok, Err}
+use Rattle.std.specs.Prelude.{drop, false, flat_map, codes, decimal, bit_and, slice_index, Option}
+use Rattle.std.specs.Prelude.{None, Some, Result, Ok, Err}
 use Rattle.std.specs.Fmt.{digits}
 use Rattle.std.proofs.Common.{inl, inr}
 use Rattle.byteorder.specs.Endian.{little_number}
@@ -208,7 +208,7 @@ directions state =
 abbrev pub unknown : Attribute → List ℕ
 unknown a = pair_detail (codes "unknown") (attribute_type a) (length a.value)
 
--- What an attribute of a reply about an IPv4 or IPv6 socket tells, in the order of its family: the
+-- What an attribute of a reply about an IPv4 or IPv6 socket tells, in the order of its set: the
 -- memory as older kernels tell it, the connection, the congestion control algorithm, the type of
 -- service, the traffic class, the memory, the directions, the protocol, whether for IPv6 alone, the
 -- mark, the class; or an attribute of another type.
@@ -252,7 +252,7 @@ abbrev pub detail_of : Options → Sockets → Attribute → List ℕ
 detail_of o Unix a = words_of unix_text a (decodes unix a)
 detail_of o Inet a = words_of (inet_text o) a (decodes inet a)
 
--- the detail that attributes of a kind tell of a UNIX socket: 5 is UNIX_DIAG_MEMINFO
+-- the detail that attributes of a type tell of a UNIX socket: 5 is UNIX_DIAG_MEMINFO
 abbrev pub detail_of_unix : ℕ → Detail
 detail_of_unix kind = if kind == 5 then Memory else Extended
 

@@ -20,10 +20,10 @@ escaped c = if is_plain c then c ∷ [] else byte_digits c
 
 -- ---- names under `--utf8`
 
--- Characters in a row, the first and the last: of Latin, of Greek and Cyrillic, punctuation,
--- currencies, arrows, shapes, and of Chinese, Japanese and Korean. Each is a letter, a number or a
--- sign that is seen: none is a control, a separator, a format or combining character, unassigned,
--- or written from right to left (Unicode 14, UnicodeData.txt).
+-- Ranges of characters, the first and the last of each: of Latin, of Greek and Cyrillic,
+-- punctuation, currencies, arrows, shapes, and of Chinese, Japanese and Korean. Each character is a
+-- letter, a number or a sign that is seen: none is a control, a separator, a format or combining
+-- character, unassigned, or written from right to left (Unicode 14, UnicodeData.txt).
 abbrev pub shown_ranges : List (ℕ × ℕ)
 shown_ranges =
     (0xa1, 0xac) ∷ (0xae, 0x2ff) ∷ (0x386, 0x38a) ∷ (0x38c, 0x38c) ∷ (0x38e, 0x3a1) ∷ (0x3a3, 0x482)
@@ -31,7 +31,7 @@ shown_ranges =
     ∷ (0x2580, 0x27bf) ∷ (0x3001, 0x3029) ∷ (0x3041, 0x3096) ∷ (0x309b, 0x30ff) ∷ (0x3131, 0x3163)
     ∷ (0x3400, 0x9fff) ∷ (0xac00, 0xd7a3) ∷ []
 
--- a character past ASCII in one of these rows
+-- a character past ASCII in one of these ranges
 abbrev pub is_shown : ℕ → Bool
 is_shown c = nat_le 0x80 c && list_any (λ r. nat_le r.0 c && nat_le c r.1) shown_ranges
 

@@ -118,7 +118,7 @@ issue_under t payload =
 abbrev pub message_issue : List ℕ → Option Issue
 message_issue m = issue_under (type_of m) (drop 16 m)
 
--- what is told, if anything is, says of nothing that it is missing
+-- nothing is told, or a note, by which no socket is missing from the lines
 abbrev pub is_nothing_missing : Option Issue → Bool
 is_nothing_missing None = true
 is_nothing_missing (Some NoEntry) = true

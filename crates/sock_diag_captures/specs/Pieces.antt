@@ -54,18 +54,18 @@ framing_fault [] = None
 framing_fault (Ok a ∷ later) = framing_fault later
 framing_fault (Err e ∷ later) = Some e
 
--- the first attribute of a kind
+-- the first attribute of a type
 abbrev pub first_of_kind : ℕ → List Piece → Option Attribute
 first_of_kind k [] = None
 first_of_kind k (Ok a ∷ later) = if attribute_type a == k then Some a else first_of_kind k later
 first_of_kind k (Err e ∷ later) = first_of_kind k later
 
--- the value of a kind that was read
+-- the value of a type that was read
 abbrev pub value_read : (F : AttributeSet) → (k : ℕ) → Result (AttributeValue F) DecodeError
     → Option (ValueAt F k)
 value_read F k (Ok value) = content F k value
 value_read F k (Err e) = None
 
--- what the first attribute of a kind says, where it can be read
+-- what the first attribute of a type decodes to, where it can be read
 abbrev pub first_value : (F : AttributeSet) → (k : ℕ) → List Piece → Option (ValueAt F k)
 first_value F k given = option_and_then (λ a. value_read F k (decodes F a)) (first_of_kind k given)

@@ -6,7 +6,7 @@ use Rattle.netlink_core.specs.Attribute.{Attribute}
 use Rattle.sock_diag_captures.specs.Pieces.{first_of_kind, pieces}
 use Rattle.sock_diag_captures.specs.declared.requests.Asked.{Asked}
 
--- the protocol in the byte at 17, or the one that an attribute of the kind 3,
+-- the protocol in the byte at 17, or the one that an attribute of the type 3,
 -- INET_DIAG_REQ_PROTOCOL, tells in four bytes
 abbrev pub protocol_by : ℕ → Option Attribute → ℕ
 protocol_by byte None = byte

@@ -20,23 +20,23 @@ pub record ListedPacket : Type 0 where
 
 -- the lines
 abbrev pub lines_of_packet : ListedPacket → List ℕ
-lines_of_packet listings = listings.lines
+lines_of_packet listing = listing.lines
 
 -- the packet was listed whole
 abbrev pub IsWhole : ListedPacket → Type 0
-IsWhole listings = IsTrue listings.whole
+IsWhole listing = IsTrue listing.whole
 
 -- a packet by itself is listed so, where these requests were seen
 abbrev pub IsListed : Options → List Asked → Recorded → ListedPacket → Type 0
-IsListed o asked packet listings = ListsRecorded o asked packet [] listings.lines listings.whole
+IsListed o asked packet listing = ListsRecorded o asked packet [] listing.lines listing.whole
 
 -- packets are listed so one after the other, where these requests were seen in front of them
 abbrev pub AreListed : Options → List Asked → List Recorded → List ListedPacket → Type 0
 AreListed o asked [] [] = ⊤
-AreListed o asked [] (listings ∷ later) = ⊥
+AreListed o asked [] (listing ∷ later) = ⊥
 AreListed o asked (packet ∷ packets) [] = ⊥
-AreListed o asked (packet ∷ packets) (listings ∷ later) =
-    IsListed o (asked_after asked packet.bytes) packet listings
+AreListed o asked (packet ∷ packets) (listing ∷ later) =
+    IsListed o (asked_after asked packet.bytes) packet listing
     × AreListed o (asked_after asked packet.bytes) packets later
 
 -- the bytes are these packets one after the other, each behind its header; R says which header a

@@ -111,25 +111,25 @@ pub enum ByteOrder {
 }
 
 impl ByteOrder {
-    /// The number of two bytes at a place.
-    fn short_at(self, bytes: &[u8], place: usize) -> u16
-        requires { place + 2 ≤ length bytes.now }
-        ensures { result ≡ number_at self 2 place bytes.now }
+    /// The number of two bytes at an offset.
+    fn short_at(self, bytes: &[u8], offset: usize) -> u16
+        requires { offset + 2 ≤ length bytes.now }
+        ensures { result ≡ number_at self 2 offset bytes.now }
     {
         match self {
-            ByteOrder::LowFirst => LittleEndian::read_u16(&bytes[place..]),
-            ByteOrder::HighFirst => BigEndian::read_u16(&bytes[place..]),
+            ByteOrder::LowFirst => LittleEndian::read_u16(&bytes[offset..]),
+            ByteOrder::HighFirst => BigEndian::read_u16(&bytes[offset..]),
         }
     }
 
-    /// The number of four bytes at a place.
-    fn word_at(self, bytes: &[u8], place: usize) -> u32
-        requires { place + 4 ≤ length bytes.now }
-        ensures { result ≡ number_at self 4 place bytes.now }
+    /// The number of four bytes at an offset.
+    fn word_at(self, bytes: &[u8], offset: usize) -> u32
+        requires { offset + 4 ≤ length bytes.now }
+        ensures { result ≡ number_at self 4 offset bytes.now }
     {
         match self {
-            ByteOrder::LowFirst => LittleEndian::read_u32(&bytes[place..]),
-            ByteOrder::HighFirst => BigEndian::read_u32(&bytes[place..]),
+            ByteOrder::LowFirst => LittleEndian::read_u32(&bytes[offset..]),
+            ByteOrder::HighFirst => BigEndian::read_u32(&bytes[offset..]),
         }
     }
 

@@ -250,7 +250,7 @@ fn is_steady(message: &[u8]) -> bool
     LittleEndian::read_u16(&message[6..]) & DUMP_INTERRUPTED == 0
 }
 
-/// Whether what is told, if anything is, says of nothing that it is missing.
+/// Whether nothing is told, or a note, by which no socket is missing from the lines.
 fn is_note(issue: &Option<Issue>) -> bool
     ensures { result ≡ is_nothing_missing issue.now }
 {

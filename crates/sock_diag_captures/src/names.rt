@@ -8,8 +8,8 @@ ghost use Rattle.sock_diag_captures.specs.Escapes.{shown};
 use crate::cells::push_escaped_byte;
 use std::alloc::AllocError;
 
-/// The first and the last of characters in a row that are shown: of Latin, Greek and Cyrillic,
-/// punctuation, currencies, arrows and shapes, of Chinese, Japanese and Korean, and pictures.
+/// The ranges of characters that are shown, the first and the last of each: of Latin, Greek and
+/// Cyrillic, punctuation, currencies, arrows, shapes, and of Chinese, Japanese and Korean.
 const SHOWN: [(u32, u32); 18] = [
     (0xa1, 0xac),
     (0xae, 0x2ff),
@@ -75,14 +75,17 @@ fn push_char(text: &mut Vec<u8>, c: char) -> Result<(), AllocError>
 fn is_shown(c: char) -> bool
     ensures { result ≡ is_shown c }
 {
-    !c.is_ascii() && is_in_rows(&SHOWN, c as u32)
+    !c.is_ascii() && is_in_ranges(&SHOWN, c as u32)
 }
 
-/// Whether a number lies in one of the rows.
-fn is_in_rows(rows: &[(u32, u32)], number: u32) -> bool
-    ensures { result ≡ list_any (λ row. nat_le row.0 number && nat_le number row.1) rows.now }
+/// Whether a number lies in one of the ranges.
+fn is_in_ranges(ranges: &[(u32, u32)], number: u32) -> bool
+    ensures { result
+        ≡ list_any (λ range. nat_le range.0 number && nat_le number range.1) ranges.now }
 {
-    rows.iter().any(|row| row.0 <= number && number <= row.1)
+    ranges
+        .iter()
+        .any(|range| range.0 <= number && number <= range.1)
 }
 
 /// Adds bytes, those that are not plain as `\x` and two digits.

@@ -15,14 +15,14 @@ pub record Refusal : Type 0 where
   pub attribute : Option Attribute
   pub fault : DecodeError
 
--- what is seen of what is refused
+-- the model of what is refused
 abbrev pub refusal_of : Refused → Refusal
 refusal_of (refused.Attribute nla e) = record { attribute = Some (attribute_of nla); fault = e }
 refusal_of (refused.Framing e) = record { attribute = None; fault = e }
 
 -- what an attribute decodes to, or why it is refused
 abbrev pub item_of : (F : AttributeSet) → Attribute → Result (AttributeValue F) Refusal
-item_of F a = result_map_both (λ said. said) (λ e.
+item_of F a = result_map_both (λ value. value) (λ e.
     record { attribute = Some a; fault = e }) (decodes F a)
 
 -- the model of an item

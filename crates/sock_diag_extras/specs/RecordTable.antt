@@ -1,10 +1,10 @@
--- Records that no fault names: one table of rows, and the value with the numbers of its rows.
+-- Records that no fault names: one table of fields, and the value with the numbers of its fields.
 use Rattle.std.specs.Prelude.{⊤, ℕ, List}
 use Rattle.netlink_core.specs.Table.{Field, values_of, bytes_of}
 use Rattle.netlink_core.specs.Layout.{Layout, plain}
 use Rattle.netlink_core.specs.declared.fault.RecordName.{RecordName}
 
--- the number of bytes, the rows, the numbers in the order of the table, and the value with these
+-- the number of bytes, the fields, the numbers in the order of the table, and the value with these
 pub record RecordTable (Value : Type 0) : Type 0 where
   pub size : ℕ
   pub fields : List Field
@@ -19,7 +19,7 @@ value_in layout bytes = layout.value (values_of layout.fields bytes)
 abbrev pub bytes_in : {Value : Type 0} → RecordTable Value → Value → List ℕ
 bytes_in layout value = bytes_of layout.fields (layout.values value)
 
--- the format of such a record, under any name
+-- the layout of such a record, under any name
 abbrev pub format_under : {Value : Type 0} → RecordTable Value → RecordName
     → Layout (Unit {0}) (Unit {0}) Value
 format_under layout name =

@@ -80,7 +80,7 @@ span_of field.AccecnOptSeen = (278, 2)
 abbrev pub end_of : TcpField → ℕ
 end_of f = (span_of f).0 + (span_of f).1
 
--- the row of a table that it is
+-- the field of a table that it is
 abbrev pub row_of : TcpField → Field
 row_of f =
     if (span_of f).1 == 1 then byte (span_of f).0

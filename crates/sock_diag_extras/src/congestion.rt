@@ -31,8 +31,8 @@ impl AttributeRecord for VegasInfo {
         16
     }
 
-    fn from_fields(row: &[u8]) -> Self {
-        let [enabled, rtt_count, rtt, min_rtt] = words_at::<4>(row, 0);
+    fn from_fields(bytes: &[u8]) -> Self {
+        let [enabled, rtt_count, rtt, min_rtt] = words_at::<4>(bytes, 0);
         VegasInfo {
             enabled,
             rtt_count,
@@ -41,9 +41,9 @@ impl AttributeRecord for VegasInfo {
         }
     }
 
-    fn write_fields(&self, row: &mut [u8]) {
+    fn write_fields(&self, buffer: &mut [u8]) {
         let words = [self.enabled, self.rtt_count, self.rtt, self.min_rtt];
-        LittleEndian::write_u32_into(&words, row);
+        LittleEndian::write_u32_into(&words, buffer);
     }
 
     ghost laws = { λ name. record_laws (format_under vegas_info name) (plain_sound refl (λ _. refl)
@@ -73,19 +73,19 @@ impl AttributeRecord for DctcpInfo {
         16
     }
 
-    fn from_fields(row: &[u8]) -> Self {
-        let [alpha, marked_bytes, acked_bytes] = words_at::<3>(row, 4);
+    fn from_fields(bytes: &[u8]) -> Self {
+        let [alpha, marked_bytes, acked_bytes] = words_at::<3>(bytes, 4);
         DctcpInfo {
-            enabled: LittleEndian::read_u16(row),
-            ce_state: LittleEndian::read_u16(&row[2..]),
+            enabled: LittleEndian::read_u16(bytes),
+            ce_state: LittleEndian::read_u16(&bytes[2..]),
             alpha,
             marked_bytes,
             acked_bytes,
         }
     }
 
-    fn write_fields(&self, row: &mut [u8]) {
-        let (shorts, words) = row.split_at_mut(4);
+    fn write_fields(&self, buffer: &mut [u8]) {
+        let (shorts, words) = buffer.split_at_mut(4);
         LittleEndian::write_u16_into(&[self.enabled, self.ce_state], shorts);
         let numbers = [self.alpha, self.marked_bytes, self.acked_bytes];
         LittleEndian::write_u32_into(&numbers, words);
@@ -115,9 +115,9 @@ impl AttributeRecord for BbrInfo {
         20
     }
 
-    fn from_fields(row: &[u8]) -> Self {
-        let [bandwidth] = long_words_at::<1>(row, 0);
-        let [min_rtt, pacing_gain, window_gain] = words_at::<3>(row, 8);
+    fn from_fields(bytes: &[u8]) -> Self {
+        let [bandwidth] = long_words_at::<1>(bytes, 0);
+        let [min_rtt, pacing_gain, window_gain] = words_at::<3>(bytes, 8);
         BbrInfo {
             bandwidth,
             min_rtt,
@@ -126,8 +126,8 @@ impl AttributeRecord for BbrInfo {
         }
     }
 
-    fn write_fields(&self, row: &mut [u8]) {
-        let (bandwidth, words) = row.split_at_mut(8);
+    fn write_fields(&self, buffer: &mut [u8]) {
+        let (bandwidth, words) = buffer.split_at_mut(8);
         LittleEndian::write_u64(bandwidth, self.bandwidth);
         let numbers = [self.min_rtt, self.pacing_gain, self.window_gain];
         LittleEndian::write_u32_into(&numbers, words);

@@ -38,7 +38,7 @@ pub fn lenient_walk_of_good_bytes<'a, V: FamilyView<'a>>()
         → AttributesMean (decodes V.attribute_set) (bytes_left walk.walk) (map V.model views) }
 {}
 
-/// The first fields are the rows of the port's `TcpInfo`, and the later ones stand behind them, one
+/// The first fields are those of the port's `TcpInfo`, and the later ones stand behind them, one
 /// after the other, up to byte 280.
 pub fn tcp_fields_are_rows()
     ensures first { map row_of first_fields ≡ tcp_info_fields }

@@ -87,8 +87,8 @@ impl<'a, V: FamilyView<'a>> Iterator for LenientNlas<'a, V> {
 
     type Item = Result<V, Refused<'a>>;
 
-    // What the attribute at the start of what was left decodes to, or why it is refused, and then
-    // what stands behind it. Or the framing fault there, and then nothing.
+    // A step gives what the first attribute of what was left decodes to, or why it is refused, and
+    // what follows its padding is left then. Or it gives the framing fault, and nothing is left.
     ghost next_gives = { GivesLeniently V.attribute_set V.model };
 
     // At most one item for each four bytes, rounded up.

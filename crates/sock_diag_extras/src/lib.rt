@@ -10,8 +10,8 @@ pub mod laws;
 mod lenient;
 mod numbers;
 mod options;
-mod tcp_info;
 mod record;
+mod tcp_info;
 
 pub use congestion::{BbrInfo, DctcpInfo, VegasInfo};
 pub use lenient::{
@@ -19,5 +19,5 @@ pub use lenient::{
 };
 pub use numbers::{parse_cgroup_id, parse_uid};
 pub use options::{SocketOption, SocketOptions};
-pub use tcp_info::{TcpField, TcpInfoBytes};
 pub use record::{AttributeRecord, read_attribute_record, write_attribute_record};
+pub use tcp_info::{TcpField, TcpInfoBytes};

@@ -50,14 +50,14 @@ impl AttributeRecord for SocketOptions {
         2
     }
 
-    fn from_fields(row: &[u8]) -> Self {
+    fn from_fields(bytes: &[u8]) -> Self {
         SocketOptions {
-            bits: LittleEndian::read_u16(row),
+            bits: LittleEndian::read_u16(bytes),
         }
     }
 
-    fn write_fields(&self, row: &mut [u8]) {
-        LittleEndian::write_u16(row, self.bits);
+    fn write_fields(&self, buffer: &mut [u8]) {
+        LittleEndian::write_u16(buffer, self.bits);
     }
 
     ghost laws = { λ name. record_laws (format_under socket_options name) (plain_sound refl

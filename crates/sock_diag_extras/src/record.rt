@@ -9,7 +9,7 @@ ghost use Rattle.sock_diag_extras.specs.RecordTable.{RecordTable, bytes_in, form
 
 /// A record that an attribute of sock_diag(7) carries and the port leaves as bytes.
 pub trait AttributeRecord: Sized {
-    // The table of its rows.
+    // The table of its fields.
     ghost layout: { RecordTable Self };
 
     /// The number of its bytes.
@@ -17,20 +17,20 @@ pub trait AttributeRecord: Sized {
         ensures { result ≡ layout.size };
 
     /// The value in bytes that are enough.
-    fn from_fields(row: &[u8]) -> Self
-        requires { layout.size ≤ length row.now }
-        ensures { result ≡ value_in layout row.now };
+    fn from_fields(bytes: &[u8]) -> Self
+        requires { layout.size ≤ length bytes.now }
+        ensures { result ≡ value_in layout bytes.now };
 
     /// Writes the value over bytes of any content.
-    fn write_fields(&self, row: &mut [u8])
-        requires { length row.old ≡ layout.size }
-        ensures { row.new ≡ bytes_in layout self.now };
+    fn write_fields(&self, buffer: &mut [u8])
+        requires { length buffer.old ≡ layout.size }
+        ensures { buffer.new ≡ bytes_in layout self.now };
 
     // It keeps the laws of records, whatever a fault would call it.
     ghost laws: { (name : RecordName) → RecordLaws (format_under layout name) };
 }
 
-/// Reads the value in front of the bytes, where there are enough. What follows is ignored.
+/// Reads the record at the start of the bytes, where there are enough. What follows is ignored.
 #[inline(always)]
 pub fn read_attribute_record<T: AttributeRecord>(value: &[u8]) -> Option<T>
     ensures value { SomeIff result (T.layout.size ≤ length value.now)

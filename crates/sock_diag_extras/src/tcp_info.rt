@@ -286,14 +286,14 @@ impl<'a> TcpInfoBytes<'a> {
     }
 }
 
-// The number of so many bytes at the place, low byte first, where all of them are there.
-fn number_at(bytes: &[u8], place: usize, width: usize) -> Option<u64>
+// The number of so many bytes at the offset, low byte first, where all of them are there.
+fn number_at(bytes: &[u8], offset: usize, width: usize) -> Option<u64>
     requires one { 1 ≤ width }
     requires eight { width ≤ 8 }
-    ensures { SomeIff result (place + width ≤ length bytes.now)
-        (little_number width (drop place bytes.now)) }
+    ensures { SomeIff result (offset + width ≤ length bytes.now)
+        (little_number width (drop offset bytes.now)) }
 {
-    let number = bytes.get(place..)?;
+    let number = bytes.get(offset..)?;
     if number.len() < width {
         return None;
     }

@@ -42,7 +42,7 @@ pub data AnyMessage : Type 0 where
   of_port : Message → AnyMessage
   of_family : (family : OtherFamily) → (codec_of family).Value → AnyMessage
 
--- what the view says
+-- the model of the view
 abbrev pub viewed_any : AnySockDiagView → AnyMessage
 viewed_any (view.Port message) = of_port (message_view_model message)
 viewed_any (view.Netlink reply) = of_family netlink (view_model reply)

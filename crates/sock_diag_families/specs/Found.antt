@@ -8,7 +8,7 @@ use Rattle.netlink_core.specs.declared.fault.DecodeError.{DecodeError}
 use Rattle.netlink_core.specs.declared.fault.DecodeError.TheVariants.{BufferTooSmall}
 use Rattle.netlink_core.specs.declared.fault.RecordName.TheVariants as name
 
--- the value of the first attribute of that kind, whatever its flag bits
+-- the value of the first attribute of that type, whatever its flag bits
 abbrev pub first_value : ℕ → List Attribute → Option (List ℕ)
 first_value kind [] = None
 first_value kind (a ∷ later) = if attribute_type a == kind then Some a.value else first_value kind
@@ -20,14 +20,14 @@ abbrev pub within : {A : Type 0} → (List ℕ → Result A DecodeError) → Opt
 within reads None = Ok None
 within reads (Some value) = map_ok Some (reads value)
 
--- The value of an attribute of that family and kind, where it has so many bytes. More may follow:
+-- The value of an attribute of that family and type, where it has so many bytes. More may follow:
 -- later kernels tell more.
 abbrev pub enough : ℕ → ℕ → ℕ → List ℕ → Result (List ℕ) DecodeError
 enough family kind least value =
     if nat_lt (length value) least
     then Err (BufferTooSmall (name.FamilyAttribute family kind) (length value) least) else Ok value
 
--- what such a value tells by the rows of a table
+-- what such a value tells by the fields of a table
 abbrev pub fields : {A : Type 0} → ℕ → ℕ → ℕ → List Field → (List ℕ → A) → List ℕ
     → Result A DecodeError
 fields family kind least table of value =

@@ -7,7 +7,7 @@ use Rattle.netlink_core.specs.declared.fault.RecordName.TheVariants as name
 use Rattle.netlink_core.proofs.LayoutLaws.{plain_sound}
 use Rattle.sock_diag_families.specs.declared.netlink.response.NetlinkResponseHeader.{NetlinkResponseHeader}
 
--- the header with the numbers of its rows
+-- the header with the numbers of its fields
 abbrev pub netlink_header_of : List ℕ → NetlinkResponseHeader
 netlink_header_of values = record {
   kind = slice_index values 0;

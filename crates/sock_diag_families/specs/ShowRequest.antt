@@ -9,7 +9,7 @@ use Rattle.netlink_core.proofs.LayoutLaws.{plain_sound}
 use Rattle.std.proofs.Common.{◌<◌, true, IsTrue, ap, lt-ltb, arith}
 use Rattle.sock_diag_families.specs.declared.request.ShowRequest.{ShowRequest}
 
--- the request with the numbers of its rows
+-- the request with the numbers of its fields
 abbrev pub show_request_of : {family : ℕ} → List ℕ → ShowRequest family
 show_request_of values = record {
   protocol = slice_index values 0;
@@ -18,7 +18,7 @@ show_request_of values = record {
   cookie = slice_index values 3;
 }
 
--- the rows: the protocol at 1, the words at 4 and 8, and the cookie at 12, a word of 64 bits, low
+-- the fields: the protocol at 1, the words at 4 and 8, and the cookie at 12, a word of 64 bits, low
 -- byte first
 abbrev pub show_rows : ℕ → List Field
 show_rows family =

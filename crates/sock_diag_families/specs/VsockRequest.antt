@@ -8,7 +8,7 @@ use Rattle.netlink_core.specs.declared.fault.RecordName.TheVariants as name
 use Rattle.netlink_core.proofs.LayoutLaws.{plain_sound}
 use Rattle.sock_diag_families.specs.declared.vsock.request.VsockRequest.{VsockRequest}
 
--- the request with the numbers of its rows
+-- the request with the numbers of its fields
 abbrev pub vsock_request_of : List ℕ → VsockRequest
 vsock_request_of values = record { states = slice_index values 0; cookie = slice_index values 1 }
 

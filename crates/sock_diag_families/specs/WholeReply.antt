@@ -10,12 +10,12 @@ use Rattle.netlink_core.specs.declared.fault.RecordName.{RecordName}
 use Rattle.netlink_packet_sock_diag.specs.HeaderLaws.{response_laws}
 
 module _ {Tag Value : Type 0} (layout : Layout (Unit {0}) Tag Value) where
-  -- the header, and attributes of a family without kinds
+  -- the header, and attributes of a set without types
   abbrev pub whole_reply : ResponseSpec
   whole_reply = record { header = value_codec layout; size = layout.least; attribute_set = [] }
 
-  -- what is shown of the header's format: it is sound, its tables are of one size, and bytes behind
-  -- it don't change which table it tells
+  -- what is shown of the header's layout: it is sound, its tables are of one size, and bytes behind
+  -- it don't change its tag
   pub record OneTable : Type 0 where
     pub sound : IsSound layout
     pub fixed : (tag : Tag) → layout.size tag ≡ layout.least

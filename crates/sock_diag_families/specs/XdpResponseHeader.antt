@@ -8,7 +8,7 @@ use Rattle.netlink_core.specs.declared.fault.RecordName.TheVariants as name
 use Rattle.netlink_core.proofs.LayoutLaws.{plain_sound}
 use Rattle.sock_diag_families.specs.declared.xdp.response.XdpResponseHeader.{XdpResponseHeader}
 
--- the header with the numbers of its rows
+-- the header with the numbers of its fields
 abbrev pub xdp_header_of : List ℕ → XdpResponseHeader
 xdp_header_of values = record {
   kind = slice_index values 0;

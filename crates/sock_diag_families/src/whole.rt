@@ -33,7 +33,7 @@ impl Nla for WholeNla<'_> {
     }
 }
 
-// Of a family without kinds.
+// Of a set without types: each attribute decodes to itself.
 impl<'a> FamilyView<'a> for WholeNla<'a> {
     ghost attribute_set = { [] };
 

@@ -8,7 +8,7 @@ use Rattle.netlink_packet_sock_diag.specs.UnixGetters.{first_of, listening_queue
 use Rattle.netlink_packet_sock_diag.specs.UnixResponseSpec.{UnixResponseValue}
 use Rattle.sock_diag_lines.specs.HexField.{field_of}
 
--- what is told, shown so, or `none`
+-- the text of what is found, or `none`
 abbrev pub or_none : {A : Type 0} → (A → List ℕ) → Option A → List ℕ
 or_none text_of None = codes "none"
 or_none text_of (Some found) = text_of found

@@ -122,7 +122,7 @@ pub(crate) fn answer_all<R: Read, W: Write>(
 }
 
 /// Tells why a run failed, but where nobody reads the output any more. Where this can't be written
-/// either, the exit status alone answers it.
+/// either, the exit status alone tells of the failure.
 pub(crate) fn report<E: Write>(errors: &mut E, outcome: &Result<bool, ServeError>)
     ensures silent { IsOk outcome.now → Keeps (E.contents errors.old) (E.contents errors.new) }
     ensures reported { IfErr outcome.now (λ e. (reported : List ℕ)
@@ -134,7 +134,7 @@ pub(crate) fn report<E: Write>(errors: &mut E, outcome: &Result<bool, ServeError
     }
 }
 
-/// The line that tells of a failure. Of an output that nobody reads none does.
+/// The line that tells of a failure. It is empty where nobody reads the output.
 fn failure_line(error: ServeError) -> &'static [u8]
     ensures { result.now ≡ failure_line error }
 {

@@ -14,7 +14,7 @@ abbrev pub inet_request_fields : IpVersions → List Field
 inet_request_fields versions = byte 0 ∷ byte 1 ∷ byte 2 ∷ unread 3 (0 ∷ []) ∷ flags 4 4 0xffe ∷ socket_id_fields 8 versions
 
 -- 56 bytes. A string of as many is refused where its family is another; in normal form the
--- addresses are of its kind
+-- addresses are of its version
 unfoldable pub inet_request : Layout (Unit {0}) IpVersions InetRequest
 inet_request = record {
   name = name.InetRequest;

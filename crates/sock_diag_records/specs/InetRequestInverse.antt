@@ -4,7 +4,7 @@ use Rattle.sock_diag_records.specs.declared.inet.request.InetRequest.{InetReques
 use Rattle.sock_diag_records.specs.IpVersions.{IpVersions}
 use Rattle.sock_diag_records.specs.SocketIdInverse.{socket_id_of}
 
--- the request with these values, the identity's addresses of these kinds
+-- the request with these values, the identity's addresses of these versions
 abbrev pub inet_request_of : IpVersions → List ℕ → InetRequest
 inet_request_of versions values = record {
   family = slice_index values 0;

@@ -13,7 +13,7 @@ use Rattle.sock_diag_records.specs.Timer.{retransmits_values, expires_values, ti
 use Rattle.sock_diag_records.specs.Timer.{IsWholeMilliseconds}
 use Rattle.sock_diag_records.specs.InetResponseInverse.{header_of}
 
--- by the kinds of the addresses and the timer's class: the bytes at 0 and 1, the timer, the
+-- by the versions of the addresses and the timer's class: the bytes at 0 and 1, the timer, the
 -- identity at 4 and the words at 56, 60, 64 and 68
 abbrev pub header_fields : IpVersions × ℕ → List Field
 header_fields tag =
@@ -28,8 +28,8 @@ header_values value =
     ++ (expires_values value.timer ++ value.recv_queue ∷ value.send_queue ∷ value.uid ∷ value.inode ∷ [])))
 
 -- 72 bytes. A string of as many is refused where its family is another. In normal form the
--- addresses are of the family's kind, and the timer's duration is whole milliseconds of 32 bits;
--- one with 10^9 nanoseconds or more never is.
+-- addresses are of the family's version, and the timer's duration is whole milliseconds of 32
+-- bits; one with 10^9 nanoseconds or more never is.
 unfoldable pub inet_response_header : Layout (Unit {0}) (IpVersions × ℕ) InetResponseHeader
 inet_response_header = record {
   name = name.InetResponseHeader;

@@ -44,8 +44,7 @@ use Rattle.sock_diag_records.specs.SocketIdLaws.{length-values, socket_id_back, 
 use Rattle.sock_diag_records.specs.SocketIdLaws.{versions_are, versions_named, length-socket_id}
 use Rattle.sock_diag_records.specs.SocketIdLaws.{length-bytes, fit_inside}
 
--- by which fields a header is read and written: the kinds of the addresses, and the class of the
--- timer
+-- what chooses the fields of a header: the versions of the addresses, and the class of the timer
 abbrev Tag : Type 0
 Tag = IpVersions × ℕ
 
@@ -255,7 +254,7 @@ shaped_read : (t : Tag) (left : List ℕ) → t.1 < 5
 shaped_read t left below = subst (λ (value : InetResponseHeader). identity.IsShaped value.socket_id)
     (sym (header_is t left below)) (shaped_is 4 t.0.0 t.0.1 left)
 
--- by which fields a header is written
+-- what chooses those by which a header is written
 abbrev tag_of : InetResponseHeader → Tag
 tag_of value = (versions_of value.socket_id, class_of value.timer)
 

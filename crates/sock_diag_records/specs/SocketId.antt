@@ -1,5 +1,5 @@
--- The record of a socket's identity: 48 bytes. An address has a place of 16 bytes: an IPv4 address
--- stands in the first four, an IPv6 address in all, as eight segments, high byte first.
+-- The record of a socket's identity: 48 bytes. An address has 16 bytes: an IPv4 address stands in
+-- the first four, an IPv6 address in all, as eight segments, high byte first.
 use Rattle.std.specs.Prelude.{◌≡◌, ℕ, ◌+◌, List, [], ◌∷◌, ◌++◌, length, replicate, Ok}
 use Rattle.std.specs.List.{flat_map}
 use Rattle.byteorder.specs.Endian.{big_bytes}
@@ -57,7 +57,7 @@ pub record IsShaped (value : SocketId) : Type 0 where
   pub cookie : length value.cookie ≡ 8
 
 -- 48 bytes. A string of as many is refused where the family is another; in normal form the
--- addresses are of its kind
+-- addresses are of its version
 unfoldable pub socket_id : Layout ℕ IpVersions SocketId
 socket_id = record {
   name = name.SocketId;

@@ -26,7 +26,7 @@ socket_id_with source_port destination_port source destination rest = record {
   cookie = take 8 (drop 1 rest);
 }
 
--- the identity with these values, its addresses of these kinds
+-- the identity with these values, its addresses of these versions
 abbrev pub socket_id_of : IpVersions → List ℕ → SocketId
 socket_id_of versions values =
     let addresses = drop 2 values in

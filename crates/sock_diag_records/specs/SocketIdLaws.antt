@@ -76,7 +76,7 @@ length-socket_id value =
     let destination = length-address value.destination_address in
     simp length-append (omega arith)
 
--- ---- for each of the four pairs of kinds
+-- ---- for each of the four pairs of versions
 
 abbrev pub pair : IpVersion → IpVersion → IpVersions
 pair s d = (s, d)
@@ -155,7 +155,7 @@ socket_id_pieces value rest =
     ++ (address_bytes value.destination_address
     ++ (little_bytes 4 value.interface_id ++ (first 8 value.cookie ++ rest))))
 
--- the record as it stands at a offset, before other fields
+-- the record as it stands at an offset, before other fields
 bytes-socket_id : (offset : ℕ) (value : SocketId) (fields : List Field) (others : List ℕ)
     → bytes_of (socket_id_fields offset (versions_of value) ++ fields) (socket_id_values value
     ++ others)
@@ -207,7 +207,7 @@ length-bytes value =
 
 -- ---- the layout is sound
 
--- the family alone tells the kinds
+-- the family alone tells the versions
 not_memory : (first second : Bool) (one other : IpVersions) (family : ℕ)
     → (if first then Ok one else if second then Ok other else Err (UnsupportedFamily family))
     ≡ Err Memory → ⊥

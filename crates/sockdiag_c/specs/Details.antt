@@ -10,7 +10,7 @@ abbrev pub number_of : Option ℕ → Number
 number_of (Some n) = record { is_told = 1; value = n }
 number_of None = record { is_told = 0; value = 0 }
 
--- a number in the first value of the kind k, where the reply tells one
+-- a number in the first value of the type k, where the reply tells one
 abbrev pub first_number : (F : AttributeSet) (k : ℕ) → (ValueAt F k → ℕ) → List (AttributeValue F)
     → Number
 first_number F k part vs = number_of (first_of (λ s. option_map part (content F k s)) vs)

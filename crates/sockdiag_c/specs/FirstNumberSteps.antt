@@ -14,7 +14,7 @@ abbrev pub next_number : Number → Option ℕ → Number
 next_number old (Some n) = if old.is_told == 0 then number_of (Some n) else old
 next_number old None = old
 
--- the same, of a number in a value of the kind k
+-- the same, of a number in a value of the type k
 abbrev pub next : (F : AttributeSet) (k : ℕ) → (ValueAt F k → ℕ) → AttributeValue F → Number
     → Number
 next F k part v old = next_number old (option_map part (content F k v))

@@ -14,7 +14,7 @@ use Rattle.sockdiag_c.specs.Headers.{inet_header_of}
 abbrev pub controlled : AttributeValue inet → Option (ℕ × List ℕ)
 controlled v = option_map (λ (t : List ℕ). (1, t)) (content inet 4 v)
 
--- behind a header and an algorithm, each number of the first value of its kind
+-- behind a header and an algorithm, each number of the first value of its type
 abbrev pub inet_details_of : InetHeader → Text → List (AttributeValue inet) → InetDetails
 inet_details_of header congestion vs = record {
   header = header;

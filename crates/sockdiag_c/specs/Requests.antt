@@ -43,8 +43,8 @@ address_under family octets =
     if family == 2 then V4 record { octets = slice_index octets 0 ∷ slice_index octets 1 ∷ slice_index octets 2 ∷ slice_index octets 3 ∷ [] }
     else V6 record { segments = segments_of octets }
 
--- the record that is asked for, each field by its name, its addresses of the family's kind, and of
--- the protocol the low byte
+-- the record that is asked for, each field by its name, its addresses of the family's version, and
+-- of the protocol the low byte
 abbrev pub inet_request_of : InetRequest → inet.InetRequest
 inet_request_of r = record {
   family = r.family;
@@ -61,7 +61,7 @@ inet_request_of r = record {
   };
 }
 
--- a protocol above 255 is told by the attribute of kind 3, INET_DIAG_REQ_PROTOCOL
+-- a protocol above 255 is told by the attribute of type 3, INET_DIAG_REQ_PROTOCOL
 abbrev pub protocol_attribute : ℕ → List ℕ
 protocol_attribute p =
     if nat_lt p 256 then [] else written record { type_word = 3; value = little_bytes 4 p }

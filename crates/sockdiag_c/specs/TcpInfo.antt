@@ -9,7 +9,7 @@ abbrev pub StandIn : List ℕ → List Attribute → Type 0
 StandIn bytes attributes =
     Cut bytes attributes ⊎ ((e : DecodeError) × CutOff IsFramingFault bytes attributes e)
 
--- the value of an attribute of the kind
+-- the value of an attribute of the type
 abbrev pub value_of : ℕ → Attribute → Option (List ℕ)
 value_of k a = if attribute_type a == k then Some a.value else None
 

@@ -26,7 +26,7 @@ named v = option_map name_parts (content unix 0 v)
 abbrev pub pending : List (AttributeValue unix) → List ℕ
 pending vs = unwrap_or (first_of (content unix 3) vs) []
 
--- behind a header and a name, each number of the first value of its kind
+-- behind a header and a name, each number of the first value of its type
 abbrev pub unix_details_of : UnixHeader → Text → List (AttributeValue unix) → UnixDetails
 unix_details_of header name vs = record {
   header = header;

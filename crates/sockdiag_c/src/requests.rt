@@ -180,7 +180,7 @@ fn inet_record(request: &InetRequest) -> inet::InetRequest
     }
 }
 
-// The address in the octets, of the family's kind.
+// The address in the octets, of the family's version.
 fn address_in(family: u8, octets: &[u8; 16]) -> IpAddr
     ensures { result ≡ address_under family octets.now }
 {

@@ -23,7 +23,7 @@ pub struct InetRequest {
     pub extensions: ExtensionFlags,
     /// Which states are asked for, `idiag_states`, at 4. The reader takes undefined bits off.
     pub states: StateFlags,
-    /// The socket that is asked for, `id`, at 8, its addresses of the family's kind.
+    /// The socket that is asked for, `id`, at 8, its addresses of the family's version.
     pub socket_id: SocketId,
 }
 

@@ -46,10 +46,10 @@ pub struct InetResponseHeader {
     /// The state, one of `TCP_ESTABLISHED` to `TCP_CLOSING`, `idiag_state`, at 1.
     pub state: u8,
     /// The timer: `idiag_timer` at 2, `idiag_retrans` at 3 and `idiag_expires` at 52, low byte
-    /// first. Any byte but 1, 2, 3 and 4 is no timer, which is written 0, as are the places that a
+    /// first. Any byte but 1, 2, 3 and 4 is no timer, which is written 0, as are the fields that a
     /// timer doesn't keep.
     pub timer: Option<Timer>,
-    /// The socket, `id`, at 4, its addresses of the family's kind.
+    /// The socket, `id`, at 4, its addresses of the family's version.
     pub socket_id: SocketId,
     /// How many connections are pending on a listening socket, or how many bytes wait to be read,
     /// `idiag_rqueue`, at 56, low byte first.

@@ -93,7 +93,7 @@ impl SocketId {
 /// The bytes of a [`SocketId`], in the order that they came, those too that no reader looks at.
 pub type SocketIdBuffer = RecordBuffer<SocketId, 48>;
 
-// The IPv4 address at a place.
+// The IPv4 address at an offset.
 fn ipv4_at(bytes: &[u8], offset: usize) -> Ipv4Addr
     requires { offset + 4 ≤ length bytes.now }
     ensures { ipv4_octets result ≡ values_of (bytes_at offset 4) bytes.now }
@@ -106,7 +106,7 @@ fn ipv4_at(bytes: &[u8], offset: usize) -> Ipv4Addr
     )
 }
 
-// The IPv6 address at a place.
+// The IPv6 address at an offset.
 fn ipv6_at(bytes: &[u8], offset: usize) -> Ipv6Addr
     requires { offset + 16 ≤ length bytes.now }
     ensures { ipv6_segments result ≡ values_of (numbers offset 2 big_endian 8) bytes.now }

@@ -231,7 +231,7 @@ impl MemInfoBytes {
     }
 }
 
-// The word at the place, where the bytes have it whole.
+// The word at the offset, where the bytes have it whole.
 fn word_at(payload: &[u8], offset: usize) -> Option<u32>
     requires { offset + 4 < 2 ^ 64 }
     ensures { SomeIff result (offset + 4 ≤ length payload.now)
