@@ -8,7 +8,7 @@ pub mod Walking
 pub mod Cutting
 pub mod Stated
 pub mod Writing
-pub mod FieldLaws
+pub mod AttributeTypeLaws
 pub mod Texts
 pub mod PrefixCodecs
 pub mod Responses

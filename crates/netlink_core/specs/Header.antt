@@ -11,7 +11,8 @@ use Rattle.netlink_core.specs.declared.header.NetlinkHeader.{NetlinkHeader}
 
 -- the length at 0, the type at 4, the flags at 6, the sender's number at 8 and its port at 12
 abbrev pub header_fields : List Field
-header_fields = number 0 4 little_endian ∷ (numbers 4 2 little_endian 2 ++ numbers 8 4 little_endian 2)
+header_fields =
+    number 0 4 little_endian ∷ (numbers 4 2 little_endian 2 ++ numbers 8 4 little_endian 2)
 
 -- the five fields, in this order
 abbrev pub header_values : NetlinkHeader → List ℕ

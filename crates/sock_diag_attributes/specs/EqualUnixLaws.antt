@@ -7,7 +7,7 @@ use lib.Pointwise.{pointwise, bytes_decides}
 use Rattle.std.specs.declared.cmp.PartialEq.{Ghosts}
 use Rattle.netlink_core.specs.Attribute.{Attribute}
 use Rattle.netlink_core.proofs.Equality.{apart, same_test}
-use Rattle.netlink_core.proofs.FieldLaws.{◌⊕◌}
+use Rattle.netlink_core.proofs.AttributeTypeLaws.{◌⊕◌}
 use Rattle.netlink_core.proofs.ValueTests.{Tests, attribute_test, number_test, value_test}
 use Rattle.netlink_core.proofs.ValueTests.{value_test_decides}
 use Rattle.sock_diag_values.specs.contracts.unix.vfs.VfsExact.TheImpl.Laws.{exact-law as exact_vfs}

@@ -1,7 +1,7 @@
 -- The laws of the attributes of replies about IPv4 and IPv6 sockets.
 use Rattle.std.proofs.Common.{refl}
 use Rattle.netlink_core.specs.ShownLaws.{AttributeSetLaws}
-use Rattle.netlink_core.proofs.FieldLaws.{◌⊕◌, spec_laws, memory_spec_laws, number_laws}
+use Rattle.netlink_core.proofs.AttributeTypeLaws.{◌⊕◌, spec_laws, memory_spec_laws, number_laws}
 use Rattle.sock_diag_values.specs.contracts.inet.legacy_mem_info.LegacyMemInfoRecord.TheImpl.Laws.{laws-law as legacy_laws}
 use Rattle.sock_diag_values.specs.contracts.inet.tcp_info.TcpInfoRecord.TheImpl.Laws.{laws-law as tcp_laws}
 use Rattle.sock_diag_values.specs.contracts.inet.mem_info.MemInfoRecord.TheImpl.Laws.{laws-law as memory_laws}

@@ -1,6 +1,6 @@
 -- The laws of the name of a UNIX socket.
 use Rattle.netlink_core.specs.Codec.{KeepsLaws, as_codec}
-use Rattle.netlink_core.proofs.FieldLaws.{exact_laws}
+use Rattle.netlink_core.proofs.AttributeTypeLaws.{exact_laws}
 use Rattle.sock_diag_attributes.specs.Name.{name_value}
 use Rattle.std.proofs.Common.{Result, Ok, Err, IsOk, ◌≡◌, ◌≢◌, ◌∙◌, ℕ, zero, suc, ◌+◌, ◌<◌, ◌≤◌}
 use Rattle.std.proofs.Common.{false, cond, ltb, ◌==◌, Option, Some, None, position, List, [], ◌∷◌}

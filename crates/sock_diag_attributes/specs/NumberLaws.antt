@@ -13,7 +13,7 @@ use Rattle.netlink_core.specs.declared.fault.DecodeError.TheVariants.{Memory, No
 use Rattle.netlink_core.specs.Bytes.{IsBytes}
 use Rattle.netlink_core.specs.ByteLaws.{IsBytes-append, IsBytes-left, IsBytes-nil, IsBytes-number}
 use Rattle.netlink_core.specs.ByteLaws.{IsBytes-right}
-use Rattle.netlink_core.proofs.FieldLaws.{same_bytes, exact_laws}
+use Rattle.netlink_core.proofs.AttributeTypeLaws.{same_bytes, exact_laws}
 use Rattle.netlink_core.specs.Codec.{KeepsLaws, as_codec}
 use Rattle.std.specs.Prelude.{⊤, slice_index}
 use Rattle.sock_diag_attributes.specs.ChoiceLaws.{if_equal, if_equal_err}

@@ -1,7 +1,7 @@
 -- The laws of the attributes of replies about UNIX sockets.
 use Rattle.std.proofs.Common.{refl}
 use Rattle.netlink_core.specs.ShownLaws.{AttributeSetLaws}
-use Rattle.netlink_core.proofs.FieldLaws.{◌⊕◌, spec_laws, memory_spec_laws, number_laws}
+use Rattle.netlink_core.proofs.AttributeTypeLaws.{◌⊕◌, spec_laws, memory_spec_laws, number_laws}
 use Rattle.sock_diag_values.specs.contracts.unix.vfs.VfsRecord.TheImpl.Laws.{laws-law as vfs_laws}
 use Rattle.sock_diag_values.specs.contracts.unix.mem_info.MemInfoRecord.TheImpl.Laws.{laws-law as memory_laws}
 use Rattle.sock_diag_attributes.specs.NameLaws.{name_laws}

@@ -45,7 +45,7 @@ text_of_value S value (inr unfit) = unwritable
 -- the answer to a value or a fault
 abbrev pub text_of_answer : (S : Subject) → LawsOf S → (field : List ℕ)
     → ((value : S.codec.Value) × S.codec.reads field S.param value)
-        ⊎ ((fault : DecodeError) × S.codec.refuses field S.param fault)
+    ⊎ ((fault : DecodeError) × S.codec.refuses field S.param fault)
     → List ℕ
 text_of_answer S laws field (inl (value, reads)) = text_of_value S value (laws.fits_or_not value)
 text_of_answer S laws field (inr (fault, refuses)) = refused fault

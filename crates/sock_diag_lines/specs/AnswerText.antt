@@ -29,7 +29,8 @@ IsAnswerAs S field text = IsAnswerText (S.codec.reads field S.param) (S.codec.re
 
 -- the bytes have a value that can be written
 abbrev pub IsAccepted : Subject → List ℕ → Type 0
-IsAccepted S field = (value : S.codec.Value) × S.codec.reads field S.param value × S.codec.fits value
+IsAccepted S field =
+    (value : S.codec.Value) × S.codec.reads field S.param value × S.codec.fits value
 
 -- the bytes differ in idle details alone
 abbrev pub AreIdleAs : Subject → List ℕ → List ℕ → Type 0

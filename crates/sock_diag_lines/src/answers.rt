@@ -81,7 +81,7 @@ pub fn answer(alloc: Global, line: &[u8]) -> Result<Vec<u8>, AllocError>
         → IsRequest line.now name bytes → IsRequest other name bytes'
         → IsAccepted (entry_of name).1 bytes → IsAccepted (entry_of name).1 bytes'
         → IsAnswerOf other text' → ((text.items ≡ text')
-            ↔ AreIdleAs (entry_of name).1 bytes bytes')) }
+        ↔ AreIdleAs (entry_of name).1 bytes bytes')) }
     // Two fields of any name that differ in idle details alone have one answer.
     ensures alike { IfOk result (λ text. (name : Name) (other bytes bytes' text' : List ℕ)
         → IsRequest line.now name bytes → IsRequest other name bytes'

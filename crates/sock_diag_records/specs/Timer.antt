@@ -48,4 +48,5 @@ retransmits_values timer = unwrap_or (option_map (λ count. count ∷ []) (timer
 
 -- what a timer keeps for the word at 52
 abbrev pub expires_values : Option Timer → List ℕ
-expires_values timer = unwrap_or (option_map (λ time. milliseconds time ∷ []) (timer_data timer).2) []
+expires_values timer =
+    unwrap_or (option_map (λ time. milliseconds time ∷ []) (timer_data timer).2) []
