@@ -3,7 +3,9 @@ pub mod Lengths
 pub mod Envelopes
 pub mod Dumping
 pub mod Interrupting
+pub mod Lawful
 pub mod DumpRows
+pub mod Interruptions
 pub mod Feeding
 pub mod WholeViews
 mod NoFault
