@@ -43,7 +43,7 @@ DumpGoesOn middle state items after end = ((state ≡ Ok unended) × Dump middle
 abbrev Plain : {A : Type 0} → List (Item A) → Type 0
 Plain items = AllByRecursion (λ item. end_of item ≡ None) items
 
-none_or_some : {X : Type 0} (end : Option X) → (end ≡ None) ⊎ ((x : X) × (end ≡ Some x))
+pub none_or_some : {X : Type 0} (end : Option X) → (end ≡ None) ⊎ ((x : X) × (end ≡ Some x))
 none_or_some None = inl refl
 none_or_some (Some x) = inr (x, refl)
 

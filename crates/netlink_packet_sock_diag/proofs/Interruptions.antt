@@ -1,22 +1,25 @@
 -- The datagrams that are fed to a dump interrupt it exactly where all their bytes do.
-use Rattle.std.proofs.Common.{◌≡◌, ◌↔◌, ℕ, ◌⊎◌, inl, inr, List, [], ◌∷◌, ◌++◌, length, refl}
+use Rattle.std.proofs.Common.{◌≡◌, ◌≢◌, ◌↔◌, ℕ, ◌⊎◌, inl, inr, List, [], ◌∷◌, ◌++◌, length, refl}
 use Rattle.std.proofs.Common.{sym, ap, subst, ◌∙◌, append_assoc, arith, length-append}
 use Rattle.std.specs.Option.{option_to_list}
-use Rattle.std.specs.Prelude.{Option, option_map, None, Ok, Err, IsBitSet}
+use Rattle.std.specs.Prelude.{Option, option_map, None, Result, Ok, Err, IsBitSet}
 use Rattle.std.specs.List.{AllByRecursion, AllZip, flat_map}
 use Rattle.std.proofs.lemmas.List.{append-nil}
 use Rattle.netlink_core.specs.Bytes.{IsBytes}
 use Rattle.netlink_core.specs.Codec.{Codec}
 use Rattle.netlink_core.specs.Datagram.{AreWholeMessages, CutIntoMessages}
 use Rattle.netlink_core.specs.declared.fault.DecodeError.{DecodeError}
+use Rattle.netlink_core.specs.declared.fault.DecodeError.TheVariants.{Memory}
 use Rattle.netlink_core.specs.declared.header.NetlinkHeader.{NetlinkHeader}
 use Rattle.netlink_core.specs.Header.{HasHeader}
 use Rattle.netlink_core.specs.Items.{Item, ItemIs}
 use Rattle.netlink_core.proofs.Datagrams.{messages_of_concatenation, one_cut_into_messages}
 use Rattle.netlink_core.proofs.Items.{zip_append}
+use Rattle.netlink_packet_sock_diag.specs.declared.dump.DumpError.{DumpError}
+use Rattle.netlink_packet_sock_diag.specs.declared.dump.DumpError.TheVariants.{Fault}
 use Rattle.netlink_packet_sock_diag.specs.Dump.{concatenation, kept, Dump, DatagramDump, AreSplit}
 use Rattle.netlink_packet_sock_diag.specs.Dump.{Standing, unended}
-use Rattle.netlink_packet_sock_diag.specs.Feed.{AreInterrupted, FeedsLeave}
+use Rattle.netlink_packet_sock_diag.specs.Feed.{AreInterrupted, FeedLeaves, FeedsLeave}
 use Rattle.netlink_packet_sock_diag.specs.Feed.{IsInterrupted}
 use Rattle.netlink_packet_sock_diag.proofs.DumpRows.{End, OneList, SomeItems, bytes-concatenation}
 use Rattle.netlink_packet_sock_diag.proofs.DumpRows.{dump_of_split, ended_stays, feed_step}
@@ -309,6 +312,30 @@ module _ (C : Codec ℕ) (some : SomeItems C) (one : OneList C) where
             absurd (left_reading C step.0 off (sym (stays.1 ∙ step.2)))
       ]
 
+  -- one behind the first datagram interrupts the dump
+  later_interrupt : (d : List ℕ) (later : List (List ℕ)) (before middle : List C.Value)
+      (next : Standing) (answer : Result Unit DumpError)
+      → FeedLeaves C before unended d middle next answer → answer ≢ Err (Fault Memory)
+      → next ≡ unended → AreInterrupted C middle later → AreInterrupted C before (d ∷ later)
+  later_interrupt d later before middle next answer f memory going
+      (front, back, x, onward, after, parts, leave, is) = (
+        d ∷ front,
+        back,
+        x,
+        onward,
+        after,
+        ap (λ (l : List (List ℕ)). d ∷ l) parts,
+        (
+          middle,
+          next,
+          answer,
+          f,
+          memory,
+          subst (λ (s : Standing). FeedsLeave C middle s front onward unended) (sym going) leave,
+        ),
+        is,
+      )
+
   of_whole : (datagrams : List (List ℕ)) → AllByRecursion IsBytes datagrams → AreSplit datagrams
       → (before after : List C.Value) (left : Standing)
       → FeedsLeave C before unended datagrams after left
@@ -340,27 +367,11 @@ module _ (C : Codec ℕ) (some : SomeItems C) (one : OneList C) where
                   step.1 p.1 in
                   let going : f.1 ≡ unended =
                   step.2 ∙ ap (state_left C) same.1 ∙ state_left-reading C in
-                  let more = of_whole later in_range.1 split.1 f.0 after left
+                  later_interrupt d later before f.0 f.1 f.2 f.3 f.4 going
+                  (of_whole later in_range.1 split.1 f.0 after left
                   (subst (λ (s : Standing). FeedsLeave C f.0 s later after left) going f.5)
                   (subst (λ (m : List C.Value). Reached C m (concatenation later)) (sym same.0)
-                  p.2) in (
-                    d ∷ more.0,
-                    more.1,
-                    more.2,
-                    more.3,
-                    more.4,
-                    ap (λ (l : List (List ℕ)). d ∷ l) more.5,
-                    (
-                      f.0,
-                      f.1,
-                      f.2,
-                      f.3,
-                      f.4,
-                      subst (λ (s : Standing). FeedsLeave C f.0 s more.0 more.3 unended) (sym going)
-                          more.6,
-                    ),
-                    more.7,
-                  )
+                  p.2))
             ]
       ]
 

@@ -6,6 +6,7 @@ pub mod Interrupting
 pub mod Lawful
 pub mod DumpRows
 pub mod Interruptions
+pub mod LossyDumps
 pub mod Feeding
 pub mod WholeViews
 mod NoFault

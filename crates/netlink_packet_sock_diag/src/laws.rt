@@ -9,7 +9,7 @@ ghost use Rattle.netlink_core.specs.declared.fault.DecodeError.{DecodeError};
 ghost use Rattle.netlink_core.specs.declared.fault.DecodeError.TheVariants.{Memory};
 ghost use Rattle.netlink_core.specs.declared.fault.DecodeError.TheVariants.{UnknownMessageType};
 ghost use Rattle.netlink_core.specs.declared.header.NetlinkHeader.{NetlinkHeader};
-ghost use Rattle.netlink_core.specs.Header.{IsHeaderInRange};
+ghost use Rattle.netlink_core.specs.Header.{IsEnvelopeFault, IsHeaderInRange};
 ghost use Rattle.netlink_core.specs.Envelope.{Payload, Envelope, inner, OfInner, finalized};
 ghost use Rattle.netlink_core.specs.Envelope.{envelope_codec};
 ghost use Rattle.netlink_core.specs.declared.message.NetlinkMessage.{NetlinkMessage};
@@ -24,7 +24,7 @@ ghost use Rattle.netlink_packet_sock_diag.specs.contracts.coded.SockDiagDestroyC
 ghost use Rattle.netlink_packet_sock_diag.specs.contracts.coded.SockDiagMessageCoded.TheImpl.{ghosts as messages};
 ghost use Rattle.netlink_packet_sock_diag.specs.declared.message.SockDiagDestroy.{SockDiagDestroy};
 ghost use Rattle.netlink_packet_sock_diag.specs.Dump.{concatenation, Dump};
-ghost use Rattle.netlink_packet_sock_diag.specs.Dump.{DatagramsDump};
+ghost use Rattle.netlink_packet_sock_diag.specs.Dump.{DatagramDump, DatagramsDump};
 ghost use Rattle.netlink_packet_sock_diag.specs.Dump.{AreSplit, Standing, unended};
 ghost use Rattle.netlink_packet_sock_diag.specs.Feed.{AreInterrupted, FeedsLeave, IsInterrupted};
 ghost use Rattle.netlink_packet_sock_diag.specs.declared.dump.views.DumpViews.{DumpViews};
@@ -311,6 +311,19 @@ pub fn same_items_change_no_lossy_feed()
         → FeedsLeave (lossy message_codec) [] unended datagrams entries state
         → FeedsLeave (lossy message_codec) [] unended others same end
         → (entries ≡ same) × (state ≡ end) }
+{}
+
+/// Of a datagram without a fault a `LossyDump` keeps what a [`DumpReader`](crate::DumpReader) does,
+/// and ends as that does; and a fault that ends it is one of what is no message.
+pub fn lossy_dump_keeps_messages()
+    ensures kept { (datagram : List ℕ) (before after : List Message) (end : Standing)
+        → DatagramDump message_codec before datagram after (Ok end)
+        → DatagramDump (lossy message_codec) (map (λ (m : Message). Ok m) before) datagram
+        (map (λ (m : Message). Ok m) after) (Ok end) }
+    ensures fault { (datagram : List ℕ) (before after : List (Result Message DecodeError))
+        (fault : DecodeError)
+        → DatagramDump (lossy message_codec) before datagram after (Err fault)
+        → (rest : List ℕ) × IsEnvelopeFault rest fault }
 {}
 
 /// A whole walk over a datagram gives its items in order: what each message carries or its fault,

@@ -152,12 +152,13 @@ fn dumps_are_read(rt: HostRuntime) -> Result<(), Fail> {
     Ok(())
 }
 
-/// Datagrams, the answer of a `LossyDump` to the last one, how far the dump is then, the number that
-/// its end tells, and the fault of each entry that is none.
+/// Datagrams, the answer of a `LossyDump` to the last one, how far the dump is then, the number
+/// that its end tells, and the fault of each entry, or none.
 const LOSSY_DUMPS: &str = "reply unknown+reply: (Ok(()), Reading, None, [None, \
 Some(UnknownMessageType { message_type: 21 }), None])
 packet noop+reply+done: (Ok(()), Done, Some(0), [Some(UnknownFamily { family: 17 }), None])
-unknown+error reply: (Err(Ended), Error, Some(238), [Some(UnknownMessageType { message_type: 21 })])
+unknown+error reply: (Err(Ended), Error, Some(238), \
+[Some(UnknownMessageType { message_type: 21 })])
 unknown+reply+00: (Err(Fault(EnvelopeCut { got: 1 })), Failed, None, \
 [Some(UnknownMessageType { message_type: 21 }), None])";
 

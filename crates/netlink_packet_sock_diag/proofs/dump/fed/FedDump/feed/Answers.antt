@@ -1,4 +1,4 @@
-use Rattle.std.proofs.Common.{◌≡◌, ◌∙◌, Bool, true, false, not, Ok, Err, map, refl, sym}
+use Rattle.std.proofs.Common.{◌≡◌, ◌∙◌, inl, inr, Bool, true, false, not, Ok, Err, map, refl, sym}
 use Rattle.std.specs.Prelude.{None}
 use Rattle.netlink_packet_sock_diag.specs.declared.dump.DumpError.TheVariants.{Fault}
 use Rattle.netlink_packet_sock_diag.specs.contracts.dump.DumpState.{the_type}
@@ -6,7 +6,6 @@ use Rattle.netlink_packet_sock_diag.specs.declared.dump.DumpState.{DumpState}
 use Rattle.netlink_packet_sock_diag.specs.declared.dump.DumpState.TheVariants.{Reading, Failed}
 use Rattle.netlink_packet_sock_diag.specs.declared.dump.DumpState.TheVariants.{Done, Error}
 use Rattle.netlink_packet_sock_diag.specs.declared.dump.DumpState.TheVariants.{Overrun}
-use Rattle.netlink_packet_sock_diag.specs.Dump.{Standing, unended}
 use Rattle.netlink_packet_sock_diag.proofs.DumpRows.{unnumbered}
 use Rattle.netlink_packet_sock_diag.proofs.Feeding.{fed_on}
 use Rattle.netlink_packet_sock_diag.proofs.dump.fed.FedDump.feed.Goals as goal
@@ -46,6 +45,27 @@ invariant_of-self-in-Err g c =
           (Err (Fault c.in-Err.fault)) dump.fed
           (dump.unnumbered read, refl, c.in-Err.ensures.fault, c.in-Err.ensures.memory);
     }
+
+pub returns-in-Ok-clause-leaves : goal.returns-in-Ok-clause-leaves
+returns-in-Ok-clause-leaves g c =
+    let dump = c.args.self.now in
+    let read = still_reading dump.standing.0 c.ne.result c.ne.ensures c.if-ne.false in
+    (dump.unnumbered read, c.in-Ok.ensures.state)
+
+pub returns-in-Ok-clause-interrupted : goal.returns-in-Ok-clause-interrupted
+returns-in-Ok-clause-interrupted g c =
+    let dump = c.args.self.now in
+    let read = still_reading dump.standing.0 c.ne.result c.ne.ensures c.if-ne.false in
+    let seen = c.in-Ok.ensures.interrupted in (
+      λ is. elim (seen.0 is) [
+        | inl was ↦ inl was
+        | inr comes ↦ inr (dump.unnumbered read, comes)
+      ],
+      λ e. seen.1 (elim e [
+        | inl was ↦ inl was
+        | inr comes ↦ inr comes.1
+      ]),
+    )
 
 pub returns-in-Err-clause-leaves : goal.returns-in-Err-clause-leaves
 returns-in-Err-clause-leaves g c =
