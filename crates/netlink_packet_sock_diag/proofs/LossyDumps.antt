@@ -31,6 +31,18 @@ all_back : {A : Type 0} (P : A → Type 0) (xs ys : List A) → AllByRecursion P
 all_back P [] ys h = h
 all_back P (x ∷ xs) ys h = all_back P xs ys h.1
 
+-- a dump of one item that ends none
+of_one : {A : Type 0} (before : List A) (x : Item A) → end_of x ≡ None
+    → Dump before (x ∷ []) (before ++ kept x) (Ok unended)
+of_one before x plain = (
+  x ∷ [],
+  [],
+  refl,
+  (plain, tt),
+  ap (λ (l : List _). before ++ l) (sym (append-nil (kept x))),
+  refl,
+)
+
 module _ {A : Type 0} where
   -- the item that a lossy dump has of one: a refused message is one that is kept
   abbrev told : Item A → Item (Result A DecodeError)
@@ -70,18 +82,6 @@ module _ {A : Type 0} where
   end_told (Ok (error_with given)) s ends = ends
   end_told (Ok (overrun_with given)) s ends = ends
   end_told (Err e) s ends = absurd cc
-
-  -- a dump of one item that ends none
-  of_one : {B : Type 0} (before : List B) (x : Item B) → end_of x ≡ None
-      → Dump before (x ∷ []) (before ++ kept x) (Ok unended)
-  of_one before x plain = (
-    x ∷ [],
-    [],
-    refl,
-    (plain, tt),
-    ap (λ (l : List _). before ++ l) (sym (append-nil (kept x))),
-    refl,
-  )
 
   dump_told : (carried : List (Item A)) (end : Option DecodeError) (before after : List A)
       (s : Standing) → Dump before (carried ++ last end) after (Ok s)
@@ -171,7 +171,7 @@ module _ (C : Codec ℕ) where
 
   -- a fault is one of what is no message
   abbrev IsFraming : Item (Result C.Value DecodeError) → Type 0
-  IsFraming (Ok payload) = ⊤
+  IsFraming (Ok _) = ⊤
   IsFraming (Err e) = (rest : List ℕ) × IsEnvelopeFault rest e
 
   framing_in : (messages : List (List ℕ)) (carried : List (Item (Result C.Value DecodeError)))
@@ -179,7 +179,7 @@ module _ (C : Codec ℕ) where
   framing_in [] [] each = tt
   framing_in [] (x ∷ xs) each = absurd each
   framing_in (m ∷ messages) [] each = absurd each
-  framing_in (m ∷ messages) (Ok payload ∷ xs) each = (tt, framing_in messages xs each.1)
+  framing_in (m ∷ messages) (Ok carried ∷ xs) each = (tt, framing_in messages xs each.1)
   framing_in (m ∷ messages) (Err e ∷ xs) each = (
     elim each.0 [
       | inl fault ↦ (m, fault)
