@@ -2,7 +2,7 @@
 -- second.
 use Rattle.std.proofs.Common.{◌≡◌, ◌≢◌, ℕ, ◌⊎◌, inl, inr, List, [], ◌∷◌, ◌++◌, refl, sym, ap, subst}
 use Rattle.std.proofs.Common.{◌∙◌, append_assoc}
-use Rattle.std.specs.Prelude.{Option, Some, None, Result, Ok, Err}
+use Rattle.std.specs.Prelude.{MatchOption, Option, Some, None, Result, Ok, Err, slice_get}
 use Rattle.std.specs.List.{AllByRecursion, AllZip, flat_map}
 use Rattle.std.proofs.lemmas.List.{append-nil}
 use Rattle.std.proofs.lemmas.Grind.{flat_map-append}
@@ -21,20 +21,29 @@ use Rattle.netlink_packet_sock_diag.specs.declared.dump.DumpState.TheVariants.{D
 use Rattle.netlink_packet_sock_diag.specs.declared.dump.DumpState.TheVariants.{Overrun}
 use Rattle.netlink_packet_sock_diag.specs.declared.dump.DumpError.{DumpError}
 use Rattle.netlink_packet_sock_diag.specs.declared.dump.DumpError.TheVariants.{Ended, Fault}
-use Rattle.netlink_packet_sock_diag.specs.Dump.{concatenation, end_of, kept, Ends, Dump, DumpGoesOn}
+use Rattle.netlink_packet_sock_diag.specs.Dump.{concatenation, end_of, kept, Dump}
 use Rattle.netlink_packet_sock_diag.specs.Dump.{DatagramDump, DatagramsDump, AreSplit, Standing}
 use Rattle.netlink_packet_sock_diag.specs.Dump.{unended}
 use Rattle.netlink_packet_sock_diag.specs.Feed.{FeedLeaves, FeedsLeave}
 
 -- how a dump ends, or its fault
-abbrev End : Type 0
+abbrev pub End : Type 0
 End = Result Standing DecodeError
+
+-- the first of the later items ends the dump; where there is none it is still read
+abbrev pub Ends : {A : Type 0} → List (Item A) → End → Type 0
+Ends later end = MatchOption (slice_get later 0) (end ≡ Ok unended) (λ item. end_of item ≡ Some end)
+
+-- the dump goes on, if it was still read; else its list and its end stay
+abbrev pub DumpGoesOn : {A : Type 0} → List A → End → List (Item A) → List A → End → Type 0
+DumpGoesOn middle state items after end = ((state ≡ Ok unended) × Dump middle items after end)
+    ⊎ ((state ≢ Ok unended) × (after ≡ middle) × (end ≡ state))
 
 -- no item ends a dump
 abbrev Plain : {A : Type 0} → List (Item A) → Type 0
 Plain items = AllByRecursion (λ item. end_of item ≡ None) items
 
-none_or_some : {X : Type 0} (end : Option X) → (end ≡ None) ⊎ ((x : X) × (end ≡ Some x))
+pub none_or_some : {X : Type 0} (end : Option X) → (end ≡ None) ⊎ ((x : X) × (end ≡ Some x))
 none_or_some None = inl refl
 none_or_some (Some x) = inr (x, refl)
 
@@ -163,7 +172,7 @@ module _ {A : Type 0} where
         (ends_before d.1 ys state d.5 off.0),
   )
 
-  reading_or_not : (items : List (Item A)) (state : End) → Ends items state
+  pub reading_or_not : (items : List (Item A)) (state : End) → Ends items state
       → (state ≡ Ok unended) ⊎ (state ≢ Ok unended)
   reading_or_not [] state ends = inl ends
   reading_or_not (item ∷ items) state ends = inr (λ is. no_end_reading item (ends ∙ ap Some is))
@@ -198,7 +207,7 @@ module _ {A : Type 0} where
       ]
 
 -- bytes one after the other are bytes
-bytes-concatenation : (datagrams : List (List ℕ)) → AllByRecursion IsBytes datagrams
+pub bytes-concatenation : (datagrams : List (List ℕ)) → AllByRecursion IsBytes datagrams
     → IsBytes (concatenation datagrams)
 bytes-concatenation [] in_range = IsBytes-nil
 bytes-concatenation (b ∷ later) in_range =
@@ -206,10 +215,10 @@ bytes-concatenation (b ∷ later) in_range =
 
 module _ (C : Codec ℕ) where
   -- bytes have items, and one list of them
-  abbrev SomeItems : Type 0
+  abbrev pub SomeItems : Type 0
   SomeItems = (b : List ℕ) → IsBytes b → (items : List (Item C.Value)) × ItemsAre C b items
 
-  abbrev OneList : Type 0
+  abbrev pub OneList : Type 0
   OneList = (b : List ℕ) → IsBytes b → (xs ys : List (Item C.Value)) → ItemsAre C b xs
       → ItemsAre C b ys → xs ≡ ys
 
@@ -317,12 +326,13 @@ module _ (C : Codec ℕ) where
   -- ---- what feeding leaves
 
   -- the state in which a dump is left
-  state_left : End → Standing
+  pub state_left : End → Standing
   state_left (Ok state) = state
   state_left (Err e) = (Failed, None)
 
-  feed_step : (before : List C.Value) (datagram : List ℕ) (middle : List C.Value) (next : Standing)
-      (answer : Result Unit DumpError) → FeedLeaves C before unended datagram middle next answer
+  pub feed_step : (before : List C.Value) (datagram : List ℕ) (middle : List C.Value)
+      (next : Standing) (answer : Result Unit DumpError)
+      → FeedLeaves C before unended datagram middle next answer
       → answer ≢ Err (Fault Memory) → (end : End) × DatagramDump C before datagram middle end
       × (next ≡ state_left end)
   unfolding state_left
@@ -338,8 +348,8 @@ module _ (C : Codec ℕ) where
   ended_step before state datagram middle next (Err Ended) over f = (f.1, f.2)
   ended_step before state datagram middle next (Err (Fault e)) over f = absurd (over f.0)
 
-  ended_stays : (datagrams : List (List ℕ)) (before after : List C.Value) (state left : Standing)
-      → state ≢ unended
+  pub ended_stays : (datagrams : List (List ℕ)) (before after : List C.Value)
+      (state left : Standing) → state ≢ unended
       → FeedsLeave C before state datagrams after left → (after ≡ before) × (left ≡ state)
   ended_stays [] before after state left over f = f
   ended_stays (datagram ∷ later) before after state left over f =
@@ -347,17 +357,17 @@ module _ (C : Codec ℕ) where
       let rest = ended_stays later f.0 after f.1 left (λ is. over (sym one.1 ∙ is)) f.5 in
       (rest.0 ∙ one.0, rest.1 ∙ one.1)
 
-  left_reading : (state : End) → state ≢ Ok unended → state_left state ≢ unended
+  pub left_reading : (state : End) → state ≢ Ok unended → state_left state ≢ unended
   unfolding state_left
   left_reading (Ok state) over = λ is. over (ap Ok is)
   left_reading (Err e) over = λ is. let e : Failed ≡ Reading = ap (λ (s : Standing). s.0) is in cc
 
-  state_left-reading : state_left (Ok unended) ≡ unended
+  pub state_left-reading : state_left (Ok unended) ≡ unended
   unfolding state_left
   state_left-reading = refl
 
   -- feeding datagrams in a row gives their dump
-  feeds_dump : SomeItems → (datagrams : List (List ℕ)) → AllByRecursion IsBytes datagrams
+  pub feeds_dump : SomeItems → (datagrams : List (List ℕ)) → AllByRecursion IsBytes datagrams
       → (before after : List C.Value) (left : Standing)
       → FeedsLeave C before unended datagrams after left
       → (end : End) × DatagramsDump C before datagrams after end × (left ≡ state_left end)

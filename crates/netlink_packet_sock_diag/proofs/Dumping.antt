@@ -84,22 +84,11 @@ module _ (C : Codec ℕ) where
   stops_at answers datagram rest next message before after value in_range p s is =
       let all = items_with C answers datagram rest next message p.passed (Ok (inner value)) in_range
       p.walk s is in (
-        p.passed ++ (Ok (inner value) ∷ all.0),
+        p.passed,
+        all.0,
+        value,
         all.1,
-        (
-          p.passed,
-          all.0,
-          value,
-          refl,
-          (
-            p.passed,
-            [],
-            sym (append-nil p.passed),
-            p.plain,
-            p.keeps,
-            refl,
-          ),
-        ),
+        (p.passed, [], sym (append-nil p.passed), p.plain, p.keeps, refl),
       )
 
   pub cut_off_at : (datagram rest : List ℕ) (before after : List C.Value) (e : DecodeError)

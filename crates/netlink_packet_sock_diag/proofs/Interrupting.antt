@@ -45,16 +45,16 @@ last_or_before (y ∷ xs) (f ∷ front) back last x e =
     ]
 
 -- what is related to items in a row begins with what is related to the first of them
-zip_front : {A B : Type 0} (R : A → B → Type 0) (front more : List A) (ys : List B)
+pub zip_front : {A B : Type 0} (R : A → B → Type 0) (front more : List A) (ys : List B)
     → AllZip R (front ++ more) ys
-    → (first later : List B) × (ys ≡ first ++ later) × AllZip R front first
-zip_front R [] more ys h = ([], ys, refl, tt)
+    → (first later : List B) × (ys ≡ first ++ later) × AllZip R front first × AllZip R more later
+zip_front R [] more ys h = ([], ys, refl, tt, h)
 zip_front R (x ∷ front) more [] h = absurd h
 zip_front R (x ∷ front) more (y ∷ ys) h =
     let z = zip_front R front more ys h.1 in
-    (y ∷ z.0, z.1, ap (λ (t : List _). y ∷ t) z.2, (h.0, z.3))
+    (y ∷ z.0, z.1, ap (λ (t : List _). y ∷ t) z.2, (h.0, z.3), z.4)
 
-all_front : {A : Type 0} (P : A → Type 0) (xs ys : List A) → AllByRecursion P (xs ++ ys)
+pub all_front : {A : Type 0} (P : A → Type 0) (xs ys : List A) → AllByRecursion P (xs ++ ys)
     → AllByRecursion P xs
 all_front P [] ys h = tt
 all_front P (x ∷ xs) ys h = (h.0, all_front P xs ys h.1)
@@ -73,11 +73,11 @@ memory_or_named Memory = inl refl
 memory_or_named _ = inr (λ is. cc)
 
 -- what bytes are cut into is bytes, as long as each says
-abbrev Strings : List (List ℕ) → Type 0
+abbrev pub Strings : List (List ℕ) → Type 0
 Strings messages = AllByRecursion (λ m. IsBytes m × IsMessageString m) messages
 
-strings_of : (bytes : List ℕ) (messages : List (List ℕ)) (end : Option DecodeError) → IsBytes bytes
-    → CutIntoMessages bytes messages end → Strings messages
+pub strings_of : (bytes : List ℕ) (messages : List (List ℕ)) (end : Option DecodeError)
+    → IsBytes bytes → CutIntoMessages bytes messages end → Strings messages
 strings_of bytes [] end in_range cut = tt
 strings_of bytes (m ∷ messages) end in_range cut = (
   (
@@ -243,7 +243,7 @@ module _ (C : Codec ℕ) where
       )
 
   -- the items of a message are one
-  one_item : OneList → (m : List ℕ) → IsBytes m × IsMessageString m → (i j : Item C.Value)
+  pub one_item : OneList → (m : List ℕ) → IsBytes m × IsMessageString m → (i j : Item C.Value)
       → ItemIs C m i → ItemIs C m j → i ≡ j
   one_item one m string i j h k =
       let start : StartsWithMessage m m [] = record {

@@ -1,6 +1,6 @@
 -- The messages that a dump keeps of the items of its datagrams, and how it ends.
-use Rattle.std.specs.Prelude.{◌≡◌, ◌≢◌, ℕ, ℤ, List, [], ◌∷◌, ◌++◌, ⊤, ◌⊎◌, Option, Some, None}
-use Rattle.std.specs.Prelude.{Result, Ok, Err}
+use Rattle.std.specs.Prelude.{◌≡◌, ℕ, ℤ, List, [], ◌∷◌, ◌++◌, ⊤, ◌⊎◌, Option, Some, None}
+use Rattle.std.specs.Prelude.{MatchOption, Result, Ok, Err, slice_get}
 use Rattle.std.specs.List.{AllByRecursion, AllZip, flat_map}
 use Rattle.netlink_core.specs.declared.fault.DecodeError.{DecodeError}
 use Rattle.netlink_core.specs.Codec.{Codec}
@@ -39,29 +39,13 @@ module _ {A : Type 0} where
   end_of (Err e) = Some (Err e)
   end_of _ = None
 
-  -- the first of the later items ends the dump; where there is none it is still read
-  abbrev pub Ends : List (Item A) → Result Standing DecodeError → Type 0
-  Ends [] end = end ≡ Ok unended
-  Ends (item ∷ later) end = end_of item ≡ Some end
-
   -- The inner messages of the longest beginning of the items that holds inner messages and messages
-  -- of nothing alone follow those before, and the next item is the end.
+  -- of nothing alone follow those before. The next item is the end; where there is none the dump is
+  -- still read.
   abbrev pub Dump : List A → List (Item A) → List A → Result Standing DecodeError → Type 0
-  Dump before items after end = (passed later : List (Item A))
-      × (items ≡ passed ++ later) × AllByRecursion (λ item. end_of item ≡ None) passed
-      × (after ≡ before ++ flat_map kept passed) × Ends later end
-
-  -- the dump over some first items is still read, and the next is an inner message, for which there
-  -- was no memory
-  abbrev pub DumpStopped : List A → List (Item A) → List A → Type 0
-  DumpStopped before items after = (passed later : List (Item A)) × (next : A)
-      × (items ≡ passed ++ (Ok (inner next) ∷ later)) × Dump before passed after (Ok unended)
-
--- the dump goes on, if it was still read; else its list and its end stay
-abbrev pub DumpGoesOn : {A : Type 0} → List A → Result Standing DecodeError
-    → List (Item A) → List A → Result Standing DecodeError → Type 0
-DumpGoesOn middle state items after end = ((state ≡ Ok unended) × Dump middle items after end)
-    ⊎ ((state ≢ Ok unended) × (after ≡ middle) × (end ≡ state))
+  Dump before items after end = (passed later : List (Item A)) × (items ≡ passed ++ later)
+      × AllByRecursion (λ one. end_of one ≡ None) passed × (after ≡ before ++ flat_map kept passed)
+      × MatchOption (slice_get later 0) (end ≡ Ok unended) (λ item. end_of item ≡ Some end)
 
 -- the dump over the items of a datagram, by the codec of inner messages under a type
 module _ (C : Codec ℕ) where
@@ -70,10 +54,10 @@ module _ (C : Codec ℕ) where
   DatagramDump before datagram after end =
       (items : List (Item C.Value)) × ItemsAre C datagram items × Dump before items after end
 
-  -- up to a message for which there was no memory
+  -- up to a message for which there was no memory: over the items in front of it it is still read
   abbrev pub DatagramStopped : List C.Value → List ℕ → List C.Value → Type 0
-  DatagramStopped before datagram after =
-      (items : List (Item C.Value)) × ItemsAre C datagram items × DumpStopped before items after
+  DatagramStopped before datagram after = (front later : List (Item C.Value)) × (m : C.Value)
+      × ItemsAre C datagram (front ++ (Ok (inner m) ∷ later)) × Dump before front after (Ok unended)
 
   -- these are the items of the datagrams, in a row
   abbrev pub HaveItems : List (List ℕ) → List (Item C.Value) → Type 0

@@ -7,12 +7,12 @@ use Rattle.netlink_packet_sock_diag.specs.MessageModel.{message_model}
 
 -- the messages that are kept, in order
 abbrev pub kept_messages : DumpReader → List Message
-kept_messages reader = map message_model reader.messages.items
+kept_messages reader = map message_model reader.dump.kept.items
 
 -- how it stands
 abbrev pub standing : DumpReader → Standing
-standing reader = (reader.state, reader.number)
+standing reader = reader.dump.standing
 
 -- whether a message had NLM_F_DUMP_INTR
 abbrev pub was_interrupted : DumpReader → Bool
-was_interrupted reader = reader.interrupted
+was_interrupted reader = reader.dump.interrupted

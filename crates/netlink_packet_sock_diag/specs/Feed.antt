@@ -20,12 +20,11 @@ module _ (C : Codec ℕ) where
   -- Of a dump that was read: its end in the datagram, or its fault, or that memory ran out. Of one
   -- that had ended: nothing.
   abbrev pub FeedLeaves : List C.Value → Standing → List ℕ → List C.Value → Standing → Result Unit DumpError → Type 0
-  FeedLeaves before state datagram after left (Ok _) = (state ≡ unended) × DatagramDump C before datagram after (Ok left)
-  FeedLeaves before state datagram after left (Err Ended) = (state ≢ unended) × (after ≡ before) × (left ≡ state)
-  FeedLeaves before state datagram after left (Err (Fault e)) =
-      (state ≡ unended) × (left ≡ (Failed, None))
-      × (e ≢ Memory → DatagramDump C before datagram after (Err e))
-      × (e ≡ Memory → DatagramStopped C before datagram after)
+  FeedLeaves before was b after is (Ok _) = (was ≡ unended) × DatagramDump C before b after (Ok is)
+  FeedLeaves before was b after is (Err Ended) = (was ≢ unended) × (after ≡ before) × (is ≡ was)
+  FeedLeaves before was b after is (Err (Fault e)) = (was ≡ unended) × (is ≡ (Failed, None))
+      × (e ≢ Memory → DatagramDump C before b after (Err e))
+      × (e ≡ Memory → DatagramStopped C before b after)
 
   -- the same of datagrams that are fed one after the other, where there was memory for all
   abbrev pub FeedsLeave : List C.Value → Standing → List (List ℕ) → List C.Value → Standing → Type 0
@@ -42,3 +41,10 @@ module _ (C : Codec ℕ) where
       × (middle more : List C.Value) × CutIntoMessages datagram (passed ++ (message ∷ later)) end
       × HasHeader message h × IsBitSet h.flags 4 × AllZip (ItemIs C) passed items
       × Dump before items middle (Ok unended) × (after ≡ middle ++ more)
+
+  -- One of the datagrams, which are fed one after the other, interrupts the dump: behind those in
+  -- front of it it is still read.
+  abbrev pub AreInterrupted : List C.Value → List (List ℕ) → Type 0
+  AreInterrupted before datagrams = (front back : List (List ℕ)) × (datagram : List ℕ)
+      × (middle after : List C.Value) × (datagrams ≡ front ++ (datagram ∷ back))
+      × FeedsLeave before unended front middle unended × IsInterrupted middle datagram after

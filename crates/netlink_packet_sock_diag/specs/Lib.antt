@@ -13,6 +13,8 @@ pub mod MessageViewModel
 pub mod EqualResponseLaws
 pub mod HeaderLaws
 pub mod EqualMessageLaws
+pub mod Lossy
+pub mod LossyLaws
 pub mod Dump
 pub mod Feed
 pub mod DumpModel

@@ -23,8 +23,7 @@ payload_view_model (InnerMessage message) = inner (message_view_model message)
 
 -- the message, with its header
 abbrev pub envelope_view_model : MessageView → Envelope Message
-envelope_view_model view =
-    record { header = view.header; payload = payload_view_model view.payload }
+envelope_view_model v = record { header = v.header; payload = payload_view_model v.payload }
 
 -- the model of an item of a datagram
 abbrev pub item_view_model : Result PayloadView DecodeError → Result (Payload Message) DecodeError

@@ -1,7 +1,7 @@
 //! Laws of replies and of messages. The functions do nothing: their contracts are the laws.
 
-ghost use Rattle.std.specs.Prelude.{Bool, true, ◌≡◌, ◌%◌, ◌↔◌, ◌⊎◌, ◌++◌, ℕ, List, [], ◌∷◌, length};
-ghost use Rattle.std.specs.Prelude.{count_by, IsTrue, Result, IfOk, IsOk, map};
+ghost use Rattle.std.specs.Prelude.{Bool, true, ◌≡◌, ◌≢◌, ◌%◌, ◌↔◌, ◌⊎◌, ◌++◌, ℕ, List, [], ◌∷◌};
+ghost use Rattle.std.specs.Prelude.{length, count_by, IsTrue, Result, IfOk, IsOk, map};
 ghost use Rattle.std.specs.Iterator.{Drains};
 ghost use Rattle.std.specs.List.{AllByRecursion, AllZip};
 ghost use Rattle.netlink_core.specs.Bytes.{IsBytes};
@@ -9,24 +9,24 @@ ghost use Rattle.netlink_core.specs.declared.fault.DecodeError.{DecodeError};
 ghost use Rattle.netlink_core.specs.declared.fault.DecodeError.TheVariants.{Memory};
 ghost use Rattle.netlink_core.specs.declared.fault.DecodeError.TheVariants.{UnknownMessageType};
 ghost use Rattle.netlink_core.specs.declared.header.NetlinkHeader.{NetlinkHeader};
-ghost use Rattle.netlink_core.specs.Header.{IsHeaderInRange};
+ghost use Rattle.netlink_core.specs.Header.{IsEnvelopeFault, IsHeaderInRange};
 ghost use Rattle.netlink_core.specs.Envelope.{Payload, Envelope, inner, OfInner, finalized};
 ghost use Rattle.netlink_core.specs.Envelope.{envelope_codec};
 ghost use Rattle.netlink_core.specs.declared.message.NetlinkMessage.{NetlinkMessage};
 ghost use Rattle.netlink_core.specs.declared.message.NetlinkPayload.TheVariants.{InnerMessage};
 ghost use Rattle.netlink_core.specs.Items.{ItemsAre};
 ghost use Rattle.netlink_core.specs.EnvelopeModel.{envelope_of};
-ghost use Rattle.netlink_core.specs.Response.{response_bytes, response_codec};
+ghost use Rattle.netlink_core.specs.Response.{ValueOf, response_bytes, response_codec};
 ghost use Rattle.netlink_packet_sock_diag.specs.MessageModel.{destroy_model};
 ghost use Rattle.netlink_packet_sock_diag.specs.contracts.coded.SockDiagMessageEmitable.TheImpl.{ghosts as owned_messages};
 ghost use Rattle.netlink_packet_sock_diag.specs.contracts.coded.SockDiagViewEmitable.TheImpl.{ghosts as message_views};
 ghost use Rattle.netlink_packet_sock_diag.specs.contracts.coded.SockDiagDestroyCoded.TheImpl.{ghosts as destroys};
 ghost use Rattle.netlink_packet_sock_diag.specs.contracts.coded.SockDiagMessageCoded.TheImpl.{ghosts as messages};
 ghost use Rattle.netlink_packet_sock_diag.specs.declared.message.SockDiagDestroy.{SockDiagDestroy};
-ghost use Rattle.netlink_packet_sock_diag.specs.Dump.{concatenation, Dump, DumpGoesOn};
-ghost use Rattle.netlink_packet_sock_diag.specs.Dump.{DatagramsDump};
+ghost use Rattle.netlink_packet_sock_diag.specs.Dump.{concatenation, Dump};
+ghost use Rattle.netlink_packet_sock_diag.specs.Dump.{DatagramDump, DatagramsDump};
 ghost use Rattle.netlink_packet_sock_diag.specs.Dump.{AreSplit, Standing, unended};
-ghost use Rattle.netlink_packet_sock_diag.specs.Feed.{FeedsLeave};
+ghost use Rattle.netlink_packet_sock_diag.specs.Feed.{AreInterrupted, FeedsLeave, IsInterrupted};
 ghost use Rattle.netlink_packet_sock_diag.specs.declared.dump.views.DumpViews.{DumpViews};
 ghost use Rattle.netlink_packet_sock_diag.specs.declared.dump.views.PayloadView.{PayloadView};
 ghost use Rattle.netlink_core.specs.DatagramWalk.{datagram_left};
@@ -35,10 +35,10 @@ ghost use Rattle.netlink_packet_sock_diag.specs.PayloadViewModel.{payload_view_m
 ghost use Rattle.netlink_packet_sock_diag.specs.PayloadViewModel.{item_view_model};
 ghost use Rattle.netlink_packet_sock_diag.specs.UnixResponseSpec.{UnixResponseValue};
 ghost use Rattle.netlink_packet_sock_diag.specs.UnixResponseSpec.{unix_response_spec};
-ghost use Rattle.netlink_packet_sock_diag.specs.InetResponseSpec.{InetResponseValue};
 ghost use Rattle.netlink_packet_sock_diag.specs.InetResponseSpec.{inet_response_spec};
 ghost use Rattle.netlink_packet_sock_diag.specs.ViewModel.{view_model};
 ghost use Rattle.netlink_packet_sock_diag.specs.MessageViewModel.{message_view_model};
+ghost use Rattle.netlink_packet_sock_diag.specs.Lossy.{lossy};
 ghost use Rattle.netlink_packet_sock_diag.specs.Message.{Message, MessageKind, message_kind};
 ghost use Rattle.netlink_packet_sock_diag.specs.Message.{inet_request, inet_response, unix_request};
 ghost use Rattle.netlink_packet_sock_diag.specs.Message.{unix_response, message_codec};
@@ -55,7 +55,8 @@ use std::alloc::{AllocError, Global};
 pub fn reply_lengths_are_multiples_of_four()
     ensures unix { (v : UnixResponseValue) → (response_codec unix_response_spec).is_in_range v
         → length (response_bytes unix_response_spec v) % 4 ≡ 0 }
-    ensures inet { (v : InetResponseValue) → (response_codec inet_response_spec).is_in_range v
+    ensures inet { (v : ValueOf inet_response_spec)
+        → (response_codec inet_response_spec).is_in_range v
         → length (response_bytes inet_response_spec v) % 4 ≡ 0 }
 {}
 
@@ -192,7 +193,9 @@ pub fn dump_over_concatenation()
         (xs ys : List (Result (Payload Message) DecodeError))
         → (Dump before (xs ++ ys) after end
         ↔ ((middle : List Message) × (state : Result Standing DecodeError)
-        × Dump before xs middle state × DumpGoesOn middle state ys after end)) }
+        × Dump before xs middle state
+        × (((state ≡ Ok unended) × Dump middle ys after end)
+        ⊎ ((state ≢ Ok unended) × (after ≡ middle) × (end ≡ state))))) }
 {}
 
 /// Datagrams with the same items in a row have the same dump.
@@ -255,6 +258,73 @@ pub fn same_items_change_no_feed()
     laws::datagram_has_items::<SockDiagMessage>();
     laws::one_list_of_items::<SockDiagMessage>();
 }
+
+/// Nor does whether the dump is interrupted: of the same bytes, fed to two new readers in any two
+/// such ways, and memory for all, a datagram interrupts the one dump exactly where one does the
+/// other, and where all the bytes in one datagram do.
+pub fn split_changes_no_interruption()
+    ensures split { (datagrams others : List (List ℕ)) → AllByRecursion IsBytes datagrams
+        → AllByRecursion IsBytes others
+        → AreSplit datagrams → AreSplit others → concatenation datagrams ≡ concatenation others
+        → (messages same : List Message) (state end : Standing)
+        → FeedsLeave message_codec [] unended datagrams messages state
+        → FeedsLeave message_codec [] unended others same end
+        → (AreInterrupted message_codec [] datagrams ↔ AreInterrupted message_codec [] others) }
+    ensures whole { (datagrams : List (List ℕ)) → AllByRecursion IsBytes datagrams
+        → AreSplit datagrams → (messages : List Message) (state : Standing)
+        → FeedsLeave message_codec [] unended datagrams messages state
+        → (AreInterrupted message_codec [] datagrams
+        ↔ IsInterrupted message_codec [] (concatenation datagrams) messages) }
+{}
+
+/// What feeding a `LossyDump` leaves does not depend on the split either: the same bytes, fed to
+/// two new ones in any two such ways, and memory for all, leave the same entries, the same state
+/// and the same number, and interrupt both or none.
+pub fn split_changes_no_lossy_feed()
+    ensures left { (datagrams others : List (List ℕ)) → AllByRecursion IsBytes datagrams
+        → AllByRecursion IsBytes others
+        → AreSplit datagrams → AreSplit others → concatenation datagrams ≡ concatenation others
+        → (entries same : List (Result Message DecodeError)) (state end : Standing)
+        → FeedsLeave (lossy message_codec) [] unended datagrams entries state
+        → FeedsLeave (lossy message_codec) [] unended others same end
+        → (entries ≡ same) × (state ≡ end) }
+    ensures interrupted { (datagrams others : List (List ℕ)) → AllByRecursion IsBytes datagrams
+        → AllByRecursion IsBytes others
+        → AreSplit datagrams → AreSplit others → concatenation datagrams ≡ concatenation others
+        → (entries same : List (Result Message DecodeError)) (state end : Standing)
+        → FeedsLeave (lossy message_codec) [] unended datagrams entries state
+        → FeedsLeave (lossy message_codec) [] unended others same end
+        → (AreInterrupted (lossy message_codec) [] datagrams
+        ↔ AreInterrupted (lossy message_codec) [] others) }
+{}
+
+/// Nor does it where datagrams have the same items in a row: fed to two new `LossyDump`s, and with
+/// memory for all, they leave the same entries, the same state and the same number.
+pub fn same_items_change_no_lossy_feed()
+    ensures { (datagrams others : List (List ℕ))
+        (xs ys : List (List (Result (Payload (Result Message DecodeError)) DecodeError)))
+        → AllByRecursion IsBytes datagrams → AllByRecursion IsBytes others
+        → AllZip (ItemsAre (lossy message_codec)) datagrams xs
+        → AllZip (ItemsAre (lossy message_codec)) others ys
+        → concatenation xs ≡ concatenation ys
+        → (entries same : List (Result Message DecodeError)) (state end : Standing)
+        → FeedsLeave (lossy message_codec) [] unended datagrams entries state
+        → FeedsLeave (lossy message_codec) [] unended others same end
+        → (entries ≡ same) × (state ≡ end) }
+{}
+
+/// Of a datagram without a fault a `LossyDump` keeps what a [`DumpReader`](crate::DumpReader) does,
+/// and ends as that does; and a fault that ends it is one of what is no message.
+pub fn lossy_dump_keeps_messages()
+    ensures kept { (datagram : List ℕ) (before after : List Message) (end : Standing)
+        → DatagramDump message_codec before datagram after (Ok end)
+        → DatagramDump (lossy message_codec) (map (λ (m : Message). Ok m) before) datagram
+        (map (λ (m : Message). Ok m) after) (Ok end) }
+    ensures fault { (datagram : List ℕ) (before after : List (Result Message DecodeError))
+        (fault : DecodeError)
+        → DatagramDump (lossy message_codec) before datagram after (Err fault)
+        → (rest : List ℕ) × IsEnvelopeFault rest fault }
+{}
 
 /// A whole walk over a datagram gives its items in order: what each message carries or its fault,
 /// and last the fault of what is no message, if there is one.

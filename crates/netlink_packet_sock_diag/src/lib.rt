@@ -23,6 +23,7 @@ pub use dump::DumpError;
 pub use dump::DumpReader;
 pub use dump::DumpState;
 pub use dump::DumpViews;
+pub use dump::LossyDump;
 pub use dump::MessageView;
 pub use dump::PayloadView;
 pub use message::SockDiagDestroy;

@@ -4,7 +4,7 @@ use super::read_twice::ReadTwice;
 use netlink_core::{CanonError, DecodeError, NetlinkMessage, canonical};
 use netlink_packet_sock_diag::inet::InetResponse;
 use netlink_packet_sock_diag::unix::UnixResponse;
-use netlink_packet_sock_diag::{DumpReader, DumpState, SockDiagMessage};
+use netlink_packet_sock_diag::{DumpReader, DumpState, LossyDump, SockDiagMessage};
 use std::alloc::Global;
 use std::process::Abort;
 
@@ -119,6 +119,18 @@ fn dumps(rt: HostRuntime) {
     }
     let all = reader.state() == DumpState::Done && reader.messages().len() == 4;
     assert!(rt; all || reader.state() == DumpState::Failed);
+}
+
+/// Want of memory is no entry.
+#[test]
+fn lossy_dumps(rt: HostRuntime) {
+    let mut dump = LossyDump::new(rt.alloc());
+    let fed = dump.feed(BOTH);
+    assert!(rt; fed.is_ok() == (dump.state() != DumpState::Failed) && !dump.is_interrupted());
+    assert!(rt; dump.entries().len() == 2 || dump.state() == DumpState::Failed);
+    for entry in dump.entries() {
+        assert!(rt; entry.is_ok());
+    }
 }
 
 /// What keeps no message takes no memory.

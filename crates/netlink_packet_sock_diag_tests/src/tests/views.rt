@@ -6,7 +6,9 @@ use super::{INET, PATH, SHUTDOWN, bytes, shows};
 use netlink_core::{Emitable, write_new};
 use netlink_packet_sock_diag::inet::InetResponseView;
 use netlink_packet_sock_diag::unix::UnixResponseView;
-use netlink_packet_sock_diag::{DumpError, DumpReader, DumpState, DumpViews, SockDiagView};
+use netlink_packet_sock_diag::{
+    DumpError, DumpReader, DumpState, DumpViews, LossyDump, SockDiagView,
+};
 use std::alloc::Global;
 use std::fmt::Debug;
 use std::process::Abort;
@@ -95,6 +97,7 @@ fn datagram(alloc: Global, names: &str) -> Result<Vec<u8>, Fail> {
             "noop" => "10000000010000000000000000000000",
             "reply" => "2000000014000200070000000000000001010a000e4f0000a002000000000000",
             "unknown" => "2000000015000200070000000000000001010a000e4f0000a002000000000000",
+            "packet" => "2000000014000200070000000000000011010a000e4f0000a002000000000000",
             "done" => "1400000003000200070000000000000000000000",
             "error" => "14000000020002000700000000000000ee000000",
             "lost" => "14000000040002000700000000000000ee000000",
@@ -145,6 +148,35 @@ fn dumps_are_read(rt: HostRuntime) -> Result<(), Fail> {
     for row in DUMPS.lines() {
         let (datagrams, part) = row.split_once(": ").ok_or("no part")?;
         shows(&rt, rt.alloc(), &fed(rt.alloc(), datagrams)?, part)?;
+    }
+    Ok(())
+}
+
+/// Datagrams, the answer of a `LossyDump` to the last one, how far the dump is then, the number
+/// that its end tells, and the fault of each entry, or none.
+const LOSSY_DUMPS: &str = "reply unknown+reply: (Ok(()), Reading, None, [None, \
+Some(UnknownMessageType { message_type: 21 }), None])
+packet noop+reply+done: (Ok(()), Done, Some(0), [Some(UnknownFamily { family: 17 }), None])
+unknown+error reply: (Err(Ended), Error, Some(238), \
+[Some(UnknownMessageType { message_type: 21 })])
+unknown+reply+00: (Err(Fault(EnvelopeCut { got: 1 })), Failed, None, \
+[Some(UnknownMessageType { message_type: 21 }), None])";
+
+#[test]
+fn dumps_go_past_refused_replies(rt: HostRuntime) -> Result<(), Fail> {
+    for row in LOSSY_DUMPS.lines() {
+        let (datagrams, part) = row.split_once(": ").ok_or("no part")?;
+        let mut dump = LossyDump::new(rt.alloc());
+        let mut answer = Ok(());
+        for names in datagrams.split(' ') {
+            answer = dump.feed(&datagram(rt.alloc(), names)?);
+        }
+        let (state, number) = (dump.state(), dump.error_number());
+        let mut faults = Vec::new(rt.alloc());
+        for entry in dump.into_entries() {
+            faults.push(entry.err())?;
+        }
+        shows(&rt, rt.alloc(), &(answer, state, number, faults), part)?;
     }
     Ok(())
 }

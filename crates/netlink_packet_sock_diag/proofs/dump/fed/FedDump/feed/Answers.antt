@@ -1,0 +1,74 @@
+use Rattle.std.proofs.Common.{◌≡◌, ◌∙◌, inl, inr, Bool, true, false, not, Ok, Err, map, refl, sym}
+use Rattle.std.specs.Prelude.{None}
+use Rattle.netlink_packet_sock_diag.specs.declared.dump.DumpError.TheVariants.{Fault}
+use Rattle.netlink_packet_sock_diag.specs.contracts.dump.DumpState.{the_type}
+use Rattle.netlink_packet_sock_diag.specs.declared.dump.DumpState.{DumpState}
+use Rattle.netlink_packet_sock_diag.specs.declared.dump.DumpState.TheVariants.{Reading, Failed}
+use Rattle.netlink_packet_sock_diag.specs.declared.dump.DumpState.TheVariants.{Done, Error}
+use Rattle.netlink_packet_sock_diag.specs.declared.dump.DumpState.TheVariants.{Overrun}
+use Rattle.netlink_packet_sock_diag.proofs.DumpRows.{unnumbered}
+use Rattle.netlink_packet_sock_diag.proofs.Feeding.{fed_on}
+use Rattle.netlink_packet_sock_diag.proofs.dump.fed.FedDump.feed.Goals as goal
+use denote.Enum.Bare.{sameb}
+
+-- a state that does not differ from the first is the first
+still_reading : (state : DumpState) (differs : Bool)
+    → differs ≡ not (sameb the_type state Reading) → differs ≡ false → state ≡ Reading
+still_reading Reading differs is equal = refl
+still_reading Done differs is equal = let e : true ≡ false = sym is ∙ equal in cc
+still_reading Error differs is equal = let e : true ≡ false = sym is ∙ equal in cc
+still_reading Overrun differs is equal = let e : true ≡ false = sym is ∙ equal in cc
+still_reading Failed differs is equal = let e : true ≡ false = sym is ∙ equal in cc
+
+pub invariant_of-self : goal.invariant_of-self
+invariant_of-self g c =
+    let dump = c.args.self.now in
+    let read = still_reading dump.standing.0 c.ne.result c.ne.ensures c.if-ne.false in
+    let kept = map g.I.Kept.model dump.kept.items in
+    let after = map g.I.Kept.model c.take_messages.new.messages.items in
+    let taken = c.in-Ok.ensures.state in
+    record {
+      unnumbered = unnumbered taken.2.1 c.in-Ok.standing taken.2.5;
+      fed = fed_on g.I.Kept.codec kept after dump.standing c.in-Ok.standing c.args.datagram.now
+          (Ok tt) dump.fed (dump.unnumbered read, taken);
+    }
+
+pub invariant_of-self-in-Err : goal.invariant_of-self-in-Err
+invariant_of-self-in-Err g c =
+    let dump = c.args.self.now in
+    let read = still_reading dump.standing.0 c.ne.result c.ne.ensures c.if-ne.false in
+    let kept = map g.I.Kept.model dump.kept.items in
+    let after = map g.I.Kept.model c.take_messages.new.messages.items in
+    record {
+      unnumbered = λ is. cc;
+      fed = fed_on g.I.Kept.codec kept after dump.standing (Failed, None) c.args.datagram.now
+          (Err (Fault c.in-Err.fault)) dump.fed
+          (dump.unnumbered read, refl, c.in-Err.ensures.fault, c.in-Err.ensures.memory);
+    }
+
+pub returns-in-Ok-clause-leaves : goal.returns-in-Ok-clause-leaves
+returns-in-Ok-clause-leaves g c =
+    let dump = c.args.self.now in
+    let read = still_reading dump.standing.0 c.ne.result c.ne.ensures c.if-ne.false in
+    (dump.unnumbered read, c.in-Ok.ensures.state)
+
+pub returns-in-Ok-clause-interrupted : goal.returns-in-Ok-clause-interrupted
+returns-in-Ok-clause-interrupted g c =
+    let dump = c.args.self.now in
+    let read = still_reading dump.standing.0 c.ne.result c.ne.ensures c.if-ne.false in
+    let seen = c.in-Ok.ensures.interrupted in (
+      λ is. elim (seen.0 is) [
+        | inl was ↦ inl was
+        | inr comes ↦ inr (dump.unnumbered read, comes)
+      ],
+      λ e. seen.1 (elim e [
+        | inl was ↦ inl was
+        | inr comes ↦ inr comes.1
+      ]),
+    )
+
+pub returns-in-Err-clause-leaves : goal.returns-in-Err-clause-leaves
+returns-in-Err-clause-leaves g c =
+    let dump = c.args.self.now in
+    let read = still_reading dump.standing.0 c.ne.result c.ne.ensures c.if-ne.false in
+    (dump.unnumbered read, refl, c.in-Err.ensures.fault, c.in-Err.ensures.memory)

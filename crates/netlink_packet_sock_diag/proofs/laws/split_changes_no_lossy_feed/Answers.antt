@@ -1,0 +1,23 @@
+use Rattle.std.proofs.Common.{[]}
+use Rattle.netlink_packet_sock_diag.specs.Lossy.{lossy}
+use Rattle.netlink_packet_sock_diag.specs.LossyLaws.{lossy_laws}
+use Rattle.netlink_packet_sock_diag.specs.Message.{message_codec}
+use Rattle.netlink_packet_sock_diag.specs.MessageLaws.{message_laws}
+use Rattle.netlink_packet_sock_diag.proofs.DumpRows.{same_feeds}
+use Rattle.netlink_packet_sock_diag.proofs.Interruptions.{split_interrupts}
+use Rattle.netlink_packet_sock_diag.proofs.Lawful.{one_list_of_items, some_items}
+use Rattle.netlink_packet_sock_diag.proofs.laws.split_changes_no_lossy_feed.Goals as goal
+
+pub returns : goal.returns
+returns c =
+    let laws = lossy_laws message_codec message_laws in
+    let some = some_items (lossy message_codec) laws in
+    let one = one_list_of_items (lossy message_codec) laws in
+    record {
+      left = λ datagrams others in_range fits split cut same entries also state end f g.
+          same_feeds (lossy message_codec) some one datagrams others in_range fits split cut same []
+          entries also state end f g;
+      interrupted = λ datagrams others in_range fits split cut same entries also state end f g.
+          split_interrupts (lossy message_codec) some one datagrams others in_range fits split cut
+          same [] entries also state end f g;
+    }

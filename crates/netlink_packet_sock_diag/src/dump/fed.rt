@@ -1,0 +1,127 @@
+//! A dump that is fed datagrams, whatever it keeps of their messages.
+
+ghost use Rattle.std.specs.Prelude.{◌≡◌, ◌≢◌, ◌⊎◌, ◌↔◌, ℕ, List, [], map, Result, Ok as ok};
+ghost use Rattle.std.specs.Prelude.{Err as err, IfOk, IfErr, IsBitSet, IsTrue, None, false};
+ghost use Rattle.netlink_core.specs.declared.fault.DecodeError.TheVariants.{Memory};
+ghost use Rattle.netlink_packet_sock_diag.specs.Dump.{DatagramDump, DatagramStopped, Standing};
+ghost use Rattle.netlink_packet_sock_diag.specs.Dump.{unended};
+ghost use Rattle.netlink_packet_sock_diag.specs.Feed.{FeedLeaves, FeedsLeave, IsInterrupted};
+ghost use Rattle.netlink_packet_sock_diag.specs.declared.dump.DumpError.{DumpError as Refusal};
+ghost use Rattle.netlink_packet_sock_diag.specs.declared.dump.DumpState.TheVariants.{Reading};
+ghost use Rattle.netlink_packet_sock_diag.specs.declared.dump.DumpState.TheVariants.{Failed};
+
+use super::kept::Kept;
+use super::{DumpError, DumpState};
+use netlink_core::{
+    DecodeError, MessageStrings, NETLINK_HEADER_LEN, NLMSG_DONE, NLMSG_ERROR, NLMSG_NOOP,
+    NLMSG_OVERRUN, NetlinkHeader, error_number,
+};
+use std::alloc::Global;
+
+/// The flag of a header that says that what is dumped changed meanwhile, `NLM_F_DUMP_INTR`.
+const NLM_F_DUMP_INTR: u16 = 0x10;
+
+// Whether a dump was interrupted, where a message with this header comes.
+#[inline(always)]
+fn interrupted_by(was: bool, header: &NetlinkHeader) -> bool
+    ensures { IsTrue result ↔ (IsTrue was ⊎ IsBitSet header.now.flags 4) }
+{
+    was || header.flags & NLM_F_DUMP_INTR != 0
+}
+
+// Takes the messages of a datagram up to the end of the dump, and tells how the dump then stands:
+// its state, and the number that its end tells. The type and the flags of each are looked at before
+// memory is taken.
+fn take_messages<I: Kept>(
+    alloc: Global,
+    messages: &mut Vec<I>,
+    interrupted: &mut bool,
+    datagram: &[u8],
+) -> Result<(DumpState, Option<i32>), DecodeError>
+    ensures state { IfOk result (λ standing. DatagramDump I.codec
+        (map I.model messages.old.items) datagram.now (map I.model messages.new.items)
+        (ok standing)) }
+    ensures fault { IfErr result (λ e. e ≢ Memory → DatagramDump I.codec
+        (map I.model messages.old.items) datagram.now (map I.model messages.new.items) (err e)) }
+    ensures memory { IfErr result (λ e. e ≡ Memory → DatagramStopped I.codec
+        (map I.model messages.old.items) datagram.now (map I.model messages.new.items)) }
+    ensures interrupted { IsTrue interrupted.new ↔ (IsTrue interrupted.old
+        ⊎ IsInterrupted I.codec (map I.model messages.old.items) datagram.now
+        (map I.model messages.new.items)) }
+{
+    for item in MessageStrings::new(datagram) {
+        let message = item?;
+        let header = NetlinkHeader::from_prefix(message)?;
+        *interrupted = interrupted_by(*interrupted, &header);
+        let payload = &message[NETLINK_HEADER_LEN..header.length as usize];
+        match header.message_type {
+            NLMSG_NOOP => {}
+            NLMSG_ERROR => return Ok((DumpState::Error, error_number(payload))),
+            NLMSG_DONE => return Ok((DumpState::Done, error_number(payload))),
+            NLMSG_OVERRUN => return Ok((DumpState::Overrun, None)),
+            _ => messages.push(I::take(alloc, &header, payload)?)?,
+        }
+    }
+    Ok((DumpState::Reading, None))
+}
+
+/// A dump that was fed datagrams: what it keeps of them in order, and how it stands.
+#[derive(Drop)]
+pub(crate) struct FedDump<I: Kept> {
+    alloc: Global,
+    pub(crate) kept: Vec<I>,
+    /// Its state, and the number that its end tells.
+    pub(crate) standing: (DumpState, Option<i32>),
+    /// Whether a message had the flag that says that what is dumped changed meanwhile.
+    pub(crate) interrupted: bool,
+    // A dump that is still read has no number.
+    ghost unnumbered: { (standing.0 ≡ Reading) → (standing ≡ unended) },
+    // Datagrams were fed, with memory for all, and left these and this state; or one more was, and
+    // the dump has failed.
+    ghost fed: { ∥ ((datagrams : List (List ℕ)) × (before : List I.codec.Value) × (was : Standing)
+        × FeedsLeave I.codec [] unended datagrams before was
+        × (((map I.model kept.items ≡ before) × (standing ≡ was))
+        ⊎ ((standing ≡ (Failed, None)) × (last : List ℕ) × (answer : Result Unit Refusal)
+        × FeedLeaves I.codec before was last (map I.model kept.items) standing answer))) ∥₁ },
+}
+
+impl<I: Kept> FedDump<I> {
+    /// A dump of which nothing has come. The allocator is kept.
+    pub(crate) fn new(alloc: Global) -> Self
+        ensures kept { result.kept.items ≡ [] }
+        ensures state { result.standing ≡ unended }
+        ensures interrupted { result.interrupted ≡ false }
+    {
+        FedDump {
+            alloc,
+            kept: Vec::new(alloc),
+            standing: (DumpState::Reading, None),
+            interrupted: false,
+        }
+    }
+
+    /// Takes the messages of a datagram, as [`DumpReader::feed`](crate::DumpReader::feed) says.
+    pub(crate) fn feed(&mut self, datagram: &[u8]) -> Result<(), DumpError>
+        ensures leaves { FeedLeaves I.codec (map I.model self.old.kept.items)
+            self.old.standing datagram.now (map I.model self.new.kept.items) self.new.standing
+            result }
+        ensures interrupted { IsTrue self.new.interrupted ↔ (IsTrue self.old.interrupted
+            ⊎ ((self.old.standing ≡ unended)
+            × IsInterrupted I.codec (map I.model self.old.kept.items) datagram.now
+            (map I.model self.new.kept.items))) }
+    {
+        if self.standing.0 != DumpState::Reading {
+            return Err(DumpError::Ended);
+        }
+        match take_messages(self.alloc, &mut self.kept, &mut self.interrupted, datagram) {
+            Ok(standing) => {
+                self.standing = standing;
+                Ok(())
+            }
+            Err(fault) => {
+                self.standing = (DumpState::Failed, None);
+                Err(DumpError::Fault(fault))
+            }
+        }
+    }
+}
