@@ -45,108 +45,111 @@ of_one before x plain = (
 
 module _ {A : Type 0} where
   -- the item that a lossy dump has of one: a refused message is one that is kept
-  abbrev told : Item A → Item (Result A DecodeError)
-  told (Ok (inner v)) = Ok (inner (Ok v))
-  told (Ok no_payload) = Ok no_payload
-  told (Ok (done_with given)) = Ok (done_with given)
-  told (Ok (error_with given)) = Ok (error_with given)
-  told (Ok (overrun_with given)) = Ok (overrun_with given)
-  told (Err e) = Ok (inner (Err e))
+  abbrev as_entry : Item A → Item (Result A DecodeError)
+  as_entry (Ok (inner v)) = Ok (inner (Ok v))
+  as_entry (Ok no_payload) = Ok no_payload
+  as_entry (Ok (done_with given)) = Ok (done_with given)
+  as_entry (Ok (error_with given)) = Ok (error_with given)
+  as_entry (Ok (overrun_with given)) = Ok (overrun_with given)
+  as_entry (Err e) = Ok (inner (Err e))
 
-  abbrev all_told : List A → List (Result A DecodeError)
-  all_told vs = map (λ v. Ok v) vs
+  abbrev entries_of : List A → List (Result A DecodeError)
+  entries_of vs = map (λ v. Ok v) vs
 
-  told_append : (vs ws : List A) → all_told (vs ++ ws) ≡ all_told vs ++ all_told ws
-  told_append vs ws = map-append (λ v. Ok v) vs ws
+  entries_append : (vs ws : List A) → entries_of (vs ++ ws) ≡ entries_of vs ++ entries_of ws
+  entries_append vs ws = map-append (λ v. Ok v) vs ws
 
-  plain_told : (x : Item A) → end_of x ≡ None → end_of (told x) ≡ None
-  plain_told (Ok (inner v)) plain = refl
-  plain_told (Ok no_payload) plain = refl
-  plain_told (Ok (done_with given)) plain = absurd cc
-  plain_told (Ok (error_with given)) plain = absurd cc
-  plain_told (Ok (overrun_with given)) plain = absurd cc
-  plain_told (Err e) plain = absurd cc
+  plain_entry : (x : Item A) → end_of x ≡ None → end_of (as_entry x) ≡ None
+  plain_entry (Ok (inner v)) plain = refl
+  plain_entry (Ok no_payload) plain = refl
+  plain_entry (Ok (done_with given)) plain = absurd cc
+  plain_entry (Ok (error_with given)) plain = absurd cc
+  plain_entry (Ok (overrun_with given)) plain = absurd cc
+  plain_entry (Err e) plain = absurd cc
 
-  kept_told : (x : Item A) → end_of x ≡ None → kept (told x) ≡ all_told (kept x)
-  kept_told (Ok (inner v)) plain = refl
-  kept_told (Ok no_payload) plain = refl
-  kept_told (Ok (done_with given)) plain = refl
-  kept_told (Ok (error_with given)) plain = refl
-  kept_told (Ok (overrun_with given)) plain = refl
-  kept_told (Err e) plain = absurd cc
+  kept_entry : (x : Item A) → end_of x ≡ None → kept (as_entry x) ≡ entries_of (kept x)
+  kept_entry (Ok (inner v)) plain = refl
+  kept_entry (Ok no_payload) plain = refl
+  kept_entry (Ok (done_with given)) plain = refl
+  kept_entry (Ok (error_with given)) plain = refl
+  kept_entry (Ok (overrun_with given)) plain = refl
+  kept_entry (Err e) plain = absurd cc
 
-  end_told : (x : Item A) (s : Standing) → end_of x ≡ Some (Ok s) → end_of (told x) ≡ Some (Ok s)
-  end_told (Ok (inner v)) s ends = absurd cc
-  end_told (Ok no_payload) s ends = absurd cc
-  end_told (Ok (done_with given)) s ends = ends
-  end_told (Ok (error_with given)) s ends = ends
-  end_told (Ok (overrun_with given)) s ends = ends
-  end_told (Err e) s ends = absurd cc
+  end_of_entry : (x : Item A) (s : Standing) → end_of x ≡ Some (Ok s)
+      → end_of (as_entry x) ≡ Some (Ok s)
+  end_of_entry (Ok (inner v)) s ends = absurd cc
+  end_of_entry (Ok no_payload) s ends = absurd cc
+  end_of_entry (Ok (done_with given)) s ends = ends
+  end_of_entry (Ok (error_with given)) s ends = ends
+  end_of_entry (Ok (overrun_with given)) s ends = ends
+  end_of_entry (Err e) s ends = absurd cc
 
-  dump_told : (carried : List (Item A)) (end : Option DecodeError) (before after : List A)
+  dump_of_entries : (carried : List (Item A)) (end : Option DecodeError) (before after : List A)
       (s : Standing) → Dump before (carried ++ last end) after (Ok s)
-      → Dump (all_told before) (map told carried ++ last end) (all_told after) (Ok s)
-  dump_told [] None before after s d =
+      → Dump (entries_of before) (map as_entry carried ++ last end) (entries_of after) (Ok s)
+  dump_of_entries [] None before after s d =
       let same = one_dump before [] after before (Ok s) (Ok unended) d
       ([], [], refl, tt, sym (append-nil before), refl) in
-      subst (λ (l : List A). Dump (all_told before) [] (all_told l) (Ok s)) (sym same.0)
-      (subst (λ (e : End). Dump (all_told before) [] (all_told before) e) (sym same.1)
-      ([], [], refl, tt, sym (append-nil (all_told before)), refl))
-  dump_told [] (Some e) before after s d =
+      subst (λ (l : List A). Dump (entries_of before) [] (entries_of l) (Ok s)) (sym same.0)
+      (subst (λ (e : End). Dump (entries_of before) [] (entries_of before) e) (sym same.1)
+      ([], [], refl, tt, sym (append-nil (entries_of before)), refl))
+  dump_of_entries [] (Some e) before after s d =
       let same = one_dump before (Err e ∷ []) after before (Ok s) (Err e) d
       ([], Err e ∷ [], refl, tt, sym (append-nil before), refl) in
       let no : Ok s ≡ Err e = same.1 in absurd cc
-  dump_told (x ∷ xs) end before after s d = elim (none_or_some (end_of x)) [
+  dump_of_entries (x ∷ xs) end before after s d = elim (none_or_some (end_of x)) [
     | inl plain ↦
         let p = parted before after (Ok s) (x ∷ []) (xs ++ last end) d in
         let same = one_dump before (x ∷ []) p.0 (before ++ kept x) p.1 (Ok unended) p.2
         (of_one before x plain) in
-        let keeps : all_told before ++ kept (told x) ≡ all_told p.0 =
-        ap (λ (l : List (Result A DecodeError)). all_told before ++ l) (kept_told x plain)
-        ∙ sym (told_append before (kept x)) ∙ ap all_told (sym same.0) in
-        let front : Dump (all_told before) (told x ∷ []) (all_told p.0) (Ok unended) =
-        subst (λ (l : List (Result A DecodeError)). Dump (all_told before) (told x ∷ []) l
-        (Ok unended)) keeps (of_one (all_told before) (told x) (plain_told x plain)) in
+        let keeps : entries_of before ++ kept (as_entry x) ≡ entries_of p.0 =
+        ap (λ (l : List (Result A DecodeError)). entries_of before ++ l) (kept_entry x plain)
+        ∙ sym (entries_append before (kept x)) ∙ ap entries_of (sym same.0) in
+        let front : Dump (entries_of before) (as_entry x ∷ []) (entries_of p.0) (Ok unended) =
+        subst (λ (l : List (Result A DecodeError)). Dump (entries_of before) (as_entry x ∷ []) l
+        (Ok unended)) keeps (of_one (entries_of before) (as_entry x) (plain_entry x plain)) in
         elim p.3 [
-          | inl on ↦ joined (all_told before) (all_told p.0) (all_told after) (Ok unended) (Ok s)
-              (told x ∷ []) (map told xs ++ last end) front
-              (inl (refl, dump_told xs end p.0 after s on.1))
+          | inl on ↦ joined (entries_of before) (entries_of p.0) (entries_of after) (Ok unended)
+              (Ok s)
+              (as_entry x ∷ []) (map as_entry xs ++ last end) front
+              (inl (refl, dump_of_entries xs end p.0 after s on.1))
           | inr off ↦ absurd (off.0 same.1)
         ]
     | inr e ↦
         let same = one_dump before (x ∷ (xs ++ last end)) after before (Ok s) e.0 d
         ([], x ∷ (xs ++ last end), refl, tt, sym (append-nil before), e.1) in
-        subst (λ (l : List A). Dump (all_told before) (told x ∷ (map told xs ++ last end))
-        (all_told l) (Ok s)) (sym same.0) (
+        subst (λ (l : List A). Dump (entries_of before) (as_entry x ∷ (map as_entry xs ++ last end))
+        (entries_of l) (Ok s)) (sym same.0) (
           [],
-          told x ∷ (map told xs ++ last end),
+          as_entry x ∷ (map as_entry xs ++ last end),
           refl,
           tt,
-          sym (append-nil (all_told before)),
-          end_told x s (e.1 ∙ ap Some (sym same.1)),
+          sym (append-nil (entries_of before)),
+          end_of_entry x s (e.1 ∙ ap Some (sym same.1)),
         )
   ]
 
 module _ (C : Codec ℕ) where
-  is_told : (message : List ℕ) (item : Item C.Value) → IsMessageString message
-      → ItemIs C message item → ItemIs (lossy C) message (told item)
-  is_told message (Ok (inner v)) whole is = is
-  is_told message (Ok no_payload) whole is = is
-  is_told message (Ok (done_with given)) whole is = is
-  is_told message (Ok (error_with given)) whole is = is
-  is_told message (Ok (overrun_with given)) whole is = is
-  is_told message (Err e) whole (inl fault) = absurd (no_fault_in_message message e whole fault)
-  is_told message (Err e) whole (inr (h, head, kind, fault)) = (h, (head, (kind, fault)))
+  is_entry : (message : List ℕ) (item : Item C.Value) → IsMessageString message
+      → ItemIs C message item → ItemIs (lossy C) message (as_entry item)
+  is_entry message (Ok (inner v)) whole is = is
+  is_entry message (Ok no_payload) whole is = is
+  is_entry message (Ok (done_with given)) whole is = is
+  is_entry message (Ok (error_with given)) whole is = is
+  is_entry message (Ok (overrun_with given)) whole is = is
+  is_entry message (Err e) whole (inl fault) = absurd (no_fault_in_message message e whole fault)
+  is_entry message (Err e) whole (inr (h, head, kind, fault)) = (h, (head, (kind, fault)))
 
-  zip_told : (bytes : List ℕ) (messages : List (List ℕ)) (end : Option DecodeError)
+  zip_entries : (bytes : List ℕ) (messages : List (List ℕ)) (end : Option DecodeError)
       → CutIntoMessages bytes messages end → (carried : List (Item C.Value))
-      → AllZip (ItemIs C) messages carried → AllZip (ItemIs (lossy C)) messages (map told carried)
-  zip_told bytes [] end cut [] each = tt
-  zip_told bytes [] end cut (x ∷ xs) each = absurd each
-  zip_told bytes (m ∷ messages) end cut [] each = absurd each
-  zip_told bytes (m ∷ messages) end cut (x ∷ xs) each = (
-    is_told m x cut.1.whole each.0,
-    zip_told cut.0 messages end cut.2 xs each.1,
+      → AllZip (ItemIs C) messages carried
+      → AllZip (ItemIs (lossy C)) messages (map as_entry carried)
+  zip_entries bytes [] end cut [] each = tt
+  zip_entries bytes [] end cut (x ∷ xs) each = absurd each
+  zip_entries bytes (m ∷ messages) end cut [] each = absurd each
+  zip_entries bytes (m ∷ messages) end cut (x ∷ xs) each = (
+    is_entry m x cut.1.whole each.0,
+    zip_entries cut.0 messages end cut.2 xs each.1,
   )
 
   -- what is kept of a datagram without a fault
@@ -154,16 +157,16 @@ module _ (C : Codec ℕ) where
       → DatagramDump C before datagram after (Ok s)
       → DatagramDump (lossy C) (map (λ v. Ok v) before) datagram (map (λ v. Ok v) after) (Ok s)
   lossy_keeps datagram before after s (items, are, d) = (
-    map told are.2 ++ last are.1,
+    map as_entry are.2 ++ last are.1,
     (
       are.0,
       are.1,
-      map told are.2,
+      map as_entry are.2,
       are.3,
-      zip_told datagram are.0 are.1 are.3 are.2 are.4,
+      zip_entries datagram are.0 are.1 are.3 are.2 are.4,
       refl,
     ),
-    dump_told are.2 are.1 before after s
+    dump_of_entries are.2 are.1 before after s
         (subst (λ (l : List (Item C.Value)). Dump before l after (Ok s)) are.5 d),
   )
 

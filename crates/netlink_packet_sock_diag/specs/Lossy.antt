@@ -7,14 +7,14 @@ use Rattle.netlink_core.specs.Codec.{Codec}
 abbrev pub lossy : Codec ℕ → Codec ℕ
 lossy C = record {
   Value = Result C.Value DecodeError;
-  is_in_range = λ told. ⊤;
-  reads = λ b t told. MatchResult told (C.reads b t) (C.refuses b t);
+  is_in_range = λ entry. ⊤;
+  reads = λ b t entry. MatchResult entry (C.reads b t) (C.refuses b t);
   refuses = λ b t e. ⊥;
-  is_spare = λ told. ⊥;
+  is_spare = λ entry. ⊥;
   -- both have one value, or one fault
-  idle = λ t b c. (told : Result C.Value DecodeError) × MatchResult told
+  idle = λ t b c. (entry : Result C.Value DecodeError) × MatchResult entry
       (λ v. C.reads b t v × C.reads c t v) (λ e. C.refuses b t e × C.refuses c t e);
-  is_normal = λ t told. ⊤;
-  written = λ told. [];
-  fits = λ told. ⊥;
+  is_normal = λ t entry. ⊤;
+  written = λ entry. [];
+  fits = λ entry. ⊥;
 }

@@ -1,4 +1,4 @@
--- The codec of what is told of strings, refused ones too, keeps the laws.
+-- The codec of entries, values and faults of strings, keeps the laws.
 use Rattle.std.proofs.Common.{◌≡◌, ℕ, List, inl, inr, refl, sym, ap, subst, ◌∙◌}
 use Rattle.std.specs.Prelude.{Result, Ok, Err}
 use Rattle.netlink_core.specs.declared.fault.DecodeError.{DecodeError}
@@ -9,26 +9,26 @@ use Rattle.netlink_packet_sock_diag.specs.Lossy.{lossy}
 
 module _ (C : Codec ℕ) (laws : KeepsLaws C) where
   -- a string has one value or one fault
-  one_told : (b : List ℕ) (t : ℕ) → IsBytes b → (v w : Result C.Value DecodeError)
+  one_entry : (b : List ℕ) (t : ℕ) → IsBytes b → (v w : Result C.Value DecodeError)
       → (lossy C).reads b t v → (lossy C).reads b t w → v ≡ w
-  one_told b t in_range (Ok v) (Ok w) r s =
+  one_entry b t in_range (Ok v) (Ok w) r s =
       ap Ok ((laws.same_value b b t v w in_range in_range r s).1
       ((laws.same_value b b t v v in_range in_range r r).0 refl))
-  one_told b t in_range (Ok v) (Err f) r s = absurd (laws.one_answer b t v f r s)
-  one_told b t in_range (Err e) (Ok w) r s = absurd (laws.one_answer b t w e s r)
-  one_told b t in_range (Err e) (Err f) r s = ap Err (laws.one_fault b t e f r s)
+  one_entry b t in_range (Ok v) (Err f) r s = absurd (laws.one_answer b t v f r s)
+  one_entry b t in_range (Err e) (Ok w) r s = absurd (laws.one_answer b t w e s r)
+  one_entry b t in_range (Err e) (Err f) r s = ap Err (laws.one_fault b t e f r s)
 
   -- strings that are read as the same are idle
-  same_told : (b c : List ℕ) (t : ℕ) (v : Result C.Value DecodeError)
+  same_entry : (b c : List ℕ) (t : ℕ) (v : Result C.Value DecodeError)
       → (lossy C).reads b t v → (lossy C).reads c t v → (lossy C).idle t b c
-  same_told b c t (Ok v) r s = (Ok v, (r, s))
-  same_told b c t (Err e) r s = (Err e, (r, s))
+  same_entry b c t (Ok v) r s = (Ok v, (r, s))
+  same_entry b c t (Err e) r s = (Err e, (r, s))
 
   -- and the other way round
-  idle_told : (b c : List ℕ) (t : ℕ) → (lossy C).idle t b c
+  idle_entry : (b c : List ℕ) (t : ℕ) → (lossy C).idle t b c
       → (v : Result C.Value DecodeError) × (lossy C).reads b t v × (lossy C).reads c t v
-  idle_told b c t (Ok v, i) = (Ok v, i.0, i.1)
-  idle_told b c t (Err e, i) = (Err e, i.0, i.1)
+  idle_entry b c t (Ok v, i) = (Ok v, i.0, i.1)
+  idle_entry b c t (Err e, i) = (Err e, i.0, i.1)
 
   pub lossy_laws : KeepsLaws (lossy C)
   lossy_laws = record {
@@ -40,10 +40,10 @@ module _ (C : Codec ℕ) (laws : KeepsLaws C) where
     one_fault = λ b t e f h k. absurd h;
     named_fault = λ b t f. f;
     same_value = λ b c t v w tb tc r s. (
-      λ e. same_told b c t v r
-          (subst (λ (told : Result C.Value DecodeError). (lossy C).reads c t told) (sym e) s),
-      λ i. let both = idle_told b c t i in
-          one_told b t tb v both.0 r both.1 ∙ one_told c t tc both.0 w both.2 s,
+      λ e. same_entry b c t v r
+          (subst (λ (entry : Result C.Value DecodeError). (lossy C).reads c t entry) (sym e) s),
+      λ i. let both = idle_entry b c t i in
+          one_entry b t tb v both.0 r both.1 ∙ one_entry c t tc both.0 w both.2 s,
     );
     reads_normal = λ b t v in_range r. (tt, tt);
     written_bytes = λ v in_range. IsBytes-nil;
