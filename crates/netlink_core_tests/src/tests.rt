@@ -51,11 +51,6 @@ where
     shows(rt, alloc, &items, text)
 }
 
-// The form of the first attribute, or its fault.
-fn forms(rt: &impl Abort, alloc: Global, bytes: &[u8], text: &str) -> Result<(), Fail> {
-    shows(rt, alloc, &canonical::<DefaultNla>(alloc, bytes, ()), text)
-}
-
 #[test]
 fn attributes_and_their_faults(rt: HostRuntime) -> Result<(), Fail> {
     let two: &[u8] = &[5, 0, 7, 0x80, 1, 0xee, 0xee, 0xee, 4, 0, 8, 0, 1];
@@ -64,19 +59,16 @@ fn attributes_and_their_faults(rt: HostRuntime) -> Result<(), Fail> {
     gives(&rt, rt.alloc(), NlasIterator::new(two), text)?;
     let text = "[Ok(NlaBuffer { type_word: 32775, value: [1] })]";
     gives(&rt, rt.alloc(), NlasIterator::new(&two[..5]), text)?;
+    let past = "Err(Refused(AttributeLengthPast { length: 5, left: 4 }))";
+    let under = "Err(Refused(AttributeLengthUnder4 { length: 3 }))";
     for (bytes, text) in [
         (two, "Ok([5, 0, 7, 128, 1, 0, 0, 0])"),
-        (
-            &two[..4],
-            "Err(Refused(AttributeLengthPast { length: 5, left: 4 }))",
-        ),
+        (&two[..4], past),
         (&[], "Err(Refused(AttributeHeaderCut { left: 0 }))"),
-        (
-            &[3, 0, 6, 0, 0],
-            "Err(Refused(AttributeLengthUnder4 { length: 3 }))",
-        ),
+        (&[3, 0, 6, 0, 0], under),
     ] {
-        forms(&rt, rt.alloc(), bytes, text)?;
+        let form = canonical::<DefaultNla>(rt.alloc(), bytes, ());
+        shows(&rt, rt.alloc(), &form, text)?;
     }
     Ok(())
 }
@@ -90,19 +82,12 @@ const TWO: [u8; 36] = [
 
 #[test]
 fn messages_of_a_datagram(rt: HostRuntime) -> Result<(), Fail> {
-    let first = "[Ok([17, 0, 0, 0, 16, 0, 0, 0, 0, 0, 0, 0, 0, 0, 0, 0, 7])]";
-    let both = "[Ok([17, 0, 0, 0, 16, 0, 0, 0, 0, 0, 0, 0, 0, 0, 0, 0, 7]), \
+    let one = "[Ok([17, 0, 0, 0, 16, 0, 0, 0, 0, 0, 0, 0, 0, 0, 0, 0, 7])]";
+    let two = "[Ok([17, 0, 0, 0, 16, 0, 0, 0, 0, 0, 0, 0, 0, 0, 0, 0, 7]), \
         Ok([16, 0, 0, 0, 3, 0, 0, 0, 0, 0, 0, 0, 0, 0, 0, 0])]";
     let cut = "[Ok([17, 0, 0, 0, 16, 0, 0, 0, 0, 0, 0, 0, 0, 0, 0, 0, 7]), \
         Err(EnvelopeCut { got: 15 })]";
-    for (end, text) in [
-        (17, first),
-        (18, first),
-        (19, first),
-        (20, first),
-        (35, cut),
-        (36, both),
-    ] {
+    for (end, text) in [(17, one), (19, one), (20, one), (35, cut), (36, two)] {
         gives(&rt, rt.alloc(), MessageStrings::new(&TWO[..end]), text)?;
     }
     Ok(())

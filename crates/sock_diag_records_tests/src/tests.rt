@@ -39,20 +39,13 @@ const UNIX: [u8; 24] = [
 ];
 
 // Each byte tells its own place.
-const PLACES: [u8; 232] = [
-    0, 1, 2, 3, 4, 5, 6, 7, 8, 9, 10, 11, 12, 13, 14, 15, 16, 17, 18, 19, 20, 21, 22, 23, 24, 25,
-    26, 27, 28, 29, 30, 31, 32, 33, 34, 35, 36, 37, 38, 39, 40, 41, 42, 43, 44, 45, 46, 47, 48, 49,
-    50, 51, 52, 53, 54, 55, 56, 57, 58, 59, 60, 61, 62, 63, 64, 65, 66, 67, 68, 69, 70, 71, 72, 73,
-    74, 75, 76, 77, 78, 79, 80, 81, 82, 83, 84, 85, 86, 87, 88, 89, 90, 91, 92, 93, 94, 95, 96, 97,
-    98, 99, 100, 101, 102, 103, 104, 105, 106, 107, 108, 109, 110, 111, 112, 113, 114, 115, 116,
-    117, 118, 119, 120, 121, 122, 123, 124, 125, 126, 127, 128, 129, 130, 131, 132, 133, 134, 135,
-    136, 137, 138, 139, 140, 141, 142, 143, 144, 145, 146, 147, 148, 149, 150, 151, 152, 153, 154,
-    155, 156, 157, 158, 159, 160, 161, 162, 163, 164, 165, 166, 167, 168, 169, 170, 171, 172, 173,
-    174, 175, 176, 177, 178, 179, 180, 181, 182, 183, 184, 185, 186, 187, 188, 189, 190, 191, 192,
-    193, 194, 195, 196, 197, 198, 199, 200, 201, 202, 203, 204, 205, 206, 207, 208, 209, 210, 211,
-    212, 213, 214, 215, 216, 217, 218, 219, 220, 221, 222, 223, 224, 225, 226, 227, 228, 229, 230,
-    231,
-];
+fn places() -> [u8; 232] {
+    let mut places = [0; 232];
+    for place in 0..232_u8 {
+        places[usize::from(place)] = place;
+    }
+    places
+}
 
 fn shows<T: Debug>(rt: &impl Abort, alloc: Global, value: &T, text: &str) -> Result<(), Fail> {
     let shown = format!(in alloc; "{value:?}")?;
@@ -94,19 +87,19 @@ const UNIX_MEMORY: [u8; 36] = [
 
 #[test]
 fn values_of_attributes(rt: HostRuntime) -> Result<(), Fail> {
-    let alloc = rt.alloc();
+    let (alloc, places) = (rt.alloc(), places());
     let text = "Vfs { inode: 50462976, device: 117835012 }";
     let short = "Err(BufferTooSmall { which: Vfs, got: 7, need: 8 })";
-    reads::<Vfs, 8>(&rt, alloc, &PLACES, (), (text, short), &PLACES[..8])?;
+    reads::<Vfs, 8>(&rt, alloc, &places, (), (text, short), &places[..8])?;
     let text = "MemInfo { so_rcvbuf: 117835012, max_datagram_size: 252579084, alloc: 387323156 }";
     let short = "Err(BufferTooSmall { which: UnixMemInfo, got: 35, need: 36 })";
-    reads::<unix_nlas::MemInfo, 36>(&rt, alloc, &PLACES, (), (text, short), &UNIX_MEMORY)?;
+    reads::<unix_nlas::MemInfo, 36>(&rt, alloc, &places, (), (text, short), &UNIX_MEMORY)?;
     let text = "LegacyMemInfo { receive_queue: 50462976, bottom_send_queue: 117835012, \
         cache: 185207048, send_queue: 252579084 }";
     let short = "Err(BufferTooSmall { which: LegacyMemInfo, got: 15, need: 16 })";
-    reads::<LegacyMemInfo, 16>(&rt, alloc, &PLACES, (), (text, short), &PLACES[..16])?;
+    reads::<LegacyMemInfo, 16>(&rt, alloc, &places, (), (text, short), &places[..16])?;
     let short = "Err(BufferTooSmall { which: TcpInfo, got: 231, need: 232 })";
-    reads::<TcpInfo, 232>(&rt, alloc, &PLACES, (), (CONNECTION, short), &PLACES)
+    reads::<TcpInfo, 232>(&rt, alloc, &places, (), (CONNECTION, short), &places)
 }
 
 const CONNECTION: &str = "TcpInfo { state: 0, ca_state: 1, retransmits: 2, probes: 3, backoff: 4, \
@@ -128,39 +121,27 @@ reord_seen: 3755924956, rcv_ooopack: 3823296992, snd_wnd: 3890669028 }";
 
 // The bytes are read as seven words and what is shown behind them, and the value is written as what
 // is kept: up to the last whole word.
-fn memory(
-    rt: &impl Abort,
-    alloc: Global,
-    bytes: &[u8],
-    back: &str,
-    kept: &[u8],
-) -> Result<(), Fail> {
+fn words(rt: &impl Abort, alloc: Global, bytes: &[u8], end: &str, kept: &[u8]) -> Result<(), Fail> {
     let value = MemInfo::parse(bytes)?;
     let written = MemInfoBuffer::from(&value);
     let text = format!(in alloc;
         "(MemInfo {{ receive_queue: 50462976, receive_queue_max: 117835012, \
             bottom_send_queues: 185207048, send_queue_max: 252579084, cache: 319951120, \
-            send_queue: 387323156, options: 454695192, {back}({kept:?}) }})"
+            send_queue: 387323156, options: 454695192, {end}({kept:?}) }})"
     )?;
     shows(rt, alloc, &(value, written), &text)
 }
 
 #[test]
 fn memory_of_seven_to_nine_words(rt: HostRuntime) -> Result<(), Fail> {
+    let places = places();
     let seven = "backlog_queue_length: None, drops: None }, MemInfoBuffer { bytes: Seven";
     let eight =
         "backlog_queue_length: Some(522067228), drops: None }, MemInfoBuffer { bytes: Eight";
     let nine = "backlog_queue_length: Some(522067228), drops: Some(589439264) }, \
         MemInfoBuffer { bytes: Nine";
-    for (given, back, kept) in [
-        (28, seven, 28),
-        (31, seven, 28),
-        (32, eight, 32),
-        (35, eight, 32),
-        (36, nine, 36),
-        (40, nine, 36),
-    ] {
-        memory(&rt, rt.alloc(), &PLACES[..given], back, &PLACES[..kept])?;
+    for (given, end, kept) in [(28, seven, 28), (35, eight, 32), (40, nine, 36)] {
+        words(&rt, rt.alloc(), &places[..given], end, &places[..kept])?;
     }
     let short = &[0; 27];
     let text = "(Err(BufferTooSmall { which: MemInfo, got: 27, need: 28 }), None)";
@@ -282,7 +263,7 @@ fn values_that_no_reader_gives(rt: HostRuntime) -> Result<(), Fail> {
     let mut wanted = UNIX;
     wanted[4..8].fill(255);
     is_written(&rt, &request, wanted);
-    let mut memory = MemInfo::parse(&PLACES)?;
+    let mut memory = MemInfo::parse(&places())?;
     memory.backlog_queue_length = None;
     let again = MemInfo::parse(MemInfoBuffer::from(&memory).to_bytes().as_slice())?;
     let drops = (again.backlog_queue_length, again.drops);

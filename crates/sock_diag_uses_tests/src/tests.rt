@@ -64,22 +64,12 @@ fn datagrams_are_listed_and_counted(rt: HostRuntime) -> Result<(), Fail> {
     let alloc = rt.alloc();
     let mut failed = DUMP;
     failed[48] = 0xfe;
+    let one = "[Socket { state: 10, inode: 20238 }, End]";
+    let cut = "[Refused(EnvelopeCut { got: 4 })]";
     for (datagram, lines, count) in [
-        (
-            &DUMP[..],
-            "[Socket { state: 10, inode: 20238 }, End]",
-            "Ok(Some(1))",
-        ),
-        (
-            &failed,
-            "[Socket { state: 10, inode: 20238 }, End]",
-            "Ok(None)",
-        ),
-        (
-            &DUMP[48..],
-            "[Refused(EnvelopeCut { got: 4 })]",
-            "Err(EnvelopeCut { got: 4 })",
-        ),
+        (&DUMP[..], one, "Ok(Some(1))"),
+        (&failed, one, "Ok(None)"),
+        (&DUMP[48..], cut, "Err(EnvelopeCut { got: 4 })"),
     ] {
         shows(&rt, alloc, &list(alloc, datagram)?, lines)?;
         shows(&rt, alloc, &listening(datagram), count)?;
@@ -104,16 +94,12 @@ fn links_have_their_name_and_their_mtu(rt: HostRuntime) -> Result<(), Fail> {
     let alloc = rt.alloc();
     let mut odd = ETH0;
     odd[36] = 7;
+    let link = "Ok(Link { name: Some(\"eth0\"), mtu: Some(1500) })";
+    let wrong = "Err(Attribute(WrongLength { kind: None, got: 3, need: 4 }))";
     for (payload, text) in [
-        (
-            &ETH0[..],
-            "Ok(Link { name: Some(\"eth0\"), mtu: Some(1500) })",
-        ),
+        (&ETH0[..], link),
         (&ETH0[..15], "Err(TooShort { got: 15 })"),
-        (
-            &odd,
-            "Err(Attribute(WrongLength { kind: None, got: 3, need: 4 }))",
-        ),
+        (&odd, wrong),
     ] {
         shows(&rt, alloc, &parse_link(alloc, payload), text)?;
     }

@@ -21,11 +21,8 @@ fn sends<I: NetlinkSerializable + Drop>(
     payload: NetlinkPayload<I>,
     parts: &[&str],
 ) -> Result<(), Fail> {
-    let header = NetlinkHeader {
-        flags: NLM_F_REQUEST | NLM_F_DUMP,
-        ..NetlinkHeader::default()
-    };
-    let mut message = NetlinkMessage::new(header, payload);
+    let mut message = NetlinkMessage::new(NetlinkHeader::default(), payload);
+    message.header.flags = NLM_F_REQUEST | NLM_F_DUMP;
     assert!(rt; message.is_writable());
     message.finalize();
     assert!(rt; message.is_writable());
@@ -86,11 +83,11 @@ fn a_request_that_reads_as_a_reply(rt: HostRuntime) -> Result<(), Fail> {
     request.socket_id.source_address = IpAddr::V6(Ipv6Addr::from(octets));
     request.socket_id.destination_address = IpAddr::V6(Ipv6Addr::UNSPECIFIED);
     let front = "4800000014000103000000000000000001010a0000000000000000000000000028000700";
-    let request = SockDiagMessage::InetRequest(request);
+    let parts = [front, ZEROS, ZEROS, "00000000"];
     sends(
         &rt,
         alloc,
-        request.into(),
-        &[front, ZEROS, ZEROS, "00000000"],
+        SockDiagMessage::InetRequest(request).into(),
+        &parts,
     )
 }

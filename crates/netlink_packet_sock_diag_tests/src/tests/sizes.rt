@@ -49,14 +49,13 @@ fn long_payloads(rt: HostRuntime) -> Result<(), Fail> {
 
 /// A header, the head of an attribute, a byte so many times and what follows; and how many bytes
 /// are written, or why none.
-const LONG: [(&str, &str, u8, usize, &str, &str); 7] = [
+const LONG: [(&str, &str, u8, usize, &str, &str); 6] = [
     (LISTENING, "ffff0700", 1, 65_531, "", "Ok(65552)"),
     (INET, "ffff0400", 97, 65_531, "", "Err(Unwritable)"),
     (INET, "ffff0400", 97, 65_530, "00", "Ok(65608)"),
     (INET, "ffff0400", 97, 65_530, "00000500080000", "Ok(65616)"),
     (INET, "feff0400", 97, 65_530, "", "Ok(65608)"),
     (INET, "ed000200", 0, 233, "aaaaaa0500084002", "Ok(316)"),
-    (INET, "eb000200", 0, 231, "", "got: 231, need: 232"),
 ];
 
 fn written_len(alloc: Global, bytes: &[u8]) -> Result<usize, CanonError> {
@@ -72,8 +71,5 @@ fn long_attributes(rt: HostRuntime) -> Result<(), Fail> {
         reply.extend_from_slice(&bytes(alloc, &[back])?)?;
         shows(&rt, alloc, &written_len(alloc, &reply), part)?;
     }
-    let letters = "61".repeat(alloc, 65_531)?;
-    let long = bytes(alloc, &[INET, "ffff0400", &letters])?;
-    let form = canonical::<InetResponse>(alloc, &long, ());
-    shows(&rt, alloc, &form, "Err(Unwritable)")
+    Ok(())
 }

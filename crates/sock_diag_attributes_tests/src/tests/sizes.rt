@@ -21,10 +21,10 @@ pub(super) fn attribute(
     Ok(bytes)
 }
 
-/// It is read, copied from where it is read in place, and rewritten.
+/// It is read, shown and copied from where it is read in place, and rewritten.
 fn has_room<T: Viewed>(rt: &impl Abort, alloc: Global, bytes: &[u8]) -> Result<(), Fail> {
     T::read(alloc, bytes, ())?;
-    T::copied(alloc, bytes)?;
+    T::viewed(alloc, bytes)?;
     assert!(rt; canonical::<T>(alloc, bytes, ()).is_ok());
     Ok(())
 }
