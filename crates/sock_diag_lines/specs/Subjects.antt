@@ -12,7 +12,8 @@ use Rattle.sock_diag_lines.specs.AnswerText.{Subject}
 
 -- what a codec reads under a parameter, whose written bytes are shown
 abbrev pub subject : {Param : Type 0} → Codec Param → Param → Subject
-subject {P} C p = record { Param = P; codec = C; param = p; text_of = λ v. field_of (C.written v) }
+subject {Param} C p =
+    record { Param = Param; codec = C; param = p; text_of = λ v. field_of (C.written v) }
 
 -- a netlink message; the fields of its header as they were read and the written bytes of its
 -- payload are shown
