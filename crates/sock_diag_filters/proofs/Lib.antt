@@ -5,5 +5,6 @@ pub mod Running
 pub mod Asking
 pub mod Requesting
 pub mod ReadBack
+pub mod AnyReadBack
 pub mod Finding
 pub mod Verdicts
