@@ -1,7 +1,7 @@
 -- A request of any family that is written is read back.
 use Rattle.std.proofs.Common.{◌≡◌, ◌≢◌, ◌∙◌, ℕ, ◌+◌, ◌≤◌, List, [], ◌∷◌, ◌++◌, length}
 use Rattle.std.proofs.Common.{drop, refl, sym, ap, subst, arith, inl, inr, Result, Ok, Err}
-use Rattle.std.proofs.Common.{append-nil, le-ltb}
+use Rattle.std.proofs.Common.{append-nil}
 use Rattle.std.specs.Prelude.{map, slice_index}
 use Rattle.std.proofs.lemmas.Bool.{cases_eq, ne_eqb}
 use Rattle.std.proofs.lemmas.List.{drop_at, length-append}
@@ -23,14 +23,18 @@ use Rattle.sock_diag_families.specs.ShowRequest.{show_request, show_request_soun
 use Rattle.sock_diag_families.specs.VsockRequest.{vsock_request, vsock_request_sound}
 use Rattle.sock_diag_filters.specs.declared.request.RequestAttribute.{RequestAttribute}
 use Rattle.sock_diag_filters.specs.AnyReadBack.{IsInetReadBack, IsWhole, record_request_bytes}
-use Rattle.sock_diag_filters.specs.AnyRequest.{AnyAsks, AnyRequest, AskedFamily, RecordFamily}
-use Rattle.sock_diag_filters.specs.AnyRequest.{RefusesAnyRequest, asked_family, codec_of, family_in}
-use Rattle.sock_diag_filters.specs.AnyRequest.{inet, netlink, no_family, no_inet, no_message}
-use Rattle.sock_diag_filters.specs.AnyRequest.{no_record, of_family, of_inet, of_record, packet}
-use Rattle.sock_diag_filters.specs.AnyRequest.{size_of, told_family, unix, vsock, xdp}
+use Rattle.sock_diag_filters.specs.AnyRequest.{AnyAsks, AnyRequest, RefusesAnyRequest, asked_family}
+use Rattle.sock_diag_filters.specs.AnyRequest.{codec_of, family_in, of_family, of_inet, refuses_by}
+use Rattle.sock_diag_filters.specs.AnyRequest.{size_of, told_family}
+use Rattle.sock_diag_filters.specs.declared.any.AskedFamily.{AskedFamily}
+use Rattle.sock_diag_filters.specs.declared.any.AskedFamily.TheVariants.{Inet, Record}
+use Rattle.sock_diag_filters.specs.declared.any.RecordFamily.{RecordFamily}
+use Rattle.sock_diag_filters.specs.declared.any.RecordFamily.TheVariants.{Netlink, Packet, Unix}
+use Rattle.sock_diag_filters.specs.declared.any.RecordFamily.TheVariants.{Vsock, Xdp}
 use Rattle.sock_diag_filters.specs.Asked.{IsRequestType, payload_of}
 use Rattle.sock_diag_filters.specs.ReadBack.{CanBeAsked, written_header}
 use Rattle.sock_diag_filters.specs.Requests.{attribute_of, request_bytes}
+use Rattle.sock_diag_filters.proofs.AskingAny.{asked_is}
 use Rattle.sock_diag_filters.proofs.ReadBack.{never_refused, no_fault_of_whole, read_back}
 use Rattle.sock_diag_filters.proofs.ReadBack.{reads_as, stands, whole_message}
 
@@ -39,14 +43,8 @@ same_value r x y h k = cc
 
 -- ---- the family that is told
 
-asked_is : (payload : List ℕ) (t : ℕ) (family : AskedFamily) → 2 ≤ length payload
-    → IsRequestType t → told_family (slice_index payload 0) ≡ Ok family
-    → asked_family payload t ≡ Ok family
-asked_is payload t family long (inl same) told = rw (le-ltb (length payload) 2 long, same) told
-asked_is payload t family long (inr same) told = rw (le-ltb (length payload) 2 long, same) told
-
 inet_told : (first : ℕ) (kinds : IpVersions) → versions_of_family first ≡ Ok kinds
-    → told_family first ≡ Ok inet
+    → told_family first ≡ Ok Inet
 inet_told first kinds is = elim (cases_eq first 2) [
   | inl two ↦ rw two refl
   | inr not_two ↦ elim (cases_eq first 10) [
@@ -61,32 +59,32 @@ inet_told first kinds is = elim (cases_eq first 2) [
 -- ---- records
 
 pub as_prefix : (family : RecordFamily) → IsPrefixCodec (codec_of family) (size_of family)
-as_prefix unix = is_prefix_codec unix_request unix_request_sound (refl, λ _. refl)
+as_prefix Unix = is_prefix_codec unix_request unix_request_sound (refl, λ _. refl)
     (λ tag left rest long told. told)
-as_prefix netlink = is_prefix_codec (show_request 16) (show_request_sound 16) (refl, λ _. refl)
+as_prefix Netlink = is_prefix_codec (show_request 16) (show_request_sound 16) (refl, λ _. refl)
     (λ tag left rest long told. told)
-as_prefix packet = is_prefix_codec (show_request 17) (show_request_sound 17) (refl, λ _. refl)
+as_prefix Packet = is_prefix_codec (show_request 17) (show_request_sound 17) (refl, λ _. refl)
     (λ tag left rest long told. told)
-as_prefix vsock = is_prefix_codec vsock_request vsock_request_sound (refl, λ _. refl)
+as_prefix Vsock = is_prefix_codec vsock_request vsock_request_sound (refl, λ _. refl)
     (λ tag left rest long told. told)
-as_prefix xdp = is_prefix_codec (show_request 44) (show_request_sound 44) (refl, λ _. refl)
+as_prefix Xdp = is_prefix_codec (show_request 44) (show_request_sound 44) (refl, λ _. refl)
     (λ tag left rest long told. told)
 
 first_told : (family : RecordFamily) (request : (codec_of family).Value) (rest : List ℕ)
     → told_family (slice_index ((codec_of family).bytes request ++ rest) 0)
-    ≡ Ok (of_record family)
-first_told unix request rest = refl
-first_told netlink request rest = refl
-first_told packet request rest = refl
-first_told vsock request rest = refl
-first_told xdp request rest = refl
+    ≡ Ok (Record family)
+first_told Unix request rest = refl
+first_told Netlink request rest = refl
+first_told Packet request rest = refl
+first_told Vsock request rest = refl
+first_told Xdp request rest = refl
 
 has_two : (family : RecordFamily) → 2 ≤ size_of family
-has_two unix = omega arith
-has_two netlink = omega arith
-has_two packet = omega arith
-has_two vsock = omega arith
-has_two xdp = omega arith
+has_two Unix = omega arith
+has_two Netlink = omega arith
+has_two Packet = omega arith
+has_two Vsock = omega arith
+has_two Xdp = omega arith
 
 module _ (family : RecordFamily) (h : NetlinkHeader) (request : (codec_of family).Value)
     (attributes : List ℕ) (whole : IsWhole family h request attributes) where
@@ -107,12 +105,12 @@ module _ (family : RecordFamily) (h : NetlinkHeader) (request : (codec_of family
       (ap (λ (l : List ℕ). header_bytes h ++ l) (append-nil (own ++ attributes)))
       (header_stands h (own ++ attributes) [] whole.header size)
 
-  record_told : family_in message h ≡ Ok (of_record family)
+  record_told : family_in message h ≡ Ok (Record family)
   record_told =
       let payload = record_stands.1 in
       let two = has_two family in
       ap (λ (l : List ℕ). asked_family l h.message_type) payload
-      ∙ asked_is (own ++ attributes) h.message_type (of_record family)
+      ∙ asked_is (own ++ attributes) h.message_type (Record family)
       (omega (arith, long, two, length-append own attributes)) whole.kind
       (first_told family request attributes)
 
@@ -147,7 +145,7 @@ module _ (family : RecordFamily) (h : NetlinkHeader) (request : (codec_of family
       absurd (cc (told, record_told))
   record_read_back (of_family k m v behind) asks =
       let same = one_header message m h asks.0 record_stands.0 in
-      let told : family_in message h ≡ Ok (of_record k) =
+      let told : family_in message h ≡ Ok (Record k) =
       ap (family_in message) (sym same) ∙ asks.1 in
       let one : family ≡ k = cc (told, record_told) in
       ap (λ (g : NetlinkHeader). of_family k g v behind) same
@@ -157,33 +155,17 @@ module _ (family : RecordFamily) (h : NetlinkHeader) (request : (codec_of family
       (asks.3 ∙ ap (λ (g : NetlinkHeader). drop (size_of k) (payload_of message g)) same)
 
   pub record_never_refused : (e : DecodeError) → RefusesAnyRequest message e → ⊥
-  record_never_refused e (no_message fault) =
+  record_never_refused e (inl fault) =
+      let all : length message ≡ 16 + length (own ++ attributes) =
+      length-append (header_bytes h) (own ++ attributes) in
       no_fault_of_whole message h e record_stands.0
-      (omega (
-        arith,
-        whole.counted,
-        long,
-        length-append own attributes,
-        length-append (header_bytes h) (own ++ attributes),
-      )) fault
-  record_never_refused e (no_family k framed none) =
+      (omega (arith, all, whole.counted, long, length-append own attributes)) fault
+  record_never_refused e (inr (k, framed, refused)) =
       let same = one_header message k h framed record_stands.0 in
-      let told = ap (family_in message) (sym same) ∙ none in
-      absurd (cc (told, record_told))
-  record_never_refused e (no_inet k framed is refused) =
-      let same = one_header message k h framed record_stands.0 in
-      let told = ap (family_in message) (sym same) ∙ is in
-      absurd (cc (told, record_told))
-  record_never_refused e (no_record k other framed is refused) =
-      let same = one_header message k h framed record_stands.0 in
-      let told : family_in message h ≡ Ok (of_record other) =
-      ap (family_in message) (sym same) ∙ is in
-      let one : family ≡ other = cc (told, record_told) in
-      let P : RecordFamily → Type 0 = λ f.
-      (codec_of f).reads tt (payload_of message h) ≡ Err e → ⊥ in
-      subst P one (λ faulty. absurd (cc (faulty, record_read)))
-      (ap (λ (g : NetlinkHeader). (codec_of other).reads tt (payload_of message g)) (sym same)
-      ∙ refused)
+      let there : refuses_by (Ok (Record family)) message h e =
+      subst (λ (told : Result AskedFamily DecodeError). refuses_by told message h e) record_told
+      (subst (λ (g : NetlinkHeader). refuses_by (family_in message g) message g e) same refused) in
+      absurd (cc (there, record_read))
 
 -- ---- requests for internet sockets
 
@@ -195,12 +177,12 @@ module _ (h : NetlinkHeader) (request : InetRequest) (attributes : List RequestA
   abbrev own_header : NetlinkHeader
   own_header = written_header h attributes
 
-  told_inet : family_in asked own_header ≡ Ok inet
+  told_inet : family_in asked own_header ≡ Ok Inet
   unfolding inet_request
   told_inet =
       let read_there = accepted inet_request tt (payload_of asked own_header) request
       (reads_as h request attributes can own_header refl) in
-      asked_is (payload_of asked own_header) h.message_type inet
+      asked_is (payload_of asked own_header) h.message_type Inet
       (let enough = read_there.long in omega arith) kind
       (inet_told (slice_index (payload_of asked own_header) 0) read_there.tag
       read_there.tag_found)
@@ -217,14 +199,12 @@ module _ (h : NetlinkHeader) (request : InetRequest) (attributes : List RequestA
       absurd (cc (told, told_inet))
 
   pub inet_never_refused : (e : DecodeError) → RefusesAnyRequest asked e → ⊥
-  inet_never_refused e (no_message fault) =
+  inet_never_refused e (inl fault) =
       no_fault_of_whole asked own_header e (stands h request attributes can).0
       (whole_message h request attributes) fault
-  inet_never_refused e (no_family k framed none) =
-      let told = ap (family_in asked) (sym (inet_header k framed)) ∙ none in
-      absurd (cc (told, told_inet))
-  inet_never_refused e (no_inet k framed is refused) =
-      never_refused h request attributes can e kind refused
-  inet_never_refused e (no_record k other framed is refused) =
-      let told = ap (family_in asked) (sym (inet_header k framed)) ∙ is in
-      absurd (cc (told, told_inet))
+  inet_never_refused e (inr (k, framed, refused)) =
+      let there : refuses_by (Ok Inet) asked own_header e =
+      subst (λ (told : Result AskedFamily DecodeError). refuses_by told asked own_header e) told_inet
+      (subst (λ (g : NetlinkHeader). refuses_by (family_in asked g) asked g e)
+      (inet_header k framed) refused) in
+      never_refused h request attributes can e kind there
