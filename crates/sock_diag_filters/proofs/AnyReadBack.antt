@@ -23,14 +23,10 @@ use Rattle.sock_diag_families.specs.ShowRequest.{show_request, show_request_soun
 use Rattle.sock_diag_families.specs.VsockRequest.{vsock_request, vsock_request_sound}
 use Rattle.sock_diag_filters.specs.declared.request.RequestAttribute.{RequestAttribute}
 use Rattle.sock_diag_filters.specs.AnyReadBack.{IsInetReadBack, IsWhole, record_request_bytes}
-use Rattle.sock_diag_filters.specs.AnyRequest.{AnyAsks, AnyRequest, RefusesAnyRequest, asked_family}
-use Rattle.sock_diag_filters.specs.AnyRequest.{codec_of, family_in, of_family, of_inet, refuses_by}
-use Rattle.sock_diag_filters.specs.AnyRequest.{size_of, told_family}
-use Rattle.sock_diag_filters.specs.declared.any.AskedFamily.{AskedFamily}
-use Rattle.sock_diag_filters.specs.declared.any.AskedFamily.TheVariants.{Inet, Record}
-use Rattle.sock_diag_filters.specs.declared.any.RecordFamily.{RecordFamily}
-use Rattle.sock_diag_filters.specs.declared.any.RecordFamily.TheVariants.{Netlink, Packet, Unix}
-use Rattle.sock_diag_filters.specs.declared.any.RecordFamily.TheVariants.{Vsock, Xdp}
+use Rattle.sock_diag_filters.specs.AnyRequest.{AnyAsks, AnyRequest, AskedFamily, RecordFamily}
+use Rattle.sock_diag_filters.specs.AnyRequest.{RefusesAnyRequest, asked_family, codec_of, family_in}
+use Rattle.sock_diag_filters.specs.AnyRequest.{inet, netlink, of_family, of_inet, of_record, packet}
+use Rattle.sock_diag_filters.specs.AnyRequest.{refuses_by, size_of, told_family, unix, vsock, xdp}
 use Rattle.sock_diag_filters.specs.Asked.{IsRequestType, payload_of}
 use Rattle.sock_diag_filters.specs.ReadBack.{CanBeAsked, written_header}
 use Rattle.sock_diag_filters.specs.Requests.{attribute_of, request_bytes}
@@ -44,7 +40,7 @@ same_value r x y h k = cc
 -- ---- the family that is told
 
 inet_told : (first : ℕ) (kinds : IpVersions) → versions_of_family first ≡ Ok kinds
-    → told_family first ≡ Ok Inet
+    → told_family first ≡ Ok inet
 inet_told first kinds is = elim (cases_eq first 2) [
   | inl two ↦ rw two refl
   | inr not_two ↦ elim (cases_eq first 10) [
@@ -59,32 +55,32 @@ inet_told first kinds is = elim (cases_eq first 2) [
 -- ---- records
 
 pub as_prefix : (family : RecordFamily) → IsPrefixCodec (codec_of family) (size_of family)
-as_prefix Unix = is_prefix_codec unix_request unix_request_sound (refl, λ _. refl)
+as_prefix unix = is_prefix_codec unix_request unix_request_sound (refl, λ _. refl)
     (λ tag left rest long told. told)
-as_prefix Netlink = is_prefix_codec (show_request 16) (show_request_sound 16) (refl, λ _. refl)
+as_prefix netlink = is_prefix_codec (show_request 16) (show_request_sound 16) (refl, λ _. refl)
     (λ tag left rest long told. told)
-as_prefix Packet = is_prefix_codec (show_request 17) (show_request_sound 17) (refl, λ _. refl)
+as_prefix packet = is_prefix_codec (show_request 17) (show_request_sound 17) (refl, λ _. refl)
     (λ tag left rest long told. told)
-as_prefix Vsock = is_prefix_codec vsock_request vsock_request_sound (refl, λ _. refl)
+as_prefix vsock = is_prefix_codec vsock_request vsock_request_sound (refl, λ _. refl)
     (λ tag left rest long told. told)
-as_prefix Xdp = is_prefix_codec (show_request 44) (show_request_sound 44) (refl, λ _. refl)
+as_prefix xdp = is_prefix_codec (show_request 44) (show_request_sound 44) (refl, λ _. refl)
     (λ tag left rest long told. told)
 
 first_told : (family : RecordFamily) (request : (codec_of family).Value) (rest : List ℕ)
     → told_family (slice_index ((codec_of family).bytes request ++ rest) 0)
-    ≡ Ok (Record family)
-first_told Unix request rest = refl
-first_told Netlink request rest = refl
-first_told Packet request rest = refl
-first_told Vsock request rest = refl
-first_told Xdp request rest = refl
+    ≡ Ok (of_record family)
+first_told unix request rest = refl
+first_told netlink request rest = refl
+first_told packet request rest = refl
+first_told vsock request rest = refl
+first_told xdp request rest = refl
 
 has_two : (family : RecordFamily) → 2 ≤ size_of family
-has_two Unix = omega arith
-has_two Netlink = omega arith
-has_two Packet = omega arith
-has_two Vsock = omega arith
-has_two Xdp = omega arith
+has_two unix = omega arith
+has_two netlink = omega arith
+has_two packet = omega arith
+has_two vsock = omega arith
+has_two xdp = omega arith
 
 module _ (family : RecordFamily) (h : NetlinkHeader) (request : (codec_of family).Value)
     (attributes : List ℕ) (whole : IsWhole family h request attributes) where
@@ -105,12 +101,12 @@ module _ (family : RecordFamily) (h : NetlinkHeader) (request : (codec_of family
       (ap (λ (l : List ℕ). header_bytes h ++ l) (append-nil (own ++ attributes)))
       (header_stands h (own ++ attributes) [] whole.header size)
 
-  record_told : family_in message h ≡ Ok (Record family)
+  record_told : family_in message h ≡ Ok (of_record family)
   record_told =
       let payload = record_stands.1 in
       let two = has_two family in
       ap (λ (l : List ℕ). asked_family l h.message_type) payload
-      ∙ asked_is (own ++ attributes) h.message_type (Record family)
+      ∙ asked_is (own ++ attributes) h.message_type (Ok (of_record family))
       (omega (arith, long, two, length-append own attributes)) whole.kind
       (first_told family request attributes)
 
@@ -145,7 +141,7 @@ module _ (family : RecordFamily) (h : NetlinkHeader) (request : (codec_of family
       absurd (cc (told, record_told))
   record_read_back (of_family k m v behind) asks =
       let same = one_header message m h asks.0 record_stands.0 in
-      let told : family_in message h ≡ Ok (Record k) =
+      let told : family_in message h ≡ Ok (of_record k) =
       ap (family_in message) (sym same) ∙ asks.1 in
       let one : family ≡ k = cc (told, record_told) in
       ap (λ (g : NetlinkHeader). of_family k g v behind) same
@@ -162,7 +158,7 @@ module _ (family : RecordFamily) (h : NetlinkHeader) (request : (codec_of family
       (omega (arith, all, whole.counted, long, length-append own attributes)) fault
   record_never_refused e (inr (k, framed, refused)) =
       let same = one_header message k h framed record_stands.0 in
-      let there : refuses_by (Ok (Record family)) message h e =
+      let there : refuses_by (Ok (of_record family)) message h e =
       subst (λ (told : Result AskedFamily DecodeError). refuses_by told message h e) record_told
       (subst (λ (g : NetlinkHeader). refuses_by (family_in message g) message g e) same refused) in
       absurd (cc (there, record_read))
@@ -177,12 +173,12 @@ module _ (h : NetlinkHeader) (request : InetRequest) (attributes : List RequestA
   abbrev own_header : NetlinkHeader
   own_header = written_header h attributes
 
-  told_inet : family_in asked own_header ≡ Ok Inet
+  told_inet : family_in asked own_header ≡ Ok inet
   unfolding inet_request
   told_inet =
       let read_there = accepted inet_request tt (payload_of asked own_header) request
       (reads_as h request attributes can own_header refl) in
-      asked_is (payload_of asked own_header) h.message_type Inet
+      asked_is (payload_of asked own_header) h.message_type (Ok inet)
       (let enough = read_there.long in omega arith) kind
       (inet_told (slice_index (payload_of asked own_header) 0) read_there.tag
       read_there.tag_found)
@@ -203,7 +199,7 @@ module _ (h : NetlinkHeader) (request : InetRequest) (attributes : List RequestA
       no_fault_of_whole asked own_header e (stands h request attributes can).0
       (whole_message h request attributes) fault
   inet_never_refused e (inr (k, framed, refused)) =
-      let there : refuses_by (Ok Inet) asked own_header e =
+      let there : refuses_by (Ok inet) asked own_header e =
       subst (λ (told : Result AskedFamily DecodeError). refuses_by told asked own_header e) told_inet
       (subst (λ (g : NetlinkHeader). refuses_by (family_in asked g) asked g e)
       (inet_header k framed) refused) in

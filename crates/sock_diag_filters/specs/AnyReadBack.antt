@@ -4,8 +4,8 @@ use Rattle.netlink_core.specs.Header.{IsHeaderInRange, header_bytes}
 use Rattle.netlink_core.specs.declared.header.NetlinkHeader.{NetlinkHeader}
 use Rattle.sock_diag_records.specs.declared.inet.request.InetRequest.{InetRequest}
 use Rattle.sock_diag_filters.specs.declared.request.RequestAttribute.{RequestAttribute}
-use Rattle.sock_diag_filters.specs.declared.any.RecordFamily.{RecordFamily}
-use Rattle.sock_diag_filters.specs.AnyRequest.{AnyRequest, codec_of, of_family, of_inet, size_of}
+use Rattle.sock_diag_filters.specs.AnyRequest.{AnyRequest, RecordFamily, codec_of, of_family}
+use Rattle.sock_diag_filters.specs.AnyRequest.{of_inet, size_of}
 use Rattle.sock_diag_filters.specs.Asked.{IsRequestType}
 use Rattle.sock_diag_filters.specs.ReadBack.{IsReadBack}
 

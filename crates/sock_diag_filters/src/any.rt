@@ -4,8 +4,7 @@ ghost use Rattle.std.specs.Prelude.{◌≡◌, IfOk, IfErr, drop};
 ghost use Rattle.netlink_core.specs.Header.{HasHeader};
 ghost use Rattle.netlink_core.specs.Layout.{read};
 ghost use Rattle.sock_diag_filters.specs.AnyRequest.{AnyAsks, RefusesAnyRequest, asked_any};
-ghost use Rattle.sock_diag_filters.specs.AnyRequest.{asked_family, family_in, refuses_by};
-ghost use Rattle.sock_diag_filters.specs.AnyRequest.{told_family};
+ghost use Rattle.sock_diag_filters.specs.AnyRequest.{family_in, refuses_by};
 
 use crate::view::{RequestView, is_request};
 use netlink_core::{DecodeError, NETLINK_HEADER_LEN, NetlinkHeader, Record, read_record};
@@ -95,68 +94,21 @@ fn read_under<'a>(
     ensures fault { IfErr result
         (refuses_by (family_in message.entry.now header) message.entry.now header) }
 {
+    let message_type = header.message_type;
     let payload = &message[NETLINK_HEADER_LEN..header.length as usize];
-    match find_family(payload, header.message_type)? {
-        AskedFamily::Inet => Ok(AnyRequestView::Inet(RequestView::parse(message)?)),
-        AskedFamily::Record(RecordFamily::Unix) => {
-            Ok(AnyRequestView::Unix(RecordRequestView::read(header, payload)?))
-        }
-        AskedFamily::Record(RecordFamily::Netlink) => {
-            Ok(AnyRequestView::Netlink(RecordRequestView::read(header, payload)?))
-        }
-        AskedFamily::Record(RecordFamily::Packet) => {
-            Ok(AnyRequestView::Packet(RecordRequestView::read(header, payload)?))
-        }
-        AskedFamily::Record(RecordFamily::Vsock) => {
-            Ok(AnyRequestView::Vsock(RecordRequestView::read(header, payload)?))
-        }
-        AskedFamily::Record(RecordFamily::Xdp) => {
-            Ok(AnyRequestView::Xdp(RecordRequestView::read(header, payload)?))
-        }
-    }
-}
-
-// Whose sockets are asked for.
-#[derive(Clone, Copy)]
-enum AskedFamily {
-    Inet,
-    // Those of a family whose request is one record.
-    Record(RecordFamily),
-}
-
-#[derive(Clone, Copy)]
-enum RecordFamily {
-    Unix,
-    Netlink,
-    Packet,
-    Vsock,
-    Xdp,
-}
-
-// The family that a payload asks for under a type.
-fn find_family(payload: &[u8], message_type: u16) -> Result<AskedFamily, DecodeError>
-    ensures { result ≡ asked_family payload.now message_type }
-{
     if payload.len() < 2 {
         return Err(DecodeError::MessageTooShort { got: payload.len() });
     }
     if !is_request(message_type) {
         return Err(DecodeError::UnknownMessageType { message_type });
     }
-    family_of(payload[0])
-}
-
-// The family that the first byte tells.
-fn family_of(first: u8) -> Result<AskedFamily, DecodeError>
-    ensures { result ≡ told_family first }
-{
-    match first {
-        AF_INET | AF_INET6 => Ok(AskedFamily::Inet),
-        AF_UNIX => Ok(AskedFamily::Record(RecordFamily::Unix)),
-        AF_NETLINK => Ok(AskedFamily::Record(RecordFamily::Netlink)),
-        AF_PACKET => Ok(AskedFamily::Record(RecordFamily::Packet)),
-        AF_VSOCK => Ok(AskedFamily::Record(RecordFamily::Vsock)),
-        AF_XDP => Ok(AskedFamily::Record(RecordFamily::Xdp)),
+    match payload[0] {
+        AF_INET | AF_INET6 => Ok(AnyRequestView::Inet(RequestView::parse(message)?)),
+        AF_UNIX => Ok(AnyRequestView::Unix(RecordRequestView::read(header, payload)?)),
+        AF_NETLINK => Ok(AnyRequestView::Netlink(RecordRequestView::read(header, payload)?)),
+        AF_PACKET => Ok(AnyRequestView::Packet(RecordRequestView::read(header, payload)?)),
+        AF_VSOCK => Ok(AnyRequestView::Vsock(RecordRequestView::read(header, payload)?)),
+        AF_XDP => Ok(AnyRequestView::Xdp(RecordRequestView::read(header, payload)?)),
         family => Err(DecodeError::UnknownFamily { family }),
     }
 }
