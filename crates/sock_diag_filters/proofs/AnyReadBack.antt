@@ -200,7 +200,7 @@ module _ (h : NetlinkHeader) (request : InetRequest) (attributes : List RequestA
       (whole_message h request attributes) fault
   inet_never_refused e (inr (k, framed, refused)) =
       let there : refuses_by (Ok inet) asked own_header e =
-      subst (λ (told : Result AskedFamily DecodeError). refuses_by told asked own_header e) told_inet
+      subst (λ (r : Result AskedFamily DecodeError). refuses_by r asked own_header e) told_inet
       (subst (λ (g : NetlinkHeader). refuses_by (family_in asked g) asked g e)
       (inet_header k framed) refused) in
       never_refused h request attributes can e kind there

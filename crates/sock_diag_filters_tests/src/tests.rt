@@ -99,9 +99,9 @@ fn requests_are_read(rt: HostRuntime) -> Result<(), Fail> {
     Ok(())
 }
 
-// Requests of each family, worked out by hand from the kernel's headers: to close the UNIX socket of
-// inode 0x1234, with an attribute behind it; for netlink sockets of all protocols and their memory;
-// for packet sockets; for vsock sockets that listen; and for XDP sockets.
+// Requests worked out by hand from the kernel's headers: to close the UNIX socket of inode 0x1234,
+// with an attribute behind it; for netlink sockets of all protocols and their memory; for packet
+// sockets; for vsock sockets that listen; and for XDP sockets.
 const BY_FAMILY: [(&str, &str, &str); 5] = [
     (
         "2c0000001500050009000000000000000100000002040000341200000100000000000000000000ff04000900",
