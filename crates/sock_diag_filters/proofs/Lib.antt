@@ -5,5 +5,7 @@ pub mod Running
 pub mod Asking
 pub mod Requesting
 pub mod ReadBack
+pub mod AskingAny
+pub mod AnyReadBack
 pub mod Finding
 pub mod Verdicts

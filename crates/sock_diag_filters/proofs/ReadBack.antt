@@ -7,9 +7,6 @@ use Rattle.std.proofs.lemmas.List.{append-nil, drop_at, length-append}
 use Rattle.netlink_core.specs.Attribute.{Attribute, AttributeFault, Cut, FitsWords}
 use Rattle.netlink_core.specs.Attribute.{written}
 use Rattle.netlink_core.specs.declared.fault.DecodeError.{DecodeError}
-use Rattle.netlink_core.specs.declared.fault.DecodeError.TheVariants.{EnvelopeCut}
-use Rattle.netlink_core.specs.declared.fault.DecodeError.TheVariants.{EnvelopeLengthPast}
-use Rattle.netlink_core.specs.declared.fault.DecodeError.TheVariants.{EnvelopeLengthUnder16}
 use Rattle.netlink_core.specs.declared.header.NetlinkHeader.{NetlinkHeader}
 use Rattle.netlink_core.specs.Layout.{bytes, read}
 use Rattle.netlink_core.specs.Header.{HasHeader, IsEnvelopeFault, header_bytes}
@@ -19,6 +16,7 @@ use Rattle.netlink_core.proofs.Cutting.{written_values_are_read}
 use Rattle.netlink_core.proofs.Headers.{header_length, header_stands, one_header}
 use Rattle.netlink_core.proofs.Numbers.{number-reads_back}
 use Rattle.netlink_core.proofs.PrefixCodecs.{is_prefix_codec}
+use Rattle.netlink_packet_sock_diag.proofs.Interrupting.{no_fault_in_message}
 use Rattle.sock_diag_records.specs.InetRequest.{inet_request}
 use Rattle.sock_diag_records.specs.InetRequestLaws.{inet_request_size, inet_request_sound}
 use Rattle.sock_diag_records.specs.InetRequestLaws.{request_length}
@@ -32,6 +30,7 @@ use Rattle.sock_diag_filters.specs.Asked.{no_message, no_request, other_type, pa
 use Rattle.sock_diag_filters.specs.Asked.{program_in, protocol_in, protocol_told, told_by, told_of}
 use Rattle.sock_diag_filters.specs.ReadBack.{CanBeAsked, Fits, IsReadBack, written_header}
 use Rattle.sock_diag_filters.specs.Requests.{attribute_of, request_bytes}
+use Rattle.sock_diag_filters.proofs.Requesting.{message_length}
 
 -- ---- attributes
 
@@ -73,15 +72,18 @@ told_once (a ∷ all) (t ∷ told) (u ∷ others) h k =
 
 -- ---- the message
 
--- where a header stands is no fault of framing
-no_fault_at_header : (b : List ℕ) (h : NetlinkHeader) (e : DecodeError) → HasHeader b h
-    → IsEnvelopeFault b e → ⊥
-no_fault_at_header b h (EnvelopeCut got) head k = omega (arith, head.2, head.3, k.1)
-no_fault_at_header b h (EnvelopeLengthUnder16 word) head k =
-    omega (arith, head.2, header_length b h head, k.0, k.2)
-no_fault_at_header b h (EnvelopeLengthPast word got) head k =
-    omega (arith, head.3, header_length b h head, k.0, k.4)
-no_fault_at_header b h _ head k = k
+-- no fault of framing stands at the start of a message that its header counts
+pub no_fault_of_whole : (b : List ℕ) (h : NetlinkHeader) (e : DecodeError) → HasHeader b h
+    → length b ≡ h.length → IsEnvelopeFault b e → ⊥
+no_fault_of_whole b h e head whole fault =
+    no_fault_in_message b e (omega (arith, head.2), header_length b h head ∙ sym whole) fault
+
+-- a request is as long as its header says
+pub whole_message : (h : NetlinkHeader) (request : InetRequest) (attributes : List RequestAttribute)
+    → length (request_bytes h request (map attribute_of attributes))
+    ≡ (written_header h attributes).length
+whole_message h request attributes =
+    message_length h request (map attribute_of attributes)
 
 -- a family stands in front of whatever follows
 goes_on : (kinds : IpVersions) (left rest : List ℕ) → 56 ≤ length left
@@ -104,7 +106,7 @@ module _ (h : NetlinkHeader) (request : InetRequest) (attributes : List RequestA
   abbrev message : List ℕ
   message = request_bytes h request (map attribute_of attributes)
 
-  stands : HasHeader message header × (payload_of message header ≡ record_bytes ++ behind)
+  pub stands : HasHeader message header × (payload_of message header ≡ record_bytes ++ behind)
   stands =
       let size : header.length ≡ 16 + length (record_bytes ++ behind) =
       omega (arith, length-append record_bytes behind, request_length request) in
@@ -124,7 +126,7 @@ module _ (h : NetlinkHeader) (request : InetRequest) (attributes : List RequestA
   is_behind k same = ap (λ (g : NetlinkHeader). drop 56 (payload_of message g)) same
       ∙ ap (drop 56) stands.1 ∙ drop_at record_bytes behind 56 (request_length request)
 
-  reads_as : (k : NetlinkHeader) → k ≡ header → read inet_request tt (payload_of message k)
+  pub reads_as : (k : NetlinkHeader) → k ≡ header → read inet_request tt (payload_of message k)
       ≡ Ok request
   reads_as k same = ap (λ (g : NetlinkHeader). read inet_request tt (payload_of message g)) same
       ∙ ap (read inet_request tt) stands.1 ∙ is_read
@@ -163,7 +165,8 @@ module _ (h : NetlinkHeader) (request : InetRequest) (attributes : List RequestA
 
   pub never_refused : (e : DecodeError) → IsRequestType h.message_type → RefusesRequest message e
       → ⊥
-  never_refused e kind (no_message fault) = no_fault_at_header message header e stands.0 fault
+  never_refused e kind (no_message fault) =
+      no_fault_of_whole message header e stands.0 (whole_message h request attributes) fault
   never_refused e kind (other_type k framed other unknown) =
       other (subst (λ (g : NetlinkHeader). IsRequestType g.message_type)
       (one_header message header k stands.0 framed) kind)

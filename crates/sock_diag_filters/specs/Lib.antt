@@ -8,6 +8,8 @@ pub mod Assembled
 pub mod Requests
 pub mod Asked
 pub mod AskedSteps
+pub mod AnyRequest
 pub mod Uses
 pub mod ReadBack
+pub mod AnyReadBack
 pub mod Sockets

@@ -6,6 +6,7 @@ ghost use Rattle.sock_diag_filters.specs.AssemblySteps.{front_bytes, operation, 
 ghost use Rattle.sock_diag_filters.specs.Filters.{meaning, size};
 ghost use Rattle.sock_diag_filters.specs.Conditions.{arguments, code_of};
 ghost use Rattle.sock_diag_filters.specs.Run.{Runs};
+ghost use Rattle.sock_diag_filters.specs.Sockets.{Socket, found_by, meets};
 ghost use Rattle.sock_diag_filters.specs.declared.assembly.AssembleError.TheVariants.{Memory};
 ghost use Rattle.sock_diag_filters.specs.Assembled.{IsRefused};
 
@@ -41,15 +42,19 @@ impl From<AllocError> for AssembleError {
 }
 
 /// The program of a filter: the value of an attribute `INET_DIAG_REQ_BYTECODE`. The kernel takes
-/// it, and wants exactly the sockets that the filter means, whatever is found of their conditions.
+/// it, and wants exactly the sockets that the filter means, whatever is found of their conditions;
+/// so by the kernel's own comparisons those that meet it.
 pub fn assemble(alloc: Global, filter: &Filter) -> Result<Vec<u8>, AssembleError>
     ensures size { IfOk result (λ program. length program.items ≡ size filter.now) }
     ensures short { IfOk result (λ program. length program.items ≤ 65531) }
     ensures audited { IfOk result (λ program. IsAudited program.items) }
     ensures runs { IfOk result (λ program. (found : ℕ → List ℕ → Bool) → Runs found program.items
         (meaning (λ c. found (code_of c) (arguments c)) filter.now)) }
+    ensures wanted { IfOk result (λ program. (socket : Socket)
+        → Runs (found_by socket) program.items (meaning (meets socket) filter.now)) }
     ensures refused { IfErr result (λ e. IsRefused filter.now e) }
 {
+    filter.in_range();
     let Some(len) = filter.len_within(MAX_PROGRAM) else {
         return Err(AssembleError::TooLong);
     };

@@ -87,6 +87,7 @@ pub enum Condition {
 
 impl Condition {
     ghost use Rattle.sock_diag_filters.specs.Conditions.{arguments, code_of};
+    ghost use Rattle.sock_diag_filters.specs.Sockets.{IsInRange};
 
     // The code of its operation.
     pub(crate) fn code(self) -> u8
@@ -137,10 +138,28 @@ impl Condition {
             Condition::AutoBound => {}
         }
     }
+
+    // Tells the prover that its numbers are within their types. It does nothing.
+    pub(crate) fn in_range(self)
+        ensures { IsInRange self }
+    {
+        match self {
+            Condition::SourcePort(_, _port) | Condition::DestinationPort(_, _port) => {}
+            Condition::Source(host) | Condition::Destination(host) => host.in_range(),
+            Condition::Interface(_number) => {}
+            Condition::Mark {
+                mark: _mark,
+                mask: _mask,
+            } => {}
+            Condition::Cgroup(_number) => {}
+            Condition::AutoBound => {}
+        }
+    }
 }
 
 impl Host {
     ghost use Rattle.sock_diag_filters.specs.Conditions.{host_bytes};
+    ghost use Rattle.sock_diag_filters.specs.Sockets.{IsPort};
 
     // How many bytes `struct inet_diag_hostcond` has with the address.
     fn len(self) -> usize
@@ -180,6 +199,13 @@ impl Host {
             write_address(prefix.address, address);
         }
     }
+
+    // Tells the prover that the port is within its type. It does nothing.
+    fn in_range(self)
+        ensures { IsPort self.port }
+    {
+        if let Some(_port) = self.port {}
+    }
 }
 
 // Writes the port as the second operation that a comparison has, of code 0 and with the port in
@@ -193,7 +219,7 @@ fn write_port(port: u16, buffer: &mut [u8])
 }
 
 // The family of an address.
-pub(crate) fn family(address: IpAddr) -> u8
+fn family(address: IpAddr) -> u8
     ensures { result ≡ family_of address }
 {
     match address {

@@ -19,6 +19,7 @@ pub enum Filter<'a> {
 
 impl Filter<'_> {
     ghost use Rattle.sock_diag_filters.specs.Filters.{size};
+    ghost use Rattle.sock_diag_filters.specs.Sockets.{AreInRange};
 
     /// How many bytes its program has, where they are at most so many.
     pub fn len_within(&self, most: usize) -> Option<usize>
@@ -42,6 +43,20 @@ impl Filter<'_> {
                 let jump = within(4, most - before)?;
                 Some(before + jump)
             }
+        }
+    }
+
+    /// Tells the prover that the numbers of its conditions are within their types. It does nothing.
+    pub fn in_range(&self)
+        ensures { AreInRange self.now }
+    {
+        match self {
+            Filter::Condition(condition) => condition.in_range(),
+            Filter::And(first, second) | Filter::Or(first, second) => {
+                first.in_range();
+                second.in_range();
+            }
+            Filter::Not(filter) => filter.in_range(),
         }
     }
 

@@ -10,6 +10,10 @@ ghost use Rattle.sock_diag_filters.specs.Filters.{meaning};
 ghost use Rattle.sock_diag_filters.specs.Run.{Runs};
 ghost use Rattle.sock_diag_filters.specs.Sockets.{AreInRange, Socket, found_by, meets};
 ghost use Rattle.sock_diag_filters.specs.Asked.{Asks, IsRequestType, RefusesRequest};
+ghost use Rattle.sock_diag_filters.specs.AnyRequest.{AnyAsks, AnyRequest, RecordFamily};
+ghost use Rattle.sock_diag_filters.specs.AnyRequest.{RefusesAnyRequest, codec_of, of_family};
+ghost use Rattle.sock_diag_filters.specs.AnyReadBack.{IsInetReadBack, IsWhole};
+ghost use Rattle.sock_diag_filters.specs.AnyReadBack.{record_request_bytes};
 ghost use Rattle.sock_diag_filters.specs.ReadBack.{CanBeAsked, IsReadBack};
 ghost use Rattle.sock_diag_filters.specs.Requests.{attribute_of, request_bytes};
 ghost use Rattle.sock_diag_filters.specs.declared.request.RequestAttribute.{RequestAttribute};
@@ -28,9 +32,32 @@ pub fn written_request_is_read_back()
         → RefusesRequest (request_bytes h request (map attribute_of attributes)) e → ⊥ }
 {}
 
+/// The same of `AnyRequestView::parse`: a record with the netlink header in front of it that counts
+/// the whole, and any bytes behind it, is read as it is; a request for internet sockets as
+/// `RequestView::parse` reads it.
+pub fn any_written_request_is_read_back()
+    ensures records { (family : RecordFamily) (h : NetlinkHeader)
+        (request : (codec_of family).Value) (attributes : List ℕ) (other : AnyRequest)
+        → IsWhole family h request attributes
+        → AnyAsks (record_request_bytes family h request attributes) other
+        → other ≡ of_family family h request attributes }
+    ensures records_accepted { (family : RecordFamily) (h : NetlinkHeader)
+        (request : (codec_of family).Value) (attributes : List ℕ) (e : DecodeError)
+        → IsWhole family h request attributes
+        → RefusesAnyRequest (record_request_bytes family h request attributes) e → ⊥ }
+    ensures inet { (h : NetlinkHeader) (request : InetRequest) (attributes : List RequestAttribute)
+        (other : AnyRequest) → CanBeAsked h request attributes → IsRequestType h.message_type
+        → AnyAsks (request_bytes h request (map attribute_of attributes)) other
+        → IsInetReadBack h request attributes other }
+    ensures inet_accepted { (h : NetlinkHeader) (request : InetRequest)
+        (attributes : List RequestAttribute) (e : DecodeError) → CanBeAsked h request attributes
+        → IsRequestType h.message_type
+        → RefusesAnyRequest (request_bytes h request (map attribute_of attributes)) e → ⊥ }
+{}
+
 /// What `found_by` finds of a socket, as the kernel does by code and arguments, is whether the
 /// socket meets the condition. So by `assemble` a program wants exactly those sockets that meet its
-/// filter.
+/// filter. Of a filter in hand `Filter::in_range` shows the premise.
 #[tactic(auto, using(crate::proofs::Finding::filter_found))]
 pub fn filters_find_what_they_mean()
     ensures { (socket : Socket) (filter : Filter) → AreInRange filter

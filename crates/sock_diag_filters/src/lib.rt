@@ -1,6 +1,7 @@
 //! Filters of internet sockets as the bytecode that the kernel runs, and requests that carry it.
 #![tactic(auto)]
 
+mod any;
 mod assembly;
 mod condition;
 mod filter;
@@ -9,6 +10,7 @@ mod request;
 pub mod uses;
 mod view;
 
+pub use crate::any::{AnyRequestView, RecordRequestView};
 pub use crate::assembly::{AssembleError, MAX_PROGRAM, assemble};
 pub use crate::condition::{Comparison, Condition, Host, ValueCodec};
 pub use crate::filter::Filter;

@@ -108,7 +108,7 @@ fn write_front<R: Emitable>(header: &NetlinkHeader, len: u32, value: &R, front: 
 }
 
 // Writes a value over as many bytes.
-pub(crate) fn write_all<R: Emitable>(value: &R, buffer: &mut [u8])
+fn write_all<R: Emitable>(value: &R, buffer: &mut [u8])
     requires writable { R.writable value.now }
     requires whole { length buffer.old ≡ length (R.bytes value.now) }
     ensures { buffer.new ≡ R.bytes value.now }

@@ -5,20 +5,21 @@ ghost use Rattle.sock_diag_filters.specs.Audit.{IsAudited};
 ghost use Rattle.sock_diag_filters.specs.Prefixes.{port_bytes};
 ghost use Rattle.sock_diag_filters.specs.Requests.{request_bytes};
 ghost use Rattle.sock_diag_filters.specs.Run.{Runs};
-ghost use Rattle.sock_diag_filters.specs.Uses.{asked_header, asked_tcp, no_socket};
+ghost use Rattle.sock_diag_filters.specs.Uses.{asked_header, asked_tcp, closing_bytes, no_socket};
 ghost use Rattle.sock_diag_filters.specs.Uses.{program_attribute};
 
-use crate::condition::family;
-use crate::request::write_all;
 use crate::{
     AssembleError, Comparison, Condition, Filter, REQUEST_FRONT, RequestAttribute,
     RequestWithAttributes, assemble,
 };
 use bitflags::Flags;
 use netlink_core::{Emitable, NLM_F_DUMP, NLM_F_REQUEST, NetlinkHeader};
-use netlink_packet_sock_diag::constants::{IPPROTO_TCP, SOCK_DESTROY, SOCK_DIAG_BY_FAMILY};
+use netlink_packet_sock_diag::constants::{
+    AF_INET, AF_INET6, IPPROTO_TCP, SOCK_DESTROY, SOCK_DIAG_BY_FAMILY,
+};
 use netlink_packet_sock_diag::inet::{ExtensionFlags, InetRequest, SocketId, StateFlags};
 use std::alloc::Global;
+use std::net::IpAddr;
 
 /// The flag of a header that asks for an acknowledgement, `NLM_F_ACK` of netlink(7).
 pub const NLM_F_ACK: u16 = 4;
@@ -59,8 +60,9 @@ pub fn listening_on(
 /// The request to close one TCP socket, told by its addresses, ports and cookie, and to acknowledge
 /// that. It needs `CAP_NET_ADMIN`.
 pub fn close_tcp(socket_id: SocketId, sequence_number: u32) -> [u8; REQUEST_FRONT]
-    ensures { result ≡ request_bytes (asked_header 21 5 sequence_number)
+    ensures written { result ≡ request_bytes (asked_header 21 5 sequence_number)
         (asked_tcp 0xffffffff socket_id) [] }
+    ensures bytes { result ≡ closing_bytes socket_id sequence_number }
 {
     let request = RequestWithAttributes {
         header: header(SOCK_DESTROY, NLM_F_REQUEST | NLM_F_ACK, sequence_number),
@@ -68,7 +70,7 @@ pub fn close_tcp(socket_id: SocketId, sequence_number: u32) -> [u8; REQUEST_FRON
         attributes: &[],
     };
     let mut message = [0; REQUEST_FRONT];
-    write_all(&request, &mut message);
+    request.emit(&mut message);
     message
 }
 
@@ -90,7 +92,10 @@ fn tcp(states: StateFlags, socket_id: SocketId) -> InetRequest
     ensures { result ≡ asked_tcp states.0 socket_id }
 {
     InetRequest {
-        family: family(socket_id.source_address),
+        family: match socket_id.source_address {
+            IpAddr::V4(_) => AF_INET,
+            IpAddr::V6(_) => AF_INET6,
+        },
         protocol: IPPROTO_TCP,
         extensions: ExtensionFlags::empty(),
         states,

@@ -58,8 +58,8 @@ impl<'a> RequestView<'a> {
     }
 }
 
-// Whether a message of the type asks for internet sockets, or to close one.
-fn is_request(message_type: u16) -> bool
+// Whether a message of the type asks for sockets, or to close one.
+pub(crate) fn is_request(message_type: u16) -> bool
     ensures { IsTrue result ↔ IsRequestType message_type }
 {
     message_type == SOCK_DIAG_BY_FAMILY || message_type == SOCK_DESTROY

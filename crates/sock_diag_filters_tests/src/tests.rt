@@ -1,8 +1,8 @@
 use netlink_core::Emitable;
 use sock_diag_filters::uses::listening_on;
 use sock_diag_filters::{
-    Comparison, Condition, Filter, Host, RequestAttribute, RequestView, RequestWithAttributes,
-    ValueCodec, assemble,
+    AnyRequestView, Comparison, Condition, Filter, Host, RequestAttribute, RequestView,
+    RequestWithAttributes, ValueCodec, assemble,
 };
 use std::alloc::Global;
 use std::net::{IpAddr, Ipv4Addr, Ipv6Addr};
@@ -96,5 +96,51 @@ fn requests_are_read(rt: HostRuntime) -> Result<(), Fail> {
     assert!(rt; view.protocol == 262);
     assert!(rt; view.program == Some(&AUTO[..]));
     assert!(rt; bytes.as_slice() == ASKED.as_slice());
+    Ok(())
+}
+
+// Requests worked out by hand from the kernel's headers: to close the UNIX socket of inode 0x1234,
+// with an attribute behind it; for netlink sockets of all protocols and their memory; for packet
+// sockets; for vsock sockets that listen; and for XDP sockets.
+const BY_FAMILY: [(&str, &str, &str); 5] = [
+    (
+        "2c0000001500050009000000000000000100000002040000341200000100000000000000000000ff04000900",
+        "Ok(Unix(RecordRequestView { header: NetlinkHeader { length: 44, message_type: 21, flags: 5,",
+        "request: UnixRequest { state_flags: StateFlags(1026), inode: 4660, show_flags: \
+        ShowFlags(1), cookie: [0, 0, 0, 0, 0, 0, 0, 255] }, attributes: [4, 0, 9, 0] }))",
+    ),
+    (
+        "2400000014000103090000000000000010ff00000000000001000000ffffffffffffffff",
+        "Ok(Netlink(",
+        "ShowRequest { protocol: 255, inode: 0, show: 1, cookie: 18446744073709551615 }",
+    ),
+    (
+        "2400000014000103090000000000000011000000070000003f0000000000000000000000",
+        "Ok(Packet(",
+        "ShowRequest { protocol: 0, inode: 7, show: 63, cookie: 0 }, attributes: [] }))",
+    ),
+    (
+        "28000000140001030900000000000000280000000004000000000000000000000500000000000000",
+        "Ok(Vsock(",
+        "VsockRequest { states: 1024, cookie: 5 }, attributes: [] }))",
+    ),
+    (
+        "240000001400010309000000000000002c00000000000000070000000000000000000000",
+        "Ok(Xdp(",
+        "ShowRequest { protocol: 0, inode: 0, show: 7, cookie: 0 }",
+    ),
+];
+
+#[test]
+fn requests_of_each_family_are_read(rt: HostRuntime) -> Result<(), Fail> {
+    let alloc = rt.alloc();
+    for (row, family, asked) in BY_FAMILY {
+        let bytes = hex::decode(alloc, row)?;
+        let shown = format!(in alloc; "{:?}", AnyRequestView::parse(&bytes))?;
+        assert!(rt;
+            shown.starts_with(family) && shown.contains(asked),
+            "{shown}"
+        );
+    }
     Ok(())
 }

@@ -8,7 +8,9 @@ use Rattle.sock_diag_filters.specs.Conditions.{arguments, code_of}
 use Rattle.sock_diag_filters.specs.AssemblySteps.{program_of}
 use Rattle.sock_diag_filters.specs.Filters.{meaning, size}
 use Rattle.sock_diag_filters.specs.Run.{Runs}
+use Rattle.sock_diag_filters.specs.Sockets.{found_by}
 use Rattle.sock_diag_filters.proofs.Auditing.{program_audited}
+use Rattle.sock_diag_filters.proofs.Finding.{filter_found}
 use Rattle.sock_diag_filters.proofs.Operations.{program_length}
 use Rattle.sock_diag_filters.proofs.Running.{program_wants}
 use Rattle.sock_diag_filters.proofs.assembly.assemble.Goals as goal
@@ -41,3 +43,8 @@ returns-clause-runs c = λ found.
     subst (λ (l : List ℕ). Runs found l wants) (filled c.in_ok-program.program.len
     (program_of filter 4) _ _ c.write_program.ensures (omega arith))
     (program_wants found filter short)
+
+pub returns-clause-wanted : goal.returns-clause-wanted
+returns-clause-wanted c = λ socket.
+    subst (Runs (found_by socket) _) (filter_found socket c.args.filter.now c.in_range.ensures)
+    (returns-clause-runs c (found_by socket))

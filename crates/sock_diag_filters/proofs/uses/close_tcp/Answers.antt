@@ -1,20 +1,35 @@
-use Rattle.std.proofs.Common.{◌≡◌, ◌∙◌, ℕ, [], ap, arith, rules}
+use Rattle.std.proofs.Common.{◌≡◌, ◌∙◌, ℕ, List, [], ◌++◌, ap, arith, drop, rules, append-nil}
+use Rattle.std.specs.Prelude.{replicate}
+use Rattle.netlink_core.specs.Header.{header_bytes}
 use Rattle.netlink_core.specs.declared.header.NetlinkHeader.{NetlinkHeader}
+use Rattle.sock_diag_records.specs.InetRequestLaws.{request_pieces}
 use Rattle.sock_diag_records.specs.declared.inet.request.InetRequest.{InetRequest}
-use Rattle.sock_diag_filters.specs.Requests.{request_bytes}
+use Rattle.sock_diag_filters.specs.Requests.{header_under, request_bytes}
 use Rattle.sock_diag_filters.specs.Uses.{asked_header, asked_tcp}
 use Rattle.sock_diag_filters.proofs.Requesting.{message_length}
 use Rattle.sock_diag_filters.proofs.uses.close_tcp.Goals as goal
 
-pub write_all-requires-clause-whole : goal.write_all-requires-clause-whole
-write_all-requires-clause-whole c = omega (arith, message_length c.header.result c.tcp.result [])
+pub emit-requires-clause-room : goal.emit-requires-clause-room
+emit-requires-clause-room c = omega (arith, message_length c.header.result c.tcp.result [])
 
-pub returns : goal.returns
-returns c =
+pub returns-clause-written : goal.returns-clause-written
+returns-clause-written c =
     let states : c.from_bits_retain.result.0 ≡ 0xffffffff = search rules in
-    c.write_all.ensures
+    let written : List ℕ = request_bytes c.header.result c.tcp.result [] in
+    c.emit.ensures
+    ∙ ap (λ (n : ℕ). written ++ drop n (replicate 72 0))
+    (message_length c.header.result c.tcp.result [])
+    ∙ append-nil written
     ∙ ap (λ (h : NetlinkHeader). request_bytes h c.tcp.result []) c.header.ensures
     ∙ ap (λ (r : InetRequest). request_bytes (asked_header 21 5 c.args.sequence_number) r [])
     c.tcp.ensures
     ∙ ap (λ (n : ℕ). request_bytes (asked_header 21 5 c.args.sequence_number)
     (asked_tcp n c.args.socket_id) []) states
+
+pub returns-clause-bytes : goal.returns-clause-bytes
+returns-clause-bytes c =
+    let request : InetRequest = asked_tcp 0xffffffff c.args.socket_id in
+    let front : List ℕ =
+    header_bytes (header_under (asked_header 21 5 c.args.sequence_number) 72) in
+    returns-clause-written c ∙ append-nil _
+    ∙ ap (λ (l : List ℕ). front ++ l) (request_pieces request)

@@ -1,0 +1,44 @@
+-- Which request is refused, by the family that is told.
+use Rattle.std.proofs.Common.{◌≡◌, ℕ, ◌≤◌, List, length, inl, inr, refl, sym, subst}
+use Rattle.std.proofs.Common.{le-ltb, Result, Ok, Err}
+use Rattle.std.specs.Prelude.{slice_index}
+use Rattle.std.proofs.lemmas.Bool.{ne_eqb}
+use Rattle.netlink_core.specs.declared.fault.DecodeError.{DecodeError}
+use Rattle.netlink_core.specs.declared.fault.DecodeError.TheVariants.{UnknownMessageType}
+use Rattle.netlink_core.specs.declared.header.NetlinkHeader.{NetlinkHeader}
+use Rattle.sock_diag_filters.specs.AnyRequest.{AskedFamily, RecordFamily, asked_family, codec_of}
+use Rattle.sock_diag_filters.specs.AnyRequest.{family_in, inet, of_record, refuses_by, told_family}
+use Rattle.sock_diag_filters.specs.Asked.{IsRequestType, RefusesRequest, payload_of}
+
+-- the first byte of a request tells its family
+pub asked_is : (payload : List ℕ) (t : ℕ) (told : Result AskedFamily DecodeError)
+    → 2 ≤ length payload → IsRequestType t → told_family (slice_index payload 0) ≡ told
+    → asked_family payload t ≡ told
+asked_is payload t told long (inl same) is = rw (le-ltb (length payload) 2 long, same) is
+asked_is payload t told long (inr same) is = rw (le-ltb (length payload) 2 long, same) is
+
+-- another type is refused
+pub other_is_refused : (payload : List ℕ) (t : ℕ) → 2 ≤ length payload → ¬ IsRequestType t
+    → asked_family payload t ≡ Err (UnknownMessageType t)
+other_is_refused payload t long other =
+    rw (
+      le-ltb (length payload) 2 long,
+      ne_eqb t 20 (λ same. other (inl same)),
+      ne_eqb t 21 (λ same. other (inr same)),
+    ) refl
+
+module _ (message : List ℕ) (h : NetlinkHeader) (e : DecodeError) where
+  abbrev by : Result AskedFamily DecodeError → Type 0
+  by told = refuses_by told message h e
+
+  pub refused_family : family_in message h ≡ Err e → refuses_by (family_in message h) message h e
+  refused_family told = subst by (sym told) refl
+
+  pub refused_inet : family_in message h ≡ Ok inet → RefusesRequest message e
+      → refuses_by (family_in message h) message h e
+  refused_inet told refused = subst by (sym told) refused
+
+  pub refused_record : (family : RecordFamily) → family_in message h ≡ Ok (of_record family)
+      → (codec_of family).reads tt (payload_of message h) ≡ Err e
+      → refuses_by (family_in message h) message h e
+  refused_record family told refused = subst by (sym told) refused

@@ -1,0 +1,102 @@
+-- Requests of sock_diag(7) of any family that is read here.
+use Rattle.std.specs.Prelude.{◌≡◌, ℕ, ◌==◌, ◌||◌, not, nat_lt, if◌then◌else◌, ◌⊎◌, List, length}
+use Rattle.std.specs.Prelude.{drop, slice_index, Result, Ok, Err}
+use Rattle.netlink_core.specs.Header.{HasHeader, IsEnvelopeFault}
+use Rattle.netlink_core.specs.ValueCodec.{ValueCodec, value_codec}
+use Rattle.netlink_core.specs.declared.fault.DecodeError.{DecodeError}
+use Rattle.netlink_core.specs.declared.fault.DecodeError.TheVariants.{MessageTooShort}
+use Rattle.netlink_core.specs.declared.fault.DecodeError.TheVariants.{UnknownFamily}
+use Rattle.netlink_core.specs.declared.fault.DecodeError.TheVariants.{UnknownMessageType}
+use Rattle.netlink_core.specs.declared.header.NetlinkHeader.{NetlinkHeader}
+use Rattle.sock_diag_records.specs.UnixRequest.{unix_request}
+use Rattle.sock_diag_families.specs.ShowRequest.{show_request}
+use Rattle.sock_diag_families.specs.VsockRequest.{vsock_request}
+use Rattle.sock_diag_filters.specs.declared.any.AnyRequestView.{AnyRequestView}
+use Rattle.sock_diag_filters.specs.declared.any.AnyRequestView.TheVariants as view
+use Rattle.sock_diag_filters.specs.declared.view.RequestView.{RequestView}
+use Rattle.sock_diag_filters.specs.Asked.{Asks, RefusesRequest, payload_of}
+
+-- the families whose request is one record
+pub data RecordFamily : Type 0 where
+  unix netlink packet vsock xdp : RecordFamily
+
+-- how the request of each is read and written
+abbrev pub codec_of : RecordFamily → ValueCodec (Unit {0})
+codec_of unix = value_codec unix_request
+codec_of netlink = value_codec (show_request 16)
+codec_of packet = value_codec (show_request 17)
+codec_of vsock = value_codec vsock_request
+codec_of xdp = value_codec (show_request 44)
+
+-- how many bytes it has
+abbrev pub size_of : RecordFamily → ℕ
+size_of unix = 24
+size_of netlink = 20
+size_of packet = 20
+size_of vsock = 24
+size_of xdp = 20
+
+-- whose sockets are asked for: those of IPv4 and IPv6, or of another family
+pub data AskedFamily : Type 0 where
+  inet : AskedFamily
+  of_record : RecordFamily → AskedFamily
+
+-- What the first byte of a payload tells: 2 is AF_INET, 10 AF_INET6, 1 AF_UNIX, 16 AF_NETLINK, 17
+-- AF_PACKET, 40 AF_VSOCK and 44 AF_XDP.
+abbrev pub told_family : ℕ → Result AskedFamily DecodeError
+told_family first =
+    if (first == 2) || (first == 10) then Ok inet
+    else if first == 1 then Ok (of_record unix)
+    else if first == 16 then Ok (of_record netlink)
+    else if first == 17 then Ok (of_record packet)
+    else if first == 40 then Ok (of_record vsock)
+    else if first == 44 then Ok (of_record xdp)
+    else Err (UnknownFamily first)
+
+-- The family that a payload asks for under a type, or the fault of one that is no request. The type
+-- 20 is SOCK_DIAG_BY_FAMILY, and 21 SOCK_DESTROY.
+abbrev pub asked_family : List ℕ → ℕ → Result AskedFamily DecodeError
+asked_family payload t =
+    if nat_lt (length payload) 2 then Err (MessageTooShort (length payload))
+    else if not ((t == 20) || (t == 21)) then Err (UnknownMessageType t)
+    else told_family (slice_index payload 0)
+
+-- the same of a message that has the header
+abbrev pub family_in : List ℕ → NetlinkHeader → Result AskedFamily DecodeError
+family_in message h = asked_family (payload_of message h) h.message_type
+
+-- a request: of IPv4 and IPv6, or a header, a record and what stands behind it
+pub data AnyRequest : Type 0 where
+  of_inet : RequestView → AnyRequest
+  of_family : (family : RecordFamily) → NetlinkHeader → (codec_of family).Value → List ℕ
+      → AnyRequest
+
+-- what the view says
+abbrev pub asked_any : AnyRequestView → AnyRequest
+asked_any (view.Inet v) = of_inet v
+asked_any (view.Unix v) = of_family unix v.header v.request v.attributes.now
+asked_any (view.Netlink v) = of_family netlink v.header v.request v.attributes.now
+asked_any (view.Packet v) = of_family packet v.header v.request v.attributes.now
+asked_any (view.Vsock v) = of_family vsock v.header v.request v.attributes.now
+asked_any (view.Xdp v) = of_family xdp v.header v.request v.attributes.now
+
+-- the message has this header, tells that family, and has its record and then the attributes
+abbrev pub AnyAsks : List ℕ → AnyRequest → Type 0
+AnyAsks message (of_inet v) = (family_in message v.header ≡ Ok inet) × Asks message v
+AnyAsks message (of_family family h request attributes) =
+    HasHeader message h × (family_in message h ≡ Ok (of_record family))
+    × ((codec_of family).reads tt (payload_of message h) ≡ Ok request)
+    × (attributes ≡ drop (size_of family) (payload_of message h))
+
+-- the message is refused for the family that is told, or for its request
+abbrev pub refuses_by : Result AskedFamily DecodeError → List ℕ → NetlinkHeader → DecodeError
+    → Type 0
+refuses_by (Err fault) message h e = e ≡ fault
+refuses_by (Ok inet) message h e = RefusesRequest message e
+refuses_by (Ok (of_record family)) message h e =
+    (codec_of family).reads tt (payload_of message h) ≡ Err e
+
+-- of several faults the first
+abbrev pub RefusesAnyRequest : List ℕ → DecodeError → Type 0
+RefusesAnyRequest message e = IsEnvelopeFault message e
+    ⊎ ((h : NetlinkHeader) × HasHeader message h × refuses_by (family_in message h) message h e)

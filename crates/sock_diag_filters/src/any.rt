@@ -1,0 +1,114 @@
+//! Requests of any family that is read here, as a test kernel reads them, in place.
+
+ghost use Rattle.std.specs.Prelude.{◌≡◌, IfOk, IfErr, drop};
+ghost use Rattle.netlink_core.specs.Header.{HasHeader};
+ghost use Rattle.netlink_core.specs.Layout.{read};
+ghost use Rattle.sock_diag_filters.specs.AnyRequest.{AnyAsks, RefusesAnyRequest, asked_any};
+ghost use Rattle.sock_diag_filters.specs.AnyRequest.{family_in, refuses_by};
+
+use crate::view::{RequestView, is_request};
+use netlink_core::{DecodeError, NETLINK_HEADER_LEN, NetlinkHeader, Record, read_record};
+use netlink_packet_sock_diag::unix::UnixRequest;
+use netlink_packet_sock_diag::{AF_INET, AF_INET6, AF_NETLINK, AF_PACKET, AF_UNIX};
+use sock_diag_families::netlink::NetlinkRequest;
+use sock_diag_families::packet::PacketRequest;
+use sock_diag_families::vsock::{AF_VSOCK, VsockRequest};
+use sock_diag_families::xdp::{AF_XDP, XdpRequest};
+
+/// A request that is one record, read in place.
+#[derive(Debug, Drop, PartialEq, Eq)]
+pub struct RecordRequestView<'a, R> {
+    /// The netlink header.
+    pub header: NetlinkHeader,
+    /// What is asked for.
+    pub request: R,
+    /// The bytes of attributes, which stand behind the record. Linux looks at none of them, and
+    /// they may be anything: `NlasIterator::new` walks them.
+    pub attributes: &'a [u8],
+}
+
+impl<'a, R: Record<Param = ()>> RecordRequestView<'a, R> {
+    // Reads the record in front of what stands behind the header.
+    fn read(header: NetlinkHeader, payload: &'a [u8]) -> Result<Self, DecodeError>
+        ensures header { IfOk result (λ view. view.header ≡ header) }
+        ensures request { IfOk result (λ view.
+            read R.layout tt payload.entry.now ≡ Ok view.request) }
+        ensures attributes { IfOk result (λ view.
+            view.attributes.now ≡ drop R.layout.least payload.entry.now) }
+        ensures fault { IfErr result (λ e. read R.layout tt payload.entry.now ≡ Err e) }
+    {
+        let (_, least) = R::name_and_least();
+        let request = read_record::<R>(payload, ())?;
+        let (_, attributes) = payload.split_at(least);
+        Ok(RecordRequestView {
+            header,
+            request,
+            attributes,
+        })
+    }
+}
+
+/// A request for sockets of any family that is read here, read in place.
+#[derive(Debug, Drop, PartialEq, Eq)]
+pub enum AnyRequestView<'a> {
+    /// Asks for IPv4 or IPv6 sockets.
+    Inet(RequestView<'a>),
+    /// Asks for UNIX sockets.
+    Unix(RecordRequestView<'a, UnixRequest>),
+    /// Asks for netlink sockets.
+    Netlink(RecordRequestView<'a, NetlinkRequest>),
+    /// Asks for packet sockets.
+    Packet(RecordRequestView<'a, PacketRequest>),
+    /// Asks for vsock sockets.
+    Vsock(RecordRequestView<'a, VsockRequest>),
+    /// Asks for XDP sockets.
+    Xdp(RecordRequestView<'a, XdpRequest>),
+}
+
+impl<'a> AnyRequestView<'a> {
+    /// Reads the netlink message in front of the bytes. No memory is taken.
+    ///
+    /// Refused is what stands for its header; then fewer than 2 bytes behind it, as
+    /// `MessageTooShort`; then a type but `SOCK_DIAG_BY_FAMILY` and `SOCK_DESTROY`, as
+    /// `UnknownMessageType`; then a first byte but `AF_INET`, `AF_INET6`, `AF_UNIX`, `AF_NETLINK`,
+    /// `AF_PACKET`, `AF_VSOCK` and `AF_XDP`, as `UnknownFamily`; then what the reader of that
+    /// family's request refuses: [`RequestView::parse`], or the record's.
+    pub fn parse(message: &'a [u8]) -> Result<AnyRequestView<'a>, DecodeError>
+        ensures value { IfOk result (λ view. AnyAsks message.entry.now (asked_any view)) }
+        ensures fault { IfErr result (RefusesAnyRequest message.entry.now) }
+    {
+        match NetlinkHeader::from_prefix(message) {
+            Ok(header) => read_under(header, message),
+            Err(fault) => Err(fault),
+        }
+    }
+}
+
+// The request of the family that a message with this header asks for.
+fn read_under<'a>(
+    header: NetlinkHeader,
+    message: &'a [u8],
+) -> Result<AnyRequestView<'a>, DecodeError>
+    requires { HasHeader message.entry.now header }
+    ensures value { IfOk result (λ view. AnyAsks message.entry.now (asked_any view)) }
+    ensures fault { IfErr result
+        (refuses_by (family_in message.entry.now header) message.entry.now header) }
+{
+    let message_type = header.message_type;
+    let payload = &message[NETLINK_HEADER_LEN..header.length as usize];
+    if payload.len() < 2 {
+        return Err(DecodeError::MessageTooShort { got: payload.len() });
+    }
+    if !is_request(message_type) {
+        return Err(DecodeError::UnknownMessageType { message_type });
+    }
+    match payload[0] {
+        AF_INET | AF_INET6 => Ok(AnyRequestView::Inet(RequestView::parse(message)?)),
+        AF_UNIX => Ok(AnyRequestView::Unix(RecordRequestView::read(header, payload)?)),
+        AF_NETLINK => Ok(AnyRequestView::Netlink(RecordRequestView::read(header, payload)?)),
+        AF_PACKET => Ok(AnyRequestView::Packet(RecordRequestView::read(header, payload)?)),
+        AF_VSOCK => Ok(AnyRequestView::Vsock(RecordRequestView::read(header, payload)?)),
+        AF_XDP => Ok(AnyRequestView::Xdp(RecordRequestView::read(header, payload)?)),
+        family => Err(DecodeError::UnknownFamily { family }),
+    }
+}
