@@ -48,8 +48,8 @@ impl Exact for DumpState {
 }
 
 /// The reader of a dump, which comes in several datagrams. It keeps the messages of the protocol in
-/// order, and passes over those that say nothing. What follows the end is not read. A refused message
-/// ends it; a [`LossyDump`] goes on.
+/// order, and passes over those that say nothing. What follows the end is not read. A refused
+/// message ends it; a [`LossyDump`] goes on.
 #[derive(Drop)]
 pub struct DumpReader {
     dump: FedDump<SockDiagMessage>,
