@@ -294,6 +294,17 @@ pub fn interruption_by_one_datagram_more()
         → (AreInterrupted message_codec [] (datagrams ++ datagram ∷ [])
         ↔ (AreInterrupted message_codec [] datagrams
         ⊎ ((was ≡ unended) × IsInterrupted message_codec before datagram after))) }
+    ensures lossy_none { AreInterrupted (lossy message_codec) [] [] → ⊥ }
+    ensures lossy_more { (datagrams : List (List ℕ)) (datagram : List ℕ)
+        → AllByRecursion IsBytes datagrams → IsBytes datagram
+        → (before after : List (Result Message DecodeError)) (was left : Standing)
+        (answer : Result Unit Refusal)
+        → FeedsLeave (lossy message_codec) [] unended datagrams before was
+        → FeedLeaves (lossy message_codec) before was datagram after left answer
+        → answer ≢ Err (Fault Memory)
+        → (AreInterrupted (lossy message_codec) [] (datagrams ++ datagram ∷ [])
+        ↔ (AreInterrupted (lossy message_codec) [] datagrams
+        ⊎ ((was ≡ unended) × IsInterrupted (lossy message_codec) before datagram after))) }
 {}
 
 /// What feeding a `LossyDump` leaves does not depend on the split either: the same bytes, fed to
