@@ -29,7 +29,7 @@ use Rattle.netlink_packet_sock_diag.proofs.Dumping.{Passing, passes, passing_beg
 use Rattle.netlink_packet_sock_diag.proofs.DumpRows.{none_later}
 
 -- where a list with one item more has an item, that is the last one or stands in front of it
-last_or_before : {A : Type 0} (xs front back : List A) (last x : A)
+pub last_or_before : {A : Type 0} (xs front back : List A) (last x : A)
     → xs ++ last ∷ [] ≡ front ++ (x ∷ back)
     → ((xs ≡ front) × (x ≡ last)) ⊎ ((more : List A) × (xs ≡ front ++ (x ∷ more)))
 last_or_before [] [] back last x e = inl (refl, cc)

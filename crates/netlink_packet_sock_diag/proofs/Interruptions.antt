@@ -23,11 +23,12 @@ use Rattle.netlink_packet_sock_diag.specs.Feed.{AreInterrupted, FeedLeaves, Feed
 use Rattle.netlink_packet_sock_diag.specs.Feed.{IsInterrupted}
 use Rattle.netlink_packet_sock_diag.proofs.DumpRows.{End, OneList, SomeItems, bytes-concatenation}
 use Rattle.netlink_packet_sock_diag.proofs.DumpRows.{dump_of_split, ended_stays, feed_step}
-use Rattle.netlink_packet_sock_diag.proofs.DumpRows.{feeds_dump, joined, left_reading, one_dump}
-use Rattle.netlink_packet_sock_diag.proofs.DumpRows.{one_datagram_dump, parted, reading_or_not}
+use Rattle.netlink_packet_sock_diag.proofs.DumpRows.{feeds_dump, items_of_each, joined}
+use Rattle.netlink_packet_sock_diag.proofs.DumpRows.{left_reading, one_datagram_dump, one_dump}
+use Rattle.netlink_packet_sock_diag.proofs.DumpRows.{parted, reading_or_not, same_items_feeds}
 use Rattle.netlink_packet_sock_diag.proofs.DumpRows.{state_left, state_left-reading}
-use Rattle.netlink_packet_sock_diag.proofs.Interrupting.{Strings, all_front, one_item, strings_of}
-use Rattle.netlink_packet_sock_diag.proofs.Interrupting.{zip_front}
+use Rattle.netlink_packet_sock_diag.proofs.Interrupting.{Strings, all_front, last_or_before}
+use Rattle.netlink_packet_sock_diag.proofs.Interrupting.{one_item, strings_of, zip_front}
 
 -- an item of a row that is two in a row is one of the first of them, or stands behind it
 front_or_behind : {A : Type 0} (xs zs ms rs : List A) (y : A) → xs ++ (y ∷ zs) ≡ ms ++ rs
@@ -405,3 +406,69 @@ module _ (C : Codec ℕ) (some : SomeItems C) (one : OneList C) where
         λ i. of_whole datagrams in_range split before after left f
             (subst bytes (sym same) (to_whole others fits cut before i)),
       )
+
+  -- ---- one datagram more
+
+  pub none_interrupts : (before : List C.Value) → AreInterrupted C before [] → ⊥
+  none_interrupts before (front, back, x, middle, after, parts, leave, is) =
+      omega (arith, ap length parts, length-append front (x ∷ back))
+
+  -- datagrams that are fed leave one list and one state
+  one_left : (datagrams : List (List ℕ)) → AllByRecursion IsBytes datagrams
+      → (before after also : List C.Value) (left state : Standing)
+      → FeedsLeave C before unended datagrams after left
+      → FeedsLeave C before unended datagrams also state → (after ≡ also) × (left ≡ state)
+  one_left datagrams in_range before after also left state f g =
+      let parts = items_of_each C some datagrams in_range in
+      same_items_feeds C some one datagrams datagrams parts.0 parts.0 in_range in_range parts.1
+      parts.1 refl before after also left state f g
+
+  -- one more interrupts a dump that is still read, or an earlier one did
+  pub one_more_interrupts : (datagrams : List (List ℕ)) (d : List ℕ)
+      → AllByRecursion IsBytes datagrams → IsBytes d → (before middle after : List C.Value)
+      (was left : Standing) (answer : Result Unit DumpError)
+      → FeedsLeave C before unended datagrams middle was
+      → FeedLeaves C middle was d after left answer → answer ≢ Err (Fault Memory)
+      → (AreInterrupted C before (datagrams ++ d ∷ []) ↔ (AreInterrupted C before datagrams
+      ⊎ ((was ≡ unended) × IsInterrupted C middle d after)))
+  one_more_interrupts datagrams d in_range fits before mid after was left answer feeds f memory = (
+    λ i. elim (last_or_before datagrams i.0 i.1 d i.2 i.5) [
+      | inl here ↦
+          let same = one_left datagrams in_range before i.3 mid unended was
+          (subst (λ (l : List (List ℕ)). FeedsLeave C before unended l i.3 unended)
+          (sym here.0) i.6) feeds in
+          let step = feed_step C mid d after left answer
+          (subst (λ (s : Standing). FeedLeaves C mid s d after left answer)
+          (sym same.1) f) memory in
+          inr (
+            sym same.1,
+            keeps_more d fits mid after step.0 step.1
+                (subst (λ (m : List C.Value). Reached C m d) same.0
+                (subst (λ (b : List ℕ). Reached C i.3 b) here.1
+                (reached i.3 i.2 i.4 i.7))),
+          )
+      | inr more ↦ inl (i.0, more.0, i.2, i.3, i.4, more.1, i.6, i.7)
+    ],
+    λ e. elim e [
+      | inl i ↦ (
+        i.0,
+        i.1 ++ d ∷ [],
+        i.2,
+        i.3,
+        i.4,
+        ap (λ (l : List (List ℕ)). l ++ d ∷ []) i.5 ∙ append_assoc i.0 (i.2 ∷ i.1) (d ∷ []),
+        i.6,
+        i.7,
+      )
+      | inr r ↦ (
+        datagrams,
+        [],
+        d,
+        mid,
+        after,
+        refl,
+        subst (λ (s : Standing). FeedsLeave C before unended datagrams mid s) r.0 feeds,
+        r.1,
+      )
+    ],
+  )

@@ -26,7 +26,10 @@ ghost use Rattle.netlink_packet_sock_diag.specs.declared.message.SockDiagDestroy
 ghost use Rattle.netlink_packet_sock_diag.specs.Dump.{concatenation, Dump};
 ghost use Rattle.netlink_packet_sock_diag.specs.Dump.{DatagramDump, DatagramsDump};
 ghost use Rattle.netlink_packet_sock_diag.specs.Dump.{AreSplit, Standing, unended};
-ghost use Rattle.netlink_packet_sock_diag.specs.Feed.{AreInterrupted, FeedsLeave, IsInterrupted};
+ghost use Rattle.netlink_packet_sock_diag.specs.Feed.{AreInterrupted, FeedLeaves, FeedsLeave};
+ghost use Rattle.netlink_packet_sock_diag.specs.Feed.{IsInterrupted};
+ghost use Rattle.netlink_packet_sock_diag.specs.declared.dump.DumpError.{DumpError as Refusal};
+ghost use Rattle.netlink_packet_sock_diag.specs.declared.dump.DumpError.TheVariants.{Fault};
 ghost use Rattle.netlink_packet_sock_diag.specs.declared.dump.views.DumpViews.{DumpViews};
 ghost use Rattle.netlink_packet_sock_diag.specs.declared.dump.views.PayloadView.{PayloadView};
 ghost use Rattle.netlink_core.specs.DatagramWalk.{datagram_left};
@@ -275,6 +278,33 @@ pub fn split_changes_no_interruption()
         → FeedsLeave message_codec [] unended datagrams messages state
         → (AreInterrupted message_codec [] datagrams
         ↔ IsInterrupted message_codec [] (concatenation datagrams) messages) }
+{}
+
+/// A dump that was fed nothing is not interrupted, and one datagram more interrupts it as the
+/// clause `interrupted` of `feed` says: so `is_interrupted` of a reader that was fed datagrams,
+/// with memory for all, tells whether they interrupt the dump.
+pub fn interruption_by_one_datagram_more()
+    ensures none { AreInterrupted message_codec [] [] → ⊥ }
+    ensures more { (datagrams : List (List ℕ)) (datagram : List ℕ)
+        → AllByRecursion IsBytes datagrams → IsBytes datagram
+        → (before after : List Message) (was left : Standing) (answer : Result Unit Refusal)
+        → FeedsLeave message_codec [] unended datagrams before was
+        → FeedLeaves message_codec before was datagram after left answer
+        → answer ≢ Err (Fault Memory)
+        → (AreInterrupted message_codec [] (datagrams ++ datagram ∷ [])
+        ↔ (AreInterrupted message_codec [] datagrams
+        ⊎ ((was ≡ unended) × IsInterrupted message_codec before datagram after))) }
+    ensures lossy_none { AreInterrupted (lossy message_codec) [] [] → ⊥ }
+    ensures lossy_more { (datagrams : List (List ℕ)) (datagram : List ℕ)
+        → AllByRecursion IsBytes datagrams → IsBytes datagram
+        → (before after : List (Result Message DecodeError)) (was left : Standing)
+        (answer : Result Unit Refusal)
+        → FeedsLeave (lossy message_codec) [] unended datagrams before was
+        → FeedLeaves (lossy message_codec) before was datagram after left answer
+        → answer ≢ Err (Fault Memory)
+        → (AreInterrupted (lossy message_codec) [] (datagrams ++ datagram ∷ [])
+        ↔ (AreInterrupted (lossy message_codec) [] datagrams
+        ⊎ ((was ≡ unended) × IsInterrupted (lossy message_codec) before datagram after))) }
 {}
 
 /// What feeding a `LossyDump` leaves does not depend on the split either: the same bytes, fed to

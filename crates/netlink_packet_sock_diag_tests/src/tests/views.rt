@@ -97,7 +97,6 @@ fn datagram(alloc: Global, names: &str) -> Result<Vec<u8>, Fail> {
             "noop" => "10000000010000000000000000000000",
             "reply" => "2000000014000200070000000000000001010a000e4f0000a002000000000000",
             "unknown" => "2000000015000200070000000000000001010a000e4f0000a002000000000000",
-            "packet" => "2000000014000200070000000000000011010a000e4f0000a002000000000000",
             "done" => "1400000003000200070000000000000000000000",
             "error" => "14000000020002000700000000000000ee000000",
             "lost" => "14000000040002000700000000000000ee000000",
@@ -156,7 +155,8 @@ fn dumps_are_read(rt: HostRuntime) -> Result<(), Fail> {
 /// that its end tells, and the fault of each entry, or none.
 const LOSSY_DUMPS: &str = "reply unknown+reply: (Ok(()), Reading, None, [None, \
 Some(UnknownMessageType { message_type: 21 }), None])
-packet noop+reply+done: (Ok(()), Done, Some(0), [Some(UnknownFamily { family: 17 }), None])
+2000000014000200070000000000000011010a000e4f0000a002000000000000 noop+reply+done: (Ok(()), Done, \
+Some(0), [Some(UnknownFamily { family: 17 }), None])
 unknown+error reply: (Err(Ended), Error, Some(238), \
 [Some(UnknownMessageType { message_type: 21 })])
 unknown+reply+00: (Err(Fault(EnvelopeCut { got: 1 })), Failed, None, \
