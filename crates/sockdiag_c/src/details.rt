@@ -152,8 +152,8 @@ fn tell_reply<'a, T: KeepsDetails<'a>>(payload: &'a [u8], details: &mut T) -> u3
         (λ v details. T.describes v.header details v.nlas) details.old details.new result }
 {
     match read_details::<T>(payload) {
-        Ok(details) => {
-            *details = details;
+        Ok(found) => {
+            *details = found;
             OK
         }
         Err(fault) => u32::from(fault.number()),
