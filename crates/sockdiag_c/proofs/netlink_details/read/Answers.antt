@@ -23,8 +23,10 @@ pub returns-clause-value : goal.returns-clause-value
 returns-clause-value c = (
   view_model c.in_ok-reply.reply,
   c.in_ok-reply.ensures.value,
-  c.header.ensures,
-  of_read _ _ c.in_ok-memory.ensures c.from-memory.ensures,
-  c.from-groups.ensures ∙ ap (option_map (λ (b : List ℕ). (3, b))) c.groups.ensures,
-  of_read _ _ c.in_ok-flags.ensures c.from-flags.ensures,
+  (
+    c.header.ensures,
+    of_read _ _ _ c.in_ok-memory.ensures c.from-memory.ensures,
+    c.from-groups.ensures ∙ ap (option_map (λ (b : List ℕ). (3, b))) c.groups.ensures,
+    of_read _ _ _ c.in_ok-flags.ensures c.from-flags.ensures,
+  ),
 )
