@@ -1,5 +1,5 @@
 -- What C is told of a netlink socket.
-use Rattle.std.specs.Prelude.{◌≡◌, ℕ, List, [], ◌∷◌, Option, IsOkAnd}
+use Rattle.std.specs.Prelude.{◌≡◌, List, [], ◌∷◌, Option, IsOkAnd}
 use Rattle.std.specs.Result.{result_err}
 use Rattle.netlink_core.specs.Response.{ValueOf}
 use Rattle.netlink_core.specs.declared.fault.DecodeError.{DecodeError}
