@@ -475,7 +475,7 @@ struct sockdiag_xdp_details {
  * chooses the call by it. The answer is 0, or the first fault's number, and then *details is as it was. Of several
  * attributes of a kind the first counts; an attribute of another kind is no fault, and a walk tells it. Of a record,
  * bytes behind its last field are passed over: later kernels tell more. A record that isn't told is as it was. Texts
- * stand in the payload.
+ * stand in the payload. Walk over a dump by sockdiag_next_envelope: sockdiag_next_message refuses these replies.
  *
  * Fewer bytes than the header has are SOCKDIAG_BUFFER_TOO_SMALL. Behind the framing of all attributes, 7 to 9, values are
  * looked at in the order of their kinds: one that is shorter than its record is SOCKDIAG_BUFFER_TOO_SMALL, and a number

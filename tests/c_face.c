@@ -1,6 +1,7 @@
 /*
  * Calls each function of include/sockdiag.h once with what it accepts and with what it refuses. The bytes are worked out
- * by hand from the layouts of sock_diag(7) and netlink(7). tests/c_face.sh builds and runs it.
+ * by hand from the layouts of sock_diag(7), netlink(7) and the kernel's headers, or are what Linux sent.
+ * tests/c_face.sh builds and runs it.
  */
 #include "sockdiag.h"
 

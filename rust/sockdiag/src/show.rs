@@ -5,8 +5,8 @@ use crate::dump::NetlinkHeader;
 use crate::sys;
 use crate::unix::request_header;
 
-/// A request for the sockets of the family, `AF_NETLINK`, `AF_PACKET` or `AF_XDP`: another one has
-/// no message.
+/// A request for the sockets of the family, `AF_NETLINK`, `AF_PACKET` or `AF_XDP`: of another one
+/// `to_message` isn't compiled.
 ///
 /// ```
 /// use sockdiag::constants::{NLM_F_DUMP, NLM_F_REQUEST};

@@ -1,5 +1,6 @@
 //! Replies, requests and dumps by value, from bytes that are worked out by hand from the layouts of
-//! sock_diag(7) and netlink(7), and the reader over every cut and every changed byte of them.
+//! sock_diag(7), netlink(7) and the kernel's headers, or that Linux sent, and the reader over every
+//! cut and every changed byte of them.
 
 use sockdiag::constants::{NLMSG_DONE, SOCK_DIAG_BY_FAMILY};
 use sockdiag::inet::{self, InetReply, InetRequest, SocketId, Timer};
