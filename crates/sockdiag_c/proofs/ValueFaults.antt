@@ -15,7 +15,8 @@ pub of_read : {A : Type 0} (P : A → Type 0) (r : Result A DecodeError) (x : A)
 of_read {A} P r x is holds = subst (λ (s : Result A DecodeError). IsOkAnd s P) is holds
 
 -- the first fault of these
-pub record FirstFault (faults : List (Option DecodeError)) (found : Option DecodeError) : Type 0 where
+pub record FirstFault (faults : List (Option DecodeError)) (found : Option DecodeError)
+    : Type 0 where
   pub is : first_of (λ (o : Option DecodeError). o) faults ≡ found
 
 -- the first value is refused
