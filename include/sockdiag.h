@@ -14,7 +14,8 @@
  *   other thread reads or writes it meanwhile. What a call only reads isn't written meanwhile.
  *
  * Numbers in structs are in the order of bytes of the machine; ports too. Addresses stand high octet first, as inet_ntop
- * takes them. A cookie is eight bytes as they stand in the message.
+ * takes them. A cookie is eight bytes as they stand in the message; that of a netlink, packet, vsock or XDP socket is a
+ * number, whose low byte stands first there.
  */
 #ifndef SOCKDIAG_H
 #define SOCKDIAG_H
@@ -173,10 +174,12 @@ struct sockdiag_number {
 
 #define SOCKDIAG_TEXT 1
 #define SOCKDIAG_ABSTRACT 2
+#define SOCKDIAG_BYTES 3
 
 /* A text that a reply may tell, where it stands in the reply's bytes. */
 struct sockdiag_text {
-    uint32_t kind;        /* SOCKDIAG_TEXT, of a name a pathname; SOCKDIAG_ABSTRACT an abstract name; 0 none is told */
+    uint32_t kind;        /* SOCKDIAG_TEXT, of a name a pathname; SOCKDIAG_ABSTRACT an abstract name; SOCKDIAG_BYTES bytes
+                             that are no text; 0 none is told */
     const uint8_t *bytes; /* the text, without the zero at its end, or in front of an abstract name; that of a pathname
                              follows it there, and behind other texts there may be none */
     size_t length;        /* how many bytes it has */
@@ -311,6 +314,178 @@ struct sockdiag_inet_memory {
 /* The same of the memory, the value of the first INET_DIAG_SKMEMINFO. */
 size_t sockdiag_inet_get_memory(const uint8_t *payload, size_t length, struct sockdiag_inet_memory *memory);
 
+/* ---- netlink, packet, vsock and XDP sockets */
+
+/* Where their attributes begin: behind struct netlink_diag_msg, packet_diag_msg and xdp_diag_msg. */
+#define SOCKDIAG_NETLINK_ATTRIBUTES 28
+#define SOCKDIAG_PACKET_ATTRIBUTES 16
+#define SOCKDIAG_XDP_ATTRIBUTES 16
+
+/* The memory of such a socket, by the words SK_MEMINFO_.. of linux/sock_diag.h, in bytes but for the last. All but the last
+ * two are told together. */
+struct sockdiag_memory {
+    struct sockdiag_number receive_queue;        /* SK_MEMINFO_RMEM_ALLOC, at 0: what the receive queue takes now */
+    struct sockdiag_number receive_queue_max;    /* SK_MEMINFO_RCVBUF, at 4: the most that it may take */
+    struct sockdiag_number bottom_send_queues;   /* SK_MEMINFO_WMEM_ALLOC, at 8: packets handed down the network stack */
+    struct sockdiag_number send_queue_max;       /* SK_MEMINFO_SNDBUF, at 12: the most that the send queue may take */
+    struct sockdiag_number cache;                /* SK_MEMINFO_FWD_ALLOC, at 16: what the socket holds and doesn't use */
+    struct sockdiag_number send_queue;           /* SK_MEMINFO_WMEM_QUEUED, at 20: what the send queue takes now */
+    struct sockdiag_number options;              /* SK_MEMINFO_OPTMEM, at 24: the socket's options */
+    struct sockdiag_number backlog_queue_length; /* SK_MEMINFO_BACKLOG, at 28: packets that wait while it is locked */
+    struct sockdiag_number drops;                /* SK_MEMINFO_DROPS, at 32: how many packets were dropped */
+};
+
+/* The header of a reply about a netlink socket, struct netlink_diag_msg of linux/netlink_diag.h. */
+struct sockdiag_netlink_header {
+    uint8_t kind;               /* ndiag_type, at 1: SOCK_RAW or SOCK_DGRAM */
+    uint8_t protocol;           /* ndiag_protocol, at 2: one of NETLINK_.. of linux/netlink.h */
+    uint8_t state;              /* ndiag_state, at 3: 1 of a socket that is connected to another */
+    uint32_t port;              /* ndiag_portid, at 4: the port number of the socket, 0 for the kernel's */
+    uint32_t destination_port;  /* ndiag_dst_portid, at 8: that of the socket that it is connected to */
+    uint32_t destination_group; /* ndiag_dst_group, at 12: the groups that it sends to */
+    uint32_t inode;             /* ndiag_ino, at 16: the inode of the socket */
+    uint64_t cookie;            /* ndiag_cookie, at 20: tells the socket from others of its inode */
+};
+
+/* All that a reply tells about a netlink socket, by the attributes of linux/netlink_diag.h. */
+struct sockdiag_netlink_details {
+    struct sockdiag_netlink_header header;
+    struct sockdiag_memory memory; /* NETLINK_DIAG_MEMINFO */
+    struct sockdiag_text groups;   /* NETLINK_DIAG_GROUPS, SOCKDIAG_BYTES: a bit for each group that the socket is a member
+                                      of, that of group 1 the lowest of the first byte */
+    struct sockdiag_number flags;  /* NETLINK_DIAG_FLAGS: the bits NDIAG_FLAG_.. */
+};
+
+/* The header of a reply about a packet socket, struct packet_diag_msg of linux/packet_diag.h. */
+struct sockdiag_packet_header {
+    uint8_t kind;      /* pdiag_type, at 1: SOCK_RAW or SOCK_DGRAM */
+    uint16_t protocol; /* pdiag_num, at 2: one of ETH_P_.. of linux/if_ether.h */
+    uint32_t inode;    /* pdiag_ino, at 4: the inode of the socket */
+    uint64_t cookie;   /* pdiag_cookie, at 8: tells the socket from others of its inode */
+};
+
+/* What a packet socket is set to, struct packet_diag_info of linux/packet_diag.h. */
+struct sockdiag_packet_info {
+    uint32_t interface;      /* pdi_index, at 0: the interface that the socket is bound to, or 0 */
+    uint32_t version;        /* pdi_version, at 4: the layout of a ring's frames, one of TPACKET_V.. */
+    uint32_t reserve;        /* pdi_reserve, at 8: the bytes that a frame keeps free for the program */
+    uint32_t copy_threshold; /* pdi_copy_thresh, at 12: from how many bytes on a packet is also copied to the queue */
+    uint32_t timestamp;      /* pdi_tstamp, at 16: which clocks tell the time of a packet */
+    uint32_t flags;          /* pdi_flags, at 20: the bits PDI_.. */
+};
+
+/* A ring that a packet socket shares with its program, struct packet_diag_ring of linux/packet_diag.h. */
+struct sockdiag_packet_ring {
+    uint32_t block_size;     /* pdr_block_size, at 0: the bytes of a block */
+    uint32_t blocks;         /* pdr_block_nr, at 4: how many blocks there are */
+    uint32_t frame_size;     /* pdr_frame_size, at 8: the bytes of a frame */
+    uint32_t frames;         /* pdr_frame_nr, at 12: how many frames there are */
+    uint32_t retire_timeout; /* pdr_retire_tmo, at 16: after how many milliseconds a block is handed over that isn't full */
+    uint32_t private_size;   /* pdr_sizeof_priv, at 20: the bytes of a block that are the program's */
+    uint32_t features;       /* pdr_features, at 24: the bits TP_FT_.. */
+};
+
+/* All that a reply tells about a packet socket, by the attributes of linux/packet_diag.h. */
+struct sockdiag_packet_details {
+    struct sockdiag_packet_header header;
+    uint32_t has_info;                        /* 1 where info is told, else 0 */
+    struct sockdiag_packet_info info;         /* PACKET_DIAG_INFO */
+    struct sockdiag_text addresses;           /* PACKET_DIAG_MCLIST, SOCKDIAG_BYTES: the addresses that it receives beside
+                                                 its interface's, 44 bytes each, struct packet_diag_mclist */
+    uint32_t has_receive_ring;                /* 1 where receive_ring is told, else 0 */
+    struct sockdiag_packet_ring receive_ring; /* PACKET_DIAG_RX_RING */
+    uint32_t has_send_ring;                   /* 1 where send_ring is told, else 0 */
+    struct sockdiag_packet_ring send_ring;    /* PACKET_DIAG_TX_RING */
+    struct sockdiag_number fanout;            /* PACKET_DIAG_FANOUT: its number, and its way in the high 16 bits */
+    struct sockdiag_number owner;             /* PACKET_DIAG_UID: the user that the socket belongs to */
+    struct sockdiag_memory memory;            /* PACKET_DIAG_MEMINFO */
+    struct sockdiag_text filter;              /* PACKET_DIAG_FILTER, SOCKDIAG_BYTES: the steps of its filter, 8 bytes each,
+                                                 struct sock_filter */
+};
+
+/* The header of a reply about a vsock socket, struct vsock_diag_msg of linux/vm_sockets_diag.h. No attributes follow. */
+struct sockdiag_vsock_header {
+    uint8_t kind;                 /* vdiag_type, at 1: one of SOCK_.. */
+    uint8_t state;                /* vdiag_state, at 2: one of TCP_.. */
+    uint8_t shutdown;             /* vdiag_shutdown, at 3: which directions are shut down, 1 for receiving, 2 for sending */
+    uint32_t source_context;      /* vdiag_src_cid, at 4: the context of the socket, 2 of the host */
+    uint32_t source_port;         /* vdiag_src_port, at 8: the port of the socket */
+    uint32_t destination_context; /* vdiag_dst_cid, at 12: the context of the peer */
+    uint32_t destination_port;    /* vdiag_dst_port, at 16: the port of the peer */
+    uint32_t inode;               /* vdiag_ino, at 20: the inode of the socket */
+    uint64_t cookie;              /* vdiag_cookie, at 24: tells the socket from others of its inode */
+};
+
+/* The header of a reply about an XDP socket, struct xdp_diag_msg of linux/xdp_diag.h. */
+struct sockdiag_xdp_header {
+    uint8_t kind;    /* xdiag_type, at 1: SOCK_RAW */
+    uint32_t inode;  /* xdiag_ino, at 4: the inode of the socket */
+    uint64_t cookie; /* xdiag_cookie, at 8: tells the socket from others of its inode */
+};
+
+/* Where an XDP socket is bound, struct xdp_diag_info of linux/xdp_diag.h. */
+struct sockdiag_xdp_info {
+    uint32_t interface; /* ifindex, at 0: the interface */
+    uint32_t queue;     /* queue_id, at 4: its queue */
+};
+
+/* The memory that an XDP socket shares with its program, struct xdp_diag_umem of linux/xdp_diag.h. */
+struct sockdiag_xdp_umem {
+    uint64_t size;       /* size, at 0: its bytes */
+    uint32_t id;         /* id, at 8: its number */
+    uint32_t pages;      /* num_pages, at 12: how many pages it has */
+    uint32_t chunk_size; /* chunk_size, at 16: the bytes of a chunk */
+    uint32_t headroom;   /* headroom, at 20: the bytes of a chunk that are the program's */
+    uint32_t interface;  /* ifindex, at 24: the interface that it is bound to */
+    uint32_t queue;      /* queue_id, at 28: the queue of the interface */
+    uint32_t flags;      /* flags, at 32: the bit XDP_DU_F_ZEROCOPY */
+    uint32_t references; /* refs, at 36: how many sockets share it */
+};
+
+/* What an XDP socket counted, struct xdp_diag_stats of linux/xdp_diag.h. */
+struct sockdiag_xdp_statistics {
+    uint64_t received_dropped; /* n_rx_dropped, at 0: packets dropped for another reason than the next two */
+    uint64_t received_invalid; /* n_rx_invalid, at 8: packets with a bad address of a frame */
+    uint64_t received_full;    /* n_rx_full, at 16: packets dropped since the ring was full */
+    uint64_t fill_ring_empty;  /* n_fill_ring_empty, at 24: packets without a frame to fill */
+    uint64_t sent_invalid;     /* n_tx_invalid, at 32: bad addresses of frames to send */
+    uint64_t send_ring_empty;  /* n_tx_ring_empty, at 40: how often nothing was there to send */
+};
+
+/* All that a reply tells about an XDP socket, by the attributes of linux/xdp_diag.h. Of a ring it is told how many entries
+ * it has. */
+struct sockdiag_xdp_details {
+    struct sockdiag_xdp_header header;
+    uint32_t has_info;                         /* 1 where info is told, else 0 */
+    struct sockdiag_xdp_info info;             /* XDP_DIAG_INFO */
+    struct sockdiag_number owner;              /* XDP_DIAG_UID: the user that the socket belongs to */
+    struct sockdiag_number receive_ring;       /* XDP_DIAG_RX_RING: the ring for what is received */
+    struct sockdiag_number send_ring;          /* XDP_DIAG_TX_RING: the ring for what is sent */
+    uint32_t has_umem;                         /* 1 where umem is told, else 0 */
+    struct sockdiag_xdp_umem umem;             /* XDP_DIAG_UMEM */
+    struct sockdiag_number fill_ring;          /* XDP_DIAG_UMEM_FILL_RING: the ring that gives frames to the kernel */
+    struct sockdiag_number completion_ring;    /* XDP_DIAG_UMEM_COMPLETION_RING: the ring that gives them back */
+    struct sockdiag_memory memory;             /* XDP_DIAG_MEMINFO */
+    uint32_t has_statistics;                   /* 1 where statistics is told, else 0 */
+    struct sockdiag_xdp_statistics statistics; /* XDP_DIAG_STATS */
+};
+
+/*
+ * Check the whole of a reply, and tell all that it says. The family, the payload's first byte, is not looked at: a caller
+ * chooses the call by it. The answer is 0, or the first fault's number, and then *details is as it was. Of several
+ * attributes of a kind the first counts; an attribute of another kind is no fault, and a walk tells it. Of a record,
+ * bytes behind its last field are passed over: later kernels tell more. A record that isn't told is as it was. Texts
+ * stand in the payload. Walk over a dump by sockdiag_next_envelope: sockdiag_next_message refuses these replies.
+ *
+ * Fewer bytes than the header has are SOCKDIAG_BUFFER_TOO_SMALL. Behind the framing of all attributes, 7 to 9, values are
+ * looked at in the order of their kinds: one that is shorter than its record is SOCKDIAG_BUFFER_TOO_SMALL, and a number
+ * that isn't in 4 bytes SOCKDIAG_WRONG_LENGTH.
+ */
+uint32_t sockdiag_netlink_get_details(const uint8_t *payload, size_t length, struct sockdiag_netlink_details *details);
+uint32_t sockdiag_packet_get_details(const uint8_t *payload, size_t length, struct sockdiag_packet_details *details);
+uint32_t sockdiag_vsock_get_details(const uint8_t *payload, size_t length, struct sockdiag_vsock_header *details);
+uint32_t sockdiag_xdp_get_details(const uint8_t *payload, size_t length, struct sockdiag_xdp_details *details);
+
 /* ---- walks */
 
 /* How far a walk is. A walk over a whole string begins at place 0. */
@@ -360,7 +535,7 @@ uint32_t sockdiag_next_message(const uint8_t *datagram, size_t length, struct so
 
 /*
  * The same without a look at the payload: the answer is 1 for a message of any type. A dump whose replies are told by
- * sockdiag_unix_get_details and sockdiag_inet_get_details is checked once so.
+ * sockdiag_unix_get_details and the like is checked once so.
  */
 uint32_t sockdiag_next_envelope(const uint8_t *datagram, size_t length, struct sockdiag_cursor *cursor,
                                 struct sockdiag_message *message);
@@ -426,6 +601,35 @@ size_t sockdiag_write_inet_request(const struct sockdiag_inet_request *request, 
  */
 size_t sockdiag_write_unix_destroy(const struct sockdiag_unix_request *request, uint8_t *buffer, size_t length);
 size_t sockdiag_write_inet_destroy(const struct sockdiag_inet_request *request, uint8_t *buffer, size_t length);
+
+/* The request for netlink, packet or XDP sockets: struct netlink_diag_req, packet_diag_req or xdp_diag_req of their
+ * headers. The kernel lists such sockets alone: it looks at neither the inode nor the cookie. */
+struct sockdiag_show_request {
+    struct sockdiag_request_header header;
+    uint8_t family;   /* sdiag_family, at 0: AF_NETLINK, AF_PACKET or AF_XDP */
+    uint8_t protocol; /* sdiag_protocol, at 1: one of NETLINK_.. or NDIAG_PROTO_ALL, else 0 */
+    uint32_t inode;   /* .._ino, at 4: the inode of a single socket */
+    uint32_t show;    /* .._show, at 8: which attributes the replies shall have, NDIAG_SHOW_.., PACKET_SHOW_.. or
+                         XDP_SHOW_.. */
+    uint64_t cookie;  /* .._cookie, at 12: tells a single socket from others of its inode */
+};
+
+/* The request for vsock sockets, struct vsock_diag_req of linux/vm_sockets_diag.h. The kernel doesn't look at the cookie. */
+struct sockdiag_vsock_request {
+    struct sockdiag_request_header header;
+    uint32_t states; /* vdiag_states, at 4: a set of states, the bit of each that of its number */
+    uint64_t cookie; /* vdiag_cookie, at 16: tells a socket from others */
+};
+
+#define SOCKDIAG_SHOW_REQUEST_LENGTH 36
+#define SOCKDIAG_VSOCK_REQUEST_LENGTH 40
+
+/*
+ * Write such a request, as sockdiag_write_unix_request does. The answer is how many bytes were written; or 0 where the
+ * buffer has fewer, or the family is none of AF_NETLINK, AF_PACKET and AF_XDP, and then nothing is written.
+ */
+size_t sockdiag_write_show_request(const struct sockdiag_show_request *request, uint8_t *buffer, size_t length);
+size_t sockdiag_write_vsock_request(const struct sockdiag_vsock_request *request, uint8_t *buffer, size_t length);
 
 /* What became of bytes that were given to be written. */
 struct sockdiag_outcome {

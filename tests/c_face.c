@@ -1,6 +1,7 @@
 /*
  * Calls each function of include/sockdiag.h once with what it accepts and with what it refuses. The bytes are worked out
- * by hand from the layouts of sock_diag(7) and netlink(7). tests/c_face.sh builds and runs it.
+ * by hand from the layouts of sock_diag(7), netlink(7) and the kernel's headers, or are what Linux sent.
+ * tests/c_face.sh builds and runs it.
  */
 #include "sockdiag.h"
 
@@ -173,6 +174,97 @@ static void tells_inet_details(void) {
     check(sockdiag_inet_get_tcp_info(NULL, 0, &info) == 0 && info.backoff == 0, "nothing at a null pointer");
 }
 
+/* The bytes that hexadecimal digits tell. */
+static size_t unhex(const char *digits, uint8_t *bytes) {
+    size_t length = strlen(digits) / 2, at;
+    unsigned byte = 0;
+    for (at = 0; at < length; at++) {
+        sscanf(digits + 2 * at, "%2x", &byte);
+        bytes[at] = (uint8_t)byte;
+    }
+    return length;
+}
+
+/* What Linux 6.18 sent about a socket of the route protocol that listens to the groups 1 and 5. */
+static void tells_netlink_details(void) {
+    uint8_t bytes[256];
+    struct sockdiag_netlink_details details, before;
+    size_t end = unhex(
+        "100300076a1800000000000000000000ff53010001100000000000000c00010011000000000000002800000000000000"
+        "00400300000000000040030000000000000000000000000000000000000000000800040020000000",
+        bytes);
+    memset(&details, 0xaa, sizeof details);
+    check(sockdiag_netlink_get_details(bytes, end, &details) == SOCKDIAG_OK, "a netlink reply");
+    check(details.header.kind == 3 && details.header.protocol == 0 && details.header.state == 7, "a netlink header");
+    check(details.header.port == 6250 && details.header.inode == 87039 && details.header.cookie == 4097, "its numbers");
+    check(details.groups.kind == SOCKDIAG_BYTES && details.groups.length == 8, "groups");
+    check(details.groups.bytes == bytes + 32 && is(details.flags, 32), "where they stand, and flags");
+    check(is(details.memory.receive_queue_max, 212992) && is(details.memory.drops, 0), "memory of a netlink socket");
+    before = details;
+    check(sockdiag_netlink_get_details(bytes, 27, &details) == SOCKDIAG_BUFFER_TOO_SMALL, "a cut netlink header");
+    bytes[end - 8] = 7;
+    check(sockdiag_netlink_get_details(bytes, end, &details) == SOCKDIAG_WRONG_LENGTH, "flags of three bytes");
+    check(memcmp(&details, &before, sizeof before) == 0, "details are told of a refused netlink reply");
+    check(sockdiag_netlink_get_details(bytes, 28, &details) == SOCKDIAG_OK && !details.flags.is_told, "no flags");
+    check(details.groups.kind == 0 && details.memory.options.is_told == 0, "neither groups nor memory");
+}
+
+/* What it sent about a socket for IPv4 packets of the loopback interface, with a ring, a filter and a fanout. */
+static void tells_packet_details(void) {
+    uint8_t bytes[256];
+    struct sockdiag_packet_details details;
+    size_t end = unhex(
+        "110300080054010003100000000000001c00000001000000000000000000000000000000000000000100000008000500"
+        "000000003000010001000000010000000000060001005e0000fb00000000000000000000000000000000000000000000"
+        "000000002000020000100000020000000008000004000000000000000000000000000000080004000700000028000600"
+        "0000000000400300000000000040030000000000000000008800000000000000000000000c00070006000000ffff0000",
+        bytes);
+    memset(&details, 0, sizeof details);
+    details.send_ring.frames = 9;
+    check(sockdiag_packet_get_details(bytes, end, &details) == SOCKDIAG_OK, "a packet reply");
+    check(details.header.kind == 3 && details.header.protocol == 0x800, "a packet header");
+    check(details.header.inode == 87040 && details.header.cookie == 4099, "its numbers");
+    check(details.has_info == 1 && details.info.interface == 1 && details.info.flags == 1, "what it is set to");
+    check(details.addresses.length == 44 && details.addresses.bytes[17] == 0xfb, "addresses");
+    check(details.has_receive_ring == 1 && details.receive_ring.block_size == 4096, "a ring");
+    check(details.receive_ring.blocks == 2 && details.receive_ring.frames == 4, "its blocks and frames");
+    check(details.has_send_ring == 0 && details.send_ring.frames == 9, "a ring that isn't told");
+    check(is(details.owner, 0) && is(details.fanout, 7) && is(details.memory.options, 136), "owner, fanout and memory");
+    check(details.filter.kind == SOCKDIAG_BYTES && details.filter.length == 8, "a filter");
+    check(memcmp(details.filter.bytes, "\6\0\0\0\377\377\0", 8) == 0, "its step");
+    bytes[16] = 23;
+    check(sockdiag_packet_get_details(bytes, 40, &details) == SOCKDIAG_BUFFER_TOO_SMALL, "a record of 19 bytes");
+}
+
+/* A listening socket of the host at port 22, and a socket at queue 1 of interface 3, with rings, memory and counts. */
+static void tells_vsock_and_xdp_details(void) {
+    uint8_t bytes[256];
+    struct sockdiag_vsock_header vsock;
+    struct sockdiag_xdp_details details;
+    size_t end = unhex("28010a000200000016000000ffffffffffffffff0a5000000500000000000000", bytes);
+    memset(&vsock, 0, sizeof vsock);
+    memset(&details, 0, sizeof details);
+    check(sockdiag_vsock_get_details(bytes, end - 1, &vsock) == SOCKDIAG_BUFFER_TOO_SMALL, "a cut vsock header");
+    check(sockdiag_vsock_get_details(bytes, end, &vsock) == SOCKDIAG_OK, "a vsock reply");
+    check(vsock.kind == 1 && vsock.state == 10 && vsock.shutdown == 0, "a vsock header");
+    check(vsock.source_context == 2 && vsock.source_port == 22 && vsock.destination_port == UINT32_MAX, "its ends");
+    check(vsock.inode == 20490 && vsock.cookie == 5, "its inode and cookie");
+    end = unhex(
+        "2c0300000b00000006000000000000000c000100030000000100000008000200e803000008000300000800002c000500"
+        "000040000000000002000000000400000010000000000000030000000100000001000000010000000800060000100000"
+        "340009000100000000000000020000000000000003000000000000000400000000000000050000000000000006000000"
+        "00000000",
+        bytes);
+    check(sockdiag_xdp_get_details(bytes, end, &details) == SOCKDIAG_OK, "an XDP reply");
+    check(details.header.kind == 3 && details.header.inode == 11 && details.header.cookie == 6, "an XDP header");
+    check(details.has_info == 1 && details.info.interface == 3 && details.info.queue == 1, "where it is bound");
+    check(is(details.owner, 1000) && is(details.receive_ring, 2048) && !details.send_ring.is_told, "owner and rings");
+    check(details.has_umem == 1 && details.umem.size == 4194304 && details.umem.references == 1, "its shared memory");
+    check(is(details.fill_ring, 4096) && !details.completion_ring.is_told && !details.memory.cache.is_told, "its rings");
+    check(details.has_statistics == 1 && details.statistics.received_dropped == 1, "what it counted");
+    check(details.statistics.fill_ring_empty == 4 && details.statistics.send_ring_empty == 6, "its counts");
+}
+
 static void tells_numbers_in_words(void) {
     static const uint8_t refused[5] = {0xfe, 0xff, 0xff, 0xff, 9};
     int32_t number = 7;
@@ -290,6 +382,29 @@ static void writes_inet_request(void) {
     check(sockdiag_write_inet_request(&request, buffer, 72) == 0, "a request of another family");
 }
 
+static void writes_family_requests(void) {
+    static const uint8_t want[36] = {
+        36, 0, 0, 0, 20, 0, 1, 3, 5, 0, 0, 0, 0, 0, 0, 0,
+        16, 255, 0, 0, 6, 0, 0, 0, 0xb, 0, 0, 0, 8, 7, 6, 5, 4, 3, 2, 1,
+    };
+    static const uint8_t vsock[24] = {40, 0, 0, 0, 0, 4, 0, 0, 0, 0, 0, 0, 0, 0, 0, 0, 9};
+    struct sockdiag_show_request request = {{0x301, 5, 0}, 16, 255, 6, 0xb, 0x102030405060708};
+    struct sockdiag_vsock_request other = {{0x301, 5, 0}, 0x400, 9};
+    uint8_t buffer[41];
+    memset(buffer, 0xaa, sizeof buffer);
+    check(sockdiag_write_show_request(&request, buffer, 35) == 0 && buffer[0] == 0xaa, "a short buffer for a request");
+    check(sockdiag_write_show_request(&request, buffer, 41) == 36, "a netlink request");
+    check(memcmp(buffer, want, 36) == 0 && buffer[36] == 0xaa, "its bytes, and what stands behind it");
+    request.family = 44;
+    check(sockdiag_write_show_request(&request, buffer, 36) == 36 && buffer[16] == 44, "an XDP request");
+    check(memcmp(buffer + 17, want + 17, 19) == 0, "its other bytes");
+    request.family = 40;
+    check(sockdiag_write_show_request(&request, buffer, 36) == 0, "a vsock request of another form");
+    check(sockdiag_write_vsock_request(&other, buffer, 39) == 0, "a short buffer for a vsock request");
+    check(sockdiag_write_vsock_request(&other, buffer, 41) == 40 && buffer[0] == 40 && buffer[4] == 20, "a vsock request");
+    check(memcmp(buffer + 16, vsock, 24) == 0 && buffer[40] == 0xaa, "its record");
+}
+
 static void writes_filtered_request(void) {
     static const uint8_t filter[13] = {8, 0, 1, 0, 1, 2, 3, 4, 5, 0, 2, 0, 9};
     struct sockdiag_inet_request request;
@@ -350,11 +465,15 @@ int main(void) {
     checks_messages();
     tells_unix_details();
     tells_inet_details();
+    tells_netlink_details();
+    tells_packet_details();
+    tells_vsock_and_xdp_details();
     tells_numbers_in_words();
     walks_attributes();
     walks_messages();
     writes_unix_request();
     writes_inet_request();
+    writes_family_requests();
     writes_filtered_request();
     rewrites_unix_reply();
     rewrites_inet_reply();

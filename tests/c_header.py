@@ -21,6 +21,7 @@ from pathlib import Path
 TOP = Path(__file__).resolve().parent.parent
 HEADER = TOP / "include" / "sockdiag.h"
 RUST = TOP / "rust" / "sockdiag"
+FAMILIES = "sock_diag_families/src"
 # The header's numbers, but those of the faults, by the file and the name of the constant, or words
 # of a doc comment in front of the number.
 NUMBERS = {
@@ -29,12 +30,24 @@ NUMBERS = {
     "SOCKDIAG_ITEM": ("sockdiag_c/src/walks.rt", "ITEM"),
     "SOCKDIAG_TEXT": ("sockdiag_c/src/details.rt", "TEXT"),
     "SOCKDIAG_ABSTRACT": ("sockdiag_c/src/details.rt", "ABSTRACT"),
+    "SOCKDIAG_BYTES": ("sockdiag_c/src/details.rt", "BYTES"),
     "SOCKDIAG_UNIX_ATTRIBUTES": ("netlink_packet_sock_diag/src/unix/reply.rt", "LENGTH"),
     "SOCKDIAG_INET_ATTRIBUTES": ("netlink_packet_sock_diag/src/inet/reply.rt", "LENGTH"),
+    "SOCKDIAG_NETLINK_ATTRIBUTES": (f"{FAMILIES}/netlink/response.rt", "netlink_diag_msg`, "),
+    "SOCKDIAG_PACKET_ATTRIBUTES": (f"{FAMILIES}/packet/response.rt", "packet_diag_msg`, "),
+    "SOCKDIAG_XDP_ATTRIBUTES": (f"{FAMILIES}/xdp/response.rt", "xdp_diag_msg`, "),
     "SOCKDIAG_UNIX": ("sockdiag_c/src/headers.rt", "UNIX"),
     "SOCKDIAG_INET": ("sockdiag_c/src/headers.rt", "INET"),
     "SOCKDIAG_UNIX_REQUEST_LENGTH": ("sockdiag_c/src/requests.rt", "a netlink message of "),
     "SOCKDIAG_INET_REQUEST_LENGTH": ("sockdiag_c/src/requests.rt", "bytes, or of "),
+    "SOCKDIAG_SHOW_REQUEST_LENGTH": (
+        "sockdiag_c/src/family_requests.rt",
+        "XDP sockets, a netlink message of ",
+    ),
+    "SOCKDIAG_VSOCK_REQUEST_LENGTH": (
+        "sockdiag_c/src/family_requests.rt",
+        "vsock sockets, a netlink message of ",
+    ),
 }
 # Those faults of `DecodeError` that no call tells.
 UNTOLD = {"MEMORY"}
@@ -44,6 +57,18 @@ PLAIN.update({f"u{bits}": f"uint{bits}_t" for bits in (8, 16, 32, 64)})
 TOLD_AS = {
     "&mut [u8; 232]": ("sockdiag_tcp_info", "TcpInfo", "sock_diag_values/src/inet/tcp_info.rt"),
     "&mut [u8; 36]": ("sockdiag_inet_memory", "MemInfo", "sock_diag_values/src/inet/mem_info.rt"),
+}
+# Records of FAMILIES that C shares, by their names there.
+SHARED = {
+    "NetlinkResponseHeader": ("sockdiag_netlink_header", "netlink/response.rt"),
+    "PacketResponseHeader": ("sockdiag_packet_header", "packet/response.rt"),
+    "PacketInfo": ("sockdiag_packet_info", "packet/attributes.rt"),
+    "PacketRing": ("sockdiag_packet_ring", "packet/attributes.rt"),
+    "VsockResponseHeader": ("sockdiag_vsock_header", "vsock/response.rt"),
+    "XdpResponseHeader": ("sockdiag_xdp_header", "xdp/response.rt"),
+    "XdpInfo": ("sockdiag_xdp_info", "xdp/attributes.rt"),
+    "XdpUmem": ("sockdiag_xdp_umem", "xdp/attributes.rt"),
+    "XdpStatistics": ("sockdiag_xdp_statistics", "xdp/attributes.rt"),
 }
 STRUCT = re.compile(
     r"`struct (\w+)` of\s(?:/// )?`include/sockdiag\.h`\.\n#\[repr\(C\)\]\n(?:#\[[^\n]*\]\n)*"
@@ -104,6 +129,10 @@ def structs_of(text):
     for other, name, path in TOLD_AS.values():
         body = re.search(rf"pub struct {name} {{(.*?)\n}}", text_of(path), re.S)[1]
         found.append((name, other, re.sub(r"Option<(\w+)>", r"\1", body)))
+    for name, (other, path) in SHARED.items():
+        form = rf"#\[repr\(C\)\]\n#\[[^\n]*\]\npub struct {name} {{(.*?)\n}}"
+        body = re.search(form, text_of(f"{FAMILIES}/{path}"), re.S)[1]
+        found.append((name, other, body))
     return {name: (other, list(fields(body))) for name, other, body in found}
 
 

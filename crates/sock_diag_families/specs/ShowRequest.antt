@@ -6,7 +6,7 @@ use Rattle.netlink_core.specs.SoundLaws.{IsSound, is_table}
 use Rattle.netlink_core.specs.Table.{Field, byte, number, unread, little_endian}
 use Rattle.netlink_core.specs.declared.fault.RecordName.TheVariants as name
 use Rattle.netlink_core.proofs.LayoutLaws.{plain_sound}
-use Rattle.std.proofs.Common.{◌<◌, true, IsTrue, ap, lt-ltb, arith}
+use Rattle.std.proofs.Common.{◌<◌, IsTrue, lt-ltb, arith}
 use Rattle.sock_diag_families.specs.declared.request.ShowRequest.{ShowRequest}
 
 -- the request with the numbers of its fields

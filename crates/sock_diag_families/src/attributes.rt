@@ -5,6 +5,7 @@ ghost use Rattle.netlink_core.specs.Attribute.{Attribute};
 ghost use Rattle.netlink_core.specs.Faults.{map_ok};
 ghost use Rattle.netlink_core.specs.Layout.{read};
 ghost use Rattle.netlink_core.specs.Parse.{exact_number};
+ghost use Rattle.netlink_packet_sock_diag.specs.ViewModel.{view_model};
 ghost use Rattle.sock_diag_families.specs.Found.{first_value, enough, within};
 
 use crate::{FamilyHeader, WholeView};
@@ -60,17 +61,23 @@ pub trait WholeAttributes {
 }
 
 impl<H: FamilyHeader> WholeAttributes for WholeView<'_, H> {
-    ghost use Rattle.netlink_packet_sock_diag.specs.ViewModel.{view_model};
-
     ghost attributes = { λ view. (view_model view).nlas };
 
     fn value_of(&self, kind: u16) -> Option<&[u8]> {
-        let mut views = self.attributes();
-        while let Some(nla) = views.next() {
-            if nla.0.kind() == kind {
-                return Some(nla.0.value());
-            }
-        }
-        None
+        value_in(self, kind)
     }
+}
+
+// The value of the first attribute of the kind. It is there as long as the reply's bytes are.
+pub(crate) fn value_in<'a, H: FamilyHeader>(reply: &WholeView<'a, H>, kind: u16) -> Option<&'a [u8]>
+    ensures { option_map (λ value. value.now) result
+        ≡ first_value kind (view_model reply.now).nlas }
+{
+    let mut views = reply.attributes();
+    while let Some(nla) = views.next() {
+        if nla.0.kind() == kind {
+            return Some(nla.0.value());
+        }
+    }
+    None
 }

@@ -10,3 +10,8 @@ pub mod UnixDetailsSteps
 pub mod InetDetails
 pub mod InetDetailsSteps
 pub mod TcpInfo
+pub mod FamilyValues
+pub mod NetlinkDetails
+pub mod PacketDetails
+pub mod XdpDetails
+pub mod FamilyRequests

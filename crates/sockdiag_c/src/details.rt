@@ -34,7 +34,7 @@ pub struct Number {
 #[derive(Clone, Copy)]
 pub struct Text<'a> {
     /// What the text is: 0 none is told, 1 a pathname or the name of an algorithm, 2 what stands
-    /// behind the zero of an abstract name.
+    /// behind the zero of an abstract name, 3 bytes that are no text.
     pub kind: u32,
     /// The text, without the zero that tells its end or its kind.
     pub bytes: &'a [u8],
@@ -45,6 +45,9 @@ pub(crate) const TEXT: u32 = 1;
 
 /// The kind of an abstract name.
 pub(crate) const ABSTRACT: u32 = 2;
+
+/// The kind of bytes that are no text.
+pub(crate) const BYTES: u32 = 3;
 
 /// That no number is told.
 pub(crate) const NO_NUMBER: Number = Number {
@@ -152,8 +155,8 @@ fn tell_reply<'a, T: KeepsDetails<'a>>(payload: &'a [u8], details: &mut T) -> u3
         (λ v details. T.describes v.header details v.nlas) details.old details.new result }
 {
     match read_details::<T>(payload) {
-        Ok(details) => {
-            *details = details;
+        Ok(found) => {
+            *details = found;
             OK
         }
         Err(fault) => u32::from(fault.number()),

@@ -6,11 +6,15 @@
 
 mod check;
 mod details;
+mod family_requests;
+mod family_values;
 mod filters;
 mod headers;
 mod inet_details;
 pub mod laws;
 mod layout;
+mod netlink_details;
+mod packet_details;
 mod pending;
 mod requests;
 mod rewriting;
@@ -18,4 +22,6 @@ mod tcp_info;
 #[cfg(test)]
 mod tests;
 mod unix_details;
+mod vsock_details;
 mod walks;
+mod xdp_details;

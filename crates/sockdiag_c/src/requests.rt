@@ -191,7 +191,7 @@ fn address_in(family: u8, octets: &[u8; 16]) -> IpAddr
 }
 
 // Writes a record and attributes behind a netlink header, where there is room for them.
-fn write_message<R: Emitable>(
+pub(crate) fn write_message<R: Emitable>(
     message_type: u16,
     header: &RequestHeader,
     value: &R,

@@ -144,6 +144,12 @@ pub const AF_CAIF: u8 = 37;
 /// The kernel's cryptography.
 pub const AF_ALG: u8 = 38;
 
+/// Virtual machines and their host, vsock(7).
+pub const AF_VSOCK: u8 = 40;
+
+/// Packets of one queue of an interface, past the network stack.
+pub const AF_XDP: u8 = 44;
+
 // ---- Protocols.
 
 /// tcp(7).

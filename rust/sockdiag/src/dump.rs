@@ -1,9 +1,14 @@
 //! Netlink messages, one after the other.
 
+use crate::constants::{AF_NETLINK, AF_PACKET, AF_VSOCK, AF_XDP};
 use crate::constants::{NLMSG_DONE, NLMSG_ERROR, NLMSG_NOOP, NLMSG_OVERRUN, SOCK_DIAG_BY_FAMILY};
 use crate::inet::{InetReply, InetRequest, RequestBytes};
+use crate::netlink::NetlinkReply;
+use crate::packet::PacketReply;
 use crate::sys;
 use crate::unix::{UnixReply, UnixRequest};
+use crate::vsock::VsockReply;
+use crate::xdp::XdpReply;
 use crate::DecodeError;
 
 /// The header of a netlink message: `struct nlmsghdr` of netlink(7).
@@ -164,6 +169,46 @@ impl<'a> SockDiagMessage<'a> {
     }
 }
 
+/// A reply about a socket of any family, read in place.
+#[derive(Clone, Copy, Debug)]
+// A reply is read where it is needed, and no memory is taken for a box.
+#[allow(clippy::large_enum_variant)]
+pub enum AnySockDiagMessage<'a> {
+    /// Tells an IPv4, IPv6 or UNIX socket.
+    Port(SockDiagMessage<'a>),
+    /// Tells a netlink socket.
+    Netlink(NetlinkReply<'a>),
+    /// Tells a packet socket.
+    Packet(PacketReply<'a>),
+    /// Tells a vsock socket.
+    Vsock(VsockReply<'a>),
+    /// Tells an XDP socket.
+    Xdp(XdpReply<'a>),
+}
+
+impl<'a> AnySockDiagMessage<'a> {
+    /// Checks the whole of a payload under its message's type, and reads it. Under the type
+    /// `SOCK_DIAG_BY_FAMILY` the first of two or more bytes chooses the family; all else
+    /// [`SockDiagMessage::parse`] decides.
+    pub fn parse(payload: &'a [u8], message_type: u16) -> Result<Self, DecodeError> {
+        match (message_type, payload) {
+            (SOCK_DIAG_BY_FAMILY, [AF_NETLINK, _, ..]) => {
+                NetlinkReply::parse(payload).map(AnySockDiagMessage::Netlink)
+            }
+            (SOCK_DIAG_BY_FAMILY, [AF_PACKET, _, ..]) => {
+                PacketReply::parse(payload).map(AnySockDiagMessage::Packet)
+            }
+            (SOCK_DIAG_BY_FAMILY, [AF_VSOCK, _, ..]) => {
+                VsockReply::parse(payload).map(AnySockDiagMessage::Vsock)
+            }
+            (SOCK_DIAG_BY_FAMILY, [AF_XDP, _, ..]) => {
+                XdpReply::parse(payload).map(AnySockDiagMessage::Xdp)
+            }
+            _ => SockDiagMessage::parse(payload, message_type).map(AnySockDiagMessage::Port),
+        }
+    }
+}
+
 /// The messages of a datagram, in order: a walk that checks each reply once.
 ///
 /// Where a payload is refused its fault is given, and the walk goes on; behind a fault of the
@@ -185,31 +230,79 @@ impl<'a> Iterator for Dump<'a> {
     type Item = Result<Message<'a>, DecodeError>;
 
     fn next(&mut self) -> Option<Self::Item> {
-        let part = match sys::next_envelope(self.datagram, &mut self.place) {
-            Ok(part) => part,
-            Err(0) => return None,
-            Err(fault) => return Some(Err(DecodeError::from_number(fault))),
-        };
-        let payload = self.datagram.get(part.offset..part.offset + part.length)?;
-        let payload = match part.message_type {
-            NLMSG_NOOP => NetlinkPayload::Noop,
-            NLMSG_ERROR => NetlinkPayload::Error(sys::error_number(payload)),
-            NLMSG_DONE => NetlinkPayload::Done(sys::error_number(payload)),
-            NLMSG_OVERRUN => NetlinkPayload::Overrun,
-            message_type => match SockDiagMessage::parse(payload, message_type) {
-                Ok(message) => NetlinkPayload::InnerMessage(message),
-                Err(fault) => return Some(Err(fault)),
-            },
-        };
-        let header = NetlinkHeader {
-            length: part.length as u32 + 16,
-            message_type: part.message_type,
-            flags: part.flags,
-            sequence_number: part.sequence_number,
-            port_number: part.port_number,
-        };
-        Some(Ok(Message { header, payload }))
+        next_message(self.datagram, &mut self.place, SockDiagMessage::parse)
     }
 }
 
 impl core::iter::FusedIterator for Dump<'_> {}
+
+/// The same with replies of any family.
+///
+/// ```
+/// use sockdiag::{AnyDump, AnySockDiagMessage, NetlinkPayload};
+///
+/// # let datagram: &[u8] = &[
+/// #     48, 0, 0, 0, 20, 0, 2, 0, 7, 0, 0, 0, 9, 0, 0, 0, 40, 1, 10, 0, 2, 0, 0, 0, 22, 0, 0, 0,
+/// #     255, 255, 255, 255, 255, 255, 255, 255, 10, 80, 0, 0, 5, 0, 0, 0, 0, 0, 0, 0,
+/// # ];
+/// for message in AnyDump::new(datagram) {
+///     if let NetlinkPayload::InnerMessage(AnySockDiagMessage::Vsock(reply)) = message?.payload {
+///         assert_eq!((reply.header.source_context, reply.header.source_port), (2, 22));
+///     }
+/// }
+/// # Ok::<(), sockdiag::DecodeError>(())
+/// ```
+#[derive(Clone, Debug)]
+pub struct AnyDump<'a> {
+    datagram: &'a [u8],
+    place: usize,
+}
+
+impl<'a> AnyDump<'a> {
+    /// The walk over the messages of a datagram.
+    pub fn new(datagram: &'a [u8]) -> Self {
+        AnyDump { datagram, place: 0 }
+    }
+}
+
+impl<'a> Iterator for AnyDump<'a> {
+    type Item = Result<NetlinkMessage<AnySockDiagMessage<'a>>, DecodeError>;
+
+    fn next(&mut self) -> Option<Self::Item> {
+        next_message(self.datagram, &mut self.place, AnySockDiagMessage::parse)
+    }
+}
+
+impl core::iter::FusedIterator for AnyDump<'_> {}
+
+/// The message at the place, whose payload is read so where it is of no control type.
+fn next_message<'a, I>(
+    datagram: &'a [u8],
+    place: &mut usize,
+    parse: fn(&'a [u8], u16) -> Result<I, DecodeError>,
+) -> Option<Result<NetlinkMessage<I>, DecodeError>> {
+    let part = match sys::next_envelope(datagram, place) {
+        Ok(part) => part,
+        Err(0) => return None,
+        Err(fault) => return Some(Err(DecodeError::from_number(fault))),
+    };
+    let payload = datagram.get(part.offset..part.offset + part.length)?;
+    let payload = match part.message_type {
+        NLMSG_NOOP => NetlinkPayload::Noop,
+        NLMSG_ERROR => NetlinkPayload::Error(sys::error_number(payload)),
+        NLMSG_DONE => NetlinkPayload::Done(sys::error_number(payload)),
+        NLMSG_OVERRUN => NetlinkPayload::Overrun,
+        message_type => match parse(payload, message_type) {
+            Ok(message) => NetlinkPayload::InnerMessage(message),
+            Err(fault) => return Some(Err(fault)),
+        },
+    };
+    let header = NetlinkHeader {
+        length: part.length as u32 + 16,
+        message_type: part.message_type,
+        flags: part.flags,
+        sequence_number: part.sequence_number,
+        port_number: part.port_number,
+    };
+    Some(Ok(NetlinkMessage { header, payload }))
+}

@@ -96,6 +96,20 @@
 //!
 //! [`Dump`] walks over a whole datagram, [`Attributes`] over attributes by kind and bytes, and
 //! `to_message` and `to_destroy` write a request at once.
+//!
+//! # Sockets of four families more
+//!
+//! Beside what stands in that crate, [`netlink`], [`packet`], [`vsock`] and [`xdp`] have requests
+//! and replies of these sockets, and [`AnyDump`] and [`AnySockDiagMessage`] replies of any family.
+//! What a reply tells stands in its fields, of several attributes of a kind the first;
+//! `attributes` gives all.
+//!
+//! | family | request | reply | its header |
+//! |---|---|---|---|
+//! | `AF_NETLINK` | [`netlink::NetlinkRequest`] | [`netlink::NetlinkReply`] | `struct netlink_diag_msg` |
+//! | `AF_PACKET` | [`packet::PacketRequest`] | [`packet::PacketReply`] | `struct packet_diag_msg` |
+//! | `AF_VSOCK` | [`vsock::VsockRequest`] | [`vsock::VsockReply`] | `struct vsock_diag_msg` |
+//! | `AF_XDP` | [`xdp::XdpRequest`] | [`xdp::XdpReply`] | `struct xdp_diag_msg` |
 #![no_std]
 
 mod attribute;
@@ -103,13 +117,20 @@ pub mod constants;
 mod dump;
 mod fault;
 pub mod inet;
+pub mod netlink;
+pub mod packet;
+mod show;
 mod sys;
 pub mod unix;
+pub mod vsock;
+pub mod xdp;
 
 pub use attribute::{Attribute, Attributes, NlaWalk, Nlas, Numbers};
 pub use constants::*;
+pub use dump::{AnyDump, AnySockDiagMessage};
 pub use dump::{Dump, Message, NetlinkHeader, NetlinkMessage, NetlinkPayload, SockDiagMessage};
 pub use fault::DecodeError;
+pub use show::ShowRequest;
 
 /// A set of flags with their numbers, as the kernel takes them.
 macro_rules! flags {

@@ -5,6 +5,12 @@
 //! a struct points to one whose fields are all set, and what a call writes overlaps nothing else
 //! that it is given. A contract is that of the function of the same name in `crates/sockdiag_c`.
 
+use crate::inet::nlas::MemInfo;
+use crate::netlink::NetlinkResponseHeader;
+use crate::packet::{PacketInfo, PacketResponseHeader, PacketRing};
+use crate::vsock::VsockResponseHeader;
+use crate::xdp::{XdpInfo, XdpResponseHeader, XdpStatistics, XdpUmem};
+use core::marker::PhantomData;
 use core::mem::{offset_of, size_of};
 
 #[repr(C)]
@@ -106,6 +112,107 @@ struct InetDetails {
     numbers: InetNumbers,
 }
 
+/// A text of a reply that is borrowed for `'a`, or none.
+#[repr(C)]
+#[derive(Clone, Copy)]
+pub(crate) struct Bytes<'a> {
+    text: Text,
+    reply: PhantomData<&'a [u8]>,
+}
+
+impl Default for Bytes<'_> {
+    fn default() -> Self {
+        Bytes {
+            text: NO_TEXT,
+            reply: PhantomData,
+        }
+    }
+}
+
+impl<'a> Bytes<'a> {
+    /// The bytes, where they are told.
+    pub(crate) fn get(self) -> Option<&'a [u8]> {
+        // SAFETY: it is none, or in what `ask` answers over a payload that is borrowed for 'a: no
+        // one else writes a text.
+        unsafe { lent(self.text) }.map(|(_, bytes)| bytes)
+    }
+}
+
+#[repr(C)]
+#[derive(Clone, Copy, Default)]
+pub(crate) struct Memory {
+    receive_queue: Number,
+    receive_queue_max: Number,
+    bottom_send_queues: Number,
+    send_queue_max: Number,
+    cache: Number,
+    send_queue: Number,
+    options: Number,
+    backlog_queue_length: Number,
+    drops: Number,
+}
+
+impl Memory {
+    /// The memory, where it is told.
+    pub(crate) fn get(self) -> Option<MemInfo> {
+        Some(MemInfo {
+            receive_queue: self.receive_queue.get()?,
+            receive_queue_max: self.receive_queue_max.get()?,
+            bottom_send_queues: self.bottom_send_queues.get()?,
+            send_queue_max: self.send_queue_max.get()?,
+            cache: self.cache.get()?,
+            send_queue: self.send_queue.get()?,
+            options: self.options.get()?,
+            backlog_queue_length: self.backlog_queue_length.get(),
+            drops: self.drops.get(),
+        })
+    }
+}
+
+#[repr(C)]
+#[derive(Clone, Copy, Default)]
+pub(crate) struct NetlinkDetails<'a> {
+    pub(crate) header: NetlinkResponseHeader,
+    pub(crate) memory: Memory,
+    pub(crate) groups: Bytes<'a>,
+    pub(crate) flags: Number,
+}
+
+#[repr(C)]
+#[derive(Clone, Copy, Default)]
+pub(crate) struct PacketDetails<'a> {
+    pub(crate) header: PacketResponseHeader,
+    pub(crate) has_info: u32,
+    pub(crate) info: PacketInfo,
+    pub(crate) addresses: Bytes<'a>,
+    pub(crate) has_receive_ring: u32,
+    pub(crate) receive_ring: PacketRing,
+    pub(crate) has_send_ring: u32,
+    pub(crate) send_ring: PacketRing,
+    pub(crate) fanout: Number,
+    pub(crate) owner: Number,
+    pub(crate) memory: Memory,
+    pub(crate) filter: Bytes<'a>,
+}
+
+#[repr(C)]
+#[derive(Clone, Copy, Default)]
+pub(crate) struct XdpDetails {
+    pub(crate) header: XdpResponseHeader,
+    pub(crate) has_info: u32,
+    pub(crate) info: XdpInfo,
+    pub(crate) owner: Number,
+    pub(crate) receive_ring: Number,
+    pub(crate) send_ring: Number,
+    pub(crate) has_umem: u32,
+    pub(crate) umem: XdpUmem,
+    pub(crate) fill_ring: Number,
+    pub(crate) completion_ring: Number,
+    pub(crate) memory: Memory,
+    pub(crate) has_statistics: u32,
+    pub(crate) statistics: XdpStatistics,
+}
+
 #[repr(C)]
 #[derive(Clone, Copy, Default)]
 pub(crate) struct Message {
@@ -156,6 +263,23 @@ pub(crate) struct InetRequest {
     pub(crate) cookie: [u8; 8],
 }
 
+#[repr(C)]
+pub(crate) struct ShowRequest {
+    pub(crate) header: RequestHeader,
+    pub(crate) family: u8,
+    pub(crate) protocol: u8,
+    pub(crate) inode: u32,
+    pub(crate) show: u32,
+    pub(crate) cookie: u64,
+}
+
+#[repr(C)]
+pub(crate) struct VsockRequest {
+    pub(crate) header: RequestHeader,
+    pub(crate) states: u32,
+    pub(crate) cookie: u64,
+}
+
 // The sizes that `crates/sockdiag_c/src/layout.rt` proves.
 const _: () = assert!(size_of::<UnixHeader>() == 16 && size_of::<InetHeader>() == 72);
 const _: () = assert!(size_of::<Number>() == 8 && size_of::<Text>() == 24);
@@ -165,6 +289,14 @@ const _: () = assert!(size_of::<Message>() == 32 && size_of::<AttributePart>() =
 const _: () = assert!(size_of::<RequestHeader>() == 12 && size_of::<UnixRequest>() == 32);
 const _: () = assert!(size_of::<InetRequest>() == 72);
 const _: () = assert!(size_of::<crate::inet::TcpInfo>() == 232);
+const _: () = assert!(size_of::<NetlinkResponseHeader>() == 32 && size_of::<Memory>() == 72);
+const _: () = assert!(size_of::<PacketResponseHeader>() == 16 && size_of::<PacketInfo>() == 24);
+const _: () = assert!(size_of::<PacketRing>() == 28 && size_of::<VsockResponseHeader>() == 32);
+const _: () = assert!(size_of::<XdpResponseHeader>() == 16 && size_of::<XdpInfo>() == 8);
+const _: () = assert!(size_of::<XdpUmem>() == 40 && size_of::<XdpStatistics>() == 48);
+const _: () = assert!(size_of::<NetlinkDetails>() == 136 && size_of::<PacketDetails>() == 248);
+const _: () = assert!(size_of::<XdpDetails>() == 240);
+const _: () = assert!(size_of::<ShowRequest>() == 32 && size_of::<VsockRequest>() == 24);
 
 extern "C" {
     fn sockdiag_unix_get_details(
@@ -188,6 +320,23 @@ extern "C" {
         length: usize,
         info: *mut crate::inet::TcpInfo,
     ) -> usize;
+    fn sockdiag_netlink_get_details<'a>(
+        payload: *const u8,
+        length: usize,
+        details: *mut NetlinkDetails<'a>,
+    ) -> u32;
+    fn sockdiag_packet_get_details<'a>(
+        payload: *const u8,
+        length: usize,
+        details: *mut PacketDetails<'a>,
+    ) -> u32;
+    fn sockdiag_vsock_get_details(
+        payload: *const u8,
+        length: usize,
+        details: *mut VsockResponseHeader,
+    ) -> u32;
+    fn sockdiag_xdp_get_details(payload: *const u8, length: usize, details: *mut XdpDetails)
+        -> u32;
     fn sockdiag_next_attribute(
         bytes: *const u8,
         length: usize,
@@ -218,6 +367,16 @@ extern "C" {
     ) -> usize;
     fn sockdiag_write_inet_destroy(
         request: *const InetRequest,
+        buffer: *mut u8,
+        length: usize,
+    ) -> usize;
+    fn sockdiag_write_show_request(
+        request: *const ShowRequest,
+        buffer: *mut u8,
+        length: usize,
+    ) -> usize;
+    fn sockdiag_write_vsock_request(
+        request: *const VsockRequest,
         buffer: *mut u8,
         length: usize,
     ) -> usize;
@@ -307,6 +466,48 @@ pub(crate) fn inet_details(payload: &[u8]) -> Told<'_, InetHeader, InetNumbers> 
     Ok((details.header, congestion, details.numbers))
 }
 
+/// What a details call tells of a reply, or the fault.
+///
+/// # Safety
+///
+/// `call` is a details call of `sockdiag.h`, and texts of `D` are borrowed as the payload is.
+unsafe fn ask<D: Default>(
+    payload: &[u8],
+    call: unsafe extern "C" fn(*const u8, usize, *mut D) -> u32,
+) -> Result<D, u32> {
+    let mut details = D::default();
+    // SAFETY: the slice has its length, the struct is a whole local; the contract of a details call
+    // asks nothing else, and writes the struct alone.
+    match unsafe { call(payload.as_ptr(), payload.len(), &mut details) } {
+        0 => Ok(details),
+        fault => Err(fault),
+    }
+}
+
+/// What a reply about a netlink socket tells.
+pub(crate) fn netlink_details(payload: &[u8]) -> Result<NetlinkDetails<'_>, u32> {
+    // SAFETY: `sockdiag_netlink_get_details` is one.
+    unsafe { ask(payload, sockdiag_netlink_get_details) }
+}
+
+/// What a reply about a packet socket tells.
+pub(crate) fn packet_details(payload: &[u8]) -> Result<PacketDetails<'_>, u32> {
+    // SAFETY: `sockdiag_packet_get_details` is one.
+    unsafe { ask(payload, sockdiag_packet_get_details) }
+}
+
+/// What a reply about a vsock socket tells.
+pub(crate) fn vsock_details(payload: &[u8]) -> Result<VsockResponseHeader, u32> {
+    // SAFETY: `sockdiag_vsock_get_details` is one.
+    unsafe { ask(payload, sockdiag_vsock_get_details) }
+}
+
+/// What a reply about an XDP socket tells.
+pub(crate) fn xdp_details(payload: &[u8]) -> Result<XdpDetails, u32> {
+    // SAFETY: `sockdiag_xdp_get_details` is one.
+    unsafe { ask(payload, sockdiag_xdp_get_details) }
+}
+
 /// The inode at that index among the connections that wait.
 pub(crate) fn pending(payload: &[u8], index: usize) -> Option<u32> {
     let mut inode = 0;
@@ -390,6 +591,20 @@ pub(crate) fn write_inet(request: &InetRequest, destroy: bool, buffer: &mut [u8]
     // SAFETY: the buffer has its length and is borrowed alone; the contracts
     // `sockdiag_write_inet_request` and `sockdiag_write_inet_destroy` ask nothing else.
     unsafe { call(request, buffer.as_mut_ptr(), buffer.len()) }
+}
+
+/// The same of netlink, packet or XDP sockets.
+pub(crate) fn write_show(request: &ShowRequest, buffer: &mut [u8]) -> usize {
+    // SAFETY: the buffer has its length and is borrowed alone; the contract
+    // `sockdiag_write_show_request` asks nothing else.
+    unsafe { sockdiag_write_show_request(request, buffer.as_mut_ptr(), buffer.len()) }
+}
+
+/// The same of vsock sockets.
+pub(crate) fn write_vsock(request: &VsockRequest, buffer: &mut [u8]) -> usize {
+    // SAFETY: the buffer has its length and is borrowed alone; the contract
+    // `sockdiag_write_vsock_request` asks nothing else.
+    unsafe { sockdiag_write_vsock_request(request, buffer.as_mut_ptr(), buffer.len()) }
 }
 
 /// Writes a request for internet sockets with attributes behind it, and answers how many bytes were

@@ -1,11 +1,47 @@
 //! Replies, requests and dumps by value, from bytes that are worked out by hand from the layouts of
-//! sock_diag(7) and netlink(7), and the reader over every cut and every changed byte of them.
+//! sock_diag(7), netlink(7) and the kernel's headers, or that Linux sent, and the reader over every
+//! cut and every changed byte of them.
 
 use sockdiag::constants::{NLMSG_DONE, SOCK_DIAG_BY_FAMILY};
 use sockdiag::inet::{self, InetReply, InetRequest, SocketId, Timer};
+use sockdiag::netlink::{NetlinkReply, NetlinkRequest};
+use sockdiag::packet::PacketReply;
 use sockdiag::unix::{self, UnixDiagName, UnixReply, UnixRequest, Vfs};
-use sockdiag::{Attributes, DecodeError, Dump, NetlinkHeader, NetlinkPayload, SockDiagMessage};
+use sockdiag::vsock::{VsockReply, VsockRequest};
+use sockdiag::xdp::{XdpReply, XdpRequest};
+use sockdiag::{AnyDump, AnySockDiagMessage, Attributes, DecodeError, Dump};
+use sockdiag::{NetlinkHeader, NetlinkPayload, SockDiagMessage};
 use std::net::{IpAddr, Ipv4Addr, Ipv6Addr};
+
+/// What Linux 6.18 sent about a socket of the route protocol that listens to the groups 1 and 5.
+const NETLINK: &str =
+    "100300076a1800000000000000000000ff53010001100000000000000c0001001100000000000000280000000000\
+    000000400300000000000040030000000000000000000000000000000000000000000800040020000000";
+
+/// What it sent about a socket for IPv4 packets of the loopback interface, with a ring, a filter and
+/// a fanout.
+const PACKET: &str =
+    "110300080054010003100000000000001c0000000100000000000000000000000000000000000000010000000800\
+    0500000000003000010001000000010000000000060001005e0000fb000000000000000000000000000000000000\
+    00000000000000002000020000100000020000000008000004000000000000000000000000000000080004000700\
+    0000280006000000000000400300000000000040030000000000000000008800000000000000000000000c000700\
+    06000000ffff0000";
+
+/// A listening socket of the host at port 22.
+const VSOCK: &str = "28010a000200000016000000ffffffffffffffff0a5000000500000000000000";
+
+/// A socket at queue 1 of interface 3, with rings, memory and counts.
+const XDP: &str =
+    "2c0300000b00000006000000000000000c000100030000000100000008000200e803000008000300000800002c00\
+    05000000400000000000020000000004000000100000000000000300000001000000010000000100000008000600\
+    00100000340009000100000000000000020000000000000003000000000000000400000000000000050000000000\
+    00000600000000000000";
+
+/// The bytes that hexadecimal digits tell.
+fn bytes_of(digits: &str) -> Vec<u8> {
+    let byte = |at| u8::from_str_radix(&digits[at..at + 2], 16).unwrap();
+    (0..digits.len()).step_by(2).map(byte).collect()
+}
 
 fn attribute(bytes: &mut Vec<u8>, kind: u16, value: &[u8]) {
     let length = 4 + value.len();
@@ -201,6 +237,107 @@ fn tells_each_attribute_of_an_internet_socket() {
 }
 
 #[test]
+fn tells_netlink_and_packet_sockets() {
+    let bytes = bytes_of(NETLINK);
+    let reply = NetlinkReply::parse(&bytes).unwrap();
+    let header = reply.header;
+    assert_eq!((header.kind, header.protocol, header.state), (3, 0, 7));
+    assert_eq!(
+        (header.port, header.inode, header.cookie),
+        (6250, 87039, 4097)
+    );
+    assert_eq!(
+        (reply.groups, reply.flags),
+        (Some(&[17, 0, 0, 0, 0, 0, 0, 0][..]), Some(32))
+    );
+    let memory = reply.memory.unwrap();
+    assert_eq!((memory.receive_queue_max, memory.drops), (212992, Some(0)));
+    assert_eq!(reply.attributes().count(), 3);
+    let bytes = bytes_of(PACKET);
+    let reply = PacketReply::parse(&bytes).unwrap();
+    assert_eq!((reply.header.protocol, reply.header.inode), (2048, 87040));
+    let (info, ring) = (reply.info.unwrap(), reply.receive_ring.unwrap());
+    assert_eq!((info.interface, info.flags, reply.send_ring), (1, 1, None));
+    assert_eq!(
+        (ring.block_size, ring.blocks, ring.frame_size, ring.frames),
+        (4096, 2, 2048, 4)
+    );
+    assert_eq!((reply.fanout, reply.owner), (Some(7), Some(0)));
+    assert_eq!(reply.filter, Some(&[6, 0, 0, 0, 255, 255, 0, 0][..]));
+    assert_eq!(reply.addresses.map(<[u8]>::len), Some(44));
+    assert_eq!(reply.memory.unwrap().options, 136);
+}
+
+#[test]
+fn tells_vsock_and_xdp_sockets() {
+    let bytes = bytes_of(VSOCK);
+    let header = VsockReply::parse(&bytes).unwrap().header;
+    assert_eq!(
+        (header.kind, header.state, header.source_context),
+        (1, 10, 2)
+    );
+    assert_eq!(
+        (header.source_port, header.destination_port),
+        (22, u32::MAX)
+    );
+    assert_eq!((header.inode, header.cookie), (20490, 5));
+    let bytes = bytes_of(XDP);
+    let reply = XdpReply::parse(&bytes).unwrap();
+    assert_eq!(
+        (reply.header.kind, reply.header.inode, reply.header.cookie),
+        (3, 11, 6)
+    );
+    let (info, umem) = (reply.info.unwrap(), reply.umem.unwrap());
+    assert_eq!(
+        (info.interface, info.queue, reply.owner),
+        (3, 1, Some(1000))
+    );
+    assert_eq!((reply.receive_ring, reply.send_ring), (Some(2048), None));
+    assert_eq!((umem.size, umem.pages, umem.references), (4194304, 1024, 1));
+    assert_eq!((reply.fill_ring, reply.completion_ring), (Some(4096), None));
+    assert_eq!(
+        (reply.statistics.unwrap().send_ring_empty, reply.memory),
+        (6, None)
+    );
+    assert_eq!(
+        XdpReply::parse(&bytes[..15]),
+        Err(DecodeError::BufferTooSmall)
+    );
+}
+
+#[test]
+fn walks_over_replies_of_any_family() {
+    let mut datagram = Vec::new();
+    let replies = [NETLINK, PACKET, VSOCK, XDP].map(bytes_of);
+    for payload in replies.iter().chain([&unix_reply(), &vec![29, 0]]) {
+        datagram.extend(message(SOCK_DIAG_BY_FAMILY, payload));
+    }
+    let inodes: Vec<_> = AnyDump::new(&datagram)
+        .map(|message| match message?.payload {
+            NetlinkPayload::InnerMessage(AnySockDiagMessage::Netlink(reply)) => {
+                Ok(reply.header.inode)
+            }
+            NetlinkPayload::InnerMessage(AnySockDiagMessage::Packet(reply)) => {
+                Ok(reply.header.inode)
+            }
+            NetlinkPayload::InnerMessage(AnySockDiagMessage::Vsock(reply)) => {
+                Ok(reply.header.inode)
+            }
+            NetlinkPayload::InnerMessage(AnySockDiagMessage::Xdp(reply)) => Ok(reply.header.inode),
+            NetlinkPayload::InnerMessage(AnySockDiagMessage::Port(reply)) => {
+                Ok(u32::from(reply.is_unix_response()))
+            }
+            _ => Ok(0),
+        })
+        .collect();
+    let told = [87039, 87040, 20490, 11, 1].map(Ok);
+    assert_eq!(
+        (&inodes[..5], &inodes[5..]),
+        (&told[..], &[Err(DecodeError::UnknownFamily)][..])
+    );
+}
+
+#[test]
 fn walks_over_a_datagram() {
     let mut datagram = message(SOCK_DIAG_BY_FAMILY, &unix_reply());
     datagram.extend(message(SOCK_DIAG_BY_FAMILY, &[17, 0]));
@@ -258,6 +395,24 @@ fn writes_requests() {
     );
     assert_eq!((&bytes[24..26], bytes[43]), (&[0x12, 0x34][..], 1));
     assert_eq!(request.to_destroy(&header)[4], 21);
+    let (protocol, inode, show, cookie) = (255, 6, 0xb, 0x102030405060708);
+    let request = NetlinkRequest {
+        protocol,
+        inode,
+        show,
+        cookie,
+    };
+    let record = [
+        16, 255, 0, 0, 6, 0, 0, 0, 0xb, 0, 0, 0, 8, 7, 6, 5, 4, 3, 2, 1,
+    ];
+    assert_eq!(request.to_message(&header)[16..], record);
+    assert_eq!(XdpRequest::default().to_message(&header)[16], 44);
+    let (states, cookie) = (0x400, 9);
+    let bytes = VsockRequest { states, cookie }.to_message(&header);
+    assert_eq!(
+        (bytes[0], bytes[4], bytes[16], bytes[21], bytes[32]),
+        (40, 20, 40, 4, 9)
+    );
 }
 
 #[test]
@@ -298,6 +453,22 @@ fn ask_all(bytes: &[u8]) {
             reply.congestion().map(str::len).is_some()
         );
     }
+    if let Ok(reply) = NetlinkReply::parse(bytes) {
+        assert!(reply.groups.map_or(true, |it| it.len() + 32 <= bytes.len()));
+    }
+    if let Ok(reply) = PacketReply::parse(bytes) {
+        let told = [reply.addresses, reply.filter].into_iter().flatten();
+        assert!(
+            told.map(|it| it.iter().map(|_| 1).sum::<usize>())
+                .sum::<usize>()
+                <= bytes.len()
+        );
+    }
+    let _ = (
+        VsockReply::parse(bytes).is_ok(),
+        XdpReply::parse(bytes).is_ok(),
+    );
+    let _ = AnyDump::new(bytes).count();
     let _ = sockdiag::inet::tcp_info(bytes);
     let _ = Attributes::new(bytes).count();
     let _ = Dump::new(bytes).count();
@@ -307,7 +478,11 @@ fn ask_all(bytes: &[u8]) {
 fn reads_each_cut_and_each_changed_byte() {
     let mut datagram = message(SOCK_DIAG_BY_FAMILY, &unix_reply());
     datagram.extend(message(SOCK_DIAG_BY_FAMILY, &inet_reply()));
-    for bytes in [unix_reply(), inet_reply(), datagram] {
+    let others = [NETLINK, PACKET, VSOCK, XDP].map(bytes_of);
+    for bytes in [unix_reply(), inet_reply(), datagram]
+        .into_iter()
+        .chain(others)
+    {
         for end in 0..=bytes.len() {
             ask_all(&bytes[..end]);
         }

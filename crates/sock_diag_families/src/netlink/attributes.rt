@@ -9,6 +9,7 @@ ghost use Rattle.sock_diag_families.specs.Found.{first_value, within};
 
 use super::{NETLINK_DIAG_FLAGS, NETLINK_DIAG_GROUPS, NETLINK_DIAG_MEMINFO, NetlinkResponseView};
 use crate::WholeAttributes;
+use crate::attributes::value_in;
 use netlink_core::DecodeError;
 use sock_diag_values::inet::MemInfo;
 
@@ -21,11 +22,11 @@ pub fn memory(reply: &NetlinkResponseView<'_>) -> Result<Option<MemInfo>, Decode
 
 /// The groups that the socket is a member of, `NETLINK_DIAG_GROUPS`: a bit for each, that of
 /// group 1 the lowest of the first byte.
-pub fn groups<'r>(reply: &'r NetlinkResponseView<'_>) -> Option<&'r [u8]>
+pub fn groups<'a>(reply: &NetlinkResponseView<'a>) -> Option<&'a [u8]>
     ensures { option_map (λ groups. groups.now) result
         ≡ first_value 1 (view_model reply.now).nlas }
 {
-    reply.value_of(NETLINK_DIAG_GROUPS)
+    value_in(reply, NETLINK_DIAG_GROUPS)
 }
 
 /// The bits `NDIAG_FLAG_..` of the socket, `NETLINK_DIAG_FLAGS`.

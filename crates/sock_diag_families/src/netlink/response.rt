@@ -14,6 +14,7 @@ use netlink_packet_sock_diag::AF_NETLINK;
 
 /// The header of a reply about a netlink socket: `struct netlink_diag_msg`, 28 bytes, numbers low
 /// byte first. The byte at 0 is not read, and is written AF_NETLINK (16).
+#[repr(C)]
 #[derive(Clone, Copy, Debug, PartialEq, Eq)]
 pub struct NetlinkResponseHeader {
     /// The type of the socket, SOCK_RAW (3) or SOCK_DGRAM (2), `ndiag_type`, at 1.

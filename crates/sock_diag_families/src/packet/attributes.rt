@@ -14,6 +14,7 @@ use super::{
     PacketResponseView,
 };
 use crate::WholeAttributes;
+use crate::attributes::value_in;
 use netlink_core::DecodeError;
 use netlink_core::fields::words_at;
 use netlink_packet_sock_diag::AF_PACKET;
@@ -21,6 +22,7 @@ use sock_diag_values::inet::MemInfo;
 
 /// What a packet socket is set to: `struct packet_diag_info`, the first 24 bytes of
 /// `PACKET_DIAG_INFO`, six words, low byte first.
+#[repr(C)]
 #[derive(Clone, Copy, Debug, PartialEq, Eq)]
 pub struct PacketInfo {
     /// The interface that the socket is bound to, 0 for all, at 0.
@@ -39,6 +41,7 @@ pub struct PacketInfo {
 
 /// A ring that a packet socket shares with its program: `struct packet_diag_ring`, the first 28
 /// bytes of `PACKET_DIAG_RX_RING` and `PACKET_DIAG_TX_RING`, seven words, low byte first.
+#[repr(C)]
 #[derive(Clone, Copy, Debug, PartialEq, Eq)]
 pub struct PacketRing {
     /// The bytes of a block, at 0.
@@ -111,11 +114,11 @@ pub fn info(reply: &PacketResponseView<'_>) -> Result<Option<PacketInfo>, Decode
 
 /// The addresses that the socket receives beside its interface's, `PACKET_DIAG_MCLIST`: 44
 /// bytes each, `struct packet_diag_mclist`.
-pub fn addresses<'r>(reply: &'r PacketResponseView<'_>) -> Option<&'r [u8]>
+pub fn addresses<'a>(reply: &PacketResponseView<'a>) -> Option<&'a [u8]>
     ensures { option_map (λ value. value.now) result
         ≡ first_value 1 (view_model reply.now).nlas }
 {
-    reply.value_of(PACKET_DIAG_MCLIST)
+    value_in(reply, PACKET_DIAG_MCLIST)
 }
 
 /// The ring for what is received, `PACKET_DIAG_RX_RING`. Fewer than 28 bytes are
@@ -155,9 +158,9 @@ pub fn memory(reply: &PacketResponseView<'_>) -> Result<Option<MemInfo>, DecodeE
 }
 
 /// The steps of the filter, `PACKET_DIAG_FILTER`: 8 bytes each, `struct sock_filter`.
-pub fn filter<'r>(reply: &'r PacketResponseView<'_>) -> Option<&'r [u8]>
+pub fn filter<'a>(reply: &PacketResponseView<'a>) -> Option<&'a [u8]>
     ensures { option_map (λ value. value.now) result
         ≡ first_value 7 (view_model reply.now).nlas }
 {
-    reply.value_of(PACKET_DIAG_FILTER)
+    value_in(reply, PACKET_DIAG_FILTER)
 }

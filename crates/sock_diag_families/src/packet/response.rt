@@ -14,6 +14,7 @@ use netlink_packet_sock_diag::AF_PACKET;
 
 /// The header of a reply about a packet socket: `struct packet_diag_msg`, 16 bytes, numbers low
 /// byte first. The byte at 0 is not read, and is written AF_PACKET (17).
+#[repr(C)]
 #[derive(Clone, Copy, Debug, PartialEq, Eq)]
 pub struct PacketResponseHeader {
     /// The type of the socket, one of `SOCK_..`, `pdiag_type`, at 1.

@@ -13,6 +13,7 @@ use netlink_core::{DecodeError, Exact, Record, RecordName};
 
 /// The header of a reply about a vsock socket: `struct vsock_diag_msg`, 32 bytes, numbers low byte
 /// first. The byte at 0 is not read, and is written AF_VSOCK (40). No attributes follow it.
+#[repr(C)]
 #[derive(Clone, Copy, Debug, PartialEq, Eq)]
 pub struct VsockResponseHeader {
     /// The type of the socket, one of `SOCK_..`, `vdiag_type`, at 1.

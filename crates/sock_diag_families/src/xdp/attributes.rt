@@ -21,6 +21,7 @@ use netlink_core::fields::{long_words_at, words_at};
 use sock_diag_values::inet::MemInfo;
 
 /// Where an XDP socket is bound: `struct xdp_diag_info`, the first 8 bytes of `XDP_DIAG_INFO`.
+#[repr(C)]
 #[derive(Clone, Copy, Debug, PartialEq, Eq)]
 pub struct XdpInfo {
     /// The interface, a `u32` at 0.
@@ -31,6 +32,7 @@ pub struct XdpInfo {
 
 /// The memory that an XDP socket shares with its program: `struct xdp_diag_umem`, the first 40
 /// bytes of `XDP_DIAG_UMEM`.
+#[repr(C)]
 #[derive(Clone, Copy, Debug, PartialEq, Eq)]
 pub struct XdpUmem {
     /// Its bytes, a `u64` at 0. What follows is a `u32` each.
@@ -55,6 +57,7 @@ pub struct XdpUmem {
 
 /// What an XDP socket counted: `struct xdp_diag_stats`, the first 48 bytes of `XDP_DIAG_STATS`, six
 /// `u64`.
+#[repr(C)]
 #[derive(Clone, Copy, Debug, PartialEq, Eq)]
 pub struct XdpStatistics {
     /// Packets dropped for another reason than those below, at 0.

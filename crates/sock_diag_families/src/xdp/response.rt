@@ -14,6 +14,7 @@ use netlink_core::{DecodeError, Exact, Record, RecordName};
 
 /// The header of a reply about an XDP socket: `struct xdp_diag_msg`, 16 bytes, numbers low
 /// byte first. The bytes at 0, 2 and 3 are not read, and are written AF_XDP (44) and zeros.
+#[repr(C)]
 #[derive(Clone, Copy, Debug, PartialEq, Eq)]
 pub struct XdpResponseHeader {
     /// The type of the socket, SOCK_RAW (3), `xdiag_type`, at 1.

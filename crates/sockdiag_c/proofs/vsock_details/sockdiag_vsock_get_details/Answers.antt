@@ -1,0 +1,7 @@
+use Rattle.std.proofs.Common.{inl, refl}
+use Rattle.netlink_packet_sock_diag.specs.ViewModel.{view_model}
+use Rattle.sockdiag_c.proofs.vsock_details.sockdiag_vsock_get_details.Goals as goal
+
+pub returns-in-Ok : goal.returns-in-Ok
+returns-in-Ok c =
+    inl (refl, (view_model c.in-Ok.view, c.in-Ok.ensures.value, c.header.ensures))

@@ -1,0 +1,26 @@
+-- The requests for netlink, packet, XDP and vsock sockets that C asks to be written.
+use Rattle.std.specs.Prelude.{ℕ, List, ◌++◌}
+use Rattle.netlink_core.specs.Layout.{bytes}
+use Rattle.netlink_core.specs.Header.{header_bytes}
+use Rattle.sock_diag_families.specs.ShowRequest.{show_request}
+use Rattle.sock_diag_families.specs.VsockRequest.{vsock_request}
+use Rattle.sock_diag_families.specs.declared.request.ShowRequest as show
+use Rattle.sock_diag_families.specs.declared.vsock.request.VsockRequest as vsock
+use Rattle.sockdiag_c.specs.Requests.{header_of}
+use Rattle.sockdiag_c.specs.declared.family_requests.ShowRequest.{ShowRequest}
+use Rattle.sockdiag_c.specs.declared.family_requests.VsockRequest.{VsockRequest}
+
+-- the record that is asked for, each field by its name
+abbrev pub show_request_of : (family : ℕ) → ShowRequest → show.ShowRequest family
+show_request_of family r = record { protocol = r.protocol; inode = r.inode; show = r.show; cookie = r.cookie }
+
+abbrev pub vsock_request_of : VsockRequest → vsock.VsockRequest
+vsock_request_of r = record { states = r.states; cookie = r.cookie }
+
+-- the messages under the type SOCK_DIAG_BY_FAMILY, 20
+abbrev pub show_message : ℕ → ShowRequest → List ℕ
+show_message family r =
+    header_bytes (header_of 36 20 r.header) ++ bytes (show_request family) (show_request_of family r)
+
+abbrev pub vsock_message : VsockRequest → List ℕ
+vsock_message r = header_bytes (header_of 40 20 r.header) ++ bytes vsock_request (vsock_request_of r)

@@ -1,0 +1,33 @@
+-- What C is told of a packet socket.
+use Rattle.std.specs.Prelude.{◌≡◌, List, [], ◌∷◌, Option, IsOkAnd}
+use Rattle.std.specs.Result.{result_err}
+use Rattle.netlink_core.specs.Response.{ValueOf}
+use Rattle.netlink_core.specs.declared.fault.DecodeError.{DecodeError}
+use Rattle.sock_diag_families.specs.PacketAttributes.{packet_info, packet_ring}
+use Rattle.sock_diag_families.specs.PacketResponseHeader.{packet_header}
+use Rattle.sock_diag_families.specs.WholeReply.{whole_reply}
+use Rattle.sockdiag_c.specs.Answers.{AnswersItem}
+use Rattle.sockdiag_c.specs.Details.{number_of, text_of}
+use Rattle.sockdiag_c.specs.FamilyValues.{bytes_of, memory, memory_of, read_of, word}
+use Rattle.sockdiag_c.specs.declared.packet_details.PacketDetails.{PacketDetails}
+
+-- the header, and of each kind the first value; a record that isn't told is as it was
+abbrev pub IsPacketDetailsOf : PacketDetails → ValueOf (whole_reply packet_header) → PacketDetails
+    → Type 0
+IsPacketDetailsOf old v d =
+    (d.header ≡ v.header)
+    × IsOkAnd (read_of packet_info 0 v.nlas) (λ o. AnswersItem o old.info d.info d.has_info)
+    × (text_of d.addresses ≡ bytes_of 1 v.nlas)
+    × IsOkAnd (read_of (packet_ring 2) 2 v.nlas) (λ o. AnswersItem o old.receive_ring d.receive_ring d.has_receive_ring)
+    × IsOkAnd (read_of (packet_ring 3) 3 v.nlas) (λ o. AnswersItem o old.send_ring d.send_ring d.has_send_ring)
+    × IsOkAnd (read_of word 4 v.nlas) (λ o. d.fanout ≡ number_of o)
+    × IsOkAnd (read_of word 5 v.nlas) (λ o. d.owner ≡ number_of o)
+    × IsOkAnd (read_of memory 6 v.nlas) (λ o. d.memory ≡ memory_of o)
+    × (text_of d.filter ≡ bytes_of 7 v.nlas)
+
+-- the faults of its values, in their order
+abbrev pub packet_faults : ValueOf (whole_reply packet_header) → List (Option DecodeError)
+packet_faults v =
+    result_err (read_of packet_info 0 v.nlas) ∷ result_err (read_of (packet_ring 2) 2 v.nlas)
+    ∷ result_err (read_of (packet_ring 3) 3 v.nlas) ∷ result_err (read_of word 4 v.nlas)
+    ∷ result_err (read_of word 5 v.nlas) ∷ result_err (read_of memory 6 v.nlas) ∷ []

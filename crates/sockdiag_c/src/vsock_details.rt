@@ -1,0 +1,30 @@
+//! All that is told of a vsock socket: its header.
+
+ghost use Rattle.netlink_core.specs.Response.{response_codec};
+ghost use Rattle.sock_diag_families.specs.VsockResponseHeader.{vsock_header};
+ghost use Rattle.sock_diag_families.specs.WholeReply.{whole_reply};
+ghost use Rattle.sockdiag_c.specs.Answers.{Answers};
+
+use crate::check::OK;
+use sock_diag_families::vsock::{VsockResponseHeader, VsockResponseView};
+
+/// Checks the whole of a reply about a vsock socket, the payload of its message, and tells all of
+/// it: its header, since no attributes follow. The answer is 0, or the number of the first fault,
+/// and then the header is left as it was.
+#[unsafe(no_mangle)]
+pub extern "C" fn sockdiag_vsock_get_details(
+    payload: &[u8],
+    details: &mut VsockResponseHeader,
+) -> u32
+    ensures { Answers ((response_codec (whole_reply vsock_header)).reads payload.now tt)
+        ((response_codec (whole_reply vsock_header)).refuses payload.now tt)
+        (λ v. v.header) details.old details.new result }
+{
+    match VsockResponseView::parse(payload) {
+        Ok(view) => {
+            *details = view.header().0;
+            OK
+        }
+        Err(fault) => u32::from(fault.number()),
+    }
+}

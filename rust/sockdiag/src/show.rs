@@ -1,0 +1,55 @@
+//! The request for sockets that three families share.
+
+use crate::constants::{AF_NETLINK, AF_PACKET, AF_XDP};
+use crate::dump::NetlinkHeader;
+use crate::sys;
+use crate::unix::request_header;
+
+/// A request for the sockets of the family, `AF_NETLINK`, `AF_PACKET` or `AF_XDP`: of another one
+/// `to_message` isn't compiled.
+///
+/// ```
+/// use sockdiag::constants::{NLM_F_DUMP, NLM_F_REQUEST};
+/// use sockdiag::netlink::{NetlinkRequest, NDIAG_PROTO_ALL, NDIAG_SHOW_GROUPS};
+/// use sockdiag::NetlinkHeader;
+///
+/// let request = NetlinkRequest {
+///     protocol: NDIAG_PROTO_ALL,
+///     show: NDIAG_SHOW_GROUPS,
+///     ..NetlinkRequest::default()
+/// };
+/// let header = NetlinkHeader { flags: NLM_F_REQUEST | NLM_F_DUMP, ..NetlinkHeader::default() };
+/// let bytes = request.to_message(&header);
+/// assert_eq!(bytes[..8], [36, 0, 0, 0, 20, 0, 1, 3]);
+/// assert_eq!(bytes[16..20], [16, 255, 0, 0]);
+/// ```
+#[derive(Clone, Copy, Debug, Default, PartialEq, Eq)]
+pub struct ShowRequest<const FAMILY: u8> {
+    /// The protocol of netlink sockets, else 0.
+    pub protocol: u8,
+    /// The inode of a single socket. Linux lists sockets alone, and doesn't look at it.
+    pub inode: u32,
+    /// Which attributes the replies shall have: the family's bits `.._SHOW_..`.
+    pub show: u32,
+    /// What tells a single socket from others of its inode. Linux doesn't look at it.
+    pub cookie: u64,
+}
+
+impl<const FAMILY: u8> ShowRequest<FAMILY> {
+    /// The netlink message that asks for the sockets.
+    pub fn to_message(&self, header: &NetlinkHeader) -> [u8; 36] {
+        const { assert!(matches!(FAMILY, AF_NETLINK | AF_PACKET | AF_XDP)) };
+        let request = sys::ShowRequest {
+            header: request_header(header),
+            family: FAMILY,
+            protocol: self.protocol,
+            inode: self.inode,
+            show: self.show,
+            cookie: self.cookie,
+        };
+        let mut bytes = [0; 36];
+        let len = sys::write_show(&request, &mut bytes);
+        debug_assert_eq!(len, 36);
+        bytes
+    }
+}
