@@ -1,6 +1,6 @@
 -- What stands below the line of a socket: a tab, and a word for each thing that is told.
 use Rattle.std.specs.Prelude.{ℕ, ◌==◌, ◌||◌, ◌/◌, ◌%◌, if◌then◌else◌, List, [], ◌∷◌, ◌++◌, length}
-use Rattle.std.specs.Prelude.{drop, false, flat_map, codes, decimal, bit_and, slice_index, Option, None}
+use Rattle.std.specs.Prelude.{Bool, drop, false, flat_map, codes, decimal, bit_and, slice_index, Option, None}
 use Rattle.std.specs.Prelude.{Some, Result, Ok, Err}
 use Rattle.std.specs.Fmt.{digits}
 use Rattle.std.proofs.Common.{inl, inr}
@@ -23,11 +23,14 @@ use Rattle.sock_diag_captures.specs.Escapes.{shown}
 use Rattle.sock_diag_captures.specs.Options.{shows}
 use Rattle.sock_diag_captures.specs.Pieces.{Piece}
 use Rattle.sock_diag_captures.specs.declared.details.Sockets.{Sockets}
-use Rattle.sock_diag_captures.specs.declared.details.Sockets.TheVariants.{Unix, Inet}
+use Rattle.sock_diag_captures.specs.declared.details.Sockets.TheVariants.{Unix, Inet, Other}
 use Rattle.sock_diag_captures.specs.declared.details.TimerWords.{TimerWords}
 use Rattle.sock_diag_captures.specs.declared.options.Detail.{Detail}
 use Rattle.sock_diag_captures.specs.declared.options.Detail.TheVariants.{Timer, Extended, Memory}
 use Rattle.sock_diag_captures.specs.declared.options.Detail.TheVariants.{Connection}
+use Rattle.sock_diag_captures.specs.declared.options.Family.{Family}
+use Rattle.sock_diag_captures.specs.declared.options.Family.TheVariants.{Netlink, Packet, Vsock}
+use Rattle.sock_diag_captures.specs.declared.options.Family.TheVariants.{Xdp}
 use Rattle.sock_diag_captures.specs.declared.options.Options.{Options}
 
 -- a space, a word, a colon and a number
@@ -247,10 +250,26 @@ abbrev pub words_of : {A : Type 0} → (Attribute → A → List ℕ) → Attrib
 words_of text a (Ok value) = text a value
 words_of text a (Err e) = unread a e
 
+-- the kinds by which other families tell the memory: NETLINK_DIAG_MEMINFO, PACKET_DIAG_MEMINFO and
+-- XDP_DIAG_MEMINFO
+abbrev pub tells_memory : Family → ℕ → Bool
+tells_memory Netlink kind = kind == 0
+tells_memory Packet kind = kind == 6
+tells_memory Vsock kind = false
+tells_memory Xdp kind = kind == 8
+
+-- what an attribute of a reply about a socket of another family tells: the memory, or nothing that
+-- is read
+abbrev pub other_text : Family → Attribute → List ℕ
+other_text family a =
+    if tells_memory family (attribute_type a)
+    then words_of (λ _ m. memory m) a (read mem_info tt a.value) else unknown a
+
 -- what is told of an attribute
 abbrev pub detail_of : Options → Sockets → Attribute → List ℕ
 detail_of o Unix a = words_of unix_text a (decodes unix a)
 detail_of o Inet a = words_of (inet_text o) a (decodes inet a)
+detail_of o (Other family) a = other_text family a
 
 -- the detail that attributes of a kind tell of a UNIX socket: 5 is UNIX_DIAG_MEMINFO
 abbrev pub detail_of_unix : ℕ → Detail
@@ -265,10 +284,11 @@ detail_of_inet kind =
     else if (kind == 2) || (kind == 3) || (kind == 4) || (kind == 9) || (kind == 16)
     then Connection else Extended
 
--- that of either
+-- that of each
 abbrev pub detail_under : Sockets → ℕ → Detail
 detail_under Unix kind = detail_of_unix kind
 detail_under Inet kind = detail_of_inet kind
+detail_under (Other family) kind = if tells_memory family kind then Memory else Extended
 
 -- what is told of an attribute, where it is asked for
 abbrev pub detail_if_asked : Options → Sockets → Attribute → List ℕ

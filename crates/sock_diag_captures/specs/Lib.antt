@@ -8,6 +8,8 @@ pub mod Table
 pub mod CellsModel
 pub mod Details
 pub mod RequestLine
+pub mod Others
+pub mod OthersShown
 pub mod Listing
 pub mod Streams
 pub mod Run
