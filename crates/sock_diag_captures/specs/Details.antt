@@ -1,7 +1,7 @@
 -- What stands below the line of a socket: a tab, and a word for each thing that is told.
 use Rattle.std.specs.Prelude.{ℕ, ◌==◌, ◌||◌, ◌/◌, ◌%◌, if◌then◌else◌, List, [], ◌∷◌, ◌++◌, length}
 use Rattle.std.specs.Prelude.{Bool, drop, false, flat_map, codes, decimal, bit_and, slice_index, Option, None}
-use Rattle.std.specs.Prelude.{Some, Result, Ok, Err}
+use Rattle.std.specs.Prelude.{Some, option_map, unwrap_or, Result, Ok, Err}
 use Rattle.std.specs.Fmt.{digits}
 use Rattle.std.proofs.Common.{inl, inr}
 use Rattle.byteorder.specs.Endian.{little_number}
@@ -250,13 +250,17 @@ abbrev pub words_of : {A : Type 0} → (Attribute → A → List ℕ) → Attrib
 words_of text a (Ok value) = text a value
 words_of text a (Err e) = unread a e
 
--- the kinds by which other families tell the memory: NETLINK_DIAG_MEMINFO, PACKET_DIAG_MEMINFO and
+-- the kind by which another family tells the memory: NETLINK_DIAG_MEMINFO, PACKET_DIAG_MEMINFO and
 -- XDP_DIAG_MEMINFO
+abbrev pub memory_kind : Family → Option ℕ
+memory_kind Netlink = Some 0
+memory_kind Packet = Some 6
+memory_kind Vsock = None
+memory_kind Xdp = Some 8
+
+-- attributes of a kind tell the memory
 abbrev pub tells_memory : Family → ℕ → Bool
-tells_memory Netlink kind = kind == 0
-tells_memory Packet kind = kind == 6
-tells_memory Vsock kind = false
-tells_memory Xdp kind = kind == 8
+tells_memory family kind = unwrap_or (option_map (λ k. k == kind) (memory_kind family)) false
 
 -- what an attribute of a reply about a socket of another family tells: the memory, or nothing that
 -- is read

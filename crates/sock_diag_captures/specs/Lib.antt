@@ -9,7 +9,6 @@ pub mod CellsModel
 pub mod Details
 pub mod RequestLine
 pub mod Others
-pub mod OthersShown
 pub mod Listing
 pub mod Streams
 pub mod Run

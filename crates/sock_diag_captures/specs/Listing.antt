@@ -25,10 +25,11 @@ use Rattle.sock_diag_captures.specs.declared.options.Family.{Family}
 use Rattle.sock_diag_captures.specs.declared.options.Family.TheVariants.{Netlink, Packet, Vsock}
 use Rattle.sock_diag_captures.specs.declared.options.Family.TheVariants.{Xdp}
 use Rattle.sock_diag_captures.specs.declared.options.Options.{Options}
+use Rattle.sock_diag_captures.specs.declared.others.OtherSocket.{OtherSocket}
 use Rattle.sock_diag_captures.specs.declared.requests.Asked.{Asked}
 use Rattle.sock_diag_captures.specs.Details.{timer_in}
 use Rattle.sock_diag_captures.specs.Options.{family_numbered}
-use Rattle.sock_diag_captures.specs.Others.{OtherSocket, netlink_socket, other_lines}
+use Rattle.sock_diag_captures.specs.Others.{netlink_socket, other_lines}
 use Rattle.sock_diag_captures.specs.Others.{packet_socket, vsock_socket, xdp_socket}
 use Rattle.sock_diag_captures.specs.Table.{inet_lines, unix_lines}
 use Rattle.sock_diag_families.specs.NetlinkResponseHeader.{netlink_header}

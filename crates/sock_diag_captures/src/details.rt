@@ -24,7 +24,7 @@ ghost use Rattle.sock_diag_captures.specs.Details.{set_apart, cookie_if_asked, d
 ghost use Rattle.sock_diag_captures.specs.Details.{timer_if_asked, sizes};
 ghost use Rattle.sock_diag_captures.specs.Details.{some_detail, timer_in, timer_name, timer_text};
 ghost use Rattle.sock_diag_captures.specs.Details.{times, traffic, unix_text, unknown, unread};
-ghost use Rattle.sock_diag_captures.specs.Details.{other_text, tells_memory, words_of};
+ghost use Rattle.sock_diag_captures.specs.Details.{memory_kind, other_text, tells_memory, words_of};
 ghost use Rattle.sock_diag_captures.specs.Escapes.{shown};
 ghost use Rattle.sock_diag_captures.specs.Pieces.{pieces};
 ghost use Rattle.sock_diag_captures.specs.declared.options.Detail.TheVariants.{Extended, Memory};
@@ -286,11 +286,21 @@ fn detail_of_other_kind(family: Family, kind: u16) -> Detail
 fn tells_memory(family: Family, kind: u16) -> bool
     ensures { result ≡ tells_memory family kind }
 {
+    match memory_kind(family) {
+        Some(told) => told == kind,
+        None => false,
+    }
+}
+
+/// The kind of the attribute that tells the memory of a socket of another family.
+pub(crate) fn memory_kind(family: Family) -> Option<u16>
+    ensures { result ≡ memory_kind family }
+{
     match family {
-        Family::Netlink => kind == NETLINK_DIAG_MEMINFO,
-        Family::Packet => kind == PACKET_DIAG_MEMINFO,
-        Family::Vsock => false,
-        Family::Xdp => kind == XDP_DIAG_MEMINFO,
+        Family::Netlink => Some(NETLINK_DIAG_MEMINFO),
+        Family::Packet => Some(PACKET_DIAG_MEMINFO),
+        Family::Vsock => None,
+        Family::Xdp => Some(XDP_DIAG_MEMINFO),
     }
 }
 

@@ -4,26 +4,24 @@ ghost use Rattle.std.specs.Prelude.{◌≡◌, ◌++◌, ◌≤◌, drop, IfOk, 
 ghost use Rattle.sock_diag_captures.specs.Listing.{family_fault, family_lines, shown_fault};
 ghost use Rattle.sock_diag_captures.specs.Listing.{shown_lines};
 ghost use Rattle.sock_diag_captures.specs.Options.{family_numbered};
-ghost use Rattle.sock_diag_captures.specs.Others.{OtherSocket as SocketShown, end_cell};
-ghost use Rattle.sock_diag_captures.specs.Others.{end_text, interface, netlink_socket};
-ghost use Rattle.sock_diag_captures.specs.Others.{other_line, other_lines, packet_socket};
-ghost use Rattle.sock_diag_captures.specs.Others.{unless, vsock_kind, vsock_socket, word_told, xdp_socket};
-ghost use Rattle.sock_diag_captures.specs.OthersShown.{shown_socket};
+ghost use Rattle.sock_diag_captures.specs.Others.{end_cell, end_text, interface, netlink_socket};
+ghost use Rattle.sock_diag_captures.specs.Others.{other_columns, other_kind, other_line};
+ghost use Rattle.sock_diag_captures.specs.Others.{other_lines, packet_socket, unless, user_kind};
+ghost use Rattle.sock_diag_captures.specs.Others.{vsock_kind, vsock_socket, word_told, xdp_socket};
+ghost use Rattle.sock_diag_captures.specs.CellsModel.{cells_model};
 ghost use Rattle.sock_diag_captures.specs.Pieces.{Piece, pieces};
 ghost use Rattle.sock_diag_captures.specs.Table.{column};
 
 use crate::cells::{end_column, push_peer};
-use crate::details::{NO_TIMER, Sockets, push_details};
+use crate::details::{NO_TIMER, Sockets, memory_kind, push_details};
 use crate::line::{Cells, LOCAL, push_first_columns};
 use crate::options::{Family, Options};
 use crate::pieces::{find_fault, find_kind};
 use byteorder::{ByteOrder, LittleEndian};
 use netlink_core::{DecodeError, Record, read_record};
 use netlink_packet_sock_diag::constants::{SOCK_DGRAM, SOCK_RAW, SOCK_SEQPACKET, SOCK_STREAM};
-use sock_diag_families::netlink::{NETLINK_DIAG_MEMINFO, NetlinkResponseHeader};
-use sock_diag_families::packet::{
-    PACKET_DIAG_INFO, PACKET_DIAG_MEMINFO, PACKET_DIAG_UID, PacketResponseHeader,
-};
+use sock_diag_families::netlink::NetlinkResponseHeader;
+use sock_diag_families::packet::{PACKET_DIAG_INFO, PACKET_DIAG_UID, PacketResponseHeader};
 use sock_diag_families::vsock::VsockResponseHeader;
 use sock_diag_families::xdp::{XDP_DIAG_INFO, XDP_DIAG_MEMINFO, XDP_DIAG_UID, XdpResponseHeader};
 use std::alloc::AllocError;
@@ -40,24 +38,27 @@ const ANY: u32 = 0xffff_ffff;
 /// An end of a socket: two numbers, each where it is told.
 type Numbers = (Option<u32>, Option<u32>);
 
-/// What a line shows of a socket.
+/// What a line shows of a socket beside what attributes tell.
 #[derive(Clone, Copy)]
 pub(crate) struct OtherSocket {
     family: Family,
-    cells: Cells,
+    /// Its type, one of `SOCK_..`.
+    kind: u8,
+    state: u8,
+    inode: u32,
+    cookie: u64,
     local: Numbers,
     peer: Option<Numbers>,
-    cookie: u64,
 }
 
 /// The header of a reply about a socket that is listed here.
 pub(crate) trait Listed: Record<Param = ()> + Drop {
     // What is shown of the socket, by the header and the attributes behind it.
-    ghost listed: { Self → List Piece → SocketShown };
+    ghost listed: { Self → List Piece → OtherSocket };
 
     /// The socket.
     fn socket(&self, attributes: &[u8]) -> OtherSocket
-        ensures { shown_socket result ≡ listed self.now (pieces 0 attributes.now) };
+        ensures { result ≡ listed self.now (pieces 0 attributes.now) };
 }
 
 /// Adds the lines of a socket of the family of this number, and gives the fault of the reply, if it
@@ -121,12 +122,12 @@ fn push_socket(
     attributes: &[u8],
 ) -> Result<(), AllocError>
     ensures { OnOk result (text.new.items ≡ text.old.items
-        ++ other_lines options (shown_socket socket.now) (pieces 0 attributes.now)) }
+        ++ other_lines options socket.now (pieces 0 attributes.now)) }
 {
     if !options.lists_family(socket.family) {
         return Ok(());
     }
-    push_other_line(text, socket)?;
+    push_other_line(text, socket, attributes)?;
     let sockets = Sockets::Other(socket.family);
     let mut cookie = [0; 8];
     LittleEndian::write_u64(&mut cookie, socket.cookie);
@@ -135,13 +136,68 @@ fn push_socket(
 }
 
 /// Adds the columns of a socket.
-fn push_other_line(text: &mut Vec<u8>, socket: &OtherSocket) -> Result<(), AllocError>
+fn push_other_line(
+    text: &mut Vec<u8>,
+    socket: &OtherSocket,
+    attributes: &[u8],
+) -> Result<(), AllocError>
     ensures { OnOk result (text.new.items ≡ text.old.items
-        ++ other_line (shown_socket socket.now)) }
+        ++ other_line socket.now (pieces 0 attributes.now)) }
 {
-    push_first_columns(text, &socket.cells)?;
+    push_first_columns(text, &other_cells(socket, attributes))?;
     push_local(text, socket.local)?;
     push_end(text, socket.peer)
+}
+
+/// The first columns of a socket, whose queues its memory tells.
+fn other_cells(socket: &OtherSocket, attributes: &[u8]) -> Cells
+    ensures { cells_model result ≡ other_columns socket.now (pieces 0 attributes.now) }
+{
+    let memory = memory_kind(socket.family);
+    Cells {
+        kind: name_of_kind(socket.family, socket.kind),
+        state: socket.state,
+        receive_queue: word_at(attributes, memory, 0),
+        send_queue: word_at(attributes, memory, 8),
+        inode: socket.inode,
+        uid: word_at(attributes, user_kind(socket.family), 0),
+    }
+}
+
+/// The type of a socket, as ss(8) prints it.
+fn name_of_kind(family: Family, kind: u8) -> &'static [u8]
+    ensures { result.now ≡ other_kind family kind }
+{
+    match family {
+        Family::Netlink => b"nl",
+        Family::Packet if kind == SOCK_RAW => b"p_raw",
+        Family::Packet => b"p_dgr",
+        Family::Vsock => name_of_vsock(kind),
+        Family::Xdp => b"xdp",
+    }
+}
+
+/// That of a vsock socket.
+fn name_of_vsock(kind: u8) -> &'static [u8]
+    ensures { result.now ≡ vsock_kind kind }
+{
+    match kind {
+        SOCK_STREAM => b"v_str",
+        SOCK_DGRAM => b"v_dgr",
+        SOCK_SEQPACKET => b"v_seq",
+        _ => b"vsock",
+    }
+}
+
+/// The kind of the attribute that tells the user of a socket.
+fn user_kind(family: Family) -> Option<u16>
+    ensures { result ≡ user_kind family }
+{
+    match family {
+        Family::Packet => Some(PACKET_DIAG_UID),
+        Family::Xdp => Some(XDP_DIAG_UID),
+        Family::Netlink | Family::Vsock => None,
+    }
 }
 
 /// Adds the column of the local end.
@@ -174,20 +230,15 @@ fn push_numbers(text: &mut Vec<u8>, end: Numbers) -> Result<(), AllocError>
 }
 
 /// The number of 32 bits at this place of the first attribute of a kind, low byte first.
-fn word_at(attributes: &[u8], kind: u16, place: usize) -> Option<u32>
+fn word_at(attributes: &[u8], kind: Option<u16>, place: usize) -> Option<u32>
     requires { place ≤ 8 }
     ensures { result ≡ word_told kind place (pieces 0 attributes.now) }
 {
-    match find_kind(attributes, kind) {
-        Some(nla) => {
-            let value = nla.value();
-            if value.len() < place + 4 {
-                None
-            } else {
-                Some(LittleEndian::read_u32(&value[place..]))
-            }
+    match find_kind(attributes, kind?) {
+        Some(nla) if nla.value().len() >= place + 4 => {
+            Some(LittleEndian::read_u32(&nla.value()[place..]))
         }
-        None => None,
+        _ => None,
     }
 }
 
@@ -202,7 +253,7 @@ fn unless(none: u32, number: u32) -> Option<u32>
 fn interface_in(attributes: &[u8], kind: u16) -> Option<u32>
     ensures { result ≡ interface kind (pieces 0 attributes.now) }
 {
-    match word_at(attributes, kind, 0) {
+    match word_at(attributes, Some(kind), 0) {
         Some(index) => unless(0, index),
         None => None,
     }
@@ -211,7 +262,7 @@ fn interface_in(attributes: &[u8], kind: u16) -> Option<u32>
 impl Listed for NetlinkResponseHeader {
     ghost listed = { netlink_socket };
 
-    fn socket(&self, attributes: &[u8]) -> OtherSocket {
+    fn socket(&self, _attributes: &[u8]) -> OtherSocket {
         let peer = if self.state == NETLINK_CONNECTED {
             Some((Some(self.destination_group), Some(self.destination_port)))
         } else {
@@ -219,17 +270,12 @@ impl Listed for NetlinkResponseHeader {
         };
         OtherSocket {
             family: Family::Netlink,
-            cells: Cells {
-                kind: b"nl",
-                state: UNCONNECTED,
-                receive_queue: word_at(attributes, NETLINK_DIAG_MEMINFO, 0),
-                send_queue: word_at(attributes, NETLINK_DIAG_MEMINFO, 8),
-                inode: self.inode,
-                uid: None,
-            },
+            kind: self.kind,
+            state: UNCONNECTED,
+            inode: self.inode,
+            cookie: self.cookie,
             local: (Some(self.protocol.into()), Some(self.port)),
             peer,
-            cookie: self.cookie,
         }
     }
 }
@@ -238,26 +284,15 @@ impl Listed for PacketResponseHeader {
     ghost listed = { packet_socket };
 
     fn socket(&self, attributes: &[u8]) -> OtherSocket {
+        let interface = interface_in(attributes, PACKET_DIAG_INFO);
         OtherSocket {
             family: Family::Packet,
-            cells: Cells {
-                kind: if self.kind == SOCK_RAW {
-                    b"p_raw"
-                } else {
-                    b"p_dgr"
-                },
-                state: UNCONNECTED,
-                receive_queue: word_at(attributes, PACKET_DIAG_MEMINFO, 0),
-                send_queue: word_at(attributes, PACKET_DIAG_MEMINFO, 8),
-                inode: self.inode,
-                uid: word_at(attributes, PACKET_DIAG_UID, 0),
-            },
-            local: (
-                Some(self.protocol.into()),
-                interface_in(attributes, PACKET_DIAG_INFO),
-            ),
-            peer: None,
+            kind: self.kind,
+            state: UNCONNECTED,
+            inode: self.inode,
             cookie: self.cookie,
+            local: (Some(self.protocol.into()), interface),
+            peer: None,
         }
     }
 }
@@ -266,38 +301,22 @@ impl Listed for VsockResponseHeader {
     ghost listed = { vsock_socket };
 
     fn socket(&self, _attributes: &[u8]) -> OtherSocket {
+        let peer = (
+            unless(ANY, self.destination_context),
+            unless(ANY, self.destination_port),
+        );
         OtherSocket {
             family: Family::Vsock,
-            cells: Cells {
-                kind: name_of_vsock(self.kind),
-                state: self.state,
-                receive_queue: None,
-                send_queue: None,
-                inode: self.inode,
-                uid: None,
-            },
+            kind: self.kind,
+            state: self.state,
+            inode: self.inode,
+            cookie: self.cookie,
             local: (
                 unless(ANY, self.source_context),
                 unless(ANY, self.source_port),
             ),
-            peer: Some((
-                unless(ANY, self.destination_context),
-                unless(ANY, self.destination_port),
-            )),
-            cookie: self.cookie,
+            peer: Some(peer),
         }
-    }
-}
-
-/// The name of a vsock socket's type, as ss(8) prints it.
-fn name_of_vsock(kind: u8) -> &'static [u8]
-    ensures { result.now ≡ vsock_kind kind }
-{
-    match kind {
-        SOCK_STREAM => b"v_str",
-        SOCK_DGRAM => b"v_dgr",
-        SOCK_SEQPACKET => b"v_seq",
-        _ => b"vsock",
     }
 }
 
@@ -305,22 +324,15 @@ impl Listed for XdpResponseHeader {
     ghost listed = { xdp_socket };
 
     fn socket(&self, attributes: &[u8]) -> OtherSocket {
+        let interface = interface_in(attributes, XDP_DIAG_INFO);
         OtherSocket {
             family: Family::Xdp,
-            cells: Cells {
-                kind: b"xdp",
-                state: UNCONNECTED,
-                receive_queue: word_at(attributes, XDP_DIAG_MEMINFO, 0),
-                send_queue: word_at(attributes, XDP_DIAG_MEMINFO, 8),
-                inode: self.inode,
-                uid: word_at(attributes, XDP_DIAG_UID, 0),
-            },
-            local: (
-                interface_in(attributes, XDP_DIAG_INFO),
-                word_at(attributes, XDP_DIAG_INFO, 4),
-            ),
-            peer: None,
+            kind: self.kind,
+            state: UNCONNECTED,
+            inode: self.inode,
             cookie: self.cookie,
+            local: (interface, word_at(attributes, Some(XDP_DIAG_INFO), 4)),
+            peer: None,
         }
     }
 }
