@@ -2,6 +2,7 @@
 use Rattle.std.specs.Prelude.{ℕ, ◌+◌, ◌==◌, nat_lt, if◌then◌else◌, List, [], ◌∷◌, ◌++◌, length, drop}
 use Rattle.std.specs.Prelude.{codes, Option, None, Some, option_and_then}
 use Rattle.byteorder.specs.Endian.{little_bytes, little_number}
+use Rattle.netlink_core.specs.Attribute.{Attribute}
 use Rattle.sock_diag_families.specs.declared.netlink.response.NetlinkResponseHeader.{NetlinkResponseHeader}
 use Rattle.sock_diag_families.specs.declared.packet.response.PacketResponseHeader.{PacketResponseHeader}
 use Rattle.sock_diag_families.specs.declared.vsock.response.VsockResponseHeader.{VsockResponseHeader}
@@ -19,12 +20,17 @@ use Rattle.sock_diag_captures.specs.declared.others.OtherSocket.{OtherSocket}
 
 -- ---- what attributes tell
 
--- the number of 32 bits at a place of the first attribute of a kind, low byte first
+-- the number of 32 bits at a place of an attribute's value, low byte first
+abbrev pub word_in : ℕ → Option Attribute → Option ℕ
+word_in place None = None
+word_in place (Some a) =
+    if nat_lt (length a.value) (place + 4) then None
+    else Some (little_number 4 (drop place a.value))
+
+-- that of the first attribute of a kind
 abbrev pub word_told : Option ℕ → ℕ → List Piece → Option ℕ
 word_told None place given = None
-word_told (Some kind) place given =
-    option_and_then (λ a. if nat_lt (length a.value) (place + 4) then None
-    else Some (little_number 4 (drop place a.value))) (first_of_kind kind given)
+word_told (Some kind) place given = word_in place (first_of_kind kind given)
 
 -- a number that isn't the one that says none
 abbrev pub unless : ℕ → ℕ → Option ℕ

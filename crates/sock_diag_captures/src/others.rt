@@ -1,13 +1,15 @@
 //! The lines of netlink, packet, vsock and XDP sockets.
 
-ghost use Rattle.std.specs.Prelude.{◌≡◌, ◌++◌, ◌≤◌, drop, IfOk, OnOk, List};
+ghost use Rattle.std.specs.Prelude.{◌≡◌, ◌++◌, ◌≤◌, drop, IfOk, OnOk, List, option_map};
+ghost use Rattle.netlink_core.specs.Walk.{attribute_of};
 ghost use Rattle.sock_diag_captures.specs.Listing.{family_fault, family_lines, shown_fault};
 ghost use Rattle.sock_diag_captures.specs.Listing.{shown_lines};
 ghost use Rattle.sock_diag_captures.specs.Options.{family_numbered};
 ghost use Rattle.sock_diag_captures.specs.Others.{end_cell, end_text, interface, netlink_socket};
 ghost use Rattle.sock_diag_captures.specs.Others.{other_columns, other_kind, other_line};
 ghost use Rattle.sock_diag_captures.specs.Others.{other_lines, packet_socket, unless, user_kind};
-ghost use Rattle.sock_diag_captures.specs.Others.{vsock_kind, vsock_socket, word_told, xdp_socket};
+ghost use Rattle.sock_diag_captures.specs.Others.{vsock_kind, vsock_socket, word_in, word_told};
+ghost use Rattle.sock_diag_captures.specs.Others.{xdp_socket};
 ghost use Rattle.sock_diag_captures.specs.CellsModel.{cells_model};
 ghost use Rattle.sock_diag_captures.specs.Pieces.{Piece, pieces};
 ghost use Rattle.sock_diag_captures.specs.Table.{column};
@@ -18,12 +20,12 @@ use crate::line::{Cells, LOCAL, push_first_columns};
 use crate::options::{Family, Options};
 use crate::pieces::{find_fault, find_kind};
 use byteorder::{ByteOrder, LittleEndian};
-use netlink_core::{DecodeError, Record, read_record};
+use netlink_core::{DecodeError, NlaBuffer, Record, read_record};
 use netlink_packet_sock_diag::constants::{SOCK_DGRAM, SOCK_RAW, SOCK_SEQPACKET, SOCK_STREAM};
 use sock_diag_families::netlink::NetlinkResponseHeader;
 use sock_diag_families::packet::{PACKET_DIAG_INFO, PACKET_DIAG_UID, PacketResponseHeader};
 use sock_diag_families::vsock::VsockResponseHeader;
-use sock_diag_families::xdp::{XDP_DIAG_INFO, XDP_DIAG_MEMINFO, XDP_DIAG_UID, XdpResponseHeader};
+use sock_diag_families::xdp::{XDP_DIAG_INFO, XDP_DIAG_UID, XdpResponseHeader};
 use std::alloc::AllocError;
 
 /// The state of a socket that isn't connected, as ss(8) prints it: `UNCONN`.
@@ -229,12 +231,23 @@ fn push_numbers(text: &mut Vec<u8>, end: Numbers) -> Result<(), AllocError>
     push_peer(text, second)
 }
 
-/// The number of 32 bits at this place of the first attribute of a kind, low byte first.
+/// The number of 32 bits at this place of the first attribute of a kind.
 fn word_at(attributes: &[u8], kind: Option<u16>, place: usize) -> Option<u32>
     requires { place ≤ 8 }
     ensures { result ≡ word_told kind place (pieces 0 attributes.now) }
 {
-    match find_kind(attributes, kind?) {
+    match kind {
+        Some(kind) => read_word(find_kind(attributes, kind), place),
+        None => None,
+    }
+}
+
+/// That of an attribute, low byte first.
+fn read_word(attribute: Option<NlaBuffer<'_>>, place: usize) -> Option<u32>
+    requires { place ≤ 8 }
+    ensures { result ≡ word_in place (option_map attribute_of attribute.entry) }
+{
+    match attribute {
         Some(nla) if nla.value().len() >= place + 4 => {
             Some(LittleEndian::read_u32(&nla.value()[place..]))
         }
