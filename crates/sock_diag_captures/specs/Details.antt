@@ -288,11 +288,15 @@ detail_of_inet kind =
     else if (kind == 2) || (kind == 3) || (kind == 4) || (kind == 9) || (kind == 16)
     then Connection else Extended
 
+-- that of a socket of another family
+abbrev pub detail_of_other : Family → ℕ → Detail
+detail_of_other family kind = if tells_memory family kind then Memory else Extended
+
 -- that of each
 abbrev pub detail_under : Sockets → ℕ → Detail
 detail_under Unix kind = detail_of_unix kind
 detail_under Inet kind = detail_of_inet kind
-detail_under (Other family) kind = if tells_memory family kind then Memory else Extended
+detail_under (Other family) kind = detail_of_other family kind
 
 -- what is told of an attribute, where it is asked for
 abbrev pub detail_if_asked : Options → Sockets → Attribute → List ℕ

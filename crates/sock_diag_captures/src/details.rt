@@ -12,7 +12,7 @@ ghost use Rattle.sock_diag_attributes.specs.NumbersModel.{numbers_view_model};
 ghost use Rattle.sock_diag_attributes.specs.UnixModel.{nla_view_model as unix_view_model};
 ghost use Rattle.sock_diag_attributes.specs.UnixAttributes.{unix};
 ghost use Rattle.sock_diag_captures.specs.Details.{ages, connection, counts, detail};
-ghost use Rattle.sock_diag_captures.specs.Details.{detail_of, detail_of_inet, detail_of_unix};
+ghost use Rattle.sock_diag_captures.specs.Details.{detail_of, detail_of_inet, detail_of_other};
 ghost use Rattle.sock_diag_captures.specs.Details.{detail_under, details, directions, fault_word};
 ghost use Rattle.sock_diag_captures.specs.Details.{flag_detail, hex_detail, inet_text};
 ghost use Rattle.sock_diag_captures.specs.Details.{legacy_memory, limits, losses, memory};
@@ -24,10 +24,10 @@ ghost use Rattle.sock_diag_captures.specs.Details.{set_apart, cookie_if_asked, d
 ghost use Rattle.sock_diag_captures.specs.Details.{timer_if_asked, sizes};
 ghost use Rattle.sock_diag_captures.specs.Details.{some_detail, timer_in, timer_name, timer_text};
 ghost use Rattle.sock_diag_captures.specs.Details.{times, traffic, unix_text, unknown, unread};
-ghost use Rattle.sock_diag_captures.specs.Details.{memory_kind, other_text, tells_memory, words_of};
+ghost use Rattle.sock_diag_captures.specs.Details.{detail_of_unix, memory_kind, other_text, tells_memory};
+ghost use Rattle.sock_diag_captures.specs.Details.{words_of};
 ghost use Rattle.sock_diag_captures.specs.Escapes.{shown};
 ghost use Rattle.sock_diag_captures.specs.Pieces.{pieces};
-ghost use Rattle.sock_diag_captures.specs.declared.options.Detail.TheVariants.{Extended, Memory};
 
 use crate::cells::{push_hex, push_number};
 use crate::names::push_shown;
@@ -273,7 +273,7 @@ fn detail_of_inet_kind(kind: u16) -> Detail
 
 /// That of a socket of another family.
 fn detail_of_other_kind(family: Family, kind: u16) -> Detail
-    ensures { result ≡ if tells_memory family kind then Memory else Extended }
+    ensures { result ≡ detail_of_other family kind }
 {
     if tells_memory(family, kind) {
         Detail::Memory

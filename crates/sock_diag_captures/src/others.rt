@@ -13,6 +13,7 @@ ghost use Rattle.sock_diag_captures.specs.Others.{xdp_socket};
 ghost use Rattle.sock_diag_captures.specs.CellsModel.{cells_model};
 ghost use Rattle.sock_diag_captures.specs.Pieces.{Piece, pieces};
 ghost use Rattle.sock_diag_captures.specs.Table.{column};
+ghost use Rattle.sock_diag_captures.specs.declared.others.OtherSocket.{OtherSocket as SocketShown};
 
 use crate::cells::{end_column, push_peer};
 use crate::details::{NO_TIMER, Sockets, memory_kind, push_details};
@@ -56,7 +57,7 @@ pub(crate) struct OtherSocket {
 /// The header of a reply about a socket that is listed here.
 pub(crate) trait Listed: Record<Param = ()> + Drop {
     // What is shown of the socket, by the header and the attributes behind it.
-    ghost listed: { Self → List Piece → OtherSocket };
+    ghost listed: { Self → List Piece → SocketShown };
 
     /// The socket.
     fn socket(&self, attributes: &[u8]) -> OtherSocket

@@ -22,17 +22,17 @@ returns-in-Err-clause-shown c =
     (other_shown c.args.utf8 c.args.bytes.now c.in-Err.ensures.cases.0))
     c.push_escaped-in-Err.ensures
 
-pub returns-then-not-utf8-clause-found : goal.returns-then-not-utf8-clause-found
-returns-then-not-utf8-clause-found c =
+pub returns-then-not-utf8-clause-told : goal.returns-then-not-utf8-clause-told
+returns-then-not-utf8-clause-told c =
     λ behind. shown_told c.args.utf8 c.args.bytes.now behind
     (λ i. omega (arith, c.type_inv.bytes i))
 
-pub returns-in-Ok-clause-found : goal.returns-in-Ok-clause-found
-returns-in-Ok-clause-found c =
+pub returns-in-Ok-clause-told : goal.returns-in-Ok-clause-told
+returns-in-Ok-clause-told c =
     λ behind. shown_told c.args.utf8 c.args.bytes.now behind
     (λ i. omega (arith, c.type_inv.bytes i))
 
-pub returns-in-Err-clause-found : goal.returns-in-Err-clause-found
-returns-in-Err-clause-found c =
+pub returns-in-Err-clause-told : goal.returns-in-Err-clause-told
+returns-in-Err-clause-told c =
     λ behind. shown_told c.args.utf8 c.args.bytes.now behind
     (λ i. omega (arith, c.type_inv.bytes i))
