@@ -56,15 +56,14 @@ fault_behind (Err e) given = Some e
 
 -- the lines of a reply with this header, behind which the pieces stand, about a socket that is so
 -- shown
-abbrev pub shown_lines : {H : Type 0} → Options → Layout (Unit {0}) (Unit {0}) H
+abbrev pub shown_lines : {T H : Type 0} → Options → Layout (Unit {0}) T H
     → (H → List Piece → OtherSocket) → List ℕ → List ℕ
 shown_lines o header socket b =
     lines_behind (λ h given. other_lines o (socket h given) given) (read header tt b)
     (pieces 0 (drop header.least b))
 
 -- the fault of such a reply
-abbrev pub shown_fault : {H : Type 0} → Layout (Unit {0}) (Unit {0}) H → List ℕ
-    → Option DecodeError
+abbrev pub shown_fault : {T H : Type 0} → Layout (Unit {0}) T H → List ℕ → Option DecodeError
 shown_fault header b = fault_behind (read header tt b) (pieces 0 (drop header.least b))
 
 -- the lines of a reply about a socket of another family
