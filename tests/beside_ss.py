@@ -266,7 +266,7 @@ def compare(option, folder, recorder):
     told = subprocess.run(["ss", *option.split(), "-OH"], env=environment, capture_output=True, check=True).stdout.decode()
     sockets, errors, status = listed(capture) if Path(capture).exists() else ({}, "no capture", 0)
     found = compared = wrong = missing = 0
-    untold = set()
+    uncompared = set()
     for line in told.splitlines() if option != "-s" else []:
         key, columns, words = shown(line)
         ours = sockets.get(key)
@@ -279,12 +279,12 @@ def compare(option, folder, recorder):
         for name, value in [*columns.items(), *values(words)]:
             result = ours[name] != value if name in columns else differs(ours, name, value)
             compared += result is not None
-            untold |= {name} if result is None else set()
+            uncompared |= {name} if result is None else set()
             if result:
                 wrong += 1
                 print(f"{option}: {name} of {key} is {value}, sslist has {ours.get(name)}")
     print(f"{option}: {found} sockets, {compared} values compared, {wrong} differ, {missing} sockets missing,"
-          f" status {status}, not shown by sslist: {' '.join(sorted(untold)) or 'nothing'}", *errors.splitlines(), sep="\n  ")
+          f" status {status}, not compared: {' '.join(sorted(uncompared)) or 'nothing'}", *errors.splitlines(), sep="\n  ")
     return wrong + missing + status
 
 

@@ -24,8 +24,8 @@ ghost use Rattle.sock_diag_captures.specs.Details.{set_apart, cookie_if_asked, d
 ghost use Rattle.sock_diag_captures.specs.Details.{timer_if_asked, sizes};
 ghost use Rattle.sock_diag_captures.specs.Details.{some_detail, timer_in, timer_name, timer_text};
 ghost use Rattle.sock_diag_captures.specs.Details.{times, traffic, unix_text, unknown, unread};
-ghost use Rattle.sock_diag_captures.specs.Details.{detail_of_unix, memory_kind, other_text, tells_memory};
-ghost use Rattle.sock_diag_captures.specs.Details.{words_of};
+ghost use Rattle.sock_diag_captures.specs.Details.{detail_of_unix, memory_kind, other_text};
+ghost use Rattle.sock_diag_captures.specs.Details.{tells_memory, words_of};
 ghost use Rattle.sock_diag_captures.specs.Escapes.{shown};
 ghost use Rattle.sock_diag_captures.specs.Pieces.{pieces};
 
