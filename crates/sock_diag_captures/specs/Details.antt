@@ -1,7 +1,7 @@
 -- What stands below the line of a socket: a tab, and a word for each thing that is told.
 use Rattle.std.specs.Prelude.{ℕ, ◌==◌, ◌||◌, ◌/◌, ◌%◌, if◌then◌else◌, List, [], ◌∷◌, ◌++◌, length}
-use Rattle.std.specs.Prelude.{Bool, drop, false, flat_map, codes, decimal, bit_and, slice_index, Option, None}
-use Rattle.std.specs.Prelude.{Some, option_map, unwrap_or, Result, Ok, Err}
+use Rattle.std.specs.Prelude.{Bool, drop, false, flat_map, codes, decimal, bit_and, slice_index}
+use Rattle.std.specs.Prelude.{Option, None, Some, option_map, unwrap_or, Result, Ok, Err}
 use Rattle.std.specs.Fmt.{digits}
 use Rattle.std.proofs.Common.{inl, inr}
 use Rattle.byteorder.specs.Endian.{little_number}

@@ -5,7 +5,8 @@ use Rattle.sock_diag_captures.specs.declared.options.Options.{Options}
 use Rattle.sock_diag_captures.specs.declared.words.Argument.{Argument}
 use Rattle.sock_diag_captures.specs.declared.words.Argument.TheVariants.{Help, Version, Letters}
 use Rattle.sock_diag_captures.specs.declared.words.Argument.TheVariants.{File, Unknown, Utf8}
-use Rattle.sock_diag_captures.specs.declared.words.Argument.TheVariants.{Requests, Netlink, Vsock, Xdp}
+use Rattle.sock_diag_captures.specs.declared.words.Argument.TheVariants.{Requests, Netlink, Vsock}
+use Rattle.sock_diag_captures.specs.declared.words.Argument.TheVariants.{Xdp}
 
 -- the letter stands among these
 abbrev pub has : ℕ → List ℕ → Bool
