@@ -2,11 +2,11 @@
 """Compares sslist with ss(8) over the same bytes.
 
     tests/beside_ss.py            makes sockets of many kinds, and compares for each list of options below
-    tests/beside_ss.py -tan ..    compares for these options
+    tests/beside_ss.py -tan ..    compares for these options; several of one run are one word, as "-an --vsock"
 
 It runs by hand, where gcc and iproute2 are; as root in a network namespace of its own. A library that is preloaded into
 ss records what it sends and receives on AF_NETLINK as a capture. Of each socket that ss shows, sslist has to show one, and
-of each value that both show, the same. What differs is printed, and then the status is 1.
+of each value that both show, the same, and it has to end with status 0. What differs is printed, and then the status is 1.
 """
 
 import ctypes
@@ -21,6 +21,7 @@ from pathlib import Path
 TOP = Path(__file__).resolve().parent.parent
 LISTER = TOP / "crates/sslist/out/sslist"
 OPTIONS = ["-tanioem", "-uanioem", "-xanem", "-anMei", "-s"]
+OPTIONS += ["-0anem", "-anemf netlink", "-anem --vsock", "-anem --xdp", "-an", "-anem"]
 RECORDER = r"""
 #define _GNU_SOURCE
 #include <dlfcn.h>
@@ -86,7 +87,8 @@ ssize_t send(int fd, const void *bytes, size_t count, int flags)
 INET, INET6, UNIX = socket.AF_INET, socket.AF_INET6, socket.AF_UNIX
 STREAM, DATAGRAM, PACKETS = socket.SOCK_STREAM, socket.SOCK_DGRAM, socket.SOCK_SEQPACKET
 MPTCP = 262
-NETIDS = ["tcp", "udp", "mptcp", "u_str", "u_dgr", "u_seq"]
+NETLINK, PACKET = socket.AF_NETLINK, socket.AF_PACKET
+NETIDS = ["tcp", "udp", "mptcp", "u_str", "u_dgr", "u_seq", "nl", "p_raw", "p_dgr", "v_str", "v_dgr", "v_seq", "xdp"]
 # Names of sslist for what ss calls otherwise.
 OTHERWISE = {"bytes_sent": "sent", "bytes_received": "received"}
 # What ss prints in milliseconds with a fraction.
@@ -114,14 +116,23 @@ def pair(family, listener, protocol=0):
     return [client, listener.accept()[0]]
 
 
+def make_others():
+    """Packet and netlink sockets, which root may make: one with an interface, one that is connected, one in a group."""
+    packets = [socket.socket(PACKET, socket.SOCK_RAW, socket.htons(3)), bound(PACKET, DATAGRAM, ("lo", 0x806))]
+    one, other = (bound(NETLINK, socket.SOCK_RAW, (port, 0), protocol=2) for port in (4242, 4343))
+    other.connect((4242, 4))
+    return [*packets, one, other, bound(NETLINK, DATAGRAM, (0, 1), protocol=16)]
+
+
 def make_sockets(folder):
     """Sockets of many kinds and states, which stay while they are kept."""
+    others = make_others() if os.geteuid() == 0 else []
     four = bound(INET, STREAM, ("127.0.0.1", 7001), 5)
     six = bound(INET6, STREAM, ("::1", 7004), 9, options=[(socket.IPPROTO_IPV6, socket.IPV6_V6ONLY, 1)])
     both = bound(INET6, STREAM, ("::", 7003), 9)
     named = bound(UNIX, STREAM, f"{folder}/stream", 5)
     packets = bound(UNIX, PACKETS, f"{folder}/packets", 7)
-    kept = [four, six, both, named, packets, bound(INET, STREAM, ("0.0.0.0", 7002), 128)]
+    kept = [*others, four, six, both, named, packets, bound(INET, STREAM, ("0.0.0.0", 7002), 128)]
     kept += [bound(INET, DATAGRAM, ("127.0.0.1", 8001)), bound(INET6, DATAGRAM, ("::", 8002))]
     kept += [bound(UNIX, STREAM, b"\0abstract", 8), bound(UNIX, DATAGRAM, f"{folder}/datagrams")]
     kept += [bound(UNIX, DATAGRAM, None), *socket.socketpair(), *socket.socketpair(UNIX, DATAGRAM)]
@@ -181,6 +192,15 @@ def listed(capture):
     return sockets, run.stderr.decode(), run.returncode
 
 
+def end(text, netid):
+    """An end of a socket as sslist writes it."""
+    if netid.startswith("p_"):
+        protocol, _, interface = text.rpartition(":")
+        number = interface if interface == "*" else socket.if_nametoindex(interface)
+        return f"{3 if protocol == '*' else protocol.strip('[]')}:{number}" if protocol else text
+    return text if netid.startswith("v_") else re.sub(r"%\w+", "", re.sub(r"^\*:", "[::]:", text))
+
+
 def shown(line):
     """Key, columns and words of a line of ss."""
     unix = re.match(r"(u_...) (\S+)\s+(\d+)\s+(\d+)\s+(.*?) (\d+)\s+(.*?) (\d+)(?:\s+(.*))?$", line)
@@ -192,7 +212,7 @@ def shown(line):
     words = line.split()
     columns = {"netid": words.pop(0)} if words[0] in NETIDS else {}
     columns |= dict(zip(("state", "recv", "send"), words))
-    local, peer = (re.sub(r"%\w+", "", re.sub(r"^\*:", "[::]:", it)) for it in words[3:5])
+    local, peer = (end(it, columns.get("netid", "")) for it in words[3:5])
     return (local, peer), columns, words[5:]
 
 
@@ -241,11 +261,12 @@ def differs(socket_, name, value):
 
 
 def compare(option, folder, recorder):
-    capture = f"{folder}/capture{option}"
+    capture = f"{folder}/capture{option.replace(' ', '')}"
     environment = os.environ | {"LD_PRELOAD": recorder, "CAPTURE": capture}
-    told = subprocess.run(["ss", option, "-OH"], env=environment, capture_output=True, check=True).stdout.decode()
+    told = subprocess.run(["ss", *option.split(), "-OH"], env=environment, capture_output=True, check=True).stdout.decode()
     sockets, errors, status = listed(capture) if Path(capture).exists() else ({}, "no capture", 0)
     found = compared = wrong = missing = 0
+    uncompared = set()
     for line in told.splitlines() if option != "-s" else []:
         key, columns, words = shown(line)
         ours = sockets.get(key)
@@ -258,12 +279,13 @@ def compare(option, folder, recorder):
         for name, value in [*columns.items(), *values(words)]:
             result = ours[name] != value if name in columns else differs(ours, name, value)
             compared += result is not None
+            uncompared |= {name} if result is None else set()
             if result:
                 wrong += 1
                 print(f"{option}: {name} of {key} is {value}, sslist has {ours.get(name)}")
     print(f"{option}: {found} sockets, {compared} values compared, {wrong} differ, {missing} sockets missing,"
-          f" status {status} {errors.strip()}")
-    return wrong + missing
+          f" status {status}, not compared: {' '.join(sorted(uncompared)) or 'nothing'}", *errors.splitlines(), sep="\n  ")
+    return wrong + missing + status
 
 
 def main():

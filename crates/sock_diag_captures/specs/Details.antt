@@ -1,7 +1,7 @@
 -- What stands below the line of a socket: a tab, and a word for each thing that is told.
 use Rattle.std.specs.Prelude.{ℕ, ◌==◌, ◌||◌, ◌/◌, ◌%◌, if◌then◌else◌, List, [], ◌∷◌, ◌++◌, length}
-use Rattle.std.specs.Prelude.{drop, false, flat_map, codes, decimal, bit_and, slice_index, Option}
-use Rattle.std.specs.Prelude.{None, Some, Result, Ok, Err}
+use Rattle.std.specs.Prelude.{Bool, drop, false, flat_map, codes, decimal, bit_and, slice_index}
+use Rattle.std.specs.Prelude.{Option, None, Some, option_map, unwrap_or, Result, Ok, Err}
 use Rattle.std.specs.Fmt.{digits}
 use Rattle.std.proofs.Common.{inl, inr}
 use Rattle.byteorder.specs.Endian.{little_number}
@@ -23,11 +23,14 @@ use Rattle.sock_diag_captures.specs.Escapes.{shown}
 use Rattle.sock_diag_captures.specs.Options.{shows}
 use Rattle.sock_diag_captures.specs.Pieces.{Piece}
 use Rattle.sock_diag_captures.specs.declared.details.Sockets.{Sockets}
-use Rattle.sock_diag_captures.specs.declared.details.Sockets.TheVariants.{Unix, Inet}
+use Rattle.sock_diag_captures.specs.declared.details.Sockets.TheVariants.{Unix, Inet, Other}
 use Rattle.sock_diag_captures.specs.declared.details.TimerWords.{TimerWords}
 use Rattle.sock_diag_captures.specs.declared.options.Detail.{Detail}
 use Rattle.sock_diag_captures.specs.declared.options.Detail.TheVariants.{Timer, Extended, Memory}
 use Rattle.sock_diag_captures.specs.declared.options.Detail.TheVariants.{Connection}
+use Rattle.sock_diag_captures.specs.declared.options.Family.{Family}
+use Rattle.sock_diag_captures.specs.declared.options.Family.TheVariants.{Netlink, Packet, Vsock}
+use Rattle.sock_diag_captures.specs.declared.options.Family.TheVariants.{Xdp}
 use Rattle.sock_diag_captures.specs.declared.options.Options.{Options}
 
 -- a space, a word, a colon and a number
@@ -247,10 +250,30 @@ abbrev pub words_of : {A : Type 0} → (Attribute → A → List ℕ) → Attrib
 words_of text a (Ok value) = text a value
 words_of text a (Err e) = unread a e
 
+-- the kind by which another family tells the memory: NETLINK_DIAG_MEMINFO, PACKET_DIAG_MEMINFO and
+-- XDP_DIAG_MEMINFO
+abbrev pub memory_kind : Family → Option ℕ
+memory_kind Netlink = Some 0
+memory_kind Packet = Some 6
+memory_kind Vsock = None
+memory_kind Xdp = Some 8
+
+-- attributes of a kind tell the memory
+abbrev pub tells_memory : Family → ℕ → Bool
+tells_memory family kind = unwrap_or (option_map (λ k. k == kind) (memory_kind family)) false
+
+-- what an attribute of a reply about a socket of another family tells: the memory, or nothing that
+-- is read
+abbrev pub other_text : Family → Attribute → List ℕ
+other_text family a =
+    if tells_memory family (attribute_type a)
+    then words_of (λ _ m. memory m) a (read mem_info tt a.value) else unknown a
+
 -- what is told of an attribute
 abbrev pub detail_of : Options → Sockets → Attribute → List ℕ
 detail_of o Unix a = words_of unix_text a (decodes unix a)
 detail_of o Inet a = words_of (inet_text o) a (decodes inet a)
+detail_of o (Other family) a = other_text family a
 
 -- the detail that attributes of a type tell of a UNIX socket: 5 is UNIX_DIAG_MEMINFO
 abbrev pub detail_of_unix : ℕ → Detail
@@ -265,10 +288,15 @@ detail_of_inet kind =
     else if (kind == 2) || (kind == 3) || (kind == 4) || (kind == 9) || (kind == 16)
     then Connection else Extended
 
--- that of either
+-- that of a socket of another family
+abbrev pub detail_of_other : Family → ℕ → Detail
+detail_of_other family kind = if tells_memory family kind then Memory else Extended
+
+-- that of each
 abbrev pub detail_under : Sockets → ℕ → Detail
 detail_under Unix kind = detail_of_unix kind
 detail_under Inet kind = detail_of_inet kind
+detail_under (Other family) kind = detail_of_other family kind
 
 -- what is told of an attribute, where it is asked for
 abbrev pub detail_if_asked : Options → Sockets → Attribute → List ℕ

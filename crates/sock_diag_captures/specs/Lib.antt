@@ -8,6 +8,7 @@ pub mod Table
 pub mod CellsModel
 pub mod Details
 pub mod RequestLine
+pub mod Others
 pub mod Listing
 pub mod Streams
 pub mod Run

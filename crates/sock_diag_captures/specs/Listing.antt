@@ -6,7 +6,7 @@ use Rattle.std.specs.Prelude.{length, flat_map, Option, None, Some, option_map, 
 use Rattle.byteorder.specs.Endian.{big_number, little_number}
 use Rattle.std.specs.List.{AllByRecursion}
 use Rattle.netlink_core.specs.Datagram.{CutIntoMessages}
-use Rattle.netlink_core.specs.Layout.{read}
+use Rattle.netlink_core.specs.Layout.{Layout, read}
 use Rattle.netlink_core.specs.Header.{HasHeader}
 use Rattle.netlink_core.specs.declared.fault.DecodeError.{DecodeError}
 use Rattle.netlink_core.specs.declared.fault.DecodeError.TheVariants.{UnknownFamily}
@@ -21,10 +21,21 @@ use Rattle.sock_diag_captures.specs.Pieces.{Piece, framing_fault, pieces}
 use Rattle.sock_diag_captures.specs.RequestLine.{shown_request}
 use Rattle.sock_diag_captures.specs.Requests.{noted, protocol_of}
 use Rattle.sock_diag_captures.specs.declared.capture.PacketHeader.{PacketHeader}
+use Rattle.sock_diag_captures.specs.declared.options.Family.{Family}
+use Rattle.sock_diag_captures.specs.declared.options.Family.TheVariants.{Netlink, Packet, Vsock}
+use Rattle.sock_diag_captures.specs.declared.options.Family.TheVariants.{Xdp}
 use Rattle.sock_diag_captures.specs.declared.options.Options.{Options}
+use Rattle.sock_diag_captures.specs.declared.others.OtherSocket.{OtherSocket}
 use Rattle.sock_diag_captures.specs.declared.requests.Asked.{Asked}
 use Rattle.sock_diag_captures.specs.Details.{timer_in}
+use Rattle.sock_diag_captures.specs.Options.{family_numbered}
+use Rattle.sock_diag_captures.specs.Others.{netlink_socket, other_lines}
+use Rattle.sock_diag_captures.specs.Others.{packet_socket, vsock_socket, xdp_socket}
 use Rattle.sock_diag_captures.specs.Table.{inet_lines, unix_lines}
+use Rattle.sock_diag_families.specs.NetlinkResponseHeader.{netlink_header}
+use Rattle.sock_diag_families.specs.PacketResponseHeader.{packet_header}
+use Rattle.sock_diag_families.specs.VsockResponseHeader.{vsock_header}
+use Rattle.sock_diag_families.specs.XdpResponseHeader.{xdp_header}
 use Rattle.sock_diag_captures.specs.declared.list.Issue.{Issue}
 use Rattle.sock_diag_captures.specs.declared.list.Issue.TheVariants.{Refused, Answered, Lost}
 use Rattle.sock_diag_captures.specs.declared.list.Issue.TheVariants.{Invalid, NoEntry}
@@ -43,6 +54,34 @@ abbrev pub fault_behind : {H : Type 0} → Result H DecodeError → List Piece �
 fault_behind (Ok h) given = framing_fault given
 fault_behind (Err e) given = Some e
 
+-- the lines of a reply with this header, behind which the pieces stand, about a socket that is so
+-- shown
+abbrev pub shown_lines : {T H : Type 0} → Options → Layout (Unit {0}) T H
+    → (H → List Piece → OtherSocket) → List ℕ → List ℕ
+shown_lines o header socket b =
+    lines_behind (λ h given. other_lines o (socket h given) given) (read header tt b)
+    (pieces 0 (drop header.least b))
+
+-- the fault of such a reply
+abbrev pub shown_fault : {T H : Type 0} → Layout (Unit {0}) T H → List ℕ → Option DecodeError
+shown_fault header b = fault_behind (read header tt b) (pieces 0 (drop header.least b))
+
+-- the lines of a reply about a socket of another family
+abbrev pub family_lines : Options → Option Family → List ℕ → List ℕ
+family_lines o (Some Netlink) b = shown_lines o netlink_header netlink_socket b
+family_lines o (Some Packet) b = shown_lines o packet_header packet_socket b
+family_lines o (Some Vsock) b = shown_lines o vsock_header vsock_socket b
+family_lines o (Some Xdp) b = shown_lines o xdp_header xdp_socket b
+family_lines o None b = []
+
+-- the fault of such a reply
+abbrev pub family_fault : Option Family → List ℕ → Option DecodeError
+family_fault (Some Netlink) b = shown_fault netlink_header b
+family_fault (Some Packet) b = shown_fault packet_header b
+family_fault (Some Vsock) b = shown_fault vsock_header b
+family_fault (Some Xdp) b = shown_fault xdp_header b
+family_fault None b = None
+
 -- the lines of a reply of that kind, whose header has 16 bytes or 72, and of the protocol that was
 -- asked for
 abbrev pub kind_lines : Options → Option ℕ → Result MessageKind DecodeError → List ℕ → List ℕ
@@ -51,15 +90,17 @@ kind_lines o protocol (Ok unix_response) b =
 kind_lines o protocol (Ok inet_response) b =
     lines_behind (inet_lines o protocol (timer_in b)) (read inet_response_header tt b)
     (pieces 0 (drop 72 b))
+kind_lines o protocol (Err (UnknownFamily n)) b = family_lines o (family_numbered n) b
 kind_lines o protocol _ b = []
 
--- the fault of such a reply, or that it is none. Nothing is told of a socket of another family
+-- the fault of such a reply, or that it is none. Nothing is told of a socket of a family that isn't
+-- known
 abbrev pub kind_fault : Result MessageKind DecodeError → List ℕ → Option DecodeError
 kind_fault (Ok unix_response) b =
     fault_behind (read unix_response_header tt b) (pieces 0 (drop 16 b))
 kind_fault (Ok inet_response) b =
     fault_behind (read inet_response_header tt b) (pieces 0 (drop 72 b))
-kind_fault (Err (UnknownFamily family)) b = None
+kind_fault (Err (UnknownFamily n)) b = family_fault (family_numbered n) b
 kind_fault (Err e) b = Some e
 kind_fault _ b = None
 

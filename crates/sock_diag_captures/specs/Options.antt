@@ -3,6 +3,9 @@ use Rattle.std.specs.Prelude.{ℕ, Bool, false, ◌||◌, not, ◌==◌, if◌th
 use Rattle.sock_diag_captures.specs.declared.options.Detail.{Detail}
 use Rattle.sock_diag_captures.specs.declared.options.Detail.TheVariants.{Timer, Extended, Memory}
 use Rattle.sock_diag_captures.specs.declared.options.Detail.TheVariants.{Connection}
+use Rattle.sock_diag_captures.specs.declared.options.Family.{Family}
+use Rattle.sock_diag_captures.specs.declared.options.Family.TheVariants.{Netlink, Packet, Vsock}
+use Rattle.sock_diag_captures.specs.declared.options.Family.TheVariants.{Xdp}
 use Rattle.sock_diag_captures.specs.declared.options.Options.{Options}
 
 -- a detail is asked for by its option
@@ -18,7 +21,7 @@ shows o detail = is_asked o detail || not (o.timer || o.extended || o.memory || 
 
 -- some sockets alone are asked for
 abbrev pub selects : Options → Bool
-selects o = o.tcp || o.udp || o.mptcp || o.unix
+selects o = o.tcp || o.udp || o.mptcp || o.unix || o.netlink || o.packet || o.vsock || o.xdp
 
 -- UNIX sockets are listed where they are asked for, and where none are
 abbrev pub lists_unix : Options → Bool
@@ -35,3 +38,20 @@ asks_protocol o (Some protocol) =
 -- they are listed where they are asked for, and where no sockets are
 abbrev pub lists_protocol : Options → Option ℕ → Bool
 lists_protocol o protocol = asks_protocol o protocol || not (selects o)
+
+-- the other families by their numbers: AF_NETLINK, AF_PACKET, AF_VSOCK and AF_XDP
+abbrev pub family_numbered : ℕ → Option Family
+family_numbered n =
+    if n == 16 then Some Netlink else if n == 17 then Some Packet
+    else if n == 40 then Some Vsock else if n == 44 then Some Xdp else None
+
+-- sockets of such a family are asked for
+abbrev pub asks_family : Options → Family → Bool
+asks_family o Netlink = o.netlink
+asks_family o Packet = o.packet
+asks_family o Vsock = o.vsock
+asks_family o Xdp = o.xdp
+
+-- they are listed where they are asked for, and where no sockets are
+abbrev pub lists_family : Options → Family → Bool
+lists_family o family = asks_family o family || not (selects o)

@@ -10,6 +10,10 @@ use Rattle.sock_diag_captures.specs.declared.capture.PacketHeader.{PacketHeader}
 use Rattle.sock_diag_captures.specs.declared.capture.TimeUnit.{TimeUnit}
 use Rattle.sock_diag_captures.specs.declared.capture.TimeUnit.TheVariants.{Microseconds}
 use Rattle.sock_diag_captures.specs.declared.capture.TimeUnit.TheVariants.{Nanoseconds}
+use Rattle.sock_diag_captures.specs.Options.{family_numbered}
+use Rattle.sock_diag_captures.specs.declared.options.Family.{Family}
+use Rattle.sock_diag_captures.specs.declared.options.Family.TheVariants.{Netlink, Packet, Vsock}
+use Rattle.sock_diag_captures.specs.declared.options.Family.TheVariants.{Xdp}
 use Rattle.sock_diag_captures.specs.declared.options.Options.{Options}
 use Rattle.sock_diag_captures.specs.declared.requests.Asked.{Asked}
 
@@ -34,19 +38,33 @@ unix_states b =
     || not (slice_index b 16 == 1)
     then None else Some (little_number 4 (drop 20 b))
 
+-- the other family that is asked for, by its number at 16 of a message of that type
+abbrev pub asked_family : List ℕ → Option Family
+asked_family b =
+    if nat_lt (length b) 17 || not (little_number 2 (drop 4 b) == 20) then None
+    else family_numbered (slice_index b 16)
+
+-- its name
+abbrev pub family_word : Option Family → List ℕ
+family_word (Some Netlink) = codes "netlink"
+family_word (Some Packet) = codes "packet"
+family_word (Some Vsock) = codes "vsock"
+family_word (Some Xdp) = codes "xdp"
+family_word None = codes "other"
+
 -- the protocol and the states that are asked for of IPv4 or IPv6 sockets, or the states of UNIX
--- sockets
-abbrev pub asked_for : Option Asked → Option ℕ → List ℕ
-asked_for (Some a) states =
+-- sockets, or another family
+abbrev pub asked_for : Option Asked → Option ℕ → Option Family → List ℕ
+asked_for (Some a) states family =
     inet_kind (Some a.protocol) a.family ++ hex_detail (codes "states") a.states
-asked_for None (Some states) = codes "unix" ++ hex_detail (codes "states") states
-asked_for None None = codes "other"
+asked_for None (Some states) family = codes "unix" ++ hex_detail (codes "states") states
+asked_for None None family = family_word family
 
 -- `-- `, the time, a space and what is asked for
 abbrev pub request_line : PacketHeader → List ℕ → List ℕ
 request_line h datagram =
-    codes "-- " ++ time_text h ++ 32 ∷ asked_for (asked_in datagram) (unix_states datagram)
-    ++ 10 ∷ []
+    codes "-- " ++ time_text h
+    ++ 32 ∷ asked_for (asked_in datagram) (unix_states datagram) (asked_family datagram) ++ 10 ∷ []
 
 -- that line, where such lines are asked for
 abbrev pub shown_request : Options → PacketHeader → List ℕ → List ℕ

@@ -5,15 +5,16 @@ use Rattle.sock_diag_captures.specs.declared.options.Options.{Options}
 use Rattle.sock_diag_captures.specs.declared.words.Argument.{Argument}
 use Rattle.sock_diag_captures.specs.declared.words.Argument.TheVariants.{Help, Version, Letters}
 use Rattle.sock_diag_captures.specs.declared.words.Argument.TheVariants.{File, Unknown, Utf8}
-use Rattle.sock_diag_captures.specs.declared.words.Argument.TheVariants.{Requests}
+use Rattle.sock_diag_captures.specs.declared.words.Argument.TheVariants.{Requests, Netlink, Vsock}
+use Rattle.sock_diag_captures.specs.declared.words.Argument.TheVariants.{Xdp}
 
 -- the letter stands among these
 abbrev pub has : ℕ → List ℕ → Bool
 has letter letters = list_any (λ c. c == letter) letters
 
--- the letters of options: -t, -u, -x, -M, -o, -e, -m, -i, -O, -n and -a
+-- the letters of options: -t, -u, -x, -M, -0, -o, -e, -m, -i, -O, -n and -a
 abbrev pub is_letter : ℕ → Bool
-is_letter letter = has letter (codes "tuxMoemiOna")
+is_letter letter = has letter (codes "tuxM0oemiOna")
 
 -- there are letters, and each is one of an option
 abbrev pub AreLetters : List ℕ → Type 0
@@ -33,9 +34,13 @@ IsArgument word Help = word ≡ codes "--help"
 IsArgument word Version = word ≡ codes "--version"
 IsArgument word Utf8 = word ≡ codes "--utf8"
 IsArgument word Requests = word ≡ codes "--requests"
+IsArgument word Netlink = word ≡ codes "--family=netlink"
+IsArgument word Vsock = word ≡ codes "--vsock"
+IsArgument word Xdp = word ≡ codes "--xdp"
 IsArgument word other =
     (word ≢ codes "--help") × (word ≢ codes "--version") × (word ≢ codes "--utf8")
-    × (word ≢ codes "--requests") × IsOther word other
+    × (word ≢ codes "--requests") × (word ≢ codes "--family=netlink") × (word ≢ codes "--vsock")
+    × (word ≢ codes "--xdp") × IsOther word other
 
 -- the details that letters ask for, and one line, beside those asked for before
 abbrev pub with_details : List ℕ → Options → Options
@@ -54,6 +59,7 @@ with_sockets letters o = record o {
   udp = o.udp || has 117 letters;
   mptcp = o.mptcp || has 77 letters;
   unix = o.unix || has 120 letters;
+  packet = o.packet || has 48 letters;
 }
 
 -- both

@@ -57,7 +57,7 @@ pub(crate) fn push_hex(text: &mut Vec<u8>, number: u64) -> Result<(), AllocError
 }
 
 /// Fills what was added since `start` up with spaces to a width, and adds one more.
-fn end_column(text: &mut Vec<u8>, start: usize, width: usize) -> Result<(), AllocError>
+pub(crate) fn end_column(text: &mut Vec<u8>, start: usize, width: usize) -> Result<(), AllocError>
     requires { start ≤ vec_len text.old }
     ensures { OnOk result (text.new.items
         ≡ text.old.items ++ replicate (width - (vec_len text.old - start)) 32 ++ 32 ∷ []) }
@@ -176,7 +176,7 @@ fn push_digits(text: &mut Vec<u8>, byte: u8) -> Result<(), AllocError>
     text.extend_from_slice(&digits)
 }
 
-/// Adds the inode of a UNIX socket's peer, or `*` where none is told.
+/// Adds a number of an end, as the inode of a UNIX socket's peer, or `*` where none is told.
 pub(crate) fn push_peer(text: &mut Vec<u8>, inode: Option<u32>) -> Result<(), AllocError>
     ensures { OnOk result (text.new.items ≡ text.old.items ++ peer_cell inode) }
 {

@@ -12,7 +12,7 @@ ghost use Rattle.sock_diag_attributes.specs.NumbersModel.{numbers_view_model};
 ghost use Rattle.sock_diag_attributes.specs.UnixModel.{nla_view_model as unix_view_model};
 ghost use Rattle.sock_diag_attributes.specs.UnixAttributes.{unix};
 ghost use Rattle.sock_diag_captures.specs.Details.{ages, connection, counts, detail};
-ghost use Rattle.sock_diag_captures.specs.Details.{detail_of, detail_of_inet, detail_of_unix};
+ghost use Rattle.sock_diag_captures.specs.Details.{detail_of, detail_of_inet, detail_of_other};
 ghost use Rattle.sock_diag_captures.specs.Details.{detail_under, details, directions, fault_word};
 ghost use Rattle.sock_diag_captures.specs.Details.{flag_detail, hex_detail, inet_text};
 ghost use Rattle.sock_diag_captures.specs.Details.{legacy_memory, limits, losses, memory};
@@ -24,13 +24,14 @@ ghost use Rattle.sock_diag_captures.specs.Details.{set_apart, cookie_if_asked, d
 ghost use Rattle.sock_diag_captures.specs.Details.{timer_if_asked, sizes};
 ghost use Rattle.sock_diag_captures.specs.Details.{some_detail, timer_in, timer_name, timer_text};
 ghost use Rattle.sock_diag_captures.specs.Details.{times, traffic, unix_text, unknown, unread};
-ghost use Rattle.sock_diag_captures.specs.Details.{words_of};
+ghost use Rattle.sock_diag_captures.specs.Details.{detail_of_unix, memory_kind, other_text};
+ghost use Rattle.sock_diag_captures.specs.Details.{tells_memory, words_of};
 ghost use Rattle.sock_diag_captures.specs.Escapes.{shown};
 ghost use Rattle.sock_diag_captures.specs.Pieces.{pieces};
 
 use crate::cells::{push_hex, push_number};
 use crate::names::push_shown;
-use crate::options::{Detail, Options};
+use crate::options::{Detail, Family, Options};
 use crate::pieces::next_piece;
 use byteorder::{ByteOrder, LittleEndian};
 use netlink_core::{DecodeError, NlaBuffer, NlasIterator};
@@ -41,6 +42,9 @@ use netlink_packet_sock_diag::constants::{
 };
 use netlink_packet_sock_diag::inet::nlas::{LegacyMemInfo, MemInfo, NlaView as InetView, TcpInfo};
 use netlink_packet_sock_diag::unix::nlas::{NlaView as UnixView, NumbersView};
+use sock_diag_families::netlink::NETLINK_DIAG_MEMINFO;
+use sock_diag_families::packet::PACKET_DIAG_MEMINFO;
+use sock_diag_families::xdp::XDP_DIAG_MEMINFO;
 use std::alloc::AllocError;
 
 /// The bit of a shut-down state for what is received.
@@ -56,6 +60,8 @@ pub(crate) enum Sockets {
     Unix,
     /// IPv4 and IPv6 sockets.
     Inet,
+    /// Sockets of another family.
+    Other(Family),
 }
 
 /// What the header of a reply about an IPv4 or IPv6 socket tells of the timer that runs.
@@ -236,6 +242,7 @@ fn detail_of_kind(sockets: Sockets, kind: u16) -> Detail
     match sockets {
         Sockets::Unix => detail_of_unix_kind(kind),
         Sockets::Inet => detail_of_inet_kind(kind),
+        Sockets::Other(family) => detail_of_other_kind(family, kind),
     }
 }
 
@@ -264,6 +271,39 @@ fn detail_of_inet_kind(kind: u16) -> Detail
     }
 }
 
+/// That of a socket of another family.
+fn detail_of_other_kind(family: Family, kind: u16) -> Detail
+    ensures { result ≡ detail_of_other family kind }
+{
+    if tells_memory(family, kind) {
+        Detail::Memory
+    } else {
+        Detail::Extended
+    }
+}
+
+/// Whether attributes of this kind tell the memory of a socket of another family.
+fn tells_memory(family: Family, kind: u16) -> bool
+    ensures { result ≡ tells_memory family kind }
+{
+    match memory_kind(family) {
+        Some(told) => told == kind,
+        None => false,
+    }
+}
+
+/// The kind of the attribute that tells the memory of a socket of another family.
+pub(crate) fn memory_kind(family: Family) -> Option<u16>
+    ensures { result ≡ memory_kind family }
+{
+    match family {
+        Family::Netlink => Some(NETLINK_DIAG_MEMINFO),
+        Family::Packet => Some(PACKET_DIAG_MEMINFO),
+        Family::Vsock => None,
+        Family::Xdp => Some(XDP_DIAG_MEMINFO),
+    }
+}
+
 /// Adds what an attribute tells.
 fn push_attribute(
     text: &mut Vec<u8>,
@@ -277,6 +317,7 @@ fn push_attribute(
     match sockets {
         Sockets::Unix => push_unix_attribute(text, nla),
         Sockets::Inet => push_inet_attribute(text, options, nla),
+        Sockets::Other(family) => push_other_attribute(text, family, nla),
     }
 }
 
@@ -303,6 +344,24 @@ fn push_inet_attribute(
 {
     match InetView::parse(nla) {
         Ok(view) => push_inet_value(text, options, nla, &view),
+        Err(fault) => push_unread(text, nla, &fault),
+    }
+}
+
+/// Adds what an attribute of a socket of another family tells, its memory, or that it is refused.
+fn push_other_attribute(
+    text: &mut Vec<u8>,
+    family: Family,
+    nla: &NlaBuffer<'_>,
+) -> Result<(), AllocError>
+    ensures { OnOk result (text.new.items ≡ text.old.items
+        ++ other_text family (attribute_of nla.now)) }
+{
+    if !tells_memory(family, nla.kind()) {
+        return push_unknown(text, nla);
+    }
+    match MemInfo::parse(nla.value()) {
+        Ok(memory) => push_memory(text, &memory),
         Err(fault) => push_unread(text, nla, &fault),
     }
 }

@@ -15,6 +15,7 @@ mod line;
 mod list;
 mod names;
 mod options;
+mod others;
 mod pieces;
 mod request_line;
 mod requests;

@@ -22,6 +22,7 @@ use crate::cells::{
 };
 use crate::details::{NO_TIMER, Sockets, TimerWords, push_details, timer_of};
 use crate::options::Options;
+use crate::others::push_other;
 use crate::pieces::{find_fault, find_kind};
 use netlink_core::DecodeError;
 use netlink_packet_sock_diag::constants::{
@@ -46,19 +47,19 @@ pub const HEADING: &[u8] =
 /// What the first columns of a line hold.
 #[derive(Clone, Copy)]
 pub(crate) struct Cells {
-    kind: &'static [u8],
-    state: u8,
-    receive_queue: Option<u32>,
-    send_queue: Option<u32>,
-    inode: u32,
-    uid: Option<u32>,
+    pub(crate) kind: &'static [u8],
+    pub(crate) state: u8,
+    pub(crate) receive_queue: Option<u32>,
+    pub(crate) send_queue: Option<u32>,
+    pub(crate) inode: u32,
+    pub(crate) uid: Option<u32>,
 }
 
 /// How many bytes the column of the local end has.
-const LOCAL: usize = 30;
+pub(crate) const LOCAL: usize = 30;
 
 /// Adds the first columns of a line.
-fn push_first_columns(text: &mut Vec<u8>, cells: &Cells) -> Result<(), AllocError>
+pub(crate) fn push_first_columns(text: &mut Vec<u8>, cells: &Cells) -> Result<(), AllocError>
     ensures { OnOk result (text.new.items ≡ text.old.items
         ++ first_columns (cells_model cells.now)) }
 {
@@ -72,7 +73,8 @@ fn push_first_columns(text: &mut Vec<u8>, cells: &Cells) -> Result<(), AllocErro
 
 /// Adds the lines of a reply of this type, and gives its fault, if it has one. The reply is listed
 /// by its header and by each attribute that can be read; a fault is one of the header or of the
-/// framing behind it, or says that it is no reply. Of a socket of another family nothing is told.
+/// framing behind it, or says that it is no reply. Of a socket of a family that isn't known nothing
+/// is told.
 pub(crate) fn push_reply(
     text: &mut Vec<u8>,
     options: Options,
@@ -95,7 +97,7 @@ pub(crate) fn push_reply(
     match payload[0] {
         AF_UNIX => push_unix(text, options, payload),
         AF_INET | AF_INET6 => push_inet(text, options, protocol, payload),
-        _ => Ok(None),
+        family => push_other(text, options, family, payload),
     }
 }
 

@@ -1,8 +1,13 @@
 //! Which sockets are listed, and what is told of each beside its columns.
 
 ghost use Rattle.std.specs.Prelude.{◌≡◌};
-ghost use Rattle.sock_diag_captures.specs.Options.{is_asked, lists_protocol, lists_unix};
+ghost use Rattle.sock_diag_captures.specs.Options.{asks_family, family_numbered, is_asked};
+ghost use Rattle.sock_diag_captures.specs.Options.{lists_family, lists_protocol, lists_unix};
 ghost use Rattle.sock_diag_captures.specs.Options.{selects, shows};
+
+use netlink_packet_sock_diag::constants::{AF_NETLINK, AF_PACKET};
+use sock_diag_families::vsock::AF_VSOCK;
+use sock_diag_families::xdp::AF_XDP;
 
 /// IPPROTO_TCP.
 const TCP: u32 = 6;
@@ -14,8 +19,8 @@ const UDP: u32 = 17;
 const MPTCP: u32 = 262;
 
 /// What is asked for, by the options of ss(8) and by two more. Where none of `timer`, `extended`,
-/// `memory` and `connection` is set, each detail is told, and where none of `tcp`, `udp`, `mptcp`
-/// and `unix` is, each socket is listed.
+/// `memory` and `connection` is set, each detail is told, and where none of `tcp`, `udp`, `mptcp`,
+/// `unix`, `netlink`, `packet`, `vsock` and `xdp` is, each socket is listed.
 #[derive(Clone, Copy, Debug, Default, PartialEq, Eq)]
 pub struct Options {
     /// `-o`: the timer is told.
@@ -36,6 +41,14 @@ pub struct Options {
     pub mptcp: bool,
     /// `-x`: UNIX sockets are listed.
     pub unix: bool,
+    /// `--family=netlink`: netlink sockets are listed.
+    pub netlink: bool,
+    /// `-0`: packet sockets are listed.
+    pub packet: bool,
+    /// `--vsock`: vsock sockets are listed.
+    pub vsock: bool,
+    /// `--xdp`: XDP sockets are listed.
+    pub xdp: bool,
     /// `--utf8`: of names that are UTF-8 characters are shown.
     pub utf8: bool,
     /// `--requests`: each request has a line with its time.
@@ -49,6 +62,30 @@ pub(crate) enum Detail {
     Extended,
     Memory,
     Connection,
+}
+
+/// A family of sockets beside UNIX, IPv4 and IPv6.
+#[derive(Clone, Copy)]
+pub(crate) enum Family {
+    Netlink,
+    Packet,
+    Vsock,
+    Xdp,
+}
+
+impl Family {
+    /// The family of this number, where it is one of them.
+    pub(crate) fn of_number(number: u8) -> Option<Family>
+        ensures { result ≡ family_numbered number }
+    {
+        match number {
+            AF_NETLINK => Some(Family::Netlink),
+            AF_PACKET => Some(Family::Packet),
+            AF_VSOCK => Some(Family::Vsock),
+            AF_XDP => Some(Family::Xdp),
+            _ => None,
+        }
+    }
 }
 
 impl Options {
@@ -92,10 +129,36 @@ impl Options {
         is_asked || !self.selects()
     }
 
+    /// Whether sockets of this family are listed.
+    pub(crate) fn lists_family(self, family: Family) -> bool
+        ensures { result ≡ lists_family self family }
+    {
+        self.asks_family(family) || !self.selects()
+    }
+
+    /// Whether they are asked for by their option.
+    fn asks_family(self, family: Family) -> bool
+        ensures { result ≡ asks_family self family }
+    {
+        match family {
+            Family::Netlink => self.netlink,
+            Family::Packet => self.packet,
+            Family::Vsock => self.vsock,
+            Family::Xdp => self.xdp,
+        }
+    }
+
     /// Whether some sockets alone are asked for.
     fn selects(self) -> bool
         ensures { result ≡ selects self }
     {
-        self.tcp || self.udp || self.mptcp || self.unix
+        self.tcp
+            || self.udp
+            || self.mptcp
+            || self.unix
+            || self.netlink
+            || self.packet
+            || self.vsock
+            || self.xdp
     }
 }

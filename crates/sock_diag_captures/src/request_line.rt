@@ -1,15 +1,15 @@
 //! The line of a request, which parts the dumps of a capture.
 
 ghost use Rattle.std.specs.Prelude.{◌≡◌, ◌++◌, OnOk};
-ghost use Rattle.sock_diag_captures.specs.RequestLine.{asked_for, fraction_text};
-ghost use Rattle.sock_diag_captures.specs.RequestLine.{request_line, shown_request, time_text};
-ghost use Rattle.sock_diag_captures.specs.RequestLine.{unix_states};
+ghost use Rattle.sock_diag_captures.specs.RequestLine.{asked_family, asked_for, family_word};
+ghost use Rattle.sock_diag_captures.specs.RequestLine.{fraction_text, request_line};
+ghost use Rattle.sock_diag_captures.specs.RequestLine.{shown_request, time_text, unix_states};
 
 use crate::capture::{PacketHeader, TimeUnit};
 use crate::cells::push_number;
 use crate::details::push_hex_detail;
 use crate::line::name_of_protocol;
-use crate::options::Options;
+use crate::options::{Family, Options};
 use crate::requests::{Asked, find_request};
 use byteorder::{ByteOrder, LittleEndian};
 use netlink_packet_sock_diag::constants::{AF_UNIX, SOCK_DIAG_BY_FAMILY};
@@ -18,6 +18,9 @@ use std::io::Write;
 
 /// How many bytes the two headers of a request for UNIX sockets have.
 const UNIX_REQUEST: usize = 40;
+
+/// How many bytes the header of a message and the family behind it have.
+const FAMILY_REQUEST: usize = 17;
 
 /// Adds the line of a request, where such lines are asked for.
 pub(crate) fn push_shown_request(
@@ -47,7 +50,12 @@ fn push_request(
     text.extend_from_slice(b"-- ")?;
     push_time(text, header)?;
     text.push(b' ')?;
-    push_asked(text, find_request(datagram), find_unix_states(datagram))?;
+    push_asked(
+        text,
+        find_request(datagram),
+        find_unix_states(datagram),
+        find_family(datagram),
+    )?;
     Ok(text.push(b'\n')?)
 }
 
@@ -75,13 +83,15 @@ fn push_fraction(text: &mut Vec<u8>, unit: TimeUnit, fraction: u32) -> Result<()
     }
 }
 
-/// Adds the protocol of the sockets that are asked for, and a bit for each state.
+/// Adds the protocol of the sockets that are asked for, and a bit for each state, or their family.
 fn push_asked(
     text: &mut Vec<u8>,
     inet: Option<Asked>,
     unix_states: Option<u32>,
+    family: Option<Family>,
 ) -> Result<(), AllocError>
-    ensures { OnOk result (text.new.items ≡ text.old.items ++ asked_for inet unix_states) }
+    ensures { OnOk result (text.new.items ≡ text.old.items
+        ++ asked_for inet unix_states family) }
 {
     let (name, states) = match (inet, unix_states) {
         (Some(asked), _) => (
@@ -89,10 +99,23 @@ fn push_asked(
             asked.states,
         ),
         (None, Some(states)) => (&b"unix"[..], states),
-        (None, None) => return text.extend_from_slice(b"other"),
+        (None, None) => return text.extend_from_slice(name_of_family(family)),
     };
     text.extend_from_slice(name)?;
     push_hex_detail(text, b"states", states.into())
+}
+
+/// The name of a family whose sockets are asked for.
+fn name_of_family(family: Option<Family>) -> &'static [u8]
+    ensures { result.now ≡ family_word family }
+{
+    match family {
+        Some(Family::Netlink) => b"netlink",
+        Some(Family::Packet) => b"packet",
+        Some(Family::Vsock) => b"vsock",
+        Some(Family::Xdp) => b"xdp",
+        None => b"other",
+    }
 }
 
 /// The states of the UNIX sockets that a datagram asks for in front, where it does.
@@ -106,4 +129,16 @@ fn find_unix_states(datagram: &[u8]) -> Option<u32>
         return None;
     }
     Some(LittleEndian::read_u32(&datagram[20..]))
+}
+
+/// The family of other sockets that a datagram asks for in front, where it does.
+fn find_family(datagram: &[u8]) -> Option<Family>
+    ensures { result ≡ asked_family datagram.now }
+{
+    if datagram.len() < FAMILY_REQUEST
+        || LittleEndian::read_u16(&datagram[4..]) != SOCK_DIAG_BY_FAMILY
+    {
+        return None;
+    }
+    Family::of_number(datagram[16])
 }

@@ -7,22 +7,28 @@ ghost use Rattle.sock_diag_captures.specs.Words.{with_details, with_letters, wit
 use crate::options::Options;
 
 /// How `sslist` is called.
-pub const HELP: &str = "sslist [-tuxMoemiOna] [--utf8] [--requests] [FILE ..]\n\n\
-Lists the sockets that captures of netlink traffic tell: that of each file, or of standard\n\
-input. A capture is one of pcap, as tcpdump -i nlmon0 -w - writes it.\n\n\
-  -t -u -x -M  sockets of TCP, UDP, UNIX or MPTCP alone\n\
-  -o -m -i     beside the columns the timer, the memory or the connection alone\n\
-  -e           what these don't tell\n\
-  -O           one line a socket\n\
-  -n -a        nothing more: all numbers are shown as numbers, and all states are listed\n\
-  --utf8       letters of names that are UTF-8, and not their bytes\n\
-  --requests   a line for each request, with its time and what it asks for\n\
-  --help, --version\n\n\
-The status is 0 where all was listed, 1 where something was not, which standard error names but\n\
+pub const HELP: &str = "sslist [-tuxM0oemiOna] [--WORD ..] [FILE ..]
+
+Lists the sockets that captures of netlink traffic tell: that of each file, or of standard
+input. A capture is one of pcap, as tcpdump -i nlmon0 -w - writes it.
+
+  -t -u -x -M  sockets of TCP, UDP, UNIX or MPTCP alone
+  -0           packet sockets alone
+  --family=netlink, --vsock, --xdp
+               netlink, vsock or XDP sockets alone
+  -o -m -i     beside the columns the timer, the memory or the connection alone
+  -e           what these don't tell
+  -O           one line a socket
+  -n -a        nothing more: all numbers are shown as numbers, and all states are listed
+  --utf8       letters of names that are UTF-8, and not their bytes
+  --requests   a line for each request, with its time and what it asks for
+  --help, --version
+
+The status is 0 where all was listed, 1 where something was not, which standard error names but
 where nobody reads the output, and 2 for an option that is not known.";
 
 /// The letters that stand behind a hyphen.
-const LETTERS: &[u8] = b"tuxMoemiOna";
+const LETTERS: &[u8] = b"tuxM0oemiOna";
 
 /// What an argument is.
 #[derive(Clone, Copy, Debug, PartialEq, Eq)]
@@ -35,6 +41,12 @@ pub enum Argument<'a> {
     Utf8,
     /// It asks that requests have lines.
     Requests,
+    /// It asks for netlink sockets.
+    Netlink,
+    /// It asks for vsock sockets.
+    Vsock,
+    /// It asks for XDP sockets.
+    Xdp,
     /// Letters of options, each of which is known.
     Letters(&'a [u8]),
     /// The name of a file, which begins with no hyphen.
@@ -52,6 +64,9 @@ pub fn choose(word: &str) -> Argument<'_>
         "--version" => Argument::Version,
         "--utf8" => Argument::Utf8,
         "--requests" => Argument::Requests,
+        "--family=netlink" => Argument::Netlink,
+        "--vsock" => Argument::Vsock,
+        "--xdp" => Argument::Xdp,
         _ => choose_other(word.as_bytes()),
     }
 }
@@ -106,5 +121,6 @@ impl Options {
         self.udp |= letters.contains(&b'u');
         self.mptcp |= letters.contains(&b'M');
         self.unix |= letters.contains(&b'x');
+        self.packet |= letters.contains(&b'0');
     }
 }

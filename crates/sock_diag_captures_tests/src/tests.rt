@@ -19,8 +19,8 @@ const DONE: &str = "1400000003000200070000000000000000000000";
 /// A reply about a UNIX socket with 12 bytes of the 16 of its header.
 const SHORT: &str = "1c00000014000200070000000000000001010a000e4f0000a0020000";
 
-/// A reply about a netlink socket, of the family 16.
-const OTHER_FAMILY: &str = "20000000140002000700000000000000100101000e4f0000a002000000000000";
+/// A reply about a socket of SMC, the family 43.
+const OTHER_FAMILY: &str = "200000001400020007000000000000002b0101000e4f0000a002000000000000";
 
 /// A request for UNIX sockets.
 const REQUEST: &str =
@@ -170,6 +170,37 @@ fn lists_captures_of_both_orders(rt: HostRuntime) -> Result<(), Fail> {
     Ok(())
 }
 
+/// What a kernel answered about a netlink and a packet socket, and replies about a listening vsock
+/// socket and one of XDP, worked by hand from the kernel's headers, with the lines of each.
+const FAMILIES: [[&str; 2]; 4] = [
+    [
+        "5c00000014000200070000009340000010020007000000000000000000000000040000000300000000000000280000000000000000400300000000000040030000000000000000000000000000000000000000000800040000000000",
+        "nl    UNCONN     0      0      4          -     0:0                            *\n\t sk:3 skmem:(r0,rb212992,t0,tb212992,f0,w0,o0,bl0,d0) unknown:(4,4)\n",
+    ],
+    [
+        "70000000140002000700000093400000110303001bb0030002300000000000001c00000001000000000000000000000000000000000000000100000008000500000000000400010028000600000000000040030000000000004003000000000000000000000000000000000000000000",
+        "p_raw UNCONN     0      0      241691     0     3:1                            *\n\t sk:3002 unknown:(0,24) unknown:(5,4) unknown:(1,0) skmem:(r0,rb212992,t0,tb212992,f0,w0,o0,bl0,d0)\n",
+    ],
+    [
+        "3000000014000200070000000000000028010a00ffffffffd2040000ffffffffffffffff050000000900000000000000",
+        "v_str LISTEN     -      -      5          -     *:1234                         *:*\n\t sk:9\n",
+    ],
+    [
+        "2c0000001400020007000000000000002c0300000700000008000000000000000c0001000200000001000000",
+        "xdp   UNCONN     -      -      7          -     2:1                            *\n\t sk:8 unknown:(1,8)\n",
+    ],
+];
+
+/// Sockets of other families have lines of their own.
+#[test]
+fn lists_other_families(rt: HostRuntime) -> Result<(), Fail> {
+    for [reply, line] in FAMILIES {
+        let capture = captured(rt.alloc(), HEADERS[0], &[[SOCK_DIAG, reply]])?;
+        lists(&rt, rt.alloc(), &capture, Ok(true), Some(&[line]))?;
+    }
+    Ok(())
+}
+
 /// Replies about listening sockets with the abstract name `e` with an accent, a Chinese letter, a
 /// space, U+202E and a backslash, and with a path that is no UTF-8.
 const LETTERS: &str =
@@ -226,7 +257,7 @@ fn lists_requests(rt: HostRuntime) -> Result<(), Fail> {
     for (header, time) in [(0, "-- 7.000009 "), (2, "-- 7.000000009 ")] {
         let capture = captured(rt.alloc(), HEADERS[header], &packets)?;
         let (unix, mptcp) = ("unix states:0xffffffff\n", "mptcp states:0x480\n");
-        let lines = [time, unix, UNIX_LINE, time, mptcp, time, "other\n"];
+        let lines = [time, unix, UNIX_LINE, time, mptcp, time, "netlink\n"];
         lists_by(&rt, rt.alloc(), options, &capture, Ok(true), Some(&lines))?;
     }
     Ok(())

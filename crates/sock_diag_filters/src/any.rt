@@ -89,7 +89,7 @@ fn read_under<'a>(
     header: NetlinkHeader,
     message: &'a [u8],
 ) -> Result<AnyRequestView<'a>, DecodeError>
-    requires { HasHeader message.entry.now header }
+    requires { HasHeader message.now header }
     ensures value { IfOk result (λ view. AnyAsks message.entry.now (asked_any view)) }
     ensures fault { IfErr result
         (refuses_by (family_in message.entry.now header) message.entry.now header) }

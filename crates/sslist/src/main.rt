@@ -37,6 +37,9 @@ fn answer(rt: &HostRuntime, words: &[String]) -> ExitCode {
             Argument::Letters(letters) => options.add(letters),
             Argument::Utf8 => options.utf8 = true,
             Argument::Requests => options.requests = true,
+            Argument::Netlink => options.netlink = true,
+            Argument::Vsock => options.vsock = true,
+            Argument::Xdp => options.xdp = true,
             Argument::File => {}
             Argument::Unknown => return refuse(rt, word.as_str()),
         }

@@ -1,5 +1,6 @@
 use Rattle.std.proofs.Common.{List, ℕ, [], ◌∷◌, ◌++◌, codes}
-use Rattle.sock_diag_captures.specs.RequestLine.{asked_for, time_text, unix_states}
+use Rattle.sock_diag_captures.specs.RequestLine.{asked_family, asked_for, time_text}
+use Rattle.sock_diag_captures.specs.RequestLine.{unix_states}
 use Rattle.sock_diag_captures.specs.Requests.{asked_in}
 use Rattle.sock_diag_captures.proofs.Adding.{adds}
 use Rattle.sock_diag_captures.proofs.request_line.push_request.Goals as goal
@@ -10,8 +11,9 @@ returns c =
     let datagram = c.args.datagram.now in
     let front : List ℕ = codes "-- " in
     let time : List ℕ = time_text c.args.header.now in
-    let words : List ℕ = asked_for (asked_in datagram) (unix_states datagram) in
-    let asked = rw (c.find_request.ensures, c.find_unix_states.ensures) at
+    let words : List ℕ =
+    asked_for (asked_in datagram) (unix_states datagram) (asked_family datagram) in
+    let asked = rw (c.find_request.ensures, c.find_unix_states.ensures, c.find_family.ensures) at
     c.in_ok-push_asked.ensures in
     let spaced = adds c.push_time.new.text.items _ _ (32 ∷ []) words c.in_ok-push.ensures.items
     asked in

@@ -1,0 +1,13 @@
+use Rattle.std.proofs.Common.{◌++◌, ap, ◌∙◌}
+use Rattle.std.proofs.lemmas.Result.{on_ok_weaker}
+use Rattle.sock_diag_captures.specs.Table.{first_columns}
+use Rattle.sock_diag_captures.proofs.Adding.{adds}
+use Rattle.sock_diag_captures.proofs.others.push_other_line.Goals as goal
+
+pub returns : goal.returns
+returns c =
+    let columns = c.in_ok-push_first_columns.ensures
+    ∙ ap (λ cells. c.args.text.now.items ++ first_columns cells) c.other_cells.ensures in
+    on_ok_weaker c.push_end.result
+    (λ last. adds _ _ _ _ _ (adds _ _ _ _ _ columns c.in_ok-push_local.ensures) last)
+    c.push_end.ensures
