@@ -37,7 +37,8 @@ message_under sequence_number payload = (envelope_codec message_codec).written (
 
 -- a reply in a message of its own; the length of each is a multiple of four, so no padding follows
 abbrev pub reply_under : ℕ → UnixResponseValue → List ℕ
-reply_under sequence_number reply = message_under sequence_number (inner (message_of unix_response reply))
+reply_under sequence_number reply =
+    message_under sequence_number (inner (message_of unix_response reply))
 
 -- the end of a dump, with four zeros
 abbrev pub end_under : ℕ → List ℕ

@@ -12,7 +12,8 @@ AnswersBy {V} {T} reads refuses describes old new answer =
     ⊎ ((e : DecodeError) × refuses e × (answer ≡ number_of e) × (new ≡ old))
 
 -- the same where what is told is one thing for each value
-abbrev pub Answers : {V T : Type 0} → (V → Type 0) → (DecodeError → Type 0) → (V → T) → T → T → ℕ → Type 0
+abbrev pub Answers : {V T : Type 0} → (V → Type 0) → (DecodeError → Type 0) → (V → T) → T → T → ℕ
+    → Type 0
 Answers {V} {T} reads refuses found old new answer =
     AnswersBy reads refuses (λ (v : V) (it : T). it ≡ found v) old new answer
 

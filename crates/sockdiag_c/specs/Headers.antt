@@ -38,7 +38,9 @@ inet_header_of h = record {
 -- which kind of reply it is, and its header. A request is never read, and of the header of the
 -- other kind nothing is told.
 abbrev pub reply_of : Reply → Message → Reply
-reply_of old (message_of unix_response v) = record old { kind = 1; unix_header = unix_header_of v.header }
-reply_of old (message_of inet_response v) = record old { kind = 2; inet_header = inet_header_of v.header }
+reply_of old (message_of unix_response v) =
+    record old { kind = 1; unix_header = unix_header_of v.header }
+reply_of old (message_of inet_response v) =
+    record old { kind = 2; inet_header = inet_header_of v.header }
 reply_of old (message_of unix_request v) = old
 reply_of old (message_of inet_request v) = old

@@ -18,7 +18,8 @@ left_of bytes cursor = drop cursor.place bytes
 
 -- No bytes are left, and nothing is told.
 abbrev pub EndsAt : {T : Type 0} → List ℕ → Cursor → Cursor → T → T → ℕ → Type 0
-EndsAt bytes old new was now answer = (answer ≡ 0) × (left_of bytes old ≡ []) × (new ≡ old) × (now ≡ was)
+EndsAt bytes old new was now answer =
+    (answer ≡ 0) × (left_of bytes old ≡ []) × (new ≡ old) × (now ≡ was)
 
 -- Some bytes are left, and there the fault is, of which the answer is the number. Then nothing is
 -- left, and nothing is told.
