@@ -222,15 +222,10 @@ fn signatures(rt: HostRuntime) -> Result<(), Fail> {
     let told = read_attribute_record::<Md5Signature>(&one).ok_or("too short")?;
     assert!(&rt; (told.family, told.prefix_length, told.key_length) == (2, 32, 6));
     assert!(&rt; told.address.starts_with(&[127, 0, 0, 2]) && told.key.starts_with(b"secret\0"));
-    for (length, count, rest) in [(0, 0, 0), (99, 0, 99), (100, 1, 0), (207, 2, 7)] {
-        let value = filled(alloc, "", length)?;
-        let mut records = AttributeRecords::<Md5Signature>::new(&value);
-        let mut found = 0;
-        while records.next().is_some() {
-            found += 1;
-        }
-        assert!(&rt; (found, records.rest().len()) == (count, rest), "{length}");
-    }
+    let value = filled(alloc, "", 107)?;
+    let mut records = AttributeRecords::<Md5Signature>::new(&value);
+    assert!(&rt; records.next().is_some() && records.next().is_none());
+    assert!(&rt; records.rest().len() == 7);
     Ok(())
 }
 
