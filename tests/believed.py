@@ -31,7 +31,7 @@ MOST = 1100
 # Ghost members that say something: their types and their bodies are read.
 MEANING = set("""codec model type_written bytes writable held input TAKES_MEMORY attribute layout Tag Value view inverse is_clone
     is_made_with
-    is_infallible from_gives bitor_gives next_gives remaining table set_of attribute_set contents answer left reads failed
+    is_infallible from_gives bitor_gives can_next next_gives remaining table set_of attribute_set contents answer left reads failed
     reply header_model name numbers flushed describes listed attributes""".split())
 # Ghost members that are laws: the type that a trait declares is read, and their bodies are proofs. `eq` and `tests` are
 # among them: what `==` answers is computed there, and said in the words of contracts by `eq_is_model` and in laws.rt.

@@ -23,6 +23,8 @@ HEADERS = """
 #include <linux/inet_diag.h>
 #include <linux/unix_diag.h>
 #include <linux/tcp.h>
+#include <linux/tls.h>
+#include <linux/mptcp.h>
 #include <linux/bpf.h>
 """
 # Constants that these headers have under another name.
@@ -55,6 +57,9 @@ TABLES = [
      ["dctcp_enabled", "dctcp_ce_state", "dctcp_alpha", "dctcp_ab_ecn", "dctcp_ab_tot"]),
     ("sock_diag_extras/specs/Congestion.antt", "bbr_info", "tcp_bbr_info", 20,
      ["bbr_bw_lo bbr_bw_hi", "bbr_min_rtt", "bbr_pacing_gain", "bbr_cwnd_gain"]),
+    ("sock_diag_extras/specs/Md5Signature.antt", "md5_signature", "tcp_diag_md5sig", 100,
+     ["tcpm_family", "tcpm_prefixlen", "tcpm_keylen", "tcpm_addr", "tcpm_key"]),
+    ("sock_diag_extras/specs/StoredAddress.antt", "stored_address", "sockaddr_storage", 128, None),
     ("sock_diag_extras/specs/SocketOptions.antt", "socket_options", "inet_diag_sockopt", 2, None),
 ]
 # A field, or fields, of a table: what, its offset, and its width or count.

@@ -1,5 +1,5 @@
 -- What congestion control tells, by linux/inet_diag.h.
-use Rattle.std.specs.Prelude.{[], ◌∷◌, ◌++◌, slice_index}
+use Rattle.std.specs.Prelude.{⊤, [], ◌∷◌, ◌++◌, slice_index}
 use Rattle.netlink_core.specs.Table.{numbers, little_endian}
 use Rattle.sock_diag_extras.specs.RecordTable.{RecordTable}
 use Rattle.sock_diag_extras.specs.declared.congestion.VegasInfo.{VegasInfo}
@@ -18,6 +18,7 @@ vegas_info = record {
     rtt = slice_index w 2;
     min_rtt = slice_index w 3;
   };
+  is_shaped = λ v. ⊤;
 }
 
 -- struct tcp_dctcp_info: 16 bytes, two shorts and three words
@@ -33,6 +34,7 @@ dctcp_info = record {
     marked_bytes = slice_index w 3;
     acked_bytes = slice_index w 4;
   };
+  is_shaped = λ v. ⊤;
 }
 
 -- struct tcp_bbr_info: 20 bytes, five words, of which the first two are the low and the high half
@@ -48,4 +50,5 @@ bbr_info = record {
     pacing_gain = slice_index w 2;
     window_gain = slice_index w 3;
   };
+  is_shaped = λ v. ⊤;
 }

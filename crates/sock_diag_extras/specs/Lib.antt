@@ -3,3 +3,9 @@ pub mod TcpFields
 pub mod RecordTable
 pub mod Congestion
 pub mod SocketOptions
+pub mod Nested
+pub mod Acknowledgement
+pub mod UlpInfo
+pub mod Records
+pub mod Md5Signature
+pub mod StoredAddress

@@ -1,15 +1,17 @@
 -- Records that no fault names: one table of fields, and the value with the numbers of its fields.
-use Rattle.std.specs.Prelude.{⊤, ℕ, List}
+use Rattle.std.specs.Prelude.{ℕ, List}
 use Rattle.netlink_core.specs.Table.{Field, values_of, bytes_of}
 use Rattle.netlink_core.specs.Layout.{Layout, plain}
 use Rattle.netlink_core.specs.declared.fault.RecordName.{RecordName}
 
--- the number of bytes, the fields, the numbers in the order of the table, and the value with these
-pub record RecordTable (Value : Type 0) : Type 0 where
+-- the number of bytes, the fields, the numbers in the order of the table, the value with these, and
+-- that its arrays are as long as their type has it
+pub record RecordTable (Value : Type 0) : Type 1 where
   pub size : ℕ
   pub fields : List Field
   pub values : Value → List ℕ
   pub value : List ℕ → Value
+  pub is_shaped : Value → Type 0
 
 -- the value in bytes that are enough
 abbrev pub value_in : {Value : Type 0} → RecordTable Value → List ℕ → Value
@@ -23,4 +25,4 @@ bytes_in layout value = bytes_of layout.fields (layout.values value)
 abbrev pub format_under : {Value : Type 0} → RecordTable Value → RecordName
     → Layout (Unit {0}) (Unit {0}) Value
 format_under layout name =
-    plain name layout.size layout.fields layout.values layout.value (λ value. ⊤)
+    plain name layout.size layout.fields layout.values layout.value layout.is_shaped

@@ -1,5 +1,5 @@
 -- What INET_DIAG_SOCKOPT tells, by linux/inet_diag.h: struct inet_diag_sockopt, two bytes of bits.
-use Rattle.std.specs.Prelude.{ℕ, [], ◌∷◌, slice_index}
+use Rattle.std.specs.Prelude.{⊤, ℕ, [], ◌∷◌, slice_index}
 use Rattle.netlink_core.specs.Table.{numbers, little_endian}
 use Rattle.sock_diag_extras.specs.RecordTable.{RecordTable}
 use Rattle.sock_diag_extras.specs.declared.options.SocketOption.{SocketOption}
@@ -13,6 +13,7 @@ socket_options = record {
   fields = numbers 0 2 little_endian 1;
   values = λ v. v.bits ∷ [];
   value = λ w. record { bits = slice_index w 0 };
+  is_shaped = λ v. ⊤;
 }
 
 -- which bit says an option, from the lowest of the first byte on

@@ -1,6 +1,7 @@
 //! The numbers of sock_diag(7) and netlink(7) that the port lacks, under the kernel's names: those
-//! of `linux/inet_diag.h`, `linux/unix_diag.h`, `linux/sock_diag.h`, `linux/netlink.h` and
-//! `linux/tcp.h`. `tests/kernel_headers.py` compares them with headers.
+//! of `linux/inet_diag.h`, `linux/unix_diag.h`, `linux/sock_diag.h`, `linux/netlink.h`,
+//! `linux/tcp.h`, `linux/tls.h` and `linux/mptcp.h`. `tests/kernel_headers.py` compares them with
+//! headers.
 
 ghost use Rattle.std.specs.Prelude.{[], ◌∷◌};
 ghost use Rattle.sock_diag_records.specs.Constants.{AreEqual};
@@ -38,6 +39,67 @@ pub const INET_ULP_INFO_TLS: u16 = 2;
 
 /// What a subflow of MPTCP tells, as attributes.
 pub const INET_ULP_INFO_MPTCP: u16 = 3;
+
+// ---- attributes in INET_ULP_INFO_TLS
+
+/// No attribute.
+pub const TLS_INFO_UNSPEC: u16 = 0;
+
+/// The version.
+pub const TLS_INFO_VERSION: u16 = 1;
+
+/// The cipher.
+pub const TLS_INFO_CIPHER: u16 = 2;
+
+/// How what is sent is encrypted.
+pub const TLS_INFO_TXCONF: u16 = 3;
+
+/// How what comes is decrypted.
+pub const TLS_INFO_RXCONF: u16 = 4;
+
+/// There where files are sent without a copy.
+pub const TLS_INFO_ZC_RO_TX: u16 = 5;
+
+/// There where records are taken to come without padding.
+pub const TLS_INFO_RX_NO_PAD: u16 = 6;
+
+// ---- attributes in INET_ULP_INFO_MPTCP
+
+/// No attribute.
+pub const MPTCP_SUBFLOW_ATTR_UNSPEC: u16 = 0;
+
+/// The token at the other end.
+pub const MPTCP_SUBFLOW_ATTR_TOKEN_REM: u16 = 1;
+
+/// The token at this end.
+pub const MPTCP_SUBFLOW_ATTR_TOKEN_LOC: u16 = 2;
+
+/// How far was written.
+pub const MPTCP_SUBFLOW_ATTR_RELWRITE_SEQ: u16 = 3;
+
+/// Where in the connection the mapped data begins.
+pub const MPTCP_SUBFLOW_ATTR_MAP_SEQ: u16 = 4;
+
+/// Where in the subflow it begins.
+pub const MPTCP_SUBFLOW_ATTR_MAP_SFSEQ: u16 = 5;
+
+/// The subflow's first sequence number.
+pub const MPTCP_SUBFLOW_ATTR_SSN_OFFSET: u16 = 6;
+
+/// How many bytes are mapped.
+pub const MPTCP_SUBFLOW_ATTR_MAP_DATALEN: u16 = 7;
+
+/// Bits of the subflow.
+pub const MPTCP_SUBFLOW_ATTR_FLAGS: u16 = 8;
+
+/// The address's number at the other end.
+pub const MPTCP_SUBFLOW_ATTR_ID_REM: u16 = 9;
+
+/// The address's number at this end.
+pub const MPTCP_SUBFLOW_ATTR_ID_LOC: u16 = 10;
+
+/// Padding.
+pub const MPTCP_SUBFLOW_ATTR_PAD: u16 = 11;
 
 // ---- attributes behind an InetRequest
 
@@ -253,6 +315,16 @@ pub fn extra_constants_have_their_numbers()
         (INET_DIAG_SOCKOPT, 22) ∷ (UNIX_DIAG_UID, 7) ∷ (UDIAG_SHOW_UID, 64) ∷ []) }
     ensures upper_protocols { AreEqual ((INET_ULP_INFO_UNSPEC, 0) ∷ (INET_ULP_INFO_NAME, 1)
         ∷ (INET_ULP_INFO_TLS, 2) ∷ (INET_ULP_INFO_MPTCP, 3) ∷ []) }
+    ensures upper_tls { AreEqual ((TLS_INFO_UNSPEC, 0) ∷ (TLS_INFO_VERSION, 1) ∷
+        (TLS_INFO_CIPHER, 2) ∷ (TLS_INFO_TXCONF, 3) ∷ (TLS_INFO_RXCONF, 4) ∷
+        (TLS_INFO_ZC_RO_TX, 5) ∷ (TLS_INFO_RX_NO_PAD, 6) ∷ []) }
+    ensures upper_mptcp { AreEqual ((MPTCP_SUBFLOW_ATTR_UNSPEC, 0) ∷
+        (MPTCP_SUBFLOW_ATTR_TOKEN_REM, 1) ∷ (MPTCP_SUBFLOW_ATTR_TOKEN_LOC, 2) ∷
+        (MPTCP_SUBFLOW_ATTR_RELWRITE_SEQ, 3) ∷ (MPTCP_SUBFLOW_ATTR_MAP_SEQ, 4) ∷
+        (MPTCP_SUBFLOW_ATTR_MAP_SFSEQ, 5) ∷ (MPTCP_SUBFLOW_ATTR_SSN_OFFSET, 6) ∷
+        (MPTCP_SUBFLOW_ATTR_MAP_DATALEN, 7) ∷ (MPTCP_SUBFLOW_ATTR_FLAGS, 8) ∷
+        (MPTCP_SUBFLOW_ATTR_ID_REM, 9) ∷ (MPTCP_SUBFLOW_ATTR_ID_LOC, 10) ∷
+        (MPTCP_SUBFLOW_ATTR_PAD, 11) ∷ []) }
     ensures request_attributes { AreEqual ((INET_DIAG_REQ_NONE, 0) ∷
         (INET_DIAG_REQ_BYTECODE, 1) ∷ (INET_DIAG_REQ_SK_BPF_STORAGES, 2) ∷
         (INET_DIAG_REQ_PROTOCOL, 3) ∷ []) }

@@ -4,20 +4,35 @@
 //! It stands beside the port, and changes nothing of it.
 #![tactic(auto)]
 
+mod acknowledgement;
+mod bytes;
 mod congestion;
 pub mod constants;
 pub mod laws;
 mod lenient;
+mod md5_signature;
+mod nested;
 mod numbers;
 mod options;
 mod record;
+mod records;
+mod storages;
+mod stored_address;
 mod tcp_info;
+mod ulp_info;
 
+pub use acknowledgement::{AckAttributes, AckView};
 pub use congestion::{BbrInfo, DctcpInfo, VegasInfo};
 pub use lenient::{
     LenientHeader, LenientInetReply, LenientNlas, LenientReply, LenientUnixReply, Refused,
 };
+pub use md5_signature::Md5Signature;
+pub use nested::NestedNlas;
 pub use numbers::{parse_cgroup_id, parse_uid};
 pub use options::{SocketOption, SocketOptions};
 pub use record::{AttributeRecord, read_attribute_record, write_attribute_record};
+pub use records::AttributeRecords;
+pub use storages::BpfStorage;
+pub use stored_address::StoredAddress;
 pub use tcp_info::{TcpField, TcpInfoBytes};
+pub use ulp_info::{SubflowField, SubflowInfo, TlsField, TlsInfo, UlpInfo};

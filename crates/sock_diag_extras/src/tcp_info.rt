@@ -6,6 +6,7 @@ ghost use Rattle.byteorder.specs.Endian.{little_number};
 ghost use Rattle.netlink_core.specs.Layout.{read};
 ghost use Rattle.sock_diag_values.specs.TcpInfo.{tcp_info};
 
+use crate::bytes::bytes_behind;
 use byteorder::{ByteOrder, LittleEndian};
 use netlink_packet_sock_diag::inet::nlas::TcpInfo;
 
@@ -279,10 +280,7 @@ impl<'a> TcpInfoBytes<'a> {
     pub fn rest(&self) -> &'a [u8]
         ensures { result.now ≡ drop 280 self.now.bytes.now }
     {
-        if self.bytes.len() < WHOLE {
-            return &[];
-        }
-        &self.bytes[WHOLE..]
+        bytes_behind(self.bytes, WHOLE)
     }
 }
 

@@ -1,0 +1,201 @@
+//! What an error, an acknowledgement or the end of a dump tells beside its number: the request that
+//! it answers, and the attributes of an extended acknowledgement.
+
+ghost use Rattle.std.specs.Prelude.{◌≡◌, ◌≤◌, ◌<◌, ◌^◌, ◌↔◌, [], length, IfErr, IfOk, IfSome};
+ghost use Rattle.std.specs.Prelude.{IsSome, None, Some, SomeIff, option_map};
+ghost use Rattle.netlink_core.specs.Attribute.{AttributeFault};
+ghost use Rattle.netlink_core.specs.AttributeSet.{decodes};
+ghost use Rattle.netlink_core.specs.Envelope.{leading_number};
+ghost use Rattle.netlink_core.specs.Faults.{map_ok};
+ghost use Rattle.netlink_core.specs.Header.{header_fields, header_values};
+ghost use Rattle.netlink_core.specs.Parse.{exact_number, text_in};
+ghost use Rattle.netlink_core.specs.Table.{values_of};
+ghost use Rattle.sock_diag_families.specs.Found.{within};
+ghost use Rattle.sock_diag_extras.specs.Acknowledgement.{HoldsRequest, attributes_behind};
+ghost use Rattle.sock_diag_extras.specs.Acknowledgement.{error_attributes, request_in};
+ghost use Rattle.sock_diag_extras.specs.Acknowledgement.{request_length};
+ghost use Rattle.sock_diag_extras.specs.Nested.{first_in};
+
+use crate::bytes::bytes_behind;
+use crate::constants::{
+    NLM_F_ACK_TLVS, NLM_F_CAPPED, NLMSGERR_ATTR_COOKIE, NLMSGERR_ATTR_MISS_NEST,
+    NLMSGERR_ATTR_MISS_TYPE, NLMSGERR_ATTR_MSG, NLMSGERR_ATTR_OFFS, NLMSGERR_ATTR_POLICY,
+};
+use crate::nested::NestedNlas;
+use byteorder::{ByteOrder, LittleEndian};
+use netlink_core::{DecodeError, NETLINK_HEADER_LEN, NetlinkHeader, error_number, padded};
+
+/// The payload of `NLMSG_ERROR` or `NLMSG_DONE`, read in place by the flags of the message's
+/// header. It takes no memory.
+#[derive(Clone, Copy, Debug, PartialEq, Eq)]
+pub struct AckView<'a> {
+    number: i32,
+    // The request's header and what follows it, or nothing.
+    request: &'a [u8],
+    // The attributes' bytes, which are not checked.
+    attributes: &'a [u8],
+}
+
+impl<'a> AckView<'a> {
+    /// What a message of the type `NLMSG_ERROR` tells: four bytes of the number; the request, which
+    /// is its header of 16 bytes alone where the number is 0 or the flags have `NLM_F_CAPPED`; its
+    /// padding to a multiple of 4; and attributes, where the flags have `NLM_F_ACK_TLVS`.
+    ///
+    /// `None` where there are fewer than 20 bytes, and where the request's length word is under 16
+    /// or past the bytes.
+    pub fn of_error(flags: u16, payload: &'a [u8]) -> Option<AckView<'a>>
+        ensures held { IsSome result ↔ HoldsRequest flags payload.entry.now }
+        ensures number { IfSome result (λ ack.
+            leading_number payload.entry.now ≡ Some ack.number) }
+        ensures request { IfSome result (λ ack.
+            ack.request.now ≡ request_in flags payload.entry.now) }
+        ensures attributes { IfSome result (λ ack.
+            ack.attributes.now ≡ error_attributes flags payload.entry.now) }
+    {
+        if payload.len() < 4 + NETLINK_HEADER_LEN {
+            return None;
+        }
+        let number = error_number(payload)?;
+        let length = held_length(flags, payload);
+        if length < NETLINK_HEADER_LEN || length > payload.len() - 4 {
+            return None;
+        }
+        Some(AckView {
+            number,
+            request: &payload[4..4 + length],
+            attributes: told_behind(flags, 4 + padded(length), payload),
+        })
+    }
+
+    /// What a message of the type `NLMSG_DONE` tells: four bytes of the number, and attributes,
+    /// where the flags have `NLM_F_ACK_TLVS`. `None` where there are fewer than four bytes.
+    pub fn of_done(flags: u16, payload: &'a [u8]) -> Option<AckView<'a>>
+        ensures number { option_map (λ ack. ack.number) result ≡ leading_number payload.entry.now }
+        ensures request { IfSome result (λ ack. ack.request.now ≡ []) }
+        ensures attributes { IfSome result (λ ack.
+            ack.attributes.now ≡ attributes_behind flags 4 payload.entry.now) }
+    {
+        Some(AckView {
+            number: error_number(payload)?,
+            request: &[],
+            attributes: told_behind(flags, 4, payload),
+        })
+    }
+
+    /// 0 where all went well, else `-errno` (errno(3)).
+    pub fn number(&self) -> i32
+        ensures { result ≡ self.now.number }
+    {
+        self.number
+    }
+
+    /// The bytes of the request, from its header on, as far as they were sent back. An offset
+    /// counts from the first of them. The end of a dump has none.
+    pub fn request(&self) -> &'a [u8]
+        ensures { result.now ≡ self.now.request.now }
+    {
+        self.request
+    }
+
+    /// The header of the request. The end of a dump has none.
+    pub fn request_header(&self) -> Option<NetlinkHeader>
+        ensures { SomeIff (option_map header_values result) (16 ≤ length self.now.request.now)
+            (values_of header_fields self.now.request.now) }
+    {
+        if self.request.len() < NETLINK_HEADER_LEN {
+            return None;
+        }
+        Some(NetlinkHeader {
+            length: LittleEndian::read_u32(self.request),
+            message_type: LittleEndian::read_u16(&self.request[4..]),
+            flags: LittleEndian::read_u16(&self.request[6..]),
+            sequence_number: LittleEndian::read_u32(&self.request[8..]),
+            port_number: LittleEndian::read_u32(&self.request[12..]),
+        })
+    }
+
+    /// What the attributes `NLMSGERR_ATTR_..` tell. The first fault of their framing refuses them.
+    pub fn attributes(&self) -> Result<AckAttributes<'a>, DecodeError>
+        ensures kept { IfOk result (λ told. told.0.bytes.now ≡ self.now.attributes.now) }
+        ensures fault { IfErr result (AttributeFault (decodes []) self.now.attributes.now) }
+    {
+        Ok(AckAttributes(NestedNlas::parse(self.attributes)?))
+    }
+}
+
+/// The attributes of an extended acknowledgement, `NLMSGERR_ATTR_..` of `linux/netlink.h`, of which
+/// each getter takes the first of its kind.
+#[derive(Clone, Copy, Debug, PartialEq, Eq)]
+pub struct AckAttributes<'a>(pub NestedNlas<'a>);
+
+impl<'a> AckAttributes<'a> {
+    /// What went wrong, or a warning, `NLMSGERR_ATTR_MSG`. What is not UTF-8 is `NotUtf8`.
+    pub fn message(&self) -> Result<Option<&'a str>, DecodeError>
+        ensures { map_ok (option_map (λ text. text.now)) result
+            ≡ within text_in (first_in 1 self.now.0.bytes.now) }
+    {
+        self.0.text_of(NLMSGERR_ATTR_MSG)
+    }
+
+    /// Where the attribute at fault stands, counted from the first byte of the request's header,
+    /// `NLMSGERR_ATTR_OFFS`. Other than four bytes are `WrongLength`.
+    pub fn offset(&self) -> Result<Option<u32>, DecodeError>
+        ensures { result ≡ within (exact_number None 4) (first_in 2 self.now.0.bytes.now) }
+    {
+        self.0.word_of(NLMSGERR_ATTR_OFFS)
+    }
+
+    /// What the part of the kernel has to say, `NLMSGERR_ATTR_COOKIE`.
+    pub fn cookie(&self) -> Option<&'a [u8]>
+        ensures { option_map (λ value. value.now) result ≡ first_in 3 self.now.0.bytes.now }
+    {
+        self.0.value_of(NLMSGERR_ATTR_COOKIE)
+    }
+
+    /// What the attribute at fault may be, as attributes, `NLMSGERR_ATTR_POLICY`.
+    pub fn policy(&self) -> Option<&'a [u8]>
+        ensures { option_map (λ value. value.now) result ≡ first_in 4 self.now.0.bytes.now }
+    {
+        self.0.value_of(NLMSGERR_ATTR_POLICY)
+    }
+
+    /// The kind of the attribute that is missing, `NLMSGERR_ATTR_MISS_TYPE`. Other than four bytes
+    /// are `WrongLength`.
+    pub fn missing_kind(&self) -> Result<Option<u32>, DecodeError>
+        ensures { result ≡ within (exact_number None 4) (first_in 5 self.now.0.bytes.now) }
+    {
+        self.0.word_of(NLMSGERR_ATTR_MISS_TYPE)
+    }
+
+    /// Where the attribute stands in which it is missing, counted as `offset`, of
+    /// `NLMSGERR_ATTR_MISS_NEST`. There is none where it is missing in the message itself. Other
+    /// than four bytes are `WrongLength`.
+    pub fn missing_nest(&self) -> Result<Option<u32>, DecodeError>
+        ensures { result ≡ within (exact_number None 4) (first_in 6 self.now.0.bytes.now) }
+    {
+        self.0.word_of(NLMSGERR_ATTR_MISS_NEST)
+    }
+}
+
+// How many bytes of the request stand behind the number.
+fn held_length(flags: u16, payload: &[u8]) -> usize
+    requires { 20 ≤ length payload.now }
+    ensures length { result ≡ request_length flags payload.now }
+    ensures small { result < 2 ^ 32 }
+{
+    if flags & NLM_F_CAPPED == 0 && LittleEndian::read_u32(payload) != 0 {
+        LittleEndian::read_u32(&payload[4..]) as usize
+    } else {
+        NETLINK_HEADER_LEN
+    }
+}
+
+// The attributes behind so many bytes, where the flags tell of some.
+fn told_behind(flags: u16, front: usize, payload: &[u8]) -> &[u8]
+    ensures { result.now ≡ attributes_behind flags front payload.entry.now }
+{
+    if flags & NLM_F_ACK_TLVS == 0 {
+        return &[];
+    }
+    bytes_behind(payload, front)
+}

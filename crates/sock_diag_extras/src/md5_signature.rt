@@ -1,0 +1,62 @@
+//! The keys by which a TCP socket signs segments: INET_DIAG_MD5SIG.
+
+ghost use Rattle.std.specs.Prelude.{refl};
+ghost use Rattle.netlink_core.proofs.FieldReads.{first_all};
+ghost use Rattle.netlink_core.proofs.LayoutLaws.{plain_sound, record_laws};
+ghost use Rattle.sock_diag_extras.specs.Md5Signature.{md5_signature};
+ghost use Rattle.sock_diag_extras.specs.RecordTable.{format_under};
+
+use crate::record::AttributeRecord;
+use byteorder::{ByteOrder, LittleEndian};
+use netlink_core::fields::array_at;
+
+/// A key for the segments of some peers, one of the records in the value of `INET_DIAG_MD5SIG`:
+/// `struct tcp_diag_md5sig` of `linux/tcp.h`, 100 bytes. Kernels tell it to those with
+/// `CAP_NET_ADMIN` alone.
+#[derive(Clone, Copy, Debug, PartialEq, Eq)]
+pub struct Md5Signature {
+    /// The family of the address, `tcpm_family`, at 0: 2 or 10.
+    pub family: u8,
+    /// How many bits of the address the peers share, `tcpm_prefixlen`, at 1.
+    pub prefix_length: u8,
+    /// How many bytes of the key count, `tcpm_keylen`, at 2, low byte first.
+    pub key_length: u16,
+    /// The address, `tcpm_addr`, at 4, high byte first: an IPv4 address stands in the first four.
+    pub address: [u8; 16],
+    /// The key, `tcpm_key`, at 20.
+    pub key: [u8; 80],
+}
+
+impl AttributeRecord for Md5Signature {
+    ghost layout = { md5_signature };
+
+    fn size() -> usize {
+        100
+    }
+
+    fn from_fields(row: &[u8]) -> Self {
+        Md5Signature {
+            family: row[0],
+            prefix_length: row[1],
+            key_length: LittleEndian::read_u16(&row[2..]),
+            address: array_at(row, 4),
+            key: array_at(row, 20),
+        }
+    }
+
+    fn write_fields(&self, row: &mut [u8]) {
+        let (front, rest) = row.split_at_mut(2);
+        let (key_length, rest) = rest.split_at_mut(2);
+        let (address, key) = rest.split_at_mut(16);
+        front.copy_from_slice(&[self.family, self.prefix_length]);
+        LittleEndian::write_u16_into(&[self.key_length], key_length);
+        address.copy_from_slice(&self.address);
+        key.copy_from_slice(&self.key);
+    }
+
+    ghost laws = { λ name. record_laws (format_under md5_signature name) (plain_sound refl
+        (λ _. refl) (λ _. refl) (λ _. (refl, refl)) (λ v shaped.
+        let address = first_all 16 v.address shaped.0 in
+        let key = first_all 80 v.key shaped.1 in
+        λ i. record v { address = address i; key = key i })) };
+}

@@ -1,0 +1,65 @@
+//! Records one after the other in the value of an attribute.
+
+ghost use Rattle.std.specs.Prelude.{◌≡◌, ◌<◌, None, IfSome, length};
+ghost use Rattle.std.specs.Iterator.{UpTo, at_most};
+ghost use Rattle.std.specs.Iterator.SizeHint.{IsWithinCount};
+ghost use Rattle.sock_diag_extras.specs.Records.{GivesRecord};
+
+use crate::record::{AttributeRecord, read_attribute_record};
+use std::marker::PhantomData;
+
+/// The records in the value of an attribute that is an array of them, in the order that they came.
+/// It takes no memory.
+#[derive(Drop)]
+pub struct AttributeRecords<'a, T> {
+    bytes: &'a [u8],
+    record: PhantomData<T>,
+}
+
+impl<'a, T> AttributeRecords<'a, T> {
+    /// The records in the value.
+    pub fn new(value: &'a [u8]) -> AttributeRecords<'a, T>
+        ensures { result.bytes.now ≡ value.entry.now }
+    {
+        AttributeRecords {
+            bytes: value,
+            record: PhantomData,
+        }
+    }
+
+    /// What was not given yet: behind the last record fewer bytes than one has, and none where the
+    /// value is a multiple of it.
+    pub fn rest(&self) -> &'a [u8]
+        ensures { result.now ≡ self.now.bytes.now }
+    {
+        self.bytes
+    }
+}
+
+impl<'a, T: AttributeRecord> Iterator for AttributeRecords<'a, T> {
+    type Item = T;
+
+    ghost next_gives = { λ old given new. GivesRecord T.layout old.bytes.now given new.bytes.now };
+
+    // A record has some bytes.
+    ghost can_next = { λ _. 0 < T.layout.size };
+
+    // At most one for each byte.
+    ghost remaining = { λ records. at_most (length records.bytes.now) };
+
+    #[inline(always)]
+    fn next(&mut self) -> Option<T> {
+        let value = read_attribute_record(self.bytes)?;
+        self.bytes = &self.bytes[T::size()..];
+        Some(value)
+    }
+
+    /// How many are left is told by the walk alone.
+    fn size_hint(&self) -> (usize, Option<usize>)
+        ensures lower { IsWithinCount result.0 (at_most (length self.now.bytes.now)) }
+        ensures upper { IfSome result.1 (UpTo (at_most (length self.now.bytes.now))) }
+        ensures unknown { result ≡ (0, None) }
+    {
+        (0, None)
+    }
+}

@@ -1,0 +1,94 @@
+//! The addresses of an SCTP association: INET_DIAG_LOCALS and INET_DIAG_PEERS.
+
+ghost use Rattle.std.specs.Prelude.{◌≡◌, refl};
+ghost use Rattle.netlink_core.proofs.FieldReads.{first_all};
+ghost use Rattle.netlink_core.proofs.LayoutLaws.{plain_sound, record_laws};
+ghost use Rattle.sock_diag_extras.specs.RecordTable.{format_under};
+ghost use Rattle.sock_diag_extras.specs.StoredAddress.{stored_address};
+
+use crate::record::AttributeRecord;
+use byteorder::{BigEndian, ByteOrder, LittleEndian};
+use netlink_core::fields::{array_at, big_shorts_at, words_at};
+use std::net::{IpAddr, Ipv4Addr, Ipv6Addr};
+
+/// The number of the IPv4 family, `AF_INET`.
+const INET: u16 = 2;
+
+/// The number of the IPv6 family, `AF_INET6`.
+const INET6: u16 = 10;
+
+/// An address of an SCTP association, one of the records in the values of `INET_DIAG_LOCALS` and
+/// `INET_DIAG_PEERS`: `struct sockaddr_storage`, 128 bytes, of which all are kept. What stands in
+/// it is a `struct sockaddr_in` of ip(7) or a `struct sockaddr_in6` of ipv6(7), by the family.
+#[derive(Clone, Copy, Debug, PartialEq, Eq)]
+pub struct StoredAddress {
+    /// The family, at 0, low byte first: 2 or 10.
+    pub family: u16,
+    /// The port, at 2, high byte first.
+    pub port: u16,
+    /// The IPv4 address, or what flow the IPv6 address is of, at 4, high byte first.
+    pub front: [u8; 4],
+    /// The IPv6 address, at 8, each segment high byte first.
+    pub segments: [u16; 8],
+    /// The interface that the IPv6 address is of, at 24, low byte first.
+    pub scope_id: u32,
+    /// What no address of either family has, at 28.
+    pub rest: [u8; 100],
+}
+
+impl AttributeRecord for StoredAddress {
+    ghost layout = { stored_address };
+
+    fn size() -> usize {
+        128
+    }
+
+    fn from_fields(row: &[u8]) -> Self {
+        let [port] = big_shorts_at::<1>(row, 2);
+        let [scope_id] = words_at::<1>(row, 24);
+        StoredAddress {
+            family: LittleEndian::read_u16(row),
+            port,
+            front: array_at(row, 4),
+            segments: big_shorts_at(row, 8),
+            scope_id,
+            rest: array_at(row, 28),
+        }
+    }
+
+    fn write_fields(&self, row: &mut [u8]) {
+        let (family, behind) = row.split_at_mut(2);
+        let (port, behind) = behind.split_at_mut(2);
+        let (front, behind) = behind.split_at_mut(4);
+        let (segments, behind) = behind.split_at_mut(16);
+        let (scope_id, rest) = behind.split_at_mut(4);
+        LittleEndian::write_u16_into(&[self.family], family);
+        BigEndian::write_u16_into(&[self.port], port);
+        front.copy_from_slice(&self.front);
+        BigEndian::write_u16_into(&self.segments, segments);
+        LittleEndian::write_u32_into(&[self.scope_id], scope_id);
+        rest.copy_from_slice(&self.rest);
+    }
+
+    ghost laws = { λ name. record_laws (format_under stored_address name) (plain_sound refl
+        (λ _. refl) (λ _. refl) (λ _. (refl, refl, refl)) (λ v shaped.
+        let front = first_all 4 v.front shaped.0 in
+        let segments = first_all 8 v.segments shaped.1 in
+        let rest = first_all 100 v.rest shaped.2 in
+        λ i. record v { front = front i; segments = segments i; rest = rest i })) };
+}
+
+impl StoredAddress {
+    ghost use Rattle.sock_diag_extras.specs.StoredAddress.{ip_of};
+
+    /// The IP address, where the family is 2 or 10.
+    pub fn ip(&self) -> Option<IpAddr>
+        ensures { result ≡ ip_of self.now }
+    {
+        match self.family {
+            INET => Some(IpAddr::V4(Ipv4Addr::from_octets(self.front))),
+            INET6 => Some(IpAddr::V6(Ipv6Addr::from_segments(self.segments))),
+            _ => None,
+        }
+    }
+}
