@@ -1,5 +1,5 @@
 -- A request of any family that is written is read back.
-use Rattle.std.proofs.Common.{◌≡◌, ◌≢◌, ◌∙◌, ℕ, ◌+◌, ◌≤◌, List, [], ◌∷◌, ◌++◌, length}
+use Rattle.std.proofs.Common.{◌≡◌, ◌∙◌, ℕ, ◌+◌, ◌≤◌, List, [], ◌++◌, length}
 use Rattle.std.proofs.Common.{drop, refl, sym, ap, subst, arith, inl, inr, Result, Ok, Err}
 use Rattle.std.proofs.Common.{append-nil}
 use Rattle.std.specs.Prelude.{map, slice_index}
@@ -9,7 +9,6 @@ use Rattle.netlink_core.specs.declared.fault.DecodeError.{DecodeError}
 use Rattle.netlink_core.specs.declared.fault.DecodeError.TheVariants.{UnsupportedFamily}
 use Rattle.netlink_core.specs.declared.header.NetlinkHeader.{NetlinkHeader}
 use Rattle.netlink_core.specs.Header.{HasHeader, header_bytes}
-use Rattle.netlink_core.specs.Layout.{read}
 use Rattle.netlink_core.specs.ShownLaws.{IsPrefixCodec}
 use Rattle.netlink_core.proofs.Headers.{header_stands, one_header}
 use Rattle.netlink_core.proofs.LayoutLaws.{accepted}
