@@ -22,7 +22,7 @@ abbrev pub bytes_in : {Value : Type 0} → RecordTable Value → Value → List 
 bytes_in layout value = bytes_of layout.fields (layout.values value)
 
 -- the layout of such a record, under any name
-abbrev pub format_under : {Value : Type 0} → RecordTable Value → RecordName
+abbrev pub layout_under : {Value : Type 0} → RecordTable Value → RecordName
     → Layout (Unit {0}) (Unit {0}) Value
-format_under layout name =
+layout_under layout name =
     plain name layout.size layout.fields layout.values layout.value layout.is_shaped

@@ -4,7 +4,7 @@
 ghost use Rattle.std.specs.Prelude.{refl};
 ghost use Rattle.netlink_core.proofs.LayoutLaws.{plain_sound, record_laws};
 ghost use Rattle.sock_diag_extras.specs.Congestion.{bbr_info, dctcp_info, vegas_info};
-ghost use Rattle.sock_diag_extras.specs.RecordTable.{format_under};
+ghost use Rattle.sock_diag_extras.specs.RecordTable.{layout_under};
 
 use crate::record::AttributeRecord;
 use byteorder::{ByteOrder, LittleEndian};
@@ -46,7 +46,7 @@ impl AttributeRecord for VegasInfo {
         LittleEndian::write_u32_into(&words, buffer);
     }
 
-    ghost laws = { λ name. record_laws (format_under vegas_info name) (plain_sound refl (λ _. refl)
+    ghost laws = { λ name. record_laws (layout_under vegas_info name) (plain_sound refl (λ _. refl)
         (λ _. refl) (λ _. tt) (λ _ _. refl)) };
 }
 
@@ -91,7 +91,7 @@ impl AttributeRecord for DctcpInfo {
         LittleEndian::write_u32_into(&numbers, words);
     }
 
-    ghost laws = { λ name. record_laws (format_under dctcp_info name) (plain_sound refl (λ _. refl)
+    ghost laws = { λ name. record_laws (layout_under dctcp_info name) (plain_sound refl (λ _. refl)
         (λ _. refl) (λ _. tt) (λ _ _. refl)) };
 }
 
@@ -133,6 +133,6 @@ impl AttributeRecord for BbrInfo {
         LittleEndian::write_u32_into(&numbers, words);
     }
 
-    ghost laws = { λ name. record_laws (format_under bbr_info name) (plain_sound refl (λ _. refl)
+    ghost laws = { λ name. record_laws (layout_under bbr_info name) (plain_sound refl (λ _. refl)
         (λ _. refl) (λ _. tt) (λ _ _. refl)) };
 }

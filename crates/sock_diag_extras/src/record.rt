@@ -5,7 +5,7 @@ ghost use Rattle.std.specs.Result.{result_ok};
 ghost use Rattle.netlink_core.specs.Codec.{RecordLaws};
 ghost use Rattle.netlink_core.specs.Layout.{read};
 ghost use Rattle.netlink_core.specs.declared.fault.RecordName.{RecordName};
-ghost use Rattle.sock_diag_extras.specs.RecordTable.{RecordTable, bytes_in, format_under, value_in};
+ghost use Rattle.sock_diag_extras.specs.RecordTable.{RecordTable, bytes_in, layout_under, value_in};
 
 /// A record that an attribute of sock_diag(7) carries and the port leaves as bytes.
 pub trait AttributeRecord: Sized {
@@ -27,7 +27,7 @@ pub trait AttributeRecord: Sized {
         ensures { buffer.new ≡ bytes_in layout self.now };
 
     // It keeps the laws of records, whatever a fault would call it.
-    ghost laws: { (name : RecordName) → RecordLaws (format_under layout name) };
+    ghost laws: { (name : RecordName) → RecordLaws (layout_under layout name) };
 }
 
 /// Reads the record at the start of the bytes, where there are enough. What follows is ignored.
@@ -35,8 +35,8 @@ pub trait AttributeRecord: Sized {
 pub fn read_attribute_record<T: AttributeRecord>(value: &[u8]) -> Option<T>
     ensures value { SomeIff result (T.layout.size ≤ length value.now)
         (value_in T.layout value.now) }
-    ensures format { (name : RecordName)
-        → result ≡ result_ok (read (format_under T.layout name) tt value.now) }
+    ensures by_layout { (name : RecordName)
+        → result ≡ result_ok (read (layout_under T.layout name) tt value.now) }
 {
     if value.len() < T::size() {
         return None;

@@ -3,7 +3,7 @@
 ghost use Rattle.std.specs.Prelude.{◌≡◌, refl};
 ghost use Rattle.netlink_core.proofs.FieldReads.{first_all};
 ghost use Rattle.netlink_core.proofs.LayoutLaws.{plain_sound, record_laws};
-ghost use Rattle.sock_diag_extras.specs.RecordTable.{format_under};
+ghost use Rattle.sock_diag_extras.specs.RecordTable.{layout_under};
 ghost use Rattle.sock_diag_extras.specs.StoredAddress.{stored_address};
 
 use crate::record::AttributeRecord;
@@ -70,7 +70,7 @@ impl AttributeRecord for StoredAddress {
         rest.copy_from_slice(&self.rest);
     }
 
-    ghost laws = { λ name. record_laws (format_under stored_address name) (plain_sound refl
+    ghost laws = { λ name. record_laws (layout_under stored_address name) (plain_sound refl
         (λ _. refl) (λ _. refl) (λ _. (refl, refl, refl)) (λ v shaped.
         let front = first_all 4 v.front shaped.0 in
         let segments = first_all 8 v.segments shaped.1 in

@@ -1,5 +1,5 @@
 -- A request of any family that is written is read back.
-use Rattle.std.proofs.Common.{◌≡◌, ◌≢◌, ◌∙◌, ℕ, ◌+◌, ◌≤◌, List, [], ◌∷◌, ◌++◌, length}
+use Rattle.std.proofs.Common.{◌≡◌, ◌∙◌, ℕ, ◌+◌, ◌≤◌, List, [], ◌++◌, length}
 use Rattle.std.proofs.Common.{drop, refl, sym, ap, subst, arith, inl, inr, Result, Ok, Err}
 use Rattle.std.proofs.Common.{append-nil}
 use Rattle.std.specs.Prelude.{map, slice_index}
@@ -9,7 +9,6 @@ use Rattle.netlink_core.specs.declared.fault.DecodeError.{DecodeError}
 use Rattle.netlink_core.specs.declared.fault.DecodeError.TheVariants.{UnsupportedFamily}
 use Rattle.netlink_core.specs.declared.header.NetlinkHeader.{NetlinkHeader}
 use Rattle.netlink_core.specs.Header.{HasHeader, header_bytes}
-use Rattle.netlink_core.specs.Layout.{read}
 use Rattle.netlink_core.specs.ShownLaws.{IsPrefixCodec}
 use Rattle.netlink_core.proofs.Headers.{header_stands, one_header}
 use Rattle.netlink_core.proofs.LayoutLaws.{accepted}
@@ -26,7 +25,8 @@ use Rattle.sock_diag_filters.specs.AnyReadBack.{IsInetReadBack, IsWhole, record_
 use Rattle.sock_diag_filters.specs.AnyRequest.{AnyAsks, AnyRequest, AskedFamily, RecordFamily}
 use Rattle.sock_diag_filters.specs.AnyRequest.{RefusesAnyRequest, asked_family, codec_of, family_in}
 use Rattle.sock_diag_filters.specs.AnyRequest.{inet, netlink, of_family, of_inet, of_record, packet}
-use Rattle.sock_diag_filters.specs.AnyRequest.{refuses_by, size_of, told_family, unix, vsock, xdp}
+use Rattle.sock_diag_filters.specs.AnyRequest.{refuses_by, size_of, family_by_byte, unix, vsock}
+use Rattle.sock_diag_filters.specs.AnyRequest.{xdp}
 use Rattle.sock_diag_filters.specs.Asked.{IsRequestType, payload_of}
 use Rattle.sock_diag_filters.specs.ReadBack.{CanBeAsked, written_header}
 use Rattle.sock_diag_filters.specs.Requests.{attribute_of, request_bytes}
@@ -39,9 +39,9 @@ same_value r x y h k = cc
 
 -- ---- the family that is told
 
-inet_told : (first : ℕ) (kinds : IpVersions) → versions_of_family first ≡ Ok kinds
-    → told_family first ≡ Ok inet
-inet_told first kinds is = elim (cases_eq first 2) [
+inet_asked : (first : ℕ) (kinds : IpVersions) → versions_of_family first ≡ Ok kinds
+    → family_by_byte first ≡ Ok inet
+inet_asked first kinds is = elim (cases_eq first 2) [
   | inl two ↦ rw two refl
   | inr not_two ↦ elim (cases_eq first 10) [
     | inl ten ↦ rw ten refl
@@ -56,24 +56,24 @@ inet_told first kinds is = elim (cases_eq first 2) [
 
 pub as_prefix : (family : RecordFamily) → IsPrefixCodec (codec_of family) (size_of family)
 as_prefix unix = is_prefix_codec unix_request unix_request_sound (refl, λ _. refl)
-    (λ tag left rest long told. told)
+    (λ tag left rest long decoded. decoded)
 as_prefix netlink = is_prefix_codec (show_request 16) (show_request_sound 16) (refl, λ _. refl)
-    (λ tag left rest long told. told)
+    (λ tag left rest long decoded. decoded)
 as_prefix packet = is_prefix_codec (show_request 17) (show_request_sound 17) (refl, λ _. refl)
-    (λ tag left rest long told. told)
+    (λ tag left rest long decoded. decoded)
 as_prefix vsock = is_prefix_codec vsock_request vsock_request_sound (refl, λ _. refl)
-    (λ tag left rest long told. told)
+    (λ tag left rest long decoded. decoded)
 as_prefix xdp = is_prefix_codec (show_request 44) (show_request_sound 44) (refl, λ _. refl)
-    (λ tag left rest long told. told)
+    (λ tag left rest long decoded. decoded)
 
-first_told : (family : RecordFamily) (request : (codec_of family).Value) (rest : List ℕ)
-    → told_family (slice_index ((codec_of family).bytes request ++ rest) 0)
+first_asked : (family : RecordFamily) (request : (codec_of family).Value) (rest : List ℕ)
+    → family_by_byte (slice_index ((codec_of family).bytes request ++ rest) 0)
     ≡ Ok (of_record family)
-first_told unix request rest = refl
-first_told netlink request rest = refl
-first_told packet request rest = refl
-first_told vsock request rest = refl
-first_told xdp request rest = refl
+first_asked unix request rest = refl
+first_asked netlink request rest = refl
+first_asked packet request rest = refl
+first_asked vsock request rest = refl
+first_asked xdp request rest = refl
 
 has_two : (family : RecordFamily) → 2 ≤ size_of family
 has_two unix = omega arith
@@ -101,14 +101,14 @@ module _ (family : RecordFamily) (h : NetlinkHeader) (request : (codec_of family
       (ap (λ (l : List ℕ). header_bytes h ++ l) (append-nil (own ++ attributes)))
       (header_stands h (own ++ attributes) [] whole.header size)
 
-  record_told : family_in message h ≡ Ok (of_record family)
-  record_told =
+  record_asked : family_in message h ≡ Ok (of_record family)
+  record_asked =
       let payload = record_stands.1 in
       let two = has_two family in
       ap (λ (l : List ℕ). asked_family l h.message_type) payload
       ∙ asked_is (own ++ attributes) h.message_type (Ok (of_record family))
       (omega (arith, long, two, length-append own attributes)) whole.kind
-      (first_told family request attributes)
+      (first_asked family request attributes)
 
   record_read : (codec_of family).reads tt (payload_of message h) ≡ Ok request
   record_read = ap ((codec_of family).reads tt) record_stands.1
@@ -137,13 +137,13 @@ module _ (family : RecordFamily) (h : NetlinkHeader) (request : (codec_of family
       → other ≡ of_family family h request attributes
   record_read_back (of_inet view) asks =
       let same = one_header message view.header h asks.1.framed record_stands.0 in
-      let told = ap (family_in message) (sym same) ∙ asks.0 in
-      absurd (cc (told, record_told))
+      let decoded = ap (family_in message) (sym same) ∙ asks.0 in
+      absurd (cc (decoded, record_asked))
   record_read_back (of_family k m v behind) asks =
       let same = one_header message m h asks.0 record_stands.0 in
-      let told : family_in message h ≡ Ok (of_record k) =
+      let decoded : family_in message h ≡ Ok (of_record k) =
       ap (family_in message) (sym same) ∙ asks.1 in
-      let one : family ≡ k = cc (told, record_told) in
+      let one : family ≡ k = cc (decoded, record_asked) in
       ap (λ (g : NetlinkHeader). of_family k g v behind) same
       ∙ same_record k one v behind
       (ap (λ (g : NetlinkHeader). (codec_of k).reads tt (payload_of message g)) (sym same)
@@ -159,7 +159,8 @@ module _ (family : RecordFamily) (h : NetlinkHeader) (request : (codec_of family
   record_never_refused e (inr (k, framed, refused)) =
       let same = one_header message k h framed record_stands.0 in
       let there : refuses_by (Ok (of_record family)) message h e =
-      subst (λ (told : Result AskedFamily DecodeError). refuses_by told message h e) record_told
+      subst (λ (decoded : Result AskedFamily DecodeError).
+      refuses_by decoded message h e) record_asked
       (subst (λ (g : NetlinkHeader). refuses_by (family_in message g) message g e) same refused) in
       absurd (cc (there, record_read))
 
@@ -173,14 +174,14 @@ module _ (h : NetlinkHeader) (request : InetRequest) (attributes : List RequestA
   abbrev own_header : NetlinkHeader
   own_header = written_header h attributes
 
-  told_inet : family_in asked own_header ≡ Ok inet
+  asked_inet : family_in asked own_header ≡ Ok inet
   unfolding inet_request
-  told_inet =
+  asked_inet =
       let read_there = accepted inet_request tt (payload_of asked own_header) request
       (reads_as h request attributes can own_header refl) in
       asked_is (payload_of asked own_header) h.message_type (Ok inet)
       (let enough = read_there.long in omega arith) kind
-      (inet_told (slice_index (payload_of asked own_header) 0) read_there.tag
+      (inet_asked (slice_index (payload_of asked own_header) 0) read_there.tag
       read_there.tag_found)
 
   inet_header : (k : NetlinkHeader) → HasHeader asked k → k ≡ own_header
@@ -191,8 +192,8 @@ module _ (h : NetlinkHeader) (request : InetRequest) (attributes : List RequestA
       → IsInetReadBack h request attributes other
   inet_read_back (of_inet view) asks = read_back h request attributes can view asks.1
   inet_read_back (of_family k m v behind) asks =
-      let told = ap (family_in asked) (sym (inet_header m asks.0)) ∙ asks.1 in
-      absurd (cc (told, told_inet))
+      let decoded = ap (family_in asked) (sym (inet_header m asks.0)) ∙ asks.1 in
+      absurd (cc (decoded, asked_inet))
 
   pub inet_never_refused : (e : DecodeError) → RefusesAnyRequest asked e → ⊥
   inet_never_refused e (inl fault) =
@@ -200,7 +201,7 @@ module _ (h : NetlinkHeader) (request : InetRequest) (attributes : List RequestA
       (whole_message h request attributes) fault
   inet_never_refused e (inr (k, framed, refused)) =
       let there : refuses_by (Ok inet) asked own_header e =
-      subst (λ (r : Result AskedFamily DecodeError). refuses_by r asked own_header e) told_inet
+      subst (λ (r : Result AskedFamily DecodeError). refuses_by r asked own_header e) asked_inet
       (subst (λ (g : NetlinkHeader). refuses_by (family_in asked g) asked g e)
       (inet_header k framed) refused) in
       never_refused h request attributes can e kind there

@@ -7,15 +7,16 @@ use Rattle.netlink_core.specs.declared.fault.DecodeError.{DecodeError}
 use Rattle.netlink_core.specs.declared.fault.DecodeError.TheVariants.{UnknownMessageType}
 use Rattle.netlink_core.specs.declared.header.NetlinkHeader.{NetlinkHeader}
 use Rattle.sock_diag_filters.specs.AnyRequest.{AskedFamily, RecordFamily, asked_family, codec_of}
-use Rattle.sock_diag_filters.specs.AnyRequest.{family_in, inet, of_record, refuses_by, told_family}
+use Rattle.sock_diag_filters.specs.AnyRequest.{family_in, inet, of_record, refuses_by}
+use Rattle.sock_diag_filters.specs.AnyRequest.{family_by_byte}
 use Rattle.sock_diag_filters.specs.Asked.{IsRequestType, RefusesRequest, payload_of}
 
 -- the first byte of a request tells its family
-pub asked_is : (payload : List ℕ) (t : ℕ) (told : Result AskedFamily DecodeError)
-    → 2 ≤ length payload → IsRequestType t → told_family (slice_index payload 0) ≡ told
-    → asked_family payload t ≡ told
-asked_is payload t told long (inl same) is = rw (le-ltb (length payload) 2 long, same) is
-asked_is payload t told long (inr same) is = rw (le-ltb (length payload) 2 long, same) is
+pub asked_is : (payload : List ℕ) (t : ℕ) (decoded : Result AskedFamily DecodeError)
+    → 2 ≤ length payload → IsRequestType t → family_by_byte (slice_index payload 0) ≡ decoded
+    → asked_family payload t ≡ decoded
+asked_is payload t decoded long (inl same) is = rw (le-ltb (length payload) 2 long, same) is
+asked_is payload t decoded long (inr same) is = rw (le-ltb (length payload) 2 long, same) is
 
 -- another type is refused
 pub other_is_refused : (payload : List ℕ) (t : ℕ) → 2 ≤ length payload → ¬ IsRequestType t
@@ -29,16 +30,16 @@ other_is_refused payload t long other =
 
 module _ (message : List ℕ) (h : NetlinkHeader) (e : DecodeError) where
   abbrev by : Result AskedFamily DecodeError → Type 0
-  by told = refuses_by told message h e
+  by decoded = refuses_by decoded message h e
 
   pub refused_family : family_in message h ≡ Err e → refuses_by (family_in message h) message h e
-  refused_family told = subst by (sym told) refl
+  refused_family decoded = subst by (sym decoded) refl
 
   pub refused_inet : family_in message h ≡ Ok inet → RefusesRequest message e
       → refuses_by (family_in message h) message h e
-  refused_inet told refused = subst by (sym told) refused
+  refused_inet decoded refused = subst by (sym decoded) refused
 
   pub refused_record : (family : RecordFamily) → family_in message h ≡ Ok (of_record family)
       → (codec_of family).reads tt (payload_of message h) ≡ Err e
       → refuses_by (family_in message h) message h e
-  refused_record family told refused = subst by (sym told) refused
+  refused_record family decoded refused = subst by (sym decoded) refused

@@ -25,9 +25,11 @@ use Rattle.sock_diag_records.specs.declared.inet.request.InetRequest.{InetReques
 use Rattle.sock_diag_filters.specs.declared.request.RequestAttribute.{RequestAttribute}
 use Rattle.sock_diag_filters.specs.declared.request.RequestAttribute.TheVariants.{Program, Protocol}
 use Rattle.sock_diag_filters.specs.declared.view.RequestView.{RequestView}
-use Rattle.sock_diag_filters.specs.Asked.{Asks, IsRequestType, RefusesRequest, Told, no_attributes}
+use Rattle.sock_diag_filters.specs.Asked.{Asks, IsRequestType, RefusesRequest, AskedAttribute}
+use Rattle.sock_diag_filters.specs.Asked.{no_attributes}
 use Rattle.sock_diag_filters.specs.Asked.{no_message, no_request, other_type, payload_of}
-use Rattle.sock_diag_filters.specs.Asked.{program_in, protocol_in, protocol_told, told_by, told_of}
+use Rattle.sock_diag_filters.specs.Asked.{program_in, protocol_in, protocol_asked, decodes_asked}
+use Rattle.sock_diag_filters.specs.Asked.{asked_of}
 use Rattle.sock_diag_filters.specs.ReadBack.{CanBeAsked, Fits, IsReadBack, written_header}
 use Rattle.sock_diag_filters.specs.Requests.{attribute_of, request_bytes}
 use Rattle.sock_diag_filters.proofs.Requesting.{message_length}
@@ -40,34 +42,37 @@ fit_words [] fit = tt
 fit_words (Program program ∷ more) fit = ((omega arith, fit.0), fit_words more fit.1)
 fit_words (Protocol protocol ∷ more) fit = ((omega arith, omega arith), fit_words more fit.1)
 
-tells : (a : RequestAttribute) → Fits a → told_by (attribute_of a) ≡ Ok (told_of a)
+tells : (a : RequestAttribute) → Fits a → decodes_asked (attribute_of a) ≡ Ok (asked_of a)
 tells (Program program) fit = refl
 tells (Protocol protocol) fit =
-    ap (λ (n : ℕ). ok (protocol_told n)) (number-reads_back little_endian 4 protocol [] fit)
+    ap (λ (n : ℕ). ok (protocol_asked n)) (number-reads_back little_endian 4 protocol [] fit)
   where
-    ok : Told → Result Told DecodeError
+    ok : AskedAttribute → Result AskedAttribute DecodeError
     ok t = Ok t
 
 all_tell : (attributes : List RequestAttribute) → AllByRecursion Fits attributes
-    → AllZip (λ a told. told_by a ≡ Ok told) (map attribute_of attributes) (map told_of attributes)
+    → AllZip (λ a decoded. decodes_asked a
+    ≡ Ok decoded) (map attribute_of attributes) (map asked_of attributes)
 all_tell [] fit = tt
 all_tell (a ∷ more) fit = (tells a fit.0, all_tell more fit.1)
 
-same_value : (t u : Told) (r : Result Told DecodeError) → r ≡ Ok t → r ≡ Ok u → t ≡ u
+same_value : (t u : AskedAttribute) (r : Result AskedAttribute DecodeError) → r ≡ Ok t → r ≡ Ok u
+    → t ≡ u
 same_value t u r h k = cc
 
 -- what is told of each is one
-told_once : (all : List Attribute) (told others : List Told)
-    → AllZip (λ a t. told_by a ≡ Ok t) all told → AllZip (λ a t. told_by a ≡ Ok t) all others
-    → told ≡ others
-told_once [] [] [] h k = refl
-told_once [] [] (u ∷ others) h k = absurd k
-told_once [] (t ∷ told) others h k = absurd h
-told_once (a ∷ all) [] others h k = absurd h
-told_once (a ∷ all) (t ∷ told) [] h k = absurd k
-told_once (a ∷ all) (t ∷ told) (u ∷ others) h k =
-    let first = same_value t u (told_by a) h.0 k.0 in
-    let later = told_once all told others h.1 k.1 in
+asked_once : (all : List Attribute) (decoded others : List AskedAttribute)
+    → AllZip (λ a t. decodes_asked a ≡ Ok t) all decoded
+    → AllZip (λ a t. decodes_asked a ≡ Ok t) all others
+    → decoded ≡ others
+asked_once [] [] [] h k = refl
+asked_once [] [] (u ∷ others) h k = absurd k
+asked_once [] (t ∷ decoded) others h k = absurd h
+asked_once (a ∷ all) [] others h k = absurd h
+asked_once (a ∷ all) (t ∷ decoded) [] h k = absurd k
+asked_once (a ∷ all) (t ∷ decoded) (u ∷ others) h k =
+    let first = same_value t u (decodes_asked a) h.0 k.0 in
+    let later = asked_once all decoded others h.1 k.1 in
     cc
 
 -- ---- the message
@@ -141,20 +146,20 @@ module _ (h : NetlinkHeader) (request : InetRequest) (attributes : List RequestA
       asks.means.1 in
       let one = one_cut behind asks.means.0 all cut
       (full_is_cut behind all (written_is_cut all (fit_words attributes can.fit))) in
-      let told = told_once all asks.told (map told_of attributes)
-      (subst (λ (l : List Attribute). AllZip (λ a t. told_by a ≡ Ok t) l asks.told) one
+      let decoded = asked_once all asks.decoded (map asked_of attributes)
+      (subst (λ (l : List Attribute). AllZip (λ a t. decodes_asked a ≡ Ok t) l asks.decoded) one
       asks.means.2)
       (all_tell attributes can.fit) in
       record {
         header = same;
         same_request = asked;
         program = asks.program
-            ∙ ap (λ (l : List Told). last_or None (filter_map program_in l)) told;
+            ∙ ap (λ (l : List AskedAttribute). last_or None (filter_map program_in l)) decoded;
         protocol = asks.protocol
-            ∙ ap (λ (l : List Told).
-            unwrap_or (last_or None (filter_map protocol_in l)) view.request.protocol) told
+            ∙ ap (λ (l : List AskedAttribute).
+            unwrap_or (last_or None (filter_map protocol_in l)) view.request.protocol) decoded
             ∙ ap (λ (r : InetRequest). unwrap_or
-            (last_or None (filter_map protocol_in (map told_of attributes))) r.protocol) asked;
+            (last_or None (filter_map protocol_in (map asked_of attributes))) r.protocol) asked;
       }
     where
       read_as : InetRequest → Result InetRequest DecodeError
@@ -175,7 +180,8 @@ module _ (h : NetlinkHeader) (request : InetRequest) (attributes : List RequestA
   never_refused e kind (no_attributes k asked framed also reads fault) =
       let all : List Attribute = map attribute_of attributes in
       let same = one_header message k header framed stands.0 in
-      means_or_fault_apart told_by behind (map told_of attributes) e
-      (written_values_are_read told_by all (map told_of attributes) (fit_words attributes can.fit)
+      means_or_fault_apart decodes_asked behind (map asked_of attributes) e
+      (written_values_are_read decodes_asked all (map asked_of attributes)
+      (fit_words attributes can.fit)
       (all_tell attributes can.fit))
-      (subst (λ (b : List ℕ). AttributeFault told_by b e) (is_behind k same) fault)
+      (subst (λ (b : List ℕ). AttributeFault decodes_asked b e) (is_behind k same) fault)

@@ -43,8 +43,8 @@ pub data AskedFamily : Type 0 where
 
 -- What the first byte of a payload tells: 2 is AF_INET, 10 AF_INET6, 1 AF_UNIX, 16 AF_NETLINK, 17
 -- AF_PACKET, 40 AF_VSOCK and 44 AF_XDP.
-abbrev pub told_family : ℕ → Result AskedFamily DecodeError
-told_family first =
+abbrev pub family_by_byte : ℕ → Result AskedFamily DecodeError
+family_by_byte first =
     if (first == 2) || (first == 10) then Ok inet
     else if first == 1 then Ok (of_record unix)
     else if first == 16 then Ok (of_record netlink)
@@ -59,7 +59,7 @@ abbrev pub asked_family : List ℕ → ℕ → Result AskedFamily DecodeError
 asked_family payload t =
     if nat_lt (length payload) 2 then Err (MessageTooShort (length payload))
     else if not ((t == 20) || (t == 21)) then Err (UnknownMessageType t)
-    else told_family (slice_index payload 0)
+    else family_by_byte (slice_index payload 0)
 
 -- the same of a message that has the header
 abbrev pub family_in : List ℕ → NetlinkHeader → Result AskedFamily DecodeError

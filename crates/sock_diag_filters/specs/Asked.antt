@@ -18,39 +18,39 @@ use Rattle.sock_diag_filters.specs.declared.view.Found.{Found}
 use Rattle.sock_diag_filters.specs.declared.view.RequestView.{RequestView}
 
 -- what an attribute tells
-pub data Told : Type 0 where
-  program_told : List ℕ → Told
-  protocol_told : ℕ → Told
-  nothing_told : Told
+pub data AskedAttribute : Type 0 where
+  program_asked : List ℕ → AskedAttribute
+  protocol_asked : ℕ → AskedAttribute
+  nothing_asked : AskedAttribute
 
 -- INET_DIAG_REQ_BYTECODE, 1, carries a program, and INET_DIAG_REQ_PROTOCOL, 3, tells the protocol,
 -- in exactly four bytes
-abbrev pub told_by : Attribute → Result Told DecodeError
-told_by a =
-    if attribute_type a == 1 then Ok (program_told a.value)
-    else if attribute_type a == 3 then map_ok protocol_told (exact_number None 4 a.value)
-    else Ok nothing_told
+abbrev pub decodes_asked : Attribute → Result AskedAttribute DecodeError
+decodes_asked a =
+    if attribute_type a == 1 then Ok (program_asked a.value)
+    else if attribute_type a == 3 then map_ok protocol_asked (exact_number None 4 a.value)
+    else Ok nothing_asked
 
 -- what an attribute tells that is written
-abbrev pub told_of : RequestAttribute → Told
-told_of (Program program) = program_told program.now
-told_of (Protocol protocol) = protocol_told protocol
+abbrev pub asked_of : RequestAttribute → AskedAttribute
+asked_of (Program program) = program_asked program.now
+asked_of (Protocol protocol) = protocol_asked protocol
 
-abbrev pub program_in : Told → Option (List ℕ)
-program_in (program_told program) = Some program
-program_in (protocol_told protocol) = None
-program_in nothing_told = None
+abbrev pub program_in : AskedAttribute → Option (List ℕ)
+program_in (program_asked program) = Some program
+program_in (protocol_asked protocol) = None
+program_in nothing_asked = None
 
-abbrev pub protocol_in : Told → Option ℕ
-protocol_in (program_told program) = None
-protocol_in (protocol_told protocol) = Some protocol
-protocol_in nothing_told = None
+abbrev pub protocol_in : AskedAttribute → Option ℕ
+protocol_in (program_asked program) = None
+protocol_in (protocol_asked protocol) = Some protocol
+protocol_in nothing_asked = None
 
 -- of each the last that is told, where one is
-pub record Keeps (found : Found) (told : List Told) : Type 0 where
+pub record Keeps (found : Found) (decoded : List AskedAttribute) : Type 0 where
   pub program : option_map (λ program. program.now) found.program
-      ≡ last_or None (filter_map program_in told)
-  pub protocol : found.protocol ≡ last_or None (filter_map protocol_in told)
+      ≡ last_or None (filter_map program_in decoded)
+  pub protocol : found.protocol ≡ last_or None (filter_map protocol_in decoded)
 
 -- what stands behind the netlink header
 abbrev pub payload_of : List ℕ → NetlinkHeader → List ℕ
@@ -66,12 +66,12 @@ pub record Asks (message : List ℕ) (view : RequestView) : Type 0 where
   pub framed : HasHeader message view.header
   pub kind : IsRequestType view.header.message_type
   pub asked : read inet_request tt (payload_of message view.header) ≡ Ok view.request
-  pub told : List Told
-  pub means : AttributesMean told_by (drop 56 (payload_of message view.header)) told
+  pub decoded : List AskedAttribute
+  pub means : AttributesMean decodes_asked (drop 56 (payload_of message view.header)) decoded
   pub program : option_map (λ program. program.now) view.program
-      ≡ last_or None (filter_map program_in told)
+      ≡ last_or None (filter_map program_in decoded)
   pub protocol : view.protocol
-      ≡ unwrap_or (last_or None (filter_map protocol_in told)) view.request.protocol
+      ≡ unwrap_or (last_or None (filter_map protocol_in decoded)) view.request.protocol
 
 -- of several faults the first
 pub data RefusesRequest (message : List ℕ) (e : DecodeError) : Type 0 where
@@ -82,4 +82,4 @@ pub data RefusesRequest (message : List ℕ) (e : DecodeError) : Type 0 where
       → read inet_request tt (payload_of message h) ≡ Err e → RefusesRequest message e
   no_attributes : (h : NetlinkHeader) (asked : InetRequest) → HasHeader message h
       → IsRequestType h.message_type → read inet_request tt (payload_of message h) ≡ Ok asked
-      → AttributeFault told_by (drop 56 (payload_of message h)) e → RefusesRequest message e
+      → AttributeFault decodes_asked (drop 56 (payload_of message h)) e → RefusesRequest message e

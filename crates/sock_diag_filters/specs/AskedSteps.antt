@@ -3,12 +3,12 @@ use Rattle.std.specs.Prelude.{Option, Some, None}
 use Rattle.sock_diag_filters.specs.declared.request.RequestAttribute.{RequestAttribute}
 use Rattle.sock_diag_filters.specs.declared.request.RequestAttribute.TheVariants.{Program, Protocol}
 use Rattle.sock_diag_filters.specs.declared.view.Found.{Found}
-use Rattle.sock_diag_filters.specs.Asked.{Told, nothing_told, told_of}
+use Rattle.sock_diag_filters.specs.Asked.{AskedAttribute, nothing_asked, asked_of}
 
 -- what an attribute tells, or nothing
-abbrev pub told_or_nothing : Option RequestAttribute → Told
-told_or_nothing None = nothing_told
-told_or_nothing (Some a) = told_of a
+abbrev pub asked_or_nothing : Option RequestAttribute → AskedAttribute
+asked_or_nothing None = nothing_asked
+asked_or_nothing (Some a) = asked_of a
 
 -- what was found before, but for what one more attribute tells
 abbrev pub found_with : Found → Option RequestAttribute → Found

@@ -11,7 +11,7 @@ use Rattle.sock_diag_records.specs.declared.inet.request.InetRequest.{InetReques
 use Rattle.sock_diag_filters.specs.declared.request.RequestAttribute.{RequestAttribute}
 use Rattle.sock_diag_filters.specs.declared.request.RequestAttribute.TheVariants.{Program, Protocol}
 use Rattle.sock_diag_filters.specs.declared.view.RequestView.{RequestView}
-use Rattle.sock_diag_filters.specs.Asked.{told_of, program_in, protocol_in}
+use Rattle.sock_diag_filters.specs.Asked.{asked_of, program_in, protocol_in}
 use Rattle.sock_diag_filters.specs.Requests.{attribute_of, header_under}
 
 -- the header that is written, with the length of all
@@ -39,6 +39,6 @@ pub record IsReadBack (h : NetlinkHeader) (request : InetRequest)
   pub header : view.header ≡ written_header h attributes
   pub same_request : view.request ≡ request
   pub program : option_map (λ program. program.now) view.program
-      ≡ last_or None (filter_map program_in (map told_of attributes))
+      ≡ last_or None (filter_map program_in (map asked_of attributes))
   pub protocol : view.protocol
-      ≡ unwrap_or (last_or None (filter_map protocol_in (map told_of attributes))) request.protocol
+      ≡ unwrap_or (last_or None (filter_map protocol_in (map asked_of attributes))) request.protocol

@@ -4,9 +4,15 @@ ghost use Rattle.std.specs.Prelude.{◌≡◌, ◌↔◌, List, IsTrue, IfOk, If
 ghost use Rattle.netlink_core.specs.Attribute.{AttributeFault, AttributesMean};
 ghost use Rattle.netlink_core.specs.Walk.{attribute_of};
 ghost use Rattle.netlink_core.specs.Faults.{map_ok};
-ghost use Rattle.sock_diag_filters.specs.Asked.{Asks, IsRequestType, Keeps, Told, told_by};
+ghost use Rattle.sock_diag_filters.specs.Asked.{
+  Asks,
+  IsRequestType,
+  Keeps,
+  AskedAttribute,
+  decodes_asked,
+};
 ghost use Rattle.sock_diag_filters.specs.Asked.{RefusesRequest};
-ghost use Rattle.sock_diag_filters.specs.AskedSteps.{found_with, told_or_nothing};
+ghost use Rattle.sock_diag_filters.specs.AskedSteps.{found_with, asked_or_nothing};
 
 use crate::request::{
     INET_DIAG_REQ_BYTECODE, INET_DIAG_REQ_PROTOCOL, REQUEST_FRONT, RequestAttribute,
@@ -74,10 +80,10 @@ struct Found<'a> {
 
 impl<'a> Found<'a> {
     // The same, and what one more attribute tells.
-    fn with(self, told: Option<RequestAttribute<'a>>) -> Found<'a>
-        ensures { result ≡ found_with self.entry told.entry }
+    fn with(self, decoded: Option<RequestAttribute<'a>>) -> Found<'a>
+        ensures { result ≡ found_with self.entry decoded.entry }
     {
-        match told {
+        match decoded {
             None => self,
             Some(RequestAttribute::Program(program)) => Found {
                 program: Some(program),
@@ -93,9 +99,9 @@ impl<'a> Found<'a> {
 
 // What the attributes tell.
 fn find_attributes<'a>(bytes: &'a [u8]) -> Result<Found<'a>, DecodeError>
-    ensures value { IfOk result (λ found. (told : List Told)
-        × AttributesMean told_by bytes.entry.now told × Keeps found told) }
-    ensures fault { IfErr result (AttributeFault told_by bytes.entry.now) }
+    ensures value { IfOk result (λ found. (decoded : List AskedAttribute)
+        × AttributesMean decodes_asked bytes.entry.now decoded × Keeps found decoded) }
+    ensures fault { IfErr result (AttributeFault decodes_asked bytes.entry.now) }
 {
     let mut found = Found {
         program: None,
@@ -103,15 +109,15 @@ fn find_attributes<'a>(bytes: &'a [u8]) -> Result<Found<'a>, DecodeError>
     };
     for item in NlasIterator::new(bytes) {
         let attribute = item?;
-        let told = tell(&attribute)?;
-        found = found.with(told);
+        let decoded = decode(&attribute)?;
+        found = found.with(decoded);
     }
     Ok(found)
 }
 
 // What an attribute tells, or nothing.
-fn tell<'a>(attribute: &NlaBuffer<'a>) -> Result<Option<RequestAttribute<'a>>, DecodeError>
-    ensures { told_by (attribute_of attribute.entry.now) ≡ map_ok told_or_nothing result }
+fn decode<'a>(attribute: &NlaBuffer<'a>) -> Result<Option<RequestAttribute<'a>>, DecodeError>
+    ensures { decodes_asked (attribute_of attribute.entry.now) ≡ map_ok asked_or_nothing result }
 {
     match attribute.kind() {
         INET_DIAG_REQ_BYTECODE => Ok(Some(RequestAttribute::Program(attribute.value()))),

@@ -2,8 +2,8 @@ use Rattle.std.proofs.Common.{[], ◌∷◌, ◌++◌, refl}
 use Rattle.std.proofs.lemmas.Result.{err_from_is_err_and}
 use Rattle.netlink_core.proofs.Walking.{walk_begins, walk_ends, walk_goes_on, walk_is_cut_off}
 use Rattle.netlink_core.proofs.Walking.{walk_is_refused}
-use Rattle.sock_diag_filters.specs.Asked.{told_by}
-use Rattle.sock_diag_filters.specs.AskedSteps.{told_or_nothing}
+use Rattle.sock_diag_filters.specs.Asked.{decodes_asked}
+use Rattle.sock_diag_filters.specs.AskedSteps.{asked_or_nothing}
 use Rattle.sock_diag_filters.proofs.Asking.{keeps_more}
 use Rattle.sock_diag_filters.proofs.view.find_attributes.Goals as goal
 
@@ -11,7 +11,7 @@ pub loop-item-init : goal.loop-item-init
 loop-item-init c = record {
   so_far = [];
   walk = rw (c.into_iter-item-iterator.ensures.into_iter_gives, c.new-item-items.ensures)
-      (walk_begins told_by _);
+      (walk_begins decodes_asked _);
   keeps = record { program = refl; protocol = refl };
 }
 
@@ -20,24 +20,24 @@ returns-in_err-attribute-clause-fault c =
     let p = err_from_is_err_and c.from_residual.result c.from_residual.ensures.1 in
     let stop = rw c.in_err-attribute.was at c.in-Some.ensures.steps in
     let inv = c.loop-item.invariant in
-    rw (p.1, p.2) (walk_is_cut_off told_by _ _ inv.so_far _ inv.walk stop.0 stop.1)
+    rw (p.1, p.2) (walk_is_cut_off decodes_asked _ _ inv.so_far _ inv.walk stop.0 stop.1)
 
-pub returns-in_err-told-clause-fault : goal.returns-in_err-told-clause-fault
-returns-in_err-told-clause-fault c =
-    let p = err_from_is_err_and c.from_residual-in_err-told.result
-    c.from_residual-in_err-told.ensures.1 in
+pub returns-in_err-decoded-clause-fault : goal.returns-in_err-decoded-clause-fault
+returns-in_err-decoded-clause-fault c =
+    let p = err_from_is_err_and c.from_residual-in_err-decoded.result
+    c.from_residual-in_err-decoded.ensures.1 in
     let start = rw c.in_ok-attribute.was at c.in-Some.ensures.steps in
     let inv = c.loop-item.invariant in
-    rw (p.1, p.2) (walk_is_refused told_by _ _ _ inv.so_far _ _ inv.walk start
-    c.in_err-told.ensures)
+    rw (p.1, p.2) (walk_is_refused decodes_asked _ _ _ inv.so_far _ _ inv.walk start
+    c.in_err-decoded.ensures)
 
 pub loop-item-preserved : goal.loop-item-preserved
 loop-item-preserved c =
     let inv = c.loop-item.invariant in
     let start = rw c.in_ok-attribute.was at c.in-Some.ensures.steps in
     record {
-      so_far = inv.so_far ++ told_or_nothing c.in_ok-told.told ∷ [];
-      walk = walk_goes_on told_by _ _ _ inv.so_far _ _ inv.walk start c.in_ok-told.ensures;
+      so_far = inv.so_far ++ asked_or_nothing c.in_ok-decoded.decoded ∷ [];
+      walk = walk_goes_on decodes_asked _ _ _ inv.so_far _ _ inv.walk start c.in_ok-decoded.ensures;
       keeps = rw c.with-found.ensures (keeps_more _ _ _ inv.keeps);
     }
 
@@ -45,6 +45,6 @@ pub returns-clause-value : goal.returns-clause-value
 returns-clause-value c =
     let inv = c.loop-item.invariant in (
       inv.so_far,
-      walk_ends told_by _ _ inv.so_far inv.walk c.in-None.ensures.steps.0,
+      walk_ends decodes_asked _ _ inv.so_far inv.walk c.in-None.ensures.steps.0,
       inv.keeps,
     )
