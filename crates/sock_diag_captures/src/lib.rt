@@ -35,7 +35,7 @@ pub use stream::{RunError, run};
 pub use words::{Argument, HELP, choose};
 
 /// The version, that of the repository's file `VERSION`.
-pub const VERSION: &str = "0.9.0";
+pub const VERSION: &str = "0.10.0";
 
 /// `run`, which tells on `errors`, behind `front`, why it failed, but where nobody reads the output
 /// any more. The status is 0 where the whole capture was listed whole, and 1 where the run failed
