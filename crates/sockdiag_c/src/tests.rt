@@ -1,17 +1,15 @@
 //! Calls of the library by value. The bytes are worked out by hand from the layouts of sock_diag(7)
 //! and netlink(7).
-//! `tests/c_face.c` makes the same calls from C.
+//! `tests/c_face.c` makes the same calls and all others from C.
 
-use crate::check::{sockdiag_check_inet_reply, sockdiag_check_message, sockdiag_check_unix_reply};
+use crate::check::sockdiag_check_message;
 use crate::headers::{InetHeader, Reply, UnixHeader};
 use crate::requests::{
     InetRequest, RequestHeader, UnixRequest, sockdiag_write_inet_request,
     sockdiag_write_unix_request,
 };
 use crate::rewriting::{Outcome, sockdiag_rewrite_inet_reply, sockdiag_rewrite_unix_reply};
-use crate::walks::{
-    AttributePart, Cursor, MessagePart, sockdiag_next_attribute, sockdiag_next_message,
-};
+use crate::walks::{Cursor, MessagePart, sockdiag_next_message};
 use std::process::Abort;
 
 // A stream that listens, inode 0x11223344, with the name "/a" and its peer. The bytes at 3 and 23
@@ -35,149 +33,74 @@ const DATAGRAM: [u8; 42] = [
     0, 0, 0, 0, 0, 0, 17, 0, 0, 0, 5, 5,
 ];
 
-// A header of nothing but zeros.
-const NO_UNIX_HEADER: UnixHeader = UnixHeader {
-    kind: 0,
-    state: 0,
-    inode: 0,
-    cookie: [0; 8],
-};
-
-// A header of nothing but zeros.
-const NO_INET_HEADER: InetHeader = InetHeader {
-    family: 0,
-    state: 0,
-    timer: 0,
-    retransmits: 0,
-    expires: 0,
-    source_port: 0,
-    destination_port: 0,
-    source_address: [0; 16],
-    destination_address: [0; 16],
-    interface_id: 0,
-    cookie: [0; 8],
-    recv_queue: 0,
-    send_queue: 0,
-    uid: 0,
-    inode: 0,
-};
-
-#[test]
-fn headers_of_unix_replies(rt: HostRuntime) {
-    for (payload, answer, kind, inode, cookie) in [
-        (&UNIX_REPLY[..22], 9, 0, 0, [0; 8]),
-        (&UNIX_REPLY[..], 0, 1, 0x11223344, [1, 2, 3, 4, 5, 6, 7, 8]),
-    ] {
-        let mut header = NO_UNIX_HEADER;
-        assert!(rt; sockdiag_check_unix_reply(payload, &mut header) == answer);
-        assert!(rt; (header.kind, header.inode, header.cookie) == (kind, inode, cookie));
-    }
-}
-
-// The numbers of a header that stand in words, and those of its timer.
-fn words(header: &InetHeader) -> [u32; 8] {
-    let timer = u32::from(header.timer);
-    let retransmits = u32::from(header.retransmits);
-    [
-        timer,
-        retransmits,
-        header.expires,
-        header.interface_id,
-        header.recv_queue,
-        header.send_queue,
-        header.uid,
-        header.inode,
-    ]
-}
-
-#[test]
-fn headers_of_internet_replies(rt: HostRuntime) {
-    for (payload, answer, numbers, ports, octets) in [
-        (&UNIX_REPLY[..], 2, [0; 8], (0, 0), (0, 0)),
-        (
-            &INET_REPLY[..],
-            0,
-            [1, 3, 200, 4, 1, 2, 1000, 12345],
-            (80, 49152),
-            (127, 2),
-        ),
-    ] {
-        let mut header = NO_INET_HEADER;
-        assert!(rt; sockdiag_check_inet_reply(payload, &mut header) == answer);
-        assert!(rt; words(&header) == numbers);
-        assert!(rt; (header.source_port, header.destination_port) == ports);
-        assert!(rt; (header.source_address[0], header.destination_address[3]) == octets);
-        assert!(rt; &header.destination_address[4..] == [0; 12].as_slice());
-    }
-}
-
+// The values are those that stand in the bytes.
 #[test]
 fn replies_in_messages(rt: HostRuntime) {
     let mut reply = Reply {
         kind: 0,
-        unix_header: NO_UNIX_HEADER,
-        inet_header: NO_INET_HEADER,
+        unix_header: UnixHeader {
+            kind: 0,
+            state: 0,
+            inode: 0,
+            cookie: [0; 8],
+        },
+        inet_header: InetHeader {
+            family: 0,
+            state: 0,
+            timer: 0,
+            retransmits: 0,
+            expires: 0,
+            source_port: 0,
+            destination_port: 0,
+            source_address: [0; 16],
+            destination_address: [9; 16],
+            interface_id: 0,
+            cookie: [0; 8],
+            recv_queue: 0,
+            send_queue: 0,
+            uid: 0,
+            inode: 0,
+        },
     };
     for (payload, message_type, answer, kind) in [
         (&UNIX_REPLY[..], 21, 6, 0),
+        (&UNIX_REPLY[..22], 20, 9, 0),
         (&UNIX_REPLY[..], 20, 0, 1),
         (&INET_REPLY[..], 20, 0, 2),
     ] {
         assert!(rt; sockdiag_check_message(payload, message_type, &mut reply) == answer);
         assert!(rt; reply.kind == kind);
     }
-    assert!(rt; (reply.unix_header.inode, reply.inet_header.inode) == (0x11223344, 12345));
+    let (unix, inet) = (&reply.unix_header, &reply.inet_header);
+    assert!(rt; (unix.kind, unix.inode) == (1, 0x11223344));
+    assert!(rt; unix.cookie == [1, 2, 3, 4, 5, 6, 7, 8]);
+    assert!(rt; (inet.timer, inet.retransmits, inet.expires) == (1, 3, 200));
+    assert!(rt; (inet.source_port, inet.destination_port) == (80, 49152));
+    assert!(rt; (inet.source_address[0], inet.destination_address[3]) == (127, 2));
+    assert!(rt; &inet.destination_address[4..] == [0; 12].as_slice());
+    assert!(rt; (inet.interface_id, inet.recv_queue, inet.send_queue) == (4, 1, 2));
+    assert!(rt; (inet.uid, inet.inode) == (1000, 12345));
 }
 
-// Where a walk is, what it answers there, where it is then, and the attribute.
-#[test]
-fn walks_over_attributes(rt: HostRuntime) {
-    let last = usize::MAX;
-    for (place, answer, next, type_word, offset, length) in [
-        (16, 1, 24, 0, 20, 3),
-        (24, 1, 32, 2, 28, 4),
-        (32, 0, 32, 9, 0, 0),
-        (last, 0, last, 9, 0, 0),
-    ] {
-        let mut cursor = Cursor { place };
-        let mut part = AttributePart {
-            offset: 0,
-            length: 0,
-            type_word: 9,
-        };
-        assert!(rt; sockdiag_next_attribute(&UNIX_REPLY, &mut cursor, &mut part) == answer);
-        assert!(rt; (cursor.place, part.type_word) == (next, type_word));
-        assert!(rt; (part.offset, part.length) == (offset, length));
-    }
-}
-
-// The same of messages.
+// Where a walk is, what it answers there, where it is then, and where a payload stands.
 #[test]
 fn walks_over_messages(rt: HostRuntime) {
-    for (place, answer, next, header, offset, length) in [
-        (0, 1, 20, (1, 2, 7, 9), 16, 1),
-        (20, 5, 40, (20, 0, 8, 0), 36, 2),
-        (40, 16, 42, (0, 0, 0, 0), 0, 0),
-        (42, 0, 42, (0, 0, 0, 0), 0, 0),
+    let mut part = MessagePart {
+        offset: 0,
+        length: 0,
+        message_type: 0,
+        flags: 0,
+        sequence_number: 0,
+        port_number: 0,
+    };
+    for (place, answer, next, offset, length) in [
+        (0, 1, 20, 16, 1),
+        (20, 5, 40, 36, 2),
+        (40, 16, 42, 36, 2),
+        (42, 0, 42, 36, 2),
     ] {
         let mut cursor = Cursor { place };
-        let mut part = MessagePart {
-            offset: 0,
-            length: 0,
-            message_type: 0,
-            flags: 0,
-            sequence_number: 0,
-            port_number: 0,
-        };
         assert!(rt; sockdiag_next_message(&DATAGRAM, &mut cursor, &mut part) == answer);
-        assert!(rt;
-            (
-                part.message_type,
-                part.flags,
-                part.sequence_number,
-                part.port_number
-            ) == header
-        );
         assert!(rt; (cursor.place, part.offset, part.length) == (next, offset, length));
     }
 }
