@@ -223,7 +223,7 @@ class Source:
     """A file of src/, with its comments, strings and characters blanked out, and its roots."""
     UNREAD = re.compile(r"//[^\n]*|\"(?:\\.|[^\"\\])*\"|(?<![\w'])b?'(?:\\[^']*|[^'\\\n])'", re.S)
     BLOCK = re.compile(r"^[ ]*(pub |pub\(\w+\) )?(trait|impl|struct)\b([^{;]*)\{", re.M)
-    FN = re.compile(r"(pub |pub\(\w+\) )?(?:const )?\bfn (\w+)((?:\[[^]]*\]|[^;{\[])*)")
+    FN = re.compile(r"(pub |pub\(\w+\) )?(?:const )?(?:extern\s+)?\bfn (\w+)((?:\[[^]]*\]|[^;{\[])*)")
     CLAUSE = re.compile(r"\b(?:requires|ensures)\s*\w*\s*(\{)")
     GHOST = re.compile(r"(?:\bghost (?!use\b)(\w+)|\})\s*([:=])\s*(\{)")
 
@@ -317,7 +317,7 @@ def print_all(specs, counted, sizes):
 def reached_specs():
     """The specs of all crates of the list, with what the roots in their sources reach."""
     specs = Specs()
-    paths = [path for crate in CRATES for path in sorted((ROOT / crate / "src").rglob("*.rt")) if "/tests" not in path.as_posix()]
+    paths = [path for crate in CRATES for path in sorted((ROOT / crate / "src").rglob("*.rt")) if "/tests" not in path.relative_to(ROOT).as_posix()]
     private = {name for path in paths for name in re.findall(r"^\s*(?:pub\(\w+\) )?trait (\w+)", path.read_text(), re.M)}
     roots = [root for path in paths for root in Source(path, private).roots(specs.faults)]
     for path, names, where, promised in sorted(roots, key=lambda root: not root[3]):
