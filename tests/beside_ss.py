@@ -239,6 +239,8 @@ def values(words):
             yield name, int(value.split("ms")[0])
         elif name == "timer":
             yield name, value
+        elif word.startswith("groups="):
+            yield "groups", hex(int(word.removeprefix("groups="), 16))
         elif colon and re.fullmatch(r"0x[0-9a-f]+|\d+|[0-9a-f]+|\(\w+(,\w+)*\)", value):
             yield OTHERWISE.get(name, name), int(value) if value.isdigit() and name != "sk" else value
 

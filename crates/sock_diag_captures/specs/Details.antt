@@ -1,6 +1,7 @@
 -- What stands below the line of a socket: a tab, and a word for each thing that is told.
 use Rattle.std.specs.Prelude.{ℕ, ◌==◌, ◌||◌, ◌/◌, ◌%◌, if◌then◌else◌, List, [], ◌∷◌, ◌++◌, length}
-use Rattle.std.specs.Prelude.{Bool, drop, false, flat_map, codes, decimal, bit_and, slice_index}
+use Rattle.std.specs.Prelude.{Bool, drop, false, flat_map, codes, decimal, bit_and, nat_lt}
+use Rattle.std.specs.Prelude.{slice_index}
 use Rattle.std.specs.Prelude.{Option, None, Some, option_map, unwrap_or, Result, Ok, Err}
 use Rattle.std.specs.Fmt.{digits}
 use Rattle.std.proofs.Common.{inl, inr}
@@ -262,12 +263,24 @@ memory_kind Xdp = Some 8
 abbrev pub tells_memory : Family → ℕ → Bool
 tells_memory family kind = unwrap_or (option_map (λ k. k == kind) (memory_kind family)) false
 
--- what an attribute of a reply about a socket of another family tells: the memory, or nothing that
--- is read
+-- the first 32 groups that a netlink socket is a member of, a bit for each, where the value has so
+-- many
+abbrev pub groups : Attribute → List ℕ
+groups a =
+    if nat_lt (length a.value) 4 then unknown a
+    else hex_detail (codes "groups") (little_number 4 a.value)
+
+-- what an attribute tells that other families don't have: NETLINK_DIAG_GROUPS, 1
+abbrev pub own_text : Family → Attribute → List ℕ
+own_text Netlink a = if attribute_type a == 1 then groups a else unknown a
+own_text _ a = unknown a
+
+-- what an attribute of a reply about a socket of another family tells: the memory, or what it alone
+-- has
 abbrev pub other_text : Family → Attribute → List ℕ
 other_text family a =
     if tells_memory family (attribute_type a)
-    then words_of (λ _ m. memory m) a (read mem_info tt a.value) else unknown a
+    then words_of (λ _ m. memory m) a (read mem_info tt a.value) else own_text family a
 
 -- what is told of an attribute
 abbrev pub detail_of : Options → Sockets → Attribute → List ℕ

@@ -14,11 +14,11 @@ ghost use Rattle.sock_diag_attributes.specs.UnixAttributes.{unix};
 ghost use Rattle.sock_diag_captures.specs.Details.{ages, connection, counts, detail};
 ghost use Rattle.sock_diag_captures.specs.Details.{detail_of, detail_of_inet, detail_of_other};
 ghost use Rattle.sock_diag_captures.specs.Details.{detail_under, details, directions, fault_word};
-ghost use Rattle.sock_diag_captures.specs.Details.{flag_detail, hex_detail, inet_text};
+ghost use Rattle.sock_diag_captures.specs.Details.{flag_detail, groups, hex_detail, inet_text};
 ghost use Rattle.sock_diag_captures.specs.Details.{legacy_memory, limits, losses, memory};
 ghost use Rattle.sock_diag_captures.specs.Details.{memory_in, memory_limits, memory_part};
 ghost use Rattle.sock_diag_captures.specs.Details.{memory_used};
-ghost use Rattle.sock_diag_captures.specs.Details.{memory_received, options, pair_detail};
+ghost use Rattle.sock_diag_captures.specs.Details.{memory_received, options, own_text, pair_detail};
 ghost use Rattle.sock_diag_captures.specs.Details.{piece_detail, rates, receiver, separator};
 ghost use Rattle.sock_diag_captures.specs.Details.{set_apart, cookie_if_asked, detail_if_asked};
 ghost use Rattle.sock_diag_captures.specs.Details.{timer_if_asked, sizes};
@@ -42,7 +42,7 @@ use netlink_packet_sock_diag::constants::{
 };
 use netlink_packet_sock_diag::inet::nlas::{LegacyMemInfo, MemInfo, NlaView as InetView, TcpInfo};
 use netlink_packet_sock_diag::unix::nlas::{NlaView as UnixView, NumbersView};
-use sock_diag_families::netlink::NETLINK_DIAG_MEMINFO;
+use sock_diag_families::netlink::{NETLINK_DIAG_GROUPS, NETLINK_DIAG_MEMINFO};
 use sock_diag_families::packet::PACKET_DIAG_MEMINFO;
 use sock_diag_families::xdp::XDP_DIAG_MEMINFO;
 use std::alloc::AllocError;
@@ -348,7 +348,7 @@ fn push_inet_attribute(
     }
 }
 
-/// Adds what an attribute of a socket of another family tells, its memory, or that it is refused.
+/// Adds what an attribute of a socket of another family tells, or that its memory is refused.
 fn push_other_attribute(
     text: &mut Vec<u8>,
     family: Family,
@@ -358,12 +358,38 @@ fn push_other_attribute(
         ++ other_text family (attribute_of nla.now)) }
 {
     if !tells_memory(family, nla.kind()) {
-        return push_unknown(text, nla);
+        return push_own_attribute(text, family, nla);
     }
     match MemInfo::parse(nla.value()) {
         Ok(memory) => push_memory(text, &memory),
         Err(fault) => push_unread(text, nla, &fault),
     }
+}
+
+/// Adds what an attribute tells that other families don't have.
+fn push_own_attribute(
+    text: &mut Vec<u8>,
+    family: Family,
+    nla: &NlaBuffer<'_>,
+) -> Result<(), AllocError>
+    ensures { OnOk result (text.new.items ≡ text.old.items
+        ++ own_text family (attribute_of nla.now)) }
+{
+    match family {
+        Family::Netlink if nla.kind() == NETLINK_DIAG_GROUPS => push_groups(text, nla),
+        _ => push_unknown(text, nla),
+    }
+}
+
+/// Adds the first 32 groups of a netlink socket, where the value has so many.
+fn push_groups(text: &mut Vec<u8>, nla: &NlaBuffer<'_>) -> Result<(), AllocError>
+    ensures { OnOk result (text.new.items ≡ text.old.items ++ groups (attribute_of nla.now)) }
+{
+    let value = nla.value();
+    if value.len() < 4 {
+        return push_unknown(text, nla);
+    }
+    push_hex_detail(text, b"groups", LittleEndian::read_u32(value).into())
 }
 
 /// Adds the number of an attribute that is refused, the length of its value in bytes, and why.
