@@ -95,6 +95,7 @@ OTHERWISE = {"bytes_sent": "sent", "bytes_received": "received"}
 MILLISECONDS = {"rto", "minrtt", "rcv_rtt", "ato"}
 RATES = {"pacing_rate", "delivery_rate"}
 FLAGS = {"ts", "sack", "ecn", "ecnseen", "fastopen", "app_limited", "<->", "-->", "<--", "---"}
+FLAGS |= {"running", "auxdata", "origdev", "vnethdr", "loss"}
 
 
 def bound(family, kind, address, backlog=None, protocol=0, options=()):

@@ -20,6 +20,8 @@ use Rattle.sock_diag_values.specs.declared.inet.mem_info.MemInfo.{MemInfo}
 use Rattle.sock_diag_values.specs.declared.inet.tcp_info.TcpInfo.{TcpInfo}
 use Rattle.sock_diag_attributes.specs.InetAttributes.{inet}
 use Rattle.sock_diag_attributes.specs.UnixAttributes.{unix}
+use Rattle.sock_diag_families.specs.PacketAttributes.{packet_info}
+use Rattle.sock_diag_families.specs.declared.packet.attributes.PacketInfo.{PacketInfo}
 use Rattle.sock_diag_captures.specs.Escapes.{shown}
 use Rattle.sock_diag_captures.specs.Options.{shows}
 use Rattle.sock_diag_captures.specs.Pieces.{Piece}
@@ -270,9 +272,26 @@ groups a =
     if nat_lt (length a.value) 4 then unknown a
     else hex_detail (codes "groups") (little_number 4 a.value)
 
--- what an attribute tells that other families don't have: NETLINK_DIAG_GROUPS, 1
+-- the bits PDI_.. of linux/packet_diag.h
+abbrev pub packet_flags : ℕ → List ℕ
+packet_flags n =
+    flag_detail (codes "running") 1 n ++ flag_detail (codes "auxdata") 2 n
+    ++ flag_detail (codes "origdev") 4 n ++ flag_detail (codes "vnethdr") 8 n
+    ++ flag_detail (codes "loss") 16 n
+
+-- what a packet socket is set to, where the value has so many bytes
+abbrev pub packet_text : Attribute → Result PacketInfo DecodeError → List ℕ
+packet_text a (Ok p) =
+    detail (codes "ver") p.version ++ detail (codes "cpy_thresh") p.copy_threshold
+    ++ packet_flags (p.flags % 256)
+packet_text a (Err e) = unknown a
+
+-- what an attribute tells that other families don't have: NETLINK_DIAG_GROUPS, 1, and
+-- PACKET_DIAG_INFO, 0
 abbrev pub own_text : Family → Attribute → List ℕ
 own_text Netlink a = if attribute_type a == 1 then groups a else unknown a
+own_text Packet a =
+    if attribute_type a == 0 then packet_text a (packet_info a.value) else unknown a
 own_text _ a = unknown a
 
 -- what an attribute of a reply about a socket of another family tells: the memory, or what it alone

@@ -11,6 +11,7 @@ ghost use Rattle.sock_diag_attributes.specs.InetModel.{nla_view_model as inet_vi
 ghost use Rattle.sock_diag_attributes.specs.NumbersModel.{numbers_view_model};
 ghost use Rattle.sock_diag_attributes.specs.UnixModel.{nla_view_model as unix_view_model};
 ghost use Rattle.sock_diag_attributes.specs.UnixAttributes.{unix};
+ghost use Rattle.sock_diag_families.specs.PacketAttributes.{packet_info};
 ghost use Rattle.sock_diag_captures.specs.Details.{ages, connection, counts, detail};
 ghost use Rattle.sock_diag_captures.specs.Details.{detail_of, detail_of_inet, detail_of_other};
 ghost use Rattle.sock_diag_captures.specs.Details.{detail_under, details, directions, fault_word};
@@ -18,7 +19,8 @@ ghost use Rattle.sock_diag_captures.specs.Details.{flag_detail, groups, hex_deta
 ghost use Rattle.sock_diag_captures.specs.Details.{legacy_memory, limits, losses, memory};
 ghost use Rattle.sock_diag_captures.specs.Details.{memory_in, memory_limits, memory_part};
 ghost use Rattle.sock_diag_captures.specs.Details.{memory_used};
-ghost use Rattle.sock_diag_captures.specs.Details.{memory_received, options, own_text, pair_detail};
+ghost use Rattle.sock_diag_captures.specs.Details.{memory_received, options, own_text, packet_flags};
+ghost use Rattle.sock_diag_captures.specs.Details.{packet_text, pair_detail};
 ghost use Rattle.sock_diag_captures.specs.Details.{piece_detail, rates, receiver, separator};
 ghost use Rattle.sock_diag_captures.specs.Details.{set_apart, cookie_if_asked, detail_if_asked};
 ghost use Rattle.sock_diag_captures.specs.Details.{timer_if_asked, sizes};
@@ -34,6 +36,7 @@ use crate::names::push_shown;
 use crate::options::{Detail, Family, Options};
 use crate::pieces::next_piece;
 use byteorder::{ByteOrder, LittleEndian};
+use netlink_core::fields::words_at;
 use netlink_core::{DecodeError, NlaBuffer, NlasIterator};
 use netlink_packet_sock_diag::constants::{
     INET_DIAG_BBRINFO, INET_DIAG_CONG, INET_DIAG_DCTCPINFO, INET_DIAG_INFO, INET_DIAG_MEMINFO,
@@ -43,7 +46,7 @@ use netlink_packet_sock_diag::constants::{
 use netlink_packet_sock_diag::inet::nlas::{LegacyMemInfo, MemInfo, NlaView as InetView, TcpInfo};
 use netlink_packet_sock_diag::unix::nlas::{NlaView as UnixView, NumbersView};
 use sock_diag_families::netlink::{NETLINK_DIAG_GROUPS, NETLINK_DIAG_MEMINFO};
-use sock_diag_families::packet::PACKET_DIAG_MEMINFO;
+use sock_diag_families::packet::{PACKET_DIAG_INFO, PACKET_DIAG_MEMINFO};
 use sock_diag_families::xdp::XDP_DIAG_MEMINFO;
 use std::alloc::AllocError;
 
@@ -377,6 +380,7 @@ fn push_own_attribute(
 {
     match family {
         Family::Netlink if nla.kind() == NETLINK_DIAG_GROUPS => push_groups(text, nla),
+        Family::Packet if nla.kind() == PACKET_DIAG_INFO => push_packet_info(text, nla),
         _ => push_unknown(text, nla),
     }
 }
@@ -390,6 +394,32 @@ fn push_groups(text: &mut Vec<u8>, nla: &NlaBuffer<'_>) -> Result<(), AllocError
         return push_unknown(text, nla);
     }
     push_hex_detail(text, b"groups", LittleEndian::read_u32(value).into())
+}
+
+/// Adds what a packet socket is set to, where the value has all six words of it.
+fn push_packet_info(text: &mut Vec<u8>, nla: &NlaBuffer<'_>) -> Result<(), AllocError>
+    ensures { OnOk result (text.new.items ≡ text.old.items
+        ++ packet_text (attribute_of nla.now) (packet_info (attribute_of nla.now).value)) }
+{
+    let value = nla.value();
+    if value.len() < 24 {
+        return push_unknown(text, nla);
+    }
+    let [_, version, _, copy_threshold, _, flags] = words_at::<6>(value, 0);
+    push_detail(text, b"ver", version.into())?;
+    push_detail(text, b"cpy_thresh", copy_threshold.into())?;
+    push_packet_flags(text, (flags % 256) as u8)
+}
+
+/// Adds a word for each of the bits that a packet socket is set to.
+fn push_packet_flags(text: &mut Vec<u8>, flags: u8) -> Result<(), AllocError>
+    ensures { OnOk result (text.new.items ≡ text.old.items ++ packet_flags flags) }
+{
+    push_flag(text, b"running", 1, flags)?;
+    push_flag(text, b"auxdata", 2, flags)?;
+    push_flag(text, b"origdev", 4, flags)?;
+    push_flag(text, b"vnethdr", 8, flags)?;
+    push_flag(text, b"loss", 16, flags)
 }
 
 /// Adds the number of an attribute that is refused, the length of its value in bytes, and why.
