@@ -19,8 +19,8 @@ ghost use Rattle.sock_diag_captures.specs.Details.{flag_detail, groups, hex_deta
 ghost use Rattle.sock_diag_captures.specs.Details.{legacy_memory, limits, losses, memory};
 ghost use Rattle.sock_diag_captures.specs.Details.{memory_in, memory_limits, memory_part};
 ghost use Rattle.sock_diag_captures.specs.Details.{memory_used};
-ghost use Rattle.sock_diag_captures.specs.Details.{memory_received, options, own_text, packet_flags};
-ghost use Rattle.sock_diag_captures.specs.Details.{packet_text, pair_detail};
+ghost use Rattle.sock_diag_captures.specs.Details.{memory_received, options, own_text};
+ghost use Rattle.sock_diag_captures.specs.Details.{packet_flags, packet_text, pair_detail};
 ghost use Rattle.sock_diag_captures.specs.Details.{piece_detail, rates, receiver, separator};
 ghost use Rattle.sock_diag_captures.specs.Details.{set_apart, cookie_if_asked, detail_if_asked};
 ghost use Rattle.sock_diag_captures.specs.Details.{timer_if_asked, sizes};

@@ -1,5 +1,5 @@
-use Rattle.std.proofs.Common.{◌≡◌, ℕ, ◌≤◌, ◌%◌, List, ◌++◌, length, codes, slice_index, ap, refl, sym}
-use Rattle.std.proofs.Common.{◌∙◌}
+use Rattle.std.proofs.Common.{◌≡◌, ℕ, ◌≤◌, ◌%◌, List, ◌++◌, length, codes, slice_index}
+use Rattle.std.proofs.Common.{ap, refl, sym, ◌∙◌}
 use Rattle.std.specs.Prelude.{Ok}
 use Rattle.std.proofs.lemmas.Bool.{le-ltb}
 use Rattle.std.proofs.lemmas.Result.{on_ok_weaker}
@@ -24,7 +24,8 @@ long_fields family kind least table of value long =
 -- what its words tell
 told : (a : Attribute) (words : List ℕ) → 24 ≤ length a.value
     → words ≡ values_of (numbers 0 4 little_endian 6) a.value
-    → detail (codes "ver") (slice_index words 1) ++ detail (codes "cpy_thresh") (slice_index words 3)
+    → detail (codes "ver") (slice_index words 1)
+    ++ detail (codes "cpy_thresh") (slice_index words 3)
     ++ packet_flags (slice_index words 5 % 256) ≡ packet_text a (packet_info a.value)
 told a words long same = rw same (sym (ap (packet_text a)
     (long_fields 17 0 24 (numbers 0 4 little_endian 6) (λ found. record {
