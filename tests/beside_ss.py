@@ -95,6 +95,7 @@ OTHERWISE = {"bytes_sent": "sent", "bytes_received": "received"}
 MILLISECONDS = {"rto", "minrtt", "rcv_rtt", "ato"}
 RATES = {"pacing_rate", "delivery_rate"}
 FLAGS = {"ts", "sack", "ecn", "ecnseen", "fastopen", "app_limited", "<->", "-->", "<--", "---"}
+FLAGS |= {"running", "auxdata", "origdev", "vnethdr", "loss"}
 
 
 def bound(family, kind, address, backlog=None, protocol=0, options=()):
@@ -239,6 +240,8 @@ def values(words):
             yield name, int(value.split("ms")[0])
         elif name == "timer":
             yield name, value
+        elif word.startswith("groups="):
+            yield "groups", hex(int(word.removeprefix("groups="), 16))
         elif colon and re.fullmatch(r"0x[0-9a-f]+|\d+|[0-9a-f]+|\(\w+(,\w+)*\)", value):
             yield OTHERWISE.get(name, name), int(value) if value.isdigit() and name != "sk" else value
 

@@ -1,6 +1,7 @@
 -- What stands below the line of a socket: a tab, and a word for each thing that is told.
 use Rattle.std.specs.Prelude.{ℕ, ◌==◌, ◌||◌, ◌/◌, ◌%◌, if◌then◌else◌, List, [], ◌∷◌, ◌++◌, length}
-use Rattle.std.specs.Prelude.{Bool, drop, false, flat_map, codes, decimal, bit_and, slice_index}
+use Rattle.std.specs.Prelude.{Bool, drop, false, flat_map, codes, decimal, bit_and, nat_lt}
+use Rattle.std.specs.Prelude.{slice_index}
 use Rattle.std.specs.Prelude.{Option, None, Some, option_map, unwrap_or, Result, Ok, Err}
 use Rattle.std.specs.Fmt.{digits}
 use Rattle.std.proofs.Common.{inl, inr}
@@ -19,6 +20,8 @@ use Rattle.sock_diag_values.specs.declared.inet.mem_info.MemInfo.{MemInfo}
 use Rattle.sock_diag_values.specs.declared.inet.tcp_info.TcpInfo.{TcpInfo}
 use Rattle.sock_diag_attributes.specs.InetAttributes.{inet}
 use Rattle.sock_diag_attributes.specs.UnixAttributes.{unix}
+use Rattle.sock_diag_families.specs.PacketAttributes.{packet_info}
+use Rattle.sock_diag_families.specs.declared.packet.attributes.PacketInfo.{PacketInfo}
 use Rattle.sock_diag_captures.specs.Escapes.{shown}
 use Rattle.sock_diag_captures.specs.Options.{shows}
 use Rattle.sock_diag_captures.specs.Pieces.{Piece}
@@ -262,12 +265,41 @@ memory_kind Xdp = Some 8
 abbrev pub tells_memory : Family → ℕ → Bool
 tells_memory family kind = unwrap_or (option_map (λ k. k == kind) (memory_kind family)) false
 
--- what an attribute of a reply about a socket of another family tells: the memory, or nothing that
--- is read
+-- the first 32 groups that a netlink socket is a member of, a bit for each, where the value has so
+-- many
+abbrev pub groups : Attribute → List ℕ
+groups a =
+    if nat_lt (length a.value) 4 then unknown a
+    else hex_detail (codes "groups") (little_number 4 a.value)
+
+-- the bits PDI_.. of linux/packet_diag.h
+abbrev pub packet_flags : ℕ → List ℕ
+packet_flags n =
+    flag_detail (codes "running") 1 n ++ flag_detail (codes "auxdata") 2 n
+    ++ flag_detail (codes "origdev") 4 n ++ flag_detail (codes "vnethdr") 8 n
+    ++ flag_detail (codes "loss") 16 n
+
+-- what a packet socket is set to, where the value has so many bytes
+abbrev pub packet_text : Attribute → Result PacketInfo DecodeError → List ℕ
+packet_text a (Ok p) =
+    detail (codes "ver") p.version ++ detail (codes "cpy_thresh") p.copy_threshold
+    ++ packet_flags (p.flags % 256)
+packet_text a (Err e) = unknown a
+
+-- what an attribute tells that other families don't have: NETLINK_DIAG_GROUPS, 1, and
+-- PACKET_DIAG_INFO, 0
+abbrev pub own_text : Family → Attribute → List ℕ
+own_text Netlink a = if attribute_type a == 1 then groups a else unknown a
+own_text Packet a =
+    if attribute_type a == 0 then packet_text a (packet_info a.value) else unknown a
+own_text _ a = unknown a
+
+-- what an attribute of a reply about a socket of another family tells: the memory, or what it alone
+-- has
 abbrev pub other_text : Family → Attribute → List ℕ
 other_text family a =
     if tells_memory family (attribute_type a)
-    then words_of (λ _ m. memory m) a (read mem_info tt a.value) else unknown a
+    then words_of (λ _ m. memory m) a (read mem_info tt a.value) else own_text family a
 
 -- what is told of an attribute
 abbrev pub detail_of : Options → Sockets → Attribute → List ℕ

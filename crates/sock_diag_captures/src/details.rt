@@ -11,14 +11,16 @@ ghost use Rattle.sock_diag_attributes.specs.InetModel.{nla_view_model as inet_vi
 ghost use Rattle.sock_diag_attributes.specs.NumbersModel.{numbers_view_model};
 ghost use Rattle.sock_diag_attributes.specs.UnixModel.{nla_view_model as unix_view_model};
 ghost use Rattle.sock_diag_attributes.specs.UnixAttributes.{unix};
+ghost use Rattle.sock_diag_families.specs.PacketAttributes.{packet_info};
 ghost use Rattle.sock_diag_captures.specs.Details.{ages, connection, counts, detail};
 ghost use Rattle.sock_diag_captures.specs.Details.{detail_of, detail_of_inet, detail_of_other};
 ghost use Rattle.sock_diag_captures.specs.Details.{detail_under, details, directions, fault_word};
-ghost use Rattle.sock_diag_captures.specs.Details.{flag_detail, hex_detail, inet_text};
+ghost use Rattle.sock_diag_captures.specs.Details.{flag_detail, groups, hex_detail, inet_text};
 ghost use Rattle.sock_diag_captures.specs.Details.{legacy_memory, limits, losses, memory};
 ghost use Rattle.sock_diag_captures.specs.Details.{memory_in, memory_limits, memory_part};
 ghost use Rattle.sock_diag_captures.specs.Details.{memory_used};
-ghost use Rattle.sock_diag_captures.specs.Details.{memory_received, options, pair_detail};
+ghost use Rattle.sock_diag_captures.specs.Details.{memory_received, options, own_text};
+ghost use Rattle.sock_diag_captures.specs.Details.{packet_flags, packet_text, pair_detail};
 ghost use Rattle.sock_diag_captures.specs.Details.{piece_detail, rates, receiver, separator};
 ghost use Rattle.sock_diag_captures.specs.Details.{set_apart, cookie_if_asked, detail_if_asked};
 ghost use Rattle.sock_diag_captures.specs.Details.{timer_if_asked, sizes};
@@ -34,6 +36,7 @@ use crate::names::push_shown;
 use crate::options::{Detail, Family, Options};
 use crate::pieces::next_piece;
 use byteorder::{ByteOrder, LittleEndian};
+use netlink_core::fields::words_at;
 use netlink_core::{DecodeError, NlaBuffer, NlasIterator};
 use netlink_packet_sock_diag::constants::{
     INET_DIAG_BBRINFO, INET_DIAG_CONG, INET_DIAG_DCTCPINFO, INET_DIAG_INFO, INET_DIAG_MEMINFO,
@@ -42,8 +45,8 @@ use netlink_packet_sock_diag::constants::{
 };
 use netlink_packet_sock_diag::inet::nlas::{LegacyMemInfo, MemInfo, NlaView as InetView, TcpInfo};
 use netlink_packet_sock_diag::unix::nlas::{NlaView as UnixView, NumbersView};
-use sock_diag_families::netlink::NETLINK_DIAG_MEMINFO;
-use sock_diag_families::packet::PACKET_DIAG_MEMINFO;
+use sock_diag_families::netlink::{NETLINK_DIAG_GROUPS, NETLINK_DIAG_MEMINFO};
+use sock_diag_families::packet::{PACKET_DIAG_INFO, PACKET_DIAG_MEMINFO};
 use sock_diag_families::xdp::XDP_DIAG_MEMINFO;
 use std::alloc::AllocError;
 
@@ -348,7 +351,7 @@ fn push_inet_attribute(
     }
 }
 
-/// Adds what an attribute of a socket of another family tells, its memory, or that it is refused.
+/// Adds what an attribute of a socket of another family tells, or that its memory is refused.
 fn push_other_attribute(
     text: &mut Vec<u8>,
     family: Family,
@@ -358,12 +361,65 @@ fn push_other_attribute(
         ++ other_text family (attribute_of nla.now)) }
 {
     if !tells_memory(family, nla.kind()) {
-        return push_unknown(text, nla);
+        return push_own_attribute(text, family, nla);
     }
     match MemInfo::parse(nla.value()) {
         Ok(memory) => push_memory(text, &memory),
         Err(fault) => push_unread(text, nla, &fault),
     }
+}
+
+/// Adds what an attribute tells that other families don't have.
+fn push_own_attribute(
+    text: &mut Vec<u8>,
+    family: Family,
+    nla: &NlaBuffer<'_>,
+) -> Result<(), AllocError>
+    ensures { OnOk result (text.new.items ≡ text.old.items
+        ++ own_text family (attribute_of nla.now)) }
+{
+    match family {
+        Family::Netlink if nla.kind() == NETLINK_DIAG_GROUPS => push_groups(text, nla),
+        Family::Packet if nla.kind() == PACKET_DIAG_INFO => push_packet_info(text, nla),
+        _ => push_unknown(text, nla),
+    }
+}
+
+/// Adds the first 32 groups of a netlink socket, where the value has so many.
+fn push_groups(text: &mut Vec<u8>, nla: &NlaBuffer<'_>) -> Result<(), AllocError>
+    ensures { OnOk result (text.new.items ≡ text.old.items ++ groups (attribute_of nla.now)) }
+{
+    let value = nla.value();
+    if value.len() < 4 {
+        return push_unknown(text, nla);
+    }
+    push_hex_detail(text, b"groups", LittleEndian::read_u32(value).into())
+}
+
+/// Adds what a packet socket is set to, where the value has all six words of it.
+fn push_packet_info(text: &mut Vec<u8>, nla: &NlaBuffer<'_>) -> Result<(), AllocError>
+    ensures { OnOk result (text.new.items ≡ text.old.items
+        ++ packet_text (attribute_of nla.now) (packet_info (attribute_of nla.now).value)) }
+{
+    let value = nla.value();
+    if value.len() < 24 {
+        return push_unknown(text, nla);
+    }
+    let [_, version, _, copy_threshold, _, flags] = words_at::<6>(value, 0);
+    push_detail(text, b"ver", version.into())?;
+    push_detail(text, b"cpy_thresh", copy_threshold.into())?;
+    push_packet_flags(text, (flags % 256) as u8)
+}
+
+/// Adds a word for each of the bits that a packet socket is set to.
+fn push_packet_flags(text: &mut Vec<u8>, flags: u8) -> Result<(), AllocError>
+    ensures { OnOk result (text.new.items ≡ text.old.items ++ packet_flags flags) }
+{
+    push_flag(text, b"running", 1, flags)?;
+    push_flag(text, b"auxdata", 2, flags)?;
+    push_flag(text, b"origdev", 4, flags)?;
+    push_flag(text, b"vnethdr", 8, flags)?;
+    push_flag(text, b"loss", 16, flags)
 }
 
 /// Adds the number of an attribute that is refused, the length of its value in bytes, and why.

@@ -171,15 +171,16 @@ fn lists_captures_of_both_orders(rt: HostRuntime) -> Result<(), Fail> {
 }
 
 /// What a kernel answered about a netlink and a packet socket, and replies about a listening vsock
-/// socket and one of XDP, worked by hand from the kernel's headers, with the lines of each.
-const FAMILIES: [[&str; 2]; 4] = [
+/// socket, one of XDP and a netlink socket in groups, worked by hand from the kernel's headers,
+/// with the lines of each.
+const FAMILIES: [[&str; 2]; 5] = [
     [
         "5c00000014000200070000009340000010020007000000000000000000000000040000000300000000000000280000000000000000400300000000000040030000000000000000000000000000000000000000000800040000000000",
         "nl    UNCONN     0      0      4          -     0:0                            *\n\t sk:3 skmem:(r0,rb212992,t0,tb212992,f0,w0,o0,bl0,d0) unknown:(4,4)\n",
     ],
     [
         "70000000140002000700000093400000110303001bb0030002300000000000001c00000001000000000000000000000000000000000000000100000008000500000000000400010028000600000000000040030000000000004003000000000000000000000000000000000000000000",
-        "p_raw UNCONN     0      0      241691     0     3:1                            *\n\t sk:3002 unknown:(0,24) unknown:(5,4) unknown:(1,0) skmem:(r0,rb212992,t0,tb212992,f0,w0,o0,bl0,d0)\n",
+        "p_raw UNCONN     0      0      241691     0     3:1                            *\n\t sk:3002 ver:0 cpy_thresh:0 running unknown:(5,4) unknown:(1,0) skmem:(r0,rb212992,t0,tb212992,f0,w0,o0,bl0,d0)\n",
     ],
     [
         "3000000014000200070000000000000028010a00ffffffffd2040000ffffffffffffffff050000000900000000000000",
@@ -188,6 +189,10 @@ const FAMILIES: [[&str; 2]; 4] = [
     [
         "2c0000001400020007000000000000002c0300000700000008000000000000000c0001000200000001000000",
         "xdp   UNCONN     -      -      7          -     2:1                            *\n\t sk:8 unknown:(1,8)\n",
+    ],
+    [
+        "38000000140002000700000000000000100200009210000000000000000000000900000001000000000000000c0001001100000002000000",
+        "nl    UNCONN     -      -      9          -     0:4242                         *\n\t sk:1 groups:0x11\n",
     ],
 ];
 
