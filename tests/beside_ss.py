@@ -118,8 +118,11 @@ def pair(family, listener, protocol=0):
 
 
 def make_others():
-    """Packet and netlink sockets, which root may make: one with an interface, one that is connected, one in a group."""
-    packets = [socket.socket(PACKET, socket.SOCK_RAW, socket.htons(3)), bound(PACKET, DATAGRAM, ("lo", 0x806))]
+    """Packet and netlink sockets, which root may make: one with an interface and PACKET_AUXDATA of packet(7), one that is
+    connected, one in a group."""
+    auxdata = [(263, 8, 1)]
+    packets = [socket.socket(PACKET, socket.SOCK_RAW, socket.htons(3))]
+    packets += [bound(PACKET, DATAGRAM, ("lo", 0x806), options=auxdata)]
     one, other = (bound(NETLINK, socket.SOCK_RAW, (port, 0), protocol=2) for port in (4242, 4343))
     other.connect((4242, 4))
     return [*packets, one, other, bound(NETLINK, DATAGRAM, (0, 1), protocol=16)]
@@ -250,6 +253,8 @@ def differs(socket_, name, value):
     """Whether sslist shows another value of this name, or None where it shows none."""
     if value is None:
         return name not in socket_["words"] if socket_["words"] else None
+    if name == "groups":
+        return socket_.get(name, "0x0") != value
     if name not in socket_ or name == "ino" and socket_["netid"].startswith("u_"):
         return None
     ours = socket_[name]
