@@ -31,6 +31,7 @@ rattle_crate(
         "//crates/netlink_core",
         "//crates/netlink_packet_sock_diag",
         "//crates/sock_diag_attributes",
+        "//crates/sock_diag_replies",
     ],
 )
 BUILD

@@ -20,8 +20,8 @@ import re
 import sys
 from pathlib import Path
 
-CRATES = ["netlink_core", "attribute_lists", "sock_diag_values", "sock_diag_records", "sock_diag_attributes", "netlink_packet_sock_diag", "line_server",
-    "sock_diag_lines"]
+CRATES = ["netlink_core", "attribute_lists", "sock_diag_values", "sock_diag_records", "sock_diag_attributes",
+    "sock_diag_replies", "netlink_packet_sock_diag", "line_server", "sock_diag_lines"]
 ROOT = Path(__file__).resolve().parent.parent / "crates"
 # The libraries beside the port, by figures of their own.
 BESIDE = ["sock_diag_extras", "sock_diag_families", "sock_diag_filters", "sock_diag_uses", "sock_diag_captures",

@@ -6,7 +6,7 @@ top=$(CDPATH='' cd -- "$(dirname -- "$0")/.." && pwd)
 work=$(mktemp -d)
 trap 'rm -rf "$work"' EXIT
 cp -a "$top/crates" "$top/crates.txt" "$top/HANDLES" "$work"
-cd "$work/crates/netlink_packet_sock_diag"
+cd "$work/crates/sock_diag_replies"
 
 cat >>src/unix/reply.rt <<'END'
 

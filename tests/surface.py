@@ -18,7 +18,7 @@ from itertools import accumulate, islice
 from pathlib import Path
 
 CRATES = """netlink_core attribute_lists sock_diag_values sock_diag_records sock_diag_attributes
-    netlink_packet_sock_diag""".split()
+    sock_diag_replies netlink_packet_sock_diag""".split()
 TOP = Path(__file__).resolve().parent.parent
 LIST = TOP / "tests" / "surface.txt"
 # Comments, texts, characters, words, blanks, and any other sign alone.

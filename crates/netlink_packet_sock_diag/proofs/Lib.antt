@@ -1,4 +1,3 @@
-pub mod FirstFound
 pub mod Lengths
 pub mod Envelopes
 pub mod Dumping
@@ -9,4 +8,3 @@ pub mod Interruptions
 pub mod LossyDumps
 pub mod Feeding
 pub mod WholeViews
-mod NoFault

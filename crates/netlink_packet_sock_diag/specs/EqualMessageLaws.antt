@@ -12,17 +12,17 @@ use Rattle.sock_diag_records.specs.contracts.unix.response.UnixResponseHeaderExa
 use Rattle.netlink_packet_sock_diag.specs.declared.message.SockDiagMessage.{SockDiagMessage}
 use Rattle.netlink_packet_sock_diag.specs.declared.message.SockDiagMessage.TheVariants as message
 use Rattle.netlink_packet_sock_diag.specs.contracts.message.SockDiagMessagePartialEq.TheImpl.{ghosts}
-use Rattle.netlink_packet_sock_diag.specs.Message.{MessageKind, inet_request, inet_response}
-use Rattle.netlink_packet_sock_diag.specs.Message.{unix_request, unix_response, codec_of, Message}
-use Rattle.netlink_packet_sock_diag.specs.Message.{message_of, message_kind}
+use Rattle.netlink_packet_sock_diag.specs.Message.{codec_of, Message, message_of, message_kind}
+use Rattle.sock_diag_replies.specs.ResponseKind.{MessageKind, inet_request, inet_response}
+use Rattle.sock_diag_replies.specs.ResponseKind.{unix_request, unix_response}
 use Rattle.netlink_packet_sock_diag.specs.MessageModel.{message_model}
 use Rattle.netlink_packet_sock_diag.specs.declared.message.SockDiagView.{SockDiagView}
 use Rattle.netlink_packet_sock_diag.specs.declared.message.SockDiagView.TheVariants as view
 use Rattle.netlink_packet_sock_diag.specs.contracts.message.SockDiagViewPartialEq.TheImpl.{ghosts as views}
-use Rattle.netlink_packet_sock_diag.specs.EqualResponseLaws.{responses_equal}
-use Rattle.netlink_packet_sock_diag.specs.InetResponseSpecLaws.{inet_test_decides}
-use Rattle.netlink_packet_sock_diag.specs.UnixResponseSpecLaws.{unix_test_decides}
-use Rattle.netlink_packet_sock_diag.specs.ViewModel.{view_model}
+use Rattle.sock_diag_replies.specs.EqualResponseLaws.{responses_equal}
+use Rattle.sock_diag_replies.specs.InetResponseSpecLaws.{inet_test_decides}
+use Rattle.sock_diag_replies.specs.UnixResponseSpecLaws.{unix_test_decides}
+use Rattle.sock_diag_replies.specs.ViewModel.{view_model}
 use Rattle.netlink_packet_sock_diag.specs.MessageViewModel.{message_view_model}
 
 -- what a message of a kind holds, and else something given

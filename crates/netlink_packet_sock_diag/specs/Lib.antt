@@ -1,17 +1,7 @@
-pub mod UnixResponseSpec
-pub mod UnixResponseSpecLaws
-pub mod UnixResponseModel
-pub mod UnixGetters
-pub mod InetResponseSpec
-pub mod InetResponseSpecLaws
-pub mod ResponseModel
 pub mod Message
 pub mod MessageLaws
 pub mod MessageModel
-pub mod ViewModel
 pub mod MessageViewModel
-pub mod EqualResponseLaws
-pub mod HeaderLaws
 pub mod EqualMessageLaws
 pub mod Lossy
 pub mod LossyLaws

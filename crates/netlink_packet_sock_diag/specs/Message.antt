@@ -1,21 +1,14 @@
 -- Messages of sock_diag(7): requests, and replies about the sockets of two families. Replies alone
 -- are read.
-use Rattle.std.specs.Prelude.{◌≡◌, ℕ, ◌==◌, ◌||◌, not, nat_lt, if◌then◌else◌, ◌⊎◌, List, length}
-use Rattle.std.specs.Prelude.{slice_index, Result, Ok, Err}
-use Rattle.netlink_core.specs.declared.fault.DecodeError.{DecodeError}
-use Rattle.netlink_core.specs.declared.fault.DecodeError.TheVariants.{MessageTooShort}
-use Rattle.netlink_core.specs.declared.fault.DecodeError.TheVariants.{UnknownFamily}
-use Rattle.netlink_core.specs.declared.fault.DecodeError.TheVariants.{UnknownMessageType}
+use Rattle.std.specs.Prelude.{◌≡◌, ℕ, ◌⊎◌, List, Ok, Err}
 use Rattle.netlink_core.specs.Codec.{Codec, record_codec}
 use Rattle.netlink_core.specs.Response.{response_codec}
 use Rattle.sock_diag_records.specs.InetRequest.{inet_request as inet_request_layout}
 use Rattle.sock_diag_records.specs.UnixRequest.{unix_request as unix_request_layout}
-use Rattle.netlink_packet_sock_diag.specs.InetResponseSpec.{inet_response_spec}
-use Rattle.netlink_packet_sock_diag.specs.UnixResponseSpec.{unix_response_spec}
-
--- the four kinds of messages
-pub data MessageKind : Type 0 where
-  inet_request inet_response unix_request unix_response : MessageKind
+use Rattle.sock_diag_replies.specs.InetResponseSpec.{inet_response_spec}
+use Rattle.sock_diag_replies.specs.ResponseKind.{MessageKind, inet_request, inet_response}
+use Rattle.sock_diag_replies.specs.ResponseKind.{unix_request, unix_response, response_kind}
+use Rattle.sock_diag_replies.specs.UnixResponseSpec.{unix_response_spec}
 
 -- how what a message of each kind holds is read and written
 abbrev pub codec_of : MessageKind → Codec (Unit {0})
@@ -31,17 +24,6 @@ pub data Message : Type 0 where
 -- the message's kind
 abbrev pub message_kind : Message → MessageKind
 message_kind (message_of kind v) = kind
-
--- The kind of the reply that bytes are under a type, or the fault of bytes that are none. The type
--- 20 is SOCK_DIAG_BY_FAMILY, and the first byte is 1 for AF_UNIX, 2 for AF_INET and 10 for
--- AF_INET6.
-abbrev pub response_kind : List ℕ → ℕ → Result MessageKind DecodeError
-response_kind b t =
-    if nat_lt (length b) 2 then Err (MessageTooShort (length b))
-    else if not (t == 20) then Err (UnknownMessageType t)
-    else if slice_index b 0 == 1 then Ok unix_response
-    else if (slice_index b 0 == 2) || (slice_index b 0 == 10) then Ok inet_response
-    else Err (UnknownFamily (slice_index b 0))
 
 -- a message is so, by its kind and what it holds
 abbrev pub OfMessage : ((kind : MessageKind) → (codec_of kind).Value → Type 0) → Message → Type 0

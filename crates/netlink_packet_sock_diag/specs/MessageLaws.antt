@@ -19,14 +19,14 @@ use Rattle.sock_diag_records.specs.InetResponse.{inet_response_header}
 use Rattle.sock_diag_records.specs.InetRequestLaws.{inet_request_sound}
 use Rattle.sock_diag_records.specs.UnixRequest.{unix_request as unix_request_layout}
 use Rattle.sock_diag_records.specs.UnixRequestLaws.{unix_request_sound}
-use Rattle.netlink_packet_sock_diag.specs.InetResponseSpec.{inet_response_spec}
-use Rattle.netlink_packet_sock_diag.specs.UnixResponseSpec.{unix_response_spec}
-use Rattle.netlink_packet_sock_diag.specs.InetResponseSpecLaws.{inet_response_laws}
-use Rattle.netlink_packet_sock_diag.specs.UnixResponseSpecLaws.{unix_response_laws}
-use Rattle.netlink_packet_sock_diag.specs.Message.{MessageKind, inet_request, inet_response}
-use Rattle.netlink_packet_sock_diag.specs.Message.{unix_request, unix_response, codec_of, Message}
-use Rattle.netlink_packet_sock_diag.specs.Message.{message_of, message_kind, message_codec}
-use Rattle.netlink_packet_sock_diag.specs.Message.{response_kind}
+use Rattle.sock_diag_replies.specs.InetResponseSpec.{inet_response_spec}
+use Rattle.sock_diag_replies.specs.UnixResponseSpec.{unix_response_spec}
+use Rattle.sock_diag_replies.specs.InetResponseSpecLaws.{inet_response_laws}
+use Rattle.sock_diag_replies.specs.UnixResponseSpecLaws.{unix_response_laws}
+use Rattle.netlink_packet_sock_diag.specs.Message.{codec_of, Message, message_of, message_kind}
+use Rattle.netlink_packet_sock_diag.specs.Message.{message_codec}
+use Rattle.sock_diag_replies.specs.ResponseKind.{MessageKind, inet_request, inet_response}
+use Rattle.sock_diag_replies.specs.ResponseKind.{unix_request, unix_response, response_kind}
 
 -- each kind's codec keeps the laws
 laws_of : (kind : MessageKind) → KeepsLaws (codec_of kind)

@@ -1,9 +1,9 @@
 -- The model of a message that is read in place: what contracts see of it.
 use Rattle.netlink_packet_sock_diag.specs.declared.message.SockDiagView.{SockDiagView}
 use Rattle.netlink_packet_sock_diag.specs.declared.message.SockDiagView.TheVariants as view
-use Rattle.netlink_packet_sock_diag.specs.ViewModel.{view_model}
-use Rattle.netlink_packet_sock_diag.specs.Message.{Message, message_of, inet_response}
-use Rattle.netlink_packet_sock_diag.specs.Message.{unix_response}
+use Rattle.sock_diag_replies.specs.ViewModel.{view_model}
+use Rattle.netlink_packet_sock_diag.specs.Message.{Message, message_of}
+use Rattle.sock_diag_replies.specs.ResponseKind.{inet_response, unix_response}
 
 -- the value of the message
 abbrev pub message_view_model : SockDiagView → Message

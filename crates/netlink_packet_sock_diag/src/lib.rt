@@ -10,15 +10,9 @@ ghost use Rattle.std.specs.Prelude.{◌≡◌, [], ◌∷◌};
 
 mod coded;
 mod dump;
-pub mod inet;
 pub mod laws;
 pub mod message;
-mod reply;
-mod response;
-pub mod unix;
-mod view;
 
-pub use attribute_lists::CheckedNlas;
 pub use dump::DumpError;
 pub use dump::DumpReader;
 pub use dump::DumpState;
@@ -29,7 +23,6 @@ pub use dump::PayloadView;
 pub use message::SockDiagDestroy;
 pub use message::SockDiagMessage;
 pub use message::SockDiagView;
-pub use reply::same_views;
 pub use sock_diag_records::constants;
 pub use sock_diag_records::constants::AF_ALG;
 pub use sock_diag_records::constants::AF_APPLETALK;
@@ -170,10 +163,14 @@ pub use sock_diag_records::constants::UNIX_DIAG_PEER;
 pub use sock_diag_records::constants::UNIX_DIAG_RQLEN;
 pub use sock_diag_records::constants::UNIX_DIAG_SHUTDOWN;
 pub use sock_diag_records::constants::UNIX_DIAG_VFS;
-pub use view::AttributeViews;
-pub use view::ReplyHeader;
-pub use view::ReplyView;
-pub use view::ReplyViews;
+pub use sock_diag_replies::AttributeViews;
+pub use sock_diag_replies::CheckedNlas;
+pub use sock_diag_replies::ReplyHeader;
+pub use sock_diag_replies::ReplyView;
+pub use sock_diag_replies::ReplyViews;
+pub use sock_diag_replies::inet;
+pub use sock_diag_replies::same_views;
+pub use sock_diag_replies::unix;
 
 /// The constants that stand at the root too are the numbers of these names. It is for proofs, and
 /// does nothing.

@@ -4,9 +4,9 @@ ghost use Rattle.std.specs.Prelude.{◌≡◌, ◌≢◌, ◌<◌, ◌↔◌, �
 ghost use Rattle.netlink_core.specs.declared.fault.DecodeError.TheVariants.{Memory};
 ghost use Rattle.netlink_core.specs.Spare.{WantsMemory};
 ghost use Rattle.netlink_core.specs.declared.message.NetlinkPayload.TheVariants.{InnerMessage};
-ghost use Rattle.netlink_packet_sock_diag.specs.Message.{message_kind, inet_request, inet_response};
-ghost use Rattle.netlink_packet_sock_diag.specs.Message.{unix_request, unix_response};
-ghost use Rattle.netlink_packet_sock_diag.specs.Message.{message_codec};
+ghost use Rattle.netlink_packet_sock_diag.specs.Message.{message_kind, message_codec};
+ghost use Rattle.sock_diag_replies.specs.ResponseKind.{inet_request, inet_response, unix_request};
+ghost use Rattle.sock_diag_replies.specs.ResponseKind.{unix_response};
 
 use crate::constants::{AF_INET, AF_INET6, AF_UNIX, SOCK_DESTROY, SOCK_DIAG_BY_FAMILY};
 use crate::inet::{InetRequest, InetResponse, InetResponseView};

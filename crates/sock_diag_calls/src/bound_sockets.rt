@@ -5,9 +5,9 @@ ghost use Rattle.netlink_core.specs.AttributeSet.{content};
 ghost use Rattle.netlink_core.specs.Response.{response_codec};
 ghost use Rattle.sock_diag_attributes.specs.Name.{pathname};
 ghost use Rattle.sock_diag_attributes.specs.UnixAttributes.{unix};
-ghost use Rattle.netlink_packet_sock_diag.specs.UnixGetters.{first_of};
-ghost use Rattle.netlink_packet_sock_diag.specs.UnixResponseSpec.{UnixResponseValue};
-ghost use Rattle.netlink_packet_sock_diag.specs.UnixResponseSpec.{unix_response_spec};
+ghost use Rattle.sock_diag_replies.specs.UnixGetters.{first_of};
+ghost use Rattle.sock_diag_replies.specs.UnixResponseSpec.{UnixResponseValue};
+ghost use Rattle.sock_diag_replies.specs.UnixResponseSpec.{unix_response_spec};
 
 use netlink_core::DecodeError;
 use netlink_packet_sock_diag::unix::UnixResponseView;

@@ -13,8 +13,8 @@ use Rattle.netlink_core.specs.declared.fault.DecodeError.TheVariants.{UnknownFam
 use Rattle.netlink_core.specs.declared.header.NetlinkHeader.{NetlinkHeader}
 use Rattle.sock_diag_records.specs.InetResponse.{inet_response_header}
 use Rattle.sock_diag_records.specs.UnixResponseHeader.{unix_response_header}
-use Rattle.netlink_packet_sock_diag.specs.Message.{MessageKind, inet_response, response_kind}
-use Rattle.netlink_packet_sock_diag.specs.Message.{unix_response}
+use Rattle.sock_diag_replies.specs.ResponseKind.{MessageKind, inet_response, response_kind}
+use Rattle.sock_diag_replies.specs.ResponseKind.{unix_response}
 use Rattle.sock_diag_captures.specs.Capture.{Recorded}
 use Rattle.sock_diag_captures.specs.Cooked.{IsOfSockDiag}
 use Rattle.sock_diag_captures.specs.Pieces.{Piece, framing_fault, pieces}

@@ -6,7 +6,7 @@ ghost use Rattle.sock_diag_records.specs.InetResponse.{inet_response_header};
 ghost use Rattle.sock_diag_records.specs.UnixResponseHeader.{unix_response_header};
 ghost use Rattle.sock_diag_attributes.specs.NameModel.{name_view_model};
 ghost use Rattle.sock_diag_attributes.specs.UnixAttributes.{unix};
-ghost use Rattle.netlink_packet_sock_diag.specs.Message.{response_kind};
+ghost use Rattle.sock_diag_replies.specs.ResponseKind.{response_kind};
 ghost use Rattle.sock_diag_captures.specs.Details.{timer_in};
 ghost use Rattle.sock_diag_captures.specs.Listing.{fault_behind, kind_fault, kind_lines};
 ghost use Rattle.sock_diag_captures.specs.Listing.{lines_behind};
@@ -102,7 +102,7 @@ pub(crate) fn push_reply(
 }
 
 /// Adds the lines of a UNIX socket, and gives the fault of the reply, if it has one.
-#[tactic(auto, using(netlink_packet_sock_diag::specs::UnixResponseSpecLaws::header_enough))]
+#[tactic(auto, using(sock_diag_replies::specs::UnixResponseSpecLaws::header_enough))]
 fn push_unix(
     text: &mut Vec<u8>,
     options: Options,
@@ -238,7 +238,7 @@ fn name_of_kind(kind: u8) -> &'static [u8]
 }
 
 /// Adds the lines of an IPv4 or IPv6 socket, and gives the fault of the reply, if it has one.
-#[tactic(auto, using(netlink_packet_sock_diag::specs::InetResponseSpecLaws::header_enough))]
+#[tactic(auto, using(sock_diag_replies::specs::InetResponseSpecLaws::header_enough))]
 fn push_inet(
     text: &mut Vec<u8>,
     options: Options,

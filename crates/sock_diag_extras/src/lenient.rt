@@ -7,8 +7,8 @@ ghost use Rattle.std.specs.Iterator.SizeHint.{IsWithinCount};
 ghost use Rattle.netlink_core.specs.Attribute.{attribute_type};
 ghost use Rattle.netlink_core.specs.Response.{ResponseSpec};
 ghost use Rattle.netlink_core.specs.Walk.{attribute_of, bytes_left};
-ghost use Rattle.netlink_packet_sock_diag.specs.InetResponseSpec.{inet_response_spec};
-ghost use Rattle.netlink_packet_sock_diag.specs.UnixResponseSpec.{unix_response_spec};
+ghost use Rattle.sock_diag_replies.specs.InetResponseSpec.{inet_response_spec};
+ghost use Rattle.sock_diag_replies.specs.UnixResponseSpec.{unix_response_spec};
 
 use netlink_core::{DecodeError, FamilyView, NlaBuffer, NlasIterator};
 use netlink_packet_sock_diag::inet::InetResponseHeader;

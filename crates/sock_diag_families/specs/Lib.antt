@@ -8,4 +8,3 @@ pub mod PacketResponseHeader
 pub mod PacketAttributes
 pub mod XdpResponseHeader
 pub mod XdpAttributes
-pub mod AnyMessage

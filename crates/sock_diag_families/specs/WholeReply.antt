@@ -7,7 +7,7 @@ use Rattle.netlink_core.specs.ShownLaws.{ResponseLaws}
 use Rattle.netlink_core.specs.SoundLaws.{IsSound}
 use Rattle.netlink_core.specs.Table.{Field}
 use Rattle.netlink_core.specs.declared.fault.RecordName.{RecordName}
-use Rattle.netlink_packet_sock_diag.specs.HeaderLaws.{response_laws}
+use Rattle.sock_diag_replies.specs.HeaderLaws.{response_laws}
 
 module _ {Tag Value : Type 0} (layout : Layout (Unit {0}) Tag Value) where
   -- the header, and attributes of a set without types

@@ -5,7 +5,7 @@ ghost use Rattle.netlink_core.specs.Attribute.{Attribute};
 ghost use Rattle.netlink_core.specs.Faults.{map_ok};
 ghost use Rattle.netlink_core.specs.Layout.{read};
 ghost use Rattle.netlink_core.specs.Parse.{exact_number};
-ghost use Rattle.netlink_packet_sock_diag.specs.ViewModel.{view_model};
+ghost use Rattle.sock_diag_replies.specs.ViewModel.{view_model};
 ghost use Rattle.sock_diag_families.specs.Found.{first_value, enough, within};
 
 use crate::{FamilyHeader, WholeView};

@@ -2,7 +2,6 @@
 //! replies that are read in place.
 #![tactic(auto)]
 
-mod any;
 mod attributes;
 pub mod netlink;
 pub mod packet;
@@ -11,7 +10,6 @@ pub mod vsock;
 mod whole;
 pub mod xdp;
 
-pub use any::AnySockDiagView;
 pub use attributes::WholeAttributes;
 pub use request::ShowRequest;
 pub use whole::{FamilyHeader, Whole, WholeNla, WholeView};

@@ -3,14 +3,14 @@
 ghost use Rattle.std.specs.Prelude.{[], refl};
 ghost use Rattle.netlink_core.proofs.Responses.{responses_keep_laws};
 ghost use Rattle.netlink_core.specs.Walk.{attribute_of};
-ghost use Rattle.netlink_packet_sock_diag.specs.EqualResponseLaws.{response_test};
-ghost use Rattle.netlink_packet_sock_diag.specs.EqualResponseLaws.{response_test_decides};
-ghost use Rattle.netlink_packet_sock_diag.specs.HeaderLaws.{enough};
+ghost use Rattle.sock_diag_replies.specs.EqualResponseLaws.{response_test};
+ghost use Rattle.sock_diag_replies.specs.EqualResponseLaws.{response_test_decides};
+ghost use Rattle.sock_diag_replies.specs.HeaderLaws.{enough};
 ghost use Rattle.sock_diag_families.specs.WholeReply.{OneTable, whole_reply, whole_reply_laws};
 
 use attribute_lists::{check_nlas, emit_views, views_len};
 use netlink_core::{DecodeError, Emitable, FamilyView, Nla, NlaBuffer, Record, read_record};
-use netlink_packet_sock_diag::{ReplyHeader, ReplyView, ReplyViews, same_views};
+use sock_diag_replies::{ReplyHeader, ReplyView, ReplyViews, same_views};
 
 /// An attribute that is kept whole, read in place: its type word and its value's bytes.
 #[derive(Clone, Copy, Debug, PartialEq, Eq)]

@@ -7,10 +7,11 @@ use Rattle.netlink_core.specs.AttributeSet.{encodes}
 use Rattle.netlink_core.specs.Response.{ResponseSpec, ValueOf, response_bytes, response_codec}
 use Rattle.netlink_core.specs.Envelope.{Payload, done_with, error_with, no_payload, overrun_with}
 use Rattle.netlink_core.specs.Envelope.{inner, Envelope, OfInner, payload_bytes, envelope_codec}
-use Rattle.netlink_packet_sock_diag.specs.InetResponseSpec.{inet_response_spec}
-use Rattle.netlink_packet_sock_diag.specs.UnixResponseSpec.{unix_response_spec}
-use Rattle.netlink_packet_sock_diag.specs.Message.{Message, message_of, inet_request, inet_response}
-use Rattle.netlink_packet_sock_diag.specs.Message.{unix_request, unix_response, message_codec}
+use Rattle.sock_diag_replies.specs.InetResponseSpec.{inet_response_spec}
+use Rattle.sock_diag_replies.specs.UnixResponseSpec.{unix_response_spec}
+use Rattle.netlink_packet_sock_diag.specs.Message.{Message, message_of, message_codec}
+use Rattle.sock_diag_replies.specs.ResponseKind.{inet_request, inet_response, unix_request}
+use Rattle.sock_diag_replies.specs.ResponseKind.{unix_response}
 
 at_most : (m n : ℕ) → (m ≤ n) ⊎ ¬ (m ≤ n)
 at_most m n = elim (cases_lt n m) [

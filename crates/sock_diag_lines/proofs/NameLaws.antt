@@ -7,10 +7,10 @@ use Rattle.sock_diag_records.specs.InetRequest.{inet_request}
 use Rattle.sock_diag_records.specs.InetRequestLaws.{inet_request_sound}
 use Rattle.sock_diag_records.specs.SocketId.{socket_id}
 use Rattle.sock_diag_records.specs.SocketIdLaws.{socket_id_sound}
-use Rattle.netlink_packet_sock_diag.specs.UnixResponseSpec.{unix_response_spec}
-use Rattle.netlink_packet_sock_diag.specs.UnixResponseSpecLaws.{unix_response_laws}
-use Rattle.netlink_packet_sock_diag.specs.InetResponseSpec.{inet_response_spec}
-use Rattle.netlink_packet_sock_diag.specs.InetResponseSpecLaws.{inet_response_laws}
+use Rattle.sock_diag_replies.specs.UnixResponseSpec.{unix_response_spec}
+use Rattle.sock_diag_replies.specs.UnixResponseSpecLaws.{unix_response_laws}
+use Rattle.sock_diag_replies.specs.InetResponseSpec.{inet_response_spec}
+use Rattle.sock_diag_replies.specs.InetResponseSpecLaws.{inet_response_laws}
 use Rattle.netlink_packet_sock_diag.specs.Message.{message_codec}
 use Rattle.netlink_packet_sock_diag.specs.MessageLaws.{message_laws}
 use Rattle.netlink_core.specs.Codec.{record_codec}

@@ -10,8 +10,8 @@ use Rattle.netlink_core.specs.AttributeSet.{content}
 use Rattle.sock_diag_attributes.specs.Name.{SocketName}
 use Rattle.sock_diag_attributes.specs.UnixAttributes.{unix}
 use Rattle.sock_diag_records.specs.declared.unix.response.UnixResponseHeader.{UnixResponseHeader}
-use Rattle.netlink_packet_sock_diag.specs.UnixGetters.{first_of, listening_queue_of, other_queue_of}
-use Rattle.netlink_packet_sock_diag.specs.UnixResponseSpec.{UnixResponseValue}
+use Rattle.sock_diag_replies.specs.UnixGetters.{first_of, listening_queue_of, other_queue_of}
+use Rattle.sock_diag_replies.specs.UnixResponseSpec.{UnixResponseValue}
 use Rattle.sock_diag_lines.specs.TextSteps.{accepted}
 use Rattle.sock_diag_lines.specs.ViewLine.{comma_list, name_word, or_none, reply_text}
 

@@ -4,8 +4,8 @@ use Rattle.std.specs.List.{starts_with}
 use Rattle.sock_diag_records.specs.UnixRequest.{unix_request}
 use Rattle.sock_diag_records.specs.InetRequest.{inet_request}
 use Rattle.sock_diag_records.specs.SocketId.{socket_id}
-use Rattle.netlink_packet_sock_diag.specs.UnixResponseSpec.{unix_response_spec}
-use Rattle.netlink_packet_sock_diag.specs.InetResponseSpec.{inet_response_spec}
+use Rattle.sock_diag_replies.specs.UnixResponseSpec.{unix_response_spec}
+use Rattle.sock_diag_replies.specs.InetResponseSpec.{inet_response_spec}
 use Rattle.netlink_packet_sock_diag.specs.Message.{message_codec}
 use Rattle.netlink_core.specs.Codec.{record_codec}
 use Rattle.netlink_core.specs.Response.{response_codec}

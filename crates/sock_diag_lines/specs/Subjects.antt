@@ -4,7 +4,7 @@ use Rattle.netlink_core.specs.Codec.{Codec}
 use Rattle.netlink_core.specs.Envelope.{envelope_codec}
 use Rattle.netlink_packet_sock_diag.specs.Message.{message_codec}
 use Rattle.netlink_core.specs.Response.{response_codec}
-use Rattle.netlink_packet_sock_diag.specs.UnixResponseSpec.{unix_response_spec}
+use Rattle.sock_diag_replies.specs.UnixResponseSpec.{unix_response_spec}
 use Rattle.sock_diag_lines.specs.EnvelopeLine.{envelope_text}
 use Rattle.sock_diag_lines.specs.ViewLine.{reply_text}
 use Rattle.sock_diag_lines.specs.HexField.{field_of}

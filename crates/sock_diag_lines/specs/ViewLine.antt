@@ -4,8 +4,8 @@ use Rattle.std.specs.List.{join_with_byte}
 use Rattle.netlink_core.specs.AttributeSet.{content}
 use Rattle.sock_diag_attributes.specs.Name.{SocketName, abstract, pathname}
 use Rattle.sock_diag_attributes.specs.UnixAttributes.{unix}
-use Rattle.netlink_packet_sock_diag.specs.UnixGetters.{first_of, listening_queue_of, other_queue_of}
-use Rattle.netlink_packet_sock_diag.specs.UnixResponseSpec.{UnixResponseValue}
+use Rattle.sock_diag_replies.specs.UnixGetters.{first_of, listening_queue_of, other_queue_of}
+use Rattle.sock_diag_replies.specs.UnixResponseSpec.{UnixResponseValue}
 use Rattle.sock_diag_lines.specs.HexField.{field_of}
 
 -- the text of what is found, or `none`

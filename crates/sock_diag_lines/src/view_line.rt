@@ -1,7 +1,7 @@
 //! The answer to a line that looks at a reply about a UNIX socket without a copy of it.
 
 ghost use Rattle.std.specs.Prelude.{◌≡◌, ◌∷◌, ◌++◌, decimal, OnOk};
-ghost use Rattle.netlink_packet_sock_diag.specs.ViewModel.{view_model};
+ghost use Rattle.sock_diag_replies.specs.ViewModel.{view_model};
 ghost use Rattle.sock_diag_lines.specs.Subjects.{view_subject};
 ghost use Rattle.sock_diag_lines.specs.AnswerText.{IsAnswerAs};
 ghost use Rattle.sock_diag_lines.specs.TextSteps.{Adds, accepted};

@@ -5,8 +5,9 @@ use Rattle.netlink_core.specs.declared.fault.DecodeError.{DecodeError}
 use Rattle.netlink_core.specs.Envelope.{Payload, done_with, error_with, no_payload, overrun_with}
 use Rattle.netlink_core.specs.Envelope.{inner}
 use Rattle.netlink_core.specs.Items.{ItemsAre}
-use Rattle.netlink_packet_sock_diag.specs.Message.{Message, message_of, inet_request, inet_response}
-use Rattle.netlink_packet_sock_diag.specs.Message.{unix_request, unix_response, message_codec}
+use Rattle.netlink_packet_sock_diag.specs.Message.{Message, message_of, message_codec}
+use Rattle.sock_diag_replies.specs.ResponseKind.{inet_request, inet_response, unix_request}
+use Rattle.sock_diag_replies.specs.ResponseKind.{unix_response}
 use Rattle.sock_diag_uses.specs.declared.lister.Line.{Line}
 use Rattle.sock_diag_uses.specs.declared.lister.Line.TheVariants.{Socket, End, Failure, Refused}
 

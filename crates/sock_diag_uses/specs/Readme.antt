@@ -12,10 +12,10 @@ use Rattle.netlink_core.specs.Items.{Item, ItemsAre}
 use Rattle.sock_diag_attributes.specs.Name.{SocketName, pathname, abstract}
 use Rattle.sock_diag_attributes.specs.UnixAttributes.{unix}
 use Rattle.netlink_packet_sock_diag.specs.Dump.{end_of}
-use Rattle.netlink_packet_sock_diag.specs.Message.{Message, message_of, inet_request, inet_response}
-use Rattle.netlink_packet_sock_diag.specs.Message.{unix_request, unix_response}
-use Rattle.netlink_packet_sock_diag.specs.Message.{message_codec}
-use Rattle.netlink_packet_sock_diag.specs.UnixGetters.{first_of}
+use Rattle.netlink_packet_sock_diag.specs.Message.{Message, message_of, message_codec}
+use Rattle.sock_diag_replies.specs.ResponseKind.{inet_request, inet_response, unix_request}
+use Rattle.sock_diag_replies.specs.ResponseKind.{unix_response}
+use Rattle.sock_diag_replies.specs.UnixGetters.{first_of}
 
 -- the bytes of a path that is lent
 abbrev pub path_bytes : Option (Bor (List ℕ)) → Option (List ℕ)

@@ -4,8 +4,8 @@ ghost use Rattle.std.specs.Prelude.{◌≡◌, ◌++◌, ℕ, List, map, OnOk, I
 ghost use Rattle.std.specs.List.{AllByRecursion, flat_map};
 ghost use Rattle.netlink_core.specs.EnvelopeModel.{payload_of};
 ghost use Rattle.netlink_packet_sock_diag.specs.MessageModel.{message_model};
-ghost use Rattle.netlink_packet_sock_diag.specs.UnixResponseModel.{unix_response_model};
-ghost use Rattle.netlink_packet_sock_diag.specs.UnixResponseSpec.{UnixResponseValue};
+ghost use Rattle.sock_diag_replies.specs.UnixResponseModel.{unix_response_model};
+ghost use Rattle.sock_diag_replies.specs.UnixResponseSpec.{UnixResponseValue};
 ghost use Rattle.sock_diag_uses.specs.TestKernel.{CanBeSent, FailsFor, GivesNoAnswer, HasRoom};
 ghost use Rattle.sock_diag_uses.specs.TestKernel.{IsAnswer, IsWholeDump, ReplyHasRoom};
 ghost use Rattle.sock_diag_uses.specs.TestKernel.{message_under, reply_under};

@@ -6,7 +6,7 @@ use Rattle.std.specs.Result.{result_err}
 use Rattle.std.proofs.lemmas.Result.{err_from_is_err_and}
 use Rattle.netlink_core.specs.Response.{ResponseSpec, ValueOf, response_codec}
 use Rattle.netlink_core.specs.declared.fault.DecodeError.{DecodeError}
-use Rattle.netlink_packet_sock_diag.specs.UnixGetters.{first_of}
+use Rattle.sock_diag_replies.specs.UnixGetters.{first_of}
 use Rattle.sockdiag_c.specs.FamilyValues.{RefusesValue}
 
 -- what holds of a value that was read

@@ -11,7 +11,7 @@ use Rattle.netlink_core.specs.declared.fault.DecodeError.{DecodeError}
 use Rattle.netlink_core.specs.PrefixLaws.{prefix_or_fault_apart}
 use Rattle.netlink_core.proofs.Cutting.{one_start}
 use Rattle.netlink_core.proofs.Walking.{StartsWith-some, prefix_of_start}
-use Rattle.netlink_packet_sock_diag.specs.UnixGetters.{first_of}
+use Rattle.sock_diag_replies.specs.UnixGetters.{first_of}
 use Rattle.sockdiag_c.specs.TcpInfo.{StandIn, filled, value_of}
 
 -- the bytes of a value that there is room for, and zeros behind them

@@ -1,7 +1,7 @@
 -- What C is told of the values in a reply.
 use Rattle.std.specs.Prelude.{ℕ, ◌==◌, if◌then◌else◌, List, Option, Some, None, option_map}
 use Rattle.netlink_core.specs.AttributeSet.{AttributeSet, AttributeValue, ValueAt, content}
-use Rattle.netlink_packet_sock_diag.specs.UnixGetters.{first_of}
+use Rattle.sock_diag_replies.specs.UnixGetters.{first_of}
 use Rattle.sockdiag_c.specs.declared.details.Number.{Number}
 use Rattle.sockdiag_c.specs.declared.details.Text.{Text}
 

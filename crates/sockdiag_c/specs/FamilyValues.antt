@@ -6,7 +6,7 @@ use Rattle.netlink_core.specs.Layout.{read}
 use Rattle.netlink_core.specs.Parse.{exact_number}
 use Rattle.netlink_core.specs.Response.{ResponseSpec, ValueOf, response_codec}
 use Rattle.netlink_core.specs.declared.fault.DecodeError.{DecodeError}
-use Rattle.netlink_packet_sock_diag.specs.UnixGetters.{first_of}
+use Rattle.sock_diag_replies.specs.UnixGetters.{first_of}
 use Rattle.sock_diag_families.specs.Found.{first_value, within}
 use Rattle.sock_diag_values.specs.MemInfo.{mem_info}
 use Rattle.sock_diag_values.specs.declared.inet.mem_info.MemInfo.{MemInfo}

@@ -1,9 +1,9 @@
 //! Checks of replies in place.
 
 ghost use Rattle.netlink_core.specs.Response.{response_codec};
-ghost use Rattle.netlink_packet_sock_diag.specs.InetResponseSpec.{inet_response_spec};
+ghost use Rattle.sock_diag_replies.specs.InetResponseSpec.{inet_response_spec};
 ghost use Rattle.netlink_packet_sock_diag.specs.Message.{message_codec};
-ghost use Rattle.netlink_packet_sock_diag.specs.UnixResponseSpec.{unix_response_spec};
+ghost use Rattle.sock_diag_replies.specs.UnixResponseSpec.{unix_response_spec};
 ghost use Rattle.sockdiag_c.specs.Answers.{Answers};
 ghost use Rattle.sockdiag_c.specs.Headers.{inet_header_of, reply_of, unix_header_of};
 

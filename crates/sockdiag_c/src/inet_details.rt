@@ -3,7 +3,7 @@
 
 ghost use Rattle.std.specs.Prelude.{◌≡◌};
 ghost use Rattle.sock_diag_attributes.specs.InetModel.{nla_view_model};
-ghost use Rattle.netlink_packet_sock_diag.specs.InetResponseSpec.{inet_response_spec};
+ghost use Rattle.sock_diag_replies.specs.InetResponseSpec.{inet_response_spec};
 ghost use Rattle.sockdiag_c.specs.Details.{text_of};
 ghost use Rattle.sockdiag_c.specs.Headers.{inet_header_of};
 ghost use Rattle.sockdiag_c.specs.InetDetails.{HasInetDetails, controlled};
@@ -70,7 +70,7 @@ impl<'a> KeepsDetails<'a> for InetDetails<'a> {
 
     ghost describes = { λ h found vs. HasInetDetails (inet_header_of h) found vs };
 
-    #[tactic(auto, using(netlink_packet_sock_diag::specs::InetResponseSpecLaws::header_enough))]
+    #[tactic(auto, using(sock_diag_replies::specs::InetResponseSpecLaws::header_enough))]
     fn tell_header(payload: &'a [u8]) -> Result<(Self, &'a [u8]), DecodeError> {
         let header = InetResponseHeader::from_prefix(payload)?;
         let found = InetDetails {

@@ -3,8 +3,8 @@
 ghost use Rattle.std.specs.Prelude.{◌≡◌, ◌⊎◌, slice_get};
 ghost use Rattle.netlink_core.specs.declared.fault.DecodeError.{DecodeError};
 ghost use Rattle.netlink_core.specs.Response.{response_codec};
-ghost use Rattle.netlink_packet_sock_diag.specs.UnixResponseSpec.{UnixResponseValue};
-ghost use Rattle.netlink_packet_sock_diag.specs.UnixResponseSpec.{unix_response_spec};
+ghost use Rattle.sock_diag_replies.specs.UnixResponseSpec.{UnixResponseValue};
+ghost use Rattle.sock_diag_replies.specs.UnixResponseSpec.{unix_response_spec};
 ghost use Rattle.sockdiag_c.specs.Answers.{AnswersItem};
 ghost use Rattle.sockdiag_c.specs.UnixDetails.{pending};
 

@@ -3,8 +3,8 @@
 ghost use Rattle.std.specs.Prelude.{◌≡◌};
 ghost use Rattle.netlink_core.specs.Faults.{number_of};
 ghost use Rattle.netlink_core.specs.Response.{response_bytes, response_codec};
-ghost use Rattle.netlink_packet_sock_diag.specs.InetResponseSpec.{inet_response_spec};
-ghost use Rattle.netlink_packet_sock_diag.specs.UnixResponseSpec.{unix_response_spec};
+ghost use Rattle.sock_diag_replies.specs.InetResponseSpec.{inet_response_spec};
+ghost use Rattle.sock_diag_replies.specs.UnixResponseSpec.{unix_response_spec};
 ghost use Rattle.sockdiag_c.specs.Rewriting.{IsCanonical, Rewrites, Writes, outcome_of};
 
 use netlink_core::{DecodeError, Emitable};

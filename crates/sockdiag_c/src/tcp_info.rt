@@ -2,7 +2,7 @@
 
 ghost use Rattle.std.specs.Prelude.{◌≡◌, List, [], drop, length, unwrap_or};
 ghost use Rattle.netlink_core.specs.Attribute.{Attribute};
-ghost use Rattle.netlink_packet_sock_diag.specs.UnixGetters.{first_of};
+ghost use Rattle.sock_diag_replies.specs.UnixGetters.{first_of};
 ghost use Rattle.sockdiag_c.specs.TcpInfo.{StandIn, filled, value_of};
 
 use netlink_core::NlasIterator;

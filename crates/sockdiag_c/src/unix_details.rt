@@ -2,7 +2,7 @@
 
 ghost use Rattle.std.specs.Prelude.{◌≡◌};
 ghost use Rattle.sock_diag_attributes.specs.UnixModel.{nla_view_model};
-ghost use Rattle.netlink_packet_sock_diag.specs.UnixResponseSpec.{unix_response_spec};
+ghost use Rattle.sock_diag_replies.specs.UnixResponseSpec.{unix_response_spec};
 ghost use Rattle.sockdiag_c.specs.Details.{text_of};
 ghost use Rattle.sockdiag_c.specs.Headers.{unix_header_of};
 ghost use Rattle.sockdiag_c.specs.FirstNumberSteps.{first_of_two};

@@ -4,7 +4,7 @@ ghost use Rattle.std.specs.Prelude.{◌≡◌, option_map};
 ghost use Rattle.netlink_core.specs.Layout.{read};
 ghost use Rattle.netlink_core.specs.Parse.{exact_number};
 ghost use Rattle.sock_diag_values.specs.MemInfo.{mem_info};
-ghost use Rattle.netlink_packet_sock_diag.specs.ViewModel.{view_model};
+ghost use Rattle.sock_diag_replies.specs.ViewModel.{view_model};
 ghost use Rattle.sock_diag_families.specs.Found.{first_value, within};
 
 use super::{NETLINK_DIAG_FLAGS, NETLINK_DIAG_GROUPS, NETLINK_DIAG_MEMINFO, NetlinkResponseView};

@@ -5,7 +5,7 @@ mod response;
 
 use crate::ShowRequest;
 pub use attributes::{flags, groups, memory};
-use netlink_packet_sock_diag::AF_NETLINK;
+use sock_diag_records::constants::AF_NETLINK;
 pub use response::{NetlinkResponseHeader, NetlinkResponseView};
 
 /// The request for netlink sockets: `struct netlink_diag_req`. Its protocol is one of

@@ -10,7 +10,7 @@ use crate::{FamilyHeader, WholeView};
 use byteorder::{ByteOrder, LittleEndian};
 use netlink_core::fields::{long_words_at, words_at};
 use netlink_core::{DecodeError, Exact, Record, RecordName};
-use netlink_packet_sock_diag::AF_NETLINK;
+use sock_diag_records::constants::AF_NETLINK;
 
 /// The header of a reply about a netlink socket: `struct netlink_diag_msg`, 28 bytes, numbers low
 /// byte first. The byte at 0 is not read, and is written AF_NETLINK (16).

@@ -4,7 +4,7 @@ ghost use Rattle.std.specs.Prelude.{◌≡◌, option_map};
 ghost use Rattle.netlink_core.specs.Layout.{read};
 ghost use Rattle.netlink_core.specs.Parse.{exact_number};
 ghost use Rattle.sock_diag_values.specs.MemInfo.{mem_info};
-ghost use Rattle.netlink_packet_sock_diag.specs.ViewModel.{view_model};
+ghost use Rattle.sock_diag_replies.specs.ViewModel.{view_model};
 ghost use Rattle.sock_diag_families.specs.Found.{first_value, within};
 ghost use Rattle.sock_diag_families.specs.PacketAttributes.{packet_info, packet_ring};
 
@@ -17,7 +17,7 @@ use crate::WholeAttributes;
 use crate::attributes::value_in;
 use netlink_core::DecodeError;
 use netlink_core::fields::words_at;
-use netlink_packet_sock_diag::AF_PACKET;
+use sock_diag_records::constants::AF_PACKET;
 use sock_diag_values::inet::MemInfo;
 
 /// What a packet socket is set to: `struct packet_diag_info`, the first 24 bytes of

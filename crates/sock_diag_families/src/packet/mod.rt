@@ -7,7 +7,7 @@ use crate::ShowRequest;
 pub use attributes::{
     PacketInfo, PacketRing, addresses, fanout, filter, info, memory, owner, receive_ring, send_ring,
 };
-use netlink_packet_sock_diag::AF_PACKET;
+use sock_diag_records::constants::AF_PACKET;
 pub use response::{PacketResponseHeader, PacketResponseView};
 
 /// The request for packet sockets: `struct packet_diag_req`. Its protocol is 0, and what it shows

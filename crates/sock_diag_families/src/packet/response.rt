@@ -10,7 +10,7 @@ use crate::{FamilyHeader, WholeView};
 use byteorder::{ByteOrder, LittleEndian};
 use netlink_core::fields::{long_words_at, words_at};
 use netlink_core::{DecodeError, Exact, Record, RecordName};
-use netlink_packet_sock_diag::AF_PACKET;
+use sock_diag_records::constants::AF_PACKET;
 
 /// The header of a reply about a packet socket: `struct packet_diag_msg`, 16 bytes, numbers low
 /// byte first. The byte at 0 is not read, and is written AF_PACKET (17).

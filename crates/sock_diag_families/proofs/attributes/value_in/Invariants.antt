@@ -1,5 +1,5 @@
 use Rattle.std.proofs.Common.{◌≡◌, [], length}
-use Rattle.netlink_packet_sock_diag.specs.ViewModel.{left_in, view_model}
+use Rattle.sock_diag_replies.specs.ViewModel.{left_in, view_model}
 use Rattle.sock_diag_families.specs.Found.{first_value}
 use Rattle.sock_diag_families.proofs.attributes.value_in.Given as goal
 

@@ -3,7 +3,7 @@ use Rattle.std.specs.Prelude.{option_map}
 use Rattle.std.proofs.lemmas.Result.{on_ok_weaker}
 use Rattle.sock_diag_attributes.specs.NameModel.{name_view_model}
 use Rattle.sock_diag_attributes.specs.NumbersModel.{numbers_view_model}
-use Rattle.netlink_packet_sock_diag.specs.ViewModel.{view_model}
+use Rattle.sock_diag_replies.specs.ViewModel.{view_model}
 use Rattle.sock_diag_lines.proofs.ViewLemmas.{reply_words}
 use Rattle.sock_diag_lines.proofs.view_line.push_reply.Goals as goal
 

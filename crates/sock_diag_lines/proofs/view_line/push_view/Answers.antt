@@ -1,6 +1,6 @@
 use Rattle.std.proofs.Common.{inl, inr, refl}
 use Rattle.std.proofs.lemmas.Result.{on_ok_weaker}
-use Rattle.netlink_packet_sock_diag.specs.ViewModel.{view_model}
+use Rattle.sock_diag_replies.specs.ViewModel.{view_model}
 use Rattle.sock_diag_lines.proofs.view_line.push_view.Goals as goal
 
 pub returns-in-Ok : goal.returns-in-Ok

@@ -1,5 +1,5 @@
 use Rattle.std.proofs.Common.{◌∙◌, ap, inl, refl}
-use Rattle.netlink_packet_sock_diag.specs.ViewModel.{view_model}
+use Rattle.sock_diag_replies.specs.ViewModel.{view_model}
 use Rattle.sockdiag_c.specs.Headers.{inet_header_of}
 use Rattle.sockdiag_c.proofs.check.sockdiag_check_inet_reply.Goals as goal
 

@@ -1,5 +1,5 @@
 use Rattle.std.proofs.Common.{◌∙◌, List, ℕ, ap, option_map}
-use Rattle.netlink_packet_sock_diag.specs.ViewModel.{view_model}
+use Rattle.sock_diag_replies.specs.ViewModel.{view_model}
 use Rattle.sock_diag_families.specs.PacketResponseHeader.{packet_header}
 use Rattle.sock_diag_families.specs.WholeReply.{whole_reply}
 use Rattle.sockdiag_c.specs.PacketDetails.{packet_faults}

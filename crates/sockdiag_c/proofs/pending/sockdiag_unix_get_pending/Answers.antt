@@ -3,8 +3,8 @@ use Rattle.std.specs.Prelude.{option_map}
 use Rattle.netlink_core.specs.AttributeSet.{content}
 use Rattle.sock_diag_attributes.specs.NumbersModel.{numbers_view_model}
 use Rattle.sock_diag_attributes.specs.UnixAttributes.{unix}
-use Rattle.netlink_packet_sock_diag.specs.UnixGetters.{first_of}
-use Rattle.netlink_packet_sock_diag.specs.ViewModel.{view_model}
+use Rattle.sock_diag_replies.specs.UnixGetters.{first_of}
+use Rattle.sock_diag_replies.specs.ViewModel.{view_model}
 use Rattle.sockdiag_c.proofs.pending.sockdiag_unix_get_pending.Goals as goal
 
 pub returns-in_default-pending_connections : goal.returns-in_default-pending_connections

@@ -1,7 +1,7 @@
 use Rattle.std.proofs.Common.{arith, inl}
-use Rattle.netlink_packet_sock_diag.specs.InetResponseSpec.{inet_response_spec}
-use Rattle.netlink_packet_sock_diag.specs.InetResponseSpecLaws.{inet_response_laws}
-use Rattle.netlink_packet_sock_diag.specs.ViewModel.{view_model}
+use Rattle.sock_diag_replies.specs.InetResponseSpec.{inet_response_spec}
+use Rattle.sock_diag_replies.specs.InetResponseSpecLaws.{inet_response_laws}
+use Rattle.sock_diag_replies.specs.ViewModel.{view_model}
 use Rattle.sockdiag_c.proofs.Alike.{canonical_where_written}
 use Rattle.sockdiag_c.proofs.rewriting.sockdiag_rewrite_inet_reply.Goals as goal
 

@@ -1,7 +1,7 @@
 use Rattle.std.proofs.Common.{arith, inl}
-use Rattle.netlink_packet_sock_diag.specs.UnixResponseSpec.{unix_response_spec}
-use Rattle.netlink_packet_sock_diag.specs.UnixResponseSpecLaws.{unix_response_laws}
-use Rattle.netlink_packet_sock_diag.specs.ViewModel.{view_model}
+use Rattle.sock_diag_replies.specs.UnixResponseSpec.{unix_response_spec}
+use Rattle.sock_diag_replies.specs.UnixResponseSpecLaws.{unix_response_laws}
+use Rattle.sock_diag_replies.specs.ViewModel.{view_model}
 use Rattle.sockdiag_c.proofs.Alike.{canonical_where_written}
 use Rattle.sockdiag_c.proofs.rewriting.sockdiag_rewrite_unix_reply.Goals as goal
 

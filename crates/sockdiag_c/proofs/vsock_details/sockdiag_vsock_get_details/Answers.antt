@@ -1,5 +1,5 @@
 use Rattle.std.proofs.Common.{inl, refl}
-use Rattle.netlink_packet_sock_diag.specs.ViewModel.{view_model}
+use Rattle.sock_diag_replies.specs.ViewModel.{view_model}
 use Rattle.sockdiag_c.proofs.vsock_details.sockdiag_vsock_get_details.Goals as goal
 
 pub returns-in-Ok : goal.returns-in-Ok

@@ -1,4 +1,4 @@
-use Rattle.netlink_packet_sock_diag.specs.ViewModel.{view_model}
+use Rattle.sock_diag_replies.specs.ViewModel.{view_model}
 use Rattle.sock_diag_families.specs.XdpResponseHeader.{xdp_header}
 use Rattle.sock_diag_families.specs.WholeReply.{whole_reply}
 use Rattle.sockdiag_c.specs.XdpDetails.{xdp_faults}

@@ -1,6 +1,6 @@
 use Rattle.std.proofs.Common.{arith, sym, ◌∙◌}
 use Rattle.std.proofs.lemmas.List.{take_rest}
-use Rattle.netlink_packet_sock_diag.specs.InetResponseSpecLaws.{header_enough}
+use Rattle.sock_diag_replies.specs.InetResponseSpecLaws.{header_enough}
 use Rattle.sock_diag_extras.proofs.lenient.InetResponseHeaderLenientHeader.split.Goals as goal
 
 pub slice_bounds-result-count : goal.slice_bounds-result-count

@@ -1,5 +1,5 @@
 use Rattle.std.proofs.Common.{refl, arith}
-use Rattle.netlink_packet_sock_diag.specs.ViewModel.{view_model}
+use Rattle.sock_diag_replies.specs.ViewModel.{view_model}
 use Rattle.sock_diag_uses.proofs.readme.comparing.rewrite.Goals as goal
 use Rattle.sock_diag_uses.proofs.readme.comparing.rewrite.Goals.{then-not-is_writable-via-then-not-is_writable}
 use Rattle.sock_diag_uses.proofs.readme.comparing.rewrite.Goals.{then-not-is_writable-via-else-not-is_writable+then-buffer_len-buffer}

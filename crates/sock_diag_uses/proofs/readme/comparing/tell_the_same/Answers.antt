@@ -1,9 +1,9 @@
 use Rattle.std.proofs.Common.{arith, inr}
 use Rattle.std.proofs.lemmas.Result.{err_from_is_err_and}
-use Rattle.netlink_packet_sock_diag.specs.ViewModel.{view_model}
-use Rattle.netlink_packet_sock_diag.specs.UnixResponseSpec.{unix_response_spec}
-use Rattle.netlink_packet_sock_diag.specs.UnixResponseSpecLaws.{unix_response_laws}
-use Rattle.netlink_packet_sock_diag.specs.UnixResponseSpecLaws.{unix_test_decides}
+use Rattle.sock_diag_replies.specs.ViewModel.{view_model}
+use Rattle.sock_diag_replies.specs.UnixResponseSpec.{unix_response_spec}
+use Rattle.sock_diag_replies.specs.UnixResponseSpecLaws.{unix_response_laws}
+use Rattle.sock_diag_replies.specs.UnixResponseSpecLaws.{unix_test_decides}
 use Rattle.netlink_core.proofs.Responses.{responses_keep_laws}
 use Rattle.sock_diag_uses.proofs.readme.comparing.tell_the_same.Goals as goal
 

@@ -1,6 +1,0 @@
-use Rattle.std.proofs.Common.{inl}
-use Rattle.netlink_packet_sock_diag.proofs.view.ReplyView.header.Goals as goal
-
-pub unreachable-requires : goal.unreachable-requires
-unreachable-requires g c =
-    c.args.self.now.accepted.none c.in_default.field-0 (inl c.in_default.ensures.fault)

@@ -1,9 +1,0 @@
--- The model of a reply of any family: what contracts see of it.
-use Rattle.std.specs.Prelude.{map}
-use Rattle.netlink_core.specs.Response.{ResponseValue}
-use Rattle.netlink_packet_sock_diag.specs.declared.response.Reply.{Reply}
-
--- the model of the header, and the model of each attribute
-abbrev pub response_model : {H N V W : Type 0} → (H → V) → (N → W) → Reply H N → ResponseValue V W
-response_model header_model model reply =
-    record { header = header_model reply.header; nlas = map model reply.nlas.items }

@@ -1,0 +1,95 @@
+//! A reply about a socket of any family, read in place.
+
+ghost use Rattle.std.specs.Prelude.{◌≡◌, IfOk, IfErr};
+
+use netlink_core::{DecodeError, Emitable};
+use netlink_packet_sock_diag::{AF_NETLINK, AF_PACKET, SOCK_DIAG_BY_FAMILY, SockDiagView};
+use sock_diag_families::netlink::NetlinkResponseView;
+use sock_diag_families::packet::PacketResponseView;
+use sock_diag_families::vsock::{AF_VSOCK, VsockResponseView};
+use sock_diag_families::xdp::{AF_XDP, XdpResponseView};
+
+/// A reply about a socket of any family that is read here or in the port, read in place.
+#[derive(Clone, Copy, Debug, PartialEq, Eq)]
+pub enum AnySockDiagView<'a> {
+    /// Tells an IPv4, IPv6 or UNIX socket.
+    Port(SockDiagView<'a>),
+    /// Tells a netlink socket.
+    Netlink(NetlinkResponseView<'a>),
+    /// Tells a packet socket.
+    Packet(PacketResponseView<'a>),
+    /// Tells a vsock socket.
+    Vsock(VsockResponseView<'a>),
+    /// Tells an XDP socket.
+    Xdp(XdpResponseView<'a>),
+}
+
+impl<'a> AnySockDiagView<'a> {
+    ghost use Rattle.sock_diag_extras.specs.AnyMessage.{AnyReads, AnyRefuses, viewed_any};
+
+    /// Checks the whole of the bytes under a message type, and takes no memory. Under the type
+    /// `SOCK_DIAG_BY_FAMILY` a first byte `AF_NETLINK`, `AF_PACKET`, `AF_VSOCK` or `AF_XDP` chooses
+    /// the view of that family's replies. All else [`SockDiagView::parse`] decides, as fewer than 2
+    /// bytes, another type, and any other first byte.
+    pub fn parse(payload: &'a [u8], message_type: u16) -> Result<AnySockDiagView<'a>, DecodeError>
+        ensures value { IfOk result
+            (λ view. AnyReads payload.entry.now message_type (viewed_any view)) }
+        ensures fault { IfErr result (AnyRefuses payload.entry.now message_type) }
+    {
+        if payload.len() >= 2 && message_type == SOCK_DIAG_BY_FAMILY {
+            match payload[0] {
+                AF_NETLINK => {
+                    return Ok(AnySockDiagView::Netlink(NetlinkResponseView::parse(payload)?));
+                }
+                AF_PACKET => {
+                    return Ok(AnySockDiagView::Packet(PacketResponseView::parse(payload)?));
+                }
+                AF_VSOCK => return Ok(AnySockDiagView::Vsock(VsockResponseView::parse(payload)?)),
+                AF_XDP => return Ok(AnySockDiagView::Xdp(XdpResponseView::parse(payload)?)),
+                _ => {}
+            }
+        }
+        match SockDiagView::parse(payload, message_type) {
+            Ok(message) => Ok(AnySockDiagView::Port(message)),
+            Err(fault) => Err(fault),
+        }
+    }
+}
+
+/// The answer of the view that a message holds.
+macro_rules! held {
+    ($message:expr, $held:ident => $answer:expr) => {
+        match $message {
+            AnySockDiagView::Port($held) => $answer,
+            AnySockDiagView::Netlink($held) => $answer,
+            AnySockDiagView::Packet($held) => $answer,
+            AnySockDiagView::Vsock($held) => $answer,
+            AnySockDiagView::Xdp($held) => $answer,
+        }
+    };
+}
+
+/// Writes the bytes of the reply's canonical form, and takes no memory.
+impl Emitable for AnySockDiagView<'_> {
+    ghost use Rattle.sock_diag_extras.specs.AnyMessage.{AnyFits, any_bytes, viewed_any};
+
+    ghost bytes = { λ v. any_bytes (viewed_any v) };
+
+    ghost writable = { λ v. AnyFits (viewed_any v) };
+
+    fn is_writable(&self) -> bool {
+        held!(self, held => held.is_writable())
+    }
+
+    fn buffer_len(&self) -> usize {
+        held!(self, held => held.buffer_len())
+    }
+
+    fn writable_len(&self) -> Option<usize> {
+        held!(self, held => held.writable_len())
+    }
+
+    fn emit(&self, buffer: &mut [u8]) {
+        held!(self, held => held.emit(buffer))
+    }
+}

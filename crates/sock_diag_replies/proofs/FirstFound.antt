@@ -1,0 +1,141 @@
+-- The first content among the items that an iterator gives, as `find_map` finds it.
+use Rattle.std.proofs.Common.{Global, Vec, ◌≡◌, ℕ, zero, suc, ◌+◌, ◌<◌, List, [], ◌∷◌, ◌++◌, map}
+use Rattle.std.proofs.Common.{length, drop, Option, Some, None, MatchOption, IfSome, IsSome}
+use Rattle.std.proofs.Common.{IsSomeAnd, IsTrue, slice_get, Iter, Bor, refl, sym, ap, subst, ◌∙◌}
+use Rattle.std.proofs.Common.{arith, take-append-drop, true≢false}
+use Rattle.std.specs.Fn.{Called}
+use Rattle.std.specs.Iterator.{Yields, YieldsFirstBy}
+use Rattle.std.specs.Iterator.Runs.{SomeRun, YieldsRun, AllItemsGive, IsFirstToGive}
+use Rattle.std.specs.List.{filter_map, cons_option}
+use Rattle.std.specs.Slice.Iter.{iter_rest, iter_steps}
+use Rattle.std.proofs.lemmas.Iterator.{YieldsList}
+use Rattle.std.proofs.lemmas.Iterator.Consumers.{YieldsList-so_far, YieldsList-end}
+use Rattle.std.proofs.lemmas.Iterator.Consumers.{YieldsList-from_shown, YieldsList-from_first}
+use Rattle.netlink_core.specs.AttributeSet.{AttributeValue, ValueAt, content}
+use Rattle.netlink_core.specs.declared.attribute.NlaBuffer.{NlaBuffer}
+use Rattle.netlink_core.specs.declared.nla.DefaultNla.{DefaultNla}
+use Rattle.sock_diag_attributes.specs.declared.numbers.NumbersView.{NumbersView}
+use Rattle.sock_diag_attributes.specs.declared.unix.name.NameView.{NameView}
+use Rattle.sock_diag_attributes.specs.declared.unix.name.UnixDiagName.{UnixDiagName}
+use Rattle.sock_diag_attributes.specs.declared.unix.nlas.UnixNla.{UnixNla}
+use Rattle.sock_diag_attributes.specs.UnixModel.{nla_model, nla_view_model}
+use Rattle.sock_diag_attributes.specs.UnixAttributes.{unix}
+use Rattle.sock_diag_replies.specs.declared.view.AttributeViews.{AttributeViews}
+use Rattle.sock_diag_replies.specs.declared.view.ReplyHeader.{Ghosts}
+use Rattle.sock_diag_replies.specs.UnixGetters.{first_of}
+use Rattle.sock_diag_replies.specs.ViewModel.{left_in}
+use denote.Param.Members.{Mut}
+use lib.ListN.{length-map}
+
+-- what holds of a value where there is one
+module _ {A : Type 0} {P Q : A → Type 0} (weaker : (x : A) → P x → Q x) where
+  if_some : (o : Option A) → IfSome o P → IfSome o Q
+  if_some None h = h
+  if_some (Some x) h = weaker x h
+
+  some_and : (o : Option A) → IsSomeAnd o P → IsSomeAnd o Q
+  some_and None h = absurd h
+  some_and (Some x) h = weaker x h
+
+module _ {A B D : Type 0} (told : B → Option D) (v : A → B) where
+  -- the first content where the item in front tells this
+  abbrev as_prefix : List B → Option D → Option D
+  as_prefix more o = slice_get (cons_option o (filter_map told more)) 0
+
+  stays : (more : List B) (o : Option D) → IsSome o → as_prefix more o ≡ o
+  stays more None some = absurd (true≢false (sym some))
+  stays more (Some y) some = refl
+
+  -- among items without a content there is no first one
+  none_in : (xs : List A) → ((k : ℕ) → IfSome (slice_get xs k) (λ x. told (v x) ≡ None))
+      → first_of told (map v xs) ≡ None
+  none_in [] none = refl
+  none_in (x ∷ xs) none = ap (as_prefix (map v xs)) (none 0) ∙ none_in xs (λ k. none (suc k))
+
+  -- behind such items stands the first
+  first_at : (xs : List A) (i : ℕ) (more : List B) (o : Option D) → IsSome o
+      → IsSomeAnd (slice_get xs i) (λ x. told (v x) ≡ o)
+      → ((k : ℕ) → k < i → IsSomeAnd (slice_get xs k) (λ x. told (v x) ≡ None))
+      → first_of told (map v xs ++ more) ≡ o
+  first_at [] i more o some here none = absurd here
+  first_at (x ∷ xs) zero more o some here none = ap (as_prefix (map v xs ++ more)) here
+      ∙ stays (map v xs ++ more) o some
+  first_at (x ∷ xs) (suc i) more o some here none =
+      ap (as_prefix (map v xs ++ more)) (none 0 (omega arith)) ∙ first_at xs i more o some here
+      (λ k low. none (suc k) (omega arith))
+
+-- what `find_map` says of its answer
+abbrev Finds : {S A C F : Type 0} (steps : S → Option A → S → Type 0)
+    → Mut F (A × Unit {0}) (Option C) → S → F → Option C → Type 0
+Finds steps g s f r = SomeRun steps s (λ p. MatchOption r (IsTrue p.whole × AllItemsGive p g f None)
+    (λ y. (i : ℕ) × (i < p.len) × (p.len ≡ i + 1) × IsFirstToGive p g f (Some y) None i))
+
+module _ {A B C D F : Type 0} {g : Mut F (A × Unit {0}) (Option C)} {f : F} (v : A → B) (tells : B
+    → Option D) (shows : Option C → Option D)
+    (blank : shows None ≡ None) (filled : (y : C) → IsSome (shows (Some y)))
+    (told : (x : A) (o : Option C) (q : F) → Called g f (x, tt) o q → (q ≡ f)
+    × (shows o ≡ tells (v x))) where
+  -- what is found among all that an iterator gives
+  first_found : {S : Type 0} {steps : S → Option A → S → Type 0} {s : S} {all : List B}
+      → YieldsList steps v s all → (r : Option C) → Finds steps g s f r
+      → shows r ≡ first_of tells all
+  unfolding YieldsRun
+  first_found {steps = steps} {all = all} gives None (p, from, run) =
+      let none = run.1 (λ a o q c. (told a.0 o q c).0) in
+      let last = p.gave.0.2 run.0 in
+      let calls = subst (λ j. Yields steps j p.items p.gave.0.0) from p.gave.0.1 in
+      let items = (YieldsList-end gives p.items p.gave.0.0 calls None last.0 refl last.1).0 in
+      let empty = λ (k : ℕ). subst (λ o. IfSome o (λ x. tells (v x) ≡ None)) (p.gave.1 k)
+      (if_some (λ x c. sym (told x None f c).1 ∙ blank) (p.at k) (none k)) in
+      blank ∙ sym (ap (first_of tells) (sym items) ∙ none_in tells v p.items empty)
+  first_found {steps = steps} {all = all} gives (Some y) (p, from, run) =
+      let first = run.3 (λ a o q c. (told a.0 o q c).0) in
+      let calls = subst (λ j. Yields steps j p.items p.gave.0.0) from p.gave.0.1 in
+      let rest = drop (length p.items) all in
+      let front = YieldsList-so_far gives p.items p.gave.0.0 calls in
+      let parts : all ≡ map v p.items ++ rest =
+      sym (ap (λ ys. ys ++ rest) front ∙ take-append-drop (length p.items) all) in
+      let here = subst (λ o. IsSomeAnd o (λ x. tells (v x) ≡ shows (Some y))) (p.gave.1 run.0)
+      (some_and (λ x c. sym (told x (Some y) f c).1) (p.at run.0) first.0) in
+      let none = λ (k : ℕ) (low : k < run.0). subst (λ o. IsSomeAnd o (λ x. tells (v x) ≡ None))
+      (p.gave.1 k) (some_and (λ x c. sym (told x None f c).1 ∙ blank) (p.at k) (first.1 k low))
+      in
+      sym (ap (first_of tells) parts ∙ first_at tells v p.items run.0 rest (shows (Some y))
+      (filled y) here none)
+
+-- an attribute of a UNIX socket, owned and in place
+abbrev Nla : Type 0
+Nla = UnixNla UnixDiagName (Vec ℕ Global) DefaultNla
+
+abbrev NlaView : Type 0
+NlaView = UnixNla NameView NumbersView NlaBuffer
+
+-- in a list of attributes, what is said under a number
+pub first_owned : {C F : Type 0} {g : Mut F (Bor Nla × Unit {0}) (Option C)} {f : F} {s : Iter Nla}
+    (k : ℕ) (shows : Option C → Option (ValueAt unix k))
+    → shows None ≡ None → ((y : C) → IsSome (shows (Some y)))
+    → (xs : List Nla) → iter_rest s ≡ xs
+    → ((x : Bor Nla) (o : Option C) (q : F) → Called g f (x, tt) o q → (q ≡ f)
+    × (shows o ≡ content unix k (nla_model x.now)))
+    → (r : Option C) → Finds iter_steps g s f r
+    → shows r ≡ first_of (content unix k) (map nla_model xs)
+first_owned {s = s} k shows blank filled xs rest told =
+    let said = YieldsList-from_shown iter_steps (λ x. nla_model x.now)
+    (λ j. map nla_model (iter_rest j)) (λ j t h. length-map (iter_rest j) nla_model ∙ h.0)
+    (λ j x t h. ap (map nla_model) h) s in
+    first_found (λ x. nla_model x.now) (content unix k) shows blank filled told
+    (subst (λ ys. YieldsList iter_steps (λ x. nla_model x.now) s (map nla_model ys)) rest said)
+
+-- and in a walk over such as are read in place
+pub first_in_view : {H : Type 0} {of : Ghosts H} {C F : Type 0}
+    {g : Mut F (NlaView × Unit {0}) (Option C)} {f : F} {s : AttributeViews H of} (k : ℕ)
+    (shows : Option C → Option (ValueAt unix k))
+    → shows None ≡ None → ((y : C) → IsSome (shows (Some y)))
+    → (all : List (AttributeValue unix)) → left_in unix s ≡ all
+    → ((x : NlaView) (o : Option C) (q : F) → Called g f (x, tt) o q → (q ≡ f)
+    × (shows o ≡ content unix k (nla_view_model x)))
+    → (r : Option C) → Finds (YieldsFirstBy nla_view_model (left_in unix)) g s f r
+    → shows r ≡ first_of (content unix k) all
+first_in_view k shows blank filled all rest told =
+    first_found nla_view_model (content unix k) shows blank filled told
+    (YieldsList-from_first nla_view_model (left_in unix) all rest)

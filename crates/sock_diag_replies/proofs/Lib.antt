@@ -1,0 +1,2 @@
+mod FirstFound
+mod NoFault

@@ -1,0 +1,14 @@
+use Rattle.std.proofs.Common.{◌∙◌, ℕ, List, Bor, refl, sym}
+use Rattle.netlink_core.specs.Walk.{attribute_of}
+use Rattle.netlink_core.proofs.ValueTests.{value_test}
+use Rattle.sock_diag_attributes.specs.EqualInetLaws.{inet_tests, tests}
+use Rattle.sock_diag_attributes.specs.InetAttributes.{inet}
+use Rattle.sock_diag_attributes.specs.LentLaws.{buffer_row, text_view_row}
+use Rattle.sock_diag_replies.specs.EqualResponseLaws.{then_rest}
+use Rattle.sock_diag_replies.proofs.inet.reply.InetResponseHeaderReplyHeader.is_same.Goals as goal
+
+pub returns-then-eq : goal.returns-then-eq
+returns-then-eq c =
+    then_rest (sym c.eq.ensures ∙ c.if-eq.true)
+    (c.same_views.ensures (value_test inet inet_tests) (tests text_view_row buffer_row _ _
+    (λ (t : Bor (List ℕ)). t.now) attribute_of (λ _ _. refl) (λ _ _. refl)))

@@ -1,0 +1,57 @@
+use Rattle.std.proofs.Common.{ℕ, List, length, drop, ap, subst, inl, ◌∙◌, arith}
+use Rattle.std.proofs.lemmas.List.{take_rest}
+use Rattle.std.proofs.lemmas.Result.{err_from_is_err_and}
+use Rattle.netlink_core.specs.Bytes.{IsBytes}
+use Rattle.netlink_core.specs.AttributeSet.{decodes}
+use Rattle.netlink_core.specs.Response.{response_codec}
+use Rattle.attribute_lists.specs.AttributesIn.{values_in}
+use Rattle.attribute_lists.proofs.Finding.{response_accepted, behind_refused, accepted_means}
+use Rattle.sock_diag_replies.proofs.view.ReplyView.parse.Goals as goal
+
+pub returns-in_err-_header-clause-named : goal.returns-in_err-_header-clause-named
+returns-in_err-_header-clause-named g c =
+    let p = err_from_is_err_and c.from_residual.result c.from_residual.ensures.1 in
+    let fault = inl c.in_err-_header.ensures.fault in
+    let refuses = (response_codec g.H.ReplyHeader.reply).refuses c.args.bytes.now tt in
+    rw (p.1, p.2) (λ memory. g.met.H.ReplyHeader.keeps.named_fault _ tt
+    (subst refuses memory fault))
+
+pub returns-in_err-count-clause-fault : goal.returns-in_err-count-clause-fault
+returns-in_err-count-clause-fault g c =
+    let residual = c.from_residual-in_err-count in
+    let p = err_from_is_err_and residual.result residual.ensures.1 in
+    let bytes = c.args.bytes.now in
+    let part = take_rest bytes _ ∙ ap (λ (n : ℕ). drop n bytes) c.length.ensures in
+    rw (p.1, p.2)
+    (behind_refused g.H.ReplyHeader.reply _ _ part _ _ c.in_ok-_header.ensures.value
+    c.in_err-count.ensures.fault)
+
+pub returns-in_err-count-clause-named : goal.returns-in_err-count-clause-named
+returns-in_err-count-clause-named g c =
+    let residual = c.from_residual-in_err-count in
+    let p = err_from_is_err_and residual.result residual.ensures.1 in
+    let bytes = c.args.bytes.now in
+    let part = take_rest bytes _ ∙ ap (λ (n : ℕ). drop n bytes) c.length.ensures in
+    let refused = behind_refused g.H.ReplyHeader.reply _ _ part _ _ c.in_ok-_header.ensures.value
+    c.in_err-count.ensures.fault in
+    let refuses = (response_codec g.H.ReplyHeader.reply).refuses c.args.bytes.now tt in
+    rw (p.1, p.2) (λ memory. g.met.H.ReplyHeader.keeps.named_fault _ tt
+    (subst refuses memory refused))
+
+pub invariant_of-result : goal.invariant_of-result
+invariant_of-result g c =
+    let R = g.H.ReplyHeader.reply in
+    let bytes = c.args.bytes.now in
+    let part = take_rest bytes _ ∙ ap (λ (n : ℕ). drop n bytes) c.length.ensures in
+    record {
+      long = g.met.H.ReplyHeader.enough c.args.bytes.now _ c.in_ok-_header.ensures.value;
+      accepted = response_accepted R _ _ part _ c.in_ok-_header.ensures.value
+          c.in_ok-count.ensures.clean;
+      counted = c.in_ok-count.ensures.count
+          ∙ ap (λ (b : List ℕ). length (values_in (decodes R.attribute_set) b)) part;
+    }
+
+pub returns-clause-value : goal.returns-clause-value
+returns-clause-value g c =
+    let in_range : IsBytes c.args.bytes.now = λ i. omega (arith, c.type_inv.bytes i) in
+    search (in_range, accepted_means g.H.ReplyHeader.reply c.args.bytes.now)

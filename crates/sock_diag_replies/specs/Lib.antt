@@ -1,0 +1,11 @@
+pub mod UnixResponseSpec
+pub mod UnixResponseSpecLaws
+pub mod UnixResponseModel
+pub mod UnixGetters
+pub mod InetResponseSpec
+pub mod InetResponseSpecLaws
+pub mod ResponseModel
+pub mod ResponseKind
+pub mod ViewModel
+pub mod EqualResponseLaws
+pub mod HeaderLaws

@@ -1,0 +1,18 @@
+-- What the getters of a reply about a UNIX socket answer.
+use Rattle.std.specs.Prelude.{ℕ, ◌==◌, if◌then◌else◌, List, Option, None, slice_get}
+use Rattle.std.specs.List.{filter_map}
+use Rattle.netlink_core.specs.AttributeSet.{content}
+use Rattle.sock_diag_attributes.specs.UnixAttributes.{unix}
+use Rattle.sock_diag_replies.specs.UnixResponseSpec.{UnixResponseValue}
+
+-- the first content that an element of the list has
+abbrev pub first_of : {A B : Type 0} → (A → Option B) → List A → Option B
+first_of content xs = slice_get (filter_map content xs) 0
+
+-- the lengths of the queues of a listening socket, whose state is 10
+abbrev pub listening_queue_of : UnixResponseValue → Option (ℕ × ℕ)
+listening_queue_of v = if v.header.state == 10 then first_of (content unix 4) v.nlas else None
+
+-- those of any other socket
+abbrev pub other_queue_of : UnixResponseValue → Option (ℕ × ℕ)
+other_queue_of v = if v.header.state == 10 then None else first_of (content unix 4) v.nlas

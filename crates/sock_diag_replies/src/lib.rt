@@ -1,0 +1,16 @@
+//! Replies of sock_diag(7) about a socket, read in place and with memory of their own: a header, and
+//! then attributes.
+#![tactic(auto)]
+
+pub mod inet;
+mod reply;
+mod response;
+pub mod unix;
+mod view;
+
+pub use attribute_lists::CheckedNlas;
+pub use reply::same_views;
+pub use view::AttributeViews;
+pub use view::ReplyHeader;
+pub use view::ReplyView;
+pub use view::ReplyViews;

@@ -1,0 +1,265 @@
+//! A reply of any family, with memory of its own.
+
+ghost use Rattle.std.specs.Prelude.{◌≡◌, ◌≤◌, ◌↔◌, ℕ, List, [], length, drop, map, IfOk, IsOk};
+ghost use Rattle.std.specs.Prelude.{OnOk, IsTrue, true, refl};
+ghost use Rattle.std.specs.List.{AllByRecursion};
+ghost use Rattle.netlink_core.specs.Attribute.{AttributeFault};
+ghost use Rattle.netlink_core.specs.Codec.{KeepsLaws};
+ghost use Rattle.netlink_core.specs.declared.fault.DecodeError.{DecodeError};
+ghost use Rattle.netlink_core.specs.AttributeSet.{decodes, encodes, IsSpareBy};
+ghost use Rattle.netlink_core.specs.Response.{response_bytes, response_codec};
+ghost use Rattle.attribute_lists.specs.AttributesIn.{HasNoFault, response_behind, response_with};
+ghost use Rattle.attribute_lists.specs.AttributesIn.{values_in};
+
+use crate::reply::{emit_reply, fitting_reply_len, reply_len, without_memory};
+use crate::view::{ReplyHeader, ReplyView};
+use attribute_lists::{copy_nlas, nlas_in_range, own_nlas};
+use netlink_core::{
+    CanonError, Coded, DecodeError, Emitable, Exact, FamilyNla, Parseable, Readable, Wire,
+    write_new,
+};
+use smallvec::SmallVec;
+use std::alloc::{AllocError, Global};
+use std::fmt::{self, Debug, Formatter};
+
+/// A reply: the header, and the attributes that were asked for, in the order that they came.
+#[derive(Drop, PartialEq, Eq)]
+pub struct Reply<H, N> {
+    /// The header, which tells the socket.
+    pub header: H,
+    /// The attributes. Up to eight stand in the value itself.
+    pub nlas: SmallVec<N, 8>,
+}
+
+/// The same header, and what the attributes behind it are kept as.
+pub trait ReplyOwned: ReplyHeader + Exact + Emitable {
+    /// An attribute, with memory of its own.
+    type Nla: FamilyNla;
+
+    /// The name of such a reply, as `Debug` prints it.
+    const REPLY: &'static str;
+
+    /// Tells the prover that the header's numbers are within their types. It does nothing.
+    fn header_in_range(&self)
+        ensures { Self.reply.header.is_in_range (Self.header_model self.now) };
+
+    // `==` compares what a header tells, and it is written as that.
+    ghost eq_is_model: { (v w : Self) → IsTrue (Self.PartialEq.eq v w)
+        ↔ (Self.ReplyHeader.header_model v ≡ Self.ReplyHeader.header_model w) };
+
+    ghost written: { (header : Self) → Self.Emitable.bytes header
+        ≡ Self.ReplyHeader.reply.header.bytes (Self.ReplyHeader.header_model header) };
+
+    ghost fits: { (header : Self) → Self.Emitable.writable header };
+
+    // The attributes are those of the reply's family, and a reply keeps the laws.
+    ghost same: { let set = Self.Nla.FamilyNla.attribute_set in
+        let view_set = Self.ReplyHeader.reply.attribute_set in
+        ((b : List ℕ) (e : DecodeError)
+        → AttributeFault (decodes view_set) b e → AttributeFault (decodes set) b e)
+        × ((b : List ℕ) → HasNoFault (decodes view_set) b → HasNoFault (decodes set) b)
+        × ((b : List ℕ) → length (values_in (decodes view_set) b)
+        ≡ length (values_in (decodes set) b))
+        × ((b : List ℕ) → map (encodes view_set) (values_in (decodes view_set) b)
+        ≡ map (encodes set) (values_in (decodes set) b)) };
+
+    ghost keeps: { KeepsLaws (response_codec
+        (response_with Self.ReplyHeader.reply Self.Nla.FamilyNla.attribute_set)) };
+}
+
+impl<H: ReplyOwned + Debug, N: Debug> Debug for Reply<H, N> {
+    fn fmt<W: fmt::Write>(&self, f: &mut Formatter<W>) -> fmt::Result {
+        f.debug_struct(H::REPLY)
+            .field("header", &self.header)
+            .field("nlas", &self.nlas)
+            .finish()
+    }
+}
+
+impl<H: ReplyOwned> Reply<H, H::Nla> {
+    ghost use Rattle.sock_diag_replies.specs.ResponseModel.{response_model};
+
+    /// An equal reply. It fails only for want of memory, which up to eight attributes that need
+    /// none do not want.
+    pub fn clone(&self, alloc: Global) -> Result<Self, AllocError>
+        ensures equal { IfOk result (λ copy.
+            response_model H.header_model H.Nla.FamilyNla.model copy
+            ≡ response_model H.header_model H.Nla.FamilyNla.model
+            self.now) }
+        ensures spare { (response_codec (response_with H.reply
+            H.Nla.FamilyNla.attribute_set)).is_spare
+            (response_model H.header_model H.Nla.FamilyNla.model self.now)
+            → IsOk result }
+    {
+        let nlas = copy_nlas(alloc, self.nlas.as_slice())?;
+        Ok(Reply {
+            header: self.header.clone()?,
+            nlas,
+        })
+    }
+}
+
+impl<H, N> Readable for Reply<H, N> {
+    const TAKES_MEMORY: bool = true;
+
+    ghost TAKES_MEMORY = { true };
+}
+
+impl<'a, H: ReplyOwned> Parseable<&'a [u8]> for Reply<H, H::Nla> {
+    /// Reads the header, and then the attributes up to the end of the bytes. A fault of the header
+    /// is returned, or else the first fault of an attribute.
+    #[inline(always)]
+    fn parse(alloc: Global, payload: &'a [u8]) -> Result<Self, DecodeError> {
+        let view = ReplyView::<H>::parse(payload)?;
+        let mut nlas = SmallVec::new(alloc);
+        if view.own_into(alloc, &mut nlas).is_err() {
+            return Err(without_memory(nlas));
+        }
+        Ok(Reply {
+            header: view.header(),
+            nlas,
+        })
+    }
+}
+
+impl<H: ReplyOwned> ReplyView<'_, H> {
+    ghost use Rattle.sock_diag_replies.specs.ResponseModel.{response_model};
+    ghost use Rattle.sock_diag_replies.specs.ViewModel.{view_model};
+
+    // Puts the attributes, with memory of their own, into the empty list. They are not moved again
+    // where the list is already in its place.
+    fn own_into(&self, alloc: Global, nlas: &mut SmallVec<H::Nla, 8>) -> Result<(), AllocError>
+        requires { nlas.old.items ≡ [] }
+        ensures equal { OnOk result (map H.Nla.FamilyNla.model nlas.new.items
+            ≡ values_in (decodes H.Nla.FamilyNla.attribute_set)
+            (drop H.reply.size self.now.bytes.now)) }
+        ensures spare { let set = H.Nla.FamilyNla.attribute_set in
+            let values = values_in (decodes set) (drop H.reply.size self.now.bytes.now) in
+            nlas.old.capacity ≡ 8
+            → (length values ≤ 8) × AllByRecursion (IsSpareBy set) values
+            → IsOk result }
+    {
+        if self.count() == 0 {
+            return Ok(());
+        }
+        own_nlas(alloc, self.attribute_bytes(), self.count(), nlas)
+    }
+
+    /// The reply with memory of its own. It fails only for want of memory.
+    pub fn to_owned(&self, alloc: Global) -> Result<Reply<H, H::Nla>, AllocError>
+        ensures equal { IfOk result (λ reply.
+            response_model H.header_model H.Nla.FamilyNla.model reply
+            ≡ response_behind (response_with H.reply H.Nla.FamilyNla.attribute_set)
+            (view_model self.now).header
+            (drop H.reply.size self.now.bytes.now)) }
+        ensures spare { (response_codec (response_with H.reply
+            H.Nla.FamilyNla.attribute_set)).is_spare
+            (response_behind (response_with H.reply H.Nla.FamilyNla.attribute_set)
+            (view_model self.now).header
+            (drop H.reply.size self.now.bytes.now)) → IsOk result }
+    {
+        let mut nlas = SmallVec::new(alloc);
+        self.own_into(alloc, &mut nlas)?;
+        Ok(Reply {
+            header: self.header(),
+            nlas,
+        })
+    }
+
+    /// The same in a box: the attributes are built where they stay.
+    #[inline(always)]
+    pub fn to_boxed(&self, alloc: Global) -> Result<Box<Reply<H, H::Nla>>, AllocError>
+        ensures { IfOk result (λ reply. response_model H.header_model H.Nla.FamilyNla.model
+            reply.value
+            ≡ response_behind (response_with H.reply H.Nla.FamilyNla.attribute_set)
+            (view_model self.now).header
+            (drop H.reply.size self.now.bytes.now)) }
+    {
+        let empty = Reply {
+            header: self.header(),
+            nlas: SmallVec::new(alloc),
+        };
+        let mut boxed = Box::new(alloc, empty)?;
+        self.own_into(alloc, &mut boxed.nlas)?;
+        Ok(boxed)
+    }
+}
+
+impl<H: ReplyOwned> Emitable for Reply<H, H::Nla> {
+    ghost use Rattle.sock_diag_replies.specs.ResponseModel.{response_model};
+
+    ghost bytes = { λ v. response_bytes (response_with H.reply H.Nla.FamilyNla.attribute_set)
+        (response_model H.header_model H.Nla.FamilyNla.model v) };
+
+    ghost writable = { λ v. (response_codec
+        (response_with H.reply H.Nla.FamilyNla.attribute_set)).fits
+        (response_model H.header_model H.Nla.FamilyNla.model v) };
+
+    fn is_writable(&self) -> bool {
+        self.writable_len().is_some()
+    }
+
+    fn buffer_len(&self) -> usize {
+        fitting_reply_len(&self.header, self.nlas.as_slice())
+    }
+
+    fn writable_len(&self) -> Option<usize> {
+        reply_len(&self.header, self.nlas.as_slice())
+    }
+
+    fn emit(&self, buffer: &mut [u8]) {
+        emit_reply(&self.header, self.nlas.as_slice(), buffer);
+    }
+}
+
+impl<H: ReplyOwned> Coded for Reply<H, H::Nla> {
+    ghost use Rattle.sock_diag_replies.specs.EqualResponseLaws.{responses_equal};
+    ghost use Rattle.sock_diag_replies.specs.ResponseModel.{response_model};
+
+    type Param = ();
+
+    ghost codec = { response_codec (response_with H.reply H.Nla.FamilyNla.attribute_set) };
+
+    ghost model = { response_model H.header_model H.Nla.FamilyNla.model };
+
+    ghost type_written = { λ _. 0 };
+
+    fn in_range(&self) {
+        self.header.header_in_range();
+        nlas_in_range(self.nlas.as_slice());
+    }
+
+    ghost eq_is_model = { responses_equal H.header_model H.Nla.FamilyNla.model
+        H.ReplyOwned.eq_is_model
+        H.Nla.FamilyNla.eq_is_model };
+
+    ghost laws = { H.ReplyOwned.keeps };
+}
+
+impl<H: ReplyOwned> Wire for Reply<H, H::Nla> {
+    // The same as `parse`, which is inlined where it is called: a reply that is passed on takes a
+    // move of 2,000 bytes.
+    fn read(alloc: Global, bytes: &[u8], _param: ()) -> Result<Self, DecodeError> {
+        let view = ReplyView::<H>::parse(bytes)?;
+        let mut nlas = SmallVec::new(alloc);
+        if view.own_into(alloc, &mut nlas).is_err() {
+            return Err(without_memory(nlas));
+        }
+        Ok(Reply {
+            header: view.header(),
+            nlas,
+        })
+    }
+
+    // Written from the view: no value with memory of its own is made.
+    fn rewrite(alloc: Global, bytes: &[u8], _param: ()) -> Result<Vec<u8>, CanonError> {
+        match ReplyView::<H>::parse(bytes) {
+            Ok(view) => write_new(alloc, &view),
+            Err(fault) => Err(CanonError::Refused(fault)),
+        }
+    }
+
+    ghost written_is = { λ _. refl };
+
+    ghost fits_is = { λ _. (λ h. h, λ h. h) };
+}

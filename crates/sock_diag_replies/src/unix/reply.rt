@@ -1,0 +1,108 @@
+//! The reply about one UNIX socket, with memory of its own and read in place.
+
+ghost use Rattle.std.specs.Prelude.{refl};
+ghost use Rattle.netlink_core.proofs.Responses.{responses_keep_laws};
+ghost use Rattle.sock_diag_replies.specs.UnixResponseSpec.{unix_response_spec};
+ghost use Rattle.sock_diag_replies.specs.UnixResponseSpecLaws.{header_enough};
+ghost use Rattle.sock_diag_replies.specs.UnixResponseSpecLaws.{unix_response_laws};
+ghost use Rattle.sock_diag_replies.specs.UnixResponseSpecLaws.{unix_test, unix_test_decides};
+ghost use Rattle.sock_diag_records.specs.contracts.unix.response.UnixResponseHeaderExact.TheImpl.Laws.{exact-law as exact_header};
+
+use crate::reply::{emit_reply_view, reply_view_len, same_views};
+use crate::response::{Reply, ReplyOwned};
+use crate::unix::UnixResponseHeader;
+use crate::unix::nlas::{Nla, NlaView};
+use crate::view::{AttributeViews, ReplyHeader, ReplyView, ReplyViews};
+use attribute_lists::check_nlas;
+use netlink_core::{Coded, DecodeError};
+
+/// The number of bytes of the header.
+const LENGTH: usize = 16;
+
+/// The reply about one UNIX socket: the header, and the attributes that were asked for, in
+/// the order that they came.
+///
+/// Of `parse`, fewer than 16 bytes are `BufferTooSmall`; after that the first fault of the
+/// attributes counts.
+pub type UnixResponse = Reply<UnixResponseHeader, Nla>;
+
+/// The attributes of a reply about a UNIX socket, read in place, in the order that they came.
+pub type NlaViews<'a> = AttributeViews<'a, UnixResponseHeader>;
+
+/// The reply about one UNIX socket, read in place: a
+/// [`UnixResponse`](super::UnixResponse) whose bytes are borrowed.
+///
+/// Of `parse`, fewer than 16 bytes are `BufferTooSmall`; else the first fault of an attribute is
+/// told.
+pub type UnixResponseView<'a> = ReplyView<'a, UnixResponseHeader>;
+
+impl ReplyHeader for UnixResponseHeader {
+    const VIEW: &'static str = "UnixResponseView";
+
+    ghost reply = { unix_response_spec };
+
+    ghost header_model = { λ header. header };
+
+    ghost test = { unix_test };
+
+    #[inline(always)]
+    fn length() -> usize {
+        LENGTH
+    }
+
+    #[inline(always)]
+    fn read_header(bytes: &[u8]) -> Result<Self, DecodeError> {
+        UnixResponseHeader::from_prefix(bytes)
+    }
+
+    #[inline(always)]
+    fn check(bytes: &[u8]) -> Result<usize, DecodeError> {
+        check_nlas::<NlaView<'_>>(bytes)
+    }
+
+    fn is_same(&self, left: &[u8], other: &Self, right: &[u8]) -> bool {
+        self == other && same_views::<NlaView<'_>>(left, right)
+    }
+
+    #[inline(always)]
+    fn len_with(&self, bytes: &[u8]) -> Option<usize> {
+        reply_view_len::<_, NlaView<'_>>(self, bytes)
+    }
+
+    #[inline(always)]
+    fn emit_with(&self, bytes: &[u8], buffer: &mut [u8]) {
+        emit_reply_view::<_, NlaView<'_>>(self, bytes, buffer);
+    }
+
+    ghost enough = { header_enough };
+
+    ghost keeps = { responses_keep_laws unix_response_spec unix_response_laws };
+
+    ghost compared = { unix_test_decides };
+}
+
+impl<'a> ReplyViews<'a> for UnixResponseHeader {
+    type View = NlaView<'a>;
+
+    ghost same = { (λ _. (λ h. h, λ h. h), λ _. refl) };
+}
+
+impl ReplyOwned for UnixResponseHeader {
+    type Nla = Nla;
+
+    const REPLY: &'static str = "UnixResponse";
+
+    fn header_in_range(&self) {
+        self.in_range();
+    }
+
+    ghost eq_is_model = { exact_header.0 };
+
+    ghost written = { λ _. refl };
+
+    ghost fits = { λ _. tt };
+
+    ghost same = { (λ _ _ h. h, λ _ h. h, λ _. refl, λ _. refl) };
+
+    ghost keeps = { responses_keep_laws unix_response_spec unix_response_laws };
+}
