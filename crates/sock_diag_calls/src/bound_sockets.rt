@@ -1,4 +1,4 @@
-//! The name in a reply about a UNIX socket, by `netlink_packet_sock_diag`.
+//! The name in a reply about a UNIX socket, by `sock_diag_replies`.
 
 ghost use Rattle.std.specs.Prelude.{◌≡◌, ◌↔◌, Some, IsTrue, IfOk, IfErr};
 ghost use Rattle.netlink_core.specs.AttributeSet.{content};
@@ -10,8 +10,8 @@ ghost use Rattle.sock_diag_replies.specs.UnixResponseSpec.{UnixResponseValue};
 ghost use Rattle.sock_diag_replies.specs.UnixResponseSpec.{unix_response_spec};
 
 use netlink_core::DecodeError;
-use netlink_packet_sock_diag::unix::UnixResponseView;
-use netlink_packet_sock_diag::unix::nlas::NameView;
+use sock_diag_replies::unix::UnixResponseView;
+use sock_diag_replies::unix::nlas::NameView;
 
 /// Whether a reply about a UNIX socket tells that it is bound to this path.
 pub fn is_bound_to(reply: &[u8], path: &[u8]) -> Result<bool, DecodeError>

@@ -2,7 +2,6 @@
 //! worked out by hand from the kernel's headers, as are the requests.
 
 use netlink_core::{DecodeError, Emitable, write_new};
-use sock_diag_families::AnySockDiagView;
 use sock_diag_families::netlink::{self, NetlinkRequest, NetlinkResponseView};
 use sock_diag_families::packet::{self, PacketResponseView};
 use sock_diag_families::vsock::{VsockRequest, VsockResponseView};
@@ -109,26 +108,4 @@ fn what_the_headers_say(rt: HostRuntime) -> Result<(), Fail> {
     };
     let row = "10ff0000000000000b0000000000000000000000";
     writes(&rt, alloc, &netlink, row)
-}
-
-// By the first byte, under the type 20.
-#[test]
-fn any_family(rt: HostRuntime) -> Result<(), Fail> {
-    let alloc = rt.alloc();
-    let unix = "01010a000e4f0000a002000000000000";
-    for digits in [NETLINK, PACKET, VSOCK, XDP, unix] {
-        let bytes = hex::decode(alloc, digits)?;
-        writes(&rt, alloc, &AnySockDiagView::parse(&bytes, 20)?, digits)?;
-    }
-    let short = "BufferTooSmall { which: FamilyResponseHeader { family: 16 }, got: 5, need: 28 }";
-    for (bytes, message_type, fault) in [
-        (&[16, 3, 0, 7, 1][..], 20, short),
-        (&[16][..], 20, "MessageTooShort { got: 1 }"),
-        (&[16, 3][..], 3, "UnknownMessageType { message_type: 3 }"),
-        (&[29, 3][..], 20, "UnknownFamily { family: 29 }"),
-    ] {
-        let refused = AnySockDiagView::parse(bytes, message_type);
-        shows(&rt, alloc, &refused, fault)?;
-    }
-    Ok(())
 }

@@ -1,5 +1,4 @@
-//! Replies of sock_diag(7) about a socket, read in place and with memory of their own: a header, and
-//! then attributes.
+//! Replies of sock_diag(7), in place and with memory of their own: a header, and then attributes.
 #![tactic(auto)]
 
 pub mod inet;
