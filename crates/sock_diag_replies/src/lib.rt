@@ -9,7 +9,4 @@ mod view;
 
 pub use attribute_lists::CheckedNlas;
 pub use reply::same_views;
-pub use view::AttributeViews;
-pub use view::ReplyHeader;
-pub use view::ReplyView;
-pub use view::ReplyViews;
+pub use view::{AttributeViews, ReplyHeader, ReplyView, ReplyViews};

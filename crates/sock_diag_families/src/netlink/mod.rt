@@ -5,8 +5,8 @@ mod response;
 
 use crate::ShowRequest;
 pub use attributes::{flags, groups, memory};
-use sock_diag_records::constants::AF_NETLINK;
 pub use response::{NetlinkResponseHeader, NetlinkResponseView};
+use sock_diag_records::constants::AF_NETLINK;
 
 /// The request for netlink sockets: `struct netlink_diag_req`. Its protocol is one of
 /// `linux/netlink.h`, or [`NDIAG_PROTO_ALL`]; what it shows are bits `NDIAG_SHOW_..`.

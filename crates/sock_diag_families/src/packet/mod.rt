@@ -7,8 +7,8 @@ use crate::ShowRequest;
 pub use attributes::{
     PacketInfo, PacketRing, addresses, fanout, filter, info, memory, owner, receive_ring, send_ring,
 };
-use sock_diag_records::constants::AF_PACKET;
 pub use response::{PacketResponseHeader, PacketResponseView};
+use sock_diag_records::constants::AF_PACKET;
 
 /// The request for packet sockets: `struct packet_diag_req`. Its protocol is 0, and what it shows
 /// are bits `PACKET_SHOW_..`.
