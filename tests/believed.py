@@ -9,7 +9,7 @@ code, and what the kit defines is the kit's: the way ends there.
     tests/believed.py             each definition that is reached: module: name, lines, comment; sums; and what is odd
     tests/believed.py --lines     the lines that are reached in each module, most first
     tests/believed.py --private   the clauses and members of private functions and traits are roots too
-    tests/believed.py --beside    the lines that the contracts of each crate beside the port reach in its own specs/
+    tests/believed.py --beside    the lines that the contracts of each crate beside the port reach in its own specs/; and what is odd
 
 It fails, with status 1, where a name resolves to nothing, a ghost member is in none of the two lists below, something
 stands in the wrong place (what has to be believed, lemmas, and the words of private functions stand in modules apart), or
@@ -334,8 +334,9 @@ def main():
         for crate in BESIDE:
             modules = (module for module in specs.modules.values() if module.name.startswith(crate + "."))
             print(f"{crate}: {sum(module.lines(lambda item: item.reached == 'promise') for module in modules)} lines")
-        print("\n".join(specs.faults), file=sys.stderr)
-        return int(bool(specs.faults))
+        odd = [one for one in odd_things(specs, {"promise", "private"}) if one.startswith(tuple(BESIDE))]
+        print(*specs.faults, *odd, sep="\n", end="\n" * bool(specs.faults or odd), file=sys.stderr)
+        return int(bool(specs.faults or odd))
     counted = {"promise", "private"} if "--private" in flags else {"promise"}
     sizes = {module.name: module.lines(lambda item: item.reached in counted) for module in specs.modules.values()}
     odd = list(odd_things(specs, counted))

@@ -36,7 +36,6 @@ use crate::names::push_shown;
 use crate::options::{Detail, Family, Options};
 use crate::pieces::next_piece;
 use byteorder::{ByteOrder, LittleEndian};
-use netlink_core::fields::words_at;
 use netlink_core::{DecodeError, NlaBuffer, NlasIterator};
 use netlink_packet_sock_diag::constants::{
     INET_DIAG_BBRINFO, INET_DIAG_CONG, INET_DIAG_DCTCPINFO, INET_DIAG_INFO, INET_DIAG_MEMINFO,
@@ -46,7 +45,7 @@ use netlink_packet_sock_diag::constants::{
 use netlink_packet_sock_diag::inet::nlas::{LegacyMemInfo, MemInfo, NlaView as InetView, TcpInfo};
 use netlink_packet_sock_diag::unix::nlas::{NlaView as UnixView, NumbersView};
 use sock_diag_families::netlink::{NETLINK_DIAG_GROUPS, NETLINK_DIAG_MEMINFO};
-use sock_diag_families::packet::{PACKET_DIAG_INFO, PACKET_DIAG_MEMINFO};
+use sock_diag_families::packet::{PACKET_DIAG_INFO, PACKET_DIAG_MEMINFO, PacketInfo};
 use sock_diag_families::xdp::XDP_DIAG_MEMINFO;
 use std::alloc::AllocError;
 
@@ -401,14 +400,12 @@ fn push_packet_info(text: &mut Vec<u8>, nla: &NlaBuffer<'_>) -> Result<(), Alloc
     ensures { OnOk result (text.new.items ≡ text.old.items
         ++ packet_text (attribute_of nla.now) (packet_info (attribute_of nla.now).value)) }
 {
-    let value = nla.value();
-    if value.len() < 24 {
+    let Ok(info) = PacketInfo::parse(nla.value()) else {
         return push_unknown(text, nla);
-    }
-    let [_, version, _, copy_threshold, _, flags] = words_at::<6>(value, 0);
-    push_detail(text, b"ver", version.into())?;
-    push_detail(text, b"cpy_thresh", copy_threshold.into())?;
-    push_packet_flags(text, (flags % 256) as u8)
+    };
+    push_detail(text, b"ver", info.version.into())?;
+    push_detail(text, b"cpy_thresh", info.copy_threshold.into())?;
+    push_packet_flags(text, (info.flags % 256) as u8)
 }
 
 /// Adds a word for each of the bits that a packet socket is set to.

@@ -1,4 +1,5 @@
 pub mod WholeReply
+pub mod WholeReplyLaws
 pub mod Found
 pub mod ShowRequest
 pub mod VsockRequest
@@ -8,3 +9,4 @@ pub mod PacketResponseHeader
 pub mod PacketAttributes
 pub mod XdpResponseHeader
 pub mod XdpAttributes
+pub mod RecordLaws

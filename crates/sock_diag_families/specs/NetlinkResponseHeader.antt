@@ -1,10 +1,8 @@
 -- The header of a reply about a netlink socket: 28 bytes, the byte at 0 not read and written 16.
-use Rattle.std.specs.Prelude.{⊤, ℕ, List, [], ◌∷◌, ◌++◌, slice_index, refl}
+use Rattle.std.specs.Prelude.{⊤, ℕ, List, [], ◌∷◌, ◌++◌, slice_index}
 use Rattle.netlink_core.specs.Layout.{Layout, plain}
-use Rattle.netlink_core.specs.SoundLaws.{IsSound}
 use Rattle.netlink_core.specs.Table.{bytes_at, number, numbers, unread, little_endian}
 use Rattle.netlink_core.specs.declared.fault.RecordName.TheVariants as name
-use Rattle.netlink_core.proofs.LayoutLaws.{plain_sound}
 use Rattle.sock_diag_families.specs.declared.netlink.response.NetlinkResponseHeader.{NetlinkResponseHeader}
 
 -- the header with the numbers of its fields
@@ -28,6 +26,3 @@ netlink_header = plain (name.FamilyResponseHeader 16) 28
     (λ value. value.kind ∷ value.protocol ∷ value.state ∷ value.port ∷ value.destination_port
     ∷ value.destination_group ∷ value.inode ∷ value.cookie ∷ [])
     netlink_header_of (λ value. ⊤)
-
-pub netlink_header_sound : IsSound netlink_header
-netlink_header_sound = plain_sound refl (λ _. refl) (λ _. refl) (λ _. tt) (λ _ _. refl)

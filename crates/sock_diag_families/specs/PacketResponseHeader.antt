@@ -1,10 +1,8 @@
 -- The header of a reply about a packet socket: 16 bytes, the byte at 0 not read and written 17.
-use Rattle.std.specs.Prelude.{⊤, ℕ, List, [], ◌∷◌, slice_index, refl}
+use Rattle.std.specs.Prelude.{⊤, ℕ, List, [], ◌∷◌, slice_index}
 use Rattle.netlink_core.specs.Layout.{Layout, plain}
-use Rattle.netlink_core.specs.SoundLaws.{IsSound}
 use Rattle.netlink_core.specs.Table.{byte, number, unread, little_endian}
 use Rattle.netlink_core.specs.declared.fault.RecordName.TheVariants as name
-use Rattle.netlink_core.proofs.LayoutLaws.{plain_sound}
 use Rattle.sock_diag_families.specs.declared.packet.response.PacketResponseHeader.{PacketResponseHeader}
 
 -- the header with the numbers of its fields
@@ -23,6 +21,3 @@ packet_header = plain (name.FamilyResponseHeader 17) 16
     ∷ number 8 8 little_endian ∷ [])
     (λ value. value.kind ∷ value.protocol ∷ value.inode ∷ value.cookie ∷ [])
     packet_header_of (λ value. ⊤)
-
-pub packet_header_sound : IsSound packet_header
-packet_header_sound = plain_sound refl (λ _. refl) (λ _. refl) (λ _. tt) (λ _ _. refl)

@@ -1,12 +1,9 @@
 -- The request for netlink, packet and XDP sockets: 20 bytes, the byte at 0 not read and written the
 -- family, those at 2 and 3 not read and written 0.
-use Rattle.std.specs.Prelude.{⊤, ℕ, ◌%◌, List, [], ◌∷◌, slice_index, refl}
+use Rattle.std.specs.Prelude.{⊤, ℕ, ◌%◌, List, [], ◌∷◌, slice_index}
 use Rattle.netlink_core.specs.Layout.{Layout, plain}
-use Rattle.netlink_core.specs.SoundLaws.{IsSound, is_table}
 use Rattle.netlink_core.specs.Table.{Field, byte, number, unread, little_endian}
 use Rattle.netlink_core.specs.declared.fault.RecordName.TheVariants as name
-use Rattle.netlink_core.proofs.LayoutLaws.{plain_sound}
-use Rattle.std.proofs.Common.{◌<◌, IsTrue, lt-ltb, arith}
 use Rattle.sock_diag_families.specs.declared.request.ShowRequest.{ShowRequest}
 
 -- the request with the numbers of its fields
@@ -30,12 +27,3 @@ abbrev pub show_request : (family : ℕ) → Layout (Unit {0}) (Unit {0}) (ShowR
 show_request family = plain (name.FamilyRequest family) 20 (show_rows family)
     (λ value. value.protocol ∷ value.inode ∷ value.show ∷ value.cookie ∷ []) show_request_of
     (λ value. ⊤)
-
-rows_stand : (family : ℕ) → IsTrue (is_table 0 (show_rows family) 20)
-rows_stand family =
-    let byte : family % 256 < 256 = omega arith in
-    rw (lt-ltb (family % 256) 256 byte) refl
-
-pub show_request_sound : (family : ℕ) → IsSound (show_request family)
-show_request_sound family =
-    plain_sound (rows_stand family) (λ _. refl) (λ _. refl) (λ _. tt) (λ _ _. refl)

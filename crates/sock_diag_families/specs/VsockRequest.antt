@@ -1,11 +1,9 @@
 -- The request for vsock sockets: 24 bytes, the bytes at 0 to 3 not read and written 40, 0, 0, 0,
 -- those at 8 to 15 not read and written 0.
-use Rattle.std.specs.Prelude.{⊤, ℕ, List, [], ◌∷◌, replicate, slice_index, refl}
+use Rattle.std.specs.Prelude.{⊤, ℕ, List, [], ◌∷◌, replicate, slice_index}
 use Rattle.netlink_core.specs.Layout.{Layout, plain}
-use Rattle.netlink_core.specs.SoundLaws.{IsSound}
 use Rattle.netlink_core.specs.Table.{number, unread, little_endian}
 use Rattle.netlink_core.specs.declared.fault.RecordName.TheVariants as name
-use Rattle.netlink_core.proofs.LayoutLaws.{plain_sound}
 use Rattle.sock_diag_families.specs.declared.vsock.request.VsockRequest.{VsockRequest}
 
 -- the request with the numbers of its fields
@@ -18,6 +16,3 @@ vsock_request = plain (name.FamilyRequest 40) 24
     (unread 0 (40 ∷ 0 ∷ 0 ∷ 0 ∷ []) ∷ number 4 4 little_endian ∷ unread 8 (replicate 8 0)
     ∷ number 16 8 little_endian ∷ [])
     (λ value. value.states ∷ value.cookie ∷ []) vsock_request_of (λ value. ⊤)
-
-pub vsock_request_sound : IsSound vsock_request
-vsock_request_sound = plain_sound refl (λ _. refl) (λ _. refl) (λ _. tt) (λ _ _. refl)

@@ -1,10 +1,8 @@
 -- The header of a reply about a vsock socket: 32 bytes, the byte at 0 not read and written 40.
-use Rattle.std.specs.Prelude.{⊤, ℕ, List, [], ◌∷◌, ◌++◌, slice_index, refl}
+use Rattle.std.specs.Prelude.{⊤, ℕ, List, [], ◌∷◌, ◌++◌, slice_index}
 use Rattle.netlink_core.specs.Layout.{Layout, plain}
-use Rattle.netlink_core.specs.SoundLaws.{IsSound}
 use Rattle.netlink_core.specs.Table.{bytes_at, number, numbers, unread, little_endian}
 use Rattle.netlink_core.specs.declared.fault.RecordName.TheVariants as name
-use Rattle.netlink_core.proofs.LayoutLaws.{plain_sound}
 use Rattle.sock_diag_families.specs.declared.vsock.response.VsockResponseHeader.{VsockResponseHeader}
 
 -- the header with the numbers of its fields
@@ -29,6 +27,3 @@ vsock_header = plain (name.FamilyResponseHeader 40) 32
     (λ value. value.kind ∷ value.state ∷ value.shutdown ∷ value.source_context ∷ value.source_port
     ∷ value.destination_context ∷ value.destination_port ∷ value.inode ∷ value.cookie ∷ [])
     vsock_header_of (λ value. ⊤)
-
-pub vsock_header_sound : IsSound vsock_header
-vsock_header_sound = plain_sound refl (λ _. refl) (λ _. refl) (λ _. tt) (λ _ _. refl)

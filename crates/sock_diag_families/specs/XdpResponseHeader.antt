@@ -1,11 +1,9 @@
 -- The header of a reply about an XDP socket: 16 bytes, the byte at 0 not read and written 44,
 -- those at 2 and 3 not read and written 0.
-use Rattle.std.specs.Prelude.{⊤, ℕ, List, [], ◌∷◌, slice_index, refl}
+use Rattle.std.specs.Prelude.{⊤, ℕ, List, [], ◌∷◌, slice_index}
 use Rattle.netlink_core.specs.Layout.{Layout, plain}
-use Rattle.netlink_core.specs.SoundLaws.{IsSound}
 use Rattle.netlink_core.specs.Table.{byte, number, unread, little_endian}
 use Rattle.netlink_core.specs.declared.fault.RecordName.TheVariants as name
-use Rattle.netlink_core.proofs.LayoutLaws.{plain_sound}
 use Rattle.sock_diag_families.specs.declared.xdp.response.XdpResponseHeader.{XdpResponseHeader}
 
 -- the header with the numbers of its fields
@@ -23,6 +21,3 @@ xdp_header = plain (name.FamilyResponseHeader 44) 16
     ∷ number 8 8 little_endian ∷ [])
     (λ value. value.kind ∷ value.inode ∷ value.cookie ∷ [])
     xdp_header_of (λ value. ⊤)
-
-pub xdp_header_sound : IsSound xdp_header
-xdp_header_sound = plain_sound refl (λ _. refl) (λ _. refl) (λ _. tt) (λ _ _. refl)

@@ -50,12 +50,8 @@ pub trait WholeAttributes {
             ≡ within (enough family kind need) (first_value kind (attributes self.now)) }
     {
         match self.value_of(kind) {
-            Some(value) if value.len() < need => Err(DecodeError::BufferTooSmall {
-                which: RecordName::FamilyAttribute { family, kind },
-                got: value.len(),
-                need,
-            }),
-            found => Ok(found),
+            Some(value) => Ok(Some(enough_in(value, family, kind, need)?)),
+            None => Ok(None),
         }
     }
 }
@@ -66,6 +62,25 @@ impl<H: FamilyHeader> WholeAttributes for WholeView<'_, H> {
     fn value_of(&self, kind: u16) -> Option<&[u8]> {
         value_in(self, kind)
     }
+}
+
+// The value of an attribute, where it has at least so many bytes.
+pub(crate) fn enough_in(
+    value: &[u8],
+    family: u8,
+    kind: u16,
+    need: usize,
+) -> Result<&[u8], DecodeError>
+    ensures { map_ok (λ value. value.now) result ≡ enough family kind need value.entry.now }
+{
+    if value.len() < need {
+        return Err(DecodeError::BufferTooSmall {
+            which: RecordName::FamilyAttribute { family, kind },
+            got: value.len(),
+            need,
+        });
+    }
+    Ok(value)
 }
 
 // The value of the first attribute of the kind. It is there as long as the reply's bytes are.

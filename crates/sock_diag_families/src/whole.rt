@@ -1,12 +1,13 @@
 //! Replies whose attributes are kept whole.
 
 ghost use Rattle.std.specs.Prelude.{[], refl};
-ghost use Rattle.netlink_core.proofs.Responses.{responses_keep_laws};
+ghost use Rattle.netlink_core.proofs.LayoutLaws.{accepted};
+ghost use Rattle.netlink_core.specs.Codec.{KeepsLaws};
+ghost use Rattle.netlink_core.specs.Response.{response_codec};
 ghost use Rattle.netlink_core.specs.Walk.{attribute_of};
 ghost use Rattle.sock_diag_replies.specs.EqualResponseLaws.{response_test};
 ghost use Rattle.sock_diag_replies.specs.EqualResponseLaws.{response_test_decides};
-ghost use Rattle.sock_diag_replies.specs.HeaderLaws.{enough};
-ghost use Rattle.sock_diag_families.specs.WholeReply.{OneTable, whole_reply, whole_reply_laws};
+ghost use Rattle.sock_diag_families.specs.WholeReply.{whole_reply};
 
 use attribute_lists::{check_nlas, emit_views, views_len};
 use netlink_core::{DecodeError, Emitable, FamilyView, Nla, NlaBuffer, Record, read_record};
@@ -55,8 +56,8 @@ pub trait FamilyHeader: Record<Param = ()> + Drop {
     /// The name of the view of such a reply, as `Debug` prints it.
     const NAME: &'static str;
 
-    // What is shown of the header's table.
-    ghost table: { OneTable Self.layout };
+    // A reply with such a header keeps the laws.
+    ghost keeps: { KeepsLaws (response_codec (whole_reply Self.layout)) };
 }
 
 /// The header of a reply whose attributes are kept whole.
@@ -111,10 +112,9 @@ impl<H: FamilyHeader> ReplyHeader for Whole<H> {
         emit_views::<WholeNla<'_>>(bytes, rest);
     }
 
-    ghost enough = { enough H.layout (refl, H.table.fixed) };
+    ghost enough = { λ b h is. (accepted H.layout tt b h is).long };
 
-    ghost keeps = { responses_keep_laws (whole_reply H.layout)
-        (whole_reply_laws H.layout H.table) };
+    ghost keeps = { H.keeps };
 
     ghost compared = { response_test_decides H.PartialEq.eq [] tt H.exact.0 };
 }

@@ -3,8 +3,8 @@
 ghost use Rattle.std.proofs.Common.{rules};
 ghost use Rattle.netlink_core.proofs.LayoutLaws.{record_laws};
 ghost use Rattle.sock_diag_families.specs.NetlinkResponseHeader.{netlink_header};
-ghost use Rattle.sock_diag_families.specs.NetlinkResponseHeader.{netlink_header_sound};
-ghost use Rattle.sock_diag_families.specs.WholeReply.{plain_header};
+ghost use Rattle.sock_diag_families.specs.RecordLaws.{netlink_header_sound};
+ghost use Rattle.sock_diag_families.specs.WholeReplyLaws.{plain_replies_keep_laws};
 
 use crate::{FamilyHeader, WholeView};
 use byteorder::{ByteOrder, LittleEndian};
@@ -101,5 +101,5 @@ impl Record for NetlinkResponseHeader {
 impl FamilyHeader for NetlinkResponseHeader {
     const NAME: &'static str = "NetlinkResponseView";
 
-    ghost table = { plain_header netlink_header_sound };
+    ghost keeps = { plain_replies_keep_laws netlink_header_sound };
 }

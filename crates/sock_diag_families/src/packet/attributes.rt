@@ -14,7 +14,7 @@ use super::{
     PacketResponseView,
 };
 use crate::WholeAttributes;
-use crate::attributes::value_in;
+use crate::attributes::{enough_in, value_in};
 use netlink_core::DecodeError;
 use netlink_core::fields::words_at;
 use sock_diag_records::constants::AF_PACKET;
@@ -37,6 +37,32 @@ pub struct PacketInfo {
     pub timestamp: u32,
     /// The bits `PDI_..`, at 20.
     pub flags: u32,
+}
+
+impl PacketInfo {
+    /// What the value of an attribute `PACKET_DIAG_INFO` tells. Fewer than 24 bytes are
+    /// `BufferTooSmall`.
+    pub fn parse(value: &[u8]) -> Result<PacketInfo, DecodeError>
+        ensures { result ≡ packet_info value.now }
+    {
+        let value = enough_in(value, AF_PACKET, PACKET_DIAG_INFO, 24)?;
+        let [
+            interface,
+            version,
+            reserve,
+            copy_threshold,
+            timestamp,
+            flags,
+        ] = words_at::<6>(value, 0);
+        Ok(PacketInfo {
+            interface,
+            version,
+            reserve,
+            copy_threshold,
+            timestamp,
+            flags,
+        })
+    }
 }
 
 /// A ring that a packet socket shares with its program: `struct packet_diag_ring`, the first 28
@@ -91,25 +117,10 @@ fn ring(reply: &PacketResponseView<'_>, kind: u16) -> Result<Option<PacketRing>,
 pub fn info(reply: &PacketResponseView<'_>) -> Result<Option<PacketInfo>, DecodeError>
     ensures { result ≡ within packet_info (first_value 0 (view_model reply.now).nlas) }
 {
-    let Some(value) = reply.enough_of(AF_PACKET, PACKET_DIAG_INFO, 24)? else {
-        return Ok(None);
-    };
-    let [
-        interface,
-        version,
-        reserve,
-        copy_threshold,
-        timestamp,
-        flags,
-    ] = words_at::<6>(value, 0);
-    Ok(Some(PacketInfo {
-        interface,
-        version,
-        reserve,
-        copy_threshold,
-        timestamp,
-        flags,
-    }))
+    match reply.value_of(PACKET_DIAG_INFO) {
+        Some(value) => Ok(Some(PacketInfo::parse(value)?)),
+        None => Ok(None),
+    }
 }
 
 /// The addresses that the socket receives beside its interface's, `PACKET_DIAG_MCLIST`: 44

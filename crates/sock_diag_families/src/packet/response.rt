@@ -3,8 +3,8 @@
 ghost use Rattle.std.proofs.Common.{rules};
 ghost use Rattle.netlink_core.proofs.LayoutLaws.{record_laws};
 ghost use Rattle.sock_diag_families.specs.PacketResponseHeader.{packet_header};
-ghost use Rattle.sock_diag_families.specs.PacketResponseHeader.{packet_header_sound};
-ghost use Rattle.sock_diag_families.specs.WholeReply.{plain_header};
+ghost use Rattle.sock_diag_families.specs.RecordLaws.{packet_header_sound};
+ghost use Rattle.sock_diag_families.specs.WholeReplyLaws.{plain_replies_keep_laws};
 
 use crate::{FamilyHeader, WholeView};
 use byteorder::{ByteOrder, LittleEndian};
@@ -84,5 +84,5 @@ impl Record for PacketResponseHeader {
 impl FamilyHeader for PacketResponseHeader {
     const NAME: &'static str = "PacketResponseView";
 
-    ghost table = { plain_header packet_header_sound };
+    ghost keeps = { plain_replies_keep_laws packet_header_sound };
 }

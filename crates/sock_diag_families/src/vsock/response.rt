@@ -2,8 +2,9 @@
 
 ghost use Rattle.std.proofs.Common.{rules};
 ghost use Rattle.netlink_core.proofs.LayoutLaws.{record_laws};
-ghost use Rattle.sock_diag_families.specs.VsockResponseHeader.{vsock_header, vsock_header_sound};
-ghost use Rattle.sock_diag_families.specs.WholeReply.{plain_header};
+ghost use Rattle.sock_diag_families.specs.VsockResponseHeader.{vsock_header};
+ghost use Rattle.sock_diag_families.specs.RecordLaws.{vsock_header_sound};
+ghost use Rattle.sock_diag_families.specs.WholeReplyLaws.{plain_replies_keep_laws};
 
 use super::AF_VSOCK;
 use crate::{FamilyHeader, WholeView};
@@ -120,5 +121,5 @@ impl Record for VsockResponseHeader {
 impl FamilyHeader for VsockResponseHeader {
     const NAME: &'static str = "VsockResponseView";
 
-    ghost table = { plain_header vsock_header_sound };
+    ghost keeps = { plain_replies_keep_laws vsock_header_sound };
 }

@@ -3,8 +3,8 @@
 ghost use Rattle.std.proofs.Common.{rules};
 ghost use Rattle.netlink_core.proofs.LayoutLaws.{record_laws};
 ghost use Rattle.sock_diag_families.specs.XdpResponseHeader.{xdp_header};
-ghost use Rattle.sock_diag_families.specs.XdpResponseHeader.{xdp_header_sound};
-ghost use Rattle.sock_diag_families.specs.WholeReply.{plain_header};
+ghost use Rattle.sock_diag_families.specs.RecordLaws.{xdp_header_sound};
+ghost use Rattle.sock_diag_families.specs.WholeReplyLaws.{plain_replies_keep_laws};
 
 use super::AF_XDP;
 use crate::{FamilyHeader, WholeView};
@@ -78,5 +78,5 @@ impl Record for XdpResponseHeader {
 impl FamilyHeader for XdpResponseHeader {
     const NAME: &'static str = "XdpResponseView";
 
-    ghost table = { plain_header xdp_header_sound };
+    ghost keeps = { plain_replies_keep_laws xdp_header_sound };
 }

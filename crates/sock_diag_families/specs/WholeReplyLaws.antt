@@ -1,0 +1,21 @@
+-- The laws of replies whose attributes are kept whole.
+use Rattle.std.proofs.Common.{ℕ, List, refl}
+use Rattle.netlink_core.specs.Codec.{KeepsLaws}
+use Rattle.netlink_core.specs.Layout.{plain}
+use Rattle.netlink_core.specs.Response.{response_codec}
+use Rattle.netlink_core.specs.SoundLaws.{IsSound}
+use Rattle.netlink_core.specs.Table.{Field}
+use Rattle.netlink_core.specs.declared.fault.RecordName.{RecordName}
+use Rattle.netlink_core.proofs.Responses.{responses_keep_laws}
+use Rattle.sock_diag_replies.specs.HeaderLaws.{response_laws}
+use Rattle.sock_diag_families.specs.WholeReply.{whole_reply}
+
+-- a reply whose header has one table
+pub plain_replies_keep_laws : {Value : Type 0} {name : RecordName} {size : ℕ} {fields : List Field}
+    {values : Value → List ℕ} {value : List ℕ → Value} {is_shaped : Value → Type 0}
+    → IsSound (plain name size fields values value is_shaped)
+    → KeepsLaws (response_codec (whole_reply (plain name size fields values value is_shaped)))
+plain_replies_keep_laws {name} {size} {fields} {values} {value} {is_shaped} sound =
+    let header = plain name size fields values value is_shaped in
+    responses_keep_laws (whole_reply header)
+    (response_laws header (refl, λ _. refl) sound (λ tag left rest long told. told) tt)
