@@ -1,16 +1,17 @@
-use Rattle.std.proofs.Common.{◌≡◌, ℕ, ◌≤◌, ◌%◌, List, ◌++◌, length, codes, slice_index}
-use Rattle.std.proofs.Common.{ap, refl, sym, ◌∙◌}
+use Rattle.std.proofs.Common.{◌≡◌, ℕ, ◌≤◌, ◌%◌, List, ◌++◌, length, codes, slice_index, ap, refl}
+use Rattle.std.proofs.Common.{sym, ◌∙◌}
 use Rattle.std.specs.Prelude.{Ok}
 use Rattle.std.proofs.lemmas.Bool.{le-ltb}
 use Rattle.std.proofs.lemmas.Result.{on_ok_weaker}
+use Rattle.capture_tables.specs.Parts.{detail, packet_flags}
+use Rattle.capture_tables.proofs.Adding.{adds}
 use Rattle.netlink_core.specs.Attribute.{Attribute}
 use Rattle.netlink_core.specs.Faults.{map_ok}
 use Rattle.netlink_core.specs.Table.{Field, little_endian, numbers, values_of}
 use Rattle.netlink_core.specs.Walk.{attribute_of}
 use Rattle.sock_diag_families.specs.Found.{enough, fields}
 use Rattle.sock_diag_families.specs.PacketAttributes.{packet_info}
-use Rattle.sock_diag_captures.specs.Details.{detail, packet_flags, packet_text}
-use Rattle.sock_diag_captures.proofs.Adding.{adds}
+use Rattle.sock_diag_captures.specs.Details.{packet_text}
 use Rattle.sock_diag_captures.proofs.details.push_packet_info.Goals as goal
 
 -- a value that is long enough is read by the table
