@@ -18,8 +18,8 @@ use Rattle.netlink_core.specs.Envelope.{payload_type, envelope_codec}
 use Rattle.netlink_core.proofs.Equality.{apart, same_test}
 use Rattle.netlink_core.proofs.Headers.{header_stands}
 use Rattle.netlink_packet_sock_diag.specs.Message.{Message, message_kind, message_codec}
-use Rattle.sock_diag_replies.specs.ResponseKind.{MessageKind, inet_request, inet_response}
-use Rattle.sock_diag_replies.specs.ResponseKind.{unix_request, unix_response}
+use Rattle.sock_diag_records.specs.ResponseKind.{MessageKind, inet_request, inet_response}
+use Rattle.sock_diag_records.specs.ResponseKind.{unix_request, unix_response}
 use Rattle.netlink_packet_sock_diag.specs.MessageLaws.{length-message_bytes, other_type_refused}
 
 -- whether two kinds are the same

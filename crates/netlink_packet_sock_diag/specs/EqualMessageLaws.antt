@@ -13,8 +13,8 @@ use Rattle.netlink_packet_sock_diag.specs.declared.message.SockDiagMessage.{Sock
 use Rattle.netlink_packet_sock_diag.specs.declared.message.SockDiagMessage.TheVariants as message
 use Rattle.netlink_packet_sock_diag.specs.contracts.message.SockDiagMessagePartialEq.TheImpl.{ghosts}
 use Rattle.netlink_packet_sock_diag.specs.Message.{codec_of, Message, message_of, message_kind}
-use Rattle.sock_diag_replies.specs.ResponseKind.{MessageKind, inet_request, inet_response}
-use Rattle.sock_diag_replies.specs.ResponseKind.{unix_request, unix_response}
+use Rattle.sock_diag_records.specs.ResponseKind.{MessageKind, inet_request, inet_response}
+use Rattle.sock_diag_records.specs.ResponseKind.{unix_request, unix_response}
 use Rattle.netlink_packet_sock_diag.specs.MessageModel.{message_model}
 use Rattle.netlink_packet_sock_diag.specs.declared.message.SockDiagView.{SockDiagView}
 use Rattle.netlink_packet_sock_diag.specs.declared.message.SockDiagView.TheVariants as view

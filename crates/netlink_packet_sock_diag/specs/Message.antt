@@ -6,8 +6,8 @@ use Rattle.netlink_core.specs.Response.{response_codec}
 use Rattle.sock_diag_records.specs.InetRequest.{inet_request as inet_request_layout}
 use Rattle.sock_diag_records.specs.UnixRequest.{unix_request as unix_request_layout}
 use Rattle.sock_diag_replies.specs.InetResponseSpec.{inet_response_spec}
-use Rattle.sock_diag_replies.specs.ResponseKind.{MessageKind, inet_request, inet_response}
-use Rattle.sock_diag_replies.specs.ResponseKind.{unix_request, unix_response, response_kind}
+use Rattle.sock_diag_records.specs.ResponseKind.{MessageKind, inet_request, inet_response}
+use Rattle.sock_diag_records.specs.ResponseKind.{unix_request, unix_response, response_kind}
 use Rattle.sock_diag_replies.specs.UnixResponseSpec.{unix_response_spec}
 
 -- how what a message of each kind holds is read and written

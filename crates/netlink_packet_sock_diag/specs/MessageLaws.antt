@@ -25,8 +25,8 @@ use Rattle.sock_diag_replies.specs.InetResponseSpecLaws.{inet_response_laws}
 use Rattle.sock_diag_replies.specs.UnixResponseSpecLaws.{unix_response_laws}
 use Rattle.netlink_packet_sock_diag.specs.Message.{codec_of, Message, message_of, message_kind}
 use Rattle.netlink_packet_sock_diag.specs.Message.{message_codec}
-use Rattle.sock_diag_replies.specs.ResponseKind.{MessageKind, inet_request, inet_response}
-use Rattle.sock_diag_replies.specs.ResponseKind.{unix_request, unix_response, response_kind}
+use Rattle.sock_diag_records.specs.ResponseKind.{MessageKind, inet_request, inet_response}
+use Rattle.sock_diag_records.specs.ResponseKind.{unix_request, unix_response, response_kind}
 
 -- each kind's codec keeps the laws
 laws_of : (kind : MessageKind) → KeepsLaws (codec_of kind)

@@ -6,8 +6,8 @@ use Rattle.sock_diag_attributes.specs.InetModel as inet
 use Rattle.sock_diag_attributes.specs.UnixModel as unix
 use Rattle.sock_diag_replies.specs.ResponseModel.{response_model}
 use Rattle.netlink_packet_sock_diag.specs.Message.{Message, message_of}
-use Rattle.sock_diag_replies.specs.ResponseKind.{inet_request, inet_response, unix_request}
-use Rattle.sock_diag_replies.specs.ResponseKind.{unix_response}
+use Rattle.sock_diag_records.specs.ResponseKind.{inet_request, inet_response, unix_request}
+use Rattle.sock_diag_records.specs.ResponseKind.{unix_response}
 
 -- the value of a message
 abbrev pub message_model : SockDiagMessage → Message

@@ -3,7 +3,7 @@ use Rattle.netlink_packet_sock_diag.specs.declared.message.SockDiagView.{SockDia
 use Rattle.netlink_packet_sock_diag.specs.declared.message.SockDiagView.TheVariants as view
 use Rattle.sock_diag_replies.specs.ViewModel.{view_model}
 use Rattle.netlink_packet_sock_diag.specs.Message.{Message, message_of}
-use Rattle.sock_diag_replies.specs.ResponseKind.{inet_response, unix_response}
+use Rattle.sock_diag_records.specs.ResponseKind.{inet_response, unix_response}
 
 -- the value of the message
 abbrev pub message_view_model : SockDiagView → Message

@@ -43,8 +43,8 @@ ghost use Rattle.sock_diag_replies.specs.ViewModel.{view_model};
 ghost use Rattle.netlink_packet_sock_diag.specs.MessageViewModel.{message_view_model};
 ghost use Rattle.netlink_packet_sock_diag.specs.Lossy.{lossy};
 ghost use Rattle.netlink_packet_sock_diag.specs.Message.{Message, message_kind, message_codec};
-ghost use Rattle.sock_diag_replies.specs.ResponseKind.{MessageKind, inet_request, inet_response};
-ghost use Rattle.sock_diag_replies.specs.ResponseKind.{unix_request, unix_response};
+ghost use Rattle.sock_diag_records.specs.ResponseKind.{MessageKind, inet_request, inet_response};
+ghost use Rattle.sock_diag_records.specs.ResponseKind.{unix_request, unix_response};
 
 use crate::dump::{DumpError, DumpViews as Views, PayloadView as View};
 use crate::inet::{InetResponse, InetResponseView};

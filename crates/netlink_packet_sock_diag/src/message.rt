@@ -5,8 +5,8 @@ ghost use Rattle.netlink_core.specs.declared.fault.DecodeError.TheVariants.{Memo
 ghost use Rattle.netlink_core.specs.Spare.{WantsMemory};
 ghost use Rattle.netlink_core.specs.declared.message.NetlinkPayload.TheVariants.{InnerMessage};
 ghost use Rattle.netlink_packet_sock_diag.specs.Message.{message_kind, message_codec};
-ghost use Rattle.sock_diag_replies.specs.ResponseKind.{inet_request, inet_response, unix_request};
-ghost use Rattle.sock_diag_replies.specs.ResponseKind.{unix_response};
+ghost use Rattle.sock_diag_records.specs.ResponseKind.{inet_request, inet_response, unix_request};
+ghost use Rattle.sock_diag_records.specs.ResponseKind.{unix_response};
 
 use crate::constants::{AF_INET, AF_INET6, AF_UNIX, SOCK_DESTROY, SOCK_DIAG_BY_FAMILY};
 use crate::inet::{InetRequest, InetResponse, InetResponseView};

@@ -2,8 +2,8 @@
 use Rattle.std.proofs.Common.{◌≡◌, ◌≢◌, List, [], ◌∷◌, ◌++◌, ℕ, length, take, ap, sym, ◌∙◌}
 use Rattle.std.proofs.Common.{append_assoc, append-nil, arith, refl}
 use Rattle.std.proofs.lemmas.List.{length-append, take_at}
-use Rattle.sock_diag_captures.specs.Details.{separator, set_apart}
-use Rattle.sock_diag_captures.specs.declared.options.Options.{Options}
+use Rattle.capture_tables.specs.Parts.{separator, set_apart}
+use Rattle.capture_tables.specs.declared.options.Options.{Options}
 
 -- where nothing was added behind the separator, that goes too
 pub none_apart : (o : Options) (old text words : List ℕ) → text ≡ (old ++ separator o) ++ words

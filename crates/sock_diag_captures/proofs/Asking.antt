@@ -3,7 +3,7 @@ use Rattle.std.proofs.Common.{◌≡◌, ℕ, ◌<◌, ◌≤◌, ◌&&◌, ◌=
 use Rattle.std.proofs.Common.{drop, refl, sym, ap, ◌∙◌}
 use Rattle.std.proofs.lemmas.Bool.{eq-eqb, eqb-true, le-ltb, lt-ltb}
 use Rattle.byteorder.specs.Endian.{big_number}
-use Rattle.sock_diag_captures.specs.Cooked.{IsOfSockDiag}
+use Rattle.capture_tables.specs.Cooked.{IsOfSockDiag}
 use Rattle.sock_diag_captures.specs.Listing.{asked_after}
 use Rattle.sock_diag_captures.specs.Requests.{noted}
 use Rattle.sock_diag_captures.specs.declared.requests.Asked.{Asked}

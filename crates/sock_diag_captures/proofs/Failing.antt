@@ -6,22 +6,19 @@ use Rattle.std.specs.Prelude.{Option, None, Some, flat_map}
 use Rattle.std.specs.Io.KnownBytes.{Appends, Consumes, Keeps, append_known}
 use Rattle.std.proofs.KnownBytes.{Appends-kept, Appends-trans, Consumes-nil, Consumes-trans}
 use Rattle.std.proofs.KnownBytes.{Keeps-refl}
-use Rattle.sock_diag_captures.specs.Capture.{IsFileHeader, IsHeaderStop, IsPacketStop, IsRecord}
-use Rattle.sock_diag_captures.specs.Capture.{Recorded}
-use Rattle.sock_diag_captures.specs.declared.capture.CaptureError.{CaptureError}
-use Rattle.sock_diag_captures.specs.declared.capture.CaptureError.TheVariants.{Cut}
-use Rattle.sock_diag_captures.specs.declared.capture.CaptureError.TheVariants.{PacketTooLong}
-use Rattle.sock_diag_captures.specs.declared.capture.CaptureError.TheVariants.{Directory}
-use Rattle.sock_diag_captures.specs.declared.capture.CaptureError.TheVariants.{Read}
-use Rattle.sock_diag_captures.specs.declared.capture.CaptureError.TheVariants.{Memory as NoMemory}
-use Rattle.sock_diag_captures.specs.declared.capture.FileHeader.{FileHeader}
-use Rattle.sock_diag_captures.specs.declared.stream.RunError.{RunError}
-use Rattle.sock_diag_captures.specs.declared.stream.RunError.TheVariants.{Header, Packet}
-use Rattle.sock_diag_captures.specs.declared.stream.RunError.TheVariants.{Memory}
+use Rattle.capture_tables.specs.Capture.{IsFileHeader, IsHeaderStop, IsPacketStop, IsRecord}
+use Rattle.capture_tables.specs.Capture.{Recorded}
+use Rattle.capture_tables.specs.declared.capture.CaptureError.{CaptureError}
+use Rattle.capture_tables.specs.declared.capture.CaptureError.TheVariants.{Cut, PacketTooLong}
+use Rattle.capture_tables.specs.declared.capture.CaptureError.TheVariants.{Directory, Read}
+use Rattle.capture_tables.specs.declared.capture.CaptureError.TheVariants.{Memory as NoMemory}
+use Rattle.capture_tables.specs.declared.capture.FileHeader.{FileHeader}
+use Rattle.capture_tables.specs.declared.run.RunError.{RunError}
+use Rattle.capture_tables.specs.declared.run.RunError.TheVariants.{Header, Packet, Memory}
+use Rattle.capture_tables.specs.declared.options.Options.{Options}
+use Rattle.capture_tables.specs.Streams.{IsWriteFailure}
 use Rattle.sock_diag_captures.specs.Listing.{asked_after}
-use Rattle.sock_diag_captures.specs.declared.options.Options.{Options}
 use Rattle.sock_diag_captures.specs.declared.requests.Asked.{Asked}
-use Rattle.sock_diag_captures.specs.Streams.{IsWriteFailure}
 use Rattle.sock_diag_captures.specs.Run.{Breaks, Fails, IsListed, IsTable, Stands, ListedPacket}
 use Rattle.sock_diag_captures.specs.Run.{lines_of_packet}
 use Rattle.sock_diag_captures.proofs.Progress.{Progress, goes_on_part, goes_on_whole, lines_push}

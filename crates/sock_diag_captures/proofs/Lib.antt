@@ -1,11 +1,7 @@
-pub mod Adding
 pub mod Apart
 pub mod PieceWalk
 pub mod Asking
-pub mod Filling
-pub mod Showing
-pub mod Telling
+pub mod NamesTold
 pub mod Listings
 pub mod Progress
 pub mod Failing
-pub mod Stops

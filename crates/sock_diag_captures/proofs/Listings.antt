@@ -1,17 +1,16 @@
 -- The lines of a datagram, message by message.
 use Rattle.std.proofs.Common.{◌≡◌, ◌≢◌, ◌↔◌, List, [], ◌∷◌, ◌++◌, ℕ, Bool, true, false, refl, sym}
 use Rattle.std.proofs.Common.{ap, subst, ◌∙◌, append_assoc}
-use Rattle.std.specs.Prelude.{IsTrue, Option, None, Some}
-use Rattle.std.specs.Prelude.{◌≤◌, ◌&&◌, length}
+use Rattle.std.specs.Prelude.{IsTrue, Option, None, Some, ◌≤◌, ◌&&◌, length}
 use Rattle.std.specs.List.{AllByRecursion, flat_map}
 use Rattle.std.proofs.lemmas.List.{append-nil}
 use Rattle.std.proofs.lemmas.Grind.{flat_map-append}
+use Rattle.capture_tables.specs.Capture.{Recorded}
+use Rattle.capture_tables.specs.declared.options.Options.{Options}
 use Rattle.netlink_core.specs.Datagram.{CutIntoMessages, StartsWithMessage}
 use Rattle.netlink_core.specs.Header.{IsEnvelopeFault}
 use Rattle.netlink_core.specs.declared.fault.DecodeError.{DecodeError}
-use Rattle.sock_diag_captures.specs.Capture.{Recorded}
 use Rattle.sock_diag_captures.specs.Listing.{ListsPacket, ListsRecorded}
-use Rattle.sock_diag_captures.specs.declared.options.Options.{Options}
 use Rattle.sock_diag_captures.specs.declared.requests.Asked.{Asked}
 
 not_both : (b : Bool) → b ≡ false → b ≡ true → ⊥

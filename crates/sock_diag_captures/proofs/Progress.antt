@@ -7,11 +7,11 @@ use Rattle.std.specs.List.{AllByRecursion}
 use Rattle.std.specs.Io.KnownBytes.{Appends, Consumes}
 use Rattle.std.proofs.KnownBytes.{Appends-nil, Appends-trans, Consumes-nil, Consumes-trans}
 use Rattle.std.proofs.lemmas.Grind.{flat_map-append}
-use Rattle.sock_diag_captures.specs.Capture.{Recorded}
+use Rattle.capture_tables.specs.Capture.{Recorded}
+use Rattle.capture_tables.specs.declared.options.Options.{Options}
 use Rattle.sock_diag_captures.specs.Listing.{asked_after}
 use Rattle.sock_diag_captures.specs.Run.{AreListed, ArePackets, IsListed, IsWhole, ListedPacket}
 use Rattle.sock_diag_captures.specs.Run.{lines_of_packet}
-use Rattle.sock_diag_captures.specs.declared.options.Options.{Options}
 use Rattle.sock_diag_captures.specs.declared.requests.Asked.{Asked}
 
 pub not_both : (b : Bool) → b ≡ false → b ≡ true → ⊥

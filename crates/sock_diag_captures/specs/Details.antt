@@ -1,11 +1,21 @@
 -- What stands below the line of a socket: a tab, and a word for each thing that is told.
 use Rattle.std.specs.Prelude.{ℕ, ◌==◌, ◌||◌, ◌/◌, ◌%◌, if◌then◌else◌, List, [], ◌∷◌, ◌++◌, length}
 use Rattle.std.specs.Prelude.{Bool, drop, false, flat_map, codes, decimal, bit_and, nat_lt}
-use Rattle.std.specs.Prelude.{slice_index}
-use Rattle.std.specs.Prelude.{Option, None, Some, option_map, unwrap_or, Result, Ok, Err}
-use Rattle.std.specs.Fmt.{digits}
+use Rattle.std.specs.Prelude.{slice_index, Option, None, Some, option_map, unwrap_or, Result, Ok}
+use Rattle.std.specs.Prelude.{Err}
 use Rattle.std.proofs.Common.{inl, inr}
 use Rattle.byteorder.specs.Endian.{little_number}
+use Rattle.capture_tables.specs.Parts.{cookie_if_asked, detail, directions, flag_detail, hex_detail}
+use Rattle.capture_tables.specs.Parts.{memory_part, packet_flags, pair_detail, some_detail}
+use Rattle.capture_tables.specs.Parts.{timer_if_asked}
+use Rattle.capture_tables.specs.Escapes.{shown}
+use Rattle.capture_tables.specs.Options.{shows}
+use Rattle.capture_tables.specs.declared.parts.TimerWords.{TimerWords}
+use Rattle.capture_tables.specs.declared.options.Detail.{Detail}
+use Rattle.capture_tables.specs.declared.options.Detail.TheVariants.{Extended, Memory, Connection}
+use Rattle.capture_tables.specs.declared.options.Family.{Family}
+use Rattle.capture_tables.specs.declared.options.Family.TheVariants.{Netlink, Packet, Vsock, Xdp}
+use Rattle.capture_tables.specs.declared.options.Options.{Options}
 use Rattle.netlink_core.specs.Attribute.{Attribute, attribute_type}
 use Rattle.netlink_core.specs.AttributeSet.{AttributeValue, decodes}
 use Rattle.netlink_core.specs.Layout.{read}
@@ -22,39 +32,9 @@ use Rattle.sock_diag_attributes.specs.InetAttributes.{inet}
 use Rattle.sock_diag_attributes.specs.UnixAttributes.{unix}
 use Rattle.sock_diag_families.specs.PacketAttributes.{packet_info}
 use Rattle.sock_diag_families.specs.declared.packet.attributes.PacketInfo.{PacketInfo}
-use Rattle.sock_diag_captures.specs.Escapes.{shown}
-use Rattle.sock_diag_captures.specs.Options.{shows}
 use Rattle.sock_diag_captures.specs.Pieces.{Piece}
 use Rattle.sock_diag_captures.specs.declared.details.Sockets.{Sockets}
 use Rattle.sock_diag_captures.specs.declared.details.Sockets.TheVariants.{Unix, Inet, Other}
-use Rattle.sock_diag_captures.specs.declared.details.TimerWords.{TimerWords}
-use Rattle.sock_diag_captures.specs.declared.options.Detail.{Detail}
-use Rattle.sock_diag_captures.specs.declared.options.Detail.TheVariants.{Timer, Extended, Memory}
-use Rattle.sock_diag_captures.specs.declared.options.Detail.TheVariants.{Connection}
-use Rattle.sock_diag_captures.specs.declared.options.Family.{Family}
-use Rattle.sock_diag_captures.specs.declared.options.Family.TheVariants.{Netlink, Packet, Vsock}
-use Rattle.sock_diag_captures.specs.declared.options.Family.TheVariants.{Xdp}
-use Rattle.sock_diag_captures.specs.declared.options.Options.{Options}
-
--- a space, a word, a colon and a number
-abbrev pub detail : List ℕ → ℕ → List ℕ
-detail word n = 32 ∷ word ++ 58 ∷ decimal n
-
--- a space, a word, a colon, `0x` and a number in hexadecimal digits
-abbrev pub hex_detail : List ℕ → ℕ → List ℕ
-hex_detail word n = 32 ∷ word ++ codes ":0x" ++ digits 16 false n
-
--- a space, a word, a colon and two numbers in brackets
-abbrev pub pair_detail : List ℕ → ℕ → ℕ → List ℕ
-pair_detail word n m = 32 ∷ word ++ codes ":(" ++ decimal n ++ 44 ∷ decimal m ++ 41 ∷ []
-
--- a number that is told where it is not 0
-abbrev pub some_detail : List ℕ → ℕ → List ℕ
-some_detail word n = if n == 0 then [] else detail word n
-
--- a word that is told where a number has one of these bits
-abbrev pub flag_detail : List ℕ → ℕ → ℕ → List ℕ
-flag_detail word bits n = if bit_and n bits == 0 then [] else 32 ∷ word
 
 -- ---- values that are refused
 
@@ -162,11 +142,6 @@ connection t =
 
 -- ---- memory
 
--- a letter or two and a number behind a comma, where one is told
-abbrev pub memory_part : List ℕ → Option ℕ → List ℕ
-memory_part word None = []
-memory_part word (Some n) = 44 ∷ word ++ decimal n
-
 -- the memory of what a socket received
 abbrev pub memory_received : ℕ → List ℕ
 memory_received n = codes " skmem:(r" ++ decimal n
@@ -203,12 +178,6 @@ memory_in (Ok m) = memory m
 memory_in (Err e) = []
 
 -- ---- attributes
-
--- the directions that are not shut down: the bit 1 is for what is received, and 2 for what is sent
-abbrev pub directions : ℕ → List ℕ
-directions state =
-    32 ∷ (if bit_and state 1 == 0 then 60 else 45) ∷ 45
-    ∷ (if bit_and state 2 == 0 then 62 else 45) ∷ []
 
 -- the number and the length of an attribute of another type
 abbrev pub unknown : Attribute → List ℕ
@@ -272,13 +241,6 @@ groups a =
     if nat_lt (length a.value) 4 then unknown a
     else hex_detail (codes "groups") (little_number 4 a.value)
 
--- the bits PDI_.. of linux/packet_diag.h
-abbrev pub packet_flags : ℕ → List ℕ
-packet_flags n =
-    flag_detail (codes "running") 1 n ++ flag_detail (codes "auxdata") 2 n
-    ++ flag_detail (codes "origdev") 4 n ++ flag_detail (codes "vnethdr") 8 n
-    ++ flag_detail (codes "loss") 16 n
-
 -- what a packet socket is set to, where the value has so many bytes
 abbrev pub packet_text : Attribute → Result PacketInfo DecodeError → List ℕ
 packet_text a (Ok p) =
@@ -340,20 +302,6 @@ abbrev pub piece_detail : Options → Sockets → Piece → List ℕ
 piece_detail o sockets (Ok a) = detail_if_asked o sockets a
 piece_detail o sockets (Err e) = []
 
--- the timers by their numbers, as ss(8) names them
-abbrev pub timer_name : ℕ → List ℕ
-timer_name class =
-    if class == 1 then codes "on" else if class == 2 then codes "keepalive"
-    else if class == 3 then codes "timewait" else if class == 4 then codes "persist"
-    else codes "unknown"
-
--- the timer that runs, the time until it ends, in milliseconds, and how often was sent again
-abbrev pub timer_text : TimerWords → List ℕ
-timer_text t =
-    if t.class == 0 then []
-    else codes " timer:(" ++ timer_name t.class ++ 44 ∷ decimal t.expires ++ codes "ms,"
-    ++ decimal t.retransmits ++ 41 ∷ []
-
 -- what the header of a reply about an IPv4 or IPv6 socket tells of it
 abbrev pub timer_in : List ℕ → TimerWords
 timer_in b = record {
@@ -362,29 +310,7 @@ timer_in b = record {
   expires = little_number 4 (drop 52 b);
 }
 
--- a socket without one
-abbrev pub no_timer : TimerWords
-no_timer = record { class = 0; retransmits = 0; expires = 0 }
-
--- the timer, where it is asked for
-abbrev pub timer_if_asked : Options → TimerWords → List ℕ
-timer_if_asked o timer = if shows o Timer then timer_text timer else []
-
--- the cookie of eight bytes, where it is asked for
-abbrev pub cookie_if_asked : Options → List ℕ → List ℕ
-cookie_if_asked o cookie =
-    if shows o Extended then codes " sk:" ++ digits 16 false (little_number 8 cookie) else []
-
 -- what is told beside the columns: the timer, the cookie, and what each attribute tells
 abbrev pub details : Options → Sockets → TimerWords → List ℕ → List Piece → List ℕ
 details o sockets timer cookie given =
     timer_if_asked o timer ++ cookie_if_asked o cookie ++ flat_map (piece_detail o sockets) given
-
--- a line of its own behind a tab, or the same line where one is asked for
-abbrev pub separator : Options → List ℕ
-separator o = if o.one_line then [] else 10 ∷ 9 ∷ []
-
--- what is told stands apart, and nothing where nothing is told
-abbrev pub set_apart : Options → List ℕ → List ℕ
-set_apart o [] = []
-set_apart o (c ∷ told) = separator o ++ c ∷ told

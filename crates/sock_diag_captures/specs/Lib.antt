@@ -1,15 +1,8 @@
-pub mod Capture
-pub mod Cooked
 pub mod Pieces
 pub mod Requests
-pub mod Escapes
-pub mod Options
 pub mod Table
-pub mod CellsModel
 pub mod Details
 pub mod RequestLine
 pub mod Others
 pub mod Listing
-pub mod Streams
 pub mod Run
-pub mod Words

@@ -1,45 +1,43 @@
 -- What the datagrams of a capture are listed as.
-use Rattle.std.specs.Prelude.{◌≡◌, ◌≢◌, ◌↔◌, Bool, true, false, IsTrue, ℕ, ℤ, pos, negsuc}
-use Rattle.std.specs.Prelude.{◌+◌, ◌==◌, ◌&&◌, if◌then◌else◌, nat_le, nat_lt, List, []}
-use Rattle.std.specs.Prelude.{◌++◌, ◌≤◌, ◌⊎◌, bit_and, drop}
-use Rattle.std.specs.Prelude.{length, flat_map, Option, None, Some, option_map, Result, Ok, Err}
-use Rattle.byteorder.specs.Endian.{big_number, little_number}
+use Rattle.std.specs.Prelude.{◌≡◌, ◌≢◌, ◌↔◌, Bool, true, false, IsTrue, ℕ, ℤ, pos, negsuc, ◌+◌}
+use Rattle.std.specs.Prelude.{◌==◌, ◌&&◌, if◌then◌else◌, nat_le, nat_lt, List, [], ◌++◌, ◌≤◌, ◌⊎◌}
+use Rattle.std.specs.Prelude.{bit_and, drop, length, flat_map, Option, None, Some, option_map}
+use Rattle.std.specs.Prelude.{Result, Ok, Err}
 use Rattle.std.specs.List.{AllByRecursion}
+use Rattle.byteorder.specs.Endian.{big_number, little_number}
+use Rattle.capture_tables.specs.Capture.{Recorded}
+use Rattle.capture_tables.specs.Cooked.{IsOfSockDiag}
+use Rattle.capture_tables.specs.declared.capture.PacketHeader.{PacketHeader}
+use Rattle.capture_tables.specs.declared.options.Family.{Family}
+use Rattle.capture_tables.specs.declared.options.Family.TheVariants.{Netlink, Packet, Vsock, Xdp}
+use Rattle.capture_tables.specs.declared.options.Options.{Options}
 use Rattle.netlink_core.specs.Datagram.{CutIntoMessages}
 use Rattle.netlink_core.specs.Layout.{Layout, read}
 use Rattle.netlink_core.specs.Header.{HasHeader}
 use Rattle.netlink_core.specs.declared.fault.DecodeError.{DecodeError}
 use Rattle.netlink_core.specs.declared.fault.DecodeError.TheVariants.{UnknownFamily}
 use Rattle.netlink_core.specs.declared.header.NetlinkHeader.{NetlinkHeader}
+use Rattle.netlink_core.specs.Envelope.{leading_number}
 use Rattle.sock_diag_records.specs.InetResponse.{inet_response_header}
 use Rattle.sock_diag_records.specs.UnixResponseHeader.{unix_response_header}
-use Rattle.sock_diag_replies.specs.ResponseKind.{MessageKind, inet_response, response_kind}
-use Rattle.sock_diag_replies.specs.ResponseKind.{unix_response}
-use Rattle.sock_diag_captures.specs.Capture.{Recorded}
-use Rattle.sock_diag_captures.specs.Cooked.{IsOfSockDiag}
-use Rattle.sock_diag_captures.specs.Pieces.{Piece, framing_fault, pieces}
-use Rattle.sock_diag_captures.specs.RequestLine.{shown_request}
-use Rattle.sock_diag_captures.specs.Requests.{noted, protocol_of}
-use Rattle.sock_diag_captures.specs.declared.capture.PacketHeader.{PacketHeader}
-use Rattle.sock_diag_captures.specs.declared.options.Family.{Family}
-use Rattle.sock_diag_captures.specs.declared.options.Family.TheVariants.{Netlink, Packet, Vsock}
-use Rattle.sock_diag_captures.specs.declared.options.Family.TheVariants.{Xdp}
-use Rattle.sock_diag_captures.specs.declared.options.Options.{Options}
-use Rattle.sock_diag_captures.specs.declared.others.OtherSocket.{OtherSocket}
-use Rattle.sock_diag_captures.specs.declared.requests.Asked.{Asked}
-use Rattle.sock_diag_captures.specs.Details.{timer_in}
-use Rattle.sock_diag_captures.specs.Options.{family_numbered}
-use Rattle.sock_diag_captures.specs.Others.{netlink_socket, other_lines}
-use Rattle.sock_diag_captures.specs.Others.{packet_socket, vsock_socket, xdp_socket}
-use Rattle.sock_diag_captures.specs.Table.{inet_lines, unix_lines}
+use Rattle.sock_diag_records.specs.ResponseKind.{MessageKind, inet_response, response_kind}
+use Rattle.sock_diag_records.specs.ResponseKind.{unix_response}
 use Rattle.sock_diag_families.specs.NetlinkResponseHeader.{netlink_header}
 use Rattle.sock_diag_families.specs.PacketResponseHeader.{packet_header}
 use Rattle.sock_diag_families.specs.VsockResponseHeader.{vsock_header}
 use Rattle.sock_diag_families.specs.XdpResponseHeader.{xdp_header}
+use Rattle.sock_diag_captures.specs.Pieces.{Piece, framing_fault, pieces}
+use Rattle.sock_diag_captures.specs.RequestLine.{shown_request}
+use Rattle.sock_diag_captures.specs.Requests.{noted, protocol_of}
+use Rattle.sock_diag_captures.specs.declared.others.OtherSocket.{OtherSocket}
+use Rattle.sock_diag_captures.specs.declared.requests.Asked.{Asked}
+use Rattle.sock_diag_captures.specs.Details.{timer_in}
+use Rattle.sock_diag_captures.specs.Others.{family_numbered, netlink_socket, other_lines}
+use Rattle.sock_diag_captures.specs.Others.{packet_socket, vsock_socket, xdp_socket}
+use Rattle.sock_diag_captures.specs.Table.{inet_lines, unix_lines}
 use Rattle.sock_diag_captures.specs.declared.list.Issue.{Issue}
 use Rattle.sock_diag_captures.specs.declared.list.Issue.TheVariants.{Refused, Answered, Lost}
 use Rattle.sock_diag_captures.specs.declared.list.Issue.TheVariants.{Invalid, NoEntry}
-use Rattle.netlink_core.specs.Envelope.{leading_number}
 
 -- ---- replies
 

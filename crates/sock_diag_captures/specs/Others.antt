@@ -2,21 +2,29 @@
 use Rattle.std.specs.Prelude.{ℕ, ◌+◌, ◌==◌, nat_lt, if◌then◌else◌, List, [], ◌∷◌, ◌++◌, length}
 use Rattle.std.specs.Prelude.{drop, codes, Option, None, Some, option_and_then}
 use Rattle.byteorder.specs.Endian.{little_bytes, little_number}
+use Rattle.capture_tables.specs.Parts.{no_timer, set_apart}
+use Rattle.capture_tables.specs.Options.{lists_family}
+use Rattle.capture_tables.specs.Cells.{FirstColumns, line, peer_cell}
+use Rattle.capture_tables.specs.declared.options.Family.{Family}
+use Rattle.capture_tables.specs.declared.options.Family.TheVariants.{Netlink, Packet, Vsock, Xdp}
+use Rattle.capture_tables.specs.declared.options.Options.{Options}
 use Rattle.netlink_core.specs.Attribute.{Attribute}
 use Rattle.sock_diag_families.specs.declared.netlink.response.NetlinkResponseHeader.{NetlinkResponseHeader}
 use Rattle.sock_diag_families.specs.declared.packet.response.PacketResponseHeader.{PacketResponseHeader}
 use Rattle.sock_diag_families.specs.declared.vsock.response.VsockResponseHeader.{VsockResponseHeader}
 use Rattle.sock_diag_families.specs.declared.xdp.response.XdpResponseHeader.{XdpResponseHeader}
-use Rattle.sock_diag_captures.specs.Details.{details, memory_kind, no_timer, set_apart}
-use Rattle.sock_diag_captures.specs.Options.{lists_family}
+use Rattle.sock_diag_captures.specs.Details.{details, memory_kind}
 use Rattle.sock_diag_captures.specs.Pieces.{Piece, first_of_kind}
-use Rattle.sock_diag_captures.specs.Table.{FirstColumns, line, peer_cell}
 use Rattle.sock_diag_captures.specs.declared.details.Sockets.TheVariants.{Other}
-use Rattle.sock_diag_captures.specs.declared.options.Family.{Family}
-use Rattle.sock_diag_captures.specs.declared.options.Family.TheVariants.{Netlink, Packet, Vsock}
-use Rattle.sock_diag_captures.specs.declared.options.Family.TheVariants.{Xdp}
-use Rattle.sock_diag_captures.specs.declared.options.Options.{Options}
 use Rattle.sock_diag_captures.specs.declared.others.OtherSocket.{OtherSocket}
+
+-- ---- families
+
+-- the other families by their numbers: AF_NETLINK, AF_PACKET, AF_VSOCK and AF_XDP
+abbrev pub family_numbered : ℕ → Option Family
+family_numbered n =
+    if n == 16 then Some Netlink else if n == 17 then Some Packet
+    else if n == 40 then Some Vsock else if n == 44 then Some Xdp else None
 
 -- ---- what attributes tell
 

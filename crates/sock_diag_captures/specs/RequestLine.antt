@@ -1,34 +1,17 @@
 -- The line of a request: when it was captured, and what it asks for.
-use Rattle.std.specs.Prelude.{ℕ, ◌-◌, ◌==◌, ◌||◌, not, nat_lt, if◌then◌else◌, List, [], ◌∷◌, ◌++◌}
-use Rattle.std.specs.Prelude.{length, replicate, codes, decimal, drop, slice_index, Option, None}
-use Rattle.std.specs.Prelude.{Some}
+use Rattle.std.specs.Prelude.{ℕ, ◌==◌, ◌||◌, not, nat_lt, if◌then◌else◌, List, [], ◌∷◌, ◌++◌}
+use Rattle.std.specs.Prelude.{length, codes, drop, slice_index, Option, None, Some}
 use Rattle.byteorder.specs.Endian.{little_number}
-use Rattle.sock_diag_captures.specs.Details.{hex_detail}
+use Rattle.capture_tables.specs.Times.{time_text}
+use Rattle.capture_tables.specs.Parts.{hex_detail}
+use Rattle.capture_tables.specs.declared.capture.PacketHeader.{PacketHeader}
+use Rattle.capture_tables.specs.declared.options.Family.{Family}
+use Rattle.capture_tables.specs.declared.options.Family.TheVariants.{Netlink, Packet, Vsock, Xdp}
+use Rattle.capture_tables.specs.declared.options.Options.{Options}
 use Rattle.sock_diag_captures.specs.Requests.{asked_in}
 use Rattle.sock_diag_captures.specs.Table.{inet_kind}
-use Rattle.sock_diag_captures.specs.declared.capture.PacketHeader.{PacketHeader}
-use Rattle.sock_diag_captures.specs.declared.capture.TimeUnit.{TimeUnit}
-use Rattle.sock_diag_captures.specs.declared.capture.TimeUnit.TheVariants.{Microseconds}
-use Rattle.sock_diag_captures.specs.declared.capture.TimeUnit.TheVariants.{Nanoseconds}
-use Rattle.sock_diag_captures.specs.Options.{family_numbered}
-use Rattle.sock_diag_captures.specs.declared.options.Family.{Family}
-use Rattle.sock_diag_captures.specs.declared.options.Family.TheVariants.{Netlink, Packet, Vsock}
-use Rattle.sock_diag_captures.specs.declared.options.Family.TheVariants.{Xdp}
-use Rattle.sock_diag_captures.specs.declared.options.Options.{Options}
+use Rattle.sock_diag_captures.specs.Others.{family_numbered}
 use Rattle.sock_diag_captures.specs.declared.requests.Asked.{Asked}
-
--- a number in decimal, with zeros, 48, in front up to so many digits
-abbrev pub zero_filled : ℕ → ℕ → List ℕ
-zero_filled width n = replicate (width - length (decimal n)) 48 ++ decimal n
-
--- parts of a second, of which one has 10 ^ 6 or 10 ^ 9
-abbrev pub fraction_text : TimeUnit → ℕ → List ℕ
-fraction_text Microseconds n = zero_filled 6 n
-fraction_text Nanoseconds n = zero_filled 9 n
-
--- the seconds since 1970, a point, 46, and the parts
-abbrev pub time_text : PacketHeader → List ℕ
-time_text h = decimal h.seconds ++ 46 ∷ fraction_text h.unit h.fraction
 
 -- the states of the UNIX sockets that are asked for, a bit each: the word at 20 of a message of the
 -- type 20, SOCK_DIAG_BY_FAMILY, for the family 1, AF_UNIX, with both headers, 40 bytes

@@ -3,14 +3,14 @@ use Rattle.std.specs.Prelude.{◌≡◌, ◌↔◌, ℕ, ◌+◌, ◌-◌, ◌^�
 use Rattle.std.specs.Prelude.{flat_map, Bool, IsTrue, Option, ⊤}
 use Rattle.std.specs.Io.KnownBytes.{Appends, Consumes, IsAtEnd, Keeps}
 use Rattle.std.specs.List.{AllByRecursion}
-use Rattle.sock_diag_captures.specs.declared.capture.FileHeader.{FileHeader}
-use Rattle.sock_diag_captures.specs.declared.stream.RunError.{RunError}
-use Rattle.sock_diag_captures.specs.declared.stream.RunError.TheVariants.{Header, Packet, Write}
-use Rattle.sock_diag_captures.specs.declared.stream.RunError.TheVariants.{Closed, Memory}
-use Rattle.sock_diag_captures.specs.Capture.{IsFileHeader, IsHeaderStop, IsPacketStop, IsRecord}
-use Rattle.sock_diag_captures.specs.Capture.{Recorded}
+use Rattle.capture_tables.specs.declared.capture.FileHeader.{FileHeader}
+use Rattle.capture_tables.specs.declared.run.RunError.{RunError}
+use Rattle.capture_tables.specs.declared.run.RunError.TheVariants.{Header, Packet, Write, Closed}
+use Rattle.capture_tables.specs.declared.run.RunError.TheVariants.{Memory}
+use Rattle.capture_tables.specs.Capture.{IsFileHeader, IsHeaderStop, IsPacketStop, IsRecord}
+use Rattle.capture_tables.specs.Capture.{Recorded}
+use Rattle.capture_tables.specs.declared.options.Options.{Options}
 use Rattle.sock_diag_captures.specs.Listing.{ListsRecorded, asked_after}
-use Rattle.sock_diag_captures.specs.declared.options.Options.{Options}
 use Rattle.sock_diag_captures.specs.declared.requests.Asked.{Asked}
 
 -- the lines of a packet, and whether it was listed whole

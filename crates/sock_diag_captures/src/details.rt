@@ -2,6 +2,8 @@
 //! read.
 
 ghost use Rattle.std.specs.Prelude.{◌≡◌, ◌≤◌, ◌++◌, codes, flat_map, length, OnOk};
+ghost use Rattle.capture_tables.specs.Parts.{detail, separator, set_apart};
+ghost use Rattle.capture_tables.specs.Escapes.{shown};
 ghost use Rattle.netlink_core.specs.AttributeSet.{decodes};
 ghost use Rattle.netlink_core.specs.Layout.{read};
 ghost use Rattle.netlink_core.specs.Walk.{attribute_of};
@@ -12,48 +14,38 @@ ghost use Rattle.sock_diag_attributes.specs.NumbersModel.{numbers_view_model};
 ghost use Rattle.sock_diag_attributes.specs.UnixModel.{nla_view_model as unix_view_model};
 ghost use Rattle.sock_diag_attributes.specs.UnixAttributes.{unix};
 ghost use Rattle.sock_diag_families.specs.PacketAttributes.{packet_info};
-ghost use Rattle.sock_diag_captures.specs.Details.{ages, connection, counts, detail};
-ghost use Rattle.sock_diag_captures.specs.Details.{detail_of, detail_of_inet, detail_of_other};
-ghost use Rattle.sock_diag_captures.specs.Details.{detail_under, details, directions, fault_word};
-ghost use Rattle.sock_diag_captures.specs.Details.{flag_detail, groups, hex_detail, inet_text};
+ghost use Rattle.sock_diag_captures.specs.Details.{ages, connection, counts, detail_of};
+ghost use Rattle.sock_diag_captures.specs.Details.{detail_of_inet, detail_of_other, detail_under};
+ghost use Rattle.sock_diag_captures.specs.Details.{details, fault_word, groups, inet_text};
 ghost use Rattle.sock_diag_captures.specs.Details.{legacy_memory, limits, losses, memory};
-ghost use Rattle.sock_diag_captures.specs.Details.{memory_in, memory_limits, memory_part};
-ghost use Rattle.sock_diag_captures.specs.Details.{memory_used};
-ghost use Rattle.sock_diag_captures.specs.Details.{memory_received, options, own_text};
-ghost use Rattle.sock_diag_captures.specs.Details.{packet_flags, packet_text, pair_detail};
-ghost use Rattle.sock_diag_captures.specs.Details.{piece_detail, rates, receiver, separator};
-ghost use Rattle.sock_diag_captures.specs.Details.{set_apart, cookie_if_asked, detail_if_asked};
-ghost use Rattle.sock_diag_captures.specs.Details.{timer_if_asked, sizes};
-ghost use Rattle.sock_diag_captures.specs.Details.{some_detail, timer_in, timer_name, timer_text};
-ghost use Rattle.sock_diag_captures.specs.Details.{times, traffic, unix_text, unknown, unread};
-ghost use Rattle.sock_diag_captures.specs.Details.{detail_of_unix, memory_kind, other_text};
-ghost use Rattle.sock_diag_captures.specs.Details.{tells_memory, words_of};
-ghost use Rattle.sock_diag_captures.specs.Escapes.{shown};
+ghost use Rattle.sock_diag_captures.specs.Details.{memory_in, memory_limits, memory_used};
+ghost use Rattle.sock_diag_captures.specs.Details.{memory_received, options, own_text, packet_text};
+ghost use Rattle.sock_diag_captures.specs.Details.{piece_detail, rates, receiver, detail_if_asked};
+ghost use Rattle.sock_diag_captures.specs.Details.{sizes, timer_in, times, traffic, unix_text};
+ghost use Rattle.sock_diag_captures.specs.Details.{unknown, unread, detail_of_unix, memory_kind};
+ghost use Rattle.sock_diag_captures.specs.Details.{other_text, tells_memory, words_of};
 ghost use Rattle.sock_diag_captures.specs.Pieces.{pieces};
 
-use crate::cells::{push_hex, push_number};
-use crate::names::push_shown;
-use crate::options::{Detail, Family, Options};
 use crate::pieces::next_piece;
 use byteorder::{ByteOrder, LittleEndian};
+use capture_tables::{
+    Detail, Family, Options, TimerWords, push_detail, push_directions, push_flag, push_hex_detail,
+    push_number, push_packet_flags, push_pair, push_part, push_shown, push_shown_cookie,
+    push_shown_timer, push_some, separator,
+};
 use netlink_core::{DecodeError, NlaBuffer, NlasIterator};
-use netlink_packet_sock_diag::constants::{
+use sock_diag_attributes::inet::nlas::NlaView as InetView;
+use sock_diag_attributes::unix::nlas::{NlaView as UnixView, NumbersView};
+use sock_diag_families::netlink::{NETLINK_DIAG_GROUPS, NETLINK_DIAG_MEMINFO};
+use sock_diag_families::packet::{PACKET_DIAG_INFO, PACKET_DIAG_MEMINFO, PacketInfo};
+use sock_diag_families::xdp::XDP_DIAG_MEMINFO;
+use sock_diag_records::constants::{
     INET_DIAG_BBRINFO, INET_DIAG_CONG, INET_DIAG_DCTCPINFO, INET_DIAG_INFO, INET_DIAG_MEMINFO,
     INET_DIAG_SKMEMINFO, INET_DIAG_VEGASINFO, TCPI_OPT_ECN, TCPI_OPT_ECN_SEEN, TCPI_OPT_SACK,
     TCPI_OPT_SYN_DATA, TCPI_OPT_TIMESTAMPS, TCPI_OPT_WSCALE, UNIX_DIAG_MEMINFO,
 };
-use netlink_packet_sock_diag::inet::nlas::{LegacyMemInfo, MemInfo, NlaView as InetView, TcpInfo};
-use netlink_packet_sock_diag::unix::nlas::{NlaView as UnixView, NumbersView};
-use sock_diag_families::netlink::{NETLINK_DIAG_GROUPS, NETLINK_DIAG_MEMINFO};
-use sock_diag_families::packet::{PACKET_DIAG_INFO, PACKET_DIAG_MEMINFO, PacketInfo};
-use sock_diag_families::xdp::XDP_DIAG_MEMINFO;
+use sock_diag_values::inet::{LegacyMemInfo, MemInfo, TcpInfo};
 use std::alloc::AllocError;
-
-/// The bit of a shut-down state for what is received.
-const SHUT_RECEIVING: u8 = 1;
-
-/// The bit of a shut-down state for what is sent.
-const SHUT_SENDING: u8 = 2;
 
 /// The sockets that attributes tell of.
 #[derive(Clone, Copy)]
@@ -65,24 +57,6 @@ pub(crate) enum Sockets {
     /// Sockets of another family.
     Other(Family),
 }
-
-/// What the header of a reply about an IPv4 or IPv6 socket tells of the timer that runs.
-#[derive(Clone, Copy)]
-pub(crate) struct TimerWords {
-    /// Which timer, `idiag_timer` of sock_diag(7), 0 for none.
-    class: u8,
-    /// How often was sent again, `idiag_retrans`.
-    retransmits: u8,
-    /// The time until it ends, `idiag_expires`, in milliseconds.
-    expires: u32,
-}
-
-/// The timer of a socket that has none.
-pub(crate) const NO_TIMER: TimerWords = TimerWords {
-    class: 0,
-    retransmits: 0,
-    expires: 0,
-};
 
 /// The timer that the reply tells in its bytes, of which there are as many as in a header.
 pub(crate) fn timer_of(payload: &[u8]) -> TimerWords
@@ -119,13 +93,6 @@ pub(crate) fn push_details(
     Ok(())
 }
 
-/// What stands between the columns and the details.
-fn separator(options: Options) -> &'static [u8]
-    ensures { result.now ≡ separator options }
-{
-    if options.one_line { b"" } else { b"\n\t" }
-}
-
 /// Adds the timer of a socket, its cookie, and what each attribute in the bytes tells, where it is
 /// asked for.
 fn push_words(
@@ -142,64 +109,6 @@ fn push_words(
     push_shown_timer(text, options, timer)?;
     push_shown_cookie(text, options, cookie)?;
     push_pieces(text, options, sockets, bytes)
-}
-
-/// Adds the timer that runs, where it is asked for.
-fn push_shown_timer(
-    text: &mut Vec<u8>,
-    options: Options,
-    timer: &TimerWords,
-) -> Result<(), AllocError>
-    ensures { OnOk result (text.new.items ≡ text.old.items ++ timer_if_asked options timer.now) }
-{
-    if !options.shows(Detail::Timer) {
-        return Ok(());
-    }
-    push_timer(text, timer)
-}
-
-/// Adds the cookie, where it is asked for.
-fn push_shown_cookie(
-    text: &mut Vec<u8>,
-    options: Options,
-    cookie: &[u8; 8],
-) -> Result<(), AllocError>
-    ensures { OnOk result (text.new.items ≡ text.old.items ++ cookie_if_asked options cookie.now) }
-{
-    if !options.shows(Detail::Extended) {
-        return Ok(());
-    }
-    text.extend_from_slice(b" sk:")?;
-    push_hex(text, LittleEndian::read_u64(cookie))
-}
-
-/// Adds the timer that runs, the time until it ends, and how often was sent again.
-fn push_timer(text: &mut Vec<u8>, timer: &TimerWords) -> Result<(), AllocError>
-    ensures { OnOk result (text.new.items ≡ text.old.items ++ timer_text timer.now) }
-{
-    if timer.class == 0 {
-        return Ok(());
-    }
-    text.extend_from_slice(b" timer:(")?;
-    text.extend_from_slice(name_of_timer(timer.class))?;
-    text.push(b',')?;
-    push_number(text, timer.expires.into())?;
-    text.extend_from_slice(b"ms,")?;
-    push_number(text, timer.retransmits.into())?;
-    Ok(text.push(b')')?)
-}
-
-/// The name of a timer, as ss(8) prints it.
-fn name_of_timer(class: u8) -> &'static [u8]
-    ensures { result.now ≡ timer_name class }
-{
-    match class {
-        1 => b"on",
-        2 => b"keepalive",
-        3 => b"timewait",
-        4 => b"persist",
-        _ => b"unknown",
-    }
 }
 
 /// Adds what each attribute in the bytes tells, where it is asked for.
@@ -408,17 +317,6 @@ fn push_packet_info(text: &mut Vec<u8>, nla: &NlaBuffer<'_>) -> Result<(), Alloc
     push_packet_flags(text, (info.flags % 256) as u8)
 }
 
-/// Adds a word for each of the bits that a packet socket is set to.
-fn push_packet_flags(text: &mut Vec<u8>, flags: u8) -> Result<(), AllocError>
-    ensures { OnOk result (text.new.items ≡ text.old.items ++ packet_flags flags) }
-{
-    push_flag(text, b"running", 1, flags)?;
-    push_flag(text, b"auxdata", 2, flags)?;
-    push_flag(text, b"origdev", 4, flags)?;
-    push_flag(text, b"vnethdr", 8, flags)?;
-    push_flag(text, b"loss", 16, flags)
-}
-
 /// Adds the number of an attribute that is refused, the length of its value in bytes, and why.
 fn push_unread(
     text: &mut Vec<u8>,
@@ -518,24 +416,6 @@ fn push_pending(text: &mut Vec<u8>, inodes: &NumbersView<'_>) -> Result<(), Allo
     Ok(())
 }
 
-/// Adds the directions that are not shut down, as ss(8) does.
-fn push_directions(text: &mut Vec<u8>, state: u8) -> Result<(), AllocError>
-    ensures { OnOk result (text.new.items ≡ text.old.items ++ directions state) }
-{
-    text.push(b' ')?;
-    text.push(if state & SHUT_RECEIVING == 0 {
-        b'<'
-    } else {
-        b'-'
-    })?;
-    text.push(b'-')?;
-    Ok(text.push(if state & SHUT_SENDING == 0 {
-        b'>'
-    } else {
-        b'-'
-    })?)
-}
-
 /// Adds the number and the length of an attribute of another type.
 fn push_unknown(text: &mut Vec<u8>, nla: &NlaBuffer<'_>) -> Result<(), AllocError>
     ensures { OnOk result (text.new.items ≡ text.old.items ++ unknown (attribute_of nla.now)) }
@@ -607,18 +487,6 @@ fn push_legacy_memory(text: &mut Vec<u8>, info: &LegacyMemInfo) -> Result<(), Al
     push_part(text, b"f", Some(info.cache))?;
     push_part(text, b"t", Some(info.send_queue))?;
     Ok(text.push(b')')?)
-}
-
-/// Adds a comma, a word and a number, where one is told.
-fn push_part(text: &mut Vec<u8>, word: &[u8], number: Option<u32>) -> Result<(), AllocError>
-    ensures { OnOk result (text.new.items ≡ text.old.items ++ memory_part word.now number) }
-{
-    let Some(number) = number else {
-        return Ok(());
-    };
-    text.push(b',')?;
-    text.extend_from_slice(word)?;
-    push_number(text, number.into())
 }
 
 /// Adds what is told of a TCP connection.
@@ -751,63 +619,4 @@ fn push_receiver(text: &mut Vec<u8>, info: &TcpInfo) -> Result<(), AllocError>
     push_some(text, b"rcv_ssthresh", info.rcv_ssthresh.into())?;
     push_some(text, b"minrtt", info.min_rtt.into())?;
     push_some(text, b"rcv_ooopack", info.rcv_ooopack.into())
-}
-
-/// Adds a word and a number, where it is not 0.
-fn push_some(text: &mut Vec<u8>, word: &[u8], number: u64) -> Result<(), AllocError>
-    ensures { OnOk result (text.new.items ≡ text.old.items ++ some_detail word.now number) }
-{
-    if number == 0 {
-        return Ok(());
-    }
-    push_detail(text, word, number)
-}
-
-/// Adds a word where a number has one of these bits.
-fn push_flag(text: &mut Vec<u8>, word: &[u8], bits: u8, number: u8) -> Result<(), AllocError>
-    ensures { OnOk result (text.new.items ≡ text.old.items ++ flag_detail word.now bits number) }
-{
-    if number & bits == 0 {
-        return Ok(());
-    }
-    text.push(b' ')?;
-    text.extend_from_slice(word)
-}
-
-/// Adds a space, a word, a colon and two numbers in brackets.
-fn push_pair(text: &mut Vec<u8>, word: &[u8], first: u64, second: u64) -> Result<(), AllocError>
-    ensures { OnOk result (text.new.items ≡ text.old.items
-        ++ pair_detail word.now first second) }
-{
-    text.push(b' ')?;
-    text.extend_from_slice(word)?;
-    text.extend_from_slice(b":(")?;
-    push_number(text, first)?;
-    text.push(b',')?;
-    push_number(text, second)?;
-    Ok(text.push(b')')?)
-}
-
-/// Adds a space, a word, a colon, `0x` and a number in hexadecimal digits.
-pub(crate) fn push_hex_detail(
-    text: &mut Vec<u8>,
-    word: &[u8],
-    number: u64,
-) -> Result<(), AllocError>
-    ensures { OnOk result (text.new.items ≡ text.old.items ++ hex_detail word.now number) }
-{
-    text.push(b' ')?;
-    text.extend_from_slice(word)?;
-    text.extend_from_slice(b":0x")?;
-    push_hex(text, number)
-}
-
-/// Adds a space, a word, a colon and a number.
-fn push_detail(text: &mut Vec<u8>, word: &[u8], number: u64) -> Result<(), AllocError>
-    ensures { OnOk result (text.new.items ≡ text.old.items ++ detail word.now number) }
-{
-    text.push(b' ')?;
-    text.extend_from_slice(word)?;
-    text.push(b':')?;
-    push_number(text, number)
 }

@@ -5,37 +5,54 @@ ghost use Rattle.std.specs.Prelude.{◌≡◌, ◌↔◌, ◌++◌, ℕ, Bool, t
 ghost use Rattle.std.specs.Prelude.{MatchResult, Result, ⊤};
 ghost use Rattle.std.specs.Process.{exit_status};
 ghost use Rattle.std.specs.Io.KnownBytes.{Appends, Consumes, IsAtEnd};
+ghost use Rattle.capture_tables.specs.declared.run.RunError.{RunError};
 ghost use Rattle.sock_diag_captures.specs.Run.{Fails, Finishes, IsTable};
-ghost use Rattle.sock_diag_captures.specs.declared.stream.RunError.{RunError};
 
-mod capture;
-mod cells;
 mod details;
 mod line;
 mod list;
-mod names;
-mod options;
+mod name_cells;
 mod others;
 mod pieces;
 mod request_line;
 mod requests;
 mod stream;
-mod streams;
-mod words;
 
-pub use capture::{ByteOrder, CaptureError, FileHeader, Packet, PacketHeader, TimeUnit};
+pub use capture_tables::{
+    Argument, ByteOrder, CaptureError, FileHeader, Options, Packet, PacketHeader, RunError,
+    TimeUnit, Written, choose,
+};
 pub use line::HEADING;
-pub use list::{Issue, Written, list_packet};
-pub use options::Options;
+pub use list::{Issue, list_packet};
 pub use requests::{Asked, Requests};
 use std::alloc::Global;
 use std::io::{Read, Write};
 use std::process::ExitCode;
-pub use stream::{RunError, run};
-pub use words::{Argument, HELP, choose};
+pub use stream::run;
 
 /// The version, that of the repository's file `VERSION`.
 pub const VERSION: &str = "0.10.0";
+
+/// How `sslist` is called.
+pub const HELP: &str = "sslist [-tuxM0oemiOna] [--WORD ..] [FILE ..]
+
+Lists the sockets that captures of netlink traffic tell: that of each file, or of standard
+input. A capture is one of pcap, as tcpdump -i nlmon0 -w - writes it.
+
+  -t -u -x -M  sockets of TCP, UDP, UNIX or MPTCP alone
+  -0           packet sockets alone
+  --family=netlink, --vsock, --xdp
+               netlink, vsock or XDP sockets alone
+  -o -m -i     beside the columns the timer, the memory or the connection alone
+  -e           what these don't tell
+  -O           one line a socket
+  -n -a        nothing more: all numbers are shown as numbers, and all states are listed
+  --utf8       letters of names that are UTF-8, and not their bytes
+  --requests   a line for each request, with its time and what it asks for
+  --help, --version
+
+The status is 0 where all was listed, 1 where something was not, which standard error names but
+where nobody reads the output, and 2 for an option that is not known.";
 
 /// `run`, which tells on `errors`, behind `front`, why it failed, but where nobody reads the output
 /// any more. The status is 0 where the whole capture was listed whole, and 1 where the run failed

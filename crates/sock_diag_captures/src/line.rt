@@ -1,37 +1,36 @@
 //! The lines that replies tell of.
 
 ghost use Rattle.std.specs.Prelude.{◌≡◌, ◌++◌, None, Some, drop, IfOk, OnOk, option_map};
+ghost use Rattle.capture_tables.specs.CellsModel.{cells_model};
 ghost use Rattle.netlink_core.specs.Layout.{read};
 ghost use Rattle.sock_diag_records.specs.InetResponse.{inet_response_header};
 ghost use Rattle.sock_diag_records.specs.UnixResponseHeader.{unix_response_header};
 ghost use Rattle.sock_diag_attributes.specs.NameModel.{name_view_model};
 ghost use Rattle.sock_diag_attributes.specs.UnixAttributes.{unix};
-ghost use Rattle.sock_diag_replies.specs.ResponseKind.{response_kind};
+ghost use Rattle.sock_diag_records.specs.ResponseKind.{response_kind};
 ghost use Rattle.sock_diag_captures.specs.Details.{timer_in};
 ghost use Rattle.sock_diag_captures.specs.Listing.{fault_behind, kind_fault, kind_lines};
 ghost use Rattle.sock_diag_captures.specs.Listing.{lines_behind};
 ghost use Rattle.sock_diag_captures.specs.Pieces.{pieces, first_value};
-ghost use Rattle.sock_diag_captures.specs.CellsModel.{cells_model};
-ghost use Rattle.sock_diag_captures.specs.Table.{family_name, first_columns, inet_kind, inet_line};
-ghost use Rattle.sock_diag_captures.specs.Table.{inet_lines};
+ghost use Rattle.sock_diag_captures.specs.Table.{family_name, inet_kind, inet_line, inet_lines};
 ghost use Rattle.sock_diag_captures.specs.Table.{unix_kind, unix_line, unix_lines};
 
-use crate::cells::{
-    name_of_state, push_column, push_endpoint, push_endpoint_column, push_name_column,
-    push_number_column, push_peer,
-};
-use crate::details::{NO_TIMER, Sockets, TimerWords, push_details, timer_of};
-use crate::options::Options;
+use crate::details::{Sockets, push_details, timer_of};
+use crate::name_cells::push_name_column;
 use crate::others::push_other;
 use crate::pieces::{find_fault, find_kind};
+use capture_tables::{
+    Cells, NO_TIMER, Options, TimerWords, push_endpoint, push_endpoint_column, push_first_columns,
+    push_peer,
+};
 use netlink_core::DecodeError;
-use netlink_packet_sock_diag::constants::{
+use sock_diag_attributes::unix::nlas::{NameView, NlaView};
+use sock_diag_records::constants::{
     AF_INET, AF_INET6, AF_UNIX, SOCK_DGRAM, SOCK_DIAG_BY_FAMILY, SOCK_SEQPACKET, SOCK_STREAM,
     UNIX_DIAG_NAME, UNIX_DIAG_PEER, UNIX_DIAG_RQLEN,
 };
-use netlink_packet_sock_diag::inet::InetResponseHeader;
-use netlink_packet_sock_diag::unix::UnixResponseHeader;
-use netlink_packet_sock_diag::unix::nlas::{NameView, NlaView};
+use sock_diag_records::inet::InetResponseHeader;
+use sock_diag_records::unix::UnixResponseHeader;
 use std::alloc::AllocError;
 
 /// How many bytes the header of a reply about a UNIX socket has.
@@ -44,32 +43,8 @@ const INET_HEADER: usize = 72;
 pub const HEADING: &[u8] =
     b"Netid State      Recv-Q Send-Q Inode      Uid   Local                          Peer\n";
 
-/// What the first columns of a line hold.
-#[derive(Clone, Copy)]
-pub(crate) struct Cells {
-    pub(crate) kind: &'static [u8],
-    pub(crate) state: u8,
-    pub(crate) receive_queue: Option<u32>,
-    pub(crate) send_queue: Option<u32>,
-    pub(crate) inode: u32,
-    pub(crate) uid: Option<u32>,
-}
-
 /// How many bytes the column of the local end has.
 pub(crate) const LOCAL: usize = 30;
-
-/// Adds the first columns of a line.
-pub(crate) fn push_first_columns(text: &mut Vec<u8>, cells: &Cells) -> Result<(), AllocError>
-    ensures { OnOk result (text.new.items ≡ text.old.items
-        ++ first_columns (cells_model cells.now)) }
-{
-    push_column(text, 5, cells.kind)?;
-    push_column(text, 10, name_of_state(cells.state))?;
-    push_number_column(text, 6, cells.receive_queue)?;
-    push_number_column(text, 6, cells.send_queue)?;
-    push_number_column(text, 10, Some(cells.inode))?;
-    push_number_column(text, 5, cells.uid)
-}
 
 /// Adds the lines of a reply of this type, and gives its fault, if it has one. The reply is listed
 /// by its header and by each attribute that can be read; a fault is one of the header or of the
@@ -102,7 +77,6 @@ pub(crate) fn push_reply(
 }
 
 /// Adds the lines of a UNIX socket, and gives the fault of the reply, if it has one.
-#[tactic(auto, using(sock_diag_replies::specs::UnixResponseSpecLaws::header_enough))]
 fn push_unix(
     text: &mut Vec<u8>,
     options: Options,
@@ -238,7 +212,6 @@ fn name_of_kind(kind: u8) -> &'static [u8]
 }
 
 /// Adds the lines of an IPv4 or IPv6 socket, and gives the fault of the reply, if it has one.
-#[tactic(auto, using(sock_diag_replies::specs::InetResponseSpecLaws::header_enough))]
 fn push_inet(
     text: &mut Vec<u8>,
     options: Options,

@@ -1,26 +1,23 @@
 //! The sockets that the packets of a capture tell, line by line, and what is told of a packet that
 //! can't be listed whole.
 
-ghost use Rattle.std.specs.Prelude.{◌≡◌, ◌↔◌, ◌≤◌, ◌++◌, IfOk, OnOk, IsTrue, bit_and, drop};
-ghost use Rattle.std.specs.Prelude.{length, option_map};
+ghost use Rattle.std.specs.Prelude.{◌≡◌, ◌↔◌, ◌≤◌, ◌++◌, IfOk, OnOk, IsTrue, bit_and, drop, length};
+ghost use Rattle.std.specs.Prelude.{option_map};
 ghost use Rattle.byteorder.specs.Endian.{little_number};
-ghost use Rattle.sock_diag_captures.specs.Capture.{recorded};
+ghost use Rattle.capture_tables.specs.Capture.{recorded};
 ghost use Rattle.sock_diag_captures.specs.Listing.{IsPlain, IsRequest, Lists, ListsDatagram};
-ghost use Rattle.sock_diag_captures.specs.Listing.{ListsPacket, ListsRecorded};
+ghost use Rattle.sock_diag_captures.specs.Listing.{ListsPacket, ListsRecorded, asked_after};
+ghost use Rattle.sock_diag_captures.specs.Listing.{issue_under, control_issue, errno_in};
+ghost use Rattle.sock_diag_captures.specs.Listing.{error_issue, is_nothing_missing, lines_under};
+ghost use Rattle.sock_diag_captures.specs.Listing.{message_issue, protocol_for, message_lines};
 ghost use Rattle.sock_diag_captures.specs.Requests.{noted};
-ghost use Rattle.sock_diag_captures.specs.Listing.{asked_after, issue_under};
-ghost use Rattle.sock_diag_captures.specs.Listing.{control_issue, errno_in};
-ghost use Rattle.sock_diag_captures.specs.Listing.{error_issue, is_nothing_missing};
-ghost use Rattle.sock_diag_captures.specs.Listing.{lines_under, message_issue, protocol_for};
-ghost use Rattle.sock_diag_captures.specs.Listing.{message_lines};
 ghost use Rattle.sock_diag_captures.specs.declared.list.Issue.TheVariants.{Refused};
 
-use crate::capture::{Packet, PacketHeader};
 use crate::line::push_reply;
-use crate::options::Options;
 use crate::request_line::push_shown_request;
 use crate::requests::Requests;
 use byteorder::{ByteOrder, LittleEndian};
+use capture_tables::{Options, Packet, PacketHeader, Written, push_cut_note, push_short};
 use netlink_core::{
     DecodeError, MessageStrings, NETLINK_HEADER_LEN, NLM_F_REQUEST, NLMSG_NOOP, NLMSG_OVERRUN,
     NetlinkHeader, error_number,
@@ -71,17 +68,6 @@ struct Place {
     message: u64,
 }
 
-/// What is written of packets.
-#[derive(Drop)]
-pub struct Written<'a> {
-    /// What stands before each line for standard error.
-    pub front: &'a str,
-    /// The lines of the table.
-    pub lines: Vec<u8>,
-    /// The lines for standard error.
-    pub issues: Vec<u8>,
-}
-
 /// Adds the lines of the sockets that a packet of this number tells, and what is told of it. It
 /// answers whether the packet was listed whole: it has the 16 bytes of the cooked header, and all
 /// that it had when it was captured, and none of its messages was refused, tells an error but
@@ -105,24 +91,6 @@ pub fn list_packet(
     let is_whole = push_cut_note(written, number, packet, header.whole_length)?;
     let is_listed = list_content(written, requests, options, number, packet, header)?;
     Ok(is_listed & is_whole)
-}
-
-/// Tells that a packet had more bytes when it was captured, where it had, and answers whether it
-/// had not.
-fn push_cut_note(
-    written: &mut Written<'_>,
-    number: u64,
-    packet: &[u8],
-    whole_length: u32,
-) -> Result<bool, AllocError>
-    ensures whole { IfOk result (λ is_whole. IsTrue is_whole ↔ (whole_length ≤ length packet.now)) }
-    ensures lines { OnOk result (written.new.lines.items ≡ written.old.lines.items) }
-{
-    if packet.len() >= whole_length as usize {
-        return Ok(true);
-    }
-    push_cut(written, number, packet.len(), whole_length)?;
-    Ok(false)
 }
 
 /// The same of the bytes that are there.
@@ -364,39 +332,6 @@ fn push_issue(written: &mut Written<'_>, place: Place, issue: &Issue) -> Result<
     match writeln!(
         written.issues,
         "{front}packet {packet}, message {message}: {issue}"
-    ) {
-        Ok(()) => Ok(()),
-        Err(_) => Err(AllocError),
-    }
-}
-
-/// Adds a line about a packet that has so many bytes, and had more when it was captured.
-fn push_cut(
-    written: &mut Written<'_>,
-    packet: u64,
-    length: usize,
-    whole_length: u32,
-) -> Result<(), AllocError>
-    ensures { OnOk result (written.new.lines.items ≡ written.old.lines.items) }
-{
-    let front = written.front;
-    match writeln!(
-        written.issues,
-        "{front}packet {packet}: cut to {length} of {whole_length} bytes"
-    ) {
-        Ok(()) => Ok(()),
-        Err(_) => Err(AllocError),
-    }
-}
-
-/// Adds a line about a packet that is too short to be one of a netlink device.
-fn push_short(written: &mut Written<'_>, packet: u64) -> Result<(), AllocError>
-    ensures { OnOk result (written.new.lines.items ≡ written.old.lines.items) }
-{
-    let front = written.front;
-    match writeln!(
-        written.issues,
-        "{front}packet {packet}: fewer than 16 bytes"
     ) {
         Ok(()) => Ok(()),
         Err(_) => Err(AllocError),

@@ -1,32 +1,32 @@
 //! The lines of netlink, packet, vsock and XDP sockets.
 
 ghost use Rattle.std.specs.Prelude.{◌≡◌, ◌++◌, ◌≤◌, drop, IfOk, OnOk, List, option_map};
+ghost use Rattle.capture_tables.specs.CellsModel.{cells_model};
+ghost use Rattle.capture_tables.specs.Cells.{column};
 ghost use Rattle.netlink_core.specs.Walk.{attribute_of};
 ghost use Rattle.sock_diag_captures.specs.Listing.{family_fault, family_lines, shown_fault};
 ghost use Rattle.sock_diag_captures.specs.Listing.{shown_lines};
-ghost use Rattle.sock_diag_captures.specs.Options.{family_numbered};
-ghost use Rattle.sock_diag_captures.specs.Others.{end_cell, end_text, interface, netlink_socket};
-ghost use Rattle.sock_diag_captures.specs.Others.{other_columns, other_kind, other_line};
-ghost use Rattle.sock_diag_captures.specs.Others.{other_lines, packet_socket, unless, user_kind};
-ghost use Rattle.sock_diag_captures.specs.Others.{vsock_kind, vsock_socket, word_in, word_told};
-ghost use Rattle.sock_diag_captures.specs.Others.{xdp_socket};
-ghost use Rattle.sock_diag_captures.specs.CellsModel.{cells_model};
+ghost use Rattle.sock_diag_captures.specs.Others.{family_numbered, end_cell, end_text, interface};
+ghost use Rattle.sock_diag_captures.specs.Others.{netlink_socket, other_columns, other_kind};
+ghost use Rattle.sock_diag_captures.specs.Others.{other_line, other_lines, packet_socket, unless};
+ghost use Rattle.sock_diag_captures.specs.Others.{user_kind, vsock_kind, vsock_socket, word_in};
+ghost use Rattle.sock_diag_captures.specs.Others.{word_told, xdp_socket};
 ghost use Rattle.sock_diag_captures.specs.Pieces.{Piece, pieces};
-ghost use Rattle.sock_diag_captures.specs.Table.{column};
 ghost use Rattle.sock_diag_captures.specs.declared.others.OtherSocket.{OtherSocket as SocketShown};
 
-use crate::cells::{end_column, push_peer};
-use crate::details::{NO_TIMER, Sockets, memory_kind, push_details};
-use crate::line::{Cells, LOCAL, push_first_columns};
-use crate::options::{Family, Options};
+use crate::details::{Sockets, memory_kind, push_details};
+use crate::line::LOCAL;
 use crate::pieces::{find_fault, find_kind};
 use byteorder::{ByteOrder, LittleEndian};
+use capture_tables::{Cells, Family, NO_TIMER, Options, end_column, push_first_columns, push_peer};
 use netlink_core::{DecodeError, NlaBuffer, Record, read_record};
-use netlink_packet_sock_diag::constants::{SOCK_DGRAM, SOCK_RAW, SOCK_SEQPACKET, SOCK_STREAM};
 use sock_diag_families::netlink::NetlinkResponseHeader;
 use sock_diag_families::packet::{PACKET_DIAG_INFO, PACKET_DIAG_UID, PacketResponseHeader};
-use sock_diag_families::vsock::VsockResponseHeader;
-use sock_diag_families::xdp::{XDP_DIAG_INFO, XDP_DIAG_UID, XdpResponseHeader};
+use sock_diag_families::vsock::{AF_VSOCK, VsockResponseHeader};
+use sock_diag_families::xdp::{AF_XDP, XDP_DIAG_INFO, XDP_DIAG_UID, XdpResponseHeader};
+use sock_diag_records::constants::{
+    AF_NETLINK, AF_PACKET, SOCK_DGRAM, SOCK_RAW, SOCK_SEQPACKET, SOCK_STREAM,
+};
 use std::alloc::AllocError;
 
 /// The state of a socket that isn't connected, as ss(8) prints it: `UNCONN`.
@@ -64,6 +64,19 @@ pub(crate) trait Listed: Record<Param = ()> + Drop {
         ensures { result ≡ listed self.now (pieces 0 attributes.now) };
 }
 
+/// The family of this number, where it is one of them.
+pub(crate) fn family_numbered(number: u8) -> Option<Family>
+    ensures { result ≡ family_numbered number }
+{
+    match number {
+        AF_NETLINK => Some(Family::Netlink),
+        AF_PACKET => Some(Family::Packet),
+        AF_VSOCK => Some(Family::Vsock),
+        AF_XDP => Some(Family::Xdp),
+        _ => None,
+    }
+}
+
 /// Adds the lines of a socket of the family of this number, and gives the fault of the reply, if it
 /// has one. Of a family that isn't known nothing is told.
 pub(crate) fn push_other(
@@ -77,7 +90,7 @@ pub(crate) fn push_other(
     ensures fault { IfOk result
         (λ fault. fault ≡ family_fault (family_numbered number) payload.now) }
 {
-    match Family::of_number(number) {
+    match family_numbered(number) {
         Some(Family::Netlink) => push_listed::<NetlinkResponseHeader>(text, options, payload),
         Some(Family::Packet) => push_listed::<PacketResponseHeader>(text, options, payload),
         Some(Family::Vsock) => push_listed::<VsockResponseHeader>(text, options, payload),

@@ -2,19 +2,15 @@
 
 ghost use Rattle.std.specs.Prelude.{◌≡◌, ◌++◌, OnOk};
 ghost use Rattle.sock_diag_captures.specs.RequestLine.{asked_family, asked_for, family_word};
-ghost use Rattle.sock_diag_captures.specs.RequestLine.{fraction_text, request_line};
-ghost use Rattle.sock_diag_captures.specs.RequestLine.{shown_request, time_text, unix_states};
+ghost use Rattle.sock_diag_captures.specs.RequestLine.{request_line, shown_request, unix_states};
 
-use crate::capture::{PacketHeader, TimeUnit};
-use crate::cells::push_number;
-use crate::details::push_hex_detail;
 use crate::line::name_of_protocol;
-use crate::options::{Family, Options};
+use crate::others::family_numbered;
 use crate::requests::{Asked, find_request};
 use byteorder::{ByteOrder, LittleEndian};
-use netlink_packet_sock_diag::constants::{AF_UNIX, SOCK_DIAG_BY_FAMILY};
+use capture_tables::{Family, Options, PacketHeader, push_hex_detail, push_time};
+use sock_diag_records::constants::{AF_UNIX, SOCK_DIAG_BY_FAMILY};
 use std::alloc::AllocError;
-use std::io::Write;
 
 /// How many bytes the two headers of a request for UNIX sockets have.
 const UNIX_REQUEST: usize = 40;
@@ -57,30 +53,6 @@ fn push_request(
         find_family(datagram),
     )?;
     Ok(text.push(b'\n')?)
-}
-
-/// Adds the seconds since 1970 and, behind a point, the parts of a second.
-fn push_time(text: &mut Vec<u8>, header: &PacketHeader) -> Result<(), AllocError>
-    ensures { OnOk result (text.new.items ≡ text.old.items ++ time_text header.now) }
-{
-    push_number(text, header.seconds.into())?;
-    text.push(b'.')?;
-    push_fraction(text, header.unit, header.fraction)
-}
-
-/// Adds parts of a second in as many digits as their unit has at least.
-#[tactic(auto, using(crate::proofs::Filling::zero_filled_is))]
-fn push_fraction(text: &mut Vec<u8>, unit: TimeUnit, fraction: u32) -> Result<(), AllocError>
-    ensures { OnOk result (text.new.items ≡ text.old.items ++ fraction_text unit fraction) }
-{
-    let written = match unit {
-        TimeUnit::Microseconds => write!(text, "{fraction:06}"),
-        TimeUnit::Nanoseconds => write!(text, "{fraction:09}"),
-    };
-    match written {
-        Ok(()) => Ok(()),
-        Err(_) => Err(AllocError),
-    }
 }
 
 /// Adds the protocol of the sockets that are asked for, and a bit for each state, or their family.
@@ -140,5 +112,5 @@ fn find_family(datagram: &[u8]) -> Option<Family>
     {
         return None;
     }
-    Family::of_number(datagram[16])
+    family_numbered(datagram[16])
 }

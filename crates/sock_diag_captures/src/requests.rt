@@ -8,7 +8,7 @@ ghost use Rattle.sock_diag_captures.specs.Requests.{protocol_by, request_in};
 use crate::pieces::find_kind;
 use byteorder::{ByteOrder, LittleEndian};
 use netlink_core::{NLM_F_REQUEST, NlaBuffer};
-use netlink_packet_sock_diag::constants::{AF_INET, AF_INET6, SOCK_DIAG_BY_FAMILY};
+use sock_diag_records::constants::{AF_INET, AF_INET6, SOCK_DIAG_BY_FAMILY};
 use std::alloc::{AllocError, Global};
 
 /// How many bytes the two headers of a request for IPv4 and IPv6 sockets have.

@@ -1,56 +1,19 @@
 //! The table of a capture, read as it comes.
 
-ghost use Rattle.std.specs.Prelude.{◌≡◌, ◌++◌, ℕ, List, length, OnOk, IfErr, IfOk, MatchOption, ⊤};
-ghost use Rattle.std.specs.Io.KnownBytes.{Appends, Consumes, IsAtEnd, Keeps};
-ghost use Rattle.sock_diag_captures.specs.Capture.{IsFileHeader, IsHeaderStop, IsPacketStop};
-ghost use Rattle.sock_diag_captures.specs.Capture.{IsRecord, recorded};
-ghost use Rattle.sock_diag_captures.specs.declared.capture.CaptureError.{CaptureError};
-ghost use Rattle.sock_diag_captures.specs.declared.stream.RunError.TheVariants.{Memory};
+ghost use Rattle.std.specs.Prelude.{◌++◌, ℕ, List, OnOk, IfErr, IfOk, ⊤};
+ghost use Rattle.std.specs.Io.KnownBytes.{Appends, Consumes, IsAtEnd};
+ghost use Rattle.capture_tables.specs.declared.capture.CaptureError.{CaptureError};
+ghost use Rattle.capture_tables.specs.Streams.{IsWriteFailure};
 ghost use Rattle.sock_diag_captures.specs.Run.{Fails, IsTable};
-ghost use Rattle.sock_diag_captures.specs.Streams.{IsWriteFailure};
 
-use crate::capture::{CaptureError, FileHeader, PacketHeader};
 use crate::line::HEADING;
-use crate::list::{Written, list_packet};
-use crate::options::Options;
+use crate::list::list_packet;
 use crate::requests::Requests;
-use crate::streams::{Sink, Source};
-use std::alloc::{AllocError, Global};
+use capture_tables::{
+    CaptureError, Options, RunError, Sink, Source, Written, read_header, read_packet, send,
+};
+use std::alloc::Global;
 use std::io::{Read, Write};
-use thiserror::Error;
-
-/// Why a run ended before the end of its input.
-#[derive(Clone, Copy, Debug, PartialEq, Eq, Error)]
-pub enum RunError {
-    /// The header of the capture could not be read.
-    #[error("{0}")]
-    Header(CaptureError),
-    /// The packet of this number could not be read. The first one is 1.
-    #[error("packet {packet}: {fault}")]
-    Packet {
-        /// The number of the packet.
-        packet: u64,
-        /// Why it could not be read.
-        fault: CaptureError,
-    },
-    /// A write or the last flush failed.
-    #[error("writing failed")]
-    Write,
-    /// A write failed, since the output is a pipe that nobody reads any more.
-    #[error("nobody reads the output")]
-    Closed,
-    /// Memory ran out.
-    #[error("out of memory")]
-    Memory,
-}
-
-impl From<AllocError> for RunError {
-    ghost from_gives = { λ _ e. e ≡ Memory };
-
-    fn from(_e: AllocError) -> RunError {
-        RunError::Memory
-    }
-}
 
 /// Writes the table of a capture: a heading, and the lines of each packet before the next one is
 /// read. What is told of packets goes to `errors`, each line behind `front`, and where that can't
@@ -121,64 +84,4 @@ fn write_table<R: Source, W: Sink, E: Write>(
         packet: u64::MAX,
         fault: CaptureError::Read,
     })
-}
-
-/// Reads the header of the capture.
-fn read_header<R: Source>(input: &mut R) -> Result<FileHeader, RunError>
-    ensures read { IfOk result (λ file. (bytes : List ℕ) × (length bytes ≡ 24)
-        × IsFileHeader bytes file
-        × Consumes (R.left input.old) (R.left input.new) bytes) }
-    ensures stopped { IfErr result (λ e. (fault : CaptureError) × (e ≡ RunError.Header fault)
-        × (part : List ℕ)
-        × Consumes (R.left input.old) (R.left input.new) part
-        × IsHeaderStop (R.left input.new) (R.failed input.new) part fault) }
-{
-    match FileHeader::read(input) {
-        Ok(file) => Ok(file),
-        Err(fault) => Err(RunError::Header(fault)),
-    }
-}
-
-/// Reads the packet of a number in place of what `packet` held, and answers what its header tells,
-/// or `None` where there is no packet more.
-fn read_packet<R: Source>(
-    file: &FileHeader,
-    input: &mut R,
-    number: u64,
-    packet: &mut Vec<u8>,
-) -> Result<Option<PacketHeader>, RunError>
-    ensures read { IfOk result (λ found. MatchOption found
-        (IsAtEnd (R.left input.new) × Keeps (R.left input.old) (R.left input.new))
-        (λ told_header. (header : List ℕ)
-        × IsRecord file.now header (recorded packet.new.items told_header)
-        × Consumes (R.left input.old) (R.left input.new) (header ++ packet.new.items))) }
-    ensures stopped { IfErr result (λ e. (fault : CaptureError) × (e ≡ RunError.Packet number fault)
-        × (part : List ℕ)
-        × Consumes (R.left input.old) (R.left input.new) part
-        × IsPacketStop file.now (R.left input.new) (R.failed input.new) part fault) }
-{
-    match file.read_packet(input, packet) {
-        Ok(found) => Ok(found),
-        Err(fault) => Err(RunError::Packet {
-            packet: number,
-            fault,
-        }),
-    }
-}
-
-/// Writes all the bytes. No write that failed is made again.
-fn send<W: Sink>(output: &mut W, bytes: &[u8]) -> Result<(), RunError>
-    ensures written { OnOk result (Appends (W.held output.old) (W.held output.new) bytes.now) }
-    ensures stopped { IfErr result (λ e. IsWriteFailure e × W.failed output.new e
-        × (front : List ℕ) × (rest : List ℕ)
-        × (bytes.now ≡ front ++ rest) × Appends (W.held output.old) (W.held output.new) front) }
-{
-    let mut rest = bytes;
-    'writes: while !rest.is_empty() {
-        match output.write_part(rest) {
-            Ok(count) => rest = &rest[count..],
-            Err(fault) => return Err(fault),
-        }
-    }
-    Ok(())
 }

@@ -10,8 +10,8 @@ use Rattle.netlink_core.specs.Envelope.{inner, Envelope, OfInner, payload_bytes,
 use Rattle.sock_diag_replies.specs.InetResponseSpec.{inet_response_spec}
 use Rattle.sock_diag_replies.specs.UnixResponseSpec.{unix_response_spec}
 use Rattle.netlink_packet_sock_diag.specs.Message.{Message, message_of, message_codec}
-use Rattle.sock_diag_replies.specs.ResponseKind.{inet_request, inet_response, unix_request}
-use Rattle.sock_diag_replies.specs.ResponseKind.{unix_response}
+use Rattle.sock_diag_records.specs.ResponseKind.{inet_request, inet_response, unix_request}
+use Rattle.sock_diag_records.specs.ResponseKind.{unix_response}
 
 at_most : (m n : ℕ) → (m ≤ n) ⊎ ¬ (m ≤ n)
 at_most m n = elim (cases_lt n m) [

@@ -19,3 +19,4 @@ pub mod InetResponseInverse
 pub mod InetResponse
 pub mod InetResponseLaws
 pub mod EqualRecordLaws
+pub mod ResponseKind

@@ -5,7 +5,6 @@ pub mod UnixGetters
 pub mod InetResponseSpec
 pub mod InetResponseSpecLaws
 pub mod ResponseModel
-pub mod ResponseKind
 pub mod ViewModel
 pub mod EqualResponseLaws
 pub mod HeaderLaws

@@ -18,7 +18,7 @@ use Rattle.netlink_core.specs.Items.{ItemIs, ItemsAre}
 use Rattle.netlink_core.specs.Response.{response_bytes, response_codec}
 use Rattle.netlink_packet_sock_diag.specs.Dump.{end_of, kept}
 use Rattle.netlink_packet_sock_diag.specs.Message.{Message, message_of, message_codec}
-use Rattle.sock_diag_replies.specs.ResponseKind.{unix_response}
+use Rattle.sock_diag_records.specs.ResponseKind.{unix_response}
 use Rattle.sock_diag_replies.specs.UnixResponseSpec.{UnixResponseValue, unix_response_spec}
 use Rattle.sock_diag_uses.specs.TestKernel.{CanBeSent, IsAnswer, IsWholeDump, end_under}
 use Rattle.sock_diag_uses.specs.TestKernel.{message_under, reply_under}

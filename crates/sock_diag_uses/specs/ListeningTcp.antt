@@ -4,7 +4,7 @@ use Rattle.netlink_core.specs.Envelope.{Envelope, inner}
 use Rattle.std.specs.declared.net.ip_addr.IpAddr.{IpAddr}
 use Rattle.std.specs.declared.net.ip_addr.IpAddr.TheVariants.{V4, V6}
 use Rattle.netlink_packet_sock_diag.specs.Message.{Message, message_of}
-use Rattle.sock_diag_replies.specs.ResponseKind.{inet_request}
+use Rattle.sock_diag_records.specs.ResponseKind.{inet_request}
 use Rattle.sock_diag_uses.specs.declared.listening_tcp.Family.{Family}
 use Rattle.sock_diag_uses.specs.declared.listening_tcp.Family.TheVariants.{Inet, Inet6}
 

@@ -6,8 +6,8 @@ use Rattle.netlink_core.specs.Envelope.{Payload, done_with, error_with, no_paylo
 use Rattle.netlink_core.specs.Envelope.{inner}
 use Rattle.netlink_core.specs.Items.{ItemsAre}
 use Rattle.netlink_packet_sock_diag.specs.Message.{Message, message_of, message_codec}
-use Rattle.sock_diag_replies.specs.ResponseKind.{inet_request, inet_response, unix_request}
-use Rattle.sock_diag_replies.specs.ResponseKind.{unix_response}
+use Rattle.sock_diag_records.specs.ResponseKind.{inet_request, inet_response, unix_request}
+use Rattle.sock_diag_records.specs.ResponseKind.{unix_response}
 use Rattle.sock_diag_uses.specs.declared.lister.Line.{Line}
 use Rattle.sock_diag_uses.specs.declared.lister.Line.TheVariants.{Socket, End, Failure, Refused}
 

@@ -13,8 +13,8 @@ use Rattle.sock_diag_attributes.specs.Name.{SocketName, pathname, abstract}
 use Rattle.sock_diag_attributes.specs.UnixAttributes.{unix}
 use Rattle.netlink_packet_sock_diag.specs.Dump.{end_of}
 use Rattle.netlink_packet_sock_diag.specs.Message.{Message, message_of, message_codec}
-use Rattle.sock_diag_replies.specs.ResponseKind.{inet_request, inet_response, unix_request}
-use Rattle.sock_diag_replies.specs.ResponseKind.{unix_response}
+use Rattle.sock_diag_records.specs.ResponseKind.{inet_request, inet_response, unix_request}
+use Rattle.sock_diag_records.specs.ResponseKind.{unix_response}
 use Rattle.sock_diag_replies.specs.UnixGetters.{first_of}
 
 -- the bytes of a path that is lent

@@ -15,7 +15,7 @@ use Rattle.netlink_core.specs.Response.{response_bytes, response_codec}
 use Rattle.netlink_packet_sock_diag.specs.declared.dump.DumpState.TheVariants.{Done}
 use Rattle.netlink_packet_sock_diag.specs.Dump.{DatagramDump}
 use Rattle.netlink_packet_sock_diag.specs.Message.{Message, message_of, message_codec}
-use Rattle.sock_diag_replies.specs.ResponseKind.{unix_response}
+use Rattle.sock_diag_records.specs.ResponseKind.{unix_response}
 use Rattle.sock_diag_replies.specs.UnixResponseSpec.{UnixResponseValue, unix_response_spec}
 use Rattle.sock_diag_uses.specs.declared.test_kernel.AnswerError.{AnswerError}
 use Rattle.sock_diag_uses.specs.declared.test_kernel.AnswerError.TheVariants.{Request, Unwritable}

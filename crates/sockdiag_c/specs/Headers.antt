@@ -5,8 +5,8 @@ use Rattle.sock_diag_records.specs.declared.unix.response.UnixResponseHeader.{Un
 use Rattle.sock_diag_records.specs.Timer.{class_of, expires_values, retransmits_values}
 use Rattle.sock_diag_records.specs.SocketId.{address_bytes}
 use Rattle.netlink_packet_sock_diag.specs.Message.{Message, message_of}
-use Rattle.sock_diag_replies.specs.ResponseKind.{inet_request, inet_response, unix_request}
-use Rattle.sock_diag_replies.specs.ResponseKind.{unix_response}
+use Rattle.sock_diag_records.specs.ResponseKind.{inet_request, inet_response, unix_request}
+use Rattle.sock_diag_records.specs.ResponseKind.{unix_response}
 use Rattle.sockdiag_c.specs.declared.headers.InetHeader.{InetHeader}
 use Rattle.sockdiag_c.specs.declared.headers.Reply.{Reply}
 use Rattle.sockdiag_c.specs.declared.headers.UnixHeader.{UnixHeader}

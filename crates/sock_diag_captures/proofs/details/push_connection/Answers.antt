@@ -1,8 +1,8 @@
 use Rattle.std.proofs.Common.{ℕ, List, ◌++◌}
 use Rattle.std.proofs.lemmas.Result.{on_ok_weaker}
-use Rattle.sock_diag_captures.specs.Details.{ages, counts, limits, losses, options, rates}
-use Rattle.sock_diag_captures.specs.Details.{receiver, sizes, times, traffic}
-use Rattle.sock_diag_captures.proofs.Adding.{adds}
+use Rattle.capture_tables.proofs.Adding.{adds}
+use Rattle.sock_diag_captures.specs.Details.{ages, counts, limits, losses, options, rates, receiver}
+use Rattle.sock_diag_captures.specs.Details.{sizes, times, traffic}
 use Rattle.sock_diag_captures.proofs.details.push_connection.Goals as goal
 
 pub returns : goal.returns

@@ -1,7 +1,7 @@
 use Rattle.std.proofs.Common.{ℕ, List, [], ◌∷◌, ◌++◌, codes}
-use Rattle.sock_diag_captures.specs.Details.{memory_limits, memory_part, memory_received}
-use Rattle.sock_diag_captures.specs.Details.{memory_used}
-use Rattle.sock_diag_captures.proofs.Adding.{adds}
+use Rattle.capture_tables.specs.Parts.{memory_part}
+use Rattle.capture_tables.proofs.Adding.{adds}
+use Rattle.sock_diag_captures.specs.Details.{memory_limits, memory_received, memory_used}
 use Rattle.sock_diag_captures.proofs.details.push_memory.Goals as goal
 
 pub returns : goal.returns

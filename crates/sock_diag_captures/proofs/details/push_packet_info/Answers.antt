@@ -1,8 +1,9 @@
 use Rattle.std.proofs.Common.{◌∙◌, ℕ, ◌%◌, List, ◌++◌, codes, ap}
 use Rattle.std.proofs.lemmas.Result.{on_ok_weaker}
 use Rattle.netlink_core.specs.Walk.{attribute_of}
-use Rattle.sock_diag_captures.specs.Details.{detail, packet_flags, packet_text}
-use Rattle.sock_diag_captures.proofs.Adding.{adds}
+use Rattle.sock_diag_captures.specs.Details.{packet_text}
+use Rattle.capture_tables.specs.Parts.{detail, packet_flags}
+use Rattle.capture_tables.proofs.Adding.{adds}
 use Rattle.sock_diag_captures.proofs.details.push_packet_info.Goals as goal
 
 pub returns : goal.returns

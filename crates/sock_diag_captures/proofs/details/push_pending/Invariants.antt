@@ -1,6 +1,6 @@
 use Rattle.std.proofs.Common.{◌≡◌, ◌++◌, codes, flat_map}
+use Rattle.capture_tables.specs.Parts.{detail}
 use Rattle.sock_diag_attributes.specs.NumbersModel.{numbers_left, numbers_view_model}
-use Rattle.sock_diag_captures.specs.Details.{detail}
 use Rattle.sock_diag_captures.proofs.details.push_pending.Given as goal
 
 -- what was added and what is left to be added make the whole

@@ -1,5 +1,5 @@
 use Rattle.std.proofs.lemmas.Result.{on_ok_weaker}
-use Rattle.sock_diag_captures.proofs.Adding.{adds}
+use Rattle.capture_tables.proofs.Adding.{adds}
 use Rattle.sock_diag_captures.proofs.details.push_rates.Goals as goal
 
 pub returns : goal.returns

@@ -1,8 +1,8 @@
 use Rattle.std.proofs.Common.{List, ℕ, [], ◌∷◌, ◌++◌, codes}
-use Rattle.sock_diag_captures.specs.RequestLine.{asked_family, asked_for, time_text}
-use Rattle.sock_diag_captures.specs.RequestLine.{unix_states}
+use Rattle.capture_tables.specs.Times.{time_text}
+use Rattle.capture_tables.proofs.Adding.{adds}
+use Rattle.sock_diag_captures.specs.RequestLine.{asked_family, asked_for, unix_states}
 use Rattle.sock_diag_captures.specs.Requests.{asked_in}
-use Rattle.sock_diag_captures.proofs.Adding.{adds}
 use Rattle.sock_diag_captures.proofs.request_line.push_request.Goals as goal
 
 pub returns : goal.returns

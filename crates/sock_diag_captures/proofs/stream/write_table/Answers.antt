@@ -3,12 +3,11 @@ use Rattle.std.specs.Prelude.{flat_map, MatchOption, Option, None, Some}
 use Rattle.std.proofs.KnownBytes.{Appends-kept, Appends-trans, Consumes-kept, Consumes-nil}
 use Rattle.std.proofs.KnownBytes.{Consumes-trans}
 use Rattle.std.proofs.lemmas.Result.{err_from_is_err_and}
-use Rattle.sock_diag_captures.specs.Capture.{IsRecord}
+use Rattle.capture_tables.specs.Capture.{IsRecord}
 use Rattle.sock_diag_captures.specs.Run.{lines_of_packet}
 use Rattle.sock_diag_captures.proofs.Failing.{fails_at_flush, fails_at_header, fails_at_heading}
-use Rattle.sock_diag_captures.proofs.Failing.{fails_at_lines}
-use Rattle.sock_diag_captures.proofs.Failing.{fails_at_memory, fails_at_packet, fails_past_numbers}
-use Rattle.sock_diag_captures.proofs.Failing.{no_write, table_of}
+use Rattle.sock_diag_captures.proofs.Failing.{fails_at_lines, fails_at_memory, fails_at_packet}
+use Rattle.sock_diag_captures.proofs.Failing.{fails_past_numbers, no_write, table_of}
 use Rattle.sock_diag_captures.proofs.Progress.{goes_on_part, goes_on_whole, progress_begins}
 use Rattle.sock_diag_captures.proofs.stream.write_table.Goals.{then-is_whole, else-is_whole}
 use Rattle.sock_diag_captures.proofs.stream.write_table.Goals as goal

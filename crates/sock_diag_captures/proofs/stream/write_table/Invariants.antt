@@ -1,4 +1,4 @@
-use Rattle.sock_diag_captures.specs.Capture.{IsRecord}
+use Rattle.capture_tables.specs.Capture.{IsRecord}
 use Rattle.sock_diag_captures.proofs.Progress.{Progress}
 use Rattle.sock_diag_captures.proofs.stream.write_table.Given as goal
 

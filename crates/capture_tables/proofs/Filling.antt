@@ -1,0 +1,16 @@
+-- A number that is filled up with zeros.
+use Rattle.std.proofs.Common.{◌≡◌, ℕ, ◌^◌, ◌-◌, ◌++◌, List, [], length, false, ap, ◌∙◌, arith}
+use Rattle.std.proofs.Common.{append-nil}
+use Rattle.std.specs.Prelude.{decimal, replicate}
+use Rattle.std.specs.Fmt.{char_count, format_spec, padded_integral}
+use Rattle.capture_tables.specs.Times.{zero_filled}
+
+-- what a hole with a width and the flag `0` writes
+pub zero_filled_is : (width n : ℕ)
+    → padded_integral (format_spec 32 0 4 width (2 ^ 64 - 1)) false [] (decimal n)
+    ≡ zero_filled width n
+unfolding padded_integral char_count
+zero_filled_is width n =
+    let zeros : width - length (decimal n) - 0 - 0 ≡ width - length (decimal n) = omega arith in
+    ap (λ (k : ℕ). replicate k 48 ++ (decimal n ++ [])) zeros
+    ∙ ap (λ (t : List ℕ). replicate (width - length (decimal n)) 48 ++ t) (append-nil (decimal n))

@@ -1,0 +1,5 @@
+pub mod Adding
+pub mod Filling
+pub mod Showing
+pub mod Telling
+pub mod Stops

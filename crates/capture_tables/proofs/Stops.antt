@@ -1,0 +1,65 @@
+-- Where reading a packet stops.
+use Rattle.std.proofs.Common.{◌≡◌, ◌⊎◌, inl, inr, ℕ, ◌<◌, ◌≤◌, List, [], ◌++◌, length, refl, sym}
+use Rattle.std.proofs.Common.{ap, subst, ◌∙◌, append-nil, arith}
+use Rattle.std.proofs.lemmas.List.{length-append}
+use Rattle.std.specs.Prelude.{Option}
+use Rattle.std.specs.Io.KnownBytes.{Consumes}
+use Rattle.std.proofs.KnownBytes.{Consumes-trans}
+use Rattle.capture_tables.specs.Capture.{IsPacketStop, IsStartStop, IsStop, number_at}
+use Rattle.capture_tables.specs.declared.capture.CaptureError.{CaptureError}
+use Rattle.capture_tables.specs.declared.capture.CaptureError.TheVariants.{Read, Memory, Cut}
+use Rattle.capture_tables.specs.declared.capture.CaptureError.TheVariants.{Directory}
+use Rattle.capture_tables.specs.Streams.{IsReadFailure}
+use Rattle.capture_tables.specs.declared.capture.FileHeader.{FileHeader}
+
+within : (file : FileHeader) (left : Option (List ℕ)) (failed : Type 0) (header part : List ℕ)
+    (e : CaptureError)
+    → length header ≡ 16 → length part < number_at file.order 4 8 header → IsStop left failed e
+    → IsPacketStop file left failed (header ++ part) e
+within file left failed header part Cut long short stop =
+    (omega (arith, length-append header part), inr (header, part, refl, long, short), stop)
+within file left failed header part Read long short stop =
+    (inr (header, part, refl, long, short), stop)
+within file left failed header part Directory long short stop =
+    (inr (header, part, refl, long, short), stop)
+within file left failed header part _ long short stop = absurd stop
+
+-- a read failed
+pub failure_stops : (left : Option (List ℕ)) (failed : Type 0) (e : CaptureError) → IsReadFailure e
+    → failed → IsStop left failed e
+failure_stops left failed e is cause = elim is [
+  | inl read ↦ subst (λ (e : CaptureError). IsStop left failed e) (sym read) cause
+  | inr directory ↦ subst (λ (e : CaptureError). IsStop left failed e) (sym directory) cause
+]
+
+-- the input ends within the header of a capture, or a read failed
+pub start_stops : (left : Option (List ℕ)) (failed : Type 0) (part : List ℕ) (e : CaptureError)
+    → (e ≡ Cut → 0 < length part) → IsStop left failed e → IsStartStop left failed part e
+start_stops left failed part Cut some stop = (some refl, stop)
+start_stops left failed part Read some stop = stop
+start_stops left failed part Directory some stop = stop
+start_stops left failed part _ some stop = absurd stop
+
+-- the header of a packet was read, and not all of the packet
+pub packet_stops : (file : FileHeader) (a b c : Option (List ℕ)) (failed : Type 0) (header : List ℕ)
+    (e : CaptureError)
+    → length header ≡ 16 → number_at file.order 4 8 header ≤ 262144 → Consumes a b header
+    → ((part : List ℕ) × Consumes b c part
+    × (((e ≡ Memory) × (part ≡ [])) ⊎ ((length part < number_at file.order 4 8 header)
+    × IsStop c failed e)))
+    → (part : List ℕ) × Consumes a c part × IsPacketStop file c failed part e
+packet_stops file a b c failed header e long most first (part, read, stop) = elim stop [
+  | inl m ↦
+      let whole : Consumes a c header = subst (Consumes a c) (ap (λ (p : List ℕ). header ++ p) m.1
+      ∙ append-nil header) (Consumes-trans a b c header part first read) in (
+        header,
+        whole,
+        subst (λ (e : CaptureError). IsPacketStop file c failed header e) (sym m.0)
+            (long, most),
+      )
+  | inr s ↦ (
+    header ++ part,
+    Consumes-trans a b c header part first read,
+    within file c failed header part e long s.0 s.1,
+  )
+]

@@ -1,0 +1,14 @@
+-- The model of the first columns of a line: what contracts see of it.
+use Rattle.capture_tables.specs.declared.cells.Cells.{Cells}
+use Rattle.capture_tables.specs.Cells.{FirstColumns}
+
+-- the same cells, the kind by its bytes alone
+abbrev pub cells_model : Cells → FirstColumns
+cells_model c = record {
+  kind = c.kind.now;
+  state = c.state;
+  receive_queue = c.receive_queue;
+  send_queue = c.send_queue;
+  inode = c.inode;
+  uid = c.uid;
+}

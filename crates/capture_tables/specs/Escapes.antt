@@ -1,0 +1,62 @@
+-- Bytes of a text whose lines and columns they must not break.
+use Rattle.std.specs.Prelude.{ℕ, zero, suc, ◌+◌, ◌-◌, ◌*◌, ◌==◌, nat_le, if◌then◌else◌, Bool, true}
+use Rattle.std.specs.Prelude.{false, ◌&&◌, List, [], slice_index, ◌∷◌, chars, encode_utf8, flat_map}
+use Rattle.std.specs.List.{list_any}
+use Rattle.std.specs.Str.{is_utf8}
+use Rattle.hex.specs.Hex.{encode_lower}
+
+-- a byte from `!` to `~` but the backslash, 92
+abbrev pub is_plain : ℕ → Bool
+is_plain c = (nat_le 33 c && nat_le c 126) && (if c == 92 then false else true)
+
+-- a backslash, `x` and the two digits of a byte
+abbrev pub byte_digits : ℕ → List ℕ
+byte_digits c = 92 ∷ 120 ∷ encode_lower (c ∷ [])
+
+-- a byte that is not plain is told by its digits
+abbrev pub escaped : ℕ → List ℕ
+escaped c = if is_plain c then c ∷ [] else byte_digits c
+
+-- ---- names under `--utf8`
+
+-- Ranges of characters, the first and the last of each: of Latin, of Greek and Cyrillic,
+-- punctuation, currencies, arrows, shapes, and of Chinese, Japanese and Korean. Each character is a
+-- letter, a number or a sign that is seen: none is a control, a separator, a format or combining
+-- character, unassigned, or written from right to left (Unicode 14, UnicodeData.txt).
+abbrev pub shown_ranges : List (ℕ × ℕ)
+shown_ranges =
+    (0xa1, 0xac) ∷ (0xae, 0x2ff) ∷ (0x386, 0x38a) ∷ (0x38c, 0x38c) ∷ (0x38e, 0x3a1) ∷ (0x3a3, 0x482)
+    ∷ (0x48a, 0x52f) ∷ (0x1e00, 0x1eff) ∷ (0x2010, 0x2027) ∷ (0x20a0, 0x20bf) ∷ (0x2190, 0x21ff)
+    ∷ (0x2580, 0x27bf) ∷ (0x3001, 0x3029) ∷ (0x3041, 0x3096) ∷ (0x309b, 0x30ff) ∷ (0x3131, 0x3163)
+    ∷ (0x3400, 0x9fff) ∷ (0xac00, 0xd7a3) ∷ []
+
+-- a character past ASCII in one of these ranges
+abbrev pub is_shown : ℕ → Bool
+is_shown c = nat_le 0x80 c && list_any (λ r. nat_le r.0 c && nat_le c r.1) shown_ranges
+
+-- the UTF-8 of a character as it is where it is shown, and else each of its bytes
+abbrev pub char_text : ℕ → List ℕ
+char_text c = if is_shown c then encode_utf8 c else flat_map escaped (encode_utf8 c)
+
+-- a text by its characters, where that is asked for and the bytes are UTF-8, and else by its bytes
+abbrev pub shown : Bool → List ℕ → List ℕ
+shown utf8 bytes =
+    if utf8 && is_utf8 bytes then flat_map char_text (chars bytes) else flat_map escaped bytes
+
+-- ---- what a shown text tells
+
+-- what a digit of `\x` is worth
+abbrev pub digit_worth : ℕ → ℕ
+digit_worth d = if nat_le 97 d then d - 87 else d - 48
+
+-- The bytes that a text tells up to a space, 32: behind a backslash, 92, and `x` two digits stand
+-- for one. The number counts bytes that are passed over.
+unfoldable pub bytes_told : ℕ → List ℕ → List ℕ
+bytes_told n [] = []
+bytes_told (suc n) (c ∷ text) = bytes_told n text
+bytes_told zero (c ∷ text) =
+    if c == 32 then []
+    else if c == 92
+    then (16 * digit_worth (slice_index text 1) + digit_worth (slice_index text 2))
+    ∷ bytes_told 3 text
+    else c ∷ bytes_told 0 text

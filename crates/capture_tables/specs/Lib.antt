@@ -1,0 +1,10 @@
+pub mod Capture
+pub mod Cooked
+pub mod Streams
+pub mod Escapes
+pub mod Options
+pub mod Words
+pub mod Cells
+pub mod CellsModel
+pub mod Parts
+pub mod Times

@@ -1,0 +1,33 @@
+//! Captures of netlink traffic are read, and the cells and words of a table of them are written.
+//! What the datagrams say is not looked at.
+#![tactic(auto)]
+
+mod capture;
+mod cells;
+mod names;
+mod notes;
+mod options;
+mod parts;
+mod run;
+mod streams;
+mod times;
+mod words;
+
+pub use capture::{ByteOrder, CaptureError, FileHeader, Packet, PacketHeader, TimeUnit};
+pub use cells::{
+    Cells, end_column, name_of_state, push_column, push_digits, push_endpoint,
+    push_endpoint_column, push_escaped_byte, push_first_columns, push_hex, push_number,
+    push_number_column, push_peer,
+};
+pub use names::push_shown;
+pub use notes::{Written, push_cut_note, push_short};
+pub use options::{Detail, Family, Options};
+pub use parts::{
+    NO_TIMER, TimerWords, push_detail, push_directions, push_flag, push_hex_detail,
+    push_packet_flags, push_pair, push_part, push_shown_cookie, push_shown_timer, push_some,
+    separator,
+};
+pub use run::{RunError, read_header, read_packet, send};
+pub use streams::{Sink, Source};
+pub use times::push_time;
+pub use words::{Argument, choose};

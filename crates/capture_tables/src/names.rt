@@ -1,0 +1,98 @@
+//! Names and other texts that a socket's owner chose. None takes memory but the text itself.
+
+ghost use Rattle.std.specs.Prelude.{◌≡◌, ◌++◌, ◌&&◌, ℕ, List, OnOk, chars, flat_map, nat_le};
+ghost use Rattle.std.specs.List.{list_any};
+ghost use Rattle.capture_tables.specs.Escapes.{bytes_told, char_text, escaped, is_shown, shown};
+
+use crate::cells::push_escaped_byte;
+use std::alloc::AllocError;
+
+/// The ranges of characters that are shown, the first and the last of each: of Latin, Greek and
+/// Cyrillic, punctuation, currencies, arrows, shapes, and of Chinese, Japanese and Korean.
+const SHOWN: [(u32, u32); 18] = [
+    (0xa1, 0xac),
+    (0xae, 0x2ff),
+    (0x386, 0x38a),
+    (0x38c, 0x38c),
+    (0x38e, 0x3a1),
+    (0x3a3, 0x482),
+    (0x48a, 0x52f),
+    (0x1e00, 0x1eff),
+    (0x2010, 0x2027),
+    (0x20a0, 0x20bf),
+    (0x2190, 0x21ff),
+    (0x2580, 0x27bf),
+    (0x3001, 0x3029),
+    (0x3041, 0x3096),
+    (0x309b, 0x30ff),
+    (0x3131, 0x3163),
+    (0x3400, 0x9fff),
+    (0xac00, 0xd7a3),
+];
+
+/// Adds a text. Where UTF-8 is asked for and the bytes are UTF-8, characters that are shown stand
+/// as they are. Any other byte that is not plain is told by `\x` and two digits.
+pub fn push_shown(text: &mut Vec<u8>, utf8: bool, bytes: &[u8]) -> Result<(), AllocError>
+    ensures shown { OnOk result (text.new.items ≡ text.old.items ++ shown utf8 bytes.now) }
+    // What is shown tells each byte, so two texts are never shown alike.
+    ensures told { (behind : List ℕ)
+        → (bytes_told 0 (shown utf8 bytes.now ++ behind) ≡ bytes.now ++ bytes_told 0 behind) }
+{
+    if !utf8 {
+        return push_escaped(text, bytes);
+    }
+    match str::from_utf8(bytes) {
+        Ok(name) => push_chars(text, name),
+        Err(_) => push_escaped(text, bytes),
+    }
+}
+
+/// Adds the characters of a text, each as it is where it is shown.
+fn push_chars(text: &mut Vec<u8>, name: &str) -> Result<(), AllocError>
+    ensures { OnOk result (text.new.items ≡ text.old.items ++ flat_map char_text (chars name.now)) }
+{
+    for c in name.chars() {
+        push_char(text, c)?;
+    }
+    Ok(())
+}
+
+/// Adds a character, as it is where it is shown.
+fn push_char(text: &mut Vec<u8>, c: char) -> Result<(), AllocError>
+    ensures { OnOk result (text.new.items ≡ text.old.items ++ char_text c) }
+{
+    let mut buffer = [0u8; 4];
+    let bytes = c.encode_utf8(&mut buffer).as_bytes();
+    if is_shown(c) {
+        text.extend_from_slice(bytes)
+    } else {
+        push_escaped(text, bytes)
+    }
+}
+
+/// Whether a character past ASCII is shown.
+fn is_shown(c: char) -> bool
+    ensures { result ≡ is_shown c }
+{
+    !c.is_ascii() && is_in_ranges(&SHOWN, c as u32)
+}
+
+/// Whether a number lies in one of the ranges.
+fn is_in_ranges(ranges: &[(u32, u32)], number: u32) -> bool
+    ensures { result
+        ≡ list_any (λ range. nat_le range.0 number && nat_le number range.1) ranges.now }
+{
+    ranges
+        .iter()
+        .any(|range| range.0 <= number && number <= range.1)
+}
+
+/// Adds bytes, those that are not plain as `\x` and two digits.
+fn push_escaped(text: &mut Vec<u8>, bytes: &[u8]) -> Result<(), AllocError>
+    ensures { OnOk result (text.new.items ≡ text.old.items ++ flat_map escaped bytes.now) }
+{
+    for byte in bytes {
+        push_escaped_byte(text, *byte)?;
+    }
+    Ok(())
+}

@@ -1,0 +1,106 @@
+//! The steps of a run over a capture: its header and its packets are read, and lines are written.
+
+ghost use Rattle.std.specs.Prelude.{◌≡◌, ◌++◌, List, ℕ, length, IfErr, IfOk, MatchOption, OnOk};
+ghost use Rattle.std.specs.Io.KnownBytes.{Appends, Consumes, IsAtEnd, Keeps};
+ghost use Rattle.capture_tables.specs.Capture.{IsFileHeader, IsHeaderStop, IsPacketStop, IsRecord};
+ghost use Rattle.capture_tables.specs.Capture.{recorded};
+ghost use Rattle.capture_tables.specs.Streams.{IsWriteFailure};
+ghost use Rattle.capture_tables.specs.declared.run.RunError.TheVariants.{Memory};
+
+use crate::capture::{CaptureError, FileHeader, PacketHeader};
+use crate::streams::{Sink, Source};
+use std::alloc::AllocError;
+use thiserror::Error;
+
+/// Why a run ended before the end of its input.
+#[derive(Clone, Copy, Debug, PartialEq, Eq, Error)]
+pub enum RunError {
+    /// The header of the capture could not be read.
+    #[error("{0}")]
+    Header(CaptureError),
+    /// The packet of this number could not be read. The first one is 1.
+    #[error("packet {packet}: {fault}")]
+    Packet {
+        /// The number of the packet.
+        packet: u64,
+        /// Why it could not be read.
+        fault: CaptureError,
+    },
+    /// A write or the last flush failed.
+    #[error("writing failed")]
+    Write,
+    /// A write failed, since the output is a pipe that nobody reads any more.
+    #[error("nobody reads the output")]
+    Closed,
+    /// Memory ran out.
+    #[error("out of memory")]
+    Memory,
+}
+
+impl From<AllocError> for RunError {
+    ghost from_gives = { λ _ e. e ≡ Memory };
+
+    fn from(_e: AllocError) -> RunError {
+        RunError::Memory
+    }
+}
+
+/// Reads the header of the capture.
+pub fn read_header<R: Source>(input: &mut R) -> Result<FileHeader, RunError>
+    ensures read { IfOk result (λ file. (bytes : List ℕ) × (length bytes ≡ 24)
+        × IsFileHeader bytes file
+        × Consumes (R.left input.old) (R.left input.new) bytes) }
+    ensures stopped { IfErr result (λ e. (fault : CaptureError) × (e ≡ RunError.Header fault)
+        × (part : List ℕ)
+        × Consumes (R.left input.old) (R.left input.new) part
+        × IsHeaderStop (R.left input.new) (R.failed input.new) part fault) }
+{
+    match FileHeader::read(input) {
+        Ok(file) => Ok(file),
+        Err(fault) => Err(RunError::Header(fault)),
+    }
+}
+
+/// Reads the packet of a number in place of what `packet` held, and answers what its header tells,
+/// or `None` where there is no packet more.
+pub fn read_packet<R: Source>(
+    file: &FileHeader,
+    input: &mut R,
+    number: u64,
+    packet: &mut Vec<u8>,
+) -> Result<Option<PacketHeader>, RunError>
+    ensures read { IfOk result (λ found. MatchOption found
+        (IsAtEnd (R.left input.new) × Keeps (R.left input.old) (R.left input.new))
+        (λ told_header. (header : List ℕ)
+        × IsRecord file.now header (recorded packet.new.items told_header)
+        × Consumes (R.left input.old) (R.left input.new) (header ++ packet.new.items))) }
+    ensures stopped { IfErr result (λ e. (fault : CaptureError) × (e ≡ RunError.Packet number fault)
+        × (part : List ℕ)
+        × Consumes (R.left input.old) (R.left input.new) part
+        × IsPacketStop file.now (R.left input.new) (R.failed input.new) part fault) }
+{
+    match file.read_packet(input, packet) {
+        Ok(found) => Ok(found),
+        Err(fault) => Err(RunError::Packet {
+            packet: number,
+            fault,
+        }),
+    }
+}
+
+/// Writes all the bytes. No write that failed is made again.
+pub fn send<W: Sink>(output: &mut W, bytes: &[u8]) -> Result<(), RunError>
+    ensures written { OnOk result (Appends (W.held output.old) (W.held output.new) bytes.now) }
+    ensures stopped { IfErr result (λ e. IsWriteFailure e × W.failed output.new e
+        × (front : List ℕ) × (rest : List ℕ)
+        × (bytes.now ≡ front ++ rest) × Appends (W.held output.old) (W.held output.new) front) }
+{
+    let mut rest = bytes;
+    'writes: while !rest.is_empty() {
+        match output.write_part(rest) {
+            Ok(count) => rest = &rest[count..],
+            Err(fault) => return Err(fault),
+        }
+    }
+    Ok(())
+}

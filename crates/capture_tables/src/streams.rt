@@ -1,0 +1,112 @@
+//! What a capture is read from, and what its table is written on.
+
+ghost use Rattle.std.specs.Prelude.{◌≡◌, ◌↔◌, ◌<◌, ◌≤◌, ℕ, List, Option, length, IfOk, IfErr, OnOk};
+ghost use Rattle.std.specs.Prelude.{⊤};
+ghost use Rattle.std.specs.Io.KnownBytes.{Keeps, ReadConsumes, WriteAppends};
+ghost use Rattle.std.specs.Io.{ReadsAtMost};
+ghost use Rattle.capture_tables.specs.Streams.{IsReadFailure, IsWriteFailure};
+
+use crate::capture::CaptureError;
+use crate::run::RunError;
+use std::io::{ErrorKind, Read, Write};
+
+/// What a capture is read from. Who has no other bound than this one can't say that a read failed
+/// where none did.
+pub trait Source {
+    // The bytes that are left, where they are known.
+    ghost left: { Self → Option (List ℕ) };
+
+    // A read failed.
+    ghost failed: { Self → Type 0 };
+
+    /// Reads once.
+    fn read_some(&mut self, bytes: &mut [u8]) -> Result<usize, CaptureError>
+        ensures bound { ReadsAtMost result bytes.new }
+        ensures bytes { ReadConsumes (left self.old) (left self.new) result bytes.new }
+        ensures cause { IfErr result (λ e. IsReadFailure e × failed self.new) };
+}
+
+impl<R: Read> Source for R {
+    ghost left = { λ r. R.remaining r };
+
+    ghost failed = { λ _. ⊤ };
+
+    fn read_some(&mut self, bytes: &mut [u8]) -> Result<usize, CaptureError> {
+        match self.read(bytes) {
+            Ok(count) => Ok(count),
+            Err(error) => Err(read_failure(error.kind())),
+        }
+    }
+}
+
+/// What a read that failed so is.
+fn read_failure(kind: ErrorKind) -> CaptureError
+    ensures failure { IsReadFailure result }
+    ensures directory { (result ≡ CaptureError.Directory) ↔ (kind ≡ ErrorKind.IsADirectory) }
+{
+    match kind {
+        ErrorKind::IsADirectory => CaptureError::Directory,
+        _ => CaptureError::Read,
+    }
+}
+
+/// What a table is written on. Who has no other bound than this one can't say that a write failed
+/// where none did, or that all was flushed where it wasn't.
+pub trait Sink {
+    ghost use Rattle.capture_tables.specs.declared.run.RunError.{RunError};
+
+    // The bytes that it holds, where they are known.
+    ghost held: { Self → Option (List ℕ) };
+
+    // A write failed or took no bytes, or a flush failed, and so it is told.
+    ghost failed: { Self → RunError → Type 0 };
+
+    // The last call flushed it.
+    ghost flushed: { Self → Type 0 };
+
+    /// Writes once, and at least one byte.
+    fn write_part(&mut self, text: &[u8]) -> Result<usize, RunError>
+        ensures some { IfOk result (λ n. (0 < n) × (n ≤ length text.now)) }
+        ensures bytes { WriteAppends (held self.old) (held self.new) result text.now }
+        ensures cause { IfErr result (λ e. IsWriteFailure e × failed self.new e) };
+
+    /// Flushes once.
+    fn flush_all(&mut self) -> Result<(), RunError>
+        ensures bytes { Keeps (held self.old) (held self.new) }
+        ensures done { OnOk result (flushed self.new) }
+        ensures cause { IfErr result (λ e. IsWriteFailure e × failed self.new e) };
+}
+
+impl<W: Write> Sink for W {
+    ghost held = { λ w. W.contents w };
+
+    ghost failed = { λ _ _. ⊤ };
+
+    ghost flushed = { λ _. ⊤ };
+
+    fn write_part(&mut self, text: &[u8]) -> Result<usize, RunError> {
+        match self.write(text) {
+            Ok(0) => Err(RunError::Write),
+            Ok(count) => Ok(count),
+            Err(error) => Err(write_failure(error.kind())),
+        }
+    }
+
+    fn flush_all(&mut self) -> Result<(), RunError> {
+        match self.flush() {
+            Ok(()) => Ok(()),
+            Err(error) => Err(write_failure(error.kind())),
+        }
+    }
+}
+
+/// What a write or a flush that failed so is.
+fn write_failure(kind: ErrorKind) -> RunError
+    ensures failure { IsWriteFailure result }
+    ensures closed { (result ≡ RunError.Closed) ↔ (kind ≡ ErrorKind.BrokenPipe) }
+{
+    match kind {
+        ErrorKind::BrokenPipe => RunError::Closed,
+        _ => RunError::Write,
+    }
+}

@@ -1,0 +1,33 @@
+//! When a packet was captured.
+
+ghost use Rattle.std.specs.Prelude.{◌≡◌, ◌++◌, OnOk};
+ghost use Rattle.capture_tables.specs.Times.{fraction_text, time_text};
+
+use crate::capture::{PacketHeader, TimeUnit};
+use crate::cells::push_number;
+use std::alloc::AllocError;
+use std::io::Write;
+
+/// Adds the seconds since 1970 and, behind a point, the parts of a second.
+pub fn push_time(text: &mut Vec<u8>, header: &PacketHeader) -> Result<(), AllocError>
+    ensures { OnOk result (text.new.items ≡ text.old.items ++ time_text header.now) }
+{
+    push_number(text, header.seconds.into())?;
+    text.push(b'.')?;
+    push_fraction(text, header.unit, header.fraction)
+}
+
+/// Adds parts of a second in as many digits as their unit has at least.
+#[tactic(auto, using(crate::proofs::Filling::zero_filled_is))]
+fn push_fraction(text: &mut Vec<u8>, unit: TimeUnit, fraction: u32) -> Result<(), AllocError>
+    ensures { OnOk result (text.new.items ≡ text.old.items ++ fraction_text unit fraction) }
+{
+    let written = match unit {
+        TimeUnit::Microseconds => write!(text, "{fraction:06}"),
+        TimeUnit::Nanoseconds => write!(text, "{fraction:09}"),
+    };
+    match written {
+        Ok(()) => Ok(()),
+        Err(_) => Err(AllocError),
+    }
+}

@@ -1,0 +1,68 @@
+//! The cells of names of UNIX sockets.
+
+ghost use Rattle.std.specs.Prelude.{◌≡◌, ◌++◌, [], ℕ, List, OnOk, Some, option_map};
+ghost use Rattle.capture_tables.specs.Cells.{column};
+ghost use Rattle.capture_tables.specs.Escapes.{bytes_told};
+ghost use Rattle.sock_diag_attributes.specs.Name.{abstract, pathname};
+ghost use Rattle.sock_diag_attributes.specs.NameModel.{name_view_model};
+ghost use Rattle.sock_diag_captures.specs.Table.{is_mistaken, name_cell, name_told};
+
+use capture_tables::{end_column, push_digits, push_shown};
+use sock_diag_attributes::unix::nlas::NameView;
+use std::alloc::AllocError;
+
+/// Adds a column that holds the name of a UNIX socket, or `*` where none is told.
+pub(crate) fn push_name_column(
+    text: &mut Vec<u8>,
+    width: usize,
+    utf8: bool,
+    name: Option<NameView<'_>>,
+) -> Result<(), AllocError>
+    ensures { OnOk result (text.new.items ≡ text.old.items
+        ++ column width (name_cell utf8 (option_map name_view_model name.entry))) }
+{
+    let start = text.len();
+    match name {
+        Some(NameView::Pathname(path)) => push_path(text, utf8, path)?,
+        Some(NameView::Abstract(address)) => push_abstract(text, utf8, address)?,
+        None => text.push(b'*')?,
+    }
+    end_column(text, start, width)
+}
+
+/// Adds an abstract name behind `@`.
+fn push_abstract(text: &mut Vec<u8>, utf8: bool, address: &[u8]) -> Result<(), AllocError>
+    ensures cell { OnOk result (text.new.items
+        ≡ text.old.items ++ name_cell utf8 (Some (abstract address.now))) }
+    // The cell tells the name, where a space follows.
+    ensures told { (behind : List ℕ) → bytes_told 0 behind ≡ []
+        → name_told (name_cell utf8 (Some (abstract address.now)) ++ behind)
+        ≡ Some (abstract address.now) }
+{
+    text.push(b'@')?;
+    push_shown(text, utf8, address)
+}
+
+/// Adds a path. One that begins with `@`, as an abstract name is shown, or that is `*`, as none is,
+/// has its first byte as `\x` and two digits.
+fn push_path(text: &mut Vec<u8>, utf8: bool, path: &[u8]) -> Result<(), AllocError>
+    ensures cell { OnOk result (text.new.items
+        ≡ text.old.items ++ name_cell utf8 (Some (pathname path.now))) }
+    // The cell tells the name, where a space follows.
+    ensures told { (behind : List ℕ) → bytes_told 0 behind ≡ []
+        → name_told (name_cell utf8 (Some (pathname path.now)) ++ behind)
+        ≡ Some (pathname path.now) }
+{
+    if !is_mistaken(path) {
+        return push_shown(text, utf8, path);
+    }
+    push_digits(text, path[0])?;
+    push_shown(text, utf8, &path[1..])
+}
+
+/// Whether a path begins with `@` or is `*`.
+fn is_mistaken(path: &[u8]) -> bool
+    ensures { result ≡ is_mistaken path.now }
+{
+    (!path.is_empty() && path[0] == b'@') || (path.len() == 1 && path[0] == b'*')
+}
