@@ -1,12 +1,10 @@
 //! Netlink sockets, after `linux/netlink_diag.h`.
 
-mod attributes;
 mod response;
 
 use crate::ShowRequest;
-pub use attributes::{flags, groups, memory};
+pub use response::NetlinkResponseHeader;
 use sock_diag_records::constants::AF_NETLINK;
-pub use response::{NetlinkResponseHeader, NetlinkResponseView};
 
 /// The request for netlink sockets: `struct netlink_diag_req`. Its protocol is one of
 /// `linux/netlink.h`, or [`NDIAG_PROTO_ALL`]; what it shows are bits `NDIAG_SHOW_..`.

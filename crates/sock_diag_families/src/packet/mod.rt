@@ -4,11 +4,9 @@ mod attributes;
 mod response;
 
 use crate::ShowRequest;
-pub use attributes::{
-    PacketInfo, PacketRing, addresses, fanout, filter, info, memory, owner, receive_ring, send_ring,
-};
+pub use attributes::{PacketInfo, PacketRing};
+pub use response::PacketResponseHeader;
 use sock_diag_records::constants::AF_PACKET;
-pub use response::{PacketResponseHeader, PacketResponseView};
 
 /// The request for packet sockets: `struct packet_diag_req`. Its protocol is 0, and what it shows
 /// are bits `PACKET_SHOW_..`.
