@@ -24,8 +24,8 @@ CRATES = ["netlink_core", "attribute_lists", "sock_diag_values", "sock_diag_reco
     "sock_diag_replies", "netlink_packet_sock_diag", "line_server", "sock_diag_lines"]
 ROOT = Path(__file__).resolve().parent.parent / "crates"
 # The libraries beside the port, by figures of their own.
-BESIDE = ["sock_diag_extras", "sock_diag_families", "sock_diag_filters", "sock_diag_uses", "capture_tables",
-    "sock_diag_captures", "sockdiag_c"]
+BESIDE = ["sock_diag_families", "sock_diag_any", "sock_diag_extras", "sock_diag_filters", "sock_diag_uses",
+    "capture_tables", "sock_diag_captures", "sockdiag_c"]
 # So many lines have to be believed at most.
 MOST = 1100
 # Ghost members that say something: their types and their bodies are read.

@@ -9,4 +9,3 @@ pub mod UlpInfo
 pub mod Records
 pub mod Md5Signature
 pub mod StoredAddress
-pub mod AnyMessage

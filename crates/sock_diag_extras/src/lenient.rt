@@ -5,16 +5,14 @@ ghost use Rattle.std.specs.Prelude.{refl, option_map};
 ghost use Rattle.std.specs.Iterator.{UpTo, at_most};
 ghost use Rattle.std.specs.Iterator.SizeHint.{IsWithinCount};
 ghost use Rattle.netlink_core.specs.Attribute.{attribute_type};
-ghost use Rattle.netlink_core.specs.Response.{ResponseSpec};
+ghost use Rattle.netlink_core.specs.Layout.{read};
 ghost use Rattle.netlink_core.specs.Walk.{attribute_of, bytes_left};
-ghost use Rattle.sock_diag_replies.specs.InetResponseSpec.{inet_response_spec};
-ghost use Rattle.sock_diag_replies.specs.UnixResponseSpec.{unix_response_spec};
 
-use netlink_core::{DecodeError, FamilyView, NlaBuffer, NlasIterator};
-use netlink_packet_sock_diag::inet::InetResponseHeader;
-use netlink_packet_sock_diag::inet::nlas::NlaView as InetNlaView;
-use netlink_packet_sock_diag::unix::UnixResponseHeader;
-use netlink_packet_sock_diag::unix::nlas::NlaView as UnixNlaView;
+use netlink_core::{DecodeError, FamilyView, NlaBuffer, NlasIterator, Record, read_record};
+use sock_diag_attributes::inet::NlaView as InetNlaView;
+use sock_diag_attributes::unix::NlaView as UnixNlaView;
+use sock_diag_records::inet::InetResponseHeader;
+use sock_diag_records::unix::UnixResponseHeader;
 use std::marker::PhantomData;
 
 /// What stands in the place of an attribute and can't be read, and why.
@@ -119,48 +117,17 @@ impl<'a, V: FamilyView<'a>> Iterator for LenientNlas<'a, V> {
 }
 
 /// The header of the replies of one family, and how the attributes behind it are read.
-pub trait LenientHeader<'a>: Sized {
+pub trait LenientHeader<'a>: Record<Param = ()> {
     /// An attribute, read in place.
     type View: FamilyView<'a>;
-
-    // The replies, and what a header says in them.
-    ghost reply: { ResponseSpec };
-
-    ghost header_model: { Self → reply.header.Value };
-
-    /// The header, and the bytes behind it.
-    fn split(bytes: &'a [u8]) -> Result<(Self, &'a [u8]), DecodeError>
-        ensures header { IfOk result (λ parts.
-            reply.header.reads tt bytes.entry.now ≡ Ok (header_model parts.0)) }
-        ensures behind { IfOk result (λ parts.
-            parts.1.now ≡ drop reply.size bytes.entry.now) }
-        ensures fault { IfErr result (λ fault. reply.header.reads tt bytes.entry.now ≡ Err fault) };
 }
 
 impl<'a> LenientHeader<'a> for InetResponseHeader {
     type View = InetNlaView<'a>;
-
-    ghost reply = { inet_response_spec };
-
-    ghost header_model = { λ header. header };
-
-    fn split(bytes: &'a [u8]) -> Result<(Self, &'a [u8]), DecodeError> {
-        let header = InetResponseHeader::from_prefix(bytes)?;
-        Ok((header, &bytes[72..]))
-    }
 }
 
 impl<'a> LenientHeader<'a> for UnixResponseHeader {
     type View = UnixNlaView<'a>;
-
-    ghost reply = { unix_response_spec };
-
-    ghost header_model = { λ header. header };
-
-    fn split(bytes: &'a [u8]) -> Result<(Self, &'a [u8]), DecodeError> {
-        let header = UnixResponseHeader::from_prefix(bytes)?;
-        Ok((header, &bytes[16..]))
-    }
 }
 
 /// A reply of any family, of which each attribute is read by itself.
@@ -184,15 +151,17 @@ pub type LenientUnixReply<'a> = LenientReply<'a, UnixResponseHeader>;
 
 impl<'a, H: LenientHeader<'a>> LenientReply<'a, H> {
     /// Reads the header, and looks at no attribute. It takes no memory.
+    #[tactic(auto, using(netlink_core::proofs::LayoutLaws::accepted))]
     pub fn parse(bytes: &'a [u8]) -> Result<LenientReply<'a, H>, DecodeError>
         ensures header { IfOk result (λ lenient.
-            H.reply.header.reads tt bytes.entry.now ≡ Ok (H.header_model lenient.header)) }
+            read H.layout tt bytes.entry.now ≡ Ok lenient.header) }
         ensures behind { IfOk result (λ lenient.
-            lenient.bytes.now ≡ drop H.reply.size bytes.entry.now) }
-        ensures fault { IfErr result (λ fault.
-            H.reply.header.reads tt bytes.entry.now ≡ Err fault) }
+            lenient.bytes.now ≡ drop H.layout.least bytes.entry.now) }
+        ensures fault { IfErr result (λ fault. read H.layout tt bytes.entry.now ≡ Err fault) }
     {
-        let (header, bytes) = H::split(bytes)?;
+        let header = read_record::<H>(bytes, ())?;
+        let (_, least) = H::name_and_least();
+        let bytes = &bytes[least..];
         Ok(LenientReply { header, bytes })
     }
 

@@ -5,7 +5,6 @@
 #![tactic(auto)]
 
 mod acknowledgement;
-mod any;
 mod bytes;
 mod congestion;
 pub mod constants;
@@ -23,7 +22,6 @@ mod tcp_info;
 mod ulp_info;
 
 pub use acknowledgement::{AckAttributes, AckView};
-pub use any::AnySockDiagView;
 pub use congestion::{BbrInfo, DctcpInfo, VegasInfo};
 pub use lenient::{
     LenientHeader, LenientInetReply, LenientNlas, LenientReply, LenientUnixReply, Refused,

@@ -8,7 +8,7 @@ ghost use Rattle.sock_diag_values.specs.TcpInfo.{tcp_info};
 
 use crate::bytes::bytes_behind;
 use byteorder::{ByteOrder, LittleEndian};
-use netlink_packet_sock_diag::inet::nlas::TcpInfo;
+use sock_diag_values::inet::TcpInfo;
 
 /// How many bytes `struct tcp_info` has in Linux 6.18.
 const WHOLE: usize = 280;

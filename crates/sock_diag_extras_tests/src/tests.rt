@@ -1,10 +1,10 @@
 //! The bytes are worked out by hand from the layouts of sock_diag(7) and `linux/inet_diag.h`.
 
-use netlink_core::{DecodeError, NlasIterator, write_new};
+use netlink_core::{DecodeError, NlasIterator};
 use sock_diag_extras::{
-    AckView, AnySockDiagView, AttributeRecord, AttributeRecords, BbrInfo, BpfStorage, DctcpInfo,
-    LenientInetReply, Md5Signature, SocketOptions, StoredAddress, SubflowField, TcpField,
-    TcpInfoBytes, TlsField, UlpInfo, VegasInfo, read_attribute_record, write_attribute_record,
+    AckView, AttributeRecord, AttributeRecords, BbrInfo, BpfStorage, DctcpInfo, LenientInetReply,
+    Md5Signature, SocketOptions, StoredAddress, SubflowField, TcpField, TcpInfoBytes, TlsField,
+    UlpInfo, VegasInfo, read_attribute_record, write_attribute_record,
 };
 use std::alloc::Global;
 use std::fmt::Debug;
@@ -24,17 +24,6 @@ fn reply(alloc: Global, attributes: &[u8]) -> Result<String, Fail> {
         text.push_str(line.as_str())?;
     }
     Ok(text)
-}
-
-/// Whether a reply of any family is written back as it was read, or its fault.
-fn any_family(alloc: Global, bytes: &[u8]) -> Result<String, Fail> {
-    match AnySockDiagView::parse(bytes, 20) {
-        Ok(view) => {
-            let back = write_new(alloc, &view).ok().ok_or("unwritable")?;
-            Ok(format!(in alloc; "{}", back.as_slice() == bytes)?)
-        }
-        Err(fault) => Ok(format!(in alloc; "{fault}")?),
-    }
 }
 
 /// A record, which is written back as it was read.
@@ -101,7 +90,6 @@ fn storages(alloc: Global, value: &[u8]) -> Result<String, Fail> {
 fn told(alloc: Global, word: &str, bytes: &[u8]) -> Result<String, Fail> {
     match word {
         "reply" => reply(alloc, bytes),
-        "any" => any_family(alloc, bytes),
         "vegas" => record::<VegasInfo>(alloc, bytes),
         "dctcp" => record::<DctcpInfo>(alloc, bytes),
         "bbr" => record::<BbrInfo>(alloc, bytes),
@@ -124,13 +112,6 @@ reply |
 reply 08000200010203040500080001000000|\
 Some(2) TcpInfo: buffer of 4 bytes, at least 232 needed;Shutdown(1);
 reply 05000880010000000300|Shutdown(1);None attribute header cut: 2 bytes left;
-any 100300076a1800000000000000000000ff5301000110000000000000|true
-any 11030008005401000310000000000000|true
-any 28010a000200000016000000ffffffffffffffff0a5000000500000000000000|true
-any 2c0300000b0000000600000000000000|true
-any 01010a000e4f0000a002000000000000|true
-any 1003000701|FamilyResponseHeader { family: 16 }: buffer of 5 bytes, at least 28 needed
-any 1d03|unknown address family 29
 vegas 01000000020000000300000004000000|\
 VegasInfo { enabled: 1, rtt_count: 2, rtt: 3, min_rtt: 4 } true
 dctcp 01000200030000000400000005000000|\

@@ -1,5 +1,3 @@
-pub mod WholeReply
-pub mod WholeReplyLaws
 pub mod Found
 pub mod ShowRequest
 pub mod VsockRequest

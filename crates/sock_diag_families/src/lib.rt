@@ -1,15 +1,14 @@
-//! Sockets of the families beside the port's: vsock, netlink, packet and XDP, by requests and by
-//! replies that are read in place.
+//! Sockets of the families beside the port's, vsock, netlink, packet and XDP: the requests, the
+//! headers of replies, and what the values of attributes tell.
 #![tactic(auto)]
 
-mod attributes;
 pub mod netlink;
 pub mod packet;
 mod request;
+mod values;
 pub mod vsock;
 mod whole;
 pub mod xdp;
 
-pub use attributes::WholeAttributes;
 pub use request::ShowRequest;
-pub use whole::{FamilyHeader, Whole, WholeNla, WholeView};
+pub use whole::WholeNla;

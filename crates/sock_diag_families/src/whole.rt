@@ -1,17 +1,9 @@
-//! Replies whose attributes are kept whole.
+//! Attributes that are kept whole.
 
 ghost use Rattle.std.specs.Prelude.{[], refl};
-ghost use Rattle.netlink_core.proofs.LayoutLaws.{accepted};
-ghost use Rattle.netlink_core.specs.Codec.{KeepsLaws};
-ghost use Rattle.netlink_core.specs.Response.{response_codec};
 ghost use Rattle.netlink_core.specs.Walk.{attribute_of};
-ghost use Rattle.sock_diag_replies.specs.EqualResponseLaws.{response_test};
-ghost use Rattle.sock_diag_replies.specs.EqualResponseLaws.{response_test_decides};
-ghost use Rattle.sock_diag_families.specs.WholeReply.{whole_reply};
 
-use attribute_lists::{check_nlas, emit_views, views_len};
-use netlink_core::{DecodeError, Emitable, FamilyView, Nla, NlaBuffer, Record, read_record};
-use sock_diag_replies::{ReplyHeader, ReplyView, ReplyViews, same_views};
+use netlink_core::{DecodeError, FamilyView, Nla, NlaBuffer};
 
 /// An attribute that is kept whole, read in place: its type word and its value's bytes.
 #[derive(Clone, Copy, Debug, PartialEq, Eq)]
@@ -49,78 +41,4 @@ impl<'a> FamilyView<'a> for WholeNla<'a> {
     fn read_accepted(nla: &NlaBuffer<'a>) -> Self {
         WholeNla(*nla)
     }
-}
-
-/// The header of the replies of one family.
-pub trait FamilyHeader: Record<Param = ()> + Drop {
-    /// The name of the view of such a reply, as `Debug` prints it.
-    const NAME: &'static str;
-
-    // A reply with such a header keeps the laws.
-    ghost keeps: { KeepsLaws (response_codec (whole_reply Self.layout)) };
-}
-
-/// The header of a reply whose attributes are kept whole.
-#[derive(Debug, Drop, PartialEq, Eq)]
-pub struct Whole<H>(pub H);
-
-/// A reply whose attributes are kept whole, read in place.
-pub type WholeView<'a, H> = ReplyView<'a, Whole<H>>;
-
-impl<H: FamilyHeader> ReplyHeader for Whole<H> {
-    const VIEW: &'static str = H::NAME;
-
-    ghost reply = { whole_reply H.layout };
-
-    ghost header_model = { λ header. header.0 };
-
-    ghost test = { response_test H.PartialEq.eq [] tt };
-
-    #[inline(always)]
-    fn length() -> usize {
-        let (_, least) = H::name_and_least();
-        least
-    }
-
-    #[inline(always)]
-    fn read_header(bytes: &[u8]) -> Result<Self, DecodeError> {
-        Ok(Whole(read_record(bytes, ())?))
-    }
-
-    #[inline(always)]
-    fn check(bytes: &[u8]) -> Result<usize, DecodeError> {
-        check_nlas::<WholeNla<'_>>(bytes)
-    }
-
-    fn is_same(&self, left: &[u8], other: &Self, right: &[u8]) -> bool {
-        self.0 == other.0 && same_views::<WholeNla<'_>>(left, right)
-    }
-
-    #[inline(always)]
-    fn len_with(&self, bytes: &[u8]) -> Option<usize> {
-        let len = self.0.buffer_len();
-        if len > u32::MAX as usize {
-            return None;
-        }
-        views_len::<WholeNla<'_>>(len, bytes)
-    }
-
-    #[inline(always)]
-    fn emit_with(&self, bytes: &[u8], buffer: &mut [u8]) {
-        let (front, rest) = buffer.split_at_mut(self.0.buffer_len());
-        self.0.emit(front);
-        emit_views::<WholeNla<'_>>(bytes, rest);
-    }
-
-    ghost enough = { λ b h is. (accepted H.layout tt b h is).long };
-
-    ghost keeps = { H.keeps };
-
-    ghost compared = { response_test_decides H.PartialEq.eq [] tt H.exact.0 };
-}
-
-impl<'a, H: FamilyHeader> ReplyViews<'a> for Whole<H> {
-    type View = WholeNla<'a>;
-
-    ghost same = { (λ _. (λ h. h, λ h. h), λ _. refl) };
 }

@@ -18,8 +18,9 @@ use Rattle.sock_diag_records.specs.IpVersions.{IpVersions, versions_of_family}
 use Rattle.sock_diag_records.specs.UnixRequest.{unix_request}
 use Rattle.sock_diag_records.specs.UnixRequestLaws.{unix_request_sound}
 use Rattle.sock_diag_records.specs.declared.inet.request.InetRequest.{InetRequest}
-use Rattle.sock_diag_families.specs.ShowRequest.{show_request, show_request_sound}
-use Rattle.sock_diag_families.specs.VsockRequest.{vsock_request, vsock_request_sound}
+use Rattle.sock_diag_families.specs.RecordLaws.{show_request_sound, vsock_request_sound}
+use Rattle.sock_diag_families.specs.ShowRequest.{show_request}
+use Rattle.sock_diag_families.specs.VsockRequest.{vsock_request}
 use Rattle.sock_diag_filters.specs.declared.request.RequestAttribute.{RequestAttribute}
 use Rattle.sock_diag_filters.specs.AnyReadBack.{IsInetReadBack, IsWhole, record_request_bytes}
 use Rattle.sock_diag_filters.specs.AnyRequest.{AnyAsks, AnyRequest, AskedFamily, RecordFamily}

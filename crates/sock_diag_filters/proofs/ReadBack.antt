@@ -1,11 +1,13 @@
 -- A request that is written with attributes is read back.
-use Rattle.std.proofs.Common.{◌≡◌, ◌∙◌, ℕ, ◌+◌, ◌≤◌, List, [], ◌∷◌, ◌++◌, length}
+use Rattle.std.proofs.Common.{◌≡◌, ◌≢◌, ◌∙◌, ℕ, ◌+◌, ◌≤◌, List, [], ◌∷◌, ◌++◌, length, inl, inr}
 use Rattle.std.proofs.Common.{drop, refl, sym, ap, subst, arith, Result, Ok, append_assoc}
-use Rattle.std.specs.Prelude.{map, slice_index, unwrap_or, None}
+use Rattle.std.specs.Prelude.{map, slice_index, unwrap_or, None, Some}
+use Rattle.std.proofs.lemmas.Bool.{cases_lt}
 use Rattle.std.specs.List.{AllByRecursion, AllZip, filter_map, flat_map, last_or}
 use Rattle.std.proofs.lemmas.List.{append-nil, drop_at, length-append}
 use Rattle.netlink_core.specs.Attribute.{Attribute, AttributeFault, Cut, FitsWords}
-use Rattle.netlink_core.specs.Attribute.{written}
+use Rattle.netlink_core.specs.Attribute.{fill, written}
+use Rattle.netlink_core.specs.Datagram.{CutIntoMessages}
 use Rattle.netlink_core.specs.declared.fault.DecodeError.{DecodeError}
 use Rattle.netlink_core.specs.declared.header.NetlinkHeader.{NetlinkHeader}
 use Rattle.netlink_core.specs.Layout.{bytes, read}
@@ -13,10 +15,10 @@ use Rattle.netlink_core.specs.Header.{HasHeader, IsEnvelopeFault, header_bytes}
 use Rattle.netlink_core.specs.Table.{little_endian}
 use Rattle.netlink_core.proofs.Cutting.{full_is_cut, means_or_fault_apart, one_cut, written_is_cut}
 use Rattle.netlink_core.proofs.Cutting.{written_values_are_read}
+use Rattle.netlink_core.proofs.Datagrams.{one_cut_into_messages}
 use Rattle.netlink_core.proofs.Headers.{header_length, header_stands, one_header}
 use Rattle.netlink_core.proofs.Numbers.{number-reads_back}
 use Rattle.netlink_core.proofs.PrefixCodecs.{is_prefix_codec}
-use Rattle.netlink_packet_sock_diag.proofs.Interrupting.{no_fault_in_message}
 use Rattle.sock_diag_records.specs.InetRequest.{inet_request}
 use Rattle.sock_diag_records.specs.InetRequestLaws.{inet_request_size, inet_request_sound}
 use Rattle.sock_diag_records.specs.InetRequestLaws.{request_length}
@@ -81,7 +83,22 @@ asked_once (a ∷ all) (t ∷ decoded) (u ∷ others) h k =
 pub no_fault_of_whole : (b : List ℕ) (h : NetlinkHeader) (e : DecodeError) → HasHeader b h
     → length b ≡ h.length → IsEnvelopeFault b e → ⊥
 no_fault_of_whole b h e head whole fault =
-    no_fault_in_message b e (omega (arith, head.2), header_length b h head ∙ sym whole) fault
+    let counted = header_length b h head ∙ sym whole in
+    let alone : CutIntoMessages b (b ∷ []) None = (
+      [],
+      record {
+        padding = [];
+        parts = sym (append-nil b);
+        whole = (omega (arith, head.2), counted);
+        filled = elim (cases_lt 0 (fill (length b))) [
+          | inl short ↦ inr (short, refl)
+          | inr full ↦ inl (omega (arith, full))
+        ];
+      },
+      refl,
+    ) in
+    let some : b ≢ [] = λ none. omega (arith, ap length none, head.2, whole) in
+    absurd (cc (one_cut_into_messages b [] (b ∷ []) (Some e) None (some, fault) alone).0)
 
 -- a request is as long as its header says
 pub whole_message : (h : NetlinkHeader) (request : InetRequest) (attributes : List RequestAttribute)

@@ -8,12 +8,12 @@ ghost use Rattle.sock_diag_filters.specs.AnyRequest.{family_in, refuses_by};
 
 use crate::view::{RequestView, is_request};
 use netlink_core::{DecodeError, NETLINK_HEADER_LEN, NetlinkHeader, Record, read_record};
-use netlink_packet_sock_diag::unix::UnixRequest;
-use netlink_packet_sock_diag::{AF_INET, AF_INET6, AF_NETLINK, AF_PACKET, AF_UNIX};
 use sock_diag_families::netlink::NetlinkRequest;
 use sock_diag_families::packet::PacketRequest;
 use sock_diag_families::vsock::{AF_VSOCK, VsockRequest};
 use sock_diag_families::xdp::{AF_XDP, XdpRequest};
+use sock_diag_records::constants::{AF_INET, AF_INET6, AF_NETLINK, AF_PACKET, AF_UNIX};
+use sock_diag_records::unix::UnixRequest;
 
 /// A request that is one record, read in place.
 #[derive(Debug, Drop, PartialEq, Eq)]

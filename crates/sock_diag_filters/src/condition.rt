@@ -5,7 +5,7 @@ ghost use Rattle.std.specs.declared.net.ip_addr.IpAddr.TheVariants.{V6};
 ghost use Rattle.sock_diag_filters.specs.Prefixes.{bits_of, family_of, octets_of, port_bytes};
 
 use byteorder::{BigEndian, ByteOrder, LittleEndian};
-use netlink_packet_sock_diag::constants::{AF_INET, AF_INET6};
+use sock_diag_records::constants::{AF_INET, AF_INET6};
 use std::net::{IpAddr, Ipv6Addr};
 
 /// How a port is compared with a number.

@@ -9,7 +9,7 @@ use byteorder::{ByteOrder, LittleEndian};
 use netlink_core::{
     Emitable, NETLINK_HEADER_LEN, NetlinkHeader, Nla, emit_nlas, nlas_len, nlas_len_within,
 };
-use netlink_packet_sock_diag::inet::InetRequest;
+use sock_diag_records::inet::InetRequest;
 
 /// The kind of the attribute that carries a filter's program.
 pub const INET_DIAG_REQ_BYTECODE: u16 = 1;

@@ -14,10 +14,10 @@ use crate::{
 };
 use bitflags::Flags;
 use netlink_core::{Emitable, NLM_F_DUMP, NLM_F_REQUEST, NetlinkHeader};
-use netlink_packet_sock_diag::constants::{
+use sock_diag_records::constants::{
     AF_INET, AF_INET6, IPPROTO_TCP, SOCK_DESTROY, SOCK_DIAG_BY_FAMILY,
 };
-use netlink_packet_sock_diag::inet::{ExtensionFlags, InetRequest, SocketId, StateFlags};
+use sock_diag_records::inet::{ExtensionFlags, InetRequest, SocketId, StateFlags};
 use std::alloc::Global;
 use std::net::IpAddr;
 

@@ -20,8 +20,8 @@ use crate::request::{
 use netlink_core::{
     DecodeError, NETLINK_HEADER_LEN, NetlinkHeader, NlaBuffer, NlasIterator, parse_u32, read_record,
 };
-use netlink_packet_sock_diag::constants::{SOCK_DESTROY, SOCK_DIAG_BY_FAMILY};
-use netlink_packet_sock_diag::inet::InetRequest;
+use sock_diag_records::constants::{SOCK_DESTROY, SOCK_DIAG_BY_FAMILY};
+use sock_diag_records::inet::InetRequest;
 
 /// A request for internet sockets, read in place: what a test kernel is asked.
 #[derive(Debug, Drop, PartialEq, Eq)]

@@ -4,7 +4,7 @@ use Rattle.std.specs.Result.{result_err}
 use Rattle.netlink_core.specs.Response.{ValueOf}
 use Rattle.netlink_core.specs.declared.fault.DecodeError.{DecodeError}
 use Rattle.sock_diag_families.specs.NetlinkResponseHeader.{netlink_header}
-use Rattle.sock_diag_families.specs.WholeReply.{whole_reply}
+use Rattle.sock_diag_any.specs.WholeReply.{whole_reply}
 use Rattle.sockdiag_c.specs.Details.{number_of, text_of}
 use Rattle.sockdiag_c.specs.FamilyValues.{bytes_of, memory, memory_of, read_of, word}
 use Rattle.sockdiag_c.specs.declared.netlink_details.NetlinkDetails.{NetlinkDetails}

@@ -5,7 +5,7 @@ use Rattle.netlink_core.specs.Response.{ValueOf}
 use Rattle.netlink_core.specs.declared.fault.DecodeError.{DecodeError}
 use Rattle.sock_diag_families.specs.PacketAttributes.{packet_info, packet_ring}
 use Rattle.sock_diag_families.specs.PacketResponseHeader.{packet_header}
-use Rattle.sock_diag_families.specs.WholeReply.{whole_reply}
+use Rattle.sock_diag_any.specs.WholeReply.{whole_reply}
 use Rattle.sockdiag_c.specs.Answers.{AnswersItem}
 use Rattle.sockdiag_c.specs.Details.{number_of, text_of}
 use Rattle.sockdiag_c.specs.FamilyValues.{bytes_of, memory, memory_of, read_of, word}

@@ -3,7 +3,7 @@
 ghost use Rattle.std.specs.Prelude.{◌≡◌, IfOk, IfErr};
 ghost use Rattle.netlink_core.specs.Response.{ValueOf, response_codec};
 ghost use Rattle.sock_diag_families.specs.NetlinkResponseHeader.{netlink_header};
-ghost use Rattle.sock_diag_families.specs.WholeReply.{whole_reply};
+ghost use Rattle.sock_diag_any.specs.WholeReply.{whole_reply};
 ghost use Rattle.sockdiag_c.specs.Answers.{AnswersBy};
 ghost use Rattle.sockdiag_c.specs.FamilyValues.{RefusesValue};
 ghost use Rattle.sockdiag_c.specs.NetlinkDetails.{IsNetlinkDetailsOf, netlink_faults};
@@ -12,7 +12,8 @@ use crate::check::OK;
 use crate::details::{Number, Text};
 use crate::family_values::Memory;
 use netlink_core::DecodeError;
-use sock_diag_families::netlink::{self, NetlinkResponseHeader, NetlinkResponseView};
+use sock_diag_any::netlink::{self, NetlinkResponseView};
+use sock_diag_families::netlink::NetlinkResponseHeader;
 
 /// All that is told of a netlink socket: `struct sockdiag_netlink_details` of
 /// `include/sockdiag.h`.

@@ -3,7 +3,7 @@
 ghost use Rattle.std.specs.Prelude.{◌≡◌, IfOk, IfErr};
 ghost use Rattle.netlink_core.specs.Response.{ValueOf, response_codec};
 ghost use Rattle.sock_diag_families.specs.PacketResponseHeader.{packet_header};
-ghost use Rattle.sock_diag_families.specs.WholeReply.{whole_reply};
+ghost use Rattle.sock_diag_any.specs.WholeReply.{whole_reply};
 ghost use Rattle.sockdiag_c.specs.Answers.{AnswersBy};
 ghost use Rattle.sockdiag_c.specs.FamilyValues.{RefusesValue};
 ghost use Rattle.sockdiag_c.specs.PacketDetails.{IsPacketDetailsOf, packet_faults};
@@ -12,9 +12,8 @@ use crate::check::OK;
 use crate::details::{Number, Text};
 use crate::family_values::{Memory, tell};
 use netlink_core::DecodeError;
-use sock_diag_families::packet::{
-    self, PacketInfo, PacketResponseHeader, PacketResponseView, PacketRing,
-};
+use sock_diag_any::packet::{self, PacketResponseView};
+use sock_diag_families::packet::{PacketInfo, PacketResponseHeader, PacketRing};
 
 /// All that is told of a packet socket: `struct sockdiag_packet_details` of
 /// `include/sockdiag.h`.

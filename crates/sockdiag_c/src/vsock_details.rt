@@ -2,11 +2,12 @@
 
 ghost use Rattle.netlink_core.specs.Response.{response_codec};
 ghost use Rattle.sock_diag_families.specs.VsockResponseHeader.{vsock_header};
-ghost use Rattle.sock_diag_families.specs.WholeReply.{whole_reply};
+ghost use Rattle.sock_diag_any.specs.WholeReply.{whole_reply};
 ghost use Rattle.sockdiag_c.specs.Answers.{Answers};
 
 use crate::check::OK;
-use sock_diag_families::vsock::{VsockResponseHeader, VsockResponseView};
+use sock_diag_any::vsock::VsockResponseView;
+use sock_diag_families::vsock::VsockResponseHeader;
 
 /// Checks the whole of a reply about a vsock socket, the payload of its message, and tells all of
 /// it: its header, since no attributes follow. The answer is 0, or the number of the first fault,

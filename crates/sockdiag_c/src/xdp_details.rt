@@ -2,7 +2,7 @@
 
 ghost use Rattle.std.specs.Prelude.{◌≡◌, IfOk, IfErr};
 ghost use Rattle.netlink_core.specs.Response.{ValueOf, response_codec};
-ghost use Rattle.sock_diag_families.specs.WholeReply.{whole_reply};
+ghost use Rattle.sock_diag_any.specs.WholeReply.{whole_reply};
 ghost use Rattle.sock_diag_families.specs.XdpResponseHeader.{xdp_header};
 ghost use Rattle.sockdiag_c.specs.Answers.{AnswersBy};
 ghost use Rattle.sockdiag_c.specs.FamilyValues.{RefusesValue};
@@ -12,10 +12,11 @@ use crate::check::OK;
 use crate::details::Number;
 use crate::family_values::{Memory, tell};
 use netlink_core::DecodeError;
-use sock_diag_families::WholeAttributes;
+use sock_diag_any::WholeAttributes;
+use sock_diag_any::xdp::{self, XdpResponseView};
 use sock_diag_families::xdp::{
-    self, XDP_DIAG_UMEM_COMPLETION_RING, XDP_DIAG_UMEM_FILL_RING, XdpInfo, XdpResponseHeader,
-    XdpResponseView, XdpStatistics, XdpUmem,
+    XDP_DIAG_UMEM_COMPLETION_RING, XDP_DIAG_UMEM_FILL_RING, XdpInfo, XdpResponseHeader,
+    XdpStatistics, XdpUmem,
 };
 
 /// All that is told of an XDP socket: `struct sockdiag_xdp_details` of `include/sockdiag.h`.

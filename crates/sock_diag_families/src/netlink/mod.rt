@@ -1,11 +1,9 @@
 //! Netlink sockets, after `linux/netlink_diag.h`.
 
-mod attributes;
 mod response;
 
 use crate::ShowRequest;
-pub use attributes::{flags, groups, memory};
-pub use response::{NetlinkResponseHeader, NetlinkResponseView};
+pub use response::NetlinkResponseHeader;
 use sock_diag_records::constants::AF_NETLINK;
 
 /// The request for netlink sockets: `struct netlink_diag_req`. Its protocol is one of

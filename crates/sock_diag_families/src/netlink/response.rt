@@ -1,12 +1,10 @@
-//! The reply about one netlink socket.
+//! The header of a reply about one netlink socket.
 
 ghost use Rattle.std.proofs.Common.{rules};
 ghost use Rattle.netlink_core.proofs.LayoutLaws.{record_laws};
 ghost use Rattle.sock_diag_families.specs.NetlinkResponseHeader.{netlink_header};
 ghost use Rattle.sock_diag_families.specs.RecordLaws.{netlink_header_sound};
-ghost use Rattle.sock_diag_families.specs.WholeReplyLaws.{plain_replies_keep_laws};
 
-use crate::{FamilyHeader, WholeView};
 use byteorder::{ByteOrder, LittleEndian};
 use netlink_core::fields::{long_words_at, words_at};
 use netlink_core::{DecodeError, Exact, Record, RecordName};
@@ -34,12 +32,6 @@ pub struct NetlinkResponseHeader {
     /// What tells the socket from others of its inode, `ndiag_cookie`, at 20.
     pub cookie: u64,
 }
-
-/// The reply about one netlink socket, read in place.
-///
-/// Of `parse`, fewer than 28 bytes are `BufferTooSmall`; else the first fault of an attribute is
-/// told.
-pub type NetlinkResponseView<'a> = WholeView<'a, NetlinkResponseHeader>;
 
 impl Exact for NetlinkResponseHeader {
     ghost exact = { Prim.search rules };
@@ -96,10 +88,4 @@ impl Record for NetlinkResponseHeader {
     }
 
     ghost laws = { record_laws netlink_header netlink_header_sound };
-}
-
-impl FamilyHeader for NetlinkResponseHeader {
-    const NAME: &'static str = "NetlinkResponseView";
-
-    ghost keeps = { plain_replies_keep_laws netlink_header_sound };
 }

@@ -1,24 +1,13 @@
-//! What the attributes of a reply about a packet socket tell.
+//! What the values of attributes of a reply about a packet socket tell.
 
-ghost use Rattle.std.specs.Prelude.{◌≡◌, option_map};
-ghost use Rattle.netlink_core.specs.Layout.{read};
-ghost use Rattle.netlink_core.specs.Parse.{exact_number};
-ghost use Rattle.sock_diag_values.specs.MemInfo.{mem_info};
-ghost use Rattle.sock_diag_replies.specs.ViewModel.{view_model};
-ghost use Rattle.sock_diag_families.specs.Found.{first_value, within};
+ghost use Rattle.std.specs.Prelude.{◌≡◌};
 ghost use Rattle.sock_diag_families.specs.PacketAttributes.{packet_info, packet_ring};
 
-use super::{
-    PACKET_DIAG_FANOUT, PACKET_DIAG_FILTER, PACKET_DIAG_INFO, PACKET_DIAG_MCLIST,
-    PACKET_DIAG_MEMINFO, PACKET_DIAG_RX_RING, PACKET_DIAG_TX_RING, PACKET_DIAG_UID,
-    PacketResponseView,
-};
-use crate::WholeAttributes;
-use crate::attributes::{enough_in, value_in};
+use super::PACKET_DIAG_INFO;
+use crate::values::enough_in;
 use netlink_core::DecodeError;
 use netlink_core::fields::words_at;
 use sock_diag_records::constants::AF_PACKET;
-use sock_diag_values::inet::MemInfo;
 
 /// What a packet socket is set to: `struct packet_diag_info`, the first 24 bytes of
 /// `PACKET_DIAG_INFO`, six words, low byte first.
@@ -86,92 +75,30 @@ pub struct PacketRing {
     pub features: u32,
 }
 
-// The ring that an attribute of this kind tells.
-fn ring(reply: &PacketResponseView<'_>, kind: u16) -> Result<Option<PacketRing>, DecodeError>
-    ensures { result ≡ within (packet_ring kind) (first_value kind (view_model reply.now).nlas) }
-{
-    let Some(value) = reply.enough_of(AF_PACKET, kind, 28)? else {
-        return Ok(None);
-    };
-    let [
-        block_size,
-        blocks,
-        frame_size,
-        frames,
-        retire_timeout,
-        private_size,
-        features,
-    ] = words_at::<7>(value, 0);
-    Ok(Some(PacketRing {
-        block_size,
-        blocks,
-        frame_size,
-        frames,
-        retire_timeout,
-        private_size,
-        features,
-    }))
-}
-
-/// What the socket is set to, `PACKET_DIAG_INFO`. Fewer than 24 bytes are `BufferTooSmall`.
-pub fn info(reply: &PacketResponseView<'_>) -> Result<Option<PacketInfo>, DecodeError>
-    ensures { result ≡ within packet_info (first_value 0 (view_model reply.now).nlas) }
-{
-    match reply.value_of(PACKET_DIAG_INFO) {
-        Some(value) => Ok(Some(PacketInfo::parse(value)?)),
-        None => Ok(None),
+impl PacketRing {
+    /// What the value of an attribute `PACKET_DIAG_RX_RING` or `PACKET_DIAG_TX_RING`, which a fault
+    /// names by its kind, tells. Fewer than 28 bytes are `BufferTooSmall`.
+    pub fn parse(value: &[u8], kind: u16) -> Result<PacketRing, DecodeError>
+        ensures { result ≡ packet_ring kind value.now }
+    {
+        let value = enough_in(value, AF_PACKET, kind, 28)?;
+        let [
+            block_size,
+            blocks,
+            frame_size,
+            frames,
+            retire_timeout,
+            private_size,
+            features,
+        ] = words_at::<7>(value, 0);
+        Ok(PacketRing {
+            block_size,
+            blocks,
+            frame_size,
+            frames,
+            retire_timeout,
+            private_size,
+            features,
+        })
     }
-}
-
-/// The addresses that the socket receives beside its interface's, `PACKET_DIAG_MCLIST`: 44
-/// bytes each, `struct packet_diag_mclist`.
-pub fn addresses<'a>(reply: &PacketResponseView<'a>) -> Option<&'a [u8]>
-    ensures { option_map (λ value. value.now) result
-        ≡ first_value 1 (view_model reply.now).nlas }
-{
-    value_in(reply, PACKET_DIAG_MCLIST)
-}
-
-/// The ring for what is received, `PACKET_DIAG_RX_RING`. Fewer than 28 bytes are
-/// `BufferTooSmall`.
-pub fn receive_ring(reply: &PacketResponseView<'_>) -> Result<Option<PacketRing>, DecodeError>
-    ensures { result ≡ within (packet_ring 2) (first_value 2 (view_model reply.now).nlas) }
-{
-    ring(reply, PACKET_DIAG_RX_RING)
-}
-
-/// The ring for what is sent, `PACKET_DIAG_TX_RING`. Fewer than 28 bytes are `BufferTooSmall`.
-pub fn send_ring(reply: &PacketResponseView<'_>) -> Result<Option<PacketRing>, DecodeError>
-    ensures { result ≡ within (packet_ring 3) (first_value 3 (view_model reply.now).nlas) }
-{
-    ring(reply, PACKET_DIAG_TX_RING)
-}
-
-/// The number of the fanout, and its way in the high 16 bits, `PACKET_DIAG_FANOUT`.
-pub fn fanout(reply: &PacketResponseView<'_>) -> Result<Option<u32>, DecodeError>
-    ensures { result ≡ within (exact_number None 4) (first_value 4 (view_model reply.now).nlas) }
-{
-    reply.number_of(PACKET_DIAG_FANOUT)
-}
-
-/// The user who owns the socket, `PACKET_DIAG_UID`.
-pub fn owner(reply: &PacketResponseView<'_>) -> Result<Option<u32>, DecodeError>
-    ensures { result ≡ within (exact_number None 4) (first_value 5 (view_model reply.now).nlas) }
-{
-    reply.number_of(PACKET_DIAG_UID)
-}
-
-/// The memory of the socket, `PACKET_DIAG_MEMINFO`.
-pub fn memory(reply: &PacketResponseView<'_>) -> Result<Option<MemInfo>, DecodeError>
-    ensures { result ≡ within (read mem_info tt) (first_value 6 (view_model reply.now).nlas) }
-{
-    reply.record_of(PACKET_DIAG_MEMINFO)
-}
-
-/// The steps of the filter, `PACKET_DIAG_FILTER`: 8 bytes each, `struct sock_filter`.
-pub fn filter<'a>(reply: &PacketResponseView<'a>) -> Option<&'a [u8]>
-    ensures { option_map (λ value. value.now) result
-        ≡ first_value 7 (view_model reply.now).nlas }
-{
-    value_in(reply, PACKET_DIAG_FILTER)
 }

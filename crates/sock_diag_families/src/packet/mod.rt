@@ -4,10 +4,8 @@ mod attributes;
 mod response;
 
 use crate::ShowRequest;
-pub use attributes::{
-    PacketInfo, PacketRing, addresses, fanout, filter, info, memory, owner, receive_ring, send_ring,
-};
-pub use response::{PacketResponseHeader, PacketResponseView};
+pub use attributes::{PacketInfo, PacketRing};
+pub use response::PacketResponseHeader;
 use sock_diag_records::constants::AF_PACKET;
 
 /// The request for packet sockets: `struct packet_diag_req`. Its protocol is 0, and what it shows

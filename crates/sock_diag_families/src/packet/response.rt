@@ -1,12 +1,10 @@
-//! The reply about one packet socket.
+//! The header of a reply about one packet socket.
 
 ghost use Rattle.std.proofs.Common.{rules};
 ghost use Rattle.netlink_core.proofs.LayoutLaws.{record_laws};
 ghost use Rattle.sock_diag_families.specs.PacketResponseHeader.{packet_header};
 ghost use Rattle.sock_diag_families.specs.RecordLaws.{packet_header_sound};
-ghost use Rattle.sock_diag_families.specs.WholeReplyLaws.{plain_replies_keep_laws};
 
-use crate::{FamilyHeader, WholeView};
 use byteorder::{ByteOrder, LittleEndian};
 use netlink_core::fields::{long_words_at, words_at};
 use netlink_core::{DecodeError, Exact, Record, RecordName};
@@ -26,12 +24,6 @@ pub struct PacketResponseHeader {
     /// What tells the socket from others of its inode, `pdiag_cookie`, at 8.
     pub cookie: u64,
 }
-
-/// The reply about one packet socket, read in place.
-///
-/// Of `parse`, fewer than 16 bytes are `BufferTooSmall`; else the first fault of an attribute is
-/// told.
-pub type PacketResponseView<'a> = WholeView<'a, PacketResponseHeader>;
 
 impl Exact for PacketResponseHeader {
     ghost exact = { Prim.search rules };
@@ -79,10 +71,4 @@ impl Record for PacketResponseHeader {
     }
 
     ghost laws = { record_laws packet_header packet_header_sound };
-}
-
-impl FamilyHeader for PacketResponseHeader {
-    const NAME: &'static str = "PacketResponseView";
-
-    ghost keeps = { plain_replies_keep_laws packet_header_sound };
 }

@@ -4,7 +4,7 @@ mod request;
 mod response;
 
 pub use request::VsockRequest;
-pub use response::{VsockResponseHeader, VsockResponseView};
+pub use response::VsockResponseHeader;
 
 /// The family of these sockets, `AF_VSOCK` of `linux/socket.h`.
 pub const AF_VSOCK: u8 = 40;

@@ -1,13 +1,11 @@
-//! The reply about one vsock socket.
+//! The header of a reply about one vsock socket.
 
 ghost use Rattle.std.proofs.Common.{rules};
 ghost use Rattle.netlink_core.proofs.LayoutLaws.{record_laws};
 ghost use Rattle.sock_diag_families.specs.VsockResponseHeader.{vsock_header};
 ghost use Rattle.sock_diag_families.specs.RecordLaws.{vsock_header_sound};
-ghost use Rattle.sock_diag_families.specs.WholeReplyLaws.{plain_replies_keep_laws};
 
 use super::AF_VSOCK;
-use crate::{FamilyHeader, WholeView};
 use byteorder::{ByteOrder, LittleEndian};
 use netlink_core::fields::{long_words_at, long_words_in_range, words_at};
 use netlink_core::{DecodeError, Exact, Record, RecordName};
@@ -37,12 +35,6 @@ pub struct VsockResponseHeader {
     /// What tells the socket from others of its inode, `vdiag_cookie`, at 24.
     pub cookie: u64,
 }
-
-/// The reply about one vsock socket, read in place.
-///
-/// Of `parse`, fewer than 32 bytes are `BufferTooSmall`; else the first fault of an attribute is
-/// told.
-pub type VsockResponseView<'a> = WholeView<'a, VsockResponseHeader>;
 
 impl Exact for VsockResponseHeader {
     ghost exact = { Prim.search rules };
@@ -116,10 +108,4 @@ impl Record for VsockResponseHeader {
     }
 
     ghost laws = { record_laws vsock_header vsock_header_sound };
-}
-
-impl FamilyHeader for VsockResponseHeader {
-    const NAME: &'static str = "VsockResponseView";
-
-    ghost keeps = { plain_replies_keep_laws vsock_header_sound };
 }

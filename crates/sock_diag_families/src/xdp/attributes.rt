@@ -1,24 +1,15 @@
-//! What the attributes of a reply about an XDP socket tell.
+//! What the values of attributes of a reply about an XDP socket tell.
 
 ghost use Rattle.std.specs.Prelude.{◌≡◌, ◌≤◌, length};
-ghost use Rattle.netlink_core.specs.Layout.{read};
-ghost use Rattle.netlink_core.specs.Parse.{exact_number};
-ghost use Rattle.sock_diag_values.specs.MemInfo.{mem_info};
-ghost use Rattle.sock_diag_replies.specs.ViewModel.{view_model};
-ghost use Rattle.sock_diag_families.specs.Found.{first_value, within};
 ghost use Rattle.netlink_core.specs.Table.{values_of};
 ghost use Rattle.sock_diag_families.specs.XdpAttributes.{xdp_info, xdp_umem, xdp_umem_of};
 ghost use Rattle.sock_diag_families.specs.XdpAttributes.{xdp_umem_rows, xdp_statistics};
 ghost use Rattle.sock_diag_families.specs.XdpAttributes.{xdp_statistics_of, xdp_statistics_rows};
 
-use super::{
-    AF_XDP, XDP_DIAG_INFO, XDP_DIAG_MEMINFO, XDP_DIAG_RX_RING, XDP_DIAG_STATS, XDP_DIAG_TX_RING,
-    XDP_DIAG_UID, XDP_DIAG_UMEM, XdpResponseView,
-};
-use crate::WholeAttributes;
+use super::{AF_XDP, XDP_DIAG_INFO, XDP_DIAG_STATS, XDP_DIAG_UMEM};
+use crate::values::enough_in;
 use netlink_core::DecodeError;
 use netlink_core::fields::{long_words_at, words_at};
-use sock_diag_values::inet::MemInfo;
 
 /// Where an XDP socket is bound: `struct xdp_diag_info`, the first 8 bytes of `XDP_DIAG_INFO`.
 #[repr(C)]
@@ -28,6 +19,18 @@ pub struct XdpInfo {
     pub interface: u32,
     /// Its queue, a `u32` at 4.
     pub queue: u32,
+}
+
+impl XdpInfo {
+    /// What the value of an attribute `XDP_DIAG_INFO` tells. Fewer than 8 bytes are
+    /// `BufferTooSmall`.
+    pub fn parse(value: &[u8]) -> Result<XdpInfo, DecodeError>
+        ensures { result ≡ xdp_info value.now }
+    {
+        let value = enough_in(value, AF_XDP, XDP_DIAG_INFO, 8)?;
+        let [interface, queue] = words_at::<2>(value, 0);
+        Ok(XdpInfo { interface, queue })
+    }
 }
 
 /// The memory that an XDP socket shares with its program: `struct xdp_diag_umem`, the first 40
@@ -55,6 +58,17 @@ pub struct XdpUmem {
     pub references: u32,
 }
 
+impl XdpUmem {
+    /// What the value of an attribute `XDP_DIAG_UMEM` tells. Fewer than 40 bytes are
+    /// `BufferTooSmall`.
+    pub fn parse(value: &[u8]) -> Result<XdpUmem, DecodeError>
+        ensures { result ≡ xdp_umem value.now }
+    {
+        let value = enough_in(value, AF_XDP, XDP_DIAG_UMEM, 40)?;
+        Ok(umem_in(value))
+    }
+}
+
 /// What an XDP socket counted: `struct xdp_diag_stats`, the first 48 bytes of `XDP_DIAG_STATS`, six
 /// `u64`.
 #[repr(C)]
@@ -74,64 +88,15 @@ pub struct XdpStatistics {
     pub send_ring_empty: u64,
 }
 
-/// Where the socket is bound, `XDP_DIAG_INFO`. Fewer than 8 bytes are `BufferTooSmall`.
-pub fn info(reply: &XdpResponseView<'_>) -> Result<Option<XdpInfo>, DecodeError>
-    ensures { result ≡ within xdp_info (first_value 1 (view_model reply.now).nlas) }
-{
-    let Some(value) = reply.enough_of(AF_XDP, XDP_DIAG_INFO, 8)? else {
-        return Ok(None);
-    };
-    let [interface, queue] = words_at::<2>(value, 0);
-    Ok(Some(XdpInfo { interface, queue }))
-}
-
-/// The user who owns the socket, `XDP_DIAG_UID`.
-pub fn owner(reply: &XdpResponseView<'_>) -> Result<Option<u32>, DecodeError>
-    ensures { result ≡ within (exact_number None 4) (first_value 2 (view_model reply.now).nlas) }
-{
-    reply.number_of(XDP_DIAG_UID)
-}
-
-/// How many entries the ring for what is received has, `XDP_DIAG_RX_RING`.
-pub fn receive_ring(reply: &XdpResponseView<'_>) -> Result<Option<u32>, DecodeError>
-    ensures { result ≡ within (exact_number None 4) (first_value 3 (view_model reply.now).nlas) }
-{
-    reply.number_of(XDP_DIAG_RX_RING)
-}
-
-/// How many the ring for what is sent has, `XDP_DIAG_TX_RING`.
-pub fn send_ring(reply: &XdpResponseView<'_>) -> Result<Option<u32>, DecodeError>
-    ensures { result ≡ within (exact_number None 4) (first_value 4 (view_model reply.now).nlas) }
-{
-    reply.number_of(XDP_DIAG_TX_RING)
-}
-
-/// The memory that the socket shares, `XDP_DIAG_UMEM`. Fewer than 40 bytes are
-/// `BufferTooSmall`.
-pub fn shared_memory(reply: &XdpResponseView<'_>) -> Result<Option<XdpUmem>, DecodeError>
-    ensures { result ≡ within xdp_umem (first_value 5 (view_model reply.now).nlas) }
-{
-    let Some(value) = reply.enough_of(AF_XDP, XDP_DIAG_UMEM, 40)? else {
-        return Ok(None);
-    };
-    Ok(Some(umem_in(value)))
-}
-
-/// The memory of the socket, `XDP_DIAG_MEMINFO`.
-pub fn memory(reply: &XdpResponseView<'_>) -> Result<Option<MemInfo>, DecodeError>
-    ensures { result ≡ within (read mem_info tt) (first_value 8 (view_model reply.now).nlas) }
-{
-    reply.record_of(XDP_DIAG_MEMINFO)
-}
-
-/// What the socket counted, `XDP_DIAG_STATS`. Fewer than 48 bytes are `BufferTooSmall`.
-pub fn statistics(reply: &XdpResponseView<'_>) -> Result<Option<XdpStatistics>, DecodeError>
-    ensures { result ≡ within xdp_statistics (first_value 9 (view_model reply.now).nlas) }
-{
-    let Some(value) = reply.enough_of(AF_XDP, XDP_DIAG_STATS, 48)? else {
-        return Ok(None);
-    };
-    Ok(Some(statistics_in(value)))
+impl XdpStatistics {
+    /// What the value of an attribute `XDP_DIAG_STATS` tells. Fewer than 48 bytes are
+    /// `BufferTooSmall`.
+    pub fn parse(value: &[u8]) -> Result<XdpStatistics, DecodeError>
+        ensures { result ≡ xdp_statistics value.now }
+    {
+        let value = enough_in(value, AF_XDP, XDP_DIAG_STATS, 48)?;
+        Ok(statistics_in(value))
+    }
 }
 
 // The memory that so many bytes tell.

@@ -4,11 +4,8 @@ mod attributes;
 mod response;
 
 use crate::ShowRequest;
-pub use attributes::{
-    XdpInfo, XdpStatistics, XdpUmem, info, memory, owner, receive_ring, send_ring, shared_memory,
-    statistics,
-};
-pub use response::{XdpResponseHeader, XdpResponseView};
+pub use attributes::{XdpInfo, XdpStatistics, XdpUmem};
+pub use response::XdpResponseHeader;
 
 /// The family of these sockets, `AF_XDP` of `linux/socket.h`.
 pub const AF_XDP: u8 = 44;

@@ -1,13 +1,11 @@
-//! The reply about one XDP socket.
+//! The header of a reply about one XDP socket.
 
 ghost use Rattle.std.proofs.Common.{rules};
 ghost use Rattle.netlink_core.proofs.LayoutLaws.{record_laws};
 ghost use Rattle.sock_diag_families.specs.XdpResponseHeader.{xdp_header};
 ghost use Rattle.sock_diag_families.specs.RecordLaws.{xdp_header_sound};
-ghost use Rattle.sock_diag_families.specs.WholeReplyLaws.{plain_replies_keep_laws};
 
 use super::AF_XDP;
-use crate::{FamilyHeader, WholeView};
 use byteorder::{ByteOrder, LittleEndian};
 use netlink_core::fields::{long_words_at, words_at};
 use netlink_core::{DecodeError, Exact, Record, RecordName};
@@ -24,12 +22,6 @@ pub struct XdpResponseHeader {
     /// What tells the socket from others of its inode, `xdiag_cookie`, at 8.
     pub cookie: u64,
 }
-
-/// The reply about one XDP socket, read in place.
-///
-/// Of `parse`, fewer than 16 bytes are `BufferTooSmall`; else the first fault of an attribute is
-/// told.
-pub type XdpResponseView<'a> = WholeView<'a, XdpResponseHeader>;
 
 impl Exact for XdpResponseHeader {
     ghost exact = { Prim.search rules };
@@ -73,10 +65,4 @@ impl Record for XdpResponseHeader {
     }
 
     ghost laws = { record_laws xdp_header xdp_header_sound };
-}
-
-impl FamilyHeader for XdpResponseHeader {
-    const NAME: &'static str = "XdpResponseView";
-
-    ghost keeps = { plain_replies_keep_laws xdp_header_sound };
 }

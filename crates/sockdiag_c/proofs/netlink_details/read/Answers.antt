@@ -1,7 +1,7 @@
 use Rattle.std.proofs.Common.{◌∙◌, List, ℕ, ap, option_map}
 use Rattle.sock_diag_replies.specs.ViewModel.{view_model}
 use Rattle.sock_diag_families.specs.NetlinkResponseHeader.{netlink_header}
-use Rattle.sock_diag_families.specs.WholeReply.{whole_reply}
+use Rattle.sock_diag_any.specs.WholeReply.{whole_reply}
 use Rattle.sockdiag_c.specs.NetlinkDetails.{netlink_faults}
 use Rattle.sockdiag_c.proofs.ValueFaults.{at_first, behind, of_read, value_refused}
 use Rattle.sockdiag_c.proofs.netlink_details.read.Goals as goal

@@ -1,6 +1,6 @@
 use Rattle.sock_diag_replies.specs.ViewModel.{view_model}
 use Rattle.sock_diag_families.specs.XdpResponseHeader.{xdp_header}
-use Rattle.sock_diag_families.specs.WholeReply.{whole_reply}
+use Rattle.sock_diag_any.specs.WholeReply.{whole_reply}
 use Rattle.sockdiag_c.specs.XdpDetails.{xdp_faults}
 use Rattle.sockdiag_c.proofs.ValueFaults.{at_first, behind, of_read, value_refused}
 use Rattle.sockdiag_c.proofs.xdp_details.read.Goals as goal

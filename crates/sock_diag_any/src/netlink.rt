@@ -1,4 +1,4 @@
-//! What the attributes of a reply about a netlink socket tell.
+//! Replies about netlink sockets, read in place.
 
 ghost use Rattle.std.specs.Prelude.{◌≡◌, option_map};
 ghost use Rattle.netlink_core.specs.Layout.{read};
@@ -6,12 +6,28 @@ ghost use Rattle.netlink_core.specs.Parse.{exact_number};
 ghost use Rattle.sock_diag_values.specs.MemInfo.{mem_info};
 ghost use Rattle.sock_diag_replies.specs.ViewModel.{view_model};
 ghost use Rattle.sock_diag_families.specs.Found.{first_value, within};
+ghost use Rattle.sock_diag_families.specs.RecordLaws.{netlink_header_sound};
+ghost use Rattle.sock_diag_any.specs.WholeReplyLaws.{plain_replies_keep_laws};
 
-use super::{NETLINK_DIAG_FLAGS, NETLINK_DIAG_GROUPS, NETLINK_DIAG_MEMINFO, NetlinkResponseView};
-use crate::WholeAttributes;
 use crate::attributes::value_in;
+use crate::{FamilyHeader, WholeAttributes, WholeView};
 use netlink_core::DecodeError;
+use sock_diag_families::netlink::{
+    NETLINK_DIAG_FLAGS, NETLINK_DIAG_GROUPS, NETLINK_DIAG_MEMINFO, NetlinkResponseHeader,
+};
 use sock_diag_values::inet::MemInfo;
+
+/// The reply about one netlink socket, read in place.
+///
+/// Of `parse`, fewer than 28 bytes are `BufferTooSmall`; else the first fault of an attribute is
+/// told.
+pub type NetlinkResponseView<'a> = WholeView<'a, NetlinkResponseHeader>;
+
+impl FamilyHeader for NetlinkResponseHeader {
+    const NAME: &'static str = "NetlinkResponseView";
+
+    ghost keeps = { plain_replies_keep_laws netlink_header_sound };
+}
 
 /// The memory of the socket, `NETLINK_DIAG_MEMINFO`.
 pub fn memory(reply: &NetlinkResponseView<'_>) -> Result<Option<MemInfo>, DecodeError>

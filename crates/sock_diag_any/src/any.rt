@@ -2,12 +2,14 @@
 
 ghost use Rattle.std.specs.Prelude.{◌≡◌, IfOk, IfErr};
 
+use crate::netlink::NetlinkResponseView;
+use crate::packet::PacketResponseView;
+use crate::vsock::VsockResponseView;
+use crate::xdp::XdpResponseView;
 use netlink_core::{DecodeError, Emitable};
 use netlink_packet_sock_diag::{AF_NETLINK, AF_PACKET, SOCK_DIAG_BY_FAMILY, SockDiagView};
-use sock_diag_families::netlink::NetlinkResponseView;
-use sock_diag_families::packet::PacketResponseView;
-use sock_diag_families::vsock::{AF_VSOCK, VsockResponseView};
-use sock_diag_families::xdp::{AF_XDP, XdpResponseView};
+use sock_diag_families::vsock::AF_VSOCK;
+use sock_diag_families::xdp::AF_XDP;
 
 /// A reply about a socket of any family that is read here or in the port, read in place.
 #[derive(Clone, Copy, Debug, PartialEq, Eq)]
@@ -25,7 +27,7 @@ pub enum AnySockDiagView<'a> {
 }
 
 impl<'a> AnySockDiagView<'a> {
-    ghost use Rattle.sock_diag_extras.specs.AnyMessage.{AnyReads, AnyRefuses, viewed_any};
+    ghost use Rattle.sock_diag_any.specs.AnyMessage.{AnyReads, AnyRefuses, viewed_any};
 
     /// Checks the whole of the bytes under a message type, and takes no memory. Under the type
     /// `SOCK_DIAG_BY_FAMILY` a first byte `AF_NETLINK`, `AF_PACKET`, `AF_VSOCK` or `AF_XDP` chooses
@@ -71,7 +73,7 @@ macro_rules! held {
 
 /// Writes the bytes of the reply's canonical form, and takes no memory.
 impl Emitable for AnySockDiagView<'_> {
-    ghost use Rattle.sock_diag_extras.specs.AnyMessage.{AnyFits, any_bytes, viewed_any};
+    ghost use Rattle.sock_diag_any.specs.AnyMessage.{AnyFits, any_bytes, viewed_any};
 
     ghost bytes = { λ v. any_bytes (viewed_any v) };
 

@@ -8,7 +8,7 @@ use Rattle.netlink_core.specs.Table.{Field}
 use Rattle.netlink_core.specs.declared.fault.RecordName.{RecordName}
 use Rattle.netlink_core.proofs.Responses.{responses_keep_laws}
 use Rattle.sock_diag_replies.specs.HeaderLaws.{response_laws}
-use Rattle.sock_diag_families.specs.WholeReply.{whole_reply}
+use Rattle.sock_diag_any.specs.WholeReply.{whole_reply}
 
 -- a reply whose header has one table
 pub plain_replies_keep_laws : {Value : Type 0} {name : RecordName} {size : ℕ} {fields : List Field}

@@ -2,14 +2,13 @@
 
 ghost use Rattle.std.specs.Prelude.{◌≡◌, List, option_map};
 ghost use Rattle.netlink_core.specs.Attribute.{Attribute};
-ghost use Rattle.netlink_core.specs.Faults.{map_ok};
 ghost use Rattle.netlink_core.specs.Layout.{read};
 ghost use Rattle.netlink_core.specs.Parse.{exact_number};
 ghost use Rattle.sock_diag_replies.specs.ViewModel.{view_model};
-ghost use Rattle.sock_diag_families.specs.Found.{first_value, enough, within};
+ghost use Rattle.sock_diag_families.specs.Found.{first_value, within};
 
 use crate::{FamilyHeader, WholeView};
-use netlink_core::{DecodeError, Record, RecordName, parse_u32, read_record};
+use netlink_core::{DecodeError, Record, parse_u32, read_record};
 
 /// The attributes of a reply, of which each getter takes the first of a kind, whatever its flag
 /// bits. None takes memory.
@@ -42,18 +41,6 @@ pub trait WholeAttributes {
             None => Ok(None),
         }
     }
-
-    /// The value, where it has at least so many bytes. Fewer are `BufferTooSmall`, which names the
-    /// attribute by this family and the kind.
-    fn enough_of(&self, family: u8, kind: u16, need: usize) -> Result<Option<&[u8]>, DecodeError>
-        ensures { map_ok (option_map (λ value. value.now)) result
-            ≡ within (enough family kind need) (first_value kind (attributes self.now)) }
-    {
-        match self.value_of(kind) {
-            Some(value) => Ok(Some(enough_in(value, family, kind, need)?)),
-            None => Ok(None),
-        }
-    }
 }
 
 impl<H: FamilyHeader> WholeAttributes for WholeView<'_, H> {
@@ -62,25 +49,6 @@ impl<H: FamilyHeader> WholeAttributes for WholeView<'_, H> {
     fn value_of(&self, kind: u16) -> Option<&[u8]> {
         value_in(self, kind)
     }
-}
-
-// The value of an attribute, where it has at least so many bytes.
-pub(crate) fn enough_in(
-    value: &[u8],
-    family: u8,
-    kind: u16,
-    need: usize,
-) -> Result<&[u8], DecodeError>
-    ensures { map_ok (λ value. value.now) result ≡ enough family kind need value.entry.now }
-{
-    if value.len() < need {
-        return Err(DecodeError::BufferTooSmall {
-            which: RecordName::FamilyAttribute { family, kind },
-            got: value.len(),
-            need,
-        });
-    }
-    Ok(value)
 }
 
 // The value of the first attribute of the kind. It is there as long as the reply's bytes are.

@@ -10,10 +10,10 @@ use Rattle.netlink_packet_sock_diag.specs.MessageViewModel.{message_view_model}
 use Rattle.sock_diag_families.specs.NetlinkResponseHeader.{netlink_header}
 use Rattle.sock_diag_families.specs.PacketResponseHeader.{packet_header}
 use Rattle.sock_diag_families.specs.VsockResponseHeader.{vsock_header}
-use Rattle.sock_diag_families.specs.WholeReply.{whole_reply}
+use Rattle.sock_diag_any.specs.WholeReply.{whole_reply}
 use Rattle.sock_diag_families.specs.XdpResponseHeader.{xdp_header}
-use Rattle.sock_diag_extras.specs.declared.any.AnySockDiagView.{AnySockDiagView}
-use Rattle.sock_diag_extras.specs.declared.any.AnySockDiagView.TheVariants as view
+use Rattle.sock_diag_any.specs.declared.any.AnySockDiagView.{AnySockDiagView}
+use Rattle.sock_diag_any.specs.declared.any.AnySockDiagView.TheVariants as view
 
 -- the families beside the port's
 pub data OtherFamily : Type 0 where

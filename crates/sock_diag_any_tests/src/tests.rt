@@ -2,10 +2,13 @@
 //! worked out by hand from the kernel's headers, as are the requests.
 
 use netlink_core::{DecodeError, Emitable, write_new};
-use sock_diag_families::netlink::{self, NetlinkRequest, NetlinkResponseView};
-use sock_diag_families::packet::{self, PacketResponseView};
-use sock_diag_families::vsock::{VsockRequest, VsockResponseView};
-use sock_diag_families::xdp::{self, XdpResponseView};
+use sock_diag_any::AnySockDiagView;
+use sock_diag_any::netlink::{self, NetlinkResponseView};
+use sock_diag_any::packet::{self, PacketResponseView};
+use sock_diag_any::vsock::VsockResponseView;
+use sock_diag_any::xdp::{self, XdpResponseView};
+use sock_diag_families::netlink::NetlinkRequest;
+use sock_diag_families::vsock::VsockRequest;
 use std::alloc::Global;
 use std::fmt::Debug;
 use std::process::Abort;
@@ -108,4 +111,26 @@ fn what_the_headers_say(rt: HostRuntime) -> Result<(), Fail> {
     };
     let row = "10ff0000000000000b0000000000000000000000";
     writes(&rt, alloc, &netlink, row)
+}
+
+#[test]
+fn of_any_family(rt: HostRuntime) -> Result<(), Fail> {
+    let alloc = rt.alloc();
+    for row in [
+        NETLINK,
+        PACKET,
+        VSOCK,
+        XDP,
+        "01010a000e4f0000a002000000000000",
+    ] {
+        let bytes = hex::decode(alloc, row)?;
+        writes(&rt, alloc, &AnySockDiagView::parse(&bytes, 20)?, row)?;
+    }
+    let cut = "FamilyResponseHeader { family: 16 }: buffer of 5 bytes, at least 28 needed";
+    for (row, text) in [("1003000701", cut), ("1d03", "unknown address family 29")] {
+        let bytes = hex::decode(alloc, row)?;
+        let fault = AnySockDiagView::parse(&bytes, 20).err().ok_or("read")?;
+        assert!(&rt; format!(in alloc; "{fault}")?.as_str() == text, "{row}");
+    }
+    Ok(())
 }

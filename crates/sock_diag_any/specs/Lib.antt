@@ -1,0 +1,3 @@
+pub mod WholeReply
+pub mod WholeReplyLaws
+pub mod AnyMessage

@@ -1,0 +1,15 @@
+//! Replies about sockets of any family, read in place: those of the port, and those about vsock,
+//! netlink, packet and XDP sockets, whose attributes are kept whole.
+#![tactic(auto)]
+
+mod any;
+mod attributes;
+pub mod netlink;
+pub mod packet;
+pub mod vsock;
+mod whole;
+pub mod xdp;
+
+pub use any::AnySockDiagView;
+pub use attributes::WholeAttributes;
+pub use whole::{FamilyHeader, Whole, WholeView};

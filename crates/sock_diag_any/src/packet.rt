@@ -1,0 +1,106 @@
+//! Replies about packet sockets, read in place.
+
+ghost use Rattle.std.specs.Prelude.{◌≡◌, option_map};
+ghost use Rattle.netlink_core.specs.Layout.{read};
+ghost use Rattle.netlink_core.specs.Parse.{exact_number};
+ghost use Rattle.sock_diag_values.specs.MemInfo.{mem_info};
+ghost use Rattle.sock_diag_replies.specs.ViewModel.{view_model};
+ghost use Rattle.sock_diag_families.specs.Found.{first_value, within};
+ghost use Rattle.sock_diag_families.specs.PacketAttributes.{packet_info, packet_ring};
+ghost use Rattle.sock_diag_families.specs.RecordLaws.{packet_header_sound};
+ghost use Rattle.sock_diag_any.specs.WholeReplyLaws.{plain_replies_keep_laws};
+
+use crate::attributes::value_in;
+use crate::{FamilyHeader, WholeAttributes, WholeView};
+use netlink_core::DecodeError;
+use sock_diag_families::packet::{
+    PACKET_DIAG_FANOUT, PACKET_DIAG_FILTER, PACKET_DIAG_INFO, PACKET_DIAG_MCLIST,
+    PACKET_DIAG_MEMINFO, PACKET_DIAG_RX_RING, PACKET_DIAG_TX_RING, PACKET_DIAG_UID, PacketInfo,
+    PacketResponseHeader, PacketRing,
+};
+use sock_diag_values::inet::MemInfo;
+
+/// The reply about one packet socket, read in place.
+///
+/// Of `parse`, fewer than 16 bytes are `BufferTooSmall`; else the first fault of an attribute is
+/// told.
+pub type PacketResponseView<'a> = WholeView<'a, PacketResponseHeader>;
+
+impl FamilyHeader for PacketResponseHeader {
+    const NAME: &'static str = "PacketResponseView";
+
+    ghost keeps = { plain_replies_keep_laws packet_header_sound };
+}
+
+// The ring that an attribute of this kind tells.
+fn ring(reply: &PacketResponseView<'_>, kind: u16) -> Result<Option<PacketRing>, DecodeError>
+    ensures { result ≡ within (packet_ring kind) (first_value kind (view_model reply.now).nlas) }
+{
+    match reply.value_of(kind) {
+        Some(value) => Ok(Some(PacketRing::parse(value, kind)?)),
+        None => Ok(None),
+    }
+}
+
+/// What the socket is set to, `PACKET_DIAG_INFO`. Fewer than 24 bytes are `BufferTooSmall`.
+pub fn info(reply: &PacketResponseView<'_>) -> Result<Option<PacketInfo>, DecodeError>
+    ensures { result ≡ within packet_info (first_value 0 (view_model reply.now).nlas) }
+{
+    match reply.value_of(PACKET_DIAG_INFO) {
+        Some(value) => Ok(Some(PacketInfo::parse(value)?)),
+        None => Ok(None),
+    }
+}
+
+/// The addresses that the socket receives beside its interface's, `PACKET_DIAG_MCLIST`: 44
+/// bytes each, `struct packet_diag_mclist`.
+pub fn addresses<'a>(reply: &PacketResponseView<'a>) -> Option<&'a [u8]>
+    ensures { option_map (λ value. value.now) result
+        ≡ first_value 1 (view_model reply.now).nlas }
+{
+    value_in(reply, PACKET_DIAG_MCLIST)
+}
+
+/// The ring for what is received, `PACKET_DIAG_RX_RING`. Fewer than 28 bytes are
+/// `BufferTooSmall`.
+pub fn receive_ring(reply: &PacketResponseView<'_>) -> Result<Option<PacketRing>, DecodeError>
+    ensures { result ≡ within (packet_ring 2) (first_value 2 (view_model reply.now).nlas) }
+{
+    ring(reply, PACKET_DIAG_RX_RING)
+}
+
+/// The ring for what is sent, `PACKET_DIAG_TX_RING`. Fewer than 28 bytes are `BufferTooSmall`.
+pub fn send_ring(reply: &PacketResponseView<'_>) -> Result<Option<PacketRing>, DecodeError>
+    ensures { result ≡ within (packet_ring 3) (first_value 3 (view_model reply.now).nlas) }
+{
+    ring(reply, PACKET_DIAG_TX_RING)
+}
+
+/// The number of the fanout, and its way in the high 16 bits, `PACKET_DIAG_FANOUT`.
+pub fn fanout(reply: &PacketResponseView<'_>) -> Result<Option<u32>, DecodeError>
+    ensures { result ≡ within (exact_number None 4) (first_value 4 (view_model reply.now).nlas) }
+{
+    reply.number_of(PACKET_DIAG_FANOUT)
+}
+
+/// The user who owns the socket, `PACKET_DIAG_UID`.
+pub fn owner(reply: &PacketResponseView<'_>) -> Result<Option<u32>, DecodeError>
+    ensures { result ≡ within (exact_number None 4) (first_value 5 (view_model reply.now).nlas) }
+{
+    reply.number_of(PACKET_DIAG_UID)
+}
+
+/// The memory of the socket, `PACKET_DIAG_MEMINFO`.
+pub fn memory(reply: &PacketResponseView<'_>) -> Result<Option<MemInfo>, DecodeError>
+    ensures { result ≡ within (read mem_info tt) (first_value 6 (view_model reply.now).nlas) }
+{
+    reply.record_of(PACKET_DIAG_MEMINFO)
+}
+
+/// The steps of the filter, `PACKET_DIAG_FILTER`: 8 bytes each, `struct sock_filter`.
+pub fn filter<'a>(reply: &PacketResponseView<'a>) -> Option<&'a [u8]>
+    ensures { option_map (λ value. value.now) result
+        ≡ first_value 7 (view_model reply.now).nlas }
+{
+    value_in(reply, PACKET_DIAG_FILTER)
+}

@@ -1,0 +1,90 @@
+//! Replies about XDP sockets, read in place.
+
+ghost use Rattle.std.specs.Prelude.{◌≡◌};
+ghost use Rattle.netlink_core.specs.Layout.{read};
+ghost use Rattle.netlink_core.specs.Parse.{exact_number};
+ghost use Rattle.sock_diag_values.specs.MemInfo.{mem_info};
+ghost use Rattle.sock_diag_replies.specs.ViewModel.{view_model};
+ghost use Rattle.sock_diag_families.specs.Found.{first_value, within};
+ghost use Rattle.sock_diag_families.specs.XdpAttributes.{xdp_info, xdp_umem, xdp_statistics};
+ghost use Rattle.sock_diag_families.specs.RecordLaws.{xdp_header_sound};
+ghost use Rattle.sock_diag_any.specs.WholeReplyLaws.{plain_replies_keep_laws};
+
+use crate::{FamilyHeader, WholeAttributes, WholeView};
+use netlink_core::DecodeError;
+use sock_diag_families::xdp::{
+    XDP_DIAG_INFO, XDP_DIAG_MEMINFO, XDP_DIAG_RX_RING, XDP_DIAG_STATS, XDP_DIAG_TX_RING,
+    XDP_DIAG_UID, XDP_DIAG_UMEM, XdpInfo, XdpResponseHeader, XdpStatistics, XdpUmem,
+};
+use sock_diag_values::inet::MemInfo;
+
+/// The reply about one XDP socket, read in place.
+///
+/// Of `parse`, fewer than 16 bytes are `BufferTooSmall`; else the first fault of an attribute is
+/// told.
+pub type XdpResponseView<'a> = WholeView<'a, XdpResponseHeader>;
+
+impl FamilyHeader for XdpResponseHeader {
+    const NAME: &'static str = "XdpResponseView";
+
+    ghost keeps = { plain_replies_keep_laws xdp_header_sound };
+}
+
+/// Where the socket is bound, `XDP_DIAG_INFO`. Fewer than 8 bytes are `BufferTooSmall`.
+pub fn info(reply: &XdpResponseView<'_>) -> Result<Option<XdpInfo>, DecodeError>
+    ensures { result ≡ within xdp_info (first_value 1 (view_model reply.now).nlas) }
+{
+    match reply.value_of(XDP_DIAG_INFO) {
+        Some(value) => Ok(Some(XdpInfo::parse(value)?)),
+        None => Ok(None),
+    }
+}
+
+/// The user who owns the socket, `XDP_DIAG_UID`.
+pub fn owner(reply: &XdpResponseView<'_>) -> Result<Option<u32>, DecodeError>
+    ensures { result ≡ within (exact_number None 4) (first_value 2 (view_model reply.now).nlas) }
+{
+    reply.number_of(XDP_DIAG_UID)
+}
+
+/// How many entries the ring for what is received has, `XDP_DIAG_RX_RING`.
+pub fn receive_ring(reply: &XdpResponseView<'_>) -> Result<Option<u32>, DecodeError>
+    ensures { result ≡ within (exact_number None 4) (first_value 3 (view_model reply.now).nlas) }
+{
+    reply.number_of(XDP_DIAG_RX_RING)
+}
+
+/// How many the ring for what is sent has, `XDP_DIAG_TX_RING`.
+pub fn send_ring(reply: &XdpResponseView<'_>) -> Result<Option<u32>, DecodeError>
+    ensures { result ≡ within (exact_number None 4) (first_value 4 (view_model reply.now).nlas) }
+{
+    reply.number_of(XDP_DIAG_TX_RING)
+}
+
+/// The memory that the socket shares, `XDP_DIAG_UMEM`. Fewer than 40 bytes are
+/// `BufferTooSmall`.
+pub fn shared_memory(reply: &XdpResponseView<'_>) -> Result<Option<XdpUmem>, DecodeError>
+    ensures { result ≡ within xdp_umem (first_value 5 (view_model reply.now).nlas) }
+{
+    match reply.value_of(XDP_DIAG_UMEM) {
+        Some(value) => Ok(Some(XdpUmem::parse(value)?)),
+        None => Ok(None),
+    }
+}
+
+/// The memory of the socket, `XDP_DIAG_MEMINFO`.
+pub fn memory(reply: &XdpResponseView<'_>) -> Result<Option<MemInfo>, DecodeError>
+    ensures { result ≡ within (read mem_info tt) (first_value 8 (view_model reply.now).nlas) }
+{
+    reply.record_of(XDP_DIAG_MEMINFO)
+}
+
+/// What the socket counted, `XDP_DIAG_STATS`. Fewer than 48 bytes are `BufferTooSmall`.
+pub fn statistics(reply: &XdpResponseView<'_>) -> Result<Option<XdpStatistics>, DecodeError>
+    ensures { result ≡ within xdp_statistics (first_value 9 (view_model reply.now).nlas) }
+{
+    match reply.value_of(XDP_DIAG_STATS) {
+        Some(value) => Ok(Some(XdpStatistics::parse(value)?)),
+        None => Ok(None),
+    }
+}
