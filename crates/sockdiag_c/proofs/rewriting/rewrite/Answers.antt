@@ -1,16 +1,14 @@
 use Rattle.std.proofs.Common.{arith, inl}
-use Rattle.netlink_packet_sock_diag.specs.UnixResponseSpec.{unix_response_spec}
-use Rattle.netlink_packet_sock_diag.specs.UnixResponseSpecLaws.{unix_response_laws}
 use Rattle.netlink_packet_sock_diag.specs.ViewModel.{view_model}
 use Rattle.sockdiag_c.proofs.Alike.{canonical_where_written}
-use Rattle.sockdiag_c.proofs.rewriting.sockdiag_rewrite_unix_reply.Goals as goal
+use Rattle.sockdiag_c.proofs.rewriting.rewrite.Goals as goal
 
 pub returns-in-Ok-clause-rewrites : goal.returns-in-Ok-clause-rewrites
-returns-in-Ok-clause-rewrites c =
+returns-in-Ok-clause-rewrites g c =
     inl (view_model c.in-Ok.view, c.in-Ok.ensures.value, c.write_value.ensures)
 
 pub returns-in-Ok-clause-canonical : goal.returns-in-Ok-clause-canonical
-returns-in-Ok-clause-canonical c =
-    canonical_where_written unix_response_spec unix_response_laws c.args.payload.now
+returns-in-Ok-clause-canonical g c =
+    canonical_where_written g.H.ReplyHeader.reply g.met.H.ReplyHeader.keeps c.args.payload.now
     c.args.buffer.now _ _ _ _
     (λ i. omega (arith, c.type_inv.payload i)) c.in-Ok.ensures.value c.write_value.ensures
