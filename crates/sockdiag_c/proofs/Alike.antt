@@ -6,8 +6,6 @@ use Rattle.std.proofs.lemmas.List.{take_at}
 use Rattle.netlink_core.specs.Bytes.{IsBytes}
 use Rattle.netlink_core.specs.Codec.{Codec, KeepsLaws}
 use Rattle.netlink_core.specs.Response.{ResponseSpec, ValueOf, response_bytes, response_codec}
-use Rattle.netlink_core.specs.ShownLaws.{ResponseLaws}
-use Rattle.netlink_core.proofs.Responses.{responses_keep_laws}
 use Rattle.sockdiag_c.specs.declared.rewriting.Outcome.{Outcome}
 use Rattle.sockdiag_c.specs.Rewriting.{IsCanonical, Writes}
 
@@ -33,7 +31,7 @@ module _ {Param : Type 0} (C : Codec Param) (laws : KeepsLaws C) where
       )
 
 -- what was written of the value of a reply is its canonical form
-pub canonical_where_written : (R : ResponseSpec) → ResponseLaws R
+pub canonical_where_written : (R : ResponseSpec) → KeepsLaws (response_codec R)
     → (payload old new : List ℕ) (v : ValueOf R) (outcome : Outcome) (answer : ℕ) → IsBytes payload
     → (response_codec R).reads payload tt v
     → Writes ((response_codec R).fits v) (response_bytes R v) old new outcome answer
@@ -42,9 +40,7 @@ canonical_where_written R laws payload old new v outcome answer tb r (inl h) som
     let all = response_bytes R v in
     let front : take answer new ≡ all = ap (λ (n : ℕ). take n new) h.3 ∙ ap (take (length all)) h.4
     ∙ take_at all (drop (length all) old) (length all) refl in
-    let alike = written_alike (response_codec R) (responses_keep_laws R laws) payload d tt v w tb td
-    r s
-    h.0 fw in
+    let alike = written_alike (response_codec R) laws payload d tt v w tb td r s h.0 fw in
     (λ e. alike.0 (sym (e ∙ front)), λ i. sym (alike.1 i) ∙ sym front)
 canonical_where_written R laws payload old new v outcome answer tb r (inr (inl h)) some d w td s
     fw = absurd (omega (arith, h.3.0))

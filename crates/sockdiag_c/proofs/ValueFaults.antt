@@ -1,43 +1,44 @@
 -- The values of a reply, one behind the other, and their first fault.
-use Rattle.std.proofs.Common.{◌≡◌, ℕ, List, ◌∷◌, Option, Some, Result, Ok, Err, refl, subst, inr}
-use Rattle.std.proofs.Common.{IfErr}
-use Rattle.std.specs.Prelude.{IsOkAnd, IsErrAnd}
+use Rattle.std.proofs.Common.{◌≡◌, ◌∙◌, List, [], ◌∷◌, Option, Some, None, Result, Ok, refl, subst}
+use Rattle.std.proofs.Common.{sym}
+use Rattle.std.specs.Prelude.{IsOkAnd}
 use Rattle.std.specs.Result.{result_err}
-use Rattle.std.proofs.lemmas.Result.{err_from_is_err_and}
-use Rattle.netlink_core.specs.Response.{ResponseSpec, ValueOf, response_codec}
 use Rattle.netlink_core.specs.declared.fault.DecodeError.{DecodeError}
 use Rattle.sock_diag_replies.specs.UnixGetters.{first_of}
-use Rattle.sockdiag_c.specs.FamilyValues.{RefusesValue}
+use Rattle.sockdiag_c.specs.FirstNumberSteps.{first_of_two}
 
 -- what holds of a value that was read
-pub of_read : {A : Type 0} (P : A → Type 0) (r : Result A DecodeError) (x : A) → Ok x ≡ r → P x
-    → IsOkAnd r P
-of_read {A} P r x is holds = subst (λ (s : Result A DecodeError). IsOkAnd s P) is holds
+pub of_read : {A : Type 0} (P : A → Type 0) (r s : Result A DecodeError) (x : A) → s ≡ r → s ≡ Ok x
+    → P x → IsOkAnd r P
+of_read {A} P r s x is ok holds =
+    subst (λ (t : Result A DecodeError). IsOkAnd t P) (sym ok ∙ is) holds
 
 -- the first fault of these
 pub record FirstFault (faults : List (Option DecodeError)) (found : Option DecodeError)
     : Type 0 where
   pub is : first_of (λ (o : Option DecodeError). o) faults ≡ found
 
--- the first value is refused
-pub at_first : {A : Type 0} (r : Result A DecodeError) (e : DecodeError)
-    (later : List (Option DecodeError)) → Err e ≡ r → FirstFault (result_err r ∷ later) (Some e)
-at_first {A} r e later is =
-    subst (λ (s : Result A DecodeError). FirstFault (result_err s ∷ later) (Some e)) is
+-- the fault that was kept is the first
+pub last : (o : Option DecodeError) (e : DecodeError) → o ≡ Some e → FirstFault (o ∷ []) (Some e)
+last o e is = subst (λ (p : Option DecodeError). FirstFault (p ∷ []) (Some e)) (sym is)
     (record { is = refl })
 
--- the first is read, and one behind it is refused
-pub behind : {A : Type 0} (r : Result A DecodeError) (x : A) (later : List (Option DecodeError))
-    (found : Option DecodeError) → Ok x ≡ r → FirstFault later found
-    → FirstFault (result_err r ∷ later) found
-behind {A} r x later found is rest =
-    subst (λ (s : Result A DecodeError). FirstFault (result_err s ∷ later) found) is
-    (record { is = rest.is })
+-- it is that of what was kept before, and of this value
+pub before : {A : Type 0} (r s : Result A DecodeError) (old new : Option DecodeError)
+    (later : List (Option DecodeError)) (found : Option DecodeError) → s ≡ r
+    → new ≡ first_of_two old (result_err s) → FirstFault (new ∷ later) found
+    → FirstFault (old ∷ result_err r ∷ later) found
+before {A} r s old new later found is kept first =
+    subst (λ (t : Result A DecodeError). FirstFault (old ∷ result_err t ∷ later) found) is
+    (both old (subst (λ (o : Option DecodeError). FirstFault (o ∷ later) found) kept first))
+  where
+    both : (o : Option DecodeError) → FirstFault (first_of_two o (result_err s) ∷ later) found
+        → FirstFault (o ∷ result_err s ∷ later) found
+    both None given = record { is = given.is }
+    both (Some e) given = record { is = given.is }
 
--- so the reply is refused
-pub value_refused : {T : Type 0} (R : ResponseSpec) (faults : ValueOf R → List (Option DecodeError))
-    (payload : List ℕ) (result : Result T DecodeError) (e : DecodeError) (v : ValueOf R)
-    → IsErrAnd result (λ (y : DecodeError). y ≡ e) → (response_codec R).reads payload tt v
-    → FirstFault (faults v) (Some e) → IfErr result (RefusesValue R faults payload)
-value_refused R faults payload result e v is reads first =
-    let p = err_from_is_err_and result is in rw (p.1, p.2) (inr (v, reads, first.is))
+-- where none is kept, none was before
+pub none_before : {A : Type 0} (s : Result A DecodeError) (old new : Option DecodeError)
+    → new ≡ first_of_two old (result_err s) → new ≡ None → old ≡ None
+none_before s None new kept none = refl
+none_before s (Some e) new kept none = let no : Some e ≡ None = sym kept ∙ none in absurd cc

@@ -1,12 +1,15 @@
 //! What C is told of the attributes of netlink, packet and XDP sockets.
 
-ghost use Rattle.std.specs.Prelude.{◌≡◌, option_map};
+ghost use Rattle.std.specs.Prelude.{◌≡◌, None, Ok, option_map};
+ghost use Rattle.std.specs.Result.{result_err};
 ghost use Rattle.sockdiag_c.specs.Answers.{AnswersItem};
 ghost use Rattle.sockdiag_c.specs.Details.{number_of, text_of};
 ghost use Rattle.sockdiag_c.specs.FamilyValues.{memory_of};
+ghost use Rattle.sockdiag_c.specs.FirstNumberSteps.{first_of_two};
 
 use crate::details::{BYTES, NO_NUMBER, Number, Text};
 use crate::walks::{END, ITEM};
+use netlink_core::DecodeError;
 use sock_diag_values::inet::MemInfo;
 
 /// The memory of a netlink, packet or XDP socket: `struct sockdiag_memory` of
@@ -102,5 +105,29 @@ pub(crate) fn tell<T: Copy>(found: Option<T>, place: &mut T) -> u32
             ITEM
         }
         None => END,
+    }
+}
+
+/// The first fault of the values of a reply, where one is refused.
+#[derive(Drop)]
+pub(crate) struct Faults {
+    pub(crate) first: Option<DecodeError>,
+}
+
+impl Faults {
+    /// The value that was read. Where it is refused, and none was before, its fault is kept.
+    pub(crate) fn keep<T>(&mut self, found: Result<Option<T>, DecodeError>) -> Option<T>
+        ensures first { self.new.first ≡ first_of_two self.old.first (result_err found) }
+        ensures value { self.new.first ≡ None → found ≡ Ok result }
+    {
+        match found {
+            Ok(value) => value,
+            Err(fault) => {
+                if self.first.is_none() {
+                    self.first = Some(fault);
+                }
+                None
+            }
+        }
     }
 }

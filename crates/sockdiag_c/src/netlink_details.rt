@@ -10,7 +10,7 @@ ghost use Rattle.sockdiag_c.specs.NetlinkDetails.{IsNetlinkDetailsOf, netlink_fa
 
 use crate::check::OK;
 use crate::details::{Number, Text};
-use crate::family_values::Memory;
+use crate::family_values::{Faults, Memory};
 use netlink_core::DecodeError;
 use sock_diag_any::netlink::{self, NetlinkResponseView};
 use sock_diag_families::netlink::NetlinkResponseHeader;
@@ -64,14 +64,15 @@ fn read<'a>(payload: &'a [u8]) -> Result<NetlinkDetails<'a>, DecodeError>
         (RefusesValue (whole_reply netlink_header) netlink_faults payload.entry.now) }
 {
     let reply = NetlinkResponseView::parse(payload)?;
-    let header = reply.header().0;
-    let memory = Memory::from(netlink::memory(&reply)?);
-    let groups = Text::from(netlink::groups(&reply));
-    let flags = Number::from(netlink::flags(&reply)?);
-    Ok(NetlinkDetails {
-        header,
-        memory,
-        groups,
-        flags,
-    })
+    let mut seen = Faults { first: None };
+    let found = NetlinkDetails {
+        header: reply.header().0,
+        memory: Memory::from(seen.keep(netlink::memory(&reply))),
+        groups: Text::from(netlink::groups(&reply)),
+        flags: Number::from(seen.keep(netlink::flags(&reply))),
+    };
+    match seen.first {
+        Some(fault) => Err(fault),
+        None => Ok(found),
+    }
 }

@@ -10,7 +10,7 @@ ghost use Rattle.sockdiag_c.specs.PacketDetails.{IsPacketDetailsOf, packet_fault
 
 use crate::check::OK;
 use crate::details::{Number, Text};
-use crate::family_values::{Memory, tell};
+use crate::family_values::{Faults, Memory, tell};
 use netlink_core::DecodeError;
 use sock_diag_any::packet::{self, PacketResponseView};
 use sock_diag_families::packet::{PacketInfo, PacketResponseHeader, PacketRing};
@@ -78,15 +78,22 @@ fn read<'a>(payload: &'a [u8], old: &PacketDetails<'a>) -> Result<PacketDetails<
         (RefusesValue (whole_reply packet_header) packet_faults payload.entry.now) }
 {
     let reply = PacketResponseView::parse(payload)?;
+    let mut seen = Faults { first: None };
     let mut found = *old;
     found.header = reply.header().0;
-    found.has_info = tell(packet::info(&reply)?, &mut found.info);
+    found.has_info = tell(seen.keep(packet::info(&reply)), &mut found.info);
     found.addresses = Text::from(packet::addresses(&reply));
-    found.has_receive_ring = tell(packet::receive_ring(&reply)?, &mut found.receive_ring);
-    found.has_send_ring = tell(packet::send_ring(&reply)?, &mut found.send_ring);
-    found.fanout = Number::from(packet::fanout(&reply)?);
-    found.owner = Number::from(packet::owner(&reply)?);
-    found.memory = Memory::from(packet::memory(&reply)?);
+    found.has_receive_ring = tell(
+        seen.keep(packet::receive_ring(&reply)),
+        &mut found.receive_ring,
+    );
+    found.has_send_ring = tell(seen.keep(packet::send_ring(&reply)), &mut found.send_ring);
+    found.fanout = Number::from(seen.keep(packet::fanout(&reply)));
+    found.owner = Number::from(seen.keep(packet::owner(&reply)));
+    found.memory = Memory::from(seen.keep(packet::memory(&reply)));
     found.filter = Text::from(packet::filter(&reply));
-    Ok(found)
+    match seen.first {
+        Some(fault) => Err(fault),
+        None => Ok(found),
+    }
 }

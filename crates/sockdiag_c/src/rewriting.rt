@@ -8,8 +8,9 @@ ghost use Rattle.sock_diag_replies.specs.UnixResponseSpec.{unix_response_spec};
 ghost use Rattle.sockdiag_c.specs.Rewriting.{IsCanonical, Rewrites, Writes, outcome_of};
 
 use netlink_core::{DecodeError, Emitable};
-use netlink_packet_sock_diag::inet::InetResponseView;
-use netlink_packet_sock_diag::unix::UnixResponseView;
+use netlink_packet_sock_diag::inet::InetResponseHeader;
+use netlink_packet_sock_diag::unix::UnixResponseHeader;
+use netlink_packet_sock_diag::{ReplyHeader, ReplyView};
 
 /// What became of bytes that were given to be written: `struct sockdiag_outcome` of
 /// `include/sockdiag.h`.
@@ -38,10 +39,7 @@ pub extern "C" fn sockdiag_rewrite_unix_reply(
         buffer.old buffer.new outcome.new result }
     ensures canonical { IsCanonical unix_response_spec payload.now buffer.new result }
 {
-    match UnixResponseView::parse(payload) {
-        Ok(view) => write_value(&view, buffer, outcome),
-        Err(fault) => refuse(&fault, outcome),
-    }
+    rewrite::<UnixResponseHeader>(payload, buffer, outcome)
 }
 
 /// The same of a reply about an IPv4 or IPv6 socket.
@@ -58,7 +56,19 @@ pub extern "C" fn sockdiag_rewrite_inet_reply(
         buffer.old buffer.new outcome.new result }
     ensures canonical { IsCanonical inet_response_spec payload.now buffer.new result }
 {
-    match InetResponseView::parse(payload) {
+    rewrite::<InetResponseHeader>(payload, buffer, outcome)
+}
+
+// Writes the canonical form of a reply with this header.
+fn rewrite<H: ReplyHeader>(payload: &[u8], buffer: &mut [u8], outcome: &mut Outcome) -> usize
+    ensures rewrites { Rewrites ((response_codec H.reply).reads payload.now tt)
+        ((response_codec H.reply).refuses payload.now tt)
+        (response_codec H.reply).fits
+        (response_bytes H.reply)
+        buffer.old buffer.new outcome.new result }
+    ensures canonical { IsCanonical H.reply payload.now buffer.new result }
+{
+    match ReplyView::<H>::parse(payload) {
         Ok(view) => write_value(&view, buffer, outcome),
         Err(fault) => refuse(&fault, outcome),
     }

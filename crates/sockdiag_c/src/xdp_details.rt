@@ -10,7 +10,7 @@ ghost use Rattle.sockdiag_c.specs.XdpDetails.{IsXdpDetailsOf, xdp_faults};
 
 use crate::check::OK;
 use crate::details::Number;
-use crate::family_values::{Memory, tell};
+use crate::family_values::{Faults, Memory, tell};
 use netlink_core::DecodeError;
 use sock_diag_any::WholeAttributes;
 use sock_diag_any::xdp::{self, XdpResponseView};
@@ -78,16 +78,20 @@ fn read(payload: &[u8], old: &XdpDetails) -> Result<XdpDetails, DecodeError>
     ensures fault { IfErr result (RefusesValue (whole_reply xdp_header) xdp_faults payload.now) }
 {
     let reply = XdpResponseView::parse(payload)?;
+    let mut seen = Faults { first: None };
     let mut found = *old;
     found.header = reply.header().0;
-    found.has_info = tell(xdp::info(&reply)?, &mut found.info);
-    found.owner = Number::from(xdp::owner(&reply)?);
-    found.receive_ring = Number::from(xdp::receive_ring(&reply)?);
-    found.send_ring = Number::from(xdp::send_ring(&reply)?);
-    found.has_umem = tell(xdp::shared_memory(&reply)?, &mut found.umem);
-    found.fill_ring = Number::from(reply.number_of(XDP_DIAG_UMEM_FILL_RING)?);
-    found.completion_ring = Number::from(reply.number_of(XDP_DIAG_UMEM_COMPLETION_RING)?);
-    found.memory = Memory::from(xdp::memory(&reply)?);
-    found.has_statistics = tell(xdp::statistics(&reply)?, &mut found.statistics);
-    Ok(found)
+    found.has_info = tell(seen.keep(xdp::info(&reply)), &mut found.info);
+    found.owner = Number::from(seen.keep(xdp::owner(&reply)));
+    found.receive_ring = Number::from(seen.keep(xdp::receive_ring(&reply)));
+    found.send_ring = Number::from(seen.keep(xdp::send_ring(&reply)));
+    found.has_umem = tell(seen.keep(xdp::shared_memory(&reply)), &mut found.umem);
+    found.fill_ring = Number::from(seen.keep(reply.number_of(XDP_DIAG_UMEM_FILL_RING)));
+    found.completion_ring = Number::from(seen.keep(reply.number_of(XDP_DIAG_UMEM_COMPLETION_RING)));
+    found.memory = Memory::from(seen.keep(xdp::memory(&reply)));
+    found.has_statistics = tell(seen.keep(xdp::statistics(&reply)), &mut found.statistics);
+    match seen.first {
+        Some(fault) => Err(fault),
+        None => Ok(found),
+    }
 }
