@@ -1,9 +1,10 @@
 //! The bytes are worked out by hand from the layouts of sock_diag(7) and netlink(7).
 
+ghost use Rattle.std.specs.Iterator.{IsFinite};
+
 use std::alloc::Global;
 use std::fmt::Debug;
 use std::process::Abort;
-use std::test::Fail;
 
 mod hostile;
 mod read_twice;
@@ -42,19 +43,32 @@ const SHUTDOWN: &str = "0500080000000000";
 const ZEROS: &str = "00000000000000000000000000000000";
 
 /// The bytes that these digits stand for, in a row.
-fn bytes(alloc: Global, parts: &[&str]) -> Result<Vec<u8>, Fail> {
-    Ok(hex::decode(alloc, parts.concat(alloc)?.as_str())?)
+fn bytes(rt: &impl Abort, alloc: Global, parts: &[&str]) -> Vec<u8> {
+    let digits = parts.concat(alloc).expect(rt, "memory");
+    hex::decode(alloc, digits.as_str()).expect(rt, "digits")
 }
 
 /// The bytes and the text of a row: behind a front the bytes' digits, and behind a space the text.
-fn cells<'a>(alloc: Global, front: &str, row: &'a str) -> Result<(Vec<u8>, &'a str), Fail> {
-    let (digits, text) = row.split_once(' ').ok_or("no text")?;
-    Ok((bytes(alloc, &[front, digits])?, text))
+fn cells<'a>(rt: &impl Abort, alloc: Global, front: &str, row: &'a str) -> (Vec<u8>, &'a str) {
+    let (digits, text) = row.split_once(' ').expect(rt, "a text");
+    (bytes(rt, alloc, &[front, digits]), text)
 }
 
 /// What `Debug` shows of the value has this part.
-fn shows<T: Debug>(rt: &impl Abort, alloc: Global, value: &T, part: &str) -> Result<(), Fail> {
-    let shown = format!(in alloc; "{value:?}")?;
+fn shows<T: Debug>(rt: &impl Abort, alloc: Global, value: &T, part: &str) {
+    let shown = format!(in alloc; "{value:?}").expect(rt, "memory");
     assert!(rt; shown.contains(part), "{shown}");
-    Ok(())
+}
+
+/// The answers of the walk, one after the other, are shown like this.
+fn gives<I: Iterator + Drop>(rt: &impl Abort, alloc: Global, walk: I, text: &str)
+where
+    I::Item: Debug + Drop,
+    requires { I.can_next walk × IsFinite (I.remaining walk) }
+{
+    let mut answers = Vec::new(alloc);
+    for answer in walk {
+        answers.push(answer).expect(rt, "memory");
+    }
+    shows(rt, alloc, &answers, text);
 }

@@ -2,7 +2,6 @@ use sock_diag_captures::{ByteOrder, CaptureError, HEADING, Options, RunError, ru
 use std::alloc::Global;
 use std::io::{self, ErrorKind, Write};
 use std::process::Abort;
-use std::test::Fail;
 
 /// A reply about an IPv6 socket in TIME-WAIT: `[fe80::1]` and interface 3, port 22, to
 /// `[2001:db8::ff]`, port 40000.
@@ -31,39 +30,43 @@ const SOCK_DIAG: &str = "00040338000000000000000000000004";
 
 const OTHER: &str = "00040338000000000000000000000000";
 
+/// The bytes that these digits stand for, in a row.
+fn decoded(rt: &impl Abort, alloc: Global, parts: &[&str]) -> Vec<u8> {
+    let digits = parts.concat(alloc).expect(rt, "memory");
+    hex::decode(alloc, digits.as_str()).expect(rt, "digits")
+}
+
 /// Adds a packet, whose header and datagram are given in hex, and whose length in this order.
 fn push_packet(
+    rt: &impl Abort,
     alloc: Global,
     capture: &mut Vec<u8>,
     order: ByteOrder,
     digits: &[&str],
-) -> Result<(), Fail> {
-    let bytes = hex::decode(alloc, digits.concat(alloc)?.as_str())?;
-    let length = u32::try_from(bytes.len())
-        .ok()
-        .ok_or("a datagram that is too long")?;
+) {
+    let bytes = decoded(rt, alloc, digits);
+    let length = u32::try_from(bytes.len()).expect(rt, "a short datagram");
     for word in [7, 9, length, 0] {
         let word: [u8; 4] = match order {
             ByteOrder::LowFirst => word.to_le_bytes(),
             ByteOrder::HighFirst => word.to_be_bytes(),
         };
-        capture.extend_from_slice(&word)?;
+        capture.extend_from_slice(&word).expect(rt, "memory");
     }
-    capture.extend_from_slice(&bytes)?;
-    Ok(())
+    capture.extend_from_slice(&bytes).expect(rt, "memory");
 }
 
 /// A capture with this header, which begins with `a` where numbers have their high byte first.
-fn captured(alloc: Global, header: &str, packets: &[[&str; 2]]) -> Result<Vec<u8>, Fail> {
-    let mut capture = hex::decode(alloc, header)?;
+fn captured(rt: &impl Abort, alloc: Global, header: &str, packets: &[[&str; 2]]) -> Vec<u8> {
+    let mut capture = decoded(rt, alloc, &[header]);
     let order = match header.starts_with('a') {
         true => ByteOrder::HighFirst,
         false => ByteOrder::LowFirst,
     };
     for digits in packets {
-        push_packet(alloc, &mut capture, order, digits)?;
+        push_packet(rt, alloc, &mut capture, order, digits);
     }
-    Ok(capture)
+    capture
 }
 
 /// The header of a capture in both orders and under both magic numbers.
@@ -118,8 +121,8 @@ fn lists(
     capture: &[u8],
     want: Result<bool, RunError>,
     lines: Option<&[&str]>,
-) -> Result<(), Fail> {
-    lists_by(rt, alloc, Options::default(), capture, want, lines)
+) {
+    lists_by(rt, alloc, Options::default(), capture, want, lines);
 }
 
 /// The same under options.
@@ -130,18 +133,19 @@ fn lists_by(
     capture: &[u8],
     want: Result<bool, RunError>,
     lines: Option<&[&str]>,
-) -> Result<(), Fail> {
+) {
     let mut input = capture;
     let (mut output, mut errors) = (taker(alloc), taker(alloc));
     let outcome = run(alloc, options, NAME, &mut input, &mut output, &mut errors);
     assert!(rt; outcome == want, "{outcome:?}");
     assert!(rt; errors.taken.is_empty() && (output.is_flushed || want.is_err()));
     if let Some(lines) = lines {
-        let mut table = Vec::from_slice(alloc, HEADING)?;
-        table.extend_from_slice(lines.concat(alloc)?.as_bytes())?;
+        let mut table = Vec::from_slice(alloc, HEADING).expect(rt, "memory");
+        table
+            .extend_from_slice(lines.concat(alloc).expect(rt, "memory").as_bytes())
+            .expect(rt, "memory");
         assert!(rt; output.taken.as_slice() == table.as_slice());
     }
-    Ok(())
 }
 
 const INET6_LINE: &str =
@@ -153,7 +157,7 @@ const UNIX_LINE: &str =
 
 /// Captures of both orders and both magic numbers, with packets of other protocols and a request.
 #[test]
-fn lists_captures_of_both_orders(rt: HostRuntime) -> Result<(), Fail> {
+fn lists_captures_of_both_orders(rt: HostRuntime) {
     let packets = [
         [OTHER, UNIX],
         [SOCK_DIAG, REQUEST],
@@ -163,11 +167,10 @@ fn lists_captures_of_both_orders(rt: HostRuntime) -> Result<(), Fail> {
         [SOCK_DIAG, DONE],
     ];
     for header in HEADERS {
-        let capture = captured(rt.alloc(), header, &packets)?;
+        let capture = captured(&rt, rt.alloc(), header, &packets);
         let lines = [UNIX_LINE, INET6_LINE];
-        lists(&rt, rt.alloc(), &capture, Ok(true), Some(&lines))?;
+        lists(&rt, rt.alloc(), &capture, Ok(true), Some(&lines));
     }
-    Ok(())
 }
 
 /// What a kernel answered about a netlink and a packet socket, and replies about a listening vsock
@@ -198,12 +201,11 @@ const FAMILIES: [[&str; 2]; 5] = [
 
 /// Sockets of other families have lines of their own.
 #[test]
-fn lists_other_families(rt: HostRuntime) -> Result<(), Fail> {
+fn lists_other_families(rt: HostRuntime) {
     for [reply, line] in FAMILIES {
-        let capture = captured(rt.alloc(), HEADERS[0], &[[SOCK_DIAG, reply]])?;
-        lists(&rt, rt.alloc(), &capture, Ok(true), Some(&[line]))?;
+        let capture = captured(&rt, rt.alloc(), HEADERS[0], &[[SOCK_DIAG, reply]]);
+        lists(&rt, rt.alloc(), &capture, Ok(true), Some(&[line]));
     }
-    Ok(())
 }
 
 /// Replies about listening sockets with the abstract name `e` with an accent, a Chinese letter, a
@@ -226,18 +228,17 @@ const NO_UTF8_LINE: &str =
 /// Names that are UTF-8 show characters under `utf8` alone, and never a space or what turns the
 /// direction.
 #[test]
-fn shows_names_in_utf8(rt: HostRuntime) -> Result<(), Fail> {
+fn shows_names_in_utf8(rt: HostRuntime) {
     let packets = [[SOCK_DIAG, LETTERS], [SOCK_DIAG, NO_UTF8]];
-    let capture = captured(rt.alloc(), HEADERS[0], &packets)?;
+    let capture = captured(&rt, rt.alloc(), HEADERS[0], &packets);
     for (utf8, name) in [(true, LETTERS_LINE), (false, LETTERS_ESCAPED)] {
         let options = Options {
             utf8,
             ..Options::default()
         };
         let lines = [name, NO_UTF8_LINE];
-        lists_by(&rt, rt.alloc(), options, &capture, Ok(true), Some(&lines))?;
+        lists_by(&rt, rt.alloc(), options, &capture, Ok(true), Some(&lines));
     }
-    Ok(())
 }
 
 /// A request for MPTCP sockets, and one for netlink sockets.
@@ -248,7 +249,7 @@ const OTHER_REQUEST: &str = "180000001400010307000000000000001000000000000000";
 
 /// Requests with their times, in both units.
 #[test]
-fn lists_requests(rt: HostRuntime) -> Result<(), Fail> {
+fn lists_requests(rt: HostRuntime) {
     let packets = [
         [SOCK_DIAG, REQUEST],
         [SOCK_DIAG, UNIX],
@@ -260,33 +261,32 @@ fn lists_requests(rt: HostRuntime) -> Result<(), Fail> {
         ..Options::default()
     };
     for (header, time) in [(0, "-- 7.000009 "), (2, "-- 7.000000009 ")] {
-        let capture = captured(rt.alloc(), HEADERS[header], &packets)?;
+        let capture = captured(&rt, rt.alloc(), HEADERS[header], &packets);
         let (unix, mptcp) = ("unix states:0xffffffff\n", "mptcp states:0x480\n");
         let lines = [time, unix, UNIX_LINE, time, mptcp, time, "netlink\n"];
-        lists_by(&rt, rt.alloc(), options, &capture, Ok(true), Some(&lines))?;
+        lists_by(&rt, rt.alloc(), options, &capture, Ok(true), Some(&lines));
     }
-    Ok(())
 }
 
 /// A packet of a thousand messages.
 #[test]
-fn lists_a_long_datagram(rt: HostRuntime) -> Result<(), Fail> {
-    let many = UNIX.repeat(rt.alloc(), 1_000)?;
+fn lists_a_long_datagram(rt: HostRuntime) {
+    let many = UNIX.repeat(rt.alloc(), 1_000).expect(&rt, "memory");
     let header = "d4c3b2a102000400000000000000000000000400fd000000";
     let packets = [[SOCK_DIAG, many.as_str()]];
-    let capture = captured(rt.alloc(), header, &packets)?;
-    let lines = UNIX_LINE.repeat(rt.alloc(), 1_000)?;
-    lists(&rt, rt.alloc(), &capture, Ok(true), Some(&[lines.as_str()]))
+    let capture = captured(&rt, rt.alloc(), header, &packets);
+    let lines = UNIX_LINE.repeat(rt.alloc(), 1_000).expect(&rt, "memory");
+    lists(&rt, rt.alloc(), &capture, Ok(true), Some(&[lines.as_str()]));
 }
 
 /// A capture that is cut at any byte gives the lines of its whole packets, and says where it is
 /// cut.
 #[test]
-fn tells_where_a_capture_is_cut(rt: HostRuntime) -> Result<(), Fail> {
+fn tells_where_a_capture_is_cut(rt: HostRuntime) {
     let alloc = rt.alloc();
     let packets = [[SOCK_DIAG, UNIX], [SOCK_DIAG, INET6]];
-    let capture = captured(alloc, HEADERS[3], &packets)?;
-    let whole = captured(alloc, HEADERS[3], &packets[..1])?.len();
+    let capture = captured(&rt, alloc, HEADERS[3], &packets);
+    let whole = captured(&rt, alloc, HEADERS[3], &packets[..1]).len();
     for len in 0..capture.len() {
         let fault = CaptureError::Cut;
         let want = match len {
@@ -299,9 +299,8 @@ fn tells_where_a_capture_is_cut(rt: HostRuntime) -> Result<(), Fail> {
         };
         let line = [UNIX_LINE];
         let lines: Option<&[&str]> = if len >= whole { Some(&line) } else { None };
-        lists(&rt, alloc, &capture[..len], want, lines)?;
+        lists(&rt, alloc, &capture[..len], want, lines);
     }
-    Ok(())
 }
 
 /// The front of the header of a capture.
@@ -331,25 +330,24 @@ const FAILED: &str =
 const CUT: &str = "0700000009000000100000006500000000000000000000000000000000000000";
 
 /// What a run tells of a capture that is given in hex, part by part.
-fn tells(rt: &impl Abort, alloc: Global, parts: &[&str], want: &str) -> Result<(), Fail> {
-    let capture = hex::decode(alloc, parts.concat(alloc)?.as_str())?;
+fn tells(rt: &impl Abort, alloc: Global, parts: &[&str], want: &str) {
+    let capture = decoded(rt, alloc, parts);
     let (mut output, mut errors) = (taker(alloc), taker(alloc));
     let (options, mut input) = (Options::default(), capture.as_slice());
     let _status = run_to_status(alloc, options, NAME, &mut input, &mut output, &mut errors);
-    let want = ["sslist: ", want, "\n"].concat(alloc)?;
+    let want = ["sslist: ", want, "\n"].concat(alloc).expect(rt, "memory");
     assert!(rt; errors.taken.as_slice() == want.as_bytes());
-    Ok(())
 }
 
 /// The texts on standard error, with the numbers in them.
 #[test]
-fn tells_why(rt: HostRuntime) -> Result<(), Fail> {
+fn tells_why(rt: HostRuntime) {
     let alloc = rt.alloc();
     let parts = [FRONT, OF_100, OF_SOCK_DIAG, SHORT, SHORT, SHORT];
     let want = "packet 1, message 1: UnixResponseHeader: buffer of 12 bytes, at least 16 needed\n\
 sslist: packet 1, message 2: UnixResponseHeader: buffer of 12 bytes, at least 16 needed\n\
 sslist: packet 1, message 3: UnixResponseHeader: buffer of 12 bytes, at least 16 needed";
-    tells(&rt, alloc, &parts, want)?;
+    tells(&rt, alloc, &parts, want);
     let parts = [FRONT, OF_100, OTHER_AND_SHORT, LOST, FAILED, CUT, "00"];
     let want = "packet 2: fewer than 16 bytes\n\
 sslist: packet 3, message 1: the dump changed while it was taken\n\
@@ -357,48 +355,47 @@ sslist: packet 3, message 1: the kernel lost data\n\
 sslist: packet 4, message 1: note: the kernel answers ENOENT\n\
 sslist: packet 5: cut to 16 of 101 bytes\n\
 sslist: packet 6: the capture is cut off";
-    tells(&rt, alloc, &parts, want)?;
-    tells(&rt, alloc, &[], "the input is empty")?;
-    tells(&rt, alloc, &[FRONT, "48"], "the capture is cut off")?;
+    tells(&rt, alloc, &parts, want);
+    tells(&rt, alloc, &[], "the input is empty");
+    tells(&rt, alloc, &[FRONT, "48"], "the capture is cut off");
     let want = "packets of link type 1, not 253 (netlink)";
-    tells(&rt, alloc, &[FRONT, "4800000001000000"], want)?;
+    tells(&rt, alloc, &[FRONT, "4800000001000000"], want);
     let want = "pcap of version 3, not 2";
-    tells(&rt, alloc, &["d4c3b2a10300", FRONT, OF_100], want)?;
+    tells(&rt, alloc, &["d4c3b2a10300", FRONT, OF_100], want);
     let want = "a pcapng capture, convert it: editcap -F pcap CAPTURE OTHER";
-    tells(&rt, alloc, &["0a0d0d0a", FRONT, OF_100], want)?;
+    tells(&rt, alloc, &["0a0d0d0a", FRONT, OF_100], want);
     let want = "a gzip file, unpack it: gzip -dc CAPTURE";
-    tells(&rt, alloc, &["1f8b0800", FRONT, OF_100], want)?;
+    tells(&rt, alloc, &["1f8b0800", FRONT, OF_100], want);
     let want = "packet 1: a packet of 262145 bytes, at most 262144 expected";
     tells(
         &rt,
         alloc,
         &[FRONT, OF_100, "07000000090000000100040001000400"],
         want,
-    )
+    );
 }
 
 /// The texts of errors that no capture gives.
 #[test]
-fn errors_of_a_run_have_words(rt: HostRuntime) -> Result<(), Fail> {
+fn errors_of_a_run_have_words(rt: HostRuntime) {
     let (packet, fault) = (2, CaptureError::Read);
     let (cut, memory) = (RunError::Packet { packet, fault }, RunError::Memory);
     let (lack, folder) = (CaptureError::Memory, CaptureError::Directory);
-    let text = format!(in rt.alloc(); "{cut}, {memory}, {lack}, {folder}")?;
+    let text = format!(in rt.alloc(); "{cut}, {memory}, {lack}, {folder}").expect(&rt, "memory");
     let want = "packet 2: reading failed, out of memory, out of memory, the input is a directory";
     assert!(rt; text.as_str() == want);
-    Ok(())
 }
 
 /// A packet of the most bytes, of another protocol, is passed over; and a flush fails, for two
 /// causes.
 #[test]
-fn ends_of_a_run(rt: HostRuntime) -> Result<(), Fail> {
+fn ends_of_a_run(rt: HostRuntime) {
     let alloc = rt.alloc();
     let headers = "d4c3b2a102000400000000000000000000000400fd000000\
 07000000090000000000040000000400";
-    let mut capture = hex::decode(alloc, headers)?;
-    capture.resize(40 + 262_144, 0)?;
-    lists(&rt, alloc, &capture, Ok(true), None)?;
+    let mut capture = decoded(&rt, alloc, &[headers]);
+    capture.resize(40 + 262_144, 0).expect(&rt, "memory");
+    lists(&rt, alloc, &capture, Ok(true), None);
     let (mut output, mut errors) = (taker(alloc), taker(alloc));
     output.flush_fails = Some(ErrorKind::Other);
     let (options, mut input) = (Options::default(), capture.as_slice());
@@ -409,5 +406,4 @@ fn ends_of_a_run(rt: HostRuntime) -> Result<(), Fail> {
     let mut input = capture.as_slice();
     let _status = run_to_status(alloc, options, NAME, &mut input, &mut output, &mut errors);
     assert!(rt; errors.taken.is_empty());
-    Ok(())
 }

@@ -1,6 +1,6 @@
 use sock_diag_lines::RunError;
-use std::alloc::{AllocError, Global};
-use std::test::Fail;
+use std::alloc::Global;
+use std::process::Abort;
 
 mod long_lines;
 mod streams;
@@ -16,23 +16,22 @@ refused 2\n";
 /// A front, a piece, how often it stands in a row, and a back.
 type Repeated = (&'static str, &'static str, usize, &'static str);
 
-fn repeated(alloc: Global, text: Repeated) -> Result<Vec<u8>, AllocError> {
+fn repeated(rt: &impl Abort, alloc: Global, text: Repeated) -> String {
     let (front, piece, times, back) = text;
-    let mut bytes = Vec::from_slice(alloc, front.as_bytes())?;
-    bytes.extend_from_slice(&piece.as_bytes().repeat(alloc, times)?)?;
-    bytes.extend_from_slice(back.as_bytes())?;
-    Ok(bytes)
+    let pieces = piece.repeat(alloc, times).expect(rt, "memory");
+    [front, pieces.as_str(), back]
+        .concat(alloc)
+        .expect(rt, "memory")
 }
 
 #[test]
-fn errors_of_a_run_have_words(rt: HostRuntime) -> Result<(), Fail> {
+fn errors_of_a_run_have_words(rt: HostRuntime) {
     for (error, want) in [
         (RunError::Read, "Read: reading failed"),
         (RunError::Write, "Write: writing failed"),
         (RunError::Memory, "Memory: out of memory"),
     ] {
-        let text = format!(in rt.alloc(); "{error:?}: {error}")?;
+        let text = format!(in rt.alloc(); "{error:?}: {error}").expect(&rt, "memory");
         assert!(rt; text.as_str() == want, "{text}");
     }
-    Ok(())
 }

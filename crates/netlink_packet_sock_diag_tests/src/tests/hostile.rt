@@ -8,7 +8,6 @@ use netlink_packet_sock_diag::inet::{InetRequest, InetResponse};
 use netlink_packet_sock_diag::unix::{UnixRequest, UnixResponse};
 use std::alloc::Global;
 use std::process::Abort;
-use std::test::Fail;
 
 /// One string more that was read as the value that it was made from (at 0) or as another (at 1), or
 /// was refused by the fault of a number (at this number).
@@ -22,43 +21,46 @@ fn count<T: PartialEq + Drop>(tally: &mut [u32; 11], read: Result<T, DecodeError
     }
 }
 
+/// The bytes with the one at a place changed.
+fn changed(rt: &impl Abort, alloc: Global, whole: &[u8], place: usize, change: u8) -> Vec<u8> {
+    let mut bytes = Vec::from_slice(alloc, whole).expect(rt, "memory");
+    if let Some(byte) = bytes.get_mut(place) {
+        *byte ^= change;
+    }
+    bytes
+}
+
 /// Reads the bytes by both readers with each byte in turn changed to each other one. The counts are
 /// shown like this.
-fn changes<T: ReadTwice<Param = ()>>(
-    rt: &impl Abort,
-    alloc: Global,
-    parts: &[&str],
-    counts: &str,
-) -> Result<(), Fail> {
-    let whole = bytes(alloc, parts)?;
-    let value = T::read(alloc, &whole, ())?;
+fn changes<T: ReadTwice<Param = ()>>(rt: &impl Abort, alloc: Global, parts: &[&str], counts: &str) {
+    let whole = bytes(rt, alloc, parts);
+    let value = T::read(alloc, &whole, ()).expect(rt, "refused");
     let mut tally = [0; 11];
     for place in 0..whole.len() {
         for change in 1..=u8::MAX {
-            let mut changed = Vec::from_slice(alloc, &whole)?;
-            changed[place] ^= change;
+            let changed = changed(rt, alloc, &whole, place, change);
             count(&mut tally, read_twice::<T>(rt, alloc, &changed, ()), &value);
         }
     }
-    shows(rt, alloc, &tally, counts)
+    shows(rt, alloc, &tally, counts);
 }
 
 #[test]
-fn requests(rt: HostRuntime) -> Result<(), Fail> {
+fn requests(rt: HostRuntime) {
     let unix = ["01000000020400003412000004000000ffffffffffffffff"];
     let counts = "[2552, 3568, 0, 0, 0, 0, 0, 0, 0, 0, 0]";
-    changes::<UnixRequest>(&rt, rt.alloc(), &unix, counts)?;
+    changes::<UnixRequest>(&rt, rt.alloc(), &unix, counts);
     let internet = ["0211000002000000", ZEROS, ZEROS, ZEROS];
     let counts = "[6901, 7125, 0, 254, 0, 0, 0, 0, 0, 0, 0]";
-    changes::<InetRequest>(&rt, rt.alloc(), &internet, counts)
+    changes::<InetRequest>(&rt, rt.alloc(), &internet, counts);
 }
 
 // Of a UNIX reply it is told how many changes are of no account.
 #[test]
-fn replies(rt: HostRuntime) -> Result<(), Fail> {
+fn replies(rt: HostRuntime) {
     for (reply, counts) in [(PATH, "[1284, "), (PEER, "[1542, "), (ABSTRACT, "[1284, ")] {
-        changes::<UnixResponse>(&rt, rt.alloc(), &[reply], counts)?;
+        changes::<UnixResponse>(&rt, rt.alloc(), &[reply], counts);
     }
     let counts = "[7143, 12488, 3, 254, 0, 0, 0, 0, 4, 502, 6]";
-    changes::<InetResponse>(&rt, rt.alloc(), &[INET, SHUTDOWN], counts)
+    changes::<InetResponse>(&rt, rt.alloc(), &[INET, SHUTDOWN], counts);
 }

@@ -1,6 +1,8 @@
-//! What holds in each run, whichever requests for memory are refused. What is read here takes none.
+//! What holds in each run, whichever requests for memory are refused.
 
 use super::read_twice::ReadTwice;
+use super::{INET, LISTENING, PATH};
+use hex::FromHexError;
 use netlink_core::{CanonError, DecodeError, NetlinkMessage, canonical};
 use netlink_packet_sock_diag::inet::InetResponse;
 use netlink_packet_sock_diag::unix::UnixResponse;
@@ -8,25 +10,28 @@ use netlink_packet_sock_diag::{DumpReader, DumpState, LossyDump, SockDiagMessage
 use std::alloc::Global;
 use std::process::Abort;
 
-/// A listening socket with a path.
-const PATH: &[u8] = b"\x01\x01\x0a\0\x0e\x4f\0\0\xa0\x02\0\0\0\0\0\0\x18\0\0\0\
-/tmp/.ICE-unix/1151\0\x0c\0\x04\0\0\0\0\0\x80\0\0\0\x05\0\x06\0\0\0\0\0";
-
-/// One with nine attributes, for which the reply itself has no room.
-const NINE: &[u8] = b"\x01\x01\x0a\0\x0e\x4f\0\0\xa0\x02\0\0\0\0\0\0\
-\x05\0\x06\0\0\0\0\0\x05\0\x06\0\0\0\0\0\x05\0\x06\0\0\0\0\0\x05\0\x06\0\0\0\0\0\
-\x05\0\x06\0\0\0\0\0\x05\0\x06\0\0\0\0\0\x05\0\x06\0\0\0\0\0\x05\0\x06\0\0\0\0\0\
-\x05\0\x06\0\0\0\0\0";
+/// Nine attributes, for which a reply itself has no room.
+const NINE: &str =
+    "050006000000000005000600000000000500060000000000050006000000000005000600000000000500\
+060000000000050006000000000005000600000000000500060000000000";
 
 /// An abstract name, two inodes and a kind that is not known.
-const OTHER: &[u8] = b"\x01\x01\x0a\0\x0e\x4f\0\0\xa0\x02\0\0\0\0\0\0\x08\0\0\0\0bus\
-\x0c\0\x03\0\x05\0\0\0\x06\0\0\0\x05\0\x07\0\x02\0\0\0";
+const OTHER: &str = "08000000006275730c00030005000000060000000500070002000000";
 
-/// An internet socket with a direction that is shut down, a text and a kind that is not known.
-const INET: &[u8] = b"\x02\x01\x02\0\xeb\x14\x01\xbb\xc0\xa8\xb2\x3c\0\0\0\0\0\0\0\0\0\0\0\0\
-\xac\xd9\x17\x83\0\0\0\0\0\0\0\0\0\0\0\0\0\0\0\0\x52\x03\0\0\0\0\0\0\x80\x60\0\0\0\0\0\0\
-\0\0\0\0\xe8\x03\0\0\xa8\xda\x29\0\x05\0\x08\0\0\0\0\0\
-\x0a\0\x04\0cubic\0\0\0\x05\0\x03\0\xaa\0\0\0";
+/// A direction that is shut down, a text and a kind that is not known.
+const INET_OTHER: &str = "05000800000000000a000400637562696300000005000300aa000000";
+
+/// The bytes of a header and attributes, where there is memory for them.
+fn reply(rt: &impl Abort, alloc: Global, header: &str, attributes: &str) -> Option<Vec<u8>> {
+    let digits = [header, attributes].concat(alloc).ok()?;
+    match hex::decode(alloc, digits.as_str()) {
+        Ok(bytes) => Some(bytes),
+        Err(fault) => {
+            assert!(rt; fault == FromHexError::OutOfMemory);
+            None
+        }
+    }
+}
 
 /// Whether the answers are the same, where none of them is want of memory.
 fn agree<T: PartialEq + Drop>(
@@ -49,15 +54,25 @@ fn copes<T: ReadTwice>(rt: &impl Abort, alloc: Global, bytes: &[u8], param: T::P
     }
 }
 
+/// The same of a reply, also as a message.
+fn copes_with_reply<T: ReadTwice<Param = ()>>(
+    rt: &impl Abort,
+    alloc: Global,
+    header: &str,
+    attributes: &str,
+) {
+    if let Some(bytes) = reply(rt, alloc, header, attributes) {
+        copes::<T>(rt, alloc, &bytes, ());
+        copes::<SockDiagMessage>(rt, alloc, &bytes, 20);
+    }
+}
+
 #[test]
 fn replies(rt: HostRuntime) {
-    let alloc = rt.alloc();
-    for bytes in [PATH, NINE, OTHER] {
-        copes::<UnixResponse>(&rt, alloc, bytes, ());
-        copes::<SockDiagMessage>(&rt, alloc, bytes, 20);
+    for (header, attributes) in [(PATH, ""), (LISTENING, NINE), (LISTENING, OTHER)] {
+        copes_with_reply::<UnixResponse>(&rt, rt.alloc(), header, attributes);
     }
-    copes::<InetResponse>(&rt, alloc, INET, ());
-    copes::<SockDiagMessage>(&rt, alloc, INET, 20);
+    copes_with_reply::<InetResponse>(&rt, rt.alloc(), INET, INET_OTHER);
 }
 
 /// Messages: of nothing, about a listening socket and a connected one, and the end of a dump.
@@ -87,26 +102,32 @@ fn number<T: Drop>(read: Result<T, DecodeError>) -> u8 {
     }
 }
 
-/// Both readers give a value, or the fault of this number, in every run.
-fn answers<T: ReadTwice<Param = ()>>(rt: &impl Abort, alloc: Global, bytes: &[u8], want: u8) {
-    assert!(rt; number(T::read(alloc, bytes, ())) == want);
-    assert!(rt; number(T::read_again(alloc, bytes, ())) == want);
+/// Both readers give a value of so many bytes, or the fault of this number, in every run.
+fn answers<T: ReadTwice<Param = ()>>(
+    rt: &impl Abort,
+    alloc: Global,
+    (header, attributes): (&str, &str),
+    count: usize,
+    want: u8,
+) {
+    if let Some(bytes) = reply(rt, alloc, header, attributes) {
+        let bytes = bytes.get(..count).expect(rt, "so many bytes");
+        assert!(rt; number(T::read(alloc, bytes, ())) == want);
+        assert!(rt; number(T::read_again(alloc, bytes, ())) == want);
+    }
 }
 
 /// Strings that are refused, and up to eight attributes that hold neither name nor text nor list.
 #[test]
 fn spare_strings(rt: HostRuntime) {
-    let alloc = rt.alloc();
-    for (bytes, number) in [
-        (&PATH[..15], 2),
-        (&PATH[..53], 7),
-        (&PATH[..56], 9),
-        (&NINE[..16], 0),
-        (&NINE[..80], 0),
-    ] {
-        answers::<UnixResponse>(&rt, alloc, bytes, number);
+    let nine = (LISTENING, NINE);
+    for (count, number) in [(15, 2), (53, 7), (56, 9)] {
+        answers::<UnixResponse>(&rt, rt.alloc(), (PATH, ""), count, number);
     }
-    answers::<InetResponse>(&rt, alloc, &INET[..80], 0);
+    for count in [16, 80] {
+        answers::<UnixResponse>(&rt, rt.alloc(), nine, count, 0);
+    }
+    answers::<InetResponse>(&rt, rt.alloc(), (INET, INET_OTHER), 80, 0);
 }
 
 /// The dump is done and keeps all replies, or it failed for want of memory, and stays so.

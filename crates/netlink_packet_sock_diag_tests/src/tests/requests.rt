@@ -12,7 +12,6 @@ use netlink_packet_sock_diag::{SockDiagDestroy, SockDiagMessage};
 use std::alloc::Global;
 use std::net::{IpAddr, Ipv6Addr};
 use std::process::Abort;
-use std::test::Fail;
 
 /// Behind a header that asks for a dump, the payload is sent as these bytes.
 fn sends<I: NetlinkSerializable + Drop>(
@@ -20,21 +19,30 @@ fn sends<I: NetlinkSerializable + Drop>(
     alloc: Global,
     payload: NetlinkPayload<I>,
     parts: &[&str],
-) -> Result<(), Fail> {
+) {
     let mut message = NetlinkMessage::new(NetlinkHeader::default(), payload);
     message.header.flags = NLM_F_REQUEST | NLM_F_DUMP;
     assert!(rt; message.is_writable());
     message.finalize();
+    is_written(rt, alloc, &message, parts);
+}
+
+fn is_written<I: NetlinkSerializable>(
+    rt: &impl Abort,
+    alloc: Global,
+    message: &NetlinkMessage<I>,
+    parts: &[&str],
+) {
     assert!(rt; message.is_writable());
-    let mut buffer = vec![in alloc; 0xee; message.buffer_len()]?;
+    let mut buffer = vec![in alloc; 0xee; message.buffer_len()].expect(rt, "memory");
     message.serialize(&mut buffer);
-    assert!(rt; buffer == bytes(alloc, parts)?, "{buffer:?}");
-    Ok(())
+    let wanted = bytes(rt, alloc, parts);
+    assert!(rt; buffer == wanted, "{buffer:?}");
 }
 
 // Each family's requests are made of its own flags, as they are given again.
 #[test]
-fn a_unix_request(rt: HostRuntime) -> Result<(), Fail> {
+fn a_unix_request(rt: HostRuntime) {
     let alloc = rt.alloc();
     let request = SockDiagMessage::UnixRequest(UnixRequest {
         state_flags: unix::StateFlags::LISTEN,
@@ -44,13 +52,13 @@ fn a_unix_request(rt: HostRuntime) -> Result<(), Fail> {
     });
     let text = "UnixRequest(UnixRequest { state_flags: StateFlags(1024), inode: 4660, show_flags: \
         ShowFlags(4), cookie: [255, 255, 255, 255, 255, 255, 255, 255] })";
-    shows(&rt, alloc, &request.clone(alloc)?, text)?;
+    shows(&rt, alloc, &request.clone(alloc), text);
     let wanted = "2800000014000103000000000000000001000000000400003412000004000000ffffffffffffffff";
-    sends(&rt, alloc, request.into(), &[wanted])
+    sends(&rt, alloc, request.into(), &[wanted]);
 }
 
 #[test]
-fn an_inet_request_and_one_to_close(rt: HostRuntime) -> Result<(), Fail> {
+fn an_inet_request_and_one_to_close(rt: HostRuntime) {
     let alloc = rt.alloc();
     let request = SockDiagMessage::InetRequest(InetRequest {
         family: AF_INET,
@@ -59,35 +67,31 @@ fn an_inet_request_and_one_to_close(rt: HostRuntime) -> Result<(), Fail> {
         states: StateFlags::CLOSING,
         socket_id: SocketId::new_v4(),
     });
-    let destroy = SockDiagDestroy::new(request.clone(alloc)?);
+    let destroy = SockDiagDestroy::new(request.clone(alloc).expect(&rt, "memory"));
     let text = "SockDiagDestroy(InetRequest(InetRequest { family: 2, protocol: 6, extensions: \
         ExtensionFlags(128), states: StateFlags(2048), socket_id: SocketId { source_port: 0, \
         destination_port: 0, source_address: 0.0.0.0, destination_address: 0.0.0.0, \
         interface_id: 0, cookie: [0, 0, 0, 0, 0, 0, 0, 0] } }))";
-    shows(&rt, alloc, &destroy.clone(alloc)?, text)?;
+    shows(&rt, alloc, &destroy.clone(alloc), text);
     let front = "480000001400010300000000000000000206800000080000";
-    sends(&rt, alloc, request.into(), &[front, ZEROS, ZEROS, ZEROS])?;
+    sends(&rt, alloc, request.into(), &[front, ZEROS, ZEROS, ZEROS]);
     let front = "480000001500010300000000000000000206800000080000";
-    sends(&rt, alloc, destroy.into(), &[front, ZEROS, ZEROS, ZEROS])
+    sends(&rt, alloc, destroy.into(), &[front, ZEROS, ZEROS, ZEROS]);
 }
 
 // A value that no reader gives: a request of the family of UNIX sockets, whose address holds the
 // header of an attribute.
 #[test]
-fn a_request_that_reads_as_a_reply(rt: HostRuntime) -> Result<(), Fail> {
+fn a_request_that_reads_as_a_reply(rt: HostRuntime) {
     let alloc = rt.alloc();
-    let fields = bytes(alloc, &["02010a0000000000", ZEROS, ZEROS, ZEROS])?;
-    let mut request = InetRequest::parse(alloc, fields.as_slice())?;
+    let fields = bytes(&rt, alloc, &["02010a0000000000", ZEROS, ZEROS, ZEROS]);
+    let mut request = InetRequest::parse(alloc, fields.as_slice()).expect(&rt, "refused");
     request.family = AF_UNIX;
     let octets = [0, 0, 0, 0, 40, 0, 7, 0, 0, 0, 0, 0, 0, 0, 0, 0];
     request.socket_id.source_address = IpAddr::V6(Ipv6Addr::from(octets));
     request.socket_id.destination_address = IpAddr::V6(Ipv6Addr::UNSPECIFIED);
     let front = "4800000014000103000000000000000001010a0000000000000000000000000028000700";
     let parts = [front, ZEROS, ZEROS, "00000000"];
-    sends(
-        &rt,
-        alloc,
-        SockDiagMessage::InetRequest(request).into(),
-        &parts,
-    )
+    let message = SockDiagMessage::InetRequest(request);
+    sends(&rt, alloc, message.into(), &parts);
 }

@@ -8,7 +8,6 @@ use netlink_packet_sock_diag::inet::InetResponse;
 use netlink_packet_sock_diag::unix::UnixResponse;
 use std::alloc::Global;
 use std::process::Abort;
-use std::test::Fail;
 
 /// There is memory for the header and each number of attributes.
 fn has_room<T: ReadTwice<Param = ()>>(
@@ -16,35 +15,33 @@ fn has_room<T: ReadTwice<Param = ()>>(
     alloc: Global,
     header: &str,
     attribute: &str,
-) -> Result<(), Fail> {
+) {
     for count in [0, 1, 2, 3, 4, 5, 6, 7, 8, 9, 100, 10_000] {
-        let attributes = attribute.repeat(alloc, count)?;
-        let reply = bytes(alloc, &[header, &attributes])?;
+        let attributes = attribute.repeat(alloc, count).expect(rt, "memory");
+        let reply = bytes(rt, alloc, &[header, &attributes]);
         assert!(rt; read_twice::<T>(rt, alloc, &reply, ()).is_ok());
         assert!(rt; read_twice::<SockDiagMessage>(rt, alloc, &reply, 20).is_ok());
     }
-    Ok(())
 }
 
 #[test]
-fn lists_of_attributes(rt: HostRuntime) -> Result<(), Fail> {
-    has_room::<UnixResponse>(&rt, rt.alloc(), CONNECTED, "0500060002000000")?;
-    has_room::<UnixResponse>(&rt, rt.alloc(), CONNECTED, "0600000061000000")?;
-    has_room::<InetResponse>(&rt, rt.alloc(), INET, "0500080002000000")?;
-    has_room::<InetResponse>(&rt, rt.alloc(), INET, "0600040061000000")
+fn lists_of_attributes(rt: HostRuntime) {
+    has_room::<UnixResponse>(&rt, rt.alloc(), CONNECTED, "0500060002000000");
+    has_room::<UnixResponse>(&rt, rt.alloc(), CONNECTED, "0600000061000000");
+    has_room::<InetResponse>(&rt, rt.alloc(), INET, "0500080002000000");
+    has_room::<InetResponse>(&rt, rt.alloc(), INET, "0600040061000000");
 }
 
 /// There is memory for a long payload of each type of netlink(7).
 #[test]
-fn long_payloads(rt: HostRuntime) -> Result<(), Fail> {
+fn long_payloads(rt: HostRuntime) {
     let alloc = rt.alloc();
     for kind in ["0200", "0300", "0400"] {
-        let mut message = bytes(alloc, &["80110100", kind, "00000000000000000000"])?;
-        message.resize(70_016, 7)?;
+        let mut message = bytes(&rt, alloc, &["80110100", kind, "00000000000000000000"]);
+        message.resize(70_016, 7).expect(&rt, "memory");
         let read = NetlinkMessage::<SockDiagMessage>::deserialize(alloc, &message);
         assert!(rt; read.is_ok());
     }
-    Ok(())
 }
 
 /// A header, the head of an attribute, a byte so many times and what follows; and how many bytes
@@ -63,13 +60,16 @@ fn written_len(alloc: Global, bytes: &[u8]) -> Result<usize, CanonError> {
 }
 
 #[test]
-fn long_attributes(rt: HostRuntime) -> Result<(), Fail> {
+fn long_attributes(rt: HostRuntime) {
     let alloc = rt.alloc();
     for (header, head, byte, count, back, part) in LONG {
-        let mut reply = bytes(alloc, &[header, head])?;
-        reply.resize(reply.len().saturating_add(count), byte)?;
-        reply.extend_from_slice(&bytes(alloc, &[back])?)?;
-        shows(&rt, alloc, &written_len(alloc, &reply), part)?;
+        let mut reply = bytes(&rt, alloc, &[header, head]);
+        reply
+            .resize(reply.len().saturating_add(count), byte)
+            .expect(&rt, "memory");
+        reply
+            .extend_from_slice(&bytes(&rt, alloc, &[back]))
+            .expect(&rt, "memory");
+        shows(&rt, alloc, &written_len(alloc, &reply), part);
     }
-    Ok(())
 }

@@ -1,8 +1,6 @@
 //! What is read in place, replies and the messages of a datagram, and how far dumps are.
 
-ghost use Rattle.std.specs.Iterator.{IsFinite};
-
-use super::{INET, PATH, SHUTDOWN, bytes, shows};
+use super::{INET, PATH, SHUTDOWN, bytes, gives, shows};
 use netlink_core::{Emitable, write_new};
 use netlink_packet_sock_diag::inet::InetResponseView;
 use netlink_packet_sock_diag::unix::UnixResponseView;
@@ -10,102 +8,84 @@ use netlink_packet_sock_diag::{
     DumpError, DumpReader, DumpState, DumpViews, LossyDump, SockDiagView,
 };
 use std::alloc::Global;
-use std::fmt::Debug;
 use std::process::Abort;
-use std::test::Fail;
-
-/// The answers of the walk, one after the other, are shown like this.
-fn gives<I: Iterator + Drop>(
-    rt: &impl Abort,
-    alloc: Global,
-    walk: I,
-    text: &str,
-) -> Result<(), Fail>
-where
-    I::Item: Debug + Drop,
-    requires { I.can_next walk × IsFinite (I.remaining walk) }
-{
-    let mut answers = Vec::new(alloc);
-    for answer in walk {
-        answers.push(answer)?;
-    }
-    shows(rt, alloc, &answers, text)
-}
 
 /// The value is written as these bytes.
-fn writes<T: Emitable>(
-    rt: &impl Abort,
-    alloc: Global,
-    value: &T,
-    parts: &[&str],
-) -> Result<(), Fail> {
-    let written = write_new(alloc, value).ok().ok_or("unwritable")?;
-    assert!(rt; written == bytes(alloc, parts)?, "{written:?}");
-    Ok(())
+fn writes<T: Emitable>(rt: &impl Abort, alloc: Global, value: &T, parts: &[&str]) {
+    let written = write_new(alloc, value).expect(rt, "unwritable");
+    assert!(rt; written == bytes(rt, alloc, parts), "{written:?}");
 }
 
 #[test]
-fn a_unix_reply_in_place(rt: HostRuntime) -> Result<(), Fail> {
+fn a_unix_reply_in_place(rt: HostRuntime) {
     let alloc = rt.alloc();
     let parts = [PATH, "0c0003000500000006000000"];
-    let reply = bytes(alloc, &parts)?;
-    let view = UnixResponseView::parse(&reply)?;
+    let reply = bytes(&rt, alloc, &parts);
+    let view = UnixResponseView::parse(&reply).expect(&rt, "refused");
     let answers = "[Name(Pathname([47, 116, 109, 112, 47, 46, 73, 67, 69, 45, 117, 110, 105, \
         120, 47, 49, 49, 53, 49])), ReceiveQueueLength(0, 128), Shutdown(0), \
         PendingConnections(NumbersView { bytes: [5, 0, 0, 0, 6, 0, 0, 0] })]";
-    gives(&rt, alloc, view.attributes().clone()?, answers)?;
-    writes(&rt, alloc, &view, &parts)?;
-    writes(&rt, alloc, &SockDiagView::parse(&reply, 20)?, &parts)
+    let attributes = view.attributes().clone().expect(&rt, "memory");
+    gives(&rt, alloc, attributes, answers);
+    writes(&rt, alloc, &view, &parts);
+    let message = SockDiagView::parse(&reply, 20).expect(&rt, "refused");
+    writes(&rt, alloc, &message, &parts);
 }
 
 #[test]
-fn an_inet_reply_in_place(rt: HostRuntime) -> Result<(), Fail> {
+fn an_inet_reply_in_place(rt: HostRuntime) {
     let alloc = rt.alloc();
-    let reply = bytes(alloc, &[INET, "090004006375626963000000", SHUTDOWN])?;
+    let reply = bytes(&rt, alloc, &[INET, "090004006375626963000000", SHUTDOWN]);
     let text = "InetResponse(InetResponseView { bytes: [2, 1, 2, 0, 235, 20, 1, 187, 192, ";
-    let message = SockDiagView::parse(&reply, 20)?;
-    shows(&rt, alloc, &message, text)?;
-    let view = InetResponseView::parse(&reply)?;
+    let message = SockDiagView::parse(&reply, 20).expect(&rt, "refused");
+    shows(&rt, alloc, &message, text);
+    let view = InetResponseView::parse(&reply).expect(&rt, "refused");
     let answers = "[Congestion(\"cubic\"), Shutdown(0)]";
-    gives(&rt, alloc, view.attributes().clone()?, answers)?;
+    let attributes = view.attributes().clone().expect(&rt, "memory");
+    gives(&rt, alloc, attributes, answers);
     let parts = [INET, "0a0004006375626963000000", SHUTDOWN];
-    writes(&rt, alloc, &view, &parts)?;
-    writes(&rt, alloc, &message, &parts)
+    writes(&rt, alloc, &view, &parts);
+    writes(&rt, alloc, &message, &parts);
 }
 
 // A fault in mid-walk is the last item.
 #[test]
-fn attributes_are_checked_as_they_are_given(rt: HostRuntime) -> Result<(), Fail> {
+fn attributes_are_checked_as_they_are_given(rt: HostRuntime) {
     let alloc = rt.alloc();
-    let reply = bytes(alloc, &[PATH, "0500020001000000", SHUTDOWN])?;
-    let (header, nlas) = UnixResponseView::walk(&reply)?;
-    shows(&rt, alloc, &header, "state: 10")?;
+    let reply = bytes(&rt, alloc, &[PATH, "0500020001000000", SHUTDOWN]);
+    let (header, nlas) = UnixResponseView::walk(&reply).expect(&rt, "refused");
+    shows(&rt, alloc, &header, "state: 10");
     let answers = "Ok(ReceiveQueueLength(0, 128)), Ok(Shutdown(0)), \
         Err(WrongLength { kind: Some(2), got: 1, need: 4 })]";
-    gives(&rt, alloc, nlas, answers)?;
-    let reply = bytes(alloc, &[INET, "0a0004006375626963000000", SHUTDOWN, "0300"])?;
-    let (_, nlas) = InetResponseView::walk(&reply)?;
+    gives(&rt, alloc, nlas, answers);
+    let parts = [INET, "0a0004006375626963000000", SHUTDOWN, "0300"];
+    let reply = bytes(&rt, alloc, &parts);
+    let (_, nlas) = InetResponseView::walk(&reply).expect(&rt, "refused");
     let answers = "cubic\")), Ok(Shutdown(0)), Err(AttributeHeaderCut { left: 2 })]";
-    gives(&rt, alloc, nlas, answers)
+    gives(&rt, alloc, nlas, answers);
 }
 
-/// The messages of a datagram, by their names. The odd one has 37 bytes. Digits are themselves.
-fn datagram(alloc: Global, names: &str) -> Result<Vec<u8>, Fail> {
-    let mut messages = Vec::new(alloc);
-    for name in names.split('+') {
-        let digits = match name {
-            "noop" => "10000000010000000000000000000000",
-            "reply" => "2000000014000200070000000000000001010a000e4f0000a002000000000000",
-            "unknown" => "2000000015000200070000000000000001010a000e4f0000a002000000000000",
-            "done" => "1400000003000200070000000000000000000000",
-            "error" => "14000000020002000700000000000000ee000000",
-            "lost" => "14000000040002000700000000000000ee000000",
-            "odd" => "2500000014000000000000000000000001010a000e4f0000a0020000000000000500060000",
-            digits => digits,
-        };
-        messages.extend_from_slice(&bytes(alloc, &[digits])?)?;
+/// The digits of a message by its name. The odd one has 37 bytes. Digits are themselves.
+fn digits(name: &str) -> &str {
+    match name {
+        "noop" => "10000000010000000000000000000000",
+        "reply" => "2000000014000200070000000000000001010a000e4f0000a002000000000000",
+        "unknown" => "2000000015000200070000000000000001010a000e4f0000a002000000000000",
+        "done" => "1400000003000200070000000000000000000000",
+        "error" => "14000000020002000700000000000000ee000000",
+        "lost" => "14000000040002000700000000000000ee000000",
+        "odd" => "2500000014000000000000000000000001010a000e4f0000a0020000000000000500060000",
+        digits => digits,
     }
-    Ok(messages)
+}
+
+/// The messages of a datagram, by their names.
+fn datagram(rt: &impl Abort, alloc: Global, names: &str) -> Vec<u8> {
+    let mut text = String::new(alloc);
+    for name in names.split('+') {
+        text.push_str(digits(name)).expect(rt, "memory");
+    }
+    bytes(rt, alloc, &[text.as_str()])
 }
 
 /// Datagrams, the answer to the last one, how far the dump is then, the number that its end tells,
@@ -132,23 +112,22 @@ odd+reply: (Err(Fault(EnvelopeLengthPast { length: 33559552, got: 29 })), Failed
 /// What a reader tells of these datagrams.
 type Told = (Result<(), DumpError>, DumpState, Option<i32>, usize);
 
-fn fed(alloc: Global, datagrams: &str) -> Result<Told, Fail> {
+fn fed(rt: &impl Abort, alloc: Global, datagrams: &str) -> Told {
     let mut reader = DumpReader::new(alloc);
     let mut answer = Ok(());
     for names in datagrams.split(' ') {
-        answer = reader.feed(&datagram(alloc, names)?);
+        answer = reader.feed(&datagram(rt, alloc, names));
     }
     let (state, number) = (reader.state(), reader.error_number());
-    Ok((answer, state, number, reader.into_messages().len()))
+    (answer, state, number, reader.into_messages().len())
 }
 
 #[test]
-fn dumps_are_read(rt: HostRuntime) -> Result<(), Fail> {
+fn dumps_are_read(rt: HostRuntime) {
     for row in DUMPS.lines() {
-        let (datagrams, part) = row.split_once(": ").ok_or("no part")?;
-        shows(&rt, rt.alloc(), &fed(rt.alloc(), datagrams)?, part)?;
+        let (datagrams, part) = row.split_once(": ").expect(&rt, "no part");
+        shows(&rt, rt.alloc(), &fed(&rt, rt.alloc(), datagrams), part);
     }
-    Ok(())
 }
 
 /// Datagrams, the answer of a `LossyDump` to the last one, how far the dump is then, the number
@@ -163,33 +142,33 @@ unknown+reply+00: (Err(Fault(EnvelopeCut { got: 1 })), Failed, None, \
 [Some(UnknownMessageType { message_type: 21 }), None])";
 
 #[test]
-fn dumps_go_past_refused_replies(rt: HostRuntime) -> Result<(), Fail> {
+fn dumps_go_past_refused_replies(rt: HostRuntime) {
     for row in LOSSY_DUMPS.lines() {
-        let (datagrams, part) = row.split_once(": ").ok_or("no part")?;
+        let (datagrams, part) = row.split_once(": ").expect(&rt, "no part");
         let mut dump = LossyDump::new(rt.alloc());
         let mut answer = Ok(());
         for names in datagrams.split(' ') {
-            answer = dump.feed(&datagram(rt.alloc(), names)?);
+            answer = dump.feed(&datagram(&rt, rt.alloc(), names));
         }
         let (state, number) = (dump.state(), dump.error_number());
         let mut faults = Vec::new(rt.alloc());
         for entry in dump.into_entries() {
-            faults.push(entry.err())?;
+            faults.push(entry.err()).expect(&rt, "memory");
         }
-        shows(&rt, rt.alloc(), &(answer, state, number, faults), part)?;
+        shows(&rt, rt.alloc(), &(answer, state, number, faults), part);
     }
-    Ok(())
 }
 
 // Over a megabyte in a datagram.
 #[test]
-fn a_long_dump_keeps_all(rt: HostRuntime) -> Result<(), Fail> {
-    let many = datagram(rt.alloc(), "reply")?.repeat(rt.alloc(), 50_000)?;
+fn a_long_dump_keeps_all(rt: HostRuntime) {
+    let many = datagram(&rt, rt.alloc(), "reply")
+        .repeat(rt.alloc(), 50_000)
+        .expect(&rt, "memory");
     let mut reader = DumpReader::new(rt.alloc());
-    reader.feed(&many)?;
-    reader.feed(&many)?;
+    reader.feed(&many).expect(&rt, "refused");
+    reader.feed(&many).expect(&rt, "refused");
     assert!(rt; reader.messages().len() == 100_000 && reader.state() == DumpState::Reading);
-    Ok(())
 }
 
 /// A datagram, and the answers of the walk over it.
@@ -214,11 +193,11 @@ odd+reply: [Ok(InnerMessage(UnixResponse(UnixResponseView { bytes: [1, 1, 10, 0,
 33559552, got: 29 })]";
 
 #[test]
-fn datagrams_are_walked(rt: HostRuntime) -> Result<(), Fail> {
+fn datagrams_are_walked(rt: HostRuntime) {
     for row in WALKS.lines() {
-        let (names, parts) = row.split_once(": ").ok_or("no part")?;
-        let bytes = datagram(rt.alloc(), names)?;
-        gives(&rt, rt.alloc(), DumpViews::new(&bytes).clone()?, parts)?;
+        let (names, parts) = row.split_once(": ").expect(&rt, "no part");
+        let bytes = datagram(&rt, rt.alloc(), names);
+        let views = DumpViews::new(&bytes).clone().expect(&rt, "memory");
+        gives(&rt, rt.alloc(), views, parts);
     }
-    Ok(())
 }

@@ -4,11 +4,9 @@ use super::{Repeated, repeated};
 use sock_diag_lines::answer;
 use std::alloc::Global;
 use std::process::Abort;
-use std::test::Fail;
 
-fn answers(rt: &impl Abort, alloc: Global, line: &[u8], want: &[u8]) -> Result<(), Fail> {
-    assert!(rt; answer(alloc, line)?.as_slice() == want);
-    Ok(())
+fn answers(rt: &impl Abort, alloc: Global, line: &[u8], want: &[u8]) {
+    assert!(rt; answer(alloc, line).expect(rt, "memory").as_slice() == want);
 }
 
 /// A reply about a TCP connection, as far as the letters of its congestion algorithm.
@@ -47,34 +45,36 @@ const LONG: [(Repeated, Repeated); 5] = [
 ];
 
 #[test]
-fn answers_long_lines(rt: HostRuntime) -> Result<(), Fail> {
+fn answers_long_lines(rt: HostRuntime) {
     let alloc = rt.alloc();
     for (line, want) in LONG {
-        answers(&rt, alloc, &repeated(alloc, line)?, &repeated(alloc, want)?)?;
+        let (line, want) = (repeated(&rt, alloc, line), repeated(&rt, alloc, want));
+        answers(&rt, alloc, line.as_bytes(), want.as_bytes());
     }
-    Ok(())
 }
 
 #[test]
-fn answers_bytes_that_are_no_text(rt: HostRuntime) -> Result<(), Fail> {
+fn answers_bytes_that_are_no_text(rt: HostRuntime) {
     for line in [b"unix \xff\xfe".as_slice(), b"\xc3\x28 00", b"unix 00\0"] {
-        answers(&rt, rt.alloc(), line, b"bad line")?;
+        answers(&rt, rt.alloc(), line, b"bad line");
     }
-    Ok(())
 }
 
 /// Memory is never wanted where there is some. With two digits a byte, the longest line has 1 MiB.
 #[test]
-fn lines_of_each_size(rt: HostRuntime) -> Result<(), Fail> {
+fn lines_of_each_size(rt: HostRuntime) {
     let alloc = rt.alloc();
     for size in [
         1, 2, 4, 8, 16, 32, 64, 128, 256, 512, 1024, 2048, 4096, 8192, 16_384, 32_768, 65_536,
         131_072, 262_144, 524_288,
     ] {
         for word in "unix |inet |message |netlink |unixview |dump |".split('|') {
-            let line = repeated(alloc, (word, "01", size, ""))?;
-            assert!(rt; !answer(alloc, &line)?.is_empty());
+            let line = repeated(&rt, alloc, (word, "01", size, ""));
+            assert!(rt;
+                !answer(alloc, line.as_bytes())
+                    .expect(&rt, "memory")
+                    .is_empty()
+            );
         }
     }
-    Ok(())
 }

@@ -2,12 +2,11 @@
 
 use super::{INPUT, OUTPUT, Repeated, repeated};
 use sock_diag_lines::{RunError, run, run_to_status};
-use std::alloc::{AllocError, Global};
+use std::alloc::Global;
 use std::cell::Cell;
 use std::io;
 use std::io::{ErrorKind, Read, Write};
 use std::process::Abort;
-use std::test::Fail;
 
 /// The number of a call that does not come.
 const NEVER: usize = usize::MAX;
@@ -231,40 +230,37 @@ const LONG: [(Repeated, Repeated); 3] = [
 ];
 
 /// Many lines, one that may be longer than any read, and three lines behind it.
-fn among_lines(alloc: Global, lines: &str, long: Repeated) -> Result<Vec<u8>, AllocError> {
-    let mut text = lines.as_bytes().repeat(alloc, 100)?;
-    text.extend_from_slice(&repeated(alloc, long)?)?;
-    text.push(b'\n')?;
-    text.extend_from_slice(lines.as_bytes())?;
-    Ok(text)
+fn among_lines(rt: &impl Abort, alloc: Global, lines: &str, long: Repeated) -> String {
+    let many = lines.repeat(alloc, 100).expect(rt, "memory");
+    let long = repeated(rt, alloc, long);
+    let parts = [many.as_str(), long.as_str(), "\n", lines];
+    parts.concat(alloc).expect(rt, "memory")
 }
 
 #[test]
-fn pieces_of_any_size(rt: HostRuntime) -> Result<(), Fail> {
+fn pieces_of_any_size(rt: HostRuntime) {
     let alloc = rt.alloc();
     for (long, answered) in LONG {
-        let text = among_lines(alloc, INPUT, long)?;
-        let written = among_lines(alloc, OUTPUT, answered)?;
+        let text = among_lines(&rt, alloc, INPUT, long);
+        let written = among_lines(&rt, alloc, OUTPUT, answered);
         for most in [
             1, 2, 3, 7, 64, 1_000, 4_095, 4_096, 4_097, 5_003, 8_191, 8_192, 8_193, 100_003,
         ] {
-            answers_in_pieces(&rt, alloc, &text, &written, most);
+            answers_in_pieces(&rt, alloc, text.as_bytes(), written.as_bytes(), most);
         }
     }
-    Ok(())
 }
 
 /// A hundred thousand lines, and a million reads of one byte.
 #[test]
-fn many_lines_and_reads(rt: HostRuntime) -> Result<(), Fail> {
+fn many_lines_and_reads(rt: HostRuntime) {
     let alloc = rt.alloc();
     for (times, most) in [(33_334, NEVER), (6_000, 1)] {
-        let text = INPUT.as_bytes().repeat(alloc, times)?;
-        let written = OUTPUT.as_bytes().repeat(alloc, times)?;
+        let text = INPUT.as_bytes().repeat(alloc, times).expect(&rt, "memory");
+        let written = OUTPUT.as_bytes().repeat(alloc, times).expect(&rt, "memory");
         let paces = (steady(most), steady(NEVER));
         ends(&rt, alloc, &text, paces, Ok(()), &written);
     }
-    Ok(())
 }
 
 /// A run tells so on its errors why it failed, and nothing else.

@@ -1,64 +1,39 @@
-ghost use Rattle.std.specs.Iterator.{IsFinite};
-
+use super::{gives, shows};
 use netlink_core::{
     CanonError, DecodeError, DefaultNla, MessageStrings, NlaBuffer, NlasIterator, Parseable,
     RecordBuffer, RecordName, canonical, parse_string, write_new,
 };
 use std::alloc::Global;
-use std::fmt::Debug;
 use std::process::Abort;
-use std::test::Fail;
-
-// What `Debug` shows of the value.
-fn shows<T: Debug>(rt: &impl Abort, alloc: Global, value: &T, text: &str) -> Result<(), Fail> {
-    let shown = format!(in alloc; "{value:?}")?;
-    assert!(rt; shown.as_str() == text, "{shown}");
-    Ok(())
-}
 
 #[test]
-fn an_attribute_is_read_in_place(rt: HostRuntime) -> Result<(), Fail> {
+fn an_attribute_is_read_in_place(rt: HostRuntime) {
     let alloc = rt.alloc();
     let bytes: &[u8] = &[6, 0, 6, 0x80, 2, 3, 0xaa];
-    let nla = NlaBuffer::new_checked(bytes)?;
+    let nla = NlaBuffer::new_checked(bytes).expect(&rt, "refused");
     let words = [nla.length(), nla.type_word(), nla.kind()];
-    shows(&rt, alloc, &words, "[6, 32774, 6]")?;
+    shows(&rt, alloc, &words, "[6, 32774, 6]");
     let flags = [nla.nested_flag(), nla.network_byte_order_flag()];
-    shows(&rt, alloc, &flags, "[true, false]")?;
-    let kept = DefaultNla::parse(alloc, nla)?.clone(alloc)?;
+    shows(&rt, alloc, &flags, "[true, false]");
+    let kept = DefaultNla::parse(alloc, nla)
+        .expect(&rt, "refused")
+        .clone(alloc)
+        .expect(&rt, "refused");
     let text = "DefaultNla { kind: 32774, value: [2, 3] }";
-    shows(&rt, alloc, &kept, text)?;
+    shows(&rt, alloc, &kept, text);
     let record = RecordBuffer::<u8, 2>::read_prefix(bytes);
     let text = "Some(RecordBuffer { bytes: [6, 0], of: PhantomData<_> })";
-    shows(&rt, alloc, &record, text)
-}
-
-// What a walk gives, one after the other.
-fn gives<I: Iterator + Drop>(
-    rt: &impl Abort,
-    alloc: Global,
-    walk: I,
-    text: &str,
-) -> Result<(), Fail>
-where
-    I::Item: Debug + Drop,
-    requires { I.can_next walk × IsFinite (I.remaining walk) }
-{
-    let mut items = Vec::new(alloc);
-    for item in walk {
-        items.push(item)?;
-    }
-    shows(rt, alloc, &items, text)
+    shows(&rt, alloc, &record, text);
 }
 
 #[test]
-fn attributes_and_their_faults(rt: HostRuntime) -> Result<(), Fail> {
+fn attributes_and_their_faults(rt: HostRuntime) {
     let two: &[u8] = &[5, 0, 7, 0x80, 1, 0xee, 0xee, 0xee, 4, 0, 8, 0, 1];
     let text = "[Ok(NlaBuffer { type_word: 32775, value: [1] }), \
         Ok(NlaBuffer { type_word: 8, value: [] }), Err(AttributeHeaderCut { left: 1 })]";
-    gives(&rt, rt.alloc(), NlasIterator::new(two), text)?;
+    gives(&rt, rt.alloc(), NlasIterator::new(two), text);
     let text = "[Ok(NlaBuffer { type_word: 32775, value: [1] })]";
-    gives(&rt, rt.alloc(), NlasIterator::new(&two[..5]), text)?;
+    gives(&rt, rt.alloc(), NlasIterator::new(&two[..5]), text);
     let past = "Err(Refused(AttributeLengthPast { length: 5, left: 4 }))";
     let under = "Err(Refused(AttributeLengthUnder4 { length: 3 }))";
     for (bytes, text) in [
@@ -68,9 +43,8 @@ fn attributes_and_their_faults(rt: HostRuntime) -> Result<(), Fail> {
         (&[3, 0, 6, 0, 0], under),
     ] {
         let form = canonical::<DefaultNla>(rt.alloc(), bytes, ());
-        shows(&rt, rt.alloc(), &form, text)?;
+        shows(&rt, rt.alloc(), &form, text);
     }
-    Ok(())
 }
 
 // A message of type 16 with one byte behind its header, three bytes of padding, and a bare header
@@ -81,16 +55,15 @@ const TWO: [u8; 36] = [
 ];
 
 #[test]
-fn messages_of_a_datagram(rt: HostRuntime) -> Result<(), Fail> {
+fn messages_of_a_datagram(rt: HostRuntime) {
     let one = "[Ok([17, 0, 0, 0, 16, 0, 0, 0, 0, 0, 0, 0, 0, 0, 0, 0, 7])]";
     let two = "[Ok([17, 0, 0, 0, 16, 0, 0, 0, 0, 0, 0, 0, 0, 0, 0, 0, 7]), \
         Ok([16, 0, 0, 0, 3, 0, 0, 0, 0, 0, 0, 0, 0, 0, 0, 0])]";
     let cut = "[Ok([17, 0, 0, 0, 16, 0, 0, 0, 0, 0, 0, 0, 0, 0, 0, 0, 7]), \
         Err(EnvelopeCut { got: 15 })]";
     for (end, text) in [(17, one), (19, one), (20, one), (35, cut), (36, two)] {
-        gives(&rt, rt.alloc(), MessageStrings::new(&TWO[..end]), text)?;
+        gives(&rt, rt.alloc(), MessageStrings::new(&TWO[..end]), text);
     }
-    Ok(())
 }
 
 // Each fault, in the order of its number.
@@ -143,15 +116,15 @@ family: 5 })
 ";
 
 #[test]
-fn faults_tell_numbers_and_texts(rt: HostRuntime) -> Result<(), Fail> {
+fn faults_tell_numbers_and_texts(rt: HostRuntime) {
     let mut lines = FAULTS.lines();
     for fault in &faults() {
-        let text = format!(in rt.alloc(); "{fault}")?;
+        let text = format!(in rt.alloc(); "{fault}").expect(&rt, "memory");
         let told = (fault.number(), text, fault);
-        shows(&rt, rt.alloc(), &told, lines.next().ok_or("no line")?)?;
+        shows(&rt, rt.alloc(), &told, lines.next().expect(&rt, "no line"));
     }
     let reasons = [CanonError::Unwritable, CanonError::Memory];
-    shows(&rt, rt.alloc(), &reasons, "[Unwritable, Memory]")
+    shows(&rt, rt.alloc(), &reasons, "[Unwritable, Memory]");
 }
 
 // Sizes up to 1 MiB, and that of the longest value.
@@ -162,21 +135,22 @@ const SIZES: [usize; 22] = [
 
 // Memory is never wanted where there is some: a text is read, an attribute copied, written and
 // rewritten.
-fn has_room(rt: &impl Abort, alloc: Global, size: usize) -> Result<(), Fail> {
-    let bytes = vec![in alloc; b'a'; size]?;
-    parse_string(alloc, &bytes)?;
-    let written = write_new(alloc, &DefaultNla::new(7, bytes).clone(alloc)?);
+fn has_room(rt: &impl Abort, alloc: Global, size: usize) {
+    let bytes = vec![in alloc; b'a'; size].expect(rt, "memory");
+    parse_string(alloc, &bytes).expect(rt, "refused");
+    let written = write_new(
+        alloc,
+        &DefaultNla::new(7, bytes).clone(alloc).expect(rt, "memory"),
+    );
     assert!(rt; written.is_ok() == (size <= 65_531));
     if let Ok(bytes) = written {
         assert!(rt; canonical::<DefaultNla>(alloc, &bytes, ()).is_ok());
     }
-    Ok(())
 }
 
 #[test]
-fn sizes(rt: HostRuntime) -> Result<(), Fail> {
+fn sizes(rt: HostRuntime) {
     for size in SIZES {
-        has_room(&rt, rt.alloc(), size)?;
+        has_room(&rt, rt.alloc(), size);
     }
-    Ok(())
 }

@@ -1,48 +1,45 @@
 //! The bytes are worked out by hand from the layouts of sock_diag(7).
 
+use super::{shows, sizes};
 use netlink_core::{DefaultNla, NlaBuffer, Parseable, Wire, canonical, write_new};
 use sock_diag_attributes::inet::nlas::{self as inet, TcpInfo};
 use sock_diag_attributes::unix::nlas::{NameView, Nla, NlaView, UnixDiagName};
 use std::alloc::Global;
 use std::fmt::Debug;
 use std::process::Abort;
-use std::test::Fail;
-
-mod sizes;
-
-fn shows<T: Debug>(rt: &impl Abort, alloc: Global, value: &T, text: &str) -> Result<(), Fail> {
-    let shown = format!(in alloc; "{value:?}")?;
-    assert!(rt; shown.as_str() == text, "{shown}");
-    Ok(())
-}
 
 /// What is read in place too.
-trait Viewed: Wire<Param = ()> + Debug + Drop {
+pub(super) trait Viewed: Wire<Param = ()> + Debug + Drop {
     /// What is shown of it in place, and a copy with memory of its own.
-    fn viewed(alloc: Global, bytes: &[u8]) -> Result<(String, Self), Fail>;
+    fn viewed(rt: &impl Abort, alloc: Global, bytes: &[u8]) -> (String, Self);
 }
 
 impl Viewed for UnixDiagName {
-    fn viewed(alloc: Global, bytes: &[u8]) -> Result<(String, Self), Fail> {
-        let view = NameView::parse(bytes)?;
-        let copy = view.to_owned(alloc)?.clone(alloc)?;
-        Ok((format!(in alloc; "{view:?}")?, copy))
+    fn viewed(rt: &impl Abort, alloc: Global, bytes: &[u8]) -> (String, Self) {
+        let view = NameView::parse(bytes).expect(rt, "refused");
+        let copy = view.to_owned(alloc).expect(rt, "memory");
+        let copy = copy.clone(alloc).expect(rt, "memory");
+        (format!(in alloc; "{view:?}").expect(rt, "memory"), copy)
     }
 }
 
 impl Viewed for Nla {
-    fn viewed(alloc: Global, bytes: &[u8]) -> Result<(String, Self), Fail> {
-        let view = NlaView::parse(&NlaBuffer::new_checked(bytes)?)?;
-        let copy = view.to_owned(alloc)?.clone(alloc)?;
-        Ok((format!(in alloc; "{view:?}")?, copy))
+    fn viewed(rt: &impl Abort, alloc: Global, bytes: &[u8]) -> (String, Self) {
+        let nla = NlaBuffer::new_checked(bytes).expect(rt, "refused");
+        let view = NlaView::parse(&nla).expect(rt, "refused");
+        let copy = view.to_owned(alloc).expect(rt, "memory");
+        let copy = copy.clone(alloc).expect(rt, "memory");
+        (format!(in alloc; "{view:?}").expect(rt, "memory"), copy)
     }
 }
 
 impl Viewed for inet::Nla {
-    fn viewed(alloc: Global, bytes: &[u8]) -> Result<(String, Self), Fail> {
-        let view = inet::NlaView::parse(&NlaBuffer::new_checked(bytes)?)?;
-        let copy = view.to_owned(alloc)?.clone(alloc)?;
-        Ok((format!(in alloc; "{view:?}")?, copy))
+    fn viewed(rt: &impl Abort, alloc: Global, bytes: &[u8]) -> (String, Self) {
+        let nla = NlaBuffer::new_checked(bytes).expect(rt, "refused");
+        let view = inet::NlaView::parse(&nla).expect(rt, "refused");
+        let copy = view.to_owned(alloc).expect(rt, "memory");
+        let copy = copy.clone(alloc).expect(rt, "memory");
+        (format!(in alloc; "{view:?}").expect(rt, "memory"), copy)
     }
 }
 
@@ -54,27 +51,28 @@ fn told<T: Viewed>(
     (bytes, written): (&[u8], &[u8]),
     owned: &str,
     viewed: &str,
-) -> Result<(), Fail> {
-    shows(rt, alloc, &T::read(alloc, bytes, ())?, owned)?;
-    let (shown, copy) = T::viewed(alloc, bytes)?;
-    shows(rt, alloc, &copy, owned)?;
+) {
+    shows(rt, alloc, &T::read(alloc, bytes, ()), owned);
+    let (shown, copy) = T::viewed(rt, alloc, bytes);
+    shows(rt, alloc, &copy, owned);
     assert!(rt; shown.as_str() == viewed, "{shown}");
-    let form = canonical::<T>(alloc, bytes, ()).ok().ok_or("refused")?;
+    let form = canonical::<T>(alloc, bytes, ()).expect(rt, "refused");
     assert!(rt; form.as_slice() == written, "{form:?}");
-    Ok(())
 }
 
 // In each row: bytes, what they are written as, what is shown of the value and, where it is another
 // text, of what is read in place.
-fn rows<T: Viewed>(rt: &impl Abort, alloc: Global, rows: &str) -> Result<(), Fail> {
+fn rows<T: Viewed>(rt: &impl Abort, alloc: Global, rows: &str) {
     for row in rows.lines() {
-        let (bytes, rest) = row.split_once(' ').ok_or("no bytes")?;
-        let (written, texts) = rest.split_once(' ').ok_or("no text")?;
+        let (bytes, rest) = row.split_once(' ').expect(rt, "no bytes");
+        let (written, texts) = rest.split_once(' ').expect(rt, "no text");
         let (owned, viewed) = texts.split_once('|').unwrap_or((texts, texts));
-        let forms = (hex::decode(alloc, bytes)?, hex::decode(alloc, written)?);
-        told::<T>(rt, alloc, (&forms.0, &forms.1), owned, viewed)?;
+        let forms = (
+            hex::decode(alloc, bytes).expect(rt, "memory"),
+            hex::decode(alloc, written).expect(rt, "memory"),
+        );
+        told::<T>(rt, alloc, (&forms.0, &forms.1), owned, viewed);
     }
-    Ok(())
 }
 
 const NAMES: &str = "\
@@ -123,46 +121,41 @@ LegacyMemInfo(LegacyMemInfo { receive_queue: 1, bottom_send_queue: 2, cache: 3, 
 send_queue: 6, options: 7, backlog_queue_length: Some(8), drops: Some(9) })";
 
 #[test]
-fn names_and_attributes(rt: HostRuntime) -> Result<(), Fail> {
+fn names_and_attributes(rt: HostRuntime) {
     let alloc = rt.alloc();
-    rows::<UnixDiagName>(&rt, alloc, NAMES)?;
-    rows::<Nla>(&rt, alloc, UNIX)?;
-    rows::<inet::Nla>(&rt, alloc, INET)
+    rows::<UnixDiagName>(&rt, alloc, NAMES);
+    rows::<Nla>(&rt, alloc, UNIX);
+    rows::<inet::Nla>(&rt, alloc, INET);
 }
 
 #[test]
-fn information_on_a_connection(rt: HostRuntime) -> Result<(), Fail> {
+fn information_on_a_connection(rt: HostRuntime) {
     let alloc = rt.alloc();
-    let bytes = sizes::attribute(alloc, 236, 2, 7)?;
-    let info = TcpInfo::parse(bytes.get(4..).ok_or("short")?)?;
-    let text = format!(in alloc; "TcpInfo({info:?})")?;
-    told::<inet::Nla>(&rt, alloc, (&bytes, &bytes), &text, &text)
+    let bytes = sizes::attribute(alloc, 236, 2, 7).expect(&rt, "memory");
+    let info = TcpInfo::parse(bytes.get(4..).expect(&rt, "short")).expect(&rt, "refused");
+    let text = format!(in alloc; "TcpInfo({info:?})").expect(&rt, "memory");
+    told::<inet::Nla>(&rt, alloc, (&bytes, &bytes), &text, &text);
 }
 
 #[test]
-fn numbers_are_shown_and_kept(rt: HostRuntime) -> Result<(), Fail> {
+fn numbers_are_shown_and_kept(rt: HostRuntime) {
     let alloc = rt.alloc();
-    let nla = NlaBuffer::new_checked(&[8, 0, 3, 0, 5, 0, 0, 0])?;
-    let NlaView::PendingConnections(numbers) = NlaView::parse(&nla)? else {
-        return Err("no numbers")?;
+    let nla = NlaBuffer::new_checked(&[8, 0, 3, 0, 5, 0, 0, 0]).expect(&rt, "refused");
+    let NlaView::PendingConnections(numbers) = NlaView::parse(&nla).expect(&rt, "refused") else {
+        panic!(&rt; "no numbers");
     };
     let text = "NumbersIterator { rest: NumbersView { bytes: [5, 0, 0, 0] } }";
-    shows(&rt, alloc, &numbers.iter(), text)?;
-    shows(&rt, alloc, &numbers.to_owned(alloc)?, "[5]")
+    shows(&rt, alloc, &numbers.iter(), text);
+    shows(&rt, alloc, &numbers.to_owned(alloc), "[5]");
 }
 
 // In each row: bytes, and why they are refused.
-fn refused<T: Wire<Param = ()> + Debug + Drop>(
-    rt: &impl Abort,
-    alloc: Global,
-    rows: &str,
-) -> Result<(), Fail> {
+fn refused<T: Wire<Param = ()> + Debug + Drop>(rt: &impl Abort, alloc: Global, rows: &str) {
     for row in rows.lines() {
-        let (bytes, text) = row.split_once(' ').ok_or("no text")?;
-        let read = T::read(alloc, &hex::decode(alloc, bytes)?, ());
-        shows(rt, alloc, &read, text)?;
+        let (bytes, text) = row.split_once(' ').expect(rt, "no text");
+        let read = T::read(alloc, &hex::decode(alloc, bytes).expect(rt, "refused"), ());
+        shows(rt, alloc, &read, text);
     }
-    Ok(())
 }
 
 const NO_NAMES: &str = " Err(NameEmpty)
@@ -183,10 +176,10 @@ const NO_INET: &str = "060005000102 Err(WrongLength { kind: Some(5), got: 2, nee
 05000400ff Err(NotUtf8)";
 
 #[test]
-fn refusals(rt: HostRuntime) -> Result<(), Fail> {
-    refused::<UnixDiagName>(&rt, rt.alloc(), NO_NAMES)?;
-    refused::<Nla>(&rt, rt.alloc(), NO_UNIX)?;
-    refused::<inet::Nla>(&rt, rt.alloc(), NO_INET)
+fn refusals(rt: HostRuntime) {
+    refused::<UnixDiagName>(&rt, rt.alloc(), NO_NAMES);
+    refused::<Nla>(&rt, rt.alloc(), NO_UNIX);
+    refused::<inet::Nla>(&rt, rt.alloc(), NO_INET);
 }
 
 // A value is written as these bytes, and they are read like this.
@@ -196,22 +189,22 @@ fn reads_back<T: Wire<Param = ()> + Debug + Drop>(
     value: &T,
     bytes: &[u8],
     text: &str,
-) -> Result<(), Fail> {
-    let written = write_new(alloc, value).ok().ok_or("unwritable")?;
+) {
+    let written = write_new(alloc, value).expect(rt, "unwritable");
     assert!(rt; written.as_slice() == bytes, "{written:?}");
-    shows(rt, alloc, &T::read(alloc, bytes, ()), text)
+    shows(rt, alloc, &T::read(alloc, bytes, ()), text);
 }
 
 #[test]
-fn values_that_no_reader_gives(rt: HostRuntime) -> Result<(), Fail> {
+fn values_that_no_reader_gives(rt: HostRuntime) {
     let alloc = rt.alloc();
     for (path, bytes, text) in [
         (b"".as_slice(), b"\0".as_slice(), "Ok(Abstract([]))"),
         (b"a\0b", b"a\0b\0", "Err(NameInnerZero { index: 1 })"),
         (b"\0a", b"\0a\0", "Ok(Abstract([97, 0]))"),
     ] {
-        let name = UnixDiagName::Pathname(Vec::from_slice(alloc, path)?);
-        reads_back(&rt, alloc, &name, bytes, text)?;
+        let name = UnixDiagName::Pathname(Vec::from_slice(alloc, path).expect(&rt, "memory"));
+        reads_back(&rt, alloc, &name, bytes, text);
     }
     let peer: &[u8] = b"\x08\0\x02\0\x01\0\0\0";
     let short = "Err(WrongLength { kind: Some(2), got: 1, need: 4 })";
@@ -219,8 +212,10 @@ fn values_that_no_reader_gives(rt: HostRuntime) -> Result<(), Fail> {
         (2, b"\x01\0\0\0".as_slice(), peer, "Ok(Peer(1))"),
         (0x8002, b"\x01", b"\x05\0\x02\x80\x01\0\0\0", short),
     ] {
-        let nla = DefaultNla::new(type_word, Vec::from_slice(alloc, value)?);
-        reads_back(&rt, alloc, &Nla::Other(nla), bytes, text)?;
+        let nla = DefaultNla::new(
+            type_word,
+            Vec::from_slice(alloc, value).expect(&rt, "memory"),
+        );
+        reads_back(&rt, alloc, &Nla::Other(nla), bytes, text);
     }
-    Ok(())
 }

@@ -1,12 +1,12 @@
 //! Memory is never wanted where there is some, over inputs of each size.
 
-use super::{Viewed, shows};
+use super::attributes::Viewed;
+use super::shows;
 use netlink_core::canonical;
 use sock_diag_attributes::inet::nlas::Nla as InetNla;
 use sock_diag_attributes::unix::nlas::{Nla, UnixDiagName};
 use std::alloc::{AllocError, Global};
 use std::process::Abort;
-use std::test::Fail;
 
 /// The bytes of an attribute of this length and kind, whose value has one byte again and again.
 pub(super) fn attribute(
@@ -22,11 +22,10 @@ pub(super) fn attribute(
 }
 
 /// It is read, shown and copied from where it is read in place, and rewritten.
-fn has_room<T: Viewed>(rt: &impl Abort, alloc: Global, bytes: &[u8]) -> Result<(), Fail> {
-    T::read(alloc, bytes, ())?;
-    T::viewed(alloc, bytes)?;
+fn has_room<T: Viewed>(rt: &impl Abort, alloc: Global, bytes: &[u8]) {
+    T::read(alloc, bytes, ()).expect(rt, "refused");
+    T::viewed(rt, alloc, bytes);
     assert!(rt; canonical::<T>(alloc, bytes, ()).is_ok());
-    Ok(())
 }
 
 /// Sizes of names up to 1 MiB.
@@ -36,17 +35,16 @@ const SIZES: [usize; 21] = [
 ];
 
 #[test]
-fn names(rt: HostRuntime) -> Result<(), Fail> {
+fn names(rt: HostRuntime) {
     let alloc = rt.alloc();
     for size in SIZES {
         for first in [b'a', 0] {
-            let mut bytes = vec![in alloc; first; 1]?;
-            bytes.resize(size, b'a')?;
-            bytes.push(0)?;
-            has_room::<UnixDiagName>(&rt, alloc, &bytes)?;
+            let mut bytes = vec![in alloc; first; 1].expect(&rt, "memory");
+            bytes.resize(size, b'a').expect(&rt, "memory");
+            bytes.push(0).expect(&rt, "memory");
+            has_room::<UnixDiagName>(&rt, alloc, &bytes);
         }
     }
-    Ok(())
 }
 
 /// Length words of attributes of every size, the header's 4 bytes counted, all multiples of 4.
@@ -55,20 +53,24 @@ const LENGTHS: [u16; 16] = [
 ];
 
 #[test]
-fn attributes(rt: HostRuntime) -> Result<(), Fail> {
+fn attributes(rt: HostRuntime) {
     let alloc = rt.alloc();
     for length in LENGTHS {
         for (kind, byte, more) in [(0, 0, 1), (7, 1, 0), (7, 1, 3), (3, 1, 0)] {
-            let bytes = attribute(alloc, length.saturating_add(more), kind, byte)?;
-            has_room::<Nla>(&rt, alloc, &bytes)?;
+            let bytes = attribute(alloc, length.saturating_add(more), kind, byte).expect(
+                &rt, "memory",
+            );
+            has_room::<Nla>(&rt, alloc, &bytes);
         }
         for (kind, byte, more) in [(4, b'a', 2), (3, 1, 0), (3, 1, 3)] {
-            let bytes = attribute(alloc, length.saturating_add(more), kind, byte)?;
-            has_room::<InetNla>(&rt, alloc, &bytes)?;
+            let bytes = attribute(alloc, length.saturating_add(more), kind, byte).expect(
+                &rt, "memory",
+            );
+            has_room::<InetNla>(&rt, alloc, &bytes);
         }
     }
     // A text of the longest attribute has no room for its end zero.
-    let long = attribute(alloc, u16::MAX, 4, b'a')?;
+    let long = attribute(alloc, u16::MAX, 4, b'a').expect(&rt, "memory");
     let form = canonical::<InetNla>(alloc, &long, ());
-    shows(&rt, alloc, &form, "Err(Unwritable)")
+    shows(&rt, alloc, &form, "Err(Unwritable)");
 }

@@ -1,3 +1,4 @@
+use super::shows;
 use bitflags::Flags;
 use netlink_core::{
     Fills, Parseable, ParseableParametrized, Record, RecordBuffer, Wire, canonical,
@@ -10,7 +11,6 @@ use std::alloc::Global;
 use std::fmt::Debug;
 use std::net::{IpAddr, Ipv6Addr};
 use std::process::Abort;
-use std::test::Fail;
 use std::time::Duration;
 
 // A reply about a socket with a timer that keeps it alive.
@@ -47,12 +47,6 @@ fn places() -> [u8; 232] {
     places
 }
 
-fn shows<T: Debug>(rt: &impl Abort, alloc: Global, value: &T, text: &str) -> Result<(), Fail> {
-    let shown = format!(in alloc; "{value:?}")?;
-    assert!(rt; shown.as_str() == text, "{shown}");
-    Ok(())
-}
-
 fn same(rt: &impl Abort, bytes: &[u8], wanted: &[u8]) {
     assert!(rt; bytes == wanted, "{bytes:?}");
 }
@@ -66,12 +60,12 @@ fn reads<T: Fills<N> + Debug + Drop, const N: usize>(
     told: T::Param,
     (text, short): (&str, &str),
     written: &[u8],
-) -> Result<(), Fail> {
-    shows(rt, alloc, &T::read(alloc, bytes, told)?, text)?;
-    let form = canonical::<T>(alloc, bytes, told).ok().ok_or("refused")?;
+) {
+    shows(rt, alloc, &T::read(alloc, bytes, told), text);
+    let form = canonical::<T>(alloc, bytes, told).expect(rt, "refused");
     same(rt, &form, written);
-    let cut = bytes.get(..N.saturating_sub(1)).ok_or("short")?;
-    shows(rt, alloc, &T::read(alloc, cut, told), short)
+    let cut = bytes.get(..N.saturating_sub(1)).expect(rt, "short");
+    shows(rt, alloc, &T::read(alloc, cut, told), short);
 }
 
 // The value is written as these bytes.
@@ -86,20 +80,20 @@ const UNIX_MEMORY: [u8; 36] = [
 ];
 
 #[test]
-fn values_of_attributes(rt: HostRuntime) -> Result<(), Fail> {
+fn values_of_attributes(rt: HostRuntime) {
     let (alloc, places) = (rt.alloc(), places());
     let text = "Vfs { inode: 50462976, device: 117835012 }";
     let short = "Err(BufferTooSmall { which: Vfs, got: 7, need: 8 })";
-    reads::<Vfs, 8>(&rt, alloc, &places, (), (text, short), &places[..8])?;
+    reads::<Vfs, 8>(&rt, alloc, &places, (), (text, short), &places[..8]);
     let text = "MemInfo { so_rcvbuf: 117835012, max_datagram_size: 252579084, alloc: 387323156 }";
     let short = "Err(BufferTooSmall { which: UnixMemInfo, got: 35, need: 36 })";
-    reads::<unix_nlas::MemInfo, 36>(&rt, alloc, &places, (), (text, short), &UNIX_MEMORY)?;
+    reads::<unix_nlas::MemInfo, 36>(&rt, alloc, &places, (), (text, short), &UNIX_MEMORY);
     let text = "LegacyMemInfo { receive_queue: 50462976, bottom_send_queue: 117835012, \
         cache: 185207048, send_queue: 252579084 }";
     let short = "Err(BufferTooSmall { which: LegacyMemInfo, got: 15, need: 16 })";
-    reads::<LegacyMemInfo, 16>(&rt, alloc, &places, (), (text, short), &places[..16])?;
+    reads::<LegacyMemInfo, 16>(&rt, alloc, &places, (), (text, short), &places[..16]);
     let short = "Err(BufferTooSmall { which: TcpInfo, got: 231, need: 232 })";
-    reads::<TcpInfo, 232>(&rt, alloc, &places, (), (CONNECTION, short), &places)
+    reads::<TcpInfo, 232>(&rt, alloc, &places, (), (CONNECTION, short), &places);
 }
 
 const CONNECTION: &str = "TcpInfo { state: 0, ca_state: 1, retransmits: 2, probes: 3, backoff: 4, \
@@ -121,19 +115,20 @@ reord_seen: 3755924956, rcv_ooopack: 3823296992, snd_wnd: 3890669028 }";
 
 // The bytes are read as seven words and what is shown behind them, and the value is written as what
 // is kept: up to the last whole word.
-fn words(rt: &impl Abort, alloc: Global, bytes: &[u8], end: &str, kept: &[u8]) -> Result<(), Fail> {
-    let value = MemInfo::parse(bytes)?;
+fn words(rt: &impl Abort, alloc: Global, bytes: &[u8], end: &str, kept: &[u8]) {
+    let value = MemInfo::parse(bytes).expect(rt, "refused");
     let written = MemInfoBuffer::from(&value);
     let text = format!(in alloc;
         "(MemInfo {{ receive_queue: 50462976, receive_queue_max: 117835012, \
             bottom_send_queues: 185207048, send_queue_max: 252579084, cache: 319951120, \
             send_queue: 387323156, options: 454695192, {end}({kept:?}) }})"
-    )?;
-    shows(rt, alloc, &(value, written), &text)
+    )
+    .expect(rt, "memory");
+    shows(rt, alloc, &(value, written), &text);
 }
 
 #[test]
-fn memory_of_seven_to_nine_words(rt: HostRuntime) -> Result<(), Fail> {
+fn memory_of_seven_to_nine_words(rt: HostRuntime) {
     let places = places();
     let seven = "backlog_queue_length: None, drops: None }, MemInfoBuffer { bytes: Seven";
     let eight =
@@ -141,30 +136,30 @@ fn memory_of_seven_to_nine_words(rt: HostRuntime) -> Result<(), Fail> {
     let nine = "backlog_queue_length: Some(522067228), drops: Some(589439264) }, \
         MemInfoBuffer { bytes: Nine";
     for (given, end, kept) in [(28, seven, 28), (35, eight, 32), (40, nine, 36)] {
-        words(&rt, rt.alloc(), &places[..given], end, &places[..kept])?;
+        words(&rt, rt.alloc(), &places[..given], end, &places[..kept]);
     }
     let short = &[0; 27];
     let text = "(Err(BufferTooSmall { which: MemInfo, got: 27, need: 28 }), None)";
     let refused = (MemInfo::parse(short), MemInfoBuffer::read_prefix(short));
-    shows(&rt, rt.alloc(), &refused, text)
+    shows(&rt, rt.alloc(), &refused, text);
 }
 
 #[test]
-fn headers_of_replies(rt: HostRuntime) -> Result<(), Fail> {
+fn headers_of_replies(rt: HostRuntime) {
     let alloc = rt.alloc();
     let loose = [9, 1, 10, 7, 0x0e, 0x4f, 0, 0, 0xa0, 2, 0, 0, 0, 0, 0, 0];
     let written = [1, 1, 10, 0, 0x0e, 0x4f, 0, 0, 0xa0, 2, 0, 0, 0, 0, 0, 0];
     let text = "UnixResponseHeader { kind: 1, state: 10, inode: 20238, \
         cookie: [160, 2, 0, 0, 0, 0, 0, 0] }";
     let short = "Err(BufferTooSmall { which: UnixResponseHeader, got: 15, need: 16 })";
-    reads::<UnixResponseHeader, 16>(&rt, alloc, &loose, (), (text, short), &written)?;
+    reads::<UnixResponseHeader, 16>(&rt, alloc, &loose, (), (text, short), &written);
     let text = "InetResponseHeader { family: 2, state: 1, timer: Some(KeepAlive(24.704s)), \
         socket_id: SocketId { source_port: 60180, destination_port: 443, \
         source_address: 192.168.178.60, destination_address: 172.217.23.131, interface_id: 0, \
         cookie: [82, 3, 0, 0, 0, 0, 0, 0] }, recv_queue: 0, send_queue: 0, uid: 1000, \
         inode: 2742952 }";
     let short = "Err(BufferTooSmall { which: InetResponseHeader, got: 71, need: 72 })";
-    reads::<InetResponseHeader, 72>(&rt, alloc, &HEADER, (), (text, short), &HEADER)
+    reads::<InetResponseHeader, 72>(&rt, alloc, &HEADER, (), (text, short), &HEADER);
 }
 
 // The header with another timer, another number of retransmits and another time.
@@ -176,7 +171,7 @@ fn with_timer(timer: [u8; 2], expires: [u8; 4]) -> [u8; 72] {
 }
 
 #[test]
-fn timers(rt: HostRuntime) -> Result<(), Fail> {
+fn timers(rt: HostRuntime) {
     let time = [0x80, 0x60, 0, 0];
     for (given, text, timer, expires) in [
         ([0, 0], "None", [0, 0], [0; 4]),
@@ -186,11 +181,13 @@ fn timers(rt: HostRuntime) -> Result<(), Fail> {
         ([3, 0], "Some(TimeWait)", [3, 0], [0; 4]),
         ([4, 0], "Some(Probe(24.704s))", [4, 0], time),
     ] {
-        let header = InetResponseHeader::parse(rt.alloc(), with_timer(given, time).as_slice())?;
-        shows(&rt, rt.alloc(), &header.timer, text)?;
+        let header = InetResponseHeader::parse(
+            rt.alloc(),
+            with_timer(given, time).as_slice(),
+        ).expect(&rt, "refused");
+        shows(&rt, rt.alloc(), &header.timer, text);
         is_written(&rt, &header, with_timer(timer, expires));
     }
-    Ok(())
 }
 
 const FOUR: &str = "SocketId { source_port: 53, destination_port: 54321, \
@@ -202,29 +199,29 @@ source_address: 7f00:1:eeee:eeee:eeee:eeee:eeee:eeee, destination_address: 7f00:
 interface_id: 1, cookie: [0, 1, 2, 3, 4, 5, 6, 7] }";
 
 #[test]
-fn identities(rt: HostRuntime) -> Result<(), Fail> {
+fn identities(rt: HostRuntime) {
     let alloc = rt.alloc();
     let mut written = LOOSE_INET;
     written[16..28].fill(0);
     let loose = &LOOSE_INET[8..];
     let short = "Err(BufferTooSmall { which: SocketId, got: 47, need: 48 })";
-    reads::<SocketId, 48>(&rt, alloc, loose, 2, (FOUR, short), &written[8..])?;
-    reads::<SocketId, 48>(&rt, alloc, loose, 10, (SIX, short), loose)?;
+    reads::<SocketId, 48>(&rt, alloc, loose, 2, (FOUR, short), &written[8..]);
+    reads::<SocketId, 48>(&rt, alloc, loose, 10, (SIX, short), loose);
     let others = (
         SocketId::parse_with_param(alloc, loose, 1),
         InetRequest::parse(alloc, [1; 56].as_slice()),
     );
     let text = "(Err(UnsupportedFamily { family: 1 }), Err(UnsupportedFamily { family: 1 }))";
-    shows(&rt, alloc, &others, text)
+    shows(&rt, alloc, &others, text);
 }
 
 #[test]
-fn requests(rt: HostRuntime) -> Result<(), Fail> {
+fn requests(rt: HostRuntime) {
     let alloc = rt.alloc();
     let text = "UnixRequest { state_flags: StateFlags(1026), inode: 4660, \
         show_flags: ShowFlags(63), cookie: [255, 255, 255, 255, 255, 255, 255, 255] }";
     let short = "Err(BufferTooSmall { which: UnixRequest, got: 23, need: 24 })";
-    reads::<UnixRequest, 24>(&rt, alloc, &LOOSE_UNIX, (), (text, short), &UNIX)?;
+    reads::<UnixRequest, 24>(&rt, alloc, &LOOSE_UNIX, (), (text, short), &UNIX);
     let mut written = LOOSE_INET;
     written[3..8].copy_from_slice(&[0, 0xfe, 0x0f, 0, 0]);
     written[16..28].fill(0);
@@ -233,39 +230,42 @@ fn requests(rt: HostRuntime) -> Result<(), Fail> {
         destination_port: 54321, source_address: 127.0.0.1, destination_address: 127.0.0.1, \
         interface_id: 1, cookie: [0, 1, 2, 3, 4, 5, 6, 7] } }";
     let short = "Err(BufferTooSmall { which: InetRequest, got: 55, need: 56 })";
-    reads::<InetRequest, 56>(&rt, alloc, &LOOSE_INET, (), (text, short), &written)
+    reads::<InetRequest, 56>(&rt, alloc, &LOOSE_INET, (), (text, short), &written);
 }
 
 #[test]
-fn durations_that_are_no_milliseconds_of_a_word(rt: HostRuntime) -> Result<(), Fail> {
+fn durations_that_are_no_milliseconds_of_a_word(rt: HostRuntime) {
     for (duration, expires) in [
         (Duration::from_nanos(1_500_000), [1, 0, 0, 0]),
         (Duration::from_millis(4_294_967_301), [5, 0, 0, 0]),
         (Duration::MAX, [255, 255, 255, 255]),
     ] {
-        let mut header = InetResponseHeader::parse(rt.alloc(), HEADER.as_slice())?;
+        let mut header = InetResponseHeader::parse(rt.alloc(), HEADER.as_slice()).expect(
+            &rt, "refused",
+        );
         header.timer = Some(Timer::KeepAlive(duration));
         is_written(&rt, &header, with_timer([2, 0], expires));
     }
-    Ok(())
 }
 
 #[test]
-fn values_that_no_reader_gives(rt: HostRuntime) -> Result<(), Fail> {
+fn values_that_no_reader_gives(rt: HostRuntime) {
     let octets = [1, 2, 3, 4, 5, 6, 7, 8, 9, 10, 11, 12, 13, 14, 15, 16];
     let mut identity = SocketId::new_v4();
     identity.source_address = IpAddr::V6(Ipv6Addr::from(octets));
     let mut wanted = [0; 48];
     wanted[4..20].copy_from_slice(&octets);
     is_written(&rt, &identity, wanted);
-    let mut request = UnixRequest::parse(rt.alloc(), UNIX.as_slice())?;
+    let mut request = UnixRequest::parse(rt.alloc(), UNIX.as_slice()).expect(&rt, "refused");
     request.state_flags = StateFlags::from_bits_retain(0xffff_ffff);
     let mut wanted = UNIX;
     wanted[4..8].fill(255);
     is_written(&rt, &request, wanted);
-    let mut memory = MemInfo::parse(&places())?;
+    let mut memory = MemInfo::parse(&places()).expect(&rt, "refused");
     memory.backlog_queue_length = None;
-    let again = MemInfo::parse(MemInfoBuffer::from(&memory).to_bytes().as_slice())?;
+    let again = MemInfo::parse(MemInfoBuffer::from(&memory).to_bytes().as_slice()).expect(
+        &rt, "refused",
+    );
     let drops = (again.backlog_queue_length, again.drops);
-    shows(&rt, rt.alloc(), &drops, "(Some(0), Some(589439264))")
+    shows(&rt, rt.alloc(), &drops, "(Some(0), Some(589439264))");
 }

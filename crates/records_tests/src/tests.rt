@@ -1,0 +1,29 @@
+ghost use Rattle.std.specs.Iterator.{IsFinite};
+
+use std::alloc::Global;
+use std::fmt::Debug;
+use std::process::Abort;
+
+mod attributes;
+mod netlink;
+mod records;
+mod sizes;
+
+/// What `Debug` shows of the value has this part.
+fn shows<T: Debug>(rt: &impl Abort, alloc: Global, value: &T, part: &str) {
+    let shown = format!(in alloc; "{value:?}").expect(rt, "memory");
+    assert!(rt; shown.contains(part), "{shown}");
+}
+
+/// The answers of the walk, one after the other, are shown like this.
+fn gives<I: Iterator + Drop>(rt: &impl Abort, alloc: Global, walk: I, text: &str)
+where
+    I::Item: Debug + Drop,
+    requires { I.can_next walk × IsFinite (I.remaining walk) }
+{
+    let mut answers = Vec::new(alloc);
+    for answer in walk {
+        answers.push(answer).expect(rt, "memory");
+    }
+    shows(rt, alloc, &answers, text);
+}
