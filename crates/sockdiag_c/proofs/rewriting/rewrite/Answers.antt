@@ -1,11 +1,5 @@
 use Rattle.std.proofs.Common.{arith, inl}
-<<<<<<< HEAD:crates/sockdiag_c/proofs/rewriting/sockdiag_rewrite_inet_reply/Answers.antt
-use Rattle.sock_diag_replies.specs.InetResponseSpec.{inet_response_spec}
-use Rattle.sock_diag_replies.specs.InetResponseSpecLaws.{inet_response_laws}
 use Rattle.sock_diag_replies.specs.ViewModel.{view_model}
-=======
-use Rattle.sock_diag_replies.specs.ViewModel.{view_model}
->>>>>>> f0d707f862b546348d22a3fd0db6d364f5b2b6f3:crates/sockdiag_c/proofs/rewriting/rewrite/Answers.antt
 use Rattle.sockdiag_c.proofs.Alike.{canonical_where_written}
 use Rattle.sockdiag_c.proofs.rewriting.rewrite.Goals as goal
 
