@@ -9,8 +9,8 @@ ghost use Rattle.netlink_core.specs.Layout.{read};
 ghost use Rattle.netlink_core.specs.Walk.{attribute_of, bytes_left};
 
 use netlink_core::{DecodeError, FamilyView, NlaBuffer, NlasIterator, Record, read_record};
-use sock_diag_attributes::inet::NlaView as InetNlaView;
-use sock_diag_attributes::unix::NlaView as UnixNlaView;
+use sock_diag_attributes::inet::nlas::NlaView as InetNlaView;
+use sock_diag_attributes::unix::nlas::NlaView as UnixNlaView;
 use sock_diag_records::inet::InetResponseHeader;
 use sock_diag_records::unix::UnixResponseHeader;
 use std::marker::PhantomData;
