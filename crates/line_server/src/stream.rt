@@ -252,9 +252,9 @@ fn read_line<A: LineAnswers>(
     kept: &mut Kept,
     end: &[u8],
 ) -> Result<A::Asked, AllocError>
-    ensures { IfOk result (λ asked. A.asks (kept.old.line.items ++ end.now) asked
-        kept.new.bytes.items
-        × (kept.new.answers.items ≡ kept.old.answers.items)) }
+    ensures asked { IfOk result (λ asked. A.asks (kept.old.line.items ++ end.now) asked
+        kept.new.bytes.items) }
+    ensures others { OnOk result (kept.new.answers.items ≡ kept.old.answers.items) }
 {
     if kept.line.is_empty() {
         return A::read_request(alloc, &mut kept.bytes, end);
@@ -296,8 +296,8 @@ fn empty(alloc: Global, room: &mut Vec<u8>)
 /// Writes all the bytes.
 fn send<W: AnswerWrite>(output: &mut W, bytes: &[u8]) -> Result<(), ServeError>
     ensures written { Writes (W.held output.old) (W.held output.new) bytes.now result }
-    ensures cause { IfErr result (λ e. (is_closed : Bool) × (e ≡ ServeError.Write is_closed)
-        × W.failed output.new is_closed) }
+    ensures cause { IfErr result (λ e. (is_closed : Bool) → e ≡ ServeError.Write is_closed
+        → W.failed output.new is_closed) }
 {
     let mut rest = bytes;
     'writes: while !rest.is_empty() {

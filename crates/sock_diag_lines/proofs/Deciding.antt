@@ -2,7 +2,7 @@
 use Rattle.std.proofs.Common.{◌⊎◌, inl, inr, ℕ, ◌+◌, ◌≤◌, List, [], ◌∷◌, length, map, arith}
 use Rattle.std.specs.List.{AllByRecursion}
 use Rattle.std.proofs.lemmas.Bool.{cases_lt}
-use Rattle.netlink_core.specs.Attribute.{Attribute, HasFittingValue}
+use Rattle.netlink_core.specs.Attribute.{HasFittingValue}
 use Rattle.netlink_core.specs.AttributeSet.{encodes}
 use Rattle.netlink_core.specs.Response.{ResponseSpec, ValueOf, response_bytes, response_codec}
 use Rattle.netlink_core.specs.Envelope.{Payload, done_with, error_with, no_payload, overrun_with}
@@ -19,33 +19,23 @@ at_most m n = elim (cases_lt n m) [
   | inr below ↦ inl below
 ]
 
+both_or_not : {P Q : Type 0} → P ⊎ ¬ P → Q ⊎ ¬ Q → (P × Q) ⊎ ¬ (P × Q)
+both_or_not (inl p) (inl q) = inl (p, q)
+both_or_not (inl p) (inr fails) = inr (λ h. fails h.1)
+both_or_not (inr fails) q = inr (λ h. fails h.0)
+
 -- whether something holds of each is decided where it is decided of one
 pub each_or_not : {X : Type 0} (P : X → Type 0) → ((x : X) → P x ⊎ ¬ P x) → (xs : List X)
     → AllByRecursion P xs ⊎ ¬ AllByRecursion P xs
 each_or_not P decide [] = inl tt
-each_or_not P decide (x ∷ later) = elim (decide x) [
-  | inl holds ↦ elim (each_or_not P decide later) [
-    | inl others ↦ inl (holds, others)
-    | inr fails ↦
-        inr (λ h. fails h.1)
-  ]
-  | inr fails ↦ inr (λ h. fails h.0)
-]
-
-all_fit : (attributes : List Attribute) → AllByRecursion HasFittingValue attributes
-    ⊎ ¬ AllByRecursion HasFittingValue attributes
-all_fit attributes = each_or_not HasFittingValue (λ a. at_most (length a.value) 65531) attributes
+each_or_not P decide (x ∷ later) = both_or_not (decide x) (each_or_not P decide later)
 
 pub reply_fits_or_not : (R : ResponseSpec) (value : ValueOf R) → (response_codec R).fits value
     ⊎ ¬ (response_codec R).fits value
-reply_fits_or_not R value = elim (all_fit (map (encodes R.attribute_set) value.nlas)) [
-  | inl fits ↦ elim (at_most (length (response_bytes R value)) 4294967295) [
-    | inl room ↦
-        inl (fits, room)
-    | inr full ↦ inr (λ h. full h.1)
-  ]
-  | inr unfit ↦ inr (λ h. unfit h.0)
-]
+reply_fits_or_not R value =
+    both_or_not (each_or_not HasFittingValue (λ a. at_most (length a.value) 65531)
+    (map (encodes R.attribute_set) value.nlas))
+    (at_most (length (response_bytes R value)) 4294967295)
 
 pub message_fits_or_not : (value : Message) → message_codec.fits value ⊎ ¬ message_codec.fits value
 message_fits_or_not (message_of inet_request request) = inl tt
@@ -63,8 +53,5 @@ inner_fits_or_not (overrun_with given) = inl tt
 
 pub envelope_fits_or_not : (value : Envelope Message) → (envelope_codec message_codec).fits value
     ⊎ ¬ (envelope_codec message_codec).fits value
-envelope_fits_or_not value = elim (inner_fits_or_not value.payload) [
-  | inl fits ↦ elim (at_most (16 + length (payload_bytes message_codec.written value.payload))
-      4294967295) [ inl room ↦ inl (fits, room) | inr full ↦ inr (λ h. full h.1) ]
-  | inr unfit ↦ inr (λ h. unfit h.0)
-]
+envelope_fits_or_not value = both_or_not (inner_fits_or_not value.payload)
+    (at_most (16 + length (payload_bytes message_codec.written value.payload)) 4294967295)

@@ -24,7 +24,8 @@ use Rattle.sock_diag_lines.specs.ReadDumpSteps.{DumpOutcome, IsDumpOf, IsWritabl
 use Rattle.sock_diag_lines.proofs.Deciding.{each_or_not, message_fits_or_not}
 use Rattle.sock_diag_lines.proofs.EnvelopeLaws.{envelope_laws}
 use Rattle.sock_diag_lines.proofs.FieldLaws.{IsBytes-field}
-use Rattle.sock_diag_lines.proofs.AnswerTexts.{one_answer_text, answers_value}
+use Rattle.sock_diag_lines.specs.Subjects.{envelope_subject}
+use Rattle.sock_diag_lines.proofs.AnswerTexts.{has_text, one_text, one_value}
 
 -- each datagram has items
 some_items : (b : List ℕ) → IsBytes b → (items : List (Result (Payload Message) DecodeError))
@@ -34,8 +35,8 @@ some_items = items_of message_codec message_laws.answered
 -- and no others
 one_items : (b : List ℕ) → IsBytes b → (xs ys : List (Result (Payload Message) DecodeError))
     → ItemsAre message_codec b xs → ItemsAre message_codec b ys → xs ≡ ys
-one_items = one_list message_codec envelope_laws.one_value envelope_laws.one_answer
-    envelope_laws.one_fault
+one_items = one_list message_codec (one_value envelope_subject envelope_laws)
+    envelope_laws.one_answer envelope_laws.one_fault
 
 -- ---- one dump
 
@@ -77,14 +78,13 @@ pub has_dump_text : (datagrams : List (List ℕ)) → AllByRecursion IsBytes dat
     × IsDumpAnswer datagrams text
 has_dump_text datagrams in_range =
     let dump = has_dumps [] datagrams in_range in
-    answers_value IsWritable dump_text (λ d. IsDumpOf datagrams d) (λ fault. ⊥) (dump.0, dump.1)
-    dump.2
-    (each_or_not _ message_fits_or_not dump.0)
+    has_text IsWritable dump_text (λ d. IsDumpOf datagrams d) (λ fault. ⊥)
+    (inl ((dump.0, dump.1), dump.2)) (λ d. each_or_not _ message_fits_or_not d.0)
 
 -- and no other
 pub one_dump_text : (datagrams : List (List ℕ)) → AllByRecursion IsBytes datagrams → (x y : List ℕ)
     → IsDumpAnswer datagrams x → IsDumpAnswer datagrams y → x ≡ y
-one_dump_text datagrams in_range = one_answer_text IsWritable dump_text (λ d. IsDumpOf datagrams d)
+one_dump_text datagrams in_range = one_text IsWritable dump_text (λ d. IsDumpOf datagrams d)
     (λ fault. ⊥) one (λ d fault is never. never) (λ fault other never also. absurd never)
   where
     one : (d e : DumpOutcome) → IsDumpOf datagrams d → IsDumpOf datagrams e → d ≡ e

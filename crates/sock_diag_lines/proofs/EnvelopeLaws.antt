@@ -1,10 +1,9 @@
 -- The text of netlink messages, which is all of them.
-use Rattle.std.proofs.Common.{◌≡◌, ◌↔◌, ℕ, ◌-◌, ◌<◌, ◌^◌, List, take, drop, decimal, refl, sym, ap}
-use Rattle.std.proofs.Common.{subst, arith}
+use Rattle.std.proofs.Common.{◌≡◌, ℕ, ◌-◌, ◌<◌, ◌^◌, List, take, drop, decimal, sym, subst, arith}
 use Rattle.std.proofs.lemmas.Fmt.{decimal_injective}
 use Rattle.netlink_core.specs.Bytes.{IsBytes}
 use Rattle.netlink_core.specs.Envelope.{Payload, done_with, error_with, no_payload, overrun_with}
-use Rattle.netlink_core.specs.Envelope.{inner, Envelope, PayloadIs, payload_bytes, envelope_codec}
+use Rattle.netlink_core.specs.Envelope.{inner, PayloadIs, payload_bytes}
 use Rattle.netlink_core.proofs.Framing.{envelope_or_fault, envelope_or_fault_apart}
 use Rattle.netlink_core.proofs.Framing.{one_envelope_fault, payload_in_range}
 use Rattle.netlink_core.proofs.Idle.{equal_where_idle, payloads_alike}
@@ -12,7 +11,6 @@ use Rattle.netlink_packet_sock_diag.specs.Message.{message_codec, Message}
 use Rattle.netlink_packet_sock_diag.specs.MessageLaws.{message_laws}
 use Rattle.sock_diag_lines.proofs.CanonicalLaws.{same_written}
 use Rattle.sock_diag_lines.proofs.Deciding.{envelope_fits_or_not}
-use Rattle.sock_diag_lines.specs.EnvelopeLine.{envelope_text}
 use Rattle.sock_diag_lines.specs.TextSteps.{word}
 use Rattle.sock_diag_lines.proofs.FieldLaws.{decimal_digits, field_of-same, word_and_rest}
 use Rattle.sock_diag_lines.specs.Subjects.{envelope_subject}
@@ -41,20 +39,11 @@ payload_written t x (inner m) hx r =
 
 -- ---- messages
 
-equal_idle : (b c : List ℕ) (v w : Envelope Message) → IsBytes b → IsBytes c
-    → (envelope_codec message_codec).reads b tt v → (envelope_codec message_codec).reads c tt w
-    → ((v ≡ w) ↔ (envelope_codec message_codec).idle tt b c)
-equal_idle b c v w hb hc r s =
-    equal_where_idle message_codec message_laws.same_value b c v w hb hc r s
-
--- messages of one text are equal
-same_text : (b c : List ℕ) (v w : Envelope Message) → IsBytes b → IsBytes c
-    → (envelope_codec message_codec).reads b tt v → (envelope_codec message_codec).reads c tt w
-    → (envelope_codec message_codec).fits v → (envelope_codec message_codec).fits w
-    → envelope_text v ≡ envelope_text w → v ≡ w
-same_text b c v w hb hc (head, r) (other, s) f g e =
-    let h = head.1 in
-    let k = other.1 in
+-- the fields of the header and the written payload show all of a message
+pub envelope_has_full_text : HasFullText envelope_subject
+envelope_has_full_text b c v w hb hc r s f g e =
+    let h = r.0.1 in
+    let k = s.0.1 in
     let lengths = word-same v.header.length w.header.length _ _ h.0 k.0 e in
     let types = word-same v.header.message_type w.header.message_type _ _ (omega (arith, h.1.0))
     (omega (arith, k.1.0)) lengths.1 in
@@ -68,15 +57,15 @@ same_text b c v w hb hc (head, r) (other, s) f g e =
     let y : List ℕ = take (w.header.length - 16) (drop 16 c) in
     let hx = payload_in_range v.header.length b hb in
     let hy = payload_in_range w.header.length c hc in
-    let p = payload_written v.header.message_type x v.payload hx r in
-    let q = payload_written w.header.message_type y w.payload hy s in
+    let p = payload_written v.header.message_type x v.payload hx r.1 in
+    let q = payload_written w.header.message_type y w.payload hy s.1 in
     let written = field_of-same (payload_bytes message_codec.written v.payload)
     (payload_bytes message_codec.written w.payload) p q ports.1 in
     let same_type = subst (λ (t : ℕ). PayloadIs message_codec.reads y t w.payload) (sym types.0)
-    s in
+    s.1 in
     let t = v.header.message_type in
     let payloads = payloads_alike message_codec.reads message_codec.written message_codec.fits t x y
-    (λ m n. same_written message_codec message_laws t x y m n hx hy) v.payload w.payload r
+    (λ m n. same_written message_codec message_laws t x y m n hx hy) v.payload w.payload r.1
     same_type f.0 g.0 written in
     λ i. record {
       header = record {
@@ -92,17 +81,10 @@ same_text b c v w hb hc (head, r) (other, s) f g e =
 pub envelope_laws : LawsOf envelope_subject
 envelope_laws = record {
   answered = λ b h. envelope_or_fault message_codec b h message_laws.answered;
-  one_value = λ b v w h r s. (equal_idle b b v w h h r s).1 ((equal_idle b b v v h h r r).0 refl);
   one_answer = λ b v e. envelope_or_fault_apart message_codec b v e
       (λ x t m. message_laws.one_answer x t m e);
   one_fault = λ b e f. one_envelope_fault message_codec b e f
       (λ x t. message_laws.one_fault x t e f);
+  same_value = equal_where_idle message_codec message_laws.same_value;
   fits_or_not = envelope_fits_or_not;
-  written_texts_alike = λ b c v w hb hc r s i.
-      ap envelope_text ((equal_idle b c v w hb hc r s).1 i);
 }
-
--- the fields of the header and the written payload show all of a message
-pub envelope_has_full_text : HasFullText envelope_subject
-envelope_has_full_text b c v w hb hc r s f g e =
-    (equal_idle b c v w hb hc r s).0 (same_text b c v w hb hc r s f g e)

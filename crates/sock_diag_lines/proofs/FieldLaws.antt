@@ -1,36 +1,28 @@
 -- Hex fields and decimal words tell what they were made of.
-use Rattle.std.proofs.Common.{◌≡◌, ◌∙◌, inl, inr, ℕ, ◌<◌, ◌^◌, true, List, [], ◌∷◌, ◌++◌, length}
-use Rattle.std.proofs.Common.{codes, decimal, refl, sym, ap, ap₂, arith}
+use Rattle.std.proofs.Common.{◌≡◌, inl, inr, ℕ, ◌<◌, ◌^◌, true, List, [], ◌∷◌, ◌++◌}
+use Rattle.std.proofs.Common.{decimal, refl, sym, ap₂, subst, arith}
 use Rattle.std.specs.Str.{all_ascii_digits}
 use Rattle.std.proofs.lemmas.Fmt.{digits_decimal}
 use Rattle.std.proofs.lemmas.Str.Parse.{numerals_by_value, tells_all_ascii_digits}
-use Rattle.hex.specs.Hex.{decode_of, encode_lower}
-use Rattle.hex.proofs.HexLemmas.{decode_of-encode_lower, decode_of-ok, decode_of-same}
+use Rattle.hex.proofs.HexLemmas.{decode_of-encode_lower, decode_of-ok}
 use Rattle.netlink_core.specs.Bytes.{IsBytes}
 use Rattle.sock_diag_lines.specs.HexField.{IsHexField, field_of}
+use Rattle.sock_diag_lines.proofs.FieldLists.{one_field}
 
 -- what a field stands for is bytes
 pub IsBytes-field : (field content : List ℕ) → IsHexField field content → IsBytes content
 IsBytes-field field content (inl dash) = λ i. rw dash.1 (omega arith)
 IsBytes-field field content (inr digits) = (decode_of-ok field content digits.1).3
 
--- digits are never the field of no bytes
-digits_apart : (b : ℕ) (rest : List ℕ) → IsBytes (b ∷ rest) → codes "-" ≡ encode_lower (b ∷ rest)
-    → ⊥
-digits_apart b rest h e =
-    let even = (decode_of-ok (encode_lower (b ∷ rest)) (b ∷ rest)
-    (decode_of-encode_lower (b ∷ rest) h)).0 in
-    let one = ap length e in
-    omega (arith, even, one)
+-- the field of bytes stands for them
+field_stands : (x : List ℕ) → IsBytes x → IsHexField (field_of x) x
+field_stands [] h = inl (refl, refl)
+field_stands (b ∷ x) h = inr (omega arith, decode_of-encode_lower (b ∷ x) h)
 
 -- equal fields stand for equal bytes
 pub field_of-same : (x y : List ℕ) → IsBytes x → IsBytes y → field_of x ≡ field_of y → x ≡ y
-field_of-same [] [] hx hy e = refl
-field_of-same [] (b ∷ y) hx hy e = absurd (digits_apart b y hy e)
-field_of-same (a ∷ x) [] hx hy e = absurd (digits_apart a x hx (sym e))
-field_of-same (a ∷ x) (b ∷ y) hx hy e =
-    decode_of-same (encode_lower (a ∷ x)) (a ∷ x) (b ∷ y) (decode_of-encode_lower (a ∷ x) hx)
-    (ap decode_of e ∙ decode_of-encode_lower (b ∷ y) hy)
+field_of-same x y hx hy e = one_field (field_of x) x y (field_stands x hx)
+    (subst (λ (f : List ℕ). IsHexField f y) (sym e) (field_stands y hy))
 
 -- a word of digits before a space, and what follows it
 pub word_and_rest : (x y rest other : List ℕ) → all_ascii_digits x ≡ true

@@ -1,4 +1,3 @@
-pub mod ByteLaws
 pub mod FieldLaws
 pub mod SubjectLaws
 pub mod Deciding

@@ -3,6 +3,7 @@ pub mod AnswerText
 pub mod TextSteps
 pub mod EnvelopeLine
 pub mod ViewLine
+pub mod ViewSteps
 pub mod Subjects
 pub mod DumpLine
 pub mod Answer

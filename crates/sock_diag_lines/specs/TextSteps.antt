@@ -1,11 +1,23 @@
 -- How a text grows, and the words that it grows by.
-use Rattle.std.specs.Prelude.{◌≡◌, ℕ, List, ◌∷◌, ◌++◌, codes, decimal}
+use Rattle.std.specs.Prelude.{◌≡◌, ◌==◌, ◌<◌, ◌+◌, ℕ, Bool, List, ◌∷◌, ◌++◌, length, take, drop}
+use Rattle.std.specs.Prelude.{codes, decimal}
+use Rattle.std.specs.List.{slice_split}
 use Rattle.netlink_core.specs.Faults.{number_of}
 use Rattle.netlink_core.specs.declared.fault.DecodeError.{DecodeError}
 
 -- a text grew at its end, by one of those that P holds of
 abbrev pub Adds : List ℕ → List ℕ → (List ℕ → Type 0) → Type 0
 Adds old new P = (more : List ℕ) × (new ≡ old ++ more) × P more
+
+-- a space
+abbrev pub is_space : ℕ → Bool
+is_space c = c == 32
+
+-- the first space of a line stands at this place, and cuts it
+pub record IsFirstSpace (line : List ℕ) (i : ℕ) : Type 0 where
+  pub within : i < length line
+  pub cut : line ≡ take i line ++ 32 ∷ drop (i + 1) line
+  pub split : slice_split is_space line ≡ take i line ∷ slice_split is_space (drop (i + 1) line)
 
 -- `ok` and what is shown
 abbrev pub accepted : List ℕ → List ℕ

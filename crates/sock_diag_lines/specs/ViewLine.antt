@@ -1,6 +1,7 @@
 -- The text of a reply about a UNIX socket: thirteen words with one space between.
-use Rattle.std.specs.Prelude.{ℕ, List, [], ◌∷◌, ◌++◌, map, codes, decimal, Option, None, Some}
-use Rattle.std.specs.List.{join_with_byte}
+use Rattle.std.specs.Prelude.{ℕ, List, [], ◌∷◌, ◌++◌, codes, decimal, Option, None, Some}
+use Rattle.std.specs.Prelude.{option_map}
+use Rattle.std.specs.List.{flat_map, join_with_byte}
 use Rattle.netlink_core.specs.AttributeSet.{content}
 use Rattle.sock_diag_attributes.specs.Name.{SocketName, abstract, pathname}
 use Rattle.sock_diag_attributes.specs.UnixAttributes.{unix}
@@ -18,10 +19,10 @@ abbrev pub name_word : SocketName → List ℕ
 name_word (pathname path) = codes "path:" ++ field_of path
 name_word (abstract address) = codes "abstract:" ++ field_of address
 
--- numbers in decimal with a comma between, 44; `-` for no numbers
+-- numbers in decimal, with a comma, 44, in front of each but the first; `-` for no numbers
 abbrev pub comma_list : List ℕ → List ℕ
 comma_list [] = codes "-"
-comma_list (n ∷ ns) = join_with_byte 44 (map decimal (n ∷ ns))
+comma_list (n ∷ ns) = decimal n ++ flat_map (λ m. 44 ∷ decimal m) ns
 
 -- thirteen words with one space, 32, between: three of the header, and one for each getter
 abbrev pub reply_text : UnixResponseValue → List ℕ
@@ -32,10 +33,10 @@ reply_text v =
     or_none decimal (found 2) ∷ or_none name_word (found 0) ∷
     or_none comma_list (found 3) ∷ or_none decimal (found 6) ∷
     -- the queues of a listening socket, and those of any other
-    or_none (λ queue. decimal queue.0) (listening_queue_of v) ∷
-    or_none (λ queue. decimal queue.1) (listening_queue_of v) ∷
-    or_none (λ queue. decimal queue.0) (other_queue_of v) ∷
-    or_none (λ queue. decimal queue.1) (other_queue_of v) ∷
+    or_none decimal (option_map (λ queue. queue.0) (listening_queue_of v)) ∷
+    or_none decimal (option_map (λ queue. queue.1) (listening_queue_of v)) ∷
+    or_none decimal (option_map (λ queue. queue.0) (other_queue_of v)) ∷
+    or_none decimal (option_map (λ queue. queue.1) (other_queue_of v)) ∷
     -- the memory
-    or_none (λ info. decimal info.max_datagram_size) (found 5) ∷
-    or_none (λ info. decimal info.alloc) (found 5) ∷ [])
+    or_none decimal (option_map (λ info. info.max_datagram_size) (found 5)) ∷
+    or_none decimal (option_map (λ info. info.alloc) (found 5)) ∷ [])

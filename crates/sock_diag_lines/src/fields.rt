@@ -1,16 +1,17 @@
 //! The fields of a line.
 
-ghost use Rattle.std.specs.Prelude.{◌≡◌, ◌<◌, ◌==◌, ℕ, List, length, position, IfSome, IfOk};
-ghost use Rattle.std.specs.Prelude.{MatchBool};
+ghost use Rattle.std.specs.Prelude.{◌≡◌, ◌∷◌, [], ℕ, List, IfOk, MatchBool, MatchOption};
+ghost use Rattle.std.specs.List.{slice_split};
 ghost use Rattle.sock_diag_lines.specs.HexField.{IsHexField};
+ghost use Rattle.sock_diag_lines.specs.TextSteps.{IsFirstSpace, is_space};
 
 use memchr::memchr;
 use std::alloc::AllocError;
 
 /// The place of the first space.
 pub(crate) fn find_space(line: &[u8]) -> Option<usize>
-    ensures place { result ≡ position (λ c. c == 32) line.now }
-    ensures within { IfSome result (λ i. i < length line.now) }
+    ensures { MatchOption result (slice_split is_space line.now ≡ line.now ∷ [])
+        (IsFirstSpace line.now) }
 {
     memchr(b' ', line)
 }

@@ -6,6 +6,7 @@ ghost use Rattle.sock_diag_lines.specs.Subjects.{view_subject};
 ghost use Rattle.sock_diag_lines.specs.AnswerText.{IsAnswerAs};
 ghost use Rattle.sock_diag_lines.specs.TextSteps.{Adds, accepted};
 ghost use Rattle.sock_diag_lines.specs.ViewLine.{reply_text};
+ghost use Rattle.sock_diag_lines.specs.ViewSteps.{with_details, with_memory, with_queues};
 
 use crate::words::{
     OK, push_name_word, push_number, push_number_word, push_numbers_word, push_refused,
@@ -31,14 +32,36 @@ fn push_reply(text: &mut Vec<u8>, view: &UnixResponseView<'_>) -> Result<(), All
 {
     text.extend_from_slice(OK)?;
     push_header(text, &view.header())?;
+    push_details(text, view)?;
+    push_queues(text, view)?;
+    push_memory(text, view)
+}
+
+/// Adds the words for the peer, the name, the pending connections and the directions that are shut
+/// down.
+fn push_details(text: &mut Vec<u8>, view: &UnixResponseView<'_>) -> Result<(), AllocError>
+    ensures { OnOk result (text.new.items ≡ with_details text.old.items (view_model view.now)) }
+{
     push_number_word(text, view.peer())?;
     push_name_word(text, view.name())?;
     push_numbers_word(text, view.pending_connections())?;
-    push_number_word(text, widened(view.shutdown_state()))?;
+    push_number_word(text, widened(view.shutdown_state()))
+}
+
+/// Adds the words for the queues of a listening socket, and for those of any other.
+fn push_queues(text: &mut Vec<u8>, view: &UnixResponseView<'_>) -> Result<(), AllocError>
+    ensures { OnOk result (text.new.items ≡ with_queues text.old.items (view_model view.now)) }
+{
     push_number_word(text, view.number_of_pending_connection())?;
     push_number_word(text, view.max_number_of_pending_connection())?;
     push_number_word(text, view.receive_queue_size())?;
-    push_number_word(text, view.send_queue_size())?;
+    push_number_word(text, view.send_queue_size())
+}
+
+/// Adds the words for the memory.
+fn push_memory(text: &mut Vec<u8>, view: &UnixResponseView<'_>) -> Result<(), AllocError>
+    ensures { OnOk result (text.new.items ≡ with_memory text.old.items (view_model view.now)) }
+{
     push_number_word(text, view.max_datagram_size())?;
     push_number_word(text, view.memory_used_for_outgoing_data())
 }

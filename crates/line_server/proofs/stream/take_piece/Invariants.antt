@@ -1,13 +1,22 @@
-use Rattle.std.proofs.Common.{◌≡◌, List, ℕ, ◌++◌, length}
-use Rattle.line_server.specs.RunSteps.{AnswersPiece}
+use Rattle.std.proofs.Common.{◌≡◌, ◌≤◌, List, ℕ, ◌++◌, length}
+use Rattle.std.specs.List.{slice_split}
+use Rattle.memchr.specs.Find.{is_byte}
+use Rattle.line_server.specs.Run.{answer_lines}
+use Rattle.line_server.specs.RunSteps.{IsLine, all_good}
 use Rattle.line_server.proofs.stream.take_piece.Given as goal
 
--- what was taken so far, before the rest
+-- the lines that were taken so far, before the rest
 abbrev pub invariant-lines : goal.invariant-lines
-invariant-lines g l =
-    (front : List ℕ) × (l.fn.piece ≡ front ++ l.rest)
-    × AnswersPiece g.S.Start.answer g.A.LineAnswers.good (l.fn.kept.line.items ++ front)
-    l.kept.line.items l.fn.kept.answers.items l.kept.answers.items l.is_good
+invariant-lines g l = record {
+  whole : List (List ℕ);
+  splits : slice_split (is_byte 10) (l.fn.kept.line.items ++ l.fn.piece)
+      ≡ whole ++ slice_split (is_byte 10) (l.kept.line.items ++ l.rest);
+  within : length l.rest ≤ length l.fn.piece;
+  unended : IsLine l.kept.line.items;
+  added : l.kept.answers.items ≡ l.fn.kept.answers.items
+      ++ answer_lines g.S.Start.answer whole;
+  judged : l.is_good ≡ all_good g.A.LineAnswers.good g.S.Start.answer whole;
+}
 
 abbrev pub decreases-lines : goal.decreases-lines
 decreases-lines g l = length l.rest

@@ -1,17 +1,21 @@
-use Rattle.std.proofs.Common.{◌≡◌, ◌==◌, ℕ, List, ◌++◌, length}
-use Rattle.std.specs.List.{AllZip, slice_split}
-use Rattle.sock_diag_lines.specs.HexField.{IsHexField}
-use Rattle.sock_diag_lines.specs.ReadDumpSteps.{IsReadDump}
+use Rattle.std.proofs.Common.{ℕ, ◌≤◌, List, ◌++◌, length}
+use Rattle.std.specs.List.{AllByRecursion, slice_split}
+use Rattle.sock_diag_lines.specs.ReadDumpSteps.{AreHexFields, IsReadDump}
+use Rattle.sock_diag_lines.specs.TextSteps.{is_space}
+use Rattle.sock_diag_lines.proofs.FieldLists.{HasBytes}
 use Rattle.sock_diag_lines.proofs.dump_line.read_dump.Given as goal
 
--- the fields in front of the rest, and the dump over the datagrams that they stand for
+-- the dump over the datagrams of the fields before the rest
 abbrev pub invariant-fields : goal.invariant-fields
 invariant-fields l = record {
-  done : List (List ℕ);
   datagrams : List (List ℕ);
-  split : slice_split (λ c. c == 32) l.fields ≡ done ++ slice_split (λ c. c == 32) l.rest;
-  each : AllZip IsHexField done datagrams;
   read : IsReadDump datagrams l.dump;
+  -- with those of the rest they are those of all fields, which have none where the rest has none
+  before : (more : List (List ℕ)) → AreHexFields l.rest more
+      → AreHexFields l.fields (datagrams ++ more);
+  behind : (all : List (List ℕ)) → AreHexFields l.fields all
+      → AllByRecursion HasBytes (slice_split is_space l.rest);
+  within : length l.rest ≤ length l.fields;
 }
 
 abbrev pub decreases-fields : goal.decreases-fields

@@ -1,5 +1,5 @@
 use Rattle.std.proofs.Common.{sym, ◌∙◌}
-use Rattle.sock_diag_lines.proofs.AnswerLemmas.{no_field}
+use Rattle.sock_diag_lines.proofs.FieldLists.{no_field}
 use Rattle.sock_diag_lines.proofs.fields.read_field.Goals as goal
 
 pub returns-then-is_empty : goal.returns-then-is_empty
