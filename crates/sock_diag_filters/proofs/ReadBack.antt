@@ -16,7 +16,7 @@ use Rattle.netlink_core.proofs.Cutting.{written_values_are_read}
 use Rattle.netlink_core.proofs.Headers.{header_length, header_stands, one_header}
 use Rattle.netlink_core.proofs.Numbers.{number-reads_back}
 use Rattle.netlink_core.proofs.PrefixCodecs.{is_prefix_codec}
-use Rattle.netlink_packet_sock_diag.proofs.Interrupting.{no_fault_in_message}
+use Rattle.netlink_packet_sock_diag.proofs.Dumping.{no_fault_in_message}
 use Rattle.sock_diag_records.specs.InetRequest.{inet_request}
 use Rattle.sock_diag_records.specs.InetRequestLaws.{inet_request_size, inet_request_sound}
 use Rattle.sock_diag_records.specs.InetRequestLaws.{request_length}
