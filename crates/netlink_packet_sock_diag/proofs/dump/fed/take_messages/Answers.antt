@@ -1,4 +1,4 @@
-use Rattle.std.proofs.Common.{◌-◌, ℤ, Option, Some, None, Result, Ok, Err, take, drop, arith, refl}
+use Rattle.std.proofs.Common.{◌-◌, ℤ, Option, Some, Result, Ok, Err, take, drop, arith, refl}
 use Rattle.std.proofs.Common.{sym, ap, rules}
 use Rattle.std.proofs.lemmas.Result.{err_from_is_err_and}
 use Rattle.std.proofs.lemmas.List.{append-nil, map_push}
