@@ -505,7 +505,7 @@ module _ (C : Codec ℕ) where
                     ]),
                   ) in
                   grows one.1.1 next
-                      (flags_of_split datagram later items rest.1 split.0 dump.1 rest.2),
+                  (flags_of_split datagram later items rest.1 split.0 dump.1 rest.2),
             )
         | inr off ↦
             let stays = ended_stays later f.0 new
@@ -527,7 +527,7 @@ module _ (C : Codec ℕ) where
                     ],
                   ) in
                   grows one.1.1 next
-                      (flags_of_split datagram later items parts.0 split.0 dump.1 parts.1),
+                  (flags_of_split datagram later items parts.0 split.0 dump.1 parts.1),
             )
       ]
 

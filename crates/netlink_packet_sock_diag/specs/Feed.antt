@@ -31,7 +31,7 @@ Interrupt bytes (item ∷ items) = (message rest : List ℕ) × StartsWithMessag
 
 -- by the codec of inner messages under a type
 module _ (C : Codec ℕ) where
-  -- the dump over a datagram to its end, and whether it is interrupted: it was, or the datagram does
+  -- the dump over a datagram to its end, interrupted where it was or the datagram interrupts it
   abbrev pub Takes : List C.Value → Bool → List ℕ → List C.Value → Bool → Result Standing DecodeError → Type 0
   Takes before was b after is end = (dump : DatagramDump C before b after end) × (IsTrue is ↔ (IsTrue was ⊎ Interrupt b dump.0))
 

@@ -40,11 +40,15 @@ impl LossyDump {
     /// `EnvelopeLengthPast`, and where memory runs out, the entries in front are kept and the dump
     /// has failed. Once the dump has ended nothing changes.
     pub fn feed(&mut self, datagram: &[u8]) -> Result<(), DumpError>
-        ensures leaves { FeedLeaves (lossy message_codec)
-            (map (map_ok message_model) self.old.dump.kept.items, self.old.dump.standing,
-            self.old.dump.interrupted) datagram.now
-            (map (map_ok message_model) self.new.dump.kept.items, self.new.dump.standing,
-            self.new.dump.interrupted) result }
+        ensures leaves { FeedLeaves (lossy message_codec) (
+          map (map_ok message_model) self.old.dump.kept.items,
+          self.old.dump.standing,
+          self.old.dump.interrupted,
+        ) datagram.now (
+          map (map_ok message_model) self.new.dump.kept.items,
+          self.new.dump.standing,
+          self.new.dump.interrupted,
+        ) result }
     {
         self.dump.feed(datagram)
     }

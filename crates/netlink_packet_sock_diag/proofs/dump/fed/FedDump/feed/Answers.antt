@@ -28,9 +28,11 @@ invariant_of-self g c =
     record {
       unnumbered = unnumbered took.0.2.1 c.in-Ok.standing took.0.2.5;
       fed = fed_on g.I.Kept.codec
-          (map g.I.Kept.model dump.kept.items, dump.standing, dump.interrupted)
-          (map g.I.Kept.model c.take_messages.new.messages.items, c.in-Ok.standing,
-          c.take_messages.new.interrupted) c.args.datagram.now (Ok tt) dump.fed
+          (map g.I.Kept.model dump.kept.items, dump.standing, dump.interrupted) (
+            map g.I.Kept.model c.take_messages.new.messages.items,
+            c.in-Ok.standing,
+            c.take_messages.new.interrupted,
+          ) c.args.datagram.now (Ok tt) dump.fed
           (dump.unnumbered read, took);
     }
 
@@ -42,9 +44,11 @@ invariant_of-self-in-Err g c =
     record {
       unnumbered = λ is. cc;
       fed = fed_on g.I.Kept.codec
-          (map g.I.Kept.model dump.kept.items, dump.standing, dump.interrupted)
-          (map g.I.Kept.model c.take_messages.new.messages.items, (Failed, None),
-          c.take_messages.new.interrupted) c.args.datagram.now (Err (Fault c.in-Err.fault)) dump.fed
+          (map g.I.Kept.model dump.kept.items, dump.standing, dump.interrupted) (
+            map g.I.Kept.model c.take_messages.new.messages.items,
+            (Failed, None),
+            c.take_messages.new.interrupted,
+          ) c.args.datagram.now (Err (Fault c.in-Err.fault)) dump.fed
           (dump.unnumbered read, refl, took.0, took.1);
     }
 
