@@ -1,6 +1,6 @@
 -- A message at the start of bytes, and messages one after the other.
-use Rattle.std.proofs.Common.{◌≡◌, ℕ, ◌+◌, ◌-◌, ◌<◌, ◌≤◌, inl, inr, List, [], ◌∷◌, ◌++◌, length}
-use Rattle.std.proofs.Common.{take, drop, refl, sym, ap, subst, ◌∙◌, append_assoc, arith}
+use Rattle.std.proofs.Common.{◌≡◌, ℕ, ◌+◌, ◌-◌, ◌%◌, ◌<◌, ◌≤◌, inl, inr, List, [], ◌∷◌, ◌++◌}
+use Rattle.std.proofs.Common.{length, take, drop, refl, sym, ap, subst, ◌∙◌, append_assoc, arith}
 use Rattle.std.specs.Prelude.{Option, Some, None}
 use Rattle.std.proofs.lemmas.List.{take-append-drop, take-take, take_at, drop_all, drop-drop}
 use Rattle.std.proofs.lemmas.List.{length-take, length-drop, length-append}
@@ -99,7 +99,8 @@ shorter-rest bytes message rest s = let low = s.whole.0 in
       length-append s.padding rest,
     )
 
-no_fault_at_message : (bytes message rest : List ℕ) (e : DecodeError)
+-- where a message stands there is no fault
+pub no_fault_at_message : (bytes message rest : List ℕ) (e : DecodeError)
     → StartsWithMessage bytes message rest → IsEnvelopeFault bytes e → ⊥
 no_fault_at_message bytes message rest (EnvelopeCut got) s f =
     omega (arith, message_word bytes message rest s)
@@ -114,7 +115,8 @@ no_message_in_none : (bytes message rest : List ℕ) → StartsWithMessage bytes
 no_message_in_none bytes message rest s none = let len : length bytes ≡ 0 = ap length none in
     omega (arith, message_word bytes message rest s)
 
-one_message : (bytes m n rest after : List ℕ) → StartsWithMessage bytes m rest
+-- bytes begin with one message, and one rest
+pub one_message : (bytes m n rest after : List ℕ) → StartsWithMessage bytes m rest
     → StartsWithMessage bytes n after → (m ≡ n) × (rest ≡ after)
 one_message bytes m n rest after s t =
     let lens : length m ≡ length n = sym (message_word bytes m rest s).0
@@ -142,6 +144,31 @@ one_message bytes m n rest after s t =
 
 -- ---- messages in a row
 
+-- a message in front of whole ones stands in front of more bytes too
+pub starts_in_concatenation : (front back message rest : List ℕ)
+    → StartsWithMessage front message rest → length front % 4 ≡ 0
+    → StartsWithMessage (front ++ back) message (rest ++ back) × (length rest % 4 ≡ 0)
+starts_in_concatenation front back message rest s even =
+    let long : length front ≡ length message + (length s.padding + length rest) =
+    ap length s.parts ∙ length-append message (s.padding ++ rest)
+    ∙ ap (λ (n : ℕ). length message + n) (length-append s.padding rest) in
+    elim s.filled [
+      | inl full ↦ (
+        record {
+          padding = s.padding;
+          parts = ap (λ (b : List ℕ). b ++ back) s.parts
+              ∙ append_assoc message (s.padding ++ rest) back
+              ∙ ap (λ (t : List ℕ). message ++ t) (append_assoc s.padding rest back);
+          whole = s.whole;
+          filled = inl full;
+        },
+        omega (arith, long, full, even),
+      )
+      | inr short ↦
+          let none : length rest ≡ 0 = ap length short.1 in
+          absurd (omega (arith, long, none, short.0, even))
+    ]
+
 -- what whole messages and then more bytes are cut into
 pub messages_of_concatenation : (front back : List ℕ) (xs ys : List (List ℕ))
     (end : Option DecodeError)
@@ -150,28 +177,9 @@ pub messages_of_concatenation : (front back : List ℕ) (xs ys : List (List ℕ)
 messages_of_concatenation front back [] ys end h k =
     subst (λ (b : List ℕ). CutIntoMessages (b ++ back) ys end) (sym h.0) k
 messages_of_concatenation front back (x ∷ xs) ys end h k =
-    let rest : List ℕ = h.0.0 in
-    let s = h.0.1 in
-    let long : length front ≡ length x + (length s.padding + length rest) = ap length s.parts
-    ∙ length-append x (s.padding ++ rest)
-    ∙ ap (λ (n : ℕ). length x + n) (length-append s.padding rest) in
-    elim s.filled [
-      | inl full ↦ (
-        rest ++ back,
-        record {
-          padding = s.padding;
-          parts = ap (λ (b : List ℕ). b ++ back) s.parts
-              ∙ append_assoc x (s.padding ++ rest) back
-              ∙ ap (λ (t : List ℕ). x ++ t) (append_assoc s.padding rest back);
-          whole = s.whole;
-          filled = inl full;
-        },
-        messages_of_concatenation rest back xs ys end (h.0.2, omega (arith, long, full, h.1)) k,
-      )
-      | inr short ↦
-          let none : length rest ≡ 0 = ap length short.1 in
-          absurd (omega (arith, long, none, short.0, h.1))
-    ]
+    let rest = h.0.0 in
+    let more = starts_in_concatenation front back x rest h.0.1 h.1 in
+    (rest ++ back, more.0, messages_of_concatenation rest back xs ys end (h.0.2, more.1) k)
 
 -- bytes are cut into one list of messages, and have one end
 pub one_cut_into_messages : (bytes : List ℕ) (xs ys : List (List ℕ)) (e f : Option DecodeError)

@@ -114,25 +114,31 @@ module _ (C : Codec ℕ) where
       × ItemsAre C bytes items
   items_of law bytes in_range = items_within law (suc (length bytes)) bytes (omega arith) in_range
 
+  -- whole messages have the items of the messages alone
+  pub whole_items : (bytes : List ℕ) (messages : List (List ℕ))
+      (items : List (Result (Payload C.Value) DecodeError)) → AreWholeMessages bytes messages
+      → ItemsAre C bytes items → AllZip (ItemIs C) messages items
+  whole_items bytes messages items whole a =
+      let same = one_cut_into_messages bytes a.0 messages a.1 None a.3 whole.0 in
+      let all : items ≡ a.2 = a.5
+      ∙ ap (λ (e : Option DecodeError). a.2 ++ option_to_list (option_map Err e)) same.1
+      ∙ append-nil a.2 in
+      subst (λ (l : List (Result (Payload C.Value) DecodeError)). AllZip (ItemIs C) messages l)
+      (sym all) (subst (λ (s : List (List ℕ)). AllZip (ItemIs C) s a.2) same.0 a.4)
+
   -- whole messages and then more bytes have the items of the one and then of the other
   pub items_of_concatenation : (front back : List ℕ) (messages : List (List ℕ))
       (xs ys : List (Result (Payload C.Value) DecodeError)) → AreWholeMessages front messages
       → ItemsAre C front xs → ItemsAre C back ys → ItemsAre C (front ++ back) (xs ++ ys)
-  items_of_concatenation front back messages xs ys whole a b =
-      let same = one_cut_into_messages front a.0 messages a.1 None a.3 whole.0 in
-      let all : xs ≡ a.2 = a.5
-      ∙ ap (λ (e : Option DecodeError). a.2 ++ option_to_list (option_map Err e)) same.1
-      ∙ append-nil a.2 in (
-        messages ++ b.0,
-        b.1,
-        a.2 ++ b.2,
-        messages_of_concatenation front back messages b.0 b.1 whole b.3,
-        zip_append (ItemIs C) messages b.0 a.2 b.2
-            (subst (λ (s : List (List ℕ)). AllZip (ItemIs C) s a.2) same.0 a.4) b.4,
-        ap (λ (l : List (Result (Payload C.Value) DecodeError)). l ++ ys) all
-            ∙ ap (λ (l : List (Result (Payload C.Value) DecodeError)). a.2 ++ l) b.5
-            ∙ sym (append_assoc a.2 b.2 (option_to_list (option_map Err b.1))),
-      )
+  items_of_concatenation front back messages xs ys whole a b = (
+    messages ++ b.0,
+    b.1,
+    xs ++ b.2,
+    messages_of_concatenation front back messages b.0 b.1 whole b.3,
+    zip_append (ItemIs C) messages b.0 xs b.2 (whole_items front messages xs whole a) b.4,
+    ap (λ (l : List (Result (Payload C.Value) DecodeError)). xs ++ l) b.5
+        ∙ sym (append_assoc xs b.2 (option_to_list (option_map Err b.1))),
+  )
 
   -- ---- the walk
 

@@ -1,7 +1,7 @@
 -- Each list of items has one dump, and items in a row have that of the first part, continued by the
 -- second.
-use Rattle.std.proofs.Common.{◌≡◌, ◌≢◌, ℕ, ◌⊎◌, inl, inr, List, [], ◌∷◌, ◌++◌, refl, sym, ap, subst}
-use Rattle.std.proofs.Common.{◌∙◌, append_assoc}
+use Rattle.std.proofs.Common.{◌≡◌, ◌≢◌, ◌↔◌, ℕ, ◌⊎◌, inl, inr, List, [], ◌∷◌, ◌++◌, refl, sym, ap}
+use Rattle.std.proofs.Common.{subst, ◌∙◌, append_assoc, Bool, true, false, IsTrue}
 use Rattle.std.specs.Prelude.{MatchOption, Option, Some, None, Result, Ok, Err, slice_get}
 use Rattle.std.specs.List.{AllByRecursion, AllZip, flat_map}
 use Rattle.std.proofs.lemmas.List.{append-nil}
@@ -13,8 +13,10 @@ use Rattle.netlink_core.specs.Bytes.{IsBytes}
 use Rattle.netlink_core.specs.Codec.{Codec}
 use Rattle.netlink_core.specs.declared.fault.DecodeError.TheVariants.{Memory}
 use Rattle.netlink_core.specs.ByteLaws.{IsBytes-nil, IsBytes-append}
-use Rattle.netlink_core.specs.Items.{Item, ItemsAre}
-use Rattle.netlink_core.proofs.Items.{no_items, items_of_concatenation}
+use Rattle.netlink_core.specs.Datagram.{AreWholeMessages}
+use Rattle.netlink_core.specs.Items.{Item, ItemIs, ItemsAre}
+use Rattle.netlink_core.proofs.Datagrams.{starts_in_concatenation}
+use Rattle.netlink_core.proofs.Items.{no_items, items_of_concatenation, whole_items}
 use Rattle.netlink_packet_sock_diag.specs.declared.dump.DumpState.{DumpState}
 use Rattle.netlink_packet_sock_diag.specs.declared.dump.DumpState.TheVariants.{Reading, Failed}
 use Rattle.netlink_packet_sock_diag.specs.declared.dump.DumpState.TheVariants.{Done, Error}
@@ -24,7 +26,8 @@ use Rattle.netlink_packet_sock_diag.specs.declared.dump.DumpError.TheVariants.{E
 use Rattle.netlink_packet_sock_diag.specs.Dump.{concatenation, end_of, kept, Dump}
 use Rattle.netlink_packet_sock_diag.specs.Dump.{DatagramDump, DatagramsDump, AreSplit, Standing}
 use Rattle.netlink_packet_sock_diag.specs.Dump.{unended}
-use Rattle.netlink_packet_sock_diag.specs.Feed.{FeedLeaves, FeedsLeave}
+use Rattle.netlink_packet_sock_diag.specs.Feed.{FeedLeaves, FeedsLeave, Interrupt, Progress, Takes}
+use Rattle.netlink_packet_sock_diag.proofs.Dumping.{first_or_later}
 
 -- how a dump ends, or its fault
 abbrev pub End : Type 0
@@ -46,6 +49,32 @@ Plain items = AllByRecursion (λ item. end_of item ≡ None) items
 pub none_or_some : {X : Type 0} (end : Option X) → (end ≡ None) ⊎ ((x : X) × (end ≡ Some x))
 none_or_some None = inl refl
 none_or_some (Some x) = inr (x, refl)
+
+-- what grows by one part and then by another grows by both
+grows : {W M N X Y Z : Type 0} → (M ↔ (W ⊎ X)) → (N ↔ (M ⊎ Y)) → (Z ↔ (X ⊎ Y)) → (N ↔ (W ⊎ Z))
+grows m n z = (
+  λ t. elim (n.0 t) [
+    | inl e ↦ elim (m.0 e) [
+      | inl w ↦ inl w
+      | inr x ↦ inr (z.1 (inl x))
+    ]
+    | inr y ↦ inr (z.1 (inr y))
+  ],
+  λ e. elim e [
+    | inl w ↦ n.1 (inl (m.1 (inl w)))
+    | inr all ↦ elim (z.0 all) [
+      | inl x ↦ n.1 (inl (m.1 (inr x)))
+      | inr y ↦ n.1 (inr y)
+    ]
+  ],
+)
+
+-- a fact has one flag
+one_flag : {P : Type 0} (x y : Bool) → (IsTrue x ↔ P) → (IsTrue y ↔ P) → x ≡ y
+one_flag true true p q = refl
+one_flag true false p q = sym (q.1 (p.0 refl))
+one_flag false true p q = p.1 (q.0 refl)
+one_flag false false p q = refl
 
 -- the state that an item ends a dump in, if it is no fault
 stands : Option End → Option DumpState
@@ -144,13 +173,27 @@ module _ {A : Type 0} where
   ends_before [] more state ends other = absurd (other ends)
   ends_before (item ∷ later) more state ends other = ends
 
+  -- a dump that is still read passed all items
+  all_passed : (before after : List A) (items : List (Item A)) (state : End)
+      → (d : Dump before items after state) → state ≡ Ok unended → items ≡ d.0
+  all_passed before after items state d reading = d.2 ∙ ap (λ (l : List (Item A)). d.0 ++ l)
+      (none_later d.1 state d.5 reading) ∙ append-nil d.0
+
+  -- so none of them ends it, and the other way round
+  pub all_plain : (before after : List A) (items : List (Item A)) (state : End)
+      → Dump before items after state → ((state ≡ Ok unended) ↔ Plain items)
+  all_plain before after items state d = (
+    λ reading. subst Plain (sym (all_passed before after items state d reading)) d.3,
+    λ plain. (one_dump before items after (before ++ flat_map kept items) state (Ok unended) d
+        (items, [], sym (append-nil items), plain, refl, refl)).1,
+  )
+
   pub joined : (before middle after : List A) (state end : End)
       (xs ys : List (Item A)) → Dump before xs middle state
       → DumpGoesOn middle state ys after end → Dump before (xs ++ ys) after end
   joined before middle after state end xs ys d (inl on) =
       let t = on.1 in
-      let all : xs ≡ d.0 = d.2 ∙ ap (λ (l : List (Item A)). d.0 ++ l)
-      (none_later d.1 state d.5 on.0) ∙ append-nil d.0 in (
+      let all = all_passed before middle xs state d on.0 in (
         d.0 ++ t.0,
         t.1,
         ap (λ (l : List (Item A)). l ++ ys) all
@@ -314,122 +357,210 @@ module _ (C : Codec ℕ) where
             d.2,
       )
 
-  -- a datagram has one dump
-  pub one_datagram_dump : OneList → (datagram : List ℕ) → IsBytes datagram
-      → (before a b : List C.Value) (e f : End) → DatagramDump C before datagram a e
-      → DatagramDump C before datagram b f → (a ≡ b) × (e ≡ f)
-  one_datagram_dump one datagram in_range before a b e f d t =
-      one_dump before d.0 a b e f d.2
-      (subst (λ (l : List (Item C.Value)). Dump before l b f)
-      (one datagram in_range t.0 d.0 t.1 d.1) t.2)
-
   -- ---- what feeding leaves
+
+  -- where the flag is in whole messages and then more bytes
+  flags_of_concatenation : (front back : List ℕ) (messages : List (List ℕ))
+      (xs ys : List (Item C.Value)) → AreWholeMessages front messages
+      → AllZip (ItemIs C) messages xs → (Interrupt (front ++ back) (xs ++ ys)
+      ↔ (Interrupt front xs ⊎ (Plain xs × Interrupt back ys)))
+  flags_of_concatenation front back [] [] ys whole each =
+      subst (λ (b : List ℕ). Interrupt (b ++ back) ys
+      ↔ (⊥ ⊎ (Plain {A = C.Value} [] × Interrupt back ys))) (sym whole.0) (
+        λ i. inr (tt, i),
+        λ e. elim e [
+          | inl never ↦ absurd never
+          | inr i ↦ i.1
+        ],
+      )
+  flags_of_concatenation front back [] (x ∷ xs) ys whole each = absurd each
+  flags_of_concatenation front back (m ∷ messages) [] ys whole each = absurd each
+  flags_of_concatenation front back (m ∷ messages) (x ∷ xs) ys whole each =
+      let rest = whole.0.0 in
+      let more = starts_in_concatenation front back m rest whole.0.1 whole.1 in
+      let all = first_or_later (front ++ back) m (rest ++ back) x (xs ++ ys) more.0 in
+      let own = first_or_later front m rest x xs whole.0.1 in
+      let later = flags_of_concatenation rest back messages xs ys (whole.0.2, more.1) each.1 in (
+        λ i. elim (all.0 i) [
+          | inl mark ↦ inl (own.1 (inl mark))
+          | inr on ↦ elim (later.0 on.1) [
+            | inl j ↦ inl (own.1 (inr (on.0, j)))
+            | inr p ↦ inr ((on.0, p.0), p.1)
+          ]
+        ],
+        λ e. all.1 (elim e [
+          | inl i ↦ elim (own.0 i) [
+            | inl mark ↦ inl mark
+            | inr on ↦ inr (on.0, later.1 (inl on.1))
+          ]
+          | inr p ↦ inr (p.0.0, later.1 (inr (p.0.1, p.1)))
+        ]),
+      )
+
+  -- and in a datagram and then others
+  flags_of_split : (b : List ℕ) (later : List (List ℕ)) (items : List (Item C.Value))
+      (parts : List (List (Item C.Value)))
+      → ((later ≡ []) ⊎ ((messages : List (List ℕ)) × AreWholeMessages b messages))
+      → ItemsAre C b items → AllZip (ItemsAre C) later parts
+      → (Interrupt (b ++ concatenation later) (items ++ concatenation parts)
+      ↔ (Interrupt b items ⊎ (Plain items × Interrupt (concatenation later) (concatenation parts))))
+  flags_of_split b [] items [] (inl none) are each = rw (append-nil b, append-nil items) (
+    λ i. inl i,
+    λ e. elim e [
+      | inl i ↦ i
+      | inr never ↦ absurd never.1
+    ],
+  )
+  flags_of_split b [] items (q ∷ parts) (inl none) are each = absurd each
+  flags_of_split b (d ∷ later) items parts (inl none) are each = absurd cc
+  flags_of_split b later items parts (inr whole) are each =
+      flags_of_concatenation b (concatenation later) whole.0 items (concatenation parts) whole.1
+      (whole_items C b whole.0 items whole.1 are)
 
   -- the state in which a dump is left
   pub state_left : End → Standing
   state_left (Ok state) = state
   state_left (Err e) = (Failed, None)
 
-  pub feed_step : (before : List C.Value) (datagram : List ℕ) (middle : List C.Value)
-      (next : Standing) (answer : Result Unit DumpError)
-      → FeedLeaves C before unended datagram middle next answer
-      → answer ≢ Err (Fault Memory) → (end : End) × DatagramDump C before datagram middle end
-      × (next ≡ state_left end)
+  feed_step : (old new : Progress C.Value) (datagram : List ℕ) (answer : Result Unit DumpError)
+      → old.1 ≡ unended → FeedLeaves C old datagram new answer → answer ≢ Err (Fault Memory)
+      → (end : End) × Takes C old.0 old.2 datagram new.0 new.2 end × (new.1 ≡ state_left end)
   unfolding state_left
-  feed_step before datagram middle next (Ok done) f some = (Ok next, f.1, refl)
-  feed_step before datagram middle next (Err Ended) f some = absurd (f.0 refl)
-  feed_step before datagram middle next (Err (Fault e)) f some =
+  feed_step old new datagram (Ok done) reading f some = (Ok new.1, f.1, refl)
+  feed_step old new datagram (Err Ended) reading f some = absurd (f.0 reading)
+  feed_step old new datagram (Err (Fault e)) reading f some =
       (Err e, f.2 (λ memory. some (ap (λ (g : DecodeError). Err (Fault g)) memory)), f.1)
 
-  ended_step : (before : List C.Value) (state : Standing) (datagram : List ℕ)
-      (middle : List C.Value) (next : Standing) (answer : Result Unit DumpError) → state ≢ unended
-      → FeedLeaves C before state datagram middle next answer → (middle ≡ before) × (next ≡ state)
-  ended_step before state datagram middle next (Ok done) over f = absurd (over f.0)
-  ended_step before state datagram middle next (Err Ended) over f = (f.1, f.2)
-  ended_step before state datagram middle next (Err (Fault e)) over f = absurd (over f.0)
+  ended_step : (old new : Progress C.Value) (datagram : List ℕ) (answer : Result Unit DumpError)
+      → old.1 ≢ unended → FeedLeaves C old datagram new answer → new ≡ old
+  ended_step old new datagram (Ok done) over f = absurd (over f.0)
+  ended_step old new datagram (Err Ended) over f = f.1
+  ended_step old new datagram (Err (Fault e)) over f = absurd (over f.0)
 
-  pub ended_stays : (datagrams : List (List ℕ)) (before after : List C.Value)
-      (state left : Standing) → state ≢ unended
-      → FeedsLeave C before state datagrams after left → (after ≡ before) × (left ≡ state)
-  ended_stays [] before after state left over f = f
-  ended_stays (datagram ∷ later) before after state left over f =
-      let one = ended_step before state datagram f.0 f.1 f.2 over f.3 in
-      let rest = ended_stays later f.0 after f.1 left (λ is. over (sym one.1 ∙ is)) f.5 in
-      (rest.0 ∙ one.0, rest.1 ∙ one.1)
+  ended_stays : (datagrams : List (List ℕ)) (old new : Progress C.Value) → old.1 ≢ unended
+      → FeedsLeave C old datagrams new → new ≡ old
+  ended_stays [] old new over f = f
+  ended_stays (datagram ∷ later) old new over f =
+      let one = ended_step old f.0 datagram f.1 over f.2 in
+      ended_stays later f.0 new (λ is. over (sym (ap (λ (p : Progress C.Value). p.1) one) ∙ is)) f.4
+      ∙ one
 
-  pub left_reading : (state : End) → state ≢ Ok unended → state_left state ≢ unended
+  left_reading : (state : End) → state ≢ Ok unended → state_left state ≢ unended
   unfolding state_left
   left_reading (Ok state) over = λ is. over (ap Ok is)
   left_reading (Err e) over = λ is. let e : Failed ≡ Reading = ap (λ (s : Standing). s.0) is in cc
 
-  pub state_left-reading : state_left (Ok unended) ≡ unended
+  state_left-reading : state_left (Ok unended) ≡ unended
   unfolding state_left
   state_left-reading = refl
 
-  -- feeding datagrams in a row gives their dump
-  pub feeds_dump : SomeItems → (datagrams : List (List ℕ)) → AllByRecursion IsBytes datagrams
-      → (before after : List C.Value) (left : Standing)
-      → FeedsLeave C before unended datagrams after left
-      → (end : End) × DatagramsDump C before datagrams after end × (left ≡ state_left end)
-  feeds_dump some [] in_range before after left f =
-      let none : Dump before [] after (Ok unended) =
-      ([], [], refl, tt, f.0 ∙ sym (append-nil before), refl) in
-      (Ok unended, ([], ([], tt, refl), none), f.1 ∙ sym state_left-reading)
-  feeds_dump some (datagram ∷ later) in_range before after left f =
-      let one = feed_step before datagram f.0 f.1 f.2 f.3 f.4 in
-      let items = one.1.0 in
-      elim (reading_or_not one.1.2.1 one.0 one.1.2.5) [
+  -- Feeding datagrams in a row gives their dump. Where they are split, it is interrupted where all
+  -- the bytes do so.
+  feeds_dump : SomeItems → (datagrams : List (List ℕ)) → AllByRecursion IsBytes datagrams
+      → (old new : Progress C.Value) → old.1 ≡ unended → FeedsLeave C old datagrams new
+      → (end : End) × (parts : List (List (Item C.Value))) × AllZip (ItemsAre C) datagrams parts
+      × Dump old.0 (concatenation parts) new.0 end × (new.1 ≡ state_left end)
+      × (AreSplit datagrams → (IsTrue new.2
+      ↔ (IsTrue old.2 ⊎ Interrupt (concatenation datagrams) (concatenation parts))))
+  feeds_dump some [] in_range old new reading f = (
+    Ok unended,
+    [],
+    tt,
+    ([], [], refl, tt, ap (λ (p : Progress C.Value). p.0) f ∙ sym (append-nil old.0), refl),
+    ap (λ (p : Progress C.Value). p.1) f ∙ reading ∙ sym state_left-reading,
+    λ split. (
+      λ t. inl (subst (λ (p : Progress C.Value). IsTrue p.2) f t),
+      λ e. elim e [
+        | inl t ↦ subst (λ (p : Progress C.Value). IsTrue p.2) (sym f) t
+        | inr never ↦ absurd never
+      ],
+    ),
+  )
+  feeds_dump some (datagram ∷ later) in_range old new reading f =
+      let one = feed_step old f.0 datagram f.1 reading f.2 f.3 in
+      let dump = one.1.0 in
+      let items = dump.0 in
+      let plain = all_plain old.0 f.0.0 items one.0 dump.2 in
+      elim (reading_or_not dump.2.1 one.0 dump.2.5) [
         | inl on ↦
-            let going : f.1 ≡ unended = one.2 ∙ ap state_left on ∙ state_left-reading in
-            let rest = feeds_dump some later in_range.1 f.0 after left
-            (subst (λ (s : Standing). FeedsLeave C f.0 s later after left) going f.5) in
-            let row = rest.1.0 in
-            let have = rest.1.1 in (
+            let rest = feeds_dump some later in_range.1 f.0 new
+            (one.2 ∙ ap state_left on ∙ state_left-reading) f.4 in (
               rest.0,
-              (
-                items ++ row,
-                (
-                  items ∷ have.0,
-                  (one.1.1, have.1),
-                  ap (λ (l : List (Item C.Value)). items ++ l) have.2,
-                ),
-                joined before f.0 after one.0 rest.0 items row one.1.2 (inl (on, rest.1.2)),
-              ),
-              rest.2,
+              items ∷ rest.1,
+              (dump.1, rest.2),
+              joined old.0 f.0.0 new.0 one.0 rest.0 items (concatenation rest.1) dump.2
+                  (inl (on, rest.3)),
+              rest.4,
+              λ split.
+                  let flag = rest.5 split.1 in
+                  let next : IsTrue new.2 ↔ (IsTrue f.0.2
+                  ⊎ (Plain items × Interrupt (concatenation later) (concatenation rest.1))) = (
+                    λ t. elim (flag.0 t) [
+                      | inl m ↦ inl m
+                      | inr i ↦ inr (plain.0 on, i)
+                    ],
+                    λ e. flag.1 (elim e [
+                      | inl m ↦ inl m
+                      | inr p ↦ inr p.1
+                    ]),
+                  ) in
+                  grows one.1.1 next
+                  (flags_of_split datagram later items rest.1 split.0 dump.1 rest.2),
             )
         | inr off ↦
-            let stays = ended_stays later f.0 after f.1 left
-            (λ is. left_reading one.0 off (sym one.2 ∙ is)) f.5 in
+            let stays = ended_stays later f.0 new
+            (λ is. left_reading one.0 off (sym one.2 ∙ is)) f.4 in
             let parts = items_of_each some later in_range.1 in (
               one.0,
-              (
-                items ++ concatenation parts.0,
-                (items ∷ parts.0, (one.1.1, parts.1), refl),
-                joined before f.0 after one.0 one.0 items (concatenation parts.0) one.1.2
-                    (inr (off, stays.0, refl)),
-              ),
-              stays.1 ∙ one.2,
+              items ∷ parts.0,
+              (dump.1, parts.1),
+              joined old.0 f.0.0 new.0 one.0 one.0 items (concatenation parts.0) dump.2
+                  (inr (off, ap (λ (p : Progress C.Value). p.0) stays, refl)),
+              ap (λ (p : Progress C.Value). p.1) stays ∙ one.2,
+              λ split.
+                  let next : IsTrue new.2 ↔ (IsTrue f.0.2
+                  ⊎ (Plain items × Interrupt (concatenation later) (concatenation parts.0))) = (
+                    λ t. inl (subst (λ (p : Progress C.Value). IsTrue p.2) stays t),
+                    λ e. elim e [
+                      | inl t ↦ subst (λ (p : Progress C.Value). IsTrue p.2) (sym stays) t
+                      | inr p ↦ absurd (off (plain.1 p.0))
+                    ],
+                  ) in
+                  grows one.1.1 next
+                  (flags_of_split datagram later items parts.0 split.0 dump.1 parts.1),
             )
       ]
 
-  -- feeding the same bytes in split datagrams leaves the same messages and state
+  -- feeding split datagrams leaves what the dump over all the bytes does
+  pub whole_feed : SomeItems → (datagrams : List (List ℕ)) → AllByRecursion IsBytes datagrams
+      → AreSplit datagrams → (old new : Progress C.Value) → old.1 ≡ unended
+      → FeedsLeave C old datagrams new → (end : End)
+      × Takes C old.0 old.2 (concatenation datagrams) new.0 new.2 end × (new.1 ≡ state_left end)
+  whole_feed some datagrams in_range split old new reading f =
+      let a = feeds_dump some datagrams in_range old new reading f in
+      (a.0, ((concatenation a.1, split_items datagrams a.1 split a.2, a.3), a.5 split), a.4)
+
+  -- feeding the same bytes in split datagrams leaves the same
   pub same_feeds : SomeItems → OneList → (datagrams others : List (List ℕ))
       → AllByRecursion IsBytes datagrams → AllByRecursion IsBytes others → AreSplit datagrams
       → AreSplit others → concatenation datagrams ≡ concatenation others
-      → (before after also : List C.Value) (left state : Standing)
-      → FeedsLeave C before unended datagrams after left
-      → FeedsLeave C before unended others also state → (after ≡ also) × (left ≡ state)
-  same_feeds some one datagrams others in_range fits split cut same before after also left state f
-      g =
-      let a = feeds_dump some datagrams in_range before after left f in
-      let b = feeds_dump some others fits before also state g in
-      let whole : DatagramDump C before (concatenation others) after a.0 =
-      subst (λ (bytes : List ℕ). DatagramDump C before bytes after a.0) same
-      (dump_of_split datagrams split before after a.0 a.1) in
-      let ends = one_datagram_dump one (concatenation others) (bytes-concatenation others fits)
-      before after
-      also a.0 b.0 whole (dump_of_split others cut before also b.0 b.1) in
-      (ends.0, a.2 ∙ ap state_left ends.1 ∙ sym b.2)
+      → (old left also : Progress C.Value) → old.1 ≡ unended → FeedsLeave C old datagrams left
+      → FeedsLeave C old others also → left ≡ also
+  same_feeds some one datagrams others in_range fits split cut same old left also reading f g =
+      let bytes = concatenation others in
+      let a = whole_feed some datagrams in_range split old left reading f in
+      let b = whole_feed some others fits cut old also reading g in
+      let moved : Takes C old.0 old.2 bytes left.0 left.2 a.0 =
+      subst (λ (d : List ℕ). Takes C old.0 old.2 d left.0 left.2 a.0) same a.1 in
+      let rows = one bytes (bytes-concatenation others fits) moved.0.0 b.1.0.0 moved.0.1
+      b.1.0.1 in
+      let ends = one_dump old.0 b.1.0.0 left.0 also.0 a.0 b.0
+      (subst (λ (l : List (Item C.Value)). Dump old.0 l left.0 a.0) rows moved.0.2) b.1.0.2 in
+      let state = a.2 ∙ ap state_left ends.1 ∙ sym b.2 in
+      let flag = one_flag left.2 also.2
+      (subst (λ (l : List (Item C.Value)). IsTrue left.2 ↔ (IsTrue old.2 ⊎ Interrupt bytes l)) rows
+      moved.1) b.1.1 in
+      λ i. (ends.0 i, state i, flag i)
 
   -- feeding datagrams with the same items in a row leaves the same messages and state
   pub same_items_feeds : SomeItems → OneList
@@ -437,20 +568,17 @@ module _ (C : Codec ℕ) where
       → AllByRecursion IsBytes datagrams → AllByRecursion IsBytes others
       → AllZip (ItemsAre C) datagrams xs → AllZip (ItemsAre C) others ys
       → concatenation xs ≡ concatenation ys
-      → (before after also : List C.Value) (left state : Standing)
-      → FeedsLeave C before unended datagrams after left
-      → FeedsLeave C before unended others also state → (after ≡ also) × (left ≡ state)
-  same_items_feeds some one datagrams others xs ys in_range fits each them same before after also
-      left
-      state f g =
-      let a = feeds_dump some datagrams in_range before after left f in
-      let b = feeds_dump some others fits before also state g in
-      let moved = same_dump one datagrams others xs ys in_range each them same before after a.0
-      a.1 in
-      let rows : moved.0 ≡ b.1.0 =
-      moved.1.2 ∙ ap (λ (parts : List (List (Item C.Value))). concatenation
-      parts) (one_row one others fits moved.1.0 b.1.1.0 moved.1.1 b.1.1.1) ∙ sym b.1.1.2 in
-      let ends = one_dump before b.1.0 after also a.0 b.0
-      (subst (λ (l : List (Item C.Value)). Dump before l after a.0) rows
-      moved.2) b.1.2 in
-      (ends.0, a.2 ∙ ap state_left ends.1 ∙ sym b.2)
+      → (old left also : Progress C.Value) → old.1 ≡ unended → FeedsLeave C old datagrams left
+      → FeedsLeave C old others also → (left.0 ≡ also.0) × (left.1 ≡ also.1)
+  same_items_feeds some one datagrams others xs ys in_range fits each them same old left also
+      reading f g =
+      let a = feeds_dump some datagrams in_range old left reading f in
+      let b = feeds_dump some others fits old also reading g in
+      let rows : concatenation a.1 ≡ concatenation b.1 =
+      ap (λ (parts : List (List (Item C.Value))). concatenation parts)
+      (one_row one datagrams in_range a.1 xs a.2 each) ∙ same
+      ∙ ap (λ (parts : List (List (Item C.Value))). concatenation parts)
+      (one_row one others fits ys b.1 them b.2) in
+      let ends = one_dump old.0 (concatenation b.1) left.0 also.0 a.0 b.0
+      (subst (λ (l : List (Item C.Value)). Dump old.0 l left.0 a.0) rows a.3) b.3 in
+      (ends.0, a.4 ∙ ap state_left ends.1 ∙ sym b.4)

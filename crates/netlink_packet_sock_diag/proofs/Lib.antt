@@ -1,10 +1,8 @@
 pub mod Lengths
 pub mod Envelopes
 pub mod Dumping
-pub mod Interrupting
 pub mod Lawful
 pub mod DumpRows
-pub mod Interruptions
 pub mod LossyDumps
 pub mod Feeding
 pub mod WholeViews

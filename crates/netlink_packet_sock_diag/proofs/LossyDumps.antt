@@ -13,9 +13,9 @@ use Rattle.netlink_core.specs.Items.{Item, ItemIs}
 use Rattle.netlink_packet_sock_diag.specs.Dump.{end_of, kept, Dump, DatagramDump, Standing}
 use Rattle.netlink_packet_sock_diag.specs.Dump.{unended}
 use Rattle.netlink_packet_sock_diag.specs.Lossy.{lossy}
+use Rattle.netlink_packet_sock_diag.proofs.Dumping.{no_fault_in_message}
 use Rattle.netlink_packet_sock_diag.proofs.DumpRows.{End, Ends, joined, none_or_some, one_dump}
 use Rattle.netlink_packet_sock_diag.proofs.DumpRows.{parted}
-use Rattle.netlink_packet_sock_diag.proofs.Interrupting.{no_fault_in_message}
 
 -- the fault behind the messages of a datagram, if there is one
 abbrev last : {A : Type 0} → Option DecodeError → List (Item A)

@@ -54,11 +54,6 @@ module _ (C : Codec ℕ) where
   DatagramDump before datagram after end =
       (items : List (Item C.Value)) × ItemsAre C datagram items × Dump before items after end
 
-  -- up to a message for which there was no memory: over the items in front of it it is still read
-  abbrev pub DatagramStopped : List C.Value → List ℕ → List C.Value → Type 0
-  DatagramStopped before datagram after = (front later : List (Item C.Value)) × (m : C.Value)
-      × ItemsAre C datagram (front ++ (Ok (inner m) ∷ later)) × Dump before front after (Ok unended)
-
   -- these are the items of the datagrams, in a row
   abbrev pub HaveItems : List (List ℕ) → List (Item C.Value) → Type 0
   HaveItems datagrams row = (items : List (List (Item C.Value)))

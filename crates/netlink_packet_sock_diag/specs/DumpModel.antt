@@ -1,7 +1,8 @@
 -- The model of a dump that is read: what contracts see of it.
-use Rattle.std.specs.Prelude.{Bool, List, map}
+use Rattle.std.specs.Prelude.{List, map}
 use Rattle.netlink_packet_sock_diag.specs.declared.dump.DumpReader.{DumpReader}
 use Rattle.netlink_packet_sock_diag.specs.Dump.{Standing}
+use Rattle.netlink_packet_sock_diag.specs.Feed.{Progress}
 use Rattle.netlink_packet_sock_diag.specs.Message.{Message}
 use Rattle.netlink_packet_sock_diag.specs.MessageModel.{message_model}
 
@@ -13,6 +14,6 @@ kept_messages reader = map message_model reader.dump.kept.items
 abbrev pub standing : DumpReader → Standing
 standing reader = reader.dump.standing
 
--- whether a message had NLM_F_DUMP_INTR
-abbrev pub was_interrupted : DumpReader → Bool
-was_interrupted reader = reader.dump.interrupted
+-- both, and whether a message had NLM_F_DUMP_INTR
+abbrev pub progress : DumpReader → Progress Message
+progress reader = (kept_messages reader, standing reader, reader.dump.interrupted)

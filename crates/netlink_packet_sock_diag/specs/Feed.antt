@@ -1,50 +1,56 @@
 -- What feeding datagrams to the reader of a dump leaves and answers.
-use Rattle.std.specs.Prelude.{◌≡◌, ◌≢◌, ℕ, List, [], ◌∷◌, ◌++◌, Option, Result, Ok, Err, None}
-use Rattle.std.specs.Prelude.{IsBitSet}
-use Rattle.std.specs.List.{AllZip}
+use Rattle.std.specs.Prelude.{◌≡◌, ◌≢◌, ◌↔◌, ◌⊎◌, ℕ, List, [], ◌∷◌, ◌++◌, Bool, false, IsTrue}
+use Rattle.std.specs.Prelude.{Result, Ok, Err, None, IsBitSet}
 use Rattle.netlink_core.specs.Codec.{Codec}
-use Rattle.netlink_core.specs.Datagram.{CutIntoMessages}
+use Rattle.netlink_core.specs.Datagram.{StartsWithMessage}
+use Rattle.netlink_core.specs.Envelope.{inner}
 use Rattle.netlink_core.specs.Header.{HasHeader}
-use Rattle.netlink_core.specs.Items.{Item, ItemIs}
+use Rattle.netlink_core.specs.Items.{Item, ItemsAre}
 use Rattle.netlink_core.specs.declared.fault.DecodeError.{DecodeError}
 use Rattle.netlink_core.specs.declared.header.NetlinkHeader.{NetlinkHeader}
 use Rattle.netlink_core.specs.declared.fault.DecodeError.TheVariants.{Memory}
 use Rattle.netlink_packet_sock_diag.specs.declared.dump.DumpState.TheVariants.{Failed}
 use Rattle.netlink_packet_sock_diag.specs.declared.dump.DumpError.{DumpError}
 use Rattle.netlink_packet_sock_diag.specs.declared.dump.DumpError.TheVariants.{Ended, Fault}
-use Rattle.netlink_packet_sock_diag.specs.Dump.{Dump, DatagramDump, DatagramStopped, Standing}
-use Rattle.netlink_packet_sock_diag.specs.Dump.{unended}
+use Rattle.netlink_packet_sock_diag.specs.Dump.{DatagramDump, Dump, Standing, end_of, unended}
+
+-- how far a dump is: what it keeps, how it stands, and whether it is interrupted
+abbrev pub Progress : Type 0 → Type 0
+Progress A = List A × Standing × Bool
+
+-- nothing has come
+abbrev pub untouched : {A : Type 0} → Progress A
+untouched = ([], unended, false)
+
+-- Bytes whose first messages have these items interrupt a dump: the header of the first has the flag
+-- NLM_F_DUMP_INTR, 16, which is the bit 4, or its item does not end the dump and what follows does.
+abbrev pub Interrupt : {A : Type 0} → List ℕ → List (Item A) → Type 0
+Interrupt bytes [] = ⊥
+Interrupt bytes (item ∷ items) = (message rest : List ℕ) × StartsWithMessage bytes message rest
+    × (((h : NetlinkHeader) × HasHeader message h × IsBitSet h.flags 4) ⊎ ((end_of item ≡ None) × Interrupt rest items))
 
 -- by the codec of inner messages under a type
 module _ (C : Codec ℕ) where
-  -- Of a dump that was read: its end in the datagram, or its fault, or that memory ran out. Of one
-  -- that had ended: nothing.
-  abbrev pub FeedLeaves : List C.Value → Standing → List ℕ → List C.Value → Standing → Result Unit DumpError → Type 0
-  FeedLeaves before was b after is (Ok _) = (was ≡ unended) × DatagramDump C before b after (Ok is)
-  FeedLeaves before was b after is (Err Ended) = (was ≢ unended) × (after ≡ before) × (is ≡ was)
-  FeedLeaves before was b after is (Err (Fault e)) = (was ≡ unended) × (is ≡ (Failed, None))
-      × (e ≢ Memory → DatagramDump C before b after (Err e))
-      × (e ≡ Memory → DatagramStopped C before b after)
+  -- the dump over a datagram to its end, interrupted where it was or the datagram interrupts it
+  abbrev pub Takes : List C.Value → Bool → List ℕ → List C.Value → Bool → Result Standing DecodeError → Type 0
+  Takes before was b after is end = (dump : DatagramDump C before b after end) × (IsTrue is ↔ (IsTrue was ⊎ Interrupt b dump.0))
+
+  -- up to a message for which there was no memory: over the items in front of it it is still read
+  abbrev pub Stops : List C.Value → Bool → List ℕ → List C.Value → Bool → Type 0
+  Stops before was b after is = (front later : List (Item C.Value)) × (m : C.Value)
+      × ItemsAre C b (front ++ (Ok (inner m) ∷ later)) × Dump before front after (Ok unended)
+      × (IsTrue is ↔ (IsTrue was ⊎ Interrupt b (front ++ Ok (inner m) ∷ [])))
+
+  -- Of a dump that was read: its end in the datagram, or its fault, or that memory ran out. One that
+  -- had ended is as it was.
+  abbrev pub FeedLeaves : Progress C.Value → List ℕ → Progress C.Value → Result Unit DumpError → Type 0
+  FeedLeaves old b new (Ok _) = (old.1 ≡ unended) × Takes old.0 old.2 b new.0 new.2 (Ok new.1)
+  FeedLeaves old b new (Err Ended) = (old.1 ≢ unended) × (new ≡ old)
+  FeedLeaves old b new (Err (Fault e)) = (old.1 ≡ unended) × (new.1 ≡ (Failed, None))
+      × (e ≢ Memory → Takes old.0 old.2 b new.0 new.2 (Err e)) × (e ≡ Memory → Stops old.0 old.2 b new.0 new.2)
 
   -- the same of datagrams that are fed one after the other, where there was memory for all
-  abbrev pub FeedsLeave : List C.Value → Standing → List (List ℕ) → List C.Value → Standing → Type 0
-  FeedsLeave before state [] after left = (after ≡ before) × (left ≡ state)
-  FeedsLeave before state (datagram ∷ later) after left =
-      (middle : List C.Value) × (next : Standing) × (answer : Result Unit DumpError)
-      × FeedLeaves before state datagram middle next answer × (answer ≢ Err (Fault Memory)) × FeedsLeave middle next later after left
-
-  -- A message of the datagram has the flag NLM_F_DUMP_INTR, 16, which is the bit 4, and the dump
-  -- comes to it: over those in front of it it is still read, and what it keeps of them is kept.
-  abbrev pub IsInterrupted : List C.Value → List ℕ → List C.Value → Type 0
-  IsInterrupted before datagram after = (passed later : List (List ℕ)) × (message : List ℕ)
-      × (h : NetlinkHeader) × (end : Option DecodeError) × (items : List (Item C.Value))
-      × (middle more : List C.Value) × CutIntoMessages datagram (passed ++ (message ∷ later)) end
-      × HasHeader message h × IsBitSet h.flags 4 × AllZip (ItemIs C) passed items
-      × Dump before items middle (Ok unended) × (after ≡ middle ++ more)
-
-  -- One of the datagrams, which are fed one after the other, interrupts the dump: behind those in
-  -- front of it it is still read.
-  abbrev pub AreInterrupted : List C.Value → List (List ℕ) → Type 0
-  AreInterrupted before datagrams = (front back : List (List ℕ)) × (datagram : List ℕ)
-      × (middle after : List C.Value) × (datagrams ≡ front ++ (datagram ∷ back))
-      × FeedsLeave before unended front middle unended × IsInterrupted middle datagram after
+  abbrev pub FeedsLeave : Progress C.Value → List (List ℕ) → Progress C.Value → Type 0
+  FeedsLeave old [] new = new ≡ old
+  FeedsLeave old (datagram ∷ later) new = (middle : Progress C.Value) × (answer : Result Unit DumpError)
+      × FeedLeaves old datagram middle answer × (answer ≢ Err (Fault Memory)) × FeedsLeave middle later new

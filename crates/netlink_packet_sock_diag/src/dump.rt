@@ -1,9 +1,9 @@
 //! Dumps: the messages of several datagrams, up to the one that ends them.
 
-ghost use Rattle.std.specs.Prelude.{◌≡◌, ◌⊎◌, ◌↔◌, [], map, IsTrue, false};
+ghost use Rattle.std.specs.Prelude.{◌≡◌, [], map, false};
 ghost use Rattle.std.proofs.Common.{rules};
 ghost use Rattle.netlink_packet_sock_diag.specs.Dump.{unended};
-ghost use Rattle.netlink_packet_sock_diag.specs.Feed.{FeedLeaves, IsInterrupted};
+ghost use Rattle.netlink_packet_sock_diag.specs.Feed.{FeedLeaves};
 ghost use Rattle.netlink_packet_sock_diag.specs.Message.{message_codec};
 ghost use Rattle.netlink_packet_sock_diag.specs.MessageModel.{message_model};
 
@@ -56,14 +56,13 @@ pub struct DumpReader {
 }
 
 impl DumpReader {
-    ghost use Rattle.netlink_packet_sock_diag.specs.DumpModel.{kept_messages, standing};
-    ghost use Rattle.netlink_packet_sock_diag.specs.DumpModel.{was_interrupted};
+    ghost use Rattle.netlink_packet_sock_diag.specs.DumpModel.{kept_messages, progress, standing};
 
     /// A dump of which nothing has come. The allocator is kept.
     pub fn new(alloc: Global) -> Self
         ensures messages { kept_messages result ≡ [] }
         ensures state { standing result ≡ unended }
-        ensures interrupted { was_interrupted result ≡ false }
+        ensures interrupted { (progress result).2 ≡ false }
     {
         DumpReader {
             dump: FedDump::new(alloc),
@@ -74,12 +73,8 @@ impl DumpReader {
     /// and where memory runs out, the messages in front are kept and the dump has failed. Once the
     /// dump has ended nothing changes.
     pub fn feed(&mut self, datagram: &[u8]) -> Result<(), DumpError>
-        ensures leaves { FeedLeaves message_codec (kept_messages self.old) (standing self.old)
-            datagram.now (kept_messages self.new) (standing self.new) result }
-        ensures interrupted { IsTrue (was_interrupted self.new)
-            ↔ (IsTrue (was_interrupted self.old) ⊎ ((standing self.old ≡ unended)
-            × IsInterrupted message_codec (kept_messages self.old) datagram.now
-            (kept_messages self.new))) }
+        ensures leaves { FeedLeaves message_codec (progress self.old) datagram.now
+            (progress self.new) result }
     {
         self.dump.feed(datagram)
     }
@@ -118,7 +113,7 @@ impl DumpReader {
     /// told some twice: a message up to the end, or the end, had `NLM_F_DUMP_INTR` of netlink(7).
     /// Make the request again then.
     pub fn is_interrupted(&self) -> bool
-        ensures { result ≡ was_interrupted self.now }
+        ensures { result ≡ (progress self.now).2 }
     {
         self.dump.interrupted
     }

@@ -1,7 +1,7 @@
 //! Laws of replies and of messages. The functions do nothing: their contracts are the laws.
 
 ghost use Rattle.std.specs.Prelude.{Bool, true, ◌≡◌, ◌≢◌, ◌%◌, ◌↔◌, ◌⊎◌, ◌++◌, ℕ, List, [], ◌∷◌};
-ghost use Rattle.std.specs.Prelude.{length, count_by, IsTrue, Result, IfOk, IsOk, map};
+ghost use Rattle.std.specs.Prelude.{false, length, count_by, IsTrue, Result, IfOk, IsOk, map};
 ghost use Rattle.std.specs.Iterator.{Drains};
 ghost use Rattle.std.specs.List.{AllByRecursion, AllZip};
 ghost use Rattle.netlink_core.specs.Bytes.{IsBytes};
@@ -26,10 +26,7 @@ ghost use Rattle.netlink_packet_sock_diag.specs.declared.message.SockDiagDestroy
 ghost use Rattle.netlink_packet_sock_diag.specs.Dump.{concatenation, Dump};
 ghost use Rattle.netlink_packet_sock_diag.specs.Dump.{DatagramDump, DatagramsDump};
 ghost use Rattle.netlink_packet_sock_diag.specs.Dump.{AreSplit, Standing, unended};
-ghost use Rattle.netlink_packet_sock_diag.specs.Feed.{AreInterrupted, FeedLeaves, FeedsLeave};
-ghost use Rattle.netlink_packet_sock_diag.specs.Feed.{IsInterrupted};
-ghost use Rattle.netlink_packet_sock_diag.specs.declared.dump.DumpError.{DumpError as Refusal};
-ghost use Rattle.netlink_packet_sock_diag.specs.declared.dump.DumpError.TheVariants.{Fault};
+ghost use Rattle.netlink_packet_sock_diag.specs.Feed.{FeedsLeave, Progress, Takes, untouched};
 ghost use Rattle.netlink_packet_sock_diag.specs.declared.dump.views.DumpViews.{DumpViews};
 ghost use Rattle.netlink_packet_sock_diag.specs.declared.dump.views.PayloadView.{PayloadView};
 ghost use Rattle.netlink_core.specs.DatagramWalk.{datagram_left};
@@ -230,19 +227,20 @@ pub fn split_changes_no_dump()
 }
 
 /// Nor does what feeding leaves: the same bytes, fed to two new readers in any two such ways, and
-/// memory for all, leave the same messages, the same state and the same number.
+/// memory for all, leave the same messages, the same state and the same number, and interrupt both
+/// or none: those of all the bytes in one datagram.
 pub fn split_changes_no_feed()
-    ensures { (datagrams others : List (List ℕ)) → AllByRecursion IsBytes datagrams
+    ensures same { (datagrams others : List (List ℕ)) → AllByRecursion IsBytes datagrams
         → AllByRecursion IsBytes others
         → AreSplit datagrams → AreSplit others → concatenation datagrams ≡ concatenation others
-        → (messages same : List Message) (state end : Standing)
-        → FeedsLeave message_codec [] unended datagrams messages state
-        → FeedsLeave message_codec [] unended others same end
-        → (messages ≡ same) × (state ≡ end) }
-{
-    laws::datagram_has_items::<SockDiagMessage>();
-    laws::one_list_of_items::<SockDiagMessage>();
-}
+        → (left also : Progress Message) → FeedsLeave message_codec untouched datagrams left
+        → FeedsLeave message_codec untouched others also → left ≡ also }
+    ensures whole { (datagrams : List (List ℕ)) → AllByRecursion IsBytes datagrams
+        → AreSplit datagrams
+        → (left : Progress Message) → FeedsLeave message_codec untouched datagrams left
+        → (end : Result Standing DecodeError)
+        × Takes message_codec [] false (concatenation datagrams) left.0 left.2 end }
+{}
 
 /// Nor does it where datagrams have the same items in a row, as where one of them lacks the padding
 /// behind its last message: fed to two new readers, and with memory for all, they leave the same
@@ -253,79 +251,27 @@ pub fn same_items_change_no_feed()
         → AllByRecursion IsBytes datagrams → AllByRecursion IsBytes others
         → AllZip (ItemsAre message_codec) datagrams xs → AllZip (ItemsAre message_codec) others ys
         → concatenation xs ≡ concatenation ys
-        → (messages same : List Message) (state end : Standing)
-        → FeedsLeave message_codec [] unended datagrams messages state
-        → FeedsLeave message_codec [] unended others same end
-        → (messages ≡ same) × (state ≡ end) }
-{
-    laws::datagram_has_items::<SockDiagMessage>();
-    laws::one_list_of_items::<SockDiagMessage>();
-}
-
-/// Nor does whether the dump is interrupted: of the same bytes, fed to two new readers in any two
-/// such ways, and memory for all, a datagram interrupts the one dump exactly where one does the
-/// other, and where all the bytes in one datagram do.
-pub fn split_changes_no_interruption()
-    ensures split { (datagrams others : List (List ℕ)) → AllByRecursion IsBytes datagrams
-        → AllByRecursion IsBytes others
-        → AreSplit datagrams → AreSplit others → concatenation datagrams ≡ concatenation others
-        → (messages same : List Message) (state end : Standing)
-        → FeedsLeave message_codec [] unended datagrams messages state
-        → FeedsLeave message_codec [] unended others same end
-        → (AreInterrupted message_codec [] datagrams ↔ AreInterrupted message_codec [] others) }
-    ensures whole { (datagrams : List (List ℕ)) → AllByRecursion IsBytes datagrams
-        → AreSplit datagrams → (messages : List Message) (state : Standing)
-        → FeedsLeave message_codec [] unended datagrams messages state
-        → (AreInterrupted message_codec [] datagrams
-        ↔ IsInterrupted message_codec [] (concatenation datagrams) messages) }
-{}
-
-/// A dump that was fed nothing is not interrupted, and one datagram more interrupts it as the
-/// clause `interrupted` of `feed` says: so `is_interrupted` of a reader that was fed datagrams,
-/// with memory for all, tells whether they interrupt the dump.
-pub fn interruption_by_one_datagram_more()
-    ensures none { AreInterrupted message_codec [] [] → ⊥ }
-    ensures more { (datagrams : List (List ℕ)) (datagram : List ℕ)
-        → AllByRecursion IsBytes datagrams → IsBytes datagram
-        → (before after : List Message) (was left : Standing) (answer : Result Unit Refusal)
-        → FeedsLeave message_codec [] unended datagrams before was
-        → FeedLeaves message_codec before was datagram after left answer
-        → answer ≢ Err (Fault Memory)
-        → (AreInterrupted message_codec [] (datagrams ++ datagram ∷ [])
-        ↔ (AreInterrupted message_codec [] datagrams
-        ⊎ ((was ≡ unended) × IsInterrupted message_codec before datagram after))) }
-    ensures lossy_none { AreInterrupted (lossy message_codec) [] [] → ⊥ }
-    ensures lossy_more { (datagrams : List (List ℕ)) (datagram : List ℕ)
-        → AllByRecursion IsBytes datagrams → IsBytes datagram
-        → (before after : List (Result Message DecodeError)) (was left : Standing)
-        (answer : Result Unit Refusal)
-        → FeedsLeave (lossy message_codec) [] unended datagrams before was
-        → FeedLeaves (lossy message_codec) before was datagram after left answer
-        → answer ≢ Err (Fault Memory)
-        → (AreInterrupted (lossy message_codec) [] (datagrams ++ datagram ∷ [])
-        ↔ (AreInterrupted (lossy message_codec) [] datagrams
-        ⊎ ((was ≡ unended) × IsInterrupted (lossy message_codec) before datagram after))) }
+        → (left also : Progress Message) → FeedsLeave message_codec untouched datagrams left
+        → FeedsLeave message_codec untouched others also
+        → (left.0 ≡ also.0) × (left.1 ≡ also.1) }
 {}
 
 /// What feeding a `LossyDump` leaves does not depend on the split either: the same bytes, fed to
 /// two new ones in any two such ways, and memory for all, leave the same entries, the same state
-/// and the same number, and interrupt both or none.
+/// and the same number, and interrupt both or none: those of all the bytes in one datagram.
 pub fn split_changes_no_lossy_feed()
-    ensures left { (datagrams others : List (List ℕ)) → AllByRecursion IsBytes datagrams
+    ensures same { (datagrams others : List (List ℕ)) → AllByRecursion IsBytes datagrams
         → AllByRecursion IsBytes others
         → AreSplit datagrams → AreSplit others → concatenation datagrams ≡ concatenation others
-        → (entries same : List (Result Message DecodeError)) (state end : Standing)
-        → FeedsLeave (lossy message_codec) [] unended datagrams entries state
-        → FeedsLeave (lossy message_codec) [] unended others same end
-        → (entries ≡ same) × (state ≡ end) }
-    ensures interrupted { (datagrams others : List (List ℕ)) → AllByRecursion IsBytes datagrams
-        → AllByRecursion IsBytes others
-        → AreSplit datagrams → AreSplit others → concatenation datagrams ≡ concatenation others
-        → (entries same : List (Result Message DecodeError)) (state end : Standing)
-        → FeedsLeave (lossy message_codec) [] unended datagrams entries state
-        → FeedsLeave (lossy message_codec) [] unended others same end
-        → (AreInterrupted (lossy message_codec) [] datagrams
-        ↔ AreInterrupted (lossy message_codec) [] others) }
+        → (left also : Progress (Result Message DecodeError))
+        → FeedsLeave (lossy message_codec) untouched datagrams left
+        → FeedsLeave (lossy message_codec) untouched others also → left ≡ also }
+    ensures whole { (datagrams : List (List ℕ)) → AllByRecursion IsBytes datagrams
+        → AreSplit datagrams
+        → (left : Progress (Result Message DecodeError))
+        → FeedsLeave (lossy message_codec) untouched datagrams left
+        → (end : Result Standing DecodeError)
+        × Takes (lossy message_codec) [] false (concatenation datagrams) left.0 left.2 end }
 {}
 
 /// Nor does it where datagrams have the same items in a row: fed to two new `LossyDump`s, and with
@@ -337,10 +283,10 @@ pub fn same_items_change_no_lossy_feed()
         → AllZip (ItemsAre (lossy message_codec)) datagrams xs
         → AllZip (ItemsAre (lossy message_codec)) others ys
         → concatenation xs ≡ concatenation ys
-        → (entries same : List (Result Message DecodeError)) (state end : Standing)
-        → FeedsLeave (lossy message_codec) [] unended datagrams entries state
-        → FeedsLeave (lossy message_codec) [] unended others same end
-        → (entries ≡ same) × (state ≡ end) }
+        → (left also : Progress (Result Message DecodeError))
+        → FeedsLeave (lossy message_codec) untouched datagrams left
+        → FeedsLeave (lossy message_codec) untouched others also
+        → (left.0 ≡ also.0) × (left.1 ≡ also.1) }
 {}
 
 /// Of a datagram without a fault a `LossyDump` keeps what a [`DumpReader`](crate::DumpReader) does,

@@ -11,7 +11,7 @@ use Rattle.netlink_core.specs.Items.{ItemsAre}
 use Rattle.netlink_core.proofs.Items.{items_of, one_list, zip_append}
 use Rattle.netlink_packet_sock_diag.specs.declared.dump.DumpState.TheVariants.{Reading, Failed}
 use Rattle.netlink_packet_sock_diag.specs.declared.dump.DumpError.TheVariants.{Ended, Fault}
-use Rattle.netlink_packet_sock_diag.specs.Feed.{FeedLeaves}
+use Rattle.netlink_packet_sock_diag.specs.Feed.{FeedLeaves, Progress}
 use Rattle.netlink_packet_sock_diag.specs.Dump.{AreSplit, Dump, DatagramDump, DatagramsDump}
 use Rattle.netlink_packet_sock_diag.specs.Dump.{HaveItems, Standing, concatenation, unended}
 use Rattle.netlink_packet_sock_diag.specs.Message.{Message, message_codec}
@@ -186,47 +186,52 @@ over_at state None over = λ e. over (bare state e)
 over_at state (Some fault) over = λ e. cc
 
 module _ (datagrams : List (List ℕ)) (datagram : List ℕ) (in_range : IsBytes datagram)
-    (before after : List Message) (state left : Standing) (fault : Option DecodeError)
-    (d : DatagramsDump message_codec [] datagrams before (ended_with state fault))
-    (none : state ≡ unended → fault ≡ None) where
+    (old new : Progress Message) (fault : Option DecodeError)
+    (d : DatagramsDump message_codec [] datagrams old.0 (ended_with old.1 fault))
+    (none : old.1 ≡ unended → fault ≡ None) where
   -- the datagram was taken without a fault
-  pub took : FeedLeaves message_codec before state datagram after left (Ok tt)
-      → DatagramsDump message_codec [] (datagrams ++ datagram ∷ []) after (ended_with left fault)
-      × (left ≡ unended → fault ≡ None)
+  pub took : FeedLeaves message_codec old datagram new (Ok tt)
+      → DatagramsDump message_codec [] (datagrams ++ datagram ∷ []) new.0 (ended_with new.1 fault)
+      × (new.1 ≡ unended → fault ≡ None)
   unfolding Next
-  took fed = (
-    one_more datagrams datagram in_range [] before after (ended_with state fault)
-        (ended_with left fault) d
+  took (reading, taken) = (
+    one_more datagrams datagram in_range [] old.0 new.0 (ended_with old.1 fault)
+        (ended_with new.1 fault) d
         (inl (
-          reading_at state fault none fed.0,
-          subst (λ (e : Result Standing DecodeError). DatagramDump message_codec before
-              datagram after e) (sym (ap (ended_with left) (none fed.0))) fed.1,
+          reading_at old.1 fault none reading,
+          subst (λ (e : Result Standing DecodeError). DatagramDump message_codec old.0 datagram
+              new.0 e) (sym (ap (ended_with new.1) (none reading))) taken.0,
         )),
-    λ still. none fed.0,
+    λ still. none reading,
   )
 
   -- it was not, since the dump had ended
-  pub left_as_it_was : FeedLeaves message_codec before state datagram after left (Err Ended)
-      → DatagramsDump message_codec [] (datagrams ++ datagram ∷ []) after (ended_with left fault)
-      × (left ≡ unended → fault ≡ None)
+  pub left_as_it_was : FeedLeaves message_codec old datagram new (Err Ended)
+      → DatagramsDump message_codec [] (datagrams ++ datagram ∷ []) new.0 (ended_with new.1 fault)
+      × (new.1 ≡ unended → fault ≡ None)
   unfolding Next
-  left_as_it_was fed = (
-    one_more datagrams datagram in_range [] before after (ended_with state fault)
-        (ended_with left fault) d
-        (inr (over_at state fault fed.0, fed.1, ap (λ (s : Standing). ended_with s fault) fed.2)),
-    λ reading. absurd (fed.0 (sym fed.2 ∙ reading)),
-  )
+  left_as_it_was (over, same) =
+      let state = ap (λ (p : Progress Message). p.1) same in (
+        one_more datagrams datagram in_range [] old.0 new.0 (ended_with old.1 fault)
+            (ended_with new.1 fault) d
+            (inr (
+              over_at old.1 fault over,
+              ap (λ (p : Progress Message). p.0) same,
+              ap (λ (s : Standing). ended_with s fault) state,
+            )),
+        λ reading. absurd (over (sym state ∙ reading)),
+      )
 
   -- it has a fault
-  pub failed_at : (e : DecodeError) → e ≢ Memory → FeedLeaves message_codec before state datagram
-      after left (Err (Fault e))
-      → DatagramsDump message_codec [] (datagrams ++ datagram ∷ []) after (Err e)
-      × (left ≡ unended → Some e ≡ None)
+  pub failed_at : (e : DecodeError) → e ≢ Memory
+      → FeedLeaves message_codec old datagram new (Err (Fault e))
+      → DatagramsDump message_codec [] (datagrams ++ datagram ∷ []) new.0 (Err e)
+      × (new.1 ≡ unended → Some e ≡ None)
   unfolding Next
-  failed_at e named fed = (
-    one_more datagrams datagram in_range [] before after (ended_with state fault) (Err e) d
-        (inl (reading_at state fault none fed.0, fed.2 named)),
-    λ still. absurd (apart (sym fed.1 ∙ still)),
+  failed_at e named (reading, failed, taken, stopped) = (
+    one_more datagrams datagram in_range [] old.0 new.0 (ended_with old.1 fault) (Err e) d
+        (inl (reading_at old.1 fault none reading, (taken named).0)),
+    λ still. absurd (apart (sym failed ∙ still)),
   )
     where
       apart : (Failed, None) ≡ unended → ⊥

@@ -1,11 +1,11 @@
 //! A dump that is fed datagrams, whatever it keeps of their messages.
 
 ghost use Rattle.std.specs.Prelude.{◌≡◌, ◌≢◌, ◌⊎◌, ◌↔◌, ℕ, List, [], map, Result, Ok as ok};
-ghost use Rattle.std.specs.Prelude.{Err as err, IfOk, IfErr, IsBitSet, IsTrue, None, false};
+ghost use Rattle.std.specs.Prelude.{Err as err, MatchResult, IsBitSet, IsTrue, None, false};
 ghost use Rattle.netlink_core.specs.declared.fault.DecodeError.TheVariants.{Memory};
-ghost use Rattle.netlink_packet_sock_diag.specs.Dump.{DatagramDump, DatagramStopped, Standing};
 ghost use Rattle.netlink_packet_sock_diag.specs.Dump.{unended};
-ghost use Rattle.netlink_packet_sock_diag.specs.Feed.{FeedLeaves, FeedsLeave, IsInterrupted};
+ghost use Rattle.netlink_packet_sock_diag.specs.Feed.{FeedLeaves, FeedsLeave, Progress, Stops};
+ghost use Rattle.netlink_packet_sock_diag.specs.Feed.{Takes, untouched};
 ghost use Rattle.netlink_packet_sock_diag.specs.declared.dump.DumpError.{DumpError as Refusal};
 ghost use Rattle.netlink_packet_sock_diag.specs.declared.dump.DumpState.TheVariants.{Reading};
 ghost use Rattle.netlink_packet_sock_diag.specs.declared.dump.DumpState.TheVariants.{Failed};
@@ -38,16 +38,15 @@ fn take_messages<I: Kept>(
     interrupted: &mut bool,
     datagram: &[u8],
 ) -> Result<(DumpState, Option<i32>), DecodeError>
-    ensures state { IfOk result (λ standing. DatagramDump I.codec
-        (map I.model messages.old.items) datagram.now (map I.model messages.new.items)
-        (ok standing)) }
-    ensures fault { IfErr result (λ e. e ≢ Memory → DatagramDump I.codec
-        (map I.model messages.old.items) datagram.now (map I.model messages.new.items) (err e)) }
-    ensures memory { IfErr result (λ e. e ≡ Memory → DatagramStopped I.codec
-        (map I.model messages.old.items) datagram.now (map I.model messages.new.items)) }
-    ensures interrupted { IsTrue interrupted.new ↔ (IsTrue interrupted.old
-        ⊎ IsInterrupted I.codec (map I.model messages.old.items) datagram.now
-        (map I.model messages.new.items)) }
+    ensures { MatchResult result
+        (λ standing. Takes I.codec (map I.model messages.old.items) interrupted.old datagram.now
+        (map I.model messages.new.items) interrupted.new (ok standing))
+        (λ e. (e ≢ Memory
+        → Takes I.codec (map I.model messages.old.items) interrupted.old datagram.now
+        (map I.model messages.new.items) interrupted.new (err e))
+        × (e ≡ Memory
+        → Stops I.codec (map I.model messages.old.items) interrupted.old datagram.now
+        (map I.model messages.new.items) interrupted.new)) }
 {
     for item in MessageStrings::new(datagram) {
         let message = item?;
@@ -76,13 +75,14 @@ pub(crate) struct FedDump<I: Kept> {
     pub(crate) interrupted: bool,
     // A dump that is still read has no number.
     ghost unnumbered: { (standing.0 ≡ Reading) → (standing ≡ unended) },
-    // Datagrams were fed, with memory for all, and left these and this state; or one more was, and
-    // the dump has failed.
-    ghost fed: { ∥ ((datagrams : List (List ℕ)) × (before : List I.codec.Value) × (was : Standing)
-        × FeedsLeave I.codec [] unended datagrams before was
-        × (((map I.model kept.items ≡ before) × (standing ≡ was))
+    // Datagrams were fed, with memory for all, and left it so; or one more was, and the dump has
+    // failed.
+    ghost fed: { ∥ ((datagrams : List (List ℕ)) × (before : Progress I.codec.Value)
+        × FeedsLeave I.codec untouched datagrams before
+        × ((before ≡ (map I.model kept.items, standing, interrupted))
         ⊎ ((standing ≡ (Failed, None)) × (last : List ℕ) × (answer : Result Unit Refusal)
-        × FeedLeaves I.codec before was last (map I.model kept.items) standing answer))) ∥₁ },
+        × FeedLeaves I.codec before last (map I.model kept.items, standing, interrupted)
+        answer))) ∥₁ },
 }
 
 impl<I: Kept> FedDump<I> {
@@ -102,13 +102,9 @@ impl<I: Kept> FedDump<I> {
 
     /// Takes the messages of a datagram, as [`DumpReader::feed`](crate::DumpReader::feed) says.
     pub(crate) fn feed(&mut self, datagram: &[u8]) -> Result<(), DumpError>
-        ensures leaves { FeedLeaves I.codec (map I.model self.old.kept.items)
-            self.old.standing datagram.now (map I.model self.new.kept.items) self.new.standing
-            result }
-        ensures interrupted { IsTrue self.new.interrupted ↔ (IsTrue self.old.interrupted
-            ⊎ ((self.old.standing ≡ unended)
-            × IsInterrupted I.codec (map I.model self.old.kept.items) datagram.now
-            (map I.model self.new.kept.items))) }
+        ensures { FeedLeaves I.codec
+            (map I.model self.old.kept.items, self.old.standing, self.old.interrupted) datagram.now
+            (map I.model self.new.kept.items, self.new.standing, self.new.interrupted) result }
     {
         if self.standing.0 != DumpState::Reading {
             return Err(DumpError::Ended);

@@ -1,9 +1,9 @@
 //! Dumps that go past refused replies.
 
-ghost use Rattle.std.specs.Prelude.{◌≡◌, ◌⊎◌, ◌↔◌, [], map, IsTrue, false};
+ghost use Rattle.std.specs.Prelude.{◌≡◌, [], map, false};
 ghost use Rattle.netlink_core.specs.Faults.{map_ok};
 ghost use Rattle.netlink_packet_sock_diag.specs.Dump.{unended};
-ghost use Rattle.netlink_packet_sock_diag.specs.Feed.{FeedLeaves, IsInterrupted};
+ghost use Rattle.netlink_packet_sock_diag.specs.Feed.{FeedLeaves};
 ghost use Rattle.netlink_packet_sock_diag.specs.Lossy.{lossy};
 ghost use Rattle.netlink_packet_sock_diag.specs.Message.{message_codec};
 ghost use Rattle.netlink_packet_sock_diag.specs.MessageModel.{message_model};
@@ -40,15 +40,15 @@ impl LossyDump {
     /// `EnvelopeLengthPast`, and where memory runs out, the entries in front are kept and the dump
     /// has failed. Once the dump has ended nothing changes.
     pub fn feed(&mut self, datagram: &[u8]) -> Result<(), DumpError>
-        ensures leaves { FeedLeaves (lossy message_codec)
-            (map (map_ok message_model) self.old.dump.kept.items) self.old.dump.standing
-            datagram.now (map (map_ok message_model) self.new.dump.kept.items)
-            self.new.dump.standing result }
-        ensures interrupted { IsTrue self.new.dump.interrupted
-            ↔ (IsTrue self.old.dump.interrupted ⊎ ((self.old.dump.standing ≡ unended)
-            × IsInterrupted (lossy message_codec)
-            (map (map_ok message_model) self.old.dump.kept.items) datagram.now
-            (map (map_ok message_model) self.new.dump.kept.items))) }
+        ensures leaves { FeedLeaves (lossy message_codec) (
+          map (map_ok message_model) self.old.dump.kept.items,
+          self.old.dump.standing,
+          self.old.dump.interrupted,
+        ) datagram.now (
+          map (map_ok message_model) self.new.dump.kept.items,
+          self.new.dump.standing,
+          self.new.dump.interrupted,
+        ) result }
     {
         self.dump.feed(datagram)
     }

@@ -1,9 +1,13 @@
-use Rattle.std.proofs.Common.{[]}
+use Rattle.std.proofs.Common.{refl}
+use Rattle.netlink_packet_sock_diag.specs.Feed.{untouched}
 use Rattle.netlink_packet_sock_diag.specs.Message.{message_codec}
+use Rattle.netlink_packet_sock_diag.specs.MessageLaws.{message_laws}
 use Rattle.netlink_packet_sock_diag.proofs.DumpRows.{same_items_feeds}
+use Rattle.netlink_packet_sock_diag.proofs.Lawful.{one_list_of_items, some_items}
 use Rattle.netlink_packet_sock_diag.proofs.laws.same_items_change_no_feed.Goals as goal
 
 pub returns : goal.returns
-returns c = λ datagrams others xs ys in_range fits each them same messages also state end f g.
-    same_items_feeds message_codec c.datagram_has_items.ensures c.one_list_of_items.ensures
-    datagrams others xs ys in_range fits each them same [] messages also state end f g
+returns c = λ datagrams others xs ys in_range fits each them same left also f g.
+    same_items_feeds message_codec (some_items message_codec message_laws)
+    (one_list_of_items message_codec message_laws) datagrams others xs ys in_range fits each them
+    same untouched left also refl f g

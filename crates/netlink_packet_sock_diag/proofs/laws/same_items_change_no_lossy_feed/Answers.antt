@@ -1,4 +1,5 @@
-use Rattle.std.proofs.Common.{[]}
+use Rattle.std.proofs.Common.{refl}
+use Rattle.netlink_packet_sock_diag.specs.Feed.{untouched}
 use Rattle.netlink_packet_sock_diag.specs.Lossy.{lossy}
 use Rattle.netlink_packet_sock_diag.specs.LossyLaws.{lossy_laws}
 use Rattle.netlink_packet_sock_diag.specs.Message.{message_codec}
@@ -8,10 +9,8 @@ use Rattle.netlink_packet_sock_diag.proofs.Lawful.{one_list_of_items, some_items
 use Rattle.netlink_packet_sock_diag.proofs.laws.same_items_change_no_lossy_feed.Goals as goal
 
 pub returns : goal.returns
-returns c =
+returns c = λ datagrams others xs ys in_range fits each them same left also f g.
+    let told = lossy message_codec in
     let laws = lossy_laws message_codec message_laws in
-    let some = some_items (lossy message_codec) laws in
-    let one = one_list_of_items (lossy message_codec) laws in
-    λ datagrams others xs ys in_range fits each them same entries also state end f g.
-    same_items_feeds (lossy message_codec) some one datagrams others xs ys in_range fits each them
-    same [] entries also state end f g
+    same_items_feeds told (some_items told laws) (one_list_of_items told laws) datagrams others xs
+    ys in_range fits each them same untouched left also refl f g

@@ -1,4 +1,4 @@
-use Rattle.std.proofs.Common.{◌≡◌, ◌∙◌, inl, inr, Bool, true, false, not, Ok, Err, map, refl, sym}
+use Rattle.std.proofs.Common.{◌≡◌, ◌∙◌, Bool, true, false, not, Ok, Err, map, refl, sym}
 use Rattle.std.specs.Prelude.{None}
 use Rattle.netlink_packet_sock_diag.specs.declared.dump.DumpError.TheVariants.{Fault}
 use Rattle.netlink_packet_sock_diag.specs.contracts.dump.DumpState.{the_type}
@@ -24,51 +24,42 @@ pub invariant_of-self : goal.invariant_of-self
 invariant_of-self g c =
     let dump = c.args.self.now in
     let read = still_reading dump.standing.0 c.ne.result c.ne.ensures c.if-ne.false in
-    let kept = map g.I.Kept.model dump.kept.items in
-    let after = map g.I.Kept.model c.take_messages.new.messages.items in
-    let taken = c.in-Ok.ensures.state in
+    let took = c.in-Ok.ensures in
     record {
-      unnumbered = unnumbered taken.2.1 c.in-Ok.standing taken.2.5;
-      fed = fed_on g.I.Kept.codec kept after dump.standing c.in-Ok.standing c.args.datagram.now
-          (Ok tt) dump.fed (dump.unnumbered read, taken);
+      unnumbered = unnumbered took.0.2.1 c.in-Ok.standing took.0.2.5;
+      fed = fed_on g.I.Kept.codec
+          (map g.I.Kept.model dump.kept.items, dump.standing, dump.interrupted) (
+            map g.I.Kept.model c.take_messages.new.messages.items,
+            c.in-Ok.standing,
+            c.take_messages.new.interrupted,
+          ) c.args.datagram.now (Ok tt) dump.fed
+          (dump.unnumbered read, took);
     }
 
 pub invariant_of-self-in-Err : goal.invariant_of-self-in-Err
 invariant_of-self-in-Err g c =
     let dump = c.args.self.now in
     let read = still_reading dump.standing.0 c.ne.result c.ne.ensures c.if-ne.false in
-    let kept = map g.I.Kept.model dump.kept.items in
-    let after = map g.I.Kept.model c.take_messages.new.messages.items in
+    let took = c.in-Err.ensures in
     record {
       unnumbered = λ is. cc;
-      fed = fed_on g.I.Kept.codec kept after dump.standing (Failed, None) c.args.datagram.now
-          (Err (Fault c.in-Err.fault)) dump.fed
-          (dump.unnumbered read, refl, c.in-Err.ensures.fault, c.in-Err.ensures.memory);
+      fed = fed_on g.I.Kept.codec
+          (map g.I.Kept.model dump.kept.items, dump.standing, dump.interrupted) (
+            map g.I.Kept.model c.take_messages.new.messages.items,
+            (Failed, None),
+            c.take_messages.new.interrupted,
+          ) c.args.datagram.now (Err (Fault c.in-Err.fault)) dump.fed
+          (dump.unnumbered read, refl, took.0, took.1);
     }
 
-pub returns-in-Ok-clause-leaves : goal.returns-in-Ok-clause-leaves
-returns-in-Ok-clause-leaves g c =
+pub returns-in-Ok : goal.returns-in-Ok
+returns-in-Ok g c =
     let dump = c.args.self.now in
     let read = still_reading dump.standing.0 c.ne.result c.ne.ensures c.if-ne.false in
-    (dump.unnumbered read, c.in-Ok.ensures.state)
+    (dump.unnumbered read, c.in-Ok.ensures)
 
-pub returns-in-Ok-clause-interrupted : goal.returns-in-Ok-clause-interrupted
-returns-in-Ok-clause-interrupted g c =
+pub returns-in-Err : goal.returns-in-Err
+returns-in-Err g c =
     let dump = c.args.self.now in
     let read = still_reading dump.standing.0 c.ne.result c.ne.ensures c.if-ne.false in
-    let seen = c.in-Ok.ensures.interrupted in (
-      λ is. elim (seen.0 is) [
-        | inl was ↦ inl was
-        | inr comes ↦ inr (dump.unnumbered read, comes)
-      ],
-      λ e. seen.1 (elim e [
-        | inl was ↦ inl was
-        | inr comes ↦ inr comes.1
-      ]),
-    )
-
-pub returns-in-Err-clause-leaves : goal.returns-in-Err-clause-leaves
-returns-in-Err-clause-leaves g c =
-    let dump = c.args.self.now in
-    let read = still_reading dump.standing.0 c.ne.result c.ne.ensures c.if-ne.false in
-    (dump.unnumbered read, refl, c.in-Err.ensures.fault, c.in-Err.ensures.memory)
+    (dump.unnumbered read, refl, c.in-Err.ensures.0, c.in-Err.ensures.1)
