@@ -59,7 +59,8 @@ IsFileHeaderFault bytes NewFormat = IsNoCapture bytes NewFormat
 IsFileHeaderFault bytes Packed = IsNoCapture bytes Packed
 IsFileHeaderFault bytes (NoCapture magic) = IsNoCapture bytes (NoCapture magic)
 IsFileHeaderFault bytes (OtherVersion version) =
-    (order : ByteOrder) × IsMagic (number_at order 4 0 bytes) × (version ≡ number_at order 2 4 bytes) × (version ≢ 2)
+    (order : ByteOrder) × IsMagic (number_at order 4 0 bytes)
+    × (version ≡ number_at order 2 4 bytes) × (version ≢ 2)
 IsFileHeaderFault bytes (OtherLinkType link_type) =
     (order : ByteOrder) × IsMagic (number_at order 4 0 bytes) × (number_at order 2 4 bytes ≡ 2)
     × (link_type ≡ number_at order 4 20 bytes % 65536) × (link_type ≢ 253)

@@ -17,8 +17,9 @@ number_cell (Some n) = decimal n
 -- the states by their numbers, as ss(8) names them
 abbrev pub state_names : List (List ℕ)
 state_names =
-    codes "UNKNOWN" ∷ codes "ESTAB" ∷ codes "SYN-SENT" ∷ codes "SYN-RECV" ∷ codes "FIN-WAIT-1" ∷ codes "FIN-WAIT-2"
-    ∷ codes "TIME-WAIT" ∷ codes "UNCONN" ∷ codes "CLOSE-WAIT" ∷ codes "LAST-ACK" ∷ codes "LISTEN" ∷ codes "CLOSING" ∷ []
+    codes "UNKNOWN" ∷ codes "ESTAB" ∷ codes "SYN-SENT" ∷ codes "SYN-RECV" ∷ codes "FIN-WAIT-1"
+    ∷ codes "FIN-WAIT-2" ∷ codes "TIME-WAIT" ∷ codes "UNCONN" ∷ codes "CLOSE-WAIT"
+    ∷ codes "LAST-ACK" ∷ codes "LISTEN" ∷ codes "CLOSING" ∷ []
 
 -- the name of a state
 abbrev pub state_name : ℕ → List ℕ
@@ -55,7 +56,8 @@ pub record FirstColumns : Type 0 where
 abbrev pub first_columns : FirstColumns → List ℕ
 first_columns c =
     column 5 c.kind ++ column 10 (state_name c.state) ++ column 6 (number_cell c.receive_queue)
-    ++ column 6 (number_cell c.send_queue) ++ column 10 (decimal c.inode) ++ column 5 (number_cell c.uid)
+    ++ column 6 (number_cell c.send_queue) ++ column 10 (decimal c.inode)
+    ++ column 5 (number_cell c.uid)
 
 -- the columns of a line with these ends
 abbrev pub line : FirstColumns → List ℕ → List ℕ → List ℕ

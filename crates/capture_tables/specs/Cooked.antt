@@ -10,6 +10,7 @@ IsOfSockDiag bytes = (big_number 2 (drop 2 bytes) ≡ 824) × (big_number 2 (dro
 
 -- what the packet of these bytes holds
 abbrev pub IsPacketOf : List ℕ → Packet → Type 0
-IsPacketOf bytes (SockDiag datagram) = (16 ≤ length bytes) × IsOfSockDiag bytes × (datagram.now ≡ drop 16 bytes)
+IsPacketOf bytes (SockDiag datagram) = (16 ≤ length bytes) × IsOfSockDiag bytes
+    × (datagram.now ≡ drop 16 bytes)
 IsPacketOf bytes Other = (16 ≤ length bytes) × ¬ IsOfSockDiag bytes
 IsPacketOf bytes Short = length bytes < 16

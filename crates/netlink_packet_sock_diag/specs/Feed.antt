@@ -22,8 +22,9 @@ Progress A = List A × Standing × Bool
 abbrev pub untouched : {A : Type 0} → Progress A
 untouched = ([], unended, false)
 
--- Bytes whose first messages have these items interrupt a dump: the header of the first has the flag
--- NLM_F_DUMP_INTR, 16, which is the bit 4, or its item does not end the dump and what follows does.
+-- Bytes whose first messages have these items interrupt a dump: the header of the first has the
+-- flag NLM_F_DUMP_INTR, 16, which is the bit 4, or its item does not end the dump and what follows
+-- interrupts it.
 abbrev pub Interrupt : {A : Type 0} → List ℕ → List (Item A) → Type 0
 Interrupt bytes [] = ⊥
 Interrupt bytes (item ∷ items) = (message rest : List ℕ) × StartsWithMessage bytes message rest
@@ -41,8 +42,8 @@ module _ (C : Codec ℕ) where
       × ItemsAre C b (front ++ (Ok (inner m) ∷ later)) × Dump before front after (Ok unended)
       × (IsTrue is ↔ (IsTrue was ⊎ Interrupt b (front ++ Ok (inner m) ∷ [])))
 
-  -- Of a dump that was read: its end in the datagram, or its fault, or that memory ran out. One that
-  -- had ended is as it was.
+  -- Of a dump that was read: its end in the datagram, or its fault, or that memory ran out. One
+  -- that had ended is as it was.
   abbrev pub FeedLeaves : Progress C.Value → List ℕ → Progress C.Value → Result Unit DumpError → Type 0
   FeedLeaves old b new (Ok _) = (old.1 ≡ unended) × Takes old.0 old.2 b new.0 new.2 (Ok new.1)
   FeedLeaves old b new (Err Ended) = (old.1 ≢ unended) × (new ≡ old)
