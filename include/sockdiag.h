@@ -24,7 +24,7 @@
 #include <stdint.h>
 
 /* The version of this header and of the library that it is shipped with. */
-#define SOCKDIAG_VERSION "0.10.0"
+#define SOCKDIAG_VERSION "0.11.0"
 
 #ifdef __cplusplus
 extern "C" {

@@ -31,7 +31,7 @@ use std::process::ExitCode;
 pub use stream::run;
 
 /// The version, that of the repository's file `VERSION`.
-pub const VERSION: &str = "0.10.0";
+pub const VERSION: &str = "0.11.0";
 
 /// How `sslist` is called.
 pub const HELP: &str = "sslist [-tuxM0oemiOna] [--WORD ..] [FILE ..]

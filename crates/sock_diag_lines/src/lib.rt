@@ -29,7 +29,7 @@ pub use stream::{RunError, run};
 use stream::{answer_all, report};
 
 /// The version, that of the repository's file `VERSION`.
-pub const VERSION: &str = "0.10.0";
+pub const VERSION: &str = "0.11.0";
 
 /// `run`, which tells on `errors` in one line why it failed, but where nobody reads the output any
 /// more. The status is 0 where it came to the end of its input, and 1 where it failed. If it is
