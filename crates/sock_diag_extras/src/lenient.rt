@@ -1,7 +1,7 @@
 //! A reply of which each attribute is read by itself: one that is refused hides no other.
 
 ghost use Rattle.std.specs.Prelude.{◌≡◌, ◌+◌, ◌/◌, Ok, Err, IfOk, IfErr, IfSome, drop, length};
-ghost use Rattle.std.specs.Prelude.{refl, option_map};
+ghost use Rattle.std.specs.Prelude.{option_map};
 ghost use Rattle.std.specs.Iterator.{UpTo, at_most};
 ghost use Rattle.std.specs.Iterator.SizeHint.{IsWithinCount};
 ghost use Rattle.netlink_core.specs.Attribute.{attribute_type};
