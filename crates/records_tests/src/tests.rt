@@ -9,10 +9,10 @@ mod netlink;
 mod records;
 mod sizes;
 
-/// What `Debug` shows of the value has this part.
-fn shows<T: Debug>(rt: &impl Abort, alloc: Global, value: &T, part: &str) {
+/// `Debug` shows the value so.
+fn shows<T: Debug>(rt: &impl Abort, alloc: Global, value: &T, text: &str) {
     let shown = format!(in alloc; "{value:?}").expect(rt, "memory");
-    assert!(rt; shown.contains(part), "{shown}");
+    assert!(rt; shown.as_str() == text, "{shown}");
 }
 
 /// The answers of the walk, one after the other, are shown like this.
