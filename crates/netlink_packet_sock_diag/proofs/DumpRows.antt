@@ -26,7 +26,7 @@ use Rattle.netlink_packet_sock_diag.specs.declared.dump.DumpError.TheVariants.{E
 use Rattle.netlink_packet_sock_diag.specs.Dump.{concatenation, end_of, kept, Dump}
 use Rattle.netlink_packet_sock_diag.specs.Dump.{DatagramDump, DatagramsDump, AreSplit, Standing}
 use Rattle.netlink_packet_sock_diag.specs.Dump.{unended}
-use Rattle.netlink_packet_sock_diag.specs.Feed.{FeedLeaves, FeedsLeave, Interrupt, Progress, Takes}
+use Rattle.netlink_packet_sock_diag.specs.Feed.{FeedLeaves, FeedsLeave, Interrupt, Stage, Takes}
 use Rattle.netlink_packet_sock_diag.proofs.Dumping.{first_or_later}
 
 -- how a dump ends, or its fault
@@ -422,7 +422,7 @@ module _ (C : Codec ℕ) where
   state_left (Ok state) = state
   state_left (Err e) = (Failed, None)
 
-  feed_step : (old new : Progress C.Value) (datagram : List ℕ) (answer : Result Unit DumpError)
+  feed_step : (old new : Stage C.Value) (datagram : List ℕ) (answer : Result Unit DumpError)
       → old.1 ≡ unended → FeedLeaves C old datagram new answer → answer ≢ Err (Fault Memory)
       → (end : End) × Takes C old.0 old.2 datagram new.0 new.2 end × (new.1 ≡ state_left end)
   unfolding state_left
@@ -431,18 +431,18 @@ module _ (C : Codec ℕ) where
   feed_step old new datagram (Err (Fault e)) reading f some =
       (Err e, f.2 (λ memory. some (ap (λ (g : DecodeError). Err (Fault g)) memory)), f.1)
 
-  ended_step : (old new : Progress C.Value) (datagram : List ℕ) (answer : Result Unit DumpError)
+  ended_step : (old new : Stage C.Value) (datagram : List ℕ) (answer : Result Unit DumpError)
       → old.1 ≢ unended → FeedLeaves C old datagram new answer → new ≡ old
   ended_step old new datagram (Ok done) over f = absurd (over f.0)
   ended_step old new datagram (Err Ended) over f = f.1
   ended_step old new datagram (Err (Fault e)) over f = absurd (over f.0)
 
-  ended_stays : (datagrams : List (List ℕ)) (old new : Progress C.Value) → old.1 ≢ unended
+  ended_stays : (datagrams : List (List ℕ)) (old new : Stage C.Value) → old.1 ≢ unended
       → FeedsLeave C old datagrams new → new ≡ old
   ended_stays [] old new over f = f
   ended_stays (datagram ∷ later) old new over f =
       let one = ended_step old f.0 datagram f.1 over f.2 in
-      ended_stays later f.0 new (λ is. over (sym (ap (λ (p : Progress C.Value). p.1) one) ∙ is)) f.4
+      ended_stays later f.0 new (λ is. over (sym (ap (λ (p : Stage C.Value). p.1) one) ∙ is)) f.4
       ∙ one
 
   left_reading : (state : End) → state ≢ Ok unended → state_left state ≢ unended
@@ -457,7 +457,7 @@ module _ (C : Codec ℕ) where
   -- Feeding datagrams in a row gives their dump. Where they are split, it is interrupted where all
   -- the bytes do so.
   feeds_dump : SomeItems → (datagrams : List (List ℕ)) → AllByRecursion IsBytes datagrams
-      → (old new : Progress C.Value) → old.1 ≡ unended → FeedsLeave C old datagrams new
+      → (old new : Stage C.Value) → old.1 ≡ unended → FeedsLeave C old datagrams new
       → (end : End) × (parts : List (List (Item C.Value))) × AllZip (ItemsAre C) datagrams parts
       × Dump old.0 (concatenation parts) new.0 end × (new.1 ≡ state_left end)
       × (AreSplit datagrams → (IsTrue new.2
@@ -466,12 +466,12 @@ module _ (C : Codec ℕ) where
     Ok unended,
     [],
     tt,
-    ([], [], refl, tt, ap (λ (p : Progress C.Value). p.0) f ∙ sym (append-nil old.0), refl),
-    ap (λ (p : Progress C.Value). p.1) f ∙ reading ∙ sym state_left-reading,
+    ([], [], refl, tt, ap (λ (p : Stage C.Value). p.0) f ∙ sym (append-nil old.0), refl),
+    ap (λ (p : Stage C.Value). p.1) f ∙ reading ∙ sym state_left-reading,
     λ split. (
-      λ t. inl (subst (λ (p : Progress C.Value). IsTrue p.2) f t),
+      λ t. inl (subst (λ (p : Stage C.Value). IsTrue p.2) f t),
       λ e. elim e [
-        | inl t ↦ subst (λ (p : Progress C.Value). IsTrue p.2) (sym f) t
+        | inl t ↦ subst (λ (p : Stage C.Value). IsTrue p.2) (sym f) t
         | inr never ↦ absurd never
       ],
     ),
@@ -515,14 +515,14 @@ module _ (C : Codec ℕ) where
               items ∷ parts.0,
               (dump.1, parts.1),
               joined old.0 f.0.0 new.0 one.0 one.0 items (concatenation parts.0) dump.2
-                  (inr (off, ap (λ (p : Progress C.Value). p.0) stays, refl)),
-              ap (λ (p : Progress C.Value). p.1) stays ∙ one.2,
+                  (inr (off, ap (λ (p : Stage C.Value). p.0) stays, refl)),
+              ap (λ (p : Stage C.Value). p.1) stays ∙ one.2,
               λ split.
                   let next : IsTrue new.2 ↔ (IsTrue f.0.2
                   ⊎ (Plain items × Interrupt (concatenation later) (concatenation parts.0))) = (
-                    λ t. inl (subst (λ (p : Progress C.Value). IsTrue p.2) stays t),
+                    λ t. inl (subst (λ (p : Stage C.Value). IsTrue p.2) stays t),
                     λ e. elim e [
-                      | inl t ↦ subst (λ (p : Progress C.Value). IsTrue p.2) (sym stays) t
+                      | inl t ↦ subst (λ (p : Stage C.Value). IsTrue p.2) (sym stays) t
                       | inr p ↦ absurd (off (plain.1 p.0))
                     ],
                   ) in
@@ -533,7 +533,7 @@ module _ (C : Codec ℕ) where
 
   -- feeding split datagrams leaves what the dump over all the bytes does
   pub whole_feed : SomeItems → (datagrams : List (List ℕ)) → AllByRecursion IsBytes datagrams
-      → AreSplit datagrams → (old new : Progress C.Value) → old.1 ≡ unended
+      → AreSplit datagrams → (old new : Stage C.Value) → old.1 ≡ unended
       → FeedsLeave C old datagrams new → (end : End)
       × Takes C old.0 old.2 (concatenation datagrams) new.0 new.2 end × (new.1 ≡ state_left end)
   whole_feed some datagrams in_range split old new reading f =
@@ -544,7 +544,7 @@ module _ (C : Codec ℕ) where
   pub same_feeds : SomeItems → OneList → (datagrams others : List (List ℕ))
       → AllByRecursion IsBytes datagrams → AllByRecursion IsBytes others → AreSplit datagrams
       → AreSplit others → concatenation datagrams ≡ concatenation others
-      → (old left also : Progress C.Value) → old.1 ≡ unended → FeedsLeave C old datagrams left
+      → (old left also : Stage C.Value) → old.1 ≡ unended → FeedsLeave C old datagrams left
       → FeedsLeave C old others also → left ≡ also
   same_feeds some one datagrams others in_range fits split cut same old left also reading f g =
       let bytes = concatenation others in
@@ -568,7 +568,7 @@ module _ (C : Codec ℕ) where
       → AllByRecursion IsBytes datagrams → AllByRecursion IsBytes others
       → AllZip (ItemsAre C) datagrams xs → AllZip (ItemsAre C) others ys
       → concatenation xs ≡ concatenation ys
-      → (old left also : Progress C.Value) → old.1 ≡ unended → FeedsLeave C old datagrams left
+      → (old left also : Stage C.Value) → old.1 ≡ unended → FeedsLeave C old datagrams left
       → FeedsLeave C old others also → (left.0 ≡ also.0) × (left.1 ≡ also.1)
   same_items_feeds some one datagrams others xs ys in_range fits each them same old left also
       reading f g =

@@ -10,13 +10,13 @@ use Rattle.netlink_packet_sock_diag.specs.declared.dump.DumpState.TheVariants.{R
 use Rattle.netlink_packet_sock_diag.specs.declared.dump.DumpError.{DumpError}
 use Rattle.netlink_packet_sock_diag.specs.declared.dump.DumpError.TheVariants.{Ended, Fault}
 use Rattle.netlink_packet_sock_diag.specs.Dump.{Standing, unended}
-use Rattle.netlink_packet_sock_diag.specs.Feed.{FeedLeaves, FeedsLeave, Progress, untouched}
+use Rattle.netlink_packet_sock_diag.specs.Feed.{FeedLeaves, FeedsLeave, Stage, untouched}
 
 module _ (C : Codec ℕ) where
   -- as the ghost field of the reader says
-  abbrev pub Fed : Progress C.Value → Type 0
+  abbrev pub Fed : Stage C.Value → Type 0
   Fed now =
-      (datagrams : List (List ℕ)) × (before : Progress C.Value)
+      (datagrams : List (List ℕ)) × (before : Stage C.Value)
       × FeedsLeave C untouched datagrams before
       × ((before ≡ now)
       ⊎ ((now.1 ≡ (Failed, None)) × (last : List ℕ) × (answer : Result Unit DumpError)
@@ -26,14 +26,14 @@ module _ (C : Codec ℕ) where
   new_fed = merely ([], untouched, refl, inl refl)
 
   -- one more datagram is fed at the end
-  one_more : (datagrams : List (List ℕ)) (old before after : Progress C.Value) (datagram : List ℕ)
+  one_more : (datagrams : List (List ℕ)) (old before after : Stage C.Value) (datagram : List ℕ)
       (answer : Result Unit DumpError) → FeedsLeave C old datagrams before
       → FeedLeaves C before datagram after answer → answer ≢ Err (Fault Memory)
       → FeedsLeave C old (datagrams ++ datagram ∷ []) after
   one_more [] old before after datagram answer here f some = (
     after,
     answer,
-    subst (λ (p : Progress C.Value). FeedLeaves C p datagram after answer) here f,
+    subst (λ (p : Stage C.Value). FeedLeaves C p datagram after answer) here f,
     some,
     refl,
   )
@@ -46,14 +46,14 @@ module _ (C : Codec ℕ) where
   )
 
   -- a dump that is read was left so with memory for all
-  still : (now : Progress C.Value) → Fed now → now.1 ≡ unended
+  still : (now : Stage C.Value) → Fed now → now.1 ≡ unended
       → (datagrams : List (List ℕ)) × FeedsLeave C untouched datagrams now
   still now (datagrams, before, leave, inl same) reading =
-      (datagrams, subst (λ (p : Progress C.Value). FeedsLeave C untouched datagrams p) same leave)
+      (datagrams, subst (λ (p : Stage C.Value). FeedsLeave C untouched datagrams p) same leave)
   still now (datagrams, before, leave, inr (failed, last, answer, f)) reading =
       let e : Failed ≡ Reading = ap (λ (s : Standing). s.0) (sym failed ∙ reading) in absurd cc
 
-  on : (before after : Progress C.Value) (datagram : List ℕ) (answer : Result Unit DumpError)
+  on : (before after : Stage C.Value) (datagram : List ℕ) (answer : Result Unit DumpError)
       → Fed before → FeedLeaves C before datagram after answer → Fed after
   on before after datagram (Ok done) fed f =
       let s = still before fed f.0 in (
@@ -63,12 +63,12 @@ module _ (C : Codec ℕ) where
         inl refl,
       )
   on before after datagram (Err Ended) fed f =
-      subst (λ (p : Progress C.Value). Fed p) (sym f.1) fed
+      subst (λ (p : Stage C.Value). Fed p) (sym f.1) fed
   on before after datagram (Err (Fault e)) fed f =
       let s = still before fed f.0 in
       (s.0, before, s.1, inr (f.1, datagram, Err (Fault e), f))
 
-  pub fed_on : (before after : Progress C.Value) (datagram : List ℕ)
+  pub fed_on : (before after : Stage C.Value) (datagram : List ℕ)
       (answer : Result Unit DumpError) → ∥ Fed before ∥₁
       → FeedLeaves C before datagram after answer → ∥ Fed after ∥₁
   fed_on before after datagram answer fed f =

@@ -15,11 +15,11 @@ use Rattle.netlink_packet_sock_diag.specs.declared.dump.DumpError.TheVariants.{E
 use Rattle.netlink_packet_sock_diag.specs.Dump.{DatagramDump, Dump, Standing, end_of, unended}
 
 -- how far a dump is: what it keeps, how it stands, and whether it is interrupted
-abbrev pub Progress : Type 0 → Type 0
-Progress A = List A × Standing × Bool
+abbrev pub Stage : Type 0 → Type 0
+Stage A = List A × Standing × Bool
 
 -- nothing has come
-abbrev pub untouched : {A : Type 0} → Progress A
+abbrev pub untouched : {A : Type 0} → Stage A
 untouched = ([], unended, false)
 
 -- Bytes whose first messages have these items interrupt a dump: the header of the first has the
@@ -28,7 +28,8 @@ untouched = ([], unended, false)
 abbrev pub Interrupt : {A : Type 0} → List ℕ → List (Item A) → Type 0
 Interrupt bytes [] = ⊥
 Interrupt bytes (item ∷ items) = (message rest : List ℕ) × StartsWithMessage bytes message rest
-    × (((h : NetlinkHeader) × HasHeader message h × IsBitSet h.flags 4) ⊎ ((end_of item ≡ None) × Interrupt rest items))
+    × (((h : NetlinkHeader) × HasHeader message h × IsBitSet h.flags 4)
+    ⊎ ((end_of item ≡ None) × Interrupt rest items))
 
 -- by the codec of inner messages under a type
 module _ (C : Codec ℕ) where
@@ -44,14 +45,14 @@ module _ (C : Codec ℕ) where
 
   -- Of a dump that was read: its end in the datagram, or its fault, or that memory ran out. One
   -- that had ended is as it was.
-  abbrev pub FeedLeaves : Progress C.Value → List ℕ → Progress C.Value → Result Unit DumpError → Type 0
-  FeedLeaves old b new (Ok _) = (old.1 ≡ unended) × Takes old.0 old.2 b new.0 new.2 (Ok new.1)
-  FeedLeaves old b new (Err Ended) = (old.1 ≢ unended) × (new ≡ old)
-  FeedLeaves old b new (Err (Fault e)) = (old.1 ≡ unended) × (new.1 ≡ (Failed, None))
-      × (e ≢ Memory → Takes old.0 old.2 b new.0 new.2 (Err e)) × (e ≡ Memory → Stops old.0 old.2 b new.0 new.2)
+  abbrev pub FeedLeaves : Stage C.Value → List ℕ → Stage C.Value → Result Unit DumpError → Type 0
+  FeedLeaves p b q (Ok _) = (p.1 ≡ unended) × Takes p.0 p.2 b q.0 q.2 (Ok q.1)
+  FeedLeaves p b q (Err Ended) = (p.1 ≢ unended) × (q ≡ p)
+  FeedLeaves p b q (Err (Fault e)) = (p.1 ≡ unended) × (q.1 ≡ (Failed, None))
+      × (e ≢ Memory → Takes p.0 p.2 b q.0 q.2 (Err e)) × (e ≡ Memory → Stops p.0 p.2 b q.0 q.2)
 
   -- the same of datagrams that are fed one after the other, where there was memory for all
-  abbrev pub FeedsLeave : Progress C.Value → List (List ℕ) → Progress C.Value → Type 0
-  FeedsLeave old [] new = new ≡ old
-  FeedsLeave old (datagram ∷ later) new = (middle : Progress C.Value) × (answer : Result Unit DumpError)
-      × FeedLeaves old datagram middle answer × (answer ≢ Err (Fault Memory)) × FeedsLeave middle later new
+  abbrev pub FeedsLeave : Stage C.Value → List (List ℕ) → Stage C.Value → Type 0
+  FeedsLeave p [] q = q ≡ p
+  FeedsLeave p (first ∷ later) q = (next : Stage C.Value) × (answer : Result Unit DumpError)
+      × FeedLeaves p first next answer × (answer ≢ Err (Fault Memory)) × FeedsLeave next later q

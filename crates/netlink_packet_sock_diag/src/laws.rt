@@ -26,7 +26,7 @@ ghost use Rattle.netlink_packet_sock_diag.specs.declared.message.SockDiagDestroy
 ghost use Rattle.netlink_packet_sock_diag.specs.Dump.{concatenation, Dump};
 ghost use Rattle.netlink_packet_sock_diag.specs.Dump.{DatagramDump, DatagramsDump};
 ghost use Rattle.netlink_packet_sock_diag.specs.Dump.{AreSplit, Standing, unended};
-ghost use Rattle.netlink_packet_sock_diag.specs.Feed.{FeedsLeave, Progress, Takes, untouched};
+ghost use Rattle.netlink_packet_sock_diag.specs.Feed.{FeedsLeave, Stage, Takes, untouched};
 ghost use Rattle.netlink_packet_sock_diag.specs.declared.dump.views.DumpViews.{DumpViews};
 ghost use Rattle.netlink_packet_sock_diag.specs.declared.dump.views.PayloadView.{PayloadView};
 ghost use Rattle.netlink_core.specs.DatagramWalk.{datagram_left};
@@ -233,11 +233,11 @@ pub fn split_changes_no_feed()
     ensures same { (datagrams others : List (List ℕ)) → AllByRecursion IsBytes datagrams
         → AllByRecursion IsBytes others
         → AreSplit datagrams → AreSplit others → concatenation datagrams ≡ concatenation others
-        → (left also : Progress Message) → FeedsLeave message_codec untouched datagrams left
+        → (left also : Stage Message) → FeedsLeave message_codec untouched datagrams left
         → FeedsLeave message_codec untouched others also → left ≡ also }
     ensures whole { (datagrams : List (List ℕ)) → AllByRecursion IsBytes datagrams
         → AreSplit datagrams
-        → (left : Progress Message) → FeedsLeave message_codec untouched datagrams left
+        → (left : Stage Message) → FeedsLeave message_codec untouched datagrams left
         → (end : Result Standing DecodeError)
         × Takes message_codec [] false (concatenation datagrams) left.0 left.2 end }
 {}
@@ -251,7 +251,7 @@ pub fn same_items_change_no_feed()
         → AllByRecursion IsBytes datagrams → AllByRecursion IsBytes others
         → AllZip (ItemsAre message_codec) datagrams xs → AllZip (ItemsAre message_codec) others ys
         → concatenation xs ≡ concatenation ys
-        → (left also : Progress Message) → FeedsLeave message_codec untouched datagrams left
+        → (left also : Stage Message) → FeedsLeave message_codec untouched datagrams left
         → FeedsLeave message_codec untouched others also
         → (left.0 ≡ also.0) × (left.1 ≡ also.1) }
 {}
@@ -263,12 +263,12 @@ pub fn split_changes_no_lossy_feed()
     ensures same { (datagrams others : List (List ℕ)) → AllByRecursion IsBytes datagrams
         → AllByRecursion IsBytes others
         → AreSplit datagrams → AreSplit others → concatenation datagrams ≡ concatenation others
-        → (left also : Progress (Result Message DecodeError))
+        → (left also : Stage (Result Message DecodeError))
         → FeedsLeave (lossy message_codec) untouched datagrams left
         → FeedsLeave (lossy message_codec) untouched others also → left ≡ also }
     ensures whole { (datagrams : List (List ℕ)) → AllByRecursion IsBytes datagrams
         → AreSplit datagrams
-        → (left : Progress (Result Message DecodeError))
+        → (left : Stage (Result Message DecodeError))
         → FeedsLeave (lossy message_codec) untouched datagrams left
         → (end : Result Standing DecodeError)
         × Takes (lossy message_codec) [] false (concatenation datagrams) left.0 left.2 end }
@@ -283,7 +283,7 @@ pub fn same_items_change_no_lossy_feed()
         → AllZip (ItemsAre (lossy message_codec)) datagrams xs
         → AllZip (ItemsAre (lossy message_codec)) others ys
         → concatenation xs ≡ concatenation ys
-        → (left also : Progress (Result Message DecodeError))
+        → (left also : Stage (Result Message DecodeError))
         → FeedsLeave (lossy message_codec) untouched datagrams left
         → FeedsLeave (lossy message_codec) untouched others also
         → (left.0 ≡ also.0) × (left.1 ≡ also.1) }

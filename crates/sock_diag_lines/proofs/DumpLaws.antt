@@ -11,7 +11,7 @@ use Rattle.netlink_core.specs.Items.{ItemsAre}
 use Rattle.netlink_core.proofs.Items.{items_of, one_list, zip_append}
 use Rattle.netlink_packet_sock_diag.specs.declared.dump.DumpState.TheVariants.{Reading, Failed}
 use Rattle.netlink_packet_sock_diag.specs.declared.dump.DumpError.TheVariants.{Ended, Fault}
-use Rattle.netlink_packet_sock_diag.specs.Feed.{FeedLeaves, Progress}
+use Rattle.netlink_packet_sock_diag.specs.Feed.{FeedLeaves, Stage}
 use Rattle.netlink_packet_sock_diag.specs.Dump.{AreSplit, Dump, DatagramDump, DatagramsDump}
 use Rattle.netlink_packet_sock_diag.specs.Dump.{HaveItems, Standing, concatenation, unended}
 use Rattle.netlink_packet_sock_diag.specs.Message.{Message, message_codec}
@@ -186,7 +186,7 @@ over_at state None over = λ e. over (bare state e)
 over_at state (Some fault) over = λ e. cc
 
 module _ (datagrams : List (List ℕ)) (datagram : List ℕ) (in_range : IsBytes datagram)
-    (old new : Progress Message) (fault : Option DecodeError)
+    (old new : Stage Message) (fault : Option DecodeError)
     (d : DatagramsDump message_codec [] datagrams old.0 (ended_with old.1 fault))
     (none : old.1 ≡ unended → fault ≡ None) where
   -- the datagram was taken without a fault
@@ -211,12 +211,12 @@ module _ (datagrams : List (List ℕ)) (datagram : List ℕ) (in_range : IsBytes
       × (new.1 ≡ unended → fault ≡ None)
   unfolding Next
   left_as_it_was (over, same) =
-      let state = ap (λ (p : Progress Message). p.1) same in (
+      let state = ap (λ (p : Stage Message). p.1) same in (
         one_more datagrams datagram in_range [] old.0 new.0 (ended_with old.1 fault)
             (ended_with new.1 fault) d
             (inr (
               over_at old.1 fault over,
-              ap (λ (p : Progress Message). p.0) same,
+              ap (λ (p : Stage Message). p.0) same,
               ap (λ (s : Standing). ended_with s fault) state,
             )),
         λ reading. absurd (over (sym state ∙ reading)),

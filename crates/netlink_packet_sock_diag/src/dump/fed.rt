@@ -4,7 +4,7 @@ ghost use Rattle.std.specs.Prelude.{◌≡◌, ◌≢◌, ◌⊎◌, ◌↔◌, 
 ghost use Rattle.std.specs.Prelude.{Err as err, MatchResult, IsBitSet, IsTrue, None, false};
 ghost use Rattle.netlink_core.specs.declared.fault.DecodeError.TheVariants.{Memory};
 ghost use Rattle.netlink_packet_sock_diag.specs.Dump.{unended};
-ghost use Rattle.netlink_packet_sock_diag.specs.Feed.{FeedLeaves, FeedsLeave, Progress, Stops};
+ghost use Rattle.netlink_packet_sock_diag.specs.Feed.{FeedLeaves, FeedsLeave, Stage, Stops};
 ghost use Rattle.netlink_packet_sock_diag.specs.Feed.{Takes, untouched};
 ghost use Rattle.netlink_packet_sock_diag.specs.declared.dump.DumpError.{DumpError as Refusal};
 ghost use Rattle.netlink_packet_sock_diag.specs.declared.dump.DumpState.TheVariants.{Reading};
@@ -77,7 +77,7 @@ pub(crate) struct FedDump<I: Kept> {
     ghost unnumbered: { (standing.0 ≡ Reading) → (standing ≡ unended) },
     // Datagrams were fed, with memory for all, and left it so; or one more was, and the dump has
     // failed.
-    ghost fed: { ∥ ((datagrams : List (List ℕ)) × (before : Progress I.codec.Value)
+    ghost fed: { ∥ ((datagrams : List (List ℕ)) × (before : Stage I.codec.Value)
         × FeedsLeave I.codec untouched datagrams before
         × ((before ≡ (map I.model kept.items, standing, interrupted))
         ⊎ ((standing ≡ (Failed, None)) × (last : List ℕ) × (answer : Result Unit Refusal)
