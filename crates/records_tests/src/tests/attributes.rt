@@ -52,12 +52,8 @@ fn told<T: Viewed>(
     owned: &str,
     viewed: &str,
 ) {
-    shows(
-        rt,
-        alloc,
-        &T::read(alloc, bytes, ()).expect(rt, "refused"),
-        owned,
-    );
+    let read = T::read(alloc, bytes, ()).expect(rt, "refused");
+    shows(rt, alloc, &read, owned);
     let (shown, copy) = T::viewed(rt, alloc, bytes);
     shows(rt, alloc, &copy, owned);
     assert!(rt; shown.as_str() == viewed, "{shown}");
@@ -151,12 +147,8 @@ fn numbers_are_shown_and_kept(rt: HostRuntime) {
     };
     let text = "NumbersIterator { rest: NumbersView { bytes: [5, 0, 0, 0] } }";
     shows(&rt, alloc, &numbers.iter(), text);
-    shows(
-        &rt,
-        alloc,
-        &numbers.to_owned(alloc).expect(&rt, "memory"),
-        "[5]",
-    );
+    let owned = numbers.to_owned(alloc).expect(&rt, "memory");
+    shows(&rt, alloc, &owned, "[5]");
 }
 
 // In each row: bytes, and why they are refused.

@@ -61,12 +61,8 @@ fn reads<T: Fills<N> + Debug + Drop, const N: usize>(
     (text, short): (&str, &str),
     written: &[u8],
 ) {
-    shows(
-        rt,
-        alloc,
-        &T::read(alloc, bytes, told).expect(rt, "refused"),
-        text,
-    );
+    let read = T::read(alloc, bytes, told).expect(rt, "refused");
+    shows(rt, alloc, &read, text);
     let form = canonical::<T>(alloc, bytes, told).expect(rt, "refused");
     same(rt, &form, written);
     let cut = bytes.get(..N.saturating_sub(1)).expect(rt, "short");
