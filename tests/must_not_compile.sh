@@ -11,7 +11,7 @@ cd "$work/crates/sock_diag_replies"
 cat >>src/unix/reply.rt <<'END'
 
 /// A name behind the bytes that lent it.
-pub fn outlived(alloc: Global, header: &[u8]) -> Result<usize, DecodeError> {
+pub fn outlived(alloc: std::alloc::Global, header: &[u8]) -> Result<usize, DecodeError> {
     let name = {
         let ended = Vec::from_slice(alloc, header)?;
         UnixResponseView::parse(ended.as_slice())?.name()
