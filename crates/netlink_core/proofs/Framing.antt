@@ -1,5 +1,5 @@
 -- A message at the start of bytes: one of it, or one fault.
-use Rattle.std.proofs.Common.{cond, ltb, ◌≡◌, ◌∙◌, ℕ, ◌-◌, ◌<◌, ◌≤◌, ◌⊎◌, inl, inr, List, length}
+use Rattle.std.proofs.Common.{cond, ltb, ◌≡◌, ◌∙◌, ℕ, zero, suc, ◌-◌, ◌<◌, ◌≤◌, ◌⊎◌, inl, inr, List, length}
 use Rattle.std.proofs.Common.{take, drop, refl, sym, ap, subst, arith}
 use Rattle.std.specs.Prelude.{Option, Some, None}
 use Rattle.std.proofs.lemmas.Bool.{cases_eq, lt-ltb, le-ltb}
@@ -41,66 +41,21 @@ fault_within C bytes h e head fault = inr (h, head, fault.0, fault.1)
 -- where a header stands is no fault of framing
 no_fault_at_header : (b : List ℕ) (h : NetlinkHeader) (e : DecodeError) → HasHeader b h
     → IsEnvelopeFault b e → ⊥
-no_fault_at_header b h (EnvelopeCut got) head k = omega (arith, head.2, head.3, k.1)
-no_fault_at_header b h (EnvelopeLengthUnder16 word) head k =
-    omega (arith, head.2, header_length b h head, k.0, k.2)
-no_fault_at_header b h (EnvelopeLengthPast word got) head k =
-    omega (arith, head.3, header_length b h head, k.0, k.4)
-no_fault_at_header b h _ head k = k
-
--- the first fault of framing, computed
-first_fault : List ℕ → Option DecodeError
-first_fault b = cond (ltb (length b) 16) (Some (EnvelopeCut (length b)))
-    (cond (ltb (little_number 4 b) 16) (Some (EnvelopeLengthUnder16 (little_number 4 b)))
-    (cond (ltb (length b) (little_number 4 b))
-    (Some (EnvelopeLengthPast (little_number 4 b) (length b))) None))
-
--- a fault of framing is the first
-fault_is_first : (b : List ℕ) (e : DecodeError) → IsEnvelopeFault b e → first_fault b ≡ Some e
-unfolding first_fault
-fault_is_first b (EnvelopeCut got) f = rw (lt-ltb (length b) 16 f.1, ← f.0) refl
-fault_is_first b (EnvelopeLengthUnder16 word) f =
-    let under : little_number 4 b < 16 = omega (arith, f.0, f.2) in
-    rw (le-ltb (length b) 16 f.1, lt-ltb (little_number 4 b) 16 under, ← f.0) refl
-fault_is_first b (EnvelopeLengthPast word got) f =
-    let low : 16 ≤ little_number 4 b = omega (arith, f.0, f.3) in
-    let past : length b < little_number 4 b = omega (arith, f.0, f.4) in
-    rw (
-      le-ltb (length b) 16 f.2,
-      le-ltb (little_number 4 b) 16 low,
-      lt-ltb (length b) (little_number 4 b) past,
-      ← f.0,
-      ← f.1,
-    ) refl
-fault_is_first b _ f = absurd f
+no_fault_at_header b h e head k = grind (arith, header_length b h head)
 
 -- a framing has one fault at most
 pub one_framing_fault : (b : List ℕ) (e f : DecodeError) → IsEnvelopeFault b e → IsEnvelopeFault b f
     → e ≡ f
-one_framing_fault b e f h k =
-    let same : Some e ≡ Some f = sym (fault_is_first b e h) ∙ fault_is_first b f k in
-    cc
+one_framing_fault b e f h k = grind arith
 
 -- the type of a payload that is no inner message
 of_kept_type : {A : Type 0} (reads : List ℕ → ℕ → A → Type 0) (x : List ℕ) (t : ℕ) → IsInnerType t
     ⊎ ((p : Payload A) × PayloadIs reads x t p)
-of_kept_type reads x t = elim (cases_eq t 1) [
-  | inl one ↦ inr (no_payload, one)
-  | inr not_one ↦ elim (cases_eq t 2) [
-    | inl two ↦ inr (error_with x, (two, refl))
-    | inr not_two ↦ elim (cases_eq t 3) [
-      | inl three ↦ inr (done_with x, (three, refl))
-      | inr not_three ↦ elim (cases_eq t 4) [
-        | inl four ↦ inr (overrun_with x, (four, refl))
-        | inr not_four ↦ elim (cases_eq t 0) [
-          | inl none ↦ inl (inl none)
-          | inr not_none ↦
-              inl (inr (omega arith))
-        ]
-      ]
-    ]
-  ]
-]
+of_kept_type reads x (suc zero) = inr (no_payload, refl)
+of_kept_type reads x (suc (suc zero)) = inr (error_with x, (refl, refl))
+of_kept_type reads x (suc (suc (suc zero))) = inr (done_with x, (refl, refl))
+of_kept_type reads x (suc (suc (suc (suc zero)))) = inr (overrun_with x, (refl, refl))
+of_kept_type reads x t = inl (grind arith)
 
 -- Bytes have one message or one fault, where payloads of inner messages have one of them or one
 -- fault.
@@ -131,15 +86,8 @@ module _ (C : Codec ℕ) where
   -- a payload of an inner message's type is one
   inner_payload : (x : List ℕ) (t : ℕ) (p : Payload C.Value) → IsInnerType t
       → PayloadIs C.reads x t p → (m : C.Value) × C.reads x t m
-  inner_payload x t no_payload (inl kind) r = absurd (omega (arith, kind, r))
-  inner_payload x t no_payload (inr kind) r = absurd (omega (arith, kind, r))
-  inner_payload x t (error_with given) (inl kind) r = absurd (omega (arith, kind, r.0))
-  inner_payload x t (error_with given) (inr kind) r = absurd (omega (arith, kind, r.0))
-  inner_payload x t (done_with given) (inl kind) r = absurd (omega (arith, kind, r.0))
-  inner_payload x t (done_with given) (inr kind) r = absurd (omega (arith, kind, r.0))
-  inner_payload x t (overrun_with given) (inl kind) r = absurd (omega (arith, kind, r.0))
-  inner_payload x t (overrun_with given) (inr kind) r = absurd (omega (arith, kind, r.0))
   inner_payload x t (inner m) kind r = (m, r.1)
+  inner_payload x t p kind r = absurd (omega arith)
 
   -- not both
   pub envelope_or_fault_apart : (b : List ℕ) (v : Envelope C.Value) (e : DecodeError)

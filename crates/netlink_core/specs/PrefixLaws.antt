@@ -108,12 +108,7 @@ word_is bytes a head =
 -- not both an attribute and a fault
 pub prefix_or_fault_apart : (bytes : List ℕ) (a : Attribute) (e : DecodeError) → HasPrefix bytes a
     → IsFramingFault bytes e → ⊥
-prefix_or_fault_apart bytes a (AttributeHeaderCut left) head f = omega (arith, word_is bytes a head)
-prefix_or_fault_apart bytes a (AttributeLengthUnder4 word) head f =
-    omega (arith, word_is bytes a head)
-prefix_or_fault_apart bytes a (AttributeLengthPast word left) head f =
-    omega (arith, word_is bytes a head)
-prefix_or_fault_apart bytes a _ head f = f
+prefix_or_fault_apart bytes a e head f = grind (arith, word_is bytes a head)
 
 -- an attribute or a fault stands there
 pub prefix_or_fault : (bytes : List ℕ) → IsBytes bytes → ((a : Attribute) × HasPrefix bytes a)
@@ -143,39 +138,10 @@ pub value_or_reason : {A : Type 0} (read : Result A DecodeError) → ((value : A
 value_or_reason (Ok value) = inl (value, refl)
 value_or_reason (Err e) = inr (e, refl)
 
--- the fault at the start, if there is one
-first_fault : List ℕ → Option DecodeError
-first_fault bytes =
-    cond (ltb (length bytes) 4) (Some (AttributeHeaderCut (length bytes)))
-    (cond (ltb (little_number 2 bytes) 4) (Some (AttributeLengthUnder4 (little_number 2 bytes)))
-    (cond (ltb (length bytes) (little_number 2 bytes))
-    (Some (AttributeLengthPast (little_number 2 bytes) (length bytes))) None))
-
-framing_is_first : (bytes : List ℕ) (e : DecodeError) → IsFramingFault bytes e
-    → first_fault bytes ≡ Some e
-unfolding first_fault
-framing_is_first bytes (AttributeHeaderCut left) f = rw (lt-ltb (length bytes) 4 f.1, ← f.0) refl
-framing_is_first bytes (AttributeLengthUnder4 word) f =
-    let under : little_number 2 bytes < 4 = omega (arith, f.0, f.2) in
-    rw (le-ltb (length bytes) 4 f.1, lt-ltb (little_number 2 bytes) 4 under, ← f.0) refl
-framing_is_first bytes (AttributeLengthPast word left) f =
-    let low : 4 ≤ little_number 2 bytes = omega (arith, f.0, f.3) in
-    let past : length bytes < little_number 2 bytes = omega (arith, f.0, f.4) in
-    rw (
-      le-ltb (length bytes) 4 f.2,
-      le-ltb (little_number 2 bytes) 4 low,
-      lt-ltb (length bytes) (little_number 2 bytes) past,
-      ← f.0,
-      ← f.1,
-    ) refl
-framing_is_first bytes _ f = absurd f
-
 -- one fault at most, of the framing and of all
 pub one_framing_fault : (bytes : List ℕ) (e f : DecodeError) → IsFramingFault bytes e
     → IsFramingFault bytes f → e ≡ f
-one_framing_fault bytes e f h k =
-    let same : Some e ≡ Some f = sym (framing_is_first bytes e h) ∙ framing_is_first bytes f k in
-    cc
+one_framing_fault bytes e f h k = grind arith
 
 module _ {A : Type 0} (reads : Attribute → Result A DecodeError) where
   pub one_prefix_fault : (bytes : List ℕ) (e f : DecodeError) → IsPrefixFault reads bytes e
