@@ -15,18 +15,11 @@ use Rattle.netlink_core.specs.Attribute.{fill}
 use Rattle.netlink_core.specs.Table.{little_endian}
 use Rattle.netlink_core.specs.Header.{HasHeader, IsEnvelopeFault}
 use Rattle.netlink_core.specs.Datagram.{StartsWithMessage, CutIntoMessages, AreWholeMessages}
+use Rattle.netlink_core.specs.PrefixLaws.{same_parts}
+use Rattle.netlink_core.proofs.Cutting.{one_rest}
 use Rattle.netlink_core.proofs.Numbers.{number-take}
 use Rattle.netlink_core.proofs.Framing.{one_framing_fault}
 use Rattle.netlink_core.proofs.Headers.{header_length}
-
--- the front parts of equal bytes, of one length, are equal, and so is what follows them
-same_parts : (xs ys s t : List ℕ) → length xs ≡ length ys → xs ++ s ≡ ys ++ t → (xs ≡ ys) × (s ≡ t)
-same_parts [] [] s t len e = (refl, e)
-same_parts [] (y ∷ ys) s t len e = absurd (omega arith)
-same_parts (x ∷ xs) [] s t len e = absurd (omega arith)
-same_parts (x ∷ xs) (y ∷ ys) s t len e =
-    let rest = same_parts xs ys s t (omega arith) cc in
-    (cc, rest.1)
 
 -- the length word stands in the first four bytes
 leading_word : (n : ℕ) (bytes : List ℕ) → 4 ≤ n → little_number 4 (take n bytes) ≡ little_number 4
@@ -102,45 +95,17 @@ shorter-rest bytes message rest s = let low = s.whole.0 in
 -- where a message stands there is no fault
 pub no_fault_at_message : (bytes message rest : List ℕ) (e : DecodeError)
     → StartsWithMessage bytes message rest → IsEnvelopeFault bytes e → ⊥
-no_fault_at_message bytes message rest (EnvelopeCut got) s f =
-    omega (arith, message_word bytes message rest s)
-no_fault_at_message bytes message rest (EnvelopeLengthUnder16 word) s f =
-    omega (arith, message_word bytes message rest s)
-no_fault_at_message bytes message rest (EnvelopeLengthPast word got) s f =
-    omega (arith, message_word bytes message rest s)
-no_fault_at_message bytes message rest _ s f = f
-
-no_message_in_none : (bytes message rest : List ℕ) → StartsWithMessage bytes message rest
-    → bytes ≡ [] → ⊥
-no_message_in_none bytes message rest s none = let len : length bytes ≡ 0 = ap length none in
-    omega (arith, message_word bytes message rest s)
+no_fault_at_message bytes message rest e s f =
+    grind (arith, message_word bytes message rest s)
 
 -- bytes begin with one message, and one rest
 pub one_message : (bytes m n rest after : List ℕ) → StartsWithMessage bytes m rest
     → StartsWithMessage bytes n after → (m ≡ n) × (rest ≡ after)
 one_message bytes m n rest after s t =
-    let lens : length m ≡ length n = sym (message_word bytes m rest s).0
-    ∙ (message_word bytes n after t).0 in
+    let lens = sym (message_word bytes m rest s).0 ∙ (message_word bytes n after t).0 in
     let parts = same_parts m n (s.padding ++ rest) (t.padding ++ after) lens (sym s.parts
     ∙ t.parts) in
-    let fills : fill (length m) ≡ fill (length n) = ap fill lens in
-    let len : length s.padding + length rest ≡ length t.padding + length after =
-    sym (length-append s.padding rest) ∙ ap length parts.1 ∙ length-append t.padding after in (
-      parts.0,
-      elim s.filled [
-        | inl full ↦ elim t.filled [
-          | inl also ↦ (same_parts s.padding t.padding rest after (full ∙ fills ∙ sym also)
-              parts.1).1
-          | inr short ↦ let none : length after ≡ 0 = ap length short.1 in
-              absurd (omega (arith, short.0))
-        ]
-        | inr short ↦ elim t.filled [
-          | inl full ↦ let none : length rest ≡ 0 = ap length short.1 in
-              absurd (omega (arith, short.0))
-          | inr also ↦ short.1 ∙ sym also.1
-        ]
-      ],
-    )
+    (parts.0, one_rest _ s.padding t.padding rest after s.filled (rw lens t.filled) parts.1)
 
 -- ---- messages in a row
 
@@ -181,22 +146,20 @@ messages_of_concatenation front back (x ∷ xs) ys end h k =
     let more = starts_in_concatenation front back x rest h.0.1 h.1 in
     (rest ++ back, more.0, messages_of_concatenation rest back xs ys end (h.0.2, more.1) k)
 
+-- no end is where a message stands
+not_ended : (bytes message rest : List ℕ) (end : Option DecodeError)
+    → StartsWithMessage bytes message rest → CutIntoMessages bytes [] end → ⊥
+not_ended bytes message rest None s h = let len : length bytes ≡ 0 = ap length h in
+    omega (arith, message_word bytes message rest s)
+not_ended bytes message rest (Some e) s h = no_fault_at_message bytes message rest e s h.1
+
 -- bytes are cut into one list of messages, and have one end
 pub one_cut_into_messages : (bytes : List ℕ) (xs ys : List (List ℕ)) (e f : Option DecodeError)
     → CutIntoMessages bytes xs e → CutIntoMessages bytes ys f → (xs ≡ ys) × (e ≡ f)
-one_cut_into_messages bytes [] [] None None h k = (refl, refl)
-one_cut_into_messages bytes [] [] None (Some f) h k = absurd (k.0 h)
-one_cut_into_messages bytes [] [] (Some e) None h k = absurd (h.0 k)
-one_cut_into_messages bytes [] [] (Some e) (Some f) h k =
-    (refl, ap Some (one_framing_fault bytes e f h.1 k.1))
-one_cut_into_messages bytes [] (y ∷ ys) None f h k = absurd (no_message_in_none bytes y k.0 k.1 h)
-one_cut_into_messages bytes [] (y ∷ ys) (Some e) f h k =
-    absurd (no_fault_at_message bytes y k.0 e k.1 h.1)
-one_cut_into_messages bytes (x ∷ xs) [] e None h k = absurd (no_message_in_none bytes x h.0 h.1 k)
-one_cut_into_messages bytes (x ∷ xs) [] e (Some f) h k =
-    absurd (no_fault_at_message bytes x h.0 f h.1 k.1)
+one_cut_into_messages bytes [] [] e f h k = grind (arith, one_framing_fault bytes)
+one_cut_into_messages bytes [] (y ∷ ys) e f h k = absurd (not_ended bytes y k.0 e k.1 h)
+one_cut_into_messages bytes (x ∷ xs) [] e f h k = absurd (not_ended bytes x h.0 f h.1 k)
 one_cut_into_messages bytes (x ∷ xs) (y ∷ ys) e f h k =
     let same = one_message bytes x y h.0 k.0 h.1 k.1 in
-    let later = one_cut_into_messages h.0 xs ys e f h.2
-    (subst (λ (rest : List ℕ). CutIntoMessages rest ys f) (sym same.1) k.2) in
-    (λ i. same.0 i ∷ later.0 i, later.1)
+    let later = one_cut_into_messages h.0 xs ys e f h.2 (rw same.1 k.2) in
+    (cc, later.1)

@@ -1,7 +1,7 @@
 -- The attribute at the start of a string, or the fault there.
 use Rattle.std.proofs.Common.{Result, Ok, Err, Option, Some, None, ◌≡◌, ◌∙◌, ◌⊎◌, inl, inr, ℕ, ◌+◌}
 use Rattle.std.proofs.Common.{◌-◌, ◌*◌, ◌/◌, ◌%◌, ◌^◌, ◌<◌, ◌≤◌, cond, ltb, List, [], ◌∷◌, ◌++◌}
-use Rattle.std.proofs.Common.{length, take, drop, replicate, refl, sym, ap, subst, arith}
+use Rattle.std.proofs.Common.{suc, length, take, drop, replicate, refl, sym, ap, subst, arith}
 use Rattle.std.proofs.lemmas.List.{take-append-drop, length-take, length-append, take_all}
 use Rattle.std.proofs.lemmas.Bool.{cases_lt, lt-ltb, le-ltb}
 use Rattle.byteorder.specs.Endian.{little_bytes, little_number}
@@ -23,37 +23,27 @@ pub has_prefix : (bytes : List ℕ) (word type_word : ℕ) → IsBytes bytes
     → type_word ≡ little_number 2 (take (length bytes - 2) (drop 2 bytes))
     → 4 ≤ word → word ≤ length bytes
     → HasPrefix bytes (record { type_word = type_word; value = take (word - 4) (drop 4 bytes) })
-has_prefix [] word type_word fits word-is type-is low high = absurd (omega arith)
-has_prefix (_ ∷ []) word type_word fits word-is type-is low high = absurd (omega arith)
-has_prefix (_ ∷ _ ∷ []) word type_word fits word-is type-is low high = absurd (omega arith)
-has_prefix (_ ∷ _ ∷ _ ∷ []) word type_word fits word-is type-is low high = absurd (omega arith)
 has_prefix (a ∷ b ∷ c ∷ d ∷ tail) word type_word fits word-is type-given low high =
     let whole : take (length (a ∷ b ∷ c ∷ d ∷ tail) - 2) (c ∷ d ∷ tail) ≡ c ∷ d ∷ tail =
     take_all _ (c ∷ d ∷ tail) (omega arith) in
     let number : type_word ≡ c + 256 * (d + 256 * 0) = rw whole at type-given in
     let len : length (take (word - 4) tail) ≡ word - 4 =
     omega (arith, length-take (word - 4) tail) in
-    let a-fits : a < 256 = fits 0 in
-    let b-fits : b < 256 = fits 1 in
-    let c-fits : c < 256 = fits 2 in
-    let d-fits : d < 256 = fits 3 in
-    let a-is : a ≡ (4 + length (take (word - 4) tail)) % 256 = omega arith in
-    let b-is : b ≡ (4 + length (take (word - 4) tail)) / 256 % 256 = omega arith in
-    let c-is : c ≡ type_word % 256 = omega arith in
-    let d-is : d ≡ type_word / 256 % 256 = omega arith in
-    let tail-is : tail ≡ take (word - 4) tail ++ drop (word - 4) tail =
-    sym (take-append-drop (word - 4) tail) in
-    (drop (word - 4) tail, cc, (omega arith, omega arith))
+    let words : (a ≡ (4 + length (take (word - 4) tail)) % 256)
+    × (b ≡ (4 + length (take (word - 4) tail)) / 256 % 256) × (c ≡ type_word % 256)
+    × (d ≡ type_word / 256 % 256) = omega (arith, fits 0, fits 1, fits 2, fits 3) in (
+      drop (word - 4) tail,
+      cc (take-append-drop (word - 4) tail),
+      omega (arith, fits 2, fits 3),
+    )
+has_prefix bytes word type_word fits word-is type-is low high = absurd (omega arith)
 
 -- two lists with fronts of one length are equal in both parts
 pub same_parts : (xs ys s t : List ℕ) → length xs ≡ length ys → xs ++ s ≡ ys ++ t → (xs ≡ ys)
     × (s ≡ t)
 same_parts [] [] s t len e = (refl, e)
-same_parts [] (y ∷ ys) s t len e = absurd (omega arith)
-same_parts (x ∷ xs) [] s t len e = absurd (omega arith)
-same_parts (x ∷ xs) (y ∷ ys) s t len e =
-    let rest = same_parts xs ys s t (omega arith) cc in
-    (cc, rest.1)
+same_parts (x ∷ xs) (y ∷ ys) s t len e = grind (arith, same_parts xs ys s t)
+same_parts xs ys s t len e = absurd (omega arith)
 
 -- the attribute is fixed by the bytes, and so is what follows
 pub one_prefix : (a b : Attribute) (s t : List ℕ) → FitsWords a → FitsWords b
@@ -63,22 +53,17 @@ one_prefix a b s t a-fits b-fits e =
     let high : (4 + length a.value) / 256 % 256 ≡ (4 + length b.value) / 256 % 256 = cc in
     let type-low : a.type_word % 256 ≡ b.type_word % 256 = cc in
     let type-high : a.type_word / 256 % 256 ≡ b.type_word / 256 % 256 = cc in
-    let type-fits : (a.type_word < 2 ^ 16) × (b.type_word < 2 ^ 16) = (a-fits.0, b-fits.0) in
-    let fits : (length a.value ≤ 65531) × (length b.value ≤ 65531) = (a-fits.1, b-fits.1) in
     let types : a.type_word ≡ b.type_word = omega arith in
-    let len : length a.value ≡ length b.value = omega arith in
-    let values = same_parts a.value b.value s t len cc in
+    let values = same_parts a.value b.value s t (omega arith) cc in
     (λ i. record { type_word = types i; value = values.0 i }, values.1)
 
 -- the attribute at the start of bytes is in range
 pub prefix_in_range : (b : List ℕ) (a : Attribute) → IsBytes b → HasPrefix b a
     → IsAttributeInRange a
-prefix_in_range b a in_range h =
-    let whole : IsBytes (unpadded a) = IsBytes-left (unpadded a) h.0 (subst IsBytes h.1 in_range) in
-    let behind : IsBytes (little_bytes 2 a.type_word ++ a.value) =
-    IsBytes-right (little_bytes 2 (4 + length a.value)) (little_bytes 2 a.type_word ++ a.value)
-    whole in
-    (h.2.0, IsBytes-right (little_bytes 2 a.type_word) a.value behind)
+prefix_in_range b a in_range h = (
+  h.2.0,
+  IsBytes-left a.value h.0 (λ i. (rw h.1 at in_range) (suc (suc (suc (suc i))))),
+)
 
 -- one attribute stands at the start
 pub one_attribute : (b : List ℕ) (x y : Attribute) → HasPrefix b x → HasPrefix b y → x ≡ y
@@ -86,13 +71,7 @@ one_attribute b x y h k = (one_prefix x y h.0 k.0 h.2 k.2 (sym h.1 ∙ k.1)).0
 
 -- a written attribute is bytes
 pub written_in_range : (a : Attribute) → IsAttributeInRange a → IsBytes (written a)
-written_in_range a in_range =
-    IsBytes-append (unpadded a) (replicate (fill (length a.value)) 0)
-    (IsBytes-append (little_bytes 2 (4 + length a.value)) (little_bytes 2 a.type_word ++ a.value)
-    (IsBytes-number 0 2 (4 + length a.value))
-    (IsBytes-append (little_bytes 2 a.type_word) a.value (IsBytes-number 0 2 a.type_word)
-    in_range.1))
-    (IsBytes-zeros (fill (length a.value)))
+written_in_range a in_range = search (IsBytes-append, IsBytes-number, IsBytes-zeros) depth 7
 
 -- ---- an attribute or a fault
 
@@ -146,18 +125,11 @@ one_framing_fault bytes e f h k = grind arith
 module _ {A : Type 0} (reads : Attribute → Result A DecodeError) where
   pub one_prefix_fault : (bytes : List ℕ) (e f : DecodeError) → IsPrefixFault reads bytes e
       → IsPrefixFault reads bytes f → e ≡ f
-  one_prefix_fault bytes e f h k =
-      elim h [
-        | inl framing ↦ elim k [
-          | inl also ↦ one_framing_fault bytes e f framing also
-          | inr refused ↦ absurd (prefix_or_fault_apart bytes refused.0 e refused.1 framing)
-        ]
-        | inr refused ↦ elim k [
-          | inl framing ↦ absurd (prefix_or_fault_apart bytes refused.0 f refused.1 framing)
-          | inr also ↦
-              let same = one_prefix also.0 refused.0 also.1.0 refused.1.0 also.1.2 refused.1.2
-              (sym also.1.1 ∙ refused.1.1) in
-              (let other : reads refused.0 ≡ Err f = subst (λ (x : Attribute). reads x ≡ Err f)
-              same.0 also.2 in cc (refused.2, other))
-        ]
-      ]
+  one_prefix_fault bytes e f (inl framing) (inl also) =
+      one_framing_fault bytes e f framing also
+  one_prefix_fault bytes e f (inl framing) (inr (a, head, refused)) =
+      absurd (prefix_or_fault_apart bytes a e head framing)
+  one_prefix_fault bytes e f (inr (a, head, refused)) (inl framing) =
+      absurd (prefix_or_fault_apart bytes a f head framing)
+  one_prefix_fault bytes e f (inr (a, head, refused)) (inr (b, other, also)) =
+      let same = one_attribute bytes a b head other in cc
