@@ -1,17 +1,16 @@
 -- Bytes are cut in one way at most, and either mean something or have a fault.
-use Rattle.std.proofs.Common.{◌<◌, Option, Some, None, Result, Ok, Err, ◌≡◌, ◌≢◌, ℕ, zero, suc, ◌+◌, ◌≤◌, ◌⊎◌, inl, inr}
-use Rattle.std.proofs.Common.{List, [], ◌∷◌, ◌++◌, length, drop, refl, sym, ap, subst, ◌∙◌}
+use Rattle.std.proofs.Common.{◌<◌, Option, Some, None, Result, Ok, ◌≡◌, ◌≢◌, ℕ, zero, suc, ◌+◌, ◌≤◌, ◌⊎◌, inl, inr}
+use Rattle.std.proofs.Common.{List, [], ◌∷◌, ◌++◌, length, drop, refl, sym, ap, ◌∙◌}
 use Rattle.std.proofs.Common.{append_assoc, arith}
 use Rattle.std.specs.Prelude.{replicate, IsOk}
 use Rattle.std.proofs.lemmas.List.{length-append, length-replicate, length-drop, get_or-drop}
 use Rattle.std.specs.List.{AllZip, AllByRecursion, flat_map}
-use Rattle.byteorder.specs.Endian.{little_bytes}
 use Rattle.netlink_core.specs.declared.fault.DecodeError.{DecodeError}
 use Rattle.netlink_core.specs.Bytes.{IsBytes}
 use Rattle.netlink_core.specs.Attribute.{Attribute, IsAttributeInRange, FitsWords, fill, unpadded}
 use Rattle.netlink_core.specs.Attribute.{written, StartsWith, Cut, CutInFull, IsPrefixFault}
 use Rattle.netlink_core.specs.Attribute.{AttributesMean, AttributeFault}
-use Rattle.netlink_core.specs.ByteLaws.{IsBytes-nil, IsBytes-append, IsBytes-left, IsBytes-right}
+use Rattle.netlink_core.specs.ByteLaws.{IsBytes-nil, IsBytes-append, IsBytes-right}
 use Rattle.netlink_core.specs.PrefixLaws.{same_parts, one_prefix, written_in_range, word_is}
 use Rattle.netlink_core.specs.PrefixLaws.{prefix_or_fault_apart, prefix_or_fault, value_or_reason}
 use Rattle.netlink_core.specs.PrefixLaws.{one_prefix_fault, one_attribute, prefix_in_range}

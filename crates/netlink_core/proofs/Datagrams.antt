@@ -1,32 +1,21 @@
 -- A message at the start of bytes, and messages one after the other.
-use Rattle.std.proofs.Common.{◌≡◌, ℕ, ◌+◌, ◌-◌, ◌%◌, ◌<◌, ◌≤◌, inl, inr, List, [], ◌∷◌, ◌++◌}
-use Rattle.std.proofs.Common.{length, take, drop, refl, sym, ap, subst, ◌∙◌, append_assoc, arith}
+use Rattle.std.proofs.Common.{◌≡◌, ℕ, ◌+◌, ◌%◌, ◌<◌, ◌≤◌, inl, inr, List, [], ◌∷◌, ◌++◌}
+use Rattle.std.proofs.Common.{length, take, drop, sym, ap, ◌∙◌, append_assoc, arith}
 use Rattle.std.specs.Prelude.{Option, Some, None}
-use Rattle.std.proofs.lemmas.List.{take-append-drop, take-take, take_at, drop_all, drop-drop}
-use Rattle.std.proofs.lemmas.List.{length-take, length-drop, length-append}
-use Rattle.std.proofs.lemmas.Bool.{cases_lt}
+use Rattle.std.proofs.lemmas.List.{take-append-drop, drop-drop}
+use Rattle.std.proofs.lemmas.List.{length-take, length-append}
 use Rattle.byteorder.specs.Endian.{little_number}
 use Rattle.netlink_core.specs.declared.header.NetlinkHeader.{NetlinkHeader}
 use Rattle.netlink_core.specs.declared.fault.DecodeError.{DecodeError}
-use Rattle.netlink_core.specs.declared.fault.DecodeError.TheVariants.{EnvelopeCut}
-use Rattle.netlink_core.specs.declared.fault.DecodeError.TheVariants.{EnvelopeLengthUnder16}
-use Rattle.netlink_core.specs.declared.fault.DecodeError.TheVariants.{EnvelopeLengthPast}
 use Rattle.netlink_core.specs.Attribute.{fill}
-use Rattle.netlink_core.specs.Table.{little_endian}
 use Rattle.netlink_core.specs.Header.{HasHeader, IsEnvelopeFault}
 use Rattle.netlink_core.specs.Datagram.{StartsWithMessage, CutIntoMessages, AreWholeMessages}
 use Rattle.netlink_core.specs.PrefixLaws.{same_parts}
+use Rattle.byteorder.specs.Numbers.{little_from-append}
+use Rattle.netlink_core.proofs.Padding.{padding_there}
 use Rattle.netlink_core.proofs.Cutting.{one_rest}
-use Rattle.netlink_core.proofs.Numbers.{number-take}
 use Rattle.netlink_core.proofs.Framing.{one_framing_fault}
 use Rattle.netlink_core.proofs.Headers.{header_length}
-
--- the length word stands in the first four bytes
-leading_word : (n : ℕ) (bytes : List ℕ) → 4 ≤ n → little_number 4 (take n bytes) ≡ little_number 4
-    bytes
-leading_word n bytes long =
-    sym (number-take little_endian 4 (take n bytes))
-    ∙ ap (little_number 4) (take-take 4 n bytes long) ∙ number-take little_endian 4 bytes
 
 -- ---- one message
 
@@ -36,61 +25,42 @@ pub starts_with_message : (bytes message rest : List ℕ) (h : NetlinkHeader) (e
     → HasHeader bytes h → message ≡ take h.length bytes
     → end ≡ h.length + fill h.length → rest ≡ drop end bytes → StartsWithMessage bytes message rest
 starts_with_message bytes message rest h end head message-is end-is rest-is =
-    let low : 16 ≤ h.length = head.2 in
-    let high : h.length ≤ length bytes = head.3 in
-    let len : length message ≡ h.length = ap length message-is
-    ∙ omega (arith, length-take h.length bytes) in
-    let word : little_number 4 bytes ≡ h.length = header_length bytes h head in
-    let own : little_number 4 message ≡ little_number 4 bytes = ap (little_number 4) message-is
-    ∙ leading_word h.length bytes (omega arith) in
-    let n : ℕ = end - h.length in
+    let low : (16 ≤ h.length) × (h.length ≤ length bytes) = (head.2, head.3) in
     let tail : List ℕ = drop h.length bytes in
-    let rest-at : rest ≡ drop n tail = rest-is ∙ ap (λ (k : ℕ). drop k bytes) (omega arith)
-    ∙ sym (drop-drop n h.length bytes) in
-    let tail-is : tail ≡ take n tail ++ rest = rw rest-at (sym (take-append-drop n tail)) in
+    let len : length message ≡ h.length =
+    rw message-is (omega (arith, length-take h.length bytes)) in
+    let split : bytes ≡ message ++ tail = cc (take-append-drop h.length bytes) in
+    let n : ℕ = fill (length message) in
+    let behind = padding_there n tail rest (rw (drop-drop n h.length bytes, rest-is) (ap
+    (λ (k : ℕ). drop k bytes) (omega arith))) in
     record {
       padding = take n tail;
-      parts = rw message-is (sym (take-append-drop h.length bytes)
-          ∙ ap (λ (t : List ℕ). take h.length bytes ++ t) tail-is);
-      whole = (omega arith, own ∙ word ∙ sym len);
-      filled = rw len (elim (cases_lt (length tail) (fill h.length)) [
-        | inl short ↦ inr (
-          omega (arith, length-take n tail, length-drop h.length bytes),
-          rest-at
-              ∙ drop_all n tail (omega (arith, length-drop h.length bytes)),
-        )
-        | inr full ↦ inl (omega (arith, length-take n tail, length-drop h.length bytes))
-      ]);
+      parts = cc;
+      whole = (
+        omega arith,
+        sym (ap (little_number 4) split ∙ little_from-append 4 message tail (omega arith))
+            ∙ header_length bytes h head ∙ sym len,
+      );
+      filled = behind.1;
     }
 
 -- the length word of the bytes is the message's
 message_word : (bytes message rest : List ℕ) → StartsWithMessage bytes message rest
     → (little_number 4 bytes ≡ length message) × (16 ≤ length message)
     × (length message ≤ length bytes)
-message_word bytes message rest s =
-    let low : 16 ≤ length message = s.whole.0 in
-    let front : take (length message) bytes ≡ message = ap (take (length message)) s.parts
-    ∙ take_at message (s.padding ++ rest) (length message) refl in
-    let own : little_number 4 bytes ≡ little_number 4 message =
-    sym (leading_word (length message) bytes (omega arith)) ∙ ap (little_number 4) front in (
-      own ∙ s.whole.1,
-      low,
-      omega (
-        arith,
-        ap length s.parts
-            ∙ length-append message (s.padding ++ rest),
-      ),
-    )
+message_word bytes message rest s = (
+  ap (little_number 4) s.parts
+      ∙ little_from-append 4 message (s.padding ++ rest) (omega (arith, s.whole.0))
+      ∙ s.whole.1,
+  s.whole.0,
+  omega (arith, simp length-append at (ap length s.parts)),
+)
 
 -- what stands behind a message is shorter
 pub shorter-rest : (bytes message rest : List ℕ) → StartsWithMessage bytes message rest
     → length rest < length bytes
-shorter-rest bytes message rest s = let low = s.whole.0 in
-    omega (
-      arith,
-      ap length s.parts ∙ length-append message (s.padding ++ rest),
-      length-append s.padding rest,
-    )
+shorter-rest bytes message rest s =
+    omega (arith, s.whole.0, simp length-append at (ap length s.parts))
 
 -- where a message stands there is no fault
 pub no_fault_at_message : (bytes message rest : List ℕ) (e : DecodeError)
@@ -114,24 +84,18 @@ pub starts_in_concatenation : (front back message rest : List ℕ)
     → StartsWithMessage front message rest → length front % 4 ≡ 0
     → StartsWithMessage (front ++ back) message (rest ++ back) × (length rest % 4 ≡ 0)
 starts_in_concatenation front back message rest s even =
-    let long : length front ≡ length message + (length s.padding + length rest) =
-    ap length s.parts ∙ length-append message (s.padding ++ rest)
-    ∙ ap (λ (n : ℕ). length message + n) (length-append s.padding rest) in
+    let long = simp length-append at (ap length s.parts) in
     elim s.filled [
       | inl full ↦ (
         record {
           padding = s.padding;
-          parts = ap (λ (b : List ℕ). b ++ back) s.parts
-              ∙ append_assoc message (s.padding ++ rest) back
-              ∙ ap (λ (t : List ℕ). message ++ t) (append_assoc s.padding rest back);
+          parts = rw s.parts (simp append_assoc);
           whole = s.whole;
           filled = inl full;
         },
-        omega (arith, long, full, even),
+        omega (arith, full),
       )
-      | inr short ↦
-          let none : length rest ≡ 0 = ap length short.1 in
-          absurd (omega (arith, long, none, short.0, even))
+      | inr short ↦ let none : length rest ≡ 0 = ap length short.1 in absurd (omega (arith, short.0))
     ]
 
 -- what whole messages and then more bytes are cut into
@@ -140,7 +104,7 @@ pub messages_of_concatenation : (front back : List ℕ) (xs ys : List (List ℕ)
     → AreWholeMessages front xs → CutIntoMessages back ys end
     → CutIntoMessages (front ++ back) (xs ++ ys) end
 messages_of_concatenation front back [] ys end h k =
-    subst (λ (b : List ℕ). CutIntoMessages (b ++ back) ys end) (sym h.0) k
+    rw h.0 k
 messages_of_concatenation front back (x ∷ xs) ys end h k =
     let rest = h.0.0 in
     let more = starts_in_concatenation front back x rest h.0.1 h.1 in

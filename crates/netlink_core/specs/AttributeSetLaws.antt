@@ -1,14 +1,11 @@
 -- What follows for a set of attributes from the laws of its types.
-use Rattle.std.proofs.Common.{Result, Ok, Err, ◌≡◌, ◌∙◌, ◌↔◌, ◌⊎◌, inl, inr, ℕ, ◌<◌, ◌^◌, [], ◌∷◌}
-use Rattle.std.proofs.Common.{refl, ap, sym, subst, arith}
+use Rattle.std.proofs.Common.{Ok, Err, ◌≡◌, ◌∙◌, ◌↔◌, inl, inr, ℕ, ◌<◌, ◌^◌, [], ◌∷◌}
+use Rattle.std.proofs.Common.{refl, sym, subst, arith}
 use Rattle.std.specs.Prelude.{bit_and, ◌≢◌}
-use Rattle.std.proofs.lemmas.Bool.{cases_eq, eq-eqb, ne_eqb}
 use Rattle.std.proofs.lemmas.Nat.{and_mask}
 use Rattle.std.proofs.lemmas.Bool.Decides.{nat_tests}
-use Rattle.netlink_core.specs.declared.fault.DecodeError.{DecodeError}
 use Rattle.netlink_core.specs.declared.fault.DecodeError.TheVariants.{Memory}
 use Rattle.netlink_core.specs.Attribute.{Attribute, IsAttributeInRange, attribute_type}
-use Rattle.netlink_core.specs.Faults.{map_ok}
 use Rattle.netlink_core.specs.AttributeSet.{AttributeSpec, AttributeSet, AttributeValue, decodes}
 use Rattle.netlink_core.specs.AttributeSet.{encodes, AreIdleAttributes}
 use Rattle.netlink_core.specs.AttributeSet.{IsInRangeBy, IsNormalBy}

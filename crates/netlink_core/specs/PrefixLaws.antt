@@ -1,18 +1,18 @@
 -- The attribute at the start of a string, or the fault there.
-use Rattle.std.proofs.Common.{Result, Ok, Err, Option, Some, None, ◌≡◌, ◌∙◌, ◌⊎◌, inl, inr, ℕ, ◌+◌}
-use Rattle.std.proofs.Common.{◌-◌, ◌*◌, ◌/◌, ◌%◌, ◌^◌, ◌<◌, ◌≤◌, cond, ltb, List, [], ◌∷◌, ◌++◌}
-use Rattle.std.proofs.Common.{suc, length, take, drop, replicate, refl, sym, ap, subst, arith}
+use Rattle.std.proofs.Common.{Result, Ok, Err, ◌≡◌, ◌∙◌, ◌⊎◌, inl, inr, ℕ, ◌+◌}
+use Rattle.std.proofs.Common.{◌-◌, ◌*◌, ◌/◌, ◌%◌, ◌≤◌, List, [], ◌∷◌, ◌++◌}
+use Rattle.std.proofs.Common.{suc, length, take, drop, refl, sym, ap, arith}
 use Rattle.std.proofs.lemmas.List.{take-append-drop, length-take, length-append, take_all}
-use Rattle.std.proofs.lemmas.Bool.{cases_lt, lt-ltb, le-ltb}
-use Rattle.byteorder.specs.Endian.{little_bytes, little_number}
+use Rattle.std.proofs.lemmas.Bool.{cases_lt}
+use Rattle.byteorder.specs.Endian.{little_number}
 use Rattle.netlink_core.specs.declared.fault.DecodeError.{DecodeError}
 use Rattle.netlink_core.specs.declared.fault.DecodeError.TheVariants.{AttributeHeaderCut}
 use Rattle.netlink_core.specs.declared.fault.DecodeError.TheVariants.{AttributeLengthUnder4}
 use Rattle.netlink_core.specs.declared.fault.DecodeError.TheVariants.{AttributeLengthPast}
 use Rattle.netlink_core.specs.Bytes.{IsBytes}
-use Rattle.netlink_core.specs.Attribute.{Attribute, IsAttributeInRange, FitsWords, fill, unpadded}
+use Rattle.netlink_core.specs.Attribute.{Attribute, IsAttributeInRange, FitsWords, unpadded}
 use Rattle.netlink_core.specs.Attribute.{written, HasPrefix, IsFramingFault, IsPrefixFault}
-use Rattle.netlink_core.specs.ByteLaws.{IsBytes-append, IsBytes-left, IsBytes-right, IsBytes-number}
+use Rattle.netlink_core.specs.ByteLaws.{IsBytes-append, IsBytes-left, IsBytes-number}
 use Rattle.netlink_core.specs.ByteLaws.{IsBytes-zeros}
 
 -- ---- the attribute at the start
