@@ -95,7 +95,7 @@ starts_in_concatenation front back message rest s even =
         },
         omega (arith, full),
       )
-      | inr short ↦ let none : length rest ≡ 0 = ap length short.1 in absurd (omega (arith, short.0))
+      | inr short ↦ absurd (omega (arith, short.0, ap length short.1))
     ]
 
 -- what whole messages and then more bytes are cut into
@@ -103,8 +103,7 @@ pub messages_of_concatenation : (front back : List ℕ) (xs ys : List (List ℕ)
     (end : Option DecodeError)
     → AreWholeMessages front xs → CutIntoMessages back ys end
     → CutIntoMessages (front ++ back) (xs ++ ys) end
-messages_of_concatenation front back [] ys end h k =
-    rw h.0 k
+messages_of_concatenation front back [] ys end h k = rw h.0 k
 messages_of_concatenation front back (x ∷ xs) ys end h k =
     let rest = h.0.0 in
     let more = starts_in_concatenation front back x rest h.0.1 h.1 in
@@ -113,8 +112,8 @@ messages_of_concatenation front back (x ∷ xs) ys end h k =
 -- no end is where a message stands
 not_ended : (bytes message rest : List ℕ) (end : Option DecodeError)
     → StartsWithMessage bytes message rest → CutIntoMessages bytes [] end → ⊥
-not_ended bytes message rest None s h = let len : length bytes ≡ 0 = ap length h in
-    omega (arith, message_word bytes message rest s)
+not_ended bytes message rest None s h =
+    omega (arith, message_word bytes message rest s, ap length h)
 not_ended bytes message rest (Some e) s h = no_fault_at_message bytes message rest e s h.1
 
 -- bytes are cut into one list of messages, and have one end

@@ -1,6 +1,6 @@
 -- A message at the start of bytes: one of it, or one fault.
 use Rattle.std.proofs.Common.{◌≡◌, ℕ, zero, suc, ◌-◌, ◌⊎◌, inl, inr, List}
-use Rattle.std.proofs.Common.{take, drop, refl, ap, subst, arith}
+use Rattle.std.proofs.Common.{take, drop, refl, ap, arith}
 use Rattle.netlink_core.specs.declared.fault.DecodeError.{DecodeError}
 use Rattle.netlink_core.specs.declared.fault.DecodeError.TheVariants.{Memory}
 use Rattle.netlink_core.specs.declared.header.NetlinkHeader.{NetlinkHeader}
@@ -90,12 +90,9 @@ module _ (C : Codec ℕ) where
       → (envelope_codec C).reads b tt v → (envelope_codec C).refuses b tt e → ⊥
   envelope_or_fault_apart b v e law r (inl fault) = no_fault_at_header b v.header e r.0 fault
   envelope_or_fault_apart b v e law r (inr (h, head, kind, fault)) =
-      let x : List ℕ = take (h.length - 16) (drop 16 b) in
-      let read : PayloadIs C.reads x h.message_type v.payload =
-      subst (λ (k : NetlinkHeader). PayloadIs C.reads (take (k.length - 16) (drop 16 b))
-      k.message_type v.payload) (one_header b v.header h r.0 head) r.1 in
-      let answer = inner_payload x h.message_type v.payload kind read in
-      law x h.message_type answer.0 answer.1 fault
+      let answer = inner_payload _ h.message_type v.payload kind
+      (rw (one_header b v.header h r.0 head) at r.1) in
+      law _ h.message_type answer.0 answer.1 fault
 
 -- one fault at most
 pub one_envelope_fault : (C : Codec ℕ) (b : List ℕ) (e f : DecodeError)
@@ -107,13 +104,11 @@ one_envelope_fault C b e f law (inl fault) (inr (h, head, kind, other)) =
 one_envelope_fault C b e f law (inr (h, head, kind, fault)) (inl other) =
     absurd (no_fault_at_header b h f head other)
 one_envelope_fault C b e f law (inr (h, head, kind, fault)) (inr (k, also, _, other)) =
-    law (take (h.length - 16) (drop 16 b)) h.message_type fault
-    (subst (λ (l : NetlinkHeader). C.refuses (take (l.length - 16) (drop 16 b)) l.message_type f)
-    (one_header b k h also head) other)
+    law _ h.message_type fault (rw (one_header b h k head also) other)
 
 -- no fault is want of memory
 pub envelope_fault_named : (C : Codec ℕ) (b : List ℕ)
     → ((x : List ℕ) (t : ℕ) → C.refuses x t Memory → ⊥) → (envelope_codec C).refuses b tt Memory → ⊥
 envelope_fault_named C b law (inl fault) = fault
 envelope_fault_named C b law (inr (h, head, kind, fault)) =
-    law (take (h.length - 16) (drop 16 b)) h.message_type fault
+    law _ h.message_type fault

@@ -1,5 +1,5 @@
 -- Bytes have one header, and its bytes fix it.
-use Rattle.std.proofs.Common.{◌≡◌, ◌↔◌, ℕ, ◌+◌, ◌-◌, ◌≤◌, ◌⊎◌, inl, inr, List, [], ◌∷◌, ◌++◌}
+use Rattle.std.proofs.Common.{◌≡◌, ◌↔◌, ℕ, ◌+◌, ◌-◌, ◌≤◌, ◌⊎◌, inl, inr, List, [], ◌++◌}
 use Rattle.std.proofs.Common.{length, take, drop, slice_index, refl, sym, ap, subst, ◌∙◌, arith}
 use Rattle.std.proofs.lemmas.Bool.{cases_lt}
 use Rattle.std.proofs.lemmas.List.{take-append-drop, take_at, take_rest, length-append}
@@ -21,17 +21,11 @@ use Rattle.netlink_core.proofs.TableLaws.{same_live, same_values}
 -- the first bytes of bytes are bytes
 pub AreBytes-take : (n : ℕ) (bytes : List ℕ) → IsBytes bytes → IsBytes (take n bytes)
 AreBytes-take n bytes fits =
-    IsBytes-left (take n bytes) (drop n bytes) (subst IsBytes (sym (take-append-drop n bytes)) fits)
+    IsBytes-left (take n bytes) (drop n bytes) (rw take-append-drop fits)
 
 -- the five fields are sixteen bytes
 header_table : IsTable 0 header_fields 16
 header_table = table_from_test 0 header_fields 16 refl
-
--- a number in the slice from an offset on is the one at that offset
-there : (bytes : List ℕ) (width offset n : ℕ)
-    → n ≡ little_number width (take (length bytes - offset) (drop offset bytes))
-    → little_number width (drop offset bytes) ≡ n
-there bytes width offset n is = sym (is ∙ ap (little_number width) (take_rest bytes offset))
 
 -- what is read from the five offsets is the header
 pub header_read : (bytes : List ℕ) (h : NetlinkHeader) → IsBytes bytes
@@ -42,17 +36,9 @@ pub header_read : (bytes : List ℕ) (h : NetlinkHeader) → IsBytes bytes
     → h.port_number ≡ little_number 4 (take (length bytes - 12) (drop 12 bytes))
     → 16 ≤ h.length → h.length ≤ length bytes → HasHeader bytes h
 header_read bytes h fits length-is type-is flags-is sequence-is port-is low high =
-    let types = there bytes 2 4 h.message_type type-is in
-    let flags = there bytes 2 6 h.flags flags-is in
-    let sequences = there bytes 4 8 h.sequence_number sequence-is in
-    let ports = there bytes 4 12 h.port_number port-is in
-    let same : values_of header_fields bytes ≡ header_values h = λ i. sym length-is i ∷ types i
-    ∷ flags i ∷ sequences i ∷ ports i ∷ [] in (
-      same,
-      subst (λ (vs : List ℕ). Fit header_fields vs) same (values-fit header_fields bytes fits),
-      low,
-      high,
-    )
+    let same : values_of header_fields bytes ≡ header_values h =
+    cc (take_rest bytes 4, take_rest bytes 6, take_rest bytes 8, take_rest bytes 12) in
+    (same, subst (Fit header_fields) same (values-fit header_fields bytes fits), low, high)
 
 -- a header stands at the start, or a fault tells why not
 pub header_or_fault : (bytes : List ℕ) → IsBytes bytes → ((h : NetlinkHeader) × HasHeader bytes h)
@@ -108,12 +94,13 @@ pub same_leading_header : (b c : List ℕ) (h k : NetlinkHeader) → IsBytes b �
     → HasHeader b h
     → HasHeader c k → ((h ≡ k) ↔ (take 16 b ≡ take 16 c))
 same_leading_header b c h k tb tc head other =
-    let long : 16 ≤ length b = omega (arith, head.2, head.3) in
-    let also : 16 ≤ length c = omega (arith, other.2, other.3) in (
-      λ e. sym (masked-all 16 b tb) ∙ same_live 0 header_fields 16 b c header_table tb tc long also
-          (head.0 ∙ ap header_values e ∙ sym other.0) ∙ masked-all 16 c tc,
-      λ e. same_header h k (sym head.0 ∙ same_values 0 header_fields 16 b c header_table tb tc long
-          also (masked-all 16 b tb ∙ e ∙ sym (masked-all 16 c tc)) ∙ other.0),
+    let long : 16 ≤ length b = omega arith in
+    let also : 16 ≤ length c = omega arith in
+    let left = masked-all 16 b tb in
+    let right = masked-all 16 c tc in (
+      λ e. let same = same_live 0 header_fields 16 b c header_table tb tc long also cc in cc,
+      λ e. let same = same_values 0 header_fields 16 b c header_table tb tc long also cc in
+          same_header h k cc,
     )
 
 -- written, the fields are read again, whatever follows
@@ -125,23 +112,19 @@ values_back h rest in_range = values-bytes_of 0 header_fields 16 (header_values 
 -- so headers in range are known by their bytes
 pub known_by_bytes : (h k : NetlinkHeader) → IsHeaderInRange h → IsHeaderInRange k
     → header_bytes h ≡ header_bytes k → h ≡ k
-known_by_bytes h k th tk e =
-    same_header h k (sym (values_back h [] th)
-    ∙ ap (λ (b : List ℕ). values_of header_fields (b ++ [])) e ∙ values_back k [] tk)
+known_by_bytes h k th tk e = same_header h k (cc (values_back h [] th, values_back k [] tk))
 
 -- in front of its payload and more bytes a header stands, and behind it its payload
 pub header_stands : (h : NetlinkHeader) (payload rest : List ℕ) → IsHeaderInRange h
     → h.length ≡ 16 + length payload
     → HasHeader (header_bytes h ++ (payload ++ rest)) h
     × (take (h.length - 16) (drop 16 (header_bytes h ++ (payload ++ rest))) ≡ payload)
-header_stands h payload rest in_range size =
-    let all : length (header_bytes h ++ (payload ++ rest)) ≡ 16 + length (payload ++ rest) =
-    length-append (header_bytes h) (payload ++ rest) in (
-      (
-        values_back h (payload ++ rest) in_range,
-        in_range,
-        omega (arith, size),
-        omega (arith, size, all, length-append payload rest),
-      ),
-      take_at payload rest (h.length - 16) (omega (arith, size)),
-    )
+header_stands h payload rest in_range size = (
+  (
+    values_back h (payload ++ rest) in_range,
+    in_range,
+    omega arith,
+    omega (arith, size, length-append (header_bytes h) (payload ++ rest), length-append payload rest),
+  ),
+  take_at payload rest (h.length - 16) (omega arith),
+)
