@@ -1,9 +1,10 @@
 -- Bytes are cut in one way at most, and either mean something or have a fault.
-use Rattle.std.proofs.Common.{◌<◌, Option, Some, None, Result, Ok, ◌≡◌, ◌≢◌, ℕ, zero, suc, ◌+◌, ◌≤◌, ◌⊎◌, inl, inr}
+use Rattle.std.proofs.Common.{◌<◌, Option, Some, None}
+use Rattle.std.proofs.Common.{Result, Ok, ◌≡◌, ◌≢◌, ℕ, zero, suc, ◌+◌, ◌≤◌, ◌⊎◌, inl, inr}
 use Rattle.std.proofs.Common.{List, [], ◌∷◌, ◌++◌, length, drop, refl, sym, ap, ◌∙◌}
 use Rattle.std.proofs.Common.{append_assoc, arith}
 use Rattle.std.specs.Prelude.{replicate, IsOk}
-use Rattle.std.proofs.lemmas.List.{length-append, length-replicate, length-drop, get_or-drop}
+use Rattle.std.proofs.lemmas.List.{length-append, length-replicate, length-drop}
 use Rattle.std.specs.List.{AllZip, AllByRecursion, flat_map}
 use Rattle.netlink_core.specs.declared.fault.DecodeError.{DecodeError}
 use Rattle.netlink_core.specs.Bytes.{IsBytes}
@@ -14,6 +15,7 @@ use Rattle.netlink_core.specs.ByteLaws.{IsBytes-nil, IsBytes-append, IsBytes-rig
 use Rattle.netlink_core.specs.PrefixLaws.{same_parts, one_prefix, written_in_range, word_is}
 use Rattle.netlink_core.specs.PrefixLaws.{prefix_or_fault_apart, prefix_or_fault, value_or_reason}
 use Rattle.netlink_core.specs.PrefixLaws.{one_prefix_fault, one_attribute, prefix_in_range}
+use Rattle.netlink_core.proofs.TableLaws.{AreBytes-drop}
 use Rattle.netlink_core.proofs.Padding.{starts_with}
 use Rattle.netlink_core.proofs.Walking.{StartsWith-some, prefix_of_start, later_fault, fault_here}
 
@@ -167,17 +169,15 @@ module _ {A : Type 0} (reads : Attribute → Result A DecodeError) where
       let some : all ≢ [] = λ e. cc in
       elim (prefix_or_fault all fits) [
         | inr f ↦ inr (f.0, fault_here reads all f.0 some (inl f.1))
-        | inl h ↦
-            let a : Attribute = h.0 in
+        | inl (a, head) ↦
             let end : ℕ = 4 + length a.value + fill (4 + length a.value) in
             let rest : List ℕ = drop end all in
-            let start : StartsWith all a rest = starts_with all rest a end h.1 refl refl in
-            let word = word_is all a h.1 in
-            let shorter : length rest ≤ n = omega (arith, length-drop end all) in
-            let rest-fits : IsBytes rest = λ i. rw get_or-drop (fits (end + i)) in
+            let start = starts_with all rest a end head refl refl in
+            let shorter : length rest ≤ n = omega (arith, word_is all a head, length-drop end all)
+            in
             elim (value_or_reason (reads a)) [
-              | inr r ↦ inr (r.0, fault_here reads all r.0 some (inr (a, h.1, r.1)))
-              | inl m ↦ elim (means_or_fault_of n rest shorter rest-fits) [
+              | inr r ↦ inr (r.0, fault_here reads all r.0 some (inr (a, head, r.1)))
+              | inl m ↦ elim (means_or_fault_of n rest shorter (AreBytes-drop end all fits)) [
                 | inl later ↦ inl (
                   m.0 ∷ later.0,
                   (a ∷ later.1.0, (rest, start, later.1.1), (m.1, later.1.2)),

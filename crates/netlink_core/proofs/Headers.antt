@@ -1,7 +1,7 @@
 -- Bytes have one header, and its bytes fix it.
 use Rattle.std.proofs.Common.{◌≡◌, ◌↔◌, ℕ, ◌+◌, ◌-◌, ◌≤◌, ◌⊎◌, inl, inr, List, [], ◌++◌}
 use Rattle.std.proofs.Common.{length, take, drop, slice_index, refl, sym, ap, subst, ◌∙◌, arith}
-use Rattle.std.proofs.lemmas.Bool.{cases_lt}
+use Rattle.netlink_core.specs.PrefixLaws.{framed_or_not}
 use Rattle.std.proofs.lemmas.List.{take-append-drop, take_at, take_rest, length-append}
 use Rattle.byteorder.specs.Endian.{little_number}
 use Rattle.netlink_core.specs.declared.header.NetlinkHeader.{NetlinkHeader}
@@ -43,27 +43,23 @@ header_read bytes h fits length-is type-is flags-is sequence-is port-is low high
 -- a header stands at the start, or a fault tells why not
 pub header_or_fault : (bytes : List ℕ) → IsBytes bytes → ((h : NetlinkHeader) × HasHeader bytes h)
     ⊎ ((e : DecodeError) × IsEnvelopeFault bytes e)
-header_or_fault bytes fits = elim (cases_lt (length bytes) 16) [
+header_or_fault bytes fits = elim (framed_or_not 16 (length bytes) (little_number 4 bytes)) [
   | inl cut ↦ inr (EnvelopeCut (length bytes), (refl, cut))
-  | inr long ↦ elim (cases_lt (little_number 4 bytes) 16) [
-    | inl under ↦ inr (EnvelopeLengthUnder16 (little_number 4 bytes), (refl, long, under))
-    | inr low ↦ elim (cases_lt (length bytes) (little_number 4 bytes)) [
-      | inl past ↦ inr (
-        EnvelopeLengthPast (little_number 4 bytes) (length bytes),
-        (refl, refl, long, low, past),
-      )
-      | inr high ↦ inl (
-        record {
-          length = little_number 4 bytes;
-          message_type = little_number 2 (drop 4 bytes);
-          flags = little_number 2 (drop 6 bytes);
-          sequence_number = little_number 4 (drop 8 bytes);
-          port_number = little_number 4 (drop 12 bytes);
-        },
-        (refl, values-fit header_fields bytes fits, low, high),
-      )
-    ]
-  ]
+  | inr (inl under) ↦ inr (EnvelopeLengthUnder16 (little_number 4 bytes), (refl, under.0, under.1))
+  | inr (inr (inl past)) ↦ inr (
+    EnvelopeLengthPast (little_number 4 bytes) (length bytes),
+    (refl, refl, past.0, past.1, past.2),
+  )
+  | inr (inr (inr there)) ↦ inl (
+    record {
+      length = little_number 4 bytes;
+      message_type = little_number 2 (drop 4 bytes);
+      flags = little_number 2 (drop 6 bytes);
+      sequence_number = little_number 4 (drop 8 bytes);
+      port_number = little_number 4 (drop 12 bytes);
+    },
+    (refl, values-fit header_fields bytes fits, there.0, there.1),
+  )
 ]
 
 -- the length word and the type that stand there
@@ -124,7 +120,7 @@ header_stands h payload rest in_range size = (
     values_back h (payload ++ rest) in_range,
     in_range,
     omega arith,
-    omega (arith, size, length-append (header_bytes h) (payload ++ rest), length-append payload rest),
+    omega (arith, length-append payload rest),
   ),
   take_at payload rest (h.length - 16) (omega arith),
 )

@@ -104,7 +104,8 @@ module _ (R : ResponseSpec) (laws : ResponseLaws R) where
     ];
     -- two strings have equal values exactly where they are idle
     same_value = λ b c p v w b-in_range c-in_range h k.
-        let headers = laws.header.same_value b c tt v.header w.header b-in_range c-in_range h.0 k.0 in
+        let headers = laws.header.same_value b c tt v.header w.header b-in_range c-in_range h.0 k.0
+        in
         let lists = lists_same_value F laws.attribute_set h.1.0 k.1.0 v.nlas w.nlas
         (behind_in_range b h.1.0 b-in_range h.1.1) (behind_in_range c k.1.0 c-in_range k.1.1)
         h.1.2 k.1.2 in (

@@ -1,6 +1,6 @@
 -- The cutting has its two endings apart.
 use Rattle.std.proofs.Common.{◌≡◌, ◌<◌, ◌⊎◌, ◌↔◌, ℕ, inl, inr, List, [], ◌∷◌, ◌++◌, length, refl}
-use Rattle.std.proofs.Common.{sym, subst}
+use Rattle.std.proofs.Common.{arith}
 use Rattle.netlink_core.specs.Attribute.{Attribute, Cut, FitsWords, fill, unpadded}
 use Rattle.netlink_core.proofs.Walking.{StartsWith-some}
 
@@ -24,16 +24,9 @@ endings_apart bytes x xs = (
       | inr short ↦ inr (short.0, short.1, nothing_in_none h.0 xs short.1 h.2)
     ],
   ),
-  λ h. elim h.4 [
-    | inl full ↦ (
-      h.1,
-      record { padding = h.0; parts = h.2; fits = h.3; filled = inl full.0 },
-      full.1,
-    )
-    | inr short ↦ (
-      h.1,
-      record { padding = h.0; parts = h.2; fits = h.3; filled = inr (short.0, short.1) },
-      subst (λ (ys : List Attribute). Cut h.1 ys) (sym short.2) short.1,
-    )
-  ],
+  λ (padding, rest, parts, fits, how). (
+    rest,
+    record { padding = padding; parts = parts; fits = fits; filled = grind arith },
+    elim how [ inl full ↦ full.1 | inr short ↦ rw short.2 short.1 ],
+  ),
 )

@@ -56,7 +56,8 @@ module _ (F : AttributeSet) (laws : AttributeSetLaws F) where
         );
     reads_normal = λ b p v in_range h. set_gives_normal F laws h.0 v
         (prefix_in_range b h.0 in_range h.1) h.2;
-    written_bytes = λ v in_range. written_in_range (encodes F v) (writes_in_range F laws v in_range);
+    written_bytes = λ v in_range.
+        written_in_range (encodes F v) (writes_in_range F laws v in_range);
     reads_back = λ p v in_range normal fits. value_is_read F (encodes F v)
         ((writes_in_range F laws v in_range).0, fits) v (reads_back F laws v in_range normal);
   }

@@ -1,9 +1,8 @@
 -- The attribute at the start of a string, or the fault there.
 use Rattle.std.proofs.Common.{Result, Ok, Err, ◌≡◌, ◌∙◌, ◌⊎◌, inl, inr, ℕ, ◌+◌}
 use Rattle.std.proofs.Common.{◌-◌, ◌*◌, ◌/◌, ◌%◌, ◌≤◌, List, [], ◌∷◌, ◌++◌}
-use Rattle.std.proofs.Common.{suc, length, take, drop, refl, sym, ap, arith}
+use Rattle.std.proofs.Common.{suc, length, take, drop, refl, sym, ap, arith, ◌<◌}
 use Rattle.std.proofs.lemmas.List.{take-append-drop, length-take, length-append, take_all}
-use Rattle.std.proofs.lemmas.Bool.{cases_lt}
 use Rattle.byteorder.specs.Endian.{little_number}
 use Rattle.netlink_core.specs.declared.fault.DecodeError.{DecodeError}
 use Rattle.netlink_core.specs.declared.fault.DecodeError.TheVariants.{AttributeHeaderCut}
@@ -89,27 +88,24 @@ pub prefix_or_fault_apart : (bytes : List ℕ) (a : Attribute) (e : DecodeError)
     → IsFramingFault bytes e → ⊥
 prefix_or_fault_apart bytes a e head f = grind (arith, word_is bytes a head)
 
+-- too few bytes for a header, a length word that counts less than it, one that counts more than
+-- there is, or none of these
+pub framed_or_not : (least len word : ℕ) → (len < least) ⊎ (((least ≤ len) × (word < least))
+    ⊎ (((least ≤ len) × (least ≤ word) × (len < word)) ⊎ ((least ≤ word) × (word ≤ len))))
+framed_or_not least len word = grind arith
+
 -- an attribute or a fault stands there
 pub prefix_or_fault : (bytes : List ℕ) → IsBytes bytes → ((a : Attribute) × HasPrefix bytes a)
     ⊎ ((e : DecodeError) × IsFramingFault bytes e)
-prefix_or_fault bytes fits =
-    elim (cases_lt (length bytes) 4) [
-      | inl short ↦ inr (AttributeHeaderCut (length bytes), (refl, short))
-      | inr some ↦ elim (cases_lt (little_number 2 bytes) 4) [
-        | inl under ↦ inr (AttributeLengthUnder4 (little_number 2 bytes), (refl, some, under))
-        | inr low ↦ elim (cases_lt (length bytes) (little_number 2 bytes)) [
-          | inl past ↦ inr (
-            AttributeLengthPast (little_number 2 bytes) (length bytes),
-            (refl, refl, some, low, past),
-          )
-          | inr high ↦ inl (
-            _,
-            has_prefix bytes (little_number 2 bytes)
-                (little_number 2 (take (length bytes - 2) (drop 2 bytes))) fits refl refl low high,
-          )
-        ]
-      ]
-    ]
+prefix_or_fault bytes fits = elim (framed_or_not 4 (length bytes) (little_number 2 bytes)) [
+  | inl short ↦ inr (AttributeHeaderCut (length bytes), (refl, short))
+  | inr (inl under) ↦ inr (AttributeLengthUnder4 (little_number 2 bytes), (refl, under.0, under.1))
+  | inr (inr (inl past)) ↦ inr (
+    AttributeLengthPast (little_number 2 bytes) (length bytes),
+    (refl, refl, past.0, past.1, past.2),
+  )
+  | inr (inr (inr there)) ↦ inl (_, has_prefix bytes _ _ fits refl refl there.0 there.1)
+]
 
 -- an answer is a value or a fault
 pub value_or_reason : {A : Type 0} (read : Result A DecodeError) → ((value : A) × (read ≡ Ok value))
