@@ -16,7 +16,7 @@ use Rattle.netlink_core.specs.PrefixLaws.{same_parts, one_prefix, written_in_ran
 use Rattle.netlink_core.specs.PrefixLaws.{prefix_or_fault_apart, prefix_or_fault, value_or_reason}
 use Rattle.netlink_core.specs.PrefixLaws.{one_prefix_fault, one_attribute, prefix_in_range}
 use Rattle.netlink_core.proofs.TableLaws.{AreBytes-drop}
-use Rattle.netlink_core.proofs.Padding.{starts_with}
+use Rattle.netlink_core.proofs.Padding.{starts_with, by_length, some_or_none}
 use Rattle.netlink_core.proofs.Walking.{StartsWith-some, prefix_of_start, later_fault, fault_here}
 
 -- ---- one cut
@@ -158,40 +158,31 @@ module _ {A : Type 0} (reads : Attribute → Result A DecodeError) where
 -- ---- bytes are cut, or have a fault
 
 module _ {A : Type 0} (reads : Attribute → Result A DecodeError) where
-  -- for at most n bytes
-  means_or_fault_of : (n : ℕ) (bytes : List ℕ) → length bytes ≤ n → IsBytes bytes
-      → ((meanings : List A) × AttributesMean reads bytes meanings)
-      ⊎ ((e : DecodeError) × AttributeFault reads bytes e)
-  means_or_fault_of n [] le fits = inl ([], ([], refl, tt))
-  means_or_fault_of zero (b ∷ bytes) le fits = absurd (omega arith)
-  means_or_fault_of (suc n) (b ∷ bytes) le fits =
-      let all : List ℕ = b ∷ bytes in
-      let some : all ≢ [] = λ e. cc in
-      elim (prefix_or_fault all fits) [
-        | inr f ↦ inr (f.0, fault_here reads all f.0 some (inl f.1))
-        | inl (a, head) ↦
-            let end : ℕ = 4 + length a.value + fill (4 + length a.value) in
-            let rest : List ℕ = drop end all in
-            let start = starts_with all rest a end head refl refl in
-            let shorter : length rest ≤ n = omega (arith, word_is all a head, length-drop end all)
-            in
-            elim (value_or_reason (reads a)) [
-              | inr r ↦ inr (r.0, fault_here reads all r.0 some (inr (a, head, r.1)))
-              | inl m ↦ elim (means_or_fault_of n rest shorter (AreBytes-drop end all fits)) [
-                | inl later ↦ inl (
-                  m.0 ∷ later.0,
-                  (a ∷ later.1.0, (rest, start, later.1.1), (m.1, later.1.2)),
-                )
-                | inr f ↦ inr (f.0, later_fault reads all rest a m.0 f.0 start m.1 f.1)
-              ]
-            ]
-      ]
-
   -- bytes mean something, or they have a fault
   pub means_or_fault : (bytes : List ℕ) → IsBytes bytes
       → ((meanings : List A) × AttributesMean reads bytes meanings)
       ⊎ ((e : DecodeError) × AttributeFault reads bytes e)
-  means_or_fault bytes fits = means_or_fault_of (length bytes) bytes (omega arith) fits
+  means_or_fault = by_length _ (λ bytes later fits. elim (some_or_none bytes) [
+    | inl none ↦ inl ([], ([], none, tt))
+    | inr some ↦ elim (prefix_or_fault bytes fits) [
+      | inr f ↦ inr (f.0, fault_here reads bytes f.0 some (inl f.1))
+      | inl (a, head) ↦
+          let end : ℕ = 4 + length a.value + fill (4 + length a.value) in
+          let rest : List ℕ = drop end bytes in
+          let start = starts_with bytes rest a end head refl refl in
+          elim (value_or_reason (reads a)) [
+            | inr r ↦ inr (r.0, fault_here reads bytes r.0 some (inr (a, head, r.1)))
+            | inl m ↦ elim (later rest (omega (arith, word_is bytes a head, length-drop end bytes))
+                (AreBytes-drop end bytes fits)) [
+                  | inl n ↦ inl (
+                    m.0 ∷ n.0,
+                    (a ∷ n.1.0, (rest, start, n.1.1), (m.1, n.1.2)),
+                  )
+                  | inr f ↦ inr (f.0, later_fault reads bytes rest a m.0 f.0 start m.1 f.1)
+                ]
+          ]
+    ]
+  ])
 
 -- ---- what was written means what is read from it
 

@@ -43,18 +43,21 @@ pub one_framing_fault : (b : List ℕ) (e f : DecodeError) → IsEnvelopeFault b
     → e ≡ f
 one_framing_fault b e f h k = grind arith
 
--- the type of a payload that is no inner message
-of_kept_type : {A : Type 0} (reads : List ℕ → ℕ → A → Type 0) (x : List ℕ) (t : ℕ) → IsInnerType t
-    ⊎ ((p : Payload A) × PayloadIs reads x t p)
-of_kept_type reads x (suc zero) = inr (no_payload, refl)
-of_kept_type reads x (suc (suc zero)) = inr (error_with x, (refl, refl))
-of_kept_type reads x (suc (suc (suc zero))) = inr (done_with x, (refl, refl))
-of_kept_type reads x (suc (suc (suc (suc zero)))) = inr (overrun_with x, (refl, refl))
-of_kept_type reads x t = inl (grind arith)
-
 -- Bytes have one message or one fault, where payloads of inner messages have one of them or one
 -- fault.
 module _ (C : Codec ℕ) where
+  -- a payload or a fault
+  payload_or_fault : (x : List ℕ) (t : ℕ)
+      → ((m : C.Value) × C.reads x t m) ⊎ ((e : DecodeError) × C.refuses x t e)
+      → ((p : Payload C.Value) × PayloadIs C.reads x t p)
+      ⊎ ((e : DecodeError) × (IsInnerType t × C.refuses x t e))
+  payload_or_fault x (suc zero) law = inl (no_payload, refl)
+  payload_or_fault x (suc (suc zero)) law = inl (error_with x, (refl, refl))
+  payload_or_fault x (suc (suc (suc zero))) law = inl (done_with x, (refl, refl))
+  payload_or_fault x (suc (suc (suc (suc zero)))) law = inl (overrun_with x, (refl, refl))
+  payload_or_fault x t (inl m) = inl (inner m.0, (grind arith, m.1))
+  payload_or_fault x t (inr f) = inr (f.0, (grind arith, f.1))
+
   -- a message or a fault
   pub envelope_or_fault : (b : List ℕ) → IsBytes b
       → ((x : List ℕ) (t : ℕ) → IsBytes x → ((m : C.Value) × C.reads x t m)
@@ -63,18 +66,10 @@ module _ (C : Codec ℕ) where
       ⊎ ((e : DecodeError) × (envelope_codec C).refuses b tt e)
   envelope_or_fault b tb law = elim (header_or_fault b tb) [
     | inr fault ↦ inr (fault.0, inl fault.1)
-    | inl found ↦
-        let h : NetlinkHeader = found.0 in
-        let x : List ℕ = take (h.length - 16) (drop 16 b) in
-        elim (of_kept_type C.reads x h.message_type) [
-          | inr kept ↦ inl (record { header = h; payload = kept.0 }, (found.1, kept.1))
-          | inl kind ↦ elim (law x h.message_type (payload_in_range h.length b tb)) [
-            | inl answer ↦ inl (
-              record { header = h; payload = inner answer.0 },
-              (found.1, (kind, answer.1)),
-            )
-            | inr fault ↦ inr (fault.0, inr (h, found.1, kind, fault.1))
-          ]
+    | inl (h, head) ↦ elim (payload_or_fault _ _ (law _ h.message_type
+        (payload_in_range h.length b tb))) [
+          | inl p ↦ inl (record { header = h; payload = p.0 }, (head, p.1))
+          | inr fault ↦ inr (fault.0, fault_within C b h fault.0 head fault.1)
         ]
   ]
 

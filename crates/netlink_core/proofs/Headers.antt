@@ -40,6 +40,19 @@ header_read bytes h fits length-is type-is flags-is sequence-is port-is low high
     cc (take_rest bytes 4, take_rest bytes 6, take_rest bytes 8, take_rest bytes 12) in
     (same, subst (Fit header_fields) same (values-fit header_fields bytes fits), low, high)
 
+-- a header is known by its values
+abbrev made : List ℕ → NetlinkHeader
+made vs = record {
+  length = slice_index vs 0;
+  message_type = slice_index vs 1;
+  flags = slice_index vs 2;
+  sequence_number = slice_index vs 3;
+  port_number = slice_index vs 4;
+}
+
+same_header : (h k : NetlinkHeader) → header_values h ≡ header_values k → h ≡ k
+same_header h k e = ap made e
+
 -- a header stands at the start, or a fault tells why not
 pub header_or_fault : (bytes : List ℕ) → IsBytes bytes → ((h : NetlinkHeader) × HasHeader bytes h)
     ⊎ ((e : DecodeError) × IsEnvelopeFault bytes e)
@@ -51,13 +64,7 @@ header_or_fault bytes fits = elim (framed_or_not 16 (length bytes) (little_numbe
     (refl, refl, past.0, past.1, past.2),
   )
   | inr (inr (inr there)) ↦ inl (
-    record {
-      length = little_number 4 bytes;
-      message_type = little_number 2 (drop 4 bytes);
-      flags = little_number 2 (drop 6 bytes);
-      sequence_number = little_number 4 (drop 8 bytes);
-      port_number = little_number 4 (drop 12 bytes);
-    },
+    made (values_of header_fields bytes),
     (refl, values-fit header_fields bytes fits, there.0, there.1),
   )
 ]
@@ -71,16 +78,7 @@ pub header_type : (bytes : List ℕ) (h : NetlinkHeader) → HasHeader bytes h
     → little_number 2 (drop 4 bytes) ≡ h.message_type
 header_type bytes h head = ap (λ (vs : List ℕ). slice_index vs 1) head.0
 
--- a header is known by its values, so bytes have one
-same_header : (h k : NetlinkHeader) → header_values h ≡ header_values k → h ≡ k
-same_header h k e = λ i. record {
-  length = slice_index (e i) 0;
-  message_type = slice_index (e i) 1;
-  flags = slice_index (e i) 2;
-  sequence_number = slice_index (e i) 3;
-  port_number = slice_index (e i) 4;
-}
-
+-- bytes have one
 pub one_header : (bytes : List ℕ) (h k : NetlinkHeader) → HasHeader bytes h → HasHeader bytes k
     → h ≡ k
 one_header bytes h k head other = same_header h k (sym head.0 ∙ other.0)

@@ -16,6 +16,7 @@ use Rattle.netlink_core.specs.Envelope.{Envelope, envelope_codec}
 use Rattle.netlink_core.specs.Items.{Item, ItemIs, ItemsAre}
 use Rattle.netlink_core.proofs.Headers.{header_or_fault}
 use Rattle.netlink_core.proofs.Framing.{envelope_or_fault}
+use Rattle.netlink_core.proofs.Padding.{by_length, some_or_none}
 use Rattle.netlink_core.proofs.Datagrams.{starts_with_message, shorter-rest}
 use Rattle.netlink_core.proofs.Datagrams.{messages_of_concatenation}
 use Rattle.netlink_core.proofs.Datagrams.{one_cut_into_messages}
@@ -134,27 +135,20 @@ module _ (C : Codec ℕ) (law : (b : List ℕ) (t : ℕ) → IsBytes b → ((m :
     | inr e ↦ (Err e.0, e.1)
   ]
 
-  -- each datagram has items, by its length
-  items_within : (n : ℕ) (bytes : List ℕ) → length bytes < n → IsBytes bytes
-      → (items : List (Item C.Value)) × ItemsAre C bytes items
-  items_within zero bytes short in_range = absurd (omega arith)
-  items_within (suc n) [] short in_range = ([], no_items C)
-  items_within (suc n) (b ∷ bytes) short in_range =
-      elim (message_or_fault (b ∷ bytes) in_range) [
-        | inl (message, rest, s) ↦
-            let later = items_within n rest (omega (arith, shorter-rest (b ∷ bytes) message rest s))
-            (rest_in_range (b ∷ bytes) message rest s in_range) in
-            let item = item_of message (message_in_range (b ∷ bytes) message rest s in_range) in (
-              item.0 ∷ later.0,
-              leading_item C (b ∷ bytes) message rest item.0 later.0 s item.1 later.1,
-            )
-        | inr f ↦ (Err f.0 ∷ [], fault_alone C (b ∷ bytes) f.0 (λ none. cc) f.1)
-      ]
-
   -- each datagram has items
   pub items_of : (bytes : List ℕ) → IsBytes bytes → (items : List (Item C.Value))
       × ItemsAre C bytes items
-  items_of bytes = items_within (suc (length bytes)) bytes (omega arith)
+  items_of = by_length _ (λ bytes others fits. elim (some_or_none bytes) [
+    | inl none ↦ ([], ([], None, [], none, tt, refl))
+    | inr some ↦ elim (message_or_fault bytes fits) [
+      | inl (message, rest, s) ↦
+          let later = others rest (shorter-rest bytes message rest s)
+          (rest_in_range bytes message rest s fits) in
+          let item = item_of message (message_in_range bytes message rest s fits) in
+          (item.0 ∷ later.0, leading_item C bytes message rest item.0 later.0 s item.1 later.1)
+      | inr f ↦ (Err f.0 ∷ [], fault_alone C bytes f.0 some f.1)
+    ]
+  ])
 
   -- all items, where one that was found is followed by others
   pub items_with : (bytes rest after message : List ℕ) (so_far : List (Item C.Value))

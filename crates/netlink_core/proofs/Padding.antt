@@ -1,4 +1,5 @@
 -- What follows an attribute at the start of bytes.
+use Rattle.std.proofs.Common.{zero, suc, ◌≢◌, inl, inr, refl, ◌∷◌}
 use Rattle.std.proofs.Common.{[], ◌<◌, ◌⊎◌, ◌≡◌, ℕ, ◌+◌, List, ◌++◌, length, take, drop}
 use Rattle.std.proofs.Common.{arith}
 use Rattle.std.proofs.lemmas.List.{take-append-drop, length-take, drop_all}
@@ -21,3 +22,17 @@ starts_with bytes rest a end head end-is rest-is =
     let end-at : end ≡ length (unpadded a) + n = omega arith in
     let behind = padding_there n head.0 rest (cc (drop-append-add (unpadded a) head.0 n)) in
     record { padding = take n head.0; parts = cc; fits = head.2; filled = behind.1 }
+
+-- what holds of bytes where it holds of all that are fewer holds of all
+pub by_length : (P : List ℕ → Type 0) → ((bytes : List ℕ)
+    → ((rest : List ℕ) → length rest < length bytes → P rest) → P bytes) → (bytes : List ℕ) → P bytes
+by_length P step bytes = within (suc (length bytes)) bytes (omega arith)
+  where
+    within : (n : ℕ) (b : List ℕ) → length b < n → P b
+    within zero b short = absurd (omega arith)
+    within (suc n) b short = step b (λ rest fewer. within n rest (omega arith))
+
+-- there are bytes, or none
+pub some_or_none : (bytes : List ℕ) → (bytes ≡ []) ⊎ (bytes ≢ [])
+some_or_none [] = inl refl
+some_or_none (b ∷ bytes) = inr (λ e. cc)
