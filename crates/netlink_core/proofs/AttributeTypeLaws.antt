@@ -55,19 +55,13 @@ module _ (k width : ℕ) where
   abbrev read_number : List ℕ → Result ℕ DecodeError
   read_number x = exact_number (Some k) width x
 
-  -- where a number that fills its bytes was read
-  number_of_value : (x : List ℕ) (n : ℕ) → read_number x ≡ Ok n → (length x ≡ width)
-      × (little_number width x ≡ n)
-  number_of_value x n h = grind (arith, nat_tests)
-
   number_back : (n : ℕ) → n < 256 ^ width → little_number width (little_bytes width n) ≡ n
-  number_back n fits = ap (little_number width) (sym (append-nil (little_bytes width n)))
-      ∙ little_number-reads_back width n [] fits
+  number_back n fits = rw append-nil at (little_number-reads_back width n [] fits)
 
   number_exact : (x : List ℕ) (n : ℕ) → IsBytes x → read_number x ≡ Ok n
       → (x ≡ little_bytes width n) × (n < 256 ^ width)
   number_exact x n in_range h =
-      let read = number_of_value x n h in
+      let read : (length x ≡ width) × (little_number width x ≡ n) = grind (arith, nat_tests) in
       let fits : n < 256 ^ width = rw read.1 at (little_from-lt 0 width x in_range) in (
         same_bytes width x (little_bytes width n) in_range (IsBytes-number 0 width n) read.0
             (length-bytes_low_first 0 width n) (read.1 ∙ sym (number_back n fits)),

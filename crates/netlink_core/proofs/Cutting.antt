@@ -1,6 +1,6 @@
 -- Bytes are cut in one way at most, and either mean something or have a fault.
 use Rattle.std.proofs.Common.{◌<◌, Option, Some, None}
-use Rattle.std.proofs.Common.{Result, Ok, ◌≡◌, ◌≢◌, ℕ, zero, suc, ◌+◌, ◌≤◌, ◌⊎◌, inl, inr}
+use Rattle.std.proofs.Common.{Result, Ok, ◌≡◌, ◌≢◌, ℕ, ◌+◌, ◌⊎◌, inl, inr}
 use Rattle.std.proofs.Common.{List, [], ◌∷◌, ◌++◌, length, drop, refl, sym, ap, ◌∙◌}
 use Rattle.std.proofs.Common.{append_assoc, arith}
 use Rattle.std.specs.Prelude.{replicate, IsOk}

@@ -1,6 +1,6 @@
 -- Tests of equality, put together from those of their parts.
-use Rattle.std.proofs.Common.{◌≡◌, ◌↔◌, ◌&&◌, ◌∙◌, ℕ, List, [], ◌∷◌, Option, Some, Bool, true}
-use Rattle.std.proofs.Common.{false, eqb, IsTrue, ap, map, refl, sym, rules}
+use Rattle.std.proofs.Common.{◌≡◌, ◌↔◌, ◌&&◌, ℕ, List, [], ◌∷◌, Option, Some, Bool, true}
+use Rattle.std.proofs.Common.{false, eqb, IsTrue, ap, map, refl, rules, arith}
 use Rattle.std.specs.Cmp.{IsEquivalence, both_ways}
 use Rattle.std.specs.Option.{option_eq}
 use lib.Pointwise.{pointwise}
@@ -51,10 +51,6 @@ pub equivalence : {K V : Type 0} (test : K → K → Bool) (model : K → V)
     → ((x y : K) → IsTrue (test x y) ↔ (model x ≡ model y)) → IsEquivalence test
 equivalence test model decides = record {
   refl = λ x. (decides x x).1 refl;
-  symm = λ x y. both_ways (test x y) (test y x) (λ h. (decides y x).1 (sym ((decides x y).0 h)))
-      (λ h. (decides x y).1 (sym ((decides y x).0 h)));
-  congr = λ x y z e.
-      let same = (decides x y).0 e in
-      both_ways (test x z) (test y z) (λ h. (decides y z).1 (sym same ∙ (decides x z).0 h))
-      (λ h. (decides x z).1 (same ∙ (decides y z).0 h));
+  symm = λ x y. grind (arith, decides x y, decides y x);
+  congr = λ x y z e. grind (arith, decides x y, decides x z, decides y z);
 }

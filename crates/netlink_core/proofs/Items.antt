@@ -1,6 +1,6 @@
 -- The items of a datagram, one after the other.
-use Rattle.std.proofs.Common.{◌≡◌, ◌≢◌, ℕ, zero, suc, ◌+◌, ◌<◌, ◌⊎◌, inl, inr, List, [], ◌∷◌, ◌++◌}
-use Rattle.std.proofs.Common.{length, take, drop, refl, ap, append_assoc, arith}
+use Rattle.std.proofs.Common.{◌≡◌, ◌≢◌, ℕ, ◌+◌, ◌⊎◌, inl, inr, List, [], ◌∷◌, ◌++◌}
+use Rattle.std.proofs.Common.{refl, ap, append_assoc}
 use Rattle.std.specs.Option.{option_to_list}
 use Rattle.std.specs.Prelude.{option_map, Option, Some, None, Ok, Err}
 use Rattle.std.specs.List.{AllZip}
@@ -33,19 +33,6 @@ message_in_range : (bytes message rest : List ℕ) → StartsWithMessage bytes m
     → IsBytes bytes → IsBytes message
 message_in_range bytes message rest s in_range =
     IsBytes-left message (s.padding ++ rest) (rw s.parts at in_range)
-
--- bytes begin with a message, or have a fault
-message_or_fault : (bytes : List ℕ) → IsBytes bytes
-    → ((message rest : List ℕ) × StartsWithMessage bytes message rest)
-    ⊎ ((e : DecodeError) × IsEnvelopeFault bytes e)
-message_or_fault bytes in_range = elim (header_or_fault bytes in_range) [
-  | inl p ↦ inl (
-    take p.0.length bytes,
-    drop (p.0.length + fill p.0.length) bytes,
-    starts_with_message bytes _ _ p.0 (p.0.length + fill p.0.length) p.1 refl refl refl,
-  )
-  | inr f ↦ inr f
-]
 
 -- lists that are related item by item are so in a row
 pub zip_append : {A B : Type 0} (R : A → B → Type 0) (xs ys : List A) (vs ws : List B)
@@ -140,12 +127,12 @@ module _ (C : Codec ℕ) (law : (b : List ℕ) (t : ℕ) → IsBytes b → ((m :
       × ItemsAre C bytes items
   items_of = by_length _ (λ bytes others fits. elim (some_or_none bytes) [
     | inl none ↦ ([], ([], None, [], none, tt, refl))
-    | inr some ↦ elim (message_or_fault bytes fits) [
-      | inl (message, rest, s) ↦
-          let later = others rest (shorter-rest bytes message rest s)
-          (rest_in_range bytes message rest s fits) in
-          let item = item_of message (message_in_range bytes message rest s fits) in
-          (item.0 ∷ later.0, leading_item C bytes message rest item.0 later.0 s item.1 later.1)
+    | inr some ↦ elim (header_or_fault bytes fits) [
+      | inl (h, head) ↦
+          let s = starts_with_message bytes _ _ h (h.length + fill h.length) head refl refl refl in
+          let later = others _ (shorter-rest bytes _ _ s) (rest_in_range bytes _ _ s fits) in
+          let item = item_of _ (message_in_range bytes _ _ s fits) in
+          (item.0 ∷ later.0, leading_item C bytes _ _ item.0 later.0 s item.1 later.1)
       | inr f ↦ (Err f.0 ∷ [], fault_alone C bytes f.0 some f.1)
     ]
   ])

@@ -1,7 +1,6 @@
 -- Records that are given as layouts, in front of other bytes.
-use Rattle.std.proofs.Common.{◌≡◌, ◌∙◌, ℕ, ◌≤◌, List, ◌++◌, length, Result, Ok, refl, ap, arith}
+use Rattle.std.proofs.Common.{◌≡◌, ◌∙◌, ℕ, ◌≤◌, List, ◌++◌, length, Ok, refl, arith}
 use Rattle.std.proofs.lemmas.List.{length-append}
-use Rattle.netlink_core.specs.declared.fault.DecodeError.{DecodeError}
 use Rattle.netlink_core.specs.Table.{values_of}
 use Rattle.netlink_core.specs.Layout.{Layout, read, bytes, IsInRange, IsNormal}
 use Rattle.netlink_core.specs.SoundLaws.{IsSound, IsFixed}
@@ -29,11 +28,7 @@ module _ {Tag Value : Type 0} (layout : Layout (Unit {0}) Tag Value) (sound : Is
       ∙ accepts layout tt (bytes layout v ++ rest) (layout.tag_of v)
       (goes_on (layout.tag_of v) (bytes layout v) rest (omega arith)
       (sound.tag_written tt v in_range normal))
-      ∙ ap (λ (vs : List ℕ). answered (layout.value (layout.tag_of v) vs)) same
-      ∙ ap answered (sound.back tt v in_range normal)
-    where
-      answered : Value → Result Value DecodeError
-      answered x = Ok x
+      ∙ cc (sound.back tt v in_range normal)
 
   -- a record of one size whose tag is in its own bytes stands in front of whatever follows it
   pub is_prefix_codec : {size : ℕ} → IsFixed layout size
