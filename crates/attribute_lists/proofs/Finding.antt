@@ -20,68 +20,32 @@ use Rattle.attribute_lists.specs.AttributesIn.{HasNoFault, values_in, value_in, 
 use Rattle.attribute_lists.specs.AttributesIn.{response_behind}
 
 -- those behind so many bytes are those at the start of what follows them
-behind_is : (n : ℕ) (bytes : List ℕ) → attributes_behind n bytes ≡ attributes_behind 0
-    (drop n bytes)
+behind_is : (n : ℕ) (bytes rest : List ℕ) → drop n bytes ≡ rest
+    → attributes_behind n bytes ≡ attributes_behind 0 rest
 unfolding attributes_behind
-behind_is zero [] = refl
-behind_is zero (b ∷ bs) = refl
-behind_is (suc n) [] = refl
-behind_is (suc n) (b ∷ bs) = behind_is n bs
+behind_is zero bytes rest e = ap (attributes_behind 0) e
+behind_is (suc n) [] rest e = ap (attributes_behind 0) e
+behind_is (suc n) (b ∷ bs) rest e = behind_is n bs rest e
 
--- the two words tell the first attribute
-front_is : (bytes : List ℕ) (a : Attribute) → HasPrefix bytes a → leading_attribute bytes ≡ a
-front_is bytes a head =
-    let fits : length a.value ≤ 65531 = head.2.1 in
-    let word : number_in little_endian 2 bytes ≡ 4 + length a.value = (word_is bytes a head).0 in
-    let types : number_in little_endian 2 (drop 2 bytes) ≡ a.type_word =
-    ap (λ (b : List ℕ). number_in little_endian 2 (drop 2 b)) head.1
-    ∙ omega (arith, head.2.0) in
-    let long : number_in little_endian 2 bytes - 4 ≡ length a.value = omega arith in
-    let behind : drop 4 bytes ≡ a.value ++ head.0 = ap (drop 4) head.1 in
-    let value : take (number_in little_endian 2 bytes - 4) (drop 4 bytes) ≡ a.value =
-    ap (λ (k : ℕ). take k (drop 4 bytes)) long ∙ ap (take (length a.value)) behind
-    ∙ take_at a.value head.0 (length a.value) refl in
-    λ i. record { type_word = types i; value = value i }
-
--- and how far it reaches
-rest_is : (bytes rest : List ℕ) (a : Attribute) → StartsWith bytes a rest
-    → drop (number_in little_endian 2 bytes + fill (number_in little_endian 2 bytes)) bytes ≡ rest
-rest_is bytes rest a s =
-    let word : number_in little_endian 2 bytes ≡ 4 + length a.value =
-    (word_is bytes a (prefix_of_start bytes rest a s)).0 in
-    let front : List ℕ = unpadded a ++ s.padding in
-    let parts : bytes ≡ front ++ rest = s.parts ∙ sym (append_assoc (unpadded a) s.padding rest) in
-    let long : length front ≡ 4 + length a.value + length s.padding =
-    length-append (unpadded a) s.padding ∙ omega arith in
-    elim s.filled [
-      | inl full ↦ ap (drop (number_in little_endian 2 bytes + fill
-          (number_in little_endian 2 bytes))) parts
-          ∙ drop_at front rest (number_in little_endian 2 bytes + fill
-          (number_in little_endian 2 bytes)) (omega (arith, full))
-      | inr short ↦
-          let all : length bytes ≡ length front + length rest = ap length parts
-          ∙ length-append front rest in
-          let none : length rest ≡ 0 = ap length short.1 in
-          drop_all (number_in little_endian 2 bytes + fill (number_in little_endian 2 bytes)) bytes
-          (omega (arith, short.0)) ∙ sym short.1
-    ]
-
--- the attribute that bytes begin with is found first
+-- the attribute that bytes begin with is found first, by its two words
 pub found_first : (bytes rest : List ℕ) (a : Attribute) → StartsWith bytes a rest
     → attributes_behind 0 bytes ≡ a ∷ attributes_behind 0 rest
 unfolding attributes_behind
-found_first [] rest a s = absurd (StartsWith-some [] rest a s refl)
-found_first (b ∷ bs) rest a s =
-    let all : List ℕ = b ∷ bs in
-    let head : HasPrefix all a = prefix_of_start all rest a s in
-    let n : ℕ = number_in little_endian 2 all + fill (number_in little_endian 2 all) - 1 in
-    let next : suc n ≡ number_in little_endian 2 all + fill (number_in little_endian 2 all) =
-    omega (arith, word_is all a head) in
-    let behind : drop n bs ≡ rest = ap (λ (k : ℕ). drop k all) next ∙ rest_is all rest a s in
-    let first : leading_attribute all ≡ a = front_is all a head in
-    let later : attributes_behind n bs ≡ attributes_behind 0 rest = behind_is n bs
-    ∙ ap (attributes_behind 0) behind in
-    λ i. first i ∷ later i
+found_first bytes rest a s =
+    let all : List ℕ = unpadded a ++ (s.padding ++ rest) in
+    let long : number_in little_endian 2 all ≡ 4 + length a.value = omega (arith, s.fits) in
+    let types : number_in little_endian 2 (drop 2 all) ≡ a.type_word = omega (arith, s.fits) in
+    let value : take (number_in little_endian 2 all - 4) (drop 4 all) ≡ a.value =
+    take_at a.value (s.padding ++ rest) _ (omega arith) in
+    let reach : ℕ = number_in little_endian 2 all + fill (number_in little_endian 2 all) - 1 in
+    let behind : drop reach (drop 1 (unpadded a) ++ (s.padding ++ rest)) ≡ rest = elim s.filled [
+      | inl full ↦ rw (← append_assoc) (drop_at (drop 1 (unpadded a) ++ s.padding) rest _
+          (omega (arith, full, length-append a.value s.padding)))
+      | inr short ↦ rw short.1 (drop_all reach (drop 1 (unpadded a) ++ (s.padding ++ []))
+          (omega (arith, short.0, length-append a.value, length-append s.padding [])))
+    ] in
+    rw s.parts (λ i. record { type_word = types i; value = value i }
+    ∷ behind_is reach (drop 1 all) rest behind i)
 
 -- in no bytes none is found
 pub found_none : attributes_behind 0 [] ≡ []
