@@ -2,20 +2,18 @@
 use Rattle.std.proofs.Common.{Result, Ok, Err, IsOk, ◌≡◌, ◌≢◌, ℕ, zero, suc, ◌+◌, ◌-◌, ◌≤◌, List}
 use Rattle.std.proofs.Common.{[], ◌∷◌, ◌++◌, length, take, drop, inl, inr, refl, sym, ap, subst}
 use Rattle.std.proofs.Common.{◌∙◌, append_assoc, arith}
-use Rattle.std.specs.List.{AllZip}
-use Rattle.std.proofs.lemmas.List.{take_at, drop_at, drop_all, length-append}
+use Rattle.std.proofs.lemmas.List.{take_at, drop_at, drop_all, append-nil, length-append}
 use Rattle.netlink_core.specs.declared.fault.DecodeError.{DecodeError}
 use Rattle.netlink_core.specs.Bytes.{IsBytes}
-use Rattle.netlink_core.specs.Attribute.{Attribute, StartsWith, Cut, HasPrefix, IsFramingFault}
+use Rattle.netlink_core.specs.Attribute.{Attribute, StartsWith, IsFramingFault}
 use Rattle.netlink_core.specs.Attribute.{AttributesMean, AttributeFault, fill, unpadded}
 use Rattle.netlink_core.specs.Table.{number_in, little_endian}
 use Rattle.netlink_core.specs.AttributeSet.{decodes}
 use Rattle.netlink_core.specs.Response.{ResponseSpec, ValueOf, response_codec}
-use Rattle.netlink_core.specs.PrefixLaws.{word_is}
 use Rattle.netlink_core.proofs.TableLaws.{AreBytes-drop}
 use Rattle.netlink_core.proofs.Walking.{StartsWith-some, prefix_of_start, later_fault, fault_here}
 use Rattle.netlink_core.proofs.Cutting.{means_or_fault, means_or_fault_apart}
-use Rattle.attribute_lists.specs.AttributesIn.{leading_attribute, attributes_behind}
+use Rattle.attribute_lists.specs.AttributesIn.{attributes_behind}
 use Rattle.attribute_lists.specs.AttributesIn.{HasNoFault, values_in, value_in, IsAccepted}
 use Rattle.attribute_lists.specs.AttributesIn.{response_behind}
 
@@ -52,6 +50,12 @@ pub found_none : attributes_behind 0 [] ≡ []
 unfolding attributes_behind
 found_none = refl
 
+-- the value that was read is the one in the answer
+pub value_in_is : {A : Type 0} (answer : Result A DecodeError) (good : (e : DecodeError)
+    → answer ≡ Err e → ⊥) → answer ≡ Ok (value_in answer good)
+value_in_is (Ok v) good = refl
+value_in_is (Err e) good = absurd (good e refl)
+
 module _ {A : Type 0} (reads : Attribute → Result A DecodeError) where
   -- what the first one says comes first
   pub value_first : (bytes rest : List ℕ) (a : Attribute) (v : A) → StartsWith bytes a rest
@@ -59,22 +63,20 @@ module _ {A : Type 0} (reads : Attribute → Result A DecodeError) where
   value_first bytes rest a v s reads_v = rw (found_first bytes rest a s, reads_v) refl
 
   -- what bytes mean is what is found in them
-  pub values_are : (bytes : List ℕ) (attributes : List Attribute) (values : List A)
-      → Cut bytes attributes → AllZip (λ a v. reads a ≡ Ok v) attributes values
+  pub values_are : (bytes : List ℕ) (values : List A) → AttributesMean reads bytes values
       → values_in reads bytes ≡ values
-  values_are bytes [] [] cut said = rw (cut, found_none) refl
-  values_are bytes [] (v ∷ values) cut said = absurd said
-  values_are bytes (a ∷ later) [] cut said = absurd said
-  values_are bytes (a ∷ later) (v ∷ values) cut said = value_first bytes cut.0 a v cut.1 said.0
-      ∙ ap (λ (vs : List A). v ∷ vs) (values_are cut.0 later values cut.2 said.1)
+  values_are bytes [] ([], cut, said) = rw (cut, found_none) refl
+  values_are bytes (v ∷ values) ([], cut, said) = absurd said
+  values_are bytes [] (a ∷ later, cut, said) = absurd said
+  values_are bytes (v ∷ values) (a ∷ later, (rest, start, cut), (first, said)) =
+      rw (value_first bytes rest a v start first, values_are rest values (later, cut, said)) refl
 
   -- bytes with no fault mean what is found in them
   pub values_mean : (bytes : List ℕ) → IsBytes bytes → HasNoFault reads bytes
       → AttributesMean reads bytes (values_in reads bytes)
   values_mean bytes in_range clean =
       elim (means_or_fault reads bytes in_range) [
-        | inl m ↦ subst (AttributesMean reads bytes) (sym (values_are bytes m.1.0 m.0 m.1.1 m.1.2))
-            m.1
+        | inl m ↦ rw (values_are bytes m.0 m.1) m.1
         | inr f ↦ absurd (clean.none f.0 f.1)
       ]
 
@@ -87,7 +89,7 @@ module _ {A : Type 0} (reads : Attribute → Result A DecodeError) where
   -- nor is there one in no bytes
   pub nothing_has_no_fault : HasNoFault reads []
   nothing_has_no_fault = record {
-    none = λ e f. means_or_fault_apart reads [] [] e ([], refl, tt) f;
+    none = λ e. means_or_fault_apart reads [] [] e ([], refl, tt);
   }
 
   -- no framing fault, and the first attribute decodes to something
@@ -95,21 +97,17 @@ module _ {A : Type 0} (reads : Attribute → Result A DecodeError) where
       → IsFramingFault bytes e → ⊥
   no_framing_fault bytes e clean some f = clean.none e (fault_here reads bytes e some (inl f))
 
+  pub first_found : (bytes rest : List ℕ) (a : Attribute) → HasNoFault reads bytes
+      → StartsWith bytes a rest → (v : A) × (reads a ≡ Ok v)
+      × (values_in reads bytes ≡ v ∷ values_in reads rest)
+  first_found bytes rest a clean s =
+      let said = value_in_is (reads a) (λ e h. clean.none e (fault_here reads bytes e
+      (StartsWith-some bytes rest a s) (inr (a, prefix_of_start bytes rest a s, h)))) in
+      (_, said, value_first bytes rest a _ s said)
+
   pub first_is_accepted : (bytes rest : List ℕ) (a : Attribute) → HasNoFault reads bytes
       → StartsWith bytes a rest → IsOk (reads a)
-  first_is_accepted bytes rest a clean s = said (reads a) refl
-    where
-      said : (answer : Result A DecodeError) → reads a ≡ answer → IsOk answer
-      said (Ok v) h = refl
-      said (Err e) h = absurd (clean.none e
-          (fault_here reads bytes e (StartsWith-some bytes rest a s)
-          (inr (a, prefix_of_start bytes rest a s, h))))
-
--- the value that was read is the one in the answer
-pub value_in_is : {A : Type 0} (answer : Result A DecodeError) (good : (e : DecodeError)
-    → answer ≡ Err e → ⊥) → answer ≡ Ok (value_in answer good)
-value_in_is (Ok v) good = refl
-value_in_is (Err e) good = absurd (good e refl)
+  first_is_accepted bytes rest a clean s = rw (first_found bytes rest a clean s).1 refl
 
 module _ (R : ResponseSpec) (bytes part : List ℕ) (same : part ≡ drop R.size bytes) where
   -- bytes whose header can be read, and behind it no fault, are accepted
@@ -118,17 +116,14 @@ module _ (R : ResponseSpec) (bytes part : List ℕ) (same : part ≡ drop R.size
   response_accepted h good clean = record {
     none = λ e refused. elim refused [
       | inl header ↦ cc (header, good)
-      | inr behind ↦ clean.none e (subst (λ (b : List ℕ).
-          AttributeFault (decodes R.attribute_set) b e)
-          (sym same) behind.2)
+      | inr behind ↦ clean.none e (rw same behind.2)
     ];
   }
 
   -- a fault behind such a header is that of the bytes
   pub behind_refused : (h : R.header.Value) (e : DecodeError) → R.header.reads tt bytes ≡ Ok h
       → AttributeFault (decodes R.attribute_set) part e → (response_codec R).refuses bytes tt e
-  behind_refused h e good f =
-      inr (h, good, subst (λ (b : List ℕ). AttributeFault (decodes R.attribute_set) b e) same f)
+  behind_refused h e good f = inr (h, good, rw same at f)
 
   -- behind the header of accepted bytes is no fault
   pub behind_accepted : IsAccepted R bytes → HasNoFault (decodes R.attribute_set) part
@@ -162,4 +157,5 @@ pub ruleset finding = (
   nothing_has_no_fault,
   no_framing_fault,
   first_is_accepted,
+  append-nil,
 )
