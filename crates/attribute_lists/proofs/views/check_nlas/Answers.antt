@@ -30,18 +30,20 @@ pub returns-in_err-item-clause-fault : goal.returns-in_err-item-clause-fault
 returns-in_err-item-clause-fault g c =
     let p = err_from_is_err_and c.from_residual.result c.from_residual.ensures.1 in
     let stop = rw c.in_err-item.was at c.in-Some.ensures.steps in
-    rw (p.1, p.2) (c.loop-item.invariant.fault _ (fault_here (decodes g.V.FamilyView.attribute_set) _ _
-    stop.0 (inl stop.1)))
+    rw (p.1, p.2) (c.loop-item.invariant.fault _
+    (fault_here (decodes g.V.FamilyView.attribute_set) _ _ stop.0 (inl stop.1)))
 
 pub returns-in_err-_view-clause-fault : goal.returns-in_err-_view-clause-fault
 returns-in_err-_view-clause-fault g c =
     let p = err_from_is_err_and c.from_residual-in_err-_view.result
     c.from_residual-in_err-_view.ensures.1 in
     let start = rw c.in_ok-item.was at c.in-Some.ensures.steps in
-    rw (p.1, p.2) (c.loop-item.invariant.fault _ (fault_here (decodes g.V.FamilyView.attribute_set) _ _
-    (StartsWith-some _ _ _ start) (inr (_, prefix_of_start _ _ _ start, c.in_err-_view.ensures.fault))))
+    rw (p.1, p.2) (c.loop-item.invariant.fault _
+    (fault_here (decodes g.V.FamilyView.attribute_set) _ _ (StartsWith-some _ _ _ start)
+    (inr (_, prefix_of_start _ _ _ start, c.in_err-_view.ensures.fault))))
 
 pub returns-clause-clean : goal.returns-clause-clean
 returns-clause-clean g c =
-    let all = c.loop-item.invariant.mean [] ([], c.in-None.ensures.steps.0, tt) in
-    record { none = λ e. means_or_fault_apart (decodes g.V.FamilyView.attribute_set) _ all.0 e all.1 }
+    let all = c.loop-item.invariant.mean [] ([], c.in-None.ensures.steps.0, tt) in record {
+      none = λ e. means_or_fault_apart (decodes g.V.FamilyView.attribute_set) _ all.0 e all.1;
+    }
