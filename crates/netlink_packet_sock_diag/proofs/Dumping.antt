@@ -16,12 +16,13 @@ use Rattle.netlink_core.specs.Header.{HasHeader, IsEnvelopeFault}
 use Rattle.netlink_core.specs.Datagram.{IsMessageString, StartsWithMessage}
 use Rattle.netlink_core.specs.Envelope.{Payload, inner, PayloadIs}
 use Rattle.netlink_core.specs.Items.{Item, ItemIs, ItemsAre}
-use Rattle.netlink_core.proofs.Datagrams.{no_fault_at_message, one_message}
+use Rattle.netlink_core.proofs.Datagrams.{no_fault_at_message}
 use Rattle.netlink_core.proofs.Headers.{one_header}
 use Rattle.netlink_core.proofs.Items.{Following, items_begin, items_go_on, items_with, no_items}
 use Rattle.netlink_core.proofs.Items.{fault_alone}
 use Rattle.netlink_packet_sock_diag.specs.Dump.{end_of, kept, Standing, unended}
 use Rattle.netlink_packet_sock_diag.specs.Feed.{Interrupt, Stops, Takes}
+use Rattle.netlink_packet_sock_diag.proofs.DumpRows.{first_or_later}
 
 -- no fault stands at the start of a message
 pub no_fault_in_message : (message : List ℕ) (e : DecodeError) → IsMessageString message
@@ -41,23 +42,6 @@ pub kept_push : {A : Type 0} (xs : List (Item A)) (item : Item A)
     → flat_map kept (xs ++ item ∷ []) ≡ flat_map kept xs ++ kept item
 kept_push xs item = flat_map-append kept xs (item ∷ []) ∙ ap (λ (t : List _). flat_map kept xs ++ t)
     (append-nil (kept item))
-
--- the header of the message has the flag
-abbrev pub IsMarked : List ℕ → Type 0
-IsMarked message = (h : NetlinkHeader) × HasHeader message h × IsBitSet h.flags 4
-
--- bytes interrupt a dump by their first message, or by what stands behind it
-pub first_or_later : {A : Type 0} (bytes message rest : List ℕ) (item : Item A)
-    (items : List (Item A)) → StartsWithMessage bytes message rest
-    → (Interrupt bytes (item ∷ items)
-    ↔ (IsMarked message ⊎ ((end_of item ≡ None) × Interrupt rest items)))
-first_or_later bytes message rest item items s = (
-  λ i. let same = one_message bytes i.0 message i.1 rest i.2 s in
-      subst (λ (m : List ℕ). IsMarked m ⊎ ((end_of item ≡ None) × Interrupt rest items)) same.0
-      (subst (λ (r : List ℕ). IsMarked i.0 ⊎ ((end_of item ≡ None) × Interrupt r items)) same.1
-      i.3),
-  λ e. (message, rest, s, e),
-)
 
 -- the flag that is seen at a message is that of the bytes in front of the rest
 seen : {A : Type 0} (bytes message next : List ℕ) (h : NetlinkHeader) (item : Item A)
