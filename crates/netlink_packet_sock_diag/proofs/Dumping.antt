@@ -1,14 +1,12 @@
 -- A dump goes through the items of a datagram.
 use Rattle.std.proofs.Common.{◌≡◌, ◌≢◌, ◌↔◌, ℕ, ◌⊎◌, List, [], ◌∷◌, ◌++◌, refl, ◌∙◌}
 use Rattle.std.proofs.Common.{append_assoc, arith, Bool, IsTrue}
-use Rattle.std.specs.Prelude.{Some, None, Result, Ok, Err, IsBitSet}
+use Rattle.std.specs.Prelude.{Some, None, Ok, Err, IsBitSet}
 use Rattle.std.proofs.lemmas.List.{append-nil}
 use Rattle.netlink_core.specs.Bytes.{IsBytes}
 use Rattle.netlink_core.specs.Codec.{Codec, KeepsLaws}
 use Rattle.netlink_core.specs.declared.fault.DecodeError.{DecodeError}
-use Rattle.netlink_core.specs.declared.fault.DecodeError.TheVariants.{EnvelopeCut, Memory}
-use Rattle.netlink_core.specs.declared.fault.DecodeError.TheVariants.{EnvelopeLengthUnder16}
-use Rattle.netlink_core.specs.declared.fault.DecodeError.TheVariants.{EnvelopeLengthPast}
+use Rattle.netlink_core.specs.declared.fault.DecodeError.TheVariants.{Memory}
 use Rattle.netlink_core.specs.declared.header.NetlinkHeader.{NetlinkHeader}
 use Rattle.netlink_core.specs.Header.{HasHeader, IsEnvelopeFault}
 use Rattle.netlink_core.specs.Datagram.{IsMessageString, StartsWithMessage}
@@ -17,10 +15,10 @@ use Rattle.netlink_core.specs.Items.{Item, ItemIs, ItemsAre}
 use Rattle.netlink_core.proofs.Datagrams.{no_fault_at_message}
 use Rattle.netlink_core.proofs.Headers.{one_header}
 use Rattle.netlink_core.proofs.Items.{items_of, leading_item, rest_in_range}
-use Rattle.netlink_core.proofs.Items.{fault_alone, no_items}
-use Rattle.netlink_packet_sock_diag.specs.Dump.{end_of, kept, Standing, unended}
+use Rattle.netlink_core.proofs.Items.{fault_alone}
+use Rattle.netlink_packet_sock_diag.specs.Dump.{end_of, kept, unended}
 use Rattle.netlink_packet_sock_diag.specs.Feed.{Interrupt, Stops, Takes}
-use Rattle.netlink_packet_sock_diag.proofs.DumpRows.{End, IsMarked, dump_is, first_or_later, reach}
+use Rattle.netlink_packet_sock_diag.proofs.DumpRows.{End, dump_is, first_or_later, reach}
 
 -- no fault stands at the start of a message
 pub no_fault_in_message : (message : List ℕ) (e : DecodeError) → IsMessageString message
