@@ -1,7 +1,6 @@
 pub mod Lengths
 pub mod Envelopes
 pub mod Dumping
-pub mod Lawful
 pub mod DumpRows
 pub mod LossyDumps
 pub mod Feeding
