@@ -1,9 +1,7 @@
 use Rattle.std.proofs.Common.{◌≡◌, ℕ, ◌-◌, List, ◌++◌, length, take, drop, sym, ap, ◌∙◌}
 use Rattle.std.proofs.Common.{append_assoc, take-append-drop}
 use Rattle.std.proofs.lemmas.List.{take_rest}
-use Rattle.std.proofs.lemmas.Result.{err_from_is_err_and}
 use Rattle.std.proofs.KnownBytes.{Appends-trans}
-use Rattle.line_server.proofs.RunLemmas.{cause_told}
 use Rattle.line_server.proofs.stream.send.Goals as goal
 
 moves_front : (all front rest : List ℕ) (n : ℕ) → all ≡ front ++ rest → all ≡ (front ++ take n rest)
@@ -22,8 +20,3 @@ writes-preserved g c =
       moves_front _ front rest n split,
       Appends-trans _ _ _ _ _ appended c.in_ok-count.ensures.bytes,
     )
-
-pub returns-in_err-count-clause-cause : goal.returns-in_err-count-clause-cause
-returns-in_err-count-clause-cause g c =
-    let p = err_from_is_err_and c.from_residual.result c.from_residual.ensures.1 in
-    rw (p.1, p.2) (cause_told (g.W.AnswerWrite.failed _) _ c.in_err-count.ensures.cause)
