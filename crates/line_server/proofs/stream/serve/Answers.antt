@@ -18,19 +18,13 @@ read_prompt-requires g c =
 
 pub returns-in_err-count-clause-answered : goal.returns-in_err-count-clause-answered
 returns-in_err-count-clause-answered g c =
-    let p = err_from_is_err_and c.from_residual.result c.from_residual.ensures.1 in
-    rw (p.1, p.2, c.in_err-count.ensures.cause.0) (
-      _,
-      _,
-      waited c.reads.invariant.up _
-          (Consumes-kept _ _ _ [] (Consumes-nil _) c.in_err-count.ensures.bytes),
-      tt,
-    )
+    let r = c.from_residual in let p = err_from_is_err_and r.result r.ensures.1 in
+    let none = Consumes-kept _ _ _ [] (Consumes-nil _) c.in_err-count.ensures.bytes in
+    rw (p.1, p.2, c.in_err-count.ensures.cause.0) (_, _, waited c.reads.invariant.up _ none, tt)
 
 pub returns-in_err-is_last_good-clause-answered : goal.returns-in_err-is_last_good-clause-answered
 returns-in_err-is_last_good-clause-answered g c =
-    let p = err_from_is_err_and c.from_residual-in_err-is_last_good.result
-    c.from_residual-in_err-is_last_good.ensures.1 in
+    let r = c.from_residual-in_err-is_last_good in let p = err_from_is_err_and r.result r.ensures.1 in
     let inv = c.reads.invariant in
     let none = rw c.if-count-eq0.true at c.in_ok-count.ensures.bytes.0 in
     rw (p.1, p.2) (run_failed (waited inv.up _ none) g.A.LineAnswers.good (length inv.whole) _ _ []
@@ -40,35 +34,23 @@ returns-in_err-is_last_good-clause-answered g c =
 pub returns-then-count-eq0-clause-answered : goal.returns-then-count-eq0-clause-answered
 returns-then-count-eq0-clause-answered g c =
     let inv = c.reads.invariant in
-    let none = rw c.if-count-eq0.true at c.in_ok-count.ensures.bytes.0 in (
-      _,
-      _,
-      write_on (waited inv.up _ none) _ _ _ c.in_ok-is_last_good.ensures.written
-          (sym (answers_begin _ inv.whole _)),
-      rw (inv.judged, c.in_ok-is_last_good.ensures.judged) (sym (goods_begin _ _ inv.whole _)),
-    )
+    let none = rw c.if-count-eq0.true at c.in_ok-count.ensures.bytes.0 in
+    let up = write_on (waited inv.up _ none) _ _ _ c.in_ok-is_last_good.ensures.written
+    (sym (answers_begin _ inv.whole _)) in
+    let last = c.in_ok-is_last_good.ensures.judged in
+    (_, _, up, rw (inv.judged, last) (sym (goods_begin _ _ inv.whole _)))
 
 pub returns-in_err-is_piece_good-clause-answered : goal.returns-in_err-is_piece_good-clause-answered
 returns-in_err-is_piece_good-clause-answered g c =
-    let p = err_from_is_err_and c.from_residual-in_err-is_piece_good.result
-    c.from_residual-in_err-is_piece_good.ensures.1 in
+    let r = c.from_residual-in_err-is_piece_good in let p = err_from_is_err_and r.result r.ensures.1 in
     let inv = c.reads.invariant in
     let s = split_of (c.reads.kept.line.items ++ take c.in_ok-count.count c.read_prompt.new.piece) in
-    rw (p.1, p.2) (
-      inv.whole ++ s.whole,
-      s.rest,
-      (
-        length inv.whole,
-        rw take-append_seam
-            (read_on inv.up _ _ _ _ c.in_ok-count.ensures.bytes.0 s.splits),
-      ),
-      tt,
-    )
+    let read = read_on inv.up _ _ _ _ c.in_ok-count.ensures.bytes.0 s.splits in
+    rw (p.1, p.2) (inv.whole ++ s.whole, s.rest, (length inv.whole, rw take-append_seam read), tt)
 
 pub returns-in_err-send-clause-answered : goal.returns-in_err-send-clause-answered
 returns-in_err-send-clause-answered g c =
-    let p = err_from_is_err_and c.from_residual-in_err-send.result
-    c.from_residual-in_err-send.ensures.1 in
+    let r = c.from_residual-in_err-send in let p = err_from_is_err_and r.result r.ensures.1 in
     let inv = c.reads.invariant in
     let piece = rw inv.written at c.in_ok-is_piece_good.ensures in
     let sent = rw (c.as_slice-in-reads.ensures.value, piece.added) at c.in_err-send.ensures.written
