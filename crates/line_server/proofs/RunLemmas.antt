@@ -1,6 +1,6 @@
 -- What a run has written, from what its parts wrote.
 use Rattle.std.proofs.Common.{◌≡◌, ℕ, List, [], ◌∷◌, ◌++◌, length, take, Option, None, Some, Result}
-use Rattle.std.proofs.Common.{map, Ok, Err, ◌==◌, Bool, false, ◌&&◌, refl, sym, ◌∙◌, subst}
+use Rattle.std.proofs.Common.{map, Ok, Err, Bool, ◌&&◌, refl, sym, ◌∙◌}
 use Rattle.std.proofs.Common.{append_assoc, append-nil}
 use Rattle.std.specs.Prelude.{IfSome, OnOk}
 use Rattle.std.specs.List.{list_all}
@@ -16,17 +16,6 @@ use Rattle.line_server.specs.RunSteps.{WritesPart, all_good}
 use Rattle.line_server.proofs.LinesLemmas.{Splits-append, Splits-one_way}
 use Rattle.line_server.specs.declared.stream.ServeError.{ServeError}
 use Rattle.line_server.specs.declared.stream.ServeError.TheVariants.{Read, Write, Memory}
-
--- a call failed for the cause that is told
-pub cause_told : (failed : Bool → Type 0) (e : ServeError)
-    → (is_closed : Bool) × (e ≡ Write is_closed) × failed is_closed
-    → (is_closed : Bool) → e ≡ Write is_closed → failed is_closed
-cause_told failed e (is_closed, is, h) other is' = subst failed (cc) h
-
--- a last line that has bytes
-pub last_line : (line : List ℕ) → (length line == 0) ≡ false → with_rest [] line ≡ line ∷ []
-last_line [] h = absurd (cc h)
-last_line (b ∷ rest) h = refl
 
 -- the last line stands behind the whole ones
 with_rest-append : (whole : List (List ℕ)) (rest : List ℕ) → with_rest whole rest

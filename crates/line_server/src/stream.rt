@@ -163,7 +163,6 @@ pub fn serve<S: Start, A: LineAnswers, R: PromptRead, W: AnswerWrite>(
 
 /// Answers the last line, where it has bytes and no line feed, and flushes. Returns whether its
 /// answer is a good one, or there is none.
-#[tactic(auto, using(crate::proofs::RunLemmas::cause_told))]
 fn finish<S: Start, A: LineAnswers, W: AnswerWrite>(
     alloc: Global,
     kept: &mut Kept,
@@ -295,7 +294,6 @@ fn empty(alloc: Global, room: &mut Vec<u8>)
 }
 
 /// Writes all the bytes.
-#[tactic(auto, using(crate::proofs::RunLemmas::cause_told))]
 fn send<W: AnswerWrite>(output: &mut W, bytes: &[u8]) -> Result<(), ServeError>
     ensures written { Writes (W.held output.old) (W.held output.new) bytes.now result }
     ensures cause { IfErr result (λ e. (is_closed : Bool) → e ≡ ServeError.Write is_closed

@@ -12,10 +12,6 @@ use Rattle.line_server.proofs.RunLemmas.{answers_begin, goods_begin, read_on, ru
 use Rattle.line_server.proofs.RunLemmas.{write_on}
 use Rattle.line_server.proofs.stream.serve.Goals as goal
 
-pub read_prompt-requires : goal.read_prompt-requires
-read_prompt-requires g c =
-    rw c.as_slice.ensures.value (c.reads.invariant.whole, c.reads.invariant.up)
-
 pub returns-in_err-count-clause-answered : goal.returns-in_err-count-clause-answered
 returns-in_err-count-clause-answered g c =
     let r = c.from_residual in let p = err_from_is_err_and r.result r.ensures.1 in

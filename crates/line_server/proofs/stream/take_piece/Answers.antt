@@ -1,4 +1,4 @@
-use Rattle.std.proofs.Common.{◌+◌, [], ◌∷◌, ◌++◌, take, refl, sym}
+use Rattle.std.proofs.Common.{◌+◌, [], ◌∷◌, ◌++◌, take}
 use Rattle.std.proofs.Common.{append_assoc, append-nil, arith}
 use Rattle.std.proofs.lemmas.List.{length-drop, take_rest}
 use Rattle.std.proofs.lemmas.List.Elements.{All-nil}
@@ -9,19 +9,6 @@ use Rattle.std.proofs.lemmas.List.Concat.{flat_map-append}
 use Rattle.std.proofs.lemmas.List.Folds.{list_all-append}
 use Rattle.std.proofs.Math.Bool.{and-true}
 use Rattle.line_server.proofs.stream.take_piece.Goals as goal
-
-pub lines-init : goal.lines-init
-lines-init g c = record {
-  whole = [];
-  splits = refl;
-  within = omega arith;
-  unended = c.requires.0;
-  added = sym (append-nil c.args.kept.now.answers.items);
-  judged = refl;
-}
-
-pub overflow_add-rest : goal.overflow_add-rest
-overflow_add-rest g c = omega (arith, c.in-Some.ensures.0.high, c.lines.invariant.within)
 
 pub lines-preserved : goal.lines-preserved
 lines-preserved g c =
