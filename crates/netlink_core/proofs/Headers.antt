@@ -16,7 +16,7 @@ use Rattle.netlink_core.specs.Header.{header_fields, header_values, header_bytes
 use Rattle.netlink_core.specs.Header.{HasHeader, IsEnvelopeFault}
 use Rattle.netlink_core.proofs.Numbers.{masked-all}
 use Rattle.netlink_core.proofs.TableLaws.{IsTable, table_from_test, values-bytes_of, values-fit}
-use Rattle.netlink_core.proofs.TableLaws.{same_live, same_values}
+use Rattle.netlink_core.proofs.TableLaws.{values_and_bits}
 
 -- the first bytes of bytes are bytes
 pub AreBytes-take : (n : ℕ) (bytes : List ℕ) → IsBytes bytes → IsBytes (take n bytes)
@@ -109,11 +109,10 @@ pub same_leading_header : (b c : List ℕ) (h k : NetlinkHeader) → IsBytes b �
     → HasHeader c k → ((h ≡ k) ↔ (take 16 b ≡ take 16 c))
 same_leading_header b c h k tb tc head other =
     let long : 16 ≤ length b = omega (arith, head.2, head.3) in
-    let also : 16 ≤ length c = omega (arith, other.2, other.3) in (
-      λ e. sym (masked-all 16 b tb) ∙ same_live 0 header_fields 16 b c header_table tb tc long also
-          (head.0 ∙ ap header_values e ∙ sym other.0) ∙ masked-all 16 c tc,
-      λ e. same_header h k (sym head.0 ∙ same_values 0 header_fields 16 b c header_table tb tc long
-          also (masked-all 16 b tb ∙ e ∙ sym (masked-all 16 c tc)) ∙ other.0),
+    let also : 16 ≤ length c = omega (arith, other.2, other.3) in
+    let same = values_and_bits 0 header_fields 16 b c header_table tb tc long also in (
+      λ e. sym (masked-all 16 b tb) ∙ same.0 (head.0 ∙ ap header_values e ∙ sym other.0) ∙ masked-all 16 c tc,
+      λ e. same_header h k (sym head.0 ∙ same.1 (masked-all 16 b tb ∙ e ∙ sym (masked-all 16 c tc)) ∙ other.0),
     )
 
 -- written, the fields are read again, whatever follows

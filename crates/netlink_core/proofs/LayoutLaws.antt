@@ -4,7 +4,7 @@ use Rattle.std.proofs.Common.{Result, Ok, Err, if◌then◌else◌, refl, sym, a
 use Rattle.std.proofs.Common.{append-nil, le-ltb, lt-ltb}
 use Rattle.std.proofs.lemmas.Bool.{cases_lt}
 use Rattle.netlink_core.specs.Bytes.{IsBytes}
-use Rattle.netlink_core.specs.Table.{Field, values_of, bytes_of, Fit, AreDefined}
+use Rattle.netlink_core.specs.Table.{Field, live_bits, masked, values_of, bytes_of, Fit, AreDefined}
 use Rattle.netlink_core.specs.SoundLaws.{is_table, IsSound}
 use Rattle.netlink_core.specs.Layout.{Layout, read, read_fields, StandsIn, bytes, AreIdle}
 use Rattle.netlink_core.specs.Layout.{IsInRange}
@@ -13,7 +13,7 @@ use Rattle.netlink_core.specs.Faults.{map_ok}
 use Rattle.netlink_core.specs.Codec.{KeepsLaws, RecordLaws, record_codec}
 use Rattle.netlink_core.specs.PrefixLaws.{value_or_reason}
 use Rattle.netlink_core.proofs.TableLaws.{IsTable, table_from_test, values-bytes_of, values-fit}
-use Rattle.netlink_core.proofs.TableLaws.{values-defined, bytes_of-bytes, same_live, same_values}
+use Rattle.netlink_core.proofs.TableLaws.{values-defined, bytes_of-bytes, values_and_bits}
 use Rattle.netlink_core.specs.declared.fault.DecodeError.{DecodeError}
 use Rattle.netlink_core.specs.declared.fault.DecodeError.TheVariants.{Memory, BufferTooSmall}
 use Rattle.netlink_core.specs.declared.fault.RecordName.{RecordName}
@@ -120,6 +120,16 @@ module _ {Param Tag Value : Type 0} (layout : Layout Param Tag Value) (sound : I
     | inr long ↦ sound.named param left (rejected layout param left Memory long e)
   ]
 
+  -- under one tag, equal values and the same live bits
+  bits : (param : Param) (tag : Tag) (left right : List ℕ) → IsBytes left → IsBytes right
+      → layout.least ≤ length left → layout.least ≤ length right
+      → layout.tag_at param left ≡ Ok tag → layout.tag_at param right ≡ Ok tag
+      → ((values_of (layout.table tag) left ≡ values_of (layout.table tag) right)
+      ↔ (masked (live_bits (layout.table tag)) left ≡ masked (live_bits (layout.table tag)) right))
+  bits param tag left right hl hr ll lr l r =
+      values_and_bits 0 (layout.table tag) (layout.size tag) left right (table_is param tag left l)
+      hl hr (sound.room param tag left ll l) (sound.room param tag right lr r)
+
   -- the same value, so the same live bits
   idle_from_equal : (param : Param) (left right : List ℕ) (value : Value) → IsBytes left
       → IsBytes right → Accepts layout param left value → Accepts layout param right value
@@ -139,19 +149,15 @@ module _ {Param Tag Value : Type 0} (layout : Layout Param Tag Value) (sound : I
         a.tag,
         a.tag_found,
         tag_found,
-        same_live 0 (layout.table a.tag) (layout.size a.tag)
-            left right (table_is param a.tag left a.tag_found) hl hr
-            (sound.room param a.tag left a.long a.tag_found)
-            (sound.room param a.tag right b.long tag_found)
+        (bits param a.tag left right hl hr a.long b.long a.tag_found tag_found).0
             (sym own ∙ other),
       )
 
   equal_from_idle : (param : Param) (left right : List ℕ) → IsBytes left → IsBytes right
       → AreIdle layout param left right → read layout param left ≡ read layout param right
-  equal_from_idle param left right hl hr (left_long, right_long, tag, left_tag, right_tag, bits) =
-      let read_values = same_values 0 (layout.table tag) (layout.size tag) left right
-      (table_is param tag left left_tag) hl hr (sound.room param tag left left_long left_tag)
-      (sound.room param tag right right_long right_tag) bits in
+  equal_from_idle param left right hl hr (left_long, right_long, tag, left_tag, right_tag, same) =
+      let read_values = (bits param tag left right hl hr left_long right_long left_tag right_tag).1
+      same in
       long_enough layout param left left_long ∙ accepts layout param left tag left_tag
       ∙ ap (λ (vs : List ℕ). ok (layout.value tag vs)) read_values
       ∙ sym (long_enough layout param right right_long ∙ accepts layout param right tag right_tag)
