@@ -32,8 +32,7 @@ same_parts (x ∷ xs) (y ∷ ys) s t len e =
 leading_word : (n : ℕ) (bytes : List ℕ) → 4 ≤ n → little_number 4 (take n bytes) ≡ little_number 4
     bytes
 leading_word n bytes long =
-    sym (number-take little_endian 4 (take n bytes))
-    ∙ ap (little_number 4) (take-take 4 n bytes long) ∙ number-take little_endian 4 bytes
+    number-take little_endian 4 n bytes long
 
 -- ---- one message
 

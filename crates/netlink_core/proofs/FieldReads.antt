@@ -34,19 +34,9 @@ inside : (order : Order) (width offset size from : ℕ) (bytes : List ℕ) → f
     → number_in order width (drop from (take size (drop offset bytes))) ≡ number_in order width
     (drop (offset + from) bytes)
 inside order width offset size from bytes h =
-    let rest : size ≡ from + (size - from) = omega arith in
-    let fits : width ≤ size - from = omega arith in
-    let piece : drop from (take size (drop offset bytes)) ≡ take (size - from)
-    (drop from (drop offset bytes)) = ap (λ (n : ℕ). drop from (take n (drop offset bytes))) rest
-    ∙ drop-take from (size - from) (drop offset bytes) in
-    let front : take width (take (size - from) (drop from (drop offset bytes)))
-    ≡ take width (drop from (drop offset bytes)) =
-    take-take width (size - from) (drop from (drop offset bytes)) fits in
-    sym (number-take order width (drop from (take size (drop offset bytes))))
-    ∙ ap (λ (b : List ℕ). number_in order width (take width b)) piece
-    ∙ ap (number_in order width) front
-    ∙ number-take order width (drop from (drop offset bytes))
-    ∙ ap (number_in order width) (drop-drop from offset bytes)
+    let parts : size ≡ from + (size - from) = omega arith in
+    let room : width ≤ size - from = omega arith in
+    rw (parts, drop-take, number-take order width (size - from), drop-drop) refl
 
 -- numbers that were read in a row are those of the table
 pub fields_read : (order : Order) (width offset count : ℕ) (bytes source field : List ℕ)

@@ -54,11 +54,11 @@ pub number-same : (order : Order) (n : ℕ) (xs ys : List ℕ) → IsBytes xs �
 number-same little_endian n xs ys hx hy lx ly e = little-same n xs ys hx hy lx ly e
 number-same big_endian n xs ys hx hy lx ly e = big-same n xs ys hx hy lx ly e
 
--- equal bytes are equal numbers
-pub number-take : (order : Order) (n : ℕ) (xs : List ℕ) → number_in order n (take n xs)
-    ≡ number_in order n xs
-number-take little_endian n xs = little_from-take 0 n n xs (omega arith)
-number-take big_endian n xs = big_from-take 0 n n xs (omega arith)
+-- a number is that of its first bytes
+pub number-take : (order : Order) (n m : ℕ) (xs : List ℕ) → n ≤ m
+    → number_in order n (take m xs) ≡ number_in order n xs
+number-take little_endian n m xs h = little_from-take 0 n m xs (omega arith)
+number-take big_endian n m xs h = big_from-take 0 n m xs (omega arith)
 
 -- a number of bytes fits them, and reads back from its own
 pub number-fits : (order : Order) (n : ℕ) (xs : List ℕ) → IsBytes xs

@@ -16,7 +16,7 @@ use Rattle.byteorder.specs.Endian.{little_number, little_bytes}
 use Rattle.netlink_core.specs.Table.{Order, little_endian, Field, byte, number, flags, unread}
 use Rattle.netlink_core.specs.Table.{number_in, bytes_in, values_of, bytes_of, live_bits, masked}
 use Rattle.netlink_core.specs.Table.{Fit, AreDefined}
-use Rattle.netlink_core.specs.SoundLaws.{is_table}
+use Rattle.netlink_core.specs.SoundLaws.{is_table, offset_of, width_of, is_written}
 use Rattle.netlink_core.specs.Bytes.{IsBytes}
 use Rattle.netlink_core.specs.PrefixLaws.{same_parts}
 use Rattle.netlink_core.specs.ByteLaws.{IsBytes-cons, IsBytes-append}
@@ -28,18 +28,9 @@ and_parts : (a b : Bool) → IsTrue (a && b) → IsTrue a × IsTrue b
 and_parts true b h = (refl, h)
 and_parts false b h = cc
 
--- where a field begins, and how many bytes it has
-abbrev offset_of : Field → ℕ
-offset_of (byte offset) = offset
-offset_of (number offset width order) = offset
-offset_of (flags offset width mask) = offset
-offset_of (unread offset written) = offset
-
-abbrev width_of : Field → ℕ
-width_of (byte offset) = 1
-width_of (number offset width order) = width
-width_of (flags offset width mask) = width
-width_of (unread offset written) = length written
+and_from : (a b : Bool) → IsTrue a → IsTrue b → IsTrue (a && b)
+and_from true b h k = k
+and_from false b h k = cc
 
 -- what is written of itself is bytes
 abbrev IsWritten : Field → Type 0
@@ -59,26 +50,34 @@ bytes_from_test (first ∷ bytes) zero h = ltb-true first 256 (and_parts (nat_lt
 bytes_from_test (first ∷ bytes) (suc i) h =
     bytes_from_test bytes i (and_parts (nat_lt first 256) _ h).1
 
+is_bytes : (field : Field) → IsTrue (is_written field) → IsWritten field
+is_bytes (unread offset written) h = λ i. bytes_from_test written i h
+is_bytes (byte offset) h = tt
+is_bytes (number offset width order) h = tt
+is_bytes (flags offset width mask) h = tt
+
 -- what the test of a table tells
 pub table_from_test : (from : ℕ) (fields : List Field) (end : ℕ) → IsTrue (is_table from fields end)
     → IsTable from fields end
 table_from_test from [] end h = eqb-true from end h
-table_from_test from (byte offset ∷ fields) end h =
-    let parts = and_parts (eqb offset from) _ h in
-    (eqb-true offset from parts.0, tt, table_from_test (from + 1) fields end parts.1)
-table_from_test from (number offset width order ∷ fields) end h =
-    let parts = and_parts (eqb offset from) _ h in
-    (eqb-true offset from parts.0, tt, table_from_test (from + width) fields end parts.1)
-table_from_test from (flags offset width mask ∷ fields) end h =
-    let parts = and_parts (eqb offset from) _ h in
-    (eqb-true offset from parts.0, tt, table_from_test (from + width) fields end parts.1)
-table_from_test from (unread offset written ∷ fields) end h =
-    let outer = and_parts (eqb offset from && list_all (λ one. nat_lt one 256) written) _ h in
-    let inner = and_parts (eqb offset from) _ outer.0 in (
-      eqb-true offset from inner.0,
-      λ i. bytes_from_test written i inner.1,
-      table_from_test (from + length written) fields end outer.1,
+table_from_test from (field ∷ fields) end h =
+    let all = and_parts (eqb (offset_of field) from && is_written field) _ h in
+    let own = and_parts (eqb (offset_of field) from) _ all.0 in (
+      eqb-true (offset_of field) from own.0,
+      is_bytes field own.1,
+      table_from_test (from + width_of field) fields end all.1,
     )
+
+-- tables that stand one after the other
+pub is_table-append : (from : ℕ) (fields : List Field) (middle : ℕ) (others : List Field) (end : ℕ)
+    → IsTrue (is_table from fields middle) → IsTrue (is_table middle others end)
+    → IsTrue (is_table from (fields ++ others) end)
+is_table-append from [] middle others end h k = rw (eqb-true from middle h) k
+is_table-append from (field ∷ fields) middle others end h k =
+    let own = eqb (offset_of field) from && is_written field in
+    let parts = and_parts own _ h in
+    and_from own _ parts.0
+    (is_table-append (from + width_of field) fields middle others end parts.1 k)
 
 -- a table ends at its beginning or later
 ends-after : (from : ℕ) (fields : List Field) (end : ℕ) → IsTable from fields end → from ≤ end
@@ -195,17 +194,9 @@ values-defined (flags offset width mask ∷ fields) bytes = (
 )
 values-defined (unread offset written ∷ fields) bytes = values-defined fields bytes
 
--- ---- equal values, and the same live bits
-
--- the value of one field, if it is read, and its live bits
+-- the value of one field, if it is read
 abbrev value_in : Field → List ℕ → List ℕ
 value_in field bytes = values_of (field ∷ []) bytes
-
-abbrev live_in : Field → List ℕ
-live_in (byte offset) = replicate 1 255
-live_in (number offset width order) = replicate width 255
-live_in (flags offset width mask) = little_bytes width mask
-live_in (unread offset written) = replicate (length written) 0
 
 values-cons : (field : Field) (fields : List Field) (b : List ℕ)
     → values_of (field ∷ fields) b ≡ value_in field b ++ values_of fields b
@@ -213,6 +204,26 @@ values-cons (byte offset) fields b = refl
 values-cons (number offset width order) fields b = refl
 values-cons (flags offset width mask) fields b = refl
 values-cons (unread offset written) fields b = refl
+
+-- the values of fields one after the other
+pub values_of-append : (fields others : List Field) (b : List ℕ)
+    → values_of (fields ++ others) b ≡ values_of fields b ++ values_of others b
+values_of-append [] others b = refl
+values_of-append (field ∷ fields) others b =
+    rw (
+      values-cons field (fields ++ others) b,
+      values-cons field fields b,
+      values_of-append fields others b,
+    ) (sym (append_assoc (value_in field b) _ _))
+
+-- ---- equal values, and the same live bits
+
+-- the live bits of one field
+abbrev live_in : Field → List ℕ
+live_in (byte offset) = replicate 1 255
+live_in (number offset width order) = replicate width 255
+live_in (flags offset width mask) = little_bytes width mask
+live_in (unread offset written) = replicate (length written) 0
 
 live-cons : (field : Field) (fields : List Field)
     → live_bits (field ∷ fields) ≡ live_in field ++ live_bits fields
@@ -239,8 +250,8 @@ number_bits : (order : Order) (width : ℕ) (xs ys : List ℕ) → IsBytes xs �
     ↔ (masked (replicate width 255) xs ≡ masked (replicate width 255) ys))
 number_bits order width xs ys hx hy lx ly = rw (masked-all width xs hx, masked-all width ys hy) (
   λ e. number-same order width xs ys hx hy lx ly e,
-  λ e. sym (number-take order width xs) ∙ ap (number_in order width) e
-      ∙ number-take order width ys,
+  λ e. sym (number-take order width width xs (omega arith)) ∙ ap (number_in order width) e
+      ∙ number-take order width width ys (omega arith),
 )
 
 -- and under a mask
