@@ -8,10 +8,12 @@ use Rattle.std.specs.Prelude.{⊤}
 use Rattle.std.proofs.lemmas.List.{drop_at, drop-drop, length-replicate, get_or-drop}
 use Rattle.std.proofs.lemmas.List.{take_all}
 use Rattle.std.proofs.lemmas.Nat.{and_le_l, and_assoc}
+use Rattle.std.proofs.lemmas.Bool.Decides.{nat_tests}
 use Rattle.std.proofs.lemmas.Bool.{eqb-true, ltb-true}
 use Rattle.std.specs.Int.Bits.{and_self}
 use Rattle.std.specs.List.{list_all}
 use Rattle.std.specs.Prelude.{nat_lt}
+use Rattle.byteorder.specs.Numbers.{length-bytes_low_first}
 use Rattle.byteorder.specs.Endian.{little_number, little_bytes}
 use Rattle.netlink_core.specs.Table.{Order, little_endian, Field, byte, number, flags, unread}
 use Rattle.netlink_core.specs.Table.{number_in, bytes_in, values_of, bytes_of, live_bits, masked}
@@ -46,9 +48,8 @@ IsTable from (field ∷ fields) end = (offset_of field ≡ from) × IsWritten fi
 bytes_from_test : (bytes : List ℕ) (i : ℕ) → IsTrue (list_all (λ one. nat_lt one 256) bytes)
     → slice_index bytes i < 256
 bytes_from_test [] i h = omega arith
-bytes_from_test (first ∷ bytes) zero h = ltb-true first 256 (and_parts (nat_lt first 256) _ h).0
-bytes_from_test (first ∷ bytes) (suc i) h =
-    bytes_from_test bytes i (and_parts (nat_lt first 256) _ h).1
+bytes_from_test (first ∷ bytes) zero h = grind (arith, nat_tests, and_parts)
+bytes_from_test (first ∷ bytes) (suc i) h = grind (arith, nat_tests, and_parts, bytes_from_test bytes i)
 
 is_bytes : (field : Field) → IsTrue (is_written field) → IsWritten field
 is_bytes (unread offset written) h = λ i. bytes_from_test written i h
@@ -97,8 +98,7 @@ masked-append : (ms ns xs : List ℕ) → length ms ≤ length xs
     → masked (ms ++ ns) xs ≡ masked ms xs ++ masked ns (drop (length ms) xs)
 masked-append [] ns xs h = refl
 masked-append (m ∷ ms) ns [] h = absurd (omega arith)
-masked-append (m ∷ ms) ns (x ∷ xs) h = ap (λ (bits : List ℕ). bit_and x m ∷ bits)
-    (masked-append ms ns xs (omega arith))
+masked-append (m ∷ ms) ns (x ∷ xs) h = grind (arith, masked-append ms ns xs)
 
 -- ---- reading what was written
 
@@ -108,18 +108,16 @@ pub bytes_of-bytes : (from : ℕ) (fields : List Field) (end : ℕ) (values : Li
 bytes_of-bytes from [] end values t f = λ k. omega arith
 bytes_of-bytes from (unread offset written ∷ fields) end values t f =
     IsBytes-append written _ t.1 (bytes_of-bytes (from + length written) fields end values t.2 f)
-bytes_of-bytes from (byte offset ∷ fields) end [] t f = λ k. omega arith
 bytes_of-bytes from (byte offset ∷ fields) end (value ∷ values) t f =
     IsBytes-cons value (bytes_of fields values) f.0
     (bytes_of-bytes (from + 1) fields end values t.2 f.1)
-bytes_of-bytes from (number offset width order ∷ fields) end [] t f = λ k. omega arith
 bytes_of-bytes from (number offset width order ∷ fields) end (value ∷ values) t f =
     IsBytes-append (bytes_in order width value) _ (bytes_in-bytes order width value)
     (bytes_of-bytes (from + width) fields end values t.2 f.1)
-bytes_of-bytes from (flags offset width mask ∷ fields) end [] t f = λ k. omega arith
 bytes_of-bytes from (flags offset width mask ∷ fields) end (value ∷ values) t f =
     IsBytes-append (little_bytes width value) _ (bytes_in-bytes little_endian width value)
     (bytes_of-bytes (from + width) fields end values t.2 f.1)
+bytes_of-bytes from fields end values t f = grind arith
 
 -- what follows the first piece
 after_piece : (from : ℕ) (bytes piece tail rest : List ℕ) → drop from bytes
@@ -144,55 +142,42 @@ pub values-bytes_of : (from : ℕ) (fields : List Field) (end : ℕ) (values byt
     → IsTable from fields end → Fit fields values → AreDefined fields values
     → drop from bytes ≡ bytes_of fields values ++ rest → values_of fields bytes ≡ values
 values-bytes_of from [] end [] bytes rest t f d e = refl
-values-bytes_of from [] end (value ∷ values) bytes rest t f d e = absurd f
 values-bytes_of from (unread offset written ∷ fields) end values bytes rest t f d e =
     values-bytes_of (from + length written) fields end values bytes rest t.2 f d
     (after_piece from bytes written (bytes_of fields values) rest e)
-values-bytes_of from (byte offset ∷ fields) end [] bytes rest t f d e = absurd f
 values-bytes_of from (byte offset ∷ fields) end (value ∷ values) bytes rest t f d e =
     ap₂ ◌∷◌ (ap (slice_index bytes) t.0
     ∙ (simp (get_or-drop, add-zero) at (ap (λ (b : List ℕ). slice_index b 0) e)))
     (values-bytes_of (from + 1) fields end values bytes rest t.2 f.1 d
     (after_piece from bytes (value ∷ []) (bytes_of fields values) rest e))
-values-bytes_of from (number offset width order ∷ fields) end [] bytes rest t f d e = absurd f
 values-bytes_of from (number offset width order ∷ fields) end (value ∷ values) bytes rest t f d e =
     let own = number_and_rest order width from value bytes (bytes_of fields values) rest f.0 e in
     ap₂ ◌∷◌ (rw t.0 own.0)
     (values-bytes_of (from + width) fields end values bytes rest t.2 f.1 d own.1)
-values-bytes_of from (flags offset width mask ∷ fields) end [] bytes rest t f d e = absurd f
 values-bytes_of from (flags offset width mask ∷ fields) end (value ∷ values) bytes rest t f d e =
     let own = number_and_rest little_endian width from value bytes (bytes_of fields values) rest f.0 e
     in
     ap₂ ◌∷◌ (rw (t.0, own.0) d.0)
     (values-bytes_of (from + width) fields end values bytes rest t.2 f.1 d.1 own.1)
+values-bytes_of from fields end values bytes rest t f d e = grind arith
 
 -- what was read fits, and has defined bits alone
 pub values-fit : (fields : List Field) (bytes : List ℕ) → IsBytes bytes
     → Fit fields (values_of fields bytes)
 values-fit [] bytes h = tt
 values-fit (byte offset ∷ fields) bytes h = (h offset, values-fit fields bytes h)
-values-fit (number offset width order ∷ fields) bytes h = (
-  number-fits order width (drop offset bytes) (AreBytes-drop offset bytes h),
-  values-fit fields bytes h,
-)
+values-fit (number offset width order ∷ fields) bytes h =
+    (number-fits order width _ (AreBytes-drop offset bytes h), values-fit fields bytes h)
 values-fit (flags offset width mask ∷ fields) bytes h =
     let fits = number-fits little_endian width (drop offset bytes) (AreBytes-drop offset bytes h) in
-    let at_most = and_le_l (little_number width (drop offset bytes)) mask in
-    (omega arith, values-fit fields bytes h)
+    (omega (arith, and_le_l (little_number width (drop offset bytes)) mask), values-fit fields bytes h)
 values-fit (unread offset written ∷ fields) bytes h = values-fit fields bytes h
 
 -- flags that were read are defined
 pub values-defined : (fields : List Field) (bytes : List ℕ)
     → AreDefined fields (values_of fields bytes)
 values-defined [] bytes = tt
-values-defined (byte offset ∷ fields) bytes = values-defined fields bytes
-values-defined (number offset width order ∷ fields) bytes = values-defined fields bytes
-values-defined (flags offset width mask ∷ fields) bytes = (
-  and_assoc mask (little_number width (drop offset bytes)) mask
-      ∙ ap (bit_and (little_number width (drop offset bytes))) (and_self mask),
-  values-defined fields bytes,
-)
-values-defined (unread offset written ∷ fields) bytes = values-defined fields bytes
+values-defined (field ∷ fields) bytes = grind (arith, and_assoc, and_self, values-defined fields bytes)
 
 -- the value of one field, if it is read
 abbrev value_in : Field → List ℕ → List ℕ
@@ -200,21 +185,13 @@ value_in field bytes = values_of (field ∷ []) bytes
 
 values-cons : (field : Field) (fields : List Field) (b : List ℕ)
     → values_of (field ∷ fields) b ≡ value_in field b ++ values_of fields b
-values-cons (byte offset) fields b = refl
-values-cons (number offset width order) fields b = refl
-values-cons (flags offset width mask) fields b = refl
-values-cons (unread offset written) fields b = refl
+values-cons field fields b = grind arith
 
 -- the values of fields one after the other
 pub values_of-append : (fields others : List Field) (b : List ℕ)
     → values_of (fields ++ others) b ≡ values_of fields b ++ values_of others b
 values_of-append [] others b = refl
-values_of-append (field ∷ fields) others b =
-    rw (
-      values-cons field (fields ++ others) b,
-      values-cons field fields b,
-      values_of-append fields others b,
-    ) (sym (append_assoc (value_in field b) _ _))
+values_of-append (field ∷ fields) others b = grind (arith, values_of-append fields others b)
 
 -- ---- equal values, and the same live bits
 
@@ -227,22 +204,13 @@ live_in (unread offset written) = replicate (length written) 0
 
 live-cons : (field : Field) (fields : List Field)
     → live_bits (field ∷ fields) ≡ live_in field ++ live_bits fields
-live-cons (byte offset) fields = refl
-live-cons (number offset width order) fields = refl
-live-cons (flags offset width mask) fields = refl
-live-cons (unread offset written) fields = refl
+live-cons field fields = grind arith
 
 length-value : (field : Field) (b c : List ℕ) → length (value_in field b) ≡ length (value_in field c)
-length-value (byte offset) b c = refl
-length-value (number offset width order) b c = refl
-length-value (flags offset width mask) b c = refl
-length-value (unread offset written) b c = refl
+length-value field b c = grind arith
 
 length-live : (field : Field) → length (live_in field) ≡ width_of field
-length-live (byte offset) = refl
-length-live (number offset width order) = length-replicate width 255
-length-live (flags offset width mask) = length-bytes_in little_endian width mask
-length-live (unread offset written) = length-replicate (length written) 0
+length-live field = grind (arith, length-replicate, length-bytes_low_first)
 
 -- bytes are the same exactly where their numbers are
 number_bits : (order : Order) (width : ℕ) (xs ys : List ℕ) → IsBytes xs → IsBytes ys
@@ -278,7 +246,7 @@ byte_is : (offset : ℕ) (b : List ℕ) → slice_index b offset
 byte_is offset b = rw (add-zero, get_or-drop, add-zero) refl
 
 one_value : {P : Type 0} (x y : ℕ) → ((x ≡ y) ↔ P) → ((x ∷ [] ≡ y ∷ []) ↔ P)
-one_value x y h = (λ e. h.0 cc, λ p. ap (λ (a : ℕ). a ∷ []) (h.1 p))
+one_value x y h = grind (arith, h)
 
 -- a field that is there has equal values exactly where it has the same live bits
 field_bits : (field : Field) (b c xs ys : List ℕ) → drop (offset_of field) b ≡ xs
@@ -316,10 +284,8 @@ bits-cons field fields from b h =
 
 both_parts : (a b r s p q u v : List ℕ) → length a ≡ length b → length p ≡ length q
     → ((a ≡ b) ↔ (p ≡ q)) → ((r ≡ s) ↔ (u ≡ v)) → ((a ++ r ≡ b ++ s) ↔ (p ++ u ≡ q ++ v))
-both_parts a b r s p q u v l m here rest = (
-  λ e. let parts = same_parts a b r s l e in ap₂ ◌++◌ (here.0 parts.0) (rest.0 parts.1),
-  λ e. let parts = same_parts p q u v m e in ap₂ ◌++◌ (here.1 parts.0) (rest.1 parts.1),
-)
+both_parts a b r s p q u v l m here rest =
+    grind (arith, same_parts a b r s l, same_parts p q u v m, here, rest)
 
 -- equal values have the same live bits, and the same live bits make equal values
 pub values_and_bits : (from : ℕ) (fields : List Field) (end : ℕ) (b c : List ℕ)
