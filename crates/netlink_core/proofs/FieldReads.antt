@@ -34,19 +34,9 @@ inside : (order : Order) (width offset size from : ℕ) (bytes : List ℕ) → f
     → number_in order width (drop from (take size (drop offset bytes))) ≡ number_in order width
     (drop (offset + from) bytes)
 inside order width offset size from bytes h =
-    let rest : size ≡ from + (size - from) = omega arith in
-    let fits : width ≤ size - from = omega arith in
-    let piece : drop from (take size (drop offset bytes)) ≡ take (size - from)
-    (drop from (drop offset bytes)) = ap (λ (n : ℕ). drop from (take n (drop offset bytes))) rest
-    ∙ drop-take from (size - from) (drop offset bytes) in
-    let front : take width (take (size - from) (drop from (drop offset bytes)))
-    ≡ take width (drop from (drop offset bytes)) =
-    take-take width (size - from) (drop from (drop offset bytes)) fits in
-    sym (number-take order width (drop from (take size (drop offset bytes))))
-    ∙ ap (λ (b : List ℕ). number_in order width (take width b)) piece
-    ∙ ap (number_in order width) front
-    ∙ number-take order width (drop from (drop offset bytes))
-    ∙ ap (number_in order width) (drop-drop from offset bytes)
+    let parts : size ≡ from + (size - from) = omega arith in
+    let room : width ≤ size - from = omega arith in
+    rw (parts, drop-take, number-take order width (size - from), drop-drop) refl
 
 -- numbers that were read in a row are those of the table
 pub fields_read : (order : Order) (width offset count : ℕ) (bytes source field : List ℕ)
@@ -91,16 +81,7 @@ pub values-moved : (by : ℕ) (fields : List Field) (bytes : List ℕ)
     → values_of (moved by fields) bytes
     ≡ values_of fields (drop by bytes)
 values-moved by [] bytes = refl
-values-moved by (byte offset ∷ fields) bytes = ap₂ (λ (a : ℕ) (others : List ℕ). a ∷ others)
-    (sym (get_or-drop by bytes offset 0)) (values-moved by fields bytes)
-values-moved by (number offset width order ∷ fields) bytes =
-    ap₂ (λ (a : ℕ) (others : List ℕ). a ∷ others)
-    (ap (number_in order width) (sym (drop-drop offset by bytes))) (values-moved by fields bytes)
-values-moved by (flags offset width mask ∷ fields) bytes =
-    ap₂ (λ (a : ℕ) (others : List ℕ). a ∷ others)
-    (ap (λ (b : List ℕ). bit_and (number_in little_endian width b) mask)
-    (sym (drop-drop offset by bytes))) (values-moved by fields bytes)
-values-moved by (unread offset written ∷ fields) bytes = values-moved by fields bytes
+values-moved by (field ∷ fields) bytes = grind (arith, get_or-drop, drop-drop, values-moved by fields bytes)
 
 -- ---- values within their fields
 
@@ -109,32 +90,17 @@ pub fit-append : (fields more : List Field) (values others : List ℕ) → Fit f
     → Fit more others
     → Fit (fields ++ more) (values ++ others)
 fit-append [] more [] others f g = g
-fit-append [] more (value ∷ values) others f g = absurd f
-fit-append (unread offset written ∷ fields) more values others f g =
-    fit-append fields more values others f g
-fit-append (byte offset ∷ fields) more [] others f g = absurd f
-fit-append (byte offset ∷ fields) more (value ∷ values) others f g =
-    (f.0, fit-append fields more values others f.1 g)
-fit-append (number offset width order ∷ fields) more [] others f g = absurd f
-fit-append (number offset width order ∷ fields) more (value ∷ values) others f g =
-    (f.0, fit-append fields more values others f.1 g)
-fit-append (flags offset width mask ∷ fields) more [] others f g = absurd f
-fit-append (flags offset width mask ∷ fields) more (value ∷ values) others f g =
-    (f.0, fit-append fields more values others f.1 g)
+fit-append (unread offset written ∷ fields) more values others f g = fit-append fields more values others f g
+fit-append (field ∷ fields) more (value ∷ values) others f g = grind (arith, fit-append fields more values others)
+fit-append fields more values others f g = grind arith
 
 -- wherever the fields stand
 pub fit-moved : (by : ℕ) (fields : List Field) (values : List ℕ) → Fit fields values
     → Fit (moved by fields) values
 fit-moved by [] values f = f
 fit-moved by (unread offset written ∷ fields) values f = fit-moved by fields values f
-fit-moved by (byte offset ∷ fields) [] f = absurd f
-fit-moved by (byte offset ∷ fields) (value ∷ values) f = (f.0, fit-moved by fields values f.1)
-fit-moved by (number offset width order ∷ fields) [] f = absurd f
-fit-moved by (number offset width order ∷ fields) (value ∷ values) f =
-    (f.0, fit-moved by fields values f.1)
-fit-moved by (flags offset width mask ∷ fields) [] f = absurd f
-fit-moved by (flags offset width mask ∷ fields) (value ∷ values) f =
-    (f.0, fit-moved by fields values f.1)
+fit-moved by (field ∷ fields) (value ∷ values) f = grind (arith, fit-moved by fields values)
+fit-moved by fields values f = grind arith
 
 -- so many bytes of an array
 pub fit-bytes : (offset count : ℕ) (bytes : List ℕ) → IsBytes bytes
@@ -155,6 +121,5 @@ fit_numbers order offset width (x ∷ xs) below =
 -- an array is its first elements
 pub first_all : (n : ℕ) (xs : List ℕ) → length xs ≡ n → first n xs ≡ xs
 first_all zero [] l = refl
-first_all zero (x ∷ xs) l = absurd (omega arith)
-first_all (suc n) [] l = absurd (omega arith)
-first_all (suc n) (x ∷ xs) l = ap (λ (others : List ℕ). x ∷ others) (first_all n xs (omega arith))
+first_all (suc n) (x ∷ xs) l = grind (arith, first_all n xs)
+first_all n xs l = absurd (omega arith)

@@ -16,7 +16,7 @@ use Rattle.netlink_core.specs.Header.{header_fields, header_values, header_bytes
 use Rattle.netlink_core.specs.Header.{HasHeader, IsEnvelopeFault}
 use Rattle.netlink_core.proofs.Numbers.{masked-all}
 use Rattle.netlink_core.proofs.TableLaws.{IsTable, table_from_test, values-bytes_of, values-fit}
-use Rattle.netlink_core.proofs.TableLaws.{same_live, same_values}
+use Rattle.netlink_core.proofs.TableLaws.{values_and_bits}
 
 -- the first bytes of bytes are bytes
 pub AreBytes-take : (n : ℕ) (bytes : List ℕ) → IsBytes bytes → IsBytes (take n bytes)
@@ -91,10 +91,10 @@ same_leading_header b c h k tb tc head other =
     let long : 16 ≤ length b = omega arith in
     let also : 16 ≤ length c = omega arith in
     let left = masked-all 16 b tb in
-    let right = masked-all 16 c tc in (
-      λ e. let same = same_live 0 header_fields 16 b c header_table tb tc long also cc in cc,
-      λ e. let same = same_values 0 header_fields 16 b c header_table tb tc long also cc in
-          same_header h k cc,
+    let right = masked-all 16 c tc in
+    let same = values_and_bits 0 header_fields 16 b c header_table tb tc long also in (
+      λ e. let bits = same.0 cc in cc,
+      λ e. let values = same.1 cc in same_header h k cc,
     )
 
 -- written, the fields are read again, whatever follows

@@ -21,32 +21,22 @@ use Rattle.netlink_core.specs.ByteLaws.{byte_at-lt, IsBytes-number}
 little-same : (n : ℕ) (xs ys : List ℕ) → IsBytes xs → IsBytes ys → n ≤ length xs → n ≤ length ys
     → little_from 0 n xs ≡ little_from 0 n ys → take n xs ≡ take n ys
 little-same zero xs ys hx hy lx ly e = refl
-little-same (suc n) [] ys hx hy lx ly e = absurd (omega arith)
-little-same (suc n) (x ∷ xs) [] hx hy lx ly e = absurd (omega arith)
 little-same (suc n) (x ∷ xs) (y ∷ ys) hx hy lx ly e =
-    let below_x : x < 256 = hx 0 in
-    let below_y : y < 256 = hy 0 in
     let sums : x + 256 * little_from 0 n xs ≡ y + 256 * little_from 0 n ys =
-    sym (ap (λ (r : ℕ). x + 256 * r) (little_from-cons 0 n x xs)) ∙ e
-    ∙ ap (λ (r : ℕ). y + 256 * r) (little_from-cons 0 n y ys) in
-    let first : x ≡ y = omega arith in
-    let rest : little_from 0 n xs ≡ little_from 0 n ys = omega arith in
-    ap₂ (λ (a : ℕ) (others : List ℕ). a ∷ others) first (little-same n xs ys (λ i. hx (suc i))
-    (λ i. hy (suc i)) (omega arith) (omega arith) rest)
+    rw (← little_from-cons 0 n x xs, ← little_from-cons 0 n y ys) e in
+    grind (arith, hx 0, hy 0, little-same n xs ys (λ i. hx (suc i)) (λ i. hy (suc i)))
+little-same n xs ys hx hy lx ly e = absurd (omega arith)
 
 big-same : (n : ℕ) (xs ys : List ℕ) → IsBytes xs → IsBytes ys → n ≤ length xs → n ≤ length ys
     → big_from 0 n xs ≡ big_from 0 n ys → take n xs ≡ take n ys
 big-same zero xs ys hx hy lx ly e = refl
-big-same (suc n) [] ys hx hy lx ly e = absurd (omega arith)
-big-same (suc n) (x ∷ xs) [] hx hy lx ly e = absurd (omega arith)
 big-same (suc n) (x ∷ xs) (y ∷ ys) hx hy lx ly e =
     let sums : x * 256 ^ n + big_from 0 n xs ≡ y * 256 ^ n + big_from 0 n ys =
-    sym (ap (λ (r : ℕ). x * 256 ^ n + r) (big_from-cons 0 n x xs)) ∙ e
-    ∙ ap (λ (r : ℕ). y * 256 ^ n + r) (big_from-cons 0 n y ys) in
+    rw (← big_from-cons 0 n x xs, ← big_from-cons 0 n y ys) e in
     let parts = same_from_place x (big_from 0 n xs) y (big_from 0 n ys) (256 ^ n)
     (big_from-lt 0 n xs (λ i. hx (suc i))) (big_from-lt 0 n ys (λ i. hy (suc i))) sums in
-    ap₂ (λ (a : ℕ) (others : List ℕ). a ∷ others) parts.0 (big-same n xs ys (λ i. hx (suc i))
-    (λ i. hy (suc i)) (omega arith) (omega arith) parts.1)
+    grind (arith, big-same n xs ys (λ i. hx (suc i)) (λ i. hy (suc i)))
+big-same n xs ys hx hy lx ly e = absurd (omega arith)
 
 -- equal numbers have equal bytes
 pub number-same : (order : Order) (n : ℕ) (xs ys : List ℕ) → IsBytes xs → IsBytes ys → n ≤ length xs
@@ -54,11 +44,11 @@ pub number-same : (order : Order) (n : ℕ) (xs ys : List ℕ) → IsBytes xs �
 number-same little_endian n xs ys hx hy lx ly e = little-same n xs ys hx hy lx ly e
 number-same big_endian n xs ys hx hy lx ly e = big-same n xs ys hx hy lx ly e
 
--- equal bytes are equal numbers
-pub number-take : (order : Order) (n : ℕ) (xs : List ℕ) → number_in order n (take n xs)
-    ≡ number_in order n xs
-number-take little_endian n xs = little_from-take 0 n n xs (omega arith)
-number-take big_endian n xs = big_from-take 0 n n xs (omega arith)
+-- a number is that of its first bytes
+pub number-take : (order : Order) (n m : ℕ) (xs : List ℕ) → n ≤ m
+    → number_in order n (take m xs) ≡ number_in order n xs
+number-take little_endian n m xs h = little_from-take 0 n m xs (omega arith)
+number-take big_endian n m xs h = big_from-take 0 n m xs (omega arith)
 
 -- a number of bytes fits them, and reads back from its own
 pub number-fits : (order : Order) (n : ℕ) (xs : List ℕ) → IsBytes xs
@@ -93,30 +83,26 @@ masked-all zero xs h = refl
 masked-all (suc n) [] h = refl
 masked-all (suc n) (x ∷ xs) h =
     let below : x < 2 ^ 8 = h 0 in
-    let whole : bit_and x 255 ≡ x = and_mask x 8 ∙ mod-eq_of_lt below in
-    ap₂ (λ (a : ℕ) (others : List ℕ). a ∷ others) whole (masked-all n xs (λ i. h (suc i)))
+    grind (arith, and_mask x 8, mod-eq_of_lt below, masked-all n xs (λ i. h (suc i)))
 
 -- no bits
 pub masked-none : (n : ℕ) (xs : List ℕ) → n ≤ length xs → masked (replicate n 0) xs ≡ replicate n 0
 masked-none zero xs h = refl
 masked-none (suc n) [] h = absurd (omega arith)
-masked-none (suc n) (x ∷ xs) h = ap₂ (λ (a : ℕ) (others : List ℕ). a ∷ others) (and_zero_r x)
-    (masked-none n xs (omega arith))
+masked-none (suc n) (x ∷ xs) h = grind (arith, and_zero_r x, masked-none n xs)
 
 -- as many bytes as masks
 pub length-masked : (masks xs : List ℕ) → length masks ≤ length xs
     → length (masked masks xs) ≡ length masks
 length-masked [] xs h = refl
 length-masked (m ∷ masks) [] h = absurd (omega arith)
-length-masked (m ∷ masks) (x ∷ xs) h = ap suc (length-masked masks xs (omega arith))
+length-masked (m ∷ masks) (x ∷ xs) h = grind (arith, length-masked masks xs)
 
 -- bytes under masks are bytes
 pub masked-bytes : (masks xs : List ℕ) (k : ℕ) → IsBytes xs → slice_index (masked masks xs) k < 256
-masked-bytes [] xs k h = omega arith
-masked-bytes (m ∷ masks) [] k h = omega arith
-masked-bytes (m ∷ masks) (x ∷ xs) zero h = let at_most = and_le_l x m in let below = h 0 in
-    omega arith
+masked-bytes (m ∷ masks) (x ∷ xs) zero h = omega (arith, and_le_l x m, h 0)
 masked-bytes (m ∷ masks) (x ∷ xs) (suc k) h = masked-bytes masks xs k (λ i. h (suc i))
+masked-bytes masks xs k h = grind arith
 
 -- the bytes of a number from the second on are those of what is left of it
 byte-shift : (i x : ℕ) → byte_at (suc i) x ≡ byte_at i (x / 256)
