@@ -61,14 +61,8 @@ full_is_cut bytes (x ∷ xs) h = (
 pub written_is_cut : (xs : List Attribute) → AllByRecursion FitsWords xs
     → CutInFull (flat_map written xs) xs
 written_is_cut [] fits = refl
-written_is_cut (x ∷ xs) fits = (
-  replicate (fill (length x.value)) 0,
-  flat_map written xs,
-  append_assoc (unpadded x) (replicate (fill (length x.value)) 0) (flat_map written xs),
-  fits.0,
-  length-replicate (fill (length x.value)) 0,
-  written_is_cut xs fits.1,
-)
+written_is_cut (x ∷ xs) fits =
+    (_, _, append_assoc (unpadded x) _ _, fits.0, length-replicate _ 0, written_is_cut xs fits.1)
 
 -- ---- attributes in bytes are in range
 
@@ -76,8 +70,8 @@ written_is_cut (x ∷ xs) fits = (
 pub all_written_in_range : (xs : List Attribute) → AllByRecursion IsAttributeInRange xs
     → IsBytes (flat_map written xs)
 all_written_in_range [] in_range = IsBytes-nil
-all_written_in_range (x ∷ xs) in_range = IsBytes-append (written x) (flat_map written xs)
-    (written_in_range x in_range.0) (all_written_in_range xs in_range.1)
+all_written_in_range (x ∷ xs) in_range =
+    IsBytes-append (written x) _ (written_in_range x in_range.0) (all_written_in_range xs in_range.1)
 
 -- the attributes that bytes are cut into
 pub cut_in_range : (bytes : List ℕ) (xs : List Attribute) → IsBytes bytes → Cut bytes xs
@@ -85,8 +79,8 @@ pub cut_in_range : (bytes : List ℕ) (xs : List Attribute) → IsBytes bytes �
 cut_in_range bytes [] in_range h = tt
 cut_in_range bytes (x ∷ xs) in_range h = (
   prefix_in_range bytes x in_range (prefix_of_start bytes h.0 x h.1),
-  cut_in_range h.0 xs (IsBytes-right h.1.padding h.0
-      (IsBytes-right (unpadded x) (h.1.padding ++ h.0) (rw h.1.parts at in_range))) h.2,
+  cut_in_range h.0 xs (IsBytes-right h.1.padding _
+      (IsBytes-right (unpadded x) _ (rw h.1.parts at in_range))) h.2,
 )
 
 -- ---- one answer

@@ -25,7 +25,6 @@ pub starts_with_message : (bytes message rest : List ℕ) (h : NetlinkHeader) (e
     → HasHeader bytes h → message ≡ take h.length bytes
     → end ≡ h.length + fill h.length → rest ≡ drop end bytes → StartsWithMessage bytes message rest
 starts_with_message bytes message rest h end head message-is end-is rest-is =
-    let low : (16 ≤ h.length) × (h.length ≤ length bytes) = (head.2, head.3) in
     let tail : List ℕ = drop h.length bytes in
     let len : length message ≡ h.length =
     rw message-is (omega (arith, length-take h.length bytes)) in
@@ -49,9 +48,7 @@ message_word : (bytes message rest : List ℕ) → StartsWithMessage bytes messa
     → (little_number 4 bytes ≡ length message) × (16 ≤ length message)
     × (length message ≤ length bytes)
 message_word bytes message rest s = (
-  ap (little_number 4) s.parts
-      ∙ little_from-append 4 message (s.padding ++ rest) (omega (arith, s.whole.0))
-      ∙ s.whole.1,
+  cc (little_from-append 4 message (s.padding ++ rest) (omega (arith, s.whole.0))),
   s.whole.0,
   omega (arith, simp length-append at (ap length s.parts)),
 )

@@ -15,12 +15,7 @@ use Rattle.netlink_core.proofs.Headers.{AreBytes-take, header_or_fault, header_l
 
 -- ---- what stands behind a header
 
--- the payload stands where the length word says
-pub payload_there : (b : List ℕ) (h : NetlinkHeader) → HasHeader b h
-    → payload_at b ≡ take (h.length - 16) (drop 16 b)
-payload_there b h head = ap (λ (n : ℕ). take (n - 16) (drop 16 b)) (header_length b h head)
-
--- in bytes it is bytes
+-- the payload in bytes is bytes
 pub payload_in_range : (n : ℕ) (b : List ℕ) → IsBytes b → IsBytes (take (n - 16) (drop 16 b))
 payload_in_range n b tb = AreBytes-take (n - 16) (drop 16 b) (AreBytes-drop 16 b tb)
 

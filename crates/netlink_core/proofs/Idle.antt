@@ -11,9 +11,9 @@ use Rattle.netlink_core.specs.Envelope.{inner, Envelope, IsInnerType, PayloadIs,
 use Rattle.netlink_core.specs.Envelope.{payload_type, OfInner, finalized, IdlePayloads}
 use Rattle.netlink_core.specs.Envelope.{envelope_codec}
 use Rattle.netlink_core.specs.Codec.{Codec}
-use Rattle.netlink_core.proofs.Headers.{header_stands, header_type, known_by_bytes}
+use Rattle.netlink_core.proofs.Headers.{header_length, header_stands, header_type, known_by_bytes}
 use Rattle.netlink_core.proofs.Headers.{same_leading_header}
-use Rattle.netlink_core.proofs.Framing.{payload_there, payload_in_range}
+use Rattle.netlink_core.proofs.Framing.{payload_in_range}
 
 module _ {A : Type 0} (reads : List ℕ → ℕ → A → Type 0) where
   -- payloads of one type are equal exactly where they are idle
@@ -63,8 +63,8 @@ module _ (C : Codec ℕ) where
       let fronts = same_leading_header b c v.header w.header tb tc r.0 s.0 in
       rw (
         header_type b v.header r.0,
-        payload_there b v.header r.0,
-        payload_there c w.header s.0,
+        header_length b v.header r.0,
+        header_length c w.header s.0,
       ) (
         λ e. let headers : v.header ≡ w.header = cc in (fronts.0 headers, (payloads headers).0 cc),
         λ idle_bytes.

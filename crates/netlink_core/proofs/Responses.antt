@@ -104,11 +104,9 @@ module _ (R : ResponseSpec) (laws : ResponseLaws R) where
     ];
     -- two strings have equal values exactly where they are idle
     same_value = λ b c p v w b-in_range c-in_range h k.
-        let headers = laws.header.same_value b c tt v.header w.header b-in_range c-in_range h.0 k.0
-        in
+        let headers = laws.header.same_value b c tt _ _ b-in_range c-in_range h.0 k.0 in
         let lists = lists_same_value F laws.attribute_set h.1.0 k.1.0 v.nlas w.nlas
-        (behind_in_range b h.1.0 b-in_range h.1.1) (behind_in_range c k.1.0 c-in_range k.1.1)
-        h.1.2 k.1.2 in (
+        (behind_in_range b _ b-in_range h.1.1) (behind_in_range c _ c-in_range k.1.1) h.1.2 k.1.2 in (
           λ e. (headers.0 cc, h.1.0, k.1.0, h.1.1, k.1.1, lists.0 cc),
           λ (front, left, right, left_cut, right_cut, all).
               let same-header = headers.1 front in
@@ -119,15 +117,13 @@ module _ (R : ResponseSpec) (laws : ResponseLaws R) where
               λ i. record { header = same-header i; nlas = same-nlas i },
         );
     reads_normal = λ b p v in_range h.
-        let header = laws.header.reads_normal b tt v.header in_range h.0 in
+        let header = laws.header.reads_normal b tt _ in_range h.0 in
         let nlas = list_gives_normal F laws.attribute_set h.1.0 v.nlas
-        (behind_in_range b h.1.0 in_range h.1.1) h.1.2 in
+        (behind_in_range b _ in_range h.1.1) h.1.2 in
         ((header.0, nlas.0), (header.1, nlas.1));
     written_bytes = λ v in_range.
-        IsBytes-append (R.header.bytes v.header) (flat_map written (map (encodes F) v.nlas))
-        (laws.header.written_bytes v.header in_range.0)
-        (all_written_in_range (map (encodes F) v.nlas)
-        (list_writes_in_range F laws.attribute_set v.nlas in_range.1));
+        IsBytes-append (R.header.bytes v.header) _ (laws.header.written_bytes v.header in_range.0)
+        (all_written_in_range _ (list_writes_in_range F laws.attribute_set v.nlas in_range.1));
     -- a writable value in normal form reads back as itself
     reads_back = λ p v in_range normal fits.
         let nlas : List ℕ = flat_map written (map (encodes F) v.nlas) in
@@ -135,6 +131,6 @@ module _ (R : ResponseSpec) (laws : ResponseLaws R) where
           laws.as_prefix.reads_as_prefix v.header nlas in_range.0 normal.0,
           rw (drop_at (R.header.bytes v.header) nlas R.size
               (laws.as_prefix.bytes_long v.header in_range.0))
-              (written_values_are_read (decodes F) (map (encodes F) v.nlas) v.nlas lists.0 lists.1),
+              (written_values_are_read (decodes F) _ v.nlas lists.0 lists.1),
         );
   }

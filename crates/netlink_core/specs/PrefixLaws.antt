@@ -48,12 +48,8 @@ same_parts xs ys s t len e = absurd (omega arith)
 pub one_prefix : (a b : Attribute) (s t : List ℕ) → FitsWords a → FitsWords b
     → unpadded a ++ s ≡ unpadded b ++ t → (a ≡ b) × (s ≡ t)
 one_prefix a b s t a-fits b-fits e =
-    let low : (4 + length a.value) % 256 ≡ (4 + length b.value) % 256 = cc in
-    let high : (4 + length a.value) / 256 % 256 ≡ (4 + length b.value) / 256 % 256 = cc in
-    let type-low : a.type_word % 256 ≡ b.type_word % 256 = cc in
-    let type-high : a.type_word / 256 % 256 ≡ b.type_word / 256 % 256 = cc in
-    let types : a.type_word ≡ b.type_word = omega arith in
-    let values = same_parts a.value b.value s t (omega arith) cc in
+    let types : a.type_word ≡ b.type_word = grind arith in
+    let values = same_parts a.value b.value s t (grind arith) cc in
     (λ i. record { type_word = types i; value = values.0 i }, values.1)
 
 -- the attribute at the start of bytes is in range
