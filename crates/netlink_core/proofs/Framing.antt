@@ -1,13 +1,13 @@
 -- A message at the start of bytes: one of it, or one fault.
 use Rattle.std.proofs.Common.{◌≡◌, ℕ, zero, suc, ◌-◌, ◌⊎◌, inl, inr, List}
-use Rattle.std.proofs.Common.{take, drop, refl, ap, arith}
+use Rattle.std.proofs.Common.{take, drop, refl, arith}
 use Rattle.netlink_core.specs.declared.fault.DecodeError.{DecodeError}
 use Rattle.netlink_core.specs.declared.fault.DecodeError.TheVariants.{Memory}
 use Rattle.netlink_core.specs.declared.header.NetlinkHeader.{NetlinkHeader}
 use Rattle.netlink_core.specs.Bytes.{IsBytes}
 use Rattle.netlink_core.specs.Header.{HasHeader, IsEnvelopeFault}
 use Rattle.netlink_core.specs.Envelope.{Payload, done_with, error_with, no_payload, overrun_with}
-use Rattle.netlink_core.specs.Envelope.{inner, Envelope, IsInnerType, PayloadIs, payload_at}
+use Rattle.netlink_core.specs.Envelope.{inner, Envelope, IsInnerType, PayloadIs}
 use Rattle.netlink_core.specs.Envelope.{envelope_codec}
 use Rattle.netlink_core.specs.Codec.{Codec}
 use Rattle.netlink_core.proofs.TableLaws.{AreBytes-drop}

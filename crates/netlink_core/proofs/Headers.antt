@@ -1,8 +1,8 @@
 -- Bytes have one header, and its bytes fix it.
 use Rattle.std.proofs.Common.{◌≡◌, ◌↔◌, ℕ, ◌+◌, ◌-◌, ◌≤◌, ◌⊎◌, inl, inr, List, [], ◌++◌}
-use Rattle.std.proofs.Common.{length, take, drop, slice_index, refl, sym, ap, subst, ◌∙◌, arith}
+use Rattle.std.proofs.Common.{length, take, drop, slice_index, refl, sym, ap, ◌∙◌, arith}
 use Rattle.netlink_core.specs.PrefixLaws.{framed_or_not}
-use Rattle.std.proofs.lemmas.List.{take-append-drop, take_at, take_rest, length-append}
+use Rattle.std.proofs.lemmas.List.{take-append-drop, take_at, length-append}
 use Rattle.byteorder.specs.Endian.{little_number}
 use Rattle.netlink_core.specs.declared.header.NetlinkHeader.{NetlinkHeader}
 use Rattle.netlink_core.specs.declared.fault.DecodeError.{DecodeError}
@@ -11,7 +11,7 @@ use Rattle.netlink_core.specs.declared.fault.DecodeError.TheVariants.{EnvelopeLe
 use Rattle.netlink_core.specs.declared.fault.DecodeError.TheVariants.{EnvelopeLengthPast}
 use Rattle.netlink_core.specs.Bytes.{IsBytes}
 use Rattle.netlink_core.specs.ByteLaws.{IsBytes-left}
-use Rattle.netlink_core.specs.Table.{values_of, Fit}
+use Rattle.netlink_core.specs.Table.{values_of}
 use Rattle.netlink_core.specs.Header.{header_fields, header_values, header_bytes, IsHeaderInRange}
 use Rattle.netlink_core.specs.Header.{HasHeader, IsEnvelopeFault}
 use Rattle.netlink_core.proofs.Numbers.{masked-all}

@@ -6,4 +6,3 @@ pub returns : goal.returns
 returns c =
     let rest = take_rest c.args.bytes.now in
     (cc (rest 4, rest 6, rest 8, rest 12), omega arith, omega arith, omega arith)
-
