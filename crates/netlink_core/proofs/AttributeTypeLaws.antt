@@ -42,10 +42,8 @@ exact_laws reads bytes is_in_range is_normal named exact bytes_in_range back = r
   one_answer = λ b p v e h k. cc;
   one_fault = λ b p e f h k. cc;
   named_fault = λ b p h. named b h;
-  same_value = λ b c p v w b-in_range c-in_range h k. (
-    λ e. (exact b v b-in_range h).0 ∙ ap bytes e ∙ sym (exact c w c-in_range k).0,
-    λ e. let also = ap reads e ∙ k in cc,
-  );
+  same_value = λ b c p v w b-in_range c-in_range h k.
+      grind (arith, exact b v b-in_range h, exact c w c-in_range k);
   reads_normal = λ b p v in_range h. let read = exact b v in_range h in (read.1, read.2);
   written_bytes = bytes_in_range;
   reads_back = λ p v in_range normal room. back v in_range normal;

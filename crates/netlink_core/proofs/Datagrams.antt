@@ -109,9 +109,7 @@ messages_of_concatenation front back (x ∷ xs) ys end h k =
 -- no end is where a message stands
 not_ended : (bytes message rest : List ℕ) (end : Option DecodeError)
     → StartsWithMessage bytes message rest → CutIntoMessages bytes [] end → ⊥
-not_ended bytes message rest None s h =
-    omega (arith, message_word bytes message rest s, ap length h)
-not_ended bytes message rest (Some e) s h = no_fault_at_message bytes message rest e s h.1
+not_ended bytes message rest end s h = grind (arith, message_word bytes message rest s)
 
 -- bytes are cut into one list of messages, and have one end
 pub one_cut_into_messages : (bytes : List ℕ) (xs ys : List (List ℕ)) (e f : Option DecodeError)

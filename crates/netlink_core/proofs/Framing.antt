@@ -68,37 +68,21 @@ module _ (C : Codec ℕ) where
         ]
   ]
 
-  -- a payload of an inner message's type is one
-  inner_payload : (x : List ℕ) (t : ℕ) (p : Payload C.Value) → IsInnerType t
-      → PayloadIs C.reads x t p → (m : C.Value) × C.reads x t m
-  inner_payload x t (inner m) kind r = (m, r.1)
-  inner_payload x t p kind r = absurd (omega arith)
-
   -- not both
   pub envelope_or_fault_apart : (b : List ℕ) (v : Envelope C.Value) (e : DecodeError)
       → ((x : List ℕ) (t : ℕ) (m : C.Value) → C.reads x t m → C.refuses x t e → ⊥)
       → (envelope_codec C).reads b tt v → (envelope_codec C).refuses b tt e → ⊥
-  envelope_or_fault_apart b v e law r (inl fault) = no_fault_at_header b v.header e r.0 fault
-  envelope_or_fault_apart b v e law r (inr (h, head, kind, fault)) =
-      let answer = inner_payload _ h.message_type v.payload kind
-      (rw (one_header b v.header h r.0 head) at r.1) in
-      law _ h.message_type answer.0 answer.1 fault
+  envelope_or_fault_apart b v e law r k =
+      grind (arith, no_fault_at_header b v.header, one_header b v.header, law)
 
 -- one fault at most
 pub one_envelope_fault : (C : Codec ℕ) (b : List ℕ) (e f : DecodeError)
     → ((x : List ℕ) (t : ℕ) → C.refuses x t e → C.refuses x t f → e ≡ f)
     → (envelope_codec C).refuses b tt e → (envelope_codec C).refuses b tt f → e ≡ f
-one_envelope_fault C b e f law (inl fault) (inl other) = one_framing_fault b e f fault other
-one_envelope_fault C b e f law (inl fault) (inr (h, head, kind, other)) =
-    absurd (no_fault_at_header b h e head fault)
-one_envelope_fault C b e f law (inr (h, head, kind, fault)) (inl other) =
-    absurd (no_fault_at_header b h f head other)
-one_envelope_fault C b e f law (inr (h, head, kind, fault)) (inr (k, also, _, other)) =
-    law _ h.message_type fault (rw (one_header b h k head also) other)
+one_envelope_fault C b e f law h k =
+    grind (arith, one_framing_fault b, no_fault_at_header b, one_header b, law)
 
 -- no fault is want of memory
 pub envelope_fault_named : (C : Codec ℕ) (b : List ℕ)
     → ((x : List ℕ) (t : ℕ) → C.refuses x t Memory → ⊥) → (envelope_codec C).refuses b tt Memory → ⊥
-envelope_fault_named C b law (inl fault) = fault
-envelope_fault_named C b law (inr (h, head, kind, fault)) =
-    law _ h.message_type fault
+envelope_fault_named C b law h = grind (arith, law)

@@ -31,7 +31,6 @@ module _ (F : AttributeSet) (laws : AttributeSetLaws F) where
   lists_same_value : (xs ys : List Attribute) (vs ws : List (AttributeValue F))
       → AllByRecursion IsAttributeInRange xs → AllByRecursion IsAttributeInRange ys → Say xs vs
       → Say ys ws → ((vs ≡ ws) ↔ AllZip (AreIdleAttributes F) xs ys)
-  lists_same_value [] [] [] [] s t h k = (λ _. tt, λ _. refl)
   lists_same_value (x ∷ xs) (y ∷ ys) (v ∷ vs) (w ∷ ws) s t h k = grind (
     arith,
     set_same_value F laws x y v w s.0 t.0 h.0 k.0,
@@ -84,29 +83,20 @@ module _ (R : ResponseSpec) (laws : ResponseLaws R) where
             | inr fault ↦ inr (fault.0, inr (header.0, header.1, fault.1))
           ]
     ];
-    one_answer = λ b p v e h. elim [
-      | inl refused ↦ cc
-      | inr later ↦ means_or_fault_apart (decodes F) (drop R.size b) v.nlas e h.1 later.2
-    ];
-    one_fault = λ b p e f h k. elim h [
-      | inl refused ↦ elim k [ inl also ↦ cc | inr later ↦ cc ]
-      | inr later ↦ elim k [
-        | inl refused ↦ cc
-        | inr also ↦ one_fault (decodes F) (drop R.size b) e f later.2 also.2
-      ]
-    ];
-    named_fault = λ b p. elim [
-      | inl refused ↦ laws.header.named_fault b tt refused
-      | inr later ↦ elim later.2.1.5 [
-        | inl framing ↦ framing
-        | inr refused ↦ set_faults_named F laws.attribute_set refused.0 refused.2
-      ]
-    ];
+    one_answer = λ b p v e h k.
+        grind (arith, means_or_fault_apart (decodes F) (drop R.size b) v.nlas e h.1);
+    one_fault = λ b p e f h k. grind (arith, one_fault (decodes F) (drop R.size b) e f);
+    named_fault = λ b p h. grind (
+      arith,
+      laws.header.named_fault b tt,
+      set_faults_named F laws.attribute_set,
+    );
     -- two strings have equal values exactly where they are idle
     same_value = λ b c p v w b-in_range c-in_range h k.
         let headers = laws.header.same_value b c tt _ _ b-in_range c-in_range h.0 k.0 in
-        let lists = lists_same_value F laws.attribute_set h.1.0 k.1.0 v.nlas w.nlas
-        (behind_in_range b _ b-in_range h.1.1) (behind_in_range c _ c-in_range k.1.1) h.1.2 k.1.2 in (
+        let lists = lists_same_value F laws.attribute_set _ _ _ _
+        (behind_in_range b _ b-in_range h.1.1) (behind_in_range c _ c-in_range k.1.1)
+        h.1.2 k.1.2 in (
           λ e. (headers.0 cc, h.1.0, k.1.0, h.1.1, k.1.1, lists.0 cc),
           λ (front, left, right, left_cut, right_cut, all).
               let same-header = headers.1 front in

@@ -19,14 +19,11 @@ endings_apart bytes x xs = (
     h.0,
     h.1.parts,
     h.1.fits,
-    elim h.1.filled [
-      | inl full ↦ inl (full, h.2)
-      | inr short ↦ inr (short.0, short.1, nothing_in_none h.0 xs short.1 h.2)
-    ],
+    grind (arith, nothing_in_none h.0 xs),
   ),
   λ (padding, rest, parts, fits, how). (
     rest,
     record { padding = padding; parts = parts; fits = fits; filled = grind arith },
-    elim how [ inl full ↦ full.1 | inr short ↦ rw short.2 short.1 ],
+    grind arith,
   ),
 )

@@ -16,7 +16,8 @@ IsBytes-cons x xs hx h (suc i) = h i
 -- two strings of bytes in a row
 pub IsBytes-append : (xs ys : List ℕ) → IsBytes xs → IsBytes ys → IsBytes (xs ++ ys)
 IsBytes-append [] ys hx hy = hy
-IsBytes-append (x ∷ xs) ys hx hy = IsBytes-cons x _ (hx 0) (IsBytes-append xs ys (λ i. hx (suc i)) hy)
+IsBytes-append (x ∷ xs) ys hx hy =
+    IsBytes-cons x _ (hx 0) (IsBytes-append xs ys (λ i. hx (suc i)) hy)
 
 -- the start of bytes, and what follows it
 pub IsBytes-left : (xs ys : List ℕ) → IsBytes (xs ++ ys) → IsBytes xs
