@@ -154,9 +154,8 @@ module _ {A : Type 0} (reads : Attribute → Result A DecodeError) where
       (fault_passes bytes k.0 f k.1 k.2) in
       cc
 
--- ---- bytes are cut, or have a fault
+  -- ---- bytes are cut, or have a fault
 
-module _ {A : Type 0} (reads : Attribute → Result A DecodeError) where
   -- bytes mean something, or they have a fault
   pub means_or_fault : (bytes : List ℕ) → IsBytes bytes
       → ((meanings : List A) × AttributesMean reads bytes meanings)
@@ -183,9 +182,8 @@ module _ {A : Type 0} (reads : Attribute → Result A DecodeError) where
     ]
   ])
 
--- ---- what was written means what is read from it
+  -- ---- what was written means what is read from it
 
-module _ {A : Type 0} (reads : Attribute → Result A DecodeError) where
   -- what is read from each attribute is what their written bytes mean
   pub written_values_are_read : (xs : List Attribute) (values : List A)
       → AllByRecursion FitsWords xs → AllZip (λ a value. reads a ≡ Ok value) xs values

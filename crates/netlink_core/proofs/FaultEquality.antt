@@ -1,5 +1,5 @@
 -- What `==` of faults and of errors of `canonical` says.
-use Rattle.std.proofs.Common.{◌≡◌, ◌↔◌, IsTrue, ap, rules, arith}
+use Rattle.std.proofs.Common.{◌≡◌, ◌↔◌, IsTrue, rules, arith}
 use Rattle.netlink_core.proofs.Equality.{apart}
 use Rattle.netlink_core.specs.declared.canon.CanonError.{CanonError}
 use Rattle.netlink_core.specs.declared.canon.CanonError.TheVariants as canon

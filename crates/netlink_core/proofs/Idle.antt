@@ -7,7 +7,7 @@ use Rattle.netlink_core.specs.declared.header.NetlinkHeader.{NetlinkHeader}
 use Rattle.netlink_core.specs.Bytes.{IsBytes}
 use Rattle.netlink_core.specs.Header.{IsHeaderInRange}
 use Rattle.netlink_core.specs.Envelope.{Payload}
-use Rattle.netlink_core.specs.Envelope.{inner, Envelope, IsInnerType, PayloadIs, payload_bytes}
+use Rattle.netlink_core.specs.Envelope.{Envelope, IsInnerType, PayloadIs, payload_bytes}
 use Rattle.netlink_core.specs.Envelope.{payload_type, OfInner, finalized, IdlePayloads}
 use Rattle.netlink_core.specs.Envelope.{envelope_codec}
 use Rattle.netlink_core.specs.Codec.{Codec}

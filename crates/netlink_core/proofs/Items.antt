@@ -157,10 +157,8 @@ module _ (C : Codec ℕ)
       ap (λ (v : Envelope C.Value). Ok v.payload)
       (one_value b (record { header = h.0; payload = p }) (record { header = k.0; payload = q })
       in_range h.1 k.1)
-  one_item b in_range (Ok p) (Err f) h k =
-      absurd (one_answer b (record { header = h.0; payload = p }) f h.1 k)
-  one_item b in_range (Err e) (Ok q) h k =
-      absurd (one_answer b (record { header = k.0; payload = q }) e k.1 h)
+  one_item b in_range (Ok p) (Err f) h k = absurd (one_answer b _ f h.1 k)
+  one_item b in_range (Err e) (Ok q) h k = absurd (one_answer b _ e k.1 h)
   one_item b in_range (Err e) (Err f) h k = ap Err (one_fault b e f h k)
 
   -- the items of messages

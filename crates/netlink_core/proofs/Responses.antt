@@ -1,5 +1,5 @@
 -- The laws of a reply, from those of its header and its attributes' set.
-use Rattle.std.proofs.Common.{Ok, ◌≡◌, ◌↔◌, inl, inr, ℕ, List, [], ◌∷◌, refl}
+use Rattle.std.proofs.Common.{Ok, ◌≡◌, ◌↔◌, inl, inr, ℕ, List, [], ◌∷◌}
 use Rattle.std.proofs.Common.{arith}
 use Rattle.std.specs.Prelude.{drop, map}
 use Rattle.std.specs.List.{AllByRecursion, AllZip, flat_map}
@@ -43,8 +43,7 @@ module _ (F : AttributeSet) (laws : AttributeSetLaws F) where
       → AllByRecursion (IsInRangeBy F) vs × AllByRecursion (IsNormalBy F) vs
   list_gives_normal (x ∷ xs) (v ∷ vs) s h =
       search (set_gives_normal F laws x v s.0 h.0, list_gives_normal xs vs s.1 h.1)
-  list_gives_normal [] [] s h = (tt, tt)
-  list_gives_normal xs vs s h = absurd search
+  list_gives_normal xs vs s h = grind arith
 
   list_writes_in_range : (vs : List (AttributeValue F))
       → AllByRecursion (IsInRangeBy F) vs

@@ -1,6 +1,6 @@
 -- What follows for a set of attributes from the laws of its types.
 use Rattle.std.proofs.Common.{Ok, Err, ◌≡◌, ◌∙◌, ◌↔◌, inl, inr, ℕ, ◌<◌, ◌^◌, [], ◌∷◌}
-use Rattle.std.proofs.Common.{refl, sym, subst, arith}
+use Rattle.std.proofs.Common.{refl, sym, arith}
 use Rattle.std.specs.Prelude.{bit_and, ◌≢◌}
 use Rattle.std.proofs.lemmas.Nat.{and_mask}
 use Rattle.std.proofs.lemmas.Bool.Decides.{nat_tests}
@@ -47,8 +47,7 @@ pub set_gives_normal : (F : AttributeSet) → AttributeSetLaws F
     → (a : Attribute) (v : AttributeValue F)
     → IsAttributeInRange a → decodes F a ≡ Ok v
     → IsInRangeBy F v × IsNormalBy F v
-set_gives_normal [] laws a v in_range h = let same : a ≡ v = cc in
-    (subst IsAttributeInRange same in_range, tt)
+set_gives_normal [] laws a v in_range h = grind arith
 set_gives_normal (spec ∷ others) laws a (inl x) in_range h =
     laws.0.value.reads_normal a.value tt x in_range.1 (is_here spec others a x h).1
 set_gives_normal (spec ∷ others) laws a (inr v) in_range h =
