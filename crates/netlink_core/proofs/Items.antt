@@ -42,8 +42,8 @@ zip_append R xs ys vs ws h k = absurd h
 module _ (C : Codec ℕ) where
   -- the item of a message in front of others
   pub leading_item : (bytes message rest : List ℕ) (item : Item C.Value)
-      (later : List (Item C.Value)) → StartsWithMessage bytes message rest → ItemIs C message item → ItemsAre C rest later
-      → ItemsAre C bytes (item ∷ later)
+      (later : List (Item C.Value)) → StartsWithMessage bytes message rest → ItemIs C message item
+      → ItemsAre C rest later → ItemsAre C bytes (item ∷ later)
   leading_item bytes message rest item later s is (messages, end, carried, cut, each, parts) = (
     message ∷ messages,
     end,
@@ -87,7 +87,8 @@ module _ (C : Codec ℕ) where
   -- ---- the walk
 
   -- What was found goes on with whatever items the rest has.
-  pub record Following (bytes : List ℕ) (so_far : List (Item C.Value)) (rest : List ℕ) : Type 0 where
+  pub record Following (bytes : List ℕ) (so_far : List (Item C.Value))
+      (rest : List ℕ) : Type 0 where
     pub items : (later : List (Item C.Value)) → ItemsAre C rest later
         → ItemsAre C bytes (so_far ++ later)
     pub in_range : IsBytes bytes → IsBytes rest
@@ -98,8 +99,8 @@ module _ (C : Codec ℕ) where
 
   -- it goes on behind a message
   pub items_go_on : (bytes rest after message : List ℕ) (so_far : List (Item C.Value))
-      (item : Item C.Value) → Following bytes so_far rest → StartsWithMessage rest message after → ItemIs C message item
-      → Following bytes (so_far ++ item ∷ []) after
+      (item : Item C.Value) → Following bytes so_far rest → StartsWithMessage rest message after
+      → ItemIs C message item → Following bytes (so_far ++ item ∷ []) after
   items_go_on bytes rest after message so_far item walk s is = record {
     items = λ later h. rw append_assoc
         (walk.items (item ∷ later) (leading_item rest message after item later s is h));

@@ -117,11 +117,8 @@ one_framing_fault bytes e f h k = grind arith
 module _ {A : Type 0} (reads : Attribute → Result A DecodeError) where
   pub one_prefix_fault : (bytes : List ℕ) (e f : DecodeError) → IsPrefixFault reads bytes e
       → IsPrefixFault reads bytes f → e ≡ f
-  one_prefix_fault bytes e f (inl framing) (inl also) =
-      one_framing_fault bytes e f framing also
+  one_prefix_fault bytes e f (inl framing) (inl also) = one_framing_fault bytes e f framing also
   one_prefix_fault bytes e f (inl framing) (inr (a, head, refused)) =
       absurd (prefix_or_fault_apart bytes a e head framing)
-  one_prefix_fault bytes e f (inr (a, head, refused)) (inl framing) =
-      absurd (prefix_or_fault_apart bytes a f head framing)
-  one_prefix_fault bytes e f (inr (a, head, refused)) (inr (b, other, also)) =
-      let same = one_attribute bytes a b head other in cc
+  one_prefix_fault bytes e f (inr (a, head, refused)) k =
+      grind (arith, prefix_or_fault_apart bytes a f head, one_attribute bytes a)

@@ -7,8 +7,8 @@ use Rattle.netlink_core.proofs.nla.DefaultNlaParseableNlaBuffer.parse.Goals as g
 pub returns-in_err-keep-clause-wanted : goal.returns-in_err-keep-clause-wanted
 returns-in_err-keep-clause-wanted c =
     let p = err_from_is_err_and c.from_residual.result c.from_residual.ensures.1 in
-    let read = kept_is_read (attribute_of c.args.buf) _ (c.args.buf.word_fits, c.args.buf.value_fits)
-    refl in
+    let read = kept_is_read (attribute_of c.args.buf) _
+    (c.args.buf.word_fits, c.args.buf.value_fits) refl in
     rw (p.1, p.2) (λ memory. (attribute_of c.args.buf, read, λ spare. spare))
 
 pub returns-clause-value : goal.returns-clause-value
