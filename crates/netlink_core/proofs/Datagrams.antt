@@ -29,17 +29,14 @@ starts_with_message bytes message rest h end head message-is end-is rest-is =
     let len : length message ≡ h.length =
     rw message-is (omega (arith, length-take h.length bytes)) in
     let split : bytes ≡ message ++ tail = cc (take-append-drop h.length bytes) in
+    let front = little_from-append 4 message tail (omega arith) in
     let n : ℕ = fill (length message) in
     let behind = padding_there n tail rest (rw (drop-drop n h.length bytes, rest-is) (ap
     (λ (k : ℕ). drop k bytes) (omega arith))) in
     record {
       padding = take n tail;
       parts = cc;
-      whole = (
-        omega arith,
-        sym (ap (little_number 4) split ∙ little_from-append 4 message tail (omega arith))
-            ∙ header_length bytes h head ∙ sym len,
-      );
+      whole = (omega arith, cc (front, header_length bytes h head));
       filled = behind.1;
     }
 
