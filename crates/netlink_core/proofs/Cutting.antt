@@ -3,11 +3,12 @@ use Rattle.std.proofs.Common.{◌<◌, Option, Some, None}
 use Rattle.std.proofs.Common.{Result, Ok, ◌≡◌, ◌≢◌, ℕ, ◌+◌, ◌⊎◌, inl, inr}
 use Rattle.std.proofs.Common.{List, [], ◌∷◌, ◌++◌, length, drop, refl, sym, ap, ◌∙◌}
 use Rattle.std.proofs.Common.{append_assoc, arith}
-use Rattle.std.specs.Prelude.{replicate, IsOk}
+use Rattle.std.specs.Prelude.{IsOk}
 use Rattle.std.proofs.lemmas.List.{length-append, length-replicate, length-drop}
 use Rattle.std.specs.List.{AllZip, AllByRecursion, flat_map}
 use Rattle.netlink_core.specs.declared.fault.DecodeError.{DecodeError}
 use Rattle.netlink_core.specs.Bytes.{IsBytes}
+use Rattle.netlink_core.specs.Attribute.{CutOff}
 use Rattle.netlink_core.specs.Attribute.{Attribute, IsAttributeInRange, FitsWords, fill, unpadded}
 use Rattle.netlink_core.specs.Attribute.{written, StartsWith, Cut, CutInFull, IsPrefixFault}
 use Rattle.netlink_core.specs.Attribute.{AttributesMean, AttributeFault}
@@ -61,14 +62,8 @@ full_is_cut bytes (x ∷ xs) h = (
 pub written_is_cut : (xs : List Attribute) → AllByRecursion FitsWords xs
     → CutInFull (flat_map written xs) xs
 written_is_cut [] fits = refl
-written_is_cut (x ∷ xs) fits = (
-  replicate (fill (length x.value)) 0,
-  flat_map written xs,
-  append_assoc (unpadded x) (replicate (fill (length x.value)) 0) (flat_map written xs),
-  fits.0,
-  length-replicate (fill (length x.value)) 0,
-  written_is_cut xs fits.1,
-)
+written_is_cut (x ∷ xs) fits =
+    (_, _, append_assoc (unpadded x) _ _, fits.0, length-replicate _ 0, written_is_cut xs fits.1)
 
 -- ---- attributes in bytes are in range
 
@@ -76,7 +71,7 @@ written_is_cut (x ∷ xs) fits = (
 pub all_written_in_range : (xs : List Attribute) → AllByRecursion IsAttributeInRange xs
     → IsBytes (flat_map written xs)
 all_written_in_range [] in_range = IsBytes-nil
-all_written_in_range (x ∷ xs) in_range = IsBytes-append (written x) (flat_map written xs)
+all_written_in_range (x ∷ xs) in_range = IsBytes-append (written x) _
     (written_in_range x in_range.0) (all_written_in_range xs in_range.1)
 
 -- the attributes that bytes are cut into
@@ -85,8 +80,8 @@ pub cut_in_range : (bytes : List ℕ) (xs : List Attribute) → IsBytes bytes �
 cut_in_range bytes [] in_range h = tt
 cut_in_range bytes (x ∷ xs) in_range h = (
   prefix_in_range bytes x in_range (prefix_of_start bytes h.0 x h.1),
-  cut_in_range h.0 xs (IsBytes-right h.1.padding h.0
-      (IsBytes-right (unpadded x) (h.1.padding ++ h.0) (rw h.1.parts at in_range))) h.2,
+  cut_in_range h.0 xs (IsBytes-right h.1.padding _
+      (IsBytes-right (unpadded x) _ (rw h.1.parts at in_range))) h.2,
 )
 
 -- ---- one answer
@@ -106,26 +101,32 @@ module _ {A : Type 0} (reads : Attribute → Result A DecodeError) where
   means_passes bytes (x ∷ xs) (v ∷ values) h k =
       (h.0, h.1, rw k.0 refl, means_passes h.0 xs values h.2 k.1)
 
-  fault_passes : (before after : List ℕ) (xs : List Attribute) (e : DecodeError)
-      → CutInFull before xs → after ≢ [] → IsPrefixFault reads after e
-      → AllByRecursion (λ a. IsOk (reads a)) xs → Passes (before ++ after) xs (Some e)
-  fault_passes before after [] e h left fault good = rw h (left, fault)
-  fault_passes before after (a ∷ xs) e h left fault good = (
+  fault_passes : (bytes : List ℕ) (xs : List Attribute) (e : DecodeError)
+      → CutOff (IsPrefixFault reads) bytes xs e → AllByRecursion (λ a. IsOk (reads a)) xs
+      → Passes bytes xs (Some e)
+  fault_passes bytes [] e (before, after, parts, h, left, fault) good = rw (parts, h) (left, fault)
+  fault_passes bytes (a ∷ xs) e (before, after, parts, h, left, fault) good = (
     h.1 ++ after,
-    record { padding = h.0; parts = rw h.2 (simp append_assoc); fits = h.3; filled = inl h.4 },
+    record {
+      padding = h.0;
+      parts = rw (parts, h.2) (simp append_assoc);
+      fits = h.3;
+      filled = inl h.4;
+    },
     good.0,
-    fault_passes h.1 after xs e h.5 left fault good.1,
+    fault_passes (h.1 ++ after) xs e (h.1, after, refl, h.5, left, fault) good.1,
   )
 
   -- no end is where an attribute can be read
   not_ended : (bytes rest : List ℕ) (a : Attribute) (end : Option DecodeError)
       → StartsWith bytes a rest → IsOk (reads a) → Passes bytes [] end → ⊥
-  not_ended bytes rest a None s good h = StartsWith-some bytes rest a s h
-  not_ended bytes rest a (Some e) s good (some, inl framing) =
-      prefix_or_fault_apart bytes a e (prefix_of_start bytes rest a s) framing
-  not_ended bytes rest a (Some e) s good (some, inr (b, head, refused)) =
-      let same = one_attribute bytes a b (prefix_of_start bytes rest a s) head in
-      grind arith
+  not_ended bytes rest a end s good h = grind (
+    arith,
+    StartsWith-some bytes rest a s,
+    prefix_or_fault_apart bytes a,
+    prefix_of_start bytes rest a s,
+    one_attribute bytes a,
+  )
 
   one_end : (bytes : List ℕ) (xs ys : List Attribute) (e f : Option DecodeError)
       → Passes bytes xs e → Passes bytes ys f → e ≡ f
@@ -140,24 +141,21 @@ module _ {A : Type 0} (reads : Attribute → Result A DecodeError) where
   -- bytes that mean something have no fault
   pub means_or_fault_apart : (bytes : List ℕ) (values : List A) (e : DecodeError)
       → AttributesMean reads bytes values → AttributeFault reads bytes e → ⊥
-  means_or_fault_apart bytes values e m (given, (before, after, parts, cut, left, fault), good) =
-      let same = one_end bytes m.0 given None (Some e) (means_passes bytes m.0 values m.1 m.2)
-      (rw parts (fault_passes before after given e cut left fault good)) in
+  means_or_fault_apart bytes values e m f =
+      let same = one_end bytes m.0 f.0 None (Some e) (means_passes bytes m.0 values m.1 m.2)
+      (fault_passes bytes f.0 e f.1 f.2) in
       cc
 
   -- bytes have one fault at most
   pub one_fault : (bytes : List ℕ) (e f : DecodeError) → AttributeFault reads bytes e
       → AttributeFault reads bytes f → e ≡ f
-  one_fault bytes e f (xs, (before, after, parts, cut, left, h), good)
-      (ys, (before', after', parts', cut', left', k), good') =
-      let same = one_end bytes xs ys (Some e) (Some f)
-      (rw parts (fault_passes before after xs e cut left h good))
-      (rw parts' (fault_passes before' after' ys f cut' left' k good')) in
+  one_fault bytes e f h k =
+      let same = one_end bytes h.0 k.0 (Some e) (Some f) (fault_passes bytes h.0 e h.1 h.2)
+      (fault_passes bytes k.0 f k.1 k.2) in
       cc
 
--- ---- bytes are cut, or have a fault
+  -- ---- bytes are cut, or have a fault
 
-module _ {A : Type 0} (reads : Attribute → Result A DecodeError) where
   -- bytes mean something, or they have a fault
   pub means_or_fault : (bytes : List ℕ) → IsBytes bytes
       → ((meanings : List A) × AttributesMean reads bytes meanings)
@@ -184,9 +182,8 @@ module _ {A : Type 0} (reads : Attribute → Result A DecodeError) where
     ]
   ])
 
--- ---- what was written means what is read from it
+  -- ---- what was written means what is read from it
 
-module _ {A : Type 0} (reads : Attribute → Result A DecodeError) where
   -- what is read from each attribute is what their written bytes mean
   pub written_values_are_read : (xs : List Attribute) (values : List A)
       → AllByRecursion FitsWords xs → AllZip (λ a value. reads a ≡ Ok value) xs values

@@ -1,7 +1,7 @@
 -- A message at the start of bytes, and messages one after the other.
 use Rattle.std.proofs.Common.{◌≡◌, ℕ, ◌+◌, ◌%◌, ◌<◌, ◌≤◌, inl, inr, List, [], ◌∷◌, ◌++◌}
 use Rattle.std.proofs.Common.{length, take, drop, sym, ap, ◌∙◌, append_assoc, arith}
-use Rattle.std.specs.Prelude.{Option, Some, None}
+use Rattle.std.specs.Prelude.{Option}
 use Rattle.std.proofs.lemmas.List.{take-append-drop, drop-drop}
 use Rattle.std.proofs.lemmas.List.{length-take, length-append}
 use Rattle.byteorder.specs.Endian.{little_number}
@@ -25,22 +25,18 @@ pub starts_with_message : (bytes message rest : List ℕ) (h : NetlinkHeader) (e
     → HasHeader bytes h → message ≡ take h.length bytes
     → end ≡ h.length + fill h.length → rest ≡ drop end bytes → StartsWithMessage bytes message rest
 starts_with_message bytes message rest h end head message-is end-is rest-is =
-    let low : (16 ≤ h.length) × (h.length ≤ length bytes) = (head.2, head.3) in
     let tail : List ℕ = drop h.length bytes in
     let len : length message ≡ h.length =
     rw message-is (omega (arith, length-take h.length bytes)) in
     let split : bytes ≡ message ++ tail = cc (take-append-drop h.length bytes) in
+    let front = little_from-append 4 message tail (omega arith) in
     let n : ℕ = fill (length message) in
     let behind = padding_there n tail rest (rw (drop-drop n h.length bytes, rest-is) (ap
     (λ (k : ℕ). drop k bytes) (omega arith))) in
     record {
       padding = take n tail;
       parts = cc;
-      whole = (
-        omega arith,
-        sym (ap (little_number 4) split ∙ little_from-append 4 message tail (omega arith))
-            ∙ header_length bytes h head ∙ sym len,
-      );
+      whole = (omega arith, cc (front, header_length bytes h head));
       filled = behind.1;
     }
 
@@ -49,9 +45,7 @@ message_word : (bytes message rest : List ℕ) → StartsWithMessage bytes messa
     → (little_number 4 bytes ≡ length message) × (16 ≤ length message)
     × (length message ≤ length bytes)
 message_word bytes message rest s = (
-  ap (little_number 4) s.parts
-      ∙ little_from-append 4 message (s.padding ++ rest) (omega (arith, s.whole.0))
-      ∙ s.whole.1,
+  cc (little_from-append 4 message (s.padding ++ rest) (omega (arith, s.whole.0))),
   s.whole.0,
   omega (arith, simp length-append at (ap length s.parts)),
 )
@@ -112,9 +106,7 @@ messages_of_concatenation front back (x ∷ xs) ys end h k =
 -- no end is where a message stands
 not_ended : (bytes message rest : List ℕ) (end : Option DecodeError)
     → StartsWithMessage bytes message rest → CutIntoMessages bytes [] end → ⊥
-not_ended bytes message rest None s h =
-    omega (arith, message_word bytes message rest s, ap length h)
-not_ended bytes message rest (Some e) s h = no_fault_at_message bytes message rest e s h.1
+not_ended bytes message rest end s h = grind (arith, message_word bytes message rest s)
 
 -- bytes are cut into one list of messages, and have one end
 pub one_cut_into_messages : (bytes : List ℕ) (xs ys : List (List ℕ)) (e f : Option DecodeError)

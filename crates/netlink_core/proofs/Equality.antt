@@ -1,6 +1,6 @@
 -- Tests of equality, put together from those of their parts.
 use Rattle.std.proofs.Common.{◌≡◌, ◌↔◌, ◌&&◌, ℕ, List, [], ◌∷◌, Option, Some, Bool, true}
-use Rattle.std.proofs.Common.{false, eqb, IsTrue, ap, map, refl, rules, arith}
+use Rattle.std.proofs.Common.{false, eqb, IsTrue, map, refl, rules, arith}
 use Rattle.std.specs.Cmp.{IsEquivalence, both_ways}
 use Rattle.std.specs.Option.{option_eq}
 use lib.Pointwise.{pointwise}
@@ -24,8 +24,7 @@ numbers_equal x y = (λ h. search rules, λ e. search rules)
 -- values that may be absent, over a test of those that are there
 pub options_equal : {T : Type 0} (test : T → T → Bool) (decides : (a b : T)
     → IsTrue (test a b) ↔ (a ≡ b)) (a b : Option T) → IsTrue (option_eq test a b) ↔ (a ≡ b)
-options_equal test decides (Some a) (Some b) =
-    (λ h. ap Some ((decides a b).0 h), λ e. (decides a b).1 cc)
+options_equal test decides (Some a) (Some b) = grind (arith, decides a b)
 options_equal test decides a b = search rules
 
 -- lists, over a test of the models of their elements
@@ -34,8 +33,7 @@ pub lists_equal : {A V : Type 0} (test : A → A → Bool) (model : A → V) (de
     → IsTrue (pointwise test xs ys) ↔ (map model xs ≡ map model ys)
 lists_equal test model decides [] [] = search rules
 lists_equal test model decides (x ∷ xs) (y ∷ ys) =
-    let all = and_decides (decides x y) (lists_equal test model decides xs ys) in
-    (λ h. let same = all.0 h in cc, λ e. all.1 (cc, cc))
+    grind (arith, and_decides (decides x y) (lists_equal test model decides xs ys))
 lists_equal test model decides xs ys = (λ h. search rules, λ e. absurd cc)
 
 -- values of two variants

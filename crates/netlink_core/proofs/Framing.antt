@@ -1,13 +1,13 @@
 -- A message at the start of bytes: one of it, or one fault.
 use Rattle.std.proofs.Common.{◌≡◌, ℕ, zero, suc, ◌-◌, ◌⊎◌, inl, inr, List}
-use Rattle.std.proofs.Common.{take, drop, refl, ap, arith}
+use Rattle.std.proofs.Common.{take, drop, refl, arith}
 use Rattle.netlink_core.specs.declared.fault.DecodeError.{DecodeError}
 use Rattle.netlink_core.specs.declared.fault.DecodeError.TheVariants.{Memory}
 use Rattle.netlink_core.specs.declared.header.NetlinkHeader.{NetlinkHeader}
 use Rattle.netlink_core.specs.Bytes.{IsBytes}
 use Rattle.netlink_core.specs.Header.{HasHeader, IsEnvelopeFault}
 use Rattle.netlink_core.specs.Envelope.{Payload, done_with, error_with, no_payload, overrun_with}
-use Rattle.netlink_core.specs.Envelope.{inner, Envelope, IsInnerType, PayloadIs, payload_at}
+use Rattle.netlink_core.specs.Envelope.{inner, Envelope, IsInnerType, PayloadIs}
 use Rattle.netlink_core.specs.Envelope.{envelope_codec}
 use Rattle.netlink_core.specs.Codec.{Codec}
 use Rattle.netlink_core.proofs.TableLaws.{AreBytes-drop}
@@ -15,12 +15,7 @@ use Rattle.netlink_core.proofs.Headers.{AreBytes-take, header_or_fault, header_l
 
 -- ---- what stands behind a header
 
--- the payload stands where the length word says
-pub payload_there : (b : List ℕ) (h : NetlinkHeader) → HasHeader b h
-    → payload_at b ≡ take (h.length - 16) (drop 16 b)
-payload_there b h head = ap (λ (n : ℕ). take (n - 16) (drop 16 b)) (header_length b h head)
-
--- in bytes it is bytes
+-- the payload in bytes is bytes
 pub payload_in_range : (n : ℕ) (b : List ℕ) → IsBytes b → IsBytes (take (n - 16) (drop 16 b))
 payload_in_range n b tb = AreBytes-take (n - 16) (drop 16 b) (AreBytes-drop 16 b tb)
 
@@ -73,37 +68,21 @@ module _ (C : Codec ℕ) where
         ]
   ]
 
-  -- a payload of an inner message's type is one
-  inner_payload : (x : List ℕ) (t : ℕ) (p : Payload C.Value) → IsInnerType t
-      → PayloadIs C.reads x t p → (m : C.Value) × C.reads x t m
-  inner_payload x t (inner m) kind r = (m, r.1)
-  inner_payload x t p kind r = absurd (omega arith)
-
   -- not both
   pub envelope_or_fault_apart : (b : List ℕ) (v : Envelope C.Value) (e : DecodeError)
       → ((x : List ℕ) (t : ℕ) (m : C.Value) → C.reads x t m → C.refuses x t e → ⊥)
       → (envelope_codec C).reads b tt v → (envelope_codec C).refuses b tt e → ⊥
-  envelope_or_fault_apart b v e law r (inl fault) = no_fault_at_header b v.header e r.0 fault
-  envelope_or_fault_apart b v e law r (inr (h, head, kind, fault)) =
-      let answer = inner_payload _ h.message_type v.payload kind
-      (rw (one_header b v.header h r.0 head) at r.1) in
-      law _ h.message_type answer.0 answer.1 fault
+  envelope_or_fault_apart b v e law r k =
+      grind (arith, no_fault_at_header b v.header, one_header b v.header, law)
 
 -- one fault at most
 pub one_envelope_fault : (C : Codec ℕ) (b : List ℕ) (e f : DecodeError)
     → ((x : List ℕ) (t : ℕ) → C.refuses x t e → C.refuses x t f → e ≡ f)
     → (envelope_codec C).refuses b tt e → (envelope_codec C).refuses b tt f → e ≡ f
-one_envelope_fault C b e f law (inl fault) (inl other) = one_framing_fault b e f fault other
-one_envelope_fault C b e f law (inl fault) (inr (h, head, kind, other)) =
-    absurd (no_fault_at_header b h e head fault)
-one_envelope_fault C b e f law (inr (h, head, kind, fault)) (inl other) =
-    absurd (no_fault_at_header b h f head other)
-one_envelope_fault C b e f law (inr (h, head, kind, fault)) (inr (k, also, _, other)) =
-    law _ h.message_type fault (rw (one_header b h k head also) other)
+one_envelope_fault C b e f law h k =
+    grind (arith, one_framing_fault b, no_fault_at_header b, one_header b, law)
 
 -- no fault is want of memory
 pub envelope_fault_named : (C : Codec ℕ) (b : List ℕ)
     → ((x : List ℕ) (t : ℕ) → C.refuses x t Memory → ⊥) → (envelope_codec C).refuses b tt Memory → ⊥
-envelope_fault_named C b law (inl fault) = fault
-envelope_fault_named C b law (inr (h, head, kind, fault)) =
-    law _ h.message_type fault
+envelope_fault_named C b law h = grind (arith, law)

@@ -1,8 +1,8 @@
 -- Bytes have one header, and its bytes fix it.
 use Rattle.std.proofs.Common.{◌≡◌, ◌↔◌, ℕ, ◌+◌, ◌-◌, ◌≤◌, ◌⊎◌, inl, inr, List, [], ◌++◌}
-use Rattle.std.proofs.Common.{length, take, drop, slice_index, refl, sym, ap, subst, ◌∙◌, arith}
+use Rattle.std.proofs.Common.{length, take, drop, slice_index, refl, sym, ap, ◌∙◌, arith}
 use Rattle.netlink_core.specs.PrefixLaws.{framed_or_not}
-use Rattle.std.proofs.lemmas.List.{take-append-drop, take_at, take_rest, length-append}
+use Rattle.std.proofs.lemmas.List.{take-append-drop, take_at, length-append}
 use Rattle.byteorder.specs.Endian.{little_number}
 use Rattle.netlink_core.specs.declared.header.NetlinkHeader.{NetlinkHeader}
 use Rattle.netlink_core.specs.declared.fault.DecodeError.{DecodeError}
@@ -11,7 +11,7 @@ use Rattle.netlink_core.specs.declared.fault.DecodeError.TheVariants.{EnvelopeLe
 use Rattle.netlink_core.specs.declared.fault.DecodeError.TheVariants.{EnvelopeLengthPast}
 use Rattle.netlink_core.specs.Bytes.{IsBytes}
 use Rattle.netlink_core.specs.ByteLaws.{IsBytes-left}
-use Rattle.netlink_core.specs.Table.{values_of, Fit}
+use Rattle.netlink_core.specs.Table.{values_of}
 use Rattle.netlink_core.specs.Header.{header_fields, header_values, header_bytes, IsHeaderInRange}
 use Rattle.netlink_core.specs.Header.{HasHeader, IsEnvelopeFault}
 use Rattle.netlink_core.proofs.Numbers.{masked-all}
@@ -26,19 +26,6 @@ AreBytes-take n bytes fits =
 -- the five fields are sixteen bytes
 header_table : IsTable 0 header_fields 16
 header_table = table_from_test 0 header_fields 16 refl
-
--- what is read from the five offsets is the header
-pub header_read : (bytes : List ℕ) (h : NetlinkHeader) → IsBytes bytes
-    → h.length ≡ little_number 4 bytes
-    → h.message_type ≡ little_number 2 (take (length bytes - 4) (drop 4 bytes))
-    → h.flags ≡ little_number 2 (take (length bytes - 6) (drop 6 bytes))
-    → h.sequence_number ≡ little_number 4 (take (length bytes - 8) (drop 8 bytes))
-    → h.port_number ≡ little_number 4 (take (length bytes - 12) (drop 12 bytes))
-    → 16 ≤ h.length → h.length ≤ length bytes → HasHeader bytes h
-header_read bytes h fits length-is type-is flags-is sequence-is port-is low high =
-    let same : values_of header_fields bytes ≡ header_values h =
-    cc (take_rest bytes 4, take_rest bytes 6, take_rest bytes 8, take_rest bytes 12) in
-    (same, subst (Fit header_fields) same (values-fit header_fields bytes fits), low, high)
 
 -- a header is known by its values
 abbrev made : List ℕ → NetlinkHeader

@@ -7,13 +7,13 @@ use Rattle.netlink_core.specs.declared.header.NetlinkHeader.{NetlinkHeader}
 use Rattle.netlink_core.specs.Bytes.{IsBytes}
 use Rattle.netlink_core.specs.Header.{IsHeaderInRange}
 use Rattle.netlink_core.specs.Envelope.{Payload}
-use Rattle.netlink_core.specs.Envelope.{inner, Envelope, IsInnerType, PayloadIs, payload_bytes}
+use Rattle.netlink_core.specs.Envelope.{Envelope, IsInnerType, PayloadIs, payload_bytes}
 use Rattle.netlink_core.specs.Envelope.{payload_type, OfInner, finalized, IdlePayloads}
 use Rattle.netlink_core.specs.Envelope.{envelope_codec}
 use Rattle.netlink_core.specs.Codec.{Codec}
-use Rattle.netlink_core.proofs.Headers.{header_stands, header_type, known_by_bytes}
+use Rattle.netlink_core.proofs.Headers.{header_length, header_stands, header_type, known_by_bytes}
 use Rattle.netlink_core.proofs.Headers.{same_leading_header}
-use Rattle.netlink_core.proofs.Framing.{payload_there, payload_in_range}
+use Rattle.netlink_core.proofs.Framing.{payload_in_range}
 
 module _ {A : Type 0} (reads : List ℕ → ℕ → A → Type 0) where
   -- payloads of one type are equal exactly where they are idle
@@ -21,18 +21,14 @@ module _ {A : Type 0} (reads : List ℕ → ℕ → A → Type 0) where
       → ((v w : A) → reads x t v → reads y t w → ((v ≡ w) ↔ idle t x y))
       → (p q : Payload A) → PayloadIs reads x t p → PayloadIs reads y t q
       → ((p ≡ q) ↔ IdlePayloads idle t x y)
-  payloads_idle idle t x y law (inner v) (inner w) h k =
-      let inner_ones = law v w h.1 k.1 in grind (arith, inner_ones)
-  payloads_idle idle t x y law p q h k = grind arith
+  payloads_idle idle t x y law p q h k = grind (arith, law)
 
   -- payloads of one type that are written alike are equal
   pub payloads_alike : (written : A → List ℕ) (fits : A → Type 0) (t : ℕ) (x y : List ℕ)
       → ((v w : A) → reads x t v → reads y t w → fits v → fits w → written v ≡ written w → v ≡ w)
       → (p q : Payload A) → PayloadIs reads x t p → PayloadIs reads y t q → OfInner fits p
       → OfInner fits q → payload_bytes written p ≡ payload_bytes written q → p ≡ q
-  payloads_alike written fits t x y law (inner v) (inner w) h k f g e =
-      ap inner (law v w h.1 k.1 f g e)
-  payloads_alike written fits t x y law p q h k f g e = grind arith
+  payloads_alike written fits t x y law p q h k f g e = grind (arith, law)
 
 module _ (C : Codec ℕ) where
   -- messages that are written alike are equal
@@ -63,8 +59,8 @@ module _ (C : Codec ℕ) where
       let fronts = same_leading_header b c v.header w.header tb tc r.0 s.0 in
       rw (
         header_type b v.header r.0,
-        payload_there b v.header r.0,
-        payload_there c w.header s.0,
+        header_length b v.header r.0,
+        header_length c w.header s.0,
       ) (
         λ e. let headers : v.header ≡ w.header = cc in (fronts.0 headers, (payloads headers).0 cc),
         λ idle_bytes.
@@ -78,8 +74,7 @@ module _ (C : Codec ℕ) where
       → t ≡ payload_type type_of p → OfInner (λ m. C.reads (C.written m) t m ↔ C.is_normal t m) p
       → (PayloadIs C.reads (payload_bytes C.written p) t p
       ↔ OfInner (λ m. IsInnerType t × C.is_normal t m) p)
-  payload_itself type_of t (inner m) e law = (λ r. (r.0, law.0 r.1), λ n. (n.0, law.1 n.1))
-  payload_itself type_of t p e law = (λ _. tt, λ _. search)
+  payload_itself type_of t p e law = grind arith
 
   -- the bytes of a finalized message read back as it exactly where it is in normal form
   pub reads_back_exactly : (type_of : C.Value → ℕ) (v : Envelope C.Value) → IsHeaderInRange v.header
@@ -99,5 +94,4 @@ module _ (C : Codec ℕ) where
 pub inner_law : {A : Type 0} (in_range fits law : A → Type 0)
     → ((m : A) → in_range m → fits m → law m)
     → (p : Payload A) → OfInner in_range p → OfInner fits p → OfInner law p
-inner_law in_range fits law all (inner m) t f = all m t f
-inner_law in_range fits law all p t f = tt
+inner_law in_range fits law all p t f = grind (arith, all)

@@ -25,14 +25,12 @@ use Rattle.netlink_core.proofs.Datagrams.{one_cut_into_messages}
 pub rest_in_range : (bytes message rest : List ℕ) → StartsWithMessage bytes message rest
     → IsBytes bytes → IsBytes rest
 rest_in_range bytes message rest s in_range =
-    IsBytes-right s.padding rest
-    (IsBytes-right message (s.padding ++ rest) (rw s.parts at in_range))
+    IsBytes-right s.padding rest (IsBytes-right message _ (rw s.parts at in_range))
 
 -- a message in bytes is bytes
 message_in_range : (bytes message rest : List ℕ) → StartsWithMessage bytes message rest
     → IsBytes bytes → IsBytes message
-message_in_range bytes message rest s in_range =
-    IsBytes-left message (s.padding ++ rest) (rw s.parts at in_range)
+message_in_range bytes message rest s in_range = IsBytes-left message _ (rw s.parts at in_range)
 
 -- lists that are related item by item are so in a row
 pub zip_append : {A B : Type 0} (R : A → B → Type 0) (xs ys : List A) (vs ws : List B)
@@ -44,9 +42,8 @@ zip_append R xs ys vs ws h k = absurd h
 module _ (C : Codec ℕ) where
   -- the item of a message in front of others
   pub leading_item : (bytes message rest : List ℕ) (item : Item C.Value)
-      (later : List (Item C.Value))
-      → StartsWithMessage bytes message rest → ItemIs C message item → ItemsAre C rest later
-      → ItemsAre C bytes (item ∷ later)
+      (later : List (Item C.Value)) → StartsWithMessage bytes message rest → ItemIs C message item
+      → ItemsAre C rest later → ItemsAre C bytes (item ∷ later)
   leading_item bytes message rest item later s is (messages, end, carried, cut, each, parts) = (
     message ∷ messages,
     end,
@@ -101,11 +98,9 @@ module _ (C : Codec ℕ) where
   items_begin bytes = record { items = λ later h. h; in_range = λ h. h }
 
   -- it goes on behind a message
-  pub items_go_on : (bytes rest after message : List ℕ)
-      (so_far : List (Item C.Value))
-      (item : Item C.Value)
-      → Following bytes so_far rest → StartsWithMessage rest message after → ItemIs C message item
-      → Following bytes (so_far ++ item ∷ []) after
+  pub items_go_on : (bytes rest after message : List ℕ) (so_far : List (Item C.Value))
+      (item : Item C.Value) → Following bytes so_far rest → StartsWithMessage rest message after
+      → ItemIs C message item → Following bytes (so_far ++ item ∷ []) after
   items_go_on bytes rest after message so_far item walk s is = record {
     items = λ later h. rw append_assoc
         (walk.items (item ∷ later) (leading_item rest message after item later s is h));
@@ -158,16 +153,13 @@ module _ (C : Codec ℕ)
     (one_fault : (b : List ℕ) (e f : DecodeError) → (envelope_codec C).refuses b tt e
     → (envelope_codec C).refuses b tt f → e ≡ f) where
   -- one item
-  one_item : (b : List ℕ) → IsBytes b → (i j : Item C.Value) → ItemIs C b i
-      → ItemIs C b j → i ≡ j
+  one_item : (b : List ℕ) → IsBytes b → (i j : Item C.Value) → ItemIs C b i → ItemIs C b j → i ≡ j
   one_item b in_range (Ok p) (Ok q) h k =
       ap (λ (v : Envelope C.Value). Ok v.payload)
       (one_value b (record { header = h.0; payload = p }) (record { header = k.0; payload = q })
       in_range h.1 k.1)
-  one_item b in_range (Ok p) (Err f) h k =
-      absurd (one_answer b (record { header = h.0; payload = p }) f h.1 k)
-  one_item b in_range (Err e) (Ok q) h k =
-      absurd (one_answer b (record { header = k.0; payload = q }) e k.1 h)
+  one_item b in_range (Ok p) (Err f) h k = absurd (one_answer b _ f h.1 k)
+  one_item b in_range (Err e) (Ok q) h k = absurd (one_answer b _ e k.1 h)
   one_item b in_range (Err e) (Err f) h k = ap Err (one_fault b e f h k)
 
   -- the items of messages

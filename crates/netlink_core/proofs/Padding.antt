@@ -25,7 +25,8 @@ starts_with bytes rest a end head end-is rest-is =
 
 -- what holds of bytes where it holds of all that are fewer holds of all
 pub by_length : (P : List ℕ → Type 0) → ((bytes : List ℕ)
-    → ((rest : List ℕ) → length rest < length bytes → P rest) → P bytes) → (bytes : List ℕ) → P bytes
+    → ((rest : List ℕ) → length rest < length bytes → P rest) → P bytes)
+    → (bytes : List ℕ) → P bytes
 by_length P step bytes = within (suc (length bytes)) bytes (omega arith)
   where
     within : (n : ℕ) (b : List ℕ) → length b < n → P b

@@ -1,5 +1,5 @@
 -- The laws of a reply, from those of its header and its attributes' set.
-use Rattle.std.proofs.Common.{Ok, ◌≡◌, ◌↔◌, inl, inr, ℕ, List, [], ◌∷◌, refl}
+use Rattle.std.proofs.Common.{Ok, ◌≡◌, ◌↔◌, inl, inr, ℕ, List, [], ◌∷◌}
 use Rattle.std.proofs.Common.{arith}
 use Rattle.std.specs.Prelude.{drop, map}
 use Rattle.std.specs.List.{AllByRecursion, AllZip, flat_map}
@@ -31,7 +31,6 @@ module _ (F : AttributeSet) (laws : AttributeSetLaws F) where
   lists_same_value : (xs ys : List Attribute) (vs ws : List (AttributeValue F))
       → AllByRecursion IsAttributeInRange xs → AllByRecursion IsAttributeInRange ys → Say xs vs
       → Say ys ws → ((vs ≡ ws) ↔ AllZip (AreIdleAttributes F) xs ys)
-  lists_same_value [] [] [] [] s t h k = (λ _. tt, λ _. refl)
   lists_same_value (x ∷ xs) (y ∷ ys) (v ∷ vs) (w ∷ ws) s t h k = grind (
     arith,
     set_same_value F laws x y v w s.0 t.0 h.0 k.0,
@@ -44,8 +43,7 @@ module _ (F : AttributeSet) (laws : AttributeSetLaws F) where
       → AllByRecursion (IsInRangeBy F) vs × AllByRecursion (IsNormalBy F) vs
   list_gives_normal (x ∷ xs) (v ∷ vs) s h =
       search (set_gives_normal F laws x v s.0 h.0, list_gives_normal xs vs s.1 h.1)
-  list_gives_normal [] [] s h = (tt, tt)
-  list_gives_normal xs vs s h = absurd search
+  list_gives_normal xs vs s h = grind arith
 
   list_writes_in_range : (vs : List (AttributeValue F))
       → AllByRecursion (IsInRangeBy F) vs
@@ -84,30 +82,19 @@ module _ (R : ResponseSpec) (laws : ResponseLaws R) where
             | inr fault ↦ inr (fault.0, inr (header.0, header.1, fault.1))
           ]
     ];
-    one_answer = λ b p v e h. elim [
-      | inl refused ↦ cc
-      | inr later ↦ means_or_fault_apart (decodes F) (drop R.size b) v.nlas e h.1 later.2
-    ];
-    one_fault = λ b p e f h k. elim h [
-      | inl refused ↦ elim k [ inl also ↦ cc | inr later ↦ cc ]
-      | inr later ↦ elim k [
-        | inl refused ↦ cc
-        | inr also ↦ one_fault (decodes F) (drop R.size b) e f later.2 also.2
-      ]
-    ];
-    named_fault = λ b p. elim [
-      | inl refused ↦ laws.header.named_fault b tt refused
-      | inr later ↦ elim later.2.1.5 [
-        | inl framing ↦ framing
-        | inr refused ↦ set_faults_named F laws.attribute_set refused.0 refused.2
-      ]
-    ];
+    one_answer = λ b p v e h k.
+        grind (arith, means_or_fault_apart (decodes F) (drop R.size b) v.nlas e h.1);
+    one_fault = λ b p e f h k. grind (arith, one_fault (decodes F) (drop R.size b) e f);
+    named_fault = λ b p h. grind (
+      arith,
+      laws.header.named_fault b tt,
+      set_faults_named F laws.attribute_set,
+    );
     -- two strings have equal values exactly where they are idle
     same_value = λ b c p v w b-in_range c-in_range h k.
-        let headers = laws.header.same_value b c tt v.header w.header b-in_range c-in_range h.0 k.0
-        in
-        let lists = lists_same_value F laws.attribute_set h.1.0 k.1.0 v.nlas w.nlas
-        (behind_in_range b h.1.0 b-in_range h.1.1) (behind_in_range c k.1.0 c-in_range k.1.1)
+        let headers = laws.header.same_value b c tt _ _ b-in_range c-in_range h.0 k.0 in
+        let lists = lists_same_value F laws.attribute_set _ _ _ _
+        (behind_in_range b _ b-in_range h.1.1) (behind_in_range c _ c-in_range k.1.1)
         h.1.2 k.1.2 in (
           λ e. (headers.0 cc, h.1.0, k.1.0, h.1.1, k.1.1, lists.0 cc),
           λ (front, left, right, left_cut, right_cut, all).
@@ -119,15 +106,13 @@ module _ (R : ResponseSpec) (laws : ResponseLaws R) where
               λ i. record { header = same-header i; nlas = same-nlas i },
         );
     reads_normal = λ b p v in_range h.
-        let header = laws.header.reads_normal b tt v.header in_range h.0 in
+        let header = laws.header.reads_normal b tt _ in_range h.0 in
         let nlas = list_gives_normal F laws.attribute_set h.1.0 v.nlas
-        (behind_in_range b h.1.0 in_range h.1.1) h.1.2 in
+        (behind_in_range b _ in_range h.1.1) h.1.2 in
         ((header.0, nlas.0), (header.1, nlas.1));
     written_bytes = λ v in_range.
-        IsBytes-append (R.header.bytes v.header) (flat_map written (map (encodes F) v.nlas))
-        (laws.header.written_bytes v.header in_range.0)
-        (all_written_in_range (map (encodes F) v.nlas)
-        (list_writes_in_range F laws.attribute_set v.nlas in_range.1));
+        IsBytes-append (R.header.bytes v.header) _ (laws.header.written_bytes v.header in_range.0)
+        (all_written_in_range _ (list_writes_in_range F laws.attribute_set v.nlas in_range.1));
     -- a writable value in normal form reads back as itself
     reads_back = λ p v in_range normal fits.
         let nlas : List ℕ = flat_map written (map (encodes F) v.nlas) in
@@ -135,6 +120,6 @@ module _ (R : ResponseSpec) (laws : ResponseLaws R) where
           laws.as_prefix.reads_as_prefix v.header nlas in_range.0 normal.0,
           rw (drop_at (R.header.bytes v.header) nlas R.size
               (laws.as_prefix.bytes_long v.header in_range.0))
-              (written_values_are_read (decodes F) (map (encodes F) v.nlas) v.nlas lists.0 lists.1),
+              (written_values_are_read (decodes F) _ v.nlas lists.0 lists.1),
         );
   }

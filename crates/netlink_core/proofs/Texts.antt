@@ -22,8 +22,7 @@ other_end (byte ∷ next ∷ text) last other = grind (arith, other_end (next �
 -- UTF-8 is a text
 pub text_there : (bytes text : List ℕ) → text ≡ without_end_zero bytes
     → IsUtf8 (without_end_zero bytes) → text_in bytes ≡ Ok text
-text_there bytes text same valid =
-    rw (is_utf8-from_IsUtf8 (without_end_zero bytes) valid, same) refl
+text_there bytes text same valid = grind (arith, is_utf8-from_IsUtf8 (without_end_zero bytes))
 
 -- other bytes are none
 pub no_text : (bytes : List ℕ) → ¬ (IsUtf8 (without_end_zero bytes)) → text_in bytes ≡ Err NotUtf8

@@ -1,6 +1,6 @@
 -- What follows for a set of attributes from the laws of its types.
 use Rattle.std.proofs.Common.{Ok, Err, ◌≡◌, ◌∙◌, ◌↔◌, inl, inr, ℕ, ◌<◌, ◌^◌, [], ◌∷◌}
-use Rattle.std.proofs.Common.{refl, sym, subst, arith}
+use Rattle.std.proofs.Common.{refl, sym, arith}
 use Rattle.std.specs.Prelude.{bit_and, ◌≢◌}
 use Rattle.std.proofs.lemmas.Nat.{and_mask}
 use Rattle.std.proofs.lemmas.Bool.Decides.{nat_tests}
@@ -38,17 +38,15 @@ own_type : (F : AttributeSet) → AttributeSetLaws F → (a : Attribute) (v : At
     → decodes F a ≡ Ok v
     → attribute_type (encodes F v) ≡ attribute_type a
 own_type [] laws a v h = cc
-own_type (spec ∷ others) laws a (inl x) h = laws.0.plain ∙ sym (is_here spec others a x h).0
-own_type (spec ∷ others) laws a (inr v) h =
-    own_type others laws.1 a v (is_there spec others a v h).1
+own_type (spec ∷ others) laws a v h =
+    grind (arith, nat_tests, laws.0.plain, own_type others laws.1 a)
 
 -- what an attribute decodes to is in range and in normal form
 pub set_gives_normal : (F : AttributeSet) → AttributeSetLaws F
     → (a : Attribute) (v : AttributeValue F)
     → IsAttributeInRange a → decodes F a ≡ Ok v
     → IsInRangeBy F v × IsNormalBy F v
-set_gives_normal [] laws a v in_range h = let same : a ≡ v = cc in
-    (subst IsAttributeInRange same in_range, tt)
+set_gives_normal [] laws a v in_range h = grind arith
 set_gives_normal (spec ∷ others) laws a (inl x) in_range h =
     laws.0.value.reads_normal a.value tt x in_range.1 (is_here spec others a x h).1
 set_gives_normal (spec ∷ others) laws a (inr v) in_range h =
@@ -66,18 +64,11 @@ set_same_value (spec ∷ others) laws a b (inl x) (inl y) s t h k =
     let left = is_here spec others a x h in
     let right = is_here spec others b y k in
     grind (arith, laws.0.value.same_value a.value b.value tt x y s.1 t.1 left.1 right.1)
-set_same_value (spec ∷ others) laws a b (inl x) (inr w) s t h k =
-    grind (arith, is_here spec others a x h, is_there spec others b w k)
-set_same_value (spec ∷ others) laws a b (inr v) (inl y) s t h k =
-    grind (arith, is_there spec others a v h, is_here spec others b y k)
 set_same_value (spec ∷ others) laws a b (inr v) (inr w) s t h k =
     let left = is_there spec others a v h in
     let right = is_there spec others b w k in
     grind (arith, set_same_value others laws.1 a b v w s t left.1 right.1)
-
--- a number without flag bits is one of 16 bits
-small : (n : ℕ) → bit_and n 0x3fff ≡ n → n < 2 ^ 16
-small n plain = omega (arith, and_mask n 14, plain)
+set_same_value (spec ∷ others) laws a b v w s t h k = grind (arith, nat_tests)
 
 -- a value in range is written as an attribute in range
 pub writes_in_range : (F : AttributeSet) → AttributeSetLaws F → (v : AttributeValue F)
@@ -85,7 +76,7 @@ pub writes_in_range : (F : AttributeSet) → AttributeSetLaws F → (v : Attribu
     → IsAttributeInRange (encodes F v)
 writes_in_range [] laws a t = t
 writes_in_range (spec ∷ others) laws (inl x) t =
-    (small spec.number laws.0.plain, laws.0.value.written_bytes x t)
+    (omega (arith, and_mask spec.number 14, laws.0.plain), laws.0.value.written_bytes x t)
 writes_in_range (spec ∷ others) laws (inr v) t = writes_in_range others laws.1 v t
 
 -- one in normal form is decoded from its own attribute

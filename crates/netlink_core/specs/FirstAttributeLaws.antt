@@ -1,5 +1,6 @@
 -- An attribute of a set, read at the start of a string, keeps the laws. Proved once, for every set
 -- of attributes.
+use Rattle.std.proofs.Common.{arith}
 use Rattle.std.proofs.Common.{Ok, ◌≡◌, inl, inr, [], length, replicate}
 use Rattle.std.proofs.Common.{refl, sym, ap}
 use Rattle.netlink_core.specs.Attribute.{Attribute, FitsWords, fill}
@@ -41,10 +42,7 @@ module _ (F : AttributeSet) (laws : AttributeSetLaws F) where
       | inr refused ↦ let same = one_attribute b refused.0 h.0 refused.1 h.1 in cc
     ];
     one_fault = λ b p. one_prefix_fault (decodes F) b;
-    named_fault = λ b p. elim [
-      | inl framing ↦ framing
-      | inr refused ↦ set_faults_named F laws refused.0 refused.2
-    ];
+    named_fault = λ b p h. grind (arith, set_faults_named F laws);
     same_value = λ b c p v w b-in_range c-in_range h k.
         let same = set_same_value F laws h.0 k.0 v w (prefix_in_range b h.0 b-in_range h.1)
         (prefix_in_range c k.0 c-in_range k.1) h.2 k.2 in (

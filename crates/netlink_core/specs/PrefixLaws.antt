@@ -48,12 +48,8 @@ same_parts xs ys s t len e = absurd (omega arith)
 pub one_prefix : (a b : Attribute) (s t : List ℕ) → FitsWords a → FitsWords b
     → unpadded a ++ s ≡ unpadded b ++ t → (a ≡ b) × (s ≡ t)
 one_prefix a b s t a-fits b-fits e =
-    let low : (4 + length a.value) % 256 ≡ (4 + length b.value) % 256 = cc in
-    let high : (4 + length a.value) / 256 % 256 ≡ (4 + length b.value) / 256 % 256 = cc in
-    let type-low : a.type_word % 256 ≡ b.type_word % 256 = cc in
-    let type-high : a.type_word / 256 % 256 ≡ b.type_word / 256 % 256 = cc in
-    let types : a.type_word ≡ b.type_word = omega arith in
-    let values = same_parts a.value b.value s t (omega arith) cc in
+    let types : a.type_word ≡ b.type_word = grind arith in
+    let values = same_parts a.value b.value s t (grind arith) cc in
     (λ i. record { type_word = types i; value = values.0 i }, values.1)
 
 -- the attribute at the start of bytes is in range
@@ -121,11 +117,8 @@ one_framing_fault bytes e f h k = grind arith
 module _ {A : Type 0} (reads : Attribute → Result A DecodeError) where
   pub one_prefix_fault : (bytes : List ℕ) (e f : DecodeError) → IsPrefixFault reads bytes e
       → IsPrefixFault reads bytes f → e ≡ f
-  one_prefix_fault bytes e f (inl framing) (inl also) =
-      one_framing_fault bytes e f framing also
+  one_prefix_fault bytes e f (inl framing) (inl also) = one_framing_fault bytes e f framing also
   one_prefix_fault bytes e f (inl framing) (inr (a, head, refused)) =
       absurd (prefix_or_fault_apart bytes a e head framing)
-  one_prefix_fault bytes e f (inr (a, head, refused)) (inl framing) =
-      absurd (prefix_or_fault_apart bytes a f head framing)
-  one_prefix_fault bytes e f (inr (a, head, refused)) (inr (b, other, also)) =
-      let same = one_attribute bytes a b head other in cc
+  one_prefix_fault bytes e f (inr (a, head, refused)) k =
+      grind (arith, prefix_or_fault_apart bytes a f head, one_attribute bytes a)
