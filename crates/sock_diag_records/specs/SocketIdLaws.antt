@@ -49,12 +49,12 @@ socket_id_back value rest shaped =
     (rw (first_all 8 value.cookie shaped.cookie))
 
 -- the bytes of the record by itself
-pub bytes-alone : (value : SocketId) → bytes socket_id value
+pub bytes_alone : (value : SocketId) → bytes socket_id value
     ≡ flat_map (big_bytes 2) (value.source_port ∷ value.destination_port ∷ [])
     ++ (address_bytes value.source_address ++ (address_bytes value.destination_address
     ++ (little_bytes 4 value.interface_id ++ first 8 value.cookie)))
 unfolding socket_id
-bytes-alone value = grind arith
+bytes_alone value = grind arith
 
 pub socket_id_sound : IsSound socket_id
 unfolding socket_id

@@ -1,9 +1,9 @@
 use Rattle.std.proofs.Common.{drop, slice_index, sym, ap, ◌∙◌}
 use Rattle.std.proofs.lemmas.List.{take_rest}
-use Rattle.netlink_core.proofs.LayoutLaws.{accepted_fields}
+use Rattle.netlink_core.proofs.LayoutLaws.{accepts, accepted_fields}
 use Rattle.sock_diag_records.specs.SocketId.{socket_id}
 use Rattle.sock_diag_records.specs.SocketIdInverse.{socket_id_of}
-use Rattle.sock_diag_records.specs.InetResponseLaws.{header_read}
+use Rattle.sock_diag_records.specs.InetResponseLaws.{header_is, with_class, class_lt}
 use Rattle.sock_diag_records.specs.InetResponse.{inet_response_header}
 use Rattle.sock_diag_records.specs.Timer.{class_of_byte}
 use Rattle.sock_diag_records.specs.SocketIdLaws.{values-inside}
@@ -17,4 +17,6 @@ returns c =
     let h = accepted_fields socket_id (slice_index payload 0) (drop 4 payload)
     c.in_ok-socket_id.socket_id (rw take_rest at (sym c.in_ok-socket_id.ensures)) in
     let socket = h.2 ∙ ap (socket_id_of h.0) (values-inside 4 payload h.0) in
-    rw c.timer_from.ensures (rw socket (rw c.words_at.ensures (sym (header_read payload h.0 h.1))))
+    let read = accepts inet_response_header tt payload (h.0, class) (ap (with_class class) h.1)
+    ∙ header_is payload h.0 class (class_lt (slice_index payload 2)) in
+    rw c.timer_from.ensures (rw socket (rw c.words_at.ensures (sym read)))
