@@ -1,12 +1,12 @@
 -- The laws of numbers that fill the value of an attribute.
 use Rattle.std.proofs.Common.{Some, Ok, ◌≡◌, ◌∙◌, ℕ, zero, suc, ◌+◌, ◌*◌, ◌/◌, ◌%◌}
-use Rattle.std.proofs.Common.{◌≤◌, ◌<◌, ◌^◌, List, [], ◌∷◌, ◌++◌, length, drop, refl, sym}
+use Rattle.std.proofs.Common.{◌≤◌, ◌<◌, ◌^◌, List, [], ◌∷◌, ◌++◌, length, take, drop, refl, sym}
 use Rattle.std.proofs.Common.{arith}
 use Rattle.std.specs.List.{AllByRecursion}
 use Rattle.std.specs.List.{slice_get}
 use Rattle.std.proofs.lemmas.Grind.{same_number_lists}
 use Rattle.std.proofs.lemmas.Option.{get_or_from_slice_get}
-use Rattle.std.proofs.lemmas.List.{append-nil, length-drop}
+use Rattle.std.proofs.lemmas.List.{append-nil, length-drop, length-take-le}
 use Rattle.byteorder.specs.Endian.{little_number, little_bytes, IsRead}
 use Rattle.byteorder.specs.Numbers.{little_from-lt, little_number-reads_back}
 use Rattle.byteorder.specs.Numbers.{length-bytes_low_first}
@@ -62,6 +62,11 @@ each_below bound (n ∷ u) below = (below 0, each_below bound u (λ i. below (su
 pub length_numbers : (u : List ℕ) → length (bytes_of_numbers u) ≡ 4 * length u
 length_numbers [] = refl
 length_numbers (n ∷ u) = omega (arith, length_numbers u)
+
+-- bytes in front that have room for all
+pub front_of : (u bytes : List ℕ) → length (bytes_of_numbers u) ≤ length bytes
+    → length (take (4 * length u) bytes) ≡ 4 * length u
+front_of u bytes room = length-take-le _ bytes (omega (arith, length_numbers u))
 
 -- no bytes are those of no numbers
 pub no_numbers : (u : List ℕ) → bytes_of_numbers u ≡ [] → u ≡ []

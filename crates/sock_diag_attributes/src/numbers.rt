@@ -88,7 +88,7 @@ impl<'a> NumbersView<'a> {
     }
 
     /// The number at this place, the first one at 0.
-    #[tactic(auto, using(crate::specs::NumberLaws::how_many, std::proofs::lemmas::Option::slice_get_past))]
+    #[tactic(auto, using(crate::specs::NumberLaws::how_many, crate::specs::NumberLaws::number_at, std::proofs::lemmas::List::take_rest, std::proofs::lemmas::Option::slice_get_past))]
     pub fn get(&self, index: usize) -> Option<u32>
         ensures { result ≡ slice_get (numbers_view_model self.now) index }
     {
@@ -183,6 +183,7 @@ pub(crate) fn emit_u32_pair(first: u32, second: u32, buffer: &mut [u8])
 }
 
 /// Writes the numbers one after the other at the front, and leaves the rest.
+#[tactic(auto, using(crate::specs::NumberLaws::length_numbers, crate::specs::NumberLaws::front_of))]
 pub(crate) fn emit_numbers(numbers: &[u32], buffer: &mut [u8])
     requires { length (bytes_of_numbers numbers.now) ≤ length buffer.old }
     ensures { buffer.new ≡ bytes_of_numbers numbers.now
