@@ -1,15 +1,15 @@
 -- What was fed to the reader of a dump, with one datagram more.
-use Rattle.std.proofs.Common.{◌≡◌, ◌≢◌, ◌⊎◌, inl, inr, ℕ, List, [], ◌∷◌, ◌++◌, refl, sym, ap, ◌∙◌}
-use Rattle.std.proofs.Common.{subst}
+use Rattle.std.proofs.Common.{◌≡◌, ◌≢◌, ◌⊎◌, inl, inr, ℕ, List, [], ◌∷◌, ◌++◌, refl, sym, ◌∙◌}
+use Rattle.std.proofs.Common.{arith}
 use Rattle.std.specs.Prelude.{None, Result, Ok, Err}
 use Rattle.std.proofs.Math.Logic.{∥∥₁_map}
 use Rattle.std.proofs.lemmas.Grind.{merely}
 use Rattle.netlink_core.specs.Codec.{Codec}
 use Rattle.netlink_core.specs.declared.fault.DecodeError.TheVariants.{Memory}
-use Rattle.netlink_packet_sock_diag.specs.declared.dump.DumpState.TheVariants.{Reading, Failed}
+use Rattle.netlink_packet_sock_diag.specs.declared.dump.DumpState.TheVariants.{Failed}
 use Rattle.netlink_packet_sock_diag.specs.declared.dump.DumpError.{DumpError}
 use Rattle.netlink_packet_sock_diag.specs.declared.dump.DumpError.TheVariants.{Ended, Fault}
-use Rattle.netlink_packet_sock_diag.specs.Dump.{Standing, unended}
+use Rattle.netlink_packet_sock_diag.specs.Dump.{unended}
 use Rattle.netlink_packet_sock_diag.specs.Feed.{FeedLeaves, FeedsLeave, Stage, untouched}
 
 module _ (C : Codec ℕ) where
@@ -30,43 +30,26 @@ module _ (C : Codec ℕ) where
       (answer : Result Unit DumpError) → FeedsLeave C old datagrams before
       → FeedLeaves C before datagram after answer → answer ≢ Err (Fault Memory)
       → FeedsLeave C old (datagrams ++ datagram ∷ []) after
-  one_more [] old before after datagram answer here f some = (
-    after,
-    answer,
-    subst (λ (p : Stage C.Value). FeedLeaves C p datagram after answer) here f,
-    some,
-    refl,
-  )
-  one_more (first ∷ later) old before after datagram answer each f some = (
-    each.0,
-    each.1,
-    each.2,
-    each.3,
-    one_more later each.0 before after datagram answer each.4 f some,
-  )
+  one_more [] old before after datagram answer here f some =
+      (after, answer, rw here at f, some, refl)
+  one_more (first ∷ later) old before after datagram answer (next, given, leaves, named, more) f
+      some =
+      (next, given, leaves, named, one_more later next before after datagram answer more f some)
 
   -- a dump that is read was left so with memory for all
-  still : (now : Stage C.Value) → Fed now → now.1 ≡ unended
-      → (datagrams : List (List ℕ)) × FeedsLeave C untouched datagrams now
-  still now (datagrams, before, leave, inl same) reading =
-      (datagrams, subst (λ (p : Stage C.Value). FeedsLeave C untouched datagrams p) same leave)
-  still now (datagrams, before, leave, inr (failed, last, answer, f)) reading =
-      let e : Failed ≡ Reading = ap (λ (s : Standing). s.0) (sym failed ∙ reading) in absurd cc
-
   on : (before after : Stage C.Value) (datagram : List ℕ) (answer : Result Unit DumpError)
       → Fed before → FeedLeaves C before datagram after answer → Fed after
-  on before after datagram (Ok done) fed f =
-      let s = still before fed f.0 in (
-        s.0 ++ datagram ∷ [],
-        after,
-        one_more s.0 untouched before after datagram (Ok done) s.1 f (λ e. cc),
-        inl refl,
-      )
-  on before after datagram (Err Ended) fed f =
-      subst (λ (p : Stage C.Value). Fed p) (sym f.1) fed
-  on before after datagram (Err (Fault e)) fed f =
-      let s = still before fed f.0 in
-      (s.0, before, s.1, inr (f.1, datagram, Err (Fault e), f))
+  on before after datagram (Err Ended) fed f = rw f.1 fed
+  on before after datagram (Ok done) (datagrams, old, leave, inl same) f = (
+    datagrams ++ datagram ∷ [],
+    after,
+    one_more datagrams untouched before after datagram (Ok done) (rw same at leave) f (λ e. cc),
+    inl refl,
+  )
+  on before after datagram (Err (Fault e)) (datagrams, old, leave, inl same) f =
+      (datagrams, before, rw same at leave, inr (f.1, datagram, Err (Fault e), f))
+  on before after datagram answer (datagrams, old, leave, inr failed) f =
+      let no : (Failed, None) ≡ unended = sym failed.0 ∙ f.0 in grind arith
 
   pub fed_on : (before after : Stage C.Value) (datagram : List ℕ)
       (answer : Result Unit DumpError) → ∥ Fed before ∥₁

@@ -65,9 +65,10 @@ module _ (C : Codec ℕ) where
       → DatagramDump (lossy C) (map (λ v. Ok v) before) datagram (map (λ v. Ok v) after) (Ok s)
   lossy_keeps datagram before after s (items, (messages, end, carried, cut, each, all), d) =
       let entries = map as_entry carried ++ last end in
-      let went = (dump_is before after items (Ok s)).0 d in (
+      let went = (dump_is before after items (Ok s)).0 d in
+      let told = zip_entries datagram messages end cut carried each in (
         entries,
-        (messages, end, map as_entry carried, cut, zip_entries datagram messages end cut carried each, refl),
+        (messages, end, map as_entry carried, cut, told, refl),
         (dump_is (entries_of before) (entries_of after) entries (Ok s)).1
             (reach_entries carried end before after s (rw all at went)),
       )
@@ -82,7 +83,8 @@ module _ (C : Codec ℕ) where
       → reach before (carried ++ last end) ≡ (after, Err e)
       → (rest : List ℕ) × IsEnvelopeFault rest e
   fault_in bytes [] None [] cut each before after e went = grind arith
-  fault_in bytes [] (Some f) [] cut each before after e went = let same : f ≡ e = grind arith in (bytes, rw same at cut.1)
+  fault_in bytes [] (Some f) [] cut each before after e went =
+      let same : f ≡ e = grind arith in (bytes, rw same at cut.1)
   fault_in bytes (m ∷ messages) end (Ok (inner v) ∷ xs) cut each before after e went =
       fault_in cut.0 messages end xs cut.2 each.1 _ after e went
   fault_in bytes (m ∷ messages) end (Ok no_payload ∷ xs) cut each before after e went =

@@ -1,7 +1,7 @@
 -- A whole walk over the messages of a datagram, each as what it carries, gives the items of the
 -- datagram.
-use Rattle.std.proofs.Common.{Result, Err, ◌≡◌, ℕ, inl, inr, List, [], ◌∷◌, length, refl, sym, ap}
-use Rattle.std.proofs.Common.{subst, arith}
+use Rattle.std.proofs.Common.{Result, ◌≡◌, inl, inr, List, [], ◌∷◌, length, refl, ap}
+use Rattle.std.proofs.Common.{arith}
 use Rattle.std.specs.Prelude.{map}
 use Rattle.std.specs.Iterator.{Drains}
 use Rattle.netlink_core.specs.declared.fault.DecodeError.{DecodeError}
@@ -20,29 +20,21 @@ nothing_more : (walk : DumpViews) (given : List (Result PayloadView DecodeError)
     → Drains GivesView walk given → datagram_left walk.messages ≡ [] → given ≡ []
 nothing_more walk [] h none = refl
 nothing_more walk (g ∷ given) h none = elim h.1.1.1 [
-  | inl s ↦ let short = shorter-rest (datagram_left walk.messages) s.0
-      (datagram_left h.1.1.0.messages) s.1 in let len : length (datagram_left walk.messages) ≡ 0 =
-      ap length none in absurd (omega arith)
+  | inl s ↦ let short = shorter-rest (datagram_left walk.messages) s.0 _ s.1 in
+      absurd (omega (arith, ap length none))
   | inr f ↦ absurd (f.2 none)
 ]
 
 pub whole_views : (walk : DumpViews) (given : List (Result PayloadView DecodeError))
     → Drains GivesView walk given → ItemsAre message_codec (datagram_left walk.messages)
     (map item_view_model given)
-whole_views walk [] h =
-    let none : datagram_left walk.messages ≡ [] =
-    subst (λ (w : DumpViews). datagram_left w.messages ≡ []) (sym h.1.1) h.1.2.0 in
-    subst (λ (bytes : List ℕ). ItemsAre message_codec bytes []) (sym none) (no_items message_codec)
+whole_views walk [] h = rw (h.1.1, h.1.2.0) (no_items message_codec)
 whole_views walk (g ∷ given) h =
+    let bytes = datagram_left walk.messages in
     let later : Drains GivesView h.1.1.0 given = (h.0, (h.1.0, h.1.1.2, h.1.2)) in
     elim h.1.1.1 [
-      | inl s ↦ leading_item message_codec (datagram_left walk.messages) s.0
-          (datagram_left h.1.1.0.messages) (item_view_model g) (map item_view_model given) s.1 s.2
-          (whole_views h.1.1.0 given later)
-      | inr f ↦
-          let all : g ∷ given ≡ Err f.0 ∷ [] = rw (f.1, nothing_more h.1.1.0 given later f.4)
-          refl in
-          subst (λ (items : List (Result PayloadView DecodeError)). ItemsAre message_codec
-          (datagram_left walk.messages) (map item_view_model items)) (sym all)
-          (fault_alone message_codec (datagram_left walk.messages) f.0 f.2 f.3)
+      | inl s ↦ leading_item message_codec bytes s.0 (datagram_left h.1.1.0.messages)
+          (item_view_model g) (map item_view_model given) s.1 s.2 (whole_views h.1.1.0 given later)
+      | inr f ↦ rw (f.1, nothing_more h.1.1.0 given later f.4)
+          (fault_alone message_codec bytes f.0 f.2 f.3)
     ]

@@ -2,11 +2,11 @@
 use Rattle.std.proofs.Common.{Global, Vec, ◌≡◌, ℕ, zero, suc, ◌+◌, ◌<◌, List, [], ◌∷◌, ◌++◌, map}
 use Rattle.std.proofs.Common.{length, drop, Option, Some, None, MatchOption, IfSome, IsSome}
 use Rattle.std.proofs.Common.{IsSomeAnd, IsTrue, slice_get, Iter, Bor, refl, sym, ap, subst, ◌∙◌}
-use Rattle.std.proofs.Common.{arith, take-append-drop, true≢false}
+use Rattle.std.proofs.Common.{arith, take-append-drop}
 use Rattle.std.specs.Fn.{Called}
-use Rattle.std.specs.Iterator.{Yields, YieldsFirstBy}
+use Rattle.std.specs.Iterator.{YieldsFirstBy}
 use Rattle.std.specs.Iterator.Runs.{SomeRun, YieldsRun, AllItemsGive, IsFirstToGive}
-use Rattle.std.specs.List.{filter_map, cons_option}
+use Rattle.std.specs.List.{cons_option}
 use Rattle.std.specs.Slice.Iter.{iter_rest, iter_steps}
 use Rattle.std.proofs.lemmas.Iterator.{YieldsList}
 use Rattle.std.proofs.lemmas.Iterator.Consumers.{YieldsList-so_far, YieldsList-end}
@@ -38,19 +38,14 @@ module _ {A : Type 0} {P Q : A → Type 0} (weaker : (x : A) → P x → Q x) wh
   some_and (Some x) h = weaker x h
 
 module _ {A B D : Type 0} (told : B → Option D) (v : A → B) where
-  -- the first content where the item in front tells this
-  abbrev as_prefix : List B → Option D → Option D
-  as_prefix more o = slice_get (cons_option o (filter_map told more)) 0
-
-  stays : (more : List B) (o : Option D) → IsSome o → as_prefix more o ≡ o
-  stays more None some = absurd (true≢false (sym some))
-  stays more (Some y) some = refl
+  stays : (more : List D) (o : Option D) → IsSome o → slice_get (cons_option o more) 0 ≡ o
+  stays more o some = grind arith
 
   -- among items without a content there is no first one
   none_in : (xs : List A) → ((k : ℕ) → IfSome (slice_get xs k) (λ x. told (v x) ≡ None))
       → first_of told (map v xs) ≡ None
   none_in [] none = refl
-  none_in (x ∷ xs) none = ap (as_prefix (map v xs)) (none 0) ∙ none_in xs (λ k. none (suc k))
+  none_in (x ∷ xs) none = rw (none 0) (none_in xs (λ k. none (suc k)))
 
   -- behind such items stands the first
   first_at : (xs : List A) (i : ℕ) (more : List B) (o : Option D) → IsSome o
@@ -58,11 +53,9 @@ module _ {A B D : Type 0} (told : B → Option D) (v : A → B) where
       → ((k : ℕ) → k < i → IsSomeAnd (slice_get xs k) (λ x. told (v x) ≡ None))
       → first_of told (map v xs ++ more) ≡ o
   first_at [] i more o some here none = absurd here
-  first_at (x ∷ xs) zero more o some here none = ap (as_prefix (map v xs ++ more)) here
-      ∙ stays (map v xs ++ more) o some
-  first_at (x ∷ xs) (suc i) more o some here none =
-      ap (as_prefix (map v xs ++ more)) (none 0 (omega arith)) ∙ first_at xs i more o some here
-      (λ k low. none (suc k) (omega arith))
+  first_at (x ∷ xs) zero more o some here none = rw here (stays _ o some)
+  first_at (x ∷ xs) (suc i) more o some here none = rw (none 0 (omega arith))
+      (first_at xs i more o some here (λ k low. none (suc k) (omega arith)))
 
 -- what `find_map` says of its answer
 abbrev Finds : {S A C F : Type 0} (steps : S → Option A → S → Type 0)
@@ -83,25 +76,23 @@ module _ {A B C D F : Type 0} {g : Mut F (A × Unit {0}) (Option C)} {f : F} (v 
   first_found {steps = steps} {all = all} gives None (p, from, run) =
       let none = run.1 (λ a o q c. (told a.0 o q c).0) in
       let last = p.gave.0.2 run.0 in
-      let calls = subst (λ j. Yields steps j p.items p.gave.0.0) from p.gave.0.1 in
+      let calls = rw from at p.gave.0.1 in
       let items = (YieldsList-end gives p.items p.gave.0.0 calls None last.0 refl last.1).0 in
-      let empty = λ (k : ℕ). subst (λ o. IfSome o (λ x. tells (v x) ≡ None)) (p.gave.1 k)
+      let empty = λ (k : ℕ). rw (p.gave.1 k) at
       (if_some (λ x c. sym (told x None f c).1 ∙ blank) (p.at k) (none k)) in
-      blank ∙ sym (ap (first_of tells) (sym items) ∙ none_in tells v p.items empty)
+      rw (← items, none_in tells v p.items empty) blank
   first_found {steps = steps} {all = all} gives (Some y) (p, from, run) =
       let first = run.3 (λ a o q c. (told a.0 o q c).0) in
-      let calls = subst (λ j. Yields steps j p.items p.gave.0.0) from p.gave.0.1 in
+      let calls = rw from at p.gave.0.1 in
       let rest = drop (length p.items) all in
       let front = YieldsList-so_far gives p.items p.gave.0.0 calls in
       let parts : all ≡ map v p.items ++ rest =
-      sym (ap (λ ys. ys ++ rest) front ∙ take-append-drop (length p.items) all) in
-      let here = subst (λ o. IsSomeAnd o (λ x. tells (v x) ≡ shows (Some y))) (p.gave.1 run.0)
+      rw front (sym (take-append-drop (length p.items) all)) in
+      let here = rw (p.gave.1 run.0) at
       (some_and (λ x c. sym (told x (Some y) f c).1) (p.at run.0) first.0) in
-      let none = λ (k : ℕ) (low : k < run.0). subst (λ o. IsSomeAnd o (λ x. tells (v x) ≡ None))
-      (p.gave.1 k) (some_and (λ x c. sym (told x None f c).1 ∙ blank) (p.at k) (first.1 k low))
-      in
-      sym (ap (first_of tells) parts ∙ first_at tells v p.items run.0 rest (shows (Some y))
-      (filled y) here none)
+      let none = λ (k : ℕ) (low : k < run.0). rw (p.gave.1 k) at
+      (some_and (λ x c. sym (told x None f c).1 ∙ blank) (p.at k) (first.1 k low)) in
+      rw parts (sym (first_at tells v p.items run.0 rest (shows (Some y)) (filled y) here none))
 
 -- an attribute of a UNIX socket, owned and in place
 abbrev Nla : Type 0

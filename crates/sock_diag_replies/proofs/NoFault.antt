@@ -1,15 +1,13 @@
 -- What is known behind a test of an answer for a fault.
-use Rattle.std.proofs.Common.{◌≡◌, Bool, true, false, Result, Ok, Err, IsOk, OnOk}
+use Rattle.std.proofs.Common.{◌≡◌, Bool, true, false, Result, IsOk, OnOk, arith}
 use Rattle.std.specs.Result.{is_err}
 
 -- an answer that is no fault has the fact of its values
 pub on_no_fault : {T E P : Type 0} (r : Result T E) (is_fault : Bool)
     → is_fault ≡ false → is_fault ≡ is_err r → OnOk r P → P
-on_no_fault (Ok value) is_fault good test fact = fact
-on_no_fault (Err e) is_fault good test fact = absurd cc
+on_no_fault r is_fault good test fact = grind arith
 
 -- an answer that is a fault is no value
 pub fault_is_no_value : {T E : Type 0} (r : Result T E) (is_fault : Bool)
     → is_fault ≡ true → is_fault ≡ is_err r → IsOk r → ⊥
-fault_is_no_value (Ok value) is_fault bad test ok = absurd cc
-fault_is_no_value (Err e) is_fault bad test ok = absurd cc
+fault_is_no_value r is_fault bad test ok = grind arith

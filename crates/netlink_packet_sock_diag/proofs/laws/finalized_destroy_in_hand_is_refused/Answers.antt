@@ -1,5 +1,8 @@
-use Rattle.netlink_packet_sock_diag.proofs.Envelopes.{destroy_in_hand_is_refused}
+use Rattle.std.proofs.Common.{refl}
+use Rattle.netlink_packet_sock_diag.specs.MessageModel.{destroy_model}
+use Rattle.netlink_packet_sock_diag.proofs.Envelopes.{destroy_is_refused}
 use Rattle.netlink_packet_sock_diag.proofs.laws.finalized_destroy_in_hand_is_refused.Goals as goal
 
 pub returns : goal.returns
-returns c = destroy_in_hand_is_refused
+returns c = λ message destroy rest is in_range fits. rw is
+    (destroy_is_refused message.header (destroy_model destroy) rest _ in_range (rw is at fits) refl)

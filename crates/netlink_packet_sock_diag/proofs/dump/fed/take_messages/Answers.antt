@@ -5,8 +5,8 @@ use Rattle.netlink_core.specs.Envelope.{IsInnerType, done_with, error_with, over
 use Rattle.netlink_core.specs.Envelope.{no_payload, inner}
 use Rattle.netlink_core.proofs.Framing.{fault_within}
 use Rattle.netlink_core.proofs.Items.{no_items}
-use Rattle.netlink_packet_sock_diag.proofs.Dumping.{closes, cut_off, ends_at, here, no_fault_in_message}
-use Rattle.netlink_packet_sock_diag.proofs.Dumping.{passes, stops_at}
+use Rattle.netlink_packet_sock_diag.proofs.Dumping.{closes, cut_off, ends_at, here}
+use Rattle.netlink_packet_sock_diag.proofs.Dumping.{no_fault_in_message, passes, stops_at}
 use Rattle.netlink_packet_sock_diag.proofs.dump.fed.take_messages.Goals as goal
 
 pub loop-item-init : goal.loop-item-init
@@ -100,5 +100,5 @@ returns-in_err-push-in_default g c =
     )
 
 pub returns : goal.returns
-returns g c = closes c.loop-item.invariant [] _ (rw c.in-None.ensures.steps.0 (no_items g.I.Kept.codec))
-    refl (λ never. never)
+returns g c = closes c.loop-item.invariant [] _
+    (rw c.in-None.ensures.steps.0 (no_items g.I.Kept.codec)) refl (λ never. never)

@@ -1,9 +1,8 @@
-use Rattle.std.proofs.Common.{ℕ, List, length, drop, ap, subst, inl, ◌∙◌, arith}
+use Rattle.std.proofs.Common.{ℕ, List, length, drop, ap, inl, ◌∙◌, arith}
 use Rattle.std.proofs.lemmas.List.{take_rest}
 use Rattle.std.proofs.lemmas.Result.{err_from_is_err_and}
 use Rattle.netlink_core.specs.Bytes.{IsBytes}
 use Rattle.netlink_core.specs.AttributeSet.{decodes}
-use Rattle.netlink_core.specs.Response.{response_codec}
 use Rattle.attribute_lists.specs.AttributesIn.{values_in}
 use Rattle.attribute_lists.proofs.Finding.{response_accepted, behind_refused, accepted_means}
 use Rattle.sock_diag_replies.proofs.view.ReplyView.parse.Goals as goal
@@ -11,10 +10,8 @@ use Rattle.sock_diag_replies.proofs.view.ReplyView.parse.Goals as goal
 pub returns-in_err-_header-clause-named : goal.returns-in_err-_header-clause-named
 returns-in_err-_header-clause-named g c =
     let p = err_from_is_err_and c.from_residual.result c.from_residual.ensures.1 in
-    let fault = inl c.in_err-_header.ensures.fault in
-    let refuses = (response_codec g.H.ReplyHeader.reply).refuses c.args.bytes.now tt in
     rw (p.1, p.2) (λ memory. g.met.H.ReplyHeader.keeps.named_fault _ tt
-    (subst refuses memory fault))
+    (inl (rw memory at c.in_err-_header.ensures.fault)))
 
 pub returns-in_err-count-clause-fault : goal.returns-in_err-count-clause-fault
 returns-in_err-count-clause-fault g c =
@@ -34,9 +31,7 @@ returns-in_err-count-clause-named g c =
     let part = take_rest bytes _ ∙ ap (λ (n : ℕ). drop n bytes) c.length.ensures in
     let refused = behind_refused g.H.ReplyHeader.reply _ _ part _ _ c.in_ok-_header.ensures.value
     c.in_err-count.ensures.fault in
-    let refuses = (response_codec g.H.ReplyHeader.reply).refuses c.args.bytes.now tt in
-    rw (p.1, p.2) (λ memory. g.met.H.ReplyHeader.keeps.named_fault _ tt
-    (subst refuses memory refused))
+    rw (p.1, p.2) (λ memory. g.met.H.ReplyHeader.keeps.named_fault _ tt (rw memory at refused))
 
 pub invariant_of-result : goal.invariant_of-result
 invariant_of-result g c =

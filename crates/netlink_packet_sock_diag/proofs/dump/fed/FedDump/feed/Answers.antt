@@ -1,11 +1,8 @@
-use Rattle.std.proofs.Common.{◌≡◌, ◌∙◌, Bool, true, false, not, Ok, Err, map, refl, sym}
-use Rattle.std.specs.Prelude.{None}
+use Rattle.std.proofs.Common.{◌≡◌, Bool, false, not, Ok, Err, refl, arith}
 use Rattle.netlink_packet_sock_diag.specs.declared.dump.DumpError.TheVariants.{Fault}
 use Rattle.netlink_packet_sock_diag.specs.contracts.dump.DumpState.{the_type}
 use Rattle.netlink_packet_sock_diag.specs.declared.dump.DumpState.{DumpState}
-use Rattle.netlink_packet_sock_diag.specs.declared.dump.DumpState.TheVariants.{Reading, Failed}
-use Rattle.netlink_packet_sock_diag.specs.declared.dump.DumpState.TheVariants.{Done, Error}
-use Rattle.netlink_packet_sock_diag.specs.declared.dump.DumpState.TheVariants.{Overrun}
+use Rattle.netlink_packet_sock_diag.specs.declared.dump.DumpState.TheVariants.{Reading}
 use Rattle.netlink_packet_sock_diag.proofs.DumpRows.{unnumbered}
 use Rattle.netlink_packet_sock_diag.proofs.Feeding.{fed_on}
 use Rattle.netlink_packet_sock_diag.proofs.dump.fed.FedDump.feed.Goals as goal
@@ -14,11 +11,7 @@ use denote.Enum.Bare.{sameb}
 -- a state that does not differ from the first is the first
 still_reading : (state : DumpState) (differs : Bool)
     → differs ≡ not (sameb the_type state Reading) → differs ≡ false → state ≡ Reading
-still_reading Reading differs is equal = refl
-still_reading Done differs is equal = let e : true ≡ false = sym is ∙ equal in cc
-still_reading Error differs is equal = let e : true ≡ false = sym is ∙ equal in cc
-still_reading Overrun differs is equal = let e : true ≡ false = sym is ∙ equal in cc
-still_reading Failed differs is equal = let e : true ≡ false = sym is ∙ equal in cc
+still_reading state differs is equal = grind arith
 
 pub invariant_of-self : goal.invariant_of-self
 invariant_of-self g c =
@@ -27,12 +20,7 @@ invariant_of-self g c =
     let took = c.in-Ok.ensures in
     record {
       unnumbered = unnumbered took.0.2.1 c.in-Ok.standing took.0.2.5;
-      fed = fed_on g.I.Kept.codec
-          (map g.I.Kept.model dump.kept.items, dump.standing, dump.interrupted) (
-            map g.I.Kept.model c.take_messages.new.messages.items,
-            c.in-Ok.standing,
-            c.take_messages.new.interrupted,
-          ) c.args.datagram.now (Ok tt) dump.fed
+      fed = fed_on g.I.Kept.codec _ _ c.args.datagram.now (Ok tt) dump.fed
           (dump.unnumbered read, took);
     }
 
@@ -40,16 +28,10 @@ pub invariant_of-self-in-Err : goal.invariant_of-self-in-Err
 invariant_of-self-in-Err g c =
     let dump = c.args.self.now in
     let read = still_reading dump.standing.0 c.ne.result c.ne.ensures c.if-ne.false in
-    let took = c.in-Err.ensures in
     record {
       unnumbered = λ is. cc;
-      fed = fed_on g.I.Kept.codec
-          (map g.I.Kept.model dump.kept.items, dump.standing, dump.interrupted) (
-            map g.I.Kept.model c.take_messages.new.messages.items,
-            (Failed, None),
-            c.take_messages.new.interrupted,
-          ) c.args.datagram.now (Err (Fault c.in-Err.fault)) dump.fed
-          (dump.unnumbered read, refl, took.0, took.1);
+      fed = fed_on g.I.Kept.codec _ _ c.args.datagram.now (Err (Fault c.in-Err.fault)) dump.fed
+          (dump.unnumbered read, refl, c.in-Err.ensures.0, c.in-Err.ensures.1);
     }
 
 pub returns-in-Ok : goal.returns-in-Ok
