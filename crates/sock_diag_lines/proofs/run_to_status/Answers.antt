@@ -17,23 +17,6 @@ from_on_ok : {A P : Type 0} (r : Result A ServeError) → IsOk r → OnOk r P �
 from_on_ok (Ok done) h p = p
 from_on_ok (Err e) h p = absurd (cc h)
 
-pub returns-clause-ended : goal.returns-clause-ended
-returns-clause-ended g c =
-    let run = c.answer_all-outcome in
-    λ other. from_on_ok run.result (ended_well run.result _ _ c.exit_code.ensures other)
-    run.ensures.ended
-
-pub returns-clause-complete : goal.returns-clause-complete
-returns-clause-complete g c =
-    let run = c.answer_all-outcome in
-    λ other. from_on_ok run.result (ended_well run.result _ _ c.exit_code.ensures other)
-    run.ensures.complete
-
-pub returns-clause-silent : goal.returns-clause-silent
-returns-clause-silent g c =
-    λ other. c.report.ensures.silent
-    (ended_well c.answer_all-outcome.result _ _ c.exit_code.ensures other)
-
 -- the line is that of the failure
 reported_as : (contents contents' : Option (List ℕ)) (outcome : Result Bool ServeError)
     → IfErr outcome (λ e. (reported : List ℕ)
