@@ -66,12 +66,8 @@ number_laws k width plain = record {
         tt,
       ))
       (λ n fits. IsBytes-number 0 width n)
-      (λ n fits normal. grind (
-        arith,
-        nat_tests,
-        length-bytes_low_first 0 width n,
-        number_back width n fits,
-      ));
+      (λ n fits normal.
+      grind (arith, nat_tests, length-bytes_low_first 0 width n, number_back width n fits));
 }
 
 -- a type whose values keep the laws

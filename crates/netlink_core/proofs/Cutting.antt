@@ -120,13 +120,9 @@ module _ {A : Type 0} (reads : Attribute → Result A DecodeError) where
   -- no end is where an attribute can be read
   not_ended : (bytes rest : List ℕ) (a : Attribute) (end : Option DecodeError)
       → StartsWith bytes a rest → IsOk (reads a) → Passes bytes [] end → ⊥
-  not_ended bytes rest a end s good h = grind (
-    arith,
-    StartsWith-some bytes rest a s,
-    prefix_or_fault_apart bytes a,
-    prefix_of_start bytes rest a s,
-    one_attribute bytes a,
-  )
+  not_ended bytes rest a end s good h =
+      let head = prefix_of_start bytes rest a s in
+      grind (arith, prefix_or_fault_apart bytes a, one_attribute bytes a)
 
   one_end : (bytes : List ℕ) (xs ys : List Attribute) (e f : Option DecodeError)
       → Passes bytes xs e → Passes bytes ys f → e ≡ f
@@ -172,10 +168,7 @@ module _ {A : Type 0} (reads : Attribute → Result A DecodeError) where
             | inr r ↦ inr (r.0, fault_here reads bytes r.0 some (inr (a, head, r.1)))
             | inl m ↦ elim (later rest (omega (arith, word_is bytes a head, length-drop end bytes))
                 (AreBytes-drop end bytes fits)) [
-                  | inl n ↦ inl (
-                    m.0 ∷ n.0,
-                    (a ∷ n.1.0, (rest, start, n.1.1), (m.1, n.1.2)),
-                  )
+                  | inl n ↦ inl (m.0 ∷ n.0, (a ∷ n.1.0, (rest, start, n.1.1), (m.1, n.1.2)))
                   | inr f ↦ inr (f.0, later_fault reads bytes rest a m.0 f.0 start m.1 f.1)
                 ]
           ]

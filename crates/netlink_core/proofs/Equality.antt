@@ -15,8 +15,7 @@ both a b h k = search rules
 -- two facts, each of which a test says
 pub and_decides : {P Q : Type 0} {a b : Bool} → IsTrue a ↔ P → IsTrue b ↔ Q
     → IsTrue (a && b) ↔ (P × Q)
-and_decides {P} {Q} {a} {b} f g =
-    (λ h. let p = parts a b h in (f.0 p.0, g.0 p.1), λ p. both a b (f.1 p.0) (g.1 p.1))
+and_decides {P} {Q} {a} {b} f g = grind (arith, parts a b, both a b)
 
 pub numbers_equal : (x y : ℕ) → IsTrue (eqb x y) ↔ (x ≡ y)
 numbers_equal x y = (λ h. search rules, λ e. search rules)

@@ -57,11 +57,7 @@ module _ (C : Codec ℕ) where
       _ _ (λ m n. law _ _ v.header.message_type m n (payload_in_range v.header.length b tb)
       (payload_in_range w.header.length c tc)) v.payload w.payload r.1 (rw e s.1) in
       let fronts = same_leading_header b c v.header w.header tb tc r.0 s.0 in
-      rw (
-        header_type b v.header r.0,
-        header_length b v.header r.0,
-        header_length c w.header s.0,
-      ) (
+      rw (header_type b v.header r.0, header_length b v.header r.0, header_length c w.header s.0) (
         λ e. let headers : v.header ≡ w.header = cc in (fronts.0 headers, (payloads headers).0 cc),
         λ idle_bytes.
             let headers = fronts.1 idle_bytes.0 in

@@ -85,11 +85,8 @@ module _ (R : ResponseSpec) (laws : ResponseLaws R) where
     one_answer = λ b p v e h k.
         grind (arith, means_or_fault_apart (decodes F) (drop R.size b) v.nlas e h.1);
     one_fault = λ b p e f h k. grind (arith, one_fault (decodes F) (drop R.size b) e f);
-    named_fault = λ b p h. grind (
-      arith,
-      laws.header.named_fault b tt,
-      set_faults_named F laws.attribute_set,
-    );
+    named_fault = λ b p h.
+        grind (arith, laws.header.named_fault b tt, set_faults_named F laws.attribute_set);
     -- two strings have equal values exactly where they are idle
     same_value = λ b c p v w b-in_range c-in_range h k.
         let headers = laws.header.same_value b c tt _ _ b-in_range c-in_range h.0 k.0 in

@@ -10,13 +10,7 @@ pub endings_apart : (bytes : List ℕ) (x : Attribute) (xs : List Attribute) →
     × (((length padding ≡ fill (length x.value)) × Cut rest xs)
     ⊎ ((length padding < fill (length x.value)) × (rest ≡ []) × (xs ≡ []))))
 endings_apart bytes x xs = (
-  λ h. (
-    h.1.padding,
-    h.0,
-    h.1.parts,
-    h.1.fits,
-    grind (arith, one_cut h.0 xs []),
-  ),
+  λ h. (h.1.padding, h.0, h.1.parts, h.1.fits, grind (arith, one_cut h.0 xs [])),
   λ (padding, rest, parts, fits, how). (
     rest,
     record { padding = padding; parts = parts; fits = fits; filled = grind arith },

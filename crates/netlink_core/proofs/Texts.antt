@@ -9,8 +9,7 @@ use Rattle.netlink_core.specs.Parse.{without_end_zero, text_in}
 -- a zero at the end is taken off
 pub end_zero : (text : List ℕ) → without_end_zero (text ++ 0 ∷ []) ≡ text
 end_zero [] = refl
-end_zero (byte ∷ []) = grind arith
-end_zero (byte ∷ next ∷ text) = grind (arith, end_zero (next ∷ text))
+end_zero (byte ∷ text) = grind (arith, end_zero text)
 
 -- another byte there stays
 pub other_end : (text : List ℕ) (last : ℕ) → last ≢ 0

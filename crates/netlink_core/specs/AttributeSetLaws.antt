@@ -1,7 +1,7 @@
 -- What follows for a set of attributes from the laws of its types.
-use Rattle.std.proofs.Common.{Ok, Err, ◌≡◌, ◌∙◌, ◌↔◌, inl, inr, ℕ, ◌<◌, ◌^◌, [], ◌∷◌}
+use Rattle.std.proofs.Common.{Ok, Err, ◌≡◌, ◌∙◌, ◌↔◌, inl, inr, [], ◌∷◌}
 use Rattle.std.proofs.Common.{refl, sym, arith}
-use Rattle.std.specs.Prelude.{bit_and, ◌≢◌}
+use Rattle.std.specs.Prelude.{◌≢◌}
 use Rattle.std.proofs.lemmas.Nat.{and_mask}
 use Rattle.std.proofs.lemmas.Bool.Decides.{nat_tests}
 use Rattle.netlink_core.specs.declared.fault.DecodeError.TheVariants.{Memory}
@@ -26,12 +26,8 @@ is_there spec others a v h = grind (arith, nat_tests)
 pub set_faults_named : (F : AttributeSet) → AttributeSetLaws F → (a : Attribute)
     → decodes F a ≡ Err Memory → ⊥
 set_faults_named [] laws a h = cc
-set_faults_named (spec ∷ others) laws a h = grind (
-  arith,
-  nat_tests,
-  laws.0.value.named_fault a.value tt,
-  set_faults_named others laws.1 a,
-)
+set_faults_named (spec ∷ others) laws a h =
+    grind (arith, nat_tests, laws.0.value.named_fault a.value tt, set_faults_named others laws.1 a)
 
 -- a value is written under the type that it was read from
 own_type : (F : AttributeSet) → AttributeSetLaws F → (a : Attribute) (v : AttributeValue F)

@@ -1,6 +1,5 @@
 -- Strings of bytes, and their parts.
-use Rattle.std.proofs.Common.{ℕ, zero, suc, ◌<◌, ◌/◌, ◌^◌, List, [], ◌∷◌, ◌++◌, replicate, arith}
-use Rattle.std.proofs.lemmas.Nat.{mod_below}
+use Rattle.std.proofs.Common.{ℕ, zero, suc, ◌<◌, List, [], ◌∷◌, ◌++◌, replicate, arith}
 use Rattle.std.specs.Int.{bytes_low_first, byte_at}
 use Rattle.netlink_core.specs.Bytes.{IsBytes}
 
@@ -30,8 +29,7 @@ IsBytes-right (x ∷ xs) ys h = IsBytes-right xs ys (λ i. h (suc i))
 
 -- a byte of a number
 pub byte_at-lt : (k x : ℕ) → byte_at k x < 256
-byte_at-lt zero x = mod_below x 256 (omega arith)
-byte_at-lt (suc k) x = mod_below (x / 256 ^ suc k) 256 (omega arith)
+byte_at-lt k x = grind arith
 
 -- the bytes of a number
 pub IsBytes-number : (i n x : ℕ) → IsBytes (bytes_low_first i n x)

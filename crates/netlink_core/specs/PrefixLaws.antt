@@ -23,9 +23,8 @@ pub has_prefix : (bytes : List ℕ) (word type_word : ℕ) → IsBytes bytes
     → 4 ≤ word → word ≤ length bytes
     → HasPrefix bytes (record { type_word = type_word; value = take (word - 4) (drop 4 bytes) })
 has_prefix (a ∷ b ∷ c ∷ d ∷ tail) word type_word fits word-is type-given low high =
-    let whole : take (length (a ∷ b ∷ c ∷ d ∷ tail) - 2) (c ∷ d ∷ tail) ≡ c ∷ d ∷ tail =
-    take_all _ (c ∷ d ∷ tail) (omega arith) in
-    let number : type_word ≡ c + 256 * (d + 256 * 0) = rw whole at type-given in
+    let number : type_word ≡ c + 256 * (d + 256 * 0) =
+    type-given ∙ ap (little_number 2) (take_all _ (c ∷ d ∷ tail) (omega arith)) in
     let len : length (take (word - 4) tail) ≡ word - 4 =
     omega (arith, length-take (word - 4) tail) in
     let words : (a ≡ (4 + length (take (word - 4) tail)) % 256)
