@@ -25,7 +25,6 @@ module _ (socket : SocketId → SocketId → Bool) (same_socket : (a b : SocketI
         && (eqb v.recv_queue w.recv_queue
         && (eqb v.send_queue w.send_queue && (eqb v.uid w.uid && eqb v.inode w.inode)))))))
         ↔ (v ≡ w)
-    header_equal v w = (
-      λ h. grind (arith, same_socket, options_equal timer same_timer),
-      λ e. grind (arith, same_socket, options_equal timer same_timer, e),
-    )
+    header_equal v w =
+        let same = options_equal timer same_timer in
+        (λ h. grind (arith, same_socket, same), λ e. grind (arith, same_socket, same, e))

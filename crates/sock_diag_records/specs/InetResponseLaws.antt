@@ -2,12 +2,12 @@
 use Rattle.std.proofs.Common.{◌≡◌, ℕ, ◌^◌, ◌<◌}
 use Rattle.std.proofs.Common.{List, ◌∷◌, ◌++◌, drop}
 use Rattle.std.proofs.Common.{slice_index, Option, Result, Ok, refl}
-use Rattle.std.proofs.Common.{IsTrue, arith}
+use Rattle.std.proofs.Common.{arith}
 use Rattle.std.specs.Prelude.{IfSome}
 use Rattle.std.specs.declared.time.Duration.{Duration}
 use Rattle.netlink_core.specs.Table.{values_of, numbers}
 use Rattle.netlink_core.specs.Table.{little_endian, Fit}
-use Rattle.netlink_core.specs.SoundLaws.{is_table, IsSound, IsFixed}
+use Rattle.netlink_core.specs.SoundLaws.{IsSound, IsFixed}
 use Rattle.netlink_core.specs.Bytes.{IsBytes}
 use Rattle.netlink_core.specs.Faults.{map_ok}
 use Rattle.netlink_core.proofs.Numbers.{number-fits}
@@ -19,7 +19,6 @@ use Rattle.netlink_core.specs.declared.fault.DecodeError.{DecodeError}
 use Rattle.sock_diag_records.specs.SocketId.{socket_id_fields, socket_id_values}
 use Rattle.sock_diag_records.specs.SocketIdInverse.{socket_id_of}
 use Rattle.sock_diag_records.specs.IpVersions.{IpVersions, versions_of}
-use Rattle.sock_diag_records.specs.IpVersions.{versions_of_family}
 use Rattle.sock_diag_records.specs.InetResponse.{header_fields, header_values, inet_response_header}
 use Rattle.sock_diag_records.specs.InetResponseInverse.{duration, retransmits_count, expires_count}
 use Rattle.sock_diag_records.specs.InetResponseInverse.{timer_of, header_of, socket_id_count}
@@ -57,22 +56,11 @@ expires_at left = slice_index (values_of (numbers 52 4 little_endian 1) left) 0
 pub class_lt : (timer : ℕ) → class_of_byte timer < 5
 class_lt timer = grind arith
 
--- the tag tells the versions and one of the classes
-found : (left : List ℕ) (t : Tag) → inet_response_header.tag_at tt left ≡ Ok t
-    → (versions_of_family (slice_index left 0) ≡ Ok t.0) × (t.1 < 5)
-unfolding inet_response_header
-found left t e = grind arith
-
-tables_are : (t : Tag) → t.1 < 5 → IsTrue (is_table 0 (header_fields t) 72)
-tables_are t below = grind arith
-
 -- what is read has the values that were read, and a timer of whole milliseconds
 kept_are : (left : List ℕ) → IsBytes left → (versions : IpVersions) (class : ℕ) → class < 5
-    → (header_values (header_of (versions, class)
-    (values_of (header_fields (versions, class)) left))
-    ≡ values_of (header_fields (versions, class)) left)
-    × IsWholeTimer (header_of (versions, class)
-    (values_of (header_fields (versions, class)) left)).timer
+    → let values = values_of (header_fields (versions, class)) left in
+    let value = header_of (versions, class) values in
+    (header_values value ≡ values) × IsWholeTimer value.timer
 kept_are left h =
     let below : expires_at left < 2 ^ 32 = number-fits little_endian 4 (drop 52 left)
     (AreBytes-drop 52 left h) in
@@ -133,17 +121,16 @@ ruleset header_back =
 pub header_sound : IsSound inet_response_header
 unfolding inet_response_header
 header_sound = record {
-  tables = λ param t left e. let below = (found left t e).1 in grind arith;
+  tables = λ param t left e. grind arith;
   own_table = λ value. grind arith;
   enough = λ value. omega arith;
   room = λ param t left enough e. enough;
   long = λ value. grind arith;
   named = λ param left e. grind arith;
-  kept = λ param t left h e. (kept_are left h t.0 t.1 (found left t e).1).0;
-  tagged = λ param t left e. let below = (found left t e).1 in grind arith;
-  shaped = λ param t left h e. let below = (found left t e).1 in grind arith;
-  owned = λ param t left h e. let p = found left t e in
-      (grind arith, (kept_are left h t.0 t.1 p.1).1);
+  kept = λ param t left h e. (kept_are left h t.0 t.1 (grind arith)).0;
+  tagged = λ param t left e. grind arith;
+  shaped = λ param t left h e. grind arith;
+  owned = λ param t left h e. (grind arith, (kept_are left h t.0 t.1 (grind arith)).1);
   back = λ param value t n. simp (header_back, t.shaped, n.own.1);
   tag_written = λ param value t n. rw n.own.0 (grind arith);
 }
