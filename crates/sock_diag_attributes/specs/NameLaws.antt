@@ -32,9 +32,8 @@ HasNoZero bytes = All (λ byte. byte ≢ 0) bytes
 
 -- no fault of a name is want of memory
 name_named : (x : List ℕ) → read_name x ≡ Err Memory → ⊥
-name_named [] h = cc
-name_named (zero ∷ address) h = cc
 name_named (suc n ∷ xs) h = grind arith
+name_named _ h = cc
 
 -- a name that was read is written as its string, and is in normal form
 name_exact : (x : List ℕ) (u : SocketName) → read_name x ≡ Ok u → (x ≡ name_bytes u)
@@ -67,13 +66,12 @@ name_exact (suc n ∷ xs) u h =
 first_zero : (bytes front rest : List ℕ) → bytes ≡ front ++ rest → get_or bytes 0 0 ≢ 0
     → HasNoZero front → get_or rest 0 0 ≡ 0 → read_name bytes
     ≡ path_in bytes (cond (ltb (length front) (length bytes)) (Some (length front)) None)
-first_zero [] front rest parts first none here = absurd (first refl)
-first_zero (zero ∷ xs) front rest parts first none here = absurd (first refl)
 first_zero (suc n ∷ xs) front rest parts first none here =
     rw (position_or_len_is (λ b. b == 0) (suc n ∷ xs) (length front) 0
     (omega (arith, ap length parts, length-append front rest))
     (λ k l. rw parts (ne_eqb _ _ (rw get_or-append (none k 0 l))))
     (λ l. grind (arith, parts, get_or-append-add front rest 0 0, here))) refl
+first_zero _ front rest parts first none here = absurd (first refl)
 
 -- The three answers to such a name, by its last byte and what stands in front of it: a zero there,
 -- none and a zero in the last place, and none at all.
@@ -107,12 +105,11 @@ name_reads_back (pathname (b ∷ xs)) good =
 -- an accepted name that is not empty, of which the first byte is no zero: nothing else needs a look
 pub known_path : (bytes path : List ℕ) (last : ℕ) → bytes ≡ path ++ last ∷ [] → get_or bytes 0 0 ≢ 0
     → IsOk (read_name bytes) → read_name bytes ≡ Ok (pathname path)
-known_path [] path last parts first ok = absurd (first refl)
-known_path (zero ∷ xs) path last parts first ok = absurd (first refl)
 known_path (suc n ∷ xs) path last parts first ok =
     let end : position_or_len (λ b. b == 0) (suc n ∷ xs) ≡ length path =
     grind (arith, ap length parts, length-append path (last ∷ [])) in
     grind (arith, parts, end, take-append_seam path (last ∷ []))
+known_path _ path last parts first ok = absurd (first refl)
 
 -- of a string of bytes the name is one of bytes
 pub name_in_range : (u : SocketName) → IsBytes (name_bytes u) → IsNameInRange u

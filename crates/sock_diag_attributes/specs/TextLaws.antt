@@ -34,23 +34,8 @@ all_kept s = (
 -- what is kept of two strings is equal exactly where they are idle
 idle_where_kept : (b c : List ℕ) → (without_end_zero b ≡ without_end_zero c) ↔ AreIdleTexts b c
 idle_where_kept b c = (
-  λ e. elim (kept_or_ends b) [
-    | inl left ↦ elim (kept_or_ends c) [
-      | inl right ↦ inl cc
-      | inr right ↦ inr (inr ((all_kept c).1 right, cc))
-    ]
-    | inr left ↦ elim (kept_or_ends c) [
-      | inl right ↦ inr (inl ((all_kept b).1 left, cc))
-      | inr right ↦ inl cc
-    ]
-  ],
-  λ h. elim h [
-    | inl same ↦ cc
-    | inr more ↦ elim more [
-      | inl right ↦ cc ((all_kept b).0 right.0, end_zero b)
-      | inr left ↦ cc ((all_kept c).0 left.0, end_zero c)
-    ]
-  ],
+  λ e. grind (arith, kept_or_ends b, kept_or_ends c, all_kept b, all_kept c),
+  λ h. grind (arith, all_kept b, all_kept c, end_zero b, end_zero c),
 )
 
 -- what was read is what is kept, which is UTF-8

@@ -1,8 +1,7 @@
-use Rattle.std.proofs.Common.{inl, inr, [], ◌∷◌, ◌++◌, length, ap, arith}
+use Rattle.std.proofs.Common.{ℕ, inl, inr, [], ◌∷◌, length, ap, arith}
 use Rattle.std.proofs.lemmas.List.{length-append}
 use Rattle.std.proofs.lemmas.Result.{err_from_is_err_and}
 use Rattle.netlink_core.specs.AttributeSet.{decodes}
-use Rattle.netlink_core.specs.Walk.{bytes_left}
 use Rattle.netlink_core.proofs.Walking.{later_fault, fault_here, StartsWith-some, prefix_of_start}
 use Rattle.netlink_core.proofs.Cutting.{means_or_fault_apart}
 use Rattle.attribute_lists.proofs.Finding.{value_first}
@@ -18,12 +17,7 @@ loop-item-preserved g c =
       mean = λ later m. kept.mean (_ ∷ later) (_ ∷ m.0, (_, start, m.1), (read, m.2));
       fault = λ e f. kept.fault e (later_fault reads _ _ _ _ e start read f);
       many = omega (arith, ap length (value_first reads _ _ _ _ start read));
-      room = omega (
-        arith,
-        ap length start.parts,
-        length-append c.in_ok-item.field-0.value.now (start.padding ++ bytes_left c.next.new.self),
-        length-append start.padding (bytes_left c.next.new.self),
-      );
+      room = grind (arith, ap length start.parts, length-append {A = ℕ});
     }
 
 pub returns-in_err-item-clause-fault : goal.returns-in_err-item-clause-fault

@@ -24,9 +24,8 @@ loop-view-preserved g c =
       clean = c.next_view.ensures.rest;
       fits = (fits.0.1, omega arith);
       len = omega arith;
-      done = one_more a _ (flat_map written later) c.loop-view.buffer c.emit_nla.new.buffer _
-          c.loop-view.at _ (ap (flat_map written) parts) c.emit_nla.ensures (omega arith) in_buffer
-          c.loop-view.invariant.done;
-      left = behind_one_more a c.loop-view.buffer c.args.buffer.now c.emit_nla.new.buffer
-          c.loop-view.at _ c.emit_nla.ensures (omega arith) in_buffer c.loop-view.invariant.left;
+      done = one_more a _ (flat_map written later) _ _ _ _ _ (ap (flat_map written) parts)
+          c.emit_nla.ensures (omega arith) in_buffer c.loop-view.invariant.done;
+      left = behind_one_more a _ _ _ _ _ c.emit_nla.ensures (omega arith) in_buffer
+          c.loop-view.invariant.left;
     }
