@@ -45,7 +45,7 @@ DumpGoesOn middle state items after end = ((state ≡ Ok unended) × Dump middle
 abbrev Plain : {A : Type 0} → List (Item A) → Type 0
 Plain items = AllByRecursion (λ item. end_of item ≡ None) items
 
-pub none_or_some : {X : Type 0} (end : Option X) → (end ≡ None) ⊎ ((x : X) × (end ≡ Some x))
+none_or_some : {X : Type 0} (end : Option X) → (end ≡ None) ⊎ ((x : X) × (end ≡ Some x))
 none_or_some None = inl refl
 none_or_some (Some x) = inr (x, refl)
 
@@ -394,20 +394,14 @@ module _ (C : Codec ℕ) (laws : KeepsLaws C) where
       (λ b e f. one_envelope_fault C b e f (λ x t. laws.one_fault x t e f))
 
   -- feeding split datagrams leaves what the dump over all the bytes does
-  whole_feed : (datagrams : List (List ℕ)) → AllByRecursion IsBytes datagrams → AreSplit datagrams
-      → (left : Stage C.Value) → FeedsLeave C untouched datagrams left → (end : End)
-      × Takes C [] false (concatenation datagrams) left.0 left.2 end × (left.1 ≡ state_left C end)
+  pub whole_feed : (datagrams : List (List ℕ)) → AllByRecursion IsBytes datagrams
+      → AreSplit datagrams → (left : Stage C.Value) → FeedsLeave C untouched datagrams left
+      → (all : (end : End) × Takes C [] false (concatenation datagrams) left.0 left.2 end)
+      × (left.1 ≡ state_left C all.0)
   unfolding dump_of_split
   whole_feed datagrams in_range split left f =
       let a = feeds_dump C some datagrams in_range untouched left refl f in
-      (a.0, (dump_of_split C datagrams split [] left.0 a.0 a.1, a.3 split), a.2)
-
-  pub split_feed : (datagrams : List (List ℕ)) → AllByRecursion IsBytes datagrams
-      → AreSplit datagrams → (left : Stage C.Value) → FeedsLeave C untouched datagrams left
-      → (end : End) × Takes C [] false (concatenation datagrams) left.0 left.2 end
-  split_feed datagrams in_range split left f =
-      let all = whole_feed datagrams in_range split left f in
-      (all.0, all.1)
+      ((a.0, (dump_of_split C datagrams split [] left.0 a.0 a.1, a.3 split)), a.2)
 
   -- feeding the same bytes in split datagrams leaves the same
   pub same_feeds : (datagrams others : List (List ℕ)) → AllByRecursion IsBytes datagrams
@@ -418,8 +412,8 @@ module _ (C : Codec ℕ) (laws : KeepsLaws C) where
       let a = whole_feed datagrams in_range split left f in
       let b = whole_feed others fits cut also g in
       let ends = takes_once C one (concatenation others) (bytes-concatenation others fits) [] left.0
-      also.0 false left.2 also.2 a.0 b.0 (rw same at a.1) b.1 in
-      let state : left.1 ≡ also.1 = cc (a.2, b.2, ends.1) in
+      also.0 false left.2 also.2 a.0.0 b.0.0 (rw same at a.0.1) b.0.1 in
+      let state : left.1 ≡ also.1 = cc (a.1, b.1, ends.1) in
       λ i. (ends.0 i, state i, ends.2 i)
 
   -- feeding datagrams with the same items in a row leaves the same messages and state

@@ -4,15 +4,16 @@ use Rattle.std.specs.Prelude.{IsTrue, count_by}
 use Rattle.netlink_core.specs.declared.fault.DecodeError.TheVariants.{UnknownMessageType}
 use Rattle.netlink_core.specs.declared.header.NetlinkHeader.{NetlinkHeader}
 use Rattle.netlink_core.specs.Header.{IsHeaderInRange}
-use Rattle.netlink_core.specs.Envelope.{Payload, inner, Envelope, IsInnerType, OfInner, finalized}
+use Rattle.netlink_core.specs.Envelope.{Payload, inner, IsInnerType, OfInner, finalized}
 use Rattle.netlink_core.specs.Envelope.{payload_type, envelope_codec}
 use Rattle.netlink_core.proofs.Headers.{header_stands}
-use Rattle.netlink_packet_sock_diag.specs.Message.{Message, message_kind, message_codec}
+use Rattle.netlink_packet_sock_diag.specs.Message.{Message, message_codec}
 use Rattle.sock_diag_records.specs.ResponseKind.{MessageKind, inet_request, inet_response}
 use Rattle.sock_diag_records.specs.ResponseKind.{unix_request, unix_response}
 use Rattle.netlink_packet_sock_diag.specs.MessageLaws.{length-message_bytes, other_type_refused}
 
-one_of : (own : MessageKind) (tests : MessageKind → Bool)
+-- one test of the kinds tells a kind
+pub one_of : (own : MessageKind) (tests : MessageKind → Bool)
     → ((kind : MessageKind) → IsTrue (tests kind) ↔ (own ≡ kind))
     → count_by tests (inet_request ∷ inet_response ∷ unix_request ∷ unix_response ∷ []) ≡ 1
 one_of own tests tell = grind (
@@ -22,11 +23,6 @@ one_of own tests tell = grind (
   tell unix_request,
   tell unix_response,
 )
-
-pub one_kind : (m : Message) (tests : MessageKind → Bool)
-    → ((kind : MessageKind) → IsTrue (tests kind) ↔ (message_kind m ≡ kind))
-    → count_by tests (inet_request ∷ inet_response ∷ unix_request ∷ unix_response ∷ []) ≡ 1
-one_kind m = one_of (message_kind m)
 
 -- the bytes of a message whose header is finalized under the type 21
 abbrev pub sent : NetlinkHeader → Message → List ℕ
@@ -53,13 +49,8 @@ destroy_is_refused h m rest bytes in_range fits whole =
     rw whole (inr (own, stands.0, inr (omega arith), rw stands.1 refused))
 
 -- the type of a finalized inner message is 20, a type of inner messages
-normal_payload : (t : ℕ) (p : Payload Message) → t ≡ payload_type (λ _. 20) p
+pub normal_payload : (t : ℕ) (p : Payload Message) → t ≡ payload_type (λ _. 20) p
     → (OfInner (λ m. IsInnerType t × message_codec.is_normal t m) p
     ↔ OfInner (message_codec.is_normal 20) p)
 normal_payload t (inner m) e = rw e (λ n. n.1, λ n. (inr (omega arith), n))
 normal_payload t p e = grind arith
-
-pub normal_envelope : (v : Envelope Message) → v.header.message_type ≡ payload_type
-    (λ _. 20) v.payload → ((envelope_codec message_codec).is_normal tt v
-    ↔ OfInner (message_codec.is_normal 20) v.payload)
-normal_envelope v e = normal_payload v.header.message_type v.payload e

@@ -2,8 +2,6 @@
 use Rattle.std.proofs.Common.{◌≡◌, ◌≢◌, ◌⊎◌, inl, inr, ℕ, List, [], ◌∷◌, ◌++◌, refl, sym, ◌∙◌}
 use Rattle.std.proofs.Common.{arith}
 use Rattle.std.specs.Prelude.{None, Result, Ok, Err}
-use Rattle.std.proofs.Math.Logic.{∥∥₁_map}
-use Rattle.std.proofs.lemmas.Grind.{merely}
 use Rattle.netlink_core.specs.Codec.{Codec}
 use Rattle.netlink_core.specs.declared.fault.DecodeError.TheVariants.{Memory}
 use Rattle.netlink_packet_sock_diag.specs.declared.dump.DumpState.TheVariants.{Failed}
@@ -22,9 +20,6 @@ module _ (C : Codec ℕ) where
       ⊎ ((now.1 ≡ (Failed, None)) × (last : List ℕ) × (answer : Result Unit DumpError)
       × FeedLeaves C before last now answer))
 
-  pub new_fed : ∥ Fed untouched ∥₁
-  new_fed = merely ([], untouched, refl, inl refl)
-
   -- one more datagram is fed at the end
   one_more : (datagrams : List (List ℕ)) (old before after : Stage C.Value) (datagram : List ℕ)
       (answer : Result Unit DumpError) → FeedsLeave C old datagrams before
@@ -37,22 +32,17 @@ module _ (C : Codec ℕ) where
       (next, given, leaves, named, one_more later next before after datagram answer more f some)
 
   -- a dump that is read was left so with memory for all
-  on : (before after : Stage C.Value) (datagram : List ℕ) (answer : Result Unit DumpError)
-      → Fed before → FeedLeaves C before datagram after answer → Fed after
-  on before after datagram (Err Ended) fed f = rw f.1 fed
-  on before after datagram (Ok done) (datagrams, old, leave, inl same) f = (
+  pub fed_on : (before after : Stage C.Value) (datagram : List ℕ)
+      (answer : Result Unit DumpError) → Fed before → FeedLeaves C before datagram after answer
+      → Fed after
+  fed_on before after datagram (Err Ended) fed f = rw f.1 fed
+  fed_on before after datagram (Ok done) (datagrams, old, leave, inl same) f = (
     datagrams ++ datagram ∷ [],
     after,
     one_more datagrams untouched before after datagram (Ok done) (rw same at leave) f (λ e. cc),
     inl refl,
   )
-  on before after datagram (Err (Fault e)) (datagrams, old, leave, inl same) f =
+  fed_on before after datagram (Err (Fault e)) (datagrams, old, leave, inl same) f =
       (datagrams, before, rw same at leave, inr (f.1, datagram, Err (Fault e), f))
-  on before after datagram answer (datagrams, old, leave, inr failed) f =
+  fed_on before after datagram answer (datagrams, old, leave, inr failed) f =
       let no : (Failed, None) ≡ unended = sym failed.0 ∙ f.0 in grind arith
-
-  pub fed_on : (before after : Stage C.Value) (datagram : List ℕ)
-      (answer : Result Unit DumpError) → ∥ Fed before ∥₁
-      → FeedLeaves C before datagram after answer → ∥ Fed after ∥₁
-  fed_on before after datagram answer fed f =
-      ∥∥₁_map fed (λ some. on before after datagram answer some f)

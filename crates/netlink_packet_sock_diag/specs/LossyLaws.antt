@@ -1,5 +1,5 @@
 -- The codec of entries, values and faults of strings, keeps the laws.
-use Rattle.std.proofs.Common.{◌≡◌, ℕ, List, inl, inr, refl, sym, ap, subst, ◌∙◌}
+use Rattle.std.proofs.Common.{◌≡◌, ℕ, List, inl, inr, refl, ap, ◌∙◌, arith}
 use Rattle.std.specs.Prelude.{Result, Ok, Err}
 use Rattle.netlink_core.specs.declared.fault.DecodeError.{DecodeError}
 use Rattle.netlink_core.specs.Bytes.{IsBytes}
@@ -19,16 +19,14 @@ module _ (C : Codec ℕ) (laws : KeepsLaws C) where
   one_entry b t in_range (Err e) (Err f) r s = ap Err (laws.one_fault b t e f r s)
 
   -- strings that are read as the same are idle
-  same_entry : (b c : List ℕ) (t : ℕ) (v : Result C.Value DecodeError)
-      → (lossy C).reads b t v → (lossy C).reads c t v → (lossy C).idle t b c
-  same_entry b c t (Ok v) r s = (Ok v, (r, s))
-  same_entry b c t (Err e) r s = (Err e, (r, s))
+  same_entry : (b c : List ℕ) (t : ℕ) (v w : Result C.Value DecodeError)
+      → (lossy C).reads b t v → (lossy C).reads c t w → v ≡ w → (lossy C).idle t b c
+  same_entry b c t v w r s same = (v, grind arith)
 
   -- and the other way round
   idle_entry : (b c : List ℕ) (t : ℕ) → (lossy C).idle t b c
       → (v : Result C.Value DecodeError) × (lossy C).reads b t v × (lossy C).reads c t v
-  idle_entry b c t (Ok v, i) = (Ok v, i.0, i.1)
-  idle_entry b c t (Err e, i) = (Err e, i.0, i.1)
+  idle_entry b c t idle = (idle.0, grind arith, grind arith)
 
   pub lossy_laws : KeepsLaws (lossy C)
   lossy_laws = record {
@@ -40,8 +38,7 @@ module _ (C : Codec ℕ) (laws : KeepsLaws C) where
     one_fault = λ b t e f h k. absurd h;
     named_fault = λ b t f. f;
     same_value = λ b c t v w tb tc r s. (
-      λ e. same_entry b c t v r
-          (subst (λ (entry : Result C.Value DecodeError). (lossy C).reads c t entry) (sym e) s),
+      same_entry b c t v w r s,
       λ i. let both = idle_entry b c t i in
           one_entry b t tb v both.0 r both.1 ∙ one_entry c t tc both.0 w both.2 s,
     );

@@ -1,15 +1,15 @@
 -- The laws of messages.
-use Rattle.std.proofs.Common.{◌≡◌, ◌≢◌, ◌↔◌, ◌∙◌, ℕ, ◌≤◌, ◌==◌, ◌⊎◌, inl, inr, Bool, true, false}
-use Rattle.std.proofs.Common.{if◌then◌else◌, List, [], ◌∷◌, length, slice_index, Result, Ok, Err}
-use Rattle.std.proofs.Common.{refl, sym, ap, subst, arith, le-ltb}
-use Rattle.std.specs.Prelude.{◌||◌, not, nat_lt, MatchResult}
-use Rattle.std.proofs.lemmas.Bool.{cases_eq, eqb-true, ne_eqb, not-false}
+use Rattle.std.proofs.Common.{◌≡◌, ◌≢◌, ◌↔◌, ◌∙◌, ℕ, ◌≤◌, ◌⊎◌, inl, inr}
+use Rattle.std.proofs.Common.{List, [], ◌∷◌, length, slice_index, Result, Ok, Err}
+use Rattle.std.proofs.Common.{refl, sym, ap, arith, le-ltb}
+use Rattle.std.specs.Prelude.{MatchResult}
+use Rattle.std.proofs.lemmas.Bool.{eqb-true, ne_eqb}
+use Rattle.std.proofs.lemmas.Bool.Decides.{nat_tests}
 use Rattle.netlink_core.specs.Bytes.{IsBytes}
 use Rattle.netlink_core.specs.Codec.{KeepsLaws}
 use Rattle.netlink_core.specs.Response.{response_bytes}
 use Rattle.netlink_core.specs.declared.fault.DecodeError.{DecodeError}
-use Rattle.netlink_core.specs.declared.fault.DecodeError.TheVariants.{Memory, MessageTooShort}
-use Rattle.netlink_core.specs.declared.fault.DecodeError.TheVariants.{UnknownFamily}
+use Rattle.netlink_core.specs.declared.fault.DecodeError.TheVariants.{Memory}
 use Rattle.netlink_core.specs.declared.fault.DecodeError.TheVariants.{UnknownMessageType}
 use Rattle.netlink_core.proofs.LayoutLaws.{keeps_laws}
 use Rattle.netlink_core.proofs.Responses.{responses_keep_laws}
@@ -53,28 +53,9 @@ IsResponseKind t found =
     MatchResult found (λ kind. (t ≡ 20) × ((kind ≡ inet_response) ⊎ (kind ≡ unix_response)))
     (λ e. e ≢ Memory)
 
-chosen : (t got given family : ℕ) (short other unix inet : Bool) → (other ≡ false → t ≡ 20)
-    → IsResponseKind t
-    (if short then Err (MessageTooShort got)
-    else if other then Err (UnknownMessageType given)
-    else if unix then Ok unix_response
-    else if inet then Ok inet_response
-    else Err (UnknownFamily family))
-chosen t got given family true other unix inet is = λ e. cc
-chosen t got given family false true unix inet is = λ e. cc
-chosen t got given family false false true inet is = (is refl, inr refl)
-chosen t got given family false false false true is = (is refl, inl refl)
-chosen t got given family false false false false is = λ e. cc
-
 response_kinds : (b : List ℕ) (t : ℕ) (found : Result MessageKind DecodeError)
-    → response_kind b t ≡ found
-    → IsResponseKind t found
-response_kinds b t found h =
-    let first = slice_index b 0 in
-    subst (IsResponseKind t) h
-    (chosen t (length b) t first
-    (nat_lt (length b) 2) (not (t == 20)) (first == 1) ((first == 2) || (first == 10))
-    (λ e. eqb-true t 20 (not-false (t == 20) e)))
+    → response_kind b t ≡ found → IsResponseKind t found
+response_kinds b t found h = rw (← h) (grind (arith, nat_tests, eqb-true))
 
 -- what is read is a reply, under the type 20
 pub read_reply : (b : List ℕ) (t : ℕ) (m : Message) → message_codec.reads b t m
@@ -82,11 +63,6 @@ pub read_reply : (b : List ℕ) (t : ℕ) (m : Message) → message_codec.reads 
 read_reply b t (message_of kind v) r = response_kinds b t (Ok kind) r.0
 
 -- ---- one message or one fault
-
-same_kind : (found : Result MessageKind DecodeError) (k l : MessageKind) → found ≡ Ok k
-    → found ≡ Ok l
-    → k ≡ l
-same_kind found k l h g = cc
 
 -- the message or the fault by the kind that is found, or its fault
 answered_as : (b : List ℕ) (t : ℕ) (found : Result MessageKind DecodeError) → IsBytes b
@@ -99,28 +75,21 @@ answered_as b t (Ok kind) tb h = elim ((laws_of kind).answered b tt tb) [
   | inr fault ↦ inr (fault.0, inr (kind, h, fault.1))
 ]
 
--- the fault of a kind is that of another one that is found
-refused_as : (b : List ℕ) (t : ℕ) (e : DecodeError) (kind other : MessageKind)
-    → response_kind b t ≡ Ok kind → response_kind b t ≡ Ok other
-    → (codec_of other).refuses b tt e → (codec_of kind).refuses b tt e
-refused_as b t e kind other found as_other refused =
-    subst (λ (k : MessageKind). (codec_of k).refuses b tt e)
-    (same_kind (response_kind b t) other kind as_other found) refused
-
 one_answer : (b : List ℕ) (t : ℕ) (m : Message) (e : DecodeError) → message_codec.reads b t m
     → message_codec.refuses b t e → ⊥
 one_answer b t (message_of kind v) e (found, r) (inl none) = cc
 one_answer b t (message_of kind v) e (found, r) (inr (other, as_other, refused)) =
-    (laws_of kind).one_answer b tt v e r (refused_as b t e kind other found as_other refused)
+    let same : other ≡ kind = cc in
+    (laws_of kind).one_answer b tt v e r (rw same at refused)
 
 one_fault : (b : List ℕ) (t : ℕ) (e f : DecodeError) → message_codec.refuses b t e
-    → message_codec.refuses b t f
-    → e ≡ f
+    → message_codec.refuses b t f → e ≡ f
 one_fault b t e f (inl h) (inl k) = cc
-one_fault b t e f (inl h) (inr (kind, found, refused)) = absurd cc
-one_fault b t e f (inr (kind, found, refused)) (inl k) = absurd cc
+one_fault b t e f (inl h) (inr (kind, found, refused)) = cc
+one_fault b t e f (inr (kind, found, refused)) (inl k) = cc
 one_fault b t e f (inr (kind, found, refused)) (inr (other, as_other, also)) =
-    (laws_of kind).one_fault b tt e f refused (refused_as b t f kind other found as_other also)
+    let same : other ≡ kind = cc in
+    (laws_of kind).one_fault b tt e f refused (rw same at also)
 
 named_fault : (b : List ℕ) (t : ℕ) → message_codec.refuses b t Memory → ⊥
 named_fault b t (inl none) = response_kinds b t (Err Memory) none refl
@@ -140,16 +109,12 @@ of_kind : (b : List ℕ) (t : ℕ) (kind : MessageKind) (m : Message) → respon
     → message_codec.reads b t m
     → (v : (codec_of kind).Value) × (m ≡ message_of kind v) × (codec_of kind).reads b tt v
 of_kind b t kind (message_of other v) found r =
-    subst
-    (λ (k : MessageKind). (x : (codec_of k).Value)
-    × (message_of other v ≡ message_of k x)
-    × (codec_of k).reads b tt x)
-    (same_kind (response_kind b t) other kind r.0 found) (v, refl, r.1)
+    let same : other ≡ kind = cc (r.0) in rw (← same) (v, refl, r.1)
 
 same_value : (b c : List ℕ) (t : ℕ) (m n : Message) → IsBytes b → IsBytes c
     → message_codec.reads b t m → message_codec.reads c t n → ((m ≡ n) ↔ message_codec.idle t b c)
 same_value b c t m n tb tc r s = (
-  λ e. idle_of b c t n tb tc (subst (message_codec.reads b t) e r) s,
+  λ e. idle_of b c t n tb tc (rw e at r) s,
   λ (kind, left, right, idle).
       let x = of_kind b t kind m left r in
       let y = of_kind c t kind n right s in
@@ -172,22 +137,14 @@ written_bytes (message_of kind v) in_range = (laws_of kind).written_bytes v in_r
 -- the family of an internet reply in normal form tells its kind
 kind_of_versions : (family : ℕ) (versions : IpVersions) → versions_of_family family ≡ Ok versions
     → response_kind (family ∷ 0 ∷ []) 20 ≡ Ok inet_response
-kind_of_versions family versions h = elim (cases_eq family 2) [
-  | inl two ↦ rw two refl
-  | inr other ↦ elim (cases_eq family 10) [
-    | inl ten ↦ rw ten refl
-    | inr neither ↦ let no = rw (ne_eqb family 2 other, ne_eqb family 10 neither) at h in absurd cc
-  ]
-]
+kind_of_versions family versions h = grind (arith, nat_tests)
 
 -- a message in normal form is written as a reply of its kind
 kind_written : (t : ℕ) (m : Message) → message_codec.is_normal t m
     → response_kind (message_codec.written m) t ≡ Ok (message_kind m)
 unfolding inet_response_header
-kind_written t (message_of inet_request v) (is, reply, normal) =
-    elim reply [ inl other ↦ absurd cc | inr other ↦ absurd cc ]
-kind_written t (message_of unix_request v) (is, reply, normal) =
-    elim reply [ inl other ↦ absurd cc | inr other ↦ absurd cc ]
+kind_written t (message_of inet_request v) (is, reply, normal) = grind arith
+kind_written t (message_of unix_request v) (is, reply, normal) = grind arith
 kind_written t (message_of inet_response v) (is, reply, normal) =
     kind_by_first_byte (response_bytes inet_response_spec v) t v.header.family (omega arith) is refl
     ∙ kind_of_versions v.header.family _ normal.0.own.0

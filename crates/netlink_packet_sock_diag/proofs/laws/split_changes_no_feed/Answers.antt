@@ -1,10 +1,11 @@
 use Rattle.netlink_packet_sock_diag.specs.Message.{message_codec}
 use Rattle.netlink_packet_sock_diag.specs.MessageLaws.{message_laws}
-use Rattle.netlink_packet_sock_diag.proofs.DumpRows.{same_feeds, split_feed}
+use Rattle.netlink_packet_sock_diag.proofs.DumpRows.{same_feeds, whole_feed}
 use Rattle.netlink_packet_sock_diag.proofs.laws.split_changes_no_feed.Goals as goal
 
 pub returns : goal.returns
 returns c = record {
   same = same_feeds message_codec message_laws;
-  whole = split_feed message_codec message_laws;
+  whole = λ datagrams in_range split left f.
+      (whole_feed message_codec message_laws datagrams in_range split left f).0;
 }

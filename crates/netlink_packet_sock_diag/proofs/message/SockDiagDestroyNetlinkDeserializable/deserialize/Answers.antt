@@ -1,11 +1,6 @@
 use Rattle.std.proofs.lemmas.Result.{err_from_is_err_and}
 use Rattle.netlink_packet_sock_diag.proofs.message.SockDiagDestroyNetlinkDeserializable.deserialize.Goals as goal
 
-pub returns-in_err-message-clause-fault : goal.returns-in_err-message-clause-fault
-returns-in_err-message-clause-fault c =
-    let p = err_from_is_err_and c.from_residual.result c.from_residual.ensures.1 in
-    rw (p.1, p.2) (λ named. c.in_err-message.ensures.fault named)
-
 pub returns-in_err-message-clause-wanted : goal.returns-in_err-message-clause-wanted
 returns-in_err-message-clause-wanted c =
     let p = err_from_is_err_and c.from_residual.result c.from_residual.ensures.1 in

@@ -9,6 +9,3 @@ returns-in_err-payload-clause-fault c =
     c.from_residual-in_err-payload.ensures.1 in
     rw (p.1, p.2) (fault_within message_codec c.args.bytes.now c.in_ok-header.header _
     c.in_ok-header.ensures c.in_err-payload.ensures.fault)
-
-pub returns-clause-value : goal.returns-clause-value
-returns-clause-value c = (c.in_ok-header.ensures, c.in_ok-payload.ensures.value)
