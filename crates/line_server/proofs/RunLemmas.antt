@@ -75,28 +75,17 @@ module _ {f : List ℕ → List ℕ} {r r' c c' : Option (List ℕ)} {whole : Li
       → answer_lines f (with_rest whole rest) ≡ (written ++ text) ++ more
       → WritesPart c' c'' text e → Answers f r r' c c'' good (Err e)
   run_failed good n c'' text more Read first begins wrote = absurd wrote
-  run_failed good n c'' text more Memory first begins wrote = (
-    whole,
-    rest,
-    (
-      n,
-      write_on c'' [] _ (Appends-kept c' c' c'' [] (Appends-nil c') wrote) (append-nil _ ∙ first),
-    ),
-    tt,
-  )
-  run_failed good n c'' text more (Write is_closed) first begins (front, later, is, wrote) = (
-    whole,
-    rest,
-    (
-      length (written ++ front),
-      write_on c'' front _ wrote
-          (rw (begins, is, ← append_assoc, append_assoc, take-append_seam)),
-    ),
-    tt,
-  )
+  run_failed good n c'' text more Memory first begins wrote =
+      let none = Appends-kept c' c' c'' [] (Appends-nil c') wrote in
+      (whole, rest, (n, write_on c'' [] _ none (append-nil _ ∙ first)), tt)
+  run_failed good n c'' text more (Write is_closed) first begins (front, later, is, wrote) =
+      let all = answer_lines f (with_rest whole rest) in
+      let sent = write_on c'' front (take (length (written ++ front)) all) wrote
+      (rw (begins, is, ← append_assoc, append_assoc, take-append_seam)) in
+      (whole, rest, (length (written ++ front), sent), tt)
 
--- a run that ended well answered all that its reader told, by each function that gives each line its
--- answer
+-- a run that ended well answered all that its reader told, by each function that gives each line
+-- its answer
 pub run_complete : (answers : List ℕ → List ℕ → Type 0) (good : List ℕ → Bool)
     (a : List ℕ → List ℕ)
     → ((f : List ℕ → List ℕ) → ((line : List ℕ) → answers line (f line)) → a ≡ f)

@@ -1,7 +1,7 @@
 -- What a line asks for, and that it has one answer.
 use Rattle.std.proofs.Common.{◌≡◌, ◌≢◌, ◌∙◌, ◌⊎◌, inl, inr, ℕ, List, [], ◌∷◌, ◌++◌, length, codes}
 use Rattle.std.proofs.Common.{get_or, refl, sym, ap, arith}
-use Rattle.std.specs.List.{AllByRecursion, after_first, before_first, join_with_byte}
+use Rattle.std.specs.List.{AllByRecursion, join_with_byte}
 use Rattle.std.specs.List.{position_or_len, slice_split}
 use Rattle.std.proofs.lemmas.List.Sums.{fails_before_first, passes_at_first, split_at_first}
 use Rattle.std.specs.Str.{bytes_eq}
@@ -28,7 +28,8 @@ use Rattle.sock_diag_lines.proofs.AnswerTexts.{texts_as_idle}
 use Rattle.sock_diag_lines.proofs.Deciding.{both_or_not, same_or_not}
 use Rattle.sock_diag_lines.proofs.DumpLaws.{fields_in_range, has_dump_text, one_dump_text}
 use Rattle.sock_diag_lines.proofs.FieldLaws.{IsBytes-field}
-use Rattle.sock_diag_lines.proofs.FieldLists.{field_or_not, one_field, one_list_of_bytes, row_or_not}
+use Rattle.sock_diag_lines.proofs.FieldLists.{field_or_not, one_field, one_list_of_bytes}
+use Rattle.sock_diag_lines.proofs.FieldLists.{row_or_not}
 use Rattle.sock_diag_lines.proofs.NameLaws.{laws_of}
 
 -- ---- names
@@ -81,13 +82,10 @@ first_space : (line : List ℕ) → ((word text : List ℕ) × (line ≡ word ++
     × (slice_split is_space line ≡ word ∷ slice_split is_space text))
     ⊎ (slice_split is_space line ≡ line ∷ [])
 first_space line = elim (cases_lt (position_or_len is_space line) (length line)) [
-  | inl within ↦ inl (
-    before_first is_space line,
-    after_first is_space line,
-    rw (eqb-true _ 32 (passes_at_first is_space line 0 within)) at
-        (split_at_first is_space line 0 within),
-    slice_split_first is_space line 0 within,
-  )
+  | inl within ↦
+      let cut = rw (eqb-true _ 32 (passes_at_first is_space line 0 within)) at
+      (split_at_first is_space line 0 within) in
+      inl (_, _, cut, slice_split_first is_space line 0 within)
   | inr past ↦ inr (slice_split_none is_space line (λ k d below.
       fails_before_first is_space line k d (omega (arith, past, below))))
 ]
@@ -180,22 +178,19 @@ field_answer : (line : List ℕ) (name : Name) (bytes : List ℕ) → IsRequest 
     → TheAnswer line
 field_answer line name bytes asked =
     let in_range = IsBytes-field asked.0 bytes asked.2 in
-    let text = some_answer (entry_of name).1 (laws_of name).0 bytes in_range in (
-      text.0,
-      field_answers line name bytes text.0 asked text.1,
-      λ other is. same_answer (entry_of name).1 (laws_of name).0 bytes other text.0 in_range
-          (is.asked name bytes asked) text.1,
-    )
+    let text = some_answer (entry_of name).1 (laws_of name).0 bytes in_range in
+    let only = λ (other : List ℕ) (is : IsAnswerOf line other). same_answer (entry_of name).1
+    (laws_of name).0 bytes other text.0 in_range (is.asked name bytes asked) text.1 in
+    (text.0, field_answers line name bytes text.0 asked text.1, only)
 
 dump_answer : (line : List ℕ) (datagrams : List (List ℕ)) → IsDumpRequest line datagrams
     → TheAnswer line
 dump_answer line datagrams dump =
     let in_range = datagrams_in_range line datagrams dump in
-    let text = has_dump_text datagrams in_range in (
-      text.0,
-      dump_answers line datagrams text.0 dump text.1,
-      λ other is. one_dump_text datagrams in_range other text.0 (is.dumped datagrams dump) text.1,
-    )
+    let text = has_dump_text datagrams in_range in
+    let only = λ (other : List ℕ) (is : IsAnswerOf line other).
+    one_dump_text datagrams in_range other text.0 (is.dumped datagrams dump) text.1 in
+    (text.0, dump_answers line datagrams text.0 dump text.1, only)
 
 bad_answer : (line : List ℕ) → IsNoRequest line → TheAnswer line
 bad_answer line none =
@@ -205,10 +200,10 @@ the_answer : (line : List ℕ) → TheAnswer line
 the_answer line = elim (first_space line) [
   | inr none ↦ bad_answer line (no_space line none)
   | inl (word, text, e, cut) ↦ elim (both_or_not (name_or_not word) (field_or_not text)) [
-    | inl ((name, is), (bytes, field)) ↦
-        field_answer line name bytes (text, rw is at e, field)
+    | inl ((name, is), (bytes, field)) ↦ field_answer line name bytes (text, rw is at e, field)
     | inr no_field ↦
-        elim (both_or_not (same_or_not word (codes "dump")) (row_or_not (slice_split is_space text))) [
+        let row = row_or_not (slice_split is_space text) in
+        elim (both_or_not (same_or_not word (codes "dump")) row) [
           | inl (is, (datagrams, fields)) ↦ dump_answer line datagrams (text, rw is at e, fields)
           | inr no_dump ↦ bad_answer line (no_request line word text cut
               (λ name bytes is field. no_field ((name, is), (bytes, field)))

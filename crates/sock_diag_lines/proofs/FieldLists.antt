@@ -1,7 +1,6 @@
 -- What bytes a field and a row of fields stand for.
-use Rattle.std.proofs.Common.{◌≡◌, ◌≢◌, ◌==◌, ◌⊎◌, inl, inr, ℕ, ◌<◌, true, List, [], ◌∷◌, length, codes}
-use Rattle.std.proofs.Common.{Result, Ok}
-use Rattle.std.proofs.Common.{Err, refl, sym, ap, ap₂, ◌∙◌, arith}
+use Rattle.std.proofs.Common.{◌≡◌, ◌≢◌, ◌==◌, ◌⊎◌, inl, inr, ℕ, ◌<◌, true, List, [], ◌∷◌, length}
+use Rattle.std.proofs.Common.{codes, Result, Ok, Err, refl, sym, ap, ap₂, ◌∙◌, arith}
 use Rattle.std.specs.List.{AllByRecursion, AllZip}
 use Rattle.std.proofs.lemmas.Bool.{eqb-true}
 use Rattle.hex.specs.Hex.{decode_of}
@@ -17,17 +16,14 @@ HasBytes field = (bytes : List ℕ) × IsHexField field bytes
 -- digits are not `-`
 no_digits : (field bytes : List ℕ) → field ≡ codes "-" → decode_of field ≡ Ok bytes → ⊥
 no_digits field bytes dash read =
-    let even = (decode_of-ok field bytes read).0 in let one = ap length dash in
-    omega (arith, even, one)
+    omega (arith, (decode_of-ok field bytes read).0, ap length dash)
 
 -- and not empty
 pub no_field : (field bytes : List ℕ) → (length field == 0) ≡ true → IsHexField field bytes → ⊥
 no_field field bytes empty (inl dash) =
-    let one = ap length dash.0 in let none = eqb-true (length field) 0 empty in
-    omega (arith, one, none)
+    omega (arith, ap length dash.0, eqb-true (length field) 0 empty)
 no_field field bytes empty (inr digits) =
-    let long = (decode_of-ok field bytes digits.1).2 in
-    let none = eqb-true (length field) 0 empty in omega (arith, long, none, digits.0)
+    omega (arith, (decode_of-ok field bytes digits.1).2, eqb-true (length field) 0 empty, digits.0)
 
 pub one_field : (field b c : List ℕ) → IsHexField field b → IsHexField field c → b ≡ c
 one_field field b c (inl dash) (inl also) = dash.1 ∙ sym also.1

@@ -20,7 +20,8 @@ returns-in_err-count-clause-answered g c =
 
 pub returns-in_err-is_last_good-clause-answered : goal.returns-in_err-is_last_good-clause-answered
 returns-in_err-is_last_good-clause-answered g c =
-    let r = c.from_residual-in_err-is_last_good in let p = err_from_is_err_and r.result r.ensures.1 in
+    let r = c.from_residual-in_err-is_last_good in
+    let p = err_from_is_err_and r.result r.ensures.1 in
     let inv = c.reads.invariant in
     let none = rw c.if-count-eq0.true at c.in_ok-count.ensures.bytes.0 in
     rw (p.1, p.2) (run_failed (waited inv.up _ none) g.A.LineAnswers.good (length inv.whole) _ _ []
@@ -38,9 +39,11 @@ returns-then-count-eq0-clause-answered g c =
 
 pub returns-in_err-is_piece_good-clause-answered : goal.returns-in_err-is_piece_good-clause-answered
 returns-in_err-is_piece_good-clause-answered g c =
-    let r = c.from_residual-in_err-is_piece_good in let p = err_from_is_err_and r.result r.ensures.1 in
+    let r = c.from_residual-in_err-is_piece_good in
+    let p = err_from_is_err_and r.result r.ensures.1 in
     let inv = c.reads.invariant in
-    let s = split_of (c.reads.kept.line.items ++ take c.in_ok-count.count c.read_prompt.new.piece) in
+    let line = c.reads.kept.line.items in
+    let s = split_of (line ++ take c.in_ok-count.count c.read_prompt.new.piece) in
     let read = read_on inv.up _ _ _ _ c.in_ok-count.ensures.bytes.0 s.splits in
     rw (p.1, p.2) (inv.whole ++ s.whole, s.rest, (length inv.whole, rw take-append_seam read), tt)
 

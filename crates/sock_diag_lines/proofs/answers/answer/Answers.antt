@@ -1,4 +1,4 @@
-use Rattle.std.proofs.Common.{◌≡◌, [], ◌++◌, List, ℕ, sym, ap, ◌∙◌, subst}
+use Rattle.std.proofs.Common.{◌≡◌, [], List, ℕ}
 use Rattle.sock_diag_lines.specs.Answer.{IsAnswerOf}
 use Rattle.sock_diag_lines.specs.TextSteps.{Adds}
 use Rattle.sock_diag_lines.proofs.AnswerLemmas.{answers_as_idle, datagrams_in_range}
@@ -7,8 +7,7 @@ use Rattle.sock_diag_lines.proofs.answers.answer.Goals as goal
 
 -- what was added to an empty text is the whole of it
 whole : (line old new : List ℕ) → old ≡ [] → Adds old new (IsAnswerOf line) → IsAnswerOf line new
-whole line old new none (more, e, is) = subst (IsAnswerOf line) (sym (e ∙ ap (λ t. t ++ more) none))
-    is
+whole line old new none (more, e, is) = rw (e, none) is
 
 pub returns-clause-same : goal.returns-clause-same
 returns-clause-same c = λ name all other bytes bytes' text' asked asked' ok ok' is'.
