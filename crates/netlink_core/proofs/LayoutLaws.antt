@@ -54,8 +54,8 @@ module _ {Param Tag Value : Type 0} (layout : Layout Param Tag Value) where
   accepted_by : (tag_found : Result Tag DecodeError) (left : List ℕ) (value : Value)
       → read_tagged left tag_found ≡ Ok value → (tag : Tag) × (tag_found ≡ Ok tag)
       × (value ≡ layout.value tag (values_of (layout.table tag) left))
-  accepted_by (Ok tag) left value e = (tag, refl, (cc))
-  accepted_by (Err other) left value e = cc
+  accepted_by tag_found left value e =
+      grind arith
 
   -- a value that was read by its fields is that of a tag that was found
   pub accepted_fields : (param : Param) (left : List ℕ) (value : Value)
@@ -66,19 +66,13 @@ module _ {Param Tag Value : Type 0} (layout : Layout Param Tag Value) where
   -- a value that was read is that of a tag that was found, in a string that is long enough
   pub accepted : (param : Param) (left : List ℕ) (value : Value) → read layout param left ≡ Ok value
       → Accepts layout param left value
-  accepted param left value e = elim (cases_lt (length left) layout.least) [
-    | inl short ↦ let no : Err (BufferTooSmall layout.name (length left) layout.least) ≡ ok value =
-        sym (too_short param left short) ∙ e in absurd cc
-    | inr long ↦
-        let parts = accepted_by (layout.tag_at param left) left value
-        (sym (long_enough param left long) ∙ e) in
-        record { long = long; tag = parts.0; tag_found = parts.1; is = parts.2 }
-  ]
+  accepted param left value e =
+      grind (arith, cases_lt (length left), too_short param left, accepted_by, long_enough param left)
 
   rejected_by : (tag_found : Result Tag DecodeError) (left : List ℕ) (fault : DecodeError)
       → read_tagged left tag_found ≡ Err fault → tag_found ≡ Err fault
-  rejected_by (Ok tag) left fault e = cc
-  rejected_by (Err other) left fault e = cc
+  rejected_by tag_found left fault e =
+      grind arith
 
 same_tag : {T : Type 0} (r : Result T DecodeError) (s t : T) → r ≡ Ok s → r ≡ Ok t → s ≡ t
 same_tag r s t e f = cc
@@ -87,22 +81,18 @@ module _ {Param Tag Value : Type 0} (layout : Layout Param Tag Value) (sound : I
   -- the table of a string's tag, and that of a value
   table_is : (param : Param) (tag : Tag) (left : List ℕ) → layout.tag_at param left ≡ Ok tag
       → IsTable 0 (layout.table tag) (layout.size tag)
-  table_is param tag left tag_found = table_from_test 0 (layout.table tag) (layout.size tag)
-      (sound.tables param tag left tag_found)
+  table_is param tag left tag_found =
+      grind (arith, table_from_test 0)
 
   own_table_is : (value : Value) → IsTable 0 (layout.table (layout.tag_of value))
       (layout.size (layout.tag_of value))
-  own_table_is value = table_from_test 0 (layout.table (layout.tag_of value))
-      (layout.size (layout.tag_of value)) (sound.own_table value)
+  own_table_is value =
+      grind (arith, table_from_test 0)
 
   -- no fault is want of memory
   pub named : (param : Param) (left : List ℕ) → read layout param left ≡ Err Memory → ⊥
-  named param left e = elim (cases_lt (length left) layout.least) [
-    | inl short ↦ let no : Err (BufferTooSmall layout.name (length left) layout.least)
-        ≡ Err Memory = sym (too_short layout param left short) ∙ e in cc
-    | inr long ↦ sound.named param left (rejected_by layout (layout.tag_at param left) left Memory
-        (sym (long_enough layout param left long) ∙ e))
-  ]
+  named param left e =
+      grind (arith, cases_lt (length left), too_short, rejected_by, long_enough)
 
   -- under one tag, equal values and the same live bits
   bits : (param : Param) (tag : Tag) (left right : List ℕ) → IsBytes left → IsBytes right
@@ -119,57 +109,30 @@ module _ {Param Tag Value : Type 0} (layout : Layout Param Tag Value) (sound : I
       → layout.tag_at param left ≡ Ok tag
       → StandsIn layout left param (layout.value tag (values_of (layout.table tag) left))
   stands param tag left h long found =
-      let same = sound.tagged param tag left found in
-      let kept = sound.kept param tag left h found in (
-        long,
-        found ∙ ap (λ (t : Tag). ok t) (sym same),
-        rw same (sym kept),
-        record {
-          shaped = sound.shaped param tag left h found;
-          fit = rw (same, kept) (values-fit (layout.table tag) left h);
-        },
-        record {
-          flags = rw (same, kept) (values-defined (layout.table tag) left);
-          own = sound.owned param tag left h found;
-        },
-      )
+      grind (arith, values-fit, values-defined)
 
   reads : (param : Param) (left : List ℕ) (value : Value) → StandsIn layout left param value
       → read layout param left ≡ Ok value
   reads param left value (long, found, numbers, in_range, normal) =
-      long_enough layout param left long ∙ accepts layout param left (layout.tag_of value) found
-      ∙ ap (λ (vs : List ℕ). ok (layout.value (layout.tag_of value) vs)) numbers
-      ∙ ap (λ (v : Value). ok v) (sound.back param value in_range normal)
+      grind (arith, long_enough, accepts)
 
   -- what is read is what stands there
   pub stands_where_read : (param : Param) (left : List ℕ) (value : Value) → IsBytes left
       → (read layout param left ≡ Ok value) ↔ StandsIn layout left param value
-  stands_where_read param left value h = (
-    λ e. let a = accepted layout param left value e in
-        subst (StandsIn layout left param) (sym a.is) (stands param a.tag left h a.long a.tag_found),
-    reads param left value,
-  )
+  stands_where_read param left value h =
+      grind (arith, accepted, stands param, reads param left value)
 
   -- the same value, so the same live bits
   idle_from_equal : (param : Param) (left right : List ℕ) (value : Value) → IsBytes left
       → IsBytes right → StandsIn layout left param value → StandsIn layout right param value
       → AreIdle layout param left right
-  idle_from_equal param left right value hl hr a b = (
-    a.0,
-    b.0,
-    layout.tag_of value,
-    a.1,
-    b.1,
-    (bits param (layout.tag_of value) left right hl hr a.0 b.0 a.1 b.1).0 (a.2 ∙ sym b.2),
-  )
+  idle_from_equal param left right value hl hr a b =
+      grind (arith, bits param)
 
   equal_from_idle : (param : Param) (left right : List ℕ) → IsBytes left → IsBytes right
       → AreIdle layout param left right → read layout param left ≡ read layout param right
   equal_from_idle param left right hl hr (left_long, right_long, tag, left_tag, right_tag, same) =
-      long_enough layout param left left_long ∙ accepts layout param left tag left_tag
-      ∙ ap (λ (vs : List ℕ). ok (layout.value tag vs))
-      ((bits param tag left right hl hr left_long right_long left_tag right_tag).1 same)
-      ∙ sym (long_enough layout param right right_long ∙ accepts layout param right tag right_tag)
+      grind (arith, long_enough, accepts, bits param tag left right hl hr left_long right_long left_tag right_tag)
 
   -- a value in normal form is read back
   pub reads_back : (param : Param) (value : Value) → IsInRange layout value
@@ -189,8 +152,8 @@ module _ {Param Tag Value : Type 0} (layout : Layout Param Tag Value) (sound : I
 
   -- a value in range is written as bytes
   pub written_bytes : (value : Value) → IsInRange layout value → IsBytes (bytes layout value)
-  written_bytes value t = bytes_of-bytes 0 (layout.table (layout.tag_of value))
-      (layout.size (layout.tag_of value)) (layout.values value) (own_table_is value) t.fit
+  written_bytes value t =
+      grind (arith, bytes_of-bytes 0, own_table_is value)
 
   -- the laws together
   pub keeps_laws : KeepsLaws (record_codec layout)
@@ -211,12 +174,8 @@ module _ {Param Tag Value : Type 0} (layout : Layout Param Tag Value) (sound : I
 
   -- the laws of the record
   pub record_laws : RecordLaws layout
-  record_laws = record {
-    codec = keeps_laws;
-    long = sound.long;
-    stands = λ b p v h.
-        stands_where_read p b v h;
-  }
+  record_laws =
+      grind (arith, keeps_laws, stands, stands_where_read)
 
 -- what is shown of a record with one table
 pub plain_sound : {Value : Type 0} {name : RecordName} {size : ℕ} {fields : List Field}
@@ -228,17 +187,5 @@ pub plain_sound : {Value : Type 0} {name : RecordName} {size : ℕ} {fields : Li
     → ((left : List ℕ) → is_shaped (value (values_of fields left)))
     → ((v : Value) → is_shaped v → value (values v) ≡ v)
     → IsSound (plain name size fields values value is_shaped)
-plain_sound table long kept shaped back = record {
-  tables = λ param tag left tag_found. table;
-  own_table = λ value. table;
-  enough = λ value. omega arith;
-  room = λ param tag left enough tag_found. enough;
-  long = long;
-  named = λ param left e. cc;
-  kept = λ param tag left h tag_found. kept left;
-  tagged = λ param tag left tag_found. refl;
-  shaped = λ param tag left h tag_found. shaped left;
-  owned = λ param tag left h tag_found. tt;
-  back = λ param v t n. back v t.shaped;
-  tag_written = λ param v t n. refl;
-}
+plain_sound table long kept shaped back =
+    grind (arith, named)

@@ -1,5 +1,6 @@
 -- The laws of tables, by induction on the fields: what was written is read again, and two strings
 -- have the same values exactly where they have the same live bits.
+use Rattle.std.proofs.lemmas.Grind.{common_steps}
 use Rattle.std.proofs.Common.{◌≡◌, ◌↔◌, ℕ, zero, suc, ◌+◌, ◌<◌, ◌≤◌, Bool, true, false, ◌&&◌, IsTrue}
 use Rattle.std.proofs.Common.{List, [], ◌∷◌, ◌++◌, length, drop, replicate, slice_index}
 use Rattle.std.proofs.Common.{bit_and, refl, sym, ap, ap₂, ◌∙◌, arith, append_assoc, eqb}
@@ -27,12 +28,12 @@ use Rattle.netlink_core.proofs.Numbers.{length-bytes_in, bytes_in-bytes, masked-
 use Rattle.netlink_core.proofs.Numbers.{length-masked, masked-bytes, and_number}
 
 and_parts : (a b : Bool) → IsTrue (a && b) → IsTrue a × IsTrue b
-and_parts true b h = (refl, h)
-and_parts false b h = cc
+and_parts a b h =
+    grind arith
 
 and_from : (a b : Bool) → IsTrue a → IsTrue b → IsTrue (a && b)
-and_from true b h k = k
-and_from false b h k = cc
+and_from a b h k =
+    grind arith
 
 -- what is written of itself is bytes
 abbrev IsWritten : Field → Type 0
@@ -48,26 +49,21 @@ IsTable from (field ∷ fields) end = (offset_of field ≡ from) × IsWritten fi
 bytes_from_test : (bytes : List ℕ) (i : ℕ) → IsTrue (list_all (λ one. nat_lt one 256) bytes)
     → slice_index bytes i < 256
 bytes_from_test [] i h = omega arith
-bytes_from_test (first ∷ bytes) zero h = grind (arith, nat_tests, and_parts)
-bytes_from_test (first ∷ bytes) (suc i) h = grind (arith, nat_tests, and_parts, bytes_from_test bytes i)
+bytes_from_test (first ∷ bytes) zero h =
+    grind (arith, nat_tests, and_parts)
+bytes_from_test (first ∷ bytes) (suc i) h =
+    grind (arith, nat_tests, and_parts, bytes_from_test bytes i)
 
 is_bytes : (field : Field) → IsTrue (is_written field) → IsWritten field
-is_bytes (unread offset written) h = λ i. bytes_from_test written i h
-is_bytes (byte offset) h = tt
-is_bytes (number offset width order) h = tt
-is_bytes (flags offset width mask) h = tt
+is_bytes field h =
+    grind (arith, bytes_from_test)
 
 -- what the test of a table tells
 pub table_from_test : (from : ℕ) (fields : List Field) (end : ℕ) → IsTrue (is_table from fields end)
     → IsTable from fields end
 table_from_test from [] end h = eqb-true from end h
 table_from_test from (field ∷ fields) end h =
-    let all = and_parts (eqb (offset_of field) from && is_written field) _ h in
-    let own = and_parts (eqb (offset_of field) from) _ all.0 in (
-      eqb-true (offset_of field) from own.0,
-      is_bytes field own.1,
-      table_from_test (from + width_of field) fields end all.1,
-    )
+    grind (arith, and_parts (eqb (offset_of field) from && is_written field), eqb (offset_of field) from, offset_of field, is_written field, and_parts (eqb (offset_of field) from), eqb-true (offset_of field) from, is_bytes field, table_from_test (from + width_of field) fields end, width_of field)
 
 -- tables that stand one after the other
 pub is_table-append : (from : ℕ) (fields : List Field) (middle : ℕ) (others : List Field) (end : ℕ)
@@ -75,17 +71,13 @@ pub is_table-append : (from : ℕ) (fields : List Field) (middle : ℕ) (others 
     → IsTrue (is_table from (fields ++ others) end)
 is_table-append from [] middle others end h k = rw (eqb-true from middle h) k
 is_table-append from (field ∷ fields) middle others end h k =
-    let own = eqb (offset_of field) from && is_written field in
-    let parts = and_parts own _ h in
-    and_from own _ parts.0
-    (is_table-append (from + width_of field) fields middle others end parts.1 k)
+    grind (arith, eqb (offset_of field) from, offset_of field, is_written field, and_parts, and_from, is_table-append (from + width_of field) fields middle others end, width_of field)
 
 -- a table ends at its beginning or later
 ends-after : (from : ℕ) (fields : List Field) (end : ℕ) → IsTable from fields end → from ≤ end
 ends-after from [] end h = omega arith
 ends-after from (field ∷ fields) end h =
-    let rest = ends-after (from + width_of field) fields end h.2 in
-    omega arith
+    grind (arith, ends-after (from + width_of field) fields end h.2, width_of field)
 
 -- ---- lists
 
@@ -96,9 +88,9 @@ AreBytes-drop n bytes h = λ i. rw (get_or-drop n bytes i 0) (h (n + i))
 -- masks in a row go over bytes in a row
 masked-append : (ms ns xs : List ℕ) → length ms ≤ length xs
     → masked (ms ++ ns) xs ≡ masked ms xs ++ masked ns (drop (length ms) xs)
-masked-append [] ns xs h = refl
-masked-append (m ∷ ms) ns [] h = absurd (omega arith)
-masked-append (m ∷ ms) ns (x ∷ xs) h = grind (arith, masked-append ms ns xs)
+masked-append (m ∷ ms) ns (x ∷ xs) h =
+    grind (arith, masked-append ms ns xs)
+masked-append ms ns xs h = grind arith
 
 -- ---- reading what was written
 
@@ -107,13 +99,11 @@ pub bytes_of-bytes : (from : ℕ) (fields : List Field) (end : ℕ) (values : Li
     → IsTable from fields end → Fit fields values → IsBytes (bytes_of fields values)
 bytes_of-bytes from [] end values t f = λ k. omega arith
 bytes_of-bytes from (unread offset written ∷ fields) end values t f =
-    IsBytes-append written _ t.1 (bytes_of-bytes (from + length written) fields end values t.2 f)
+    grind (arith, common_steps, bytes_of-bytes (from + length written) fields end values t.2 f)
 bytes_of-bytes from (byte offset ∷ fields) end (value ∷ values) t f =
-    IsBytes-cons value (bytes_of fields values) f.0
-    (bytes_of-bytes (from + 1) fields end values t.2 f.1)
+    grind (arith, bytes_of-bytes (from + 1) fields end values t.2 f.1)
 bytes_of-bytes from (number offset width order ∷ fields) end (value ∷ values) t f =
-    IsBytes-append (bytes_in order width value) _ (bytes_in-bytes order width value)
-    (bytes_of-bytes (from + width) fields end values t.2 f.1)
+    grind (arith, common_steps, bytes_in-bytes, bytes_of-bytes (from + width) fields end values t.2 f.1)
 bytes_of-bytes from (flags offset width mask ∷ fields) end (value ∷ values) t f =
     IsBytes-append (little_bytes width value) _ (bytes_in-bytes little_endian width value)
     (bytes_of-bytes (from + width) fields end values t.2 f.1)
@@ -122,9 +112,8 @@ bytes_of-bytes from fields end values t f = grind arith
 -- what follows the first piece
 after_piece : (from : ℕ) (bytes piece tail rest : List ℕ) → drop from bytes
     ≡ (piece ++ tail) ++ rest → drop (from + length piece) bytes ≡ tail ++ rest
-after_piece from bytes piece tail rest e = sym (drop-drop (length piece) from bytes)
-    ∙ ap (drop (length piece)) (e ∙ append_assoc piece tail rest)
-    ∙ drop_at piece (tail ++ rest) (length piece) refl
+after_piece from bytes piece tail rest e =
+    grind (arith, drop-drop (length piece) from bytes, append_assoc piece tail rest, drop_at piece (tail ++ rest) (length piece))
 
 -- a number and what follows it
 number_and_rest : (order : Order) (width from value : ℕ) (bytes tail rest : List ℕ)
@@ -132,33 +121,20 @@ number_and_rest : (order : Order) (width from value : ℕ) (bytes tail rest : Li
     → (number_in order width (drop from bytes) ≡ value)
     × (drop (from + width) bytes ≡ tail ++ rest)
 number_and_rest order width from value bytes tail rest fits e =
-    let piece = bytes_in order width value in (
-      rw (e, append_assoc piece tail rest) (number-reads_back order width value (tail ++ rest) fits),
-      rw length-bytes_in at (after_piece from bytes piece tail rest e),
-    )
+    grind (arith, append_assoc, number-reads_back order width value (tail ++ rest), length-bytes_in, after_piece from bytes)
 
 -- what was written is read again
 pub values-bytes_of : (from : ℕ) (fields : List Field) (end : ℕ) (values bytes rest : List ℕ)
     → IsTable from fields end → Fit fields values → AreDefined fields values
     → drop from bytes ≡ bytes_of fields values ++ rest → values_of fields bytes ≡ values
-values-bytes_of from [] end [] bytes rest t f d e = refl
 values-bytes_of from (unread offset written ∷ fields) end values bytes rest t f d e =
-    values-bytes_of (from + length written) fields end values bytes rest t.2 f d
-    (after_piece from bytes written (bytes_of fields values) rest e)
+    grind (arith, values-bytes_of (from + length written) fields end values bytes rest t.2 f d (after_piece from bytes written (bytes_of fields values) rest e), after_piece from bytes written (bytes_of fields values) rest e)
 values-bytes_of from (byte offset ∷ fields) end (value ∷ values) bytes rest t f d e =
-    ap₂ ◌∷◌ (ap (slice_index bytes) t.0
-    ∙ (simp (get_or-drop, add-zero) at (ap (λ (b : List ℕ). slice_index b 0) e)))
-    (values-bytes_of (from + 1) fields end values bytes rest t.2 f.1 d
-    (after_piece from bytes (value ∷ []) (bytes_of fields values) rest e))
+    grind (arith, common_steps, get_or-drop, add-zero, values-bytes_of (from + 1) fields end values bytes rest t.2 f.1 d (after_piece from bytes (value ∷ []) (bytes_of fields values) rest e), after_piece)
 values-bytes_of from (number offset width order ∷ fields) end (value ∷ values) bytes rest t f d e =
-    let own = number_and_rest order width from value bytes (bytes_of fields values) rest f.0 e in
-    ap₂ ◌∷◌ (rw t.0 own.0)
-    (values-bytes_of (from + width) fields end values bytes rest t.2 f.1 d own.1)
+    grind (arith, number_and_rest order width from value bytes (bytes_of fields values) rest f.0 e, values-bytes_of (from + width) fields end values bytes rest t.2 f.1 d)
 values-bytes_of from (flags offset width mask ∷ fields) end (value ∷ values) bytes rest t f d e =
-    let own = number_and_rest little_endian width from value bytes (bytes_of fields values) rest f.0 e
-    in
-    ap₂ ◌∷◌ (rw (t.0, own.0) d.0)
-    (values-bytes_of (from + width) fields end values bytes rest t.2 f.1 d.1 own.1)
+    grind (arith, number_and_rest little_endian width from value bytes (bytes_of fields values) rest f.0 e, values-bytes_of (from + width) fields end values bytes rest t.2 f.1 d.1)
 values-bytes_of from fields end values bytes rest t f d e = grind arith
 
 -- what was read fits, and has defined bits alone
@@ -167,17 +143,17 @@ pub values-fit : (fields : List Field) (bytes : List ℕ) → IsBytes bytes
 values-fit [] bytes h = tt
 values-fit (byte offset ∷ fields) bytes h = (h offset, values-fit fields bytes h)
 values-fit (number offset width order ∷ fields) bytes h =
-    (number-fits order width _ (AreBytes-drop offset bytes h), values-fit fields bytes h)
+    grind (arith, number-fits order width, AreBytes-drop offset bytes h, values-fit fields bytes h)
 values-fit (flags offset width mask ∷ fields) bytes h =
-    let fits = number-fits little_endian width (drop offset bytes) (AreBytes-drop offset bytes h) in
-    (omega (arith, and_le_l (little_number width (drop offset bytes)) mask), values-fit fields bytes h)
+    grind (arith, number-fits little_endian width (drop offset bytes) (AreBytes-drop offset bytes h), AreBytes-drop offset bytes h, and_le_l (little_number width (drop offset bytes)) mask, values-fit fields bytes h)
 values-fit (unread offset written ∷ fields) bytes h = values-fit fields bytes h
 
 -- flags that were read are defined
 pub values-defined : (fields : List Field) (bytes : List ℕ)
     → AreDefined fields (values_of fields bytes)
 values-defined [] bytes = tt
-values-defined (field ∷ fields) bytes = grind (arith, and_assoc, and_self, values-defined fields bytes)
+values-defined (field ∷ fields) bytes =
+    grind (arith, and_assoc, and_self, values-defined fields bytes)
 
 -- the value of one field, if it is read
 abbrev value_in : Field → List ℕ → List ℕ
@@ -191,7 +167,8 @@ values-cons field fields b = grind arith
 pub values_of-append : (fields others : List Field) (b : List ℕ)
     → values_of (fields ++ others) b ≡ values_of fields b ++ values_of others b
 values_of-append [] others b = refl
-values_of-append (field ∷ fields) others b = grind (arith, values_of-append fields others b)
+values_of-append (field ∷ fields) others b =
+    grind (arith, values_of-append fields others b)
 
 -- ---- equal values, and the same live bits
 
@@ -210,17 +187,15 @@ length-value : (field : Field) (b c : List ℕ) → length (value_in field b) �
 length-value field b c = grind arith
 
 length-live : (field : Field) → length (live_in field) ≡ width_of field
-length-live field = grind (arith, length-replicate, length-bytes_low_first)
+length-live field =
+    grind (arith, length-replicate, length-bytes_low_first)
 
 -- bytes are the same exactly where their numbers are
 number_bits : (order : Order) (width : ℕ) (xs ys : List ℕ) → IsBytes xs → IsBytes ys
     → width ≤ length xs → width ≤ length ys → ((number_in order width xs ≡ number_in order width ys)
     ↔ (masked (replicate width 255) xs ≡ masked (replicate width 255) ys))
-number_bits order width xs ys hx hy lx ly = rw (masked-all width xs hx, masked-all width ys hy) (
-  λ e. number-same order width xs ys hx hy lx ly e,
-  λ e. sym (number-take order width width xs (omega arith)) ∙ ap (number_in order width) e
-      ∙ number-take order width width ys (omega arith),
-)
+number_bits order width xs ys hx hy lx ly =
+    grind (arith, masked-all width xs hx, masked-all width ys hy, number-same order width xs ys hx hy lx ly, number-take order width width xs, number-take order width width ys)
 
 -- and under a mask
 flag_bits : (width mask : ℕ) (xs ys : List ℕ) → IsBytes xs → IsBytes ys → width ≤ length xs
@@ -246,7 +221,8 @@ byte_is : (offset : ℕ) (b : List ℕ) → slice_index b offset
 byte_is offset b = rw (add-zero, get_or-drop, add-zero) refl
 
 one_value : {P : Type 0} (x y : ℕ) → ((x ≡ y) ↔ P) → ((x ∷ [] ≡ y ∷ []) ↔ P)
-one_value x y h = grind (arith, h)
+one_value x y h =
+    grind (arith, h)
 
 -- a field that is there has equal values exactly where it has the same live bits
 field_bits : (field : Field) (b c xs ys : List ℕ) → drop (offset_of field) b ≡ xs
@@ -254,16 +230,13 @@ field_bits : (field : Field) (b c xs ys : List ℕ) → drop (offset_of field) b
     → width_of field ≤ length ys → ((value_in field b ≡ value_in field c)
     ↔ (masked (live_in field) xs ≡ masked (live_in field) ys))
 field_bits (byte offset) b c xs ys ex ey hx hy lx ly =
-    one_value _ _ (rw (byte_is offset b, byte_is offset c, ex, ey)
-    (number_bits little_endian 1 xs ys hx hy lx ly))
+    grind (arith, one_value, byte_is offset b, byte_is offset c, number_bits little_endian 1 xs ys hx hy lx ly)
 field_bits (number offset width order) b c xs ys ex ey hx hy lx ly =
-    one_value _ _ (rw (ex, ey) (number_bits order width xs ys hx hy lx ly))
+    grind (arith, one_value, number_bits order width xs ys hx hy lx ly)
 field_bits (flags offset width mask) b c xs ys ex ey hx hy lx ly =
-    one_value _ _ (rw (ex, ey) (flag_bits width mask xs ys hx hy lx ly))
-field_bits (unread offset written) b c xs ys ex ey hx hy lx ly = (
-  λ e. masked-none (length written) xs lx ∙ sym (masked-none (length written) ys ly),
-  λ e. refl,
-)
+    grind (arith, one_value, flag_bits width mask xs ys hx hy lx ly)
+field_bits (unread offset written) b c xs ys ex ey hx hy lx ly =
+    grind (arith, masked-none (length written) xs lx, masked-none (length written) ys ly)
 
 -- a first field and the others
 bits-cons : (field : Field) (fields : List Field) (from : ℕ) (b : List ℕ)
@@ -271,16 +244,7 @@ bits-cons : (field : Field) (fields : List Field) (from : ℕ) (b : List ℕ)
     × (masked (live_bits (field ∷ fields)) (drop from b) ≡ masked (live_in field) (drop from b)
     ++ masked (live_bits fields) (drop (from + width_of field) b))
 bits-cons field fields from b h =
-    let own = length-live field in
-    let room : width_of field ≤ length (drop from b) = rw (length-drop from b) (omega arith) in (
-      room,
-      rw (
-        live-cons field fields,
-        masked-append (live_in field) (live_bits fields) (drop from b) (omega arith),
-        own,
-        drop-drop (width_of field) from b,
-      ) refl,
-    )
+    grind (arith, length-live field, width_of field, length-drop from b, live-cons field fields, masked-append, drop-drop (width_of field) from b)
 
 both_parts : (a b r s p q u v : List ℕ) → length a ≡ length b → length p ≡ length q
     → ((a ≡ b) ↔ (p ≡ q)) → ((r ≡ s) ↔ (u ≡ v)) → ((a ++ r ≡ b ++ s) ↔ (p ++ u ≡ q ++ v))
@@ -294,14 +258,4 @@ pub values_and_bits : (from : ℕ) (fields : List Field) (end : ℕ) (b c : List
     ↔ (masked (live_bits fields) (drop from b) ≡ masked (live_bits fields) (drop from c)))
 values_and_bits from [] end b c t hb hc lb lc = (λ e. refl, λ e. refl)
 values_and_bits from (field ∷ fields) end b c t hb hc lb lc =
-    let reach = ends-after (from + width_of field) fields end t.2 in
-    let own = length-live field in
-    let x = bits-cons field fields from b (omega arith) in
-    let y = bits-cons field fields from c (omega arith) in
-    rw (values-cons field fields b, values-cons field fields c, x.1, y.1)
-    (both_parts _ _ _ _ _ _ _ _ (length-value field b c)
-    (length-masked (live_in field) (drop from b) (omega arith)
-    ∙ sym (length-masked (live_in field) (drop from c) (omega arith)))
-    (field_bits field b c (drop from b) (drop from c) (ap (λ (n : ℕ). drop n b) t.0)
-    (ap (λ (n : ℕ). drop n c) t.0) (AreBytes-drop from b hb) (AreBytes-drop from c hc) x.0 y.0)
-    (values_and_bits (from + width_of field) fields end b c t.2 hb hc lb lc))
+    grind (arith, ends-after (from + width_of field) fields end t.2, width_of field, length-live field, bits-cons field fields from b, bits-cons field fields from c, values-cons field fields b, values-cons field fields c, both_parts, length-value field b c, length-masked, field_bits field b c (drop from b) (drop from c), AreBytes-drop from b hb, AreBytes-drop from c hc, values_and_bits (from + width_of field) fields end b c t.2 hb hc lb lc)
