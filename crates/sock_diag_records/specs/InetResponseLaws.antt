@@ -1,5 +1,5 @@
 -- The layout of the header of a reply is sound.
-use Rattle.std.proofs.Common.{◌≡◌, ℕ, ◌^◌, ◌<◌}
+use Rattle.std.proofs.Common.{IsTrue, ◌≡◌, ℕ, ◌^◌, ◌<◌}
 use Rattle.std.proofs.Common.{List, ◌∷◌, ◌++◌, drop}
 use Rattle.std.proofs.Common.{slice_index, Option, Result, Ok, refl}
 use Rattle.std.proofs.Common.{arith}
@@ -7,7 +7,7 @@ use Rattle.std.specs.Prelude.{IfSome}
 use Rattle.std.specs.declared.time.Duration.{Duration}
 use Rattle.netlink_core.specs.Table.{values_of, numbers}
 use Rattle.netlink_core.specs.Table.{little_endian, Fit}
-use Rattle.netlink_core.specs.SoundLaws.{IsSound, IsFixed}
+use Rattle.netlink_core.specs.SoundLaws.{is_table, IsSound, IsFixed}
 use Rattle.netlink_core.specs.Bytes.{IsBytes}
 use Rattle.netlink_core.specs.Faults.{map_ok}
 use Rattle.netlink_core.proofs.Numbers.{number-fits}
@@ -55,6 +55,15 @@ expires_at left = slice_index (values_of (numbers 52 4 little_endian 1) left) 0
 
 pub class_lt : (timer : ℕ) → class_of_byte timer < 5
 class_lt timer = grind arith
+
+-- the fields of each tag stand in a row
+tables_are : (versions : IpVersions) (class : ℕ) → class < 5
+    → IsTrue (is_table 0 (header_fields (versions, class)) 72)
+tables_are = by_versions _ (each _ refl refl refl refl refl) (each _ refl refl refl refl refl)
+    (each _ refl refl refl refl refl) (each _ refl refl refl refl refl)
+
+class_of_lt : (timer : Option Timer) → class_of timer < 5
+class_of_lt timer = grind arith
 
 -- what is read has the values that were read, and a timer of whole milliseconds
 kept_are : (left : List ℕ) → IsBytes left → (versions : IpVersions) (class : ℕ) → class < 5
@@ -121,8 +130,9 @@ ruleset header_back =
 pub header_sound : IsSound inet_response_header
 unfolding inet_response_header
 header_sound = record {
-  tables = λ param t left e. grind arith;
-  own_table = λ value. grind arith;
+  tables = λ param t left e. tables_are t.0 t.1 (grind arith);
+  own_table = λ value.
+      tables_are (versions_of value.socket_id) (class_of value.timer) (class_of_lt value.timer);
   enough = λ value. omega arith;
   room = λ param t left enough e. enough;
   long = λ value. grind arith;
