@@ -18,7 +18,7 @@ use Rattle.netlink_core.specs.PrefixLaws.{prefix_or_fault_apart, prefix_or_fault
 use Rattle.netlink_core.specs.PrefixLaws.{one_prefix_fault, one_attribute, prefix_in_range}
 use Rattle.netlink_core.proofs.TableLaws.{AreBytes-drop}
 use Rattle.netlink_core.proofs.Padding.{starts_with, by_length, some_or_none}
-use Rattle.netlink_core.proofs.Walking.{StartsWith-some, prefix_of_start, later_fault, fault_here}
+use Rattle.netlink_core.proofs.Walking.{prefix_of_start, later_fault, fault_here}
 
 -- ---- one cut
 
@@ -40,12 +40,11 @@ one_start bytes rest after a b s t =
 -- bytes are cut into one list at most
 pub one_cut : (bytes : List ℕ) (xs ys : List Attribute) → Cut bytes xs → Cut bytes ys → xs ≡ ys
 one_cut bytes [] [] h k = refl
-one_cut bytes [] (y ∷ ys) h k = absurd (StartsWith-some bytes k.0 y k.1 h)
-one_cut bytes (x ∷ xs) [] h k = absurd (StartsWith-some bytes h.0 x h.1 k)
 one_cut bytes (x ∷ xs) (y ∷ ys) h k =
     let starts = one_start bytes h.0 k.0 x y h.1 k.1 in
     let later = one_cut h.0 xs ys h.2 (rw starts.1 k.2) in
     cc
+one_cut bytes xs ys h k = grind arith
 
 -- ---- what was written is cut
 

@@ -1,5 +1,5 @@
 -- Tests of equality, put together from those of their parts.
-use Rattle.std.proofs.Common.{◌≡◌, ◌↔◌, ◌&&◌, ℕ, List, [], ◌∷◌, Option, Some, Bool, true}
+use Rattle.std.proofs.Common.{◌≡◌, ◌↔◌, ◌&&◌, ℕ, List, ◌∷◌, Option, Some, Bool, true}
 use Rattle.std.proofs.Common.{false, eqb, IsTrue, map, refl, rules, arith}
 use Rattle.std.specs.Cmp.{IsEquivalence, both_ways}
 use Rattle.std.specs.Option.{option_eq}
@@ -30,10 +30,9 @@ options_equal test decides a b = search rules
 pub lists_equal : {A V : Type 0} (test : A → A → Bool) (model : A → V) (decides : (a b : A)
     → IsTrue (test a b) ↔ (model a ≡ model b)) (xs ys : List A)
     → IsTrue (pointwise test xs ys) ↔ (map model xs ≡ map model ys)
-lists_equal test model decides [] [] = search rules
 lists_equal test model decides (x ∷ xs) (y ∷ ys) =
     grind (arith, and_decides (decides x y) (lists_equal test model decides xs ys))
-lists_equal test model decides xs ys = (λ h. search rules, λ e. absurd cc)
+lists_equal test model decides xs ys = grind arith
 
 -- values of two variants
 pub apart : {P : Type 0} → (P → ⊥) → IsTrue false ↔ P
