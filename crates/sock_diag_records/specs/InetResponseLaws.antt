@@ -27,10 +27,6 @@ use Rattle.sock_diag_records.specs.Timer.{class_of, expires_field}
 use Rattle.sock_diag_records.specs.Timer.{retransmits_values, expires_values, timer_data}
 use Rattle.sock_diag_records.specs.SocketIdLaws.{by_versions, socket_id_back}
 
--- what chooses the fields of a header: the versions of the addresses, and the class of the timer
-abbrev Tag : Type 0
-Tag = IpVersions × ℕ
-
 -- a timer's time is whole milliseconds
 abbrev IsWholeTimer : Option Timer → Type 0
 IsWholeTimer timer = IfSome (timer_data timer).2 IsWholeMilliseconds
@@ -40,8 +36,8 @@ duration-milliseconds : (time : Duration) → IsWholeMilliseconds time
 duration-milliseconds time (n, below, same) = grind arith
 
 -- the class beside what the family tells, or the family's fault
-abbrev pub with_class : ℕ → Result IpVersions DecodeError → Result Tag DecodeError
-with_class class tag_found = map_ok (λ versions. let tag : Tag = (versions, class) in tag) tag_found
+abbrev pub with_class : ℕ → Result IpVersions DecodeError → Result (IpVersions × ℕ) DecodeError
+with_class class tag_found = map_ok (λ versions. (versions, class)) tag_found
 
 -- what holds of 0 to 4 holds of each class
 each : (P : ℕ → Type 0) → P 0 → P 1 → P 2 → P 3 → P 4 → (class : ℕ) → class < 5 → P class

@@ -1,4 +1,4 @@
-use Rattle.std.proofs.Common.{ℕ, List, ap, Result, Ok}
+use Rattle.std.proofs.Common.{ap, Result, Ok}
 use Rattle.netlink_core.proofs.Congruence.{◌⊛◌}
 use Rattle.netlink_core.specs.declared.fault.DecodeError.{DecodeError}
 use Rattle.sock_diag_values.specs.declared.inet.tcp_info.TcpInfo.{TcpInfo}
@@ -6,16 +6,13 @@ use Rattle.sock_diag_values.specs.TcpInfo.{tcp_info}
 use Rattle.sock_diag_values.specs.TcpInfoInverse.{with_fields}
 use Rattle.sock_diag_values.proofs.inet.tcp_info.TcpInfoRecord.from_fields.Goals as goal
 
-abbrev read_as : (states counts ages metrics receiver rates segments limits deliveries totals
-    reorderings : List ℕ) → Result TcpInfo DecodeError
-read_as states counts ages metrics receiver rates segments limits deliveries totals reorderings =
-    Ok (with_fields states counts ages metrics receiver rates segments limits deliveries totals
-    reorderings)
+abbrev found : TcpInfo → Result TcpInfo DecodeError
+found value = Ok value
 
 pub returns : goal.returns
 unfolding tcp_info
 returns c =
-    (ap read_as c.array_at-states.ensures
+    ap found (ap with_fields c.array_at-states.ensures
     ⊛ c.words_at-counts.ensures
     ⊛ c.words_at-ages.ensures
     ⊛ c.words_at-metrics.ensures
