@@ -65,11 +65,10 @@ module _ {A : Type 0} (reads : Attribute → Result A DecodeError) where
   -- what bytes mean is what is found in them
   pub values_are : (bytes : List ℕ) (values : List A) → AttributesMean reads bytes values
       → values_in reads bytes ≡ values
-  values_are bytes [] ([], cut, said) = rw (cut, found_none) refl
-  values_are bytes (v ∷ values) ([], cut, said) = absurd said
-  values_are bytes [] (a ∷ later, cut, said) = absurd said
   values_are bytes (v ∷ values) (a ∷ later, (rest, start, cut), (first, said)) =
       rw (value_first bytes rest a v start first, values_are rest values (later, cut, said)) refl
+  values_are bytes [] ([], cut, said) = rw (cut, found_none) refl
+  values_are bytes values (attributes, cut, said) = absurd said
 
   -- bytes with no fault mean what is found in them
   pub values_mean : (bytes : List ℕ) → IsBytes bytes → HasNoFault reads bytes

@@ -1,4 +1,3 @@
-use Rattle.std.proofs.Common.{◌∙◌, Ok, ap, sym}
 use Rattle.netlink_core.specs.FirstAttributeLaws.{value_is_read}
 use Rattle.netlink_core.specs.Walk.{attribute_of}
 use Rattle.sock_diag_attributes.specs.InetAttributes.{inet}
@@ -20,5 +19,5 @@ returns-in_err-to_owned-clause-wanted c =
 
 pub returns-clause-value : goal.returns-clause-value
 returns-clause-value c =
-    value_is_read inet (attribute_of c.args.buf) (c.args.buf.word_fits, c.args.buf.value_fits) _
-    (c.in_ok-parse.ensures ∙ ap Ok (sym c.in_ok-to_owned.ensures.equal))
+    rw c.in_ok-to_owned.ensures.equal (value_is_read inet (attribute_of c.args.buf)
+    (c.args.buf.word_fits, c.args.buf.value_fits) _ c.in_ok-parse.ensures)

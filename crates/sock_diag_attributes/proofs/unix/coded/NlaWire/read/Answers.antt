@@ -1,4 +1,3 @@
-use Rattle.std.proofs.Common.{◌∙◌, Ok, ap, sym}
 use Rattle.netlink_core.specs.Walk.{attribute_of}
 use Rattle.sock_diag_attributes.specs.UnixAttributes.{unix}
 use Rattle.sock_diag_attributes.specs.UnixAttributeLaws.{unix_laws}
@@ -16,9 +15,5 @@ returns-in_err-to_owned-clause-wanted c =
     c.in_err-to_owned.was c.to_owned.ensures.spare _ c.from_residual-in_err-to_owned.ensures.1
 
 pub returns-clause-value : goal.returns-clause-value
-returns-clause-value c = (
-  _,
-  c.in_ok-new_checked.ensures,
-  c.in_ok-parse.ensures
-      ∙ ap Ok (sym c.in_ok-to_owned.ensures.equal),
-)
+returns-clause-value c =
+    rw c.in_ok-to_owned.ensures.equal (_, c.in_ok-new_checked.ensures, c.in_ok-parse.ensures)
