@@ -41,12 +41,9 @@ module _ {f : List ℕ → List ℕ} {r r' c c' : Option (List ℕ)} {whole : Li
   -- no more was read
   pub waited : (r'' : Option (List ℕ)) → Consumes r' r'' []
       → Exchange f r r'' c c' whole rest written
-  waited r'' read = record {
-    text = up.text;
-    read = rw append-nil at (Consumes-trans r r' r'' up.text [] up.read read);
-    splits = up.splits;
-    appended = up.appended;
-  }
+  waited r'' none =
+      let read = rw append-nil at (Consumes-trans r r' r'' up.text [] up.read none) in
+      record { text = up.text; read = read; splits = up.splits; appended = up.appended }
 
   -- more was read
   pub read_on : (r'' : Option (List ℕ)) (piece last : List ℕ) (next : List (List ℕ))
@@ -62,12 +59,9 @@ module _ {f : List ℕ → List ℕ} {r r' c c' : Option (List ℕ)} {whole : Li
   -- more was written
   pub write_on : (c'' : Option (List ℕ)) (more all : List ℕ) → Appends c' c'' more
       → written ++ more ≡ all → Exchange f r r' c c'' whole rest all
-  write_on c'' more all wrote e = record {
-    text = up.text;
-    read = up.read;
-    splits = up.splits;
-    appended = rw e at (Appends-trans c c' c'' written more up.appended wrote);
-  }
+  write_on c'' more all wrote e =
+      let appended = rw e at (Appends-trans c c' c'' written more up.appended wrote) in
+      record { text = up.text; read = up.read; splits = up.splits; appended = appended }
 
   -- not all of a text with which the answers go on was written
   pub run_failed : (good : List ℕ → Bool) (n : ℕ) (c'' : Option (List ℕ)) (text more : List ℕ)

@@ -18,15 +18,9 @@ reported_as : (contents contents' : Option (List ℕ)) (outcome : Result Bool Se
     × (e ≡ Write true → reported ++ more ≡ [])
     × (e ≡ Memory → reported ++ more ≡ codes "sockdiag: out of memory" ++ 10 ∷ []))
 reported_as c d (Ok good) h = h
-reported_as c d (Err e) (r, (m, line), sent) = (
-  r,
-  m,
-  sent,
-  λ is. rw is at (sym line),
-  λ is. rw is at (sym line),
-  λ is. rw is at (sym line),
-  λ is. rw is at (sym line),
-)
+reported_as c d (Err e) (r, (m, line), sent) =
+    let told = λ (x : ServeError) (is : e ≡ x). rw is at (sym line) in
+    (r, m, sent, told Read, told (Write false), told (Write true), told Memory)
 
 pub returns-clause-answered : goal.returns-clause-answered
 returns-clause-answered g c = λ f right. (

@@ -16,16 +16,11 @@ lines-preserved g c =
     let line = c.lines.kept.line.items in
     let rest = c.lines.rest.now in
     let n = c.in-Some.end in
+    let cut = split_at_first 10 line rest inv.unended n c.in-Some.ensures in
     let (begun, added) = c.in_ok-is_line_good.ensures.added in
     record {
       whole = inv.whole ++ (line ++ take n rest) ∷ [];
-      splits = rw (
-        begun,
-        take_rest rest (n + 1),
-        inv.splits,
-        split_at_first 10 line rest inv.unended n c.in-Some.ensures,
-        append_assoc,
-      );
+      splits = rw (begun, take_rest rest (n + 1), inv.splits, cut, append_assoc);
       within = rw (take_rest rest (n + 1)) (omega (arith, inv.within, length-drop (n + 1) rest));
       unended = rw begun (All-nil _);
       added = rw (added, inv.added, flat_map-append) (simp (append_assoc, append-nil));

@@ -9,15 +9,6 @@ returns c = λ line answer asks right.
     let (more, is, adds) = c.in_ok-push_answer_text.ensures in
     let same : more ≡ answer = one_answer line more answer
     (read_answer line c.args.asked c.args.bytes.now more asks adds) right in
-    let start = rw c.args.text.now.ok.0 at c.len-start.ensures in (
-      rw same at is,
-      rw (
-        c.is_good.ensures,
-        take_rest,
-        c.deref.ensures.value,
-        is,
-        start,
-        drop-append_seam c.args.text.now.items more,
-        same,
-      ),
-    )
+    let start = rw c.args.text.now.ok.0 at c.len-start.ensures in
+    let cut = drop-append_seam c.args.text.now.items more in
+    (rw same at is, rw (c.is_good.ensures, take_rest, c.deref.ensures.value, is, start, cut, same))
