@@ -1,4 +1,5 @@
 -- Attributes that are encoded as what they decode to.
+use Rattle.std.proofs.Common.{arith}
 use Rattle.std.proofs.Common.{◌≡◌, List, [], ◌∷◌, map, refl}
 use Rattle.netlink_core.specs.Attribute.{Attribute}
 use Rattle.netlink_core.specs.AttributeSet.{AttributeSet, AttributeValue, encodes}
@@ -9,4 +10,4 @@ pub attributes_of_values : {N : Type 0} (F : AttributeSet) (attribute : N → At
     → map attribute nlas ≡ map (encodes F) (map model nlas)
 attributes_of_values F attribute model each [] = refl
 attributes_of_values F attribute model each (n ∷ nlas) =
-    cc (each n, attributes_of_values F attribute model each nlas)
+    grind (arith, attributes_of_values F attribute model each nlas)

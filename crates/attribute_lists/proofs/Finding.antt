@@ -53,8 +53,8 @@ found_none = refl
 -- the value that was read is the one in the answer
 pub value_in_is : {A : Type 0} (answer : Result A DecodeError) (good : (e : DecodeError)
     → answer ≡ Err e → ⊥) → answer ≡ Ok (value_in answer good)
-value_in_is (Ok v) good = refl
-value_in_is (Err e) good = absurd (good e refl)
+value_in_is answer good =
+    grind arith
 
 module _ {A : Type 0} (reads : Attribute → Result A DecodeError) where
   -- what the first one says comes first
@@ -66,7 +66,7 @@ module _ {A : Type 0} (reads : Attribute → Result A DecodeError) where
   pub values_are : (bytes : List ℕ) (values : List A) → AttributesMean reads bytes values
       → values_in reads bytes ≡ values
   values_are bytes (v ∷ values) (a ∷ later, (rest, start, cut), (first, said)) =
-      rw (value_first bytes rest a v start first, values_are rest values (later, cut, said)) refl
+      grind (arith, value_first bytes rest a v start first, values_are rest values (later, cut, said))
   values_are bytes [] ([], cut, said) = rw (cut, found_none) refl
   values_are bytes values (attributes, cut, said) = absurd said
 

@@ -1,3 +1,4 @@
+use Rattle.std.proofs.Common.{arith}
 use Rattle.std.proofs.Common.{refl}
 use Rattle.netlink_core.specs.AttributeSet.{decodes}
 use Rattle.attribute_lists.proofs.Finding.{first_is_accepted, rest_has_no_fault}
@@ -5,12 +6,7 @@ use Rattle.attribute_lists.proofs.views.next_view.Goals as goal
 
 pub read_accepted-requires : goal.read_accepted-requires
 read_accepted-requires g c =
-    let start = rw c.in-Some-Ok.field-0-is at c.in-Some-Ok.ensures.steps in
-    λ k. (
-      (refl, tt),
-      first_is_accepted (decodes g.V.FamilyView.attribute_set) _ _ _ c.requires
-          start,
-    )
+    grind (arith, first_is_accepted (decodes g.V.FamilyView.attribute_set))
 
 pub returns-in-Some-Ok-clause-rest : goal.returns-in-Some-Ok-clause-rest
 returns-in-Some-Ok-clause-rest g c =
