@@ -60,24 +60,6 @@ bytes_read offset zero bytes h = refl
 bytes_read offset (suc count) bytes h =
     grind (arith, drop_more bytes offset 0, bytes_read (offset + 1) count bytes)
 
--- ---- fields of a record inside another
-
--- the fields, so many bytes on
-abbrev pub moved : ℕ → List Field → List Field
-moved by [] = []
-moved by (byte offset ∷ fields) = byte (by + offset) ∷ moved by fields
-moved by (number offset width order ∷ fields) = number (by + offset) width order ∷ moved by fields
-moved by (flags offset width mask ∷ fields) = flags (by + offset) width mask ∷ moved by fields
-moved by (unread offset written ∷ fields) = unread (by + offset) written ∷ moved by fields
-
--- moved fields read what stands behind
-pub values-moved : (by : ℕ) (fields : List Field) (bytes : List ℕ)
-    → values_of (moved by fields) bytes
-    ≡ values_of fields (drop by bytes)
-values-moved by [] bytes = refl
-values-moved by (field ∷ fields) bytes =
-    grind (arith, get_or-drop, drop-drop, values-moved by fields bytes)
-
 -- ---- values within their fields
 
 -- fields, and others behind them
@@ -89,14 +71,6 @@ fit-append (unread offset written ∷ fields) more values others f g = fit-appen
 fit-append (field ∷ fields) more (value ∷ values) others f g =
     grind (arith, fit-append fields more values others)
 fit-append fields more values others f g = grind arith
-
--- wherever the fields stand
-pub fit-moved : (by : ℕ) (fields : List Field) (values : List ℕ) → Fit fields values
-    → Fit (moved by fields) values
-fit-moved by (unread offset written ∷ fields) values f = fit-moved by fields values f
-fit-moved by (field ∷ fields) (value ∷ values) f =
-    grind (arith, fit-moved by fields values)
-fit-moved by fields values f = grind arith
 
 -- so many bytes of an array
 pub fit-bytes : (offset count : ℕ) (bytes : List ℕ) → IsBytes bytes

@@ -31,10 +31,6 @@ and_parts : (a b : Bool) → IsTrue (a && b) → IsTrue a × IsTrue b
 and_parts a b h =
     grind arith
 
-and_from : (a b : Bool) → IsTrue a → IsTrue b → IsTrue (a && b)
-and_from a b h k =
-    grind arith
-
 -- what is written of itself is bytes
 abbrev IsWritten : Field → Type 0
 IsWritten (unread offset written) = IsBytes written
@@ -64,14 +60,6 @@ pub table_from_test : (from : ℕ) (fields : List Field) (end : ℕ) → IsTrue 
 table_from_test from [] end h = eqb-true from end h
 table_from_test from (field ∷ fields) end h =
     grind (arith, and_parts (eqb (offset_of field) from && is_written field), eqb (offset_of field) from, offset_of field, is_written field, and_parts (eqb (offset_of field) from), eqb-true (offset_of field) from, is_bytes field, table_from_test (from + width_of field) fields end, width_of field)
-
--- tables that stand one after the other
-pub is_table-append : (from : ℕ) (fields : List Field) (middle : ℕ) (others : List Field) (end : ℕ)
-    → IsTrue (is_table from fields middle) → IsTrue (is_table middle others end)
-    → IsTrue (is_table from (fields ++ others) end)
-is_table-append from [] middle others end h k = rw (eqb-true from middle h) k
-is_table-append from (field ∷ fields) middle others end h k =
-    grind (arith, eqb (offset_of field) from, offset_of field, is_written field, and_parts, and_from, is_table-append (from + width_of field) fields middle others end, width_of field)
 
 -- a table ends at its beginning or later
 ends-after : (from : ℕ) (fields : List Field) (end : ℕ) → IsTable from fields end → from ≤ end
@@ -162,13 +150,6 @@ value_in field bytes = values_of (field ∷ []) bytes
 values-cons : (field : Field) (fields : List Field) (b : List ℕ)
     → values_of (field ∷ fields) b ≡ value_in field b ++ values_of fields b
 values-cons field fields b = grind arith
-
--- the values of fields one after the other
-pub values_of-append : (fields others : List Field) (b : List ℕ)
-    → values_of (fields ++ others) b ≡ values_of fields b ++ values_of others b
-values_of-append [] others b = refl
-values_of-append (field ∷ fields) others b =
-    grind (arith, values_of-append fields others b)
 
 -- ---- equal values, and the same live bits
 
