@@ -1,6 +1,6 @@
 -- A whole walk that checks each attribute as it is given gives what the bytes mean, or ends with
 -- their first fault.
-use Rattle.std.proofs.Common.{Option, Result, Ok, Err, Some, ◌≡◌, List, [], ◌∷◌, sym, subst}
+use Rattle.std.proofs.Common.{Option, Result, Ok, Err, Some, ◌≡◌, List, [], ◌∷◌}
 use Rattle.std.specs.Prelude.{map}
 use Rattle.std.specs.Iterator.{Drains, YieldsThen}
 use Rattle.netlink_core.specs.declared.fault.DecodeError.{DecodeError}
@@ -28,8 +28,7 @@ module _ {V : Type 0} (F : AttributeSet) (model : V → AttributeValue F) where
   pub checked_walk : (walk : CheckedNlas V) (given : List V)
       → Drains (GivesValue F model) walk (found given)
       → AttributesMean (decodes F) (bytes_left walk.walk) (map model given)
-  checked_walk walk [] h =
-      ([], subst (λ (w : CheckedNlas V). bytes_left w.walk ≡ []) (sym h.1.1) h.1.2.0, tt)
+  checked_walk walk [] h = ([], rw h.1.1 h.1.2.0, tt)
   checked_walk walk (g ∷ given) h =
       let first = h.1.1.1 in
       let later = checked_walk h.1.1.0 given (h.0, (h.1.0, h.1.1.2, h.1.2)) in (
@@ -42,8 +41,7 @@ module _ {V : Type 0} (F : AttributeSet) (model : V → AttributeValue F) where
       → YieldsThen (GivesValue F model) walk (found given) (Some (Err e)) last
       → AttributeFault (decodes F) (bytes_left walk.walk) e × (bytes_left last.walk ≡ [])
   cut_off_walk walk last [] e h =
-      let at : GivesValue F model walk (Some (Err e)) last =
-      subst (λ (w : CheckedNlas V). GivesValue F model w (Some (Err e)) last) (sym h.1) h.2 in
+      let at : GivesValue F model walk (Some (Err e)) last = rw h.1 h.2 in
       (fault_here (decodes F) (bytes_left walk.walk) e at.0 at.1, at.2)
   cut_off_walk walk last (g ∷ given) e h =
       let first = h.1.1 in

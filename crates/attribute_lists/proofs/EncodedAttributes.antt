@@ -9,6 +9,4 @@ pub attributes_of_values : {N : Type 0} (F : AttributeSet) (attribute : N → At
     → map attribute nlas ≡ map (encodes F) (map model nlas)
 attributes_of_values F attribute model each [] = refl
 attributes_of_values F attribute model each (n ∷ nlas) =
-    let first = each n in
-    let later = attributes_of_values F attribute model each nlas in
-    λ z. first z ∷ later z
+    cc (each n, attributes_of_values F attribute model each nlas)

@@ -2,91 +2,59 @@
 use Rattle.std.proofs.Common.{Result, Ok, Err, IsOk, ◌≡◌, ◌≢◌, ℕ, zero, suc, ◌+◌, ◌-◌, ◌≤◌, List}
 use Rattle.std.proofs.Common.{[], ◌∷◌, ◌++◌, length, take, drop, inl, inr, refl, sym, ap, subst}
 use Rattle.std.proofs.Common.{◌∙◌, append_assoc, arith}
-use Rattle.std.specs.List.{AllZip}
-use Rattle.std.proofs.lemmas.List.{take_at, drop_at, drop_all, length-append}
+use Rattle.std.proofs.lemmas.List.{take_at, drop_at, drop_all, append-nil, length-append}
 use Rattle.netlink_core.specs.declared.fault.DecodeError.{DecodeError}
 use Rattle.netlink_core.specs.Bytes.{IsBytes}
-use Rattle.netlink_core.specs.Attribute.{Attribute, StartsWith, Cut, HasPrefix, IsFramingFault}
+use Rattle.netlink_core.specs.Attribute.{Attribute, StartsWith, IsFramingFault}
 use Rattle.netlink_core.specs.Attribute.{AttributesMean, AttributeFault, fill, unpadded}
 use Rattle.netlink_core.specs.Table.{number_in, little_endian}
 use Rattle.netlink_core.specs.AttributeSet.{decodes}
 use Rattle.netlink_core.specs.Response.{ResponseSpec, ValueOf, response_codec}
-use Rattle.netlink_core.specs.PrefixLaws.{word_is}
 use Rattle.netlink_core.proofs.TableLaws.{AreBytes-drop}
 use Rattle.netlink_core.proofs.Walking.{StartsWith-some, prefix_of_start, later_fault, fault_here}
 use Rattle.netlink_core.proofs.Cutting.{means_or_fault, means_or_fault_apart}
-use Rattle.attribute_lists.specs.AttributesIn.{leading_attribute, attributes_behind}
+use Rattle.attribute_lists.specs.AttributesIn.{attributes_behind}
 use Rattle.attribute_lists.specs.AttributesIn.{HasNoFault, values_in, value_in, IsAccepted}
 use Rattle.attribute_lists.specs.AttributesIn.{response_behind}
 
 -- those behind so many bytes are those at the start of what follows them
-behind_is : (n : ℕ) (bytes : List ℕ) → attributes_behind n bytes ≡ attributes_behind 0
-    (drop n bytes)
+behind_is : (n : ℕ) (bytes rest : List ℕ) → drop n bytes ≡ rest
+    → attributes_behind n bytes ≡ attributes_behind 0 rest
 unfolding attributes_behind
-behind_is zero [] = refl
-behind_is zero (b ∷ bs) = refl
-behind_is (suc n) [] = refl
-behind_is (suc n) (b ∷ bs) = behind_is n bs
+behind_is zero bytes rest e = ap (attributes_behind 0) e
+behind_is (suc n) [] rest e = ap (attributes_behind 0) e
+behind_is (suc n) (b ∷ bs) rest e = behind_is n bs rest e
 
--- the two words tell the first attribute
-front_is : (bytes : List ℕ) (a : Attribute) → HasPrefix bytes a → leading_attribute bytes ≡ a
-front_is bytes a head =
-    let fits : length a.value ≤ 65531 = head.2.1 in
-    let word : number_in little_endian 2 bytes ≡ 4 + length a.value = (word_is bytes a head).0 in
-    let types : number_in little_endian 2 (drop 2 bytes) ≡ a.type_word =
-    ap (λ (b : List ℕ). number_in little_endian 2 (drop 2 b)) head.1
-    ∙ omega (arith, head.2.0) in
-    let long : number_in little_endian 2 bytes - 4 ≡ length a.value = omega arith in
-    let behind : drop 4 bytes ≡ a.value ++ head.0 = ap (drop 4) head.1 in
-    let value : take (number_in little_endian 2 bytes - 4) (drop 4 bytes) ≡ a.value =
-    ap (λ (k : ℕ). take k (drop 4 bytes)) long ∙ ap (take (length a.value)) behind
-    ∙ take_at a.value head.0 (length a.value) refl in
-    λ i. record { type_word = types i; value = value i }
-
--- and how far it reaches
-rest_is : (bytes rest : List ℕ) (a : Attribute) → StartsWith bytes a rest
-    → drop (number_in little_endian 2 bytes + fill (number_in little_endian 2 bytes)) bytes ≡ rest
-rest_is bytes rest a s =
-    let word : number_in little_endian 2 bytes ≡ 4 + length a.value =
-    (word_is bytes a (prefix_of_start bytes rest a s)).0 in
-    let front : List ℕ = unpadded a ++ s.padding in
-    let parts : bytes ≡ front ++ rest = s.parts ∙ sym (append_assoc (unpadded a) s.padding rest) in
-    let long : length front ≡ 4 + length a.value + length s.padding =
-    length-append (unpadded a) s.padding ∙ omega arith in
-    elim s.filled [
-      | inl full ↦ ap (drop (number_in little_endian 2 bytes + fill
-          (number_in little_endian 2 bytes))) parts
-          ∙ drop_at front rest (number_in little_endian 2 bytes + fill
-          (number_in little_endian 2 bytes)) (omega (arith, full))
-      | inr short ↦
-          let all : length bytes ≡ length front + length rest = ap length parts
-          ∙ length-append front rest in
-          let none : length rest ≡ 0 = ap length short.1 in
-          drop_all (number_in little_endian 2 bytes + fill (number_in little_endian 2 bytes)) bytes
-          (omega (arith, short.0)) ∙ sym short.1
-    ]
-
--- the attribute that bytes begin with is found first
+-- the attribute that bytes begin with is found first, by its two words
 pub found_first : (bytes rest : List ℕ) (a : Attribute) → StartsWith bytes a rest
     → attributes_behind 0 bytes ≡ a ∷ attributes_behind 0 rest
 unfolding attributes_behind
-found_first [] rest a s = absurd (StartsWith-some [] rest a s refl)
-found_first (b ∷ bs) rest a s =
-    let all : List ℕ = b ∷ bs in
-    let head : HasPrefix all a = prefix_of_start all rest a s in
-    let n : ℕ = number_in little_endian 2 all + fill (number_in little_endian 2 all) - 1 in
-    let next : suc n ≡ number_in little_endian 2 all + fill (number_in little_endian 2 all) =
-    omega (arith, word_is all a head) in
-    let behind : drop n bs ≡ rest = ap (λ (k : ℕ). drop k all) next ∙ rest_is all rest a s in
-    let first : leading_attribute all ≡ a = front_is all a head in
-    let later : attributes_behind n bs ≡ attributes_behind 0 rest = behind_is n bs
-    ∙ ap (attributes_behind 0) behind in
-    λ i. first i ∷ later i
+found_first bytes rest a s =
+    let all : List ℕ = unpadded a ++ (s.padding ++ rest) in
+    let long : number_in little_endian 2 all ≡ 4 + length a.value = omega (arith, s.fits) in
+    let types : number_in little_endian 2 (drop 2 all) ≡ a.type_word = omega (arith, s.fits) in
+    let value : take (number_in little_endian 2 all - 4) (drop 4 all) ≡ a.value =
+    take_at a.value (s.padding ++ rest) _ (omega arith) in
+    let reach : ℕ = number_in little_endian 2 all + fill (number_in little_endian 2 all) - 1 in
+    let behind : drop reach (drop 1 (unpadded a) ++ (s.padding ++ rest)) ≡ rest = elim s.filled [
+      | inl full ↦ rw (← append_assoc) (drop_at (drop 1 (unpadded a) ++ s.padding) rest _
+          (omega (arith, full, length-append a.value s.padding)))
+      | inr short ↦ rw short.1 (drop_all reach (drop 1 (unpadded a) ++ (s.padding ++ []))
+          (omega (arith, short.0, length-append a.value, length-append s.padding [])))
+    ] in
+    rw s.parts (λ i. record { type_word = types i; value = value i }
+    ∷ behind_is reach (drop 1 all) rest behind i)
 
 -- in no bytes none is found
 pub found_none : attributes_behind 0 [] ≡ []
 unfolding attributes_behind
 found_none = refl
+
+-- the value that was read is the one in the answer
+pub value_in_is : {A : Type 0} (answer : Result A DecodeError) (good : (e : DecodeError)
+    → answer ≡ Err e → ⊥) → answer ≡ Ok (value_in answer good)
+value_in_is (Ok v) good = refl
+value_in_is (Err e) good = absurd (good e refl)
 
 module _ {A : Type 0} (reads : Attribute → Result A DecodeError) where
   -- what the first one says comes first
@@ -95,22 +63,20 @@ module _ {A : Type 0} (reads : Attribute → Result A DecodeError) where
   value_first bytes rest a v s reads_v = rw (found_first bytes rest a s, reads_v) refl
 
   -- what bytes mean is what is found in them
-  pub values_are : (bytes : List ℕ) (attributes : List Attribute) (values : List A)
-      → Cut bytes attributes → AllZip (λ a v. reads a ≡ Ok v) attributes values
+  pub values_are : (bytes : List ℕ) (values : List A) → AttributesMean reads bytes values
       → values_in reads bytes ≡ values
-  values_are bytes [] [] cut said = rw (cut, found_none) refl
-  values_are bytes [] (v ∷ values) cut said = absurd said
-  values_are bytes (a ∷ later) [] cut said = absurd said
-  values_are bytes (a ∷ later) (v ∷ values) cut said = value_first bytes cut.0 a v cut.1 said.0
-      ∙ ap (λ (vs : List A). v ∷ vs) (values_are cut.0 later values cut.2 said.1)
+  values_are bytes [] ([], cut, said) = rw (cut, found_none) refl
+  values_are bytes (v ∷ values) ([], cut, said) = absurd said
+  values_are bytes [] (a ∷ later, cut, said) = absurd said
+  values_are bytes (v ∷ values) (a ∷ later, (rest, start, cut), (first, said)) =
+      rw (value_first bytes rest a v start first, values_are rest values (later, cut, said)) refl
 
   -- bytes with no fault mean what is found in them
   pub values_mean : (bytes : List ℕ) → IsBytes bytes → HasNoFault reads bytes
       → AttributesMean reads bytes (values_in reads bytes)
   values_mean bytes in_range clean =
       elim (means_or_fault reads bytes in_range) [
-        | inl m ↦ subst (AttributesMean reads bytes) (sym (values_are bytes m.1.0 m.0 m.1.1 m.1.2))
-            m.1
+        | inl m ↦ rw (values_are bytes m.0 m.1) m.1
         | inr f ↦ absurd (clean.none f.0 f.1)
       ]
 
@@ -123,7 +89,7 @@ module _ {A : Type 0} (reads : Attribute → Result A DecodeError) where
   -- nor is there one in no bytes
   pub nothing_has_no_fault : HasNoFault reads []
   nothing_has_no_fault = record {
-    none = λ e f. means_or_fault_apart reads [] [] e ([], refl, tt) f;
+    none = λ e. means_or_fault_apart reads [] [] e ([], refl, tt);
   }
 
   -- no framing fault, and the first attribute decodes to something
@@ -131,21 +97,17 @@ module _ {A : Type 0} (reads : Attribute → Result A DecodeError) where
       → IsFramingFault bytes e → ⊥
   no_framing_fault bytes e clean some f = clean.none e (fault_here reads bytes e some (inl f))
 
+  pub first_found : (bytes rest : List ℕ) (a : Attribute) → HasNoFault reads bytes
+      → StartsWith bytes a rest → (v : A) × (reads a ≡ Ok v)
+      × (values_in reads bytes ≡ v ∷ values_in reads rest)
+  first_found bytes rest a clean s =
+      let said = value_in_is (reads a) (λ e h. clean.none e (fault_here reads bytes e
+      (StartsWith-some bytes rest a s) (inr (a, prefix_of_start bytes rest a s, h)))) in
+      (_, said, value_first bytes rest a _ s said)
+
   pub first_is_accepted : (bytes rest : List ℕ) (a : Attribute) → HasNoFault reads bytes
       → StartsWith bytes a rest → IsOk (reads a)
-  first_is_accepted bytes rest a clean s = said (reads a) refl
-    where
-      said : (answer : Result A DecodeError) → reads a ≡ answer → IsOk answer
-      said (Ok v) h = refl
-      said (Err e) h = absurd (clean.none e
-          (fault_here reads bytes e (StartsWith-some bytes rest a s)
-          (inr (a, prefix_of_start bytes rest a s, h))))
-
--- the value that was read is the one in the answer
-pub value_in_is : {A : Type 0} (answer : Result A DecodeError) (good : (e : DecodeError)
-    → answer ≡ Err e → ⊥) → answer ≡ Ok (value_in answer good)
-value_in_is (Ok v) good = refl
-value_in_is (Err e) good = absurd (good e refl)
+  first_is_accepted bytes rest a clean s = rw (first_found bytes rest a clean s).1 refl
 
 module _ (R : ResponseSpec) (bytes part : List ℕ) (same : part ≡ drop R.size bytes) where
   -- bytes whose header can be read, and behind it no fault, are accepted
@@ -154,17 +116,14 @@ module _ (R : ResponseSpec) (bytes part : List ℕ) (same : part ≡ drop R.size
   response_accepted h good clean = record {
     none = λ e refused. elim refused [
       | inl header ↦ cc (header, good)
-      | inr behind ↦ clean.none e (subst (λ (b : List ℕ).
-          AttributeFault (decodes R.attribute_set) b e)
-          (sym same) behind.2)
+      | inr behind ↦ clean.none e (rw same behind.2)
     ];
   }
 
   -- a fault behind such a header is that of the bytes
   pub behind_refused : (h : R.header.Value) (e : DecodeError) → R.header.reads tt bytes ≡ Ok h
       → AttributeFault (decodes R.attribute_set) part e → (response_codec R).refuses bytes tt e
-  behind_refused h e good f =
-      inr (h, good, subst (λ (b : List ℕ). AttributeFault (decodes R.attribute_set) b e) same f)
+  behind_refused h e good f = inr (h, good, rw same at f)
 
   -- behind the header of accepted bytes is no fault
   pub behind_accepted : IsAccepted R bytes → HasNoFault (decodes R.attribute_set) part
@@ -198,4 +157,5 @@ pub ruleset finding = (
   nothing_has_no_fault,
   no_framing_fault,
   first_is_accepted,
+  append-nil,
 )

@@ -1,12 +1,10 @@
 -- Replies whose attributes are kept as those of a set that decodes the same.
-use Rattle.std.proofs.Common.{◌≡◌, ◌↔◌, List, ℕ, ◌++◌, drop, map, inl, inr, refl, sym, ap, subst}
-use Rattle.std.specs.List.{flat_map}
+use Rattle.std.proofs.Common.{◌≡◌, ◌↔◌, List, ℕ, drop, map, inl, inr, refl}
 use Rattle.netlink_core.specs.declared.fault.DecodeError.{DecodeError}
-use Rattle.netlink_core.specs.Attribute.{Attribute, AttributeFault, written}
+use Rattle.netlink_core.specs.Attribute.{AttributeFault}
 use Rattle.netlink_core.specs.Bytes.{IsBytes}
 use Rattle.netlink_core.specs.AttributeSet.{AttributeSet, decodes, encodes}
 use Rattle.netlink_core.specs.Response.{ResponseSpec, response_bytes, response_codec}
-use Rattle.netlink_core.specs.ResponseSteps.{FramedFits}
 use Rattle.netlink_core.proofs.TableLaws.{AreBytes-drop}
 use Rattle.attribute_lists.specs.AttributesIn.{HasNoFault, IsAccepted, response_behind}
 use Rattle.attribute_lists.specs.AttributesIn.{response_with, values_in}
@@ -31,13 +29,10 @@ module _ (R : ResponseSpec) (F : AttributeSet) where
       → (response_codec (response_with R F)).reads c tt
       (response_behind (response_with R F) (response_in R b accepted).header (drop R.size b))
   kept_reads clean b c accepted same in_range =
-      let all : IsBytes b = subst IsBytes (sym same) in_range in
-      let there = clean _ (behind_accepted R b (drop R.size b) refl accepted) in
-      subst (λ (x : List ℕ). (response_codec (response_with R F)).reads x tt
-      (response_behind (response_with R F) (response_in R b accepted).header (drop R.size b)))
-      same (
+      rw (← same) (
         value_in_is (R.header.reads tt b) (λ e h. accepted.none e (inl h)),
-        values_mean (decodes F) (drop R.size b) (AreBytes-drop R.size b all) there,
+        values_mean (decodes F) (drop R.size b) (AreBytes-drop R.size b (rw same in_range))
+            (clean _ (behind_accepted R b (drop R.size b) refl accepted)),
       )
 
   module _ (same : (b : List ℕ) → map (encodes R.attribute_set)
@@ -46,14 +41,10 @@ module _ (R : ResponseSpec) (F : AttributeSet) where
     -- they are written alike
     pub kept_bytes : response_bytes R (response_behind R h b) ≡ response_bytes (response_with R F)
         (response_behind (response_with R F) h b)
-    kept_bytes = ap (λ (attributes : List Attribute). R.header.bytes h
-        ++ flat_map written attributes) (same b)
+    kept_bytes = rw (same b) refl
 
     -- and have room alike
     pub kept_fits : (response_codec R).fits (response_behind R h b)
         ↔ (response_codec (response_with R F)).fits
         (response_behind (response_with R F) h b)
-    kept_fits = (
-      λ fits. subst (FramedFits (R.header.bytes h)) (same b) fits,
-      λ fits. subst (FramedFits (R.header.bytes h)) (sym (same b)) fits,
-    )
+    kept_fits = (λ fits. rw (same b) at fits, λ fits. rw (same b) fits)

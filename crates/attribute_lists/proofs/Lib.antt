@@ -1,8 +1,5 @@
 pub mod Finding
 pub mod Checking
 pub mod Kept
-mod Elements
 mod EncodedAttributes
-mod Counting
-mod Owning
 mod Emitting

@@ -1,4 +1,5 @@
 //! The attributes of a reply, with memory of their own. A list of up to eight needs none itself.
+#![tactic(auto, using(crate::proofs::EncodedAttributes::attributes_of_values))]
 
 ghost use Rattle.std.specs.Prelude.{◌≡◌, ◌≤◌, ◌++◌, ◌∷◌, [], length, drop, map, Ok, IfOk, IsOk};
 ghost use Rattle.std.specs.Prelude.{OnOk, OnErr, SomeIff};
@@ -34,7 +35,7 @@ pub fn copy_nlas<T: FamilyNla>(alloc: Global, nlas: &[T]) -> Result<SmallVec<T, 
 /// most one request for memory is made for the list, and none where there is room for so many. It
 /// is never inlined: a list that lends itself to a call costs its owner less than one that is
 /// filled on the spot.
-#[tactic(auto, using(crate::proofs::Owning::owning))]
+#[tactic(auto, using(crate::proofs::Finding::finding))]
 #[inline(never)]
 pub fn own_nlas<T: FamilyNla>(
     alloc: Global,

@@ -13,7 +13,7 @@ ghost use Rattle.attribute_lists.specs.AttributesIn.{HasNoFault, values_in};
 use netlink_core::{DecodeError, FamilyView, NlasIterator, emit_nla, nla_len};
 
 /// Reads each attribute and counts them, or returns the first fault. It takes no memory.
-#[tactic(auto, using(crate::proofs::Counting::counting))]
+#[tactic(auto, using(crate::proofs::Finding::finding))]
 #[inline(always)]
 pub fn check_nlas<'a, V: FamilyView<'a> + Drop>(bytes: &'a [u8]) -> Result<usize, DecodeError>
     ensures clean { OnOk result (HasNoFault (decodes V.attribute_set) bytes.entry.now) }

@@ -1,13 +1,12 @@
 -- How a text splits at a byte, and into lines as it grows.
-use Rattle.std.proofs.Common.{◌≡◌, ◌<◌, ◌≤◌, ◌+◌, ℕ, suc, false, List, [], ◌∷◌, ◌++◌}
-use Rattle.std.proofs.Common.{length, take, drop, None, Some, inl, inr, refl, sym, ap, ap₂}
+use Rattle.std.proofs.Common.{◌≡◌, ◌<◌, ◌≤◌, ◌+◌, ℕ, false, List, [], ◌∷◌, ◌++◌}
+use Rattle.std.proofs.Common.{length, take, drop, None, Some, inl, inr, refl, sym}
 use Rattle.std.proofs.Common.{◌∙◌, append_assoc, take-append-drop, take_all, le_refl, add-one}
-use Rattle.std.proofs.Common.{arith, subst}
-use Rattle.std.specs.List.{All, onto_first, slice_split}
+use Rattle.std.proofs.Common.{arith}
+use Rattle.std.specs.List.{All, slice_split}
 use Rattle.std.proofs.lemmas.Bool.{cases_Bool, eq-eqb, eqb-true, false_from_ne_true}
 use Rattle.std.proofs.lemmas.List.{get_or-take, get_or_default, length-take, same_from_push}
 use Rattle.std.proofs.lemmas.List.Elements.{All-append}
-use Rattle.std.proofs.lemmas.List.Splits.{slice_split-cons_no, slice_split-cons_yes}
 use Rattle.std.proofs.lemmas.List.Splits.{slice_split_at}
 use Rattle.std.proofs.Math.Seq.{drop-cons}
 use Rattle.memchr.specs.Find.{IsFirstByte, Nowhere, Passes, is_byte}
@@ -21,28 +20,23 @@ module _ (c : ℕ) (front xs : List ℕ) (none : All (λ b. is_byte c b ≡ fals
   without n within before = All-append (λ b. is_byte c b ≡ false) front (take n xs) none
       (λ k d below.
       let inside : k < n = omega (arith, below, length-take n xs) in
-      let same = get_or_default xs k 0 d (omega (arith, inside, within))
-      ∙ sym (get_or-take n xs k d inside) in
-      false_from_ne_true _ (λ e. before k (omega arith) inside (ap (is_byte c) same ∙ e)))
+      rw (get_or-take, get_or_default xs k d 0 (omega arith))
+      (false_from_ne_true _ (before k (omega arith) inside)))
 
   pub cut_at_first : (n : ℕ) → IsFirstByte (is_byte c) xs (Some n) → xs ≡ take n xs ++ c
       ∷ drop (n + 1) xs
-  cut_at_first n h = sym (take-append-drop n xs) ∙ ap (λ t. take n xs ++ t)
-      (rw (add-one, drop-cons xs n 0 h.0.high)
-      (ap (λ b. b ∷ drop (suc n) xs) (eqb-true _ _ h.1)))
+  cut_at_first n h = rw (drop-cons xs n 0 h.0.high, eqb-true _ _ h.1, ← add-one) at
+      (sym (take-append-drop n xs))
 
   pub split_at_first : (n : ℕ) → IsFirstByte (is_byte c) xs (Some n)
       → slice_split (is_byte c) (front ++ xs)
       ≡ (front ++ take n xs) ∷ slice_split (is_byte c) (drop (n + 1) xs)
-  split_at_first n h = ap (λ t. slice_split (is_byte c) (front ++ t)) (cut_at_first n h)
-      ∙ ap (slice_split (is_byte c)) (sym (append_assoc front (take n xs) (c ∷ drop (n + 1) xs)))
-      ∙ slice_split_at (is_byte c) (front ++ take n xs) c (drop (n + 1) xs)
-      (without n (omega (arith, h.0.high)) h.0.before) (eq-eqb c c refl)
+  split_at_first n h = rw (append_assoc, ← cut_at_first n h) at
+      (slice_split_at (is_byte c) (front ++ take n xs) c (drop (n + 1) xs)
+      (without n (omega (arith, h.0.high)) h.0.before) (eq-eqb c c refl))
 
   pub without_first : IsFirstByte (is_byte c) xs None → All (λ b. is_byte c b ≡ false) (front ++ xs)
-  without_first h = subst (λ (t : List ℕ). All (λ b. is_byte c b ≡ false) (front ++ t))
-      (take_all (length xs) xs (le_refl (length xs)))
-      (without (length xs) (le_refl (length xs)) h)
+  without_first h = rw (take_all, le_refl) at (without (length xs) (le_refl (length xs)) h)
 
 -- ---- lines
 
@@ -59,18 +53,13 @@ split_byte : (b : ℕ) (bs : List ℕ) → is_byte 10 b ≡ false → (whole : L
     (rest : List ℕ) → Splits bs whole rest
     → ((m : List ℕ) → slice_split (is_byte 10) (bs ++ m)
     ≡ whole ++ slice_split (is_byte 10) (rest ++ m)) → Split (b ∷ bs)
-split_byte b bs h [] rest p more = record {
-  whole = [];
-  rest = b ∷ rest;
-  splits = slice_split-cons_no (is_byte 10) b bs h ∙ ap (onto_first b) p;
-  more = λ m. slice_split-cons_no (is_byte 10) b (bs ++ m) h ∙ ap (onto_first b) (more m)
-      ∙ sym (slice_split-cons_no (is_byte 10) b (rest ++ m) h);
-}
+split_byte b bs h [] rest p more =
+    record { whole = []; rest = b ∷ rest; splits = rw (h, p); more = λ m. rw (h, more m) }
 split_byte b bs h (line ∷ whole) rest p more = record {
   whole = (b ∷ line) ∷ whole;
   rest = rest;
-  splits = slice_split-cons_no (is_byte 10) b bs h ∙ ap (onto_first b) p;
-  more = λ m. slice_split-cons_no (is_byte 10) b (bs ++ m) h ∙ ap (onto_first b) (more m);
+  splits = rw (h, p);
+  more = λ m. rw (h, more m);
 }
 
 -- each text splits
@@ -80,9 +69,8 @@ split_of (b ∷ bs) = let s = split_of bs in elim (cases_Bool (is_byte 10 b)) [
   | inl feed ↦ record {
     whole = [] ∷ s.whole;
     rest = s.rest;
-    splits = slice_split-cons_yes (is_byte 10) b bs feed ∙ ap (λ parts. [] ∷ parts) s.splits;
-    more = λ m. slice_split-cons_yes (is_byte 10) b (bs ++ m) feed
-        ∙ ap (λ parts. [] ∷ parts) (s.more m);
+    splits = rw (feed, s.splits);
+    more = λ m. rw (feed, s.more m);
   }
   | inr other ↦ split_byte b bs other s.whole s.rest s.splits s.more
 ]
@@ -100,6 +88,4 @@ pub Splits-append : (text more : List ℕ) (whole next : List (List ℕ)) (rest 
 Splits-append text more whole next rest last p q =
     let s = split_of text in
     let same = Splits-one_way text s.whole whole s.rest rest s.splits p in
-    s.more more
-    ∙ ap₂ (λ (w : List (List ℕ)) (r : List ℕ). w ++ slice_split (is_byte 10) (r ++ more)) same.0
-    same.1 ∙ ap (λ parts. whole ++ parts) q ∙ sym (append_assoc whole next (last ∷ []))
+    rw (s.more more, same.0, same.1, q, append_assoc)

@@ -1,9 +1,9 @@
 -- The laws of the usual types of attributes.
-use Rattle.std.proofs.Common.{Some, Result, Ok, Err, ◌≡◌, ◌∙◌, inl, inr, ℕ, ◌^◌, ◌<◌, List, []}
-use Rattle.std.proofs.Common.{length, refl, ap, sym, subst, arith}
+use Rattle.std.proofs.Common.{Some, Result, Ok, Err, ◌≡◌, ◌∙◌, ℕ, ◌^◌, ◌<◌, List, []}
+use Rattle.std.proofs.Common.{length, sym, arith}
 use Rattle.std.specs.Prelude.{⊤, bit_and}
-use Rattle.std.proofs.lemmas.Bool.{cases_eq, eq-eqb, ne_eqb}
 use Rattle.std.proofs.lemmas.List.{append-nil, take_all}
+use Rattle.std.proofs.lemmas.Bool.Decides.{nat_tests}
 use Rattle.byteorder.specs.Endian.{little_number, little_bytes}
 use Rattle.byteorder.specs.Numbers.{little_from-lt, little_number-reads_back}
 use Rattle.byteorder.specs.Numbers.{length-bytes_low_first}
@@ -42,63 +42,33 @@ exact_laws reads bytes is_in_range is_normal named exact bytes_in_range back = r
   one_answer = λ b p v e h k. cc;
   one_fault = λ b p e f h k. cc;
   named_fault = λ b p h. named b h;
-  same_value = λ b c p v w b-in_range c-in_range h k. (
-    λ e. (exact b v b-in_range h).0 ∙ ap bytes e ∙ sym (exact c w c-in_range k).0,
-    λ e. let also = ap reads e ∙ k in cc,
-  );
+  same_value = λ b c p v w b-in_range c-in_range h k.
+      grind (arith, exact b v b-in_range h, exact c w c-in_range k);
   reads_normal = λ b p v in_range h. let read = exact b v in_range h in (read.1, read.2);
   written_bytes = bytes_in_range;
   reads_back = λ p v in_range normal room. back v in_range normal;
 }
 
-module _ (k width : ℕ) where
-  abbrev read_number : List ℕ → Result ℕ DecodeError
-  read_number x = exact_number (Some k) width x
+number_back : (width n : ℕ) → n < 256 ^ width → little_number width (little_bytes width n) ≡ n
+number_back width n fits = rw append-nil at (little_number-reads_back width n [] fits)
 
-  -- where a number that fills its bytes was read
-  number_of_value : (x : List ℕ) (n : ℕ) → read_number x ≡ Ok n → (length x ≡ width)
-      × (little_number width x ≡ n)
-  number_of_value x n h =
-      elim (cases_eq (length x) width) [
-        | inl same ↦ (same, let read = rw (eq-eqb (length x) width same) at h in cc)
-        | inr other ↦ let read = rw (ne_eqb (length x) width other) at h in absurd cc
-      ]
-
-  number_named : (x : List ℕ) → read_number x ≡ Err Memory → ⊥
-  number_named x h =
-      elim (cases_eq (length x) width) [
-        | inl same ↦ let read = rw (eq-eqb (length x) width same) at h in cc
-        | inr other ↦ let read = rw (ne_eqb (length x) width other) at h in cc
-      ]
-
-  number_back : (n : ℕ) → n < 256 ^ width → little_number width (little_bytes width n) ≡ n
-  number_back n fits = ap (little_number width) (sym (append-nil (little_bytes width n)))
-      ∙ little_number-reads_back width n [] fits
-
-  number_exact : (x : List ℕ) (n : ℕ) → IsBytes x → read_number x ≡ Ok n
-      → (x ≡ little_bytes width n) × (n < 256 ^ width)
-  number_exact x n in_range h =
-      let read = number_of_value x n h in
-      let fits : n < 256 ^ width =
-      subst (λ (m : ℕ). m < 256 ^ width) read.1 (little_from-lt 0 width x in_range) in (
+-- a type of numbers keeps the laws
+pub number_laws : (k width : ℕ) → bit_and k 0x3fff ≡ k → AttributeSpecLaws (number_spec k width)
+number_laws k width plain = record {
+  plain = plain;
+  value = exact_laws (exact_number (Some k) width) (little_bytes width) (λ n. n < 256 ^ width)
+      (λ n. ⊤) (λ x h. grind (arith, nat_tests)) (λ x n in_range h.
+      let read : (length x ≡ width) × (little_number width x ≡ n) = grind (arith, nat_tests) in
+      let fits : n < 256 ^ width = rw read.1 at (little_from-lt 0 width x in_range) in (
         same_bytes width x (little_bytes width n) in_range (IsBytes-number 0 width n) read.0
-            (length-bytes_low_first 0 width n) (read.1 ∙ sym (number_back n fits)),
+            (length-bytes_low_first 0 width n) (read.1 ∙ sym (number_back width n fits)),
         fits,
-      )
-
-  -- a type of numbers keeps the laws
-  pub number_laws : bit_and k 0x3fff ≡ k → AttributeSpecLaws (number_spec k width)
-  number_laws plain = record {
-    plain = plain;
-    value = exact_laws read_number (little_bytes width) (λ n. n < 256 ^ width) (λ n. ⊤) number_named
-        (λ x n in_range h. let exact = number_exact x n in_range h in (exact.0, exact.1, tt))
-        (λ n fits. IsBytes-number 0 width n)
-        (λ n fits normal. rw (
-          eq-eqb (length (little_bytes width n)) width
-              (length-bytes_low_first 0 width n),
-          number_back n fits,
-        ) refl);
-  }
+        tt,
+      ))
+      (λ n fits. IsBytes-number 0 width n)
+      (λ n fits normal.
+      grind (arith, nat_tests, length-bytes_low_first 0 width n, number_back width n fits));
+}
 
 -- a type whose values keep the laws
 pub spec_laws : (k : ℕ) {P : ValueCodec (Unit {0})} → bit_and k 0x3fff ≡ k → KeepsLaws (as_codec P)

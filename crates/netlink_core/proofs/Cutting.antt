@@ -1,24 +1,33 @@
 -- Bytes are cut in one way at most, and either mean something or have a fault.
-use Rattle.std.proofs.Common.{Result, Ok, Err, ◌≡◌, ◌≢◌, ℕ, zero, suc, ◌+◌, ◌≤◌, ◌⊎◌, inl, inr}
-use Rattle.std.proofs.Common.{List, [], ◌∷◌, ◌++◌, length, drop, refl, sym, ap, subst, ◌∙◌}
+use Rattle.std.proofs.Common.{◌<◌, Option, Some, None}
+use Rattle.std.proofs.Common.{Result, Ok, ◌≡◌, ◌≢◌, ℕ, ◌+◌, ◌⊎◌, inl, inr}
+use Rattle.std.proofs.Common.{List, [], ◌∷◌, ◌++◌, length, drop, refl, sym, ap, ◌∙◌}
 use Rattle.std.proofs.Common.{append_assoc, arith}
-use Rattle.std.specs.Prelude.{replicate, IsOk}
-use Rattle.std.proofs.lemmas.List.{length-append, length-replicate, length-drop, get_or-drop}
+use Rattle.std.specs.Prelude.{IsOk}
+use Rattle.std.proofs.lemmas.List.{length-append, length-replicate, length-drop}
 use Rattle.std.specs.List.{AllZip, AllByRecursion, flat_map}
-use Rattle.byteorder.specs.Endian.{little_bytes}
 use Rattle.netlink_core.specs.declared.fault.DecodeError.{DecodeError}
 use Rattle.netlink_core.specs.Bytes.{IsBytes}
+use Rattle.netlink_core.specs.Attribute.{CutOff}
 use Rattle.netlink_core.specs.Attribute.{Attribute, IsAttributeInRange, FitsWords, fill, unpadded}
 use Rattle.netlink_core.specs.Attribute.{written, StartsWith, Cut, CutInFull, IsPrefixFault}
 use Rattle.netlink_core.specs.Attribute.{AttributesMean, AttributeFault}
-use Rattle.netlink_core.specs.ByteLaws.{IsBytes-nil, IsBytes-append, IsBytes-left, IsBytes-right}
+use Rattle.netlink_core.specs.ByteLaws.{IsBytes-nil, IsBytes-append, IsBytes-right}
 use Rattle.netlink_core.specs.PrefixLaws.{same_parts, one_prefix, written_in_range, word_is}
 use Rattle.netlink_core.specs.PrefixLaws.{prefix_or_fault_apart, prefix_or_fault, value_or_reason}
-use Rattle.netlink_core.specs.PrefixLaws.{one_prefix_fault}
-use Rattle.netlink_core.proofs.Padding.{starts_with}
+use Rattle.netlink_core.specs.PrefixLaws.{one_prefix_fault, one_attribute, prefix_in_range}
+use Rattle.netlink_core.proofs.TableLaws.{AreBytes-drop}
+use Rattle.netlink_core.proofs.Padding.{starts_with, by_length, some_or_none}
 use Rattle.netlink_core.proofs.Walking.{StartsWith-some, prefix_of_start, later_fault, fault_here}
 
 -- ---- one cut
+
+-- what follows its padding is fixed, where there is as much padding as fills up, or nothing follows
+pub one_rest : (n : ℕ) (p q rest after : List ℕ)
+    → (length p ≡ n) ⊎ ((length p < n) × (rest ≡ []))
+    → (length q ≡ n) ⊎ ((length q < n) × (after ≡ [])) → p ++ rest ≡ q ++ after → rest ≡ after
+one_rest n p q rest after h k e =
+    grind (arith, same_parts p q rest after, length-append p rest, length-append q after)
 
 -- the first attribute and the rest behind it are fixed by the bytes
 pub one_start : (bytes rest after : List ℕ) (a b : Attribute) → StartsWith bytes a rest
@@ -26,25 +35,7 @@ pub one_start : (bytes rest after : List ℕ) (a b : Attribute) → StartsWith b
 one_start bytes rest after a b s t =
     let heads = one_prefix a b (s.padding ++ rest) (t.padding ++ after) s.fits t.fits (sym s.parts
     ∙ t.parts) in
-    let fills : fill (length a.value) ≡ fill (length b.value) =
-    ap (λ (x : Attribute). fill (length x.value)) heads.0 in
-    let len : length s.padding + length rest ≡ length t.padding + length after =
-    sym (length-append s.padding rest) ∙ ap length heads.1 ∙ length-append t.padding after in (
-      heads.0,
-      elim s.filled [
-        | inl full ↦ elim t.filled [
-          | inl also ↦ (same_parts s.padding t.padding rest after (full ∙ fills ∙ sym also)
-              heads.1).1
-          | inr short ↦ let none : length after ≡ 0 = ap length short.1 in
-              absurd (omega (arith, short.0))
-        ]
-        | inr short ↦ elim t.filled [
-          | inl full ↦ let none : length rest ≡ 0 = ap length short.1 in
-              absurd (omega (arith, short.0))
-          | inr also ↦ short.1 ∙ sym also.1
-        ]
-      ],
-    )
+    (heads.0, one_rest _ s.padding t.padding rest after s.filled (rw heads.0 t.filled) heads.1)
 
 -- bytes are cut into one list at most
 pub one_cut : (bytes : List ℕ) (xs ys : List Attribute) → Cut bytes xs → Cut bytes ys → xs ≡ ys
@@ -53,8 +44,8 @@ one_cut bytes [] (y ∷ ys) h k = absurd (StartsWith-some bytes k.0 y k.1 h)
 one_cut bytes (x ∷ xs) [] h k = absurd (StartsWith-some bytes h.0 x h.1 k)
 one_cut bytes (x ∷ xs) (y ∷ ys) h k =
     let starts = one_start bytes h.0 k.0 x y h.1 k.1 in
-    let later = one_cut h.0 xs ys h.2 (subst (λ (rest : List ℕ). Cut rest ys) (sym starts.1) k.2) in
-    λ i. starts.0 i ∷ later i
+    let later = one_cut h.0 xs ys h.2 (rw starts.1 k.2) in
+    cc
 
 -- ---- what was written is cut
 
@@ -71,14 +62,8 @@ full_is_cut bytes (x ∷ xs) h = (
 pub written_is_cut : (xs : List Attribute) → AllByRecursion FitsWords xs
     → CutInFull (flat_map written xs) xs
 written_is_cut [] fits = refl
-written_is_cut (x ∷ xs) fits = (
-  replicate (fill (length x.value)) 0,
-  flat_map written xs,
-  append_assoc (unpadded x) (replicate (fill (length x.value)) 0) (flat_map written xs),
-  fits.0,
-  length-replicate (fill (length x.value)) 0,
-  written_is_cut xs fits.1,
-)
+written_is_cut (x ∷ xs) fits =
+    (_, _, append_assoc (unpadded x) _ _, fits.0, length-replicate _ 0, written_is_cut xs fits.1)
 
 -- ---- attributes in bytes are in range
 
@@ -86,186 +71,112 @@ written_is_cut (x ∷ xs) fits = (
 pub all_written_in_range : (xs : List Attribute) → AllByRecursion IsAttributeInRange xs
     → IsBytes (flat_map written xs)
 all_written_in_range [] in_range = IsBytes-nil
-all_written_in_range (x ∷ xs) in_range = IsBytes-append (written x) (flat_map written xs)
+all_written_in_range (x ∷ xs) in_range = IsBytes-append (written x) _
     (written_in_range x in_range.0) (all_written_in_range xs in_range.1)
 
 -- the attributes that bytes are cut into
 pub cut_in_range : (bytes : List ℕ) (xs : List Attribute) → IsBytes bytes → Cut bytes xs
     → AllByRecursion IsAttributeInRange xs
 cut_in_range bytes [] in_range h = tt
-cut_in_range bytes (x ∷ xs) in_range h =
-    let whole : IsBytes (unpadded x ++ (h.1.padding ++ h.0)) = subst IsBytes h.1.parts in_range in
-    let head : IsBytes (unpadded x) = IsBytes-left (unpadded x) (h.1.padding ++ h.0) whole in
-    let behind : IsBytes (h.1.padding ++ h.0) = IsBytes-right (unpadded x) (h.1.padding ++ h.0)
-    whole in
-    let value : IsBytes x.value = IsBytes-right (little_bytes 2 x.type_word) x.value
-    (IsBytes-right (little_bytes 2 (4 + length x.value)) (little_bytes 2 x.type_word ++ x.value)
-    head) in
-    ((h.1.fits.0, value), cut_in_range h.0 xs (IsBytes-right h.1.padding h.0 behind) h.2)
+cut_in_range bytes (x ∷ xs) in_range h = (
+  prefix_in_range bytes x in_range (prefix_of_start bytes h.0 x h.1),
+  cut_in_range h.0 xs (IsBytes-right h.1.padding _
+      (IsBytes-right (unpadded x) _ (rw h.1.parts at in_range))) h.2,
+)
 
--- ---- no fault where bytes are cut
-
--- the first of the attributes in front begins all the bytes
-front_start : (before after : List ℕ) (a : Attribute) (front : List Attribute)
-    (h : CutInFull before (a ∷ front)) → StartsWith (before ++ after) a (h.1 ++ after)
-front_start before after a front h = record {
-  padding = h.0;
-  parts = ap (λ (b : List ℕ). b ++ after) h.2 ∙ append_assoc (unpadded a) (h.0 ++ h.1) after
-      ∙ ap (λ (t : List ℕ). unpadded a ++ t) (append_assoc h.0 h.1 after);
-  fits = h.3;
-  filled = inl h.4;
-}
-
--- a cut of all the bytes is one of those in front and one of those behind
-cut_behind : (before after : List ℕ) (front xs : List Attribute) → CutInFull before front
-    → after ≢ [] → Cut (before ++ after) xs → (later : List Attribute) × (xs ≡ front ++ later)
-    × Cut after later
-cut_behind before after [] xs h some k = (xs, refl, subst (λ (b : List ℕ). Cut (b ++ after) xs) h k)
-cut_behind before after (a ∷ front) [] h some k =
-    absurd (StartsWith-some (before ++ after) (h.1 ++ after) a (front_start before after a front h)
-    k)
-cut_behind before after (a ∷ front) (x ∷ xs) h some k =
-    let starts = one_start (before ++ after) (h.1 ++ after) k.0 a x
-    (front_start before after a front h) k.1 in
-    let more = cut_behind h.1 after front xs h.5 some
-    (subst (λ (rest : List ℕ). Cut rest xs) (sym starts.1) k.2) in
-    (more.0, λ i. sym starts.0 i ∷ more.1 i, more.2)
+-- ---- one answer
 
 module _ {A : Type 0} (reads : Attribute → Result A DecodeError) where
-  -- the attributes behind the first ones mean something too
-  later_means : (front later : List Attribute) (values : List A)
-      → AllZip (λ a value. reads a ≡ Ok value) (front ++ later) values → (rest : List A)
-      × AllZip (λ a value. reads a ≡ Ok value) later rest
-  later_means [] later values h = (values, h)
-  later_means (a ∷ front) later [] h = absurd h
-  later_means (a ∷ front) later (v ∷ values) h = later_means front later values h.1
+  -- attributes that can be read, one after the other, and behind them nothing or a fault
+  abbrev Passes : List ℕ → List Attribute → Option DecodeError → Type 0
+  Passes bytes [] None = bytes ≡ []
+  Passes bytes [] (Some e) = (bytes ≢ []) × IsPrefixFault reads bytes e
+  Passes bytes (a ∷ later) end = (rest : List ℕ) × StartsWith bytes a rest × IsOk (reads a)
+      × Passes rest later end
 
-  -- an attribute that can be read has no fault
-  no_fault_at_value : (bytes rest : List ℕ) (a : Attribute) (e : DecodeError)
-      → StartsWith bytes a rest → IsOk (reads a) → IsPrefixFault reads bytes e → ⊥
-  no_fault_at_value bytes rest a e start good f =
-      let own = prefix_of_start bytes rest a start in
-      elim f [
-        | inl framing ↦ prefix_or_fault_apart bytes a e own framing
-        | inr refused ↦
-            let same = one_prefix refused.0 a refused.1.0 own.0 refused.1.2 own.2 (sym refused.1.1
-            ∙ own.1) in
-            let bad : reads a ≡ Err e = subst (λ (x : Attribute). reads x ≡ Err e) same.0
-            refused.2 in
-            let no : IsOk {T = A} {E = DecodeError} (Err e) = rw bad at good in
-            cc
-      ]
+  means_passes : (bytes : List ℕ) (xs : List Attribute) (values : List A) → Cut bytes xs
+      → AllZip (λ a value. reads a ≡ Ok value) xs values → Passes bytes xs None
+  means_passes bytes [] values h k = h
+  means_passes bytes (x ∷ xs) [] h k = absurd k
+  means_passes bytes (x ∷ xs) (v ∷ values) h k =
+      (h.0, h.1, rw k.0 refl, means_passes h.0 xs values h.2 k.1)
 
-  -- at a fault nothing is cut
-  no_cut_at_fault : (after : List ℕ) (later : List Attribute) (values : List A) (e : DecodeError)
-      → after ≢ [] → IsPrefixFault reads after e → Cut after later
-      → AllZip (λ a value. reads a ≡ Ok value) later values → ⊥
-  no_cut_at_fault after [] values e some f k h = some k
-  no_cut_at_fault after (x ∷ later) [] e some f k h = h
-  no_cut_at_fault after (x ∷ later) (v ∷ values) e some f k h =
-      no_fault_at_value after k.0 x e k.1 (rw h.0 refl) f
+  fault_passes : (bytes : List ℕ) (xs : List Attribute) (e : DecodeError)
+      → CutOff (IsPrefixFault reads) bytes xs e → AllByRecursion (λ a. IsOk (reads a)) xs
+      → Passes bytes xs (Some e)
+  fault_passes bytes [] e (before, after, parts, h, left, fault) good = rw (parts, h) (left, fault)
+  fault_passes bytes (a ∷ xs) e (before, after, parts, h, left, fault) good = (
+    h.1 ++ after,
+    record {
+      padding = h.0;
+      parts = rw (parts, h.2) (simp append_assoc);
+      fits = h.3;
+      filled = inl h.4;
+    },
+    good.0,
+    fault_passes (h.1 ++ after) xs e (h.1, after, refl, h.5, left, fault) good.1,
+  )
+
+  -- no end is where an attribute can be read
+  not_ended : (bytes rest : List ℕ) (a : Attribute) (end : Option DecodeError)
+      → StartsWith bytes a rest → IsOk (reads a) → Passes bytes [] end → ⊥
+  not_ended bytes rest a end s good h =
+      let head = prefix_of_start bytes rest a s in
+      grind (arith, prefix_or_fault_apart bytes a, one_attribute bytes a)
+
+  one_end : (bytes : List ℕ) (xs ys : List Attribute) (e f : Option DecodeError)
+      → Passes bytes xs e → Passes bytes ys f → e ≡ f
+  one_end bytes [] [] (Some e) (Some f) h k = ap Some (one_prefix_fault reads bytes e f h.1 k.1)
+  one_end bytes [] [] None None h k = refl
+  one_end bytes [] [] e f h k = grind arith
+  one_end bytes [] (y ∷ ys) e f h k = absurd (not_ended bytes k.0 y e k.1 k.2 h)
+  one_end bytes (x ∷ xs) [] e f h k = absurd (not_ended bytes h.0 x f h.1 h.2 k)
+  one_end bytes (x ∷ xs) (y ∷ ys) e f h k =
+      one_end h.0 xs ys e f h.3 (rw (one_start bytes h.0 k.0 x y h.1 k.1).1 k.3)
 
   -- bytes that mean something have no fault
   pub means_or_fault_apart : (bytes : List ℕ) (values : List A) (e : DecodeError)
       → AttributesMean reads bytes values → AttributeFault reads bytes e → ⊥
   means_or_fault_apart bytes values e m f =
-      let (before, after, parts, full, left, fault) = f.1 in
-      let cut : Cut (before ++ after) m.0 = subst (λ (b : List ℕ). Cut b m.0) parts m.1 in
-      let behind = cut_behind before after f.0 m.0 full left cut in
-      let split : AllZip (λ a value. reads a ≡ Ok value) (f.0 ++ behind.0) values =
-      subst (λ (xs : List Attribute). AllZip (λ a value. reads a ≡ Ok value) xs values) behind.1
-      m.2 in
-      let later = later_means f.0 behind.0 values split in
-      no_cut_at_fault after behind.0 later.0 e left fault behind.2 later.1
+      let same = one_end bytes m.0 f.0 None (Some e) (means_passes bytes m.0 values m.1 m.2)
+      (fault_passes bytes f.0 e f.1 f.2) in
+      cc
 
--- ---- bytes are cut, or have a fault
+  -- bytes have one fault at most
+  pub one_fault : (bytes : List ℕ) (e f : DecodeError) → AttributeFault reads bytes e
+      → AttributeFault reads bytes f → e ≡ f
+  one_fault bytes e f h k =
+      let same = one_end bytes h.0 k.0 (Some e) (Some f) (fault_passes bytes h.0 e h.1 h.2)
+      (fault_passes bytes k.0 f k.1 k.2) in
+      cc
 
-module _ {A : Type 0} (reads : Attribute → Result A DecodeError) where
-  -- for at most n bytes
-  means_or_fault_of : (n : ℕ) (bytes : List ℕ) → length bytes ≤ n → IsBytes bytes
-      → ((meanings : List A) × AttributesMean reads bytes meanings)
-      ⊎ ((e : DecodeError) × AttributeFault reads bytes e)
-  means_or_fault_of n [] le fits = inl ([], ([], refl, tt))
-  means_or_fault_of zero (b ∷ bytes) le fits = absurd (omega arith)
-  means_or_fault_of (suc n) (b ∷ bytes) le fits =
-      let all : List ℕ = b ∷ bytes in
-      let some : all ≢ [] = λ e. cc in
-      elim (prefix_or_fault all fits) [
-        | inr f ↦ inr (f.0, fault_here reads all f.0 some (inl f.1))
-        | inl h ↦
-            let a : Attribute = h.0 in
-            let end : ℕ = 4 + length a.value + fill (4 + length a.value) in
-            let rest : List ℕ = drop end all in
-            let start : StartsWith all a rest = starts_with all rest a end h.1 refl refl in
-            let word = word_is all a h.1 in
-            let shorter : length rest ≤ n = omega (arith, length-drop end all) in
-            let rest-fits : IsBytes rest = λ i. rw get_or-drop (fits (end + i)) in
-            elim (value_or_reason (reads a)) [
-              | inr r ↦ inr (r.0, fault_here reads all r.0 some (inr (a, h.1, r.1)))
-              | inl m ↦ elim (means_or_fault_of n rest shorter rest-fits) [
-                | inl later ↦ inl (
-                  m.0 ∷ later.0,
-                  (a ∷ later.1.0, (rest, start, later.1.1), (m.1, later.1.2)),
-                )
-                | inr f ↦ inr (f.0, later_fault reads all rest a m.0 f.0 start m.1 f.1)
-              ]
-            ]
-      ]
+  -- ---- bytes are cut, or have a fault
 
   -- bytes mean something, or they have a fault
   pub means_or_fault : (bytes : List ℕ) → IsBytes bytes
       → ((meanings : List A) × AttributesMean reads bytes meanings)
       ⊎ ((e : DecodeError) × AttributeFault reads bytes e)
-  means_or_fault bytes fits = means_or_fault_of (length bytes) bytes (omega arith) fits
+  means_or_fault = by_length _ (λ bytes later fits. elim (some_or_none bytes) [
+    | inl none ↦ inl ([], ([], none, tt))
+    | inr some ↦ elim (prefix_or_fault bytes fits) [
+      | inr f ↦ inr (f.0, fault_here reads bytes f.0 some (inl f.1))
+      | inl (a, head) ↦
+          let end : ℕ = 4 + length a.value + fill (4 + length a.value) in
+          let rest : List ℕ = drop end bytes in
+          let start = starts_with bytes rest a end head refl refl in
+          elim (value_or_reason (reads a)) [
+            | inr r ↦ inr (r.0, fault_here reads bytes r.0 some (inr (a, head, r.1)))
+            | inl m ↦ elim (later rest (omega (arith, word_is bytes a head, length-drop end bytes))
+                (AreBytes-drop end bytes fits)) [
+                  | inl n ↦ inl (m.0 ∷ n.0, (a ∷ n.1.0, (rest, start, n.1.1), (m.1, n.1.2)))
+                  | inr f ↦ inr (f.0, later_fault reads bytes rest a m.0 f.0 start m.1 f.1)
+                ]
+          ]
+    ]
+  ])
 
--- ---- one fault
+  -- ---- what was written means what is read from it
 
-module _ {A : Type 0} (reads : Attribute → Result A DecodeError) where
-  one_fault_of : (bytes before after before' after' : List ℕ) (front front' : List Attribute)
-      (e f : DecodeError) → bytes ≡ before ++ after → bytes ≡ before' ++ after'
-      → CutInFull before front → CutInFull before' front'
-      → AllByRecursion (λ a. IsOk (reads a)) front → AllByRecursion (λ a. IsOk (reads a)) front'
-      → IsPrefixFault reads after e → IsPrefixFault reads after' f → e ≡ f
-  one_fault_of bytes before after before' after' [] [] e f parts parts' cut cut' good good' h k =
-      let here : after ≡ bytes = sym (parts ∙ ap (λ (b : List ℕ). b ++ after) cut) in
-      let there : after' ≡ bytes = sym (parts' ∙ ap (λ (b : List ℕ). b ++ after') cut') in
-      one_prefix_fault reads bytes e f (subst (λ (b : List ℕ). IsPrefixFault reads b e) here h)
-      (subst (λ (b : List ℕ). IsPrefixFault reads b f) there k)
-  one_fault_of bytes before after before' after' [] (a ∷ front') e f parts parts' cut cut' good
-      good' h k =
-      let here : after ≡ before' ++ after' = sym (parts ∙ ap (λ (b : List ℕ). b ++ after) cut)
-      ∙ parts' in
-      absurd (no_fault_at_value reads (before' ++ after') (cut'.1 ++ after') a e
-      (front_start before' after' a front' cut') good'.0
-      (subst (λ (b : List ℕ). IsPrefixFault reads b e) here h))
-  one_fault_of bytes before after before' after' (a ∷ front) [] e f parts parts' cut cut' good good'
-      h k =
-      let there : after' ≡ before ++ after = sym (parts' ∙ ap (λ (b : List ℕ). b ++ after') cut')
-      ∙ parts in
-      absurd (no_fault_at_value reads (before ++ after) (cut.1 ++ after) a f
-      (front_start before after a front cut) good.0
-      (subst (λ (b : List ℕ). IsPrefixFault reads b f) there k))
-  one_fault_of bytes before after before' after' (a ∷ front) (b ∷ front') e f parts parts' cut cut'
-      good good' h k =
-      let other : StartsWith (before ++ after) b (cut'.1 ++ after') =
-      subst (λ (x : List ℕ). StartsWith x b (cut'.1 ++ after')) (sym parts' ∙ parts)
-      (front_start before' after' b front' cut') in
-      let starts = one_start (before ++ after) (cut.1 ++ after) (cut'.1 ++ after') a b
-      (front_start before after a front cut) other in
-      one_fault_of (cut.1 ++ after) cut.1 after cut'.1 after' front front' e f refl starts.1 cut.5
-      cut'.5 good.1 good'.1 h k
-
-  -- bytes have one fault at most
-  pub one_fault : (bytes : List ℕ) (e f : DecodeError) → AttributeFault reads bytes e
-      → AttributeFault reads bytes f → e ≡ f
-  one_fault bytes e f (given, (before, after, parts, cut, left, h), good)
-      (given', (before', after', parts', cut', left', k), good') =
-      one_fault_of bytes before after before' after' given given' e f parts parts' cut cut' good
-      good' h k
-
--- ---- what was written means what is read from it
-
-module _ {A : Type 0} (reads : Attribute → Result A DecodeError) where
   -- what is read from each attribute is what their written bytes mean
   pub written_values_are_read : (xs : List Attribute) (values : List A)
       → AllByRecursion FitsWords xs → AllZip (λ a value. reads a ≡ Ok value) xs values

@@ -1,5 +1,5 @@
 -- What `==` of faults and of errors of `canonical` says.
-use Rattle.std.proofs.Common.{◌≡◌, ◌↔◌, IsTrue, ap, rules}
+use Rattle.std.proofs.Common.{◌≡◌, ◌↔◌, IsTrue, rules, arith}
 use Rattle.netlink_core.proofs.Equality.{apart}
 use Rattle.netlink_core.specs.declared.canon.CanonError.{CanonError}
 use Rattle.netlink_core.specs.declared.canon.CanonError.TheVariants as canon
@@ -32,8 +32,7 @@ fault_equal e f = apart (λ p. cc)
 
 -- two errors of `canonical`
 pub error_equal : (v w : CanonError) → IsTrue (of_canon.eq v w) ↔ (v ≡ w)
-error_equal (canon.Refused a) (canon.Refused b) =
-    (λ h. ap canon.Refused ((fault_equal a b).0 h), λ e. (fault_equal a b).1 cc)
+error_equal (canon.Refused a) (canon.Refused b) = grind (arith, fault_equal a b)
 error_equal canon.Unwritable canon.Unwritable = search rules
 error_equal canon.Memory canon.Memory = search rules
 error_equal v w = apart (λ p. cc)

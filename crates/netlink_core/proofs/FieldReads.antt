@@ -16,37 +16,23 @@ length-field : (order : Order) (width offset count : ℕ) (bytes : List ℕ)
     → length (values_of (numbers offset width order count) bytes) ≡ count
 length-field order width offset zero bytes = refl
 length-field order width offset (suc count) bytes =
-    ap suc (length-field order width (offset + width) count bytes)
+    grind (arith, length-field order width (offset + width) count bytes)
 
 field-at : (order : Order) (width offset count : ℕ) (bytes : List ℕ) (k : ℕ) → k < count
     → slice_index (values_of (numbers offset width order count) bytes) k ≡ number_in order width
     (drop (offset + width * k) bytes)
-field-at order width offset zero bytes k h = absurd (omega arith)
-field-at order width offset (suc count) bytes zero h =
-    ap (λ (p : ℕ). number_in order width (drop p bytes)) (omega arith)
 field-at order width offset (suc count) bytes (suc k) h =
-    field-at order width (offset + width) count bytes k (omega arith)
-    ∙ ap (λ (p : ℕ). number_in order width (drop p bytes)) (let step = mul-suc width k in
-    omega arith)
+    grind (arith, field-at order width (offset + width) count bytes k, mul-suc width k)
+field-at order width offset count bytes k h = grind arith
 
 -- a number inside a piece is that of the whole
 inside : (order : Order) (width offset size from : ℕ) (bytes : List ℕ) → from + width ≤ size
     → number_in order width (drop from (take size (drop offset bytes))) ≡ number_in order width
     (drop (offset + from) bytes)
 inside order width offset size from bytes h =
-    let rest : size ≡ from + (size - from) = omega arith in
-    let fits : width ≤ size - from = omega arith in
-    let piece : drop from (take size (drop offset bytes)) ≡ take (size - from)
-    (drop from (drop offset bytes)) = ap (λ (n : ℕ). drop from (take n (drop offset bytes))) rest
-    ∙ drop-take from (size - from) (drop offset bytes) in
-    let front : take width (take (size - from) (drop from (drop offset bytes)))
-    ≡ take width (drop from (drop offset bytes)) =
-    take-take width (size - from) (drop from (drop offset bytes)) fits in
-    sym (number-take order width (drop from (take size (drop offset bytes))))
-    ∙ ap (λ (b : List ℕ). number_in order width (take width b)) piece
-    ∙ ap (number_in order width) front
-    ∙ number-take order width (drop from (drop offset bytes))
-    ∙ ap (number_in order width) (drop-drop from offset bytes)
+    let parts : size ≡ from + (size - from) = omega arith in
+    let room : width ≤ size - from = omega arith in
+    rw (parts, drop-take, number-take order width (size - from), drop-drop) refl
 
 -- numbers that were read in a row are those of the table
 pub fields_read : (order : Order) (width offset count : ℕ) (bytes source field : List ℕ)
@@ -72,9 +58,7 @@ pub bytes_read : (offset count : ℕ) (bytes : List ℕ) → offset + count ≤ 
     → take count (drop offset bytes) ≡ values_of (bytes_at offset count) bytes
 bytes_read offset zero bytes h = refl
 bytes_read offset (suc count) bytes h =
-    ap (take (suc count)) (drop_more bytes offset 0 (omega arith))
-    ∙ ap (λ (b : List ℕ). slice_index bytes offset ∷ b)
-    (bytes_read (offset + 1) count bytes (omega arith))
+    grind (arith, drop_more bytes offset 0, bytes_read (offset + 1) count bytes)
 
 -- ---- fields of a record inside another
 
@@ -91,16 +75,8 @@ pub values-moved : (by : ℕ) (fields : List Field) (bytes : List ℕ)
     → values_of (moved by fields) bytes
     ≡ values_of fields (drop by bytes)
 values-moved by [] bytes = refl
-values-moved by (byte offset ∷ fields) bytes = ap₂ (λ (a : ℕ) (others : List ℕ). a ∷ others)
-    (sym (get_or-drop by bytes offset 0)) (values-moved by fields bytes)
-values-moved by (number offset width order ∷ fields) bytes =
-    ap₂ (λ (a : ℕ) (others : List ℕ). a ∷ others)
-    (ap (number_in order width) (sym (drop-drop offset by bytes))) (values-moved by fields bytes)
-values-moved by (flags offset width mask ∷ fields) bytes =
-    ap₂ (λ (a : ℕ) (others : List ℕ). a ∷ others)
-    (ap (λ (b : List ℕ). bit_and (number_in little_endian width b) mask)
-    (sym (drop-drop offset by bytes))) (values-moved by fields bytes)
-values-moved by (unread offset written ∷ fields) bytes = values-moved by fields bytes
+values-moved by (field ∷ fields) bytes =
+    grind (arith, get_or-drop, drop-drop, values-moved by fields bytes)
 
 -- ---- values within their fields
 
@@ -109,39 +85,25 @@ pub fit-append : (fields more : List Field) (values others : List ℕ) → Fit f
     → Fit more others
     → Fit (fields ++ more) (values ++ others)
 fit-append [] more [] others f g = g
-fit-append [] more (value ∷ values) others f g = absurd f
-fit-append (unread offset written ∷ fields) more values others f g =
-    fit-append fields more values others f g
-fit-append (byte offset ∷ fields) more [] others f g = absurd f
-fit-append (byte offset ∷ fields) more (value ∷ values) others f g =
-    (f.0, fit-append fields more values others f.1 g)
-fit-append (number offset width order ∷ fields) more [] others f g = absurd f
-fit-append (number offset width order ∷ fields) more (value ∷ values) others f g =
-    (f.0, fit-append fields more values others f.1 g)
-fit-append (flags offset width mask ∷ fields) more [] others f g = absurd f
-fit-append (flags offset width mask ∷ fields) more (value ∷ values) others f g =
-    (f.0, fit-append fields more values others f.1 g)
+fit-append (unread offset written ∷ fields) more values others f g = fit-append fields more values others f g
+fit-append (field ∷ fields) more (value ∷ values) others f g =
+    grind (arith, fit-append fields more values others)
+fit-append fields more values others f g = grind arith
 
 -- wherever the fields stand
 pub fit-moved : (by : ℕ) (fields : List Field) (values : List ℕ) → Fit fields values
     → Fit (moved by fields) values
-fit-moved by [] values f = f
 fit-moved by (unread offset written ∷ fields) values f = fit-moved by fields values f
-fit-moved by (byte offset ∷ fields) [] f = absurd f
-fit-moved by (byte offset ∷ fields) (value ∷ values) f = (f.0, fit-moved by fields values f.1)
-fit-moved by (number offset width order ∷ fields) [] f = absurd f
-fit-moved by (number offset width order ∷ fields) (value ∷ values) f =
-    (f.0, fit-moved by fields values f.1)
-fit-moved by (flags offset width mask ∷ fields) [] f = absurd f
-fit-moved by (flags offset width mask ∷ fields) (value ∷ values) f =
-    (f.0, fit-moved by fields values f.1)
+fit-moved by (field ∷ fields) (value ∷ values) f =
+    grind (arith, fit-moved by fields values)
+fit-moved by fields values f = grind arith
 
 -- so many bytes of an array
 pub fit-bytes : (offset count : ℕ) (bytes : List ℕ) → IsBytes bytes
     → Fit (bytes_at offset count) (first count bytes)
 fit-bytes offset zero bytes in_range = tt
 fit-bytes offset (suc count) bytes in_range =
-    (in_range 0, fit-bytes (offset + 1) count (drop 1 bytes) (AreBytes-drop 1 bytes in_range))
+    grind (arith, fit-bytes (offset + 1) count (drop 1 bytes) (AreBytes-drop 1 bytes in_range))
 
 -- all numbers of a list
 pub fit_numbers : (order : Order) (offset width : ℕ) (xs : List ℕ)
@@ -155,6 +117,6 @@ fit_numbers order offset width (x ∷ xs) below =
 -- an array is its first elements
 pub first_all : (n : ℕ) (xs : List ℕ) → length xs ≡ n → first n xs ≡ xs
 first_all zero [] l = refl
-first_all zero (x ∷ xs) l = absurd (omega arith)
-first_all (suc n) [] l = absurd (omega arith)
-first_all (suc n) (x ∷ xs) l = ap (λ (others : List ℕ). x ∷ others) (first_all n xs (omega arith))
+first_all (suc n) (x ∷ xs) l =
+    grind (arith, first_all n xs)
+first_all n xs l = absurd (omega arith)

@@ -1,18 +1,13 @@
 -- A message at the start of bytes: one of it, or one fault.
-use Rattle.std.proofs.Common.{cond, ltb, ◌≡◌, ◌∙◌, ℕ, ◌-◌, ◌<◌, ◌≤◌, ◌⊎◌, inl, inr, List, length}
-use Rattle.std.proofs.Common.{take, drop, refl, sym, ap, subst, arith}
-use Rattle.std.specs.Prelude.{Option, Some, None}
-use Rattle.std.proofs.lemmas.Bool.{cases_eq, lt-ltb, le-ltb}
-use Rattle.byteorder.specs.Endian.{little_number}
+use Rattle.std.proofs.Common.{◌≡◌, ℕ, zero, suc, ◌-◌, ◌⊎◌, inl, inr, List}
+use Rattle.std.proofs.Common.{take, drop, refl, arith}
 use Rattle.netlink_core.specs.declared.fault.DecodeError.{DecodeError}
-use Rattle.netlink_core.specs.declared.fault.DecodeError.TheVariants.{Memory, EnvelopeCut}
-use Rattle.netlink_core.specs.declared.fault.DecodeError.TheVariants.{EnvelopeLengthUnder16}
-use Rattle.netlink_core.specs.declared.fault.DecodeError.TheVariants.{EnvelopeLengthPast}
+use Rattle.netlink_core.specs.declared.fault.DecodeError.TheVariants.{Memory}
 use Rattle.netlink_core.specs.declared.header.NetlinkHeader.{NetlinkHeader}
 use Rattle.netlink_core.specs.Bytes.{IsBytes}
 use Rattle.netlink_core.specs.Header.{HasHeader, IsEnvelopeFault}
 use Rattle.netlink_core.specs.Envelope.{Payload, done_with, error_with, no_payload, overrun_with}
-use Rattle.netlink_core.specs.Envelope.{inner, Envelope, IsInnerType, PayloadIs, payload_at}
+use Rattle.netlink_core.specs.Envelope.{inner, Envelope, IsInnerType, PayloadIs}
 use Rattle.netlink_core.specs.Envelope.{envelope_codec}
 use Rattle.netlink_core.specs.Codec.{Codec}
 use Rattle.netlink_core.proofs.TableLaws.{AreBytes-drop}
@@ -20,12 +15,7 @@ use Rattle.netlink_core.proofs.Headers.{AreBytes-take, header_or_fault, header_l
 
 -- ---- what stands behind a header
 
--- the payload stands where the length word says
-pub payload_there : (b : List ℕ) (h : NetlinkHeader) → HasHeader b h
-    → payload_at b ≡ take (h.length - 16) (drop 16 b)
-payload_there b h head = ap (λ (n : ℕ). take (n - 16) (drop 16 b)) (header_length b h head)
-
--- in bytes it is bytes
+-- the payload in bytes is bytes
 pub payload_in_range : (n : ℕ) (b : List ℕ) → IsBytes b → IsBytes (take (n - 16) (drop 16 b))
 payload_in_range n b tb = AreBytes-take (n - 16) (drop 16 b) (AreBytes-drop 16 b tb)
 
@@ -41,70 +31,28 @@ fault_within C bytes h e head fault = inr (h, head, fault.0, fault.1)
 -- where a header stands is no fault of framing
 no_fault_at_header : (b : List ℕ) (h : NetlinkHeader) (e : DecodeError) → HasHeader b h
     → IsEnvelopeFault b e → ⊥
-no_fault_at_header b h (EnvelopeCut got) head k = omega (arith, head.2, head.3, k.1)
-no_fault_at_header b h (EnvelopeLengthUnder16 word) head k =
-    omega (arith, head.2, header_length b h head, k.0, k.2)
-no_fault_at_header b h (EnvelopeLengthPast word got) head k =
-    omega (arith, head.3, header_length b h head, k.0, k.4)
-no_fault_at_header b h _ head k = k
-
--- the first fault of framing, computed
-first_fault : List ℕ → Option DecodeError
-first_fault b = cond (ltb (length b) 16) (Some (EnvelopeCut (length b)))
-    (cond (ltb (little_number 4 b) 16) (Some (EnvelopeLengthUnder16 (little_number 4 b)))
-    (cond (ltb (length b) (little_number 4 b))
-    (Some (EnvelopeLengthPast (little_number 4 b) (length b))) None))
-
--- a fault of framing is the first
-fault_is_first : (b : List ℕ) (e : DecodeError) → IsEnvelopeFault b e → first_fault b ≡ Some e
-unfolding first_fault
-fault_is_first b (EnvelopeCut got) f = rw (lt-ltb (length b) 16 f.1, ← f.0) refl
-fault_is_first b (EnvelopeLengthUnder16 word) f =
-    let under : little_number 4 b < 16 = omega (arith, f.0, f.2) in
-    rw (le-ltb (length b) 16 f.1, lt-ltb (little_number 4 b) 16 under, ← f.0) refl
-fault_is_first b (EnvelopeLengthPast word got) f =
-    let low : 16 ≤ little_number 4 b = omega (arith, f.0, f.3) in
-    let past : length b < little_number 4 b = omega (arith, f.0, f.4) in
-    rw (
-      le-ltb (length b) 16 f.2,
-      le-ltb (little_number 4 b) 16 low,
-      lt-ltb (length b) (little_number 4 b) past,
-      ← f.0,
-      ← f.1,
-    ) refl
-fault_is_first b _ f = absurd f
+no_fault_at_header b h e head k = grind (arith, header_length b h head)
 
 -- a framing has one fault at most
 pub one_framing_fault : (b : List ℕ) (e f : DecodeError) → IsEnvelopeFault b e → IsEnvelopeFault b f
     → e ≡ f
-one_framing_fault b e f h k =
-    let same : Some e ≡ Some f = sym (fault_is_first b e h) ∙ fault_is_first b f k in
-    cc
-
--- the type of a payload that is no inner message
-of_kept_type : {A : Type 0} (reads : List ℕ → ℕ → A → Type 0) (x : List ℕ) (t : ℕ) → IsInnerType t
-    ⊎ ((p : Payload A) × PayloadIs reads x t p)
-of_kept_type reads x t = elim (cases_eq t 1) [
-  | inl one ↦ inr (no_payload, one)
-  | inr not_one ↦ elim (cases_eq t 2) [
-    | inl two ↦ inr (error_with x, (two, refl))
-    | inr not_two ↦ elim (cases_eq t 3) [
-      | inl three ↦ inr (done_with x, (three, refl))
-      | inr not_three ↦ elim (cases_eq t 4) [
-        | inl four ↦ inr (overrun_with x, (four, refl))
-        | inr not_four ↦ elim (cases_eq t 0) [
-          | inl none ↦ inl (inl none)
-          | inr not_none ↦
-              inl (inr (omega arith))
-        ]
-      ]
-    ]
-  ]
-]
+one_framing_fault b e f h k = grind arith
 
 -- Bytes have one message or one fault, where payloads of inner messages have one of them or one
 -- fault.
 module _ (C : Codec ℕ) where
+  -- a payload or a fault
+  payload_or_fault : (x : List ℕ) (t : ℕ)
+      → ((m : C.Value) × C.reads x t m) ⊎ ((e : DecodeError) × C.refuses x t e)
+      → ((p : Payload C.Value) × PayloadIs C.reads x t p)
+      ⊎ ((e : DecodeError) × (IsInnerType t × C.refuses x t e))
+  payload_or_fault x (suc zero) law = inl (no_payload, refl)
+  payload_or_fault x (suc (suc zero)) law = inl (error_with x, (refl, refl))
+  payload_or_fault x (suc (suc (suc zero))) law = inl (done_with x, (refl, refl))
+  payload_or_fault x (suc (suc (suc (suc zero)))) law = inl (overrun_with x, (refl, refl))
+  payload_or_fault x t (inl m) = inl (inner m.0, (grind arith, m.1))
+  payload_or_fault x t (inr f) = inr (f.0, (grind arith, f.1))
+
   -- a message or a fault
   pub envelope_or_fault : (b : List ℕ) → IsBytes b
       → ((x : List ℕ) (t : ℕ) → IsBytes x → ((m : C.Value) × C.reads x t m)
@@ -113,64 +61,28 @@ module _ (C : Codec ℕ) where
       ⊎ ((e : DecodeError) × (envelope_codec C).refuses b tt e)
   envelope_or_fault b tb law = elim (header_or_fault b tb) [
     | inr fault ↦ inr (fault.0, inl fault.1)
-    | inl found ↦
-        let h : NetlinkHeader = found.0 in
-        let x : List ℕ = take (h.length - 16) (drop 16 b) in
-        elim (of_kept_type C.reads x h.message_type) [
-          | inr kept ↦ inl (record { header = h; payload = kept.0 }, (found.1, kept.1))
-          | inl kind ↦ elim (law x h.message_type (payload_in_range h.length b tb)) [
-            | inl answer ↦ inl (
-              record { header = h; payload = inner answer.0 },
-              (found.1, (kind, answer.1)),
-            )
-            | inr fault ↦ inr (fault.0, inr (h, found.1, kind, fault.1))
-          ]
+    | inl (h, head) ↦ elim (payload_or_fault _ _ (law _ h.message_type
+        (payload_in_range h.length b tb))) [
+          | inl p ↦ inl (record { header = h; payload = p.0 }, (head, p.1))
+          | inr fault ↦ inr (fault.0, fault_within C b h fault.0 head fault.1)
         ]
   ]
-
-  -- a payload of an inner message's type is one
-  inner_payload : (x : List ℕ) (t : ℕ) (p : Payload C.Value) → IsInnerType t
-      → PayloadIs C.reads x t p → (m : C.Value) × C.reads x t m
-  inner_payload x t no_payload (inl kind) r = absurd (omega (arith, kind, r))
-  inner_payload x t no_payload (inr kind) r = absurd (omega (arith, kind, r))
-  inner_payload x t (error_with given) (inl kind) r = absurd (omega (arith, kind, r.0))
-  inner_payload x t (error_with given) (inr kind) r = absurd (omega (arith, kind, r.0))
-  inner_payload x t (done_with given) (inl kind) r = absurd (omega (arith, kind, r.0))
-  inner_payload x t (done_with given) (inr kind) r = absurd (omega (arith, kind, r.0))
-  inner_payload x t (overrun_with given) (inl kind) r = absurd (omega (arith, kind, r.0))
-  inner_payload x t (overrun_with given) (inr kind) r = absurd (omega (arith, kind, r.0))
-  inner_payload x t (inner m) kind r = (m, r.1)
 
   -- not both
   pub envelope_or_fault_apart : (b : List ℕ) (v : Envelope C.Value) (e : DecodeError)
       → ((x : List ℕ) (t : ℕ) (m : C.Value) → C.reads x t m → C.refuses x t e → ⊥)
       → (envelope_codec C).reads b tt v → (envelope_codec C).refuses b tt e → ⊥
-  envelope_or_fault_apart b v e law r (inl fault) = no_fault_at_header b v.header e r.0 fault
-  envelope_or_fault_apart b v e law r (inr (h, head, kind, fault)) =
-      let x : List ℕ = take (h.length - 16) (drop 16 b) in
-      let read : PayloadIs C.reads x h.message_type v.payload =
-      subst (λ (k : NetlinkHeader). PayloadIs C.reads (take (k.length - 16) (drop 16 b))
-      k.message_type v.payload) (one_header b v.header h r.0 head) r.1 in
-      let answer = inner_payload x h.message_type v.payload kind read in
-      law x h.message_type answer.0 answer.1 fault
+  envelope_or_fault_apart b v e law r k =
+      grind (arith, no_fault_at_header b v.header, one_header b v.header, law)
 
 -- one fault at most
 pub one_envelope_fault : (C : Codec ℕ) (b : List ℕ) (e f : DecodeError)
     → ((x : List ℕ) (t : ℕ) → C.refuses x t e → C.refuses x t f → e ≡ f)
     → (envelope_codec C).refuses b tt e → (envelope_codec C).refuses b tt f → e ≡ f
-one_envelope_fault C b e f law (inl fault) (inl other) = one_framing_fault b e f fault other
-one_envelope_fault C b e f law (inl fault) (inr (h, head, kind, other)) =
-    absurd (no_fault_at_header b h e head fault)
-one_envelope_fault C b e f law (inr (h, head, kind, fault)) (inl other) =
-    absurd (no_fault_at_header b h f head other)
-one_envelope_fault C b e f law (inr (h, head, kind, fault)) (inr (k, also, _, other)) =
-    law (take (h.length - 16) (drop 16 b)) h.message_type fault
-    (subst (λ (l : NetlinkHeader). C.refuses (take (l.length - 16) (drop 16 b)) l.message_type f)
-    (one_header b k h also head) other)
+one_envelope_fault C b e f law h k =
+    grind (arith, one_framing_fault b, no_fault_at_header b, one_header b, law)
 
 -- no fault is want of memory
 pub envelope_fault_named : (C : Codec ℕ) (b : List ℕ)
     → ((x : List ℕ) (t : ℕ) → C.refuses x t Memory → ⊥) → (envelope_codec C).refuses b tt Memory → ⊥
-envelope_fault_named C b law (inl fault) = fault
-envelope_fault_named C b law (inr (h, head, kind, fault)) =
-    law (take (h.length - 16) (drop 16 b)) h.message_type fault
+envelope_fault_named C b law h = grind (arith, law)

@@ -1,8 +1,8 @@
 -- The items of a datagram, one after the other.
-use Rattle.std.proofs.Common.{◌≡◌, ◌≢◌, ℕ, zero, suc, ◌+◌, ◌<◌, ◌⊎◌, inl, inr, List, [], ◌∷◌, ◌++◌}
-use Rattle.std.proofs.Common.{length, take, drop, refl, sym, ap, subst, ◌∙◌, append_assoc, arith}
+use Rattle.std.proofs.Common.{◌≡◌, ◌≢◌, ℕ, ◌+◌, ◌⊎◌, inl, inr, List, [], ◌∷◌, ◌++◌}
+use Rattle.std.proofs.Common.{refl, ap, append_assoc}
 use Rattle.std.specs.Option.{option_to_list}
-use Rattle.std.specs.Prelude.{option_map, Option, Some, None, Result, Ok, Err}
+use Rattle.std.specs.Prelude.{option_map, Option, Some, None, Ok, Err}
 use Rattle.std.specs.List.{AllZip}
 use Rattle.std.proofs.lemmas.List.{append-nil}
 use Rattle.netlink_core.specs.Bytes.{IsBytes}
@@ -12,10 +12,11 @@ use Rattle.netlink_core.specs.declared.fault.DecodeError.{DecodeError}
 use Rattle.netlink_core.specs.Header.{IsEnvelopeFault}
 use Rattle.netlink_core.specs.Datagram.{StartsWithMessage, CutIntoMessages, AreWholeMessages}
 use Rattle.netlink_core.specs.Codec.{Codec}
-use Rattle.netlink_core.specs.Envelope.{Payload, Envelope, envelope_codec}
-use Rattle.netlink_core.specs.Items.{ItemIs, ItemsAre}
+use Rattle.netlink_core.specs.Envelope.{Envelope, envelope_codec}
+use Rattle.netlink_core.specs.Items.{Item, ItemIs, ItemsAre}
 use Rattle.netlink_core.proofs.Headers.{header_or_fault}
 use Rattle.netlink_core.proofs.Framing.{envelope_or_fault}
+use Rattle.netlink_core.proofs.Padding.{by_length, some_or_none}
 use Rattle.netlink_core.proofs.Datagrams.{starts_with_message, shorter-rest}
 use Rattle.netlink_core.proofs.Datagrams.{messages_of_concatenation}
 use Rattle.netlink_core.proofs.Datagrams.{one_cut_into_messages}
@@ -24,60 +25,32 @@ use Rattle.netlink_core.proofs.Datagrams.{one_cut_into_messages}
 pub rest_in_range : (bytes message rest : List ℕ) → StartsWithMessage bytes message rest
     → IsBytes bytes → IsBytes rest
 rest_in_range bytes message rest s in_range =
-    IsBytes-right s.padding rest
-    (IsBytes-right message (s.padding ++ rest) (subst IsBytes s.parts in_range))
+    IsBytes-right s.padding rest (IsBytes-right message _ (rw s.parts at in_range))
 
 -- a message in bytes is bytes
 message_in_range : (bytes message rest : List ℕ) → StartsWithMessage bytes message rest
-    → IsBytes bytes
-    → IsBytes message
-message_in_range bytes message rest s in_range =
-    IsBytes-left message (s.padding ++ rest) (subst IsBytes s.parts in_range)
-
--- bytes begin with a message, or have a fault
-message_or_fault : (bytes : List ℕ) → IsBytes bytes
-    → ((message rest : List ℕ) × StartsWithMessage bytes message rest)
-    ⊎ ((e : DecodeError) × IsEnvelopeFault bytes e)
-message_or_fault bytes in_range = elim (header_or_fault bytes in_range) [
-  | inl p ↦ inl (
-    take p.0.length bytes,
-    drop (p.0.length + fill p.0.length) bytes,
-    starts_with_message bytes _ _ p.0 (p.0.length + fill p.0.length) p.1 refl refl refl,
-  )
-  | inr f ↦ inr f
-]
+    → IsBytes bytes → IsBytes message
+message_in_range bytes message rest s in_range = IsBytes-left message _ (rw s.parts at in_range)
 
 -- lists that are related item by item are so in a row
 pub zip_append : {A B : Type 0} (R : A → B → Type 0) (xs ys : List A) (vs ws : List B)
     → AllZip R xs vs → AllZip R ys ws → AllZip R (xs ++ ys) (vs ++ ws)
 zip_append R [] ys [] ws h k = k
-zip_append R [] ys (v ∷ vs) ws h k = absurd h
-zip_append R (x ∷ xs) ys [] ws h k = absurd h
 zip_append R (x ∷ xs) ys (v ∷ vs) ws h k = (h.0, zip_append R xs ys vs ws h.1 k)
+zip_append R xs ys vs ws h k = absurd h
 
 module _ (C : Codec ℕ) where
-  -- a message has an item
-  item_of : ((b : List ℕ) (t : ℕ) → IsBytes b → ((m : C.Value) × C.reads b t m)
-      ⊎ ((e : DecodeError) × C.refuses b t e))
-      → (message : List ℕ) → IsBytes message → (item : Result (Payload C.Value) DecodeError)
-      × ItemIs C message item
-  item_of law message in_range = elim (envelope_or_fault C message in_range law) [
-    | inl v ↦ (Ok v.0.payload, (v.0.header, v.1))
-    | inr e ↦ (Err e.0, e.1)
-  ]
-
   -- the item of a message in front of others
-  pub leading_item : (bytes message rest : List ℕ) (item : Result (Payload C.Value) DecodeError)
-      (later : List (Result (Payload C.Value) DecodeError))
-      → StartsWithMessage bytes message rest → ItemIs C message item → ItemsAre C rest later
-      → ItemsAre C bytes (item ∷ later)
+  pub leading_item : (bytes message rest : List ℕ) (item : Item C.Value)
+      (later : List (Item C.Value)) → StartsWithMessage bytes message rest → ItemIs C message item
+      → ItemsAre C rest later → ItemsAre C bytes (item ∷ later)
   leading_item bytes message rest item later s is (messages, end, carried, cut, each, parts) = (
     message ∷ messages,
     end,
     item ∷ carried,
     (rest, s, cut),
     (is, each),
-    ap (λ (t : List (Result (Payload C.Value) DecodeError)). item ∷ t) parts,
+    cc,
   )
 
   -- no bytes have no items
@@ -89,46 +62,18 @@ module _ (C : Codec ℕ) where
       → ItemsAre C bytes (Err e ∷ [])
   fault_alone bytes e some f = ([], Some e, [], (some, f), tt, refl)
 
-  -- each datagram has items, by its length
-  items_within : ((b : List ℕ) (t : ℕ) → IsBytes b → ((m : C.Value) × C.reads b t m)
-      ⊎ ((e : DecodeError) × C.refuses b t e))
-      → (n : ℕ) (bytes : List ℕ) → length bytes < n → IsBytes bytes
-      → (items : List (Result (Payload C.Value) DecodeError)) × ItemsAre C bytes items
-  items_within law zero bytes short in_range = absurd (omega arith)
-  items_within law (suc n) [] short in_range = ([], no_items)
-  items_within law (suc n) (b ∷ bytes) short in_range =
-      elim (message_or_fault (b ∷ bytes) in_range) [
-        | inl p ↦
-            let size = shorter-rest (b ∷ bytes) p.0 p.1 p.2 in
-            let later = items_within law n p.1 (omega arith)
-            (rest_in_range (b ∷ bytes) p.0 p.1 p.2 in_range) in
-            let item = item_of law p.0 (message_in_range (b ∷ bytes) p.0 p.1 p.2 in_range) in
-            (item.0 ∷ later.0, leading_item (b ∷ bytes) p.0 p.1 item.0 later.0 p.2 item.1 later.1)
-        | inr f ↦ (Err f.0 ∷ [], fault_alone (b ∷ bytes) f.0 (λ none. cc) f.1)
-      ]
-
-  -- each datagram has items
-  pub items_of : ((b : List ℕ) (t : ℕ) → IsBytes b → ((m : C.Value) × C.reads b t m)
-      ⊎ ((e : DecodeError) × C.refuses b t e))
-      → (bytes : List ℕ) → IsBytes bytes → (items : List (Result (Payload C.Value) DecodeError))
-      × ItemsAre C bytes items
-  items_of law bytes in_range = items_within law (suc (length bytes)) bytes (omega arith) in_range
-
   -- whole messages have the items of the messages alone
   pub whole_items : (bytes : List ℕ) (messages : List (List ℕ))
-      (items : List (Result (Payload C.Value) DecodeError)) → AreWholeMessages bytes messages
+      (items : List (Item C.Value)) → AreWholeMessages bytes messages
       → ItemsAre C bytes items → AllZip (ItemIs C) messages items
   whole_items bytes messages items whole a =
       let same = one_cut_into_messages bytes a.0 messages a.1 None a.3 whole.0 in
-      let all : items ≡ a.2 = a.5
-      ∙ ap (λ (e : Option DecodeError). a.2 ++ option_to_list (option_map Err e)) same.1
-      ∙ append-nil a.2 in
-      subst (λ (l : List (Result (Payload C.Value) DecodeError)). AllZip (ItemIs C) messages l)
-      (sym all) (subst (λ (s : List (List ℕ)). AllZip (ItemIs C) s a.2) same.0 a.4)
+      let all : items ≡ a.2 = cc (append-nil a.2) in
+      rw (all, ← same.0) a.4
 
   -- whole messages and then more bytes have the items of the one and then of the other
   pub items_of_concatenation : (front back : List ℕ) (messages : List (List ℕ))
-      (xs ys : List (Result (Payload C.Value) DecodeError)) → AreWholeMessages front messages
+      (xs ys : List (Item C.Value)) → AreWholeMessages front messages
       → ItemsAre C front xs → ItemsAre C back ys → ItemsAre C (front ++ back) (xs ++ ys)
   items_of_concatenation front back messages xs ys whole a b = (
     messages ++ b.0,
@@ -136,16 +81,15 @@ module _ (C : Codec ℕ) where
     xs ++ b.2,
     messages_of_concatenation front back messages b.0 b.1 whole b.3,
     zip_append (ItemIs C) messages b.0 xs b.2 (whole_items front messages xs whole a) b.4,
-    ap (λ (l : List (Result (Payload C.Value) DecodeError)). xs ++ l) b.5
-        ∙ sym (append_assoc xs b.2 (option_to_list (option_map Err b.1))),
+    cc (append_assoc xs b.2 (option_to_list (option_map Err b.1))),
   )
 
   -- ---- the walk
 
   -- What was found goes on with whatever items the rest has.
-  pub record Following (bytes : List ℕ) (so_far : List (Result (Payload C.Value) DecodeError))
+  pub record Following (bytes : List ℕ) (so_far : List (Item C.Value))
       (rest : List ℕ) : Type 0 where
-    pub items : (later : List (Result (Payload C.Value) DecodeError)) → ItemsAre C rest later
+    pub items : (later : List (Item C.Value)) → ItemsAre C rest later
         → ItemsAre C bytes (so_far ++ later)
     pub in_range : IsBytes bytes → IsBytes rest
 
@@ -154,31 +98,49 @@ module _ (C : Codec ℕ) where
   items_begin bytes = record { items = λ later h. h; in_range = λ h. h }
 
   -- it goes on behind a message
-  pub items_go_on : (bytes rest after message : List ℕ)
-      (so_far : List (Result (Payload C.Value) DecodeError))
-      (item : Result (Payload C.Value) DecodeError)
-      → Following bytes so_far rest → StartsWithMessage rest message after → ItemIs C message item
-      → Following bytes (so_far ++ item ∷ []) after
+  pub items_go_on : (bytes rest after message : List ℕ) (so_far : List (Item C.Value))
+      (item : Item C.Value) → Following bytes so_far rest → StartsWithMessage rest message after
+      → ItemIs C message item → Following bytes (so_far ++ item ∷ []) after
   items_go_on bytes rest after message so_far item walk s is = record {
     items = λ later h. rw append_assoc
         (walk.items (item ∷ later) (leading_item rest message after item later s is h));
     in_range = λ h. rest_in_range rest message after s (walk.in_range h);
   }
 
+-- where payloads of inner messages have one of them or one fault
+module _ (C : Codec ℕ) (law : (b : List ℕ) (t : ℕ) → IsBytes b → ((m : C.Value) × C.reads b t m)
+    ⊎ ((e : DecodeError) × C.refuses b t e)) where
+  -- a message has an item
+  item_of : (message : List ℕ) → IsBytes message → (item : Item C.Value) × ItemIs C message item
+  item_of message in_range = elim (envelope_or_fault C message in_range law) [
+    | inl v ↦ (Ok v.0.payload, (v.0.header, v.1))
+    | inr e ↦ (Err e.0, e.1)
+  ]
+
+  -- each datagram has items
+  pub items_of : (bytes : List ℕ) → IsBytes bytes → (items : List (Item C.Value))
+      × ItemsAre C bytes items
+  items_of = by_length _ (λ bytes others fits. elim (some_or_none bytes) [
+    | inl none ↦ ([], ([], None, [], none, tt, refl))
+    | inr some ↦ elim (header_or_fault bytes fits) [
+      | inl (h, head) ↦
+          let s = starts_with_message bytes _ _ h (h.length + fill h.length) head refl refl refl in
+          let later = others _ (shorter-rest bytes _ _ s) (rest_in_range bytes _ _ s fits) in
+          let item = item_of _ (message_in_range bytes _ _ s fits) in
+          (item.0 ∷ later.0, leading_item C bytes _ _ item.0 later.0 s item.1 later.1)
+      | inr f ↦ (Err f.0 ∷ [], fault_alone C bytes f.0 some f.1)
+    ]
+  ])
+
   -- all items, where one that was found is followed by others
-  pub items_with : ((b : List ℕ) (t : ℕ) → IsBytes b → ((m : C.Value) × C.reads b t m)
-      ⊎ ((e : DecodeError) × C.refuses b t e))
-      → (bytes rest after message : List ℕ) (so_far : List (Result (Payload C.Value) DecodeError))
-      (item : Result (Payload C.Value) DecodeError) → IsBytes bytes
-      → Following bytes so_far rest → StartsWithMessage rest message after → ItemIs C message item
-      → (later : List (Result (Payload C.Value) DecodeError))
-      × ItemsAre C bytes (so_far ++ (item ∷ later))
-  items_with law bytes rest after message so_far item in_range walk s is =
-      let later = items_of law after (rest_in_range rest message after s
-      (walk.in_range in_range)) in (
+  pub items_with : (bytes rest after message : List ℕ) (so_far : List (Item C.Value))
+      (item : Item C.Value) → IsBytes bytes → Following C bytes so_far rest
+      → StartsWithMessage rest message after → ItemIs C message item
+      → (later : List (Item C.Value)) × ItemsAre C bytes (so_far ++ (item ∷ later))
+  items_with bytes rest after message so_far item in_range walk s is =
+      let later = items_of after (rest_in_range rest message after s (walk.in_range in_range)) in (
         later.0,
-        walk.items (item ∷ later.0) (leading_item rest message after item later.0 s is
-            later.1),
+        walk.items (item ∷ later.0) (leading_item C rest message after item later.0 s is later.1),
       )
 
 -- Each message has one item and each datagram one list of them, where bytes have one message or one
@@ -191,42 +153,31 @@ module _ (C : Codec ℕ)
     (one_fault : (b : List ℕ) (e f : DecodeError) → (envelope_codec C).refuses b tt e
     → (envelope_codec C).refuses b tt f → e ≡ f) where
   -- one item
-  one_item : (b : List ℕ) → IsBytes b → (i j : Result (Payload C.Value) DecodeError) → ItemIs C b i
-      → ItemIs C b j → i ≡ j
+  one_item : (b : List ℕ) → IsBytes b → (i j : Item C.Value) → ItemIs C b i → ItemIs C b j → i ≡ j
   one_item b in_range (Ok p) (Ok q) h k =
       ap (λ (v : Envelope C.Value). Ok v.payload)
       (one_value b (record { header = h.0; payload = p }) (record { header = k.0; payload = q })
       in_range h.1 k.1)
-  one_item b in_range (Ok p) (Err f) h k =
-      absurd (one_answer b (record { header = h.0; payload = p }) f h.1 k)
-  one_item b in_range (Err e) (Ok q) h k =
-      absurd (one_answer b (record { header = k.0; payload = q }) e k.1 h)
+  one_item b in_range (Ok p) (Err f) h k = absurd (one_answer b _ f h.1 k)
+  one_item b in_range (Err e) (Ok q) h k = absurd (one_answer b _ e k.1 h)
   one_item b in_range (Err e) (Err f) h k = ap Err (one_fault b e f h k)
 
   -- the items of messages
   one_carried : (b : List ℕ) → IsBytes b → (messages : List (List ℕ)) (end : Option DecodeError)
-      → CutIntoMessages b messages end → (vs ws : List (Result (Payload C.Value) DecodeError))
+      → CutIntoMessages b messages end → (vs ws : List (Item C.Value))
       → AllZip (ItemIs C) messages vs → AllZip (ItemIs C) messages ws → vs ≡ ws
   one_carried b in_range [] end cut [] [] h k = refl
-  one_carried b in_range [] end cut (v ∷ vs) ws h k = absurd h
-  one_carried b in_range [] end cut [] (w ∷ ws) h k = absurd k
-  one_carried b in_range (m ∷ messages) end cut [] ws h k = absurd h
-  one_carried b in_range (m ∷ messages) end cut (v ∷ vs) [] h k = absurd k
   one_carried b in_range (m ∷ messages) end cut (v ∷ vs) (w ∷ ws) h k =
       let first = one_item m (message_in_range b m cut.0 cut.1 in_range) v w h.0 k.0 in
       let rest = one_carried cut.0 (rest_in_range b m cut.0 cut.1 in_range) messages end cut.2 vs ws
-      h.1
-      k.1 in
-      λ z. first z ∷ rest z
+      h.1 k.1 in
+      cc
+  one_carried b in_range messages end cut vs ws h k = absurd search
 
   -- one list of items
-  pub one_list : (b : List ℕ) → IsBytes b → (xs ys : List (Result (Payload C.Value) DecodeError))
+  pub one_list : (b : List ℕ) → IsBytes b → (xs ys : List (Item C.Value))
       → ItemsAre C b xs → ItemsAre C b ys → xs ≡ ys
   one_list b in_range xs ys h k =
       let same = one_cut_into_messages b h.0 k.0 h.1 k.1 h.3 k.3 in
-      let carried = one_carried b in_range k.0 k.1 k.3 h.2 k.2
-      (subst (λ (s : List (List ℕ)). AllZip (ItemIs C) s h.2) same.0 h.4) k.4 in
-      h.5 ∙ ap (λ (c : List (Result (Payload C.Value) DecodeError)). c
-      ++ option_to_list (option_map Err h.1)) carried
-      ∙ ap (λ (e : Option DecodeError). k.2 ++ option_to_list (option_map Err e)) same.1
-      ∙ sym k.5
+      let carried = one_carried b in_range k.0 k.1 k.3 h.2 k.2 (rw (← same.0) h.4) k.4 in
+      cc

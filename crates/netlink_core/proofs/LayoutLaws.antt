@@ -4,7 +4,7 @@ use Rattle.std.proofs.Common.{Result, Ok, Err, if◌then◌else◌, refl, sym, a
 use Rattle.std.proofs.Common.{append-nil, le-ltb, lt-ltb}
 use Rattle.std.proofs.lemmas.Bool.{cases_lt}
 use Rattle.netlink_core.specs.Bytes.{IsBytes}
-use Rattle.netlink_core.specs.Table.{Field, values_of, bytes_of, Fit, AreDefined}
+use Rattle.netlink_core.specs.Table.{Field, live_bits, masked, values_of, bytes_of, Fit, AreDefined}
 use Rattle.netlink_core.specs.SoundLaws.{is_table, IsSound}
 use Rattle.netlink_core.specs.Layout.{Layout, read, read_fields, StandsIn, bytes, AreIdle}
 use Rattle.netlink_core.specs.Layout.{IsInRange}
@@ -13,7 +13,7 @@ use Rattle.netlink_core.specs.Faults.{map_ok}
 use Rattle.netlink_core.specs.Codec.{KeepsLaws, RecordLaws, record_codec}
 use Rattle.netlink_core.specs.PrefixLaws.{value_or_reason}
 use Rattle.netlink_core.proofs.TableLaws.{IsTable, table_from_test, values-bytes_of, values-fit}
-use Rattle.netlink_core.proofs.TableLaws.{values-defined, bytes_of-bytes, same_live, same_values}
+use Rattle.netlink_core.proofs.TableLaws.{values-defined, bytes_of-bytes, values_and_bits}
 use Rattle.netlink_core.specs.declared.fault.DecodeError.{DecodeError}
 use Rattle.netlink_core.specs.declared.fault.DecodeError.TheVariants.{Memory, BufferTooSmall}
 use Rattle.netlink_core.specs.declared.fault.RecordName.{RecordName}
@@ -39,34 +39,23 @@ module _ {Param Tag Value : Type 0} (layout : Layout Param Tag Value) where
   -- a string that is too short is refused
   pub too_short : (param : Param) (left : List ℕ) → length left < layout.least
       → read layout param left ≡ Err (BufferTooSmall layout.name (length left) layout.least)
-  too_short param left l =
-      ap (λ (small : Bool). if small then Err
-      (BufferTooSmall layout.name (length left) layout.least) else read_fields layout param left)
-      (lt-ltb (length left) layout.least l)
+  too_short param left l = rw (lt-ltb (length left) layout.least l) refl
 
   -- one that is long enough is read by its fields
   pub long_enough : (param : Param) (left : List ℕ) → layout.least ≤ length left
       → read layout param left ≡ read_fields layout param left
-  long_enough param left l =
-      ap (λ (small : Bool). if small then Err
-      (BufferTooSmall layout.name (length left) layout.least) else read_fields layout param left)
-      (le-ltb (length left) layout.least l)
+  long_enough param left l = rw (le-ltb (length left) layout.least l) refl
 
   -- a tag that was found gives its value
   pub accepts : (param : Param) (left : List ℕ) (tag : Tag) → layout.tag_at param left ≡ Ok tag
       → read_fields layout param left ≡ Ok (layout.value tag (values_of (layout.table tag) left))
   accepts param left tag e = ap (read_tagged left) e
 
-  -- a fault that was found is the reader's
-  pub faults : (param : Param) (left : List ℕ) (fault : DecodeError)
-      → layout.tag_at param left ≡ Err fault → read_fields layout param left ≡ Err fault
-  faults param left fault e = ap (read_tagged left) e
-
   accepted_by : (tag_found : Result Tag DecodeError) (left : List ℕ) (value : Value)
       → read_tagged left tag_found ≡ Ok value → (tag : Tag) × (tag_found ≡ Ok tag)
       × (value ≡ layout.value tag (values_of (layout.table tag) left))
-  accepted_by (Ok tag) left value e = (tag, refl, (cc))
-  accepted_by (Err other) left value e = cc
+  accepted_by tag_found left value e =
+      grind arith
 
   -- a value that was read by its fields is that of a tag that was found
   pub accepted_fields : (param : Param) (left : List ℕ) (value : Value)
@@ -77,25 +66,13 @@ module _ {Param Tag Value : Type 0} (layout : Layout Param Tag Value) where
   -- a value that was read is that of a tag that was found, in a string that is long enough
   pub accepted : (param : Param) (left : List ℕ) (value : Value) → read layout param left ≡ Ok value
       → Accepts layout param left value
-  accepted param left value e = elim (cases_lt (length left) layout.least) [
-    | inl short ↦ let no : Err (BufferTooSmall layout.name (length left) layout.least) ≡ ok value =
-        sym (too_short param left short) ∙ e in absurd cc
-    | inr long ↦
-        let parts = accepted_by (layout.tag_at param left) left value
-        (sym (long_enough param left long) ∙ e) in
-        record { long = long; tag = parts.0; tag_found = parts.1; is = parts.2 }
-  ]
+  accepted param left value e =
+      grind (arith, cases_lt (length left), too_short param left, accepted_by, long_enough param left)
 
   rejected_by : (tag_found : Result Tag DecodeError) (left : List ℕ) (fault : DecodeError)
       → read_tagged left tag_found ≡ Err fault → tag_found ≡ Err fault
-  rejected_by (Ok tag) left fault e = cc
-  rejected_by (Err other) left fault e = cc
-
-  -- the fault of a string that is long enough is what it tells
-  pub rejected : (param : Param) (left : List ℕ) (fault : DecodeError) → layout.least ≤ length left
-      → read layout param left ≡ Err fault → layout.tag_at param left ≡ Err fault
-  rejected param left fault long e = rejected_by (layout.tag_at param left) left fault
-      (sym (long_enough param left long) ∙ e)
+  rejected_by tag_found left fault e =
+      grind arith
 
 same_tag : {T : Type 0} (r : Result T DecodeError) (s t : T) → r ≡ Ok s → r ≡ Ok t → s ≡ t
 same_tag r s t e f = cc
@@ -104,125 +81,79 @@ module _ {Param Tag Value : Type 0} (layout : Layout Param Tag Value) (sound : I
   -- the table of a string's tag, and that of a value
   table_is : (param : Param) (tag : Tag) (left : List ℕ) → layout.tag_at param left ≡ Ok tag
       → IsTable 0 (layout.table tag) (layout.size tag)
-  table_is param tag left tag_found = table_from_test 0 (layout.table tag) (layout.size tag)
-      (sound.tables param tag left tag_found)
+  table_is param tag left tag_found =
+      grind (arith, table_from_test 0)
 
   own_table_is : (value : Value) → IsTable 0 (layout.table (layout.tag_of value))
       (layout.size (layout.tag_of value))
-  own_table_is value = table_from_test 0 (layout.table (layout.tag_of value))
-      (layout.size (layout.tag_of value)) (sound.own_table value)
+  own_table_is value =
+      grind (arith, table_from_test 0)
 
   -- no fault is want of memory
   pub named : (param : Param) (left : List ℕ) → read layout param left ≡ Err Memory → ⊥
-  named param left e = elim (cases_lt (length left) layout.least) [
-    | inl short ↦ let no : Err (BufferTooSmall layout.name (length left) layout.least)
-        ≡ Err Memory = sym (too_short layout param left short) ∙ e in cc
-    | inr long ↦ sound.named param left (rejected layout param left Memory long e)
-  ]
+  named param left e =
+      grind (arith, cases_lt (length left), too_short, rejected_by, long_enough)
+
+  -- under one tag, equal values and the same live bits
+  bits : (param : Param) (tag : Tag) (left right : List ℕ) → IsBytes left → IsBytes right
+      → layout.least ≤ length left → layout.least ≤ length right
+      → layout.tag_at param left ≡ Ok tag → layout.tag_at param right ≡ Ok tag
+      → ((values_of (layout.table tag) left ≡ values_of (layout.table tag) right)
+      ↔ (masked (live_bits (layout.table tag)) left ≡ masked (live_bits (layout.table tag)) right))
+  bits param tag left right hl hr ll lr l r =
+      values_and_bits 0 (layout.table tag) (layout.size tag) left right (table_is param tag left l)
+      hl hr (sound.room param tag left ll l) (sound.room param tag right lr r)
+
+  -- the value of a tag that was found stands there
+  stands : (param : Param) (tag : Tag) (left : List ℕ) → IsBytes left → layout.least ≤ length left
+      → layout.tag_at param left ≡ Ok tag
+      → StandsIn layout left param (layout.value tag (values_of (layout.table tag) left))
+  stands param tag left h long found =
+      grind (arith, values-fit, values-defined)
+
+  reads : (param : Param) (left : List ℕ) (value : Value) → StandsIn layout left param value
+      → read layout param left ≡ Ok value
+  reads param left value (long, found, numbers, in_range, normal) =
+      grind (arith, long_enough, accepts)
+
+  -- what is read is what stands there
+  pub stands_where_read : (param : Param) (left : List ℕ) (value : Value) → IsBytes left
+      → (read layout param left ≡ Ok value) ↔ StandsIn layout left param value
+  stands_where_read param left value h =
+      grind (arith, accepted, stands param, reads param left value)
 
   -- the same value, so the same live bits
   idle_from_equal : (param : Param) (left right : List ℕ) (value : Value) → IsBytes left
-      → IsBytes right → Accepts layout param left value → Accepts layout param right value
+      → IsBytes right → StandsIn layout left param value → StandsIn layout right param value
       → AreIdle layout param left right
   idle_from_equal param left right value hl hr a b =
-      let tags : a.tag ≡ b.tag = sym (sound.tagged param a.tag left a.tag_found)
-      ∙ ap layout.tag_of (sym a.is ∙ b.is) ∙ sound.tagged param b.tag right b.tag_found in
-      let tag_found : layout.tag_at param right ≡ Ok a.tag =
-      b.tag_found ∙ ap (λ (tag : Tag). ok tag) (sym tags) in
-      let own : layout.values value ≡ values_of (layout.table a.tag) left = ap layout.values a.is
-      ∙ sound.kept param a.tag left hl a.tag_found in
-      let other : layout.values value ≡ values_of (layout.table a.tag) right =
-      subst (λ (tag : Tag). layout.values value ≡ values_of (layout.table tag) right) (sym tags)
-      (ap layout.values b.is ∙ sound.kept param b.tag right hr b.tag_found) in (
-        a.long,
-        b.long,
-        a.tag,
-        a.tag_found,
-        tag_found,
-        same_live 0 (layout.table a.tag) (layout.size a.tag)
-            left right (table_is param a.tag left a.tag_found) hl hr
-            (sound.room param a.tag left a.long a.tag_found)
-            (sound.room param a.tag right b.long tag_found)
-            (sym own ∙ other),
-      )
+      grind (arith, bits param)
 
   equal_from_idle : (param : Param) (left right : List ℕ) → IsBytes left → IsBytes right
       → AreIdle layout param left right → read layout param left ≡ read layout param right
-  equal_from_idle param left right hl hr (left_long, right_long, tag, left_tag, right_tag, bits) =
-      let read_values = same_values 0 (layout.table tag) (layout.size tag) left right
-      (table_is param tag left left_tag) hl hr (sound.room param tag left left_long left_tag)
-      (sound.room param tag right right_long right_tag) bits in
-      long_enough layout param left left_long ∙ accepts layout param left tag left_tag
-      ∙ ap (λ (vs : List ℕ). ok (layout.value tag vs)) read_values
-      ∙ sym (long_enough layout param right right_long ∙ accepts layout param right tag right_tag)
+  equal_from_idle param left right hl hr (left_long, right_long, tag, left_tag, right_tag, same) =
+      grind (arith, long_enough, accepts, bits param tag left right hl hr left_long right_long left_tag right_tag)
 
   -- a value in normal form is read back
   pub reads_back : (param : Param) (value : Value) → IsInRange layout value
       → IsNormal layout param value → read layout param (bytes layout value) ≡ Ok value
   reads_back param value t n =
-      let same : values_of (layout.table (layout.tag_of value)) (bytes layout value)
-      ≡ layout.values value = values-bytes_of 0 (layout.table (layout.tag_of value))
-      (layout.size (layout.tag_of value)) (layout.values value) (bytes layout value) []
-      (own_table_is value) t.fit n.flags (sym (append-nil (bytes layout value))) in
-      long_enough layout param (bytes layout value) (let enough = sound.enough value in
-      let size = sound.long value in omega arith)
-      ∙ accepts layout param (bytes layout value) (layout.tag_of value)
-      (sound.tag_written param value t n)
-      ∙ ap (λ (vs : List ℕ). ok (layout.value (layout.tag_of value) vs)) same
-      ∙ ap (λ (v : Value). ok v) (sound.back param value t n)
-
-  -- a value that was read is in range and in normal form
-  normal_read : (param : Param) (left : List ℕ) (value : Value) → IsBytes left
-      → read layout param left ≡ Ok value → IsInRange layout value × IsNormal layout param value
-  normal_read param left value h e =
-      let a = accepted layout param left value e in
-      let kept = sound.kept param a.tag left h a.tag_found in
-      let same = sound.tagged param a.tag left a.tag_found in
-      let fit = subst (λ (vs : List ℕ). Fit (layout.table a.tag) vs) (sym kept)
-      (values-fit (layout.table a.tag) left h) in
-      let defined = subst (λ (vs : List ℕ). AreDefined (layout.table a.tag) vs) (sym kept)
-      (values-defined (layout.table a.tag) left) in
-      subst (λ (v : Value). IsInRange layout v × IsNormal layout param v) (sym a.is) (
-        record {
-          shaped = sound.shaped param a.tag left h a.tag_found;
-          fit = subst (λ (t : Tag).
-              Fit (layout.table t) (layout.values
-              (layout.value a.tag (values_of (layout.table a.tag) left)))) (sym same) fit;
-        },
-        record {
-          flags = subst (λ (t : Tag). AreDefined (layout.table t)
-              (layout.values (layout.value a.tag (values_of (layout.table a.tag) left)))) (sym same)
-              defined;
-          own = sound.owned param a.tag left h a.tag_found;
-        },
+      let enough = sound.enough value in
+      let size = sound.long value in
+      reads param (bytes layout value) value (
+        omega arith,
+        sound.tag_written param value t n,
+        values-bytes_of 0 (layout.table (layout.tag_of value)) (layout.size (layout.tag_of value))
+            (layout.values value) (bytes layout value) [] (own_table_is value) t.fit n.flags
+            (sym (append-nil (bytes layout value))),
+        t,
+        n,
       )
-
-  -- what is read is what stands there
-  pub stands_where_read : (param : Param) (left : List ℕ) (value : Value) → IsBytes left
-      → (read layout param left ≡ Ok value) ↔ StandsIn layout left param value
-  stands_where_read param left value h = (
-    λ e.
-        let a = accepted layout param left value e in
-        let tag = sym (sound.tagged param a.tag left a.tag_found) ∙ ap layout.tag_of (sym a.is) in
-        let parts = normal_read param left value h e in (
-          a.long,
-          a.tag_found ∙ ap (λ (t : Tag). ok t) tag,
-          ap (λ (t : Tag). values_of (layout.table t) left) (sym tag)
-              ∙ sym (ap layout.values a.is ∙ sound.kept param a.tag left h a.tag_found),
-          parts.0,
-          parts.1,
-        ),
-    λ (long, tag_found, numbers, in_range, normal).
-        long_enough layout param left long
-        ∙ accepts layout param left (layout.tag_of value) tag_found
-        ∙ ap (λ (vs : List ℕ). ok (layout.value (layout.tag_of value) vs)) numbers
-        ∙ ap (λ (v : Value). ok v) (sound.back param value in_range normal),
-  )
 
   -- a value in range is written as bytes
   pub written_bytes : (value : Value) → IsInRange layout value → IsBytes (bytes layout value)
-  written_bytes value t = bytes_of-bytes 0 (layout.table (layout.tag_of value))
-      (layout.size (layout.tag_of value)) (layout.values value) (own_table_is value) t.fit
+  written_bytes value t =
+      grind (arith, bytes_of-bytes 0, own_table_is value)
 
   -- the laws together
   pub keeps_laws : KeepsLaws (record_codec layout)
@@ -232,23 +163,19 @@ module _ {Param Tag Value : Type 0} (layout : Layout Param Tag Value) (sound : I
     one_fault = λ b p e f h k. cc;
     named_fault = λ b p h. named p b h;
     same_value = λ b c p v w tb tc r s. (
-      λ e. idle_from_equal p b c v tb tc (accepted layout p b v r)
-          (accepted layout p c v (s ∙ ap (λ (x : Value). ok x) (sym e))),
+      λ e. idle_from_equal p b c v tb tc ((stands_where_read p b v tb).0 r)
+          ((stands_where_read p c v tc).0 (s ∙ ap (λ (x : Value). ok x) (sym e))),
       λ i. same_tag (read layout p b) v w r (equal_from_idle p b c tb tc i ∙ s),
     );
-    reads_normal = λ b p v tb r. normal_read p b v tb r;
+    reads_normal = λ b p v tb r. let x = (stands_where_read p b v tb).0 r in (x.3, x.4);
     written_bytes = written_bytes;
     reads_back = λ p v tv n f. reads_back p v tv n;
   }
 
   -- the laws of the record
   pub record_laws : RecordLaws layout
-  record_laws = record {
-    codec = keeps_laws;
-    long = sound.long;
-    stands = λ b p v h.
-        stands_where_read p b v h;
-  }
+  record_laws =
+      grind (arith, keeps_laws, stands, stands_where_read)
 
 -- what is shown of a record with one table
 pub plain_sound : {Value : Type 0} {name : RecordName} {size : ℕ} {fields : List Field}
@@ -260,17 +187,5 @@ pub plain_sound : {Value : Type 0} {name : RecordName} {size : ℕ} {fields : Li
     → ((left : List ℕ) → is_shaped (value (values_of fields left)))
     → ((v : Value) → is_shaped v → value (values v) ≡ v)
     → IsSound (plain name size fields values value is_shaped)
-plain_sound table long kept shaped back = record {
-  tables = λ param tag left tag_found. table;
-  own_table = λ value. table;
-  enough = λ value. omega arith;
-  room = λ param tag left enough tag_found. enough;
-  long = long;
-  named = λ param left e. cc;
-  kept = λ param tag left h tag_found. kept left;
-  tagged = λ param tag left tag_found. refl;
-  shaped = λ param tag left h tag_found. shaped left;
-  owned = λ param tag left h tag_found. tt;
-  back = λ param v t n. back v t.shaped;
-  tag_written = λ param v t n. refl;
-}
+plain_sound table long kept shaped back =
+    grind (arith, named)

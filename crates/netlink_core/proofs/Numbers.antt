@@ -20,61 +20,49 @@ use Rattle.netlink_core.specs.ByteLaws.{byte_at-lt, IsBytes-number}
 
 little-same : (n : ℕ) (xs ys : List ℕ) → IsBytes xs → IsBytes ys → n ≤ length xs → n ≤ length ys
     → little_from 0 n xs ≡ little_from 0 n ys → take n xs ≡ take n ys
-little-same zero xs ys hx hy lx ly e = refl
-little-same (suc n) [] ys hx hy lx ly e = absurd (omega arith)
-little-same (suc n) (x ∷ xs) [] hx hy lx ly e = absurd (omega arith)
 little-same (suc n) (x ∷ xs) (y ∷ ys) hx hy lx ly e =
-    let below_x : x < 256 = hx 0 in
-    let below_y : y < 256 = hy 0 in
     let sums : x + 256 * little_from 0 n xs ≡ y + 256 * little_from 0 n ys =
-    sym (ap (λ (r : ℕ). x + 256 * r) (little_from-cons 0 n x xs)) ∙ e
-    ∙ ap (λ (r : ℕ). y + 256 * r) (little_from-cons 0 n y ys) in
-    let first : x ≡ y = omega arith in
-    let rest : little_from 0 n xs ≡ little_from 0 n ys = omega arith in
-    ap₂ (λ (a : ℕ) (others : List ℕ). a ∷ others) first (little-same n xs ys (λ i. hx (suc i))
-    (λ i. hy (suc i)) (omega arith) (omega arith) rest)
+    rw (← little_from-cons 0 n x xs, ← little_from-cons 0 n y ys) e in
+    grind (arith, hx 0, hy 0, little-same n xs ys (λ i. hx (suc i)) (λ i. hy (suc i)))
+little-same n xs ys hx hy lx ly e = grind arith
 
 big-same : (n : ℕ) (xs ys : List ℕ) → IsBytes xs → IsBytes ys → n ≤ length xs → n ≤ length ys
     → big_from 0 n xs ≡ big_from 0 n ys → take n xs ≡ take n ys
-big-same zero xs ys hx hy lx ly e = refl
-big-same (suc n) [] ys hx hy lx ly e = absurd (omega arith)
-big-same (suc n) (x ∷ xs) [] hx hy lx ly e = absurd (omega arith)
 big-same (suc n) (x ∷ xs) (y ∷ ys) hx hy lx ly e =
     let sums : x * 256 ^ n + big_from 0 n xs ≡ y * 256 ^ n + big_from 0 n ys =
-    sym (ap (λ (r : ℕ). x * 256 ^ n + r) (big_from-cons 0 n x xs)) ∙ e
-    ∙ ap (λ (r : ℕ). y * 256 ^ n + r) (big_from-cons 0 n y ys) in
+    rw (← big_from-cons 0 n x xs, ← big_from-cons 0 n y ys) e in
     let parts = same_from_place x (big_from 0 n xs) y (big_from 0 n ys) (256 ^ n)
     (big_from-lt 0 n xs (λ i. hx (suc i))) (big_from-lt 0 n ys (λ i. hy (suc i))) sums in
-    ap₂ (λ (a : ℕ) (others : List ℕ). a ∷ others) parts.0 (big-same n xs ys (λ i. hx (suc i))
-    (λ i. hy (suc i)) (omega arith) (omega arith) parts.1)
+    grind (arith, big-same n xs ys (λ i. hx (suc i)) (λ i. hy (suc i)))
+big-same n xs ys hx hy lx ly e = grind arith
 
 -- equal numbers have equal bytes
 pub number-same : (order : Order) (n : ℕ) (xs ys : List ℕ) → IsBytes xs → IsBytes ys → n ≤ length xs
     → n ≤ length ys → number_in order n xs ≡ number_in order n ys → take n xs ≡ take n ys
-number-same little_endian n xs ys hx hy lx ly e = little-same n xs ys hx hy lx ly e
-number-same big_endian n xs ys hx hy lx ly e = big-same n xs ys hx hy lx ly e
+number-same order n xs ys hx hy lx ly e =
+    grind (arith, little-same, big-same)
 
--- equal bytes are equal numbers
-pub number-take : (order : Order) (n : ℕ) (xs : List ℕ) → number_in order n (take n xs)
-    ≡ number_in order n xs
-number-take little_endian n xs = little_from-take 0 n n xs (omega arith)
-number-take big_endian n xs = big_from-take 0 n n xs (omega arith)
+-- a number is that of its first bytes
+pub number-take : (order : Order) (n m : ℕ) (xs : List ℕ) → n ≤ m
+    → number_in order n (take m xs) ≡ number_in order n xs
+number-take order n m xs h =
+    grind (arith, little_from-take 0 n m xs, big_from-take 0 n m xs)
 
 -- a number of bytes fits them, and reads back from its own
 pub number-fits : (order : Order) (n : ℕ) (xs : List ℕ) → IsBytes xs
     → number_in order n xs < 256 ^ n
-number-fits little_endian n xs h = little_from-lt 0 n xs h
-number-fits big_endian n xs h = big_from-lt 0 n xs h
+number-fits order n xs h =
+    grind (arith, little_from-lt 0 n xs h, big_from-lt 0 n xs h)
 
 pub number-reads_back : (order : Order) (n x : ℕ) (rest : List ℕ) → x < 256 ^ n
     → number_in order n (bytes_in order n x ++ rest) ≡ x
-number-reads_back little_endian n x rest h = little_number-reads_back n x rest h
-number-reads_back big_endian n x rest h = big_number-reads_back n x rest h
+number-reads_back order n x rest h =
+    grind (arith, little_number-reads_back n x rest h, big_number-reads_back n x rest h)
 
 -- a number has as many bytes as it is given
 pub length-bytes_in : (order : Order) (n x : ℕ) → length (bytes_in order n x) ≡ n
-length-bytes_in little_endian n x = length-bytes_low_first 0 n x
-length-bytes_in big_endian n x = length-bytes_high_first n x
+length-bytes_in order n x =
+    grind (arith, length-bytes_low_first 0 n x, length-bytes_high_first n x)
 
 big-bytes : (n x k : ℕ) → slice_index (bytes_high_first n x) k < 256
 big-bytes zero x k = omega arith
@@ -89,46 +77,39 @@ bytes_in-bytes big_endian n x = λ k. big-bytes n x k
 
 -- all bits of the first bytes
 pub masked-all : (n : ℕ) (xs : List ℕ) → IsBytes xs → masked (replicate n 255) xs ≡ take n xs
-masked-all zero xs h = refl
-masked-all (suc n) [] h = refl
 masked-all (suc n) (x ∷ xs) h =
     let below : x < 2 ^ 8 = h 0 in
-    let whole : bit_and x 255 ≡ x = and_mask x 8 ∙ mod-eq_of_lt below in
-    ap₂ (λ (a : ℕ) (others : List ℕ). a ∷ others) whole (masked-all n xs (λ i. h (suc i)))
+    grind (arith, and_mask x 8, mod-eq_of_lt below, masked-all n xs (λ i. h (suc i)))
+masked-all n xs h = grind arith
 
 -- no bits
 pub masked-none : (n : ℕ) (xs : List ℕ) → n ≤ length xs → masked (replicate n 0) xs ≡ replicate n 0
-masked-none zero xs h = refl
-masked-none (suc n) [] h = absurd (omega arith)
-masked-none (suc n) (x ∷ xs) h = ap₂ (λ (a : ℕ) (others : List ℕ). a ∷ others) (and_zero_r x)
-    (masked-none n xs (omega arith))
+masked-none (suc n) (x ∷ xs) h =
+    grind (arith, and_zero_r x, masked-none n xs)
+masked-none n xs h = grind arith
 
 -- as many bytes as masks
 pub length-masked : (masks xs : List ℕ) → length masks ≤ length xs
     → length (masked masks xs) ≡ length masks
-length-masked [] xs h = refl
-length-masked (m ∷ masks) [] h = absurd (omega arith)
-length-masked (m ∷ masks) (x ∷ xs) h = ap suc (length-masked masks xs (omega arith))
+length-masked (m ∷ masks) (x ∷ xs) h =
+    grind (arith, length-masked masks xs)
+length-masked masks xs h = grind arith
 
 -- bytes under masks are bytes
 pub masked-bytes : (masks xs : List ℕ) (k : ℕ) → IsBytes xs → slice_index (masked masks xs) k < 256
-masked-bytes [] xs k h = omega arith
-masked-bytes (m ∷ masks) [] k h = omega arith
-masked-bytes (m ∷ masks) (x ∷ xs) zero h = let at_most = and_le_l x m in let below = h 0 in
-    omega arith
+masked-bytes (m ∷ masks) (x ∷ xs) zero h = omega (arith, and_le_l x m, h 0)
 masked-bytes (m ∷ masks) (x ∷ xs) (suc k) h = masked-bytes masks xs k (λ i. h (suc i))
+masked-bytes masks xs k h = grind arith
 
 -- the bytes of a number from the second on are those of what is left of it
 byte-shift : (i x : ℕ) → byte_at (suc i) x ≡ byte_at i (x / 256)
-byte-shift zero x = refl
-byte-shift (suc i) x = ap (λ (y : ℕ). y % 256)
-    (ap (λ (p : ℕ). x / p) (pow-suc 256 (suc i) ∙ mul_comm (256 ^ suc i) 256)
-    ∙ sym (div-div-eq-div-mul x 256 (256 ^ suc i)))
+byte-shift i x =
+    grind (arith, pow-suc 256, mul_comm, div-div-eq-div-mul x 256)
 
 bytes-shift : (i n x : ℕ) → bytes_low_first (suc i) n x ≡ bytes_low_first i n (x / 256)
 bytes-shift i zero x = refl
-bytes-shift i (suc n) x = ap₂ (λ (a : ℕ) (others : List ℕ). a ∷ others) (byte-shift i x)
-    (bytes-shift (suc i) n x)
+bytes-shift i (suc n) x =
+    grind (arith, byte-shift i x, bytes-shift (suc i) n x)
 
 -- a mask on a number is one on its bytes
 pub and_number : (n mask : ℕ) (xs : List ℕ) → IsBytes xs → n ≤ length xs

@@ -1,9 +1,7 @@
 -- Records that are given as layouts, in front of other bytes.
-use Rattle.std.proofs.Common.{◌≡◌, ◌∙◌, ℕ, ◌≤◌, List, ◌++◌, length, Result, Ok, refl, ap, arith}
+use Rattle.std.proofs.Common.{◌≡◌, ◌∙◌, ℕ, ◌≤◌, List, ◌++◌, length, Ok, refl, arith}
 use Rattle.std.proofs.lemmas.List.{length-append}
-use Rattle.netlink_core.specs.declared.fault.DecodeError.{DecodeError}
-use Rattle.netlink_core.specs.Table.{values_of}
-use Rattle.netlink_core.specs.Layout.{Layout, read, bytes, IsInRange, IsNormal}
+use Rattle.netlink_core.specs.Layout.{Layout, bytes}
 use Rattle.netlink_core.specs.SoundLaws.{IsSound, IsFixed}
 use Rattle.netlink_core.specs.ValueCodec.{value_codec}
 use Rattle.netlink_core.specs.ShownLaws.{IsPrefixCodec}
@@ -11,30 +9,6 @@ use Rattle.netlink_core.proofs.TableLaws.{table_from_test, values-bytes_of}
 use Rattle.netlink_core.proofs.LayoutLaws.{accepts, long_enough}
 
 module _ {Tag Value : Type 0} (layout : Layout (Unit {0}) Tag Value) (sound : IsSound layout) where
-  -- a value's bytes tell its tag and its values also where others follow
-  reads_as_prefix : ((tag : Tag) (left rest : List ℕ) → layout.least ≤ length left
-      → layout.tag_at tt left ≡ Ok tag → layout.tag_at tt (left ++ rest) ≡ Ok tag)
-      → (v : Value) (rest : List ℕ) → IsInRange layout v → IsNormal layout tt v
-      → read layout tt (bytes layout v ++ rest) ≡ Ok v
-  reads_as_prefix goes_on v rest in_range normal =
-      let enough = sound.enough v in
-      let size = sound.long v in
-      let same : values_of (layout.table (layout.tag_of v)) (bytes layout v ++ rest)
-      ≡ layout.values v = values-bytes_of 0 (layout.table (layout.tag_of v))
-      (layout.size (layout.tag_of v)) (layout.values v) (bytes layout v ++ rest) rest
-      (table_from_test 0 (layout.table (layout.tag_of v)) (layout.size (layout.tag_of v))
-      (sound.own_table v)) in_range.fit normal.flags refl in
-      long_enough layout tt (bytes layout v ++ rest)
-      (omega (arith, length-append (bytes layout v) rest))
-      ∙ accepts layout tt (bytes layout v ++ rest) (layout.tag_of v)
-      (goes_on (layout.tag_of v) (bytes layout v) rest (omega arith)
-      (sound.tag_written tt v in_range normal))
-      ∙ ap (λ (vs : List ℕ). answered (layout.value (layout.tag_of v) vs)) same
-      ∙ ap answered (sound.back tt v in_range normal)
-    where
-      answered : Value → Result Value DecodeError
-      answered x = Ok x
-
   -- a record of one size whose tag is in its own bytes stands in front of whatever follows it
   pub is_prefix_codec : {size : ℕ} → IsFixed layout size
       → ((tag : Tag) (left rest : List ℕ) → layout.least ≤ length left
@@ -42,5 +16,16 @@ module _ {Tag Value : Type 0} (layout : Layout (Unit {0}) Tag Value) (sound : Is
       → IsPrefixCodec (value_codec layout) size
   is_prefix_codec fixed goes_on = record {
     bytes_long = λ v in_range. sound.long v ∙ fixed.1 (layout.tag_of v);
-    reads_as_prefix = reads_as_prefix goes_on;
+    reads_as_prefix = λ v rest in_range normal.
+        let enough = sound.enough v in
+        let size = sound.long v in
+        let tag : Tag = layout.tag_of v in
+        let same = values-bytes_of 0 (layout.table tag) (layout.size tag) (layout.values v)
+        (bytes layout v ++ rest) rest (table_from_test 0 (layout.table tag) (layout.size tag)
+        (sound.own_table v)) in_range.fit normal.flags refl in
+        long_enough layout tt (bytes layout v ++ rest)
+        (omega (arith, length-append (bytes layout v) rest))
+        ∙ accepts layout tt (bytes layout v ++ rest) tag
+        (goes_on tag (bytes layout v) rest (omega arith) (sound.tag_written tt v in_range normal))
+        ∙ cc (sound.back tt v in_range normal);
   }

@@ -1,12 +1,8 @@
 -- The cutting has its two endings apart.
-use Rattle.std.proofs.Common.{◌≡◌, ◌<◌, ◌⊎◌, ◌↔◌, ℕ, inl, inr, List, [], ◌∷◌, ◌++◌, length, refl}
-use Rattle.std.proofs.Common.{sym, subst}
+use Rattle.std.proofs.Common.{◌≡◌, ◌<◌, ◌⊎◌, ◌↔◌, ℕ, List, [], ◌∷◌, ◌++◌, length}
+use Rattle.std.proofs.Common.{arith}
 use Rattle.netlink_core.specs.Attribute.{Attribute, Cut, FitsWords, fill, unpadded}
-use Rattle.netlink_core.proofs.Walking.{StartsWith-some}
-
-nothing_in_none : (bytes : List ℕ) (xs : List Attribute) → bytes ≡ [] → Cut bytes xs → xs ≡ []
-nothing_in_none bytes [] none h = refl
-nothing_in_none bytes (x ∷ xs) none h = absurd (StartsWith-some bytes h.0 x h.1 none)
+use Rattle.netlink_core.proofs.Cutting.{one_cut}
 
 -- a cut into an attribute and others is one with its endings apart, and the other way round
 pub endings_apart : (bytes : List ℕ) (x : Attribute) (xs : List Attribute) → Cut bytes (x ∷ xs)
@@ -14,26 +10,10 @@ pub endings_apart : (bytes : List ℕ) (x : Attribute) (xs : List Attribute) →
     × (((length padding ≡ fill (length x.value)) × Cut rest xs)
     ⊎ ((length padding < fill (length x.value)) × (rest ≡ []) × (xs ≡ []))))
 endings_apart bytes x xs = (
-  λ h. (
-    h.1.padding,
-    h.0,
-    h.1.parts,
-    h.1.fits,
-    elim h.1.filled [
-      | inl full ↦ inl (full, h.2)
-      | inr short ↦ inr (short.0, short.1, nothing_in_none h.0 xs short.1 h.2)
-    ],
+  λ h. (h.1.padding, h.0, h.1.parts, h.1.fits, grind (arith, one_cut h.0 xs [])),
+  λ (padding, rest, parts, fits, how). (
+    rest,
+    record { padding = padding; parts = parts; fits = fits; filled = grind arith },
+    grind arith,
   ),
-  λ h. elim h.4 [
-    | inl full ↦ (
-      h.1,
-      record { padding = h.0; parts = h.2; fits = h.3; filled = inl full.0 },
-      full.1,
-    )
-    | inr short ↦ (
-      h.1,
-      record { padding = h.0; parts = h.2; fits = h.3; filled = inr (short.0, short.1) },
-      subst (λ (ys : List Attribute). Cut h.1 ys) (sym short.2) short.1,
-    )
-  ],
 )

@@ -1,5 +1,5 @@
 -- Tests of equality on what attributes decode to, from those of the values of each type.
-use Rattle.std.proofs.Common.{◌≡◌, ◌↔◌, ◌&&◌, inl, inr, ℕ, [], ◌∷◌, Bool, false, eqb, IsTrue, ap}
+use Rattle.std.proofs.Common.{◌≡◌, ◌↔◌, ◌&&◌, inl, inr, ℕ, [], ◌∷◌, Bool, false, eqb, IsTrue, arith}
 use lib.Pointwise.{pointwise, bytes_decides}
 use Rattle.netlink_core.specs.Attribute.{Attribute}
 use Rattle.netlink_core.specs.AttributeSet.{AttributeSet, AttributeValue}
@@ -34,17 +34,14 @@ attribute_test_decides a b =
     let both = and_decides (numbers_equal a.type_word b.type_word)
     (bytes_decides a.value b.value) in (
       λ h. let p = both.0 h in λ i. record { type_word = p.0 i; value = p.1 i },
-      λ e. both.1 (ap (λ (x : Attribute). x.type_word) e, ap (λ (x : Attribute). x.value) e),
+      λ e. both.1 (cc, cc),
     )
 
 pub value_test_decides : (F : AttributeSet) (tests : Tests F) (v w : AttributeValue F)
     → IsTrue (value_test F tests v w)
     ↔ (v ≡ w)
 value_test_decides [] tests a b = attribute_test_decides a b
-value_test_decides (spec ∷ others) tests (inl x) (inl y) =
-    (λ h. ap inl ((tests.0.1 x y).0 h), λ e. (tests.0.1 x y).1 cc)
-value_test_decides (spec ∷ others) tests (inl x) (inr w) = apart (λ e. cc)
-value_test_decides (spec ∷ others) tests (inr v) (inl y) = apart (λ e. cc)
-value_test_decides (spec ∷ others) tests (inr v) (inr w) = let later =
-    value_test_decides others tests.1 v w in
-    (λ h. ap inr (later.0 h), λ e. later.1 cc)
+value_test_decides (spec ∷ others) tests (inl x) (inl y) = grind (arith, tests.0.1 x y)
+value_test_decides (spec ∷ others) tests (inr v) (inr w) =
+    grind (arith, value_test_decides others tests.1 v w)
+value_test_decides (spec ∷ others) tests v w = apart (λ e. cc)

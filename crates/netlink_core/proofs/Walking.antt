@@ -1,7 +1,8 @@
 -- A walk over the attributes of bytes, one attribute after the other.
+use Rattle.std.proofs.Common.{length}
 use Rattle.std.proofs.Common.{Result, Ok, Err, ◌≡◌, ◌≢◌, ℕ, inl, inr, List, [], ◌∷◌, ◌++◌, refl}
-use Rattle.std.proofs.Common.{sym, ap, ◌∙◌, append_assoc}
-use Rattle.std.proofs.lemmas.List.{append-nil}
+use Rattle.std.proofs.Common.{sym, arith, ap, ◌∙◌, append_assoc}
+use Rattle.std.proofs.lemmas.List.{append-nil, length-append, nil_from_length}
 use Rattle.netlink_core.specs.declared.fault.DecodeError.{DecodeError}
 use Rattle.netlink_core.specs.Attribute.{Attribute, StartsWith, HasPrefix, CutOff, IsFramingFault}
 use Rattle.netlink_core.specs.Attribute.{IsPrefixFault, AttributesMean, AttributeFault, unpadded}
@@ -15,10 +16,6 @@ pub prefix_of_start : (bytes rest : List ℕ) (a : Attribute) → StartsWith byt
     → HasPrefix bytes a
 prefix_of_start bytes rest a s = (s.padding ++ rest, s.parts, s.fits)
 
-both_empty : (xs ys : List ℕ) → xs ++ ys ≡ [] → ys ≡ []
-both_empty [] ys e = e
-both_empty (x ∷ xs) ys e = absurd cc
-
 -- an attribute stands in front of what is cut off
 pub cut_off_behind : (faulty : List ℕ → DecodeError → Type 0) (bytes rest : List ℕ) (a : Attribute)
     (given : List Attribute) (e : DecodeError)
@@ -28,12 +25,13 @@ cut_off_behind faulty bytes rest a given e s (before, after, parts, cut, left, f
       | inl full ↦ (
         unpadded a ++ (s.padding ++ before),
         after,
-        s.parts ∙ ap (λ (t : List ℕ). unpadded a ++ (s.padding ++ t)) parts ∙ simp append_assoc,
+        rw (s.parts, parts) (simp append_assoc),
         (s.padding, before, refl, s.fits, full, cut),
         left,
         fault,
       )
-      | inr short ↦ absurd (left (both_empty before after (sym parts ∙ short.1)))
+      | inr short ↦ absurd (left (nil_from_length after
+          (omega (arith, simp length-append at (ap length (sym parts ∙ short.1))))))
     ]
 
 module _ {A : Type 0} (reads : Attribute → Result A DecodeError) where

@@ -1,34 +1,29 @@
 -- A whole walk over a datagram gives the messages into which it is cut.
-use Rattle.std.proofs.Common.{Result, Ok, Err, Some, None, ◌≡◌, ℕ, List, [], ◌∷◌, sym, subst}
+use Rattle.std.proofs.Common.{Err, Some, None, ◌≡◌, ℕ, List, [], ◌∷◌}
 use Rattle.std.specs.Prelude.{map}
 use Rattle.std.specs.Borrow.{Bor}
 use Rattle.std.specs.Iterator.{Drains, YieldsThen}
 use Rattle.netlink_core.specs.declared.fault.DecodeError.{DecodeError}
 use Rattle.netlink_core.specs.declared.datagram.MessageStrings.{MessageStrings}
 use Rattle.netlink_core.specs.Datagram.{CutIntoMessages}
+use Rattle.netlink_core.proofs.WholeWalk.{found}
 use Rattle.netlink_core.specs.DatagramWalk.{datagram_left, GivesMessage}
 
--- items that are messages, and the bytes of each
-abbrev found : List (Bor (List ℕ)) → List (Result (Bor (List ℕ)) DecodeError)
-found given = map (λ (m : Bor (List ℕ)). Ok m) given
-
+-- the bytes of each message
 abbrev messages_of : List (Bor (List ℕ)) → List (List ℕ)
 messages_of given = map (λ (m : Bor (List ℕ)). m.now) given
 
 pub whole_walk : (walk : MessageStrings) (given : List (Bor (List ℕ)))
     → Drains GivesMessage walk (found given)
     → CutIntoMessages (datagram_left walk) (messages_of given) None
-whole_walk walk [] h = subst (λ (w : MessageStrings). datagram_left w ≡ []) (sym h.1.1) h.1.2.0
+whole_walk walk [] h = rw h.1.1 h.1.2.0
 whole_walk walk (g ∷ given) h =
     (datagram_left h.1.1.0, h.1.1.1, whole_walk h.1.1.0 given (h.0, (h.1.0, h.1.1.2, h.1.2)))
 
 pub cut_off_walk : (walk last : MessageStrings) (given : List (Bor (List ℕ))) (e : DecodeError)
     → YieldsThen GivesMessage walk (found given) (Some (Err e)) last
     → CutIntoMessages (datagram_left walk) (messages_of given) (Some e) × (datagram_left last ≡ [])
-cut_off_walk walk last [] e h =
-    let at : GivesMessage walk (Some (Err e)) last =
-    subst (λ (w : MessageStrings). GivesMessage w (Some (Err e)) last) (sym h.1) h.2 in
-    ((at.0, at.1), at.2)
+cut_off_walk walk last [] e h = rw h.1 ((h.2.0, h.2.1), h.2.2)
 cut_off_walk walk last (g ∷ given) e h =
     let later = cut_off_walk h.1.0 last given e (h.0, h.1.2, h.2) in
     ((datagram_left h.1.0, h.1.1, later.0), later.1)

@@ -1,5 +1,5 @@
 -- A whole walk gives the cut, or all of it in front of the first framing fault.
-use Rattle.std.proofs.Common.{Result, Ok, Err, Some, ◌≡◌, List, [], ◌∷◌, refl, sym, subst}
+use Rattle.std.proofs.Common.{Result, Ok, Err, Some, ◌≡◌, List, [], ◌∷◌, refl}
 use Rattle.std.specs.Prelude.{map}
 use Rattle.std.specs.Iterator.{Drains, YieldsThen}
 use Rattle.netlink_core.specs.declared.fault.DecodeError.{DecodeError}
@@ -9,13 +9,13 @@ use Rattle.netlink_core.specs.Attribute.{Cut, CutOff, IsFramingFault}
 use Rattle.netlink_core.proofs.Walking.{cut_off_behind}
 use Rattle.netlink_core.specs.Walk.{attribute_of, bytes_left, GivesAttribute}
 
--- items that are attributes
-abbrev pub found : List NlaBuffer → List (Result NlaBuffer DecodeError)
-found given = map (λ (b : NlaBuffer). Ok b) given
+-- items that are no faults
+abbrev pub found : {B : Type 0} → List B → List (Result B DecodeError)
+found given = map (λ item. Ok item) given
 
 pub whole_walk : (walk : NlasIterator) (given : List NlaBuffer)
     → Drains GivesAttribute walk (found given) → Cut (bytes_left walk) (map attribute_of given)
-whole_walk walk [] h = subst (λ (w : NlasIterator). bytes_left w ≡ []) (sym h.1.1) h.1.2.0
+whole_walk walk [] h = rw h.1.1 h.1.2.0
 whole_walk walk (g ∷ given) h =
     (bytes_left h.1.1.0, h.1.1.1, whole_walk h.1.1.0 given (h.0, (h.1.0, h.1.1.2, h.1.2)))
 
@@ -23,12 +23,7 @@ pub cut_off_walk : (walk last : NlasIterator) (given : List NlaBuffer) (e : Deco
     → YieldsThen GivesAttribute walk (found given) (Some (Err e)) last
     → CutOff IsFramingFault (bytes_left walk) (map attribute_of given) e × (bytes_left last ≡ [])
 cut_off_walk walk last [] e h =
-    let at : GivesAttribute walk (Some (Err e)) last =
-    subst (λ (w : NlasIterator). GivesAttribute w (Some (Err e)) last) (sym h.1) h.2 in
-    (([], bytes_left walk, refl, refl, at.0, at.1), at.2)
+    rw h.1 (([], bytes_left h.0, refl, refl, h.2.0, h.2.1), h.2.2)
 cut_off_walk walk last (g ∷ given) e h =
-    let later = cut_off_walk h.1.0 last given e (h.0, h.1.2, h.2) in (
-      cut_off_behind IsFramingFault (bytes_left walk) _ (attribute_of g) (map attribute_of given) e
-          h.1.1 later.0,
-      later.1,
-    )
+    let later = cut_off_walk h.1.0 last given e (h.0, h.1.2, h.2) in
+    (cut_off_behind IsFramingFault _ _ _ _ e h.1.1 later.0, later.1)

@@ -1,6 +1,5 @@
 -- Strings of bytes, and their parts.
-use Rattle.std.proofs.Common.{ℕ, zero, suc, ◌<◌, ◌/◌, ◌^◌, List, [], ◌∷◌, ◌++◌, replicate, arith}
-use Rattle.std.proofs.lemmas.Nat.{mod_below}
+use Rattle.std.proofs.Common.{ℕ, zero, suc, ◌<◌, List, [], ◌∷◌, ◌++◌, replicate, arith}
 use Rattle.std.specs.Int.{bytes_low_first, byte_at}
 use Rattle.netlink_core.specs.Bytes.{IsBytes}
 
@@ -17,7 +16,7 @@ IsBytes-cons x xs hx h (suc i) = h i
 pub IsBytes-append : (xs ys : List ℕ) → IsBytes xs → IsBytes ys → IsBytes (xs ++ ys)
 IsBytes-append [] ys hx hy = hy
 IsBytes-append (x ∷ xs) ys hx hy =
-    IsBytes-cons x (xs ++ ys) (hx 0) (IsBytes-append xs ys (λ i. hx (suc i)) hy)
+    IsBytes-cons x _ (hx 0) (IsBytes-append xs ys (λ i. hx (suc i)) hy)
 
 -- the start of bytes, and what follows it
 pub IsBytes-left : (xs ys : List ℕ) → IsBytes (xs ++ ys) → IsBytes xs
@@ -30,14 +29,12 @@ IsBytes-right (x ∷ xs) ys h = IsBytes-right xs ys (λ i. h (suc i))
 
 -- a byte of a number
 pub byte_at-lt : (k x : ℕ) → byte_at k x < 256
-byte_at-lt zero x = mod_below x 256 (omega arith)
-byte_at-lt (suc k) x = mod_below (x / 256 ^ suc k) 256 (omega arith)
+byte_at-lt k x = grind arith
 
 -- the bytes of a number
 pub IsBytes-number : (i n x : ℕ) → IsBytes (bytes_low_first i n x)
 IsBytes-number i zero x = IsBytes-nil
-IsBytes-number i (suc n) x = IsBytes-cons (byte_at i x) (bytes_low_first (suc i) n x)
-    (byte_at-lt i x) (IsBytes-number (suc i) n x)
+IsBytes-number i (suc n) x = IsBytes-cons _ _ (byte_at-lt i x) (IsBytes-number (suc i) n x)
 
 -- zeros
 pub IsBytes-zeros : (n : ℕ) → IsBytes (replicate n 0)

@@ -1,18 +1,17 @@
 -- The attribute at the start of a string, or the fault there.
-use Rattle.std.proofs.Common.{Result, Ok, Err, Option, Some, None, ◌≡◌, ◌∙◌, ◌⊎◌, inl, inr, ℕ, ◌+◌}
-use Rattle.std.proofs.Common.{◌-◌, ◌*◌, ◌/◌, ◌%◌, ◌^◌, ◌<◌, ◌≤◌, cond, ltb, List, [], ◌∷◌, ◌++◌}
-use Rattle.std.proofs.Common.{length, take, drop, replicate, refl, sym, ap, subst, arith}
+use Rattle.std.proofs.Common.{Result, Ok, Err, ◌≡◌, ◌∙◌, ◌⊎◌, inl, inr, ℕ, ◌+◌}
+use Rattle.std.proofs.Common.{◌-◌, ◌*◌, ◌/◌, ◌%◌, ◌≤◌, List, [], ◌∷◌, ◌++◌}
+use Rattle.std.proofs.Common.{suc, length, take, drop, refl, sym, ap, arith, ◌<◌}
 use Rattle.std.proofs.lemmas.List.{take-append-drop, length-take, length-append, take_all}
-use Rattle.std.proofs.lemmas.Bool.{cases_lt, lt-ltb, le-ltb}
-use Rattle.byteorder.specs.Endian.{little_bytes, little_number}
+use Rattle.byteorder.specs.Endian.{little_number}
 use Rattle.netlink_core.specs.declared.fault.DecodeError.{DecodeError}
 use Rattle.netlink_core.specs.declared.fault.DecodeError.TheVariants.{AttributeHeaderCut}
 use Rattle.netlink_core.specs.declared.fault.DecodeError.TheVariants.{AttributeLengthUnder4}
 use Rattle.netlink_core.specs.declared.fault.DecodeError.TheVariants.{AttributeLengthPast}
 use Rattle.netlink_core.specs.Bytes.{IsBytes}
-use Rattle.netlink_core.specs.Attribute.{Attribute, IsAttributeInRange, FitsWords, fill, unpadded}
+use Rattle.netlink_core.specs.Attribute.{Attribute, IsAttributeInRange, FitsWords, unpadded}
 use Rattle.netlink_core.specs.Attribute.{written, HasPrefix, IsFramingFault, IsPrefixFault}
-use Rattle.netlink_core.specs.ByteLaws.{IsBytes-append, IsBytes-left, IsBytes-right, IsBytes-number}
+use Rattle.netlink_core.specs.ByteLaws.{IsBytes-append, IsBytes-left, IsBytes-number}
 use Rattle.netlink_core.specs.ByteLaws.{IsBytes-zeros}
 
 -- ---- the attribute at the start
@@ -23,62 +22,42 @@ pub has_prefix : (bytes : List ℕ) (word type_word : ℕ) → IsBytes bytes
     → type_word ≡ little_number 2 (take (length bytes - 2) (drop 2 bytes))
     → 4 ≤ word → word ≤ length bytes
     → HasPrefix bytes (record { type_word = type_word; value = take (word - 4) (drop 4 bytes) })
-has_prefix [] word type_word fits word-is type-is low high = absurd (omega arith)
-has_prefix (_ ∷ []) word type_word fits word-is type-is low high = absurd (omega arith)
-has_prefix (_ ∷ _ ∷ []) word type_word fits word-is type-is low high = absurd (omega arith)
-has_prefix (_ ∷ _ ∷ _ ∷ []) word type_word fits word-is type-is low high = absurd (omega arith)
 has_prefix (a ∷ b ∷ c ∷ d ∷ tail) word type_word fits word-is type-given low high =
-    let whole : take (length (a ∷ b ∷ c ∷ d ∷ tail) - 2) (c ∷ d ∷ tail) ≡ c ∷ d ∷ tail =
-    take_all _ (c ∷ d ∷ tail) (omega arith) in
-    let number : type_word ≡ c + 256 * (d + 256 * 0) = rw whole at type-given in
+    let number : type_word ≡ c + 256 * (d + 256 * 0) =
+    type-given ∙ ap (little_number 2) (take_all _ (c ∷ d ∷ tail) (omega arith)) in
     let len : length (take (word - 4) tail) ≡ word - 4 =
     omega (arith, length-take (word - 4) tail) in
-    let a-fits : a < 256 = fits 0 in
-    let b-fits : b < 256 = fits 1 in
-    let c-fits : c < 256 = fits 2 in
-    let d-fits : d < 256 = fits 3 in
-    let a-is : a ≡ (4 + length (take (word - 4) tail)) % 256 = omega arith in
-    let b-is : b ≡ (4 + length (take (word - 4) tail)) / 256 % 256 = omega arith in
-    let c-is : c ≡ type_word % 256 = omega arith in
-    let d-is : d ≡ type_word / 256 % 256 = omega arith in
-    let tail-is : tail ≡ take (word - 4) tail ++ drop (word - 4) tail =
-    sym (take-append-drop (word - 4) tail) in
-    (drop (word - 4) tail, cc, (omega arith, omega arith))
+    let words : (a ≡ (4 + length (take (word - 4) tail)) % 256)
+    × (b ≡ (4 + length (take (word - 4) tail)) / 256 % 256) × (c ≡ type_word % 256)
+    × (d ≡ type_word / 256 % 256) = omega (arith, fits 0, fits 1, fits 2, fits 3) in (
+      drop (word - 4) tail,
+      cc (take-append-drop (word - 4) tail),
+      omega (arith, fits 2, fits 3),
+    )
+has_prefix bytes word type_word fits word-is type-is low high = absurd (omega arith)
 
 -- two lists with fronts of one length are equal in both parts
 pub same_parts : (xs ys s t : List ℕ) → length xs ≡ length ys → xs ++ s ≡ ys ++ t → (xs ≡ ys)
     × (s ≡ t)
 same_parts [] [] s t len e = (refl, e)
-same_parts [] (y ∷ ys) s t len e = absurd (omega arith)
-same_parts (x ∷ xs) [] s t len e = absurd (omega arith)
-same_parts (x ∷ xs) (y ∷ ys) s t len e =
-    let rest = same_parts xs ys s t (omega arith) cc in
-    (cc, rest.1)
+same_parts (x ∷ xs) (y ∷ ys) s t len e = grind (arith, same_parts xs ys s t)
+same_parts xs ys s t len e = absurd (omega arith)
 
 -- the attribute is fixed by the bytes, and so is what follows
 pub one_prefix : (a b : Attribute) (s t : List ℕ) → FitsWords a → FitsWords b
     → unpadded a ++ s ≡ unpadded b ++ t → (a ≡ b) × (s ≡ t)
 one_prefix a b s t a-fits b-fits e =
-    let low : (4 + length a.value) % 256 ≡ (4 + length b.value) % 256 = cc in
-    let high : (4 + length a.value) / 256 % 256 ≡ (4 + length b.value) / 256 % 256 = cc in
-    let type-low : a.type_word % 256 ≡ b.type_word % 256 = cc in
-    let type-high : a.type_word / 256 % 256 ≡ b.type_word / 256 % 256 = cc in
-    let type-fits : (a.type_word < 2 ^ 16) × (b.type_word < 2 ^ 16) = (a-fits.0, b-fits.0) in
-    let fits : (length a.value ≤ 65531) × (length b.value ≤ 65531) = (a-fits.1, b-fits.1) in
-    let types : a.type_word ≡ b.type_word = omega arith in
-    let len : length a.value ≡ length b.value = omega arith in
-    let values = same_parts a.value b.value s t len cc in
+    let types : a.type_word ≡ b.type_word = grind arith in
+    let values = same_parts a.value b.value s t (grind arith) cc in
     (λ i. record { type_word = types i; value = values.0 i }, values.1)
 
 -- the attribute at the start of bytes is in range
 pub prefix_in_range : (b : List ℕ) (a : Attribute) → IsBytes b → HasPrefix b a
     → IsAttributeInRange a
-prefix_in_range b a in_range h =
-    let whole : IsBytes (unpadded a) = IsBytes-left (unpadded a) h.0 (subst IsBytes h.1 in_range) in
-    let behind : IsBytes (little_bytes 2 a.type_word ++ a.value) =
-    IsBytes-right (little_bytes 2 (4 + length a.value)) (little_bytes 2 a.type_word ++ a.value)
-    whole in
-    (h.2.0, IsBytes-right (little_bytes 2 a.type_word) a.value behind)
+prefix_in_range b a in_range h = (
+  h.2.0,
+  IsBytes-left a.value h.0 (λ i. (rw h.1 at in_range) (suc (suc (suc (suc i))))),
+)
 
 -- one attribute stands at the start
 pub one_attribute : (b : List ℕ) (x y : Attribute) → HasPrefix b x → HasPrefix b y → x ≡ y
@@ -86,13 +65,7 @@ one_attribute b x y h k = (one_prefix x y h.0 k.0 h.2 k.2 (sym h.1 ∙ k.1)).0
 
 -- a written attribute is bytes
 pub written_in_range : (a : Attribute) → IsAttributeInRange a → IsBytes (written a)
-written_in_range a in_range =
-    IsBytes-append (unpadded a) (replicate (fill (length a.value)) 0)
-    (IsBytes-append (little_bytes 2 (4 + length a.value)) (little_bytes 2 a.type_word ++ a.value)
-    (IsBytes-number 0 2 (4 + length a.value))
-    (IsBytes-append (little_bytes 2 a.type_word) a.value (IsBytes-number 0 2 a.type_word)
-    in_range.1))
-    (IsBytes-zeros (fill (length a.value)))
+written_in_range a in_range = search (IsBytes-append, IsBytes-number, IsBytes-zeros) depth 7
 
 -- ---- an attribute or a fault
 
@@ -108,34 +81,26 @@ word_is bytes a head =
 -- not both an attribute and a fault
 pub prefix_or_fault_apart : (bytes : List ℕ) (a : Attribute) (e : DecodeError) → HasPrefix bytes a
     → IsFramingFault bytes e → ⊥
-prefix_or_fault_apart bytes a (AttributeHeaderCut left) head f = omega (arith, word_is bytes a head)
-prefix_or_fault_apart bytes a (AttributeLengthUnder4 word) head f =
-    omega (arith, word_is bytes a head)
-prefix_or_fault_apart bytes a (AttributeLengthPast word left) head f =
-    omega (arith, word_is bytes a head)
-prefix_or_fault_apart bytes a _ head f = f
+prefix_or_fault_apart bytes a e head f = grind (arith, word_is bytes a head)
+
+-- too few bytes for a header, a length word that counts less than it, one that counts more than
+-- there is, or none of these
+pub framed_or_not : (least len word : ℕ) → (len < least) ⊎ (((least ≤ len) × (word < least))
+    ⊎ (((least ≤ len) × (least ≤ word) × (len < word)) ⊎ ((least ≤ word) × (word ≤ len))))
+framed_or_not least len word = grind arith
 
 -- an attribute or a fault stands there
 pub prefix_or_fault : (bytes : List ℕ) → IsBytes bytes → ((a : Attribute) × HasPrefix bytes a)
     ⊎ ((e : DecodeError) × IsFramingFault bytes e)
-prefix_or_fault bytes fits =
-    elim (cases_lt (length bytes) 4) [
-      | inl short ↦ inr (AttributeHeaderCut (length bytes), (refl, short))
-      | inr some ↦ elim (cases_lt (little_number 2 bytes) 4) [
-        | inl under ↦ inr (AttributeLengthUnder4 (little_number 2 bytes), (refl, some, under))
-        | inr low ↦ elim (cases_lt (length bytes) (little_number 2 bytes)) [
-          | inl past ↦ inr (
-            AttributeLengthPast (little_number 2 bytes) (length bytes),
-            (refl, refl, some, low, past),
-          )
-          | inr high ↦ inl (
-            _,
-            has_prefix bytes (little_number 2 bytes)
-                (little_number 2 (take (length bytes - 2) (drop 2 bytes))) fits refl refl low high,
-          )
-        ]
-      ]
-    ]
+prefix_or_fault bytes fits = elim (framed_or_not 4 (length bytes) (little_number 2 bytes)) [
+  | inl short ↦ inr (AttributeHeaderCut (length bytes), (refl, short))
+  | inr (inl under) ↦ inr (AttributeLengthUnder4 (little_number 2 bytes), (refl, under.0, under.1))
+  | inr (inr (inl past)) ↦ inr (
+    AttributeLengthPast (little_number 2 bytes) (length bytes),
+    (refl, refl, past.0, past.1, past.2),
+  )
+  | inr (inr (inr there)) ↦ inl (_, has_prefix bytes _ _ fits refl refl there.0 there.1)
+]
 
 -- an answer is a value or a fault
 pub value_or_reason : {A : Type 0} (read : Result A DecodeError) → ((value : A) × (read ≡ Ok value))
@@ -143,55 +108,16 @@ pub value_or_reason : {A : Type 0} (read : Result A DecodeError) → ((value : A
 value_or_reason (Ok value) = inl (value, refl)
 value_or_reason (Err e) = inr (e, refl)
 
--- the fault at the start, if there is one
-first_fault : List ℕ → Option DecodeError
-first_fault bytes =
-    cond (ltb (length bytes) 4) (Some (AttributeHeaderCut (length bytes)))
-    (cond (ltb (little_number 2 bytes) 4) (Some (AttributeLengthUnder4 (little_number 2 bytes)))
-    (cond (ltb (length bytes) (little_number 2 bytes))
-    (Some (AttributeLengthPast (little_number 2 bytes) (length bytes))) None))
-
-framing_is_first : (bytes : List ℕ) (e : DecodeError) → IsFramingFault bytes e
-    → first_fault bytes ≡ Some e
-unfolding first_fault
-framing_is_first bytes (AttributeHeaderCut left) f = rw (lt-ltb (length bytes) 4 f.1, ← f.0) refl
-framing_is_first bytes (AttributeLengthUnder4 word) f =
-    let under : little_number 2 bytes < 4 = omega (arith, f.0, f.2) in
-    rw (le-ltb (length bytes) 4 f.1, lt-ltb (little_number 2 bytes) 4 under, ← f.0) refl
-framing_is_first bytes (AttributeLengthPast word left) f =
-    let low : 4 ≤ little_number 2 bytes = omega (arith, f.0, f.3) in
-    let past : length bytes < little_number 2 bytes = omega (arith, f.0, f.4) in
-    rw (
-      le-ltb (length bytes) 4 f.2,
-      le-ltb (little_number 2 bytes) 4 low,
-      lt-ltb (length bytes) (little_number 2 bytes) past,
-      ← f.0,
-      ← f.1,
-    ) refl
-framing_is_first bytes _ f = absurd f
-
 -- one fault at most, of the framing and of all
 pub one_framing_fault : (bytes : List ℕ) (e f : DecodeError) → IsFramingFault bytes e
     → IsFramingFault bytes f → e ≡ f
-one_framing_fault bytes e f h k =
-    let same : Some e ≡ Some f = sym (framing_is_first bytes e h) ∙ framing_is_first bytes f k in
-    cc
+one_framing_fault bytes e f h k = grind arith
 
 module _ {A : Type 0} (reads : Attribute → Result A DecodeError) where
   pub one_prefix_fault : (bytes : List ℕ) (e f : DecodeError) → IsPrefixFault reads bytes e
       → IsPrefixFault reads bytes f → e ≡ f
-  one_prefix_fault bytes e f h k =
-      elim h [
-        | inl framing ↦ elim k [
-          | inl also ↦ one_framing_fault bytes e f framing also
-          | inr refused ↦ absurd (prefix_or_fault_apart bytes refused.0 e refused.1 framing)
-        ]
-        | inr refused ↦ elim k [
-          | inl framing ↦ absurd (prefix_or_fault_apart bytes refused.0 f refused.1 framing)
-          | inr also ↦
-              let same = one_prefix also.0 refused.0 also.1.0 refused.1.0 also.1.2 refused.1.2
-              (sym also.1.1 ∙ refused.1.1) in
-              (let other : reads refused.0 ≡ Err f = subst (λ (x : Attribute). reads x ≡ Err f)
-              same.0 also.2 in cc (refused.2, other))
-        ]
-      ]
+  one_prefix_fault bytes e f (inl framing) (inl also) = one_framing_fault bytes e f framing also
+  one_prefix_fault bytes e f (inl framing) (inr (a, head, refused)) =
+      absurd (prefix_or_fault_apart bytes a e head framing)
+  one_prefix_fault bytes e f (inr (a, head, refused)) k =
+      grind (arith, prefix_or_fault_apart bytes a f head, one_attribute bytes a)

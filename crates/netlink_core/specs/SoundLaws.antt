@@ -1,5 +1,5 @@
 -- What is shown of a layout, from which its laws follow.
-use Rattle.std.specs.Prelude.{◌≡◌, ◌≤◌, ℕ, ◌+◌, Bool, ◌&&◌, ◌==◌, nat_lt, List, [], ◌∷◌, length, Ok}
+use Rattle.std.specs.Prelude.{◌≡◌, ◌≤◌, ℕ, ◌+◌, Bool, true, ◌&&◌, ◌==◌, nat_lt, List, [], ◌∷◌, length, Ok}
 use Rattle.std.specs.Prelude.{Err, IsTrue}
 use Rattle.std.specs.List.{list_all}
 use Rattle.netlink_core.specs.Bytes.{IsBytes}
@@ -7,18 +7,30 @@ use Rattle.netlink_core.specs.Table.{Field, byte, number, flags, unread, values_
 use Rattle.netlink_core.specs.Layout.{Layout, bytes, IsInRange, IsNormal}
 use Rattle.netlink_core.specs.declared.fault.DecodeError.TheVariants.{Memory}
 
+-- where a field begins, and how many bytes it has
+abbrev pub offset_of : Field → ℕ
+offset_of (byte offset) = offset
+offset_of (number offset width order) = offset
+offset_of (flags offset width mask) = offset
+offset_of (unread offset written) = offset
+
+abbrev pub width_of : Field → ℕ
+width_of (byte offset) = 1
+width_of (number offset width order) = width
+width_of (flags offset width mask) = width
+width_of (unread offset written) = length written
+
+-- what is written of itself is bytes
+abbrev pub is_written : Field → Bool
+is_written (unread offset written) = list_all (λ one. nat_lt one 256) written
+is_written _ = true
+
 -- the fields stand one after the other from this offset on and end at that one, and what is written
 -- is bytes
 abbrev pub is_table : ℕ → List Field → ℕ → Bool
 is_table from [] end = from == end
-is_table from (byte offset ∷ fields) end = (offset == from) && is_table (from + 1) fields end
-is_table from (number offset width order ∷ fields) end = (offset == from)
-    && is_table (from + width) fields end
-is_table from (flags offset width mask ∷ fields) end =
-    (offset == from) && is_table (from + width) fields
-    end
-is_table from (unread offset written ∷ fields) end = (offset == from)
-    && list_all (λ one. nat_lt one 256) written && is_table (from + length written) fields end
+is_table from (field ∷ fields) end =
+    ((offset_of field == from) && is_written field) && is_table (from + width_of field) fields end
 
 module _ {Param Tag Value : Type 0} (layout : Layout Param Tag Value) where
   -- What is shown of a layout so that it keeps the laws.

@@ -1,5 +1,5 @@
 -- Attributes of replies are equal where their models are.
-use Rattle.std.proofs.Common.{◌≡◌, ◌↔◌, ℕ, List, Bool, eqb, IsTrue, refl, rules, subst, sym}
+use Rattle.std.proofs.Common.{◌≡◌, ◌↔◌, ℕ, List, Bool, eqb, IsTrue, refl, rules}
 use mathlib.Core.Bool.{beq}
 use mir.Syntax.{given}
 use denote.RattleType.{RattleType}
@@ -47,6 +47,4 @@ module _ (T O : RattleType) (t : Ghosts T.Denot) (o : Ghosts O.Denot) (text : T.
 
   pub equal : (v w : InetNla T.Denot O.Denot) → IsTrue ((ghosts T O t (given 0) o (given 0)).eq v w)
       ↔ (model text other v ≡ model text other w)
-  equal v w = subst (λ (b : Bool). IsTrue b ↔ (model text other v ≡ model text other w))
-      (sym (tests v w)) (value_test_decides inet inet_tests (model text other v)
-      (model text other w))
+  equal v w = rw (tests v w) (value_test_decides inet inet_tests _ _)

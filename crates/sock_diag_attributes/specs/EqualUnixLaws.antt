@@ -1,6 +1,5 @@
 -- Attributes of replies are equal where their models are.
 use Rattle.std.proofs.Common.{◌≡◌, ◌↔◌, ℕ, List, ◌&&◌, Bool, false, eqb, IsTrue, ap, refl, rules}
-use Rattle.std.proofs.Common.{subst, sym}
 use mir.Syntax.{given}
 use denote.RattleType.{RattleType}
 use lib.Pointwise.{pointwise, bytes_decides}
@@ -36,17 +35,15 @@ use Rattle.sock_diag_attributes.specs.contracts.unix.nlas.UnixNlaPartialEq.TheIm
 
 abbrev name_test : SocketName → SocketName → Bool
 name_test (pathname x) (pathname y) = pointwise eqb x y
-name_test (pathname x) (abstract y) = false
-name_test (abstract x) (pathname y) = false
 name_test (abstract x) (abstract y) = pointwise eqb x y
+name_test n m = false
 
 pub name_test_decides : (n m : SocketName) → IsTrue (name_test n m) ↔ (n ≡ m)
 name_test_decides (pathname x) (pathname y) =
     (λ h. ap pathname ((bytes_decides x y).0 h), λ e. (bytes_decides x y).1 cc)
-name_test_decides (pathname x) (abstract y) = apart (λ e. cc)
-name_test_decides (abstract x) (pathname y) = apart (λ e. cc)
 name_test_decides (abstract x) (abstract y) =
     (λ h. ap abstract ((bytes_decides x y).0 h), λ e. (bytes_decides x y).1 cc)
+name_test_decides n m = apart (λ e. cc)
 
 abbrev two_test : ℕ × ℕ → ℕ × ℕ → Bool
 two_test a b = eqb a.0 b.0 && eqb a.1 b.1
@@ -63,37 +60,31 @@ unix_tests =
 
 pub same_names : (a x : UnixDiagName) → names.eq a x ≡ name_test (name_model a) (name_model x)
 same_names (Pathname a) (Pathname x) = refl
-same_names (Pathname a) (Abstract x) = refl
-same_names (Abstract a) (Pathname x) = refl
-same_names (Abstract a) (Abstract x) = refl
+same_names a (Abstract x) = refl
+same_names a x = refl
 
 pub name_views_model : (a x : NameView)
     → name_views.eq a x ≡ name_test (name_view_model a) (name_view_model x)
 name_views_model (name_view.Pathname a) (name_view.Pathname x) = refl
-name_views_model (name_view.Pathname a) (name_view.Abstract x) = refl
-name_views_model (name_view.Abstract a) (name_view.Pathname x) = refl
-name_views_model (name_view.Abstract a) (name_view.Abstract x) = refl
+name_views_model a (name_view.Abstract x) = refl
+name_views_model a x = refl
 
 pub name_views_equal : (v w : NameView) → IsTrue (name_views.eq v w)
     ↔ (name_view_model v ≡ name_view_model w)
-name_views_equal v w = subst (λ (t : Bool). IsTrue t ↔ (name_view_model v ≡ name_view_model w))
-    (sym (name_views_model v w)) (name_test_decides (name_view_model v) (name_view_model w))
+name_views_equal v w = rw (name_views_model v w) (name_test_decides _ _)
 
 pub number_views_equal : (v w : NumbersView) → IsTrue (number_views.eq v w)
     ↔ (numbers_view_model v ≡ numbers_view_model w)
 number_views_equal v w =
     let bytes = bytes_decides v.bytes.now w.bytes.now in (
       λ h. ap numbers_in (bytes.0 h),
-      λ e. bytes.1 (numbers_in_same v.bytes.now w.bytes.now v.in_range w.in_range v.whole w.whole
-          e),
+      λ e. bytes.1 (numbers_in_same _ _ v.in_range w.in_range v.whole w.whole e),
     )
 
 pub list_views_model : (v w : NumbersView)
     → number_views.eq v w ≡ pointwise eqb (numbers_view_model v)
     (numbers_view_model w)
-list_views_model v w = same_test (number_views.eq v w)
-    (pointwise eqb (numbers_view_model v) (numbers_view_model w)) (number_views_equal v w)
-    (bytes_decides (numbers_view_model v) (numbers_view_model w))
+list_views_model v w = same_test _ _ (number_views_equal v w) (bytes_decides _ _)
 
 -- over what a name, a list and an attribute of another type lend, by which they are compared
 module _ (N L O : RattleType) (n : Ghosts N.Denot) (l : Ghosts L.Denot) (o : Ghosts O.Denot)
@@ -114,6 +105,4 @@ module _ (N L O : RattleType) (n : Ghosts N.Denot) (l : Ghosts L.Denot) (o : Gho
   pub equal : (v w : UnixNla N.Denot L.Denot O.Denot)
       → IsTrue ((ghosts N L O n (given 0) l (given 0) o (given 0)).eq v w)
       ↔ (model name list other v ≡ model name list other w)
-  equal v w = subst (λ (b : Bool). IsTrue b ↔ (model name list other v ≡ model name list other w))
-      (sym (tests v w)) (value_test_decides unix unix_tests (model name list other v)
-      (model name list other w))
+  equal v w = rw (tests v w) (value_test_decides unix unix_tests _ _)

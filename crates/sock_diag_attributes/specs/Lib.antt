@@ -1,7 +1,6 @@
 pub mod Name
 pub mod NameLaws
 pub mod NameModel
-pub mod ChoiceLaws
 pub mod Numbers
 pub mod NumberLaws
 pub mod NumbersModel

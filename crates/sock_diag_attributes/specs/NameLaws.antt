@@ -2,21 +2,23 @@
 use Rattle.netlink_core.specs.Codec.{KeepsLaws, as_codec}
 use Rattle.netlink_core.proofs.AttributeTypeLaws.{exact_laws}
 use Rattle.sock_diag_attributes.specs.Name.{name_value}
-use Rattle.std.proofs.Common.{Result, Ok, Err, IsOk, ◌≡◌, ◌≢◌, ◌∙◌, ℕ, zero, suc, ◌+◌, ◌<◌, ◌≤◌}
-use Rattle.std.proofs.Common.{false, cond, ltb, ◌==◌, Option, Some, None, position, List, [], ◌∷◌}
-use Rattle.std.proofs.Common.{◌++◌, length, take, get_or, refl, ap, sym, subst, arith}
+use Rattle.std.proofs.Common.{Ok, Err, IsOk, ◌≡◌, ◌≢◌, ◌∙◌, ℕ, zero, suc, ◌+◌, ◌<◌}
+use Rattle.std.proofs.Common.{cond, ltb, ◌==◌, Some, None, List, [], ◌∷◌}
+use Rattle.std.proofs.Common.{◌++◌, length, take, drop, get_or, append_assoc, refl, ap, sym, subst}
+use Rattle.std.proofs.Common.{arith}
 use Rattle.std.specs.Prelude.{All}
-use Rattle.std.proofs.lemmas.Bool.{eqb-true, eqb-false, eq-eqb, ne_eqb}
-use Rattle.std.proofs.lemmas.List.{drop_all, get_or-take, length-append, length-take}
-use Rattle.std.proofs.lemmas.List.{length-take-le, take_all, take-append-le}
-use Rattle.std.proofs.lemmas.List.Quantifiers.{position-Some}
-use Rattle.std.proofs.lemmas.List.Sums.{position_or_len_is}
+use Rattle.std.proofs.lemmas.Bool.{eqb-true, eqb-false, ne_eqb}
+use Rattle.std.proofs.lemmas.List.{append-nil, drop_all, get_or-take, length-append, length-take}
+use Rattle.std.proofs.lemmas.List.{drop_more, get_or-append-add, take-append-drop}
+use Rattle.std.proofs.lemmas.List.{length-take-le}
+use Rattle.std.specs.List.{position_or_len}
+use Rattle.std.proofs.lemmas.List.Sums.{position_or_len_is, split_at_first, passes_at_first}
+use Rattle.std.proofs.lemmas.List.Sums.{fails_before_first}
 use Rattle.std.proofs.Math.ListN.{get_or-append}
-use Rattle.std.proofs.Math.Seq.{get_or-append_seam, split_at, take-append_seam}
-use Rattle.std.proofs.lemmas.List.Elements.{All-head, All-nil, All-cons, All-append, All-get_or}
-use Rattle.std.proofs.lemmas.List.Elements.{All-from_get_or}
+use Rattle.std.proofs.Math.Seq.{take-append_seam}
+use Rattle.std.proofs.lemmas.List.Elements.{All-head}
+use Rattle.std.proofs.lemmas.List.Elements.{All-push}
 use Rattle.netlink_core.specs.Bytes.{IsBytes}
-use Rattle.netlink_core.specs.declared.fault.DecodeError.{DecodeError}
 use Rattle.netlink_core.specs.declared.fault.DecodeError.TheVariants.{Memory, NameInnerZero}
 use Rattle.netlink_core.specs.declared.fault.DecodeError.TheVariants.{NameWithoutEnd}
 use Rattle.netlink_core.specs.ByteLaws.{IsBytes-left, IsBytes-append, IsBytes-cons, IsBytes-nil}
@@ -29,55 +31,47 @@ abbrev pub HasNoZero : List ℕ → Type 0
 HasNoZero bytes = All (λ byte. byte ≢ 0) bytes
 
 -- no fault of a name is want of memory
-pub name_named : (x : List ℕ) → read_name x ≡ Err Memory → ⊥
-name_named [] h = cc
-name_named (zero ∷ address) h = cc
-name_named (suc n ∷ xs) h = to (position (λ b. b == 0) (suc n ∷ xs)) h
-  where
-    to : (place : Option ℕ) → path_in (suc n ∷ xs) place ≡ Err Memory → ⊥
-    to None h = cc
-    to (Some i) h = grind arith
+name_named : (x : List ℕ) → read_name x ≡ Err Memory → ⊥
+name_named (suc n ∷ xs) h = grind arith
+name_named _ h = cc
 
 -- a name that was read is written as its string, and is in normal form
-pub name_exact : (x : List ℕ) (u : SocketName) → read_name x ≡ Ok u → (x ≡ name_bytes u)
+name_exact : (x : List ℕ) (u : SocketName) → read_name x ≡ Ok u → (x ≡ name_bytes u)
     × IsNormalName u
 name_exact [] u h = absurd cc
-name_exact (zero ∷ address) (abstract other) h = let same : address ≡ other = cc in
-    (ap (λ (ys : List ℕ). 0 ∷ ys) same, tt)
-name_exact (zero ∷ address) (pathname other) h = absurd cc
-name_exact (suc n ∷ xs) u h = to (position (λ b. b == 0) (suc n ∷ xs)) refl h
-  where
-    x : List ℕ
-    x = suc n ∷ xs
+name_exact (zero ∷ address) u h =
+    let same : abstract address ≡ u = cc in
+    rw (← same) (refl, tt)
+name_exact (suc n ∷ xs) u h =
+    let x : List ℕ = suc n ∷ xs in
+    let i : ℕ = position_or_len (λ b. b == 0) x in
+    let end : i + 1 ≡ length x = grind arith in
+    let same : pathname (take i x) ≡ u = grind arith in
+    let within : i < length x = omega arith in
+    let here : get_or x i 0 ≡ 0 = eqb-true _ _ (passes_at_first (λ b. b == 0) x 0 within) in
+    let whole : x ≡ take i x ++ 0 ∷ [] =
+    cc (split_at_first (λ b. b == 0) x 0 within, drop_all (i + 1) x (omega arith)) in
+    rw (← same) (
+      whole,
+      (
+        λ k d l.
+            let fails = fails_before_first (λ b. b == 0) x k d in
+            grind (arith, get_or-take, length-take, fails, eqb-false),
+        λ e. grind (arith, whole, e),
+      ),
+    )
 
-    to : (place : Option ℕ) → position (λ b. b == 0) x ≡ place → path_in x place ≡ Ok u
-        → (x ≡ name_bytes u) × IsNormalName u
-    to None at k = absurd cc
-    to (Some i) at k =
-        let (within, here, before) = position-Some (λ b. b == 0) x i 0 at in
-        let end : i + 1 ≡ length x = grind (arith, k) in
-        let same : pathname (take i x) ≡ u = grind (arith, k, end) in
-        let whole : x ≡ take i x ++ 0 ∷ [] =
-        grind (arith, split_at x i 0 within, here, end, eqb-true, drop_all) in
-        let none : HasNoZero (take i x) = All-from_get_or (λ b. b ≢ 0) (take i x) 0
-        (λ k l e. grind (arith, l, e, before, length-take, get_or-take, eqb-false)) in
-        let some : take i x ≢ [] = λ e. grind (arith, whole, e) in
-        subst (λ (v : SocketName). (x ≡ name_bytes v) × IsNormalName v) same (whole, (none, some))
-
--- a name that does not begin with a zero, by the place of the first one, which is the length where
--- there is none
-first_zero : (bytes : List ℕ) (i : ℕ) → get_or bytes 0 0 ≢ 0 → i ≤ length bytes
-    → HasNoZero (take i bytes) → (i < length bytes → get_or bytes i 0 ≡ 0)
-    → read_name bytes ≡ path_in bytes (cond (ltb i (length bytes)) (Some i) None)
-first_zero [] i first le none here = absurd (first refl)
-first_zero (zero ∷ xs) i first le none here = absurd (first refl)
-first_zero (suc n ∷ xs) i first le none here =
-    let x = suc n ∷ xs in
-    let before : (k : ℕ) → k < i → (get_or x k 0 == 0) ≡ false =
-    λ k l. ne_eqb _ _ (λ e. All-get_or (λ b. b ≢ 0) (take i x) k 0
-    (omega (arith, l, length-take-le i x le)) none (get_or-take i x k 0 l ∙ e)) in
-    ap (λ (j : ℕ). path_in x (cond (ltb j (length x)) (Some j) None))
-    (position_or_len_is (λ b. b == 0) x i 0 le before (λ l. eq-eqb _ _ (here l)))
+-- a name that does not begin with a zero, by what stands in front of its first one, which is all of
+-- it where there is none
+first_zero : (bytes front rest : List ℕ) → bytes ≡ front ++ rest → get_or bytes 0 0 ≢ 0
+    → HasNoZero front → get_or rest 0 0 ≡ 0 → read_name bytes
+    ≡ path_in bytes (cond (ltb (length front) (length bytes)) (Some (length front)) None)
+first_zero (suc n ∷ xs) front rest parts first none here =
+    rw (position_or_len_is (λ b. b == 0) (suc n ∷ xs) (length front) 0
+    (omega (arith, ap length parts, length-append front rest))
+    (λ k l. rw parts (ne_eqb _ _ (rw get_or-append (none k 0 l))))
+    (λ l. grind (arith, parts, get_or-append-add front rest 0 0, here))) refl
+first_zero _ front rest parts first none here = absurd (first refl)
 
 -- The three answers to such a name, by its last byte and what stands in front of it: a zero there,
 -- none and a zero in the last place, and none at all.
@@ -85,36 +79,24 @@ pub reads_inner_zero : (bytes path : List ℕ) (last i : ℕ) → bytes ≡ path
     → get_or bytes 0 0 ≢ 0 → i < length path → get_or path i 0 ≡ 0 → HasNoZero (take i path)
     → read_name bytes ≡ Err (NameInnerZero i)
 reads_inner_zero bytes path last i parts first lt here none =
-    let long : length bytes ≡ length path + 1 = ap length parts ∙ length-append path (last ∷ []) in
-    let front : take i bytes ≡ take i path = ap (take i) parts ∙ take-append-le i path (last ∷ [])
-    (omega arith) in
-    let zero_here : get_or bytes i 0 ≡ 0 = grind (arith, parts, lt, here, get_or-append) in
-    first_zero bytes i first (omega arith) (subst HasNoZero (sym front) none) (λ l. zero_here)
-    ∙ grind arith
+    first_zero bytes (take i path) (drop i path ++ last ∷ [])
+    (rw (← append_assoc, take-append-drop) parts) first none
+    (rw (drop_more path i 0 lt) here)
+    ∙ grind (arith, ap length parts, length-append, length-take-le)
 
 pub reads_path : (bytes path : List ℕ) → bytes ≡ path ++ 0 ∷ [] → get_or bytes 0 0 ≢ 0
     → HasNoZero path → read_name bytes ≡ Ok (pathname path)
-reads_path bytes path parts first none =
-    let long : length bytes ≡ length path + 1 = ap length parts ∙ length-append path (0 ∷ []) in
-    let front : take (length path) bytes ≡ path = ap (take (length path)) parts
-    ∙ take-append_seam path (0 ∷ []) in
-    let here : get_or bytes (length path) 0 ≡ 0 = grind (arith, parts, get_or-append_seam) in
-    first_zero bytes (length path) first (omega arith) (subst HasNoZero (sym front) none)
-    (λ l. here) ∙ grind arith
+reads_path bytes path parts first none = first_zero bytes path (0 ∷ []) parts first none refl
+    ∙ grind (arith, parts, ap length parts, length-append, take-append_seam)
 
 pub reads_no_end : (bytes path : List ℕ) (last : ℕ) → bytes ≡ path ++ last ∷ []
     → get_or bytes 0 0 ≢ 0 → last ≢ 0 → HasNoZero path → read_name bytes ≡ Err NameWithoutEnd
 reads_no_end bytes path last parts first some none =
-    let all : HasNoZero bytes =
-    subst HasNoZero (sym parts)
-    (All-append (λ b. b ≢ 0) path (last ∷ []) none
-    (All-cons (λ b. b ≢ 0) last [] some (All-nil (λ b. b ≢ 0)))) in
-    first_zero bytes (length bytes) first (omega arith)
-    (subst HasNoZero (sym (take_all (length bytes) bytes (omega arith))) all)
-    (λ l. absurd (omega arith)) ∙ grind arith
+    first_zero bytes bytes [] (sym (append-nil bytes)) first
+    (rw parts (All-push (λ b. b ≢ 0) path last none some)) refl ∙ grind arith
 
 -- a name in normal form reads back
-pub name_reads_back : (u : SocketName) → IsNormalName u → read_name (name_bytes u) ≡ Ok u
+name_reads_back : (u : SocketName) → IsNormalName u → read_name (name_bytes u) ≡ Ok u
 name_reads_back (abstract address) good = refl
 name_reads_back (pathname []) good = absurd (good.1 refl)
 name_reads_back (pathname (b ∷ xs)) good =
@@ -123,26 +105,11 @@ name_reads_back (pathname (b ∷ xs)) good =
 -- an accepted name that is not empty, of which the first byte is no zero: nothing else needs a look
 pub known_path : (bytes path : List ℕ) (last : ℕ) → bytes ≡ path ++ last ∷ [] → get_or bytes 0 0 ≢ 0
     → IsOk (read_name bytes) → read_name bytes ≡ Ok (pathname path)
-known_path bytes path last parts first ok = answer_is (read_name bytes) refl ok
-  where
-    answer_is : (answer : Result SocketName DecodeError) → read_name bytes ≡ answer → IsOk answer
-        → answer ≡ Ok (pathname path)
-    answer_is (Err e) h ok = absurd cc
-    answer_is (Ok (abstract address)) h ok =
-        absurd (first (ap (λ (b : List ℕ). get_or b 0 0) (name_exact bytes (abstract address) h).0))
-    answer_is (Ok (pathname other)) h ok =
-        let same : other ++ 0 ∷ [] ≡ path ++ last ∷ [] = sym (name_exact bytes (pathname other) h).0
-        ∙ parts in
-        let long : length other ≡ length path =
-        omega (
-          arith,
-          ap length same,
-          length-append other (0 ∷ []),
-          length-append path (last ∷ []),
-        ) in
-        ap (λ (p : List ℕ). Ok (pathname p)) (sym (take-append_seam other (0 ∷ []))
-        ∙ ap (take (length other)) same ∙ ap (λ (n : ℕ). take n (path ++ last ∷ [])) long
-        ∙ take-append_seam path (last ∷ []))
+known_path (suc n ∷ xs) path last parts first ok =
+    let end : position_or_len (λ b. b == 0) (suc n ∷ xs) ≡ length path =
+    grind (arith, ap length parts, length-append path (last ∷ [])) in
+    grind (arith, parts, end, take-append_seam path (last ∷ []))
+known_path _ path last parts first ok = absurd (first refl)
 
 -- of a string of bytes the name is one of bytes
 pub name_in_range : (u : SocketName) → IsBytes (name_bytes u) → IsNameInRange u

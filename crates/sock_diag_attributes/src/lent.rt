@@ -137,7 +137,7 @@ impl LendsNumbers for NumbersView<'_> {
     ghost numbers = { numbers_view_model };
 
     #[inline(always)]
-    #[tactic(auto, using(crate::specs::NumberLaws::numbers_below))]
+    #[tactic(auto, using(crate::specs::NumberLaws::whole))]
     fn lent_value(&self) -> Value<'_> {
         Value::Bytes(self.bytes())
     }

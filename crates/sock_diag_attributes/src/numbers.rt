@@ -68,7 +68,6 @@ impl<'a> NumbersView<'a> {
     ghost use Rattle.sock_diag_attributes.specs.NumbersModel.{numbers_view_model, numbers_left};
 
     /// The numbers in the bytes. A length that is no multiple of four is `NotMultipleOfFour`.
-    #[tactic(auto, using(crate::specs::NumberLaws::reads_whole, crate::specs::NumberLaws::reads_cut))]
     pub(crate) fn parse(bytes: &'a [u8]) -> Result<NumbersView<'a>, DecodeError>
         ensures { MatchResult result
             (λ numbers. read_numbers bytes.entry.now ≡ Ok (numbers_view_model numbers))
@@ -89,7 +88,7 @@ impl<'a> NumbersView<'a> {
     }
 
     /// The number at this place, the first one at 0.
-    #[tactic(auto, using(crate::specs::NumberLaws::number_at, crate::specs::NumberLaws::no_number_at))]
+    #[tactic(auto, using(crate::specs::NumberLaws::how_many, crate::specs::NumberLaws::number_at, std::proofs::lemmas::List::take_rest, std::proofs::lemmas::Option::slice_get_past))]
     pub fn get(&self, index: usize) -> Option<u32>
         ensures { result ≡ slice_get (numbers_view_model self.now) index }
     {
@@ -115,7 +114,7 @@ impl<'a> NumbersView<'a> {
     }
 
     // The bytes in which they stand, as which they are written.
-    #[tactic(auto, using(crate::specs::NumberLaws::numbers_are_bytes))]
+    #[tactic(auto, using(crate::specs::NumberLaws::whole))]
     pub(crate) fn bytes(&self) -> &'a [u8]
         ensures { result.now ≡ bytes_of_numbers (numbers_view_model self.now) }
     {
@@ -184,6 +183,7 @@ pub(crate) fn emit_u32_pair(first: u32, second: u32, buffer: &mut [u8])
 }
 
 /// Writes the numbers one after the other at the front, and leaves the rest.
+#[tactic(auto, using(crate::specs::NumberLaws::length_numbers, crate::specs::NumberLaws::front_of))]
 pub(crate) fn emit_numbers(numbers: &[u32], buffer: &mut [u8])
     requires { length (bytes_of_numbers numbers.now) ≤ length buffer.old }
     ensures { buffer.new ≡ bytes_of_numbers numbers.now

@@ -1,5 +1,5 @@
 -- One text answers bytes, and idle bytes are answered alike; where the text has all, no others are.
-use Rattle.std.proofs.Common.{◌≡◌, ◌⊎◌, ◌∙◌, inl, inr, ℕ, List, codes, refl, sym, ap, subst}
+use Rattle.std.proofs.Common.{◌≡◌, ◌⊎◌, ◌∙◌, inl, inr, ℕ, List, codes, refl, sym}
 use Rattle.std.proofs.lemmas.List.{append_cancel_left}
 use Rattle.netlink_core.specs.Bytes.{IsBytes}
 use Rattle.netlink_core.specs.declared.fault.DecodeError.{DecodeError}
@@ -8,17 +8,17 @@ use Rattle.sock_diag_lines.specs.AnswerText.{IsAnswerText, Subject}
 use Rattle.sock_diag_lines.specs.TextSteps.{accepted, refused, unwritable}
 use Rattle.sock_diag_lines.proofs.SubjectLaws.{LawsOf, HasFullText}
 
+-- what answers values and faults answers what has these too
+pub answers_more : {Value : Type 0} (fits : Value → Type 0) (text_of : Value → List ℕ)
+    {reads more : Value → Type 0} {refuses others : DecodeError → Type 0} {text : List ℕ}
+    → ((v : Value) → reads v → more v) → ((e : DecodeError) → refuses e → others e)
+    → IsAnswerText reads refuses fits text_of text → IsAnswerText more others fits text_of text
+answers_more fits text_of r s (inl (v, h, f, e)) = inl (v, r v h, f, e)
+answers_more fits text_of r s (inr (inl (v, h, f, e))) = inr (inl (v, r v h, f, e))
+answers_more fits text_of r s (inr (inr (fault, h, e))) = inr (inr (fault, s fault h, e))
+
 module _ {Value : Type 0} (fits : Value → Type 0) (text_of : Value → List ℕ)
     (reads : Value → Type 0) (refuses : DecodeError → Type 0) where
-  -- what answers a value answers what has it
-  pub answers_same : (value : Value) (text : List ℕ) → reads value
-      → IsAnswerText (λ v. v ≡ value) (λ fault. ⊥) fits text_of text
-      → IsAnswerText reads refuses fits text_of text
-  answers_same value text r (inl (v, same, f, e)) = inl (v, subst reads (sym same) r, f, e)
-  answers_same value text r (inr (inl (v, same, f, e))) =
-      inr (inl (v, subst reads (sym same) r, f, e))
-  answers_same value text r (inr (inr (fault, never, e))) = absurd never
-
   -- a value or a fault is answered, where it is decided whether a value can be written
   pub has_text : ((v : Value) × reads v) ⊎ ((e : DecodeError) × refuses e)
       → ((v : Value) → fits v ⊎ ¬ fits v)
@@ -35,19 +35,15 @@ module _ {Value : Type 0} (fits : Value → Type 0) (text_of : Value → List �
       (fault : (e f : DecodeError) → refuses e → refuses f → e ≡ f) where
     pub one_text : (x y : List ℕ) → IsAnswerText reads refuses fits text_of x
         → IsAnswerText reads refuses fits text_of y → x ≡ y
-    one_text x y (inl (v, r, f, e)) (inl (w, s, g, k)) =
-        e ∙ ap (λ (u : Value). accepted (text_of u)) (one v w r s) ∙ sym k
-    one_text x y (inl (v, r, f, e)) (inr (inl (w, s, g, k))) =
-        absurd (g (subst fits (one v w r s) f))
+    one_text x y (inl (v, r, f, e)) (inl (w, s, g, k)) = rw (e, k, one v w r s)
+    one_text x y (inl (v, r, f, e)) (inr (inl (w, s, g, k))) = absurd (g (rw (one v w r s) at f))
     one_text x y (inl (v, r, f, e)) (inr (inr (b, s, k))) = absurd (apart v b r s)
-    one_text x y (inr (inl (v, r, f, e))) (inl (w, s, g, k)) =
-        absurd (f (subst fits (one w v s r) g))
-    one_text x y (inr (inl (v, r, f, e))) (inr (inl (w, s, g, k))) = e ∙ sym k
+    one_text x y (inr (inl (v, r, f, e))) (inl (w, s, g, k)) = absurd (f (rw (one w v s r) at g))
+    one_text x y (inr (inl (v, r, f, e))) (inr (inl (w, s, g, k))) = rw (e, k)
     one_text x y (inr (inl (v, r, f, e))) (inr (inr (b, s, k))) = absurd (apart v b r s)
     one_text x y (inr (inr (a, r, e))) (inl (w, s, g, k)) = absurd (apart w a s r)
     one_text x y (inr (inr (a, r, e))) (inr (inl (w, s, g, k))) = absurd (apart w a s r)
-    one_text x y (inr (inr (a, r, e))) (inr (inr (b, s, k))) =
-        e ∙ ap refused (fault a b r s) ∙ sym k
+    one_text x y (inr (inr (a, r, e))) (inr (inr (b, s, k))) = rw (e, k, fault a b r s)
 
 module _ (S : Subject) (laws : LawsOf S) where
   -- bytes have one value
@@ -76,14 +72,10 @@ module _ (S : Subject) (laws : LawsOf S) where
     shown' : y ≡ accepted (S.text_of ok'.0)
     shown' = same_answer c y _ hc also (inl (ok'.0, ok'.1, ok'.2, refl))
 
-    -- idle ones are answered alike
-    pub texts_alike : AreIdleAs S b c → x ≡ y
-    texts_alike idle = shown ∙ ap (λ (v : S.codec.Value). accepted (S.text_of v))
-        ((laws.same_value b c ok.0 ok'.0 hb hc ok.1 ok'.1).1 idle) ∙ sym shown'
-
-    -- and where the text has all, no others
-    pub texts_apart : HasFullText S → x ≡ y → AreIdleAs S b c
-    texts_apart full e = (laws.same_value b c ok.0 ok'.0 hb hc ok.1 ok'.1).0
-        (full b c ok.0 ok'.0 hb hc ok.1 ok'.1 ok.2 ok'.2
-        (append_cancel_left (codes "ok ") (S.text_of ok.0) (S.text_of ok'.0)
-        (sym shown ∙ e ∙ shown')))
+    -- idle ones are answered alike, and where the text has all, no others
+    pub texts_as_idle : (HasFullText S → x ≡ y → AreIdleAs S b c) × (AreIdleAs S b c → x ≡ y)
+    texts_as_idle = let same = laws.same_value b c ok.0 ok'.0 hb hc ok.1 ok'.1 in (
+      λ full e. same.0 (full b c ok.0 ok'.0 hb hc ok.1 ok'.1 ok.2 ok'.2
+          (append_cancel_left (codes "ok ") _ _ (sym shown ∙ e ∙ shown'))),
+      λ idle. rw (shown, shown', same.1 idle),
+    )

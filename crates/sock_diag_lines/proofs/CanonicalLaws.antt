@@ -1,5 +1,5 @@
 -- The text of a type whose reader and writer keep the laws; its written bytes have all.
-use Rattle.std.proofs.Common.{◌≡◌, ◌⊎◌, ℕ, List, refl, subst}
+use Rattle.std.proofs.Common.{◌≡◌, ◌⊎◌, ℕ, List, refl}
 use Rattle.netlink_core.specs.Bytes.{IsBytes}
 use Rattle.netlink_core.specs.Codec.{Codec, KeepsLaws}
 use Rattle.sock_diag_lines.proofs.FieldLaws.{field_of-same}
@@ -13,7 +13,7 @@ module _ {Param : Type 0} (C : Codec Param) (laws : KeepsLaws C) (param : Param)
   same_written b c v w hb hc r s f g e =
       let n = laws.reads_normal b param v hb r in
       let m = laws.reads_normal c param w hc s in
-      let back = subst (λ (x : List ℕ). C.reads x param v) e (laws.reads_back param v n.0 n.1 f) in
+      let back = rw e at (laws.reads_back param v n.0 n.1 f) in
       let h = laws.written_bytes w m.0 in
       (laws.same_value _ _ param v w h h back (laws.reads_back param w m.0 m.1 g)).1
       ((laws.same_value _ _ param v v h h back back).0 refl)

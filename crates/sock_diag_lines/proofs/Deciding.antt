@@ -1,7 +1,9 @@
 -- Whether a reply or a message can be written is decided.
 use Rattle.std.proofs.Common.{◌⊎◌, inl, inr, ℕ, ◌+◌, ◌≤◌, List, [], ◌∷◌, length, map, arith}
 use Rattle.std.specs.List.{AllByRecursion}
-use Rattle.std.proofs.lemmas.Bool.{cases_lt}
+use Rattle.std.proofs.Common.{◌≡◌, Bool, true, false, Decides, refl}
+use Rattle.std.specs.Str.{bytes_eq}
+use Rattle.std.proofs.lemmas.Slice.Eq.{bytes_eq-Decides}
 use Rattle.netlink_core.specs.Attribute.{HasFittingValue}
 use Rattle.netlink_core.specs.AttributeSet.{encodes}
 use Rattle.netlink_core.specs.Response.{ResponseSpec, ValueOf, response_bytes, response_codec}
@@ -13,13 +15,18 @@ use Rattle.netlink_packet_sock_diag.specs.Message.{Message, message_of, message_
 use Rattle.sock_diag_records.specs.ResponseKind.{inet_request, inet_response, unix_request}
 use Rattle.sock_diag_records.specs.ResponseKind.{unix_response}
 
-at_most : (m n : ℕ) → (m ≤ n) ⊎ ¬ (m ≤ n)
-at_most m n = elim (cases_lt n m) [
-  | inl above ↦ inr (λ below. absurd (omega arith))
-  | inr below ↦ inl below
-]
+or_not : {P : Type 0} (b : Bool) → Decides b P → P ⊎ ¬ P
+or_not true d = inl (d.0 refl)
+or_not false d = inr (λ p. absurd (cc (d.1 p)))
 
-both_or_not : {P Q : Type 0} → P ⊎ ¬ P → Q ⊎ ¬ Q → (P × Q) ⊎ ¬ (P × Q)
+at_most : (m n : ℕ) → (m ≤ n) ⊎ ¬ (m ≤ n)
+at_most m n = grind arith
+
+-- whether two texts are one is decided
+pub same_or_not : (x y : List ℕ) → (x ≡ y) ⊎ ¬ (x ≡ y)
+same_or_not x y = or_not (bytes_eq x y) (bytes_eq-Decides x y)
+
+pub both_or_not : {P Q : Type 0} → P ⊎ ¬ P → Q ⊎ ¬ Q → (P × Q) ⊎ ¬ (P × Q)
 both_or_not (inl p) (inl q) = inl (p, q)
 both_or_not (inl p) (inr fails) = inr (λ h. fails h.1)
 both_or_not (inr fails) q = inr (λ h. fails h.0)

@@ -1,5 +1,5 @@
 -- The text of netlink messages, which is all of them.
-use Rattle.std.proofs.Common.{◌≡◌, ℕ, ◌-◌, ◌<◌, ◌^◌, List, take, drop, decimal, sym, subst, arith}
+use Rattle.std.proofs.Common.{◌≡◌, ℕ, ◌<◌, ◌^◌, List, decimal, sym, subst, arith}
 use Rattle.std.proofs.lemmas.Fmt.{decimal_injective}
 use Rattle.netlink_core.specs.Bytes.{IsBytes}
 use Rattle.netlink_core.specs.Envelope.{Payload, done_with, error_with, no_payload, overrun_with}
@@ -44,29 +44,24 @@ pub envelope_has_full_text : HasFullText envelope_subject
 envelope_has_full_text b c v w hb hc r s f g e =
     let h = r.0.1 in
     let k = s.0.1 in
-    let lengths = word-same v.header.length w.header.length _ _ h.0 k.0 e in
-    let types = word-same v.header.message_type w.header.message_type _ _ (omega (arith, h.1.0))
-    (omega (arith, k.1.0)) lengths.1 in
-    let flags = word-same v.header.flags w.header.flags _ _ (omega (arith, h.1.1.0))
-    (omega (arith, k.1.1.0)) types.1 in
-    let sequences = word-same v.header.sequence_number w.header.sequence_number _ _ h.1.1.1.0
-    k.1.1.1.0 flags.1 in
-    let ports = word-same v.header.port_number w.header.port_number _ _ h.1.1.1.1.0 k.1.1.1.1.0
+    let of_v = v.header in
+    let of_w = w.header in
+    let lengths = word-same of_v.length of_w.length _ _ h.0 k.0 e in
+    let types = word-same of_v.message_type of_w.message_type _ _ (omega arith) (omega arith)
+    lengths.1 in
+    let flags = word-same of_v.flags of_w.flags _ _ (omega arith) (omega arith) types.1 in
+    let sequences = word-same of_v.sequence_number of_w.sequence_number _ _ h.1.1.1.0 k.1.1.1.0
+    flags.1 in
+    let ports = word-same of_v.port_number of_w.port_number _ _ h.1.1.1.1.0 k.1.1.1.1.0
     sequences.1 in
-    let x : List ℕ = take (v.header.length - 16) (drop 16 b) in
-    let y : List ℕ = take (w.header.length - 16) (drop 16 c) in
-    let hx = payload_in_range v.header.length b hb in
-    let hy = payload_in_range w.header.length c hc in
-    let p = payload_written v.header.message_type x v.payload hx r.1 in
-    let q = payload_written w.header.message_type y w.payload hy s.1 in
-    let written = field_of-same (payload_bytes message_codec.written v.payload)
-    (payload_bytes message_codec.written w.payload) p q ports.1 in
-    let same_type = subst (λ (t : ℕ). PayloadIs message_codec.reads y t w.payload) (sym types.0)
-    s.1 in
-    let t = v.header.message_type in
-    let payloads = payloads_alike message_codec.reads message_codec.written message_codec.fits t x y
-    (λ m n. same_written message_codec message_laws t x y m n hx hy) v.payload w.payload r.1
-    same_type f.0 g.0 written in
+    let hx = payload_in_range of_v.length b hb in
+    let hy = payload_in_range of_w.length c hc in
+    let t = of_v.message_type in
+    let written = field_of-same _ _ (payload_written _ _ v.payload hx r.1)
+    (payload_written _ _ w.payload hy s.1) ports.1 in
+    let payloads = payloads_alike message_codec.reads message_codec.written message_codec.fits t _ _
+    (λ m n. same_written message_codec message_laws t _ _ m n hx hy) v.payload w.payload r.1
+    (rw (← types.0) at s.1) f.0 g.0 written in
     λ i. record {
       header = record {
         length = lengths.0 i;

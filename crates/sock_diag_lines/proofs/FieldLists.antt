@@ -1,16 +1,13 @@
 -- What bytes a field and a row of fields stand for.
-use Rattle.std.proofs.Common.{◌≡◌, ◌==◌, ◌⊎◌, inl, inr, ℕ, ◌<◌, true, List, [], ◌∷◌, length, codes}
-use Rattle.std.proofs.Common.{Result, Ok}
-use Rattle.std.proofs.Common.{Err, refl, sym, ap, ap₂, ◌∙◌, arith}
+use Rattle.std.proofs.Common.{◌≡◌, ◌≢◌, ◌==◌, ◌⊎◌, inl, inr, ℕ, ◌<◌, true, List, [], ◌∷◌, length}
+use Rattle.std.proofs.Common.{codes, Result, Ok, Err, refl, sym, ap, ap₂, ◌∙◌, arith}
 use Rattle.std.specs.List.{AllByRecursion, AllZip}
-use Rattle.std.specs.Str.{bytes_eq}
-use Rattle.std.proofs.lemmas.Bool.{cases_Bool, eqb-true}
-use Rattle.std.proofs.lemmas.Bool.Decides.{not_from_Decides}
-use Rattle.std.proofs.lemmas.Slice.Eq.{bytes_eq-Decides}
+use Rattle.std.proofs.lemmas.Bool.{eqb-true}
 use Rattle.hex.specs.Hex.{decode_of}
 use Rattle.hex.proofs.HexLemmas.{decode_of-ok, decode_of-same}
 use Rattle.hex.specs.declared.error.FromHexError.{FromHexError}
 use Rattle.sock_diag_lines.specs.HexField.{IsHexField}
+use Rattle.sock_diag_lines.proofs.Deciding.{each_or_not, same_or_not}
 
 -- the field stands for bytes
 abbrev pub HasBytes : List ℕ → Type 0
@@ -19,17 +16,14 @@ HasBytes field = (bytes : List ℕ) × IsHexField field bytes
 -- digits are not `-`
 no_digits : (field bytes : List ℕ) → field ≡ codes "-" → decode_of field ≡ Ok bytes → ⊥
 no_digits field bytes dash read =
-    let even = (decode_of-ok field bytes read).0 in let one = ap length dash in
-    omega (arith, even, one)
+    omega (arith, (decode_of-ok field bytes read).0, ap length dash)
 
 -- and not empty
 pub no_field : (field bytes : List ℕ) → (length field == 0) ≡ true → IsHexField field bytes → ⊥
 no_field field bytes empty (inl dash) =
-    let one = ap length dash.0 in let none = eqb-true (length field) 0 empty in
-    omega (arith, one, none)
+    omega (arith, ap length dash.0, eqb-true (length field) 0 empty)
 no_field field bytes empty (inr digits) =
-    let long = (decode_of-ok field bytes digits.1).2 in
-    let none = eqb-true (length field) 0 empty in omega (arith, long, none, digits.0)
+    omega (arith, (decode_of-ok field bytes digits.1).2, eqb-true (length field) 0 empty, digits.0)
 
 pub one_field : (field b c : List ℕ) → IsHexField field b → IsHexField field c → b ≡ c
 one_field field b c (inl dash) (inl also) = dash.1 ∙ sym also.1
@@ -37,42 +31,43 @@ one_field field b c (inl dash) (inr digits) = absurd (no_digits field c dash.0 d
 one_field field b c (inr digits) (inl dash) = absurd (no_digits field b dash.0 digits.1)
 one_field field b c (inr digits) (inr also) = decode_of-same field b c digits.1 also.1
 
-digits_of : (field bytes : List ℕ) → ¬ (field ≡ codes "-") → IsHexField field bytes
-    → (0 < length bytes) × (decode_of field ≡ Ok bytes)
-digits_of field bytes other (inl dash) = absurd (other dash.0)
-digits_of field bytes other (inr digits) = digits
-
 pub field_or_not : (field : List ℕ) → HasBytes field ⊎ ¬ HasBytes field
-field_or_not field = elim (cases_Bool (bytes_eq field (codes "-"))) [
-  | inl dash ↦ inl ([], inl ((bytes_eq-Decides field (codes "-")).0 dash, refl))
-  | inr other ↦ by_digits (decode_of field) refl
-      (not_from_Decides _ (bytes_eq-Decides field (codes "-")) other)
+field_or_not field = elim (same_or_not field (codes "-")) [
+  | inl dash ↦ inl ([], inl (dash, refl))
+  | inr other ↦ by_digits (decode_of field) refl other
 ]
   where
-    apart : (e : FromHexError) (bytes : List ℕ) → Err e ≡ Ok bytes → ⊥
-    apart e bytes is = cc
+    digits : (bytes : List ℕ) → field ≢ codes "-" → IsHexField field bytes
+        → (0 < length bytes) × (decode_of field ≡ Ok bytes)
+    digits bytes other (inl dash) = absurd (other dash.0)
+    digits bytes other (inr d) = d
 
-    by_digits : (r : Result (List ℕ) FromHexError) → decode_of field ≡ r → ¬ (field ≡ codes "-")
+    by_digits : (r : Result (List ℕ) FromHexError) → decode_of field ≡ r → field ≢ codes "-"
         → HasBytes field ⊎ ¬ HasBytes field
     by_digits (Ok (b ∷ bytes)) e other = inl (b ∷ bytes, inr (omega arith, e))
     by_digits (Ok []) e other = inr (λ has.
-        let digits = digits_of field has.0 other has.1 in
-        omega (arith, digits.0, ap length (decode_of-same field [] has.0 e digits.1)))
-    by_digits (Err x) e other = inr (λ has.
-        apart x has.0 (sym e ∙ (digits_of field has.0 other has.1).1))
+        let d = digits has.0 other has.1 in
+        omega (arith, d.0, ap length (decode_of-same field [] has.0 e d.1)))
+    by_digits (Err x) e other = inr (λ has. let d = digits has.0 other has.1 in cc (e, d.1))
 
--- fields that stand for bytes each stand for some bytes in a row
-pub zipped : (fields : List (List ℕ)) → AllByRecursion HasBytes fields → (row : List (List ℕ))
-    × AllZip IsHexField fields row
-zipped [] each = ([], tt)
-zipped (f ∷ fields) each = let row = zipped fields each.1 in
-    (each.0.0 ∷ row.0, (each.0.1, row.1))
-
+-- whether fields stand for the bytes of a row
 pub each_has_bytes : (fields row : List (List ℕ)) → AllZip IsHexField fields row
     → AllByRecursion HasBytes fields
 each_has_bytes [] row each = tt
 each_has_bytes (f ∷ fields) [] each = absurd each
 each_has_bytes (f ∷ fields) (b ∷ row) each = ((b, each.0), each_has_bytes fields row each.1)
+
+zipped : (fields : List (List ℕ)) → AllByRecursion HasBytes fields
+    → (row : List (List ℕ)) × AllZip IsHexField fields row
+zipped [] each = ([], tt)
+zipped (f ∷ fields) ((b, is), each) = let row = zipped fields each in (b ∷ row.0, (is, row.1))
+
+pub row_or_not : (fields : List (List ℕ)) → ((row : List (List ℕ)) × AllZip IsHexField fields row)
+    ⊎ ¬ ((row : List (List ℕ)) × AllZip IsHexField fields row)
+row_or_not fields = elim (each_or_not HasBytes field_or_not fields) [
+  | inl each ↦ inl (zipped fields each)
+  | inr none ↦ inr (λ all. none (each_has_bytes fields all.0 all.1))
+]
 
 -- and for one row
 pub one_list_of_bytes : (fields row other : List (List ℕ)) → AllZip IsHexField fields row

@@ -18,6 +18,7 @@ pub(crate) fn find_space(line: &[u8]) -> Option<usize>
 
 /// Puts the bytes that a hex field stands for in place of what `bytes` held, and answers whether it
 /// is one.
+#[tactic(auto, using(crate::proofs::FieldLists::no_field))]
 pub(crate) fn read_field(bytes: &mut Vec<u8>, field: &[u8]) -> Result<bool, AllocError>
     ensures { IfOk result (λ is_field. MatchBool is_field (IsHexField field.now bytes.new.items)
         ((content : List ℕ) → ¬ IsHexField field.now content)) }

@@ -6,7 +6,6 @@ pub mod UnixRequestLaws
 pub mod IpVersions
 pub mod SocketIdInverse
 pub mod SocketId
-pub mod ConcatenatedTablesLaws
 pub mod SocketIdLaws
 pub mod UnixResponseHeaderInverse
 pub mod UnixResponseHeader

@@ -1,12 +1,10 @@
 -- The layout of the header of a reply about a UNIX socket is sound.
-use Rattle.std.proofs.Common.{List, ℕ, refl, ap}
+use Rattle.std.proofs.Common.{refl}
 use Rattle.netlink_core.specs.SoundLaws.{IsSound}
 use Rattle.netlink_core.proofs.LayoutLaws.{plain_sound}
 use Rattle.netlink_core.proofs.FieldReads.{first_all}
-use Rattle.sock_diag_records.specs.declared.unix.response.UnixResponseHeader.{UnixResponseHeader}
 use Rattle.sock_diag_records.specs.UnixResponseHeader.{unix_response_header}
 
 pub unix_response_header_sound : IsSound unix_response_header
 unix_response_header_sound = plain_sound refl (λ value. refl) (λ left. refl) (λ left. refl)
-    (λ value shaped. ap (λ (cookie : List ℕ). let v : UnixResponseHeader = record value
-    { cookie = cookie } in v) (first_all 8 value.cookie shaped))
+    (λ value shaped. rw (first_all 8 value.cookie shaped))

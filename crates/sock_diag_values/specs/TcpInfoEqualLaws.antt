@@ -1,7 +1,7 @@
 -- Two TCP connections are equal by each of their numbers.
+use Rattle.std.proofs.Common.{arith}
 use Rattle.std.proofs.Common.{◌≡◌, ◌↔◌, ◌&&◌, ℕ, List, [], ◌∷◌, Bool, false, eqb, IsTrue, drop}
-use Rattle.std.proofs.Common.{refl, ap, rules}
-use Rattle.netlink_core.proofs.Equality.{parts, both, numbers_equal}
+use Rattle.std.proofs.Common.{ap, rules}
 use Rattle.sock_diag_values.specs.declared.inet.tcp_info.TcpInfo.{TcpInfo}
 use Rattle.sock_diag_values.specs.TcpInfo.{tcp_info_values}
 use Rattle.sock_diag_values.specs.TcpInfoInverse.{tcp_info_of}
@@ -13,19 +13,14 @@ equal_from x y (a ∷ xs) (b ∷ ys) = eqb x y && equal_from a b xs ys
 equal_from x y _ _ = false
 
 same_from : (x y : ℕ) (xs ys : List ℕ) → IsTrue (equal_from x y xs ys) → (x ∷ xs) ≡ (y ∷ ys)
-same_from x y [] [] h = ap (λ n. n ∷ []) ((numbers_equal x y).0 h)
+same_from x y [] [] h = grind arith
 same_from x y [] (b ∷ ys) h = search rules
 same_from x y (a ∷ xs) [] h = search rules
-same_from x y (a ∷ xs) (b ∷ ys) h =
-    let p = parts (eqb x y) (equal_from a b xs ys) h in
-    let first = (numbers_equal x y).0 p.0 in
-    let later = same_from a b xs ys p.1 in
-    cc
+same_from x y (a ∷ xs) (b ∷ ys) h = grind (arith, same_from a b xs ys)
 
 itself_from : (x : ℕ) (xs : List ℕ) → IsTrue (equal_from x x xs xs)
-itself_from x [] = (numbers_equal x x).1 refl
-itself_from x (a ∷ xs) = both (eqb x x) (equal_from a a xs xs) ((numbers_equal x x).1 refl)
-    (itself_from a xs)
+itself_from x [] = grind arith
+itself_from x (a ∷ xs) = grind (arith, itself_from a xs)
 
 pub tcp_info_equal : (v w : TcpInfo)
     → IsTrue (equal_from v.state w.state (drop 1 (tcp_info_values v)) (drop 1 (tcp_info_values w)))

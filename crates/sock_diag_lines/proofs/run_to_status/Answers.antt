@@ -1,38 +1,11 @@
-use Rattle.std.proofs.Common.{◌≡◌, ◌≢◌, ℕ, Bool, true, false, List, [], ◌∷◌, ◌++◌, Option, Result}
-use Rattle.std.proofs.Common.{Ok, Err, refl, sym}
-use Rattle.std.specs.Prelude.{IfErr, IsOk, MatchResult, OnOk, codes}
+use Rattle.std.proofs.Common.{◌≡◌, ℕ, Bool, true, false, List, [], ◌∷◌, ◌++◌, Option, Result}
+use Rattle.std.proofs.Common.{Ok, Err, sym}
+use Rattle.std.specs.Prelude.{IfErr, codes}
 use Rattle.std.specs.Io.KnownBytes.{Appends}
 use Rattle.sock_diag_lines.specs.RunSteps.{failure_line}
 use Rattle.line_server.specs.declared.stream.ServeError.{ServeError}
 use Rattle.line_server.specs.declared.stream.ServeError.TheVariants.{Read, Write, Memory}
 use Rattle.sock_diag_lines.proofs.run_to_status.Goals as goal
-
--- it came to the end where the status is not 1
-ended_well : (outcome : Result Bool ServeError) (status : ℕ) (P : Bool → Type 0)
-    → MatchResult outcome P (λ _. status ≡ 1) → status ≢ 1 → IsOk outcome
-ended_well (Ok good) status P h other = refl
-ended_well (Err e) status P h other = absurd (other h)
-
-from_on_ok : {A P : Type 0} (r : Result A ServeError) → IsOk r → OnOk r P → P
-from_on_ok (Ok done) h p = p
-from_on_ok (Err e) h p = absurd (cc h)
-
-pub returns-clause-ended : goal.returns-clause-ended
-returns-clause-ended g c =
-    let run = c.answer_all-outcome in
-    λ other. from_on_ok run.result (ended_well run.result _ _ c.exit_code.ensures other)
-    run.ensures.ended
-
-pub returns-clause-complete : goal.returns-clause-complete
-returns-clause-complete g c =
-    let run = c.answer_all-outcome in
-    λ other. from_on_ok run.result (ended_well run.result _ _ c.exit_code.ensures other)
-    run.ensures.complete
-
-pub returns-clause-silent : goal.returns-clause-silent
-returns-clause-silent g c =
-    λ other. c.report.ensures.silent
-    (ended_well c.answer_all-outcome.result _ _ c.exit_code.ensures other)
 
 -- the line is that of the failure
 reported_as : (contents contents' : Option (List ℕ)) (outcome : Result Bool ServeError)
@@ -45,12 +18,15 @@ reported_as : (contents contents' : Option (List ℕ)) (outcome : Result Bool Se
     × (e ≡ Write true → reported ++ more ≡ [])
     × (e ≡ Memory → reported ++ more ≡ codes "sockdiag: out of memory" ++ 10 ∷ []))
 reported_as c d (Ok good) h = h
-reported_as c d (Err Read) (r, (m, e), a) = (r, m, a, λ is. sym e, λ is. cc, λ is. cc, λ is. cc)
-reported_as c d (Err (Write false)) (r, (m, e), a) =
-    (r, m, a, λ is. cc, λ is. sym e, λ is. cc, λ is. cc)
-reported_as c d (Err (Write true)) (r, (m, e), a) =
-    (r, m, a, λ is. cc, λ is. cc, λ is. sym e, λ is. cc)
-reported_as c d (Err Memory) (r, (m, e), a) = (r, m, a, λ is. cc, λ is. cc, λ is. cc, λ is. sym e)
+reported_as c d (Err e) (r, (m, line), sent) = (
+  r,
+  m,
+  sent,
+  λ is. rw is at (sym line),
+  λ is. rw is at (sym line),
+  λ is. rw is at (sym line),
+  λ is. rw is at (sym line),
+)
 
 pub returns-clause-answered : goal.returns-clause-answered
 returns-clause-answered g c = λ f right. (

@@ -73,7 +73,7 @@ impl Record for InetRequest {
         self.socket_id.write_fields(socket_id);
     }
 
-    #[tactic(auto, unfolding(crate::specs::InetRequest::inet_request, crate::specs::SocketId::socket_id), using(crate::specs::InetRequestLaws::fit_inside))]
+    #[tactic(auto, unfolding(crate::specs::InetRequest::inet_request, crate::specs::SocketId::socket_id), using(crate::specs::SocketIdLaws::fit_inside))]
     fn fields_in_range(&self) {
         let _family = self.family;
         let _protocol = self.protocol;

@@ -126,7 +126,7 @@ impl Record for InetResponseHeader {
         LittleEndian::write_u32_into(&words, rest);
     }
 
-    #[tactic(auto, unfolding(crate::specs::InetResponse::inet_response_header, crate::specs::SocketId::socket_id), using(crate::specs::InetResponseLaws::header_fit))]
+    #[tactic(auto, unfolding(crate::specs::InetResponse::inet_response_header, crate::specs::SocketId::socket_id))]
     fn fields_in_range(&self) {
         let _family = self.family;
         let _state = self.state;

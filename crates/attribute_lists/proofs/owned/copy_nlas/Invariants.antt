@@ -1,9 +1,16 @@
-use Rattle.std.proofs.Common.{◌≡◌, ◌≤◌, length, map, take}
+use Rattle.std.proofs.Common.{◌≡◌, ◌≤◌, length, map, take, drop}
+use Rattle.std.specs.List.{AllByRecursion}
+use Rattle.netlink_core.specs.AttributeSet.{IsSpareBy}
 use Rattle.attribute_lists.proofs.owned.copy_nlas.Given as goal
 
--- the copy has what was passed, and room for all
+-- the copy has what was passed, and room for all; where all are spare, those that are left are
 abbrev pub invariant-loop-nla : goal.invariant-loop-nla
-invariant-loop-nla g l = record {
-  same : map g.T.FamilyNla.model l.copy.items ≡ map g.T.FamilyNla.model (take l.nla-index l.nlas);
-  room : length l.nlas ≤ l.copy.capacity;
-}
+invariant-loop-nla g l =
+    let spare = AllByRecursion (IsSpareBy g.T.FamilyNla.attribute_set) in
+    record {
+      same : map g.T.FamilyNla.model l.copy.items
+          ≡ map g.T.FamilyNla.model (take l.nla-index l.nlas);
+      room : length l.nlas ≤ l.copy.capacity;
+      spare : spare (map g.T.FamilyNla.model l.nlas)
+          → spare (map g.T.FamilyNla.model (drop l.nla-index l.nlas));
+    }

@@ -1,15 +1,19 @@
-use Rattle.std.proofs.Common.{◌≤◌, length}
+use Rattle.std.proofs.Common.{◌≡◌, ◌≤◌, ◌+◌, ◌++◌, length, map}
+use Rattle.std.specs.List.{AllByRecursion}
 use Rattle.netlink_core.specs.Walk.{bytes_left}
-use Rattle.netlink_core.specs.AttributeSet.{decodes}
-use Rattle.attribute_lists.specs.AttributesIn.{values_in}
-use Rattle.attribute_lists.proofs.Owning.{Owned}
+use Rattle.netlink_core.specs.AttributeSet.{decodes, IsSpareBy}
+use Rattle.attribute_lists.specs.AttributesIn.{HasNoFault, values_in}
 use Rattle.attribute_lists.proofs.owned.own_nlas.Given as goal
 
 -- what was kept and what is left are all, and there is room for all
 abbrev pub invariant-loop-item : goal.invariant-loop-item
-invariant-loop-item g l = record {
-  owned : Owned (decodes g.T.FamilyNla.attribute_set) g.T.FamilyNla.model l.bytes
-      (bytes_left l.item-iterator)
-      l.nlas.items;
-  room : length (values_in (decodes g.T.FamilyNla.attribute_set) l.bytes) ≤ l.nlas.capacity;
-}
+invariant-loop-item g l =
+    let reads = decodes g.T.FamilyNla.attribute_set in
+    let spare = AllByRecursion (IsSpareBy g.T.FamilyNla.attribute_set) in
+    let left = values_in reads (bytes_left l.item-iterator) in
+    record {
+      clean : HasNoFault reads (bytes_left l.item-iterator);
+      told : map g.T.FamilyNla.model l.nlas.items ++ left ≡ values_in reads l.bytes;
+      room : length l.nlas.items + length left ≤ l.nlas.capacity;
+      spare : spare (values_in reads l.bytes) → spare left;
+    }

@@ -1,32 +1,43 @@
+use Rattle.std.proofs.Common.{ℕ, inl, inr, [], ◌∷◌, length, ap, arith}
+use Rattle.std.proofs.lemmas.List.{length-append}
 use Rattle.std.proofs.lemmas.Result.{err_from_is_err_and}
 use Rattle.netlink_core.specs.AttributeSet.{decodes}
-use Rattle.attribute_lists.proofs.Counting.{count_ends, count_of_all, count_is_cut_off}
-use Rattle.attribute_lists.proofs.Counting.{count_is_refused}
+use Rattle.netlink_core.proofs.Walking.{later_fault, fault_here, StartsWith-some, prefix_of_start}
+use Rattle.netlink_core.proofs.Cutting.{means_or_fault_apart}
+use Rattle.attribute_lists.proofs.Finding.{value_first}
 use Rattle.attribute_lists.proofs.views.check_nlas.Goals as goal
+
+pub loop-item-preserved : goal.loop-item-preserved
+loop-item-preserved g c =
+    let reads = decodes g.V.FamilyView.attribute_set in
+    let start = rw c.in_ok-item.was at c.in-Some.ensures.steps in
+    let read = c.in_ok-_view.ensures.value in
+    let kept = c.loop-item.invariant in
+    record {
+      mean = λ later m. kept.mean (_ ∷ later) (_ ∷ m.0, (_, start, m.1), (read, m.2));
+      fault = λ e f. kept.fault e (later_fault reads _ _ _ _ e start read f);
+      many = omega (arith, ap length (value_first reads _ _ _ _ start read));
+      room = grind (arith, ap length start.parts, length-append {A = ℕ});
+    }
 
 pub returns-in_err-item-clause-fault : goal.returns-in_err-item-clause-fault
 returns-in_err-item-clause-fault g c =
     let p = err_from_is_err_and c.from_residual.result c.from_residual.ensures.1 in
     let stop = rw c.in_err-item.was at c.in-Some.ensures.steps in
-    rw (p.1, p.2) (count_is_cut_off (decodes g.V.FamilyView.attribute_set)
-    _ _ _ _ c.loop-item.invariant
-    stop.0 stop.1)
+    rw (p.1, p.2) (c.loop-item.invariant.fault _
+    (fault_here (decodes g.V.FamilyView.attribute_set) _ _ stop.0 (inl stop.1)))
 
 pub returns-in_err-_view-clause-fault : goal.returns-in_err-_view-clause-fault
 returns-in_err-_view-clause-fault g c =
     let p = err_from_is_err_and c.from_residual-in_err-_view.result
     c.from_residual-in_err-_view.ensures.1 in
     let start = rw c.in_ok-item.was at c.in-Some.ensures.steps in
-    rw (p.1, p.2) (count_is_refused (decodes g.V.FamilyView.attribute_set)
-    _ _ _ _ _ _ c.loop-item.invariant
-    start c.in_err-_view.ensures.fault)
+    rw (p.1, p.2) (c.loop-item.invariant.fault _
+    (fault_here (decodes g.V.FamilyView.attribute_set) _ _ (StartsWith-some _ _ _ start)
+    (inr (_, prefix_of_start _ _ _ start, c.in_err-_view.ensures.fault))))
 
 pub returns-clause-clean : goal.returns-clause-clean
-returns-clause-clean g c = count_ends (decodes g.V.FamilyView.attribute_set)
-    _ _ _ c.loop-item.invariant
-    c.in-None.ensures.steps.0
-
-pub returns-clause-count : goal.returns-clause-count
-returns-clause-count g c = count_of_all (decodes g.V.FamilyView.attribute_set)
-    _ _ _ c.loop-item.invariant
-    c.in-None.ensures.steps.0
+returns-clause-clean g c =
+    let all = c.loop-item.invariant.mean [] ([], c.in-None.ensures.steps.0, tt) in record {
+      none = λ e. means_or_fault_apart (decodes g.V.FamilyView.attribute_set) _ all.0 e all.1;
+    }

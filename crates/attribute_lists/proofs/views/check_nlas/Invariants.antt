@@ -1,10 +1,23 @@
+use Rattle.std.proofs.Common.{◌≡◌, ◌+◌, ◌*◌, ◌≤◌, List, length}
+use Rattle.netlink_core.specs.declared.fault.DecodeError.{DecodeError}
+use Rattle.netlink_core.specs.Attribute.{AttributesMean, AttributeFault}
 use Rattle.netlink_core.specs.Walk.{bytes_left}
-use Rattle.netlink_core.specs.AttributeSet.{decodes}
-use Rattle.attribute_lists.proofs.Counting.{Counted}
+use Rattle.netlink_core.specs.AttributeSet.{AttributeValue, decodes}
+use Rattle.attribute_lists.specs.AttributesIn.{values_in}
 use Rattle.attribute_lists.proofs.views.check_nlas.Given as goal
 
--- what was read goes on with what is left, and was counted
+-- where what is left means something or has a fault, so do all the bytes; and what was read was
+-- counted, at four bytes or more for each
 abbrev pub invariant-loop-item : goal.invariant-loop-item
-invariant-loop-item g l = Counted (decodes g.V.FamilyView.attribute_set) l.bytes
-    (bytes_left l.item-iterator)
-    l.count
+invariant-loop-item g l =
+    let F = g.V.FamilyView.attribute_set in
+    let left = bytes_left l.item-iterator in
+    record {
+      mean : (later : List (AttributeValue F)) → AttributesMean (decodes F) left later
+          → (all : List (AttributeValue F)) × AttributesMean (decodes F) l.bytes all;
+      fault : (e : DecodeError) → AttributeFault (decodes F) left e
+          → AttributeFault (decodes F) l.bytes e;
+      many : l.count + length (values_in (decodes F) left)
+          ≡ length (values_in (decodes F) l.bytes);
+      room : 4 * l.count + length left ≤ length l.bytes;
+    }

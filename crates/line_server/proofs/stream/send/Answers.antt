@@ -1,29 +1,12 @@
-use Rattle.std.proofs.Common.{◌≡◌, ℕ, ◌-◌, List, ◌++◌, length, take, drop, sym, ap, ◌∙◌}
-use Rattle.std.proofs.Common.{append_assoc, take-append-drop}
+use Rattle.std.proofs.Common.{◌++◌, take, append_assoc, take-append-drop}
 use Rattle.std.proofs.lemmas.List.{take_rest}
-use Rattle.std.proofs.lemmas.Result.{err_from_is_err_and}
 use Rattle.std.proofs.KnownBytes.{Appends-trans}
-use Rattle.line_server.proofs.RunLemmas.{cause_told}
 use Rattle.line_server.proofs.stream.send.Goals as goal
-
-moves_front : (all front rest : List ℕ) (n : ℕ) → all ≡ front ++ rest → all ≡ (front ++ take n rest)
-    ++ take (length rest - n) (drop n rest)
-moves_front all front rest n e =
-    e ∙ ap (λ l. front ++ l) (sym (take-append-drop n rest))
-    ∙ sym (append_assoc front (take n rest) (drop n rest))
-    ∙ ap (λ l. (front ++ take n rest) ++ l) (sym (take_rest rest n))
 
 pub writes-preserved : goal.writes-preserved
 writes-preserved g c =
     let (front, split, appended) = c.writes.invariant in
     let rest = c.writes.rest.now in
-    let n = c.in_ok-count.count in (
-      front ++ take n rest,
-      moves_front _ front rest n split,
-      Appends-trans _ _ _ _ _ appended c.in_ok-count.ensures.bytes,
-    )
-
-pub returns-in_err-count-clause-cause : goal.returns-in_err-count-clause-cause
-returns-in_err-count-clause-cause g c =
-    let p = err_from_is_err_and c.from_residual.result c.from_residual.ensures.1 in
-    rw (p.1, p.2) (cause_told (g.W.AnswerWrite.failed _) _ c.in_err-count.ensures.cause)
+    let n = c.in_ok-count.count in
+    let sent = Appends-trans _ _ _ _ _ appended c.in_ok-count.ensures.bytes in
+    (front ++ take n rest, rw (take_rest rest n, append_assoc, take-append-drop) split, sent)

@@ -1,45 +1,36 @@
-use Rattle.std.proofs.Common.{◌+◌, [], ◌∷◌, ◌++◌, List, ℕ, take, refl, sym, ap, ◌∙◌}
+use Rattle.std.proofs.Common.{◌+◌, [], ◌∷◌, ◌++◌, take}
 use Rattle.std.proofs.Common.{append_assoc, append-nil, arith}
 use Rattle.std.proofs.lemmas.List.{length-drop, take_rest}
 use Rattle.std.proofs.lemmas.List.Elements.{All-nil}
 use Rattle.std.proofs.lemmas.List.Splits.{slice_split_none}
 use Rattle.memchr.specs.Find.{is_byte}
 use Rattle.line_server.proofs.LinesLemmas.{split_at_first, without_first}
-use Rattle.line_server.proofs.RunLemmas.{all_good-push, answer_lines-push}
+use Rattle.std.proofs.lemmas.List.Concat.{flat_map-append}
+use Rattle.std.proofs.lemmas.List.Folds.{list_all-append}
+use Rattle.std.proofs.Math.Bool.{and-true}
 use Rattle.line_server.proofs.stream.take_piece.Goals as goal
-
-pub lines-init : goal.lines-init
-lines-init g c = record {
-  whole = [];
-  splits = refl;
-  within = omega arith;
-  unended = c.requires.0;
-  added = sym (append-nil c.args.kept.now.answers.items);
-  judged = refl;
-}
-
-pub overflow_add-rest : goal.overflow_add-rest
-overflow_add-rest g c = omega (arith, c.in-Some.ensures.0.high, c.lines.invariant.within)
 
 pub lines-preserved : goal.lines-preserved
 lines-preserved g c =
     let inv = c.lines.invariant in
-    let f = g.S.Start.answer in
     let line = c.lines.kept.line.items in
     let rest = c.lines.rest.now in
     let n = c.in-Some.end in
     let (begun, added) = c.in_ok-is_line_good.ensures.added in
     record {
       whole = inv.whole ++ (line ++ take n rest) ∷ [];
-      splits = rw (begun, take_rest rest (n + 1)) (inv.splits
-          ∙ ap (λ (parts : List (List ℕ)). inv.whole ++ parts)
-          (split_at_first 10 line rest inv.unended n c.in-Some.ensures)
-          ∙ sym (append_assoc inv.whole ((line ++ take n rest) ∷ []) _));
+      splits = rw (
+        begun,
+        take_rest rest (n + 1),
+        inv.splits,
+        split_at_first 10 line rest inv.unended n c.in-Some.ensures,
+        append_assoc,
+      );
       within = rw (take_rest rest (n + 1)) (omega (arith, inv.within, length-drop (n + 1) rest));
       unended = rw begun (All-nil _);
-      added = added ∙ answer_lines-push f g.A.LineAnswers.good inv.whole _ _ _ inv.added;
-      judged = all_good-push f g.A.LineAnswers.good inv.whole _ _ _ inv.judged
-          c.in_ok-is_line_good.ensures.judged;
+      added = rw (added, inv.added, flat_map-append) (simp (append_assoc, append-nil));
+      judged = rw (inv.judged, c.in_ok-is_line_good.ensures.judged, list_all-append)
+          (simp and-true);
     }
 
 pub returns : goal.returns
@@ -50,8 +41,7 @@ returns g c =
     let unended = without_first 10 line rest inv.unended c.in_default.ensures in
     rw c.in_ok-extend_from_slice.ensures.items record {
       whole = inv.whole;
-      splits = inv.splits ∙ ap (λ (parts : List (List ℕ)). inv.whole ++ parts)
-          (slice_split_none (is_byte 10) (line ++ rest) unended);
+      splits = rw (inv.splits, slice_split_none (is_byte 10) (line ++ rest) unended);
       unended = unended;
       added = inv.added;
       judged = inv.judged;

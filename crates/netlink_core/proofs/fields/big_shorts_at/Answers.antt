@@ -6,7 +6,4 @@ use Rattle.netlink_core.proofs.fields.big_shorts_at.Goals as goal
 
 pub returns : goal.returns
 returns g c =
-    let size : c.args.offset + 2 * g.row.N - c.args.offset ≡ 2 * g.row.N = omega arith in
-    fields_read big_endian 2 c.args.offset g.row.N c.args.bytes.now _ c.read_u16_into.new.dst
-    (c.read_u16_into.auto.dst ∙ length-replicate g.row.N 0)
-    (ap (λ n. take n (drop c.args.offset c.args.bytes.now)) size) c.read_u16_into.ensures
+    grind (arith, fields_read, length-replicate, c.read_u16_into.ensures)

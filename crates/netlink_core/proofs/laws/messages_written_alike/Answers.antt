@@ -9,9 +9,8 @@ returns g c = λ b d v w tb td r s fv fw.
     let same = equal_where_idle g.I.Coded.codec own.laws.same_value b d v w tb td r s in (
       λ e. same.0 (equal_where_alike g.I.Coded.codec
           (λ x y t m n tx ty rm rn.
-          let normal_m = own.laws.reads_normal x t m tx rm in
-          let normal_n = own.laws.reads_normal y t n ty rn in
-          own.equal_by_bytes t m n normal_m.0 normal_n.0 normal_m.1 normal_n.1)
-          b d v w tb td r s fv.0 fw.0 e),
+          let left = own.laws.reads_normal x t m tx rm in
+          let right = own.laws.reads_normal y t n ty rn in
+          own.equal_by_bytes t m n left.0 right.0 left.1 right.1) b d v w tb td r s fv.0 fw.0 e),
       λ i. ap (envelope_codec g.I.Coded.codec).written (same.1 i),
     )

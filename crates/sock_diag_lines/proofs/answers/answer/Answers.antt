@@ -1,26 +1,24 @@
-use Rattle.std.proofs.Common.{◌≡◌, [], ◌++◌, List, ℕ, sym, ap, ◌∙◌, subst}
+use Rattle.std.proofs.Common.{◌≡◌, [], List, ℕ}
 use Rattle.sock_diag_lines.specs.Answer.{IsAnswerOf}
 use Rattle.sock_diag_lines.specs.TextSteps.{Adds}
-use Rattle.sock_diag_lines.proofs.AnswerLemmas.{answers_alike, answers_apart, datagrams_in_range}
+use Rattle.sock_diag_lines.proofs.AnswerLemmas.{answers_as_idle, datagrams_in_range}
 use Rattle.sock_diag_lines.proofs.DumpLaws.{answers_same_items, answers_split, one_dump_text}
 use Rattle.sock_diag_lines.proofs.answers.answer.Goals as goal
 
 -- what was added to an empty text is the whole of it
 whole : (line old new : List ℕ) → old ≡ [] → Adds old new (IsAnswerOf line) → IsAnswerOf line new
-whole line old new none (more, e, is) = subst (IsAnswerOf line) (sym (e ∙ ap (λ t. t ++ more) none))
-    is
+whole line old new none (more, e, is) = rw (e, none) is
 
 pub returns-clause-same : goal.returns-clause-same
 returns-clause-same c = λ name all other bytes bytes' text' asked asked' ok ok' is'.
-    let is = whole c.args.line.now _ _ c.new-text.ensures.items c.in_ok-push_answer.ensures in (
-      answers_apart name _ other bytes bytes' _ text' is is' asked asked' ok ok' all,
-      answers_alike name _ other bytes bytes' _ text' is is' asked asked' ok ok',
-    )
+    let is = whole c.args.line.now _ _ c.new-text.ensures.items c.in_ok-push_answer.ensures in
+    let t = answers_as_idle name _ other bytes bytes' _ text' is is' asked asked' ok ok' in
+    (t.0 all, t.1)
 
 pub returns-clause-alike : goal.returns-clause-alike
 returns-clause-alike c = λ name other bytes bytes' text' asked asked' ok ok' is'.
     let is = whole c.args.line.now _ _ c.new-text.ensures.items c.in_ok-push_answer.ensures in
-    answers_alike name _ other bytes bytes' _ text' is is' asked asked' ok ok'
+    (answers_as_idle name _ other bytes bytes' _ text' is is' asked asked' ok ok').1
 
 pub returns-clause-dumps : goal.returns-clause-dumps
 returns-clause-dumps c = λ other text' datagrams datagrams' row asked asked' have have' is'.
@@ -35,5 +33,4 @@ returns-clause-split c = λ other text' datagrams datagrams' asked asked' split 
     let is = whole c.args.line.now _ _ c.new-text.ensures.items c.in_ok-push_answer.ensures in
     let in_range = datagrams_in_range other datagrams' asked' in
     one_dump_text datagrams' in_range _ text' (answers_split datagrams datagrams'
-    (datagrams_in_range c.args.line.now datagrams asked) in_range split split' same _
-    (is.dumped datagrams asked)) (is'.dumped datagrams' asked')
+    in_range split split' same _ (is.dumped datagrams asked)) (is'.dumped datagrams' asked')

@@ -1,7 +1,6 @@
 use Rattle.std.proofs.Common.{inr, refl}
 use Rattle.std.proofs.lemmas.Result.{on_ok_weaker}
-use Rattle.netlink_packet_sock_diag.specs.PayloadViewModel.{envelope_view_model}
-use Rattle.sock_diag_lines.proofs.AnswerTexts.{answers_same}
+use Rattle.sock_diag_lines.proofs.AnswerTexts.{answers_more}
 use Rattle.sock_diag_lines.proofs.answers.push_netlink_message.Goals as goal
 
 pub returns-in-Ok : goal.returns-in-Ok
@@ -10,8 +9,8 @@ returns-in-Ok c =
     (λ a. (
       a.0,
       a.1,
-      answers_same _ _ _ _ (envelope_view_model c.in-Ok.message) a.0
-          c.in-Ok.ensures.value a.2,
+      answers_more _ _ (λ v same. rw same c.in-Ok.ensures.value) (λ _ never. absurd
+          never) a.2,
     )) c.push_envelope_text.ensures
 
 pub returns-in-Err : goal.returns-in-Err

@@ -1,4 +1,4 @@
-use Rattle.std.proofs.Common.{◌+◌, ◌∷◌, ◌++◌, drop, take, sym, ap, ◌∙◌}
+use Rattle.std.proofs.Common.{◌+◌, drop, take, sym, ◌∙◌}
 use Rattle.std.proofs.lemmas.List.{take_rest}
 use Rattle.sock_diag_lines.proofs.AnswerLemmas.{no_request, not_dump}
 use Rattle.sock_diag_lines.proofs.answers.read_request.Goals as goal

@@ -1,31 +1,39 @@
-use Rattle.std.proofs.Common.{arith}
-use Rattle.netlink_packet_sock_diag.specs.DumpModel.{progress}
-use Rattle.sock_diag_lines.proofs.DumpLaws.{failed_at, left_as_it_was, took}
+use Rattle.std.proofs.Common.{ap, arith, inl, inr, refl, sym, ◌∙◌}
+use Rattle.netlink_packet_sock_diag.specs.Feed.{Stage}
+use Rattle.netlink_packet_sock_diag.specs.Dump.{Standing}
+use Rattle.netlink_packet_sock_diag.specs.Message.{Message}
+use Rattle.sock_diag_lines.proofs.DumpLaws.{one_more, over_at, some_items}
 use Rattle.sock_diag_lines.proofs.dump_line.take_datagram.Goals as goal
 
 pub returns-in-Ok : goal.returns-in-Ok
 returns-in-Ok c = λ datagrams read.
-    let old = c.args.dump.now in
-    let new = c.feed.new.self in
-    let t = took datagrams c.args.datagram.now (λ i. omega (arith, c.type_inv.datagram i))
-    (progress old.reader) (progress new) old.fault read.is read.faultless c.in-Ok.ensures.leaves in
-    record { is = t.0; faultless = t.1 }
+    let leaves = c.in-Ok.ensures.leaves in
+    let none = read.faultless leaves.0 in
+    let (items, are, dump) = leaves.1.0 in
+    record {
+      is = one_more datagrams c.args.datagram.now _ _ items are read.is
+          (inl (rw (none, leaves.0), rw none dump));
+      faultless = λ _. none;
+    }
 
 pub returns-in-Err-Ended : goal.returns-in-Err-Ended
 returns-in-Err-Ended c = λ datagrams read.
-    let old = c.args.dump.now in
-    let new = c.feed.new.self in
-    let t = left_as_it_was datagrams c.args.datagram.now (λ i. omega (arith, c.type_inv.datagram i))
-    (progress old.reader) (progress new) old.fault read.is read.faultless
-    (rw c.in-Err-Ended.field-0-is at c.in-Err-Ended.ensures.leaves) in
-    record { is = t.0; faultless = t.1 }
+    let (over, same) = rw c.in-Err-Ended.field-0-is at c.in-Err-Ended.ensures.leaves in
+    let (items, are) = some_items c.args.datagram.now (λ i. omega (arith, c.type_inv.datagram i)) in
+    let state = ap (λ (p : Stage Message). p.1) same in
+    let kept = ap (λ (p : Stage Message). p.0) same in
+    record {
+      is = one_more datagrams c.args.datagram.now _ _ items are read.is
+          (inr (over_at _ _ over, kept, rw state refl));
+      faultless = λ reading. absurd (over (sym state ∙ reading));
+    }
 
 pub returns-in_default : goal.returns-in_default
 returns-in_default c = λ datagrams read.
-    let old = c.args.dump.now in
-    let new = c.feed.new.self in
-    let t = failed_at datagrams c.args.datagram.now (λ i. omega (arith, c.type_inv.datagram i))
-    (progress old.reader) (progress new) old.fault read.is read.faultless
-    c.in-Err-Fault.fault c.in_default.not-Memory
-    (rw c.in-Err-Fault.field-0-is at c.in-Err-Fault.ensures.leaves) in
-    record { is = t.0; faultless = t.1 }
+    let leaves = rw c.in-Err-Fault.field-0-is at c.in-Err-Fault.ensures.leaves in
+    let (items, are, dump) = (leaves.2 c.in_default.not-Memory).0 in
+    record {
+      is = one_more datagrams c.args.datagram.now _ _ items are read.is
+          (inl (rw (read.faultless leaves.0, leaves.0), dump));
+      faultless = λ still. let is = ap (λ (s : Standing). s.0) (sym leaves.1 ∙ still) in cc;
+    }

@@ -1,6 +1,5 @@
-use Rattle.std.proofs.Common.{List, ℕ, sym, subst, ap, take}
+use Rattle.std.proofs.Common.{sym, ap, take}
 use Rattle.std.proofs.lemmas.List.{drop-drop, take_rest}
-use Rattle.netlink_core.specs.Header.{HasHeader}
 use Rattle.netlink_core.specs.DatagramWalk.{datagram_left}
 use Rattle.netlink_core.proofs.Datagrams.{starts_with_message}
 use Rattle.netlink_core.proofs.datagram.MessageStringsIterator.next.Goals as goal
@@ -10,6 +9,5 @@ returns-in-Ok-clause-steps c =
     let walk = c.args.self.now in
     let h = c.in-Ok.header in
     let all = take_rest walk.bytes.now walk.at in
-    let head = subst (λ (bytes : List ℕ). HasHeader bytes h) all c.in-Ok.ensures in
-    starts_with_message (datagram_left walk) _ _ h c.padded.result head (ap (take h.length) all)
-    c.padded.ensures (sym (drop-drop _ walk.at walk.bytes.now))
+    starts_with_message (datagram_left walk) _ _ h c.padded.result (rw all at c.in-Ok.ensures)
+    (ap (take h.length) all) c.padded.ensures (sym (drop-drop _ walk.at walk.bytes.now))

@@ -8,7 +8,5 @@ returns-clause-equal c =
     let numbers = c.read_u32_into.new.dst in
     let long : length numbers ≡ c.in_ok-numbers.numbers.len = c.read_u32_into.auto.dst
     ∙ c.deref_mut.ensures.len in
-    let count = c.in_ok-numbers.ensures.len in
-    sym (places c.args.self.now.bytes.now numbers
-    (omega (arith, long, count, c.args.self.now.whole)) c.read_u32_into.ensures
-    ∙ sym (take_at numbers _ _ long))
+    take_at numbers _ _ long ∙ sym (places c.args.self.now.bytes.now numbers
+    (omega (arith, c.in_ok-numbers.ensures.len, c.args.self.now.whole)) c.read_u32_into.ensures)

@@ -20,27 +20,24 @@ found ports addresses interface cookie = Ok record {
   cookie = cookie;
 }
 
-abbrev two : IpAddr → IpAddr → IpAddr × IpAddr
-two source destination = (source, destination)
+abbrev v4 : List ℕ → List ℕ → IpAddr × IpAddr
+v4 source destination = (V4 record { octets = source }, V4 record { octets = destination })
 
-abbrev v4 : List ℕ → IpAddr
-v4 octets = V4 record { octets = octets }
-
-abbrev v6 : List ℕ → IpAddr
-v6 segments = V6 record { segments = segments }
+abbrev v6 : List ℕ → List ℕ → IpAddr × IpAddr
+v6 source destination = (V6 record { segments = source }, V6 record { segments = destination })
 
 pub returns : goal.returns
 unfolding socket_id
 returns c =
     elim c.match-family.branch [
       | in-2 w ↦ (ap found c.big_shorts_at.ensures
-          ⊛ (w.source_address-is ∙ (ap two (ap v4 w.ipv4_at.ensures)
-          ⊛ ap v4 w.ipv4_at-in-2.ensures)) ⊛ c.words_at.ensures ⊛ c.array_at.ensures)
+          ⊛ (w.source_address-is ∙ (ap v4 w.ipv4_at.ensures ⊛ w.ipv4_at-in-2.ensures))
+          ⊛ c.words_at.ensures ⊛ c.array_at.ensures)
           ∙ sym (accepts socket_id c.args.family c.args.payload.now (ipv4, ipv4)
           (ap versions_of_family w.in-2.is))
       | in-10 w ↦ (ap found c.big_shorts_at.ensures
-          ⊛ (w.source_address-is ∙ (ap two (ap v6 w.ipv6_at.ensures)
-          ⊛ ap v6 w.ipv6_at-in-10.ensures)) ⊛ c.words_at.ensures ⊛ c.array_at.ensures)
+          ⊛ (w.source_address-is ∙ (ap v6 w.ipv6_at.ensures ⊛ w.ipv6_at-in-10.ensures))
+          ⊛ c.words_at.ensures ⊛ c.array_at.ensures)
           ∙ sym (accepts socket_id c.args.family c.args.payload.now (ipv6, ipv6)
           (ap versions_of_family w.in-10.is))
     ]

@@ -1,4 +1,4 @@
-use Rattle.std.proofs.Common.{◌∙◌, ℕ, List, slice_index, bit_and, ap, Result, Ok}
+use Rattle.std.proofs.Common.{ℕ, List, slice_index, ap, Result, Ok}
 use Rattle.bitflags.proofs.OnLiterals.{bitflags_on_literals}
 use Rattle.netlink_core.proofs.Congruence.{◌⊛◌}
 use Rattle.netlink_core.specs.declared.fault.DecodeError.{DecodeError}
@@ -17,9 +17,7 @@ found state_flags inode show_flags cookie =
 pub returns : goal.returns
 unfolding bitflags_on_literals
 returns c =
-    ap found (c.from_bits_truncate.ensures tt
-    ∙ ap (λ (ws : List ℕ). bit_and (slice_index ws 0) 0x402) c.words_at.ensures)
+    ap found (rw c.words_at.ensures at (c.from_bits_truncate.ensures tt))
     ⊛ ap (λ (ws : List ℕ). slice_index ws 1) c.words_at.ensures
-    ⊛ (c.from_bits_truncate-2.ensures tt ∙ ap (λ (ws : List ℕ). bit_and (slice_index ws 2) 0x3f)
-    c.words_at.ensures)
+    ⊛ rw c.words_at.ensures at (c.from_bits_truncate-2.ensures tt)
     ⊛ c.array_at.ensures

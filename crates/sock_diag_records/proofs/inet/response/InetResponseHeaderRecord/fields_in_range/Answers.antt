@@ -1,0 +1,13 @@
+use Rattle.std.proofs.Common.{rules}
+use Rattle.sock_diag_records.specs.SocketId.{socket_id}
+use Rattle.netlink_core.proofs.FieldReads.{fit-append}
+use Rattle.sock_diag_records.specs.InetResponse.{inet_response_header}
+use Rattle.sock_diag_records.specs.InetResponseLaws.{expires_fit}
+use Rattle.sock_diag_records.specs.SocketIdLaws.{fit_inside}
+use Rattle.sock_diag_records.proofs.inet.response.InetResponseHeaderRecord.fields_in_range.Goals as goal
+
+pub returns : goal.returns
+unfolding inet_response_header socket_id
+returns c =
+    let socket = fit_inside 4 c.args.self.now.socket_id c.fields_in_range.ensures in
+    record { shaped = search rules; fit = search (rules, fit-append, expires_fit) }
