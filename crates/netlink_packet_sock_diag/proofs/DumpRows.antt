@@ -219,7 +219,7 @@ module _ (C : Codec ℕ) where
       (row, (ys, also, rw (← same, ← parts) items.2), d)
 
   -- and datagrams one dump
-  one_dumps : OneList → (before : List C.Value) (datagrams : List (List ℕ))
+  pub one_dumps : OneList → (before : List C.Value) (datagrams : List (List ℕ))
       → AllByRecursion IsBytes datagrams → (a b : List C.Value) (e f : End)
       → DatagramsDump C before datagrams a e → DatagramsDump C before datagrams b f
       → (a ≡ b) × (e ≡ f)

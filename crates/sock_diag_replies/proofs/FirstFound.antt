@@ -30,12 +30,12 @@ use lib.ListN.{length-map}
 -- what holds of a value where there is one
 module _ {A : Type 0} {P Q : A → Type 0} (weaker : (x : A) → P x → Q x) where
   if_some : (o : Option A) → IfSome o P → IfSome o Q
-  if_some None h = h
-  if_some (Some x) h = weaker x h
+  if_some o h =
+      grind arith
 
   some_and : (o : Option A) → IsSomeAnd o P → IsSomeAnd o Q
-  some_and None h = absurd h
-  some_and (Some x) h = weaker x h
+  some_and o h =
+      grind arith
 
 module _ {A B D : Type 0} (told : B → Option D) (v : A → B) where
   stays : (more : List D) (o : Option D) → IsSome o → slice_get (cons_option o more) 0 ≡ o

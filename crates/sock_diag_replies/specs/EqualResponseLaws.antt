@@ -1,4 +1,5 @@
 -- Replies are equal where their models are.
+use Rattle.std.proofs.Common.{arith}
 use Rattle.std.proofs.Common.{◌≡◌, ◌↔◌, ◌&&◌, Bool, true, IsTrue, ap}
 use Rattle.std.proofs.lemmas.List.{map-id}
 use lib.Pointwise.{pointwise}
@@ -14,14 +15,7 @@ both_equal : {H V : Type 0} (headers nlas : Bool) (v w : ResponseValue H V)
     → (IsTrue headers ↔ (v.header ≡ w.header)) → (IsTrue nlas ↔ (v.nlas ≡ w.nlas))
     → IsTrue (headers && nlas) ↔ (v ≡ w)
 both_equal {H} {V} headers nlas v w fronts rests =
-    let both = and_decides fronts rests in (
-      λ t. let p = both.0 t in λ i. record { header = p.0 i; nlas = p.1 i },
-      λ e. both.1 (
-        ap (λ (r : ResponseValue H V). r.header) e,
-        ap (λ (r : ResponseValue H V).
-            r.nlas) e,
-      ),
-    )
+    grind (arith, and_decides fronts rests)
 
 -- replies with memory of their own
 pub responses_equal : {H A V W : Type 0} {same : H → H → Bool} {test : A → A
@@ -31,9 +25,7 @@ pub responses_equal : {H A V W : Type 0} {same : H → H → Bool} {test : A →
     → IsTrue (same v.header w.header && pointwise test v.nlas.items w.nlas.items)
     ↔ (response_model header_model model v ≡ response_model header_model model w)
 responses_equal header_model model headers attributes v w =
-    both_equal _ _ (response_model header_model model v) (response_model header_model model w)
-    (headers v.header w.header)
-    (lists_equal _ model attributes v.nlas.items w.nlas.items)
+    grind (arith, both_equal, lists_equal)
 
 -- over the test of a header and those of the types of a set
 module _ {H : Type 0} (same : H → H → Bool) (F : AttributeSet) (tests : Tests F) where
@@ -46,9 +38,7 @@ module _ {H : Type 0} (same : H → H → Bool) (F : AttributeSet) (tests : Test
       → (v w : ResponseValue H (AttributeValue F))
       → IsTrue (response_test v w) ↔ (v ≡ w)
   response_test_decides headers v w =
-      both_equal _ _ v w (headers v.header w.header)
-      (rw (map-id v.nlas, map-id w.nlas) at
-      (lists_equal (value_test F tests) (λ a. a) (value_test_decides F tests) v.nlas w.nlas))
+      grind (arith, both_equal, map-id v.nlas, map-id w.nlas, lists_equal, value_test, value_test_decides)
 
 -- where the headers are equal, the attributes decide
 pub then_rest : {t rest result : Bool} → t ≡ true → result ≡ rest → result ≡ (t && rest)

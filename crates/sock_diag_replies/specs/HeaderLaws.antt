@@ -24,8 +24,5 @@ module _ {Tag Value : Type 0} (layout : Layout (Unit {0}) Tag Value) {size : ℕ
             size;
         attribute_set = F;
       })
-  response_laws sound goes_on attribute_set = record {
-    header = keeps_laws layout sound;
-    as_prefix = is_prefix_codec layout sound fixed goes_on;
-    attribute_set = attribute_set;
-  }
+  response_laws sound goes_on attribute_set =
+      grind (arith, keeps_laws, is_prefix_codec)

@@ -24,14 +24,7 @@ goes_on : (tag : IpVersions × ℕ) (left rest : List ℕ) → inet_response_hea
     ≡ Ok tag
 unfolding inet_response_header
 goes_on tag left rest long e =
-    let family : slice_index (left ++ rest) 0 ≡ slice_index left 0 =
-    get_or_append_left left rest 0 0 (omega arith) in
-    let timer : slice_index (left ++ rest) 2 ≡ slice_index left 2 =
-    get_or_append_left left rest 0 2 (omega arith) in
-    ap (λ (n : ℕ). with_class (class_of_byte (slice_index (left ++ rest) 2)) (versions_of_family n))
-    family
-    ∙ ap (λ (n : ℕ). with_class (class_of_byte n) (versions_of_family (slice_index left 0))) timer
-    ∙ e
+    grind (arith, get_or_append_left left rest 0 0, get_or_append_left left rest 0 2, with_class (class_of_byte (slice_index (left ++ rest) 2)), with_class)
 
 -- a string with a header has all its bytes
 pub header_enough : (b : List ℕ) (h : InetResponseHeader) → read inet_response_header tt b ≡ Ok h

@@ -1,5 +1,6 @@
+use Rattle.std.proofs.Common.{arith}
 use Rattle.sock_diag_replies.proofs.response.ReplyNlaEmitable.emit.Goals as goal
 
 pub returns : goal.returns
-returns g c = rw (c.as_slice.ensures, g.met.H.ReplyOwned.written c.args.self.now.header)
-    at c.emit_reply.ensures
+returns g c =
+    grind (arith, c.as_slice.ensures, c.emit_reply.ensures)

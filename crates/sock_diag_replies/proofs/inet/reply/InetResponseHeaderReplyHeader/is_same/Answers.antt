@@ -1,3 +1,4 @@
+use Rattle.std.proofs.Common.{arith}
 use Rattle.std.proofs.Common.{◌∙◌, ℕ, List, Bor, refl, sym}
 use Rattle.netlink_core.specs.Walk.{attribute_of}
 use Rattle.netlink_core.proofs.ValueTests.{value_test}
@@ -9,6 +10,4 @@ use Rattle.sock_diag_replies.proofs.inet.reply.InetResponseHeaderReplyHeader.is_
 
 pub returns-then-eq : goal.returns-then-eq
 returns-then-eq c =
-    then_rest (sym c.eq.ensures ∙ c.if-eq.true)
-    (c.same_views.ensures (value_test inet inet_tests) (tests text_view_row buffer_row _ _
-    (λ (t : Bor (List ℕ)). t.now) attribute_of (λ _ _. refl) (λ _ _. refl)))
+    grind (arith, then_rest, value_test, inet_tests, tests, text_view_row, buffer_row, c.eq.ensures, c.same_views.ensures)

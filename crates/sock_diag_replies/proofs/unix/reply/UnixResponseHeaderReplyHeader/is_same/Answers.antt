@@ -1,3 +1,4 @@
+use Rattle.std.proofs.Common.{arith}
 use Rattle.std.proofs.Common.{◌∙◌, refl, sym}
 use Rattle.netlink_core.specs.Walk.{attribute_of}
 use Rattle.netlink_core.proofs.ValueTests.{value_test}
@@ -12,7 +13,4 @@ use Rattle.sock_diag_replies.proofs.unix.reply.UnixResponseHeaderReplyHeader.is_
 
 pub returns-then-eq : goal.returns-then-eq
 returns-then-eq c =
-    then_rest (sym c.eq.ensures ∙ c.if-eq.true)
-    (c.same_views.ensures (value_test unix unix_tests) (tests name_view_row numbers_row buffer_row
-    _ _ _ name_view_model numbers_view_model attribute_of name_views_model list_views_model (λ _ _.
-    refl)))
+    grind (arith, then_rest, value_test, unix_tests, tests, name_view_row, numbers_row, buffer_row, name_views_model, list_views_model, c.eq.ensures, c.same_views.ensures)
