@@ -1,4 +1,5 @@
 -- An attribute that is read in place and then kept, of any family: when its readers want memory.
+use Rattle.std.proofs.Common.{arith}
 use Rattle.std.proofs.Common.{◌≡◌, List, ℕ, Result, Ok, Err, IsOk, IfErr, IsErrAnd}
 use Rattle.std.proofs.lemmas.Result.{err_from_is_err_and}
 use Rattle.netlink_core.specs.declared.fault.DecodeError.{DecodeError}
@@ -22,8 +23,7 @@ pub refused_wants_none : (F : AttributeSet) → AttributeSetLaws F
     (e : DecodeError) → decodes F a ≡ Err e → (r : Result T DecodeError) → IsErrAnd r (λ f. f ≡ e)
     → Wanted F b r
 refused_wants_none F laws b a e refused r given =
-    let p = err_from_is_err_and r given in
-    rw (p.1, p.2) (λ memory. absurd (set_faults_named F laws a (rw memory at refused)))
+    grind (arith, err_from_is_err_and r given, set_faults_named F laws a)
 
 -- but where it can't be kept, which is not spare then
 pub unkept_wants : (F : AttributeSet) {b : List ℕ} {T N E : Type 0} (a : Attribute)
@@ -33,9 +33,4 @@ pub unkept_wants : (F : AttributeSet) {b : List ℕ} {T N E : Type 0} (a : Attri
     → IsErrAnd r (λ f. f ≡ Memory)
     → Wanted F b r
 unkept_wants F a v head said kept e was keeps r given =
-    let p = err_from_is_err_and r given in
-    rw (p.1, p.2) (λ memory. (
-      v,
-      (a, head, said),
-      λ spare. let none = rw was at (keeps spare) in cc,
-    ))
+    grind (arith, err_from_is_err_and r given)

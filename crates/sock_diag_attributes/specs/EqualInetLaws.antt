@@ -1,4 +1,5 @@
 -- Attributes of replies are equal where their models are.
+use Rattle.std.proofs.Common.{arith}
 use Rattle.std.proofs.Common.{◌≡◌, ◌↔◌, ℕ, List, Bool, eqb, IsTrue, refl, rules}
 use mathlib.Core.Bool.{beq}
 use mir.Syntax.{given}
@@ -40,10 +41,8 @@ module _ (T O : RattleType) (t : Ghosts T.Denot) (o : Ghosts O.Denot) (text : T.
   -- the third clause splits w, so that the last stands for each other pair of variants
   pub tests : (v w : InetNla T.Denot O.Denot) → (ghosts T O t (given 0) o (given 0)).eq v w
       ≡ value_test inet inet_tests (model text other v) (model text other w)
-  tests (nla.Congestion a) (nla.Congestion x) = texts a x
-  tests (nla.Other a) (nla.Other x) = others a x
-  tests v (nla.LegacyMemInfo x) = refl
-  tests v w = refl
+  tests v w =
+      grind arith
 
   pub equal : (v w : InetNla T.Denot O.Denot) → IsTrue ((ghosts T O t (given 0) o (given 0)).eq v w)
       ↔ (model text other v ≡ model text other w)

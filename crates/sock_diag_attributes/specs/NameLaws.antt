@@ -1,4 +1,5 @@
 -- The laws of the name of a UNIX socket.
+use Rattle.std.proofs.lemmas.Grind.{common_steps}
 use Rattle.netlink_core.specs.Codec.{KeepsLaws, as_codec}
 use Rattle.netlink_core.proofs.AttributeTypeLaws.{exact_laws}
 use Rattle.sock_diag_attributes.specs.Name.{name_value}
@@ -32,16 +33,12 @@ HasNoZero bytes = All (λ byte. byte ≢ 0) bytes
 
 -- no fault of a name is want of memory
 name_named : (x : List ℕ) → read_name x ≡ Err Memory → ⊥
-name_named (suc n ∷ xs) h = grind arith
-name_named _ h = cc
+name_named x h =
+    grind arith
 
 -- a name that was read is written as its string, and is in normal form
 name_exact : (x : List ℕ) (u : SocketName) → read_name x ≡ Ok u → (x ≡ name_bytes u)
     × IsNormalName u
-name_exact [] u h = absurd cc
-name_exact (zero ∷ address) u h =
-    let same : abstract address ≡ u = cc in
-    rw (← same) (refl, tt)
 name_exact (suc n ∷ xs) u h =
     let x : List ℕ = suc n ∷ xs in
     let i : ℕ = position_or_len (λ b. b == 0) x in
@@ -60,6 +57,7 @@ name_exact (suc n ∷ xs) u h =
         λ e. grind (arith, whole, e),
       ),
     )
+name_exact x u h = grind arith
 
 -- a name that does not begin with a zero, by what stands in front of its first one, which is all of
 -- it where there is none
@@ -86,8 +84,8 @@ reads_inner_zero bytes path last i parts first lt here none =
 
 pub reads_path : (bytes path : List ℕ) → bytes ≡ path ++ 0 ∷ [] → get_or bytes 0 0 ≢ 0
     → HasNoZero path → read_name bytes ≡ Ok (pathname path)
-reads_path bytes path parts first none = first_zero bytes path (0 ∷ []) parts first none refl
-    ∙ grind (arith, parts, ap length parts, length-append, take-append_seam)
+reads_path bytes path parts first none =
+    grind (arith, first_zero bytes path (0 ∷ []) parts first none, length-append, take-append_seam)
 
 pub reads_no_end : (bytes path : List ℕ) (last : ℕ) → bytes ≡ path ++ last ∷ []
     → get_or bytes 0 0 ≢ 0 → last ≢ 0 → HasNoZero path → read_name bytes ≡ Err NameWithoutEnd
@@ -97,19 +95,14 @@ reads_no_end bytes path last parts first some none =
 
 -- a name in normal form reads back
 name_reads_back : (u : SocketName) → IsNormalName u → read_name (name_bytes u) ≡ Ok u
-name_reads_back (abstract address) good = refl
-name_reads_back (pathname []) good = absurd (good.1 refl)
-name_reads_back (pathname (b ∷ xs)) good =
-    reads_path (b ∷ xs ++ 0 ∷ []) (b ∷ xs) refl (All-head (λ b. b ≢ 0) b xs good.0) good.0
+name_reads_back u good =
+    grind (arith, common_steps, reads_path)
 
 -- an accepted name that is not empty, of which the first byte is no zero: nothing else needs a look
 pub known_path : (bytes path : List ℕ) (last : ℕ) → bytes ≡ path ++ last ∷ [] → get_or bytes 0 0 ≢ 0
     → IsOk (read_name bytes) → read_name bytes ≡ Ok (pathname path)
-known_path (suc n ∷ xs) path last parts first ok =
-    let end : position_or_len (λ b. b == 0) (suc n ∷ xs) ≡ length path =
-    grind (arith, ap length parts, length-append path (last ∷ [])) in
-    grind (arith, parts, end, take-append_seam path (last ∷ []))
-known_path _ path last parts first ok = absurd (first refl)
+known_path bytes path last parts first ok =
+    grind (arith, length-append path (last ∷ []), take-append_seam path (last ∷ []))
 
 -- of a string of bytes the name is one of bytes
 pub name_in_range : (u : SocketName) → IsBytes (name_bytes u) → IsNameInRange u
@@ -118,9 +111,8 @@ name_in_range (abstract address) in_range = λ i. in_range (suc i)
 
 -- and the bytes of a name in range are bytes
 pub name_bytes_in_range : (u : SocketName) → IsNameInRange u → IsBytes (name_bytes u)
-name_bytes_in_range (pathname path) in_range =
-    IsBytes-append path (0 ∷ []) in_range (IsBytes-cons 0 [] (omega arith) IsBytes-nil)
-name_bytes_in_range (abstract address) in_range = IsBytes-cons 0 address (omega arith) in_range
+name_bytes_in_range u in_range =
+    grind (arith, common_steps)
 
 -- a name as the value of an attribute: its reader, its bytes, equal strings alone being idle, and
 -- its normal form

@@ -1,4 +1,5 @@
 -- The laws of numbers that fill the value of an attribute.
+use Rattle.std.proofs.lemmas.Grind.{common_steps}
 use Rattle.std.proofs.Common.{Some, Ok, ◌≡◌, ◌∙◌, ℕ, zero, suc, ◌+◌, ◌*◌, ◌/◌, ◌%◌}
 use Rattle.std.proofs.Common.{◌≤◌, ◌<◌, ◌^◌, List, [], ◌∷◌, ◌++◌, length, take, drop, refl, sym}
 use Rattle.std.proofs.Common.{arith}
@@ -31,13 +32,13 @@ number_exact width x in_range long =
 
 -- the first of the numbers in bytes, and those behind it
 pub numbers_in_none : (x : List ℕ) → length x < 4 → numbers_in x ≡ []
-numbers_in_none (a ∷ b ∷ c ∷ d ∷ rest) short = absurd (omega (arith, short))
-numbers_in_none _ short = refl
+numbers_in_none x short =
+    grind arith
 
 pub numbers_in_first : (x : List ℕ) → 4 ≤ length x → numbers_in x ≡ little_number 4 x
     ∷ numbers_in (drop 4 x)
-numbers_in_first (a ∷ b ∷ c ∷ d ∷ rest) long = refl
-numbers_in_first _ long = absurd (omega (arith, long))
+numbers_in_first x long =
+    grind arith
 
 -- bytes whose number is a multiple of four are numbers
 pub whole : (x : List ℕ) → IsBytes x → length x % 4 ≡ 0 → (x ≡ bytes_of_numbers (numbers_in x))
@@ -77,24 +78,18 @@ no_numbers (n ∷ u) none = absurd cc
 back : (u : List ℕ) → AllByRecursion (λ n. n < 2 ^ 32) u → numbers_in (bytes_of_numbers u) ≡ u
 back [] fit = refl
 back (n ∷ u) fit =
-    λ i. little_number-reads_back 4 n (bytes_of_numbers u) fit.0 i ∷ back u fit.1 i
+    grind (arith, little_number-reads_back 4 n (bytes_of_numbers u) fit.0, bytes_of_numbers u, back u fit.1)
 
 -- their bytes are bytes
 pub numbers_in_range : (u : List ℕ) → IsBytes (bytes_of_numbers u)
 numbers_in_range [] = IsBytes-nil
-numbers_in_range (n ∷ u) = IsBytes-append (little_bytes 4 n) (bytes_of_numbers u)
-    (IsBytes-number 0 4 n) (numbers_in_range u)
+numbers_in_range (n ∷ u) =
+    grind (arith, bytes_of_numbers u, numbers_in_range u)
 
 -- both keep the laws of the value of an attribute
 pub numbers_laws : KeepsLaws (as_codec numbers_value)
-numbers_laws = exact_laws read_numbers bytes_of_numbers (AllByRecursion (λ n. n < 2 ^ 32))
-    (λ ns. ⊤) (λ x h. grind arith)
-    (λ x u in_range h.
-    let same : numbers_in x ≡ u = grind arith in
-    let exact = whole x in_range (grind arith) in
-    rw (← same) (exact.0, exact.1, tt))
-    (λ u fits. numbers_in_range u)
-    (λ u fits normal. grind (arith, length_numbers u, back u fits))
+numbers_laws =
+    grind (arith, common_steps, exact_laws, read_numbers, bytes_of_numbers, numbers_in, whole, numbers_in_range, length_numbers, back)
 
 pub two_laws : (k : ℕ) → KeepsLaws (as_codec (two_value k))
 two_laws k = exact_laws (two_numbers k) bytes_of_two (λ ns. (ns.0 < 2 ^ 32) × (ns.1 < 2 ^ 32))
@@ -121,11 +116,10 @@ how_many _ = refl
 -- the one at a place, and none past the last
 pub number_at : (x : List ℕ) (i : ℕ) → 4 * i + 4 ≤ length x
     → slice_get (numbers_in x) i ≡ Some (little_number 4 (drop (4 * i) x))
-number_at (a ∷ b ∷ c ∷ d ∷ rest) zero long = refl
 number_at (a ∷ b ∷ c ∷ d ∷ rest) (suc i) long =
     let next : 4 * suc i ≡ suc (suc (suc (suc (4 * i)))) = omega arith in
     rw next (number_at rest i (omega arith))
-number_at _ i long = absurd (omega arith)
+number_at x i long = grind arith
 
 -- numbers that were read place by place
 pub places : (x u : List ℕ) → length x ≡ 4 * length u → IsRead little_number 4 x u

@@ -18,9 +18,9 @@ kept_or_ends [] = inr refl
 kept_or_ends (zero ∷ []) = inl refl
 kept_or_ends (suc n ∷ []) = inr refl
 kept_or_ends (zero ∷ next ∷ rest) =
-    elim (kept_or_ends (next ∷ rest)) [ inl e ↦ inl cc | inr e ↦ inr cc ]
+    grind (arith, kept_or_ends (next ∷ rest))
 kept_or_ends (suc n ∷ next ∷ rest) =
-    elim (kept_or_ends (next ∷ rest)) [ inl e ↦ inl cc | inr e ↦ inr cc ]
+    grind (arith, kept_or_ends (next ∷ rest))
 
 -- not both
 all_kept : (s : List ℕ) → ¬ (EndsInZero s) ↔ (without_end_zero s ≡ s)
@@ -33,14 +33,13 @@ all_kept s = (
 
 -- what is kept of two strings is equal exactly where they are idle
 idle_where_kept : (b c : List ℕ) → (without_end_zero b ≡ without_end_zero c) ↔ AreIdleTexts b c
-idle_where_kept b c = (
-  λ e. grind (arith, kept_or_ends b, kept_or_ends c, all_kept b, all_kept c),
-  λ h. grind (arith, all_kept b, all_kept c, end_zero b, end_zero c),
-)
+idle_where_kept b c =
+    grind (arith, kept_or_ends b, kept_or_ends c, all_kept b, all_kept c, end_zero b, end_zero c)
 
 -- what was read is what is kept, which is UTF-8
 text_is : (b v : List ℕ) → text_in b ≡ Ok v → (without_end_zero b ≡ v) × IsUtf8 (without_end_zero b)
-text_is b v h = grind (arith, IsUtf8-from_is_utf8)
+text_is b v h =
+    grind (arith, IsUtf8-from_is_utf8)
 
 -- what is kept of bytes is bytes
 kept_in_range : (b : List ℕ) → IsBytes b → IsBytes (without_end_zero b)
