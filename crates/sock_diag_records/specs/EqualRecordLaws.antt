@@ -26,5 +26,4 @@ module _ (socket : SocketId → SocketId → Bool) (same_socket : (a b : SocketI
         && (eqb v.send_queue w.send_queue && (eqb v.uid w.uid && eqb v.inode w.inode)))))))
         ↔ (v ≡ w)
     header_equal v w =
-        let same = options_equal timer same_timer in
-        (λ h. grind (arith, same_socket, same), λ e. grind (arith, same_socket, same, e))
+        grind arith

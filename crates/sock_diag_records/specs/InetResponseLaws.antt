@@ -104,7 +104,8 @@ header_is left = by_versions _ (each _ refl refl refl refl refl) (each _ refl re
 timer_back : (timer : Option Timer) (before after : List ℕ) → IsWholeTimer timer
     → timer_of (class_of timer) (slice_index (retransmits_values timer ++ before) 0)
     (slice_index (expires_values timer ++ after) 0) ≡ timer
-timer_back timer before after h = grind (arith, duration-milliseconds)
+timer_back timer before after h =
+    grind arith
 
 behind_retransmits : (timer : Option Timer) (rest : List ℕ)
     → drop (retransmits_count (class_of timer)) (retransmits_values timer ++ rest) ≡ rest

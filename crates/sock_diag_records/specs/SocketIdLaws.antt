@@ -34,8 +34,8 @@ by_versions P a b c d versions = grind arith
 -- an address is that of its values, and the values behind it are left
 address_back : (address : IpAddr) (rest : List ℕ) → IsAddress address
     → address_of (version_of address) (address_values address ++ rest) ≡ address
-address_back (V4 ip) rest h = rw (first_all 4 ip.octets h)
-address_back (V6 ip) rest h = rw (first_all 8 ip.segments h)
+address_back address rest h =
+    grind (arith, first_all 4, first_all 8)
 
 behind_address : (address : IpAddr) (rest : List ℕ)
     → drop (count_of (version_of address)) (address_values address ++ rest) ≡ rest
@@ -45,8 +45,7 @@ behind_address address rest = grind arith
 pub socket_id_back : (value : SocketId) (rest : List ℕ) → IsShaped value
     → socket_id_of (versions_of value) (socket_id_values value ++ rest) ≡ value
 socket_id_back value rest shaped =
-    simp (append_assoc, behind_address, address_back, shaped.source, shaped.destination)
-    (rw (first_all 8 value.cookie shaped.cookie))
+    grind (arith, append_assoc, behind_address, address_back, first_all 8 value.cookie shaped.cookie)
 
 -- the bytes of the record by itself
 pub bytes_alone : (value : SocketId) → bytes socket_id value

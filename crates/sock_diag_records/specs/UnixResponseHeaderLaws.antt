@@ -1,4 +1,5 @@
 -- The layout of the header of a reply about a UNIX socket is sound.
+use Rattle.std.proofs.Common.{arith}
 use Rattle.std.proofs.Common.{refl}
 use Rattle.netlink_core.specs.SoundLaws.{IsSound}
 use Rattle.netlink_core.proofs.LayoutLaws.{plain_sound}
@@ -6,5 +7,5 @@ use Rattle.netlink_core.proofs.FieldReads.{first_all}
 use Rattle.sock_diag_records.specs.UnixResponseHeader.{unix_response_header}
 
 pub unix_response_header_sound : IsSound unix_response_header
-unix_response_header_sound = plain_sound refl (λ value. refl) (λ left. refl) (λ left. refl)
-    (λ value shaped. rw (first_all 8 value.cookie shaped))
+unix_response_header_sound =
+    grind (arith, first_all 8)

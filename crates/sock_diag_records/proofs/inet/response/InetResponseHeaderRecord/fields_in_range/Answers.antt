@@ -1,3 +1,4 @@
+use Rattle.std.proofs.Common.{arith}
 use Rattle.std.proofs.Common.{rules}
 use Rattle.sock_diag_records.specs.SocketId.{socket_id}
 use Rattle.netlink_core.proofs.FieldReads.{fit-append}
@@ -9,5 +10,4 @@ use Rattle.sock_diag_records.proofs.inet.response.InetResponseHeaderRecord.field
 pub returns : goal.returns
 unfolding inet_response_header socket_id
 returns c =
-    let socket = fit_inside 4 c.args.self.now.socket_id c.fields_in_range.ensures in
-    record { shaped = search rules; fit = search (rules, fit-append, expires_fit) }
+    grind arith

@@ -1,3 +1,4 @@
+use Rattle.std.proofs.Common.{arith}
 use Rattle.std.proofs.Common.{rules}
 use Rattle.sock_diag_records.specs.SocketId.{socket_id}
 use Rattle.netlink_core.proofs.FieldReads.{fit-append, fit-bytes}
@@ -6,7 +7,4 @@ use Rattle.sock_diag_records.proofs.inet.socket_id.SocketIdRecord.fields_in_rang
 pub returns : goal.returns
 unfolding socket_id
 returns c =
-    let cookie = fit-bytes 40 8 c.args.self.now.cookie c.bytes_in_range.ensures in
-    let source = c.address_in_range.ensures.fit 4 in
-    let destination = c.address_in_range-2.ensures.fit 20 in
-    record { shaped = search rules; fit = search (rules, fit-append) }
+    grind (arith, fit-bytes 40 8 c.args.self.now.cookie c.bytes_in_range.ensures, fit-append, c.address_in_range.ensures.fit, c.address_in_range-2.ensures.fit)

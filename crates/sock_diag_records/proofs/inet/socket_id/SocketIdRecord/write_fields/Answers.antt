@@ -5,6 +5,4 @@ use Rattle.sock_diag_records.proofs.inet.socket_id.SocketIdRecord.write_fields.G
 
 pub returns : goal.returns
 returns c =
-    let value = c.args.self.now in
-    let long : length value.cookie ≡ 8 = omega arith in
-    rw (bytes_alone value, first_all 8 value.cookie long) (search rules)
+    grind (arith, bytes_alone, first_all 8)

@@ -5,5 +5,4 @@ use Rattle.sock_diag_records.proofs.unix.response.UnixResponseHeaderRecord.write
 
 pub returns : goal.returns
 returns c =
-    let long : length c.args.self.now.cookie ≡ 8 = omega arith in
-    rw (first_all 8 c.args.self.now.cookie long) (search rules)
+    grind (arith, first_all 8 c.args.self.now.cookie)
