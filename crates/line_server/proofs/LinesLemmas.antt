@@ -25,15 +25,14 @@ module _ (c : ℕ) (front xs : List ℕ) (none : All (λ b. is_byte c b ≡ fals
 
   pub cut_at_first : (n : ℕ) → IsFirstByte (is_byte c) xs (Some n) → xs ≡ take n xs ++ c
       ∷ drop (n + 1) xs
-  cut_at_first n h = rw (drop-cons xs n 0 h.0.high, eqb-true _ _ h.1, ← add-one) at
-      (sym (take-append-drop n xs))
+  cut_at_first n h =
+      grind (arith, drop-cons, eqb-true, add-one, take-append-drop)
 
   pub split_at_first : (n : ℕ) → IsFirstByte (is_byte c) xs (Some n)
       → slice_split (is_byte c) (front ++ xs)
       ≡ (front ++ take n xs) ∷ slice_split (is_byte c) (drop (n + 1) xs)
-  split_at_first n h = rw (append_assoc, ← cut_at_first n h) at
-      (slice_split_at (is_byte c) (front ++ take n xs) c (drop (n + 1) xs)
-      (without n (omega (arith, h.0.high)) h.0.before) (eq-eqb c c refl))
+  split_at_first n h =
+      grind (arith, append_assoc, cut_at_first n h, slice_split_at, without n, eq-eqb)
 
   pub without_first : IsFirstByte (is_byte c) xs None → All (λ b. is_byte c b ≡ false) (front ++ xs)
   without_first h = rw (take_all, le_refl) at (without (length xs) (le_refl (length xs)) h)

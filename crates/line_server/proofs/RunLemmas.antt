@@ -1,4 +1,6 @@
 -- What a run has written, from what its parts wrote.
+use Rattle.std.proofs.lemmas.Grind.{common_steps}
+use Rattle.std.proofs.Common.{arith}
 use Rattle.std.proofs.Common.{◌≡◌, ℕ, List, [], ◌∷◌, ◌++◌, length, take, Option, None, Some, Result}
 use Rattle.std.proofs.Common.{map, Ok, Err, Bool, ◌&&◌, refl, sym, ◌∙◌}
 use Rattle.std.proofs.Common.{append_assoc, append-nil}
@@ -20,8 +22,8 @@ use Rattle.line_server.specs.declared.stream.ServeError.TheVariants.{Read, Write
 -- the last line stands behind the whole ones
 with_rest-append : (whole : List (List ℕ)) (rest : List ℕ) → with_rest whole rest
     ≡ whole ++ with_rest [] rest
-with_rest-append whole [] = sym (append-nil whole)
-with_rest-append whole (b ∷ rest) = refl
+with_rest-append whole rest =
+    grind (arith, append-nil whole)
 
 -- the answers to whole lines are the first
 pub answers_begin : (f : List ℕ → List ℕ) (whole : List (List ℕ)) (rest : List ℕ)
@@ -33,7 +35,7 @@ pub goods_begin : (f : List ℕ → List ℕ) (good : List ℕ → Bool) (whole 
     (rest : List ℕ) → list_all good (map f (with_rest whole rest))
     ≡ (all_good good f whole && all_good good f (with_rest [] rest))
 goods_begin f good whole rest =
-    rw (list_all-map, with_rest-append whole) (list_all-append _ whole _)
+    grind (arith, list_all-map, with_rest-append whole, list_all-append)
 
 -- of what was read and written
 module _ {f : List ℕ → List ℕ} {r r' c c' : Option (List ℕ)} {whole : List (List ℕ)}
@@ -42,8 +44,7 @@ module _ {f : List ℕ → List ℕ} {r r' c c' : Option (List ℕ)} {whole : Li
   pub waited : (r'' : Option (List ℕ)) → Consumes r' r'' []
       → Exchange f r r'' c c' whole rest written
   waited r'' none =
-      let read = rw append-nil at (Consumes-trans r r' r'' up.text [] up.read none) in
-      record { text = up.text; read = read; splits = up.splits; appended = up.appended }
+      grind (arith, append-nil)
 
   -- more was read
   pub read_on : (r'' : Option (List ℕ)) (piece last : List ℕ) (next : List (List ℕ))
@@ -60,8 +61,7 @@ module _ {f : List ℕ → List ℕ} {r r' c c' : Option (List ℕ)} {whole : Li
   pub write_on : (c'' : Option (List ℕ)) (more all : List ℕ) → Appends c' c'' more
       → written ++ more ≡ all → Exchange f r r' c c'' whole rest all
   write_on c'' more all wrote e =
-      let appended = rw e at (Appends-trans c c' c'' written more up.appended wrote) in
-      record { text = up.text; read = up.read; splits = up.splits; appended = appended }
+      grind (arith, common_steps)
 
   -- not all of a text with which the answers go on was written
   pub run_failed : (good : List ℕ → Bool) (n : ℕ) (c'' : Option (List ℕ)) (text more : List ℕ)
@@ -91,7 +91,7 @@ pub run_complete : (answers : List ℕ → List ℕ → Type 0) (good : List ℕ
 run_complete answers good a only r r' c c' (Err e) ended p = tt
 run_complete answers good a only None r' c c' (Ok is_good) ended p = tt
 run_complete answers good a only (Some text) None c c' (Ok is_good) ended (_, _, p, _) =
-    absurd p.read
+    grind arith
 run_complete answers good a only (Some text) (Some left) c c' (Ok is_good) ended
     (lines, last, p, judged) = λ f whole rest right splits.
     let all : text ≡ p.text = p.read ∙ rw ended (append-nil p.text) in
