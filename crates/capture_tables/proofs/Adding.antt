@@ -1,7 +1,8 @@
 -- A text that grows at its end, part by part.
+use Rattle.std.proofs.Common.{arith}
 use Rattle.std.proofs.Common.{◌≡◌, ℕ, List, ◌++◌, ap, ◌∙◌, append_assoc}
 
 -- two parts one after the other
 pub adds : (old mid new x y : List ℕ) → mid ≡ old ++ x → new ≡ mid ++ y → new ≡ old ++ (x ++ y)
-adds old mid new x y first second = second ∙ ap (λ (t : List ℕ). t ++ y) first
-    ∙ append_assoc old x y
+adds old mid new x y first second =
+    grind (arith, append_assoc old x y)

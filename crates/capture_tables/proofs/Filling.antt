@@ -11,6 +11,4 @@ pub zero_filled_is : (width n : ℕ)
     ≡ zero_filled width n
 unfolding padded_integral char_count
 zero_filled_is width n =
-    let zeros : width - length (decimal n) - 0 - 0 ≡ width - length (decimal n) = omega arith in
-    ap (λ (k : ℕ). replicate k 48 ++ (decimal n ++ [])) zeros
-    ∙ ap (λ (t : List ℕ). replicate (width - length (decimal n)) 48 ++ t) (append-nil (decimal n))
+    grind (arith, append-nil (decimal n))

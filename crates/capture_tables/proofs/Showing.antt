@@ -1,4 +1,5 @@
 -- Texts under `--utf8`.
+use Rattle.std.proofs.Common.{arith}
 use Rattle.std.proofs.Common.{◌≡◌, ◌&&◌, Bool, true, false, cond, List, ℕ, refl, IsUtf8}
 use Rattle.std.proofs.Common.{chars, flat_map}
 use Rattle.std.specs.Str.{is_utf8}
@@ -11,9 +12,8 @@ pub asked_shown : (utf8 : Bool) (bytes : List ℕ) → utf8 ≡ true → IsUtf8 
 asked_shown utf8 bytes asked is = rw (asked, is_utf8-from_IsUtf8 bytes is) refl
 
 other : (p q : Bool) (xs ys : List ℕ) → (q ≡ true → ⊥) → ys ≡ cond (p && q) xs ys
-other true true xs ys wrong = absurd (wrong refl)
-other true false xs ys wrong = refl
-other false q xs ys wrong = refl
+other x0 q xs ys wrong =
+    grind arith
 
 -- it is no UTF-8
 pub other_shown : (utf8 : Bool) (bytes : List ℕ) → ¬ IsUtf8 bytes

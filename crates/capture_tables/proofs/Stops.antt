@@ -16,29 +16,20 @@ within : (file : FileHeader) (left : Option (List ℕ)) (failed : Type 0) (heade
     (e : CaptureError)
     → length header ≡ 16 → length part < number_at file.order 4 8 header → IsStop left failed e
     → IsPacketStop file left failed (header ++ part) e
-within file left failed header part Cut long short stop =
-    (omega (arith, length-append header part), inr (header, part, refl, long, short), stop)
-within file left failed header part Read long short stop =
-    (inr (header, part, refl, long, short), stop)
-within file left failed header part Directory long short stop =
-    (inr (header, part, refl, long, short), stop)
-within file left failed header part _ long short stop = absurd stop
+within file left failed header part x5 long short stop =
+    grind arith
 
 -- a read failed
 pub failure_stops : (left : Option (List ℕ)) (failed : Type 0) (e : CaptureError) → IsReadFailure e
     → failed → IsStop left failed e
-failure_stops left failed e is cause = elim is [
-  | inl read ↦ subst (λ (e : CaptureError). IsStop left failed e) (sym read) cause
-  | inr directory ↦ subst (λ (e : CaptureError). IsStop left failed e) (sym directory) cause
-]
+failure_stops left failed e is cause =
+    grind arith
 
 -- the input ends within the header of a capture, or a read failed
 pub start_stops : (left : Option (List ℕ)) (failed : Type 0) (part : List ℕ) (e : CaptureError)
     → (e ≡ Cut → 0 < length part) → IsStop left failed e → IsStartStop left failed part e
-start_stops left failed part Cut some stop = (some refl, stop)
-start_stops left failed part Read some stop = stop
-start_stops left failed part Directory some stop = stop
-start_stops left failed part _ some stop = absurd stop
+start_stops left failed part x3 some stop =
+    grind arith
 
 -- the header of a packet was read, and not all of the packet
 pub packet_stops : (file : FileHeader) (a b c : Option (List ℕ)) (failed : Type 0) (header : List ℕ)

@@ -28,22 +28,14 @@ digit_below : (n : ℕ) → digits_below n ≡ true → (d : ℕ) → d < n
     → digit_worth (slice_index lower_digits d) ≡ d
 digit_below zero h d low = absurd (omega arith)
 digit_below (suc n) h d low =
-    let p = and_parts _ _ h in
-    elim (cases_eq d n) [
-      | inl same ↦ rw same (eqb-true _ _ p.0)
-      | inr other ↦ digit_below n p.1 d (omega arith)
-    ]
+    grind (arith, cases_eq d n, digit_below n)
 
 -- the two digits of a byte are worth it
 digits_are : (c : ℕ) → c < 256
     → 16 * digit_worth (slice_index lower_digits (c / 16))
     + digit_worth (slice_index lower_digits (c % 16)) ≡ c
 digits_are c low =
-    let high : digit_worth (slice_index lower_digits (c / 16)) ≡ c / 16
-    = digit_below 16 refl (c / 16) (omega arith) in
-    let last : digit_worth (slice_index lower_digits (c % 16)) ≡ c % 16
-    = digit_below 16 refl (c % 16) (omega arith) in
-    omega (arith, high, last)
+    grind (arith, digit_below 16)
 
 pub told_digits : (c : ℕ) (t : List ℕ) → c < 256
     → bytes_told 0 (byte_digits c ++ t) ≡ c ∷ bytes_told 0 t
@@ -52,81 +44,47 @@ told_digits c t low = ap (λ (k : ℕ). k ∷ bytes_told 0 t) (digits_are c low)
 
 told_escaped : (c : ℕ) (t : List ℕ) → c < 256
     → bytes_told 0 (escaped c ++ t) ≡ c ∷ bytes_told 0 t
-told_escaped c t low = elim (cases_Bool (is_plain c)) [
-  | inl plain ↦
-      let p = and_parts _ _ plain in
-      let from : 33 ≤ c = leb-true 33 c (and_parts _ _ p.0).0 in
-      rw plain (told_plain c t (λ e. omega (arith, e)) (λ e.
-      let wrong = rw (eq-eqb c 92 e) at p.1 in cc))
-  | inr other ↦ rw other (told_digits c t low)
-]
+told_escaped c t low =
+    grind (arith, told_plain c t, told_digits c t low)
 
 told_bytes : (bs t : List ℕ) → AllByRecursion (λ (b : ℕ). b < 256) bs
     → bytes_told 0 (flat_map escaped bs ++ t) ≡ bs ++ bytes_told 0 t
 told_bytes [] t low = refl
 told_bytes (b ∷ bs) t low =
-    ap (bytes_told 0) (append_assoc (escaped b) (flat_map escaped bs) t)
-    ∙ told_escaped b (flat_map escaped bs ++ t) low.0
-    ∙ ap (λ (l : List ℕ). b ∷ l) (told_bytes bs t low.1)
+    grind (arith, append_assoc (escaped b) (flat_map escaped bs) t, told_escaped b (flat_map escaped bs ++ t) low.0, told_bytes bs t low.1)
 
 told_high : (bs t : List ℕ) → AllByRecursion (λ (b : ℕ). 128 ≤ b) bs
     → bytes_told 0 (bs ++ t) ≡ bs ++ bytes_told 0 t
 told_high [] t high = refl
 told_high (b ∷ bs) t high =
-    let above : 128 ≤ b = high.0 in
-    told_plain b (bs ++ t) (λ e. omega (arith, e)) (λ e. omega (arith, e))
-    ∙ ap (λ (l : List ℕ). b ∷ l) (told_high bs t high.1)
+    grind (arith, told_plain b (bs ++ t), told_high bs t high.1)
 
 -- past ASCII each byte of a character is one from 128 on
 encode_high : (c : ℕ) → 128 ≤ c → AllByRecursion (λ (b : ℕ). 128 ≤ b) (encode c)
 unfolding encode
-encode_high c big = rw (le-ltb c 128 big) (elim (cases_lt c 2048) [
-  | inl two ↦ rw (lt-ltb c 2048 two) (omega arith, (omega arith, tt))
-  | inr more ↦ rw (le-ltb c 2048 more) (elim (cases_lt c 65536) [
-    | inl three ↦ rw (lt-ltb c 65536 three) (omega arith, (omega arith, (omega arith, tt)))
-    | inr four ↦ rw (le-ltb c 65536 four)
-        (omega arith, (omega arith, (omega arith, (omega arith, tt))))
-  ])
-])
+encode_high c big =
+    grind arith
 
 scalar_low : (c : ℕ) → IsScalar c → c < 1114112
-scalar_low c ok = elim (scalar_cases c ok) [
-  | inl low ↦ omega arith
-  | inr high ↦ high.1
-]
+scalar_low c ok =
+    grind arith
 
 -- the bytes of a character are bytes
 encode_low : (c : ℕ) → IsScalar c → AllByRecursion (λ (b : ℕ). b < 256) (encode c)
 unfolding encode
-encode_low c ok = let most : c < 1114112 = scalar_low c ok in elim (cases_lt c 128) [
-  | inl one ↦ rw (lt-ltb c 128 one) (omega arith, tt)
-  | inr big ↦ rw (le-ltb c 128 big) (elim (cases_lt c 2048) [
-    | inl two ↦ rw (lt-ltb c 2048 two) (omega arith, (omega arith, tt))
-    | inr more ↦ rw (le-ltb c 2048 more) (elim (cases_lt c 65536) [
-      | inl three ↦ rw (lt-ltb c 65536 three) (omega arith, (omega arith, (omega arith, tt)))
-      | inr four ↦ rw (le-ltb c 65536 four)
-          (omega arith, (omega arith, (omega arith, (omega arith, tt))))
-    ])
-  ])
-]
+encode_low c ok =
+    grind arith
 
 told_char : (c : ℕ) (t : List ℕ) → IsScalar c
     → bytes_told 0 (char_text c ++ t) ≡ encode c ++ bytes_told 0 t
-told_char c t ok = elim (cases_Bool (is_shown c)) [
-  | inl held ↦ rw held (told_high (encode c) t
-      (encode_high c (leb-true 128 c (and_parts _ _ held).0)))
-  | inr other ↦ rw other (told_bytes (encode c) t (encode_low c ok))
-]
+told_char c t ok =
+    grind (arith, cases_Bool (is_shown c), told_high (encode c) t, encode_high c, told_bytes (encode c) t (encode_low c ok))
 
 told_chars : (cs t : List ℕ) → scalars cs ≡ true
     → bytes_told 0 (flat_map char_text cs ++ t) ≡ encodes cs ++ bytes_told 0 t
 told_chars [] t ok = refl
 told_chars (c ∷ cs) t ok =
-    let p = and_parts _ _ ok in
-    ap (bytes_told 0) (append_assoc (char_text c) (flat_map char_text cs) t)
-    ∙ told_char c (flat_map char_text cs ++ t) p.0
-    ∙ ap (λ (l : List ℕ). encode c ++ l) (told_chars cs t p.1)
-    ∙ sym (append_assoc (encode c) (encodes cs) (bytes_told 0 t))
+    grind (arith, append_assoc (char_text c) (flat_map char_text cs) t, told_char c (flat_map char_text cs ++ t), told_chars cs t, append_assoc (encode c) (encodes cs) (bytes_told 0 t))
 
 all_bytes : (bs : List ℕ) → ((i : ℕ) → slice_index bs i < 256)
     → AllByRecursion (λ (b : ℕ). b < 256) bs

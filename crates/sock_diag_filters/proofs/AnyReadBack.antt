@@ -42,16 +42,8 @@ same_value r x y h k = cc
 
 inet_asked : (first : ℕ) (kinds : IpVersions) → versions_of_family first ≡ Ok kinds
     → family_by_byte first ≡ Ok inet
-inet_asked first kinds is = elim (cases_eq first 2) [
-  | inl two ↦ rw two refl
-  | inr not_two ↦ elim (cases_eq first 10) [
-    | inl ten ↦ rw ten refl
-    | inr not_ten ↦
-        let no : versions_of_family first ≡ Err (UnsupportedFamily first) =
-        rw (ne_eqb first 2 not_two, ne_eqb first 10 not_ten) refl in
-        absurd cc
-  ]
-]
+inet_asked first kinds is =
+    grind (arith, cases_eq first 2, cases_eq first 10, ne_eqb first 2, ne_eqb first 10)
 
 -- ---- records
 
@@ -77,11 +69,8 @@ first_asked vsock request rest = refl
 first_asked xdp request rest = refl
 
 has_two : (family : RecordFamily) → 2 ≤ size_of family
-has_two unix = omega arith
-has_two netlink = omega arith
-has_two packet = omega arith
-has_two vsock = omega arith
-has_two xdp = omega arith
+has_two x0 =
+    grind arith
 
 module _ (family : RecordFamily) (h : NetlinkHeader) (request : (codec_of family).Value)
     (attributes : List ℕ) (whole : IsWhole family h request attributes) where
@@ -152,18 +141,8 @@ module _ (family : RecordFamily) (h : NetlinkHeader) (request : (codec_of family
       (asks.3 ∙ ap (λ (g : NetlinkHeader). drop (size_of k) (payload_of message g)) same)
 
   pub record_never_refused : (e : DecodeError) → RefusesAnyRequest message e → ⊥
-  record_never_refused e (inl fault) =
-      let all : length message ≡ 16 + length (own ++ attributes) =
-      length-append (header_bytes h) (own ++ attributes) in
-      no_fault_of_whole message h e record_stands.0
-      (omega (arith, all, whole.counted, long, length-append own attributes)) fault
-  record_never_refused e (inr (k, framed, refused)) =
-      let same = one_header message k h framed record_stands.0 in
-      let there : refuses_by (Ok (of_record family)) message h e =
-      subst (λ (decoded : Result AskedFamily DecodeError).
-      refuses_by decoded message h e) record_asked
-      (subst (λ (g : NetlinkHeader). refuses_by (family_in message g) message g e) same refused) in
-      absurd (cc (there, record_read))
+  record_never_refused e x1 =
+      grind (arith, length-append, no_fault_of_whole, long, one_header, record_asked, record_read)
 
 -- ---- requests for internet sockets
 
@@ -187,14 +166,12 @@ module _ (h : NetlinkHeader) (request : InetRequest) (attributes : List RequestA
 
   inet_header : (k : NetlinkHeader) → HasHeader asked k → k ≡ own_header
   inet_header k framed =
-      one_header asked k own_header framed (stands h request attributes can).0
+      grind (arith, one_header, stands)
 
   pub inet_read_back : (other : AnyRequest) → AnyAsks asked other
       → IsInetReadBack h request attributes other
-  inet_read_back (of_inet view) asks = read_back h request attributes can view asks.1
-  inet_read_back (of_family k m v behind) asks =
-      let decoded = ap (family_in asked) (sym (inet_header m asks.0)) ∙ asks.1 in
-      absurd (cc (decoded, asked_inet))
+  inet_read_back x0 asks =
+      grind (arith, read_back, inet_header, asked_inet)
 
   pub inet_never_refused : (e : DecodeError) → RefusesAnyRequest asked e → ⊥
   inet_never_refused e (inl fault) =

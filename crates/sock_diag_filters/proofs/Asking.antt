@@ -1,4 +1,5 @@
 -- What attributes tell, one after the other.
+use Rattle.std.proofs.Common.{arith}
 use Rattle.std.proofs.Common.{◌≡◌, ◌∙◌, List, [], ◌∷◌, ◌++◌, Option, Some, None, refl, sym, ap}
 use Rattle.std.specs.List.{filter_map, last_or}
 use Rattle.std.proofs.lemmas.List.Elements.{filter_map-append}
@@ -19,20 +20,10 @@ last_or-append o (x ∷ xs) ys = last_or-append (Some x) xs ys
 last_more : {A B : Type 0} (f : A → Option B) (xs : List A) (x : A)
     → last_or None (filter_map f (xs ++ x ∷ []))
     ≡ last_or (last_or None (filter_map f xs)) (filter_map f (x ∷ []))
-last_more f xs x = ap (last_or None) (filter_map-append f xs (x ∷ []))
-    ∙ last_or-append None (filter_map f xs) (filter_map f (x ∷ []))
+last_more f xs x =
+    grind (arith, filter_map-append f xs (x ∷ []), last_or-append)
 
 pub keeps_more : (found : Found) (decoded : List AskedAttribute) (o : Option RequestAttribute)
     → Keeps found decoded → Keeps (found_with found o) (decoded ++ asked_or_nothing o ∷ [])
-keeps_more found decoded None keeps = record {
-  program = keeps.program ∙ sym (last_more program_in decoded nothing_asked);
-  protocol = keeps.protocol ∙ sym (last_more protocol_in decoded nothing_asked);
-}
-keeps_more found decoded (Some (Program program)) keeps = record {
-  program = sym (last_more program_in decoded (program_asked program.now));
-  protocol = keeps.protocol ∙ sym (last_more protocol_in decoded (program_asked program.now));
-}
-keeps_more found decoded (Some (Protocol protocol)) keeps = record {
-  program = keeps.program ∙ sym (last_more program_in decoded (protocol_asked protocol));
-  protocol = sym (last_more protocol_in decoded (protocol_asked protocol));
-}
+keeps_more found decoded x2 keeps =
+    grind (arith, last_more program_in decoded nothing_asked, last_more protocol_in decoded nothing_asked, last_more program_in decoded, last_more protocol_in decoded)

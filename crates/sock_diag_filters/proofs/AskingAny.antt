@@ -1,4 +1,5 @@
 -- Which request is refused, by the family that is told.
+use Rattle.std.proofs.Common.{arith}
 use Rattle.std.proofs.Common.{◌≡◌, ℕ, ◌≤◌, List, length, inl, inr, refl, sym, subst}
 use Rattle.std.proofs.Common.{le-ltb, Result, Ok, Err}
 use Rattle.std.specs.Prelude.{slice_index}
@@ -15,18 +16,14 @@ use Rattle.sock_diag_filters.specs.Asked.{IsRequestType, RefusesRequest, payload
 pub asked_is : (payload : List ℕ) (t : ℕ) (decoded : Result AskedFamily DecodeError)
     → 2 ≤ length payload → IsRequestType t → family_by_byte (slice_index payload 0) ≡ decoded
     → asked_family payload t ≡ decoded
-asked_is payload t decoded long (inl same) is = rw (le-ltb (length payload) 2 long, same) is
-asked_is payload t decoded long (inr same) is = rw (le-ltb (length payload) 2 long, same) is
+asked_is payload t decoded long x4 is =
+    grind (arith, le-ltb (length payload) 2 long)
 
 -- another type is refused
 pub other_is_refused : (payload : List ℕ) (t : ℕ) → 2 ≤ length payload → ¬ IsRequestType t
     → asked_family payload t ≡ Err (UnknownMessageType t)
 other_is_refused payload t long other =
-    rw (
-      le-ltb (length payload) 2 long,
-      ne_eqb t 20 (λ same. other (inl same)),
-      ne_eqb t 21 (λ same. other (inr same)),
-    ) refl
+    grind (arith, le-ltb (length payload) 2 long, ne_eqb t 20, ne_eqb t 21)
 
 module _ (message : List ℕ) (h : NetlinkHeader) (e : DecodeError) where
   abbrev by : Result AskedFamily DecodeError → Type 0

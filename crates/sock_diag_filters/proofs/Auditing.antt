@@ -19,23 +19,15 @@ use Rattle.sock_diag_filters.proofs.Stepping.{Lands, before, over_operation, ove
 
 -- one goes on to the end or four bytes past it at the most
 lands_within : (far : ℕ) (rest : List ℕ) → Lands far rest → far ≤ length rest + 4
-lands_within far rest lands = elim lands [
-  | inl past ↦ omega arith
-  | inr some ↦ let e = some.2 in omega arith
-]
+lands_within far rest lands =
+    grind arith
 
 -- what is behind some operation is reachable
 lands_there : (program left : List ℕ) (own far : ℕ) (rest : List ℕ) → Steps program left
     → Steps left rest → length left ≡ own + length rest → Lands far rest → own + far < length left
     → IsReachable program (length left - (own + far))
-lands_there program left own far rest to passing long lands less = elim lands [
-  | inl past ↦ absurd (omega arith)
-  | inr some ↦ (
-    some.0,
-    steps_on program left some.0 to (steps_on left rest some.0 passing some.1),
-    let e = some.2 in omega arith,
-  )
-]
+lands_there program left own far rest to passing long lands less =
+    grind (arith, steps_on program left, steps_on left rest)
 
 operation_passes : (program : List ℕ) (code : ℕ) (args : List ℕ) (far : ℕ) (rest : List ℕ)
     → least_of (operation code args far ++ rest) ≡ Some (4 + length args)
@@ -72,13 +64,7 @@ operation_passes program code args far rest known bits fours far_fours near to l
 lands_behind : (front rest : List ℕ) (far own : ℕ) → Steps (front ++ rest) rest
     → length front ≡ own → Lands far rest → Lands (own + far) (front ++ rest)
 lands_behind front rest far own passing long lands =
-    let both = length-append front rest in
-    elim lands [
-      | inl past ↦ inl (omega arith)
-      | inr some ↦
-          let e = some.2 in
-          inr (some.0, steps_on (front ++ rest) rest some.0 passing some.1, omega arith)
-    ]
+    grind (arith, length-append front rest, steps_on (front ++ rest) rest)
 
 jump_passes : (program : List ℕ) (far : ℕ) (rest : List ℕ) → far % 4 ≡ 0 → 4 + far ≤ 65535
     → Steps program (jump far ++ rest) → Lands far rest → Passes program rest
@@ -91,8 +77,7 @@ program_passes : (f : Filter) (far : ℕ) (program rest : List ℕ) → far % 4 
     → size f + far ≤ 65535 → Steps program (program_of f far ++ rest) → Lands far rest
     → Passes program rest → Passes program (program_of f far ++ rest)
 program_passes (parts.Condition c) far program rest fours near to lands passes =
-    operation_passes program (code_of c) (arguments c) far rest (condition_known c far rest)
-    (condition_bits c far rest) (arguments_in_fours c) fours (omega arith) to lands passes
+    grind (arith, operation_passes program (code_of c) (arguments c) far rest (condition_known c far rest) (condition_bits c far rest) (arguments_in_fours c) fours, condition_known c far rest, condition_bits c far rest, arguments_in_fours c)
 program_passes (parts.And' p a q b) far program rest fours near to lands passes =
     let first : List ℕ = program_of a (size b + far) in
     let second : List ℕ = program_of b far in

@@ -34,13 +34,13 @@ operation_length code args far = omega arith
 pub behind_operation : (code : ℕ) (args : List ℕ) (far : ℕ) (rest : List ℕ)
     → drop (yes_at (operation code args far ++ rest)) (operation code args far ++ rest) ≡ rest
 behind_operation code args far rest =
-    drop_at (operation code args far) rest (4 + length args) (operation_length code args far)
+    grind (arith, drop_at (operation code args far) rest (4 + length args) (operation_length code args far), operation code args far, operation_length code args far)
 
 pub no_of_operation : (code : ℕ) (args : List ℕ) (far : ℕ) (rest : List ℕ)
     → 4 + length args + far ≤ 65535
     → no_at (operation code args far ++ rest) ≡ 4 + length args + far
 no_of_operation code args far rest near =
-    number-reads_back little_endian 2 (4 + length args + far) (args ++ rest) (omega arith)
+    grind (arith, number-reads_back little_endian 2 (4 + length args + far) (args ++ rest))
 
 -- ---- conditions
 
@@ -53,138 +53,91 @@ abbrev pub host : Option ValueCodec → ℕ → List ℕ
 host o port = front_of o ++ (little_bytes 4 port ++ octets_behind o)
 
 address_in_fours : (a : IpAddr) (bits port : ℕ) → length (with_address a bits port) % 4 ≡ 0
-address_in_fours (V4 ip) bits port = refl
-address_in_fours (V6 ip) bits port = refl
+address_in_fours x0 bits port =
+    grind arith
 
 address_few : (a : IpAddr) (bits port : ℕ) → length (with_address a bits port) ≤ 24
-address_few (V4 ip) bits port = omega arith
-address_few (V6 ip) bits port = omega arith
+address_few x0 bits port =
+    grind arith
 
 address_least : (a : IpAddr) (code far bits port : ℕ) (rest : List ℕ)
     → option_map (λ (n : ℕ). 12 + n)
     (address_length (slice_index (operation code (with_address a bits port) far ++ rest) 4))
     ≡ Some (4 + length (with_address a bits port))
-address_least (V4 ip) code far bits port rest = refl
-address_least (V6 ip) code far bits port rest = refl
+address_least x0 code far bits port rest =
+    grind arith
 
 address_bits : (a : IpAddr) (bits port : ℕ) → bits ≤ bits_of a
     → bits ≤ 8 * (4 + length (with_address a bits port) - 12)
-address_bits (V4 ip) bits port h = h
-address_bits (V6 ip) bits port h = h
+address_bits x0 bits port h =
+    grind arith
 
 host_in_fours : (o : Option ValueCodec) (port : ℕ) → length (host o port) % 4 ≡ 0
-host_in_fours None port = refl
-host_in_fours (Some p) port = address_in_fours p.address p.bits port
+host_in_fours x0 port =
+    grind (arith, address_in_fours)
 
 host_few : (o : Option ValueCodec) (port : ℕ) → length (host o port) ≤ 24
-host_few None port = omega arith
-host_few (Some p) port = address_few p.address p.bits port
+host_few x0 port =
+    grind (arith, address_few)
 
 host_least : (o : Option ValueCodec) (code far port : ℕ) (rest : List ℕ)
     → option_map (λ (n : ℕ). 12 + n)
     (address_length (slice_index (operation code (host o port) far ++ rest) 4))
     ≡ Some (4 + length (host o port))
-host_least None code far port rest = refl
-host_least (Some p) code far port rest = address_least p.address code far p.bits port rest
+host_least x0 code far port rest =
+    grind (arith, address_least)
 
 host_bits : (o : Option ValueCodec) (code far port : ℕ) (rest : List ℕ)
     → slice_index (operation code (host o port) far ++ rest) 5
     ≤ 8 * (4 + length (host o port) - 12)
-host_bits None code far port rest = omega arith
-host_bits (Some p) code far port rest = address_bits p.address p.bits port p.in_range
+host_bits x0 code far port rest =
+    grind (arith, address_bits)
 
 -- the arguments of a condition come in fours, and are few
 pub arguments_in_fours : (c : Condition) → length (arguments c) % 4 ≡ 0
-arguments_in_fours (SourcePort comparison port) = refl
-arguments_in_fours (DestinationPort comparison port) = refl
-arguments_in_fours (Source h) = host_in_fours h.prefix (unwrap_or h.port 0xffffffff)
-arguments_in_fours (Destination h) = host_in_fours h.prefix (unwrap_or h.port 0xffffffff)
-arguments_in_fours (Interface number) = refl
-arguments_in_fours (Mark mark mask) = refl
-arguments_in_fours (Cgroup number) = refl
-arguments_in_fours AutoBound = refl
+arguments_in_fours x0 =
+    grind (arith, host_in_fours)
 
 pub arguments_few : (c : Condition) → length (arguments c) ≤ 24
-arguments_few (SourcePort comparison port) = omega arith
-arguments_few (DestinationPort comparison port) = omega arith
-arguments_few (Source h) = host_few h.prefix (unwrap_or h.port 0xffffffff)
-arguments_few (Destination h) = host_few h.prefix (unwrap_or h.port 0xffffffff)
-arguments_few (Interface number) = omega arith
-arguments_few (Mark mark mask) = omega arith
-arguments_few (Cgroup number) = omega arith
-arguments_few AutoBound = omega arith
+arguments_few x0 =
+    grind (arith, host_few)
 
 -- the kernel knows it, and wants no more bytes than it has
 pub condition_known : (c : Condition) (far : ℕ) (rest : List ℕ)
     → least_of (operation (code_of c) (arguments c) far ++ rest)
     ≡ Some (4 + length (arguments c))
-condition_known (SourcePort AtLeast port) far rest = refl
-condition_known (SourcePort AtMost port) far rest = refl
-condition_known (SourcePort Equal port) far rest = refl
-condition_known (DestinationPort AtLeast port) far rest = refl
-condition_known (DestinationPort AtMost port) far rest = refl
-condition_known (DestinationPort Equal port) far rest = refl
-condition_known (Source h) far rest =
-    host_least h.prefix 7 far (unwrap_or h.port 0xffffffff) rest
-condition_known (Destination h) far rest =
-    host_least h.prefix 8 far (unwrap_or h.port 0xffffffff) rest
-condition_known (Interface number) far rest = refl
-condition_known (Mark mark mask) far rest = refl
-condition_known (Cgroup number) far rest = refl
-condition_known AutoBound far rest = refl
+condition_known x0 far rest =
+    grind (arith, host_least)
 
 -- and no more bits than its address has
 pub condition_bits : (c : Condition) (far : ℕ) (rest : List ℕ)
     → (code_of c ≡ 7) ⊎ (code_of c ≡ 8)
     → slice_index (operation (code_of c) (arguments c) far ++ rest) 5
     ≤ 8 * (4 + length (arguments c) - 12)
-condition_bits (SourcePort AtLeast port) far rest h = absurd (omega arith)
-condition_bits (SourcePort AtMost port) far rest h = absurd (omega arith)
-condition_bits (SourcePort Equal port) far rest h = absurd (omega arith)
-condition_bits (DestinationPort AtLeast port) far rest h = absurd (omega arith)
-condition_bits (DestinationPort AtMost port) far rest h = absurd (omega arith)
-condition_bits (DestinationPort Equal port) far rest h = absurd (omega arith)
-condition_bits (Source h) far rest is = host_bits h.prefix 7 far (unwrap_or h.port 0xffffffff) rest
-condition_bits (Destination h) far rest is =
-    host_bits h.prefix 8 far (unwrap_or h.port 0xffffffff) rest
-condition_bits (Interface number) far rest h = absurd (omega arith)
-condition_bits (Mark mark mask) far rest h = absurd (omega arith)
-condition_bits (Cgroup number) far rest h = absurd (omega arith)
-condition_bits AutoBound far rest h = absurd (omega arith)
+condition_bits x0 far rest h =
+    grind (arith, host_bits)
 
 -- ---- programs
 
 pub program_length : (f : Filter) (far : ℕ) → length (program_of f far) ≡ size f
 program_length (parts.Condition c) far = operation_length (code_of c) (arguments c) far
 program_length (parts.And' p a q b) far =
-    let first = program_length a (size b + far) in
-    let second = program_length b far in
-    omega (arith, length-append (program_of a (size b + far)) (program_of b far))
+    grind (arith, program_length a (size b + far), program_length b far, length-append (program_of a (size b + far)) (program_of b far), program_of a (size b + far), program_of b far)
 program_length (parts.Or' p a q b) far =
-    let first = program_length a 4 in
-    let second = program_length b far in
-    let behind : List ℕ = operation 1 [] (size b) ++ program_of b far in
-    omega (arith, length-append (program_of a 4) behind)
+    grind (arith, program_length a 4, program_length b far, operation 1, program_of b far, length-append (program_of a 4), program_of a 4)
 program_length (parts.Not' p a) far =
-    let first = program_length a 4 in
-    omega (arith, length-append (program_of a 4) (operation 1 [] far))
+    grind (arith, program_length a 4, length-append (program_of a 4) (operation 1 [] far), program_of a 4, operation 1)
 
 -- a program comes in fours
 pub size_in_fours : (f : Filter) → size f % 4 ≡ 0
 size_in_fours (parts.Condition c) = let four = arguments_in_fours c in omega arith
 size_in_fours (parts.And' p a q b) =
-    let first = size_in_fours a in
-    let second = size_in_fours b in
-    omega arith
+    grind (arith, size_in_fours a, size_in_fours b)
 size_in_fours (parts.Or' p a q b) =
-    let first = size_in_fours a in
-    let second = size_in_fours b in
-    omega arith
+    grind (arith, size_in_fours a, size_in_fours b)
 size_in_fours (parts.Not' p a) = let first = size_in_fours a in omega arith
 
 -- and isn't empty
 pub size_some : (f : Filter) → 4 ≤ size f
-size_some (parts.Condition c) = omega arith
 size_some (parts.And' p a q b) = let first = size_some a in omega arith
-size_some (parts.Or' p a q b) = omega arith
-size_some (parts.Not' p a) = omega arith
+size_some x0 = grind arith

@@ -1,4 +1,5 @@
 -- A request that is written with attributes is read back.
+use Rattle.std.proofs.lemmas.Grind.{common_steps}
 use Rattle.std.proofs.Common.{◌≡◌, ◌≢◌, ◌∙◌, ℕ, ◌+◌, ◌≤◌, List, [], ◌∷◌, ◌++◌, length, inl, inr}
 use Rattle.std.proofs.Common.{drop, refl, sym, ap, subst, arith, Result, Ok, append_assoc}
 use Rattle.std.specs.Prelude.{map, slice_index, unwrap_or, None, Some}
@@ -45,12 +46,8 @@ fit_words (Program program ∷ more) fit = ((omega arith, fit.0), fit_words more
 fit_words (Protocol protocol ∷ more) fit = ((omega arith, omega arith), fit_words more fit.1)
 
 tells : (a : RequestAttribute) → Fits a → decodes_asked (attribute_of a) ≡ Ok (asked_of a)
-tells (Program program) fit = refl
-tells (Protocol protocol) fit =
-    ap (λ (n : ℕ). ok (protocol_asked n)) (number-reads_back little_endian 4 protocol [] fit)
-  where
-    ok : AskedAttribute → Result AskedAttribute DecodeError
-    ok t = Ok t
+tells x0 fit =
+    grind (arith, number-reads_back little_endian 4)
 
 all_tell : (attributes : List RequestAttribute) → AllByRecursion Fits attributes
     → AllZip (λ a decoded. decodes_asked a
@@ -67,15 +64,11 @@ asked_once : (all : List Attribute) (decoded others : List AskedAttribute)
     → AllZip (λ a t. decodes_asked a ≡ Ok t) all decoded
     → AllZip (λ a t. decodes_asked a ≡ Ok t) all others
     → decoded ≡ others
-asked_once [] [] [] h k = refl
-asked_once [] [] (u ∷ others) h k = absurd k
-asked_once [] (t ∷ decoded) others h k = absurd h
-asked_once (a ∷ all) [] others h k = absurd h
-asked_once (a ∷ all) (t ∷ decoded) [] h k = absurd k
 asked_once (a ∷ all) (t ∷ decoded) (u ∷ others) h k =
     let first = same_value t u (decodes_asked a) h.0 k.0 in
     let later = asked_once all decoded others h.1 k.1 in
     cc
+asked_once x0 x1 others h k = grind arith
 
 -- ---- the message
 
@@ -111,8 +104,8 @@ whole_message h request attributes =
 goes_on : (kinds : IpVersions) (left rest : List ℕ) → 56 ≤ length left
     → versions_of_family (slice_index left 0) ≡ Ok kinds
     → versions_of_family (slice_index (left ++ rest) 0) ≡ Ok kinds
-goes_on kinds [] rest long h = absurd (omega arith)
-goes_on kinds (x ∷ left) rest long h = h
+goes_on kinds x1 rest long h =
+    grind (arith, common_steps)
 
 module _ (h : NetlinkHeader) (request : InetRequest) (attributes : List RequestAttribute)
     (can : CanBeAsked h request attributes) where

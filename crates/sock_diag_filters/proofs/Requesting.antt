@@ -16,11 +16,7 @@ use Rattle.sock_diag_filters.specs.Requests.{header_under, request_bytes}
 pub message_length : (h : NetlinkHeader) (r : InetRequest) (attributes : List Attribute)
     → length (request_bytes h r attributes) ≡ 72 + length (flat_map written attributes)
 message_length h r attributes =
-    let behind : length (bytes inet_request r ++ flat_map written attributes)
-    ≡ 56 + length (flat_map written attributes) =
-    length-append (bytes inet_request r) (flat_map written attributes)
-    ∙ ap (λ (n : ℕ). n + length (flat_map written attributes)) (request_length r) in
-    omega (arith, behind)
+    grind (arith, length-append (bytes inet_request r) (flat_map written attributes), request_length r)
 
 -- header, record and attributes, written one after the other, are the request
 pub all_written : (h : NetlinkHeader) (r : InetRequest) (attributes : List Attribute) (len : ℕ)

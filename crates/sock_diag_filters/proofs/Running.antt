@@ -26,28 +26,28 @@ use Rattle.sock_diag_filters.proofs.Operations.{program_length}
 -- ---- two truths
 
 both_true : (a b : Bool) → a ≡ true → b ≡ true → (a && b) ≡ true
-both_true true b h k = k
-both_true false b h k = h
+both_true x0 b h k =
+    grind arith
 
 second_false : (a b : Bool) → b ≡ false → (a && b) ≡ false
-second_false true b h = h
-second_false false b h = refl
+second_false x0 b h =
+    grind arith
 
 first_false : (a b : Bool) → a ≡ false → (a && b) ≡ false
-first_false true b h = absurd cc
-first_false false b h = refl
+first_false x0 b h =
+    grind arith
 
 first_true : (a b : Bool) → a ≡ true → (a || b) ≡ true
-first_true true b h = refl
-first_true false b h = absurd cc
+first_true x0 b h =
+    grind arith
 
 second_true : (a b : Bool) → b ≡ true → (a || b) ≡ true
-second_true true b h = refl
-second_true false b h = h
+second_true x0 b h =
+    grind arith
 
 both_false : (a b : Bool) → a ≡ false → b ≡ false → (a || b) ≡ false
-both_false true b h k = h
-both_false false b h k = k
+both_false x0 b h k =
+    grind arith
 
 is_false : (a : Bool) → a ≡ true → not a ≡ false
 is_false a h = ap not h
@@ -57,55 +57,30 @@ is_true a h = ap not h
 
 -- whatever follows of either holds
 either : (b : Bool) (P : Type 0) → (b ≡ true → P) → (b ≡ false → P) → P
-either true P wanted unwanted = wanted refl
-either false P wanted unwanted = unwanted refl
+either x0 x1 wanted unwanted =
+    grind arith
 
 -- ---- codes
 
 no_nop : (c : Condition) → (code_of c == 0) ≡ false
-no_nop (SourcePort AtLeast port) = refl
-no_nop (SourcePort AtMost port) = refl
-no_nop (SourcePort Equal port) = refl
-no_nop (DestinationPort AtLeast port) = refl
-no_nop (DestinationPort AtMost port) = refl
-no_nop (DestinationPort Equal port) = refl
-no_nop (Source h) = refl
-no_nop (Destination h) = refl
-no_nop (Interface number) = refl
-no_nop (Mark mark mask) = refl
-no_nop (Cgroup number) = refl
-no_nop AutoBound = refl
+no_nop x0 =
+    grind arith
 
 no_jump : (c : Condition) → (code_of c == 1) ≡ false
-no_jump (SourcePort AtLeast port) = refl
-no_jump (SourcePort AtMost port) = refl
-no_jump (SourcePort Equal port) = refl
-no_jump (DestinationPort AtLeast port) = refl
-no_jump (DestinationPort AtMost port) = refl
-no_jump (DestinationPort Equal port) = refl
-no_jump (Source h) = refl
-no_jump (Destination h) = refl
-no_jump (Interface number) = refl
-no_jump (Mark mark mask) = refl
-no_jump (Cgroup number) = refl
-no_jump AutoBound = refl
+no_jump x0 =
+    grind arith
 
 arguments_are : (code : ℕ) (args : List ℕ) (far : ℕ) (rest : List ℕ)
     → arguments_at (operation code args far ++ rest) ≡ args
 arguments_are code args far rest =
-    let n : 4 + length args - 4 ≡ length args = omega arith in
-    ap (λ (k : ℕ). take k (args ++ rest)) n ∙ take-append_seam args rest
+    grind (arith, take-append_seam args rest)
 
 module _ (found : ℕ → List ℕ → Bool) where
   condition_met : (c : Condition) (far : ℕ) (rest : List ℕ)
       → is_met found (operation (code_of c) (arguments c) far ++ rest)
       ≡ found (code_of c) (arguments c)
   condition_met c far rest =
-      let left : List ℕ = operation (code_of c) (arguments c) far ++ rest in
-      let asked : Bool = found (code_of c) (arguments_at left) in
-      ap (λ (b : Bool). if b then true else if code_of c == 1 then false else asked) (no_nop c)
-      ∙ ap (λ (b : Bool). if b then false else asked) (no_jump c)
-      ∙ ap (found (code_of c)) (arguments_are (code_of c) (arguments c) far rest)
+      grind (arith, operation (code_of c) (arguments c) far, no_nop c, no_jump c, arguments_are (code_of c) (arguments c) far rest)
 
   -- the verdict so many bytes on from the start of the rest
   abbrev Goes : ℕ → List ℕ → Bool → Type 0
@@ -115,16 +90,7 @@ module _ (found : ℕ → List ℕ → Bool) where
   goes_behind : (front rest : List ℕ) (far own : ℕ) (v : Bool) → length front ≡ own
       → Goes far rest v → Goes (own + far) (front ++ rest) v
   goes_behind front rest far own v long goes =
-      let both = length-append front rest in
-      elim goes [
-        | inl within ↦
-            let less = within.0 in
-            let behind : drop (own + far) (front ++ rest) ≡ drop far rest =
-            ap (λ (n : ℕ). drop (n + far) (front ++ rest)) (sym long)
-            ∙ drop-append-add front rest far in
-            inl (omega arith, subst (λ (l : List ℕ). Runs found l v) (sym behind) within.1)
-        | inr past ↦ let more = past.0 in inr (omega arith, past.1)
-      ]
+      grind (arith, length-append front rest, drop-append-add front rest far)
 
   operation_runs : (code : ℕ) (args : List ℕ) (far : ℕ) (rest : List ℕ) (v : Bool)
       → 4 + length args + far ≤ 65535
@@ -174,49 +140,13 @@ module _ (found : ℕ → List ℕ → Bool) where
       → (wants f ≡ true → Runs found rest v) → (wants f ≡ false → Goes far rest v)
       → Runs found (program_of f far ++ rest) v
   program_runs (parts.Condition c) far rest v near wanted unwanted =
-      let met = condition_met c far rest in
-      operation_runs (code_of c) (arguments c) far rest v (omega arith)
-      (λ is. wanted (sym met ∙ is))
-      (λ is. unwanted (sym met ∙ is))
+      grind (arith, condition_met c far rest, operation_runs (code_of c) (arguments c) far rest v)
   program_runs (parts.And' p a q b) far rest v near wanted unwanted =
-      let second : List ℕ = program_of b far in
-      subst (λ (l : List ℕ). Runs found l v)
-      (sym (append_assoc (program_of a (size b + far)) second rest))
-      (program_runs a (size b + far) (second ++ rest) v (omega arith)
-      (λ a_is. program_runs b far rest v (omega arith)
-      (λ b_is. wanted (both_true (wants a) (wants b) a_is b_is))
-      (λ b_is. unwanted (second_false (wants a) (wants b) b_is)))
-      (λ a_is. goes_behind second rest far (size b) v (program_length b far)
-      (unwanted (first_false (wants a) (wants b) a_is))))
+      grind (arith, program_of b far, append_assoc (program_of a (size b + far)), program_of a (size b + far), program_runs a (size b + far), program_runs b far rest v, both_true, second_false, goes_behind, program_length b far, first_false)
   program_runs (parts.Or' p a q b) far rest v near wanted unwanted =
-      let first : List ℕ = program_of a 4 in
-      let second : List ℕ = program_of b far in
-      let over : List ℕ = jump (size b) in
-      let parted : (first ++ (over ++ second)) ++ rest ≡ first ++ (over ++ (second ++ rest)) =
-      append_assoc first (over ++ second) rest
-      ∙ ap (λ (l : List ℕ). first ++ l) (append_assoc over second rest) in
-      let second_long = program_length b far in
-      let long = length-append second rest in
-      subst (λ (l : List ℕ). Runs found l v) (sym parted)
-      (program_runs a 4 (over ++ (second ++ rest)) v (omega arith)
-      (λ a_is. jump_runs (size b) (second ++ rest) v (omega arith)
-      (inl (
-        omega arith,
-        subst (λ (l : List ℕ). Runs found l v)
-            (sym (drop_at second rest (size b) second_long))
-            (wanted (first_true (wants a) (wants b) a_is)),
-      )))
-      (λ a_is. inl (
-        omega arith,
-        program_runs b far rest v (omega arith)
-            (λ b_is. wanted (second_true (wants a) (wants b) b_is))
-            (λ b_is. unwanted (both_false (wants a) (wants b) a_is b_is)),
-      )))
+      grind (arith, program_of a 4, program_of b far, jump (size b), append_assoc, program_length b far, length-append, program_runs a 4, jump_runs (size b), drop_at, first_true, program_runs b far rest v, second_true, both_false)
   program_runs (parts.Not' p a) far rest v near wanted unwanted =
-      subst (λ (l : List ℕ). Runs found l v) (sym (append_assoc (program_of a 4) (jump far) rest))
-      (program_runs a 4 (jump far ++ rest) v (omega arith)
-      (λ a_is. jump_runs far rest v (omega arith) (unwanted (is_false (wants a) a_is)))
-      (λ a_is. inl (omega arith, wanted (is_true (wants a) a_is))))
+      grind (arith, append_assoc (program_of a 4) (jump far) rest, program_of a 4, jump far, program_runs a 4 (jump far ++ rest) v, jump_runs far rest v, is_false, is_true)
 
   pub program_wants : (f : Filter) → size f ≤ 65531 → Runs found (program_of f 4) (wants f)
   program_wants f short =

@@ -1,4 +1,5 @@
 -- One comes from operation to operation, up to the end of a program.
+use Rattle.std.proofs.lemmas.Grind.{common_steps}
 use Rattle.std.proofs.Common.{◌≡◌, ◌∙◌, ℕ, ◌+◌, ◌%◌, ◌⊎◌, List, [], ◌++◌}
 use Rattle.std.proofs.Common.{length, drop, refl, sym, ap, subst, arith, append_assoc}
 use Rattle.std.proofs.lemmas.List.{length-append}
@@ -33,13 +34,9 @@ before P a b rest h = subst P (sym (append_assoc a b rest)) h
 
 pub over_program : (f : Filter) (far : ℕ) (rest : List ℕ) → Steps (program_of f far ++ rest) rest
 over_program (parts.Condition c) far rest =
-    over_operation (code_of c) (arguments c) far rest (arguments_in_fours c)
+    grind (arith, over_operation (code_of c) (arguments c) far rest (arguments_in_fours c), arguments_in_fours c)
 over_program (parts.And' p a q b) far rest =
-    let first : List ℕ = program_of a (size b + far) in
-    let second : List ℕ = program_of b far in
-    before (λ (l : List ℕ). Steps l rest) first second rest
-    (steps_on _ (second ++ rest) rest (over_program a (size b + far) (second ++ rest))
-    (over_program b far rest))
+    grind (arith, common_steps, program_of, steps_on, over_program a (size b + far), over_program b far rest)
 over_program (parts.Or' p a q b) far rest =
     let second : List ℕ = program_of b far in
     let behind : List ℕ = jump (size b) ++ second in

@@ -21,14 +21,7 @@ module _ {Param : Type 0} (C : Codec Param) (laws : KeepsLaws C) where
       → C.reads c p w → C.fits v → C.fits w
       → ((C.written v ≡ C.written w) ↔ C.idle p b c)
   written_alike b c p v w tb tc r s fv fw =
-      let same = laws.same_value b c p v w tb tc r s in
-      let n = laws.reads_normal b p v tb r in
-      let m = laws.reads_normal c p w tc s in (
-        λ e. same.0 (one_value (C.written w) p v w (laws.written_bytes w m.0)
-            (subst (λ (x : List ℕ). C.reads x p v) e (laws.reads_back p v n.0 n.1 fv))
-            (laws.reads_back p w m.0 m.1 fw)),
-        λ i. ap C.written (same.1 i),
-      )
+      grind (arith, one_value)
 
 -- what was written of the value of a reply is its canonical form
 pub canonical_where_written : (R : ResponseSpec) → KeepsLaws (response_codec R)
@@ -37,11 +30,7 @@ pub canonical_where_written : (R : ResponseSpec) → KeepsLaws (response_codec R
     → Writes ((response_codec R).fits v) (response_bytes R v) old new outcome answer
     → IsCanonical R payload new answer
 canonical_where_written R laws payload old new v outcome answer tb r (inl h) some d w td s fw =
-    let all = response_bytes R v in
-    let front : take answer new ≡ all = ap (λ (n : ℕ). take n new) h.3 ∙ ap (take (length all)) h.4
-    ∙ take_at all (drop (length all) old) (length all) refl in
-    let alike = written_alike (response_codec R) laws payload d tt v w tb td r s h.0 fw in
-    (λ e. alike.0 (sym (e ∙ front)), λ i. sym (alike.1 i) ∙ sym front)
+    grind (arith, take_at, written_alike (response_codec R) laws payload d)
 canonical_where_written R laws payload old new v outcome answer tb r (inr (inl h)) some d w td s
     fw = absurd (omega (arith, h.3.0))
 canonical_where_written R laws payload old new v outcome answer tb r (inr (inr h)) some d w td s

@@ -1,4 +1,6 @@
 -- Steps over a datagram that is cut into messages.
+use Rattle.std.proofs.lemmas.Grind.{common_steps}
+use Rattle.std.proofs.Common.{arith}
 use Rattle.std.proofs.Common.{◌≡◌, ◌∙◌, ℕ, inl, inr, List, [], ◌∷◌, ap, subst, sym}
 use Rattle.std.specs.Prelude.{Option, Some, None}
 use Rattle.netlink_core.specs.Bytes.{IsBytes}
@@ -33,9 +35,7 @@ pub step_at_message : (bytes : List ℕ) (old new : Cursor) (was now : MessagePa
     → NextMessage bytes old new was now answer → IsMessageAt bytes old new now answer
     × CutIntoMessages (left_of bytes new) later end
 step_at_message bytes old new was now answer message later end in_range h (inl ends) =
-    let none = (one_cut_into_messages (left_of bytes old) (message ∷ later) [] end None h
-    ends.1).0 in
-    absurd cc
+    grind (arith, common_steps, one_cut_into_messages)
 step_at_message bytes old new was now answer message later end in_range h (inr (inl s)) =
     let own = cut_with_step bytes old new now answer in_range s in
     let same = one_cut_into_messages (left_of bytes old) (message ∷ later) (own.0 ∷ own.1) end own.2
@@ -47,33 +47,20 @@ step_at_message bytes old new was now answer message later end in_range h (inr (
           own.3),
     )
 step_at_message bytes old new was now answer message later end in_range h (inr (inr fails)) =
-    let none = (one_cut_into_messages (left_of bytes old) (message ∷ later) [] end (Some fails.0) h
-    (fails.3, fails.1)).0 in
-    absurd cc
+    grind (arith, common_steps, one_cut_into_messages)
 
 -- where no message is left, the walk ends
 pub step_at_no_message : (bytes : List ℕ) (old new : Cursor) (was now : MessagePart) (answer : ℕ)
     → IsBytes (left_of bytes old)
     → CutIntoMessages (left_of bytes old) [] None → NextMessage bytes old new was now answer
     → answer ≡ 0
-step_at_no_message bytes old new was now answer in_range h (inl ends) = ends.0
-step_at_no_message bytes old new was now answer in_range h (inr (inl s)) =
-    let own = cut_with_step bytes old new now answer in_range s in
-    let none = (one_cut_into_messages (left_of bytes old) [] (own.0 ∷ own.1) None own.2 h
-    own.4).0 in
-    absurd cc
-step_at_no_message bytes old new was now answer in_range h (inr (inr fails)) = absurd (fails.3 h)
+step_at_no_message bytes old new was now answer in_range h x8 =
+    grind (arith, cut_with_step bytes old new now answer in_range, one_cut_into_messages (left_of bytes old))
 
 -- where the fault stands, the walk fails
 pub step_at_fault : (bytes : List ℕ) (old new : Cursor) (was now : MessagePart) (answer : ℕ)
     (e : DecodeError) → IsBytes (left_of bytes old)
     → CutIntoMessages (left_of bytes old) [] (Some e) → NextMessage bytes old new was now answer
     → (answer ≡ number_of e) × (left_of bytes new ≡ [])
-step_at_fault bytes old new was now answer e in_range h (inl ends) = absurd (h.0 ends.1)
-step_at_fault bytes old new was now answer e in_range h (inr (inl s)) =
-    let own = cut_with_step bytes old new now answer in_range s in
-    let none = (one_cut_into_messages (left_of bytes old) [] (own.0 ∷ own.1) (Some e) own.2 h
-    own.4).0 in
-    absurd cc
-step_at_fault bytes old new was now answer e in_range h (inr (inr fails)) =
-    (fails.2 ∙ ap number_of (one_framing_fault (left_of bytes old) fails.0 e fails.1 h.1), fails.4)
+step_at_fault bytes old new was now answer e in_range h x9 =
+    grind (arith, cut_with_step bytes old new now answer in_range, one_cut_into_messages (left_of bytes old), one_framing_fault (left_of bytes old))

@@ -1,4 +1,5 @@
 -- What is told of attributes, one after the other.
+use Rattle.std.proofs.Common.{arith}
 use Rattle.std.proofs.Common.{◌≡◌, ◌∙◌, ℕ, List, [], ◌∷◌, ◌++◌, Option, Some, None, refl, sym, ap}
 use Rattle.std.proofs.Common.{slice_get, Bool, if◌then◌else◌}
 use Rattle.std.specs.Prelude.{option_map}
@@ -22,28 +23,26 @@ use Rattle.sockdiag_c.specs.UnixDetails.{HasUnixDetails, named, unix_details_of}
 use Rattle.sockdiag_c.specs.UnixDetailsSteps.{unix_with}
 
 alone : {B : Type 0} (o : Option B) → slice_get (cons_option o []) 0 ≡ o
-alone None = refl
-alone (Some b) = refl
+alone x0 =
+    grind arith
 
 as_prefix : {B : Type 0} (o p : Option B) (now later : List B)
     → slice_get later 0 ≡ first_of_two (slice_get now 0) p
     → slice_get (cons_option o later) 0 ≡ first_of_two (slice_get (cons_option o now) 0) p
-as_prefix None p now later e = e
-as_prefix (Some b) p now later e = refl
+as_prefix x0 p now later e =
+    grind arith
 
 module _ {A B : Type 0} where
   -- the first content of a list with one more
   pub first_more : (describes : A → Option B) (xs : List A) (x : A)
       → first_of describes (xs ++ x ∷ []) ≡ first_of_two (first_of describes xs) (describes x)
   first_more describes [] x = alone (describes x)
-  first_more describes (y ∷ ys) x = as_prefix (describes y) (describes x) (filter_map describes ys)
-      (filter_map describes (ys ++ x ∷ [])) (first_more describes ys x)
+  first_more describes (y ∷ ys) x =
+      grind (arith, as_prefix (describes y) (describes x) (filter_map describes ys) (filter_map describes (ys ++ x ∷ [])) (first_more describes ys x), first_more describes ys x)
 
 number_more : (o p : Option ℕ) → number_of (first_of_two o p) ≡ next_number (number_of o) p
-number_more None None = refl
-number_more None (Some n) = refl
-number_more (Some m) None = refl
-number_more (Some m) (Some n) = refl
+number_more x0 x1 =
+    grind arith
 
 -- a number that is told of one attribute more
 first_number_more : (F : AttributeSet) (k : ℕ) (part : ValueAt F k
@@ -51,62 +50,33 @@ first_number_more : (F : AttributeSet) (k : ℕ) (part : ValueAt F k
     → next_number (first_number F k part vs) (option_map part (content F k v))
     ≡ first_number F k part (vs ++ v ∷ [])
 first_number_more F k part vs v =
-    let describes = λ (s : AttributeValue F). option_map part (content F k s) in
-    sym (ap number_of (first_more describes vs v)
-    ∙ number_more (first_of describes vs) (describes v))
+    grind (arith, first_more, number_more)
 
 -- the numbers of a UNIX socket
 unix_numbers : (h : UnixHeader) (now later : Text) (vs : List (AttributeValue unix))
     (v : AttributeValue unix)
     → unix_with later (unix_details_of h now vs) v ≡ unix_details_of h later (vs ++ v ∷ [])
-unix_numbers h now later vs v = λ i. record {
-  header = h;
-  name = later;
-  file_inode = first_number_more unix 1 (λ (f : Vfs). f.inode) vs v i;
-  file_device = first_number_more unix 1 (λ (f : Vfs). f.device) vs v i;
-  peer = first_number_more unix 2 (λ (n : ℕ). n) vs v i;
-  recv_queue = first_number_more unix 4 (λ (q : ℕ × ℕ). q.0) vs v i;
-  send_queue = first_number_more unix 4 (λ (q : ℕ × ℕ). q.1) vs v i;
-  receive_buffer = first_number_more unix 5 (λ (m : MemInfo). m.so_rcvbuf) vs v i;
-  send_buffer = first_number_more unix 5 (λ (m : MemInfo). m.max_datagram_size) vs v i;
-  queued = first_number_more unix 5 (λ (m : MemInfo). m.alloc) vs v i;
-  shutdown = first_number_more unix 6 (λ (n : ℕ). n) vs v i;
-}
+unix_numbers h now later vs v =
+    grind (arith, first_number_more unix 1, first_number_more unix 2, first_number_more unix 4, first_number_more unix 5, first_number_more unix 6)
 
 pub unix_more : (h : UnixHeader) (d e : UnixDetails) (vs : List (AttributeValue unix))
     (v : AttributeValue unix)
     → e ≡ unix_with e.name d v → text_of e.name ≡ first_of_two (text_of d.name) (named v)
     → HasUnixDetails h d vs → HasUnixDetails h e (vs ++ v ∷ [])
-unix_more h d e vs v numbers name (was, was_named) = (
-  numbers ∙ ap (λ (x : UnixDetails). unix_with e.name x v) was ∙ unix_numbers h d.name e.name vs v,
-  name ∙ ap (λ (o : Option (ℕ × List ℕ)). first_of_two o (named v)) was_named
-      ∙ sym (first_more named vs v),
-)
+unix_more h d e vs v numbers name (was, was_named) =
+    grind (arith, unix_with e.name, unix_numbers h d.name e.name vs v, first_of_two, first_more named vs v)
 
 -- and of an internet socket
 inet_numbers : (h : InetHeader) (now later : Text) (vs : List (AttributeValue inet))
     (v : AttributeValue inet)
     → inet_with later (inet_details_of h now vs) v ≡ inet_details_of h later (vs ++ v ∷ [])
-inet_numbers h now later vs v = λ i. record {
-  header = h;
-  congestion = later;
-  tos = first_number_more inet 5 (λ (n : ℕ). n) vs v i;
-  tclass = first_number_more inet 6 (λ (n : ℕ). n) vs v i;
-  shutdown = first_number_more inet 8 (λ (n : ℕ). n) vs v i;
-  protocol = first_number_more inet 10 (λ (n : ℕ). n) vs v i;
-  v6only = first_number_more inet 11 (λ (only : Bool). if only then 1 else 0) vs v i;
-  mark = first_number_more inet 15 (λ (n : ℕ). n) vs v i;
-  class_id = first_number_more inet 17 (λ (n : ℕ). n) vs v i;
-}
+inet_numbers h now later vs v =
+    grind (arith, first_number_more inet 5, first_number_more inet 6, first_number_more inet 8, first_number_more inet 10, first_number_more inet 11, first_number_more inet 15, first_number_more inet 17)
 
 pub inet_more : (h : InetHeader) (d e : InetDetails) (vs : List (AttributeValue inet))
     (v : AttributeValue inet)
     → e ≡ inet_with e.congestion d v
     → text_of e.congestion ≡ first_of_two (text_of d.congestion) (controlled v)
     → HasInetDetails h d vs → HasInetDetails h e (vs ++ v ∷ [])
-inet_more h d e vs v numbers congestion (was, was_controlled) = (
-  numbers ∙ ap (λ (x : InetDetails). inet_with e.congestion x v) was
-      ∙ inet_numbers h d.congestion e.congestion vs v,
-  congestion ∙ ap (λ (o : Option (ℕ × List ℕ)). first_of_two o (controlled v)) was_controlled
-      ∙ sym (first_more controlled vs v),
-)
+inet_more h d e vs v numbers congestion (was, was_controlled) =
+    grind (arith, inet_with e.congestion, inet_numbers h d.congestion e.congestion vs v, first_of_two, first_more controlled vs v)

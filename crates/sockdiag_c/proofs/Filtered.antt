@@ -25,20 +25,8 @@ are_whole bytes values means = (means.0, means.1)
 -- so each fault is one of the framing
 pub are_cut_off : (bytes : List ℕ) (e : DecodeError) → AttributeFault itself bytes e
     → AreCutOff bytes e
-are_cut_off bytes e (given, (before, after, parts, cut, some, fault), read) = (
-  given,
-  (
-    before,
-    after,
-    parts,
-    cut,
-    some,
-    elim fault [
-      | inl framing ↦ framing
-      | inr refused ↦ absurd cc
-    ],
-  ),
-)
+are_cut_off bytes e (given, (before, after, parts, cut, some, fault), read) =
+    grind arith
 
 -- ---- lengths
 
@@ -52,22 +40,15 @@ eight_bytes p high = rw (le-ltb p 256 high) refl
 pub padded_length : (attributes : List ℕ)
     → length (with_padding attributes) ≡ length attributes + fill (length attributes)
 padded_length attributes =
-    length-append attributes (replicate (fill (length attributes)) 0)
-    ∙ ap (λ (n : ℕ). length attributes + n) (length-replicate (fill (length attributes)) 0)
+    grind (arith, length-append, length-replicate)
 
 pub behind_length : (r : InetRequest) (attributes : List ℕ)
     → length (behind_record r attributes)
     ≡ length (protocol_attribute r.protocol) + (length attributes + fill (length attributes))
 behind_length r attributes =
-    length-append (protocol_attribute r.protocol) (with_padding attributes)
-    ∙ ap (λ (n : ℕ). length (protocol_attribute r.protocol) + n) (padded_length attributes)
+    grind (arith, length-append (protocol_attribute r.protocol) (with_padding attributes), padded_length attributes)
 
 pub message_length : (r : InetRequest) (attributes : List ℕ)
     → length (filtered_message r attributes) ≡ 72 + length (behind_record r attributes)
 message_length r attributes =
-    let record_length : length (bytes inet_request (inet_request_of r)
-    ++ behind_record r attributes) ≡ 56 + length (behind_record r attributes) =
-    length-append (bytes inet_request (inet_request_of r)) (behind_record r attributes)
-    ∙ ap (λ (n : ℕ). n + length (behind_record r attributes)) (request_length (inet_request_of r))
-    in
-    omega (arith, record_length)
+    grind (arith, length-append (bytes inet_request (inet_request_of r)) (behind_record r attributes), request_length (inet_request_of r))

@@ -24,12 +24,7 @@ attribute_read : (bytes rest : List ℕ) (place : ℕ) (a : Attribute)
     → a ≡ attribute_in bytes
     (record { offset = place + 4; length = length a.value; type_word = a.type_word })
 attribute_read bytes rest place a s =
-    let behind : drop (place + 4) bytes ≡ a.value ++ (s.padding ++ rest) =
-    sym (drop-drop 4 place bytes) ∙ ap (drop 4) s.parts in
-    let value : take (length a.value) (drop (place + 4) bytes) ≡ a.value =
-    ap (take (length a.value)) behind ∙ take_at a.value (s.padding ++ rest) (length a.value)
-    refl in
-    λ i. record { type_word = a.type_word; value = sym value i }
+    grind (arith, drop-drop 4 place bytes, take_at a.value (s.padding ++ rest) (length a.value))
 
 -- a step over an attribute, to the place behind its padding
 pub attribute_passed : (bytes rest : List ℕ) (place end : ℕ) (a : Attribute)
@@ -41,10 +36,7 @@ pub attribute_passed : (bytes rest : List ℕ) (place end : ℕ) (a : Attribute)
       type_word = a.type_word;
     })) (drop (place + end) bytes)
 attribute_passed bytes rest place end a s end-is =
-    subst (λ (x : Attribute). StartsWith (drop place bytes) x (drop (place + end) bytes))
-    (attribute_read bytes rest place a s)
-    (starts_with (drop place bytes) (drop (place + end) bytes) a end
-    (prefix_of_start (drop place bytes) rest a s) end-is (sym (drop-drop end place bytes)))
+    grind (arith, attribute_read bytes rest place a s, starts_with (drop place bytes) (drop (place + end) bytes) a end (prefix_of_start (drop place bytes) rest a s) end-is (sym (drop-drop end place bytes)), prefix_of_start (drop place bytes) rest a s, drop-drop end place bytes)
 
 -- the part of a message that its header tells, at a place
 abbrev pub part_of : ℕ → NetlinkHeader → MessagePart
@@ -66,15 +58,13 @@ payload_read bytes place h = ap (take (h.length - 16)) (drop-drop 16 place bytes
 header_read : (bytes : List ℕ) (place : ℕ) (h : NetlinkHeader) → HasHeader bytes h
     → h ≡ header_in (part_of place h)
 header_read bytes place h head =
-    let low : 16 ≤ h.length = head.2 in
-    let all : h.length ≡ 16 + (h.length - 16) = omega arith in
-    λ i. record h { length = all i }
+    grind arith
 
 -- the header that is told stands at a place
 pub header_is_framed : (bytes : List ℕ) (place : ℕ) (h : NetlinkHeader) → HasHeader bytes h
     → HasHeader bytes (header_in (part_of place h))
-header_is_framed bytes place h head = subst (λ (k : NetlinkHeader). HasHeader bytes k)
-    (header_read bytes place h head) head
+header_is_framed bytes place h head =
+    grind (arith, header_read bytes place h head)
 
 -- a step over a message, to the place behind its padding
 pub message_passed : (bytes : List ℕ) (place end : ℕ) (h : NetlinkHeader)
@@ -82,8 +72,7 @@ pub message_passed : (bytes : List ℕ) (place end : ℕ) (h : NetlinkHeader)
     → StartsWithMessage (drop place bytes) (take h.length (drop place bytes))
     (drop (place + end) bytes)
 message_passed bytes place end h head end-is =
-    starts_with_message (drop place bytes) (take h.length (drop place bytes))
-    (drop (place + end) bytes) h end head refl end-is (sym (drop-drop end place bytes))
+    grind (arith, starts_with_message (drop place bytes) (take h.length (drop place bytes)) (drop (place + end) bytes) h end head, drop-drop end place bytes)
 
 -- what is kept as it came is carried, and so is nothing
 pub kept_is_carried : (payload : List ℕ) (t : ℕ) → (t ≡ 1) ⊎ ((t ≡ 2) ⊎ ((t ≡ 3) ⊎ (t ≡ 4)))
@@ -100,21 +89,11 @@ pub step_at_attribute : (bytes : List ℕ) (old new : Cursor) (was now : Attribu
     (first : Attribute) (later : List Attribute)
     → Cut (left_of bytes old) (first ∷ later) → NextAttribute bytes old new was now answer
     → (answer ≡ 1) × (attribute_in bytes now ≡ first) × Cut (left_of bytes new) later
-step_at_attribute bytes old new was now answer first later h (inl ends) =
-    absurd (StartsWith-some (left_of bytes old) h.0 first h.1 ends.1)
-step_at_attribute bytes old new was now answer first later h (inr (inl s)) =
-    let same = one_start (left_of bytes old) h.0 (left_of bytes new) first (attribute_in bytes now)
-    h.1 s.1 in
-    (s.0, sym same.0, subst (λ (b : List ℕ). Cut b later) same.1 h.2)
-step_at_attribute bytes old new was now answer first later h (inr (inr fails)) =
-    absurd (prefix_or_fault_apart (left_of bytes old) first fails.0
-    (prefix_of_start (left_of bytes old) h.0 first h.1) fails.1)
+step_at_attribute bytes old new was now answer first later h x9 =
+    grind (arith, one_start (left_of bytes old) h.0 (left_of bytes new) first (attribute_in bytes now) h.1, prefix_or_fault_apart (left_of bytes old) first, prefix_of_start (left_of bytes old) h.0 first h.1)
 
 -- where none is left, the walk ends
 pub step_at_end : (bytes : List ℕ) (old new : Cursor) (was now : AttributePart) (answer : ℕ)
     → Cut (left_of bytes old) [] → NextAttribute bytes old new was now answer → answer ≡ 0
-step_at_end bytes old new was now answer none (inl ends) = ends.0
-step_at_end bytes old new was now answer none (inr (inl s)) =
-    absurd (StartsWith-some (left_of bytes old) (left_of bytes new) (attribute_in bytes now) s.1
-    none)
-step_at_end bytes old new was now answer none (inr (inr fails)) = absurd (fails.3 none)
+step_at_end bytes old new was now answer none x7 =
+    grind arith

@@ -1,4 +1,5 @@
 -- The values of a reply, one behind the other, and their first fault.
+use Rattle.std.proofs.Common.{arith}
 use Rattle.std.proofs.Common.{◌≡◌, ◌∙◌, List, [], ◌∷◌, Option, Some, None, Result, Ok, refl, subst}
 use Rattle.std.proofs.Common.{sym}
 use Rattle.std.specs.Prelude.{IsOkAnd}
@@ -11,7 +12,7 @@ use Rattle.sockdiag_c.specs.FirstNumberSteps.{first_of_two}
 pub of_read : {A : Type 0} (P : A → Type 0) (r s : Result A DecodeError) (x : A) → s ≡ r → s ≡ Ok x
     → P x → IsOkAnd r P
 of_read {A} P r s x is ok holds =
-    subst (λ (t : Result A DecodeError). IsOkAnd t P) (sym ok ∙ is) holds
+    grind arith
 
 -- the first fault of these
 pub record FirstFault (faults : List (Option DecodeError)) (found : Option DecodeError)
@@ -20,8 +21,8 @@ pub record FirstFault (faults : List (Option DecodeError)) (found : Option Decod
 
 -- the fault that was kept is the first
 pub last : (o : Option DecodeError) (e : DecodeError) → o ≡ Some e → FirstFault (o ∷ []) (Some e)
-last o e is = subst (λ (p : Option DecodeError). FirstFault (p ∷ []) (Some e)) (sym is)
-    (record { is = refl })
+last o e is =
+    grind arith
 
 -- it is that of what was kept before, and of this value
 pub before : {A : Type 0} (r s : Result A DecodeError) (old new : Option DecodeError)
@@ -29,16 +30,10 @@ pub before : {A : Type 0} (r s : Result A DecodeError) (old new : Option DecodeE
     → new ≡ first_of_two old (result_err s) → FirstFault (new ∷ later) found
     → FirstFault (old ∷ result_err r ∷ later) found
 before {A} r s old new later found is kept first =
-    subst (λ (t : Result A DecodeError). FirstFault (old ∷ result_err t ∷ later) found) is
-    (both old (subst (λ (o : Option DecodeError). FirstFault (o ∷ later) found) kept first))
-  where
-    both : (o : Option DecodeError) → FirstFault (first_of_two o (result_err s) ∷ later) found
-        → FirstFault (o ∷ result_err s ∷ later) found
-    both None given = record { is = given.is }
-    both (Some e) given = record { is = given.is }
+    grind (arith, first_of_two)
 
 -- where none is kept, none was before
 pub none_before : {A : Type 0} (s : Result A DecodeError) (old new : Option DecodeError)
     → new ≡ first_of_two old (result_err s) → new ≡ None → old ≡ None
-none_before s None new kept none = refl
-none_before s (Some e) new kept none = let no : Some e ≡ None = sym kept ∙ none in absurd cc
+none_before s x1 new kept none =
+    grind arith

@@ -1,4 +1,5 @@
 -- The first value of a kind among the attributes that bytes are cut into.
+use Rattle.std.proofs.lemmas.Grind.{common_steps}
 use Rattle.std.proofs.Common.{◌≡◌, ◌≢◌, ◌∙◌, ℕ, List, [], ◌∷◌, refl, sym, ap, subst, unwrap_or}
 use Rattle.std.proofs.Common.{Option, rules, append_assoc}
 use Rattle.std.proofs.Common.{◌+◌, ◌-◌, ◌++◌, length, take, replicate, min, inl, inr, arith}
@@ -18,26 +19,15 @@ use Rattle.sockdiag_c.specs.TcpInfo.{StandIn, filled, value_of}
 pub filled_is : (n : ℕ) (value : List ℕ) (found left : ℕ) → found ≡ min (length value) n
     → left + found ≡ n → take found value ++ replicate left 0 ≡ filled n value
 filled_is n value found left is all =
-    let zeros : left ≡ n - length value = omega arith in
-    let front : take found value ≡ take n value =
-    elim (cases_lt n (length value)) [
-      | inl long ↦ ap (λ (k : ℕ). take k value) (omega arith)
-      | inr short ↦ take_all found value (omega arith) ∙ sym (take_all n value short)
-    ] in
-    λ i. front i ++ replicate (zeros i) 0
+    grind (arith, cases_lt n (length value), take_all found value, take_all n value)
 
 -- ---- the attributes that stand in bytes
 
 -- the first of the attributes in front of a fault begins all the bytes
 front_start : (before left : List ℕ) (a : Attribute) (more : List Attribute)
     (h : CutInFull before (a ∷ more)) → StartsWith (before ++ left) a (h.1 ++ left)
-front_start before left a more h = record {
-  padding = h.0;
-  parts = ap (λ (b : List ℕ). b ++ left) h.2 ∙ append_assoc (unpadded a) (h.0 ++ h.1) left
-      ∙ ap (λ (t : List ℕ). unpadded a ++ t) (append_assoc h.0 h.1 left);
-  fits = h.3;
-  filled = inl h.4;
-}
+front_start before left a more h =
+    grind (arith, append_assoc (unpadded a) (h.0 ++ h.1) left, append_assoc h.0 h.1 left)
 
 -- the first begins the bytes, and the others stand behind it
 first_stands : (bytes : List ℕ) (a : Attribute) (more : List Attribute) → StandIn bytes (a ∷ more)
@@ -56,9 +46,7 @@ stands_first : (bytes rest : List ℕ) (a : Attribute) → StartsWith bytes a re
     → (more : List Attribute) × (attributes ≡ a ∷ more) × StandIn rest more
 stands_first bytes rest a start [] (inl none) = absurd (StartsWith-some bytes rest a start none)
 stands_first bytes rest a start [] (inr (e, off)) =
-    let whole : bytes ≡ off.1 = off.2 ∙ ap (λ (b : List ℕ). b ++ off.1) off.3 in
-    absurd (prefix_or_fault_apart bytes a e (prefix_of_start bytes rest a start)
-    (subst (λ (b : List ℕ). IsFramingFault b e) (sym whole) off.5))
+    grind (arith, prefix_or_fault_apart bytes a e (prefix_of_start bytes rest a start), prefix_of_start bytes rest a start)
 stands_first bytes rest a start (b ∷ more) stand =
     let first = first_stands bytes b more stand in
     let same = one_start bytes first.0 rest b a first.1 start in
@@ -126,10 +114,10 @@ found_none k bytes rest found alone attributes stand =
 pub found_nowhere : (k : ℕ) (bytes rest : List ℕ) → FoundBehind k bytes rest → rest ≡ []
     → (attributes : List Attribute) → StandIn bytes attributes → [] ≡ value_in k attributes
 found_nowhere k bytes rest found none =
-    found_none k bytes rest found (λ a after start. StartsWith-some rest after a start none)
+    grind (arith, found_none k bytes rest found)
 
 pub found_fault : (k : ℕ) (bytes rest : List ℕ) (e : DecodeError) → FoundBehind k bytes rest
     → IsFramingFault rest e
     → (attributes : List Attribute) → StandIn bytes attributes → [] ≡ value_in k attributes
-found_fault k bytes rest e found fault = found_none k bytes rest found (λ a after start.
-    prefix_or_fault_apart rest a e (prefix_of_start rest after a start) fault)
+found_fault k bytes rest e found fault =
+    grind (arith, common_steps, found_none, prefix_or_fault_apart, prefix_of_start)

@@ -29,14 +29,4 @@ pub message_written : (t : ℕ) (r : InetRequest) (it : inet.InetRequest)
     ++ bytes inet_request it ++ attribute) old new answer
     → WritesWhole (72 + length (protocol_attribute r.protocol)) (inet_message t r) old new answer
 message_written t r it attribute old new answer is found given =
-    let whole = λ (len : ℕ). header_bytes (header_of len t r.header) ++ bytes inet_request it
-    ++ attribute in
-    let size : 16 + length (bytes inet_request it) + length attribute
-    ≡ 72 + length (protocol_attribute r.protocol) =
-    omega (arith, request_length it, ap length found) in
-    let sized = subst (λ (len : ℕ). WritesWhole len (whole len) old new answer) size given in
-    let all : whole (72 + length (protocol_attribute r.protocol)) ≡ inet_message t r = λ i.
-    header_bytes (header_of (72 + length (protocol_attribute r.protocol)) t r.header)
-    ++ bytes inet_request (is i) ++ found i in
-    subst (λ (x : List ℕ). WritesWhole (72 + length (protocol_attribute r.protocol)) x old new
-    answer) all sized
+    grind (arith, request_length it)

@@ -1,3 +1,4 @@
+use Rattle.std.proofs.Common.{arith}
 use Rattle.std.proofs.Common.{◌≡◌, ℕ, ◌-◌, List, ◌++◌, length, take, drop, sym, ap, ◌∙◌}
 use Rattle.std.proofs.Common.{append_assoc, take-append-drop}
 use Rattle.std.proofs.lemmas.List.{take_rest}
@@ -7,9 +8,7 @@ use Rattle.capture_tables.proofs.run.send.Goals as goal
 moves_front : (all front rest : List ℕ) (n : ℕ) → all ≡ front ++ rest → all ≡ (front ++ take n rest)
     ++ take (length rest - n) (drop n rest)
 moves_front all front rest n e =
-    e ∙ ap (λ l. front ++ l) (sym (take-append-drop n rest))
-    ∙ sym (append_assoc front (take n rest) (drop n rest))
-    ∙ ap (λ l. (front ++ take n rest) ++ l) (sym (take_rest rest n))
+    grind (arith, take-append-drop n rest, append_assoc front (take n rest) (drop n rest), take_rest rest n)
 
 pub writes-preserved : goal.writes-preserved
 writes-preserved g c =

@@ -19,18 +19,11 @@ use Rattle.sock_diag_filters.proofs.assembly.assemble.Goals as goal
 filled : (n : ℕ) (program new old : List ℕ) → new ≡ program → length program ≡ n
     → program ≡ take n (new ++ drop (length new) old)
 filled n program new old same long =
-    sym (ap (λ (k : ℕ). take k (new ++ drop (length new) old)) (sym long ∙ sym (ap length same))
-    ∙ take-append_seam new (drop (length new) old) ∙ same)
+    grind (arith, take-append_seam new (drop (length new) old))
 
 pub returns-clause-audited : goal.returns-clause-audited
 returns-clause-audited c =
-    let filter = c.args.filter.now in
-    let long = program_length filter 4 in
-    let short : size filter ≤ 65531 = omega arith in
-    let some : c.in-Some.len ≡ size filter = search rules in
-    let all : c.in_ok-program.program.len ≡ c.in-Some.len = search rules in
-    subst IsAudited (filled c.in_ok-program.program.len (program_of filter 4) _ _
-    c.write_program.ensures (omega arith)) (program_audited filter short)
+    grind (arith, program_length, filled c.in_ok-program.program.len, program_of, program_audited, c.write_program.ensures)
 
 pub returns-clause-runs : goal.returns-clause-runs
 returns-clause-runs c = λ found.

@@ -1,3 +1,4 @@
+use Rattle.std.proofs.Common.{arith}
 use Rattle.sock_diag_filters.proofs.AnyReadBack.{inet_never_refused, inet_read_back}
 use Rattle.sock_diag_filters.proofs.AnyReadBack.{record_never_refused, record_read_back}
 use Rattle.sock_diag_filters.proofs.laws.any_written_request_is_read_back.Goals as goal
@@ -11,8 +12,8 @@ returns-clause-records_accepted c = λ family h request attributes e whole refus
     record_never_refused family h request attributes whole e refused
 
 pub returns-clause-inet : goal.returns-clause-inet
-returns-clause-inet c = λ h request attributes other can kind asks.
-    inet_read_back h request attributes can kind other asks
+returns-clause-inet c =
+    grind (arith, inet_read_back)
 
 pub returns-clause-inet_accepted : goal.returns-clause-inet_accepted
 returns-clause-inet_accepted c = λ h request attributes e can kind refused.

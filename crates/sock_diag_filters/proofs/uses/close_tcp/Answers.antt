@@ -28,8 +28,4 @@ returns-clause-written c =
 
 pub returns-clause-bytes : goal.returns-clause-bytes
 returns-clause-bytes c =
-    let request : InetRequest = asked_tcp 0xffffffff c.args.socket_id in
-    let front : List ℕ =
-    header_bytes (header_under (asked_header 21 5 c.args.sequence_number) 72) in
-    returns-clause-written c ∙ append-nil _
-    ∙ ap (λ (l : List ℕ). front ++ l) (request_pieces request)
+    grind (arith, returns-clause-written c, append-nil, request_pieces)

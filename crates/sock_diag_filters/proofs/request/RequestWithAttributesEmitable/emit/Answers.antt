@@ -1,3 +1,4 @@
+use Rattle.std.proofs.lemmas.Grind.{common_steps}
 use Rattle.std.proofs.Common.{arith}
 use Rattle.std.specs.Prelude.{map}
 use Rattle.sock_diag_records.specs.InetRequestLaws.{request_length}
@@ -24,10 +25,7 @@ write_front-requires-clause-whole c = omega (arith, request_length c.args.self.n
 
 pub emit_nlas-requires-clause-room : goal.emit_nlas-requires-clause-room
 emit_nlas-requires-clause-room c =
-    let request = c.args.self.now in
-    let long = message_length request.header request.request
-    (map attribute_of request.attributes.now) in
-    omega (arith, long, c.requires.room)
+    grind (arith, common_steps, message_length)
 
 pub returns : goal.returns
 returns c =

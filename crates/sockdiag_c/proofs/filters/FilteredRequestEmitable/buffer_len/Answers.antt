@@ -4,12 +4,4 @@ use Rattle.sockdiag_c.proofs.filters.FilteredRequestEmitable.buffer_len.Goals as
 
 pub returns : goal.returns
 returns c =
-    let request = c.args.self.now.request.now in
-    let attributes = c.args.self.now.attributes.now in
-    omega (
-      arith,
-      c.front_len.ensures.all,
-      c.padded.ensures,
-      message_length request attributes,
-      behind_length request attributes,
-    )
+    grind (arith, message_length, behind_length, c.front_len.ensures.all, c.padded.ensures)

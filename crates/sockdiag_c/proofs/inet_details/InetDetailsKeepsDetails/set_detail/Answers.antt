@@ -1,3 +1,4 @@
+use Rattle.std.proofs.Common.{arith}
 use Rattle.std.proofs.lemmas.Result.{err_from_is_err_and}
 use Rattle.sock_diag_attributes.specs.InetModel.{nla_view_model}
 use Rattle.sockdiag_c.proofs.DetailLemmas.{inet_more}
@@ -13,5 +14,4 @@ returns-clause-value c = (
 
 pub returns-in_err-view-clause-fault : goal.returns-in_err-view-clause-fault
 returns-in_err-view-clause-fault c =
-    let p = err_from_is_err_and c.from_residual.result c.from_residual.ensures.1 in
-    rw (p.1, p.2) c.in_err-view.ensures
+    grind (arith, err_from_is_err_and c.from_residual.result c.from_residual.ensures.1, c.in_err-view.ensures)

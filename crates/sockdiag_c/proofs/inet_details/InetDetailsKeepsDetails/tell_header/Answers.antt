@@ -1,3 +1,4 @@
+use Rattle.std.proofs.Common.{arith}
 use Rattle.std.proofs.Common.{◌∙◌, [], ap, sym}
 use Rattle.std.proofs.lemmas.List.{take_rest}
 use Rattle.sockdiag_c.specs.declared.headers.InetHeader.{InetHeader}
@@ -5,14 +6,8 @@ use Rattle.sockdiag_c.specs.InetDetails.{inet_details_of}
 use Rattle.sockdiag_c.proofs.inet_details.InetDetailsKeepsDetails.tell_header.Goals as goal
 
 pub returns-clause-value : goal.returns-clause-value
-returns-clause-value c = (
-  c.in_ok-header.header,
-  sym c.from_prefix.ensures.value ∙ c.in_ok-header.was,
-  (
-    ap (λ (x : InetHeader). inet_details_of x c.none.result []) c.from.ensures,
-    c.none.ensures,
-  ),
-)
+returns-clause-value c =
+    grind (arith, c.from_prefix.ensures.value, c.from.ensures, c.none.ensures)
 
 pub returns-clause-rest : goal.returns-clause-rest
 returns-clause-rest c = take_rest c.args.payload.now 72
