@@ -65,10 +65,6 @@ unfolding encode
 encode_high c big =
     grind arith
 
-scalar_low : (c : ℕ) → IsScalar c → c < 1114112
-scalar_low c ok =
-    grind arith
-
 -- the bytes of a character are bytes
 encode_low : (c : ℕ) → IsScalar c → AllByRecursion (λ (b : ℕ). b < 256) (encode c)
 unfolding encode

@@ -31,12 +31,3 @@ module _ (message : List ℕ) (h : NetlinkHeader) (e : DecodeError) where
 
   pub refused_family : family_in message h ≡ Err e → refuses_by (family_in message h) message h e
   refused_family decoded = subst by (sym decoded) refl
-
-  pub refused_inet : family_in message h ≡ Ok inet → RefusesRequest message e
-      → refuses_by (family_in message h) message h e
-  refused_inet decoded refused = subst by (sym decoded) refused
-
-  pub refused_record : (family : RecordFamily) → family_in message h ≡ Ok (of_record family)
-      → (codec_of family).reads tt (payload_of message h) ≡ Err e
-      → refuses_by (family_in message h) message h e
-  refused_record family decoded refused = subst by (sym decoded) refused

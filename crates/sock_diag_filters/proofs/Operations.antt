@@ -56,10 +56,6 @@ address_in_fours : (a : IpAddr) (bits port : ℕ) → length (with_address a bit
 address_in_fours x0 bits port =
     grind arith
 
-address_few : (a : IpAddr) (bits port : ℕ) → length (with_address a bits port) ≤ 24
-address_few x0 bits port =
-    grind arith
-
 address_least : (a : IpAddr) (code far bits port : ℕ) (rest : List ℕ)
     → option_map (λ (n : ℕ). 12 + n)
     (address_length (slice_index (operation code (with_address a bits port) far ++ rest) 4))
@@ -75,10 +71,6 @@ address_bits x0 bits port h =
 host_in_fours : (o : Option ValueCodec) (port : ℕ) → length (host o port) % 4 ≡ 0
 host_in_fours x0 port =
     grind (arith, address_in_fours)
-
-host_few : (o : Option ValueCodec) (port : ℕ) → length (host o port) ≤ 24
-host_few x0 port =
-    grind (arith, address_few)
 
 host_least : (o : Option ValueCodec) (code far port : ℕ) (rest : List ℕ)
     → option_map (λ (n : ℕ). 12 + n)
@@ -97,10 +89,6 @@ host_bits x0 code far port rest =
 pub arguments_in_fours : (c : Condition) → length (arguments c) % 4 ≡ 0
 arguments_in_fours x0 =
     grind (arith, host_in_fours)
-
-pub arguments_few : (c : Condition) → length (arguments c) ≤ 24
-arguments_few x0 =
-    grind (arith, host_few)
 
 -- the kernel knows it, and wants no more bytes than it has
 pub condition_known : (c : Condition) (far : ℕ) (rest : List ℕ)

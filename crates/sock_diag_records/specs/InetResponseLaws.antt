@@ -31,10 +31,6 @@ use Rattle.sock_diag_records.specs.SocketIdLaws.{by_versions, socket_id_back}
 abbrev IsWholeTimer : Option Timer → Type 0
 IsWholeTimer timer = IfSome (timer_data timer).2 IsWholeMilliseconds
 
-duration-milliseconds : (time : Duration) → IsWholeMilliseconds time
-    → duration (milliseconds time) ≡ time
-duration-milliseconds time (n, below, same) = grind arith
-
 -- the class beside what the family tells, or the family's fault
 abbrev pub with_class : ℕ → Result IpVersions DecodeError → Result (IpVersions × ℕ) DecodeError
 with_class class tag_found = map_ok (λ versions. (versions, class)) tag_found

@@ -49,11 +49,6 @@ part_of place h = record {
   port_number = h.port_number;
 }
 
--- the payload behind the header
-pub payload_read : (bytes : List ℕ) (place : ℕ) (h : NetlinkHeader)
-    → take (h.length - 16) (drop 16 (drop place bytes)) ≡ payload_in bytes (part_of place h)
-payload_read bytes place h = ap (take (h.length - 16)) (drop-drop 16 place bytes)
-
 -- the header that is told is the one that was read
 header_read : (bytes : List ℕ) (place : ℕ) (h : NetlinkHeader) → HasHeader bytes h
     → h ≡ header_in (part_of place h)

@@ -59,9 +59,6 @@ pub record FoundBehind (k : ℕ) (bytes rest : List ℕ) : Type 0 where
   pub behind : (attributes : List Attribute) → StandIn bytes attributes → (later : List Attribute)
       × StandIn rest later × (first_of (value_of k) attributes ≡ first_of (value_of k) later)
 
-pub found_begins : (k : ℕ) (bytes : List ℕ) → FoundBehind k bytes bytes
-found_begins k bytes = record { behind = λ attributes stand. (attributes, stand, refl) }
-
 skipped : (k : ℕ) (a : Attribute) (more : List Attribute) → attribute_type a ≢ k
     → first_of (value_of k) (a ∷ more) ≡ first_of (value_of k) more
 skipped k a more other = rw (ne_eqb (attribute_type a) k other) refl
