@@ -1,7 +1,7 @@
 -- A number that is filled up with zeros.
-use Rattle.std.proofs.Common.{◌≡◌, ℕ, ◌^◌, ◌-◌, ◌++◌, List, [], length, false, ap, ◌∙◌, arith}
+use Rattle.std.proofs.Common.{◌≡◌, ℕ, ◌^◌, ◌-◌, [], false, arith}
 use Rattle.std.proofs.Common.{append-nil}
-use Rattle.std.specs.Prelude.{decimal, replicate}
+use Rattle.std.specs.Prelude.{decimal}
 use Rattle.std.specs.Fmt.{char_count, format_spec, padded_integral}
 use Rattle.capture_tables.specs.Times.{zero_filled}
 

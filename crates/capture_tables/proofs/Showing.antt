@@ -1,6 +1,6 @@
 -- Texts under `--utf8`.
 use Rattle.std.proofs.Common.{arith}
-use Rattle.std.proofs.Common.{◌≡◌, ◌&&◌, Bool, true, false, cond, List, ℕ, refl, IsUtf8}
+use Rattle.std.proofs.Common.{◌≡◌, ◌&&◌, Bool, true, cond, List, ℕ, refl, IsUtf8}
 use Rattle.std.proofs.Common.{chars, flat_map}
 use Rattle.std.specs.Str.{is_utf8}
 use Rattle.std.proofs.lemmas.Str.{IsUtf8-from_is_utf8, is_utf8-from_IsUtf8}

@@ -1,14 +1,12 @@
 -- Where reading a packet stops.
-use Rattle.std.proofs.Common.{◌≡◌, ◌⊎◌, inl, inr, ℕ, ◌<◌, ◌≤◌, List, [], ◌++◌, length, refl, sym}
+use Rattle.std.proofs.Common.{◌≡◌, ◌⊎◌, inl, inr, ℕ, ◌<◌, ◌≤◌, List, [], ◌++◌, length, sym}
 use Rattle.std.proofs.Common.{ap, subst, ◌∙◌, append-nil, arith}
-use Rattle.std.proofs.lemmas.List.{length-append}
 use Rattle.std.specs.Prelude.{Option}
 use Rattle.std.specs.Io.KnownBytes.{Consumes}
 use Rattle.std.proofs.KnownBytes.{Consumes-trans}
 use Rattle.capture_tables.specs.Capture.{IsPacketStop, IsStartStop, IsStop, number_at}
 use Rattle.capture_tables.specs.declared.capture.CaptureError.{CaptureError}
-use Rattle.capture_tables.specs.declared.capture.CaptureError.TheVariants.{Read, Memory, Cut}
-use Rattle.capture_tables.specs.declared.capture.CaptureError.TheVariants.{Directory}
+use Rattle.capture_tables.specs.declared.capture.CaptureError.TheVariants.{Memory, Cut}
 use Rattle.capture_tables.specs.Streams.{IsReadFailure}
 use Rattle.capture_tables.specs.declared.capture.FileHeader.{FileHeader}
 

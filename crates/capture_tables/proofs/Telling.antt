@@ -1,17 +1,17 @@
 -- The bytes of a text can be read from what is shown.
 use Rattle.std.proofs.Common.{◌≡◌, ℕ, zero, suc, ◌+◌, ◌*◌, ◌/◌, ◌%◌, ◌<◌, ◌≤◌, ◌==◌, ◌&&◌, Bool}
-use Rattle.std.proofs.Common.{true, List, [], ◌∷◌, ◌++◌, slice_index, inl, inr, refl, sym, ap, ◌∙◌}
+use Rattle.std.proofs.Common.{true, List, [], ◌∷◌, ◌++◌, slice_index, inl, inr, refl, ap, ◌∙◌}
 use Rattle.std.proofs.Common.{arith, append_assoc, flat_map, chars}
 use Rattle.std.specs.Char.{IsScalar}
 use Rattle.std.specs.List.{AllByRecursion}
 use Rattle.std.specs.Str.{is_utf8}
-use Rattle.std.proofs.Math.Utf8.{encode, encodes, scalar_cases, scalars}
-use Rattle.std.proofs.lemmas.Bool.{and_parts, cases_Bool, cases_eq, cases_lt, eq-eqb, eqb-true}
-use Rattle.std.proofs.lemmas.Bool.{le-ltb, leb-true, lt-ltb, ne_eqb}
+use Rattle.std.proofs.Math.Utf8.{encode, encodes, scalars}
+use Rattle.std.proofs.lemmas.Bool.{and_parts, cases_Bool, cases_eq}
+use Rattle.std.proofs.lemmas.Bool.{ne_eqb}
 use Rattle.std.proofs.lemmas.Str.{IsUtf8-from_is_utf8, encodes-chars, scalars-chars}
 use Rattle.hex.specs.Hex.{encode_with, lower_digits}
 use Rattle.capture_tables.specs.Escapes.{byte_digits, bytes_told, char_text, digit_worth, escaped}
-use Rattle.capture_tables.specs.Escapes.{is_plain, is_shown, shown}
+use Rattle.capture_tables.specs.Escapes.{is_shown, shown}
 
 -- a byte that is neither a space nor a backslash tells itself
 pub told_plain : (c : ℕ) (t : List ℕ) → (c ≡ 32 → ⊥) → (c ≡ 92 → ⊥)
