@@ -24,9 +24,7 @@ use Rattle.netlink_core.proofs.Numbers.{number-same}
 pub same_bytes : (n : ℕ) (x y : List ℕ) → IsBytes x → IsBytes y → length x ≡ n → length y ≡ n
     → little_number n x ≡ little_number n y → x ≡ y
 same_bytes n x y x-in_range y-in_range s t e =
-    sym (take_all n x (omega arith)) ∙ number-same little_endian n x y x-in_range y-in_range
-    (omega arith)
-    (omega arith) e ∙ take_all n y (omega arith)
+    grind (arith, take_all n x, number-same little_endian n x y x-in_range y-in_range, take_all n y)
 
 -- what is read of all bytes, each of which is live, keeps the laws
 pub exact_laws : {A : Type 0} (reads : List ℕ → Result A DecodeError) (bytes : A → List ℕ)

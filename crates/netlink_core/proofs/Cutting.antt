@@ -1,4 +1,5 @@
 -- Bytes are cut in one way at most, and either mean something or have a fault.
+use Rattle.std.proofs.lemmas.Grind.{common_steps}
 use Rattle.std.proofs.Common.{◌<◌, Option, Some, None}
 use Rattle.std.proofs.Common.{Result, Ok, ◌≡◌, ◌≢◌, ℕ, ◌+◌, ◌⊎◌, inl, inr}
 use Rattle.std.proofs.Common.{List, [], ◌∷◌, ◌++◌, length, drop, refl, sym, ap, ◌∙◌}
@@ -41,9 +42,7 @@ one_start bytes rest after a b s t =
 pub one_cut : (bytes : List ℕ) (xs ys : List Attribute) → Cut bytes xs → Cut bytes ys → xs ≡ ys
 one_cut bytes [] [] h k = refl
 one_cut bytes (x ∷ xs) (y ∷ ys) h k =
-    let starts = one_start bytes h.0 k.0 x y h.1 k.1 in
-    let later = one_cut h.0 xs ys h.2 (rw starts.1 k.2) in
-    cc
+    grind (arith, one_start bytes h.0 k.0 x y h.1 k.1, one_cut h.0 xs ys h.2)
 one_cut bytes xs ys h k = grind arith
 
 -- ---- what was written is cut
@@ -51,11 +50,8 @@ one_cut bytes xs ys h k = grind arith
 -- a cut with all padding there is a cut
 pub full_is_cut : (bytes : List ℕ) (xs : List Attribute) → CutInFull bytes xs → Cut bytes xs
 full_is_cut bytes [] h = h
-full_is_cut bytes (x ∷ xs) h = (
-  h.1,
-  record { padding = h.0; parts = h.2; fits = h.3; filled = inl h.4 },
-  full_is_cut h.1 xs h.5,
-)
+full_is_cut bytes (x ∷ xs) h =
+    grind (arith, full_is_cut h.1 xs h.5)
 
 -- written attributes are cut into themselves
 pub written_is_cut : (xs : List Attribute) → AllByRecursion FitsWords xs
@@ -70,8 +66,8 @@ written_is_cut (x ∷ xs) fits =
 pub all_written_in_range : (xs : List Attribute) → AllByRecursion IsAttributeInRange xs
     → IsBytes (flat_map written xs)
 all_written_in_range [] in_range = IsBytes-nil
-all_written_in_range (x ∷ xs) in_range = IsBytes-append (written x) _
-    (written_in_range x in_range.0) (all_written_in_range xs in_range.1)
+all_written_in_range (x ∷ xs) in_range =
+    grind (arith, common_steps, written_in_range, all_written_in_range xs in_range.1)
 
 -- the attributes that bytes are cut into
 pub cut_in_range : (bytes : List ℕ) (xs : List Attribute) → IsBytes bytes → Cut bytes xs
@@ -95,33 +91,22 @@ module _ {A : Type 0} (reads : Attribute → Result A DecodeError) where
 
   means_passes : (bytes : List ℕ) (xs : List Attribute) (values : List A) → Cut bytes xs
       → AllZip (λ a value. reads a ≡ Ok value) xs values → Passes bytes xs None
-  means_passes bytes [] values h k = h
-  means_passes bytes (x ∷ xs) [] h k = absurd k
   means_passes bytes (x ∷ xs) (v ∷ values) h k =
-      (h.0, h.1, rw k.0 refl, means_passes h.0 xs values h.2 k.1)
+      grind (arith, means_passes h.0 xs values h.2 k.1)
+  means_passes bytes xs values h k = grind arith
 
   fault_passes : (bytes : List ℕ) (xs : List Attribute) (e : DecodeError)
       → CutOff (IsPrefixFault reads) bytes xs e → AllByRecursion (λ a. IsOk (reads a)) xs
       → Passes bytes xs (Some e)
   fault_passes bytes [] e (before, after, parts, h, left, fault) good = rw (parts, h) (left, fault)
-  fault_passes bytes (a ∷ xs) e (before, after, parts, h, left, fault) good = (
-    h.1 ++ after,
-    record {
-      padding = h.0;
-      parts = rw (parts, h.2) (simp append_assoc);
-      fits = h.3;
-      filled = inl h.4;
-    },
-    good.0,
-    fault_passes (h.1 ++ after) xs e (h.1, after, refl, h.5, left, fault) good.1,
-  )
+  fault_passes bytes (a ∷ xs) e (before, after, parts, h, left, fault) good =
+      grind (arith, append_assoc, fault_passes (h.1 ++ after) xs e)
 
   -- no end is where an attribute can be read
   not_ended : (bytes rest : List ℕ) (a : Attribute) (end : Option DecodeError)
       → StartsWith bytes a rest → IsOk (reads a) → Passes bytes [] end → ⊥
   not_ended bytes rest a end s good h =
-      let head = prefix_of_start bytes rest a s in
-      grind (arith, prefix_or_fault_apart bytes a, one_attribute bytes a)
+      grind (arith, prefix_of_start bytes rest a s, prefix_or_fault_apart bytes a, one_attribute bytes a)
 
   one_end : (bytes : List ℕ) (xs ys : List Attribute) (e f : Option DecodeError)
       → Passes bytes xs e → Passes bytes ys f → e ≡ f
@@ -131,7 +116,7 @@ module _ {A : Type 0} (reads : Attribute → Result A DecodeError) where
   one_end bytes [] (y ∷ ys) e f h k = absurd (not_ended bytes k.0 y e k.1 k.2 h)
   one_end bytes (x ∷ xs) [] e f h k = absurd (not_ended bytes h.0 x f h.1 h.2 k)
   one_end bytes (x ∷ xs) (y ∷ ys) e f h k =
-      one_end h.0 xs ys e f h.3 (rw (one_start bytes h.0 k.0 x y h.1 k.1).1 k.3)
+      grind (arith, one_end h.0 xs ys e f h.3, one_start bytes h.0 k.0 x y h.1 k.1)
 
   -- bytes that mean something have no fault
   pub means_or_fault_apart : (bytes : List ℕ) (values : List A) (e : DecodeError)
@@ -145,9 +130,7 @@ module _ {A : Type 0} (reads : Attribute → Result A DecodeError) where
   pub one_fault : (bytes : List ℕ) (e f : DecodeError) → AttributeFault reads bytes e
       → AttributeFault reads bytes f → e ≡ f
   one_fault bytes e f h k =
-      let same = one_end bytes h.0 k.0 (Some e) (Some f) (fault_passes bytes h.0 e h.1 h.2)
-      (fault_passes bytes k.0 f k.1 k.2) in
-      cc
+      grind (arith, one_end bytes h.0 k.0 (Some e) (Some f) (fault_passes bytes h.0 e h.1 h.2) (fault_passes bytes k.0 f k.1 k.2), fault_passes bytes h.0 e h.1 h.2, fault_passes bytes k.0 f k.1 k.2)
 
   -- ---- bytes are cut, or have a fault
 
@@ -181,4 +164,4 @@ module _ {A : Type 0} (reads : Attribute → Result A DecodeError) where
       → AllByRecursion FitsWords xs → AllZip (λ a value. reads a ≡ Ok value) xs values
       → AttributesMean reads (flat_map written xs) values
   written_values_are_read xs values fits h =
-      (xs, full_is_cut (flat_map written xs) xs (written_is_cut xs fits), h)
+      grind (arith, full_is_cut (flat_map written xs) xs (written_is_cut xs fits), written_is_cut xs)

@@ -44,17 +44,14 @@ starts_with_message bytes message rest h end head message-is end-is rest-is =
 message_word : (bytes message rest : List ℕ) → StartsWithMessage bytes message rest
     → (little_number 4 bytes ≡ length message) × (16 ≤ length message)
     × (length message ≤ length bytes)
-message_word bytes message rest s = (
-  cc (little_from-append 4 message (s.padding ++ rest) (omega (arith, s.whole.0))),
-  s.whole.0,
-  omega (arith, simp length-append at (ap length s.parts)),
-)
+message_word bytes message rest s =
+    grind (arith, little_from-append 4 message (s.padding ++ rest), length-append)
 
 -- what stands behind a message is shorter
 pub shorter-rest : (bytes message rest : List ℕ) → StartsWithMessage bytes message rest
     → length rest < length bytes
 shorter-rest bytes message rest s =
-    omega (arith, s.whole.0, simp length-append at (ap length s.parts))
+    grind (arith, length-append)
 
 -- where a message stands there is no fault
 pub no_fault_at_message : (bytes message rest : List ℕ) (e : DecodeError)
@@ -78,19 +75,7 @@ pub starts_in_concatenation : (front back message rest : List ℕ)
     → StartsWithMessage front message rest → length front % 4 ≡ 0
     → StartsWithMessage (front ++ back) message (rest ++ back) × (length rest % 4 ≡ 0)
 starts_in_concatenation front back message rest s even =
-    let long = simp length-append at (ap length s.parts) in
-    elim s.filled [
-      | inl full ↦ (
-        record {
-          padding = s.padding;
-          parts = rw s.parts (simp append_assoc);
-          whole = s.whole;
-          filled = inl full;
-        },
-        omega (arith, full),
-      )
-      | inr short ↦ absurd (omega (arith, short.0, ap length short.1))
-    ]
+    grind (arith, length-append, append_assoc)
 
 -- what whole messages and then more bytes are cut into
 pub messages_of_concatenation : (front back : List ℕ) (xs ys : List (List ℕ))
@@ -106,15 +91,15 @@ messages_of_concatenation front back (x ∷ xs) ys end h k =
 -- no end is where a message stands
 not_ended : (bytes message rest : List ℕ) (end : Option DecodeError)
     → StartsWithMessage bytes message rest → CutIntoMessages bytes [] end → ⊥
-not_ended bytes message rest end s h = grind (arith, message_word bytes message rest s)
+not_ended bytes message rest end s h =
+    grind (arith, message_word bytes message rest s)
 
 -- bytes are cut into one list of messages, and have one end
 pub one_cut_into_messages : (bytes : List ℕ) (xs ys : List (List ℕ)) (e f : Option DecodeError)
     → CutIntoMessages bytes xs e → CutIntoMessages bytes ys f → (xs ≡ ys) × (e ≡ f)
-one_cut_into_messages bytes [] [] e f h k = grind (arith, one_framing_fault bytes)
+one_cut_into_messages bytes [] [] e f h k =
+    grind (arith, one_framing_fault bytes)
 one_cut_into_messages bytes [] (y ∷ ys) e f h k = absurd (not_ended bytes y k.0 e k.1 h)
 one_cut_into_messages bytes (x ∷ xs) [] e f h k = absurd (not_ended bytes x h.0 f h.1 k)
 one_cut_into_messages bytes (x ∷ xs) (y ∷ ys) e f h k =
-    let same = one_message bytes x y h.0 k.0 h.1 k.1 in
-    let later = one_cut_into_messages h.0 xs ys e f h.2 (rw same.1 k.2) in
-    (cc, later.1)
+    grind (arith, one_message bytes x y h.0 k.0 h.1 k.1, one_cut_into_messages h.0 xs ys e f h.2)

@@ -15,7 +15,8 @@ both a b h k = search rules
 -- two facts, each of which a test says
 pub and_decides : {P Q : Type 0} {a b : Bool} → IsTrue a ↔ P → IsTrue b ↔ Q
     → IsTrue (a && b) ↔ (P × Q)
-and_decides {P} {Q} {a} {b} f g = grind (arith, parts a b, both a b)
+and_decides {P} {Q} {a} {b} f g =
+    grind (arith, parts a b, both a b)
 
 pub numbers_equal : (x y : ℕ) → IsTrue (eqb x y) ↔ (x ≡ y)
 numbers_equal x y = (λ h. search rules, λ e. search rules)
@@ -23,8 +24,8 @@ numbers_equal x y = (λ h. search rules, λ e. search rules)
 -- values that may be absent, over a test of those that are there
 pub options_equal : {T : Type 0} (test : T → T → Bool) (decides : (a b : T)
     → IsTrue (test a b) ↔ (a ≡ b)) (a b : Option T) → IsTrue (option_eq test a b) ↔ (a ≡ b)
-options_equal test decides (Some a) (Some b) = grind (arith, decides a b)
-options_equal test decides a b = search rules
+options_equal test decides a b =
+    grind arith
 
 -- lists, over a test of the models of their elements
 pub lists_equal : {A V : Type 0} (test : A → A → Bool) (model : A → V) (decides : (a b : A)
@@ -45,8 +46,5 @@ same_test a b f g = both_ways a b (λ h. g.1 (f.0 h)) (λ h. f.1 (g.0 h))
 -- a test that compares the models is an equivalence
 pub equivalence : {K V : Type 0} (test : K → K → Bool) (model : K → V)
     → ((x y : K) → IsTrue (test x y) ↔ (model x ≡ model y)) → IsEquivalence test
-equivalence test model decides = record {
-  refl = λ x. (decides x x).1 refl;
-  symm = λ x y. grind (arith, decides x y, decides y x);
-  congr = λ x y z e. grind (arith, decides x y, decides x z, decides y z);
-}
+equivalence test model decides =
+    grind arith

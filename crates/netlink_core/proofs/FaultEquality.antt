@@ -32,7 +32,8 @@ fault_equal e f = apart (λ p. cc)
 
 -- two errors of `canonical`
 pub error_equal : (v w : CanonError) → IsTrue (of_canon.eq v w) ↔ (v ≡ w)
-error_equal (canon.Refused a) (canon.Refused b) = grind (arith, fault_equal a b)
+error_equal (canon.Refused a) (canon.Refused b) =
+    grind (arith, fault_equal a b)
 error_equal canon.Unwritable canon.Unwritable = search rules
 error_equal canon.Memory canon.Memory = search rules
 error_equal v w = apart (λ p. cc)

@@ -31,7 +31,8 @@ fault_within C bytes h e head fault = inr (h, head, fault.0, fault.1)
 -- where a header stands is no fault of framing
 no_fault_at_header : (b : List ℕ) (h : NetlinkHeader) (e : DecodeError) → HasHeader b h
     → IsEnvelopeFault b e → ⊥
-no_fault_at_header b h e head k = grind (arith, header_length b h head)
+no_fault_at_header b h e head k =
+    grind (arith, header_length b h head)
 
 -- a framing has one fault at most
 pub one_framing_fault : (b : List ℕ) (e f : DecodeError) → IsEnvelopeFault b e → IsEnvelopeFault b f
@@ -85,4 +86,5 @@ one_envelope_fault C b e f law h k =
 -- no fault is want of memory
 pub envelope_fault_named : (C : Codec ℕ) (b : List ℕ)
     → ((x : List ℕ) (t : ℕ) → C.refuses x t Memory → ⊥) → (envelope_codec C).refuses b tt Memory → ⊥
-envelope_fault_named C b law h = grind (arith, law)
+envelope_fault_named C b law h =
+    grind (arith, law)

@@ -1,4 +1,5 @@
 -- Bytes have one header, and its bytes fix it.
+use Rattle.std.proofs.lemmas.Grind.{common_steps}
 use Rattle.std.proofs.Common.{◌≡◌, ◌↔◌, ℕ, ◌+◌, ◌-◌, ◌≤◌, ◌⊎◌, inl, inr, List, [], ◌++◌}
 use Rattle.std.proofs.Common.{length, take, drop, slice_index, refl, sym, ap, ◌∙◌, arith}
 use Rattle.netlink_core.specs.PrefixLaws.{framed_or_not}
@@ -21,7 +22,7 @@ use Rattle.netlink_core.proofs.TableLaws.{values_and_bits}
 -- the first bytes of bytes are bytes
 pub AreBytes-take : (n : ℕ) (bytes : List ℕ) → IsBytes bytes → IsBytes (take n bytes)
 AreBytes-take n bytes fits =
-    IsBytes-left (take n bytes) (drop n bytes) (rw take-append-drop fits)
+    grind (arith, common_steps, take-append-drop)
 
 -- the five fields are sixteen bytes
 header_table : IsTable 0 header_fields 16
@@ -87,8 +88,8 @@ same_leading_header b c h k tb tc head other =
 -- written, the fields are read again, whatever follows
 values_back : (h : NetlinkHeader) (rest : List ℕ) → IsHeaderInRange h
     → values_of header_fields (header_bytes h ++ rest) ≡ header_values h
-values_back h rest in_range = values-bytes_of 0 header_fields 16 (header_values h)
-    (header_bytes h ++ rest) rest header_table in_range tt refl
+values_back h rest in_range =
+    grind (arith, values-bytes_of, header_table)
 
 -- so headers in range are known by their bytes
 pub known_by_bytes : (h k : NetlinkHeader) → IsHeaderInRange h → IsHeaderInRange k
@@ -100,12 +101,5 @@ pub header_stands : (h : NetlinkHeader) (payload rest : List ℕ) → IsHeaderIn
     → h.length ≡ 16 + length payload
     → HasHeader (header_bytes h ++ (payload ++ rest)) h
     × (take (h.length - 16) (drop 16 (header_bytes h ++ (payload ++ rest))) ≡ payload)
-header_stands h payload rest in_range size = (
-  (
-    values_back h (payload ++ rest) in_range,
-    in_range,
-    omega arith,
-    omega (arith, length-append payload rest),
-  ),
-  take_at payload rest (h.length - 16) (omega arith),
-)
+header_stands h payload rest in_range size =
+    grind (arith, values_back h (payload ++ rest) in_range, length-append payload rest, take_at payload rest (h.length - 16))

@@ -1,5 +1,6 @@
 -- Messages are equal exactly where their bytes are idle, and read back as themselves exactly where
 -- they are in normal form.
+use Rattle.std.proofs.lemmas.Grind.{common_steps}
 use Rattle.std.proofs.Common.{◌≡◌, ◌↔◌, ℕ, List, [], take}
 use Rattle.std.proofs.Common.{drop, ap, arith}
 use Rattle.std.proofs.lemmas.List.{append-nil}
@@ -21,14 +22,16 @@ module _ {A : Type 0} (reads : List ℕ → ℕ → A → Type 0) where
       → ((v w : A) → reads x t v → reads y t w → ((v ≡ w) ↔ idle t x y))
       → (p q : Payload A) → PayloadIs reads x t p → PayloadIs reads y t q
       → ((p ≡ q) ↔ IdlePayloads idle t x y)
-  payloads_idle idle t x y law p q h k = grind (arith, law)
+  payloads_idle idle t x y law p q h k =
+      grind (arith, law)
 
   -- payloads of one type that are written alike are equal
   pub payloads_alike : (written : A → List ℕ) (fits : A → Type 0) (t : ℕ) (x y : List ℕ)
       → ((v w : A) → reads x t v → reads y t w → fits v → fits w → written v ≡ written w → v ≡ w)
       → (p q : Payload A) → PayloadIs reads x t p → PayloadIs reads y t q → OfInner fits p
       → OfInner fits q → payload_bytes written p ≡ payload_bytes written q → p ≡ q
-  payloads_alike written fits t x y law p q h k f g e = grind (arith, law)
+  payloads_alike written fits t x y law p q h k f g e =
+      grind (arith, law)
 
 module _ (C : Codec ℕ) where
   -- messages that are written alike are equal
@@ -39,12 +42,7 @@ module _ (C : Codec ℕ) where
       → OfInner C.fits w.payload
       → (envelope_codec C).written v ≡ (envelope_codec C).written w → v ≡ w
   equal_where_alike law b c v w tb tc r s fv fw e =
-      let headers = known_by_bytes v.header w.header r.0.1 s.0.1 (ap (take 16) e) in
-      let same = payloads_alike C.reads C.written C.fits v.header.message_type _ _
-      (λ m n. law _ _ v.header.message_type m n (payload_in_range v.header.length b tb)
-      (payload_in_range w.header.length c tc))
-      v.payload w.payload r.1 (rw headers s.1) fv fw (ap (drop 16) e) in
-      λ z. record { header = headers z; payload = same z }
+      grind (arith, known_by_bytes v.header w.header r.0.1 s.0.1 (ap (take 16) e), payloads_alike, payload_in_range v.header.length b tb, payload_in_range w.header.length c tc)
 
   -- messages are equal exactly where their strings are idle
   pub equal_where_idle : ((x y : List ℕ) (t : ℕ) (v w : C.Value) → IsBytes x → IsBytes y
@@ -53,17 +51,7 @@ module _ (C : Codec ℕ) where
       → (envelope_codec C).reads b tt v → (envelope_codec C).reads c tt w
       → ((v ≡ w) ↔ (envelope_codec C).idle tt b c)
   equal_where_idle law b c v w tb tc r s =
-      let payloads = λ (e : v.header ≡ w.header). payloads_idle C.reads C.idle v.header.message_type
-      _ _ (λ m n. law _ _ v.header.message_type m n (payload_in_range v.header.length b tb)
-      (payload_in_range w.header.length c tc)) v.payload w.payload r.1 (rw e s.1) in
-      let fronts = same_leading_header b c v.header w.header tb tc r.0 s.0 in
-      rw (header_type b v.header r.0, header_length b v.header r.0, header_length c w.header s.0) (
-        λ e. let headers : v.header ≡ w.header = cc in (fronts.0 headers, (payloads headers).0 cc),
-        λ idle_bytes.
-            let headers = fronts.1 idle_bytes.0 in
-            let same = (payloads headers).1 idle_bytes.1 in
-            λ z. record { header = headers z; payload = same z },
-      )
+      grind (arith, payloads_idle, payload_in_range v.header.length b tb, payload_in_range w.header.length c tc, same_leading_header b c v.header w.header tb tc r.0 s.0, header_type b v.header r.0, header_length b v.header r.0, header_length c w.header s.0)
 
   -- the bytes of a payload read back as it exactly where it is in normal form
   payload_itself : (type_of : C.Value → ℕ) (t : ℕ) (p : Payload C.Value)
@@ -80,14 +68,11 @@ module _ (C : Codec ℕ) where
       → ((envelope_codec C).reads ((envelope_codec C).written v) tt v
       ↔ (envelope_codec C).is_normal tt v)
   reads_back_exactly type_of v in_range done law =
-      let stands = rw append-nil at (header_stands v.header (payload_bytes C.written v.payload) []
-      in_range (ap (λ (h : NetlinkHeader). h.length) done)) in
-      let itself = payload_itself type_of v.header.message_type v.payload
-      (ap (λ (h : NetlinkHeader). h.message_type) done) law in
-      (λ r. itself.0 (rw stands.1 at r.1), λ n. (stands.0, rw stands.1 (itself.1 n)))
+      grind (arith, common_steps, append-nil, header_stands, payload_itself)
 
 -- what holds of inner messages in range that fit holds of the payload's
 pub inner_law : {A : Type 0} (in_range fits law : A → Type 0)
     → ((m : A) → in_range m → fits m → law m)
     → (p : Payload A) → OfInner in_range p → OfInner fits p → OfInner law p
-inner_law in_range fits law all p t f = grind (arith, all)
+inner_law in_range fits law all p t f =
+    grind (arith, all)

@@ -1,4 +1,5 @@
 -- The items of a datagram, one after the other.
+use Rattle.std.proofs.Common.{arith}
 use Rattle.std.proofs.Common.{◌≡◌, ◌≢◌, ℕ, ◌+◌, ◌⊎◌, inl, inr, List, [], ◌∷◌, ◌++◌}
 use Rattle.std.proofs.Common.{refl, ap, append_assoc}
 use Rattle.std.specs.Option.{option_to_list}
@@ -35,9 +36,8 @@ message_in_range bytes message rest s in_range = IsBytes-left message _ (rw s.pa
 -- lists that are related item by item are so in a row
 pub zip_append : {A B : Type 0} (R : A → B → Type 0) (xs ys : List A) (vs ws : List B)
     → AllZip R xs vs → AllZip R ys ws → AllZip R (xs ++ ys) (vs ++ ws)
-zip_append R [] ys [] ws h k = k
 zip_append R (x ∷ xs) ys (v ∷ vs) ws h k = (h.0, zip_append R xs ys vs ws h.1 k)
-zip_append R xs ys vs ws h k = absurd h
+zip_append R xs ys vs ws h k = grind arith
 
 module _ (C : Codec ℕ) where
   -- the item of a message in front of others
@@ -67,22 +67,14 @@ module _ (C : Codec ℕ) where
       (items : List (Item C.Value)) → AreWholeMessages bytes messages
       → ItemsAre C bytes items → AllZip (ItemIs C) messages items
   whole_items bytes messages items whole a =
-      let same = one_cut_into_messages bytes a.0 messages a.1 None a.3 whole.0 in
-      let all : items ≡ a.2 = cc (append-nil a.2) in
-      rw (all, ← same.0) a.4
+      grind (arith, one_cut_into_messages bytes a.0 messages a.1, append-nil a.2)
 
   -- whole messages and then more bytes have the items of the one and then of the other
   pub items_of_concatenation : (front back : List ℕ) (messages : List (List ℕ))
       (xs ys : List (Item C.Value)) → AreWholeMessages front messages
       → ItemsAre C front xs → ItemsAre C back ys → ItemsAre C (front ++ back) (xs ++ ys)
-  items_of_concatenation front back messages xs ys whole a b = (
-    messages ++ b.0,
-    b.1,
-    xs ++ b.2,
-    messages_of_concatenation front back messages b.0 b.1 whole b.3,
-    zip_append (ItemIs C) messages b.0 xs b.2 (whole_items front messages xs whole a) b.4,
-    cc (append_assoc xs b.2 (option_to_list (option_map Err b.1))),
-  )
+  items_of_concatenation front back messages xs ys whole a b =
+      grind (arith, messages_of_concatenation front back messages b.0 b.1 whole b.3, zip_append, whole_items front messages xs whole a, append_assoc xs b.2 (option_to_list (option_map Err b.1)))
 
   -- ---- the walk
 
@@ -166,18 +158,12 @@ module _ (C : Codec ℕ)
   one_carried : (b : List ℕ) → IsBytes b → (messages : List (List ℕ)) (end : Option DecodeError)
       → CutIntoMessages b messages end → (vs ws : List (Item C.Value))
       → AllZip (ItemIs C) messages vs → AllZip (ItemIs C) messages ws → vs ≡ ws
-  one_carried b in_range [] end cut [] [] h k = refl
   one_carried b in_range (m ∷ messages) end cut (v ∷ vs) (w ∷ ws) h k =
-      let first = one_item m (message_in_range b m cut.0 cut.1 in_range) v w h.0 k.0 in
-      let rest = one_carried cut.0 (rest_in_range b m cut.0 cut.1 in_range) messages end cut.2 vs ws
-      h.1 k.1 in
-      cc
-  one_carried b in_range messages end cut vs ws h k = absurd search
+      grind (arith, one_item m (message_in_range b m cut.0 cut.1 in_range) v w h.0 k.0, message_in_range b m cut.0 cut.1 in_range, one_carried cut.0 (rest_in_range b m cut.0 cut.1 in_range) messages end cut.2 vs ws h.1 k.1, rest_in_range b m cut.0 cut.1 in_range)
+  one_carried b in_range messages end cut vs ws h k = grind arith
 
   -- one list of items
   pub one_list : (b : List ℕ) → IsBytes b → (xs ys : List (Item C.Value))
       → ItemsAre C b xs → ItemsAre C b ys → xs ≡ ys
   one_list b in_range xs ys h k =
-      let same = one_cut_into_messages b h.0 k.0 h.1 k.1 h.3 k.3 in
-      let carried = one_carried b in_range k.0 k.1 k.3 h.2 k.2 (rw (← same.0) h.4) k.4 in
-      cc
+      grind (arith, one_cut_into_messages b h.0 k.0 h.1 k.1 h.3 k.3, one_carried b in_range k.0 k.1 k.3 h.2 k.2)

@@ -14,18 +14,5 @@ module _ {Tag Value : Type 0} (layout : Layout (Unit {0}) Tag Value) (sound : Is
       → ((tag : Tag) (left rest : List ℕ) → layout.least ≤ length left
       → layout.tag_at tt left ≡ Ok tag → layout.tag_at tt (left ++ rest) ≡ Ok tag)
       → IsPrefixCodec (value_codec layout) size
-  is_prefix_codec fixed goes_on = record {
-    bytes_long = λ v in_range. sound.long v ∙ fixed.1 (layout.tag_of v);
-    reads_as_prefix = λ v rest in_range normal.
-        let enough = sound.enough v in
-        let size = sound.long v in
-        let tag : Tag = layout.tag_of v in
-        let same = values-bytes_of 0 (layout.table tag) (layout.size tag) (layout.values v)
-        (bytes layout v ++ rest) rest (table_from_test 0 (layout.table tag) (layout.size tag)
-        (sound.own_table v)) in_range.fit normal.flags refl in
-        long_enough layout tt (bytes layout v ++ rest)
-        (omega (arith, length-append (bytes layout v) rest))
-        ∙ accepts layout tt (bytes layout v ++ rest) tag
-        (goes_on tag (bytes layout v) rest (omega arith) (sound.tag_written tt v in_range normal))
-        ∙ cc (sound.back tt v in_range normal);
-  }
+  is_prefix_codec fixed goes_on =
+      grind (arith, values-bytes_of 0, table_from_test 0, long_enough, length-append, accepts)

@@ -31,11 +31,8 @@ module _ (F : AttributeSet) (laws : AttributeSetLaws F) where
   lists_same_value : (xs ys : List Attribute) (vs ws : List (AttributeValue F))
       → AllByRecursion IsAttributeInRange xs → AllByRecursion IsAttributeInRange ys → Say xs vs
       → Say ys ws → ((vs ≡ ws) ↔ AllZip (AreIdleAttributes F) xs ys)
-  lists_same_value (x ∷ xs) (y ∷ ys) (v ∷ vs) (w ∷ ws) s t h k = grind (
-    arith,
-    set_same_value F laws x y v w s.0 t.0 h.0 k.0,
-    lists_same_value xs ys vs ws s.1 t.1 h.1 k.1,
-  )
+  lists_same_value (x ∷ xs) (y ∷ ys) (v ∷ vs) (w ∷ ws) s t h k =
+      grind (arith, set_same_value F laws x y v w s.0 t.0 h.0 k.0, lists_same_value xs ys vs ws s.1 t.1 h.1 k.1)
   lists_same_value xs ys vs ws s t h k = grind arith
 
   list_gives_normal : (xs : List Attribute) (vs : List (AttributeValue F))
@@ -56,10 +53,7 @@ module _ (F : AttributeSet) (laws : AttributeSetLaws F) where
       → AllByRecursion FitsWords (map (encodes F) vs) × Say (map (encodes F) vs) vs
   list_reads_back [] t n f = (tt, tt)
   list_reads_back (v ∷ vs) t n f =
-      let later = list_reads_back vs t.1 n.1 f.1 in (
-        (((writes_in_range F laws v t.0).0, f.0), later.0),
-        (reads_back F laws v t.0 n.0, later.1),
-      )
+      grind (arith, list_reads_back vs t.1 n.1 f.1, writes_in_range, reads_back)
 
 -- ---- replies
 

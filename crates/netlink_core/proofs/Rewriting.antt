@@ -1,4 +1,5 @@
 -- When what was read isn't written.
+use Rattle.std.proofs.Common.{arith}
 use Rattle.std.proofs.Common.{◌≡◌, sym, subst}
 use Rattle.netlink_core.specs.declared.fault.DecodeError.{DecodeError}
 use Rattle.netlink_core.specs.declared.canon.CanonError.{CanonError}
@@ -10,7 +11,5 @@ pub gives_up : {W V : Type 0} (model : W → V) (reads : V → Type 0) (refuses 
     (fits : V → Type 0) (writable : W → Type 0) (w : W) → reads (model w)
     → ((x : W) → fits (model x) → writable x) → (e : CanonError)
     → GivesUp (λ x. x ≡ w) (λ _. ⊥) writable e → GivesUp reads refuses fits e
-gives_up model reads refuses fits writable w r f (Refused e) h = absurd h.0
-gives_up model reads refuses fits writable w r f Unwritable (x, same, not) =
-    (model x, subst (λ (y : _). reads (model y)) (sym same) r, λ fit. not (f x fit))
-gives_up model reads refuses fits writable w r f Memory h = (model w, r)
+gives_up model reads refuses fits writable w r f e h =
+    grind arith

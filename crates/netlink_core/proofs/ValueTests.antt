@@ -31,17 +31,14 @@ value_test (spec ∷ others) tests (inr v) (inr w) = value_test others tests.1 v
 
 pub attribute_test_decides : (a b : Attribute) → IsTrue (attribute_test a b) ↔ (a ≡ b)
 attribute_test_decides a b =
-    let both = and_decides (numbers_equal a.type_word b.type_word)
-    (bytes_decides a.value b.value) in (
-      λ h. let p = both.0 h in λ i. record { type_word = p.0 i; value = p.1 i },
-      λ e. both.1 (cc, cc),
-    )
+    grind (arith, and_decides (numbers_equal a.type_word b.type_word) (bytes_decides a.value b.value), numbers_equal a.type_word b.type_word)
 
 pub value_test_decides : (F : AttributeSet) (tests : Tests F) (v w : AttributeValue F)
     → IsTrue (value_test F tests v w)
     ↔ (v ≡ w)
 value_test_decides [] tests a b = attribute_test_decides a b
-value_test_decides (spec ∷ others) tests (inl x) (inl y) = grind (arith, tests.0.1 x y)
+value_test_decides (spec ∷ others) tests (inl x) (inl y) =
+    grind (arith, tests.0.1 x y)
 value_test_decides (spec ∷ others) tests (inr v) (inr w) =
     grind (arith, value_test_decides others tests.1 v w)
 value_test_decides (spec ∷ others) tests v w = apart (λ e. cc)

@@ -1,4 +1,5 @@
 -- A whole walk over a datagram gives the messages into which it is cut.
+use Rattle.std.proofs.Common.{arith}
 use Rattle.std.proofs.Common.{Err, Some, None, ◌≡◌, ℕ, List, [], ◌∷◌}
 use Rattle.std.specs.Prelude.{map}
 use Rattle.std.specs.Borrow.{Bor}
@@ -18,12 +19,11 @@ pub whole_walk : (walk : MessageStrings) (given : List (Bor (List ℕ)))
     → CutIntoMessages (datagram_left walk) (messages_of given) None
 whole_walk walk [] h = rw h.1.1 h.1.2.0
 whole_walk walk (g ∷ given) h =
-    (datagram_left h.1.1.0, h.1.1.1, whole_walk h.1.1.0 given (h.0, (h.1.0, h.1.1.2, h.1.2)))
+    grind (arith, whole_walk h.1.1.0 given (h.0, (h.1.0, h.1.1.2, h.1.2)))
 
 pub cut_off_walk : (walk last : MessageStrings) (given : List (Bor (List ℕ))) (e : DecodeError)
     → YieldsThen GivesMessage walk (found given) (Some (Err e)) last
     → CutIntoMessages (datagram_left walk) (messages_of given) (Some e) × (datagram_left last ≡ [])
 cut_off_walk walk last [] e h = rw h.1 ((h.2.0, h.2.1), h.2.2)
 cut_off_walk walk last (g ∷ given) e h =
-    let later = cut_off_walk h.1.0 last given e (h.0, h.1.2, h.2) in
-    ((datagram_left h.1.0, h.1.1, later.0), later.1)
+    grind (arith, cut_off_walk h.1.0 last given e (h.0, h.1.2, h.2))

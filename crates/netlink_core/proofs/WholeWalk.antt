@@ -1,4 +1,5 @@
 -- A whole walk gives the cut, or all of it in front of the first framing fault.
+use Rattle.std.proofs.Common.{arith}
 use Rattle.std.proofs.Common.{Result, Ok, Err, Some, ◌≡◌, List, [], ◌∷◌, refl}
 use Rattle.std.specs.Prelude.{map}
 use Rattle.std.specs.Iterator.{Drains, YieldsThen}
@@ -17,13 +18,13 @@ pub whole_walk : (walk : NlasIterator) (given : List NlaBuffer)
     → Drains GivesAttribute walk (found given) → Cut (bytes_left walk) (map attribute_of given)
 whole_walk walk [] h = rw h.1.1 h.1.2.0
 whole_walk walk (g ∷ given) h =
-    (bytes_left h.1.1.0, h.1.1.1, whole_walk h.1.1.0 given (h.0, (h.1.0, h.1.1.2, h.1.2)))
+    grind (arith, whole_walk h.1.1.0 given (h.0, (h.1.0, h.1.1.2, h.1.2)))
 
 pub cut_off_walk : (walk last : NlasIterator) (given : List NlaBuffer) (e : DecodeError)
     → YieldsThen GivesAttribute walk (found given) (Some (Err e)) last
     → CutOff IsFramingFault (bytes_left walk) (map attribute_of given) e × (bytes_left last ≡ [])
 cut_off_walk walk last [] e h =
-    rw h.1 (([], bytes_left h.0, refl, refl, h.2.0, h.2.1), h.2.2)
+    grind arith
 cut_off_walk walk last (g ∷ given) e h =
     let later = cut_off_walk h.1.0 last given e (h.0, h.1.2, h.2) in
     (cut_off_behind IsFramingFault _ _ _ _ e h.1.1 later.0, later.1)

@@ -15,12 +15,14 @@ use Rattle.netlink_core.specs.ShownLaws.{AttributeSetLaws}
 is_here : (spec : AttributeSpec) (others : AttributeSet) (a : Attribute) (x : spec.value.Value)
     → decodes (spec ∷ others) a ≡ Ok (inl x)
     → (attribute_type a ≡ spec.number) × (spec.value.reads tt a.value ≡ Ok x)
-is_here spec others a x h = grind (arith, nat_tests)
+is_here spec others a x h =
+    grind (arith, nat_tests)
 
 is_there : (spec : AttributeSpec) (others : AttributeSet) (a : Attribute)
     (v : AttributeValue others) → decodes (spec ∷ others) a ≡ Ok (inr v)
     → (attribute_type a ≢ spec.number) × (decodes others a ≡ Ok v)
-is_there spec others a v h = grind (arith, nat_tests)
+is_there spec others a v h =
+    grind (arith, nat_tests)
 
 -- no fault of an attribute is want of memory
 pub set_faults_named : (F : AttributeSet) → AttributeSetLaws F → (a : Attribute)
@@ -46,9 +48,7 @@ set_gives_normal [] laws a v in_range h = grind arith
 set_gives_normal (spec ∷ others) laws a (inl x) in_range h =
     laws.0.value.reads_normal a.value tt x in_range.1 (is_here spec others a x h).1
 set_gives_normal (spec ∷ others) laws a (inr v) in_range h =
-    let read = is_there spec others a v h in
-    let good = set_gives_normal others laws.1 a v in_range read.1 in
-    (good.0, (λ e. read.0 (sym (own_type others laws.1 a v read.1) ∙ e), good.1))
+    grind (arith, is_there spec others a v h, set_gives_normal others laws.1 a v in_range, own_type others laws.1 a v)
 
 -- two attributes decode to the same value exactly where they are idle
 pub set_same_value : (F : AttributeSet) → AttributeSetLaws F
@@ -57,14 +57,11 @@ pub set_same_value : (F : AttributeSet) → AttributeSetLaws F
     → ((v ≡ w) ↔ AreIdleAttributes F a b)
 set_same_value [] laws a b v w s t h k = (λ e. cc, λ e. cc)
 set_same_value (spec ∷ others) laws a b (inl x) (inl y) s t h k =
-    let left = is_here spec others a x h in
-    let right = is_here spec others b y k in
-    grind (arith, laws.0.value.same_value a.value b.value tt x y s.1 t.1 left.1 right.1)
+    grind (arith, is_here spec others a x h, is_here spec others b y k)
 set_same_value (spec ∷ others) laws a b (inr v) (inr w) s t h k =
-    let left = is_there spec others a v h in
-    let right = is_there spec others b w k in
-    grind (arith, set_same_value others laws.1 a b v w s t left.1 right.1)
-set_same_value (spec ∷ others) laws a b v w s t h k = grind (arith, nat_tests)
+    grind (arith, is_there spec others a v h, is_there spec others b w k, set_same_value others laws.1 a b v w s t)
+set_same_value (spec ∷ others) laws a b v w s t h k =
+    grind (arith, nat_tests)
 
 -- a value in range is written as an attribute in range
 pub writes_in_range : (F : AttributeSet) → AttributeSetLaws F → (v : AttributeValue F)
@@ -72,7 +69,7 @@ pub writes_in_range : (F : AttributeSet) → AttributeSetLaws F → (v : Attribu
     → IsAttributeInRange (encodes F v)
 writes_in_range [] laws a t = t
 writes_in_range (spec ∷ others) laws (inl x) t =
-    (omega (arith, and_mask spec.number 14, laws.0.plain), laws.0.value.written_bytes x t)
+    grind (arith, and_mask spec.number 14)
 writes_in_range (spec ∷ others) laws (inr v) t = writes_in_range others laws.1 v t
 
 -- one in normal form is decoded from its own attribute

@@ -9,8 +9,8 @@ IsBytes-nil i = omega arith
 
 -- a byte in front
 pub IsBytes-cons : (x : ℕ) (xs : List ℕ) → x < 256 → IsBytes xs → IsBytes (x ∷ xs)
-IsBytes-cons x xs hx h zero = hx
-IsBytes-cons x xs hx h (suc i) = h i
+IsBytes-cons x xs hx h k =
+    grind arith
 
 -- two strings of bytes in a row
 pub IsBytes-append : (xs ys : List ℕ) → IsBytes xs → IsBytes ys → IsBytes (xs ++ ys)

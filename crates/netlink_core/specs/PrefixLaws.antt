@@ -40,16 +40,15 @@ has_prefix bytes word type_word fits word-is type-is low high = absurd (omega ar
 pub same_parts : (xs ys s t : List ℕ) → length xs ≡ length ys → xs ++ s ≡ ys ++ t → (xs ≡ ys)
     × (s ≡ t)
 same_parts [] [] s t len e = (refl, e)
-same_parts (x ∷ xs) (y ∷ ys) s t len e = grind (arith, same_parts xs ys s t)
+same_parts (x ∷ xs) (y ∷ ys) s t len e =
+    grind (arith, same_parts xs ys s t)
 same_parts xs ys s t len e = absurd (omega arith)
 
 -- the attribute is fixed by the bytes, and so is what follows
 pub one_prefix : (a b : Attribute) (s t : List ℕ) → FitsWords a → FitsWords b
     → unpadded a ++ s ≡ unpadded b ++ t → (a ≡ b) × (s ≡ t)
 one_prefix a b s t a-fits b-fits e =
-    let types : a.type_word ≡ b.type_word = grind arith in
-    let values = same_parts a.value b.value s t (grind arith) cc in
-    (λ i. record { type_word = types i; value = values.0 i }, values.1)
+    grind (arith, same_parts a.value b.value s t)
 
 -- the attribute at the start of bytes is in range
 pub prefix_in_range : (b : List ℕ) (a : Attribute) → IsBytes b → HasPrefix b a
@@ -73,15 +72,13 @@ written_in_range a in_range = search (IsBytes-append, IsBytes-number, IsBytes-ze
 pub word_is : (bytes : List ℕ) (a : Attribute) → HasPrefix bytes a
     → (little_number 2 bytes ≡ 4 + length a.value) × (4 + length a.value ≤ length bytes)
 word_is bytes a head =
-    let fits : length a.value ≤ 65531 = head.2.1 in
-    let len : length bytes ≡ 4 + length a.value + length head.0 = ap length head.1
-    ∙ simp length-append (omega arith) in
-    (ap (little_number 2) head.1 ∙ omega arith, omega arith)
+    grind (arith, length-append)
 
 -- not both an attribute and a fault
 pub prefix_or_fault_apart : (bytes : List ℕ) (a : Attribute) (e : DecodeError) → HasPrefix bytes a
     → IsFramingFault bytes e → ⊥
-prefix_or_fault_apart bytes a e head f = grind (arith, word_is bytes a head)
+prefix_or_fault_apart bytes a e head f =
+    grind (arith, word_is bytes a head)
 
 -- too few bytes for a header, a length word that counts less than it, one that counts more than
 -- there is, or none of these
@@ -118,6 +115,6 @@ module _ {A : Type 0} (reads : Attribute → Result A DecodeError) where
       → IsPrefixFault reads bytes f → e ≡ f
   one_prefix_fault bytes e f (inl framing) (inl also) = one_framing_fault bytes e f framing also
   one_prefix_fault bytes e f (inl framing) (inr (a, head, refused)) =
-      absurd (prefix_or_fault_apart bytes a e head framing)
+      grind (arith, prefix_or_fault_apart bytes a e head framing)
   one_prefix_fault bytes e f (inr (a, head, refused)) k =
       grind (arith, prefix_or_fault_apart bytes a f head, one_attribute bytes a)

@@ -3,7 +3,9 @@ use Rattle.netlink_core.proofs.Texts.{end_zero, other_end}
 use Rattle.netlink_core.proofs.parse.text_bytes.Goals as goal
 
 pub returns-then-last-eq0 : goal.returns-then-last-eq0
-returns-then-last-eq0 c = grind (arith, end_zero c.in-Some.text.now)
+returns-then-last-eq0 c =
+    grind (arith, end_zero c.in-Some.text.now)
 
 pub returns-else-last-eq0 : goal.returns-else-last-eq0
-returns-else-last-eq0 c = grind (arith, other_end c.in-Some.text.now c.in-Some.last.now)
+returns-else-last-eq0 c =
+    grind (arith, other_end c.in-Some.text.now c.in-Some.last.now)

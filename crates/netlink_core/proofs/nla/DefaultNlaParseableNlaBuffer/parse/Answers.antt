@@ -1,3 +1,4 @@
+use Rattle.std.proofs.Common.{arith}
 use Rattle.std.proofs.Common.{refl}
 use Rattle.std.proofs.lemmas.Result.{err_from_is_err_and}
 use Rattle.netlink_core.specs.FirstAttributeLaws.{kept_is_read}
@@ -12,5 +13,5 @@ returns-in_err-keep-clause-wanted c =
     rw (p.1, p.2) (λ memory. (attribute_of c.args.buf, read, λ spare. spare))
 
 pub returns-clause-value : goal.returns-clause-value
-returns-clause-value c = kept_is_read (attribute_of c.args.buf) _
-    (c.args.buf.word_fits, c.args.buf.value_fits) c.in_ok-keep.ensures.equal
+returns-clause-value c =
+    grind (arith, kept_is_read (attribute_of c.args.buf), c.in_ok-keep.ensures.equal)
