@@ -1,13 +1,12 @@
 -- Numbers that were read one after the other are fields of the table, and fields that were written
 -- one after the other are the bytes of the table.
-use Rattle.std.proofs.Common.{◌≡◌, ℕ, zero, suc, ap₂, ◌+◌, ◌-◌, ◌*◌, ◌^◌, ◌<◌, ◌≤◌, List, [], ◌∷◌}
-use Rattle.std.proofs.Common.{◌++◌, length, take, drop, slice_index, bit_and, refl, sym, ap, ◌∙◌}
+use Rattle.std.proofs.Common.{◌≡◌, ℕ, zero, suc, ◌+◌, ◌-◌, ◌*◌, ◌^◌, ◌<◌, ◌≤◌, List, [], ◌∷◌}
+use Rattle.std.proofs.Common.{◌++◌, length, take, drop, slice_index, refl, sym, ap, ◌∙◌}
 use Rattle.std.proofs.Common.{arith, mul-le-mul_left, mul-suc}
-use Rattle.std.proofs.lemmas.List.{ext_get_or, drop-take, take-take, drop-drop, drop_more}
-use Rattle.std.proofs.lemmas.List.{get_or-drop}
+use Rattle.std.proofs.lemmas.List.{ext_get_or, drop-take, drop-drop, drop_more}
 use Rattle.byteorder.specs.Endian.{IsRead}
 use Rattle.netlink_core.specs.Bytes.{IsBytes}
-use Rattle.netlink_core.specs.Table.{Order, little_endian, Field, byte, number, flags, unread}
+use Rattle.netlink_core.specs.Table.{Order, Field, unread}
 use Rattle.netlink_core.specs.Table.{number_in, bytes_at, numbers, values_of, first, Fit}
 use Rattle.netlink_core.proofs.Numbers.{number-take}
 use Rattle.netlink_core.proofs.TableLaws.{AreBytes-drop}

@@ -11,7 +11,6 @@ use Rattle.netlink_core.specs.declared.fault.DecodeError.TheVariants.{EnvelopeCu
 use Rattle.netlink_core.specs.declared.fault.DecodeError.TheVariants.{EnvelopeLengthUnder16}
 use Rattle.netlink_core.specs.declared.fault.DecodeError.TheVariants.{EnvelopeLengthPast}
 use Rattle.netlink_core.specs.Bytes.{IsBytes}
-use Rattle.netlink_core.specs.ByteLaws.{IsBytes-left}
 use Rattle.netlink_core.specs.Table.{values_of}
 use Rattle.netlink_core.specs.Header.{header_fields, header_values, header_bytes, IsHeaderInRange}
 use Rattle.netlink_core.specs.Header.{HasHeader, IsEnvelopeFault}

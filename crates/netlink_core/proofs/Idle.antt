@@ -1,10 +1,9 @@
 -- Messages are equal exactly where their bytes are idle, and read back as themselves exactly where
 -- they are in normal form.
 use Rattle.std.proofs.lemmas.Grind.{common_steps}
-use Rattle.std.proofs.Common.{◌≡◌, ◌↔◌, ℕ, List, [], take}
-use Rattle.std.proofs.Common.{drop, ap, arith}
+use Rattle.std.proofs.Common.{◌≡◌, ◌↔◌, ℕ, List, take}
+use Rattle.std.proofs.Common.{ap, arith}
 use Rattle.std.proofs.lemmas.List.{append-nil}
-use Rattle.netlink_core.specs.declared.header.NetlinkHeader.{NetlinkHeader}
 use Rattle.netlink_core.specs.Bytes.{IsBytes}
 use Rattle.netlink_core.specs.Header.{IsHeaderInRange}
 use Rattle.netlink_core.specs.Envelope.{Payload}

@@ -1,10 +1,10 @@
 -- A sound layout keeps the laws. Proved once, for every layout.
-use Rattle.std.proofs.Common.{◌≡◌, ◌↔◌, inl, inr, ℕ, ◌<◌, ◌≤◌, Bool, IsTrue, List, [], length}
-use Rattle.std.proofs.Common.{Result, Ok, Err, if◌then◌else◌, refl, sym, ap, ◌∙◌, subst, arith}
+use Rattle.std.proofs.Common.{◌≡◌, ◌↔◌, ℕ, ◌<◌, ◌≤◌, IsTrue, List, [], length}
+use Rattle.std.proofs.Common.{Result, Ok, Err, refl, sym, ap, ◌∙◌, arith}
 use Rattle.std.proofs.Common.{append-nil, le-ltb, lt-ltb}
 use Rattle.std.proofs.lemmas.Bool.{cases_lt}
 use Rattle.netlink_core.specs.Bytes.{IsBytes}
-use Rattle.netlink_core.specs.Table.{Field, live_bits, masked, values_of, bytes_of, Fit, AreDefined}
+use Rattle.netlink_core.specs.Table.{Field, live_bits, masked, values_of, bytes_of}
 use Rattle.netlink_core.specs.SoundLaws.{is_table, IsSound}
 use Rattle.netlink_core.specs.Layout.{Layout, read, read_fields, StandsIn, bytes, AreIdle}
 use Rattle.netlink_core.specs.Layout.{IsInRange}

@@ -1,7 +1,7 @@
 -- Records that are given as layouts, in front of other bytes.
-use Rattle.std.proofs.Common.{◌≡◌, ◌∙◌, ℕ, ◌≤◌, List, ◌++◌, length, Ok, refl, arith}
+use Rattle.std.proofs.Common.{◌≡◌, ℕ, ◌≤◌, List, ◌++◌, length, Ok, arith}
 use Rattle.std.proofs.lemmas.List.{length-append}
-use Rattle.netlink_core.specs.Layout.{Layout, bytes}
+use Rattle.netlink_core.specs.Layout.{Layout}
 use Rattle.netlink_core.specs.SoundLaws.{IsSound, IsFixed}
 use Rattle.netlink_core.specs.ValueCodec.{value_codec}
 use Rattle.netlink_core.specs.ShownLaws.{IsPrefixCodec}

@@ -1,9 +1,8 @@
 -- When what was read isn't written.
 use Rattle.std.proofs.Common.{arith}
-use Rattle.std.proofs.Common.{◌≡◌, sym, subst}
+use Rattle.std.proofs.Common.{◌≡◌}
 use Rattle.netlink_core.specs.declared.fault.DecodeError.{DecodeError}
 use Rattle.netlink_core.specs.declared.canon.CanonError.{CanonError}
-use Rattle.netlink_core.specs.declared.canon.CanonError.TheVariants.{Refused, Unwritable, Memory}
 use Rattle.netlink_core.specs.Canonical.{GivesUp}
 
 -- a value in hand that isn't written, where it is what a string is read as

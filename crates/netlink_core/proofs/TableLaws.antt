@@ -1,16 +1,16 @@
 -- The laws of tables, by induction on the fields: what was written is read again, and two strings
 -- have the same values exactly where they have the same live bits.
 use Rattle.std.proofs.lemmas.Grind.{common_steps}
-use Rattle.std.proofs.Common.{◌≡◌, ◌↔◌, ℕ, zero, suc, ◌+◌, ◌<◌, ◌≤◌, Bool, true, false, ◌&&◌, IsTrue}
+use Rattle.std.proofs.Common.{◌≡◌, ◌↔◌, ℕ, zero, suc, ◌+◌, ◌<◌, ◌≤◌, Bool, ◌&&◌, IsTrue}
 use Rattle.std.proofs.Common.{List, [], ◌∷◌, ◌++◌, length, drop, replicate, slice_index}
-use Rattle.std.proofs.Common.{bit_and, refl, sym, ap, ap₂, ◌∙◌, arith, append_assoc, eqb}
+use Rattle.std.proofs.Common.{bit_and, refl, sym, ap, ◌∙◌, arith, append_assoc, eqb}
 use Rattle.std.proofs.Common.{length-drop, add-zero, ◌^◌}
 use Rattle.std.specs.Prelude.{⊤}
 use Rattle.std.proofs.lemmas.List.{drop_at, drop-drop, length-replicate, get_or-drop}
 use Rattle.std.proofs.lemmas.List.{take_all}
 use Rattle.std.proofs.lemmas.Nat.{and_le_l, and_assoc}
 use Rattle.std.proofs.lemmas.Bool.Decides.{nat_tests}
-use Rattle.std.proofs.lemmas.Bool.{eqb-true, ltb-true}
+use Rattle.std.proofs.lemmas.Bool.{eqb-true}
 use Rattle.std.specs.Int.Bits.{and_self}
 use Rattle.std.specs.List.{list_all}
 use Rattle.std.specs.Prelude.{nat_lt}
@@ -22,7 +22,7 @@ use Rattle.netlink_core.specs.Table.{Fit, AreDefined}
 use Rattle.netlink_core.specs.SoundLaws.{is_table, offset_of, width_of, is_written}
 use Rattle.netlink_core.specs.Bytes.{IsBytes}
 use Rattle.netlink_core.specs.PrefixLaws.{same_parts}
-use Rattle.netlink_core.specs.ByteLaws.{IsBytes-cons, IsBytes-append}
+use Rattle.netlink_core.specs.ByteLaws.{IsBytes-append}
 use Rattle.netlink_core.proofs.Numbers.{number-same, number-take, number-fits, number-reads_back}
 use Rattle.netlink_core.proofs.Numbers.{length-bytes_in, bytes_in-bytes, masked-all, masked-none}
 use Rattle.netlink_core.proofs.Numbers.{length-masked, masked-bytes, and_number}

@@ -1,6 +1,6 @@
 -- A whole walk gives the cut, or all of it in front of the first framing fault.
 use Rattle.std.proofs.Common.{arith}
-use Rattle.std.proofs.Common.{Result, Ok, Err, Some, ◌≡◌, List, [], ◌∷◌, refl}
+use Rattle.std.proofs.Common.{Result, Ok, Err, Some, ◌≡◌, List, [], ◌∷◌}
 use Rattle.std.specs.Prelude.{map}
 use Rattle.std.specs.Iterator.{Drains, YieldsThen}
 use Rattle.netlink_core.specs.declared.fault.DecodeError.{DecodeError}

@@ -1,4 +1,4 @@
-use Rattle.std.proofs.Common.{◌≡◌, ◌+◌, ◌-◌, take, drop, arith, ap, ◌∙◌}
+use Rattle.std.proofs.Common.{arith}
 use Rattle.netlink_core.proofs.FieldReads.{bytes_read}
 use Rattle.netlink_core.proofs.fields.array_at.Goals as goal
 

@@ -1,6 +1,5 @@
-use Rattle.std.proofs.Common.{◌≡◌, ◌+◌, ◌-◌, ◌*◌, take, drop, arith, ap, ◌∙◌}
+use Rattle.std.proofs.Common.{arith}
 use Rattle.std.proofs.lemmas.List.{length-replicate}
-use Rattle.netlink_core.specs.Table.{little_endian}
 use Rattle.netlink_core.proofs.FieldReads.{fields_read}
 use Rattle.netlink_core.proofs.fields.long_words_at.Goals as goal
 
