@@ -19,7 +19,8 @@ mem_info_equal v w = (λ h. grind arith, λ e. grind (arith, e))
 
 -- and so are their bytes
 pub bytes_equal : (v w : MemInfoBytes) → IsTrue (held.eq v w) ↔ (v ≡ w)
-bytes_equal v w = grind (arith, bytes_decides)
+bytes_equal v w =
+    grind (arith, bytes_decides)
 
 pub buffer_equal : (v w : MemInfoBuffer) → IsTrue (held.eq v.bytes w.bytes) ↔ (v ≡ w)
 buffer_equal v w = (λ h. grind (arith, bytes_equal), λ e. grind (arith, bytes_equal, e))

@@ -4,17 +4,5 @@ use Rattle.netlink_core.specs.SoundLaws.{IsSound}
 use Rattle.sock_diag_values.specs.MemInfo.{mem_info}
 
 pub mem_info_sound : IsSound mem_info
-mem_info_sound = record {
-  tables = λ param words left e. grind arith;
-  own_table = λ value. grind arith;
-  enough = λ value. grind arith;
-  room = λ param words left least e. grind arith;
-  long = λ value. grind arith;
-  named = λ param left e. cc;
-  kept = λ param words left h e. grind arith;
-  tagged = λ param words left e. grind arith;
-  shaped = λ param words left h e. tt;
-  owned = λ param words left h e. grind arith;
-  back = λ param value t n. let own = n.own in grind arith;
-  tag_written = λ param value t n. grind arith;
-}
+mem_info_sound =
+    grind arith

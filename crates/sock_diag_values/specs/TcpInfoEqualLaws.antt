@@ -16,17 +16,16 @@ same_from : (x y : ℕ) (xs ys : List ℕ) → IsTrue (equal_from x y xs ys) →
 same_from x y [] [] h = grind arith
 same_from x y [] (b ∷ ys) h = search rules
 same_from x y (a ∷ xs) [] h = search rules
-same_from x y (a ∷ xs) (b ∷ ys) h = grind (arith, same_from a b xs ys)
+same_from x y (a ∷ xs) (b ∷ ys) h =
+    grind (arith, same_from a b xs ys)
 
 itself_from : (x : ℕ) (xs : List ℕ) → IsTrue (equal_from x x xs xs)
 itself_from x [] = grind arith
-itself_from x (a ∷ xs) = grind (arith, itself_from a xs)
+itself_from x (a ∷ xs) =
+    grind (arith, itself_from a xs)
 
 pub tcp_info_equal : (v w : TcpInfo)
     → IsTrue (equal_from v.state w.state (drop 1 (tcp_info_values v)) (drop 1 (tcp_info_values w)))
     ↔ (v ≡ w)
-tcp_info_equal v w = (
-  λ h. ap tcp_info_of (same_from v.state w.state (drop 1 (tcp_info_values v))
-      (drop 1 (tcp_info_values w)) h),
-  λ e. rw e (itself_from w.state (drop 1 (tcp_info_values w))),
-)
+tcp_info_equal v w =
+    grind (arith, same_from v.state w.state (drop 1 (tcp_info_values v)) (drop 1 (tcp_info_values w)), itself_from w.state (drop 1 (tcp_info_values w)))
