@@ -1,7 +1,6 @@
 -- Records that hold records are equal by each of their fields.
 use Rattle.std.proofs.Common.{arith, ◌≡◌, ◌↔◌, ◌&&◌, Bool, eqb, IsTrue}
 use Rattle.std.specs.Option.{option_eq}
-use Rattle.netlink_core.proofs.Equality.{options_equal}
 use Rattle.sock_diag_records.specs.declared.inet.socket_id.SocketId.{SocketId}
 use Rattle.sock_diag_records.specs.declared.inet.request.InetRequest.{InetRequest}
 use Rattle.sock_diag_records.specs.declared.inet.response.Timer.{Timer}

@@ -4,7 +4,6 @@ use Rattle.std.proofs.Common.{List, ◌∷◌, ◌++◌, drop}
 use Rattle.std.proofs.Common.{slice_index, Option, Result, Ok, refl}
 use Rattle.std.proofs.Common.{arith}
 use Rattle.std.specs.Prelude.{IfSome}
-use Rattle.std.specs.declared.time.Duration.{Duration}
 use Rattle.netlink_core.specs.Table.{values_of, numbers}
 use Rattle.netlink_core.specs.Table.{little_endian, Fit}
 use Rattle.netlink_core.specs.SoundLaws.{is_table, IsSound, IsFixed}

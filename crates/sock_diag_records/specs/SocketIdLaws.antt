@@ -8,7 +8,6 @@ use Rattle.std.proofs.Common.{append-nil}
 use Rattle.byteorder.specs.Endian.{big_bytes, little_bytes}
 use Rattle.netlink_core.proofs.FieldReads.{first_all}
 use Rattle.std.specs.declared.net.ip_addr.IpAddr.{IpAddr}
-use Rattle.std.specs.declared.net.ip_addr.IpAddr.TheVariants.{V4, V6}
 use Rattle.netlink_core.specs.Table.{values_of}
 use Rattle.netlink_core.specs.Table.{first, Fit}
 use Rattle.netlink_core.specs.SoundLaws.{IsSound, IsFixed}

@@ -1,8 +1,6 @@
 -- The layout of the header of a reply about a UNIX socket is sound.
 use Rattle.std.proofs.Common.{arith}
-use Rattle.std.proofs.Common.{refl}
 use Rattle.netlink_core.specs.SoundLaws.{IsSound}
-use Rattle.netlink_core.proofs.LayoutLaws.{plain_sound}
 use Rattle.netlink_core.proofs.FieldReads.{first_all}
 use Rattle.sock_diag_records.specs.UnixResponseHeader.{unix_response_header}
 

@@ -1,10 +1,9 @@
 -- Two TCP connections are equal by each of their numbers.
 use Rattle.std.proofs.Common.{arith}
 use Rattle.std.proofs.Common.{◌≡◌, ◌↔◌, ◌&&◌, ℕ, List, [], ◌∷◌, Bool, false, eqb, IsTrue, drop}
-use Rattle.std.proofs.Common.{ap, rules}
+use Rattle.std.proofs.Common.{rules}
 use Rattle.sock_diag_values.specs.declared.inet.tcp_info.TcpInfo.{TcpInfo}
 use Rattle.sock_diag_values.specs.TcpInfo.{tcp_info_values}
-use Rattle.sock_diag_values.specs.TcpInfoInverse.{tcp_info_of}
 
 -- the first numbers are equal, and those behind them
 abbrev equal_from : ℕ → ℕ → List ℕ → List ℕ → Bool

@@ -1,5 +1,4 @@
 use Rattle.std.proofs.Common.{arith}
-use Rattle.std.proofs.Common.{refl}
 use Rattle.netlink_core.specs.AttributeSet.{decodes}
 use Rattle.attribute_lists.proofs.Finding.{first_is_accepted, rest_has_no_fault}
 use Rattle.attribute_lists.proofs.views.next_view.Goals as goal

@@ -1,5 +1,4 @@
 use Rattle.std.proofs.Common.{arith}
-use Rattle.std.proofs.Common.{rules}
 use Rattle.sock_diag_records.specs.SocketId.{socket_id}
 use Rattle.netlink_core.proofs.FieldReads.{fit-append, fit-bytes}
 use Rattle.sock_diag_records.proofs.inet.socket_id.SocketIdRecord.fields_in_range.Goals as goal

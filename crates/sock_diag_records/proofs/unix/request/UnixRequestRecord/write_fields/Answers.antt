@@ -1,4 +1,4 @@
-use Rattle.std.proofs.Common.{rules, ◌≡◌, length, arith}
+use Rattle.std.proofs.Common.{arith}
 use Rattle.netlink_core.proofs.FieldReads.{first_all}
 use Rattle.sock_diag_records.proofs.unix.request.UnixRequestRecord.write_fields.Goals as goal
 
