@@ -1,6 +1,6 @@
 -- Attributes of replies are equal where their models are.
 use Rattle.std.proofs.Common.{arith}
-use Rattle.std.proofs.Common.{◌≡◌, ◌↔◌, ℕ, List, Bool, eqb, IsTrue, refl, rules}
+use Rattle.std.proofs.Common.{◌≡◌, ◌↔◌, ℕ, List, Bool, eqb, IsTrue, rules}
 use mathlib.Core.Bool.{beq}
 use mir.Syntax.{given}
 use denote.RattleType.{RattleType}
@@ -19,7 +19,6 @@ use Rattle.sock_diag_values.specs.contracts.inet.mem_info.MemInfoPartialEq.TheIm
 use Rattle.sock_diag_attributes.specs.InetAttributes.{inet}
 use Rattle.sock_diag_attributes.specs.InetModel.{model}
 use Rattle.sock_diag_attributes.specs.declared.inet.nlas.InetNla.{InetNla}
-use Rattle.sock_diag_attributes.specs.declared.inet.nlas.InetNla.TheVariants as nla
 use Rattle.sock_diag_attributes.specs.contracts.inet.nlas.InetNlaPartialEq.TheImpl.{ghosts}
 
 pub truth : (a b : Bool) → IsTrue (beq a b) ↔ (a ≡ b)

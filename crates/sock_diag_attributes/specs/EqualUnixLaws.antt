@@ -1,6 +1,6 @@
 -- Attributes of replies are equal where their models are.
 use Rattle.std.proofs.Common.{arith}
-use Rattle.std.proofs.Common.{◌≡◌, ◌↔◌, ℕ, List, ◌&&◌, Bool, false, eqb, IsTrue, ap, refl, rules}
+use Rattle.std.proofs.Common.{◌≡◌, ◌↔◌, ℕ, List, ◌&&◌, Bool, false, eqb, IsTrue, ap, rules}
 use mir.Syntax.{given}
 use denote.RattleType.{RattleType}
 use lib.Pointwise.{pointwise, bytes_decides}
@@ -22,16 +22,12 @@ use Rattle.sock_diag_attributes.specs.Numbers.{numbers_in}
 use Rattle.sock_diag_attributes.specs.UnixAttributes.{unix}
 use Rattle.sock_diag_attributes.specs.UnixModel.{model}
 use Rattle.sock_diag_attributes.specs.declared.unix.name.UnixDiagName.{UnixDiagName}
-use Rattle.sock_diag_attributes.specs.declared.unix.name.UnixDiagName.TheVariants.{Pathname}
-use Rattle.sock_diag_attributes.specs.declared.unix.name.UnixDiagName.TheVariants.{Abstract}
 use Rattle.sock_diag_attributes.specs.contracts.unix.name.UnixDiagNamePartialEq.TheImpl.{ghosts as names}
 use Rattle.sock_diag_attributes.specs.declared.unix.name.NameView.{NameView}
-use Rattle.sock_diag_attributes.specs.declared.unix.name.NameView.TheVariants as name_view
 use Rattle.sock_diag_attributes.specs.contracts.unix.name.NameViewPartialEq.TheImpl.{ghosts as name_views}
 use Rattle.sock_diag_attributes.specs.declared.numbers.NumbersView.{NumbersView}
 use Rattle.sock_diag_attributes.specs.contracts.numbers.NumbersViewPartialEq.TheImpl.{ghosts as number_views}
 use Rattle.sock_diag_attributes.specs.declared.unix.nlas.UnixNla.{UnixNla}
-use Rattle.sock_diag_attributes.specs.declared.unix.nlas.UnixNla.TheVariants as nla
 use Rattle.sock_diag_attributes.specs.contracts.unix.nlas.UnixNlaPartialEq.TheImpl.{ghosts}
 
 abbrev name_test : SocketName → SocketName → Bool

@@ -3,7 +3,7 @@ use Rattle.std.proofs.lemmas.Grind.{common_steps}
 use Rattle.netlink_core.specs.Codec.{KeepsLaws, as_codec}
 use Rattle.netlink_core.proofs.AttributeTypeLaws.{exact_laws}
 use Rattle.sock_diag_attributes.specs.Name.{name_value}
-use Rattle.std.proofs.Common.{Ok, Err, IsOk, ◌≡◌, ◌≢◌, ◌∙◌, ℕ, zero, suc, ◌+◌, ◌<◌}
+use Rattle.std.proofs.Common.{Ok, Err, IsOk, ◌≡◌, ◌≢◌, ◌∙◌, ℕ, suc, ◌+◌, ◌<◌}
 use Rattle.std.proofs.Common.{cond, ltb, ◌==◌, Some, None, List, [], ◌∷◌}
 use Rattle.std.proofs.Common.{◌++◌, length, take, drop, get_or, append_assoc, refl, ap, sym, subst}
 use Rattle.std.proofs.Common.{arith}
@@ -17,12 +17,11 @@ use Rattle.std.proofs.lemmas.List.Sums.{position_or_len_is, split_at_first, pass
 use Rattle.std.proofs.lemmas.List.Sums.{fails_before_first}
 use Rattle.std.proofs.Math.ListN.{get_or-append}
 use Rattle.std.proofs.Math.Seq.{take-append_seam}
-use Rattle.std.proofs.lemmas.List.Elements.{All-head}
 use Rattle.std.proofs.lemmas.List.Elements.{All-push}
 use Rattle.netlink_core.specs.Bytes.{IsBytes}
 use Rattle.netlink_core.specs.declared.fault.DecodeError.TheVariants.{Memory, NameInnerZero}
 use Rattle.netlink_core.specs.declared.fault.DecodeError.TheVariants.{NameWithoutEnd}
-use Rattle.netlink_core.specs.ByteLaws.{IsBytes-left, IsBytes-append, IsBytes-cons, IsBytes-nil}
+use Rattle.netlink_core.specs.ByteLaws.{IsBytes-left}
 use Rattle.sock_diag_attributes.specs.Name.{SocketName, pathname, abstract, name_bytes}
 use Rattle.sock_diag_attributes.specs.Name.{IsNormalName, IsNameInRange, path_in, read_name}
 use Rattle.sock_diag_attributes.specs.Name.{name_codec}

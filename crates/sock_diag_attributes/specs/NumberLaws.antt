@@ -1,6 +1,6 @@
 -- The laws of numbers that fill the value of an attribute.
 use Rattle.std.proofs.lemmas.Grind.{common_steps}
-use Rattle.std.proofs.Common.{Some, Ok, ◌≡◌, ◌∙◌, ℕ, zero, suc, ◌+◌, ◌*◌, ◌/◌, ◌%◌}
+use Rattle.std.proofs.Common.{Some, Ok, ◌≡◌, ◌∙◌, ℕ, suc, ◌+◌, ◌*◌, ◌/◌, ◌%◌}
 use Rattle.std.proofs.Common.{◌≤◌, ◌<◌, ◌^◌, List, [], ◌∷◌, ◌++◌, length, take, drop, refl, sym}
 use Rattle.std.proofs.Common.{arith}
 use Rattle.std.specs.List.{AllByRecursion}
@@ -12,7 +12,7 @@ use Rattle.byteorder.specs.Endian.{little_number, little_bytes, IsRead}
 use Rattle.byteorder.specs.Numbers.{little_from-lt, little_number-reads_back}
 use Rattle.byteorder.specs.Numbers.{length-bytes_low_first}
 use Rattle.netlink_core.specs.Bytes.{IsBytes}
-use Rattle.netlink_core.specs.ByteLaws.{IsBytes-append, IsBytes-left, IsBytes-nil, IsBytes-number}
+use Rattle.netlink_core.specs.ByteLaws.{IsBytes-left, IsBytes-nil, IsBytes-number}
 use Rattle.netlink_core.specs.ByteLaws.{IsBytes-right}
 use Rattle.netlink_core.proofs.AttributeTypeLaws.{same_bytes, exact_laws}
 use Rattle.netlink_core.specs.Codec.{KeepsLaws, as_codec}
