@@ -1,6 +1,6 @@
 -- Replies are equal where their models are.
 use Rattle.std.proofs.Common.{arith}
-use Rattle.std.proofs.Common.{◌≡◌, ◌↔◌, ◌&&◌, Bool, true, IsTrue, ap}
+use Rattle.std.proofs.Common.{◌≡◌, ◌↔◌, ◌&&◌, Bool, true, IsTrue}
 use Rattle.std.proofs.lemmas.List.{map-id}
 use lib.Pointwise.{pointwise}
 use Rattle.netlink_core.proofs.Equality.{and_decides, lists_equal}

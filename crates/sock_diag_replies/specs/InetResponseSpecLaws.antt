@@ -1,13 +1,13 @@
 -- The laws of replies about IPv4 and IPv6 sockets.
-use Rattle.std.proofs.Common.{◌≡◌, ◌∙◌, ◌↔◌, ℕ, ◌≤◌, List, Bool, IsTrue, ◌++◌, length, slice_index}
-use Rattle.std.proofs.Common.{Ok, ap, arith}
+use Rattle.std.proofs.Common.{◌≡◌, ◌↔◌, ℕ, ◌≤◌, List, Bool, IsTrue, ◌++◌, length, slice_index}
+use Rattle.std.proofs.Common.{Ok, arith}
 use Rattle.std.proofs.lemmas.List.{get_or_append_left}
 use Rattle.netlink_core.specs.Layout.{read}
 use Rattle.netlink_core.specs.ShownLaws.{ResponseLaws}
 use Rattle.sock_diag_records.specs.contracts.inet.exact.InetResponseHeaderExact.TheImpl.Laws.{exact-law as exact_header}
 use Rattle.sock_diag_records.specs.contracts.inet.response.InetResponseHeaderPartialEq.TheImpl.{ghosts as headers}
 use Rattle.sock_diag_records.specs.declared.inet.response.InetResponseHeader.{InetResponseHeader}
-use Rattle.sock_diag_records.specs.IpVersions.{IpVersions, versions_of_family}
+use Rattle.sock_diag_records.specs.IpVersions.{IpVersions}
 use Rattle.sock_diag_records.specs.InetResponse.{inet_response_header}
 use Rattle.sock_diag_records.specs.Timer.{class_of_byte}
 use Rattle.sock_diag_records.specs.InetResponseLaws.{header_sound, header_size, with_class}

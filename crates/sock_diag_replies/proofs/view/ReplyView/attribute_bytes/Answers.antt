@@ -1,5 +1,4 @@
 use Rattle.std.proofs.Common.{arith}
-use Rattle.std.proofs.Common.{ℕ, ap, drop, ◌∙◌}
 use Rattle.std.proofs.lemmas.List.{take_rest}
 use Rattle.attribute_lists.proofs.Finding.{behind_accepted}
 use Rattle.sock_diag_replies.proofs.view.ReplyView.attribute_bytes.Goals as goal

@@ -1,9 +1,6 @@
 use Rattle.std.proofs.Common.{arith}
-use Rattle.std.proofs.Common.{◌∙◌, ℕ, List, Bor, refl, sym}
-use Rattle.netlink_core.specs.Walk.{attribute_of}
 use Rattle.netlink_core.proofs.ValueTests.{value_test}
 use Rattle.sock_diag_attributes.specs.EqualInetLaws.{inet_tests, tests}
-use Rattle.sock_diag_attributes.specs.InetAttributes.{inet}
 use Rattle.sock_diag_attributes.specs.LentLaws.{buffer_row, text_view_row}
 use Rattle.sock_diag_replies.specs.EqualResponseLaws.{then_rest}
 use Rattle.sock_diag_replies.proofs.inet.reply.InetResponseHeaderReplyHeader.is_same.Goals as goal

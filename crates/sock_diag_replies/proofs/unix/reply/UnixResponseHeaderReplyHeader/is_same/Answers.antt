@@ -1,13 +1,8 @@
 use Rattle.std.proofs.Common.{arith}
-use Rattle.std.proofs.Common.{◌∙◌, refl, sym}
-use Rattle.netlink_core.specs.Walk.{attribute_of}
 use Rattle.netlink_core.proofs.ValueTests.{value_test}
 use Rattle.sock_diag_attributes.specs.EqualUnixLaws.{unix_tests, tests, list_views_model}
 use Rattle.sock_diag_attributes.specs.EqualUnixLaws.{name_views_model}
 use Rattle.sock_diag_attributes.specs.LentLaws.{buffer_row, name_view_row, numbers_row}
-use Rattle.sock_diag_attributes.specs.NameModel.{name_view_model}
-use Rattle.sock_diag_attributes.specs.NumbersModel.{numbers_view_model}
-use Rattle.sock_diag_attributes.specs.UnixAttributes.{unix}
 use Rattle.sock_diag_replies.specs.EqualResponseLaws.{then_rest}
 use Rattle.sock_diag_replies.proofs.unix.reply.UnixResponseHeaderReplyHeader.is_same.Goals as goal
 
