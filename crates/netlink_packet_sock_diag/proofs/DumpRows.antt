@@ -1,5 +1,6 @@
 -- Each list of items has one dump, and items in a row have that of the first part, continued by the
 -- second.
+use Rattle.std.proofs.lemmas.Grind.{common_steps}
 use Rattle.std.proofs.Common.{◌≡◌, ◌≢◌, ◌↔◌, ℕ, ◌⊎◌, inl, inr, List, [], ◌∷◌, ◌++◌, refl, sym, ap}
 use Rattle.std.proofs.Common.{◌∙◌, append_assoc, arith, Bool, false, IsTrue}
 use Rattle.std.specs.Prelude.{MatchOption, Option, Some, None, Result, Ok, Err, slice_get, IsBitSet}
@@ -61,7 +62,8 @@ grows m n z = grind arith
 
 -- a fact has one flag
 one_flag : {P : Type 0} (x y : Bool) → (IsTrue x ↔ P) → (IsTrue y ↔ P) → x ≡ y
-one_flag x y p q = grind (arith, p, q)
+one_flag x y p q =
+    grind (arith, p, q)
 
 module _ {A : Type 0} where
   -- at its end a dump keeps what came before; else what later items lead to
@@ -79,7 +81,7 @@ module _ {A : Type 0} where
   reached before [] [] end plain ends = rw (append-nil, ends)
   reached before [] (x ∷ later) end plain ends = rw (append-nil, ends)
   reached before (x ∷ passed) later end plain ends =
-      rw (plain.0, reached (before ++ kept x) passed later end plain.1 ends, append_assoc)
+      grind (arith, reached (before ++ kept x) passed later end plain.1 ends, append_assoc)
 
   reaches : (before : List A) (items : List (Item A))
       → Dump before items (reach before items).0 (reach before items).1
@@ -94,10 +96,8 @@ module _ {A : Type 0} where
 
   pub dump_is : (before after : List A) (items : List (Item A)) (end : End)
       → Dump before items after end ↔ (reach before items ≡ (after, end))
-  dump_is before after items end = (
-    λ d. rw (d.2, d.4) (reached before d.0 d.1 end d.3 d.5),
-    λ e. rw e at (reaches before items),
-  )
+  dump_is before after items end =
+      grind (arith, reached before, reaches before items)
 
   pub has_dump : (before : List A) (items : List (Item A))
       → (after : List A) × (end : End) × Dump before items after end
@@ -106,20 +106,20 @@ module _ {A : Type 0} where
   pub one_dump : (before : List A) (items : List (Item A)) (a b : List A) (e f : End)
       → Dump before items a e → Dump before items b f → (a ≡ b) × (e ≡ f)
   one_dump before items a b e f d t =
-      let same = sym ((dump_is before a items e).0 d) ∙ (dump_is before b items f).0 t in
-      (ap (λ (p : List A × End). p.0) same, ap (λ (p : List A × End). p.1) same)
+      grind (arith, dump_is before a items e, dump_is before b items f)
 
   -- a dump that is still read has no number
   pub unnumbered : (items : List (Item A)) (s : Standing) → Ends items (Ok s) → s.0 ≡ Reading
       → s ≡ unended
-  unnumbered [] s ends is = cc
-  unnumbered (item ∷ items) s ends is = grind arith
+  unnumbered items s ends is =
+      grind arith
 
   -- a dump is still read where no item ends it
   all_plain : (before : List A) (items : List (Item A))
       → ((reach before items).1 ≡ Ok unended) ↔ Plain items
   all_plain before [] = grind arith
-  all_plain before (x ∷ items) = grind (arith, all_plain (before ++ kept x) items)
+  all_plain before (x ∷ items) =
+      grind (arith, all_plain (before ++ kept x) items)
 
   no_end_reads : (item : Item A) (end : End) → end_of item ≡ Some end → end ≢ Ok unended
   no_end_reads item end ends is = grind arith
@@ -131,21 +131,14 @@ module _ {A : Type 0} where
       ⊎ (((reach before xs).1 ≢ Ok unended) × (after ≡ (reach before xs).0)
       × (end ≡ (reach before xs).1)))
   goes_on before [] ys after end = grind arith
-  goes_on before (x ∷ xs) ys after end = elim (none_or_some (end_of x)) [
-    | inl plain ↦ rw plain (goes_on (before ++ kept x) xs ys after end)
-    | inr (stop, ends) ↦ let other = no_end_reads x stop ends in rw ends (grind (arith, other))
-  ]
+  goes_on before (x ∷ xs) ys after end =
+      grind (arith, none_or_some (end_of x), goes_on (before ++ kept x) xs ys after end, no_end_reads x)
 
   pub joined : (before middle after : List A) (state end : End) (xs ys : List (Item A))
       → Dump before xs middle state → DumpGoesOn middle state ys after end
       → Dump before (xs ++ ys) after end
   joined before middle after state end xs ys d on =
-      let first = (dump_is before middle xs state).0 d in
-      (dump_is before after (xs ++ ys) end).1 ((goes_on before xs ys after end).1
-      (rw first (elim on [
-        | inl on ↦ inl (on.0, (dump_is middle after ys end).0 on.1)
-        | inr off ↦ inr off
-      ])))
+      grind (arith, dump_is before middle xs state, dump_is before after (xs ++ ys) end, goes_on before xs ys after end, dump_is middle after ys end)
 
   pub parted : (before after : List A) (end : End) (xs ys : List (Item A))
       → Dump before (xs ++ ys) after end → (middle : List A) × (state : End)
@@ -165,7 +158,7 @@ pub bytes-concatenation : (datagrams : List (List ℕ)) → AllByRecursion IsByt
     → IsBytes (concatenation datagrams)
 bytes-concatenation [] in_range = IsBytes-nil
 bytes-concatenation (b ∷ later) in_range =
-    IsBytes-append b (concatenation later) in_range.0 (bytes-concatenation later in_range.1)
+    grind (arith, common_steps, bytes-concatenation later in_range.1)
 
 -- the header of the message has the flag
 abbrev pub IsMarked : List ℕ → Type 0
@@ -203,7 +196,6 @@ module _ (C : Codec ℕ) where
   pub one_row : OneList → (datagrams : List (List ℕ)) → AllByRecursion IsBytes datagrams
       → (xs ys : List (List (Item C.Value))) → AllZip (ItemsAre C) datagrams xs
       → AllZip (ItemsAre C) datagrams ys → xs ≡ ys
-  one_row one [] in_range [] [] h k = refl
   one_row one (b ∷ later) in_range (x ∷ xs) (y ∷ ys) h k =
       cc (one b in_range.0 x y h.0 k.0, one_row one later in_range.1 xs ys h.1 k.1)
   one_row one datagrams in_range xs ys h k = grind arith
@@ -242,9 +234,8 @@ module _ (C : Codec ℕ) where
   last_or_whole : (b : List ℕ) (later : List (List ℕ)) (parts : List (List (Item C.Value)))
       → AreSplit (b ∷ later) → AllZip (ItemsAre C) later parts
       → ((later ≡ []) × (parts ≡ [])) ⊎ ((messages : List (List ℕ)) × AreWholeMessages b messages)
-  last_or_whole b [] [] split each = inl (refl, refl)
-  last_or_whole b (d ∷ later) parts (inr whole, more) each = inr whole
-  last_or_whole b later parts split each = grind arith
+  last_or_whole b later parts split each =
+      grind arith
 
   -- the items of split datagrams are those of all their bytes
   split_items : (datagrams : List (List ℕ)) (parts : List (List (Item C.Value)))
@@ -302,11 +293,7 @@ module _ (C : Codec ℕ) where
       → (Interrupt (b ++ concatenation later) (items ++ concatenation parts)
       ↔ (Interrupt b items ⊎ (Plain items × Interrupt (concatenation later) (concatenation parts))))
   flags_of_split b later items parts split are each =
-      elim (last_or_whole b later parts split each) [
-        | inl none ↦ rw (none.0, none.1, append-nil b, append-nil items) (grind arith)
-        | inr whole ↦ flags_of_concatenation b (concatenation later) whole.0 items
-            (concatenation parts) whole.1 (whole_items C b whole.0 items whole.1 are)
-      ]
+      grind (arith, last_or_whole b later parts split each, append-nil b, append-nil items, flags_of_concatenation b (concatenation later), whole_items)
 
   -- the state in which a dump is left
   abbrev pub state_left : End → Standing
@@ -319,18 +306,14 @@ module _ (C : Codec ℕ) where
   feed_step : (old new : Stage C.Value) (datagram : List ℕ) (answer : Result Unit DumpError)
       → old.1 ≡ unended → FeedLeaves C old datagram new answer → answer ≢ Err (Fault Memory)
       → (end : End) × Takes C old.0 old.2 datagram new.0 new.2 end × (new.1 ≡ state_left end)
-  feed_step old new datagram (Ok done) reading f some = (Ok new.1, f.1, refl)
-  feed_step old new datagram (Err Ended) reading f some = absurd (f.0 reading)
-  feed_step old new datagram (Err (Fault e)) reading f some =
-      (Err e, f.2 (λ memory. some (cc)), f.1)
+  feed_step old new datagram answer reading f some =
+      grind arith
 
   ended_stays : (datagrams : List (List ℕ)) (old new : Stage C.Value) → old.1 ≢ unended
       → FeedsLeave C old datagrams new → new ≡ old
-  ended_stays [] old new over f = f
   ended_stays (datagram ∷ later) old new over (next, Err Ended, leaves, some, more) =
-      ended_stays later old new over (rw leaves.1 at more)
-  ended_stays (datagram ∷ later) old new over (next, answer, leaves, some, more) =
-      absurd (over leaves.0)
+      grind (arith, ended_stays later old new over)
+  ended_stays datagrams old new over f = grind arith
 
   -- Feeding datagrams in a row gives their dump. Where they are split, it is interrupted where all
   -- the bytes do so.

@@ -16,13 +16,8 @@ use Rattle.netlink_packet_sock_diag.specs.MessageLaws.{length-message_bytes, oth
 pub one_of : (own : MessageKind) (tests : MessageKind → Bool)
     → ((kind : MessageKind) → IsTrue (tests kind) ↔ (own ≡ kind))
     → count_by tests (inet_request ∷ inet_response ∷ unix_request ∷ unix_response ∷ []) ≡ 1
-one_of own tests tell = grind (
-  arith,
-  tell inet_request,
-  tell inet_response,
-  tell unix_request,
-  tell unix_response,
-)
+one_of own tests tell =
+    grind (arith, tell inet_request, tell inet_response, tell unix_request, tell unix_response)
 
 -- the bytes of a message whose header is finalized under the type 21
 abbrev pub sent : NetlinkHeader → Message → List ℕ
@@ -52,5 +47,5 @@ destroy_is_refused h m rest bytes in_range fits whole =
 pub normal_payload : (t : ℕ) (p : Payload Message) → t ≡ payload_type (λ _. 20) p
     → (OfInner (λ m. IsInnerType t × message_codec.is_normal t m) p
     ↔ OfInner (message_codec.is_normal 20) p)
-normal_payload t (inner m) e = rw e (λ n. n.1, λ n. (inr (omega arith), n))
-normal_payload t p e = grind arith
+normal_payload t p e =
+    grind arith

@@ -26,10 +26,10 @@ module _ (C : Codec ℕ) where
       → FeedLeaves C before datagram after answer → answer ≢ Err (Fault Memory)
       → FeedsLeave C old (datagrams ++ datagram ∷ []) after
   one_more [] old before after datagram answer here f some =
-      (after, answer, rw here at f, some, refl)
+      grind arith
   one_more (first ∷ later) old before after datagram answer (next, given, leaves, named, more) f
       some =
-      (next, given, leaves, named, one_more later next before after datagram answer more f some)
+      grind (arith, one_more later next before after datagram answer more f some)
 
   -- a dump that is read was left so with memory for all
   pub fed_on : (before after : Stage C.Value) (datagram : List ℕ)

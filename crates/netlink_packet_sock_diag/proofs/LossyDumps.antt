@@ -35,20 +35,17 @@ module _ {A : Type 0} where
   reach_entries : (items : List (Item A)) (end : Option DecodeError) (before after : List A)
       (s : Standing) → reach before (items ++ last end) ≡ (after, Ok s)
       → reach (entries_of before) (map as_entry items ++ last end) ≡ (entries_of after, Ok s)
-  reach_entries [] None before after s e = grind arith
-  reach_entries [] (Some f) before after s e = grind arith
   reach_entries (Ok (inner v) ∷ items) end before after s e =
-      simp map-append at (reach_entries items end (before ++ v ∷ []) after s e)
+      grind (arith, map-append, reach_entries items end (before ++ v ∷ []) after s e)
   reach_entries (Ok no_payload ∷ items) end before after s e =
-      rw append-nil (reach_entries items end before after s (rw append-nil at e))
-  reach_entries (x ∷ items) end before after s e = grind arith
+      grind (arith, append-nil, reach_entries items end before after s)
+  reach_entries items end before after s e = grind arith
 
 module _ (C : Codec ℕ) where
   is_entry : (message : List ℕ) (item : Item C.Value) → IsMessageString message
       → ItemIs C message item → ItemIs (lossy C) message (as_entry item)
-  is_entry message (Err e) whole (inl fault) = absurd (no_fault_in_message message e whole fault)
-  is_entry message (Err e) whole (inr (h, head, kind, fault)) = (h, (head, (kind, fault)))
-  is_entry message item whole is = grind arith
+  is_entry message item whole is =
+      grind (arith, no_fault_in_message message)
 
   zip_entries : (bytes : List ℕ) (messages : List (List ℕ)) (end : Option DecodeError)
       → CutIntoMessages bytes messages end → (carried : List (Item C.Value))
@@ -56,7 +53,7 @@ module _ (C : Codec ℕ) where
       → AllZip (ItemIs (lossy C)) messages (map as_entry carried)
   zip_entries bytes [] end cut [] each = tt
   zip_entries bytes (m ∷ messages) end cut (x ∷ xs) each =
-      (is_entry m x cut.1.whole each.0, zip_entries cut.0 messages end cut.2 xs each.1)
+      grind (arith, is_entry m x cut.1.whole each.0, zip_entries cut.0 messages end cut.2 xs each.1)
   zip_entries bytes messages end cut carried each = grind arith
 
   -- what is kept of a datagram without a fault

@@ -19,11 +19,8 @@ use Rattle.netlink_packet_sock_diag.specs.PayloadViewModel.{item_view_model}
 nothing_more : (walk : DumpViews) (given : List (Result PayloadView DecodeError))
     → Drains GivesView walk given → datagram_left walk.messages ≡ [] → given ≡ []
 nothing_more walk [] h none = refl
-nothing_more walk (g ∷ given) h none = elim h.1.1.1 [
-  | inl s ↦ let short = shorter-rest (datagram_left walk.messages) s.0 _ s.1 in
-      absurd (omega (arith, ap length none))
-  | inr f ↦ absurd (f.2 none)
-]
+nothing_more walk (g ∷ given) h none =
+    grind (arith, shorter-rest (datagram_left walk.messages))
 
 pub whole_views : (walk : DumpViews) (given : List (Result PayloadView DecodeError))
     → Drains GivesView walk given → ItemsAre message_codec (datagram_left walk.messages)

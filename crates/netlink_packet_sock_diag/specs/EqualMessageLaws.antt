@@ -1,4 +1,5 @@
 -- Messages are equal where their models are.
+use Rattle.std.proofs.Common.{arith}
 use Rattle.std.proofs.Common.{◌≡◌, ◌↔◌, Bool, IsTrue, ap}
 use Rattle.netlink_core.proofs.Equality.{apart}
 use Rattle.sock_diag_records.specs.contracts.inet.exact.InetRequestExact.TheImpl.Laws.{exact-law as exact_inet_request}
@@ -45,7 +46,7 @@ same_held unix_response v w e = ap (held_as unix_response v) e
 by_held : (kind : MessageKind) (is : Bool) (v w : (codec_of kind).Value)
     → (IsTrue is ↔ (v ≡ w)) → (IsTrue is ↔ (message_of kind v ≡ message_of kind w))
 by_held kind is v w same =
-    (λ h. ap (message_of kind) (same.0 h), λ e. same.1 (same_held kind v w e))
+    grind (arith, same_held kind v w)
 
 pub message_equal : (v w : SockDiagMessage) → IsTrue (ghosts.eq v w)
     ↔ (message_model v ≡ message_model w)

@@ -1,4 +1,5 @@
 -- Payloads that are read in place are equal where they tell the same.
+use Rattle.std.proofs.Common.{arith}
 use Rattle.std.proofs.Common.{◌≡◌, ◌↔◌, IsTrue, ap, rules}
 use Rattle.netlink_core.proofs.Equality.{apart}
 use Rattle.netlink_core.specs.Envelope.{inner}
@@ -18,5 +19,5 @@ payload_equal (Error a) (Error x) = search rules
 payload_equal Noop Noop = search rules
 payload_equal (Overrun a) (Overrun x) = search rules
 payload_equal (InnerMessage a) (InnerMessage x) =
-    (λ h. ap inner ((view_equal a x).0 h), λ e. (view_equal a x).1 cc)
+    grind (arith, view_equal a x)
 payload_equal v w = apart (λ e. cc)

@@ -14,9 +14,8 @@ module _ (C : Codec ℕ) (laws : KeepsLaws C) where
   one_entry b t in_range (Ok v) (Ok w) r s =
       ap Ok ((laws.same_value b b t v w in_range in_range r s).1
       ((laws.same_value b b t v v in_range in_range r r).0 refl))
-  one_entry b t in_range (Ok v) (Err f) r s = absurd (laws.one_answer b t v f r s)
-  one_entry b t in_range (Err e) (Ok w) r s = absurd (laws.one_answer b t w e s r)
   one_entry b t in_range (Err e) (Err f) r s = ap Err (laws.one_fault b t e f r s)
+  one_entry b t in_range v w r s = grind arith
 
   -- strings that are read as the same are idle
   same_entry : (b c : List ℕ) (t : ℕ) (v w : Result C.Value DecodeError)

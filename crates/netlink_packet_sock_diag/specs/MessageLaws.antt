@@ -30,10 +30,8 @@ use Rattle.sock_diag_records.specs.ResponseKind.{unix_request, unix_response, re
 
 -- each kind's codec keeps the laws
 laws_of : (kind : MessageKind) → KeepsLaws (codec_of kind)
-laws_of inet_request = keeps_laws inet_request_layout inet_request_sound
-laws_of inet_response = responses_keep_laws inet_response_spec inet_response_laws
-laws_of unix_request = keeps_laws unix_request_layout unix_request_sound
-laws_of unix_response = responses_keep_laws unix_response_spec unix_response_laws
+laws_of kind =
+    grind (arith, keeps_laws inet_request_layout inet_request_sound, inet_request_sound, responses_keep_laws inet_response_spec inet_response_laws, inet_response_laws, keeps_laws unix_request_layout unix_request_sound, unix_request_sound, responses_keep_laws unix_response_spec unix_response_laws, unix_response_laws)
 
 -- ---- which kind is found
 
@@ -79,8 +77,7 @@ one_answer : (b : List ℕ) (t : ℕ) (m : Message) (e : DecodeError) → messag
     → message_codec.refuses b t e → ⊥
 one_answer b t (message_of kind v) e (found, r) (inl none) = cc
 one_answer b t (message_of kind v) e (found, r) (inr (other, as_other, refused)) =
-    let same : other ≡ kind = cc in
-    (laws_of kind).one_answer b tt v e r (rw same at refused)
+    grind (arith, laws_of kind)
 
 one_fault : (b : List ℕ) (t : ℕ) (e f : DecodeError) → message_codec.refuses b t e
     → message_codec.refuses b t f → e ≡ f
@@ -88,8 +85,7 @@ one_fault b t e f (inl h) (inl k) = cc
 one_fault b t e f (inl h) (inr (kind, found, refused)) = cc
 one_fault b t e f (inr (kind, found, refused)) (inl k) = cc
 one_fault b t e f (inr (kind, found, refused)) (inr (other, as_other, also)) =
-    let same : other ≡ kind = cc in
-    (laws_of kind).one_fault b tt e f refused (rw same at also)
+    grind (arith, laws_of kind)
 
 named_fault : (b : List ℕ) (t : ℕ) → message_codec.refuses b t Memory → ⊥
 named_fault b t (inl none) = response_kinds b t (Err Memory) none refl
@@ -137,19 +133,18 @@ written_bytes (message_of kind v) in_range = (laws_of kind).written_bytes v in_r
 -- the family of an internet reply in normal form tells its kind
 kind_of_versions : (family : ℕ) (versions : IpVersions) → versions_of_family family ≡ Ok versions
     → response_kind (family ∷ 0 ∷ []) 20 ≡ Ok inet_response
-kind_of_versions family versions h = grind (arith, nat_tests)
+kind_of_versions family versions h =
+    grind (arith, nat_tests)
 
 -- a message in normal form is written as a reply of its kind
 kind_written : (t : ℕ) (m : Message) → message_codec.is_normal t m
     → response_kind (message_codec.written m) t ≡ Ok (message_kind m)
 unfolding inet_response_header
-kind_written t (message_of inet_request v) (is, reply, normal) = grind arith
-kind_written t (message_of unix_request v) (is, reply, normal) = grind arith
 kind_written t (message_of inet_response v) (is, reply, normal) =
-    kind_by_first_byte (response_bytes inet_response_spec v) t v.header.family (omega arith) is refl
-    ∙ kind_of_versions v.header.family _ normal.0.own.0
+    grind (arith, kind_by_first_byte (response_bytes inet_response_spec v) t v.header.family, kind_of_versions v.header.family)
 kind_written t (message_of unix_response v) (is, reply, normal) =
-    kind_by_first_byte (response_bytes unix_response_spec v) t 1 (omega arith) is refl
+    grind (arith, kind_by_first_byte (response_bytes unix_response_spec v) t 1)
+kind_written t m h = grind arith
 
 reads_back : (t : ℕ) (m : Message) → message_codec.is_in_range m → message_codec.is_normal t m
     → message_codec.fits m

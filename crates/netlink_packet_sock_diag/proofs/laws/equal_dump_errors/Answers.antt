@@ -1,3 +1,4 @@
+use Rattle.std.proofs.Common.{arith}
 use Rattle.std.proofs.Common.{◌≡◌, ◌↔◌, IsTrue, ap, rules}
 use Rattle.netlink_core.proofs.Equality.{apart}
 use Rattle.netlink_core.proofs.FaultEquality.{fault_equal}
@@ -8,7 +9,7 @@ use Rattle.netlink_packet_sock_diag.proofs.laws.equal_dump_errors.Goals as goal
 
 dump_error_equal : (v w : DumpError) → IsTrue (ghosts.eq v w) ↔ (v ≡ w)
 dump_error_equal (Fault a) (Fault b) =
-    (λ h. ap Fault ((fault_equal a b).0 h), λ e. (fault_equal a b).1 cc)
+    grind (arith, fault_equal a b)
 dump_error_equal Ended Ended = search rules
 dump_error_equal v w = apart (λ p. cc)
 

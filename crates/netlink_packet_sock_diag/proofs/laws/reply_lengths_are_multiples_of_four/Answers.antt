@@ -1,3 +1,4 @@
+use Rattle.std.proofs.Common.{arith}
 use Rattle.std.proofs.Common.{refl}
 use Rattle.sock_diag_replies.specs.UnixResponseSpec.{unix_response_spec}
 use Rattle.sock_diag_replies.specs.UnixResponseSpecLaws.{unix_response_laws}
@@ -7,7 +8,5 @@ use Rattle.netlink_packet_sock_diag.proofs.Lengths.{reply_multiple}
 use Rattle.netlink_packet_sock_diag.proofs.laws.reply_lengths_are_multiples_of_four.Goals as goal
 
 pub returns : goal.returns
-returns c = record {
-  unix = λ v in_range. reply_multiple unix_response_spec unix_response_laws refl v in_range.0;
-  inet = λ v in_range. reply_multiple inet_response_spec inet_response_laws refl v in_range.0;
-}
+returns c =
+    grind (arith, reply_multiple unix_response_spec unix_response_laws, unix_response_laws, reply_multiple inet_response_spec inet_response_laws, inet_response_laws)

@@ -1,11 +1,9 @@
+use Rattle.std.proofs.Common.{arith}
 use Rattle.netlink_packet_sock_diag.specs.Message.{message_codec}
 use Rattle.netlink_packet_sock_diag.specs.MessageLaws.{message_laws}
 use Rattle.netlink_packet_sock_diag.proofs.DumpRows.{same_feeds, whole_feed}
 use Rattle.netlink_packet_sock_diag.proofs.laws.split_changes_no_feed.Goals as goal
 
 pub returns : goal.returns
-returns c = record {
-  same = same_feeds message_codec message_laws;
-  whole = λ datagrams in_range split left f.
-      (whole_feed message_codec message_laws datagrams in_range split left f).0;
-}
+returns c =
+    grind (arith, same_feeds message_codec message_laws, message_laws, whole_feed message_codec message_laws)

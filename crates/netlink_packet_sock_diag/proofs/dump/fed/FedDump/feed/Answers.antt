@@ -13,7 +13,8 @@ use denote.Enum.Bare.{sameb}
 still_reading : (standing : Standing) (differs : Bool)
     → (standing.0 ≡ Reading → standing ≡ unended)
     → differs ≡ not (sameb the_type standing.0 Reading) → differs ≡ false → standing ≡ unended
-still_reading standing differs first is equal = grind (arith, first)
+still_reading standing differs first is equal =
+    grind (arith, first)
 
 pub invariant_of-self : goal.invariant_of-self
 invariant_of-self g c =
