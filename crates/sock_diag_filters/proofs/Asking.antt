@@ -1,14 +1,12 @@
 -- What attributes tell, one after the other.
 use Rattle.std.proofs.Common.{arith}
-use Rattle.std.proofs.Common.{◌≡◌, ◌∙◌, List, [], ◌∷◌, ◌++◌, Option, Some, None, refl, sym, ap}
+use Rattle.std.proofs.Common.{◌≡◌, List, [], ◌∷◌, ◌++◌, Option, Some, None, refl}
 use Rattle.std.specs.List.{filter_map, last_or}
 use Rattle.std.proofs.lemmas.List.Elements.{filter_map-append}
 use Rattle.sock_diag_filters.specs.declared.request.RequestAttribute.{RequestAttribute}
-use Rattle.sock_diag_filters.specs.declared.request.RequestAttribute.TheVariants.{Program, Protocol}
 use Rattle.sock_diag_filters.specs.declared.view.Found.{Found}
 use Rattle.sock_diag_filters.specs.Asked.{Keeps, AskedAttribute, nothing_asked, program_in}
-use Rattle.sock_diag_filters.specs.Asked.{program_asked}
-use Rattle.sock_diag_filters.specs.Asked.{protocol_in, protocol_asked}
+use Rattle.sock_diag_filters.specs.Asked.{protocol_in}
 use Rattle.sock_diag_filters.specs.AskedSteps.{found_with, asked_or_nothing}
 
 last_or-append : {A : Type 0} (o : Option A) (xs ys : List A)

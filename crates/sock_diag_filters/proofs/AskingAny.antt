@@ -1,16 +1,16 @@
 -- Which request is refused, by the family that is told.
 use Rattle.std.proofs.Common.{arith}
-use Rattle.std.proofs.Common.{◌≡◌, ℕ, ◌≤◌, List, length, inl, inr, refl, sym, subst}
-use Rattle.std.proofs.Common.{le-ltb, Result, Ok, Err}
+use Rattle.std.proofs.Common.{◌≡◌, ℕ, ◌≤◌, List, length, refl, sym, subst}
+use Rattle.std.proofs.Common.{le-ltb, Result, Err}
 use Rattle.std.specs.Prelude.{slice_index}
 use Rattle.std.proofs.lemmas.Bool.{ne_eqb}
 use Rattle.netlink_core.specs.declared.fault.DecodeError.{DecodeError}
 use Rattle.netlink_core.specs.declared.fault.DecodeError.TheVariants.{UnknownMessageType}
 use Rattle.netlink_core.specs.declared.header.NetlinkHeader.{NetlinkHeader}
-use Rattle.sock_diag_filters.specs.AnyRequest.{AskedFamily, RecordFamily, asked_family, codec_of}
-use Rattle.sock_diag_filters.specs.AnyRequest.{family_in, inet, of_record, refuses_by}
+use Rattle.sock_diag_filters.specs.AnyRequest.{AskedFamily, asked_family}
+use Rattle.sock_diag_filters.specs.AnyRequest.{family_in, refuses_by}
 use Rattle.sock_diag_filters.specs.AnyRequest.{family_by_byte}
-use Rattle.sock_diag_filters.specs.Asked.{IsRequestType, RefusesRequest, payload_of}
+use Rattle.sock_diag_filters.specs.Asked.{IsRequestType}
 
 -- the first byte of a request tells its family
 pub asked_is : (payload : List ℕ) (t : ℕ) (decoded : Result AskedFamily DecodeError)

@@ -1,26 +1,17 @@
 -- What is found of a socket is what the conditions mean.
-use Rattle.std.proofs.Common.{◌≡◌, ◌≢◌, ◌∙◌, ℕ, ◌<◌, ◌^◌, List, [], ◌++◌, refl, ap, arith}
-use Rattle.std.proofs.Common.{Bool, Option, Some, None}
-use Rattle.std.specs.Prelude.{◌&&◌, ◌||◌, ◌==◌, bit_and, nat_le, not, slice_index, drop, unwrap_or}
+use Rattle.std.proofs.Common.{◌≡◌, ℕ, ◌<◌, ◌^◌, List, [], ◌++◌, ap, arith}
+use Rattle.std.proofs.Common.{Option}
+use Rattle.std.specs.Prelude.{◌||◌, ◌==◌, not, slice_index, drop, unwrap_or}
 use Rattle.std.proofs.lemmas.Bool.{ne_eqb}
 use Rattle.byteorder.specs.Endian.{little_bytes, little_number}
 use Rattle.netlink_core.specs.Table.{little_endian}
 use Rattle.netlink_core.proofs.Numbers.{number-reads_back}
 use Rattle.std.specs.declared.net.ip_addr.IpAddr.{IpAddr}
-use Rattle.std.specs.declared.net.ip_addr.IpAddr.TheVariants.{V4, V6}
-use Rattle.sock_diag_filters.specs.declared.condition.Comparison.TheVariants.{AtLeast, AtMost}
-use Rattle.sock_diag_filters.specs.declared.condition.Comparison.TheVariants.{Equal}
 use Rattle.sock_diag_filters.specs.declared.condition.ValueCodec.{ValueCodec}
 use Rattle.sock_diag_filters.specs.declared.condition.Host.{Host}
 use Rattle.sock_diag_filters.specs.declared.condition.Condition.{Condition}
-use Rattle.sock_diag_filters.specs.declared.condition.Condition.TheVariants.{SourcePort, Source}
-use Rattle.sock_diag_filters.specs.declared.condition.Condition.TheVariants.{DestinationPort}
-use Rattle.sock_diag_filters.specs.declared.condition.Condition.TheVariants.{Destination, Interface}
-use Rattle.sock_diag_filters.specs.declared.condition.Condition.TheVariants.{Mark, Cgroup}
-use Rattle.sock_diag_filters.specs.declared.condition.Condition.TheVariants.{AutoBound}
 use Rattle.sock_diag_filters.specs.declared.filter.Filter.{Filter}
 use Rattle.sock_diag_filters.specs.declared.filter.Filter.TheVariants as parts
-use Rattle.sock_diag_filters.specs.Prefixes.{octets_of}
 use Rattle.sock_diag_filters.specs.Conditions.{arguments, code_of}
 use Rattle.sock_diag_filters.specs.Filters.{meaning}
 use Rattle.sock_diag_filters.specs.Sockets.{AreInRange, IsInRange, IsPort, Socket, finds_address}

@@ -1,22 +1,14 @@
 -- Operations: what stands in one, and how long they are.
 use Rattle.std.proofs.Common.{◌≡◌, ℕ, ◌+◌, ◌*◌, ◌-◌, ◌%◌, ◌≤◌, ◌⊎◌, List, [], ◌∷◌, ◌++◌}
-use Rattle.std.proofs.Common.{length, drop, refl, arith, Option, Some, None}
-use Rattle.std.specs.Prelude.{slice_index, option_map, unwrap_or}
+use Rattle.std.proofs.Common.{length, drop, arith, Option, Some}
+use Rattle.std.specs.Prelude.{slice_index, option_map}
 use Rattle.std.proofs.lemmas.List.{drop_at, length-append}
 use Rattle.byteorder.specs.Endian.{little_bytes}
 use Rattle.netlink_core.specs.Table.{little_endian}
 use Rattle.netlink_core.proofs.Numbers.{number-reads_back}
 use Rattle.std.specs.declared.net.ip_addr.IpAddr.{IpAddr}
-use Rattle.std.specs.declared.net.ip_addr.IpAddr.TheVariants.{V4, V6}
-use Rattle.sock_diag_filters.specs.declared.condition.Comparison.TheVariants.{AtLeast, AtMost}
-use Rattle.sock_diag_filters.specs.declared.condition.Comparison.TheVariants.{Equal}
 use Rattle.sock_diag_filters.specs.declared.condition.ValueCodec.{ValueCodec}
 use Rattle.sock_diag_filters.specs.declared.condition.Condition.{Condition}
-use Rattle.sock_diag_filters.specs.declared.condition.Condition.TheVariants.{SourcePort, Source}
-use Rattle.sock_diag_filters.specs.declared.condition.Condition.TheVariants.{DestinationPort}
-use Rattle.sock_diag_filters.specs.declared.condition.Condition.TheVariants.{Destination, Interface}
-use Rattle.sock_diag_filters.specs.declared.condition.Condition.TheVariants.{Mark, Cgroup}
-use Rattle.sock_diag_filters.specs.declared.condition.Condition.TheVariants.{AutoBound}
 use Rattle.sock_diag_filters.specs.declared.filter.Filter.{Filter}
 use Rattle.sock_diag_filters.specs.declared.filter.Filter.TheVariants as parts
 use Rattle.sock_diag_filters.specs.Prefixes.{bits_of, family_of, octets_of}

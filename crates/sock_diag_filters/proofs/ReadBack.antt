@@ -31,7 +31,7 @@ use Rattle.sock_diag_filters.specs.declared.view.RequestView.{RequestView}
 use Rattle.sock_diag_filters.specs.Asked.{Asks, IsRequestType, RefusesRequest, AskedAttribute}
 use Rattle.sock_diag_filters.specs.Asked.{no_attributes}
 use Rattle.sock_diag_filters.specs.Asked.{no_message, no_request, other_type, payload_of}
-use Rattle.sock_diag_filters.specs.Asked.{program_in, protocol_in, protocol_asked, decodes_asked}
+use Rattle.sock_diag_filters.specs.Asked.{program_in, protocol_in, decodes_asked}
 use Rattle.sock_diag_filters.specs.Asked.{asked_of}
 use Rattle.sock_diag_filters.specs.ReadBack.{CanBeAsked, Fits, IsReadBack, written_header}
 use Rattle.sock_diag_filters.specs.Requests.{attribute_of, request_bytes}

@@ -1,18 +1,11 @@
 -- The program of a filter wants exactly the sockets that the filter means.
-use Rattle.std.proofs.Common.{◌≡◌, ◌∙◌, ℕ, ◌+◌, ◌-◌, ◌<◌, ◌≤◌, ◌⊎◌, List, [], ◌++◌, length}
-use Rattle.std.proofs.Common.{take, drop, refl, sym, ap, subst, arith, inl, inr, Bool, true, false}
+use Rattle.std.proofs.Common.{◌≡◌, ◌∙◌, ℕ, ◌+◌, ◌<◌, ◌≤◌, ◌⊎◌, List, [], ◌++◌, length}
+use Rattle.std.proofs.Common.{drop, refl, sym, ap, subst, arith, inl, inr, Bool, true, false}
 use Rattle.std.proofs.Common.{append-nil, append_assoc}
 use Rattle.std.specs.Prelude.{◌&&◌, ◌||◌, not, ◌==◌, if◌then◌else◌}
 use Rattle.std.proofs.Math.Seq.{drop-append-add, take-append_seam}
 use Rattle.std.proofs.lemmas.List.{drop_at, length-append}
-use Rattle.sock_diag_filters.specs.declared.condition.Comparison.TheVariants.{AtLeast, AtMost}
-use Rattle.sock_diag_filters.specs.declared.condition.Comparison.TheVariants.{Equal}
 use Rattle.sock_diag_filters.specs.declared.condition.Condition.{Condition}
-use Rattle.sock_diag_filters.specs.declared.condition.Condition.TheVariants.{SourcePort, Source}
-use Rattle.sock_diag_filters.specs.declared.condition.Condition.TheVariants.{DestinationPort}
-use Rattle.sock_diag_filters.specs.declared.condition.Condition.TheVariants.{Destination, Interface}
-use Rattle.sock_diag_filters.specs.declared.condition.Condition.TheVariants.{Mark, Cgroup}
-use Rattle.sock_diag_filters.specs.declared.condition.Condition.TheVariants.{AutoBound}
 use Rattle.sock_diag_filters.specs.declared.filter.Filter.{Filter}
 use Rattle.sock_diag_filters.specs.declared.filter.Filter.TheVariants as parts
 use Rattle.sock_diag_filters.specs.Conditions.{arguments, code_of}

@@ -1,6 +1,4 @@
 use Rattle.std.proofs.Common.{arith}
-use Rattle.std.proofs.Common.{◌≤◌, length, rules}
-use Rattle.sock_diag_filters.specs.Asked.{IsRequestType, payload_of}
 use Rattle.sock_diag_filters.proofs.AskingAny.{other_is_refused, refused_family}
 use Rattle.sock_diag_filters.proofs.any.read_under.Goals as goal
 

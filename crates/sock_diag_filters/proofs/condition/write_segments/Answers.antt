@@ -1,6 +1,4 @@
-use Rattle.std.proofs.Common.{◌≡◌, length, sym, ap, ◌∙◌, arith}
-use Rattle.std.specs.List.{flat_map}
-use Rattle.byteorder.specs.Endian.{big_bytes}
+use Rattle.std.proofs.Common.{arith}
 use Rattle.netlink_core.proofs.FieldReads.{first_all}
 use Rattle.sock_diag_filters.proofs.condition.write_segments.Goals as goal
 

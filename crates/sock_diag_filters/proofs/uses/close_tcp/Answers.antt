@@ -1,10 +1,9 @@
 use Rattle.std.proofs.Common.{◌≡◌, ◌∙◌, ℕ, List, [], ◌++◌, ap, arith, drop, rules, append-nil}
 use Rattle.std.specs.Prelude.{replicate}
-use Rattle.netlink_core.specs.Header.{header_bytes}
 use Rattle.netlink_core.specs.declared.header.NetlinkHeader.{NetlinkHeader}
 use Rattle.sock_diag_records.specs.InetRequestLaws.{request_pieces}
 use Rattle.sock_diag_records.specs.declared.inet.request.InetRequest.{InetRequest}
-use Rattle.sock_diag_filters.specs.Requests.{header_under, request_bytes}
+use Rattle.sock_diag_filters.specs.Requests.{request_bytes}
 use Rattle.sock_diag_filters.specs.Uses.{asked_header, asked_tcp}
 use Rattle.sock_diag_filters.proofs.Requesting.{message_length}
 use Rattle.sock_diag_filters.proofs.uses.close_tcp.Goals as goal
