@@ -21,12 +21,6 @@ and_decides {P} {Q} {a} {b} f g =
 pub numbers_equal : (x y : ℕ) → IsTrue (eqb x y) ↔ (x ≡ y)
 numbers_equal x y = (λ h. search rules, λ e. search rules)
 
--- values that may be absent, over a test of those that are there
-pub options_equal : {T : Type 0} (test : T → T → Bool) (decides : (a b : T)
-    → IsTrue (test a b) ↔ (a ≡ b)) (a b : Option T) → IsTrue (option_eq test a b) ↔ (a ≡ b)
-options_equal test decides a b =
-    grind arith
-
 -- lists, over a test of the models of their elements
 pub lists_equal : {A V : Type 0} (test : A → A → Bool) (model : A → V) (decides : (a b : A)
     → IsTrue (test a b) ↔ (model a ≡ model b)) (xs ys : List A)

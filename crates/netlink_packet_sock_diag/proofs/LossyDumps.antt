@@ -1,5 +1,5 @@
 -- What a dump without a fault keeps, a lossy one keeps too, and at which faults that one ends.
-use Rattle.std.proofs.Common.{◌≡◌, ℕ, inl, inr, List, [], ◌∷◌, ◌++◌, map, refl, arith}
+use Rattle.std.proofs.Common.{◌≡◌, ℕ, inl, List, [], ◌∷◌, ◌++◌, map, refl, arith}
 use Rattle.std.specs.Option.{option_to_list}
 use Rattle.std.specs.Prelude.{Option, option_map, Some, None, Result, Ok, Err}
 use Rattle.std.specs.List.{AllZip}

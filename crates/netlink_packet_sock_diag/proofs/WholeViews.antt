@@ -1,6 +1,6 @@
 -- A whole walk over the messages of a datagram, each as what it carries, gives the items of the
 -- datagram.
-use Rattle.std.proofs.Common.{Result, ◌≡◌, inl, inr, List, [], ◌∷◌, length, refl, ap}
+use Rattle.std.proofs.Common.{Result, ◌≡◌, inl, inr, List, [], ◌∷◌, refl}
 use Rattle.std.proofs.Common.{arith}
 use Rattle.std.specs.Prelude.{map}
 use Rattle.std.specs.Iterator.{Drains}

@@ -1,8 +1,7 @@
 -- Payloads that are read in place are equal where they tell the same.
 use Rattle.std.proofs.Common.{arith}
-use Rattle.std.proofs.Common.{◌≡◌, ◌↔◌, IsTrue, ap, rules}
+use Rattle.std.proofs.Common.{◌≡◌, ◌↔◌, IsTrue, rules}
 use Rattle.netlink_core.proofs.Equality.{apart}
-use Rattle.netlink_core.specs.Envelope.{inner}
 use Rattle.netlink_packet_sock_diag.specs.EqualMessageLaws.{view_equal}
 use Rattle.netlink_packet_sock_diag.specs.declared.dump.views.PayloadView.{PayloadView}
 use Rattle.netlink_packet_sock_diag.specs.declared.dump.views.PayloadView.TheVariants.{Done, Error}

@@ -140,9 +140,3 @@ header_sound = record {
 pub header_size : IsFixed inet_response_header 72
 unfolding inet_response_header
 header_size = (refl, λ tag. refl)
-
--- the milliseconds of each timer are within their field, before the words behind them
-pub expires_fit : (timer : Option Timer) (words : List ℕ) → Fit (numbers 56 4 little_endian 4) words
-    → Fit (expires_field (class_of timer) ∷ numbers 56 4 little_endian 4)
-    (expires_values timer ++ words)
-expires_fit timer words h = grind arith

@@ -1,5 +1,5 @@
 use Rattle.std.proofs.Common.{arith}
-use Rattle.std.proofs.Common.{◌≡◌, ◌↔◌, IsTrue, ap, rules}
+use Rattle.std.proofs.Common.{◌≡◌, ◌↔◌, IsTrue, rules}
 use Rattle.netlink_core.proofs.Equality.{apart}
 use Rattle.netlink_core.proofs.FaultEquality.{fault_equal}
 use Rattle.netlink_packet_sock_diag.specs.declared.dump.DumpError.{DumpError}

@@ -1,6 +1,4 @@
 use Rattle.std.proofs.Common.{arith}
-use Rattle.std.proofs.Common.{ap}
-use Rattle.netlink_core.specs.declared.header.NetlinkHeader.{NetlinkHeader}
 use Rattle.netlink_packet_sock_diag.proofs.Envelopes.{normal_payload}
 use Rattle.netlink_packet_sock_diag.proofs.laws.finalized_message_reads_back.Goals as goal
 

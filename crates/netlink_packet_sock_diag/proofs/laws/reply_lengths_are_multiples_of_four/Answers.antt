@@ -1,5 +1,4 @@
 use Rattle.std.proofs.Common.{arith}
-use Rattle.std.proofs.Common.{refl}
 use Rattle.sock_diag_replies.specs.UnixResponseSpec.{unix_response_spec}
 use Rattle.sock_diag_replies.specs.UnixResponseSpecLaws.{unix_response_laws}
 use Rattle.sock_diag_replies.specs.InetResponseSpec.{inet_response_spec}

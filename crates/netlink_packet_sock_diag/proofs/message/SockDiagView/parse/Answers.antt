@@ -1,6 +1,5 @@
-use Rattle.std.proofs.Common.{inr, arith}
+use Rattle.std.proofs.Common.{arith}
 use Rattle.std.proofs.lemmas.Result.{err_from_is_err_and}
-use Rattle.sock_diag_records.specs.ResponseKind.{unix_response}
 use Rattle.netlink_packet_sock_diag.specs.MessageLaws.{kind_by_first_byte}
 use Rattle.netlink_packet_sock_diag.proofs.message.SockDiagView.parse.Goals as goal
 
