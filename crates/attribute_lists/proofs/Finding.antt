@@ -66,7 +66,15 @@ module _ {A : Type 0} (reads : Attribute → Result A DecodeError) where
   pub values_are : (bytes : List ℕ) (values : List A) → AttributesMean reads bytes values
       → values_in reads bytes ≡ values
   values_are bytes (v ∷ values) (a ∷ later, (rest, start, cut), (first, said)) =
-      grind (arith, value_first bytes rest a v start first, values_are rest values (later, cut, said))
+      grind (
+        arith,
+        value_first bytes rest a v start first,
+        values_are rest values (
+          later,
+          cut,
+          said,
+        ),
+      )
   values_are bytes [] ([], cut, said) = rw (cut, found_none) refl
   values_are bytes values (attributes, cut, said) = absurd said
 

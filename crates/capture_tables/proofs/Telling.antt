@@ -51,7 +51,12 @@ told_bytes : (bs t : List ℕ) → AllByRecursion (λ (b : ℕ). b < 256) bs
     → bytes_told 0 (flat_map escaped bs ++ t) ≡ bs ++ bytes_told 0 t
 told_bytes [] t low = refl
 told_bytes (b ∷ bs) t low =
-    grind (arith, append_assoc (escaped b) (flat_map escaped bs) t, told_escaped b (flat_map escaped bs ++ t) low.0, told_bytes bs t low.1)
+    grind (
+      arith,
+      append_assoc (escaped b) (flat_map escaped bs) t,
+      told_escaped b (flat_map escaped bs ++ t) low.0,
+      told_bytes bs t low.1,
+    )
 
 told_high : (bs t : List ℕ) → AllByRecursion (λ (b : ℕ). 128 ≤ b) bs
     → bytes_told 0 (bs ++ t) ≡ bs ++ bytes_told 0 t
@@ -74,13 +79,25 @@ encode_low c ok =
 told_char : (c : ℕ) (t : List ℕ) → IsScalar c
     → bytes_told 0 (char_text c ++ t) ≡ encode c ++ bytes_told 0 t
 told_char c t ok =
-    grind (arith, cases_Bool (is_shown c), told_high (encode c) t, encode_high c, told_bytes (encode c) t (encode_low c ok))
+    grind (
+      arith,
+      cases_Bool (is_shown c),
+      told_high (encode c) t,
+      encode_high c,
+      told_bytes (encode c) t (encode_low c ok),
+    )
 
 told_chars : (cs t : List ℕ) → scalars cs ≡ true
     → bytes_told 0 (flat_map char_text cs ++ t) ≡ encodes cs ++ bytes_told 0 t
 told_chars [] t ok = refl
 told_chars (c ∷ cs) t ok =
-    grind (arith, append_assoc (char_text c) (flat_map char_text cs) t, told_char c (flat_map char_text cs ++ t), told_chars cs t, append_assoc (encode c) (encodes cs) (bytes_told 0 t))
+    grind (
+      arith,
+      append_assoc (char_text c) (flat_map char_text cs) t,
+      told_char c (flat_map char_text cs ++ t),
+      told_chars cs t,
+      append_assoc (encode c) (encodes cs) (bytes_told 0 t),
+    )
 
 all_bytes : (bs : List ℕ) → ((i : ℕ) → slice_index bs i < 256)
     → AllByRecursion (λ (b : ℕ). b < 256) bs

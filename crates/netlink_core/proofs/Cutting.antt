@@ -106,7 +106,12 @@ module _ {A : Type 0} (reads : Attribute → Result A DecodeError) where
   not_ended : (bytes rest : List ℕ) (a : Attribute) (end : Option DecodeError)
       → StartsWith bytes a rest → IsOk (reads a) → Passes bytes [] end → ⊥
   not_ended bytes rest a end s good h =
-      grind (arith, prefix_of_start bytes rest a s, prefix_or_fault_apart bytes a, one_attribute bytes a)
+      grind (
+        arith,
+        prefix_of_start bytes rest a s,
+        prefix_or_fault_apart bytes a,
+        one_attribute bytes a,
+      )
 
   one_end : (bytes : List ℕ) (xs ys : List Attribute) (e f : Option DecodeError)
       → Passes bytes xs e → Passes bytes ys f → e ≡ f
@@ -130,7 +135,13 @@ module _ {A : Type 0} (reads : Attribute → Result A DecodeError) where
   pub one_fault : (bytes : List ℕ) (e f : DecodeError) → AttributeFault reads bytes e
       → AttributeFault reads bytes f → e ≡ f
   one_fault bytes e f h k =
-      grind (arith, one_end bytes h.0 k.0 (Some e) (Some f) (fault_passes bytes h.0 e h.1 h.2) (fault_passes bytes k.0 f k.1 k.2), fault_passes bytes h.0 e h.1 h.2, fault_passes bytes k.0 f k.1 k.2)
+      grind (
+        arith,
+        one_end bytes h.0 k.0 (Some e) (Some f) (fault_passes bytes h.0 e h.1 h.2)
+            (fault_passes bytes k.0 f k.1 k.2),
+        fault_passes bytes h.0 e h.1 h.2,
+        fault_passes bytes k.0 f k.1 k.2,
+      )
 
   -- ---- bytes are cut, or have a fault
 
@@ -164,4 +175,8 @@ module _ {A : Type 0} (reads : Attribute → Result A DecodeError) where
       → AllByRecursion FitsWords xs → AllZip (λ a value. reads a ≡ Ok value) xs values
       → AttributesMean reads (flat_map written xs) values
   written_values_are_read xs values fits h =
-      grind (arith, full_is_cut (flat_map written xs) xs (written_is_cut xs fits), written_is_cut xs)
+      grind (
+        arith,
+        full_is_cut (flat_map written xs) xs (written_is_cut xs fits),
+        written_is_cut xs,
+      )

@@ -66,7 +66,8 @@ pub fit-append : (fields more : List Field) (values others : List ℕ) → Fit f
     → Fit more others
     → Fit (fields ++ more) (values ++ others)
 fit-append [] more [] others f g = g
-fit-append (unread offset written ∷ fields) more values others f g = fit-append fields more values others f g
+fit-append (unread offset written ∷ fields) more values others f g =
+    fit-append fields more values others f g
 fit-append (field ∷ fields) more (value ∷ values) others f g =
     grind (arith, fit-append fields more values others)
 fit-append fields more values others f g = grind arith

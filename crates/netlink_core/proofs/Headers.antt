@@ -101,4 +101,9 @@ pub header_stands : (h : NetlinkHeader) (payload rest : List ℕ) → IsHeaderIn
     → HasHeader (header_bytes h ++ (payload ++ rest)) h
     × (take (h.length - 16) (drop 16 (header_bytes h ++ (payload ++ rest))) ≡ payload)
 header_stands h payload rest in_range size =
-    grind (arith, values_back h (payload ++ rest) in_range, length-append payload rest, take_at payload rest (h.length - 16))
+    grind (
+      arith,
+      values_back h (payload ++ rest) in_range,
+      length-append payload rest,
+      take_at payload rest (h.length - 16),
+    )

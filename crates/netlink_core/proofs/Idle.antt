@@ -41,7 +41,13 @@ module _ (C : Codec ℕ) where
       → OfInner C.fits w.payload
       → (envelope_codec C).written v ≡ (envelope_codec C).written w → v ≡ w
   equal_where_alike law b c v w tb tc r s fv fw e =
-      grind (arith, known_by_bytes v.header w.header r.0.1 s.0.1 (ap (take 16) e), payloads_alike, payload_in_range v.header.length b tb, payload_in_range w.header.length c tc)
+      grind (
+        arith,
+        known_by_bytes v.header w.header r.0.1 s.0.1 (ap (take 16) e),
+        payloads_alike,
+        payload_in_range v.header.length b tb,
+        payload_in_range w.header.length c tc,
+      )
 
   -- messages are equal exactly where their strings are idle
   pub equal_where_idle : ((x y : List ℕ) (t : ℕ) (v w : C.Value) → IsBytes x → IsBytes y
@@ -50,7 +56,16 @@ module _ (C : Codec ℕ) where
       → (envelope_codec C).reads b tt v → (envelope_codec C).reads c tt w
       → ((v ≡ w) ↔ (envelope_codec C).idle tt b c)
   equal_where_idle law b c v w tb tc r s =
-      grind (arith, payloads_idle, payload_in_range v.header.length b tb, payload_in_range w.header.length c tc, same_leading_header b c v.header w.header tb tc r.0 s.0, header_type b v.header r.0, header_length b v.header r.0, header_length c w.header s.0)
+      grind (
+        arith,
+        payloads_idle,
+        payload_in_range v.header.length b tb,
+        payload_in_range w.header.length c tc,
+        same_leading_header b c v.header w.header tb tc r.0 s.0,
+        header_type b v.header r.0,
+        header_length b v.header r.0,
+        header_length c w.header s.0,
+      )
 
   -- the bytes of a payload read back as it exactly where it is in normal form
   payload_itself : (type_of : C.Value → ℕ) (t : ℕ) (p : Payload C.Value)

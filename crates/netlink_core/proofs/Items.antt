@@ -74,7 +74,13 @@ module _ (C : Codec ℕ) where
       (xs ys : List (Item C.Value)) → AreWholeMessages front messages
       → ItemsAre C front xs → ItemsAre C back ys → ItemsAre C (front ++ back) (xs ++ ys)
   items_of_concatenation front back messages xs ys whole a b =
-      grind (arith, messages_of_concatenation front back messages b.0 b.1 whole b.3, zip_append, whole_items front messages xs whole a, append_assoc xs b.2 (option_to_list (option_map Err b.1)))
+      grind (
+        arith,
+        messages_of_concatenation front back messages b.0 b.1 whole b.3,
+        zip_append,
+        whole_items front messages xs whole a,
+        append_assoc xs b.2 (option_to_list (option_map Err b.1)),
+      )
 
   -- ---- the walk
 
@@ -159,11 +165,21 @@ module _ (C : Codec ℕ)
       → CutIntoMessages b messages end → (vs ws : List (Item C.Value))
       → AllZip (ItemIs C) messages vs → AllZip (ItemIs C) messages ws → vs ≡ ws
   one_carried b in_range (m ∷ messages) end cut (v ∷ vs) (w ∷ ws) h k =
-      grind (arith, one_item m (message_in_range b m cut.0 cut.1 in_range) v w h.0 k.0, message_in_range b m cut.0 cut.1 in_range, one_carried cut.0 (rest_in_range b m cut.0 cut.1 in_range) messages end cut.2 vs ws h.1 k.1, rest_in_range b m cut.0 cut.1 in_range)
+      grind (
+        arith,
+        one_item m (message_in_range b m cut.0 cut.1 in_range) v w h.0 k.0,
+        message_in_range b m cut.0 cut.1 in_range,
+        one_carried cut.0 (rest_in_range b m cut.0 cut.1 in_range) messages end cut.2 vs ws h.1 k.1,
+        rest_in_range b m cut.0 cut.1 in_range,
+      )
   one_carried b in_range messages end cut vs ws h k = grind arith
 
   -- one list of items
   pub one_list : (b : List ℕ) → IsBytes b → (xs ys : List (Item C.Value))
       → ItemsAre C b xs → ItemsAre C b ys → xs ≡ ys
   one_list b in_range xs ys h k =
-      grind (arith, one_cut_into_messages b h.0 k.0 h.1 k.1 h.3 k.3, one_carried b in_range k.0 k.1 k.3 h.2 k.2)
+      grind (
+        arith,
+        one_cut_into_messages b h.0 k.0 h.1 k.1 h.3 k.3,
+        one_carried b in_range k.0 k.1 k.3 h.2 k.2,
+      )

@@ -67,7 +67,13 @@ module _ {Param Tag Value : Type 0} (layout : Layout Param Tag Value) where
   pub accepted : (param : Param) (left : List ℕ) (value : Value) → read layout param left ≡ Ok value
       → Accepts layout param left value
   accepted param left value e =
-      grind (arith, cases_lt (length left), too_short param left, accepted_by, long_enough param left)
+      grind (
+        arith,
+        cases_lt (length left),
+        too_short param left,
+        accepted_by,
+        long_enough param left,
+      )
 
   rejected_by : (tag_found : Result Tag DecodeError) (left : List ℕ) (fault : DecodeError)
       → read_tagged left tag_found ≡ Err fault → tag_found ≡ Err fault
@@ -132,7 +138,12 @@ module _ {Param Tag Value : Type 0} (layout : Layout Param Tag Value) (sound : I
   equal_from_idle : (param : Param) (left right : List ℕ) → IsBytes left → IsBytes right
       → AreIdle layout param left right → read layout param left ≡ read layout param right
   equal_from_idle param left right hl hr (left_long, right_long, tag, left_tag, right_tag, same) =
-      grind (arith, long_enough, accepts, bits param tag left right hl hr left_long right_long left_tag right_tag)
+      grind (
+        arith,
+        long_enough,
+        accepts,
+        bits param tag left right hl hr left_long right_long left_tag right_tag,
+      )
 
   -- a value in normal form is read back
   pub reads_back : (param : Param) (value : Value) → IsInRange layout value

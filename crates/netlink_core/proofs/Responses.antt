@@ -32,7 +32,11 @@ module _ (F : AttributeSet) (laws : AttributeSetLaws F) where
       → AllByRecursion IsAttributeInRange xs → AllByRecursion IsAttributeInRange ys → Say xs vs
       → Say ys ws → ((vs ≡ ws) ↔ AllZip (AreIdleAttributes F) xs ys)
   lists_same_value (x ∷ xs) (y ∷ ys) (v ∷ vs) (w ∷ ws) s t h k =
-      grind (arith, set_same_value F laws x y v w s.0 t.0 h.0 k.0, lists_same_value xs ys vs ws s.1 t.1 h.1 k.1)
+      grind (
+        arith,
+        set_same_value F laws x y v w s.0 t.0 h.0 k.0,
+        lists_same_value xs ys vs ws s.1 t.1 h.1 k.1,
+      )
   lists_same_value xs ys vs ws s t h k = grind arith
 
   list_gives_normal : (xs : List Attribute) (vs : List (AttributeValue F))

@@ -59,7 +59,18 @@ pub table_from_test : (from : ℕ) (fields : List Field) (end : ℕ) → IsTrue 
     → IsTable from fields end
 table_from_test from [] end h = eqb-true from end h
 table_from_test from (field ∷ fields) end h =
-    grind (arith, and_parts (eqb (offset_of field) from && is_written field), eqb (offset_of field) from, offset_of field, is_written field, and_parts (eqb (offset_of field) from), eqb-true (offset_of field) from, is_bytes field, table_from_test (from + width_of field) fields end, width_of field)
+    grind (
+      arith,
+      and_parts (eqb (offset_of field) from && is_written field),
+      eqb (offset_of field) from,
+      offset_of field,
+      is_written field,
+      and_parts (eqb (offset_of field) from),
+      eqb-true (offset_of field) from,
+      is_bytes field,
+      table_from_test (from + width_of field) fields end,
+      width_of field,
+    )
 
 -- a table ends at its beginning or later
 ends-after : (from : ℕ) (fields : List Field) (end : ℕ) → IsTable from fields end → from ≤ end
@@ -91,7 +102,12 @@ bytes_of-bytes from (unread offset written ∷ fields) end values t f =
 bytes_of-bytes from (byte offset ∷ fields) end (value ∷ values) t f =
     grind (arith, bytes_of-bytes (from + 1) fields end values t.2 f.1)
 bytes_of-bytes from (number offset width order ∷ fields) end (value ∷ values) t f =
-    grind (arith, common_steps, bytes_in-bytes, bytes_of-bytes (from + width) fields end values t.2 f.1)
+    grind (
+      arith,
+      common_steps,
+      bytes_in-bytes,
+      bytes_of-bytes (from + width) fields end values t.2 f.1,
+    )
 bytes_of-bytes from (flags offset width mask ∷ fields) end (value ∷ values) t f =
     IsBytes-append (little_bytes width value) _ (bytes_in-bytes little_endian width value)
     (bytes_of-bytes (from + width) fields end values t.2 f.1)
@@ -101,7 +117,12 @@ bytes_of-bytes from fields end values t f = grind arith
 after_piece : (from : ℕ) (bytes piece tail rest : List ℕ) → drop from bytes
     ≡ (piece ++ tail) ++ rest → drop (from + length piece) bytes ≡ tail ++ rest
 after_piece from bytes piece tail rest e =
-    grind (arith, drop-drop (length piece) from bytes, append_assoc piece tail rest, drop_at piece (tail ++ rest) (length piece))
+    grind (
+      arith,
+      drop-drop (length piece) from bytes,
+      append_assoc piece tail rest,
+      drop_at piece (tail ++ rest) (length piece),
+    )
 
 -- a number and what follows it
 number_and_rest : (order : Order) (width from value : ℕ) (bytes tail rest : List ℕ)
@@ -109,20 +130,48 @@ number_and_rest : (order : Order) (width from value : ℕ) (bytes tail rest : Li
     → (number_in order width (drop from bytes) ≡ value)
     × (drop (from + width) bytes ≡ tail ++ rest)
 number_and_rest order width from value bytes tail rest fits e =
-    grind (arith, append_assoc, number-reads_back order width value (tail ++ rest), length-bytes_in, after_piece from bytes)
+    grind (
+      arith,
+      append_assoc,
+      number-reads_back order width value (tail ++ rest),
+      length-bytes_in,
+      after_piece from bytes,
+    )
 
 -- what was written is read again
 pub values-bytes_of : (from : ℕ) (fields : List Field) (end : ℕ) (values bytes rest : List ℕ)
     → IsTable from fields end → Fit fields values → AreDefined fields values
     → drop from bytes ≡ bytes_of fields values ++ rest → values_of fields bytes ≡ values
 values-bytes_of from (unread offset written ∷ fields) end values bytes rest t f d e =
-    grind (arith, values-bytes_of (from + length written) fields end values bytes rest t.2 f d (after_piece from bytes written (bytes_of fields values) rest e), after_piece from bytes written (bytes_of fields values) rest e)
+    grind (
+      arith,
+      values-bytes_of (from + length written) fields end values bytes rest t.2 f d
+          (after_piece from bytes written (bytes_of fields values) rest e),
+      after_piece from bytes written (bytes_of fields values) rest e,
+    )
 values-bytes_of from (byte offset ∷ fields) end (value ∷ values) bytes rest t f d e =
-    grind (arith, common_steps, get_or-drop, add-zero, values-bytes_of (from + 1) fields end values bytes rest t.2 f.1 d (after_piece from bytes (value ∷ []) (bytes_of fields values) rest e), after_piece)
+    grind (
+      arith,
+      common_steps,
+      get_or-drop,
+      add-zero,
+      values-bytes_of (from + 1) fields end values bytes rest t.2 f.1 d (after_piece from bytes
+          (value ∷ []) (bytes_of fields values) rest e),
+      after_piece,
+    )
 values-bytes_of from (number offset width order ∷ fields) end (value ∷ values) bytes rest t f d e =
-    grind (arith, number_and_rest order width from value bytes (bytes_of fields values) rest f.0 e, values-bytes_of (from + width) fields end values bytes rest t.2 f.1 d)
+    grind (
+      arith,
+      number_and_rest order width from value bytes (bytes_of fields values) rest f.0 e,
+      values-bytes_of (from + width) fields end values bytes rest t.2 f.1 d,
+    )
 values-bytes_of from (flags offset width mask ∷ fields) end (value ∷ values) bytes rest t f d e =
-    grind (arith, number_and_rest little_endian width from value bytes (bytes_of fields values) rest f.0 e, values-bytes_of (from + width) fields end values bytes rest t.2 f.1 d.1)
+    grind (
+      arith,
+      number_and_rest little_endian width from value bytes
+          (bytes_of fields values) rest f.0 e,
+      values-bytes_of (from + width) fields end values bytes rest t.2 f.1 d.1,
+    )
 values-bytes_of from fields end values bytes rest t f d e = grind arith
 
 -- what was read fits, and has defined bits alone
@@ -133,7 +182,14 @@ values-fit (byte offset ∷ fields) bytes h = (h offset, values-fit fields bytes
 values-fit (number offset width order ∷ fields) bytes h =
     grind (arith, number-fits order width, AreBytes-drop offset bytes h, values-fit fields bytes h)
 values-fit (flags offset width mask ∷ fields) bytes h =
-    grind (arith, number-fits little_endian width (drop offset bytes) (AreBytes-drop offset bytes h), AreBytes-drop offset bytes h, and_le_l (little_number width (drop offset bytes)) mask, values-fit fields bytes h)
+    grind (
+      arith,
+      number-fits little_endian width (drop offset bytes)
+          (AreBytes-drop offset bytes h),
+      AreBytes-drop offset bytes h,
+      and_le_l (little_number width (drop offset bytes)) mask,
+      values-fit fields bytes h,
+    )
 values-fit (unread offset written ∷ fields) bytes h = values-fit fields bytes h
 
 -- flags that were read are defined
@@ -164,7 +220,8 @@ live-cons : (field : Field) (fields : List Field)
     → live_bits (field ∷ fields) ≡ live_in field ++ live_bits fields
 live-cons field fields = grind arith
 
-length-value : (field : Field) (b c : List ℕ) → length (value_in field b) ≡ length (value_in field c)
+length-value : (field : Field) (b c : List ℕ) → length (value_in field b)
+    ≡ length (value_in field c)
 length-value field b c = grind arith
 
 length-live : (field : Field) → length (live_in field) ≡ width_of field
@@ -176,7 +233,14 @@ number_bits : (order : Order) (width : ℕ) (xs ys : List ℕ) → IsBytes xs �
     → width ≤ length xs → width ≤ length ys → ((number_in order width xs ≡ number_in order width ys)
     ↔ (masked (replicate width 255) xs ≡ masked (replicate width 255) ys))
 number_bits order width xs ys hx hy lx ly =
-    grind (arith, masked-all width xs hx, masked-all width ys hy, number-same order width xs ys hx hy lx ly, number-take order width width xs, number-take order width width ys)
+    grind (
+      arith,
+      masked-all width xs hx,
+      masked-all width ys hy,
+      number-same order width xs ys hx hy lx ly,
+      number-take order width width xs,
+      number-take order width width ys,
+    )
 
 -- and under a mask
 flag_bits : (width mask : ℕ) (xs ys : List ℕ) → IsBytes xs → IsBytes ys → width ≤ length xs
@@ -211,7 +275,13 @@ field_bits : (field : Field) (b c xs ys : List ℕ) → drop (offset_of field) b
     → width_of field ≤ length ys → ((value_in field b ≡ value_in field c)
     ↔ (masked (live_in field) xs ≡ masked (live_in field) ys))
 field_bits (byte offset) b c xs ys ex ey hx hy lx ly =
-    grind (arith, one_value, byte_is offset b, byte_is offset c, number_bits little_endian 1 xs ys hx hy lx ly)
+    grind (
+      arith,
+      one_value,
+      byte_is offset b,
+      byte_is offset c,
+      number_bits little_endian 1 xs ys hx hy lx ly,
+    )
 field_bits (number offset width order) b c xs ys ex ey hx hy lx ly =
     grind (arith, one_value, number_bits order width xs ys hx hy lx ly)
 field_bits (flags offset width mask) b c xs ys ex ey hx hy lx ly =
@@ -225,7 +295,15 @@ bits-cons : (field : Field) (fields : List Field) (from : ℕ) (b : List ℕ)
     × (masked (live_bits (field ∷ fields)) (drop from b) ≡ masked (live_in field) (drop from b)
     ++ masked (live_bits fields) (drop (from + width_of field) b))
 bits-cons field fields from b h =
-    grind (arith, length-live field, width_of field, length-drop from b, live-cons field fields, masked-append, drop-drop (width_of field) from b)
+    grind (
+      arith,
+      length-live field,
+      width_of field,
+      length-drop from b,
+      live-cons field fields,
+      masked-append,
+      drop-drop (width_of field) from b,
+    )
 
 both_parts : (a b r s p q u v : List ℕ) → length a ≡ length b → length p ≡ length q
     → ((a ≡ b) ↔ (p ≡ q)) → ((r ≡ s) ↔ (u ≡ v)) → ((a ++ r ≡ b ++ s) ↔ (p ++ u ≡ q ++ v))
@@ -239,4 +317,20 @@ pub values_and_bits : (from : ℕ) (fields : List Field) (end : ℕ) (b c : List
     ↔ (masked (live_bits fields) (drop from b) ≡ masked (live_bits fields) (drop from c)))
 values_and_bits from [] end b c t hb hc lb lc = (λ e. refl, λ e. refl)
 values_and_bits from (field ∷ fields) end b c t hb hc lb lc =
-    grind (arith, ends-after (from + width_of field) fields end t.2, width_of field, length-live field, bits-cons field fields from b, bits-cons field fields from c, values-cons field fields b, values-cons field fields c, both_parts, length-value field b c, length-masked, field_bits field b c (drop from b) (drop from c), AreBytes-drop from b hb, AreBytes-drop from c hc, values_and_bits (from + width_of field) fields end b c t.2 hb hc lb lc)
+    grind (
+      arith,
+      ends-after (from + width_of field) fields end t.2,
+      width_of field,
+      length-live field,
+      bits-cons field fields from b,
+      bits-cons field fields from c,
+      values-cons field fields b,
+      values-cons field fields c,
+      both_parts,
+      length-value field b c,
+      length-masked,
+      field_bits field b c (drop from b) (drop from c),
+      AreBytes-drop from b hb,
+      AreBytes-drop from c hc,
+      values_and_bits (from + width_of field) fields end b c t.2 hb hc lb lc,
+    )

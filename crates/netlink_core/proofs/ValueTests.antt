@@ -31,7 +31,12 @@ value_test (spec ∷ others) tests (inr v) (inr w) = value_test others tests.1 v
 
 pub attribute_test_decides : (a b : Attribute) → IsTrue (attribute_test a b) ↔ (a ≡ b)
 attribute_test_decides a b =
-    grind (arith, and_decides (numbers_equal a.type_word b.type_word) (bytes_decides a.value b.value), numbers_equal a.type_word b.type_word)
+    grind (
+      arith,
+      and_decides (numbers_equal a.type_word b.type_word)
+          (bytes_decides a.value b.value),
+      numbers_equal a.type_word b.type_word,
+    )
 
 pub value_test_decides : (F : AttributeSet) (tests : Tests F) (v w : AttributeValue F)
     → IsTrue (value_test F tests v w)

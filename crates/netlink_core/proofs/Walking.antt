@@ -83,7 +83,16 @@ module _ {A : Type 0} (reads : Attribute → Result A DecodeError) where
       (e : DecodeError) → Continues bytes so_far rest → StartsWith rest a after → reads a ≡ Err e
       → AttributeFault reads bytes e
   walk_is_refused bytes rest after so_far a e walk s refused =
-      grind (arith, fault_here rest e (StartsWith-some rest after a s) (inr (a, prefix_of_start rest after a s, refused)), StartsWith-some rest after a s, prefix_of_start rest after a s)
+      grind (
+        arith,
+        fault_here rest e (StartsWith-some rest after a s) (inr (
+          a,
+          prefix_of_start rest after a s,
+          refused,
+        )),
+        StartsWith-some rest after a s,
+        prefix_of_start rest after a s,
+      )
 
 -- what a loop over the walk keeps, and what holds where it ends
 pub ruleset walking = (walk_begins, walk_goes_on, walk_ends, walk_is_cut_off, walk_is_refused)

@@ -48,7 +48,12 @@ set_gives_normal [] laws a v in_range h = grind arith
 set_gives_normal (spec ∷ others) laws a (inl x) in_range h =
     laws.0.value.reads_normal a.value tt x in_range.1 (is_here spec others a x h).1
 set_gives_normal (spec ∷ others) laws a (inr v) in_range h =
-    grind (arith, is_there spec others a v h, set_gives_normal others laws.1 a v in_range, own_type others laws.1 a v)
+    grind (
+      arith,
+      is_there spec others a v h,
+      set_gives_normal others laws.1 a v in_range,
+      own_type others laws.1 a v,
+    )
 
 -- two attributes decode to the same value exactly where they are idle
 pub set_same_value : (F : AttributeSet) → AttributeSetLaws F
@@ -59,7 +64,12 @@ set_same_value [] laws a b v w s t h k = (λ e. cc, λ e. cc)
 set_same_value (spec ∷ others) laws a b (inl x) (inl y) s t h k =
     grind (arith, is_here spec others a x h, is_here spec others b y k)
 set_same_value (spec ∷ others) laws a b (inr v) (inr w) s t h k =
-    grind (arith, is_there spec others a v h, is_there spec others b w k, set_same_value others laws.1 a b v w s t)
+    grind (
+      arith,
+      is_there spec others a v h,
+      is_there spec others b w k,
+      set_same_value others laws.1 a b v w s t,
+    )
 set_same_value (spec ∷ others) laws a b v w s t h k =
     grind (arith, nat_tests)
 

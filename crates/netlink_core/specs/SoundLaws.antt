@@ -1,5 +1,6 @@
 -- What is shown of a layout, from which its laws follow.
-use Rattle.std.specs.Prelude.{◌≡◌, ◌≤◌, ℕ, ◌+◌, Bool, true, ◌&&◌, ◌==◌, nat_lt, List, [], ◌∷◌, length, Ok}
+use Rattle.std.specs.Prelude.{◌≡◌, ◌≤◌, ℕ, ◌+◌, Bool, true, ◌&&◌, ◌==◌, nat_lt, List, [], ◌∷◌}
+use Rattle.std.specs.Prelude.{length, Ok}
 use Rattle.std.specs.Prelude.{Err, IsTrue}
 use Rattle.std.specs.List.{list_all}
 use Rattle.netlink_core.specs.Bytes.{IsBytes}

@@ -132,13 +132,24 @@ module _ {A : Type 0} where
       × (end ≡ (reach before xs).1)))
   goes_on before [] ys after end = grind arith
   goes_on before (x ∷ xs) ys after end =
-      grind (arith, none_or_some (end_of x), goes_on (before ++ kept x) xs ys after end, no_end_reads x)
+      grind (
+        arith,
+        none_or_some (end_of x),
+        goes_on (before ++ kept x) xs ys after end,
+        no_end_reads x,
+      )
 
   pub joined : (before middle after : List A) (state end : End) (xs ys : List (Item A))
       → Dump before xs middle state → DumpGoesOn middle state ys after end
       → Dump before (xs ++ ys) after end
   joined before middle after state end xs ys d on =
-      grind (arith, dump_is before middle xs state, dump_is before after (xs ++ ys) end, goes_on before xs ys after end, dump_is middle after ys end)
+      grind (
+        arith,
+        dump_is before middle xs state,
+        dump_is before after (xs ++ ys) end,
+        goes_on before xs ys after end,
+        dump_is middle after ys end,
+      )
 
   pub parted : (before after : List A) (end : End) (xs ys : List (Item A))
       → Dump before (xs ++ ys) after end → (middle : List A) × (state : End)
@@ -293,7 +304,14 @@ module _ (C : Codec ℕ) where
       → (Interrupt (b ++ concatenation later) (items ++ concatenation parts)
       ↔ (Interrupt b items ⊎ (Plain items × Interrupt (concatenation later) (concatenation parts))))
   flags_of_split b later items parts split are each =
-      grind (arith, last_or_whole b later parts split each, append-nil b, append-nil items, flags_of_concatenation b (concatenation later), whole_items)
+      grind (
+        arith,
+        last_or_whole b later parts split each,
+        append-nil b,
+        append-nil items,
+        flags_of_concatenation b (concatenation later),
+        whole_items,
+      )
 
   -- the state in which a dump is left
   abbrev pub state_left : End → Standing

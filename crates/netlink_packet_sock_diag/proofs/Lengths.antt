@@ -10,13 +10,22 @@ use Rattle.netlink_core.specs.ShownLaws.{ResponseLaws}
 -- an attribute with its padding is a multiple of four
 written_multiple : (a : Attribute) → length (written a) % 4 ≡ 0
 written_multiple a =
-    grind (arith, length-append (unpadded a) (replicate (fill (length a.value)) 0), length-replicate)
+    grind (
+      arith,
+      length-append (unpadded a) (replicate (fill (length a.value)) 0),
+      length-replicate,
+    )
 
 -- and so are attributes in a row
 all_multiple : (xs : List Attribute) → length (flat_map written xs) % 4 ≡ 0
 all_multiple [] = refl
 all_multiple (x ∷ xs) =
-    grind (arith, length-append (written x) (flat_map written xs), written_multiple x, all_multiple xs)
+    grind (
+      arith,
+      length-append (written x) (flat_map written xs),
+      written_multiple x,
+      all_multiple xs,
+    )
 
 -- and a reply, behind a header that is one
 pub reply_multiple : (R : ResponseSpec) → ResponseLaws R → R.size % 4 ≡ 0 → (v : ValueOf R)

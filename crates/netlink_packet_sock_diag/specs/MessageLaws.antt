@@ -31,7 +31,17 @@ use Rattle.sock_diag_records.specs.ResponseKind.{unix_request, unix_response, re
 -- each kind's codec keeps the laws
 laws_of : (kind : MessageKind) → KeepsLaws (codec_of kind)
 laws_of kind =
-    grind (arith, keeps_laws inet_request_layout inet_request_sound, inet_request_sound, responses_keep_laws inet_response_spec inet_response_laws, inet_response_laws, keeps_laws unix_request_layout unix_request_sound, unix_request_sound, responses_keep_laws unix_response_spec unix_response_laws, unix_response_laws)
+    grind (
+      arith,
+      keeps_laws inet_request_layout inet_request_sound,
+      inet_request_sound,
+      responses_keep_laws inet_response_spec inet_response_laws,
+      inet_response_laws,
+      keeps_laws unix_request_layout unix_request_sound,
+      unix_request_sound,
+      responses_keep_laws unix_response_spec unix_response_laws,
+      unix_response_laws,
+    )
 
 -- ---- which kind is found
 
@@ -141,7 +151,11 @@ kind_written : (t : ℕ) (m : Message) → message_codec.is_normal t m
     → response_kind (message_codec.written m) t ≡ Ok (message_kind m)
 unfolding inet_response_header
 kind_written t (message_of inet_response v) (is, reply, normal) =
-    grind (arith, kind_by_first_byte (response_bytes inet_response_spec v) t v.header.family, kind_of_versions v.header.family)
+    grind (
+      arith,
+      kind_by_first_byte (response_bytes inet_response_spec v) t v.header.family,
+      kind_of_versions v.header.family,
+    )
 kind_written t (message_of unix_response v) (is, reply, normal) =
     grind (arith, kind_by_first_byte (response_bytes unix_response_spec v) t 1)
 kind_written t m h = grind arith

@@ -78,7 +78,12 @@ no_numbers (n ∷ u) none = absurd cc
 back : (u : List ℕ) → AllByRecursion (λ n. n < 2 ^ 32) u → numbers_in (bytes_of_numbers u) ≡ u
 back [] fit = refl
 back (n ∷ u) fit =
-    grind (arith, little_number-reads_back 4 n (bytes_of_numbers u) fit.0, bytes_of_numbers u, back u fit.1)
+    grind (
+      arith,
+      little_number-reads_back 4 n (bytes_of_numbers u) fit.0,
+      bytes_of_numbers u,
+      back u fit.1,
+    )
 
 -- their bytes are bytes
 pub numbers_in_range : (u : List ℕ) → IsBytes (bytes_of_numbers u)
@@ -89,7 +94,18 @@ numbers_in_range (n ∷ u) =
 -- both keep the laws of the value of an attribute
 pub numbers_laws : KeepsLaws (as_codec numbers_value)
 numbers_laws =
-    grind (arith, common_steps, exact_laws, read_numbers, bytes_of_numbers, numbers_in, whole, numbers_in_range, length_numbers, back)
+    grind (
+      arith,
+      common_steps,
+      exact_laws,
+      read_numbers,
+      bytes_of_numbers,
+      numbers_in,
+      whole,
+      numbers_in_range,
+      length_numbers,
+      back,
+    )
 
 pub two_laws : (k : ℕ) → KeepsLaws (as_codec (two_value k))
 two_laws k = exact_laws (two_numbers k) bytes_of_two (λ ns. (ns.0 < 2 ^ 32) × (ns.1 < 2 ^ 32))

@@ -24,4 +24,10 @@ last_more f xs x =
 pub keeps_more : (found : Found) (decoded : List AskedAttribute) (o : Option RequestAttribute)
     → Keeps found decoded → Keeps (found_with found o) (decoded ++ asked_or_nothing o ∷ [])
 keeps_more found decoded x2 keeps =
-    grind (arith, last_more program_in decoded nothing_asked, last_more protocol_in decoded nothing_asked, last_more program_in decoded, last_more protocol_in decoded)
+    grind (
+      arith,
+      last_more program_in decoded nothing_asked,
+      last_more protocol_in decoded nothing_asked,
+      last_more program_in decoded,
+      last_more protocol_in decoded,
+    )

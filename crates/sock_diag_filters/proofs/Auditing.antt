@@ -77,7 +77,14 @@ program_passes : (f : Filter) (far : ℕ) (program rest : List ℕ) → far % 4 
     → size f + far ≤ 65535 → Steps program (program_of f far ++ rest) → Lands far rest
     → Passes program rest → Passes program (program_of f far ++ rest)
 program_passes (parts.Condition c) far program rest fours near to lands passes =
-    grind (arith, operation_passes program (code_of c) (arguments c) far rest (condition_known c far rest) (condition_bits c far rest) (arguments_in_fours c) fours, condition_known c far rest, condition_bits c far rest, arguments_in_fours c)
+    grind (
+      arith,
+      operation_passes program (code_of c) (arguments c) far rest
+          (condition_known c far rest) (condition_bits c far rest) (arguments_in_fours c) fours,
+      condition_known c far rest,
+      condition_bits c far rest,
+      arguments_in_fours c,
+    )
 program_passes (parts.And' p a q b) far program rest fours near to lands passes =
     let first : List ℕ = program_of a (size b + far) in
     let second : List ℕ = program_of b far in

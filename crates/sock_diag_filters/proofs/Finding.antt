@@ -65,7 +65,14 @@ host_found : (h : Host) (family port : ℕ) (octets : List ℕ) → IsPort h.por
     → finds_host family port octets (host h.prefix (unwrap_or h.port 0xffffffff))
     ≡ is_host h family port octets
 host_found h family port octets range =
-    grind (arith, host h.prefix, port_at h.prefix, word_of h.port range, port_found h.port port range, prefix_found h.prefix)
+    grind (
+      arith,
+      host h.prefix,
+      port_at h.prefix,
+      word_of h.port range,
+      port_found h.port port range,
+      prefix_found h.prefix,
+    )
 
 -- ---- conditions and filters
 

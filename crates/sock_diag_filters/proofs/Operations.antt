@@ -26,7 +26,13 @@ operation_length code args far = omega arith
 pub behind_operation : (code : ℕ) (args : List ℕ) (far : ℕ) (rest : List ℕ)
     → drop (yes_at (operation code args far ++ rest)) (operation code args far ++ rest) ≡ rest
 behind_operation code args far rest =
-    grind (arith, drop_at (operation code args far) rest (4 + length args) (operation_length code args far), operation code args far, operation_length code args far)
+    grind (
+      arith,
+      drop_at (operation code args far) rest (4 + length args)
+          (operation_length code args far),
+      operation code args far,
+      operation_length code args far,
+    )
 
 pub no_of_operation : (code : ℕ) (args : List ℕ) (far : ℕ) (rest : List ℕ)
     → 4 + length args + far ≤ 65535
@@ -102,11 +108,32 @@ condition_bits x0 far rest h =
 pub program_length : (f : Filter) (far : ℕ) → length (program_of f far) ≡ size f
 program_length (parts.Condition c) far = operation_length (code_of c) (arguments c) far
 program_length (parts.And' p a q b) far =
-    grind (arith, program_length a (size b + far), program_length b far, length-append (program_of a (size b + far)) (program_of b far), program_of a (size b + far), program_of b far)
+    grind (
+      arith,
+      program_length a (size b + far),
+      program_length b far,
+      length-append (program_of a (size b + far)) (program_of b far),
+      program_of a (size b + far),
+      program_of b far,
+    )
 program_length (parts.Or' p a q b) far =
-    grind (arith, program_length a 4, program_length b far, operation 1, program_of b far, length-append (program_of a 4), program_of a 4)
+    grind (
+      arith,
+      program_length a 4,
+      program_length b far,
+      operation 1,
+      program_of b far,
+      length-append (program_of a 4),
+      program_of a 4,
+    )
 program_length (parts.Not' p a) far =
-    grind (arith, program_length a 4, length-append (program_of a 4) (operation 1 [] far), program_of a 4, operation 1)
+    grind (
+      arith,
+      program_length a 4,
+      length-append (program_of a 4) (operation 1 [] far),
+      program_of a 4,
+      operation 1,
+    )
 
 -- a program comes in fours
 pub size_in_fours : (f : Filter) → size f % 4 ≡ 0

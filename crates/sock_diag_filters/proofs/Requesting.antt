@@ -16,7 +16,11 @@ use Rattle.sock_diag_filters.specs.Requests.{header_under, request_bytes}
 pub message_length : (h : NetlinkHeader) (r : InetRequest) (attributes : List Attribute)
     → length (request_bytes h r attributes) ≡ 72 + length (flat_map written attributes)
 message_length h r attributes =
-    grind (arith, length-append (bytes inet_request r) (flat_map written attributes), request_length r)
+    grind (
+      arith,
+      length-append (bytes inet_request r) (flat_map written attributes),
+      request_length r,
+    )
 
 -- header, record and attributes, written one after the other, are the request
 pub all_written : (h : NetlinkHeader) (r : InetRequest) (attributes : List Attribute) (len : ℕ)

@@ -73,7 +73,13 @@ module _ (found : ℕ → List ℕ → Bool) where
       → is_met found (operation (code_of c) (arguments c) far ++ rest)
       ≡ found (code_of c) (arguments c)
   condition_met c far rest =
-      grind (arith, operation (code_of c) (arguments c) far, no_nop c, no_jump c, arguments_are (code_of c) (arguments c) far rest)
+      grind (
+        arith,
+        operation (code_of c) (arguments c) far,
+        no_nop c,
+        no_jump c,
+        arguments_are (code_of c) (arguments c) far rest,
+      )
 
   -- the verdict so many bytes on from the start of the rest
   abbrev Goes : ℕ → List ℕ → Bool → Type 0
@@ -135,11 +141,47 @@ module _ (found : ℕ → List ℕ → Bool) where
   program_runs (parts.Condition c) far rest v near wanted unwanted =
       grind (arith, condition_met c far rest, operation_runs (code_of c) (arguments c) far rest v)
   program_runs (parts.And' p a q b) far rest v near wanted unwanted =
-      grind (arith, program_of b far, append_assoc (program_of a (size b + far)), program_of a (size b + far), program_runs a (size b + far), program_runs b far rest v, both_true, second_false, goes_behind, program_length b far, first_false)
+      grind (
+        arith,
+        program_of b far,
+        append_assoc (program_of a (size b + far)),
+        program_of a (size b + far),
+        program_runs a (size b + far),
+        program_runs b far rest v,
+        both_true,
+        second_false,
+        goes_behind,
+        program_length b far,
+        first_false,
+      )
   program_runs (parts.Or' p a q b) far rest v near wanted unwanted =
-      grind (arith, program_of a 4, program_of b far, jump (size b), append_assoc, program_length b far, length-append, program_runs a 4, jump_runs (size b), drop_at, first_true, program_runs b far rest v, second_true, both_false)
+      grind (
+        arith,
+        program_of a 4,
+        program_of b far,
+        jump (size b),
+        append_assoc,
+        program_length b far,
+        length-append,
+        program_runs a 4,
+        jump_runs (size b),
+        drop_at,
+        first_true,
+        program_runs b far rest v,
+        second_true,
+        both_false,
+      )
   program_runs (parts.Not' p a) far rest v near wanted unwanted =
-      grind (arith, append_assoc (program_of a 4) (jump far) rest, program_of a 4, jump far, program_runs a 4 (jump far ++ rest) v, jump_runs far rest v, is_false, is_true)
+      grind (
+        arith,
+        append_assoc (program_of a 4) (jump far) rest,
+        program_of a 4,
+        jump far,
+        program_runs a 4 (jump far ++ rest) v,
+        jump_runs far rest v,
+        is_false,
+        is_true,
+      )
 
   pub program_wants : (f : Filter) → size f ≤ 65531 → Runs found (program_of f 4) (wants f)
   program_wants f short =

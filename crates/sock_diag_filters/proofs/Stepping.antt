@@ -34,9 +34,20 @@ before P a b rest h = subst P (sym (append_assoc a b rest)) h
 
 pub over_program : (f : Filter) (far : ℕ) (rest : List ℕ) → Steps (program_of f far ++ rest) rest
 over_program (parts.Condition c) far rest =
-    grind (arith, over_operation (code_of c) (arguments c) far rest (arguments_in_fours c), arguments_in_fours c)
+    grind (
+      arith,
+      over_operation (code_of c) (arguments c) far rest (arguments_in_fours c),
+      arguments_in_fours c,
+    )
 over_program (parts.And' p a q b) far rest =
-    grind (arith, common_steps, program_of, steps_on, over_program a (size b + far), over_program b far rest)
+    grind (
+      arith,
+      common_steps,
+      program_of,
+      steps_on,
+      over_program a (size b + far),
+      over_program b far rest,
+    )
 over_program (parts.Or' p a q b) far rest =
     let second : List ℕ = program_of b far in
     let behind : List ℕ = jump (size b) ++ second in

@@ -44,7 +44,13 @@ behind_address address rest = grind arith
 pub socket_id_back : (value : SocketId) (rest : List ℕ) → IsShaped value
     → socket_id_of (versions_of value) (socket_id_values value ++ rest) ≡ value
 socket_id_back value rest shaped =
-    grind (arith, append_assoc, behind_address, address_back, first_all 8 value.cookie shaped.cookie)
+    grind (
+      arith,
+      append_assoc,
+      behind_address,
+      address_back,
+      first_all 8 value.cookie shaped.cookie,
+    )
 
 -- the bytes of the record by itself
 pub bytes_alone : (value : SocketId) → bytes socket_id value

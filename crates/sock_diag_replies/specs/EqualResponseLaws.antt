@@ -38,7 +38,15 @@ module _ {H : Type 0} (same : H → H → Bool) (F : AttributeSet) (tests : Test
       → (v w : ResponseValue H (AttributeValue F))
       → IsTrue (response_test v w) ↔ (v ≡ w)
   response_test_decides headers v w =
-      grind (arith, both_equal, map-id v.nlas, map-id w.nlas, lists_equal, value_test, value_test_decides)
+      grind (
+        arith,
+        both_equal,
+        map-id v.nlas,
+        map-id w.nlas,
+        lists_equal,
+        value_test,
+        value_test_decides,
+      )
 
 -- where the headers are equal, the attributes decide
 pub then_rest : {t rest result : Bool} → t ≡ true → result ≡ rest → result ≡ (t && rest)

@@ -24,7 +24,13 @@ goes_on : (tag : IpVersions × ℕ) (left rest : List ℕ) → inet_response_hea
     ≡ Ok tag
 unfolding inet_response_header
 goes_on tag left rest long e =
-    grind (arith, get_or_append_left left rest 0 0, get_or_append_left left rest 0 2, with_class (class_of_byte (slice_index (left ++ rest) 2)), with_class)
+    grind (
+      arith,
+      get_or_append_left left rest 0 0,
+      get_or_append_left left rest 0 2,
+      with_class (class_of_byte (slice_index (left ++ rest) 2)),
+      with_class,
+    )
 
 -- a string with a header has all its bytes
 pub header_enough : (b : List ℕ) (h : InetResponseHeader) → read inet_response_header tt b ≡ Ok h

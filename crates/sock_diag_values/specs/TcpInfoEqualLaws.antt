@@ -27,4 +27,9 @@ pub tcp_info_equal : (v w : TcpInfo)
     → IsTrue (equal_from v.state w.state (drop 1 (tcp_info_values v)) (drop 1 (tcp_info_values w)))
     ↔ (v ≡ w)
 tcp_info_equal v w =
-    grind (arith, same_from v.state w.state (drop 1 (tcp_info_values v)) (drop 1 (tcp_info_values w)), itself_from w.state (drop 1 (tcp_info_values w)))
+    grind (
+      arith,
+      same_from v.state w.state (drop 1 (tcp_info_values v)) (drop 1
+          (tcp_info_values w)),
+      itself_from w.state (drop 1 (tcp_info_values w)),
+    )

@@ -55,7 +55,11 @@ pub step_at_no_message : (bytes : List ℕ) (old new : Cursor) (was now : Messag
     → CutIntoMessages (left_of bytes old) [] None → NextMessage bytes old new was now answer
     → answer ≡ 0
 step_at_no_message bytes old new was now answer in_range h x8 =
-    grind (arith, cut_with_step bytes old new now answer in_range, one_cut_into_messages (left_of bytes old))
+    grind (
+      arith,
+      cut_with_step bytes old new now answer in_range,
+      one_cut_into_messages (left_of bytes old),
+    )
 
 -- where the fault stands, the walk fails
 pub step_at_fault : (bytes : List ℕ) (old new : Cursor) (was now : MessagePart) (answer : ℕ)
@@ -63,4 +67,9 @@ pub step_at_fault : (bytes : List ℕ) (old new : Cursor) (was now : MessagePart
     → CutIntoMessages (left_of bytes old) [] (Some e) → NextMessage bytes old new was now answer
     → (answer ≡ number_of e) × (left_of bytes new ≡ [])
 step_at_fault bytes old new was now answer e in_range h x9 =
-    grind (arith, cut_with_step bytes old new now answer in_range, one_cut_into_messages (left_of bytes old), one_framing_fault (left_of bytes old))
+    grind (
+      arith,
+      cut_with_step bytes old new now answer in_range,
+      one_cut_into_messages (left_of bytes old),
+      one_framing_fault (left_of bytes old),
+    )

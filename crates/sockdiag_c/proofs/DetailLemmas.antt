@@ -38,7 +38,12 @@ module _ {A B : Type 0} where
       → first_of describes (xs ++ x ∷ []) ≡ first_of_two (first_of describes xs) (describes x)
   first_more describes [] x = alone (describes x)
   first_more describes (y ∷ ys) x =
-      grind (arith, as_prefix (describes y) (describes x) (filter_map describes ys) (filter_map describes (ys ++ x ∷ [])) (first_more describes ys x), first_more describes ys x)
+      grind (
+        arith,
+        as_prefix (describes y) (describes x) (filter_map describes ys)
+            (filter_map describes (ys ++ x ∷ [])) (first_more describes ys x),
+        first_more describes ys x,
+      )
 
 number_more : (o p : Option ℕ) → number_of (first_of_two o p) ≡ next_number (number_of o) p
 number_more x0 x1 =
@@ -57,21 +62,43 @@ unix_numbers : (h : UnixHeader) (now later : Text) (vs : List (AttributeValue un
     (v : AttributeValue unix)
     → unix_with later (unix_details_of h now vs) v ≡ unix_details_of h later (vs ++ v ∷ [])
 unix_numbers h now later vs v =
-    grind (arith, first_number_more unix 1, first_number_more unix 2, first_number_more unix 4, first_number_more unix 5, first_number_more unix 6)
+    grind (
+      arith,
+      first_number_more unix 1,
+      first_number_more unix 2,
+      first_number_more unix 4,
+      first_number_more unix 5,
+      first_number_more unix 6,
+    )
 
 pub unix_more : (h : UnixHeader) (d e : UnixDetails) (vs : List (AttributeValue unix))
     (v : AttributeValue unix)
     → e ≡ unix_with e.name d v → text_of e.name ≡ first_of_two (text_of d.name) (named v)
     → HasUnixDetails h d vs → HasUnixDetails h e (vs ++ v ∷ [])
 unix_more h d e vs v numbers name (was, was_named) =
-    grind (arith, unix_with e.name, unix_numbers h d.name e.name vs v, first_of_two, first_more named vs v)
+    grind (
+      arith,
+      unix_with e.name,
+      unix_numbers h d.name e.name vs v,
+      first_of_two,
+      first_more named vs v,
+    )
 
 -- and of an internet socket
 inet_numbers : (h : InetHeader) (now later : Text) (vs : List (AttributeValue inet))
     (v : AttributeValue inet)
     → inet_with later (inet_details_of h now vs) v ≡ inet_details_of h later (vs ++ v ∷ [])
 inet_numbers h now later vs v =
-    grind (arith, first_number_more inet 5, first_number_more inet 6, first_number_more inet 8, first_number_more inet 10, first_number_more inet 11, first_number_more inet 15, first_number_more inet 17)
+    grind (
+      arith,
+      first_number_more inet 5,
+      first_number_more inet 6,
+      first_number_more inet 8,
+      first_number_more inet 10,
+      first_number_more inet 11,
+      first_number_more inet 15,
+      first_number_more inet 17,
+    )
 
 pub inet_more : (h : InetHeader) (d e : InetDetails) (vs : List (AttributeValue inet))
     (v : AttributeValue inet)
@@ -79,4 +106,10 @@ pub inet_more : (h : InetHeader) (d e : InetDetails) (vs : List (AttributeValue 
     → text_of e.congestion ≡ first_of_two (text_of d.congestion) (controlled v)
     → HasInetDetails h d vs → HasInetDetails h e (vs ++ v ∷ [])
 inet_more h d e vs v numbers congestion (was, was_controlled) =
-    grind (arith, inet_with e.congestion, inet_numbers h d.congestion e.congestion vs v, first_of_two, first_more controlled vs v)
+    grind (
+      arith,
+      inet_with e.congestion,
+      inet_numbers h d.congestion e.congestion vs v,
+      first_of_two,
+      first_more controlled vs v,
+    )

@@ -46,9 +46,18 @@ pub behind_length : (r : InetRequest) (attributes : List ℕ)
     → length (behind_record r attributes)
     ≡ length (protocol_attribute r.protocol) + (length attributes + fill (length attributes))
 behind_length r attributes =
-    grind (arith, length-append (protocol_attribute r.protocol) (with_padding attributes), padded_length attributes)
+    grind (
+      arith,
+      length-append (protocol_attribute r.protocol) (with_padding attributes),
+      padded_length attributes,
+    )
 
 pub message_length : (r : InetRequest) (attributes : List ℕ)
     → length (filtered_message r attributes) ≡ 72 + length (behind_record r attributes)
 message_length r attributes =
-    grind (arith, length-append (bytes inet_request (inet_request_of r)) (behind_record r attributes), request_length (inet_request_of r))
+    grind (
+      arith,
+      length-append (bytes inet_request (inet_request_of r))
+          (behind_record r attributes),
+      request_length (inet_request_of r),
+    )

@@ -36,7 +36,14 @@ pub attribute_passed : (bytes rest : List ℕ) (place end : ℕ) (a : Attribute)
       type_word = a.type_word;
     })) (drop (place + end) bytes)
 attribute_passed bytes rest place end a s end-is =
-    grind (arith, attribute_read bytes rest place a s, starts_with (drop place bytes) (drop (place + end) bytes) a end (prefix_of_start (drop place bytes) rest a s) end-is (sym (drop-drop end place bytes)), prefix_of_start (drop place bytes) rest a s, drop-drop end place bytes)
+    grind (
+      arith,
+      attribute_read bytes rest place a s,
+      starts_with (drop place bytes) (drop (place + end) bytes) a end (prefix_of_start
+          (drop place bytes) rest a s) end-is (sym (drop-drop end place bytes)),
+      prefix_of_start (drop place bytes) rest a s,
+      drop-drop end place bytes,
+    )
 
 -- the part of a message that its header tells, at a place
 abbrev pub part_of : ℕ → NetlinkHeader → MessagePart
@@ -67,7 +74,12 @@ pub message_passed : (bytes : List ℕ) (place end : ℕ) (h : NetlinkHeader)
     → StartsWithMessage (drop place bytes) (take h.length (drop place bytes))
     (drop (place + end) bytes)
 message_passed bytes place end h head end-is =
-    grind (arith, starts_with_message (drop place bytes) (take h.length (drop place bytes)) (drop (place + end) bytes) h end head, drop-drop end place bytes)
+    grind (
+      arith,
+      starts_with_message (drop place bytes) (take h.length (drop place bytes)) (drop
+          (place + end) bytes) h end head,
+      drop-drop end place bytes,
+    )
 
 -- what is kept as it came is carried, and so is nothing
 pub kept_is_carried : (payload : List ℕ) (t : ℕ) → (t ≡ 1) ⊎ ((t ≡ 2) ⊎ ((t ≡ 3) ⊎ (t ≡ 4)))
@@ -85,7 +97,13 @@ pub step_at_attribute : (bytes : List ℕ) (old new : Cursor) (was now : Attribu
     → Cut (left_of bytes old) (first ∷ later) → NextAttribute bytes old new was now answer
     → (answer ≡ 1) × (attribute_in bytes now ≡ first) × Cut (left_of bytes new) later
 step_at_attribute bytes old new was now answer first later h x9 =
-    grind (arith, one_start (left_of bytes old) h.0 (left_of bytes new) first (attribute_in bytes now) h.1, prefix_or_fault_apart (left_of bytes old) first, prefix_of_start (left_of bytes old) h.0 first h.1)
+    grind (
+      arith,
+      one_start (left_of bytes old) h.0 (left_of bytes new) first
+          (attribute_in bytes now) h.1,
+      prefix_or_fault_apart (left_of bytes old) first,
+      prefix_of_start (left_of bytes old) h.0 first h.1,
+    )
 
 -- where none is left, the walk ends
 pub step_at_end : (bytes : List ℕ) (old new : Cursor) (was now : AttributePart) (answer : ℕ)

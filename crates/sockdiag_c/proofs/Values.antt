@@ -46,7 +46,11 @@ stands_first : (bytes rest : List ℕ) (a : Attribute) → StartsWith bytes a re
     → (more : List Attribute) × (attributes ≡ a ∷ more) × StandIn rest more
 stands_first bytes rest a start [] (inl none) = absurd (StartsWith-some bytes rest a start none)
 stands_first bytes rest a start [] (inr (e, off)) =
-    grind (arith, prefix_or_fault_apart bytes a e (prefix_of_start bytes rest a start), prefix_of_start bytes rest a start)
+    grind (
+      arith,
+      prefix_or_fault_apart bytes a e (prefix_of_start bytes rest a start),
+      prefix_of_start bytes rest a start,
+    )
 stands_first bytes rest a start (b ∷ more) stand =
     let first = first_stands bytes b more stand in
     let same = one_start bytes first.0 rest b a first.1 start in

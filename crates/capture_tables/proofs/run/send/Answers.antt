@@ -8,7 +8,12 @@ use Rattle.capture_tables.proofs.run.send.Goals as goal
 moves_front : (all front rest : List ℕ) (n : ℕ) → all ≡ front ++ rest → all ≡ (front ++ take n rest)
     ++ take (length rest - n) (drop n rest)
 moves_front all front rest n e =
-    grind (arith, take-append-drop n rest, append_assoc front (take n rest) (drop n rest), take_rest rest n)
+    grind (
+      arith,
+      take-append-drop n rest,
+      append_assoc front (take n rest) (drop n rest),
+      take_rest rest n,
+    )
 
 pub writes-preserved : goal.writes-preserved
 writes-preserved g c =

@@ -4,4 +4,8 @@ use Rattle.netlink_core.proofs.laws.finalized_message_reads_back.Goals as goal
 
 pub returns : goal.returns
 returns g c =
-    grind (arith, reads_back_exactly g.I.Coded.codec, inner_law g.I.Coded.codec.is_in_range g.I.Coded.codec.fits)
+    grind (
+      arith,
+      reads_back_exactly g.I.Coded.codec,
+      inner_law g.I.Coded.codec.is_in_range g.I.Coded.codec.fits,
+    )

@@ -8,4 +8,10 @@ use Rattle.netlink_packet_sock_diag.proofs.laws.reply_lengths_are_multiples_of_f
 
 pub returns : goal.returns
 returns c =
-    grind (arith, reply_multiple unix_response_spec unix_response_laws, unix_response_laws, reply_multiple inet_response_spec inet_response_laws, inet_response_laws)
+    grind (
+      arith,
+      reply_multiple unix_response_spec unix_response_laws,
+      unix_response_laws,
+      reply_multiple inet_response_spec inet_response_laws,
+      inet_response_laws,
+    )

@@ -6,4 +6,9 @@ use Rattle.netlink_packet_sock_diag.proofs.laws.split_changes_no_feed.Goals as g
 
 pub returns : goal.returns
 returns c =
-    grind (arith, same_feeds message_codec message_laws, message_laws, whole_feed message_codec message_laws)
+    grind (
+      arith,
+      same_feeds message_codec message_laws,
+      message_laws,
+      whole_feed message_codec message_laws,
+    )

@@ -8,4 +8,10 @@ use Rattle.netlink_packet_sock_diag.proofs.laws.split_changes_no_lossy_feed.Goal
 
 pub returns : goal.returns
 returns c =
-    grind (arith, same_feeds (lossy message_codec) (lossy_laws message_codec message_laws), lossy_laws message_codec message_laws, message_laws, whole_feed (lossy message_codec) (lossy_laws message_codec message_laws))
+    grind (
+      arith,
+      same_feeds (lossy message_codec) (lossy_laws message_codec message_laws),
+      lossy_laws message_codec message_laws,
+      message_laws,
+      whole_feed (lossy message_codec) (lossy_laws message_codec message_laws),
+    )

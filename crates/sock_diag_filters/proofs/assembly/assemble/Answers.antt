@@ -22,7 +22,14 @@ filled n program new old same long =
 
 pub returns-clause-audited : goal.returns-clause-audited
 returns-clause-audited c =
-    grind (arith, program_length, filled c.in_ok-program.program.len, program_of, program_audited, c.write_program.ensures)
+    grind (
+      arith,
+      program_length,
+      filled c.in_ok-program.program.len,
+      program_of,
+      program_audited,
+      c.write_program.ensures,
+    )
 
 pub returns-clause-runs : goal.returns-clause-runs
 returns-clause-runs c = λ found.

@@ -8,4 +8,8 @@ split_at_mut-front-requires c =
 
 pub overflow_cast-len : goal.overflow_cast-len
 overflow_cast-len c =
-    grind (arith, message_length c.args.self.now.request.now c.args.self.now.attributes.now, c.buffer_len-len.ensures)
+    grind (
+      arith,
+      message_length c.args.self.now.request.now c.args.self.now.attributes.now,
+      c.buffer_len-len.ensures,
+    )

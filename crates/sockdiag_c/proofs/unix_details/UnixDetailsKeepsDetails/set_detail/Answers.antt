@@ -13,4 +13,8 @@ returns-clause-value c = (
 
 pub returns-in_err-view-clause-fault : goal.returns-in_err-view-clause-fault
 returns-in_err-view-clause-fault c =
-    grind (arith, err_from_is_err_and c.from_residual.result c.from_residual.ensures.1, c.in_err-view.ensures)
+    grind (
+      arith,
+      err_from_is_err_and c.from_residual.result c.from_residual.ensures.1,
+      c.in_err-view.ensures,
+    )

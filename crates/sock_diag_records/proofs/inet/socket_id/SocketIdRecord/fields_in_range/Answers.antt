@@ -6,4 +6,10 @@ use Rattle.sock_diag_records.proofs.inet.socket_id.SocketIdRecord.fields_in_rang
 pub returns : goal.returns
 unfolding socket_id
 returns c =
-    grind (arith, fit-bytes 40 8 c.args.self.now.cookie c.bytes_in_range.ensures, fit-append, c.address_in_range.ensures.fit, c.address_in_range-2.ensures.fit)
+    grind (
+      arith,
+      fit-bytes 40 8 c.args.self.now.cookie c.bytes_in_range.ensures,
+      fit-append,
+      c.address_in_range.ensures.fit,
+      c.address_in_range-2.ensures.fit,
+    )

@@ -7,4 +7,14 @@ use Rattle.sock_diag_replies.proofs.inet.reply.InetResponseHeaderReplyHeader.is_
 
 pub returns-then-eq : goal.returns-then-eq
 returns-then-eq c =
-    grind (arith, then_rest, value_test, inet_tests, tests, text_view_row, buffer_row, c.eq.ensures, c.same_views.ensures)
+    grind (
+      arith,
+      then_rest,
+      value_test,
+      inet_tests,
+      tests,
+      text_view_row,
+      buffer_row,
+      c.eq.ensures,
+      c.same_views.ensures,
+    )

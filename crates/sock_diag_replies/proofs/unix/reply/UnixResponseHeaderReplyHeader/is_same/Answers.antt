@@ -8,4 +8,17 @@ use Rattle.sock_diag_replies.proofs.unix.reply.UnixResponseHeaderReplyHeader.is_
 
 pub returns-then-eq : goal.returns-then-eq
 returns-then-eq c =
-    grind (arith, then_rest, value_test, unix_tests, tests, name_view_row, numbers_row, buffer_row, name_views_model, list_views_model, c.eq.ensures, c.same_views.ensures)
+    grind (
+      arith,
+      then_rest,
+      value_test,
+      unix_tests,
+      tests,
+      name_view_row,
+      numbers_row,
+      buffer_row,
+      name_views_model,
+      list_views_model,
+      c.eq.ensures,
+      c.same_views.ensures,
+    )
