@@ -12,7 +12,7 @@ pub asked_shown : (utf8 : Bool) (bytes : List ℕ) → utf8 ≡ true → IsUtf8 
 asked_shown utf8 bytes asked is = rw (asked, is_utf8-from_IsUtf8 bytes is) refl
 
 other : (p q : Bool) (xs ys : List ℕ) → (q ≡ true → ⊥) → ys ≡ cond (p && q) xs ys
-other x0 q xs ys wrong =
+other p q xs ys wrong =
     grind arith
 
 -- it is no UTF-8

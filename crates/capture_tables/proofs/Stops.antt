@@ -14,7 +14,7 @@ within : (file : FileHeader) (left : Option (List ℕ)) (failed : Type 0) (heade
     (e : CaptureError)
     → length header ≡ 16 → length part < number_at file.order 4 8 header → IsStop left failed e
     → IsPacketStop file left failed (header ++ part) e
-within file left failed header part x5 long short stop =
+within file left failed header part e long short stop =
     grind arith
 
 -- a read failed
@@ -26,7 +26,7 @@ failure_stops left failed e is cause =
 -- the input ends within the header of a capture, or a read failed
 pub start_stops : (left : Option (List ℕ)) (failed : Type 0) (part : List ℕ) (e : CaptureError)
     → (e ≡ Cut → 0 < length part) → IsStop left failed e → IsStartStop left failed part e
-start_stops left failed part x3 some stop =
+start_stops left failed part e some stop =
     grind arith
 
 -- the header of a packet was read, and not all of the packet

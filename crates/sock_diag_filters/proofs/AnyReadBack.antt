@@ -68,7 +68,7 @@ first_asked vsock request rest = refl
 first_asked xdp request rest = refl
 
 has_two : (family : RecordFamily) → 2 ≤ size_of family
-has_two x0 =
+has_two family =
     grind arith
 
 module _ (family : RecordFamily) (h : NetlinkHeader) (request : (codec_of family).Value)
@@ -140,7 +140,7 @@ module _ (family : RecordFamily) (h : NetlinkHeader) (request : (codec_of family
       (asks.3 ∙ ap (λ (g : NetlinkHeader). drop (size_of k) (payload_of message g)) same)
 
   pub record_never_refused : (e : DecodeError) → RefusesAnyRequest message e → ⊥
-  record_never_refused e x1 =
+  record_never_refused e h =
       grind (arith, length-append, no_fault_of_whole, long, one_header, record_asked, record_read)
 
 -- ---- requests for internet sockets
@@ -169,7 +169,7 @@ module _ (h : NetlinkHeader) (request : InetRequest) (attributes : List RequestA
 
   pub inet_read_back : (other : AnyRequest) → AnyAsks asked other
       → IsInetReadBack h request attributes other
-  inet_read_back x0 asks =
+  inet_read_back other asks =
       grind (arith, read_back, inet_header, asked_inet)
 
   pub inet_never_refused : (e : DecodeError) → RefusesAnyRequest asked e → ⊥

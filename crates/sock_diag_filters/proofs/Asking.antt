@@ -23,7 +23,7 @@ last_more f xs x =
 
 pub keeps_more : (found : Found) (decoded : List AskedAttribute) (o : Option RequestAttribute)
     → Keeps found decoded → Keeps (found_with found o) (decoded ++ asked_or_nothing o ∷ [])
-keeps_more found decoded x2 keeps =
+keeps_more found decoded o keeps =
     grind (
       arith,
       last_more program_in decoded nothing_asked,

@@ -16,7 +16,7 @@ use Rattle.sock_diag_filters.specs.Asked.{IsRequestType}
 pub asked_is : (payload : List ℕ) (t : ℕ) (decoded : Result AskedFamily DecodeError)
     → 2 ≤ length payload → IsRequestType t → family_by_byte (slice_index payload 0) ≡ decoded
     → asked_family payload t ≡ decoded
-asked_is payload t decoded long x4 is =
+asked_is payload t decoded long h is =
     grind (arith, le-ltb (length payload) 2 long)
 
 -- another type is refused

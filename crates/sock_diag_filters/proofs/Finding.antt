@@ -35,30 +35,30 @@ long_back x fits = back 8 x [] fits
 -- ---- hosts
 
 word_of : (o : Option ℕ) → IsPort o → unwrap_or o 0xffffffff < 2 ^ 32
-word_of x0 h =
+word_of o h =
     grind arith
 
 port_found : (o : Option ℕ) (port : ℕ) → IsPort o
     → ((unwrap_or o 0xffffffff == 0xffffffff) || (unwrap_or o 0xffffffff == port)) ≡ has_port o port
-port_found x0 port h =
+port_found o port h =
     grind (arith, ne_eqb)
 
 address_found : (a : IpAddr) (bits port family : ℕ) (octets : List ℕ)
     → finds_address family octets (slice_index (with_address a bits port) 0)
     (slice_index (with_address a bits port) 1) (drop 8 (with_address a bits port))
     ≡ is_within a bits family octets
-address_found x0 bits port family octets =
+address_found a bits port family octets =
     grind arith
 
 prefix_found : (o : Option ValueCodec) (port family : ℕ) (octets : List ℕ)
     → finds_address family octets (slice_index (host o port) 0) (slice_index (host o port) 1)
     (drop 8 (host o port)) ≡ has_prefix o family octets
-prefix_found x0 port family octets =
+prefix_found o port family octets =
     grind (arith, address_found)
 
 port_at : (o : Option ValueCodec) (port : ℕ) → port < 2 ^ 32
     → little_number 4 (drop 4 (host o port)) ≡ port
-port_at x0 port x2 =
+port_at o port h =
     grind (arith, back 4 port)
 
 host_found : (h : Host) (family port : ℕ) (octets : List ℕ) → IsPort h.port
@@ -78,7 +78,7 @@ host_found h family port octets range =
 
 condition_found : (s : Socket) (c : Condition) → IsInRange c
     → found_by s (code_of c) (arguments c) ≡ meets s c
-condition_found s x1 range =
+condition_found s c range =
     grind (arith, port_back, host_found, word_back, back 4, long_back)
 
 pub filter_found : (s : Socket) (f : Filter) → AreInRange f

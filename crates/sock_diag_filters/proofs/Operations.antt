@@ -51,48 +51,48 @@ abbrev pub host : Option ValueCodec → ℕ → List ℕ
 host o port = front_of o ++ (little_bytes 4 port ++ octets_behind o)
 
 address_in_fours : (a : IpAddr) (bits port : ℕ) → length (with_address a bits port) % 4 ≡ 0
-address_in_fours x0 bits port =
+address_in_fours a bits port =
     grind arith
 
 address_least : (a : IpAddr) (code far bits port : ℕ) (rest : List ℕ)
     → option_map (λ (n : ℕ). 12 + n)
     (address_length (slice_index (operation code (with_address a bits port) far ++ rest) 4))
     ≡ Some (4 + length (with_address a bits port))
-address_least x0 code far bits port rest =
+address_least a code far bits port rest =
     grind arith
 
 address_bits : (a : IpAddr) (bits port : ℕ) → bits ≤ bits_of a
     → bits ≤ 8 * (4 + length (with_address a bits port) - 12)
-address_bits x0 bits port h =
+address_bits a bits port h =
     grind arith
 
 host_in_fours : (o : Option ValueCodec) (port : ℕ) → length (host o port) % 4 ≡ 0
-host_in_fours x0 port =
+host_in_fours o port =
     grind (arith, address_in_fours)
 
 host_least : (o : Option ValueCodec) (code far port : ℕ) (rest : List ℕ)
     → option_map (λ (n : ℕ). 12 + n)
     (address_length (slice_index (operation code (host o port) far ++ rest) 4))
     ≡ Some (4 + length (host o port))
-host_least x0 code far port rest =
+host_least o code far port rest =
     grind (arith, address_least)
 
 host_bits : (o : Option ValueCodec) (code far port : ℕ) (rest : List ℕ)
     → slice_index (operation code (host o port) far ++ rest) 5
     ≤ 8 * (4 + length (host o port) - 12)
-host_bits x0 code far port rest =
+host_bits o code far port rest =
     grind (arith, address_bits)
 
 -- the arguments of a condition come in fours, and are few
 pub arguments_in_fours : (c : Condition) → length (arguments c) % 4 ≡ 0
-arguments_in_fours x0 =
+arguments_in_fours c =
     grind (arith, host_in_fours)
 
 -- the kernel knows it, and wants no more bytes than it has
 pub condition_known : (c : Condition) (far : ℕ) (rest : List ℕ)
     → least_of (operation (code_of c) (arguments c) far ++ rest)
     ≡ Some (4 + length (arguments c))
-condition_known x0 far rest =
+condition_known c far rest =
     grind (arith, host_least)
 
 -- and no more bits than its address has
@@ -100,7 +100,7 @@ pub condition_bits : (c : Condition) (far : ℕ) (rest : List ℕ)
     → (code_of c ≡ 7) ⊎ (code_of c ≡ 8)
     → slice_index (operation (code_of c) (arguments c) far ++ rest) 5
     ≤ 8 * (4 + length (arguments c) - 12)
-condition_bits x0 far rest h =
+condition_bits c far rest h =
     grind (arith, host_bits)
 
 -- ---- programs
@@ -147,4 +147,4 @@ size_in_fours (parts.Not' p a) = let first = size_in_fours a in omega arith
 -- and isn't empty
 pub size_some : (f : Filter) → 4 ≤ size f
 size_some (parts.And' p a q b) = let first = size_some a in omega arith
-size_some x0 = grind arith
+size_some f = grind arith

@@ -46,7 +46,7 @@ fit_words (Program program ∷ more) fit = ((omega arith, fit.0), fit_words more
 fit_words (Protocol protocol ∷ more) fit = ((omega arith, omega arith), fit_words more fit.1)
 
 tells : (a : RequestAttribute) → Fits a → decodes_asked (attribute_of a) ≡ Ok (asked_of a)
-tells x0 fit =
+tells a fit =
     grind (arith, number-reads_back little_endian 4)
 
 all_tell : (attributes : List RequestAttribute) → AllByRecursion Fits attributes
@@ -68,7 +68,7 @@ asked_once (a ∷ all) (t ∷ decoded) (u ∷ others) h k =
     let first = same_value t u (decodes_asked a) h.0 k.0 in
     let later = asked_once all decoded others h.1 k.1 in
     cc
-asked_once x0 x1 others h k = grind arith
+asked_once all decoded others h k = grind arith
 
 -- ---- the message
 
@@ -104,7 +104,7 @@ whole_message h request attributes =
 goes_on : (kinds : IpVersions) (left rest : List ℕ) → 56 ≤ length left
     → versions_of_family (slice_index left 0) ≡ Ok kinds
     → versions_of_family (slice_index (left ++ rest) 0) ≡ Ok kinds
-goes_on kinds x1 rest long h =
+goes_on kinds left rest long h =
     grind (arith, common_steps)
 
 module _ (h : NetlinkHeader) (request : InetRequest) (attributes : List RequestAttribute)

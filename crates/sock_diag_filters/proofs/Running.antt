@@ -19,27 +19,27 @@ use Rattle.sock_diag_filters.proofs.Operations.{program_length}
 -- ---- two truths
 
 both_true : (a b : Bool) → a ≡ true → b ≡ true → (a && b) ≡ true
-both_true x0 b h k =
+both_true a b h k =
     grind arith
 
 second_false : (a b : Bool) → b ≡ false → (a && b) ≡ false
-second_false x0 b h =
+second_false a b h =
     grind arith
 
 first_false : (a b : Bool) → a ≡ false → (a && b) ≡ false
-first_false x0 b h =
+first_false a b h =
     grind arith
 
 first_true : (a b : Bool) → a ≡ true → (a || b) ≡ true
-first_true x0 b h =
+first_true a b h =
     grind arith
 
 second_true : (a b : Bool) → b ≡ true → (a || b) ≡ true
-second_true x0 b h =
+second_true a b h =
     grind arith
 
 both_false : (a b : Bool) → a ≡ false → b ≡ false → (a || b) ≡ false
-both_false x0 b h k =
+both_false a b h k =
     grind arith
 
 is_false : (a : Bool) → a ≡ true → not a ≡ false
@@ -50,17 +50,17 @@ is_true a h = ap not h
 
 -- whatever follows of either holds
 either : (b : Bool) (P : Type 0) → (b ≡ true → P) → (b ≡ false → P) → P
-either x0 x1 wanted unwanted =
+either b P wanted unwanted =
     grind arith
 
 -- ---- codes
 
 no_nop : (c : Condition) → (code_of c == 0) ≡ false
-no_nop x0 =
+no_nop c =
     grind arith
 
 no_jump : (c : Condition) → (code_of c == 1) ≡ false
-no_jump x0 =
+no_jump c =
     grind arith
 
 arguments_are : (code : ℕ) (args : List ℕ) (far : ℕ) (rest : List ℕ)

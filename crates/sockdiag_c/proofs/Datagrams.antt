@@ -54,7 +54,7 @@ pub step_at_no_message : (bytes : List ℕ) (old new : Cursor) (was now : Messag
     → IsBytes (left_of bytes old)
     → CutIntoMessages (left_of bytes old) [] None → NextMessage bytes old new was now answer
     → answer ≡ 0
-step_at_no_message bytes old new was now answer in_range h x8 =
+step_at_no_message bytes old new was now answer in_range h k =
     grind (
       arith,
       cut_with_step bytes old new now answer in_range,
@@ -66,7 +66,7 @@ pub step_at_fault : (bytes : List ℕ) (old new : Cursor) (was now : MessagePart
     (e : DecodeError) → IsBytes (left_of bytes old)
     → CutIntoMessages (left_of bytes old) [] (Some e) → NextMessage bytes old new was now answer
     → (answer ≡ number_of e) × (left_of bytes new ≡ [])
-step_at_fault bytes old new was now answer e in_range h x9 =
+step_at_fault bytes old new was now answer e in_range h k =
     grind (
       arith,
       cut_with_step bytes old new now answer in_range,

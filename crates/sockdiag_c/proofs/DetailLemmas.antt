@@ -23,13 +23,13 @@ use Rattle.sockdiag_c.specs.UnixDetails.{HasUnixDetails, named, unix_details_of}
 use Rattle.sockdiag_c.specs.UnixDetailsSteps.{unix_with}
 
 alone : {B : Type 0} (o : Option B) → slice_get (cons_option o []) 0 ≡ o
-alone x0 =
+alone o =
     grind arith
 
 as_prefix : {B : Type 0} (o p : Option B) (now later : List B)
     → slice_get later 0 ≡ first_of_two (slice_get now 0) p
     → slice_get (cons_option o later) 0 ≡ first_of_two (slice_get (cons_option o now) 0) p
-as_prefix x0 p now later e =
+as_prefix o p now later e =
     grind arith
 
 module _ {A B : Type 0} where
@@ -46,7 +46,7 @@ module _ {A B : Type 0} where
       )
 
 number_more : (o p : Option ℕ) → number_of (first_of_two o p) ≡ next_number (number_of o) p
-number_more x0 x1 =
+number_more o p =
     grind arith
 
 -- a number that is told of one attribute more

@@ -96,7 +96,7 @@ pub step_at_attribute : (bytes : List ℕ) (old new : Cursor) (was now : Attribu
     (first : Attribute) (later : List Attribute)
     → Cut (left_of bytes old) (first ∷ later) → NextAttribute bytes old new was now answer
     → (answer ≡ 1) × (attribute_in bytes now ≡ first) × Cut (left_of bytes new) later
-step_at_attribute bytes old new was now answer first later h x9 =
+step_at_attribute bytes old new was now answer first later h k =
     grind (
       arith,
       one_start (left_of bytes old) h.0 (left_of bytes new) first
@@ -108,5 +108,5 @@ step_at_attribute bytes old new was now answer first later h x9 =
 -- where none is left, the walk ends
 pub step_at_end : (bytes : List ℕ) (old new : Cursor) (was now : AttributePart) (answer : ℕ)
     → Cut (left_of bytes old) [] → NextAttribute bytes old new was now answer → answer ≡ 0
-step_at_end bytes old new was now answer none x7 =
+step_at_end bytes old new was now answer none h =
     grind arith

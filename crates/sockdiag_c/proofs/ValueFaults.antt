@@ -35,5 +35,5 @@ before {A} r s old new later found is kept first =
 -- where none is kept, none was before
 pub none_before : {A : Type 0} (s : Result A DecodeError) (old new : Option DecodeError)
     → new ≡ first_of_two old (result_err s) → new ≡ None → old ≡ None
-none_before s x1 new kept none =
+none_before s old new kept none =
     grind arith
