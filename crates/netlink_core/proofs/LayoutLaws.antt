@@ -4,7 +4,7 @@ use Rattle.std.proofs.Common.{Result, Ok, Err, refl, sym, ap, ◌∙◌, arith}
 use Rattle.std.proofs.Common.{append-nil, le-ltb, lt-ltb}
 use Rattle.std.proofs.lemmas.Bool.{cases_lt}
 use Rattle.netlink_core.specs.Bytes.{IsBytes}
-use Rattle.netlink_core.specs.Table.{Field, live_bits, masked, values_of, bytes_of}
+use Rattle.netlink_core.specs.Table.{Field, values_of, bytes_of}
 use Rattle.netlink_core.specs.SoundLaws.{is_table, IsSound}
 use Rattle.netlink_core.specs.Layout.{Layout, read, read_fields, StandsIn, bytes, AreIdle}
 use Rattle.netlink_core.specs.Layout.{IsInRange}
@@ -13,7 +13,7 @@ use Rattle.netlink_core.specs.Faults.{map_ok}
 use Rattle.netlink_core.specs.Codec.{KeepsLaws, RecordLaws, record_codec}
 use Rattle.netlink_core.specs.PrefixLaws.{value_or_reason}
 use Rattle.netlink_core.proofs.TableLaws.{IsTable, table_from_test, values-bytes_of, values-fit}
-use Rattle.netlink_core.proofs.TableLaws.{values-defined, bytes_of-bytes, values_and_bits}
+use Rattle.netlink_core.proofs.TableLaws.{values-defined, bytes_of-bytes}
 use Rattle.netlink_core.specs.declared.fault.DecodeError.{DecodeError}
 use Rattle.netlink_core.specs.declared.fault.DecodeError.TheVariants.{Memory, BufferTooSmall}
 use Rattle.netlink_core.specs.declared.fault.RecordName.{RecordName}
@@ -100,16 +100,6 @@ module _ {Param Tag Value : Type 0} (layout : Layout Param Tag Value) (sound : I
   named param left e =
       grind (arith, cases_lt (length left), too_short, rejected_by, long_enough)
 
-  -- under one tag, equal values and the same live bits
-  bits : (param : Param) (tag : Tag) (left right : List ℕ) → IsBytes left → IsBytes right
-      → layout.least ≤ length left → layout.least ≤ length right
-      → layout.tag_at param left ≡ Ok tag → layout.tag_at param right ≡ Ok tag
-      → ((values_of (layout.table tag) left ≡ values_of (layout.table tag) right)
-      ↔ (masked (live_bits (layout.table tag)) left ≡ masked (live_bits (layout.table tag)) right))
-  bits param tag left right hl hr ll lr l r =
-      values_and_bits 0 (layout.table tag) (layout.size tag) left right (table_is param tag left l)
-      hl hr (sound.room param tag left ll l) (sound.room param tag right lr r)
-
   -- the value of a tag that was found stands there
   stands : (param : Param) (tag : Tag) (left : List ℕ) → IsBytes left → layout.least ≤ length left
       → layout.tag_at param left ≡ Ok tag
@@ -119,7 +109,7 @@ module _ {Param Tag Value : Type 0} (layout : Layout Param Tag Value) (sound : I
 
   reads : (param : Param) (left : List ℕ) (value : Value) → StandsIn layout left param value
       → read layout param left ≡ Ok value
-  reads param left value (long, found, numbers, in_range, normal) =
+  reads param left value ((long, found, numbers), in_range, normal) =
       grind (arith, long_enough, accepts)
 
   -- what is read is what stands there
@@ -128,22 +118,17 @@ module _ {Param Tag Value : Type 0} (layout : Layout Param Tag Value) (sound : I
   stands_where_read param left value h =
       grind (arith, accepted, stands param, reads param left value)
 
-  -- the same value, so the same live bits
-  idle_from_equal : (param : Param) (left right : List ℕ) (value : Value) → IsBytes left
-      → IsBytes right → StandsIn layout left param value → StandsIn layout right param value
+  -- the same value, so the same fields
+  idle_from_equal : (param : Param) (left right : List ℕ) (value : Value)
+      → StandsIn layout left param value → StandsIn layout right param value
       → AreIdle layout param left right
-  idle_from_equal param left right value hl hr a b =
-      grind (arith, bits param)
+  idle_from_equal param left right value a b =
+      (layout.tag_of value, layout.values value, a.0, b.0)
 
-  equal_from_idle : (param : Param) (left right : List ℕ) → IsBytes left → IsBytes right
-      → AreIdle layout param left right → read layout param left ≡ read layout param right
-  equal_from_idle param left right hl hr (left_long, right_long, tag, left_tag, right_tag, same) =
-      grind (
-        arith,
-        long_enough,
-        accepts,
-        bits param tag left right hl hr left_long right_long left_tag right_tag,
-      )
+  equal_from_idle : (param : Param) (left right : List ℕ) → AreIdle layout param left right
+      → read layout param left ≡ read layout param right
+  equal_from_idle param left right (tag, numbers, here, there) =
+      grind (arith, long_enough, accepts)
 
   -- a value in normal form is read back
   pub reads_back : (param : Param) (value : Value) → IsInRange layout value
@@ -152,11 +137,13 @@ module _ {Param Tag Value : Type 0} (layout : Layout Param Tag Value) (sound : I
       let enough = sound.enough value in
       let size = sound.long value in
       reads param (bytes layout value) value (
-        omega arith,
-        sound.tag_written param value t n,
-        values-bytes_of 0 (layout.table (layout.tag_of value)) (layout.size (layout.tag_of value))
-            (layout.values value) (bytes layout value) [] (own_table_is value) t.fit n.flags
-            (sym (append-nil (bytes layout value))),
+        (
+          omega arith,
+          sound.tag_written param value t n,
+          values-bytes_of 0 (layout.table (layout.tag_of value)) (layout.size (layout.tag_of value))
+              (layout.values value) (bytes layout value) [] (own_table_is value) t.fit n.flags
+              (sym (append-nil (bytes layout value))),
+        ),
         t,
         n,
       )
@@ -174,11 +161,11 @@ module _ {Param Tag Value : Type 0} (layout : Layout Param Tag Value) (sound : I
     one_fault = λ b p e f h k. cc;
     named_fault = λ b p h. named p b h;
     same_value = λ b c p v w tb tc r s. (
-      λ e. idle_from_equal p b c v tb tc ((stands_where_read p b v tb).0 r)
+      λ e. idle_from_equal p b c v ((stands_where_read p b v tb).0 r)
           ((stands_where_read p c v tc).0 (s ∙ ap (λ (x : Value). ok x) (sym e))),
-      λ i. same_tag (read layout p b) v w r (equal_from_idle p b c tb tc i ∙ s),
+      λ i. same_tag (read layout p b) v w r (equal_from_idle p b c i ∙ s),
     );
-    reads_normal = λ b p v tb r. let x = (stands_where_read p b v tb).0 r in (x.3, x.4);
+    reads_normal = λ b p v tb r. let x = (stands_where_read p b v tb).0 r in (x.1, x.2);
     written_bytes = written_bytes;
     reads_back = λ p v tv n f. reads_back p v tv n;
   }

@@ -12,11 +12,16 @@ use Rattle.byteorder.specs.Numbers.{little_from-cons, big_from-cons, little_from
 use Rattle.byteorder.specs.Numbers.{big_from-take, little_from-lt, big_from-lt}
 use Rattle.byteorder.specs.Numbers.{little_number-reads_back, big_number-reads_back}
 use Rattle.byteorder.specs.Numbers.{length-bytes_low_first, length-bytes_high_first}
-use Rattle.netlink_core.specs.Table.{Order, little_endian, big_endian, number_in, bytes_in, masked}
+use Rattle.netlink_core.specs.Table.{Order, little_endian, big_endian, number_in, bytes_in}
 use Rattle.netlink_core.specs.Bytes.{IsBytes}
 use Rattle.netlink_core.specs.ByteLaws.{byte_at-lt, IsBytes-number}
 
 -- ---- a number fixes its bytes
+
+-- the bytes with the bits outside the masks taken off, as far as the masks go
+abbrev pub masked : List ℕ → List ℕ → List ℕ
+masked (mask ∷ masks) (one ∷ bytes) = bit_and one mask ∷ masked masks bytes
+masked _ _ = []
 
 little-same : (n : ℕ) (xs ys : List ℕ) → IsBytes xs → IsBytes ys → n ≤ length xs → n ≤ length ys
     → little_from 0 n xs ≡ little_from 0 n ys → take n xs ≡ take n ys

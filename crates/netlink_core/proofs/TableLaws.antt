@@ -17,14 +17,14 @@ use Rattle.std.specs.Prelude.{nat_lt}
 use Rattle.byteorder.specs.Numbers.{length-bytes_low_first}
 use Rattle.byteorder.specs.Endian.{little_number, little_bytes}
 use Rattle.netlink_core.specs.Table.{Order, little_endian, Field, byte, number, flags, unread}
-use Rattle.netlink_core.specs.Table.{number_in, bytes_in, values_of, bytes_of, live_bits, masked}
+use Rattle.netlink_core.specs.Table.{number_in, bytes_in, values_of, bytes_of}
 use Rattle.netlink_core.specs.Table.{Fit, AreDefined}
 use Rattle.netlink_core.specs.SoundLaws.{is_table, offset_of, width_of, is_written}
 use Rattle.netlink_core.specs.Bytes.{IsBytes}
 use Rattle.netlink_core.specs.PrefixLaws.{same_parts}
 use Rattle.netlink_core.specs.ByteLaws.{IsBytes-append}
 use Rattle.netlink_core.proofs.Numbers.{number-same, number-take, number-fits, number-reads_back}
-use Rattle.netlink_core.proofs.Numbers.{length-bytes_in, bytes_in-bytes, masked-all, masked-none}
+use Rattle.netlink_core.proofs.Numbers.{length-bytes_in, bytes_in-bytes, masked, masked-all, masked-none}
 use Rattle.netlink_core.proofs.Numbers.{length-masked, masked-bytes, and_number}
 
 and_parts : (a b : Bool) → IsTrue (a && b) → IsTrue a × IsTrue b
@@ -208,6 +208,14 @@ values-cons : (field : Field) (fields : List Field) (b : List ℕ)
 values-cons field fields b = grind arith
 
 -- ---- equal values, and the same live bits
+
+-- the bits that are live: all of a number's, the mask's, none of what isn't read
+abbrev pub live_bits : List Field → List ℕ
+live_bits [] = []
+live_bits (byte offset ∷ fields) = 255 ∷ live_bits fields
+live_bits (number offset width order ∷ fields) = replicate width 255 ++ live_bits fields
+live_bits (flags offset width mask ∷ fields) = little_bytes width mask ++ live_bits fields
+live_bits (unread offset written ∷ fields) = replicate (length written) 0 ++ live_bits fields
 
 -- the live bits of one field
 abbrev live_in : Field → List ℕ

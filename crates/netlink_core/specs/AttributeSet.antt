@@ -1,7 +1,7 @@
 -- Sets of attributes: a list of attribute types, and what follows from it: what each attribute
 -- decodes to, which decode to the same, and what is written.
-use Rattle.std.specs.Prelude.{◌≡◌, ◌≢◌, ℕ, ◌⊎◌, ◌==◌, if◌then◌else◌, Bool, true, false, List, []}
-use Rattle.std.specs.Prelude.{◌∷◌, Option, Some, None, Result, Ok, ⊤}
+use Rattle.std.specs.Prelude.{◌≡◌, ◌≢◌, ℕ, ◌⊎◌, ◌==◌, if◌then◌else◌, cond, Bool, true, false}
+use Rattle.std.specs.Prelude.{List, [], ◌∷◌, Option, Some, None, Result, Ok, ⊤}
 use Rattle.std.proofs.Common.{inl, inr}
 use Rattle.netlink_core.specs.declared.fault.DecodeError.{DecodeError}
 use Rattle.netlink_core.specs.Attribute.{Attribute, IsAttributeInRange, attribute_type}
@@ -66,18 +66,13 @@ IsSpareBy (spec ∷ others) (inr v) = IsSpareBy others v
 
 -- ---- by the number of a type
 
--- the one or the other
-abbrev pub either : Bool → Type 0 → Type 0 → Type 0
-either true A B = A
-either false A B = B
-
 -- the values of the type with that number, or attributes where there is none
 abbrev pub ValueAt : AttributeSet → ℕ → Type 0
 ValueAt [] k = Attribute
-ValueAt (spec ∷ others) k = either (spec.number == k) spec.value.Value (ValueAt others k)
+ValueAt (spec ∷ others) k = cond (spec.number == k) spec.value.Value (ValueAt others k)
 
 -- a value of one of two, at its side
-abbrev pub put : {A B C : Type 0} → (t : Bool) → (B → C) → either t A B → A ⊎ C
+abbrev pub put : {A B C : Type 0} → (t : Bool) → (B → C) → cond t A B → A ⊎ C
 put true later x = inl x
 put false later x = inr (later x)
 
@@ -88,11 +83,10 @@ of_type [] k a = a
 of_type (spec ∷ others) k x = put (spec.number == k) (of_type others k) x
 
 -- what stands at that side, where it is there that something stands
-abbrev pub got : {A B C : Type 0} → (t : Bool) → (C → Option B) → A ⊎ C → Option (either t A B)
+abbrev pub got : {A B C : Type 0} → (t : Bool) → (C → Option B) → A ⊎ C → Option (cond t A B)
 got true later (inl x) = Some x
-got true later (inr v) = None
-got false later (inl x) = None
 got false later (inr v) = later v
+got t later v = None
 
 -- the value of the type with that number, where that is decoded
 abbrev pub content : (F : AttributeSet) → (k : ℕ) → AttributeValue F → Option (ValueAt F k)

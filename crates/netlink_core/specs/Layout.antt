@@ -1,6 +1,6 @@
 -- Layouts of records, by tables.
 use Rattle.std.specs.Prelude.{◌≡◌, ◌≤◌, ⊤, ℕ, nat_lt, if◌then◌else◌, List, length, Result, Ok, Err}
-use Rattle.netlink_core.specs.Table.{Field, values_of, bytes_of, live_bits, masked, Fit, AreDefined}
+use Rattle.netlink_core.specs.Table.{Field, values_of, bytes_of, Fit, AreDefined}
 use Rattle.netlink_core.specs.Faults.{map_ok}
 use Rattle.netlink_core.specs.declared.fault.DecodeError.{DecodeError}
 use Rattle.netlink_core.specs.declared.fault.DecodeError.TheVariants.{BufferTooSmall}
@@ -52,11 +52,15 @@ module _ {Param Tag Value : Type 0} (layout : Layout Param Tag Value) where
   abbrev pub bytes : Value → List ℕ
   bytes value = bytes_of (layout.table (layout.tag_of value)) (layout.values value)
 
-  -- both strings are long enough, have the same tag, and agree in its live bits
+  -- the string is long enough, has that tag, and these numbers in the fields that are read
+  abbrev pub HasFields : Param → List ℕ → Tag → List ℕ → Type 0
+  HasFields param b tag numbers = (layout.least ≤ length b) × (layout.tag_at param b ≡ Ok tag)
+      × (values_of (layout.table tag) b ≡ numbers)
+
+  -- both strings have the same tag, and the same numbers in the fields that are read
   abbrev pub AreIdle : Param → List ℕ → List ℕ → Type 0
-  AreIdle param b c = (layout.least ≤ length b) × (layout.least ≤ length c)
-      × (tag : Tag) × (layout.tag_at param b ≡ Ok tag) × (layout.tag_at param c ≡ Ok tag)
-      × (masked (live_bits (layout.table tag)) b ≡ masked (live_bits (layout.table tag)) c)
+  AreIdle param b c = (tag : Tag) × (numbers : List ℕ)
+      × HasFields param b tag numbers × HasFields param c tag numbers
 
   -- each number is within its type: the numbers fit their fields, and what else the shape asks
   pub record IsInRange (value : Value) : Type 0 where
@@ -68,8 +72,8 @@ module _ {Param Tag Value : Type 0} (layout : Layout Param Tag Value) where
     pub flags : AreDefined (layout.table (layout.tag_of value)) (layout.values value)
     pub own : layout.is_own param value
 
-  -- What belongs to a string, said without `value`: the string is long enough and has the tag of
-  -- the value, its numbers are those of the value, and the value is in range and in normal form.
+  -- What belongs to a string, said without `value`: the string has the tag and the numbers of the
+  -- value, and the value is in range and in normal form.
   abbrev pub StandsIn : List ℕ → Param → Value → Type 0
-  StandsIn b param value = (layout.least ≤ length b) × (layout.tag_at param b ≡ Ok (layout.tag_of value))
-      × (values_of (layout.table (layout.tag_of value)) b ≡ layout.values value) × IsInRange value × IsNormal param value
+  StandsIn b param value = HasFields param b (layout.tag_of value) (layout.values value)
+      × IsInRange value × IsNormal param value

@@ -52,19 +52,6 @@ bytes_of (number offset width order ∷ fields) (value ∷ values) = bytes_in or
 bytes_of (flags offset width mask ∷ fields) (value ∷ values) = little_bytes width value ++ bytes_of fields values
 bytes_of _ _ = []
 
--- the bits that are live: all of a number's, the mask's, none of what isn't read
-abbrev pub live_bits : List Field → List ℕ
-live_bits [] = []
-live_bits (byte offset ∷ fields) = 255 ∷ live_bits fields
-live_bits (number offset width order ∷ fields) = replicate width 255 ++ live_bits fields
-live_bits (flags offset width mask ∷ fields) = little_bytes width mask ++ live_bits fields
-live_bits (unread offset written ∷ fields) = replicate (length written) 0 ++ live_bits fields
-
--- the bytes with the bits outside the masks taken off, as far as the masks go
-abbrev pub masked : List ℕ → List ℕ → List ℕ
-masked (mask ∷ masks) (one ∷ bytes) = bit_and one mask ∷ masked masks bytes
-masked _ _ = []
-
 -- the first so many numbers of a list, with zeros where it has fewer
 abbrev pub first : ℕ → List ℕ → List ℕ
 first zero xs = []
