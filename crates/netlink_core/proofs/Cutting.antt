@@ -2,8 +2,8 @@
 use Rattle.std.proofs.lemmas.Grind.{common_steps}
 use Rattle.std.proofs.Common.{◌<◌, Option, Some, None}
 use Rattle.std.proofs.Common.{Result, Ok, ◌≡◌, ◌≢◌, ℕ, ◌+◌, ◌⊎◌, inl, inr}
-use Rattle.std.proofs.Common.{List, [], ◌∷◌, ◌++◌, length, drop, refl, sym, ap, ◌∙◌}
-use Rattle.std.proofs.Common.{append_assoc, arith}
+use Rattle.std.proofs.Common.{List, [], ◌∷◌, ◌++◌, length, drop, replicate, refl, sym, ap, ◌∙◌}
+use Rattle.std.proofs.Common.{append_assoc, append-nil, arith, subst}
 use Rattle.std.specs.Prelude.{IsOk}
 use Rattle.std.proofs.lemmas.List.{length-append, length-replicate, length-drop}
 use Rattle.std.specs.List.{AllZip, AllByRecursion, flat_map}
@@ -11,7 +11,7 @@ use Rattle.netlink_core.specs.declared.fault.DecodeError.{DecodeError}
 use Rattle.netlink_core.specs.Bytes.{IsBytes}
 use Rattle.netlink_core.specs.Attribute.{CutOff}
 use Rattle.netlink_core.specs.Attribute.{Attribute, IsAttributeInRange, FitsWords, fill, unpadded}
-use Rattle.netlink_core.specs.Attribute.{written, StartsWith, Cut, CutInFull, IsPrefixFault}
+use Rattle.netlink_core.specs.Attribute.{written, StartsWith, Cut, IsPrefixFault}
 use Rattle.netlink_core.specs.Attribute.{AttributesMean, AttributeFault}
 use Rattle.netlink_core.specs.ByteLaws.{IsBytes-nil, IsBytes-right}
 use Rattle.netlink_core.specs.PrefixLaws.{same_parts, one_prefix, written_in_range, word_is}
@@ -39,7 +39,8 @@ one_start bytes rest after a b s t =
     (heads.0, one_rest _ s.padding t.padding rest after s.filled (rw heads.0 t.filled) heads.1)
 
 -- bytes are cut into one list at most
-pub one_cut : (bytes : List ℕ) (xs ys : List Attribute) → Cut bytes xs → Cut bytes ys → xs ≡ ys
+pub one_cut : (bytes : List ℕ) (xs ys : List Attribute) → Cut bytes xs [] → Cut bytes ys []
+    → xs ≡ ys
 one_cut bytes [] [] h k = refl
 one_cut bytes (x ∷ xs) (y ∷ ys) h k =
     grind (arith, one_start bytes h.0 k.0 x y h.1 k.1, one_cut h.0 xs ys h.2)
@@ -47,18 +48,26 @@ one_cut bytes xs ys h k = grind arith
 
 -- ---- what was written is cut
 
--- a cut with all padding there is a cut
-pub full_is_cut : (bytes : List ℕ) (xs : List Attribute) → CutInFull bytes xs → Cut bytes xs
-full_is_cut bytes [] h = h
-full_is_cut bytes (x ∷ xs) h =
-    grind (arith, full_is_cut h.1 xs h.5)
+-- written attributes are cut into themselves, whatever follows
+pub written_is_cut : (xs : List Attribute) → AllByRecursion FitsWords xs → (rest : List ℕ)
+    → Cut (flat_map written xs ++ rest) xs rest
+written_is_cut [] fits rest = refl
+written_is_cut (x ∷ xs) fits rest = (
+  flat_map written xs ++ rest,
+  record {
+    padding = replicate (fill (length x.value)) 0;
+    parts = simp append_assoc refl;
+    fits = fits.0;
+    filled = inl (length-replicate _ 0);
+  },
+  written_is_cut xs fits.1 rest,
+)
 
--- written attributes are cut into themselves
-pub written_is_cut : (xs : List Attribute) → AllByRecursion FitsWords xs
-    → CutInFull (flat_map written xs) xs
-written_is_cut [] fits = refl
-written_is_cut (x ∷ xs) fits =
-    (_, _, append_assoc (unpadded x) _ _, fits.0, length-replicate _ 0, written_is_cut xs fits.1)
+-- also where nothing follows
+pub all_written_is_cut : (xs : List Attribute) → AllByRecursion FitsWords xs
+    → Cut (flat_map written xs) xs []
+all_written_is_cut xs fits =
+    subst (λ (b : List ℕ). Cut b xs []) (append-nil (flat_map written xs)) (written_is_cut xs fits [])
 
 -- ---- attributes in bytes are in range
 
@@ -70,7 +79,7 @@ all_written_in_range (x ∷ xs) in_range =
     grind (arith, common_steps, written_in_range, all_written_in_range xs in_range.1)
 
 -- the attributes that bytes are cut into
-pub cut_in_range : (bytes : List ℕ) (xs : List Attribute) → IsBytes bytes → Cut bytes xs
+pub cut_in_range : (bytes : List ℕ) (xs : List Attribute) → IsBytes bytes → Cut bytes xs []
     → AllByRecursion IsAttributeInRange xs
 cut_in_range bytes [] in_range h = tt
 cut_in_range bytes (x ∷ xs) in_range h = (
@@ -89,7 +98,7 @@ module _ {A : Type 0} (reads : Attribute → Result A DecodeError) where
   Passes bytes (a ∷ later) end = (rest : List ℕ) × StartsWith bytes a rest × IsOk (reads a)
       × Passes rest later end
 
-  means_passes : (bytes : List ℕ) (xs : List Attribute) (values : List A) → Cut bytes xs
+  means_passes : (bytes : List ℕ) (xs : List Attribute) (values : List A) → Cut bytes xs []
       → AllZip (λ a value. reads a ≡ Ok value) xs values → Passes bytes xs None
   means_passes bytes (x ∷ xs) (v ∷ values) h k =
       grind (arith, means_passes h.0 xs values h.2 k.1)
@@ -98,9 +107,9 @@ module _ {A : Type 0} (reads : Attribute → Result A DecodeError) where
   fault_passes : (bytes : List ℕ) (xs : List Attribute) (e : DecodeError)
       → CutOff (IsPrefixFault reads) bytes xs e → AllByRecursion (λ a. IsOk (reads a)) xs
       → Passes bytes xs (Some e)
-  fault_passes bytes [] e (before, after, parts, h, left, fault) good = rw (parts, h) (left, fault)
-  fault_passes bytes (a ∷ xs) e (before, after, parts, h, left, fault) good =
-      grind (arith, append_assoc, fault_passes (h.1 ++ after) xs e)
+  fault_passes bytes [] e (rest, cut, left, fault) good = rw cut (left, fault)
+  fault_passes bytes (a ∷ xs) e (rest, (later, start, cut), left, fault) good =
+      (later, start, good.0, fault_passes later xs e (rest, cut, left, fault) good.1)
 
   -- no end is where an attribute can be read
   not_ended : (bytes rest : List ℕ) (a : Attribute) (end : Option DecodeError)
@@ -177,6 +186,5 @@ module _ {A : Type 0} (reads : Attribute → Result A DecodeError) where
   written_values_are_read xs values fits h =
       grind (
         arith,
-        full_is_cut (flat_map written xs) xs (written_is_cut xs fits),
-        written_is_cut xs,
+        all_written_is_cut xs fits,
       )

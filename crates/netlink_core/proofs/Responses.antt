@@ -65,7 +65,7 @@ module _ (R : ResponseSpec) (laws : ResponseLaws R) where
   open R use {attribute_set as F}
 
   -- the attributes behind the header are in range
-  behind_in_range : (b : List ℕ) (xs : List Attribute) → IsBytes b → Cut (drop R.size b) xs
+  behind_in_range : (b : List ℕ) (xs : List Attribute) → IsBytes b → Cut (drop R.size b) xs []
       → AllByRecursion IsAttributeInRange xs
   behind_in_range b xs in_range = cut_in_range (drop R.size b) xs (AreBytes-drop R.size b in_range)
 

@@ -5,9 +5,9 @@ use Rattle.netlink_core.specs.Attribute.{Attribute, Cut, FitsWords, fill, unpadd
 use Rattle.netlink_core.proofs.Cutting.{one_cut}
 
 -- a cut into an attribute and others is one with its endings apart, and the other way round
-pub endings_apart : (bytes : List ℕ) (x : Attribute) (xs : List Attribute) → Cut bytes (x ∷ xs)
+pub endings_apart : (bytes : List ℕ) (x : Attribute) (xs : List Attribute) → Cut bytes (x ∷ xs) []
     ↔ ((padding rest : List ℕ) × (bytes ≡ unpadded x ++ (padding ++ rest)) × FitsWords x
-    × (((length padding ≡ fill (length x.value)) × Cut rest xs)
+    × (((length padding ≡ fill (length x.value)) × Cut rest xs [])
     ⊎ ((length padding < fill (length x.value)) × (rest ≡ []) × (xs ≡ []))))
 endings_apart bytes x xs = (
   λ h. (h.1.padding, h.0, h.1.parts, h.1.fits, grind (arith, one_cut h.0 xs [])),

@@ -20,19 +20,8 @@ prefix_of_start bytes rest a s = (s.padding ++ rest, s.parts, s.fits)
 pub cut_off_behind : (faulty : List ℕ → DecodeError → Type 0) (bytes rest : List ℕ) (a : Attribute)
     (given : List Attribute) (e : DecodeError)
     → StartsWith bytes a rest → CutOff faulty rest given e → CutOff faulty bytes (a ∷ given) e
-cut_off_behind faulty bytes rest a given e s (before, after, parts, cut, left, fault) =
-    elim s.filled [
-      | inl full ↦ (
-        unpadded a ++ (s.padding ++ before),
-        after,
-        rw (s.parts, parts) (simp append_assoc),
-        (s.padding, before, refl, s.fits, full, cut),
-        left,
-        fault,
-      )
-      | inr short ↦ absurd (left (nil_from_length after
-          (omega (arith, simp length-append at (ap length (sym parts ∙ short.1))))))
-    ]
+cut_off_behind faulty bytes rest a given e s (left, cut, some, fault) =
+    (left, (rest, s, cut), some, fault)
 
 module _ {A : Type 0} (reads : Attribute → Result A DecodeError) where
   -- What was read goes on with whatever is read from the rest, and a fault of the rest is one of
@@ -71,7 +60,7 @@ module _ {A : Type 0} (reads : Attribute → Result A DecodeError) where
   -- a fault where it stands is the fault of the bytes
   pub fault_here : (rest : List ℕ) (e : DecodeError) → rest ≢ [] → IsPrefixFault reads rest e
       → AttributeFault reads rest e
-  fault_here rest e some f = ([], ([], rest, refl, refl, some, f), tt)
+  fault_here rest e some f = ([], (rest, refl, some, f), tt)
 
   -- a fault of the framing, or of a value, is the fault of the bytes
   pub walk_is_cut_off : (bytes rest : List ℕ) (so_far : List A) (e : DecodeError)

@@ -15,7 +15,7 @@ abbrev pub found : {B : Type 0} → List B → List (Result B DecodeError)
 found given = map (λ item. Ok item) given
 
 pub whole_walk : (walk : NlasIterator) (given : List NlaBuffer)
-    → Drains GivesAttribute walk (found given) → Cut (bytes_left walk) (map attribute_of given)
+    → Drains GivesAttribute walk (found given) → Cut (bytes_left walk) (map attribute_of given) []
 whole_walk walk [] h = rw h.1.1 h.1.2.0
 whole_walk walk (g ∷ given) h =
     grind (arith, whole_walk h.1.1.0 given (h.0, (h.1.0, h.1.1.2, h.1.2)))

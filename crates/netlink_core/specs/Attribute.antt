@@ -58,15 +58,10 @@ pub record StartsWith (bytes : List ℕ) (a : Attribute) (rest : List ℕ) : Typ
   pub fits : FitsWords a
   pub filled : (length padding ≡ fill (length a.value)) ⊎ ((length padding < fill (length a.value)) × (rest ≡ []))
 
--- the bytes are cut into these attributes
-abbrev pub Cut : List ℕ → List Attribute → Type 0
-Cut bytes [] = bytes ≡ []
-Cut bytes (a ∷ later) = (rest : List ℕ) × StartsWith bytes a rest × Cut rest later
-
--- the same, with all padding there
-abbrev pub CutInFull : List ℕ → List Attribute → Type 0
-CutInFull bytes [] = bytes ≡ []
-CutInFull bytes (a ∷ later) = (padding rest : List ℕ) × (bytes ≡ unpadded a ++ (padding ++ rest)) × FitsWords a × (length padding ≡ fill (length a.value)) × CutInFull rest later
+-- the bytes are these attributes, one after the other, and then the rest
+abbrev pub Cut : List ℕ → List Attribute → List ℕ → Type 0
+Cut bytes [] rest = bytes ≡ rest
+Cut bytes (a ∷ later) rest = (left : List ℕ) × StartsWith bytes a left × Cut left later rest
 
 -- No attribute stands at the start of the bytes, and why. Of several faults it is the first.
 abbrev pub IsFramingFault : List ℕ → DecodeError → Type 0
@@ -75,16 +70,16 @@ IsFramingFault bytes (AttributeLengthUnder4 word) = (word ≡ little_number 2 by
 IsFramingFault bytes (AttributeLengthPast word left) = (word ≡ little_number 2 bytes) × (left ≡ length bytes) × (4 ≤ length bytes) × (4 ≤ word) × (length bytes < word)
 IsFramingFault bytes _ = ⊥
 
--- Attributes come first, with all their padding. Then bytes are left, and there the fault is.
+-- attributes come first; then bytes are left, and there the fault is
 abbrev pub CutOff : (List ℕ → DecodeError → Type 0) → List ℕ → List Attribute → DecodeError → Type 0
-CutOff faulty bytes given e = (before after : List ℕ)
-    × (bytes ≡ before ++ after) × CutInFull before given × (after ≢ []) × faulty after e
+CutOff faulty bytes given e = (rest : List ℕ) × Cut bytes given rest × (rest ≢ []) × faulty rest e
 
 -- What a reader makes of each attribute: a value, or the reason that it is refused.
 module _ {A : Type 0} (reads : Attribute → Result A DecodeError) where
   -- the bytes are cut into attributes, and these are what is read from them, in order
   abbrev pub AttributesMean : List ℕ → List A → Type 0
-  AttributesMean bytes values = (attributes : List Attribute) × Cut bytes attributes × AllZip (λ a value. reads a ≡ Ok value) attributes values
+  AttributesMean bytes values = (attributes : List Attribute) × Cut bytes attributes []
+      × AllZip (λ a value. reads a ≡ Ok value) attributes values
 
   -- the first fault that applies at the start of the bytes
   abbrev pub IsPrefixFault : List ℕ → DecodeError → Type 0
@@ -92,4 +87,5 @@ module _ {A : Type 0} (reads : Attribute → Result A DecodeError) where
 
   -- the first fault stands behind attributes that can be read
   abbrev pub AttributeFault : List ℕ → DecodeError → Type 0
-  AttributeFault bytes e = (attributes : List Attribute) × CutOff IsPrefixFault bytes attributes e × AllByRecursion (λ a. IsOk (reads a)) attributes
+  AttributeFault bytes e = (attributes : List Attribute)
+      × CutOff IsPrefixFault bytes attributes e × AllByRecursion (λ a. IsOk (reads a)) attributes

@@ -1,5 +1,5 @@
 -- Replies: a header, and then attributes of one set.
-use Rattle.std.specs.Prelude.{◌≡◌, ℕ, ◌≤◌, ◌⊎◌, List, ◌++◌, length, drop, map, Ok, Err}
+use Rattle.std.specs.Prelude.{◌≡◌, ℕ, ◌≤◌, ◌⊎◌, List, [], ◌++◌, length, drop, map, Ok, Err}
 use Rattle.std.specs.List.{AllByRecursion, AllZip, flat_map}
 use Rattle.netlink_core.specs.Attribute.{Attribute, HasFittingValue, Cut, AttributesMean}
 use Rattle.netlink_core.specs.Attribute.{AttributeFault, written}
@@ -44,7 +44,8 @@ response_codec R = record {
   is_spare = λ v. (length v.nlas ≤ 8) × AllByRecursion (IsSpareBy R.attribute_set) v.nlas;
   -- the headers are idle, and both are cut into as many attributes, which are idle at each place
   idle = λ p b c. R.header.idle p b c × (left right : List Attribute)
-      × Cut (drop R.size b) left × Cut (drop R.size c) right × AllZip (AreIdleAttributes R.attribute_set) left right;
+      × Cut (drop R.size b) left [] × Cut (drop R.size c) right []
+      × AllZip (AreIdleAttributes R.attribute_set) left right;
   is_normal = λ p v. R.header.is_normal p v.header
       × AllByRecursion (IsNormalBy R.attribute_set) v.nlas;
   written = response_bytes R;

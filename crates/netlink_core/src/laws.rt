@@ -7,7 +7,7 @@ ghost use Rattle.std.specs.Prelude.{false};
 ghost use Rattle.std.specs.Borrow.{Bor};
 ghost use Rattle.std.specs.Iterator.{Drains, YieldsThen};
 ghost use Rattle.std.specs.List.{AllByRecursion, flat_map};
-ghost use Rattle.netlink_core.specs.Attribute.{Attribute, FitsWords, Cut, CutInFull, CutOff};
+ghost use Rattle.netlink_core.specs.Attribute.{Attribute, FitsWords, Cut, CutOff};
 ghost use Rattle.netlink_core.specs.Attribute.{IsFramingFault, fill, unpadded, written};
 ghost use Rattle.netlink_core.specs.Layout.{read, StandsIn};
 ghost use Rattle.netlink_core.specs.Bytes.{IsBytes};
@@ -44,24 +44,25 @@ use std::alloc::AllocError;
 /// and others where it begins with that one, and then either its padding is whole and the rest is
 /// cut into the others, or its padding is short and nothing follows.
 pub fn cut_is_as_stated()
-    ensures none { (bytes : List ℕ) → Cut bytes [] ↔ (bytes ≡ []) }
+    ensures none { (bytes : List ℕ) → Cut bytes [] [] ↔ (bytes ≡ []) }
     ensures some { (bytes : List ℕ) (a : Attribute) (later : List Attribute)
-        → Cut bytes (a ∷ later) ↔ ((padding rest : List ℕ)
+        → Cut bytes (a ∷ later) [] ↔ ((padding rest : List ℕ)
         × (bytes ≡ unpadded a ++ (padding ++ rest)) × FitsWords a
-        × (((length padding ≡ fill (length a.value)) × Cut rest later)
+        × (((length padding ≡ fill (length a.value)) × Cut rest later [])
         ⊎ ((length padding < fill (length a.value)) × (rest ≡ []) × (later ≡ [])))) }
 {}
 
 /// A string is cut into at most one list of attributes.
 pub fn one_list_of_attributes()
-    ensures { (bytes : List ℕ) (xs ys : List Attribute) → Cut bytes xs → Cut bytes ys → xs ≡ ys }
+    ensures { (bytes : List ℕ) (xs ys : List Attribute) → Cut bytes xs [] → Cut bytes ys []
+        → xs ≡ ys }
 {}
 
-/// The written bytes of attributes that fit their words are cut into those attributes, with all
-/// padding there.
+/// The written bytes of attributes that fit their words are cut into those attributes, whatever
+/// follows: so all padding is there.
 pub fn written_attributes_are_cut()
     ensures { (xs : List Attribute) → AllByRecursion FitsWords xs
-        → CutInFull (flat_map written xs) xs × Cut (flat_map written xs) xs }
+        → (rest : List ℕ) → Cut (flat_map written xs ++ rest) xs rest }
 {}
 
 /// A record is read exactly where it stands: a string that is long enough, has the tag of the value
@@ -91,7 +92,7 @@ pub fn attributes_take_memory() -> bool
 pub fn whole_walk_is_the_cut()
     ensures ended { (walk : NlasIterator) (given : List NlaBuffer)
         → Drains GivesAttribute walk (map (λ (b : NlaBuffer). Ok b) given)
-        → Cut (bytes_left walk) (map attribute_of given) }
+        → Cut (bytes_left walk) (map attribute_of given) [] }
     ensures fault { (walk last : NlasIterator) (given : List NlaBuffer) (e : DecodeError)
         → YieldsThen GivesAttribute walk (map (λ (b : NlaBuffer). Ok b) given) (Some (Err e)) last
         → CutOff IsFramingFault (bytes_left walk) (map attribute_of given) e

@@ -39,21 +39,19 @@ same_length (x ∷ xs) (y ∷ ys) h = ap (λ (n : ℕ). suc n) (same_length xs y
 
 -- where nothing is left all were counted
 pub count_ends : (bytes rest : List ℕ) (count : ℕ) → Counted bytes rest count → rest ≡ []
-    → (xs : List Attribute) × Cut bytes xs × (length xs ≡ count)
+    → (xs : List Attribute) × Cut bytes xs [] × (length xs ≡ count)
 count_ends bytes rest count c none =
     let all = walk_ends itself bytes rest c.so_far c.walk none in
     (all.0, all.1, same_length all.0 c.so_far all.2 ∙ c.many)
 
 framing_fault : (bytes : List ℕ) (e : DecodeError) → AttributeFault itself bytes e
     → (xs : List Attribute) × CutOff IsFramingFault bytes xs e
-framing_fault bytes e (xs, (before, after, parts, cut, left, fault), good) = (
+framing_fault bytes e (xs, (rest, cut, some, fault), good) = (
   xs,
   (
-    before,
-    after,
-    parts,
+    rest,
     cut,
-    left,
+    some,
     elim fault [
       | inl framing ↦ framing
       | inr refused ↦

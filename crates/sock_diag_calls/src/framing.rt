@@ -10,7 +10,7 @@ use netlink_core::{DecodeError, NlasIterator};
 #[tactic(auto, using(crate::proofs::Counted::counting))]
 pub fn count_attributes(bytes: &[u8]) -> Result<usize, DecodeError>
     ensures count { IfOk result (λ count. (attributes : List Attribute)
-        × Cut bytes.now attributes × (length attributes ≡ count)) }
+        × Cut bytes.now attributes [] × (length attributes ≡ count)) }
     ensures fault { IfErr result (λ fault. (before : List Attribute)
         × CutOff IsFramingFault bytes.now before fault) }
 {

@@ -49,6 +49,6 @@ GivesLeniently F view_model old given new =
 -- refused, in order, and last the fault of the framing, where there is one.
 abbrev pub ItemsAre : (F : AttributeSet) → List ℕ → List (Result (AttributeValue F) Refusal) → Type 0
 ItemsAre F bytes items = (attributes : List Attribute) × (
-    (Cut bytes attributes × (items ≡ map (item_of F) attributes))
+    (Cut bytes attributes [] × (items ≡ map (item_of F) attributes))
     ⊎ ((e : DecodeError) × CutOff IsFramingFault bytes attributes e
     × (items ≡ map (item_of F) attributes ++ Err (record { attribute = None; fault = e }) ∷ [])))

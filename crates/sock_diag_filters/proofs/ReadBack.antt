@@ -14,7 +14,7 @@ use Rattle.netlink_core.specs.declared.header.NetlinkHeader.{NetlinkHeader}
 use Rattle.netlink_core.specs.Layout.{bytes, read}
 use Rattle.netlink_core.specs.Header.{HasHeader, IsEnvelopeFault, header_bytes}
 use Rattle.netlink_core.specs.Table.{little_endian}
-use Rattle.netlink_core.proofs.Cutting.{full_is_cut, means_or_fault_apart, one_cut, written_is_cut}
+use Rattle.netlink_core.proofs.Cutting.{all_written_is_cut, means_or_fault_apart, one_cut}
 use Rattle.netlink_core.proofs.Cutting.{written_values_are_read}
 use Rattle.netlink_core.proofs.Datagrams.{one_cut_into_messages}
 use Rattle.netlink_core.proofs.Headers.{header_length, header_stands, one_header}
@@ -152,10 +152,10 @@ module _ (h : NetlinkHeader) (request : InetRequest) (attributes : List RequestA
       let same = one_header message view.header header asks.framed stands.0 in
       let asked : view.request ≡ request =
       same_request view.request request (sym asks.asked ∙ reads_as view.header same) in
-      let cut = subst (λ (b : List ℕ). Cut b asks.means.0) (is_behind view.header same)
+      let cut = subst (λ (b : List ℕ). Cut b asks.means.0 []) (is_behind view.header same)
       asks.means.1 in
       let one = one_cut behind asks.means.0 all cut
-      (full_is_cut behind all (written_is_cut all (fit_words attributes can.fit))) in
+      (all_written_is_cut all (fit_words attributes can.fit)) in
       let decoded = asked_once all asks.decoded (map asked_of attributes)
       (subst (λ (l : List Attribute). AllZip (λ a t. decodes_asked a ≡ Ok t) l asks.decoded) one
       asks.means.2)

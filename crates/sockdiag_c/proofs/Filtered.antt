@@ -19,7 +19,7 @@ abbrev pub itself : Attribute → Result Attribute DecodeError
 itself a = Ok a
 
 pub are_whole : (bytes : List ℕ) (values : List Attribute) → AttributesMean itself bytes values
-    → (given : List Attribute) × Cut bytes given
+    → (given : List Attribute) × Cut bytes given []
 are_whole bytes values means = (means.0, means.1)
 
 -- so each fault is one of the framing

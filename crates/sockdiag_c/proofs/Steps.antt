@@ -94,8 +94,8 @@ kept_is_carried payload t (inr (inr (inr four))) = inl (refl, (overrun_with payl
 -- a step tells the first attribute
 pub step_at_attribute : (bytes : List ℕ) (old new : Cursor) (was now : AttributePart) (answer : ℕ)
     (first : Attribute) (later : List Attribute)
-    → Cut (left_of bytes old) (first ∷ later) → NextAttribute bytes old new was now answer
-    → (answer ≡ 1) × (attribute_in bytes now ≡ first) × Cut (left_of bytes new) later
+    → Cut (left_of bytes old) (first ∷ later) [] → NextAttribute bytes old new was now answer
+    → (answer ≡ 1) × (attribute_in bytes now ≡ first) × Cut (left_of bytes new) later []
 step_at_attribute bytes old new was now answer first later h k =
     grind (
       arith,
@@ -107,6 +107,6 @@ step_at_attribute bytes old new was now answer first later h k =
 
 -- where none is left, the walk ends
 pub step_at_end : (bytes : List ℕ) (old new : Cursor) (was now : AttributePart) (answer : ℕ)
-    → Cut (left_of bytes old) [] → NextAttribute bytes old new was now answer → answer ≡ 0
+    → Cut (left_of bytes old) [] [] → NextAttribute bytes old new was now answer → answer ≡ 0
 step_at_end bytes old new was now answer none h =
     grind arith

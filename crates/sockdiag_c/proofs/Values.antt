@@ -5,7 +5,7 @@ use Rattle.std.proofs.Common.{Option, rules, append_assoc}
 use Rattle.std.proofs.Common.{◌+◌, ◌-◌, ◌++◌, length, take, replicate, min, inl, inr, arith}
 use Rattle.std.proofs.lemmas.Bool.{cases_lt, ne_eqb}
 use Rattle.std.proofs.lemmas.List.{take_all}
-use Rattle.netlink_core.specs.Attribute.{Attribute, CutInFull, IsFramingFault, StartsWith}
+use Rattle.netlink_core.specs.Attribute.{Attribute, IsFramingFault, StartsWith}
 use Rattle.netlink_core.specs.Attribute.{attribute_type}
 use Rattle.netlink_core.specs.Attribute.{unpadded}
 use Rattle.netlink_core.specs.declared.fault.DecodeError.{DecodeError}
@@ -23,22 +23,12 @@ filled_is n value found left is all =
 
 -- ---- the attributes that stand in bytes
 
--- the first of the attributes in front of a fault begins all the bytes
-front_start : (before left : List ℕ) (a : Attribute) (more : List Attribute)
-    (h : CutInFull before (a ∷ more)) → StartsWith (before ++ left) a (h.1 ++ left)
-front_start before left a more h =
-    grind (arith, append_assoc (unpadded a) (h.0 ++ h.1) left, append_assoc h.0 h.1 left)
-
 -- the first begins the bytes, and the others stand behind it
 first_stands : (bytes : List ℕ) (a : Attribute) (more : List Attribute) → StandIn bytes (a ∷ more)
     → (rest : List ℕ) × StartsWith bytes a rest × StandIn rest more
 first_stands bytes a more (inl cut) = (cut.0, cut.1, inl cut.2)
-first_stands bytes a more (inr (e, off)) =
-    let start = front_start off.0 off.1 a more off.3 in (
-      off.3.1 ++ off.1,
-      subst (λ (b : List ℕ). StartsWith b a (off.3.1 ++ off.1)) (sym off.2) start,
-      inr (e, (off.3.1, off.1, refl, off.3.5, off.4, off.5)),
-    )
+first_stands bytes a more (inr (e, (left, cut, some, fault))) =
+    (cut.0, cut.1, inr (e, (left, cut.2, some, fault)))
 
 -- where an attribute begins the bytes, it is the first of them
 stands_first : (bytes rest : List ℕ) (a : Attribute) → StartsWith bytes a rest

@@ -7,7 +7,7 @@ use Rattle.netlink_core.specs.declared.fault.DecodeError.{DecodeError}
 -- the attributes that stand in bytes, up to their end or to a fault of the framing
 abbrev pub StandIn : List ℕ → List Attribute → Type 0
 StandIn bytes attributes =
-    Cut bytes attributes ⊎ ((e : DecodeError) × CutOff IsFramingFault bytes attributes e)
+    Cut bytes attributes [] ⊎ ((e : DecodeError) × CutOff IsFramingFault bytes attributes e)
 
 -- the value of an attribute of the type
 abbrev pub value_of : ℕ → Attribute → Option (List ℕ)

@@ -29,7 +29,7 @@ pub extern "C" fn sockdiag_write_inet_request_with_attributes(
     buffer: &mut [u8],
     outcome: &mut Outcome,
 ) -> usize
-    ensures { Rewrites (Cut attributes.now) (AreCutOff attributes.now)
+    ensures { Rewrites (λ given. Cut attributes.now given []) (AreCutOff attributes.now)
         (λ _. HasRoomForLength request.now attributes.now)
         (λ _. filtered_message request.now attributes.now)
         buffer.old buffer.new outcome.new result }
@@ -49,7 +49,7 @@ pub extern "C" fn sockdiag_write_inet_request_with_attributes(
 
 // Whether the bytes are cut into attributes, or the first fault of their framing.
 fn check_framing(bytes: &[u8]) -> Result<(), DecodeError>
-    ensures whole { OnOk result ((given : List Attribute) × Cut bytes.now given) }
+    ensures whole { OnOk result ((given : List Attribute) × Cut bytes.now given []) }
     ensures fault { IfErr result (AreCutOff bytes.now) }
 {
     for item in NlasIterator::new(bytes) {

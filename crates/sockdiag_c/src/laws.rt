@@ -18,10 +18,10 @@ ghost use Rattle.sockdiag_c.specs.Walks.{left_of};
 pub fn a_step_passes_the_first_attribute()
     ensures next { (bytes : List ℕ) (old new : Cursor) (was now : AttributePart) (answer : ℕ)
         (first : Attribute) (later : List Attribute)
-        → Cut (left_of bytes old) (first ∷ later) → NextAttribute bytes old new was now answer
-        → (answer ≡ 1) × (attribute_in bytes now ≡ first) × Cut (left_of bytes new) later }
+        → Cut (left_of bytes old) (first ∷ later) [] → NextAttribute bytes old new was now answer
+        → (answer ≡ 1) × (attribute_in bytes now ≡ first) × Cut (left_of bytes new) later [] }
     ensures end { (bytes : List ℕ) (old new : Cursor) (was now : AttributePart) (answer : ℕ)
-        → Cut (left_of bytes old) [] → NextAttribute bytes old new was now answer → answer ≡ 0 }
+        → Cut (left_of bytes old) [] [] → NextAttribute bytes old new was now answer → answer ≡ 0 }
 {}
 
 /// Where what is left is cut into messages, a step tells the first of them and leaves what the
