@@ -10,11 +10,11 @@ use Rattle.std.specs.List.{AllZip, AllByRecursion, flat_map}
 use Rattle.netlink_core.specs.declared.fault.DecodeError.{DecodeError}
 use Rattle.netlink_core.specs.Bytes.{IsBytes}
 use Rattle.netlink_core.specs.Attribute.{CutOff}
-use Rattle.netlink_core.specs.Attribute.{Attribute, IsAttributeInRange, FitsWords, fill, unpadded}
+use Rattle.netlink_core.specs.Attribute.{Attribute, FitsWords, fill, unpadded}
 use Rattle.netlink_core.specs.Attribute.{written, StartsWith, Cut, IsPrefixFault}
 use Rattle.netlink_core.specs.Attribute.{AttributesMean, AttributeFault}
 use Rattle.netlink_core.specs.ByteLaws.{IsBytes-nil, IsBytes-right}
-use Rattle.netlink_core.specs.PrefixLaws.{same_parts, one_prefix, written_in_range, word_is}
+use Rattle.netlink_core.specs.PrefixLaws.{IsAttributeInRange, same_parts, one_prefix, written_in_range, word_is}
 use Rattle.netlink_core.specs.PrefixLaws.{prefix_or_fault_apart, prefix_or_fault, value_or_reason}
 use Rattle.netlink_core.specs.PrefixLaws.{one_prefix_fault, one_attribute, prefix_in_range}
 use Rattle.netlink_core.proofs.TableLaws.{AreBytes-drop}

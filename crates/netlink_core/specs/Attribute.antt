@@ -18,10 +18,6 @@ pub record Attribute : Type 0 where
 abbrev pub attribute_type : Attribute → ℕ
 attribute_type a = bit_and a.type_word 0x3fff
 
--- a type word of 16 bits, and a value of bytes
-abbrev pub IsAttributeInRange : Attribute → Type 0
-IsAttributeInRange a = (a.type_word < 2 ^ 16) × IsBytes a.value
-
 -- a type word of 16 bits, and a value whose length word is one of 16 bits
 abbrev pub FitsWords : Attribute → Type 0
 FitsWords a = (a.type_word < 2 ^ 16) × (length a.value ≤ 65531)

@@ -1,10 +1,11 @@
 -- Sets of attributes: a list of attribute types, and what follows from it: what each attribute
 -- decodes to, which decode to the same, and what is written.
 use Rattle.std.specs.Prelude.{◌≡◌, ◌≢◌, ℕ, ◌⊎◌, ◌==◌, if◌then◌else◌, cond, Bool, true, false}
-use Rattle.std.specs.Prelude.{List, [], ◌∷◌, Option, Some, None, Result, Ok, ⊤}
+use Rattle.std.specs.Prelude.{◌<◌, ◌^◌, List, [], ◌∷◌, Option, Some, None, Result, Ok, ⊤}
 use Rattle.std.proofs.Common.{inl, inr}
 use Rattle.netlink_core.specs.declared.fault.DecodeError.{DecodeError}
-use Rattle.netlink_core.specs.Attribute.{Attribute, IsAttributeInRange, attribute_type}
+use Rattle.netlink_core.specs.Attribute.{Attribute, attribute_type}
+use Rattle.netlink_core.specs.Bytes.{IsBytes}
 use Rattle.netlink_core.specs.Faults.{map_ok}
 use Rattle.netlink_core.specs.ValueCodec.{ValueCodec}
 
@@ -45,9 +46,9 @@ AreIdleAttributes (spec ∷ others) a b =
     ⊎ ((attribute_type a ≢ spec.number) × (attribute_type b ≢ spec.number)
     × AreIdleAttributes others a b)
 
--- a decoded value is in range
+-- a decoded value is in range: one of no type in the set has a type word of 16 bits, and bytes
 abbrev pub IsInRangeBy : (F : AttributeSet) → AttributeValue F → Type 0
-IsInRangeBy [] a = IsAttributeInRange a
+IsInRangeBy [] a = (a.type_word < 2 ^ 16) × IsBytes a.value
 IsInRangeBy (spec ∷ others) (inl x) = spec.value.is_in_range x
 IsInRangeBy (spec ∷ others) (inr v) = IsInRangeBy others v
 

@@ -5,7 +5,8 @@ use Rattle.std.specs.Prelude.{◌≢◌}
 use Rattle.std.proofs.lemmas.Nat.{and_mask}
 use Rattle.std.proofs.lemmas.Bool.Decides.{nat_tests}
 use Rattle.netlink_core.specs.declared.fault.DecodeError.TheVariants.{Memory}
-use Rattle.netlink_core.specs.Attribute.{Attribute, IsAttributeInRange, attribute_type}
+use Rattle.netlink_core.specs.Attribute.{Attribute, attribute_type}
+use Rattle.netlink_core.specs.PrefixLaws.{IsAttributeInRange}
 use Rattle.netlink_core.specs.AttributeSet.{AttributeSpec, AttributeSet, AttributeValue, decodes}
 use Rattle.netlink_core.specs.AttributeSet.{encodes, AreIdleAttributes}
 use Rattle.netlink_core.specs.AttributeSet.{IsInRangeBy, IsNormalBy}

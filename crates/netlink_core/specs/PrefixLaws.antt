@@ -1,6 +1,6 @@
 -- The attribute at the start of a string, or the fault there.
 use Rattle.std.proofs.Common.{Result, Ok, Err, ◌≡◌, ◌∙◌, ◌⊎◌, inl, inr, ℕ, ◌+◌}
-use Rattle.std.proofs.Common.{◌-◌, ◌*◌, ◌/◌, ◌%◌, ◌≤◌, List, [], ◌∷◌, ◌++◌}
+use Rattle.std.proofs.Common.{◌-◌, ◌*◌, ◌/◌, ◌%◌, ◌^◌, ◌≤◌, List, [], ◌∷◌, ◌++◌}
 use Rattle.std.proofs.Common.{suc, length, take, drop, refl, sym, ap, arith, ◌<◌}
 use Rattle.std.proofs.lemmas.List.{take-append-drop, length-take, length-append, take_all}
 use Rattle.byteorder.specs.Endian.{little_number}
@@ -9,10 +9,14 @@ use Rattle.netlink_core.specs.declared.fault.DecodeError.TheVariants.{AttributeH
 use Rattle.netlink_core.specs.declared.fault.DecodeError.TheVariants.{AttributeLengthUnder4}
 use Rattle.netlink_core.specs.declared.fault.DecodeError.TheVariants.{AttributeLengthPast}
 use Rattle.netlink_core.specs.Bytes.{IsBytes}
-use Rattle.netlink_core.specs.Attribute.{Attribute, IsAttributeInRange, FitsWords, unpadded}
+use Rattle.netlink_core.specs.Attribute.{Attribute, FitsWords, unpadded}
 use Rattle.netlink_core.specs.Attribute.{written, HasPrefix, IsFramingFault, IsPrefixFault}
 use Rattle.netlink_core.specs.ByteLaws.{IsBytes-append, IsBytes-left, IsBytes-number}
 use Rattle.netlink_core.specs.ByteLaws.{IsBytes-zeros}
+
+-- a type word of 16 bits, and a value of bytes
+abbrev pub IsAttributeInRange : Attribute → Type 0
+IsAttributeInRange a = (a.type_word < 2 ^ 16) × IsBytes a.value
 
 -- ---- the attribute at the start
 
