@@ -17,7 +17,7 @@ use Rattle.netlink_core.specs.PrefixLaws.{value_or_reason}
 use Rattle.netlink_core.specs.ShownLaws.{AttributeSpecLaws}
 use Rattle.netlink_core.specs.AttributeSpecs.{exact_value, spec, memory_spec, number_spec}
 use Rattle.netlink_core.specs.Parse.{exact_number}
-use Rattle.netlink_core.specs.Table.{little_endian}
+use Rattle.netlink_core.proofs.Numbers.{little_endian}
 use Rattle.netlink_core.proofs.Numbers.{number-same}
 
 -- equal numbers of all bytes have equal bytes

@@ -7,14 +7,36 @@ use Rattle.std.proofs.lemmas.Nat.{and_block, and_mask, and_le_l, same_from_place
 use Rattle.std.proofs.Math.Nat.{mul_comm, div-div-eq-div-mul, pow-suc, mod-lt, mod-eq_of_lt}
 use Rattle.std.specs.Int.{byte_at, bytes_low_first, bytes_high_first}
 use Rattle.std.specs.Int.Bits.{and_zero_l, and_zero_r}
-use Rattle.byteorder.specs.Endian.{little_from, big_from}
+use Rattle.byteorder.specs.Endian.{little_from, big_from, little_number, big_number}
+use Rattle.byteorder.specs.Endian.{little_bytes, big_bytes}
 use Rattle.byteorder.specs.Numbers.{little_from-cons, big_from-cons, little_from-take}
 use Rattle.byteorder.specs.Numbers.{big_from-take, little_from-lt, big_from-lt}
 use Rattle.byteorder.specs.Numbers.{little_number-reads_back, big_number-reads_back}
 use Rattle.byteorder.specs.Numbers.{length-bytes_low_first, length-bytes_high_first}
-use Rattle.netlink_core.specs.Table.{Order, little_endian, big_endian, number_in, bytes_in}
+use Rattle.netlink_core.specs.Table.{Field, number, network}
 use Rattle.netlink_core.specs.Bytes.{IsBytes}
 use Rattle.netlink_core.specs.ByteLaws.{byte_at-lt, IsBytes-number}
+
+-- ---- numbers in either order
+
+-- which byte of a number stands first
+pub data Order : Type 0 where
+  little_endian big_endian : Order
+
+-- a number of a table in that order
+abbrev pub field_in : Order → ℕ → ℕ → Field
+field_in little_endian = number
+field_in big_endian = network
+
+-- the number in the first bytes, in that order
+abbrev pub number_in : Order → ℕ → List ℕ → ℕ
+number_in little_endian width bytes = little_number width bytes
+number_in big_endian width bytes = big_number width bytes
+
+-- so many bytes of a number, in that order
+abbrev pub bytes_in : Order → ℕ → ℕ → List ℕ
+bytes_in little_endian width n = little_bytes width n
+bytes_in big_endian width n = big_bytes width n
 
 -- ---- a number fixes its bytes
 

@@ -15,9 +15,10 @@ use Rattle.std.specs.Int.Bits.{and_self}
 use Rattle.std.specs.List.{list_all}
 use Rattle.std.specs.Prelude.{nat_lt}
 use Rattle.byteorder.specs.Numbers.{length-bytes_low_first}
-use Rattle.byteorder.specs.Endian.{little_number, little_bytes}
-use Rattle.netlink_core.specs.Table.{Order, little_endian, Field, byte, number, flags, unread}
-use Rattle.netlink_core.specs.Table.{number_in, bytes_in, values_of, bytes_of}
+use Rattle.byteorder.specs.Endian.{little_number, little_bytes, big_bytes}
+use Rattle.netlink_core.specs.Table.{Field, byte, number, network, flags, unread}
+use Rattle.netlink_core.specs.Table.{values_of, bytes_of}
+use Rattle.netlink_core.proofs.Numbers.{Order, little_endian, big_endian, number_in, bytes_in}
 use Rattle.netlink_core.specs.Table.{Fit, AreDefined}
 use Rattle.netlink_core.specs.SoundLaws.{is_table, offset_of, width_of, is_written}
 use Rattle.netlink_core.specs.Bytes.{IsBytes}
@@ -101,13 +102,12 @@ bytes_of-bytes from (unread offset written ∷ fields) end values t f =
     grind (arith, common_steps, bytes_of-bytes (from + length written) fields end values t.2 f)
 bytes_of-bytes from (byte offset ∷ fields) end (value ∷ values) t f =
     grind (arith, bytes_of-bytes (from + 1) fields end values t.2 f.1)
-bytes_of-bytes from (number offset width order ∷ fields) end (value ∷ values) t f =
-    grind (
-      arith,
-      common_steps,
-      bytes_in-bytes,
-      bytes_of-bytes (from + width) fields end values t.2 f.1,
-    )
+bytes_of-bytes from (number offset width ∷ fields) end (value ∷ values) t f =
+    IsBytes-append (little_bytes width value) _ (bytes_in-bytes little_endian width value)
+    (bytes_of-bytes (from + width) fields end values t.2 f.1)
+bytes_of-bytes from (network offset width ∷ fields) end (value ∷ values) t f =
+    IsBytes-append (big_bytes width value) _ (bytes_in-bytes big_endian width value)
+    (bytes_of-bytes (from + width) fields end values t.2 f.1)
 bytes_of-bytes from (flags offset width mask ∷ fields) end (value ∷ values) t f =
     IsBytes-append (little_bytes width value) _ (bytes_in-bytes little_endian width value)
     (bytes_of-bytes (from + width) fields end values t.2 f.1)
@@ -159,10 +159,16 @@ values-bytes_of from (byte offset ∷ fields) end (value ∷ values) bytes rest 
           (value ∷ []) (bytes_of fields values) rest e),
       after_piece,
     )
-values-bytes_of from (number offset width order ∷ fields) end (value ∷ values) bytes rest t f d e =
+values-bytes_of from (number offset width ∷ fields) end (value ∷ values) bytes rest t f d e =
     grind (
       arith,
-      number_and_rest order width from value bytes (bytes_of fields values) rest f.0 e,
+      number_and_rest little_endian width from value bytes (bytes_of fields values) rest f.0 e,
+      values-bytes_of (from + width) fields end values bytes rest t.2 f.1 d,
+    )
+values-bytes_of from (network offset width ∷ fields) end (value ∷ values) bytes rest t f d e =
+    grind (
+      arith,
+      number_and_rest big_endian width from value bytes (bytes_of fields values) rest f.0 e,
       values-bytes_of (from + width) fields end values bytes rest t.2 f.1 d,
     )
 values-bytes_of from (flags offset width mask ∷ fields) end (value ∷ values) bytes rest t f d e =
@@ -179,8 +185,10 @@ pub values-fit : (fields : List Field) (bytes : List ℕ) → IsBytes bytes
     → Fit fields (values_of fields bytes)
 values-fit [] bytes h = tt
 values-fit (byte offset ∷ fields) bytes h = (h offset, values-fit fields bytes h)
-values-fit (number offset width order ∷ fields) bytes h =
-    grind (arith, number-fits order width, AreBytes-drop offset bytes h, values-fit fields bytes h)
+values-fit (number offset width ∷ fields) bytes h =
+    (number-fits little_endian width _ (AreBytes-drop offset bytes h), values-fit fields bytes h)
+values-fit (network offset width ∷ fields) bytes h =
+    (number-fits big_endian width _ (AreBytes-drop offset bytes h), values-fit fields bytes h)
 values-fit (flags offset width mask ∷ fields) bytes h =
     grind (
       arith,
@@ -213,14 +221,16 @@ values-cons field fields b = grind arith
 abbrev pub live_bits : List Field → List ℕ
 live_bits [] = []
 live_bits (byte offset ∷ fields) = 255 ∷ live_bits fields
-live_bits (number offset width order ∷ fields) = replicate width 255 ++ live_bits fields
+live_bits (number offset width ∷ fields) = replicate width 255 ++ live_bits fields
+live_bits (network offset width ∷ fields) = replicate width 255 ++ live_bits fields
 live_bits (flags offset width mask ∷ fields) = little_bytes width mask ++ live_bits fields
 live_bits (unread offset written ∷ fields) = replicate (length written) 0 ++ live_bits fields
 
 -- the live bits of one field
 abbrev live_in : Field → List ℕ
 live_in (byte offset) = replicate 1 255
-live_in (number offset width order) = replicate width 255
+live_in (number offset width) = replicate width 255
+live_in (network offset width) = replicate width 255
 live_in (flags offset width mask) = little_bytes width mask
 live_in (unread offset written) = replicate (length written) 0
 
@@ -290,8 +300,10 @@ field_bits (byte offset) b c xs ys ex ey hx hy lx ly =
       byte_is offset c,
       number_bits little_endian 1 xs ys hx hy lx ly,
     )
-field_bits (number offset width order) b c xs ys ex ey hx hy lx ly =
-    grind (arith, one_value, number_bits order width xs ys hx hy lx ly)
+field_bits (number offset width) b c xs ys ex ey hx hy lx ly =
+    grind (arith, one_value, number_bits little_endian width xs ys hx hy lx ly)
+field_bits (network offset width) b c xs ys ex ey hx hy lx ly =
+    grind (arith, one_value, number_bits big_endian width xs ys hx hy lx ly)
 field_bits (flags offset width mask) b c xs ys ex ey hx hy lx ly =
     grind (arith, one_value, flag_bits width mask xs ys hx hy lx ly)
 field_bits (unread offset written) b c xs ys ex ey hx hy lx ly =

@@ -1,7 +1,7 @@
 -- The netlink header at the start of a message, and why none stands there.
 use Rattle.std.specs.Prelude.{◌≡◌, ℕ, ◌<◌, ◌≤◌, List, [], ◌∷◌, ◌++◌, length}
 use Rattle.byteorder.specs.Endian.{little_number}
-use Rattle.netlink_core.specs.Table.{Field, number, numbers, little_endian, values_of, bytes_of}
+use Rattle.netlink_core.specs.Table.{Field, number, row, values_of, bytes_of}
 use Rattle.netlink_core.specs.Table.{Fit}
 use Rattle.netlink_core.specs.declared.fault.DecodeError.{DecodeError}
 use Rattle.netlink_core.specs.declared.fault.DecodeError.TheVariants.{EnvelopeCut}
@@ -11,8 +11,7 @@ use Rattle.netlink_core.specs.declared.header.NetlinkHeader.{NetlinkHeader}
 
 -- the length at 0, the type at 4, the flags at 6, the sender's number at 8 and its port at 12
 abbrev pub header_fields : List Field
-header_fields =
-    number 0 4 little_endian ∷ (numbers 4 2 little_endian 2 ++ numbers 8 4 little_endian 2)
+header_fields = number 0 4 ∷ (row number 4 2 2 ++ row number 8 4 2)
 
 -- the five fields, in this order
 abbrev pub header_values : NetlinkHeader → List ℕ

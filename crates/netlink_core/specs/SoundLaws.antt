@@ -4,20 +4,22 @@ use Rattle.std.specs.Prelude.{length, Ok}
 use Rattle.std.specs.Prelude.{Err, IsTrue}
 use Rattle.std.specs.List.{list_all}
 use Rattle.netlink_core.specs.Bytes.{IsBytes}
-use Rattle.netlink_core.specs.Table.{Field, byte, number, flags, unread, values_of}
+use Rattle.netlink_core.specs.Table.{Field, byte, number, network, flags, unread, values_of}
 use Rattle.netlink_core.specs.Layout.{Layout, bytes, IsInRange, IsNormal}
 use Rattle.netlink_core.specs.declared.fault.DecodeError.TheVariants.{Memory}
 
 -- where a field begins, and how many bytes it has
 abbrev pub offset_of : Field → ℕ
 offset_of (byte offset) = offset
-offset_of (number offset width order) = offset
+offset_of (number offset width) = offset
+offset_of (network offset width) = offset
 offset_of (flags offset width mask) = offset
 offset_of (unread offset written) = offset
 
 abbrev pub width_of : Field → ℕ
 width_of (byte offset) = 1
-width_of (number offset width order) = width
+width_of (number offset width) = width
+width_of (network offset width) = width
 width_of (flags offset width mask) = width
 width_of (unread offset written) = length written
 
