@@ -40,11 +40,9 @@ encodes (spec ∷ others) (inr v) = encodes others v
 -- of one type, and idle under it; or of none of the types, and equal
 abbrev pub AreIdleAttributes : AttributeSet → Attribute → Attribute → Type 0
 AreIdleAttributes [] a b = a ≡ b
-AreIdleAttributes (spec ∷ others) a b =
-    ((attribute_type a ≡ spec.number) × (attribute_type b ≡ spec.number)
-    × spec.value.idle tt a.value b.value)
-    ⊎ ((attribute_type a ≢ spec.number) × (attribute_type b ≢ spec.number)
-    × AreIdleAttributes others a b)
+AreIdleAttributes (spec ∷ others) a b = cond (attribute_type a == spec.number)
+    ((attribute_type b ≡ spec.number) × spec.value.idle tt a.value b.value)
+    ((attribute_type b ≢ spec.number) × AreIdleAttributes others a b)
 
 -- a decoded value is in range: one of no type in the set has a type word of 16 bits, and bytes
 abbrev pub IsInRangeBy : (F : AttributeSet) → AttributeValue F → Type 0
