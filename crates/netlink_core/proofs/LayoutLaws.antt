@@ -5,7 +5,7 @@ use Rattle.std.proofs.Common.{append-nil, le-ltb, lt-ltb}
 use Rattle.std.proofs.lemmas.Bool.{cases_lt}
 use Rattle.netlink_core.specs.Bytes.{IsBytes}
 use Rattle.netlink_core.specs.Table.{Field, values_of, bytes_of}
-use Rattle.netlink_core.specs.SoundLaws.{is_table, IsSound}
+use Rattle.netlink_core.specs.SoundLaws.{is_table, size_of, IsSound}
 use Rattle.netlink_core.specs.Layout.{Layout, read, read_fields, StandsIn, bytes, AreIdle}
 use Rattle.netlink_core.specs.Layout.{IsInRange}
 use Rattle.netlink_core.specs.Layout.{IsNormal, plain}
@@ -86,12 +86,12 @@ same_tag r s t e f = cc
 module _ {Param Tag Value : Type 0} (layout : Layout Param Tag Value) (sound : IsSound layout) where
   -- the table of a string's tag, and that of a value
   table_is : (param : Param) (tag : Tag) (left : List ℕ) → layout.tag_at param left ≡ Ok tag
-      → IsTable 0 (layout.table tag) (layout.size tag)
+      → IsTable 0 (layout.table tag) (size_of (layout.table tag))
   table_is param tag left tag_found =
       grind (arith, table_from_test 0)
 
   own_table_is : (value : Value) → IsTable 0 (layout.table (layout.tag_of value))
-      (layout.size (layout.tag_of value))
+      (size_of (layout.table (layout.tag_of value)))
   own_table_is value =
       grind (arith, table_from_test 0)
 
@@ -140,8 +140,8 @@ module _ {Param Tag Value : Type 0} (layout : Layout Param Tag Value) (sound : I
         (
           omega arith,
           sound.tag_written param value t n,
-          values-bytes_of 0 (layout.table (layout.tag_of value)) (layout.size (layout.tag_of value))
-              (layout.values value) (bytes layout value) [] (own_table_is value) t.fit n.flags
+          values-bytes_of 0 (layout.table (layout.tag_of value)) (size_of (layout.table (layout.tag_of value)))
+              (layout.values value) (bytes layout value) [] (own_table_is value) t.1 n.0
               (sym (append-nil (bytes layout value))),
         ),
         t,
@@ -179,11 +179,11 @@ module _ {Param Tag Value : Type 0} (layout : Layout Param Tag Value) (sound : I
 pub plain_sound : {Value : Type 0} {name : RecordName} {size : ℕ} {fields : List Field}
     {values : Value
     → List ℕ} {value : List ℕ → Value} {is_shaped : Value → Type 0}
-    → IsTrue (is_table 0 fields size)
-    → ((v : Value) → length (bytes_of fields (values v)) ≡ size)
+    → IsTrue (is_table 0 fields (size_of fields)) → size ≡ size_of fields
+    → ((v : Value) → length (bytes_of fields (values v)) ≡ size_of fields)
     → ((left : List ℕ) → values (value (values_of fields left)) ≡ values_of fields left)
     → ((left : List ℕ) → is_shaped (value (values_of fields left)))
     → ((v : Value) → is_shaped v → value (values v) ≡ v)
     → IsSound (plain name size fields values value is_shaped)
-plain_sound table long kept shaped back =
+plain_sound table least long kept shaped back =
     grind (arith, named)

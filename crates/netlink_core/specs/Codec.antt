@@ -54,9 +54,7 @@ as_codec P = record {
 abbrev pub record_codec : {Param Tag Value : Type 0} → Layout Param Tag Value → Codec Param
 record_codec layout = as_codec (value_codec layout)
 
--- the laws of a record: its codec's, each value has as many bytes as its table, and what is read is
--- what stands in a string
+-- the laws of a record: its codec's, and what is read is what stands in a string
 pub record RecordLaws {Param Tag Value : Type 0} (layout : Layout Param Tag Value) : Type 0 where
   pub codec : KeepsLaws (record_codec layout)
-  pub long : (value : Value) → length (bytes layout value) ≡ layout.size (layout.tag_of value)
   pub stands : (b : List ℕ) (p : Param) (v : Value) → IsBytes b → (read layout p b ≡ Ok v) ↔ StandsIn layout b p v

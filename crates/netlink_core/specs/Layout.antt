@@ -7,15 +7,13 @@ use Rattle.netlink_core.specs.declared.fault.DecodeError.TheVariants.{BufferTooS
 use Rattle.netlink_core.specs.declared.fault.RecordName.{RecordName}
 
 -- How a record stands in bytes: its name in faults, the fewest bytes that it is read from, and the
--- tables of its fields. A tag chooses between tables, each of its size: a string that is long
--- enough has the tag by which it is read, or the fault that refuses it, and a value has the one by
--- which it is written. Beside the fields, a shape says that arrays are as long as their type has
+-- tables of its fields. A tag chooses between tables: a string that is long enough has the tag by
+-- which it is read, or the fault that refuses it, and a value has the one by which it is written. Beside the fields, a shape says that arrays are as long as their type has
 -- it, and `is_own` what normal form asks. `value` is the inverse of `values`: `StandsIn` says what
 -- belongs to a string without it, and the law `read_where_it_stands` that this is the same.
 pub record Layout (Param Tag Value : Type 0) : Type 1 where
   pub name : RecordName
   pub least : ℕ
-  pub size : Tag → ℕ
   pub tag_at : Param → List ℕ → Result Tag DecodeError
   pub tag_of : Value → Tag
   pub table : Tag → List Field
@@ -26,10 +24,9 @@ pub record Layout (Param Tag Value : Type 0) : Type 1 where
 
 -- a record with one table
 abbrev pub plain : {Value : Type 0} → RecordName → ℕ → List Field → (Value → List ℕ) → (List ℕ → Value) → (Value → Type 0) → Layout (Unit {0}) (Unit {0}) Value
-plain name size fields values value is_shaped = record {
+plain name least fields values value is_shaped = record {
   name = name;
-  least = size;
-  size = λ tag. size;
+  least = least;
   tag_at = λ param left. Ok tt;
   tag_of = λ value. tt;
   table = λ tag. fields;
@@ -63,14 +60,12 @@ module _ {Param Tag Value : Type 0} (layout : Layout Param Tag Value) where
       × HasFields param b tag numbers × HasFields param c tag numbers
 
   -- each number is within its type: the numbers fit their fields, and what else the shape asks
-  pub record IsInRange (value : Value) : Type 0 where
-    pub shaped : layout.is_shaped value
-    pub fit : Fit (layout.table (layout.tag_of value)) (layout.values value)
+  abbrev pub IsInRange : Value → Type 0
+  IsInRange v = layout.is_shaped v × Fit (layout.table (layout.tag_of v)) (layout.values v)
 
   -- no flag is undefined, and what else the layout asks
-  pub record IsNormal (param : Param) (value : Value) : Type 0 where
-    pub flags : AreDefined (layout.table (layout.tag_of value)) (layout.values value)
-    pub own : layout.is_own param value
+  abbrev pub IsNormal : Param → Value → Type 0
+  IsNormal p v = AreDefined (layout.table (layout.tag_of v)) (layout.values v) × layout.is_own p v
 
   -- What belongs to a string, said without `value`: the string has the tag and the numbers of the
   -- value, and the value is in range and in normal form.

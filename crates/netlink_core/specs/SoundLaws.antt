@@ -23,6 +23,11 @@ width_of (network offset width) = width
 width_of (flags offset width mask) = width
 width_of (unread offset written) = length written
 
+-- how many bytes the fields of a table have
+abbrev pub size_of : List Field → ℕ
+size_of [] = 0
+size_of (field ∷ fields) = width_of field + size_of fields
+
 -- what is written of itself is bytes
 abbrev pub is_written : Field → Bool
 is_written (unread offset written) = list_all (λ one. nat_lt one 256) written
@@ -42,15 +47,16 @@ module _ {Param Tag Value : Type 0} (layout : Layout Param Tag Value) where
     -- each value, whose size is not under the least.
     pub tables : (param : Param) (tag : Tag) (left : List ℕ)
         → layout.tag_at param left ≡ Ok tag
-        → IsTrue (is_table 0 (layout.table tag) (layout.size tag))
+        → IsTrue (is_table 0 (layout.table tag) (size_of (layout.table tag)))
     pub room : (param : Param) (tag : Tag) (left : List ℕ) → layout.least ≤ length left
-        → layout.tag_at param left ≡ Ok tag → layout.size tag ≤ length left
+        → layout.tag_at param left ≡ Ok tag → size_of (layout.table tag) ≤ length left
     pub own_table : (value : Value)
         → IsTrue (is_table 0 (layout.table (layout.tag_of value))
-        (layout.size (layout.tag_of value)))
-    pub enough : (value : Value) → layout.least ≤ layout.size (layout.tag_of value)
+        (size_of (layout.table (layout.tag_of value))))
+    pub enough : (value : Value) → layout.least ≤ size_of (layout.table (layout.tag_of value))
     -- each value has as many bytes, and no fault of a string's tag is want of memory
-    pub long : (value : Value) → length (bytes layout value) ≡ layout.size (layout.tag_of value)
+    pub long : (value : Value) → length (bytes layout value)
+        ≡ size_of (layout.table (layout.tag_of value))
     pub named : (param : Param) (left : List ℕ) → layout.tag_at param left ≡ Err Memory → ⊥
     -- a value that was read has the values and the tag that were read, and is shaped and as normal
     -- form asks
@@ -74,6 +80,6 @@ module _ {Param Tag Value : Type 0} (layout : Layout Param Tag Value) where
         → IsNormal layout param value
         → layout.tag_at param (bytes layout value) ≡ Ok (layout.tag_of value)
 
-  -- all tables are of one size, which is the least
+  -- each value has as many bytes, and a string that is read has them
   abbrev pub IsFixed : ℕ → Type 0
-  IsFixed size = (layout.least ≡ size) × ((tag : Tag) → layout.size tag ≡ size)
+  IsFixed size = (layout.least ≡ size) × ((value : Value) → length (bytes layout value) ≡ size)

@@ -31,7 +31,7 @@ pub trait Record: Exact + Sized {
 
     /// The number of the value's bytes.
     fn size(&self) -> usize
-        ensures { result ≡ layout.size (layout.tag_of self.now) };
+        ensures { result ≡ length (bytes layout self.now) };
 
     /// The value in bytes that are enough, or the first fault there.
     fn from_fields(bytes: &[u8], param: Self::Param) -> Result<Self, DecodeError>
@@ -40,7 +40,7 @@ pub trait Record: Exact + Sized {
 
     /// Writes the value over bytes of any content.
     fn write_fields(&self, buffer: &mut [u8])
-        requires { length buffer.old ≡ layout.size (layout.tag_of self.now) }
+        requires { length buffer.old ≡ length (bytes layout self.now) }
         ensures { buffer.new ≡ bytes layout self.now };
 
     /// Tells the prover that the value's numbers are within their fields. It does nothing.
@@ -131,8 +131,9 @@ impl<T: Record> Wire for T {
 
 /// A record whose values are `N` bytes each.
 pub trait Fills<const N: usize>: Record {
-    // All its tables are of one size, which is the least.
-    ghost fills: { (Self.layout.least ≡ N) × ((tag : Self.Tag) → Self.layout.size tag ≡ N) };
+    // Each value has as many bytes, and a string that is read has them.
+    ghost fills: { (Self.layout.least ≡ N)
+        × ((value : Self) → length (bytes Self.layout value) ≡ N) };
 }
 
 /// The bytes of a record, in the order that they came, those too that no reader looks at.
