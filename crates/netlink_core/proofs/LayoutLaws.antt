@@ -13,7 +13,7 @@ use Rattle.netlink_core.specs.Faults.{map_ok}
 use Rattle.netlink_core.specs.Codec.{KeepsLaws, RecordLaws, record_codec}
 use Rattle.netlink_core.specs.PrefixLaws.{value_or_reason}
 use Rattle.netlink_core.proofs.TableLaws.{IsTable, table_from_test, values-bytes_of, values-fit}
-use Rattle.netlink_core.proofs.TableLaws.{values-defined, bytes_of-bytes}
+use Rattle.netlink_core.proofs.TableLaws.{values-defined, bytes_of-bytes, ends-at}
 use Rattle.netlink_core.specs.declared.fault.DecodeError.{DecodeError}
 use Rattle.netlink_core.specs.declared.fault.DecodeError.TheVariants.{Memory, BufferTooSmall}
 use Rattle.netlink_core.specs.declared.fault.RecordName.{RecordName}
@@ -179,11 +179,13 @@ module _ {Param Tag Value : Type 0} (layout : Layout Param Tag Value) (sound : I
 pub plain_sound : {Value : Type 0} {name : RecordName} {size : ℕ} {fields : List Field}
     {values : Value
     → List ℕ} {value : List ℕ → Value} {is_shaped : Value → Type 0}
-    → IsTrue (is_table 0 fields (size_of fields)) → size ≡ size_of fields
-    → ((v : Value) → length (bytes_of fields (values v)) ≡ size_of fields)
+    → IsTrue (is_table 0 fields size)
+    → ((v : Value) → length (bytes_of fields (values v)) ≡ size)
     → ((left : List ℕ) → values (value (values_of fields left)) ≡ values_of fields left)
     → ((left : List ℕ) → is_shaped (value (values_of fields left)))
     → ((v : Value) → is_shaped v → value (values v) ≡ v)
     → IsSound (plain name size fields values value is_shaped)
-plain_sound table least long kept shaped back =
-    grind (arith, named)
+plain_sound {size = size} {fields = fields} table long kept shaped back =
+    let same : size ≡ size_of fields =
+    omega (arith, ends-at 0 fields size (table_from_test 0 fields size table)) in
+    grind (arith, named, same)
