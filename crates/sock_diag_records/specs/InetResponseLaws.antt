@@ -111,7 +111,8 @@ behind_retransmits : (timer : Option Timer) (rest : List ℕ)
 behind_retransmits timer rest = grind arith
 
 behind_expires : (timer : Option Timer) (rest : List ℕ)
-    → drop (expires_count (timer_data timer).0) (map milliseconds (timer_data timer).2 ++ rest) ≡ rest
+    → drop (expires_count (timer_data timer).0) (map milliseconds (timer_data timer).2 ++ rest)
+    ≡ rest
 behind_expires timer rest = grind arith
 
 behind_socket : (value : SocketId) (rest : List ℕ)
