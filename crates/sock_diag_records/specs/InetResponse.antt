@@ -1,8 +1,9 @@
 -- The header of a reply about an IPv4 or IPv6 socket: 72 bytes. The byte at 2 tells the timer, and
 -- with it whether the byte at 3 and the word at 52 are read.
-use Rattle.std.specs.Prelude.{◌≡◌, ℕ, ◌==◌, ◌||◌, if◌then◌else◌, List, [], ◌∷◌, ◌++◌, map}
+use Rattle.std.specs.Prelude.{◌≡◌, ℕ, ◌*◌, ◌==◌, ◌||◌, if◌then◌else◌, [], ◌∷◌, ◌++◌, map}
 use Rattle.std.specs.Prelude.{replicate, slice_index, Ok}
 use Rattle.std.specs.List.{AllByRecursion}
+use Rattle.std.specs.Duration.{as_nanos}
 use Rattle.netlink_core.specs.Table.{byte, number, numbers, unread, little_endian}
 use Rattle.netlink_core.specs.Layout.{Layout}
 use Rattle.sock_diag_records.specs.declared.inet.response.InetResponseHeader.{InetResponseHeader}
@@ -11,7 +12,6 @@ use Rattle.netlink_core.specs.declared.fault.RecordName.TheVariants as name
 use Rattle.sock_diag_records.specs.IpVersions.{IpVersions, versions_of, versions_of_family}
 use Rattle.sock_diag_records.specs.SocketId.{IsShaped, socket_id_fields, socket_id_values}
 use Rattle.sock_diag_records.specs.Timer.{class_of_byte, timer_data, milliseconds}
-use Rattle.sock_diag_records.specs.Timer.{IsWholeMilliseconds}
 use Rattle.sock_diag_records.specs.InetResponseInverse.{header_of}
 
 -- 72 bytes, by the versions of the addresses and the timer's class: the byte at 3 is read under
@@ -36,6 +36,6 @@ inet_response_header = record {
       ++ value.recv_queue ∷ value.send_queue ∷ value.uid ∷ value.inode ∷ [])));
   value = header_of;
   is_shaped = λ value. IsShaped value.socket_id;
-  is_own = λ param value. (versions_of_family value.family ≡ Ok (versions_of value.socket_id))
-      × AllByRecursion IsWholeMilliseconds (timer_data value.timer).2;
+  is_own = λ param v. (versions_of_family v.family ≡ Ok (versions_of v.socket_id))
+      × AllByRecursion (λ t. as_nanos t ≡ milliseconds t * 1_000_000) (timer_data v.timer).2;
 }

@@ -1,18 +1,20 @@
 -- The layout of the header of a reply is sound.
-use Rattle.std.proofs.Common.{IsTrue, ◌≡◌, ℕ, ◌^◌, ◌<◌}
-use Rattle.std.proofs.Common.{List, [], ◌∷◌, ◌++◌, drop}
-use Rattle.std.proofs.Common.{slice_index, Option, Result, Ok, refl}
+use Rattle.std.proofs.Common.{IsTrue, ◌≡◌, ℕ, ◌*◌, ◌^◌, ◌<◌}
+use Rattle.std.proofs.Common.{List, ◌++◌, drop}
+use Rattle.std.proofs.Common.{slice_index, Option, Some, Result, Ok, refl}
 use Rattle.std.proofs.Common.{arith}
 use Rattle.std.specs.Prelude.{map}
 use Rattle.std.specs.List.{AllByRecursion}
+use Rattle.std.specs.Duration.{as_nanos}
 use Rattle.netlink_core.specs.Table.{values_of, numbers}
-use Rattle.netlink_core.specs.Table.{little_endian, Fit}
+use Rattle.netlink_core.specs.Table.{little_endian}
 use Rattle.netlink_core.specs.SoundLaws.{is_table, IsSound, IsFixed}
 use Rattle.netlink_core.specs.Bytes.{IsBytes}
 use Rattle.netlink_core.specs.Faults.{map_ok}
 use Rattle.netlink_core.proofs.Numbers.{number-fits}
 use Rattle.netlink_core.proofs.TableLaws.{AreBytes-drop}
 use Rattle.sock_diag_records.specs.declared.inet.response.Timer.{Timer}
+use Rattle.sock_diag_records.specs.declared.inet.response.Timer.TheVariants.{KeepAlive}
 use Rattle.sock_diag_records.specs.declared.inet.response.InetResponseHeader.{InetResponseHeader}
 use Rattle.sock_diag_records.specs.declared.inet.socket_id.SocketId.{SocketId}
 use Rattle.netlink_core.specs.declared.fault.DecodeError.{DecodeError}
@@ -22,13 +24,14 @@ use Rattle.sock_diag_records.specs.IpVersions.{IpVersions, versions_of}
 use Rattle.sock_diag_records.specs.InetResponse.{inet_response_header}
 use Rattle.sock_diag_records.specs.InetResponseInverse.{duration, retransmits_count, expires_count}
 use Rattle.sock_diag_records.specs.InetResponseInverse.{timer_of, header_of, socket_id_count}
-use Rattle.sock_diag_records.specs.Timer.{milliseconds, IsWholeMilliseconds, class_of_byte}
+use Rattle.sock_diag_records.specs.Timer.{milliseconds, class_of_byte}
 use Rattle.sock_diag_records.specs.Timer.{timer_data}
 use Rattle.sock_diag_records.specs.SocketIdLaws.{by_versions, socket_id_back}
 
 -- a timer's time is whole milliseconds
 abbrev IsWholeTimer : Option Timer → Type 0
-IsWholeTimer timer = AllByRecursion IsWholeMilliseconds (timer_data timer).2
+IsWholeTimer timer =
+    AllByRecursion (λ time. as_nanos time ≡ milliseconds time * 1_000_000) (timer_data timer).2
 
 -- the class beside what the family tells, or the family's fault
 abbrev pub with_class : ℕ → Result IpVersions DecodeError → Result (IpVersions × ℕ) DecodeError
@@ -67,8 +70,7 @@ kept_are left h =
     let below : expires_at left < 2 ^ 32 = number-fits little_endian 4 (drop 52 left)
     (AreBytes-drop 52 left h) in
     let same : milliseconds (duration (expires_at left)) ≡ expires_at left = omega arith in
-    let whole : AllByRecursion IsWholeMilliseconds (duration (expires_at left) ∷ []) =
-    ((expires_at left, below, omega arith), tt) in
+    let whole : IsWholeTimer (Some (KeepAlive (duration (expires_at left)))) = (omega arith, tt) in
     by_versions _
     (each _ (refl, tt) (rw same, whole) (rw same, whole) (refl, tt) (rw same, whole))
     (each _ (refl, tt) (rw same, whole) (rw same, whole) (refl, tt) (rw same, whole))

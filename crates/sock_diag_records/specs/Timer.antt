@@ -1,7 +1,7 @@
 -- The timer of an IPv4 or IPv6 socket. Its class is the kernel's `idiag_timer`, the byte at 2: 0 no
 -- timer, 1 retransmit, 2 keep-alive, 3 time-wait, 4 probe. With it two fields of its numbers are
 -- read or not.
-use Rattle.std.specs.Prelude.{◌≡◌, ℕ, ◌*◌, ◌/◌, ◌%◌, ◌^◌, ◌<◌, nat_lt, if◌then◌else◌}
+use Rattle.std.specs.Prelude.{ℕ, ◌/◌, ◌%◌, ◌^◌, nat_lt, if◌then◌else◌}
 use Rattle.std.specs.Prelude.{List, [], ◌∷◌, Option, Some, None}
 use Rattle.std.specs.Duration.{as_nanos}
 use Rattle.std.specs.declared.time.Duration.{Duration}
@@ -12,10 +12,6 @@ use Rattle.sock_diag_records.specs.declared.inet.response.Timer.TheVariants.{Tim
 -- the whole milliseconds of a duration, in 32 bits
 abbrev pub milliseconds : Duration → ℕ
 milliseconds time = as_nanos time / 1_000_000 % 2 ^ 32
-
--- whole milliseconds, of which there are fewer than 2 ^ 32
-abbrev pub IsWholeMilliseconds : Duration → Type 0
-IsWholeMilliseconds time = (n : ℕ) × (n < 2 ^ 32) × (as_nanos time ≡ n * 1_000_000)
 
 -- the class that the byte at 2 tells: each number below 5 itself, and every other 0
 abbrev pub class_of_byte : ℕ → ℕ
