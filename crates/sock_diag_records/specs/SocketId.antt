@@ -33,9 +33,8 @@ address_bytes (V6 ip) = flat_map (big_bytes 2) (first 8 ip.segments)
 
 -- the fields, where the record begins at that offset
 abbrev pub socket_id_fields : ℕ → IpVersions → List Field
-socket_id_fields offset versions =
-    numbers offset 2 big_endian 2 ++ (address_fields (offset + 4) versions.0
-    ++ (address_fields (offset + 20) versions.1
+socket_id_fields offset versions = numbers offset 2 big_endian 2
+    ++ (address_fields (offset + 4) versions.0 ++ (address_fields (offset + 20) versions.1
     ++ (number (offset + 36) 4 little_endian ∷ bytes_at (offset + 40) 8)))
 
 -- the values in the fields

@@ -30,9 +30,8 @@ mem_info = record {
   tag_at = λ param left. Ok (words_in (length left));
   tag_of = λ value. 7 + length (last_words value.backlog_queue_length value.drops);
   table = λ words. numbers 0 4 little_endian words;
-  values = λ value. value.receive_queue ∷ value.receive_queue_max ∷ value.bottom_send_queues
-      ∷ value.send_queue_max ∷ value.cache ∷ value.send_queue ∷ value.options
-      ∷ last_words value.backlog_queue_length value.drops;
+  values = λ v. v.receive_queue ∷ v.receive_queue_max ∷ v.bottom_send_queues ∷ v.send_queue_max
+      ∷ v.cache ∷ v.send_queue ∷ v.options ∷ last_words v.backlog_queue_length v.drops;
   value = λ words values. mem_info_of values;
   is_shaped = λ value. ⊤;
   is_own = λ param value. IfSome value.drops (λ drops. IsSome value.backlog_queue_length);

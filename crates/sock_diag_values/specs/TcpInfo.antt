@@ -6,12 +6,10 @@ use Rattle.sock_diag_values.specs.declared.inet.tcp_info.TcpInfo.{TcpInfo}
 use Rattle.sock_diag_values.specs.TcpInfoInverse.{tcp_info_of}
 use Rattle.netlink_core.specs.declared.fault.RecordName.TheVariants as name
 
--- the numbers, group by group, in the order of the table
+-- the numbers, group by group, in the order of the table: first the bytes at 0
 abbrev pub tcp_info_values : TcpInfo → List ℕ
-tcp_info_values t =
-    -- the bytes at 0
-    t.state ∷ t.ca_state ∷ t.retransmits ∷ t.probes ∷ t.backoff ∷ t.options ∷ t.wscale ∷
-    t.delivery_rate_app_limited ∷
+tcp_info_values t = t.state ∷ t.ca_state ∷ t.retransmits ∷ t.probes ∷ t.backoff ∷ t.options ∷
+    t.wscale ∷ t.delivery_rate_app_limited ∷
     -- the words at 8
     t.rto ∷ t.ato ∷ t.snd_mss ∷ t.rcv_mss ∷ t.unacked ∷ t.sacked ∷ t.lost ∷ t.retrans ∷ t.fackets ∷
     -- the words at 44
