@@ -45,10 +45,11 @@ TABLES = [
      ["udiag_type", "udiag_state", "udiag_ino", "udiag_cookie"]),
     ("sock_diag_records/specs/SocketId.antt", "socket_id_fields", "inet_diag_sockid", 48,
      ["idiag_sport", "idiag_dport", "idiag_src", "idiag_dst", "idiag_if", "idiag_cookie"]),
-    ("sock_diag_records/specs/InetRequest.antt", "inet_request_fields", "inet_diag_req_v2", 56,
-     ["sdiag_family", "sdiag_protocol", "idiag_ext", "idiag_states", "id"]),
-    ("sock_diag_records/specs/InetResponse.antt", "header_fields", "inet_diag_msg", 72,
-     ["idiag_family", "idiag_state", "id", "idiag_rqueue", "idiag_wqueue", "idiag_uid", "idiag_inode"]),
+    ("sock_diag_records/specs/InetRequest.antt", "inet_request", "inet_diag_req_v2", 56,
+     ["sdiag_family sdiag_protocol idiag_ext", "idiag_states", "id"]),
+    ("sock_diag_records/specs/InetResponse.antt", "inet_response_header", "inet_diag_msg", 72,
+     ["idiag_family", "idiag_state", "idiag_retrans", "id", "idiag_expires", "idiag_rqueue", "idiag_wqueue",
+      "idiag_uid", "idiag_inode"]),
     ("netlink_core/specs/Header.antt", "header_fields", "nlmsghdr", 16,
      ["nlmsg_len", "nlmsg_type", "nlmsg_flags", "nlmsg_seq", "nlmsg_pid"]),
     ("sock_diag_extras/specs/Congestion.antt", "vegas_info", "tcpvegas_info", 16,
@@ -118,6 +119,9 @@ def questions():
             sizes = " + ".join(f"sizeof(((struct {struct} *)0)->{one})" for one in [first, *others])
             yield f"offsetof(struct {struct}, {first})", at
             yield sizes, width
+            for one, behind in zip([first, *others], others):
+                gap = f"offsetof(struct {struct}, {behind}) - offsetof(struct {struct}, {one})"
+                yield f"{gap} - sizeof(((struct {struct} *)0)->{one})", 0
     for name, at, width in tcp_fields():
         if name not in ("tcpi_wscale", "tcpi_delivery_rate_app_limited"):
             yield f"offsetof(struct tcp_info, {name})", at

@@ -8,7 +8,7 @@ ghost use Rattle.netlink_core.specs.AttributeSet.{decodes};
 ghost use Rattle.netlink_core.specs.SoundLaws.{is_table};
 ghost use Rattle.netlink_core.specs.Walk.{bytes_left};
 ghost use Rattle.attribute_lists.specs.AttributesIn.{HasNoFault, values_in};
-ghost use Rattle.sock_diag_values.specs.TcpInfo.{tcp_info_fields};
+ghost use Rattle.sock_diag_values.specs.TcpInfo.{tcp_info};
 ghost use Rattle.sock_diag_extras.specs.Lenient.{GivesLeniently, ItemsAre, model};
 ghost use Rattle.sock_diag_extras.specs.TcpFields.{first_fields, later_fields, row_of};
 ghost use Rattle.sock_diag_extras.specs.declared.lenient.LenientNlas.{LenientNlas};
@@ -40,7 +40,8 @@ pub fn lenient_walk_of_good_bytes<'a, V: FamilyView<'a>>()
 
 /// The first fields are those of the port's `TcpInfo`, and the later ones stand behind them, one
 /// after the other, up to byte 280.
+#[tactic(auto, unfolding(sock_diag_values::specs::TcpInfo::tcp_info))]
 pub fn tcp_fields_are_rows()
-    ensures first { map row_of first_fields ≡ tcp_info_fields }
+    ensures first { map row_of first_fields ≡ tcp_info.table tt }
     ensures later { IsTrue (is_table 232 (map row_of later_fields) 280) }
 {}

@@ -1,34 +1,37 @@
 -- The layout of the header of a reply is sound.
-use Rattle.std.proofs.Common.{IsTrue, ◌≡◌, ℕ, ◌^◌, ◌<◌}
-use Rattle.std.proofs.Common.{List, ◌∷◌, ◌++◌, drop}
-use Rattle.std.proofs.Common.{slice_index, Option, Result, Ok, refl}
+use Rattle.std.proofs.Common.{IsTrue, ◌≡◌, ℕ, ◌*◌, ◌^◌, ◌<◌}
+use Rattle.std.proofs.Common.{List, ◌++◌, drop}
+use Rattle.std.proofs.Common.{slice_index, Option, Some, Result, Ok, refl}
 use Rattle.std.proofs.Common.{arith}
-use Rattle.std.specs.Prelude.{IfSome}
+use Rattle.std.specs.Prelude.{map}
+use Rattle.std.specs.List.{AllByRecursion}
+use Rattle.std.specs.Duration.{as_nanos}
 use Rattle.netlink_core.specs.Table.{values_of, numbers}
-use Rattle.netlink_core.specs.Table.{little_endian, Fit}
+use Rattle.netlink_core.specs.Table.{little_endian}
 use Rattle.netlink_core.specs.SoundLaws.{is_table, IsSound, IsFixed}
 use Rattle.netlink_core.specs.Bytes.{IsBytes}
 use Rattle.netlink_core.specs.Faults.{map_ok}
 use Rattle.netlink_core.proofs.Numbers.{number-fits}
 use Rattle.netlink_core.proofs.TableLaws.{AreBytes-drop}
 use Rattle.sock_diag_records.specs.declared.inet.response.Timer.{Timer}
+use Rattle.sock_diag_records.specs.declared.inet.response.Timer.TheVariants.{KeepAlive}
 use Rattle.sock_diag_records.specs.declared.inet.response.InetResponseHeader.{InetResponseHeader}
 use Rattle.sock_diag_records.specs.declared.inet.socket_id.SocketId.{SocketId}
 use Rattle.netlink_core.specs.declared.fault.DecodeError.{DecodeError}
 use Rattle.sock_diag_records.specs.SocketId.{socket_id_fields, socket_id_values}
 use Rattle.sock_diag_records.specs.SocketIdInverse.{socket_id_of}
 use Rattle.sock_diag_records.specs.IpVersions.{IpVersions, versions_of}
-use Rattle.sock_diag_records.specs.InetResponse.{header_fields, header_values, inet_response_header}
+use Rattle.sock_diag_records.specs.InetResponse.{inet_response_header}
 use Rattle.sock_diag_records.specs.InetResponseInverse.{duration, retransmits_count, expires_count}
 use Rattle.sock_diag_records.specs.InetResponseInverse.{timer_of, header_of, socket_id_count}
-use Rattle.sock_diag_records.specs.Timer.{milliseconds, IsWholeMilliseconds, class_of_byte}
-use Rattle.sock_diag_records.specs.Timer.{class_of, expires_field}
-use Rattle.sock_diag_records.specs.Timer.{retransmits_values, expires_values, timer_data}
+use Rattle.sock_diag_records.specs.Timer.{milliseconds, class_of_byte}
+use Rattle.sock_diag_records.specs.Timer.{timer_data}
 use Rattle.sock_diag_records.specs.SocketIdLaws.{by_versions, socket_id_back}
 
 -- a timer's time is whole milliseconds
 abbrev IsWholeTimer : Option Timer → Type 0
-IsWholeTimer timer = IfSome (timer_data timer).2 IsWholeMilliseconds
+IsWholeTimer timer =
+    AllByRecursion (λ time. as_nanos time ≡ milliseconds time * 1_000_000) (timer_data timer).2
 
 -- the class beside what the family tells, or the family's fault
 abbrev pub with_class : ℕ → Result IpVersions DecodeError → Result (IpVersions × ℕ) DecodeError
@@ -49,24 +52,25 @@ class_lt timer = grind arith
 
 -- the fields of each tag stand in a row
 tables_are : (versions : IpVersions) (class : ℕ) → class < 5
-    → IsTrue (is_table 0 (header_fields (versions, class)) 72)
+    → IsTrue (is_table 0 (inet_response_header.table (versions, class)) 72)
+unfolding inet_response_header
 tables_are = by_versions _ (each _ refl refl refl refl refl) (each _ refl refl refl refl refl)
     (each _ refl refl refl refl refl) (each _ refl refl refl refl refl)
 
-class_of_lt : (timer : Option Timer) → class_of timer < 5
+class_of_lt : (timer : Option Timer) → (timer_data timer).0 < 5
 class_of_lt timer = grind arith
 
 -- what is read has the values that were read, and a timer of whole milliseconds
 kept_are : (left : List ℕ) → IsBytes left → (versions : IpVersions) (class : ℕ) → class < 5
-    → let values = values_of (header_fields (versions, class)) left in
+    → let values = values_of (inet_response_header.table (versions, class)) left in
     let value = header_of (versions, class) values in
-    (header_values value ≡ values) × IsWholeTimer value.timer
+    (inet_response_header.values value ≡ values) × IsWholeTimer value.timer
+unfolding inet_response_header
 kept_are left h =
     let below : expires_at left < 2 ^ 32 = number-fits little_endian 4 (drop 52 left)
     (AreBytes-drop 52 left h) in
     let same : milliseconds (duration (expires_at left)) ≡ expires_at left = omega arith in
-    let whole : IsWholeMilliseconds (duration (expires_at left)) =
-    (expires_at left, below, omega arith) in
+    let whole : IsWholeTimer (Some (KeepAlive (duration (expires_at left)))) = (omega arith, tt) in
     by_versions _
     (each _ (refl, tt) (rw same, whole) (rw same, whole) (refl, tt) (rw same, whole))
     (each _ (refl, tt) (rw same, whole) (rw same, whole) (refl, tt) (rw same, whole))
@@ -87,27 +91,30 @@ header_found class family state count socket words = Ok record {
 }
 
 pub header_is : (left : List ℕ) (versions : IpVersions) (class : ℕ) → class < 5
-    → Ok (header_of (versions, class) (values_of (header_fields (versions, class)) left))
+    → let values = values_of (inet_response_header.table (versions, class)) left in
+    Ok (header_of (versions, class) values)
     ≡ header_found class (slice_index left 0) (slice_index left 1) (slice_index left 3)
     (socket_id_of versions (values_of (socket_id_fields 4 versions) left))
     (values_of (numbers 52 4 little_endian 5) left)
+unfolding inet_response_header
 header_is left = by_versions _ (each _ refl refl refl refl refl) (each _ refl refl refl refl refl)
     (each _ refl refl refl refl refl) (each _ refl refl refl refl refl)
 
 -- ---- a header is that of its values
 
 timer_back : (timer : Option Timer) (before after : List ℕ) → IsWholeTimer timer
-    → timer_of (class_of timer) (slice_index (retransmits_values timer ++ before) 0)
-    (slice_index (expires_values timer ++ after) 0) ≡ timer
+    → timer_of (timer_data timer).0 (slice_index ((timer_data timer).1 ++ before) 0)
+    (slice_index (map milliseconds (timer_data timer).2 ++ after) 0) ≡ timer
 timer_back timer before after h =
     grind arith
 
 behind_retransmits : (timer : Option Timer) (rest : List ℕ)
-    → drop (retransmits_count (class_of timer)) (retransmits_values timer ++ rest) ≡ rest
+    → drop (retransmits_count (timer_data timer).0) ((timer_data timer).1 ++ rest) ≡ rest
 behind_retransmits timer rest = grind arith
 
 behind_expires : (timer : Option Timer) (rest : List ℕ)
-    → drop (expires_count (class_of timer)) (expires_values timer ++ rest) ≡ rest
+    → drop (expires_count (timer_data timer).0) (map milliseconds (timer_data timer).2 ++ rest)
+    ≡ rest
 behind_expires timer rest = grind arith
 
 behind_socket : (value : SocketId) (rest : List ℕ)
@@ -124,7 +131,7 @@ unfolding inet_response_header
 header_sound = record {
   tables = λ param t left e. tables_are t.0 t.1 (grind arith);
   own_table = λ value.
-      tables_are (versions_of value.socket_id) (class_of value.timer) (class_of_lt value.timer);
+      tables_are (versions_of value.socket_id) (timer_data value.timer).0 (class_of_lt value.timer);
   enough = λ value. omega arith;
   room = λ param t left enough e. enough;
   long = λ value. grind arith;

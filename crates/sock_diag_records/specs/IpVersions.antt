@@ -1,5 +1,5 @@
 -- The versions of a socket's addresses, and which the family tells.
-use Rattle.std.specs.Prelude.{ℕ, ◌==◌, if◌then◌else◌, Result, Ok, Err}
+use Rattle.std.specs.Prelude.{ℕ, ◌==◌, if◌then◌else◌, List, Result, Ok, Err}
 use Rattle.std.specs.declared.net.ip_addr.IpAddr.{IpAddr}
 use Rattle.std.specs.declared.net.ip_addr.IpAddr.TheVariants.{V4, V6}
 use Rattle.sock_diag_records.specs.declared.inet.socket_id.SocketId.{SocketId}
@@ -20,11 +20,11 @@ versions_of_family family =
     if family == 2 then Ok (ipv4, ipv4)
     else if family == 10 then Ok (ipv6, ipv6) else Err (UnsupportedFamily family)
 
--- of which version an address is
-abbrev pub version_of : IpAddr → IpVersion
-version_of (V4 ip) = ipv4
-version_of (V6 ip) = ipv6
+-- of an address its version, how many numbers it has, and these: four octets or eight segments
+abbrev pub address_data : IpAddr → IpVersion × ℕ × List ℕ
+address_data (V4 ip) = (ipv4, 4, ip.octets)
+address_data (V6 ip) = (ipv6, 8, ip.segments)
 
 -- of which versions the addresses of an identity are
 abbrev pub versions_of : SocketId → IpVersions
-versions_of value = (version_of value.source_address, version_of value.destination_address)
+versions_of v = ((address_data v.source_address).0, (address_data v.destination_address).0)

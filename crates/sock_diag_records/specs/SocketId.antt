@@ -11,7 +11,7 @@ use Rattle.netlink_core.specs.Layout.{Layout}
 use Rattle.sock_diag_records.specs.declared.inet.socket_id.SocketId.{SocketId}
 use Rattle.netlink_core.specs.declared.fault.RecordName.TheVariants as name
 use Rattle.sock_diag_records.specs.IpVersions.{IpVersion, ipv4, ipv6, IpVersions}
-use Rattle.sock_diag_records.specs.IpVersions.{versions_of_family, versions_of}
+use Rattle.sock_diag_records.specs.IpVersions.{versions_of_family, versions_of, address_data}
 use Rattle.sock_diag_records.specs.SocketIdInverse.{socket_id_of}
 
 -- the fields of an address at that offset: four bytes and twelve that are not read, or eight
@@ -22,8 +22,7 @@ address_fields offset ipv6 = numbers offset 2 big_endian 8
 
 -- the values of an address in its fields
 abbrev pub address_values : IpAddr → List ℕ
-address_values (V4 ip) = first 4 ip.octets
-address_values (V6 ip) = first 8 ip.segments
+address_values address = first (address_data address).1 (address_data address).2
 
 -- four octets and twelve zeros, or eight segments
 abbrev pub address_bytes : IpAddr → List ℕ
@@ -34,27 +33,22 @@ address_bytes (V6 ip) = flat_map (big_bytes 2) (first 8 ip.segments)
 
 -- the fields, where the record begins at that offset
 abbrev pub socket_id_fields : ℕ → IpVersions → List Field
-socket_id_fields offset versions =
-    numbers offset 2 big_endian 2 ++ (address_fields (offset + 4) versions.0
-    ++ (address_fields (offset + 20) versions.1
+socket_id_fields offset versions = numbers offset 2 big_endian 2
+    ++ (address_fields (offset + 4) versions.0 ++ (address_fields (offset + 20) versions.1
     ++ (number (offset + 36) 4 little_endian ∷ bytes_at (offset + 40) 8)))
 
 -- the values in the fields
 abbrev pub socket_id_values : SocketId → List ℕ
-socket_id_values value =
-    value.source_port ∷ value.destination_port ∷
-    (address_values value.source_address ++ (address_values value.destination_address ++ value.interface_id ∷ first 8 value.cookie))
+socket_id_values v = v.source_port ∷ v.destination_port ∷ (address_values v.source_address
+    ++ (address_values v.destination_address ++ v.interface_id ∷ first 8 v.cookie))
 
 -- four octets or eight segments
 abbrev pub IsAddress : IpAddr → Type 0
-IsAddress (V4 ip) = length ip.octets ≡ 4
-IsAddress (V6 ip) = length ip.segments ≡ 8
+IsAddress address = length (address_data address).2 ≡ (address_data address).1
 
 -- each array is as long as its type has it
-pub record IsShaped (value : SocketId) : Type 0 where
-  pub source : IsAddress value.source_address
-  pub destination : IsAddress value.destination_address
-  pub cookie : length value.cookie ≡ 8
+abbrev pub IsShaped : SocketId → Type 0
+IsShaped v = IsAddress v.source_address × IsAddress v.destination_address × (length v.cookie ≡ 8)
 
 -- 48 bytes. A string of as many is refused where the family is another; in normal form the
 -- addresses are of its version

@@ -20,7 +20,7 @@ use Rattle.sock_diag_records.specs.SocketId.{IsShaped}
 use Rattle.sock_diag_records.specs.SocketIdInverse.{count_of, address_of}
 use Rattle.sock_diag_records.specs.SocketIdInverse.{socket_id_of}
 use Rattle.sock_diag_records.specs.IpVersions.{ipv4, ipv6, IpVersions}
-use Rattle.sock_diag_records.specs.IpVersions.{version_of}
+use Rattle.sock_diag_records.specs.IpVersions.{address_data}
 use Rattle.sock_diag_records.specs.IpVersions.{versions_of}
 use Rattle.std.proofs.lemmas.List.{get_or-drop, drop-drop}
 use Rattle.std.proofs.Math.Nat.{add_assoc}
@@ -32,12 +32,12 @@ by_versions P a b c d versions = grind arith
 
 -- an address is that of its values, and the values behind it are left
 address_back : (address : IpAddr) (rest : List ℕ) → IsAddress address
-    → address_of (version_of address) (address_values address ++ rest) ≡ address
+    → address_of (address_data address).0 (address_values address ++ rest) ≡ address
 address_back address rest h =
     grind (arith, first_all 4, first_all 8)
 
 behind_address : (address : IpAddr) (rest : List ℕ)
-    → drop (count_of (version_of address)) (address_values address ++ rest) ≡ rest
+    → drop (count_of (address_data address).0) (address_values address ++ rest) ≡ rest
 behind_address address rest = grind arith
 
 -- an identity is that of its values, whatever follows them
@@ -49,7 +49,7 @@ socket_id_back value rest shaped =
       append_assoc,
       behind_address,
       address_back,
-      first_all 8 value.cookie shaped.cookie,
+      first_all 8 value.cookie shaped.2,
     )
 
 -- the bytes of the record by itself

@@ -9,7 +9,7 @@ use Rattle.sock_diag_records.specs.UnixRequestInverse.{unix_request_of}
 
 -- the words at 4, 8 and 12, two of them of flags, and the eight bytes of cookie at 16
 abbrev pub unix_request : Layout (Unit {0}) (Unit {0}) UnixRequest
-unix_request = plain name.UnixRequest 24
-    (unread 0 (1 ∷ 0 ∷ 0 ∷ 0 ∷ []) ∷ flags 4 4 0x402 ∷ number 8 4 little_endian ∷ flags 12 4 0x3f ∷ bytes_at 16 8)
+unix_request = plain name.UnixRequest 24 (unread 0 (1 ∷ 0 ∷ 0 ∷ 0 ∷ []) ∷ flags 4 4 0x402
+    ∷ number 8 4 little_endian ∷ flags 12 4 0x3f ∷ bytes_at 16 8)
     (λ value. value.state_flags.0 ∷ value.inode ∷ value.show_flags.0 ∷ first 8 value.cookie)
     unix_request_of (λ value. length value.cookie ≡ 8)

@@ -9,7 +9,7 @@ use Rattle.sock_diag_records.specs.UnixResponseHeaderInverse.{unix_response_head
 
 -- the bytes at 1 and 2, the word at 4 and the eight bytes at 8
 abbrev pub unix_response_header : Layout (Unit {0}) (Unit {0}) UnixResponseHeader
-unix_response_header = plain name.UnixResponseHeader 16
-    (unread 0 (1 ∷ []) ∷ byte 1 ∷ byte 2 ∷ unread 3 (0 ∷ []) ∷ number 4 4 little_endian ∷ bytes_at 8 8)
+unix_response_header = plain name.UnixResponseHeader 16 (unread 0 (1 ∷ []) ∷ byte 1 ∷ byte 2
+    ∷ unread 3 (0 ∷ []) ∷ number 4 4 little_endian ∷ bytes_at 8 8)
     (λ value. value.kind ∷ value.state ∷ value.inode ∷ first 8 value.cookie)
     unix_response_header_of (λ value. length value.cookie ≡ 8)

@@ -2,6 +2,7 @@
 -- last two in turn.
 use Rattle.std.specs.Prelude.{⊤, ℕ, ◌+◌, ◌*◌, List, [], ◌∷◌, Option, Some, None, Ok, nat_lt}
 use Rattle.std.specs.Prelude.{if◌then◌else◌, length, unwrap_or, IfSome, IsSome}
+use Rattle.std.specs.Option.{option_to_list}
 use Rattle.netlink_core.specs.Table.{numbers, little_endian}
 use Rattle.netlink_core.specs.Layout.{Layout}
 use Rattle.netlink_core.specs.declared.fault.RecordName.TheVariants as name
@@ -10,7 +11,6 @@ use Rattle.sock_diag_values.specs.MemInfoInverse.{mem_info_of}
 use Rattle.sock_diag_values.specs.declared.inet.mem_info.MemInfoBytes.{MemInfoBytes}
 use Rattle.sock_diag_values.specs.declared.inet.mem_info.MemInfoBytes.TheVariants.{Seven, Eight}
 use Rattle.sock_diag_values.specs.declared.inet.mem_info.MemInfoBytes.TheVariants.{Nine}
-use Rattle.sock_diag_values.specs.declared.inet.mem_info.MemInfoBuffer.{MemInfoBuffer}
 
 -- how many whole words stand in so many bytes, 28 or more: nine at most
 abbrev pub words_in : ℕ → ℕ
@@ -19,15 +19,7 @@ words_in bytes = if nat_lt bytes 32 then 7 else if nat_lt bytes 36 then 8 else 9
 -- the words behind the seventh; in front of drops an absent backlog is 0
 abbrev pub last_words : Option ℕ → Option ℕ → List ℕ
 last_words backlog (Some drops) = unwrap_or backlog 0 ∷ drops ∷ []
-last_words (Some backlog) None = backlog ∷ []
-last_words None None = []
-
--- the first seven words in front of others
-abbrev pub words_before : MemInfo → List ℕ → List ℕ
-words_before value others =
-    value.receive_queue ∷ value.receive_queue_max ∷ value.bottom_send_queues ∷
-    value.send_queue_max ∷ value.cache ∷ value.send_queue ∷ value.options ∷
-    others
+last_words backlog None = option_to_list backlog
 
 -- the words at 0, 4, .. as many as there are; in normal form drops come behind a backlog
 abbrev pub mem_info : Layout (Unit {0}) ℕ MemInfo
@@ -38,7 +30,8 @@ mem_info = record {
   tag_at = λ param left. Ok (words_in (length left));
   tag_of = λ value. 7 + length (last_words value.backlog_queue_length value.drops);
   table = λ words. numbers 0 4 little_endian words;
-  values = λ value. words_before value (last_words value.backlog_queue_length value.drops);
+  values = λ v. v.receive_queue ∷ v.receive_queue_max ∷ v.bottom_send_queues ∷ v.send_queue_max
+      ∷ v.cache ∷ v.send_queue ∷ v.options ∷ last_words v.backlog_queue_length v.drops;
   value = λ words values. mem_info_of values;
   is_shaped = λ value. ⊤;
   is_own = λ param value. IfSome value.drops (λ drops. IsSome value.backlog_queue_length);
@@ -49,7 +42,3 @@ abbrev pub held_bytes : MemInfoBytes → List ℕ
 held_bytes (Seven bytes) = bytes
 held_bytes (Eight bytes) = bytes
 held_bytes (Nine bytes) = bytes
-
--- the same of a buffer
-abbrev pub buffer_bytes : MemInfoBuffer → List ℕ
-buffer_bytes buffer = held_bytes buffer.bytes

@@ -9,8 +9,7 @@ use Rattle.sock_diag_values.specs.UnixMemInfoInverse.{unix_mem_info_of}
 
 -- the words at 4, 12 and 20; the others are written 0
 abbrev pub unix_mem_info : Layout (Unit {0}) (Unit {0}) MemInfo
-unix_mem_info = plain name.UnixMemInfo 36
-    (unread 0 (replicate 4 0) ∷ number 4 4 little_endian ∷ unread 8 (replicate 4 0) ∷ number 12 4 little_endian
-    ∷ unread 16 (replicate 4 0) ∷ number 20 4 little_endian ∷ unread 24 (replicate 12 0) ∷ [])
-    (λ value. value.so_rcvbuf ∷ value.max_datagram_size ∷ value.alloc ∷ [])
-    unix_mem_info_of (λ value. ⊤)
+unix_mem_info = plain name.UnixMemInfo 36 (unread 0 (replicate 4 0) ∷ number 4 4 little_endian
+    ∷ unread 8 (replicate 4 0) ∷ number 12 4 little_endian ∷ unread 16 (replicate 4 0)
+    ∷ number 20 4 little_endian ∷ unread 24 (replicate 12 0) ∷ [])
+    (λ v. v.so_rcvbuf ∷ v.max_datagram_size ∷ v.alloc ∷ []) unix_mem_info_of (λ value. ⊤)

@@ -1,8 +1,8 @@
 -- What C is told of the headers of replies.
-use Rattle.std.specs.Prelude.{slice_index}
+use Rattle.std.specs.Prelude.{map, slice_index}
 use Rattle.sock_diag_records.specs.declared.inet.response.InetResponseHeader.{InetResponseHeader}
 use Rattle.sock_diag_records.specs.declared.unix.response.UnixResponseHeader.{UnixResponseHeader}
-use Rattle.sock_diag_records.specs.Timer.{class_of, expires_values, retransmits_values}
+use Rattle.sock_diag_records.specs.Timer.{timer_data, milliseconds}
 use Rattle.sock_diag_records.specs.SocketId.{address_bytes}
 use Rattle.netlink_packet_sock_diag.specs.Message.{Message, message_of}
 use Rattle.sock_diag_records.specs.ResponseKind.{inet_request, inet_response, unix_request}
@@ -21,9 +21,9 @@ abbrev pub inet_header_of : InetResponseHeader → InetHeader
 inet_header_of h = record {
   family = h.family;
   state = h.state;
-  timer = class_of h.timer;
-  retransmits = slice_index (retransmits_values h.timer) 0;
-  expires = slice_index (expires_values h.timer) 0;
+  timer = (timer_data h.timer).0;
+  retransmits = slice_index (timer_data h.timer).1 0;
+  expires = slice_index (map milliseconds (timer_data h.timer).2) 0;
   source_port = h.socket_id.source_port;
   destination_port = h.socket_id.destination_port;
   source_address = address_bytes h.socket_id.source_address;

@@ -1,8 +1,7 @@
 //! The headers of replies, as C sees them.
 
-ghost use Rattle.std.specs.Prelude.{◌≡◌, slice_index};
-ghost use Rattle.sock_diag_records.specs.Timer.{class_of, expires_values, milliseconds};
-ghost use Rattle.sock_diag_records.specs.Timer.{retransmits_values};
+ghost use Rattle.std.specs.Prelude.{◌≡◌, map, slice_index};
+ghost use Rattle.sock_diag_records.specs.Timer.{timer_data, milliseconds};
 ghost use Rattle.sock_diag_records.specs.SocketId.{address_bytes};
 ghost use Rattle.sockdiag_c.specs.Headers.{inet_header_of, unix_header_of};
 
@@ -139,9 +138,9 @@ impl From<InetResponseHeader> for InetHeader {
 
 // The byte of a timer, and its count and its milliseconds or else zeros.
 fn timer_numbers(timer: &Option<Timer>) -> (u8, u8, u32)
-    ensures byte { result.0 ≡ class_of timer.now }
-    ensures retransmits { result.1 ≡ slice_index (retransmits_values timer.now) 0 }
-    ensures expires { result.2 ≡ slice_index (expires_values timer.now) 0 }
+    ensures byte { result.0 ≡ (timer_data timer.now).0 }
+    ensures retransmits { result.1 ≡ slice_index (timer_data timer.now).1 0 }
+    ensures expires { result.2 ≡ slice_index (map milliseconds (timer_data timer.now).2) 0 }
 {
     match timer {
         Some(Timer::Retransmit(expires, count)) => (1, *count, whole_milliseconds(*expires)),

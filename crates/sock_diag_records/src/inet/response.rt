@@ -1,17 +1,15 @@
 //! The header of a reply about an IPv4 or IPv6 socket.
 
 ghost use Rattle.std.proofs.Common.{rules};
-ghost use Rattle.std.specs.Prelude.{ℕ, [], ◌∷◌, ◌≡◌, ◌≢◌, slice_index, IfErr};
+ghost use Rattle.std.specs.Prelude.{ℕ, ◌≡◌, ◌≢◌, ◌<◌, map, slice_index, IfErr};
+ghost use Rattle.std.specs.List.{AllByRecursion};
 ghost use Rattle.netlink_core.specs.declared.fault.DecodeError.TheVariants.{Memory};
 ghost use Rattle.netlink_core.specs.Layout.{read};
-ghost use Rattle.netlink_core.specs.Table.{Fit};
 ghost use Rattle.netlink_core.proofs.LayoutLaws.{record_laws};
 ghost use Rattle.sock_diag_records.specs.IpVersions.{IpVersions};
 ghost use Rattle.sock_diag_records.specs.InetResponse.{inet_response_header};
 ghost use Rattle.sock_diag_records.specs.InetResponseInverse.{timer_of};
-ghost use Rattle.sock_diag_records.specs.Timer.{class_of_byte, class_of, milliseconds};
-ghost use Rattle.sock_diag_records.specs.Timer.{retransmits_field, retransmits_values};
-ghost use Rattle.sock_diag_records.specs.Timer.{expires_values};
+ghost use Rattle.sock_diag_records.specs.Timer.{class_of_byte, timer_data, milliseconds};
 ghost use Rattle.sock_diag_records.specs.InetResponseLaws.{header_sound, header_size};
 
 use super::SocketId;
@@ -167,9 +165,9 @@ fn wrapped_milliseconds(time: Duration) -> u32
 
 // The byte of a timer, and its count and its milliseconds or else zeros.
 fn timer_words(timer: &Option<Timer>) -> (u8, u8, u32)
-    ensures byte { result.0 ≡ class_of timer.now }
-    ensures retransmits { result.1 ≡ slice_index (retransmits_values timer.now) 0 }
-    ensures expires { result.2 ≡ slice_index (expires_values timer.now) 0 }
+    ensures byte { result.0 ≡ (timer_data timer.now).0 }
+    ensures retransmits { result.1 ≡ slice_index (timer_data timer.now).1 0 }
+    ensures expires { result.2 ≡ slice_index (map milliseconds (timer_data timer.now).2) 0 }
 {
     match timer {
         Some(Timer::Retransmit(expires, retransmits)) => {
@@ -198,7 +196,7 @@ fn timer_from(timer: u8, retransmits: u8, milliseconds: u32) -> Option<Timer>
 
 // The number of retransmits is within its type.
 fn timer_in_range(timer: &Option<Timer>)
-    ensures { Fit (retransmits_field (class_of timer.now) ∷ []) (retransmits_values timer.now) }
+    ensures { AllByRecursion (λ (count : ℕ). count < 256) (timer_data timer.now).1 }
 {
     if let Some(Timer::Retransmit(_, retransmits)) = timer {
         let _retransmits = *retransmits;

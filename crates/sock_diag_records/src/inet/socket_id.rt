@@ -12,7 +12,7 @@ ghost use Rattle.std.specs.Prelude.{ℕ, slice_index, ◌<◌};
 ghost use Rattle.netlink_core.specs.Table.{Fit};
 ghost use Rattle.sock_diag_records.specs.SocketId.{IsAddress, address_fields, address_values};
 ghost use Rattle.sock_diag_records.specs.SocketId.{socket_id, address_bytes};
-ghost use Rattle.sock_diag_records.specs.IpVersions.{version_of, IpVersions};
+ghost use Rattle.sock_diag_records.specs.IpVersions.{address_data, IpVersions};
 ghost use Rattle.sock_diag_records.specs.SocketIdLaws.{socket_id_sound, socket_id_size};
 
 use crate::constants::{AF_INET, AF_INET6};
@@ -224,7 +224,7 @@ impl Fills<48> for SocketId {
 fn address_in_range(address: IpAddr)
     ensures shaped { IsAddress address }
     ensures fit { (offset : ℕ)
-        → Fit (address_fields offset (version_of address)) (address_values address) }
+        → Fit (address_fields offset (address_data address).0) (address_values address) }
 {
     match address {
         IpAddr::V4(ip) => bytes_in_range(&ip.octets()),

@@ -1,13 +1,12 @@
 //! What INET_DIAG_SKMEMINFO tells: the memory of a socket.
 
-ghost use Rattle.std.specs.Prelude.{ℕ, [], ◌≡◌, ◌≤◌, ◌+◌, ◌↔◌, ◌<◌, ◌^◌, length, take, drop};
+ghost use Rattle.std.specs.Prelude.{ℕ, ◌≡◌, ◌≤◌, ◌+◌, ◌↔◌, ◌<◌, ◌^◌, length, take, drop};
 ghost use Rattle.std.specs.Prelude.{SomeIff, IfSome, IsSome};
 ghost use Rattle.std.proofs.Common.{rules};
 ghost use Rattle.netlink_core.specs.Layout.{read, bytes};
 ghost use Rattle.netlink_core.proofs.LayoutLaws.{record_laws};
 ghost use Rattle.netlink_core.specs.Table.{Fit, numbers, little_endian};
-ghost use Rattle.sock_diag_values.specs.MemInfo.{words_before, words_in, mem_info, held_bytes};
-ghost use Rattle.sock_diag_values.specs.MemInfo.{buffer_bytes};
+ghost use Rattle.sock_diag_values.specs.MemInfo.{words_in, mem_info, held_bytes};
 ghost use Rattle.sock_diag_values.specs.MemInfoLaws.{mem_info_sound};
 ghost use Rattle.sock_diag_values.specs.MemInfoEqualLaws.{buffer_equal, bytes_equal};
 ghost use Rattle.sock_diag_values.specs.MemInfoEqualLaws.{mem_info_equal};
@@ -159,7 +158,7 @@ impl Record for MemInfo {
 impl MemInfo {
     // The first seven words are within their types.
     fn words_are_in_range(&self)
-        ensures { Fit (numbers 0 4 little_endian 7) (words_before self.now []) }
+        ensures { Fit (numbers 0 4 little_endian 7) (take 7 (mem_info.values self.now)) }
     {
         let _receive_queue = self.receive_queue;
         let _receive_queue_max = self.receive_queue_max;
@@ -184,8 +183,8 @@ impl MemInfoBuffer {
     pub fn read_prefix(payload: &[u8]) -> Option<Self>
         ensures enough { IsSome result ↔ 28 ≤ length payload.now }
         ensures bytes { IfSome result
-            (λ buffer. buffer_bytes buffer ≡ take (mem_info.size (words_in (length payload.now)))
-            payload.now) }
+            (λ buffer. held_bytes buffer.bytes
+            ≡ take (mem_info.size (words_in (length payload.now))) payload.now) }
     {
         let bytes = if let Some(bytes) = payload.first_chunk() {
             MemInfoBytes::Nine(*bytes)
@@ -199,14 +198,14 @@ impl MemInfoBuffer {
 
     /// The bytes.
     pub fn to_bytes(&self) -> MemInfoBytes
-        ensures { held_bytes result ≡ buffer_bytes self.now }
+        ensures { result ≡ self.now.bytes }
     {
         self.bytes
     }
 }
 
 impl From<&MemInfo> for MemInfoBuffer {
-    ghost from_gives = { λ value buffer. buffer_bytes buffer ≡ bytes mem_info value.now };
+    ghost from_gives = { λ value buffer. held_bytes buffer.bytes ≡ bytes mem_info value.now };
 
     fn from(value: &MemInfo) -> Self {
         let bytes = match (value.backlog_queue_length, value.drops) {
