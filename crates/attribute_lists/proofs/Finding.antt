@@ -7,7 +7,6 @@ use Rattle.netlink_core.specs.declared.fault.DecodeError.{DecodeError}
 use Rattle.netlink_core.specs.Bytes.{IsBytes}
 use Rattle.netlink_core.specs.Attribute.{Attribute, StartsWith, IsFramingFault}
 use Rattle.netlink_core.specs.Attribute.{AttributesMean, AttributeFault, fill, unpadded}
-use Rattle.netlink_core.specs.Table.{number_in, little_endian}
 use Rattle.netlink_core.specs.AttributeSet.{decodes}
 use Rattle.netlink_core.specs.Response.{ResponseSpec, ValueOf, response_codec}
 use Rattle.netlink_core.proofs.TableLaws.{AreBytes-drop}
@@ -16,6 +15,7 @@ use Rattle.netlink_core.proofs.Cutting.{means_or_fault, means_or_fault_apart}
 use Rattle.attribute_lists.specs.AttributesIn.{attributes_behind}
 use Rattle.attribute_lists.specs.AttributesIn.{HasNoFault, values_in, value_in, IsAccepted}
 use Rattle.attribute_lists.specs.AttributesIn.{response_behind}
+use Rattle.byteorder.specs.Endian.{little_number}
 
 -- those behind so many bytes are those at the start of what follows them
 behind_is : (n : ℕ) (bytes rest : List ℕ) → drop n bytes ≡ rest
@@ -31,11 +31,11 @@ pub found_first : (bytes rest : List ℕ) (a : Attribute) → StartsWith bytes a
 unfolding attributes_behind
 found_first bytes rest a s =
     let all : List ℕ = unpadded a ++ (s.padding ++ rest) in
-    let long : number_in little_endian 2 all ≡ 4 + length a.value = omega (arith, s.fits) in
-    let types : number_in little_endian 2 (drop 2 all) ≡ a.type_word = omega (arith, s.fits) in
-    let value : take (number_in little_endian 2 all - 4) (drop 4 all) ≡ a.value =
+    let long : little_number 2 all ≡ 4 + length a.value = omega (arith, s.fits) in
+    let types : little_number 2 (drop 2 all) ≡ a.type_word = omega (arith, s.fits) in
+    let value : take (little_number 2 all - 4) (drop 4 all) ≡ a.value =
     take_at a.value (s.padding ++ rest) _ (omega arith) in
-    let reach : ℕ = number_in little_endian 2 all + fill (number_in little_endian 2 all) - 1 in
+    let reach : ℕ = little_number 2 all + fill (little_number 2 all) - 1 in
     let behind : drop reach (drop 1 (unpadded a) ++ (s.padding ++ rest)) ≡ rest = elim s.filled [
       | inl full ↦ rw (← append_assoc) (drop_at (drop 1 (unpadded a) ++ s.padding) rest _
           (omega (arith, full, length-append a.value s.padding)))

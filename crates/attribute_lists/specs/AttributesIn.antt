@@ -5,19 +5,19 @@ use Rattle.std.specs.List.{filter_map}
 use Rattle.std.specs.Result.{result_ok}
 use Rattle.netlink_core.specs.declared.fault.DecodeError.{DecodeError}
 use Rattle.netlink_core.specs.Attribute.{Attribute, AttributeFault, fill}
-use Rattle.netlink_core.specs.Table.{number_in, little_endian}
 use Rattle.netlink_core.specs.AttributeSet.{AttributeSet, decodes}
 use Rattle.netlink_core.specs.Response.{ResponseSpec, ValueOf, response_codec}
+use Rattle.byteorder.specs.Endian.{little_number}
 
 -- the attribute at the start of the bytes, by its two words
 abbrev pub leading_attribute : List ℕ → Attribute
-leading_attribute bytes = record { type_word = number_in little_endian 2 (drop 2 bytes); value = take (number_in little_endian 2 bytes - 4) (drop 4 bytes) }
+leading_attribute bytes = record { type_word = little_number 2 (drop 2 bytes); value = take (little_number 2 bytes - 4) (drop 4 bytes) }
 
 -- those behind the next so many bytes, each at the next multiple of four
 unfoldable pub attributes_behind : ℕ → List ℕ → List Attribute
 attributes_behind n [] = []
 attributes_behind zero (byte ∷ bytes) =
-    leading_attribute (byte ∷ bytes) ∷ attributes_behind (number_in little_endian 2 (byte ∷ bytes) + fill (number_in little_endian 2 (byte ∷ bytes)) - 1) bytes
+    leading_attribute (byte ∷ bytes) ∷ attributes_behind (little_number 2 (byte ∷ bytes) + fill (little_number 2 (byte ∷ bytes)) - 1) bytes
 attributes_behind (suc n) (byte ∷ bytes) = attributes_behind n bytes
 
 -- no fault is in the bytes

@@ -5,7 +5,7 @@ use Rattle.std.proofs.Common.{append-nil, le-ltb, lt-ltb}
 use Rattle.std.proofs.lemmas.Bool.{cases_lt}
 use Rattle.netlink_core.specs.Bytes.{IsBytes}
 use Rattle.netlink_core.specs.Table.{Field, values_of, bytes_of}
-use Rattle.netlink_core.specs.SoundLaws.{is_table, size_of, IsSound}
+use Rattle.netlink_core.specs.SoundLaws.{is_table, IsSound}
 use Rattle.netlink_core.specs.Layout.{Layout, read, read_fields, StandsIn, bytes, AreIdle}
 use Rattle.netlink_core.specs.Layout.{IsInRange}
 use Rattle.netlink_core.specs.Layout.{IsNormal, plain}
@@ -13,7 +13,7 @@ use Rattle.netlink_core.specs.Faults.{map_ok}
 use Rattle.netlink_core.specs.Codec.{KeepsLaws, RecordLaws, record_codec}
 use Rattle.netlink_core.specs.PrefixLaws.{value_or_reason}
 use Rattle.netlink_core.proofs.TableLaws.{IsTable, table_from_test, values-bytes_of, values-fit}
-use Rattle.netlink_core.proofs.TableLaws.{values-defined, bytes_of-bytes, ends-at}
+use Rattle.netlink_core.proofs.TableLaws.{values-defined, bytes_of-bytes}
 use Rattle.netlink_core.specs.declared.fault.DecodeError.{DecodeError}
 use Rattle.netlink_core.specs.declared.fault.DecodeError.TheVariants.{Memory, BufferTooSmall}
 use Rattle.netlink_core.specs.declared.fault.RecordName.{RecordName}
@@ -86,12 +86,12 @@ same_tag r s t e f = cc
 module _ {Param Tag Value : Type 0} (layout : Layout Param Tag Value) (sound : IsSound layout) where
   -- the table of a string's tag, and that of a value
   table_is : (param : Param) (tag : Tag) (left : List ℕ) → layout.tag_at param left ≡ Ok tag
-      → IsTable 0 (layout.table tag) (size_of (layout.table tag))
+      → IsTable 0 (layout.table tag) (sound.size tag)
   table_is param tag left tag_found =
       grind (arith, table_from_test 0)
 
   own_table_is : (value : Value) → IsTable 0 (layout.table (layout.tag_of value))
-      (size_of (layout.table (layout.tag_of value)))
+      (sound.size (layout.tag_of value))
   own_table_is value =
       grind (arith, table_from_test 0)
 
@@ -140,7 +140,7 @@ module _ {Param Tag Value : Type 0} (layout : Layout Param Tag Value) (sound : I
         (
           omega arith,
           sound.tag_written param value t n,
-          values-bytes_of 0 (layout.table (layout.tag_of value)) (size_of (layout.table (layout.tag_of value)))
+          values-bytes_of 0 (layout.table (layout.tag_of value)) (sound.size (layout.tag_of value))
               (layout.values value) (bytes layout value) [] (own_table_is value) t.1 n.0
               (sym (append-nil (bytes layout value))),
         ),
@@ -185,7 +185,18 @@ pub plain_sound : {Value : Type 0} {name : RecordName} {size : ℕ} {fields : Li
     → ((left : List ℕ) → is_shaped (value (values_of fields left)))
     → ((v : Value) → is_shaped v → value (values v) ≡ v)
     → IsSound (plain name size fields values value is_shaped)
-plain_sound {size = size} {fields = fields} table long kept shaped back =
-    let same : size ≡ size_of fields =
-    omega (arith, ends-at 0 fields size (table_from_test 0 fields size table)) in
-    grind (arith, named, same)
+plain_sound {size = size} table long kept shaped back = record {
+  size = λ tag. size;
+  tables = λ param tag left e. table;
+  room = λ param tag left enough e. enough;
+  own_table = λ value. table;
+  enough = λ value. omega arith;
+  long = long;
+  named = λ param left e. grind arith;
+  kept = λ param tag left h e. kept left;
+  tagged = λ param tag left e. refl;
+  shaped = λ param tag left h e. shaped left;
+  owned = λ param tag left h e. tt;
+  back = λ param value t n. back value t.0;
+  tag_written = λ param value t n. refl;
+}

@@ -20,7 +20,7 @@ use Rattle.netlink_core.specs.Table.{Field, byte, number, network, flags, unread
 use Rattle.netlink_core.specs.Table.{values_of, bytes_of}
 use Rattle.netlink_core.proofs.Numbers.{Order, little_endian, big_endian, number_in, bytes_in}
 use Rattle.netlink_core.specs.Table.{Fit, AreDefined}
-use Rattle.netlink_core.specs.SoundLaws.{is_table, offset_of, size_of, width_of, is_written}
+use Rattle.netlink_core.specs.SoundLaws.{is_table, offset_of, width_of, is_written}
 use Rattle.netlink_core.specs.Bytes.{IsBytes}
 use Rattle.netlink_core.specs.PrefixLaws.{same_parts}
 use Rattle.netlink_core.specs.ByteLaws.{IsBytes-append}
@@ -72,13 +72,6 @@ table_from_test from (field ∷ fields) end h =
       table_from_test (from + width_of field) fields end,
       width_of field,
     )
-
--- a table ends as many bytes behind its beginning as its fields have
-pub ends-at : (from : ℕ) (fields : List Field) (end : ℕ) → IsTable from fields end
-    → end ≡ from + size_of fields
-ends-at from [] end h = omega (arith, h)
-ends-at from (field ∷ fields) end h =
-    omega (arith, ends-at (from + width_of field) fields end h.2)
 
 -- a table ends at its beginning or later
 ends-after : (from : ℕ) (fields : List Field) (end : ℕ) → IsTable from fields end → from ≤ end

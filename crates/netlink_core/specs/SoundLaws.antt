@@ -23,11 +23,6 @@ width_of (network offset width) = width
 width_of (flags offset width mask) = width
 width_of (unread offset written) = length written
 
--- how many bytes the fields of a table have
-abbrev pub size_of : List Field → ℕ
-size_of [] = 0
-size_of (field ∷ fields) = width_of field + size_of fields
-
 -- what is written of itself is bytes
 abbrev pub is_written : Field → Bool
 is_written (unread offset written) = list_all (λ one. nat_lt one 256) written
@@ -43,20 +38,22 @@ is_table from (field ∷ fields) end =
 module _ {Param Tag Value : Type 0} (layout : Layout Param Tag Value) where
   -- What is shown of a layout so that it keeps the laws.
   pub record IsSound : Type 0 where
+    -- how many bytes each table has
+    pub size : Tag → ℕ
     -- Each table of a string's tag is one of its size, which the string has. So is the table of
     -- each value, whose size is not under the least.
     pub tables : (param : Param) (tag : Tag) (left : List ℕ)
         → layout.tag_at param left ≡ Ok tag
-        → IsTrue (is_table 0 (layout.table tag) (size_of (layout.table tag)))
+        → IsTrue (is_table 0 (layout.table tag) (size tag))
     pub room : (param : Param) (tag : Tag) (left : List ℕ) → layout.least ≤ length left
-        → layout.tag_at param left ≡ Ok tag → size_of (layout.table tag) ≤ length left
+        → layout.tag_at param left ≡ Ok tag → size tag ≤ length left
     pub own_table : (value : Value)
         → IsTrue (is_table 0 (layout.table (layout.tag_of value))
-        (size_of (layout.table (layout.tag_of value))))
-    pub enough : (value : Value) → layout.least ≤ size_of (layout.table (layout.tag_of value))
+        (size (layout.tag_of value)))
+    pub enough : (value : Value) → layout.least ≤ size (layout.tag_of value)
     -- each value has as many bytes, and no fault of a string's tag is want of memory
     pub long : (value : Value) → length (bytes layout value)
-        ≡ size_of (layout.table (layout.tag_of value))
+        ≡ size (layout.tag_of value)
     pub named : (param : Param) (left : List ℕ) → layout.tag_at param left ≡ Err Memory → ⊥
     -- a value that was read has the values and the tag that were read, and is shaped and as normal
     -- form asks

@@ -1,16 +1,16 @@
 -- What congestion control tells, by linux/inet_diag.h.
 use Rattle.std.specs.Prelude.{⊤, [], ◌∷◌, ◌++◌, slice_index}
-use Rattle.netlink_core.specs.Table.{numbers, little_endian}
 use Rattle.sock_diag_extras.specs.RecordTable.{RecordTable}
 use Rattle.sock_diag_extras.specs.declared.congestion.VegasInfo.{VegasInfo}
 use Rattle.sock_diag_extras.specs.declared.congestion.DctcpInfo.{DctcpInfo}
 use Rattle.sock_diag_extras.specs.declared.congestion.BbrInfo.{BbrInfo}
+use Rattle.netlink_core.specs.Table.{number, row}
 
 -- struct tcpvegas_info: 16 bytes, four words
 abbrev pub vegas_info : RecordTable VegasInfo
 vegas_info = record {
   size = 16;
-  fields = numbers 0 4 little_endian 4;
+  fields = row number 0 4 4;
   values = λ v. v.enabled ∷ v.rtt_count ∷ v.rtt ∷ v.min_rtt ∷ [];
   value = λ w. record {
     enabled = slice_index w 0;
@@ -25,7 +25,7 @@ vegas_info = record {
 abbrev pub dctcp_info : RecordTable DctcpInfo
 dctcp_info = record {
   size = 16;
-  fields = numbers 0 2 little_endian 2 ++ numbers 4 4 little_endian 3;
+  fields = row number 0 2 2 ++ row number 4 4 3;
   values = λ v. v.enabled ∷ v.ce_state ∷ v.alpha ∷ v.marked_bytes ∷ v.acked_bytes ∷ [];
   value = λ w. record {
     enabled = slice_index w 0;
@@ -42,7 +42,7 @@ dctcp_info = record {
 abbrev pub bbr_info : RecordTable BbrInfo
 bbr_info = record {
   size = 20;
-  fields = numbers 0 8 little_endian 1 ++ numbers 8 4 little_endian 3;
+  fields = row number 0 8 1 ++ row number 8 4 3;
   values = λ v. v.bandwidth ∷ v.min_rtt ∷ v.pacing_gain ∷ v.window_gain ∷ [];
   value = λ w. record {
     bandwidth = slice_index w 0;

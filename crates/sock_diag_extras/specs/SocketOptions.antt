@@ -1,16 +1,16 @@
 -- What INET_DIAG_SOCKOPT tells, by linux/inet_diag.h: struct inet_diag_sockopt, two bytes of bits.
 use Rattle.std.specs.Prelude.{⊤, ℕ, [], ◌∷◌, slice_index}
-use Rattle.netlink_core.specs.Table.{numbers, little_endian}
 use Rattle.sock_diag_extras.specs.RecordTable.{RecordTable}
 use Rattle.sock_diag_extras.specs.declared.options.SocketOption.{SocketOption}
 use Rattle.sock_diag_extras.specs.declared.options.SocketOption.TheVariants as option
 use Rattle.sock_diag_extras.specs.declared.options.SocketOptions.{SocketOptions}
+use Rattle.netlink_core.specs.Table.{number, row}
 
 -- the bits as one number, the first byte low
 abbrev pub socket_options : RecordTable SocketOptions
 socket_options = record {
   size = 2;
-  fields = numbers 0 2 little_endian 1;
+  fields = row number 0 2 1;
   values = λ v. v.bits ∷ [];
   value = λ w. record { bits = slice_index w 0 };
   is_shaped = λ v. ⊤;

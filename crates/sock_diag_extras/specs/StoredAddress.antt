@@ -4,16 +4,17 @@ use Rattle.std.specs.Prelude.{◌≡◌, ◌==◌, if◌then◌else◌, ◌∷�
 use Rattle.std.specs.Prelude.{Option, Some, None}
 use Rattle.std.specs.declared.net.ip_addr.IpAddr.{IpAddr}
 use Rattle.std.specs.declared.net.ip_addr.IpAddr.TheVariants.{V4, V6}
-use Rattle.netlink_core.specs.Table.{number, numbers, bytes_at, little_endian, big_endian, first}
+use Rattle.netlink_core.specs.Table.{bytes_at, first}
 use Rattle.sock_diag_extras.specs.RecordTable.{RecordTable}
 use Rattle.sock_diag_extras.specs.declared.stored_address.StoredAddress.{StoredAddress}
+use Rattle.netlink_core.specs.Table.{number, network, row}
 
 -- the family, the port, four bytes, eight segments, the scope, and what no address of IP has
 abbrev pub stored_address : RecordTable StoredAddress
 stored_address = record {
   size = 128;
-  fields = number 0 2 little_endian ∷ number 2 2 big_endian ∷ bytes_at 4 4
-      ++ numbers 8 2 big_endian 8 ++ number 24 4 little_endian ∷ bytes_at 28 100;
+  fields = number 0 2 ∷ network 2 2 ∷ bytes_at 4 4
+      ++ row network 8 2 8 ++ number 24 4 ∷ bytes_at 28 100;
   values = λ v. v.family ∷ v.port ∷ first 4 v.front ++ first 8 v.segments
       ++ v.scope_id ∷ first 100 v.rest;
   value = λ w. record {

@@ -1,9 +1,10 @@
 -- The header of a reply about a netlink socket: 28 bytes, the byte at 0 not read and written 16.
 use Rattle.std.specs.Prelude.{⊤, ℕ, List, [], ◌∷◌, ◌++◌, slice_index}
 use Rattle.netlink_core.specs.Layout.{Layout, plain}
-use Rattle.netlink_core.specs.Table.{bytes_at, number, numbers, unread, little_endian}
+use Rattle.netlink_core.specs.Table.{bytes_at, unread}
 use Rattle.netlink_core.specs.declared.fault.RecordName.TheVariants as name
 use Rattle.sock_diag_families.specs.declared.netlink.response.NetlinkResponseHeader.{NetlinkResponseHeader}
+use Rattle.netlink_core.specs.Table.{number, row}
 
 -- the header with the numbers of its fields
 abbrev pub netlink_header_of : List ℕ → NetlinkResponseHeader
@@ -21,8 +22,8 @@ netlink_header_of values = record {
 -- the bytes at 1, 2 and 3, four words of 32 bits from 4 on, and one of 64 at 20, low byte first
 abbrev pub netlink_header : Layout (Unit {0}) (Unit {0}) NetlinkResponseHeader
 netlink_header = plain (name.FamilyResponseHeader 16) 28
-    (unread 0 (16 ∷ []) ∷ bytes_at 1 3 ++ numbers 4 4 little_endian 4
-    ++ number 20 8 little_endian ∷ [])
+    (unread 0 (16 ∷ []) ∷ bytes_at 1 3 ++ row number 4 4 4
+    ++ number 20 8 ∷ [])
     (λ value. value.kind ∷ value.protocol ∷ value.state ∷ value.port ∷ value.destination_port
     ∷ value.destination_group ∷ value.inode ∷ value.cookie ∷ [])
     netlink_header_of (λ value. ⊤)

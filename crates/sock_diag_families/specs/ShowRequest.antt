@@ -2,9 +2,10 @@
 -- family, those at 2 and 3 not read and written 0.
 use Rattle.std.specs.Prelude.{⊤, ℕ, ◌%◌, List, [], ◌∷◌, slice_index}
 use Rattle.netlink_core.specs.Layout.{Layout, plain}
-use Rattle.netlink_core.specs.Table.{Field, byte, number, unread, little_endian}
+use Rattle.netlink_core.specs.Table.{Field, byte, unread}
 use Rattle.netlink_core.specs.declared.fault.RecordName.TheVariants as name
 use Rattle.sock_diag_families.specs.declared.request.ShowRequest.{ShowRequest}
+use Rattle.netlink_core.specs.Table.{number}
 
 -- the request with the numbers of its fields
 abbrev pub show_request_of : {family : ℕ} → List ℕ → ShowRequest family
@@ -19,8 +20,8 @@ show_request_of values = record {
 -- byte first
 abbrev pub show_rows : ℕ → List Field
 show_rows family =
-    unread 0 (family % 256 ∷ []) ∷ byte 1 ∷ unread 2 (0 ∷ 0 ∷ []) ∷ number 4 4 little_endian
-    ∷ number 8 4 little_endian ∷ number 12 8 little_endian ∷ []
+    unread 0 (family % 256 ∷ []) ∷ byte 1 ∷ unread 2 (0 ∷ 0 ∷ []) ∷ number 4 4
+    ∷ number 8 4 ∷ number 12 8 ∷ []
 
 -- those of the family with that number, which a byte holds
 abbrev pub show_request : (family : ℕ) → Layout (Unit {0}) (Unit {0}) (ShowRequest family)

@@ -1,22 +1,23 @@
 -- The tables of what the attributes of a reply about an XDP socket tell, all low byte first.
 use Rattle.std.specs.Prelude.{ℕ, List, ◌∷◌, slice_index, Result}
-use Rattle.netlink_core.specs.Table.{Field, number, numbers, little_endian}
+use Rattle.netlink_core.specs.Table.{Field}
 use Rattle.netlink_core.specs.declared.fault.DecodeError.{DecodeError}
 use Rattle.sock_diag_families.specs.Found.{fields}
 use Rattle.sock_diag_families.specs.declared.xdp.attributes.XdpInfo.{XdpInfo}
 use Rattle.sock_diag_families.specs.declared.xdp.attributes.XdpStatistics.{XdpStatistics}
 use Rattle.sock_diag_families.specs.declared.xdp.attributes.XdpUmem.{XdpUmem}
+use Rattle.netlink_core.specs.Table.{number, row}
 
 -- two words of 32 bits
 abbrev pub xdp_info : List ℕ → Result XdpInfo DecodeError
-xdp_info = fields 44 1 8 (numbers 0 4 little_endian 2) (λ words. record {
+xdp_info = fields 44 1 8 (row number 0 4 2) (λ words. record {
   interface = slice_index words 0;
   queue = slice_index words 1;
 })
 
 -- a word of 64 bits, and eight of 32
 abbrev pub xdp_umem_rows : List Field
-xdp_umem_rows = number 0 8 little_endian ∷ numbers 8 4 little_endian 8
+xdp_umem_rows = number 0 8 ∷ row number 8 4 8
 
 abbrev pub xdp_umem_of : List ℕ → XdpUmem
 xdp_umem_of words = record {
@@ -36,7 +37,7 @@ xdp_umem = fields 44 5 40 xdp_umem_rows xdp_umem_of
 
 -- six words of 64 bits
 abbrev pub xdp_statistics_rows : List Field
-xdp_statistics_rows = numbers 0 8 little_endian 6
+xdp_statistics_rows = row number 0 8 6
 
 abbrev pub xdp_statistics_of : List ℕ → XdpStatistics
 xdp_statistics_of words = record {

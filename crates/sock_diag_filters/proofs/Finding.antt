@@ -4,7 +4,7 @@ use Rattle.std.proofs.Common.{Option}
 use Rattle.std.specs.Prelude.{◌||◌, ◌==◌, not, slice_index, drop, unwrap_or}
 use Rattle.std.proofs.lemmas.Bool.{ne_eqb}
 use Rattle.byteorder.specs.Endian.{little_bytes, little_number}
-use Rattle.netlink_core.specs.Table.{little_endian}
+use Rattle.netlink_core.proofs.Numbers.{little_endian}
 use Rattle.netlink_core.proofs.Numbers.{number-reads_back}
 use Rattle.std.specs.declared.net.ip_addr.IpAddr.{IpAddr}
 use Rattle.sock_diag_filters.specs.declared.condition.ValueCodec.{ValueCodec}

@@ -4,7 +4,7 @@ use Rattle.std.proofs.Common.{length, drop, arith, Option, Some}
 use Rattle.std.specs.Prelude.{slice_index, option_map}
 use Rattle.std.proofs.lemmas.List.{drop_at, length-append}
 use Rattle.byteorder.specs.Endian.{little_bytes}
-use Rattle.netlink_core.specs.Table.{little_endian}
+use Rattle.netlink_core.proofs.Numbers.{little_endian}
 use Rattle.netlink_core.proofs.Numbers.{number-reads_back}
 use Rattle.std.specs.declared.net.ip_addr.IpAddr.{IpAddr}
 use Rattle.sock_diag_filters.specs.declared.condition.ValueCodec.{ValueCodec}

@@ -13,7 +13,7 @@ use Rattle.netlink_core.specs.declared.fault.DecodeError.{DecodeError}
 use Rattle.netlink_core.specs.declared.header.NetlinkHeader.{NetlinkHeader}
 use Rattle.netlink_core.specs.Layout.{bytes, read}
 use Rattle.netlink_core.specs.Header.{HasHeader, IsEnvelopeFault, header_bytes}
-use Rattle.netlink_core.specs.Table.{little_endian}
+use Rattle.netlink_core.proofs.Numbers.{little_endian}
 use Rattle.netlink_core.proofs.Cutting.{all_written_is_cut, means_or_fault_apart, one_cut}
 use Rattle.netlink_core.proofs.Cutting.{written_values_are_read}
 use Rattle.netlink_core.proofs.Datagrams.{one_cut_into_messages}

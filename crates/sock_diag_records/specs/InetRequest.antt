@@ -16,7 +16,6 @@ unfoldable pub inet_request : Layout (Unit {0}) IpVersions InetRequest
 inet_request = record {
   name = name.InetRequest;
   least = 56;
-  size = λ versions. 56;
   tag_at = λ param left. versions_of_family (slice_index left 0);
   tag_of = λ value. versions_of value.socket_id;
   table = λ tag. bytes_at 0 3 ++ unread 3 (0 ∷ []) ∷ flags 4 4 0xffe ∷ socket_id_fields 8 tag;

@@ -23,6 +23,7 @@ request_length value = grind arith
 pub inet_request_sound : IsSound inet_request
 unfolding inet_request
 inet_request_sound = record {
+  size = λ versions. 56;
   tables = λ param versions left e. grind arith;
   own_table = λ value. grind arith;
   enough = λ value. omega arith;
@@ -33,10 +34,10 @@ inet_request_sound = record {
   tagged = λ param versions left e. grind arith;
   shaped = λ param versions left h e. grind arith;
   owned = λ param versions left h e. grind arith;
-  back = λ param value t n. rw (simp append-nil at (socket_id_back value.socket_id [] t.shaped));
-  tag_written = λ param value t n. n.own;
+  back = λ param value t n. rw (simp append-nil at (socket_id_back value.socket_id [] t.0));
+  tag_written = λ param value t n. n.1;
 }
 
 pub inet_request_size : IsFixed inet_request 56
 unfolding inet_request
-inet_request_size = (refl, λ versions. refl)
+inet_request_size = (refl, request_length)

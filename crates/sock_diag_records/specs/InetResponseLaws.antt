@@ -1,17 +1,17 @@
 -- The layout of the header of a reply is sound.
 use Rattle.std.proofs.Common.{IsTrue, ◌≡◌, ℕ, ◌*◌, ◌^◌, ◌<◌}
-use Rattle.std.proofs.Common.{List, ◌++◌, drop}
+use Rattle.std.proofs.Common.{List, ◌++◌, drop, length}
 use Rattle.std.proofs.Common.{slice_index, Option, Some, Result, Ok, refl}
 use Rattle.std.proofs.Common.{arith}
 use Rattle.std.specs.Prelude.{map}
 use Rattle.std.specs.List.{AllByRecursion}
 use Rattle.std.specs.Duration.{as_nanos}
-use Rattle.netlink_core.specs.Table.{values_of, numbers}
-use Rattle.netlink_core.specs.Table.{little_endian}
+use Rattle.netlink_core.specs.Table.{values_of}
 use Rattle.netlink_core.specs.SoundLaws.{is_table, IsSound, IsFixed}
 use Rattle.netlink_core.specs.Bytes.{IsBytes}
 use Rattle.netlink_core.specs.Faults.{map_ok}
-use Rattle.netlink_core.proofs.Numbers.{number-fits}
+use Rattle.netlink_core.proofs.Numbers.{number-fits, little_endian}
+use Rattle.netlink_core.specs.Layout.{bytes}
 use Rattle.netlink_core.proofs.TableLaws.{AreBytes-drop}
 use Rattle.sock_diag_records.specs.declared.inet.response.Timer.{Timer}
 use Rattle.sock_diag_records.specs.declared.inet.response.Timer.TheVariants.{KeepAlive}
@@ -27,6 +27,7 @@ use Rattle.sock_diag_records.specs.InetResponseInverse.{timer_of, header_of, soc
 use Rattle.sock_diag_records.specs.Timer.{milliseconds, class_of_byte}
 use Rattle.sock_diag_records.specs.Timer.{timer_data}
 use Rattle.sock_diag_records.specs.SocketIdLaws.{by_versions, socket_id_back}
+use Rattle.netlink_core.specs.Table.{number, row}
 
 -- a timer's time is whole milliseconds
 abbrev IsWholeTimer : Option Timer → Type 0
@@ -45,7 +46,7 @@ each P none retransmits keeps_alive waits probes class h = grind arith
 
 -- the number of the word at 52
 abbrev expires_at : List ℕ → ℕ
-expires_at left = slice_index (values_of (numbers 52 4 little_endian 1) left) 0
+expires_at left = slice_index (values_of (row number 52 4 1) left) 0
 
 pub class_lt : (timer : ℕ) → class_of_byte timer < 5
 class_lt timer = grind arith
@@ -95,7 +96,7 @@ pub header_is : (left : List ℕ) (versions : IpVersions) (class : ℕ) → clas
     Ok (header_of (versions, class) values)
     ≡ header_found class (slice_index left 0) (slice_index left 1) (slice_index left 3)
     (socket_id_of versions (values_of (socket_id_fields 4 versions) left))
-    (values_of (numbers 52 4 little_endian 5) left)
+    (values_of (row number 52 4 5) left)
 unfolding inet_response_header
 header_is left = by_versions _ (each _ refl refl refl refl refl) (each _ refl refl refl refl refl)
     (each _ refl refl refl refl refl) (each _ refl refl refl refl refl)
@@ -126,24 +127,30 @@ ruleset header_back =
 
 -- ---- the layout is sound
 
+-- a header has 72 bytes
+pub header_long : (value : InetResponseHeader) → length (bytes inet_response_header value) ≡ 72
+unfolding inet_response_header
+header_long value = grind arith
+
 pub header_sound : IsSound inet_response_header
 unfolding inet_response_header
 header_sound = record {
+  size = λ tag. 72;
   tables = λ param t left e. tables_are t.0 t.1 (grind arith);
   own_table = λ value.
       tables_are (versions_of value.socket_id) (timer_data value.timer).0 (class_of_lt value.timer);
   enough = λ value. omega arith;
   room = λ param t left enough e. enough;
-  long = λ value. grind arith;
+  long = header_long;
   named = λ param left e. grind arith;
   kept = λ param t left h e. (kept_are left h t.0 t.1 (grind arith)).0;
   tagged = λ param t left e. grind arith;
   shaped = λ param t left h e. grind arith;
   owned = λ param t left h e. (grind arith, (kept_are left h t.0 t.1 (grind arith)).1);
-  back = λ param value t n. simp (header_back, t.shaped, n.own.1);
-  tag_written = λ param value t n. rw n.own.0 (grind arith);
+  back = λ param value t n. simp (header_back, t.0, n.1.1);
+  tag_written = λ param value t n. rw n.1.0 (grind arith);
 }
 
 pub header_size : IsFixed inet_response_header 72
 unfolding inet_response_header
-header_size = (refl, λ tag. refl)
+header_size = (refl, header_long)

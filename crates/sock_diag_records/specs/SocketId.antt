@@ -5,20 +5,21 @@ use Rattle.std.specs.List.{flat_map}
 use Rattle.byteorder.specs.Endian.{big_bytes}
 use Rattle.std.specs.declared.net.ip_addr.IpAddr.{IpAddr}
 use Rattle.std.specs.declared.net.ip_addr.IpAddr.TheVariants.{V4, V6}
-use Rattle.netlink_core.specs.Table.{Field, number, unread, bytes_at, numbers, little_endian}
-use Rattle.netlink_core.specs.Table.{big_endian, first}
+use Rattle.netlink_core.specs.Table.{Field, unread, bytes_at}
+use Rattle.netlink_core.specs.Table.{first}
 use Rattle.netlink_core.specs.Layout.{Layout}
 use Rattle.sock_diag_records.specs.declared.inet.socket_id.SocketId.{SocketId}
 use Rattle.netlink_core.specs.declared.fault.RecordName.TheVariants as name
 use Rattle.sock_diag_records.specs.IpVersions.{IpVersion, ipv4, ipv6, IpVersions}
 use Rattle.sock_diag_records.specs.IpVersions.{versions_of_family, versions_of, address_data}
 use Rattle.sock_diag_records.specs.SocketIdInverse.{socket_id_of}
+use Rattle.netlink_core.specs.Table.{number, network, row}
 
 -- the fields of an address at that offset: four bytes and twelve that are not read, or eight
 -- segments
 abbrev pub address_fields : ℕ → IpVersion → List Field
 address_fields offset ipv4 = bytes_at offset 4 ++ unread (offset + 4) (replicate 12 0) ∷ []
-address_fields offset ipv6 = numbers offset 2 big_endian 8
+address_fields offset ipv6 = row network offset 2 8
 
 -- the values of an address in its fields
 abbrev pub address_values : IpAddr → List ℕ
@@ -33,9 +34,9 @@ address_bytes (V6 ip) = flat_map (big_bytes 2) (first 8 ip.segments)
 
 -- the fields, where the record begins at that offset
 abbrev pub socket_id_fields : ℕ → IpVersions → List Field
-socket_id_fields offset versions = numbers offset 2 big_endian 2
+socket_id_fields offset versions = row network offset 2 2
     ++ (address_fields (offset + 4) versions.0 ++ (address_fields (offset + 20) versions.1
-    ++ (number (offset + 36) 4 little_endian ∷ bytes_at (offset + 40) 8)))
+    ++ (number (offset + 36) 4 ∷ bytes_at (offset + 40) 8)))
 
 -- the values in the fields
 abbrev pub socket_id_values : SocketId → List ℕ
@@ -56,7 +57,6 @@ unfoldable pub socket_id : Layout ℕ IpVersions SocketId
 socket_id = record {
   name = name.SocketId;
   least = 48;
-  size = λ versions. 48;
   tag_at = λ family left. versions_of_family family;
   tag_of = versions_of;
   table = socket_id_fields 0;

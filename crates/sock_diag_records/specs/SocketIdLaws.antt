@@ -1,5 +1,5 @@
 -- The layout of a socket's identity is sound.
-use Rattle.std.proofs.Common.{◌≡◌, ℕ, List, [], ◌∷◌, ◌++◌, drop}
+use Rattle.std.proofs.Common.{◌≡◌, ℕ, List, [], ◌∷◌, ◌++◌, drop, length}
 use Rattle.std.proofs.Common.{refl}
 use Rattle.std.proofs.Common.{arith}
 use Rattle.std.proofs.lemmas.List.{append_assoc}
@@ -60,26 +60,32 @@ pub bytes_alone : (value : SocketId) → bytes socket_id value
 unfolding socket_id
 bytes_alone value = grind arith
 
+-- an identity has 48 bytes
+pub socket_id_long : (value : SocketId) → length (bytes socket_id value) ≡ 48
+unfolding socket_id
+socket_id_long value = grind arith
+
 pub socket_id_sound : IsSound socket_id
 unfolding socket_id
 socket_id_sound = record {
+  size = λ versions. 48;
   tables = λ family versions left e. grind arith;
   own_table = λ value. grind arith;
   enough = λ value. omega arith;
   room = λ family versions left enough e. enough;
-  long = λ value. grind arith;
+  long = socket_id_long;
   named = λ family left e. grind arith;
   kept = λ family versions left _ _. grind arith;
   tagged = λ family versions left e. grind arith;
   shaped = λ family versions left h e. grind arith;
   owned = λ family versions left h e. grind arith;
-  back = λ family value t n. simp append-nil at (socket_id_back value [] t.shaped);
-  tag_written = λ family value t n. n.own;
+  back = λ family value t n. simp append-nil at (socket_id_back value [] t.0);
+  tag_written = λ family value t n. n.1;
 }
 
 pub socket_id_size : IsFixed socket_id 48
 unfolding socket_id
-socket_id_size = (refl, λ versions. refl)
+socket_id_size = (refl, socket_id_long)
 
 -- ---- the record inside another
 

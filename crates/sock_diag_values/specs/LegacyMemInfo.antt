@@ -1,14 +1,14 @@
 -- The memory of a socket, as older kernels tell it: 16 bytes, four words of 32 bits, low byte
 -- first.
 use Rattle.std.specs.Prelude.{⊤, [], ◌∷◌}
-use Rattle.netlink_core.specs.Table.{numbers, little_endian}
 use Rattle.netlink_core.specs.Layout.{Layout, plain}
 use Rattle.netlink_core.specs.declared.fault.RecordName.TheVariants as name
 use Rattle.sock_diag_values.specs.declared.inet.legacy_mem_info.LegacyMemInfo.{LegacyMemInfo}
 use Rattle.sock_diag_values.specs.LegacyMemInfoInverse.{legacy_mem_info_of}
+use Rattle.netlink_core.specs.Table.{number, row}
 
 -- the words at 0, 4, 8 and 12
 abbrev pub legacy_mem_info : Layout (Unit {0}) (Unit {0}) LegacyMemInfo
-legacy_mem_info = plain name.LegacyMemInfo 16 (numbers 0 4 little_endian 4)
+legacy_mem_info = plain name.LegacyMemInfo 16 (row number 0 4 4)
     (λ value. value.receive_queue ∷ value.bottom_send_queue ∷ value.cache ∷ value.send_queue ∷ [])
     legacy_mem_info_of (λ value. ⊤)

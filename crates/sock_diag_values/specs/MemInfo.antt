@@ -3,7 +3,6 @@
 use Rattle.std.specs.Prelude.{⊤, ℕ, ◌+◌, ◌*◌, List, [], ◌∷◌, Option, Some, None, Ok, nat_lt}
 use Rattle.std.specs.Prelude.{if◌then◌else◌, length, unwrap_or, IfSome, IsSome}
 use Rattle.std.specs.Option.{option_to_list}
-use Rattle.netlink_core.specs.Table.{numbers, little_endian}
 use Rattle.netlink_core.specs.Layout.{Layout}
 use Rattle.netlink_core.specs.declared.fault.RecordName.TheVariants as name
 use Rattle.sock_diag_values.specs.declared.inet.mem_info.MemInfo.{MemInfo}
@@ -11,6 +10,7 @@ use Rattle.sock_diag_values.specs.MemInfoInverse.{mem_info_of}
 use Rattle.sock_diag_values.specs.declared.inet.mem_info.MemInfoBytes.{MemInfoBytes}
 use Rattle.sock_diag_values.specs.declared.inet.mem_info.MemInfoBytes.TheVariants.{Seven, Eight}
 use Rattle.sock_diag_values.specs.declared.inet.mem_info.MemInfoBytes.TheVariants.{Nine}
+use Rattle.netlink_core.specs.Table.{number, row}
 
 -- how many whole words stand in so many bytes, 28 or more: nine at most
 abbrev pub words_in : ℕ → ℕ
@@ -26,10 +26,9 @@ abbrev pub mem_info : Layout (Unit {0}) ℕ MemInfo
 mem_info = record {
   name = name.MemInfo;
   least = 28;
-  size = λ words. 4 * words;
   tag_at = λ param left. Ok (words_in (length left));
   tag_of = λ value. 7 + length (last_words value.backlog_queue_length value.drops);
-  table = λ words. numbers 0 4 little_endian words;
+  table = λ words. row number 0 4 words;
   values = λ v. v.receive_queue ∷ v.receive_queue_max ∷ v.bottom_send_queues ∷ v.send_queue_max
       ∷ v.cache ∷ v.send_queue ∷ v.options ∷ last_words v.backlog_queue_length v.drops;
   value = λ words values. mem_info_of values;

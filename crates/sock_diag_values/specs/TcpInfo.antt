@@ -1,10 +1,11 @@
 -- The record of a TCP connection: 232 bytes, in groups of numbers, low byte first.
 use Rattle.std.specs.Prelude.{⊤, ℕ, List, [], ◌∷◌, ◌++◌}
-use Rattle.netlink_core.specs.Table.{bytes_at, numbers, little_endian}
+use Rattle.netlink_core.specs.Table.{bytes_at}
 use Rattle.netlink_core.specs.Layout.{Layout, plain}
 use Rattle.sock_diag_values.specs.declared.inet.tcp_info.TcpInfo.{TcpInfo}
 use Rattle.sock_diag_values.specs.TcpInfoInverse.{tcp_info_of}
 use Rattle.netlink_core.specs.declared.fault.RecordName.TheVariants as name
+use Rattle.netlink_core.specs.Table.{number, row}
 
 -- the numbers, group by group, in the order of the table: first the bytes at 0
 abbrev pub tcp_info_values : TcpInfo → List ℕ
@@ -33,7 +34,7 @@ tcp_info_values t = t.state ∷ t.ca_state ∷ t.retransmits ∷ t.probes ∷ t.
 
 -- 232 bytes, and of each group the offset, the width, and how many numbers
 unfoldable pub tcp_info : Layout (Unit {0}) (Unit {0}) TcpInfo
-tcp_info = plain name.TcpInfo 232 (bytes_at 0 8 ++ numbers 8 4 little_endian 24 ++
-    numbers 104 8 little_endian 4 ++ numbers 136 4 little_endian 6 ++ numbers 160 8 little_endian 4
-    ++ numbers 192 4 little_endian 2 ++ numbers 200 8 little_endian 2
-    ++ numbers 216 4 little_endian 4) tcp_info_values tcp_info_of (λ value. ⊤)
+tcp_info = plain name.TcpInfo 232 (bytes_at 0 8 ++ row number 8 4 24 ++
+    row number 104 8 4 ++ row number 136 4 6 ++ row number 160 8 4
+    ++ row number 192 4 2 ++ row number 200 8 2
+    ++ row number 216 4 4) tcp_info_values tcp_info_of (λ value. ⊤)

@@ -4,7 +4,7 @@ ghost use Rattle.std.proofs.Common.{rules};
 ghost use Rattle.std.specs.Prelude.{◌≡◌, ◌≢◌, ◌≤◌, ◌+◌, length, replicate, IfErr};
 ghost use Rattle.std.specs.declared.net.ip_addr.IpAddr.TheVariants.{V4, V6};
 ghost use Rattle.std.specs.Net.Addr.{ipv4_octets, ipv6_segments};
-ghost use Rattle.netlink_core.specs.Table.{bytes_at, numbers, big_endian, values_of};
+ghost use Rattle.netlink_core.specs.Table.{bytes_at, values_of};
 ghost use Rattle.netlink_core.specs.declared.fault.DecodeError.TheVariants.{Memory};
 ghost use Rattle.netlink_core.specs.Layout.{read};
 ghost use Rattle.netlink_core.proofs.LayoutLaws.{record_laws};
@@ -14,6 +14,7 @@ ghost use Rattle.sock_diag_records.specs.SocketId.{IsAddress, address_fields, ad
 ghost use Rattle.sock_diag_records.specs.SocketId.{socket_id, address_bytes};
 ghost use Rattle.sock_diag_records.specs.IpVersions.{address_data, IpVersions};
 ghost use Rattle.sock_diag_records.specs.SocketIdLaws.{socket_id_sound, socket_id_size};
+ghost use Rattle.netlink_core.specs.Table.{network, row};
 
 use crate::constants::{AF_INET, AF_INET6};
 use byteorder::{BigEndian, ByteOrder, LittleEndian};
@@ -109,7 +110,7 @@ fn ipv4_at(bytes: &[u8], offset: usize) -> Ipv4Addr
 // The IPv6 address at an offset.
 fn ipv6_at(bytes: &[u8], offset: usize) -> Ipv6Addr
     requires { offset + 16 ≤ length bytes.now }
-    ensures { ipv6_segments result ≡ values_of (numbers offset 2 big_endian 8) bytes.now }
+    ensures { ipv6_segments result ≡ values_of (row network offset 2 8) bytes.now }
 {
     Ipv6Addr::from_segments(big_shorts_at(bytes, offset))
 }

@@ -1,16 +1,17 @@
 //! What INET_DIAG_SKMEMINFO tells: the memory of a socket.
 
-ghost use Rattle.std.specs.Prelude.{ℕ, ◌≡◌, ◌≤◌, ◌+◌, ◌↔◌, ◌<◌, ◌^◌, length, take, drop};
+ghost use Rattle.std.specs.Prelude.{ℕ, ◌≡◌, ◌≤◌, ◌+◌, ◌*◌, ◌↔◌, ◌<◌, ◌^◌, length, take, drop};
 ghost use Rattle.std.specs.Prelude.{SomeIff, IfSome, IsSome};
 ghost use Rattle.std.proofs.Common.{rules};
 ghost use Rattle.netlink_core.specs.Layout.{read, bytes};
 ghost use Rattle.netlink_core.proofs.LayoutLaws.{record_laws};
-ghost use Rattle.netlink_core.specs.Table.{Fit, numbers, little_endian};
+ghost use Rattle.netlink_core.specs.Table.{Fit};
 ghost use Rattle.sock_diag_values.specs.MemInfo.{words_in, mem_info, held_bytes};
 ghost use Rattle.sock_diag_values.specs.MemInfoLaws.{mem_info_sound};
 ghost use Rattle.sock_diag_values.specs.MemInfoEqualLaws.{buffer_equal, bytes_equal};
 ghost use Rattle.sock_diag_values.specs.MemInfoEqualLaws.{mem_info_equal};
 ghost use Rattle.byteorder.specs.Endian.{little_number};
+ghost use Rattle.netlink_core.specs.Table.{number, row};
 
 use byteorder::{ByteOrder, LittleEndian};
 use netlink_core::fields::words_at;
@@ -158,7 +159,7 @@ impl Record for MemInfo {
 impl MemInfo {
     // The first seven words are within their types.
     fn words_are_in_range(&self)
-        ensures { Fit (numbers 0 4 little_endian 7) (take 7 (mem_info.values self.now)) }
+        ensures { Fit (row number 0 4 7) (take 7 (mem_info.values self.now)) }
     {
         let _receive_queue = self.receive_queue;
         let _receive_queue_max = self.receive_queue_max;
@@ -184,7 +185,7 @@ impl MemInfoBuffer {
         ensures enough { IsSome result ↔ 28 ≤ length payload.now }
         ensures bytes { IfSome result
             (λ buffer. held_bytes buffer.bytes
-            ≡ take (mem_info.size (words_in (length payload.now))) payload.now) }
+            ≡ take (4 * words_in (length payload.now)) payload.now) }
     {
         let bytes = if let Some(bytes) = payload.first_chunk() {
             MemInfoBytes::Nine(*bytes)
@@ -241,7 +242,7 @@ fn word_at(payload: &[u8], offset: usize) -> Option<u32>
 
 // The bytes of a value that has so many.
 fn row_of<const N: usize>(value: &MemInfo) -> [u8; N]
-    requires { mem_info.size (mem_info.tag_of value.now) ≡ N }
+    requires { length (bytes mem_info value.now) ≡ N }
     ensures { result ≡ bytes mem_info value.now }
 {
     let mut buffer = [0; N];

@@ -18,4 +18,4 @@ returns c =
     let of_deliveries = rw c.deliveries.ensures at (c.words_in_range-6.ensures 192) in
     let of_totals = rw c.totals.ensures at (c.long_words_in_range-3.ensures 200) in
     let of_reorderings = rw c.reorderings.ensures at (c.words_in_range-7.ensures 216) in
-    record { shaped = tt; fit = assumption }
+    (tt, assumption)

@@ -1,0 +1,7 @@
+use Rattle.std.proofs.Common.{arith}
+use Rattle.sock_diag_records.specs.InetResponseLaws.{header_long}
+use Rattle.sock_diag_records.proofs.inet.response.InetResponseHeaderRecord.write_fields.Goals as goal
+
+pub write_u32_into-requires : goal.write_u32_into-requires
+write_u32_into-requires c =
+    grind (arith, header_long c.args.self.now)
