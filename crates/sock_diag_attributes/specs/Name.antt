@@ -24,11 +24,6 @@ abbrev pub IsNormalName : SocketName → Type 0
 IsNormalName (pathname path) = All (λ byte. byte ≢ 0) path × (path ≢ [])
 IsNormalName (abstract address) = ⊤
 
--- a name whose text is bytes
-abbrev pub IsNameInRange : SocketName → Type 0
-IsNameInRange (pathname path) = IsBytes path
-IsNameInRange (abstract address) = IsBytes address
-
 -- the path in a string x, by the place of its first zero, if it has one: that must be the last byte
 abbrev pub path_in : List ℕ → Option ℕ → Result SocketName DecodeError
 path_in x None = Err NameWithoutEnd
@@ -40,9 +35,9 @@ read_name [] = Err NameEmpty
 read_name (zero ∷ address) = Ok (abstract address)
 read_name bytes = path_in bytes (position (λ byte. byte == 0) bytes)
 
--- a name as the value of an attribute
+-- a name as the value of an attribute; its bytes are bytes
 abbrev pub name_value : ValueCodec (Unit {0})
-name_value = exact_value read_name name_bytes IsNameInRange IsNormalName
+name_value = exact_value read_name name_bytes (λ name. IsBytes (name_bytes name)) IsNormalName
 
 -- a name by itself, which takes memory
 abbrev pub name_codec : Codec (Unit {0})

@@ -21,9 +21,9 @@ use Rattle.std.proofs.lemmas.List.Elements.{All-push}
 use Rattle.netlink_core.specs.Bytes.{IsBytes}
 use Rattle.netlink_core.specs.declared.fault.DecodeError.TheVariants.{Memory, NameInnerZero}
 use Rattle.netlink_core.specs.declared.fault.DecodeError.TheVariants.{NameWithoutEnd}
-use Rattle.netlink_core.specs.ByteLaws.{IsBytes-left}
-use Rattle.sock_diag_attributes.specs.Name.{SocketName, pathname, abstract, name_bytes}
-use Rattle.sock_diag_attributes.specs.Name.{IsNormalName, IsNameInRange, path_in, read_name}
+use Rattle.netlink_core.specs.ByteLaws.{IsBytes-append, IsBytes-cons, IsBytes-nil}
+use Rattle.sock_diag_attributes.specs.Name.{SocketName, pathname, name_bytes}
+use Rattle.sock_diag_attributes.specs.Name.{IsNormalName, path_in, read_name}
 use Rattle.sock_diag_attributes.specs.Name.{name_codec}
 
 -- no byte is a zero
@@ -103,23 +103,22 @@ pub known_path : (bytes path : List ℕ) (last : ℕ) → bytes ≡ path ++ last
 known_path bytes path last parts first ok =
     grind (arith, length-append path (last ∷ []), take-append_seam path (last ∷ []))
 
--- of a string of bytes the name is one of bytes
-pub name_in_range : (u : SocketName) → IsBytes (name_bytes u) → IsNameInRange u
-name_in_range (pathname path) in_range = IsBytes-left path (0 ∷ []) in_range
-name_in_range (abstract address) in_range = λ i. in_range (suc i)
+-- bytes and an end zero are bytes
+pub path_bytes_in_range : (path : List ℕ) → IsBytes path → IsBytes (path ++ 0 ∷ [])
+path_bytes_in_range path in_range =
+    IsBytes-append path (0 ∷ []) in_range (IsBytes-cons 0 [] (omega arith) IsBytes-nil)
 
--- and the bytes of a name in range are bytes
-pub name_bytes_in_range : (u : SocketName) → IsNameInRange u → IsBytes (name_bytes u)
-name_bytes_in_range u in_range =
-    grind (arith, common_steps)
+-- and a zero in front of bytes
+pub address_bytes_in_range : (address : List ℕ) → IsBytes address → IsBytes (0 ∷ address)
+address_bytes_in_range address in_range = IsBytes-cons 0 address (omega arith) in_range
 
 -- a name as the value of an attribute: its reader, its bytes, equal strings alone being idle, and
 -- its normal form
 pub name_laws : KeepsLaws (as_codec name_value)
-name_laws = exact_laws read_name name_bytes IsNameInRange IsNormalName name_named
+name_laws = exact_laws read_name name_bytes (λ u. IsBytes (name_bytes u)) IsNormalName name_named
     (λ x u in_range h. let exact = name_exact x u h in
-    (exact.0, name_in_range u (subst IsBytes exact.0 in_range), exact.1))
-    name_bytes_in_range
+    (exact.0, subst IsBytes exact.0 in_range, exact.1))
+    (λ u in_range. in_range)
     (λ u in_range normal. name_reads_back u normal)
 
 -- and by itself

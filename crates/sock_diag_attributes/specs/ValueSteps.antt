@@ -9,7 +9,7 @@ use Rattle.sock_diag_values.specs.MemInfo.{mem_info}
 use Rattle.sock_diag_values.specs.TcpInfo.{tcp_info}
 use Rattle.sock_diag_values.specs.UnixMemInfo.{unix_mem_info}
 use Rattle.sock_diag_values.specs.Vfs.{vfs}
-use Rattle.sock_diag_attributes.specs.Name.{name_bytes, IsNameInRange}
+use Rattle.sock_diag_attributes.specs.Name.{name_bytes}
 use Rattle.sock_diag_attributes.specs.NameModel.{name_view_model}
 use Rattle.sock_diag_attributes.specs.Numbers.{bytes_of_two, bytes_of_numbers}
 use Rattle.sock_diag_attributes.specs.Text.{text_bytes}
@@ -38,7 +38,7 @@ IsValueInRange (value.Word n) = n < 256 ^ 4
 IsValueInRange (value.Pair m n) = (m < 2 ^ 32) × (n < 2 ^ 32)
 IsValueInRange (value.Numbers ns) = AllByRecursion (λ n. n < 2 ^ 32) ns.now
 IsValueInRange (value.Text t) = IsUtf8 t.now × IsBytes t.now
-IsValueInRange (value.Name n) = IsNameInRange (name_view_model n)
+IsValueInRange (value.Name n) = IsBytes (name_bytes (name_view_model n))
 IsValueInRange (value.LegacyMemInfo m) = IsInRange legacy_mem_info m.now
 IsValueInRange (value.TcpInfo t) = IsInRange tcp_info t.now
 IsValueInRange (value.MemInfo m) = IsInRange mem_info m.now

@@ -3,7 +3,8 @@
 ghost use Rattle.std.proofs.Common.{rules};
 ghost use Rattle.std.specs.Prelude.{◌≡◌, ◌<◌, ◌≤◌, ◌++◌, length, take, drop, slice_index, IfOk};
 ghost use Rattle.std.specs.Prelude.{IsOk, MatchOption, MatchResult, Ok, Err, true, refl};
-ghost use Rattle.sock_diag_attributes.specs.Name.{IsNameInRange, read_name, name_bytes, name_codec};
+ghost use Rattle.netlink_core.specs.Bytes.{IsBytes};
+ghost use Rattle.sock_diag_attributes.specs.Name.{read_name, name_bytes, name_codec};
 ghost use Rattle.sock_diag_attributes.specs.NameLaws.{HasNoZero, name_keeps_laws};
 
 use netlink_core::{
@@ -126,8 +127,9 @@ impl<'a> NameView<'a> {
     }
 
     // Tells the prover that its bytes are bytes. It does nothing.
+    #[tactic(auto, using(crate::specs::NameLaws::path_bytes_in_range, crate::specs::NameLaws::address_bytes_in_range))]
     pub(crate) fn in_range(&self)
-        ensures { IsNameInRange (name_view_model self.now) }
+        ensures { IsBytes (name_bytes (name_view_model self.now)) }
     {
         match self {
             NameView::Pathname(path) => bytes_in_range(path),
