@@ -2,7 +2,7 @@
 
 ghost use Rattle.std.specs.Prelude.{◌≡◌, ◌↔◌, IsTrue, IsOk, IfOk, true};
 ghost use Rattle.sock_diag_attributes.specs.NameModel.{name_view_model};
-ghost use Rattle.sock_diag_attributes.specs.NumbersModel.{numbers_view_model, numbers_left};
+ghost use Rattle.sock_diag_attributes.specs.NumbersModel.{numbers_view_model};
 ghost use Rattle.sock_diag_attributes.specs.InetModel.{nla_view_model as inet_view_model};
 ghost use Rattle.sock_diag_attributes.specs.UnixModel.{nla_view_model as unix_view_model};
 
@@ -75,7 +75,8 @@ pub fn copied_numbers_walk<'a>(
     walk: &NumbersIterator<'a>,
 ) -> Result<NumbersIterator<'a>, AllocError>
     ensures ok { IsOk result }
-    ensures same { IfOk result (λ copy. numbers_left copy ≡ numbers_left walk.now) }
+    ensures same { IfOk result (λ copy. numbers_view_model copy.rest
+        ≡ numbers_view_model walk.now.rest) }
 {
     walk.clone()
 }

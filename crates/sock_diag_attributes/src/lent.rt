@@ -1,12 +1,12 @@
 //! What an attribute that owns its parts and one that borrows them lend alike.
 
 ghost use Rattle.std.specs.List.{AllByRecursion};
-ghost use Rattle.std.specs.Prelude.{◌≡◌, ◌<◌, ◌^◌, ℕ, List, [], IfOk, IsOk};
+ghost use Rattle.std.specs.Prelude.{◌≡◌, ◌<◌, ◌^◌, ℕ, List, [], IfOk, IsOk, flat_map};
+ghost use Rattle.byteorder.specs.Endian.{little_bytes};
 ghost use Rattle.netlink_core.specs.Attribute.{Attribute};
 ghost use Rattle.netlink_core.specs.DefaultNla.{kept_attribute};
 ghost use Rattle.netlink_core.specs.Walk.{attribute_of};
 ghost use Rattle.sock_diag_attributes.specs.Name.{SocketName};
-ghost use Rattle.sock_diag_attributes.specs.Numbers.{bytes_of_numbers};
 ghost use Rattle.sock_diag_attributes.specs.NameModel.{name_model, name_view_model};
 ghost use Rattle.sock_diag_attributes.specs.NumbersModel.{numbers_view_model};
 ghost use Rattle.sock_diag_attributes.specs.ValueSteps.{value_bytes, IsValueInRange};
@@ -109,7 +109,7 @@ pub(crate) trait LendsNumbers {
 
     /// The numbers as the value of an attribute.
     fn lent_value(&self) -> Value<'_>
-        ensures bytes { value_bytes result ≡ bytes_of_numbers (numbers self.now) }
+        ensures bytes { value_bytes result ≡ flat_map (little_bytes 4) (numbers self.now) }
         ensures in_range { IsValueInRange result
             → AllByRecursion (λ n. n < 2 ^ 32) (numbers self.now) };
 
