@@ -9,7 +9,7 @@ ghost use Rattle.std.specs.Iterator.SizeHint.{IsWithinCount};
 ghost use Rattle.byteorder.specs.Endian.{little_bytes};
 ghost use Rattle.netlink_core.specs.Bytes.{IsBytes};
 ghost use Rattle.netlink_core.specs.Parse.{exact_number};
-ghost use Rattle.sock_diag_attributes.specs.Flag.{read_flag};
+ghost use Rattle.sock_diag_attributes.specs.Flag.{flag_value};
 ghost use Rattle.sock_diag_attributes.specs.Numbers.{two_value, numbers_value};
 
 use byteorder::{ByteOrder, LittleEndian};
@@ -33,7 +33,7 @@ pub(crate) fn exact_u32(kind: u16, value: &[u8]) -> Result<u32, DecodeError>
 
 /// Whether exactly one byte is not zero. Any other length is `WrongLength` with the kind.
 pub(crate) fn exact_flag(kind: u16, value: &[u8]) -> Result<bool, DecodeError>
-    ensures { result ≡ read_flag kind value.now }
+    ensures { result ≡ (flag_value kind).reads tt value.now }
 {
     Ok(exact_u8(kind, value)? != 0)
 }
