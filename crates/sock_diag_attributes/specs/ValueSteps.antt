@@ -1,5 +1,5 @@
 -- What the value of an attribute is made of, whatever type it is of.
-use Rattle.std.specs.Prelude.{ℕ, ◌<◌, ◌^◌, List, ◌++◌, flat_map, IsUtf8}
+use Rattle.std.specs.Prelude.{ℕ, ◌<◌, ◌^◌, List, [], ◌∷◌, ◌++◌, flat_map, IsUtf8}
 use Rattle.std.specs.List.{AllByRecursion}
 use Rattle.byteorder.specs.Endian.{little_bytes}
 use Rattle.netlink_core.specs.Bytes.{IsBytes}
@@ -11,7 +11,6 @@ use Rattle.sock_diag_values.specs.UnixMemInfo.{unix_mem_info}
 use Rattle.sock_diag_values.specs.Vfs.{vfs}
 use Rattle.sock_diag_attributes.specs.Name.{name_bytes}
 use Rattle.sock_diag_attributes.specs.NameModel.{name_view_model}
-use Rattle.sock_diag_attributes.specs.Text.{text_bytes}
 use Rattle.sock_diag_attributes.specs.declared.value.Value.{Value}
 use Rattle.sock_diag_attributes.specs.declared.value.Value.TheVariants as value
 
@@ -21,7 +20,7 @@ value_bytes (value.Byte n) = little_bytes 1 n
 value_bytes (value.Word n) = little_bytes 4 n
 value_bytes (value.Pair m n) = little_bytes 4 m ++ little_bytes 4 n
 value_bytes (value.Numbers ns) = flat_map (little_bytes 4) ns.now
-value_bytes (value.Text t) = text_bytes t.now
+value_bytes (value.Text t) = t.now ++ 0 ∷ []
 value_bytes (value.Name n) = name_bytes (name_view_model n)
 value_bytes (value.LegacyMemInfo m) = bytes legacy_mem_info m.now
 value_bytes (value.TcpInfo t) = bytes tcp_info t.now
