@@ -22,7 +22,9 @@ use Rattle.netlink_core.specs.Bytes.{IsBytes}
 use Rattle.netlink_core.specs.declared.fault.DecodeError.TheVariants.{Memory, NameInnerZero}
 use Rattle.netlink_core.specs.declared.fault.DecodeError.TheVariants.{NameWithoutEnd}
 use Rattle.netlink_core.specs.ByteLaws.{IsBytes-append, IsBytes-cons, IsBytes-nil}
-use Rattle.sock_diag_attributes.specs.Name.{SocketName, pathname, name_bytes}
+use Rattle.sock_diag_attributes.specs.declared.unix.name.SocketName.{SocketName}
+use Rattle.sock_diag_attributes.specs.declared.unix.name.SocketName.TheVariants.{Pathname}
+use Rattle.sock_diag_attributes.specs.Name.{name_bytes}
 use Rattle.sock_diag_attributes.specs.Name.{IsNormalName, path_in, read_name}
 use Rattle.sock_diag_attributes.specs.Name.{name_codec}
 
@@ -36,13 +38,13 @@ name_named x h =
     grind arith
 
 -- a name that was read is written as its string, and is in normal form
-name_exact : (x : List ℕ) (u : SocketName) → read_name x ≡ Ok u → (x ≡ name_bytes u)
+name_exact : (x : List ℕ) (u : SocketName (List ℕ)) → read_name x ≡ Ok u → (x ≡ name_bytes u)
     × IsNormalName u
 name_exact (suc n ∷ xs) u h =
     let x : List ℕ = suc n ∷ xs in
     let i : ℕ = position_or_len (λ b. b == 0) x in
     let end : i + 1 ≡ length x = grind arith in
-    let same : pathname (take i x) ≡ u = grind arith in
+    let same : Pathname (take i x) ≡ u = grind arith in
     let within : i < length x = omega arith in
     let here : get_or x i 0 ≡ 0 = eqb-true _ _ (passes_at_first (λ b. b == 0) x 0 within) in
     let whole : x ≡ take i x ++ 0 ∷ [] =
@@ -82,7 +84,7 @@ reads_inner_zero bytes path last i parts first lt here none =
     ∙ grind (arith, ap length parts, length-append, length-take-le)
 
 pub reads_path : (bytes path : List ℕ) → bytes ≡ path ++ 0 ∷ [] → get_or bytes 0 0 ≢ 0
-    → HasNoZero path → read_name bytes ≡ Ok (pathname path)
+    → HasNoZero path → read_name bytes ≡ Ok (Pathname path)
 reads_path bytes path parts first none =
     grind (arith, first_zero bytes path (0 ∷ []) parts first none, length-append, take-append_seam)
 
@@ -93,13 +95,13 @@ reads_no_end bytes path last parts first some none =
     (rw parts (All-push (λ b. b ≢ 0) path last none some)) refl ∙ grind arith
 
 -- a name in normal form reads back
-name_reads_back : (u : SocketName) → IsNormalName u → read_name (name_bytes u) ≡ Ok u
+name_reads_back : (u : SocketName (List ℕ)) → IsNormalName u → read_name (name_bytes u) ≡ Ok u
 name_reads_back u good =
     grind (arith, common_steps, reads_path)
 
 -- an accepted name that is not empty, of which the first byte is no zero: nothing else needs a look
 pub known_path : (bytes path : List ℕ) (last : ℕ) → bytes ≡ path ++ last ∷ [] → get_or bytes 0 0 ≢ 0
-    → IsOk (read_name bytes) → read_name bytes ≡ Ok (pathname path)
+    → IsOk (read_name bytes) → read_name bytes ≡ Ok (Pathname path)
 known_path bytes path last parts first ok =
     grind (arith, length-append path (last ∷ []), take-append_seam path (last ∷ []))
 
