@@ -1,7 +1,7 @@
 -- The name of a UNIX socket, and its bytes.
 use Rattle.std.specs.Prelude.{◌≢◌, ◌+◌, ◌==◌, if◌then◌else◌, ℕ, zero, List, [], ◌∷◌, ◌++◌, length}
-use Rattle.std.specs.Prelude.{take, ◌≤◌, All, Option, Some, None, Result, Ok, Err, ⊤}
-use Rattle.std.specs.List.{position}
+use Rattle.std.specs.Prelude.{take, ◌≤◌, All, Result, Ok, Err, ⊤}
+use Rattle.std.specs.List.{position_or_len}
 use Rattle.netlink_core.specs.Bytes.{IsBytes}
 use Rattle.netlink_core.specs.Codec.{Codec, as_codec}
 use Rattle.netlink_core.specs.ValueCodec.{ValueCodec}
@@ -22,16 +22,14 @@ abbrev pub IsNormalName : SocketName (List ℕ) → Type 0
 IsNormalName (Pathname path) = All (λ byte. byte ≢ 0) path × (path ≢ [])
 IsNormalName (Abstract address) = ⊤
 
--- the path in a string x, by the place of its first zero, if it has one: that must be the last byte
-abbrev pub path_in : List ℕ → Option ℕ → Result (SocketName (List ℕ)) DecodeError
-path_in x None = Err NameWithoutEnd
-path_in x (Some i) = if i + 1 == length x then Ok (Pathname (take i x)) else Err (NameInnerZero i)
-
--- No bytes are no name. A zero in front says an abstract name; else a path ends at the first zero.
+-- No bytes are no name. A zero in front says an abstract name. Else the first zero ends a path, and
+-- must be the last byte; where there is none its place is the length.
 abbrev pub read_name : List ℕ → Result (SocketName (List ℕ)) DecodeError
 read_name [] = Err NameEmpty
 read_name (zero ∷ address) = Ok (Abstract address)
-read_name bytes = path_in bytes (position (λ byte. byte == 0) bytes)
+read_name bytes = let i = position_or_len (λ byte. byte == 0) bytes in
+    if i + 1 == length bytes then Ok (Pathname (take i bytes))
+    else Err (if i == length bytes then NameWithoutEnd else NameInnerZero i)
 
 -- a name as the value of an attribute; its bytes are bytes
 abbrev pub name_value : ValueCodec (Unit {0})

@@ -4,10 +4,10 @@ use Rattle.netlink_core.specs.Codec.{KeepsLaws, as_codec}
 use Rattle.netlink_core.proofs.AttributeTypeLaws.{exact_laws}
 use Rattle.sock_diag_attributes.specs.Name.{name_value}
 use Rattle.std.proofs.Common.{Ok, Err, IsOk, ◌≡◌, ◌≢◌, ◌∙◌, ℕ, suc, ◌+◌, ◌<◌}
-use Rattle.std.proofs.Common.{cond, ltb, ◌==◌, Some, None, List, [], ◌∷◌}
+use Rattle.std.proofs.Common.{◌==◌, List, [], ◌∷◌}
 use Rattle.std.proofs.Common.{◌++◌, length, take, drop, get_or, append_assoc, refl, ap, sym, subst}
 use Rattle.std.proofs.Common.{arith}
-use Rattle.std.specs.Prelude.{All}
+use Rattle.std.specs.Prelude.{All, if◌then◌else◌, Result}
 use Rattle.std.proofs.lemmas.Bool.{eqb-true, eqb-false, ne_eqb}
 use Rattle.std.proofs.lemmas.List.{append-nil, drop_all, get_or-take, length-append, length-take}
 use Rattle.std.proofs.lemmas.List.{drop_more, get_or-append-add, take-append-drop}
@@ -19,13 +19,14 @@ use Rattle.std.proofs.Math.ListN.{get_or-append}
 use Rattle.std.proofs.Math.Seq.{take-append_seam}
 use Rattle.std.proofs.lemmas.List.Elements.{All-push}
 use Rattle.netlink_core.specs.Bytes.{IsBytes}
+use Rattle.netlink_core.specs.declared.fault.DecodeError.{DecodeError}
 use Rattle.netlink_core.specs.declared.fault.DecodeError.TheVariants.{Memory, NameInnerZero}
 use Rattle.netlink_core.specs.declared.fault.DecodeError.TheVariants.{NameWithoutEnd}
 use Rattle.netlink_core.specs.ByteLaws.{IsBytes-append, IsBytes-cons, IsBytes-nil}
 use Rattle.sock_diag_attributes.specs.declared.unix.name.SocketName.{SocketName}
 use Rattle.sock_diag_attributes.specs.declared.unix.name.SocketName.TheVariants.{Pathname}
 use Rattle.sock_diag_attributes.specs.Name.{name_bytes}
-use Rattle.sock_diag_attributes.specs.Name.{IsNormalName, path_in, read_name}
+use Rattle.sock_diag_attributes.specs.Name.{IsNormalName, read_name}
 use Rattle.sock_diag_attributes.specs.Name.{name_codec}
 
 -- no byte is a zero
@@ -60,11 +61,17 @@ name_exact (suc n ∷ xs) u h =
     )
 name_exact x u h = grind arith
 
+-- the path in bytes, by the place of their first zero
+abbrev path_at : List ℕ → ℕ → Result (SocketName (List ℕ)) DecodeError
+path_at bytes i =
+    if i + 1 == length bytes then Ok (Pathname (take i bytes))
+    else Err (if i == length bytes then NameWithoutEnd else NameInnerZero i)
+
 -- a name that does not begin with a zero, by what stands in front of its first one, which is all of
 -- it where there is none
 first_zero : (bytes front rest : List ℕ) → bytes ≡ front ++ rest → get_or bytes 0 0 ≢ 0
     → HasNoZero front → get_or rest 0 0 ≡ 0 → read_name bytes
-    ≡ path_in bytes (cond (ltb (length front) (length bytes)) (Some (length front)) None)
+    ≡ path_at bytes (length front)
 first_zero (suc n ∷ xs) front rest parts first none here =
     rw (position_or_len_is (λ b. b == 0) (suc n ∷ xs) (length front) 0
     (omega (arith, ap length parts, length-append front rest))
