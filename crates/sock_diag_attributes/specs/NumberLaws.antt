@@ -41,7 +41,8 @@ numbers_in_first x long =
 
 -- bytes whose number is a multiple of four are numbers
 pub whole : (x : List ℕ) → IsBytes x → length x % 4 ≡ 0
-    → (x ≡ flat_map (little_bytes 4) (numbers_in x)) × AllByRecursion (λ n. n < 2 ^ 32) (numbers_in x)
+    → (x ≡ flat_map (little_bytes 4) (numbers_in x))
+    × AllByRecursion (λ n. n < 2 ^ 32) (numbers_in x)
 whole [] in_range four = (refl, tt)
 whole (a ∷ b ∷ c ∷ d ∷ rest) in_range four =
     let word : List ℕ = a ∷ b ∷ c ∷ d ∷ [] in

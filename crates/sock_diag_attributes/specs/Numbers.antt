@@ -3,9 +3,8 @@ use Rattle.std.specs.List.{AllByRecursion}
 use Rattle.netlink_core.specs.ValueCodec.{ValueCodec}
 use Rattle.netlink_core.specs.AttributeSpecs.{exact_value}
 use Rattle.std.specs.Prelude.{⊤, ◌<◌, ◌^◌, ℕ, ◌%◌, ◌==◌, if◌then◌else◌, List, [], ◌∷◌, ◌++◌, length}
-use Rattle.std.specs.Prelude.{drop, flat_map, Some, Result, Ok, Err}
+use Rattle.std.specs.Prelude.{drop, flat_map, Some, Ok, Err}
 use Rattle.byteorder.specs.Endian.{little_number, little_bytes}
-use Rattle.netlink_core.specs.declared.fault.DecodeError.{DecodeError}
 use Rattle.netlink_core.specs.declared.fault.DecodeError.TheVariants.{WrongLength}
 use Rattle.netlink_core.specs.declared.fault.DecodeError.TheVariants.{NotMultipleOfFour}
 

@@ -146,7 +146,7 @@ impl<'a> Iterator for NumbersIterator<'a> {
 
     type Item = u32;
 
-    ghost next_gives = { λ walk item next. YieldsFirst numbers_view_model walk.rest item next.rest };
+    ghost next_gives = { λ old item new. YieldsFirst numbers_view_model old.rest item new.rest };
 
     ghost remaining = { λ walk. item_count numbers_view_model walk.rest };
 
