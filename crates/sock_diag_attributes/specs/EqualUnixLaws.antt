@@ -1,12 +1,12 @@
 -- Attributes of replies are equal where their models are.
 use Rattle.std.proofs.Common.{arith}
-use Rattle.std.proofs.Common.{◌≡◌, ◌↔◌, ℕ, List, ◌&&◌, Bool, false, eqb, IsTrue, ap, rules}
+use Rattle.std.proofs.Common.{◌≡◌, ◌↔◌, ℕ, List, ◌&&◌, Bool, eqb, IsTrue, ap, rules}
 use mir.Syntax.{given}
 use denote.RattleType.{RattleType}
 use lib.Pointwise.{pointwise, bytes_decides}
 use Rattle.std.specs.declared.cmp.PartialEq.{Ghosts}
 use Rattle.netlink_core.specs.Attribute.{Attribute}
-use Rattle.netlink_core.proofs.Equality.{apart, same_test}
+use Rattle.netlink_core.proofs.Equality.{same_test}
 use Rattle.netlink_core.proofs.AttributeTypeLaws.{◌⊕◌}
 use Rattle.netlink_core.proofs.ValueTests.{Tests, attribute_test, number_test, value_test}
 use Rattle.netlink_core.proofs.ValueTests.{value_test_decides}
@@ -14,33 +14,17 @@ use Rattle.sock_diag_values.specs.contracts.unix.vfs.VfsExact.TheImpl.Laws.{exac
 use Rattle.sock_diag_values.specs.contracts.unix.vfs.VfsPartialEq.TheImpl.{ghosts as vfs}
 use Rattle.sock_diag_values.specs.contracts.unix.mem_info.MemInfoExact.TheImpl.Laws.{exact-law as exact_memory}
 use Rattle.sock_diag_values.specs.contracts.unix.mem_info.MemInfoPartialEq.TheImpl.{ghosts as memory}
-use Rattle.sock_diag_attributes.specs.Name.{SocketName, pathname, abstract}
-use Rattle.sock_diag_attributes.specs.NameModel.{name_model, name_view_model}
+use Rattle.sock_diag_attributes.specs.EqualNameLaws.{name_test, name_test_decides}
 use Rattle.sock_diag_attributes.specs.NumbersModel.{numbers_view_model}
 use Rattle.sock_diag_attributes.specs.NumberLaws.{numbers_in_same}
 use Rattle.sock_diag_attributes.specs.Numbers.{numbers_in}
 use Rattle.sock_diag_attributes.specs.UnixAttributes.{unix}
 use Rattle.sock_diag_attributes.specs.UnixModel.{model}
-use Rattle.sock_diag_attributes.specs.declared.unix.name.UnixDiagName.{UnixDiagName}
-use Rattle.sock_diag_attributes.specs.contracts.unix.name.UnixDiagNamePartialEq.TheImpl.{ghosts as names}
-use Rattle.sock_diag_attributes.specs.declared.unix.name.NameView.{NameView}
-use Rattle.sock_diag_attributes.specs.contracts.unix.name.NameViewPartialEq.TheImpl.{ghosts as name_views}
+use Rattle.sock_diag_attributes.specs.declared.unix.name.SocketName.{SocketName}
 use Rattle.sock_diag_attributes.specs.declared.numbers.NumbersView.{NumbersView}
 use Rattle.sock_diag_attributes.specs.contracts.numbers.NumbersViewPartialEq.TheImpl.{ghosts as number_views}
 use Rattle.sock_diag_attributes.specs.declared.unix.nlas.UnixNla.{UnixNla}
 use Rattle.sock_diag_attributes.specs.contracts.unix.nlas.UnixNlaPartialEq.TheImpl.{ghosts}
-
-abbrev name_test : SocketName → SocketName → Bool
-name_test (pathname x) (pathname y) = pointwise eqb x y
-name_test (abstract x) (abstract y) = pointwise eqb x y
-name_test n m = false
-
-pub name_test_decides : (n m : SocketName) → IsTrue (name_test n m) ↔ (n ≡ m)
-name_test_decides (pathname x) (pathname y) =
-    (λ h. ap pathname ((bytes_decides x y).0 h), λ e. (bytes_decides x y).1 cc)
-name_test_decides (abstract x) (abstract y) =
-    (λ h. ap abstract ((bytes_decides x y).0 h), λ e. (bytes_decides x y).1 cc)
-name_test_decides n m = apart (λ e. cc)
 
 abbrev two_test : ℕ × ℕ → ℕ × ℕ → Bool
 two_test a b = eqb a.0 b.0 && eqb a.1 b.1
@@ -54,19 +38,6 @@ unix_tests =
     (name_test, name_test_decides) ⊕ (vfs.eq, exact_vfs.0) ⊕ number_test
     ⊕ (pointwise eqb, bytes_decides)
     ⊕ (two_test, two_test_decides) ⊕ (memory.eq, exact_memory.0) ⊕ number_test ⊕ tt
-
-pub same_names : (a x : UnixDiagName) → names.eq a x ≡ name_test (name_model a) (name_model x)
-same_names a x =
-    grind arith
-
-pub name_views_model : (a x : NameView)
-    → name_views.eq a x ≡ name_test (name_view_model a) (name_view_model x)
-name_views_model a x =
-    grind arith
-
-pub name_views_equal : (v w : NameView) → IsTrue (name_views.eq v w)
-    ↔ (name_view_model v ≡ name_view_model w)
-name_views_equal v w = rw (name_views_model v w) (name_test_decides _ _)
 
 pub number_views_equal : (v w : NumbersView) → IsTrue (number_views.eq v w)
     ↔ (numbers_view_model v ≡ numbers_view_model w)
@@ -83,7 +54,7 @@ list_views_model v w = same_test _ _ (number_views_equal v w) (bytes_decides _ _
 
 -- over what a name, a list and an attribute of another type lend, by which they are compared
 module _ (N L O : RattleType) (n : Ghosts N.Denot) (l : Ghosts L.Denot) (o : Ghosts O.Denot)
-    (name : N.Denot → SocketName) (list : L.Denot → List ℕ) (other : O.Denot → Attribute)
+    (name : N.Denot → SocketName (List ℕ)) (list : L.Denot → List ℕ) (other : O.Denot → Attribute)
     (names : (a b : N.Denot) → n.eq a b ≡ name_test (name a) (name b)) (lists : (a b : L.Denot)
     → l.eq a b ≡ pointwise eqb (list a) (list b))
     (others : (a b : O.Denot) → o.eq a b ≡ attribute_test (other a) (other b)) where

@@ -5,7 +5,7 @@ use Rattle.std.specs.Prelude.{not, ◌==◌}
 use Rattle.netlink_core.specs.ByteLaws.{IsBytes-cons, IsBytes-nil}
 use Rattle.netlink_core.specs.Codec.{KeepsLaws, as_codec}
 use Rattle.netlink_core.specs.PrefixLaws.{value_or_reason}
-use Rattle.sock_diag_attributes.specs.Flag.{read_flag, flag_value}
+use Rattle.sock_diag_attributes.specs.Flag.{flag_value}
 
 -- two numbers say the same exactly where both are zero or both are not
 truth_decides : (m n : ℕ) → (not (m == 0) ≡ not (n == 0)) ↔ ((m ≡ 0) ↔ (n ≡ 0))
@@ -14,7 +14,7 @@ truth_decides m n = (λ e. (λ z. grind arith, λ z. grind arith), λ h. grind a
 -- a flag keeps the laws
 pub flag_laws : (k : ℕ) → KeepsLaws (as_codec (flag_value k))
 flag_laws k = record {
-  answered = λ b p in_range. value_or_reason (read_flag k b);
+  answered = λ b p in_range. value_or_reason ((flag_value k).reads tt b);
   one_answer = λ b p v e h g. cc;
   one_fault = λ b p e f h g. cc;
   named_fault = λ b p h. grind arith;

@@ -11,8 +11,7 @@ use Rattle.std.specs.contracts.impls.GlobalAllocator.TheImpl.{ghosts}
 use Rattle.netlink_core.specs.contracts.attribute.NlaBuffer as buffer
 use Rattle.netlink_core.specs.contracts.nla.DefaultNla as kept
 use Rattle.sock_diag_attributes.specs.contracts.numbers.NumbersView as numbers
-use Rattle.sock_diag_attributes.specs.contracts.unix.name.NameView as name_view
-use Rattle.sock_diag_attributes.specs.contracts.unix.name.UnixDiagName as name
+use Rattle.sock_diag_attributes.specs.contracts.unix.name.SocketName as name
 
 abbrev pub text_row : RattleType
 text_row = text.the_row global.the_row ghosts
@@ -26,11 +25,14 @@ kept_row = kept.the_row
 abbrev pub buffer_row : RattleType
 buffer_row = buffer.the_row (record { mir = named 0; lft = [] })
 
+abbrev pub byte_list_row : RattleType
+byte_list_row = vec.the_row u8 global.the_row ghosts
+
 abbrev pub name_row : RattleType
-name_row = name.the_row
+name_row = name.the_row byte_list_row
 
 abbrev pub name_view_row : RattleType
-name_view_row = name_view.the_row (record { mir = named 0; lft = [] })
+name_view_row = name.the_row text_view_row
 
 abbrev pub list_row : RattleType
 list_row = vec.the_row u32 global.the_row ghosts

@@ -16,5 +16,6 @@ pub mod InetAttributeLaws
 pub mod InetModel
 pub mod ValueSteps
 pub mod LentLaws
+pub mod EqualNameLaws
 pub mod EqualUnixLaws
 pub mod EqualInetLaws

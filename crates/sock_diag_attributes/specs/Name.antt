@@ -1,7 +1,7 @@
 -- The name of a UNIX socket, and its bytes.
 use Rattle.std.specs.Prelude.{◌≢◌, ◌+◌, ◌==◌, if◌then◌else◌, ℕ, zero, List, [], ◌∷◌, ◌++◌, length}
-use Rattle.std.specs.Prelude.{take, ◌≤◌, All, Option, Some, None, Result, Ok, Err, ⊤}
-use Rattle.std.specs.List.{position}
+use Rattle.std.specs.Prelude.{take, ◌≤◌, All, Result, Ok, Err, ⊤}
+use Rattle.std.specs.List.{position_or_len}
 use Rattle.netlink_core.specs.Bytes.{IsBytes}
 use Rattle.netlink_core.specs.Codec.{Codec, as_codec}
 use Rattle.netlink_core.specs.ValueCodec.{ValueCodec}
@@ -9,40 +9,31 @@ use Rattle.netlink_core.specs.AttributeSpecs.{exact_value}
 use Rattle.netlink_core.specs.declared.fault.DecodeError.{DecodeError}
 use Rattle.netlink_core.specs.declared.fault.DecodeError.TheVariants.{NameEmpty, NameInnerZero}
 use Rattle.netlink_core.specs.declared.fault.DecodeError.TheVariants.{NameWithoutEnd}
+use Rattle.sock_diag_attributes.specs.declared.unix.name.SocketName.{SocketName}
+use Rattle.sock_diag_attributes.specs.declared.unix.name.SocketName.TheVariants.{Pathname, Abstract}
 
--- a path without its end zero, or what stands behind the zero of an abstract name
-pub data SocketName : Type 0 where
-  pathname abstract : List ℕ → SocketName
-
--- a path and its end zero, or a zero in front of an address
-abbrev pub name_bytes : SocketName → List ℕ
-name_bytes (pathname path) = path ++ 0 ∷ []
-name_bytes (abstract address) = 0 ∷ address
+-- a path and its end zero, or a zero in front of the address of an abstract name
+abbrev pub name_bytes : SocketName (List ℕ) → List ℕ
+name_bytes (Pathname path) = path ++ 0 ∷ []
+name_bytes (Abstract address) = 0 ∷ address
 
 -- a path is not empty and holds no zero
-abbrev pub IsNormalName : SocketName → Type 0
-IsNormalName (pathname path) = All (λ byte. byte ≢ 0) path × (path ≢ [])
-IsNormalName (abstract address) = ⊤
+abbrev pub IsNormalName : SocketName (List ℕ) → Type 0
+IsNormalName (Pathname path) = All (λ byte. byte ≢ 0) path × (path ≢ [])
+IsNormalName (Abstract address) = ⊤
 
--- a name whose text is bytes
-abbrev pub IsNameInRange : SocketName → Type 0
-IsNameInRange (pathname path) = IsBytes path
-IsNameInRange (abstract address) = IsBytes address
-
--- the path in a string x, by the place of its first zero, if it has one: that must be the last byte
-abbrev pub path_in : List ℕ → Option ℕ → Result SocketName DecodeError
-path_in x None = Err NameWithoutEnd
-path_in x (Some i) = if i + 1 == length x then Ok (pathname (take i x)) else Err (NameInnerZero i)
-
--- No bytes are no name. A zero in front says an abstract name; else a path ends at the first zero.
-abbrev pub read_name : List ℕ → Result SocketName DecodeError
+-- No bytes are no name. A zero in front says an abstract name. Else the first zero ends a path, and
+-- must be the last byte; where there is none its place is the length.
+abbrev pub read_name : List ℕ → Result (SocketName (List ℕ)) DecodeError
 read_name [] = Err NameEmpty
-read_name (zero ∷ address) = Ok (abstract address)
-read_name bytes = path_in bytes (position (λ byte. byte == 0) bytes)
+read_name (zero ∷ address) = Ok (Abstract address)
+read_name bytes = let i = position_or_len (λ byte. byte == 0) bytes in
+    if i + 1 == length bytes then Ok (Pathname (take i bytes))
+    else Err (if i == length bytes then NameWithoutEnd else NameInnerZero i)
 
--- a name as the value of an attribute
+-- a name as the value of an attribute; its bytes are bytes
 abbrev pub name_value : ValueCodec (Unit {0})
-name_value = exact_value read_name name_bytes IsNameInRange IsNormalName
+name_value = exact_value read_name name_bytes (λ name. IsBytes (name_bytes name)) IsNormalName
 
 -- a name by itself, which takes memory
 abbrev pub name_codec : Codec (Unit {0})

@@ -4,10 +4,10 @@ use Rattle.netlink_core.specs.Codec.{KeepsLaws, as_codec}
 use Rattle.netlink_core.proofs.AttributeTypeLaws.{exact_laws}
 use Rattle.sock_diag_attributes.specs.Name.{name_value}
 use Rattle.std.proofs.Common.{Ok, Err, IsOk, ◌≡◌, ◌≢◌, ◌∙◌, ℕ, suc, ◌+◌, ◌<◌}
-use Rattle.std.proofs.Common.{cond, ltb, ◌==◌, Some, None, List, [], ◌∷◌}
+use Rattle.std.proofs.Common.{◌==◌, List, [], ◌∷◌}
 use Rattle.std.proofs.Common.{◌++◌, length, take, drop, get_or, append_assoc, refl, ap, sym, subst}
 use Rattle.std.proofs.Common.{arith}
-use Rattle.std.specs.Prelude.{All}
+use Rattle.std.specs.Prelude.{All, if◌then◌else◌, Result}
 use Rattle.std.proofs.lemmas.Bool.{eqb-true, eqb-false, ne_eqb}
 use Rattle.std.proofs.lemmas.List.{append-nil, drop_all, get_or-take, length-append, length-take}
 use Rattle.std.proofs.lemmas.List.{drop_more, get_or-append-add, take-append-drop}
@@ -19,11 +19,14 @@ use Rattle.std.proofs.Math.ListN.{get_or-append}
 use Rattle.std.proofs.Math.Seq.{take-append_seam}
 use Rattle.std.proofs.lemmas.List.Elements.{All-push}
 use Rattle.netlink_core.specs.Bytes.{IsBytes}
+use Rattle.netlink_core.specs.declared.fault.DecodeError.{DecodeError}
 use Rattle.netlink_core.specs.declared.fault.DecodeError.TheVariants.{Memory, NameInnerZero}
 use Rattle.netlink_core.specs.declared.fault.DecodeError.TheVariants.{NameWithoutEnd}
-use Rattle.netlink_core.specs.ByteLaws.{IsBytes-left}
-use Rattle.sock_diag_attributes.specs.Name.{SocketName, pathname, abstract, name_bytes}
-use Rattle.sock_diag_attributes.specs.Name.{IsNormalName, IsNameInRange, path_in, read_name}
+use Rattle.netlink_core.specs.ByteLaws.{IsBytes-append, IsBytes-cons, IsBytes-nil}
+use Rattle.sock_diag_attributes.specs.declared.unix.name.SocketName.{SocketName}
+use Rattle.sock_diag_attributes.specs.declared.unix.name.SocketName.TheVariants.{Pathname}
+use Rattle.sock_diag_attributes.specs.Name.{name_bytes}
+use Rattle.sock_diag_attributes.specs.Name.{IsNormalName, read_name}
 use Rattle.sock_diag_attributes.specs.Name.{name_codec}
 
 -- no byte is a zero
@@ -36,13 +39,13 @@ name_named x h =
     grind arith
 
 -- a name that was read is written as its string, and is in normal form
-name_exact : (x : List ℕ) (u : SocketName) → read_name x ≡ Ok u → (x ≡ name_bytes u)
+name_exact : (x : List ℕ) (u : SocketName (List ℕ)) → read_name x ≡ Ok u → (x ≡ name_bytes u)
     × IsNormalName u
 name_exact (suc n ∷ xs) u h =
     let x : List ℕ = suc n ∷ xs in
     let i : ℕ = position_or_len (λ b. b == 0) x in
     let end : i + 1 ≡ length x = grind arith in
-    let same : pathname (take i x) ≡ u = grind arith in
+    let same : Pathname (take i x) ≡ u = grind arith in
     let within : i < length x = omega arith in
     let here : get_or x i 0 ≡ 0 = eqb-true _ _ (passes_at_first (λ b. b == 0) x 0 within) in
     let whole : x ≡ take i x ++ 0 ∷ [] =
@@ -58,11 +61,17 @@ name_exact (suc n ∷ xs) u h =
     )
 name_exact x u h = grind arith
 
+-- the path in bytes, by the place of their first zero
+abbrev path_at : List ℕ → ℕ → Result (SocketName (List ℕ)) DecodeError
+path_at bytes i =
+    if i + 1 == length bytes then Ok (Pathname (take i bytes))
+    else Err (if i == length bytes then NameWithoutEnd else NameInnerZero i)
+
 -- a name that does not begin with a zero, by what stands in front of its first one, which is all of
 -- it where there is none
 first_zero : (bytes front rest : List ℕ) → bytes ≡ front ++ rest → get_or bytes 0 0 ≢ 0
     → HasNoZero front → get_or rest 0 0 ≡ 0 → read_name bytes
-    ≡ path_in bytes (cond (ltb (length front) (length bytes)) (Some (length front)) None)
+    ≡ path_at bytes (length front)
 first_zero (suc n ∷ xs) front rest parts first none here =
     rw (position_or_len_is (λ b. b == 0) (suc n ∷ xs) (length front) 0
     (omega (arith, ap length parts, length-append front rest))
@@ -82,7 +91,7 @@ reads_inner_zero bytes path last i parts first lt here none =
     ∙ grind (arith, ap length parts, length-append, length-take-le)
 
 pub reads_path : (bytes path : List ℕ) → bytes ≡ path ++ 0 ∷ [] → get_or bytes 0 0 ≢ 0
-    → HasNoZero path → read_name bytes ≡ Ok (pathname path)
+    → HasNoZero path → read_name bytes ≡ Ok (Pathname path)
 reads_path bytes path parts first none =
     grind (arith, first_zero bytes path (0 ∷ []) parts first none, length-append, take-append_seam)
 
@@ -93,33 +102,32 @@ reads_no_end bytes path last parts first some none =
     (rw parts (All-push (λ b. b ≢ 0) path last none some)) refl ∙ grind arith
 
 -- a name in normal form reads back
-name_reads_back : (u : SocketName) → IsNormalName u → read_name (name_bytes u) ≡ Ok u
+name_reads_back : (u : SocketName (List ℕ)) → IsNormalName u → read_name (name_bytes u) ≡ Ok u
 name_reads_back u good =
     grind (arith, common_steps, reads_path)
 
 -- an accepted name that is not empty, of which the first byte is no zero: nothing else needs a look
 pub known_path : (bytes path : List ℕ) (last : ℕ) → bytes ≡ path ++ last ∷ [] → get_or bytes 0 0 ≢ 0
-    → IsOk (read_name bytes) → read_name bytes ≡ Ok (pathname path)
+    → IsOk (read_name bytes) → read_name bytes ≡ Ok (Pathname path)
 known_path bytes path last parts first ok =
     grind (arith, length-append path (last ∷ []), take-append_seam path (last ∷ []))
 
--- of a string of bytes the name is one of bytes
-pub name_in_range : (u : SocketName) → IsBytes (name_bytes u) → IsNameInRange u
-name_in_range (pathname path) in_range = IsBytes-left path (0 ∷ []) in_range
-name_in_range (abstract address) in_range = λ i. in_range (suc i)
+-- bytes and an end zero are bytes
+pub path_bytes_in_range : (path : List ℕ) → IsBytes path → IsBytes (path ++ 0 ∷ [])
+path_bytes_in_range path in_range =
+    IsBytes-append path (0 ∷ []) in_range (IsBytes-cons 0 [] (omega arith) IsBytes-nil)
 
--- and the bytes of a name in range are bytes
-pub name_bytes_in_range : (u : SocketName) → IsNameInRange u → IsBytes (name_bytes u)
-name_bytes_in_range u in_range =
-    grind (arith, common_steps)
+-- and a zero in front of bytes
+pub address_bytes_in_range : (address : List ℕ) → IsBytes address → IsBytes (0 ∷ address)
+address_bytes_in_range address in_range = IsBytes-cons 0 address (omega arith) in_range
 
 -- a name as the value of an attribute: its reader, its bytes, equal strings alone being idle, and
 -- its normal form
 pub name_laws : KeepsLaws (as_codec name_value)
-name_laws = exact_laws read_name name_bytes IsNameInRange IsNormalName name_named
+name_laws = exact_laws read_name name_bytes (λ u. IsBytes (name_bytes u)) IsNormalName name_named
     (λ x u in_range h. let exact = name_exact x u h in
-    (exact.0, name_in_range u (subst IsBytes exact.0 in_range), exact.1))
-    name_bytes_in_range
+    (exact.0, subst IsBytes exact.0 in_range, exact.1))
+    (λ u in_range. in_range)
     (λ u in_range normal. name_reads_back u normal)
 
 -- and by itself

@@ -1,17 +1,9 @@
 -- The model of the name of a UNIX socket: what contracts see of it.
-use Rattle.sock_diag_attributes.specs.Name.{SocketName, pathname, abstract}
-use Rattle.sock_diag_attributes.specs.declared.unix.name.UnixDiagName.{UnixDiagName}
-use Rattle.sock_diag_attributes.specs.declared.unix.name.UnixDiagName.TheVariants.{Pathname}
-use Rattle.sock_diag_attributes.specs.declared.unix.name.UnixDiagName.TheVariants.{Abstract}
-use Rattle.sock_diag_attributes.specs.declared.unix.name.NameView.{NameView}
-use Rattle.sock_diag_attributes.specs.declared.unix.name.NameView.TheVariants as view
+use Rattle.std.specs.Prelude.{ℕ, List}
+use Rattle.sock_diag_attributes.specs.declared.unix.name.SocketName.{SocketName}
+use Rattle.sock_diag_attributes.specs.declared.unix.name.SocketName.TheVariants.{Pathname, Abstract}
 
--- the same name, with its bytes alone
-abbrev pub name_model : UnixDiagName → SocketName
-name_model (Pathname path) = pathname path.items
-name_model (Abstract address) = abstract address.items
-
--- the same of one that is read in place
-abbrev pub name_view_model : NameView → SocketName
-name_view_model (view.Pathname path) = pathname path.now
-name_view_model (view.Abstract address) = abstract address.now
+-- the same name, with its bytes alone, by the bytes of what holds them
+abbrev pub name_of : {B : Type 0} → (B → List ℕ) → SocketName B → SocketName (List ℕ)
+name_of bytes (Pathname path) = Pathname (bytes path)
+name_of bytes (Abstract address) = Abstract (bytes address)

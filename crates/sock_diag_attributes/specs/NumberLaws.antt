@@ -16,9 +16,8 @@ use Rattle.netlink_core.specs.ByteLaws.{IsBytes-left, IsBytes-nil, IsBytes-numbe
 use Rattle.netlink_core.specs.ByteLaws.{IsBytes-right}
 use Rattle.netlink_core.proofs.AttributeTypeLaws.{same_bytes, exact_laws}
 use Rattle.netlink_core.specs.Codec.{KeepsLaws, as_codec}
-use Rattle.std.specs.Prelude.{⊤, slice_index}
-use Rattle.sock_diag_attributes.specs.Numbers.{two_numbers, bytes_of_two, numbers_in, read_numbers}
-use Rattle.sock_diag_attributes.specs.Numbers.{bytes_of_numbers, two_value, numbers_value}
+use Rattle.std.specs.Prelude.{⊤, slice_index, flat_map}
+use Rattle.sock_diag_attributes.specs.Numbers.{numbers_in, two_value, numbers_value}
 
 -- the bytes of the number in a string of that width
 number_exact : (width : ℕ) (x : List ℕ) → IsBytes x → length x ≡ width
@@ -41,7 +40,8 @@ numbers_in_first x long =
     grind arith
 
 -- bytes whose number is a multiple of four are numbers
-pub whole : (x : List ℕ) → IsBytes x → length x % 4 ≡ 0 → (x ≡ bytes_of_numbers (numbers_in x))
+pub whole : (x : List ℕ) → IsBytes x → length x % 4 ≡ 0
+    → (x ≡ flat_map (little_bytes 4) (numbers_in x))
     × AllByRecursion (λ n. n < 2 ^ 32) (numbers_in x)
 whole [] in_range four = (refl, tt)
 whole (a ∷ b ∷ c ∷ d ∷ rest) in_range four =
@@ -60,36 +60,37 @@ each_below bound [] below = tt
 each_below bound (n ∷ u) below = (below 0, each_below bound u (λ i. below (suc i)))
 
 -- four bytes each
-pub length_numbers : (u : List ℕ) → length (bytes_of_numbers u) ≡ 4 * length u
+pub length_numbers : (u : List ℕ) → length (flat_map (little_bytes 4) u) ≡ 4 * length u
 length_numbers [] = refl
 length_numbers (n ∷ u) = omega (arith, length_numbers u)
 
 -- bytes in front that have room for all
-pub front_of : (u bytes : List ℕ) → length (bytes_of_numbers u) ≤ length bytes
+pub front_of : (u bytes : List ℕ) → length (flat_map (little_bytes 4) u) ≤ length bytes
     → length (take (4 * length u) bytes) ≡ 4 * length u
 front_of u bytes room = length-take-le _ bytes (omega (arith, length_numbers u))
 
 -- no bytes are those of no numbers
-pub no_numbers : (u : List ℕ) → bytes_of_numbers u ≡ [] → u ≡ []
+pub no_numbers : (u : List ℕ) → flat_map (little_bytes 4) u ≡ [] → u ≡ []
 no_numbers [] none = refl
 no_numbers (n ∷ u) none = absurd cc
 
 -- the numbers in the bytes of numbers
-back : (u : List ℕ) → AllByRecursion (λ n. n < 2 ^ 32) u → numbers_in (bytes_of_numbers u) ≡ u
+back : (u : List ℕ) → AllByRecursion (λ n. n < 2 ^ 32) u
+    → numbers_in (flat_map (little_bytes 4) u) ≡ u
 back [] fit = refl
 back (n ∷ u) fit =
     grind (
       arith,
-      little_number-reads_back 4 n (bytes_of_numbers u) fit.0,
-      bytes_of_numbers u,
+      little_number-reads_back 4 n (flat_map (little_bytes 4) u) fit.0,
+      flat_map (little_bytes 4) u,
       back u fit.1,
     )
 
 -- their bytes are bytes
-pub numbers_in_range : (u : List ℕ) → IsBytes (bytes_of_numbers u)
+pub numbers_in_range : (u : List ℕ) → IsBytes (flat_map (little_bytes 4) u)
 numbers_in_range [] = IsBytes-nil
 numbers_in_range (n ∷ u) =
-    grind (arith, bytes_of_numbers u, numbers_in_range u)
+    grind (arith, flat_map (little_bytes 4) u, numbers_in_range u)
 
 -- both keep the laws of the value of an attribute
 pub numbers_laws : KeepsLaws (as_codec numbers_value)
@@ -98,8 +99,6 @@ numbers_laws =
       arith,
       common_steps,
       exact_laws,
-      read_numbers,
-      bytes_of_numbers,
       numbers_in,
       whole,
       numbers_in_range,
@@ -108,8 +107,8 @@ numbers_laws =
     )
 
 pub two_laws : (k : ℕ) → KeepsLaws (as_codec (two_value k))
-two_laws k = exact_laws (two_numbers k) bytes_of_two (λ ns. (ns.0 < 2 ^ 32) × (ns.1 < 2 ^ 32))
-    (λ ns. ⊤) (λ x h. grind arith)
+two_laws k = exact_laws ((two_value k).reads tt) (two_value k).bytes
+    (λ ns. (ns.0 < 2 ^ 32) × (ns.1 < 2 ^ 32)) (λ ns. ⊤) (λ x h. grind arith)
     (λ x u in_range h.
     let same : (little_number 4 x, little_number 4 (drop 4 x)) ≡ u = grind arith in
     let numbers : numbers_in x ≡ little_number 4 x ∷ little_number 4 (drop 4 x) ∷ [] =

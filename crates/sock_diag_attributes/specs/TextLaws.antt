@@ -1,5 +1,5 @@
 -- The laws of a text as the value of an attribute.
-use Rattle.std.proofs.Common.{Ok, ◌≡◌, ◌↔◌, ◌⊎◌, inl, inr, ℕ, zero, suc, List, [], ◌∷◌}
+use Rattle.std.proofs.Common.{Ok, ◌≡◌, ◌↔◌, ◌⊎◌, inl, inr, ℕ, zero, suc, List, [], ◌∷◌, ◌++◌}
 use Rattle.std.proofs.Common.{length, refl, ap, sym, subst, arith}
 use Rattle.std.specs.Prelude.{IsUtf8}
 use Rattle.std.proofs.lemmas.List.{length-append}
@@ -10,10 +10,10 @@ use Rattle.netlink_core.specs.Parse.{without_end_zero, text_in}
 use Rattle.netlink_core.specs.Codec.{KeepsLaws, as_codec}
 use Rattle.netlink_core.specs.PrefixLaws.{value_or_reason}
 use Rattle.netlink_core.proofs.Texts.{end_zero, text_there}
-use Rattle.sock_diag_attributes.specs.Text.{text_bytes, EndsInZero, AreIdleTexts, text_value}
+use Rattle.sock_diag_attributes.specs.Text.{text_value}
 
 -- a string ends in a zero, or all of it is kept
-kept_or_ends : (s : List ℕ) → (s ≡ text_bytes (without_end_zero s)) ⊎ (without_end_zero s ≡ s)
+kept_or_ends : (s : List ℕ) → (s ≡ without_end_zero s ++ 0 ∷ []) ⊎ (without_end_zero s ≡ s)
 kept_or_ends [] = inr refl
 kept_or_ends (zero ∷ []) = inl refl
 kept_or_ends (suc n ∷ []) = inr refl
@@ -23,7 +23,7 @@ kept_or_ends (suc n ∷ next ∷ rest) =
     grind (arith, kept_or_ends (next ∷ rest))
 
 -- not both
-all_kept : (s : List ℕ) → ¬ (EndsInZero s) ↔ (without_end_zero s ≡ s)
+all_kept : (s : List ℕ) → ¬ ((front : List ℕ) × (s ≡ front ++ 0 ∷ [])) ↔ (without_end_zero s ≡ s)
 all_kept s = (
   λ none. elim (kept_or_ends s) [ inl e ↦ absurd (none (_, e)) | inr e ↦ e ],
   λ e ends.
@@ -32,7 +32,8 @@ all_kept s = (
 )
 
 -- what is kept of two strings is equal exactly where they are idle
-idle_where_kept : (b c : List ℕ) → (without_end_zero b ≡ without_end_zero c) ↔ AreIdleTexts b c
+idle_where_kept : (b c : List ℕ) → (without_end_zero b ≡ without_end_zero c)
+    ↔ text_value.idle tt b c
 idle_where_kept b c =
     grind (arith, kept_or_ends b, kept_or_ends c, all_kept b, all_kept c, end_zero b, end_zero c)
 
@@ -63,6 +64,6 @@ text_laws = record {
       (rw (← read.0) (read.1, kept_in_range b in_range), tt);
   written_bytes = λ v in_range. IsBytes-append v (0 ∷ []) in_range.1
       (IsBytes-cons 0 [] (omega arith) IsBytes-nil);
-  reads_back = λ p v in_range normal room. text_there (text_bytes v) v (sym (end_zero v))
+  reads_back = λ p v in_range normal room. text_there (v ++ 0 ∷ []) v (sym (end_zero v))
       (rw end_zero in_range.0);
 }

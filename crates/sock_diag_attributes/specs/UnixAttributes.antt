@@ -11,7 +11,6 @@ use Rattle.sock_diag_attributes.specs.Numbers.{two_value, numbers_value}
 -- the name, the file, the peer, the pending connections, the lengths of the queues, the memory, and
 -- the directions that are shut down
 abbrev pub unix : AttributeSet
-unix =
-    memory_spec 0 name_value ∷ spec 1 (value_codec vfs) ∷ number_spec 2 4
+unix = memory_spec 0 name_value ∷ spec 1 (value_codec vfs) ∷ number_spec 2 4
     ∷ memory_spec 3 numbers_value ∷ spec 4 (two_value 4) ∷ spec 5 (value_codec unix_mem_info)
     ∷ number_spec 6 1 ∷ []

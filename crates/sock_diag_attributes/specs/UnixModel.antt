@@ -1,4 +1,5 @@
 -- The model of an attribute of a reply about a UNIX socket: what contracts see of it.
+use Rattle.std.specs.Borrow.{Bor}
 use Rattle.std.specs.Prelude.{ℕ, List, Vec, vec_items}
 use Rattle.std.specs.declared.alloc.Global.{Global}
 use Rattle.netlink_core.specs.declared.attribute.NlaBuffer.{NlaBuffer}
@@ -8,17 +9,15 @@ use Rattle.netlink_core.specs.DefaultNla.{kept_attribute}
 use Rattle.netlink_core.specs.AttributeSet.{AttributeValue, of_type}
 use Rattle.netlink_core.specs.Walk.{attribute_of}
 use Rattle.sock_diag_attributes.specs.declared.numbers.NumbersView.{NumbersView}
-use Rattle.sock_diag_attributes.specs.declared.unix.name.NameView.{NameView}
-use Rattle.sock_diag_attributes.specs.declared.unix.name.UnixDiagName.{UnixDiagName}
+use Rattle.sock_diag_attributes.specs.declared.unix.name.SocketName.{SocketName}
 use Rattle.sock_diag_attributes.specs.declared.unix.nlas.UnixNla.{UnixNla}
 use Rattle.sock_diag_attributes.specs.declared.unix.nlas.UnixNla.TheVariants as nla
-use Rattle.sock_diag_attributes.specs.Name.{SocketName}
-use Rattle.sock_diag_attributes.specs.NameModel.{name_model, name_view_model}
+use Rattle.sock_diag_attributes.specs.NameModel.{name_of}
 use Rattle.sock_diag_attributes.specs.NumbersModel.{numbers_view_model}
 use Rattle.sock_diag_attributes.specs.UnixAttributes.{unix}
 
 -- over what a name, a list and an attribute of another type lend
-module _ {N L O : Type 0} (name : N → SocketName) (list : L → List ℕ) (other : O → Attribute) where
+module _ {N L O : Type 0} (name : N → SocketName (List ℕ)) (list : L → List ℕ) (other : O → Attribute) where
   -- the same value; lists by their elements, records as they are; 0xffff is the number of no type
   -- in the set
   abbrev pub model : UnixNla N L O → AttributeValue unix
@@ -32,9 +31,9 @@ module _ {N L O : Type 0} (name : N → SocketName) (list : L → List ℕ) (oth
   model (nla.Other a) = of_type unix 0xffff (other a)
 
 -- that of one with memory of its own
-abbrev pub nla_model : UnixNla UnixDiagName (Vec ℕ Global) DefaultNla → AttributeValue unix
-nla_model a = model name_model vec_items kept_attribute a
+abbrev pub nla_model : UnixNla (SocketName (Vec ℕ Global)) (Vec ℕ Global) DefaultNla → AttributeValue unix
+nla_model a = model (name_of vec_items) vec_items kept_attribute a
 
 -- that of one that is read in place
-abbrev pub nla_view_model : UnixNla NameView NumbersView NlaBuffer → AttributeValue unix
-nla_view_model a = model name_view_model numbers_view_model attribute_of a
+abbrev pub nla_view_model : UnixNla (SocketName (Bor (List ℕ))) NumbersView NlaBuffer → AttributeValue unix
+nla_view_model a = model (name_of (λ (b : Bor (List ℕ)). b.now)) numbers_view_model attribute_of a

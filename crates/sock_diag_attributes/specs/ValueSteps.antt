@@ -1,5 +1,5 @@
 -- What the value of an attribute is made of, whatever type it is of.
-use Rattle.std.specs.Prelude.{ℕ, ◌<◌, ◌^◌, List, IsUtf8}
+use Rattle.std.specs.Prelude.{ℕ, ◌<◌, ◌^◌, List, [], ◌∷◌, ◌++◌, flat_map, IsUtf8}
 use Rattle.std.specs.List.{AllByRecursion}
 use Rattle.byteorder.specs.Endian.{little_bytes}
 use Rattle.netlink_core.specs.Bytes.{IsBytes}
@@ -9,10 +9,8 @@ use Rattle.sock_diag_values.specs.MemInfo.{mem_info}
 use Rattle.sock_diag_values.specs.TcpInfo.{tcp_info}
 use Rattle.sock_diag_values.specs.UnixMemInfo.{unix_mem_info}
 use Rattle.sock_diag_values.specs.Vfs.{vfs}
-use Rattle.sock_diag_attributes.specs.Name.{name_bytes, IsNameInRange}
-use Rattle.sock_diag_attributes.specs.NameModel.{name_view_model}
-use Rattle.sock_diag_attributes.specs.Numbers.{bytes_of_two, bytes_of_numbers}
-use Rattle.sock_diag_attributes.specs.Text.{text_bytes}
+use Rattle.sock_diag_attributes.specs.Name.{name_bytes}
+use Rattle.sock_diag_attributes.specs.NameModel.{name_of}
 use Rattle.sock_diag_attributes.specs.declared.value.Value.{Value}
 use Rattle.sock_diag_attributes.specs.declared.value.Value.TheVariants as value
 
@@ -20,10 +18,10 @@ use Rattle.sock_diag_attributes.specs.declared.value.Value.TheVariants as value
 abbrev pub value_bytes : Value → List ℕ
 value_bytes (value.Byte n) = little_bytes 1 n
 value_bytes (value.Word n) = little_bytes 4 n
-value_bytes (value.Pair m n) = bytes_of_two (m, n)
-value_bytes (value.Numbers ns) = bytes_of_numbers ns.now
-value_bytes (value.Text t) = text_bytes t.now
-value_bytes (value.Name n) = name_bytes (name_view_model n)
+value_bytes (value.Pair m n) = little_bytes 4 m ++ little_bytes 4 n
+value_bytes (value.Numbers ns) = flat_map (little_bytes 4) ns.now
+value_bytes (value.Text t) = t.now ++ 0 ∷ []
+value_bytes (value.Name n) = name_bytes (name_of (λ b. b.now) n)
 value_bytes (value.LegacyMemInfo m) = bytes legacy_mem_info m.now
 value_bytes (value.TcpInfo t) = bytes tcp_info t.now
 value_bytes (value.MemInfo m) = bytes mem_info m.now
@@ -38,7 +36,7 @@ IsValueInRange (value.Word n) = n < 256 ^ 4
 IsValueInRange (value.Pair m n) = (m < 2 ^ 32) × (n < 2 ^ 32)
 IsValueInRange (value.Numbers ns) = AllByRecursion (λ n. n < 2 ^ 32) ns.now
 IsValueInRange (value.Text t) = IsUtf8 t.now × IsBytes t.now
-IsValueInRange (value.Name n) = IsNameInRange (name_view_model n)
+IsValueInRange (value.Name n) = IsBytes (name_bytes (name_of (λ b. b.now) n))
 IsValueInRange (value.LegacyMemInfo m) = IsInRange legacy_mem_info m.now
 IsValueInRange (value.TcpInfo t) = IsInRange tcp_info t.now
 IsValueInRange (value.MemInfo m) = IsInRange mem_info m.now

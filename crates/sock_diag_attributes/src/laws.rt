@@ -1,8 +1,8 @@
 //! Laws of attributes that are read in place.
 
 ghost use Rattle.std.specs.Prelude.{◌≡◌, ◌↔◌, IsTrue, IsOk, IfOk, true};
-ghost use Rattle.sock_diag_attributes.specs.NameModel.{name_view_model};
-ghost use Rattle.sock_diag_attributes.specs.NumbersModel.{numbers_view_model, numbers_left};
+ghost use Rattle.sock_diag_attributes.specs.NameModel.{name_of};
+ghost use Rattle.sock_diag_attributes.specs.NumbersModel.{numbers_view_model};
 ghost use Rattle.sock_diag_attributes.specs.InetModel.{nla_view_model as inet_view_model};
 ghost use Rattle.sock_diag_attributes.specs.UnixModel.{nla_view_model as unix_view_model};
 
@@ -25,9 +25,8 @@ pub fn readers_take_memory() -> (bool, bool, bool)
 }
 
 /// `==` says whether two names in place are the same name.
-#[tactic(auto, using(crate::specs::EqualUnixLaws::name_views_equal))]
 pub fn equal_name_views(v: &NameView<'_>, w: &NameView<'_>) -> bool
-    ensures { IsTrue result ↔ (name_view_model v.now ≡ name_view_model w.now) }
+    ensures { IsTrue result ↔ (name_of (λ b. b.now) v.now ≡ name_of (λ b. b.now) w.now) }
 {
     v == w
 }
@@ -57,7 +56,7 @@ pub fn equal_inet_views(v: &InetNlaView<'_>, w: &InetNlaView<'_>) -> bool
 /// The copy of a name in place is the same name.
 pub fn copied_name_view<'a>(view: &NameView<'a>) -> Result<NameView<'a>, AllocError>
     ensures ok { IsOk result }
-    ensures same { IfOk result (λ copy. name_view_model copy ≡ name_view_model view.now) }
+    ensures same { IfOk result (λ copy. name_of (λ b. b.now) copy ≡ name_of (λ b. b.now) view.now) }
 {
     view.clone()
 }
@@ -75,7 +74,8 @@ pub fn copied_numbers_walk<'a>(
     walk: &NumbersIterator<'a>,
 ) -> Result<NumbersIterator<'a>, AllocError>
     ensures ok { IsOk result }
-    ensures same { IfOk result (λ copy. numbers_left copy ≡ numbers_left walk.now) }
+    ensures same { IfOk result (λ copy. numbers_view_model copy.rest
+        ≡ numbers_view_model walk.now.rest) }
 {
     walk.clone()
 }

@@ -1,13 +1,14 @@
 //! What an attribute that owns its parts and one that borrows them lend alike.
 
 ghost use Rattle.std.specs.List.{AllByRecursion};
-ghost use Rattle.std.specs.Prelude.{◌≡◌, ◌<◌, ◌^◌, ℕ, List, [], IfOk, IsOk};
+ghost use Rattle.std.specs.Prelude.{◌≡◌, ◌<◌, ◌^◌, ℕ, List, [], IfOk, IsOk, flat_map};
+ghost use Rattle.std.specs.Prelude.{vec_items};
+ghost use Rattle.byteorder.specs.Endian.{little_bytes};
 ghost use Rattle.netlink_core.specs.Attribute.{Attribute};
 ghost use Rattle.netlink_core.specs.DefaultNla.{kept_attribute};
 ghost use Rattle.netlink_core.specs.Walk.{attribute_of};
-ghost use Rattle.sock_diag_attributes.specs.Name.{SocketName};
-ghost use Rattle.sock_diag_attributes.specs.Numbers.{bytes_of_numbers};
-ghost use Rattle.sock_diag_attributes.specs.NameModel.{name_model, name_view_model};
+ghost use Rattle.sock_diag_attributes.specs.declared.unix.name.SocketName.{SocketName};
+ghost use Rattle.sock_diag_attributes.specs.NameModel.{name_of};
 ghost use Rattle.sock_diag_attributes.specs.NumbersModel.{numbers_view_model};
 ghost use Rattle.sock_diag_attributes.specs.ValueSteps.{value_bytes, IsValueInRange};
 
@@ -77,15 +78,15 @@ impl OtherNla for NlaBuffer<'_> {
 /// The name of a UNIX socket.
 pub(crate) trait LendsName {
     // The name.
-    ghost name: { Self → SocketName };
+    ghost name: { Self → SocketName (List ℕ) };
 
     /// The name, its bytes borrowed.
     fn lent_name(&self) -> NameView<'_>
-        ensures { name_view_model result ≡ name self.now };
+        ensures { name_of (λ b. b.now) result ≡ name self.now };
 }
 
 impl LendsName for UnixDiagName {
-    ghost name = { name_model };
+    ghost name = { name_of vec_items };
 
     #[inline(always)]
     fn lent_name(&self) -> NameView<'_> {
@@ -94,7 +95,7 @@ impl LendsName for UnixDiagName {
 }
 
 impl LendsName for NameView<'_> {
-    ghost name = { name_view_model };
+    ghost name = { name_of (λ b. b.now) };
 
     #[inline(always)]
     fn lent_name(&self) -> NameView<'_> {
@@ -109,7 +110,7 @@ pub(crate) trait LendsNumbers {
 
     /// The numbers as the value of an attribute.
     fn lent_value(&self) -> Value<'_>
-        ensures bytes { value_bytes result ≡ bytes_of_numbers (numbers self.now) }
+        ensures bytes { value_bytes result ≡ flat_map (little_bytes 4) (numbers self.now) }
         ensures in_range { IsValueInRange result
             → AllByRecursion (λ n. n < 2 ^ 32) (numbers self.now) };
 

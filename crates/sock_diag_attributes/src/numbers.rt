@@ -3,14 +3,14 @@
 ghost use Rattle.std.specs.List.{AllByRecursion};
 ghost use Rattle.std.specs.Prelude.{◌≡◌, ◌<◌, ◌^◌, ◌≤◌, ◌↔◌, ◌++◌, ◌%◌, [], length, drop};
 ghost use Rattle.std.specs.Prelude.{slice_get, IsTrue, IsOk, IfOk, IfSome, MatchResult, Ok, Err};
-ghost use Rattle.std.specs.Prelude.{Some};
+ghost use Rattle.std.specs.Prelude.{Some, flat_map};
 ghost use Rattle.std.specs.Iterator.{UpTo, YieldsFirst, item_count};
 ghost use Rattle.std.specs.Iterator.SizeHint.{IsWithinCount};
+ghost use Rattle.byteorder.specs.Endian.{little_bytes};
 ghost use Rattle.netlink_core.specs.Bytes.{IsBytes};
 ghost use Rattle.netlink_core.specs.Parse.{exact_number};
-ghost use Rattle.sock_diag_attributes.specs.Flag.{read_flag};
-ghost use Rattle.sock_diag_attributes.specs.Numbers.{two_numbers, bytes_of_two, read_numbers};
-ghost use Rattle.sock_diag_attributes.specs.Numbers.{bytes_of_numbers};
+ghost use Rattle.sock_diag_attributes.specs.Flag.{flag_value};
+ghost use Rattle.sock_diag_attributes.specs.Numbers.{two_value, numbers_value};
 
 use byteorder::{ByteOrder, LittleEndian};
 use netlink_core::{DecodeError, parse_u8, parse_u32};
@@ -33,14 +33,14 @@ pub(crate) fn exact_u32(kind: u16, value: &[u8]) -> Result<u32, DecodeError>
 
 /// Whether exactly one byte is not zero. Any other length is `WrongLength` with the kind.
 pub(crate) fn exact_flag(kind: u16, value: &[u8]) -> Result<bool, DecodeError>
-    ensures { result ≡ read_flag kind value.now }
+    ensures { result ≡ (flag_value kind).reads tt value.now }
 {
     Ok(exact_u8(kind, value)? != 0)
 }
 
 /// The two numbers in exactly eight bytes. Any other length is `WrongLength` with the kind.
 pub(crate) fn exact_u32_pair(kind: u16, value: &[u8]) -> Result<(u32, u32), DecodeError>
-    ensures { result ≡ two_numbers kind value.now }
+    ensures { result ≡ (two_value kind).reads tt value.now }
 {
     if value.len() != 8 {
         return Err(DecodeError::WrongLength {
@@ -65,13 +65,13 @@ pub struct NumbersView<'a> {
 }
 
 impl<'a> NumbersView<'a> {
-    ghost use Rattle.sock_diag_attributes.specs.NumbersModel.{numbers_view_model, numbers_left};
+    ghost use Rattle.sock_diag_attributes.specs.NumbersModel.{numbers_view_model};
 
     /// The numbers in the bytes. A length that is no multiple of four is `NotMultipleOfFour`.
     pub(crate) fn parse(bytes: &'a [u8]) -> Result<NumbersView<'a>, DecodeError>
         ensures { MatchResult result
-            (λ numbers. read_numbers bytes.entry.now ≡ Ok (numbers_view_model numbers))
-            (λ e. read_numbers bytes.entry.now ≡ Err e) }
+            (λ numbers. numbers_value.reads tt bytes.entry.now ≡ Ok (numbers_view_model numbers))
+            (λ e. numbers_value.reads tt bytes.entry.now ≡ Err e) }
     {
         if bytes.len() % 4 != 0 {
             return Err(DecodeError::NotMultipleOfFour { got: bytes.len() });
@@ -108,7 +108,7 @@ impl<'a> NumbersView<'a> {
 
     /// The numbers, one after the other.
     pub fn iter(&self) -> NumbersIterator<'a>
-        ensures { numbers_left result ≡ numbers_view_model self.now }
+        ensures { numbers_view_model result.rest ≡ numbers_view_model self.now }
     {
         NumbersIterator { rest: *self }
     }
@@ -116,7 +116,7 @@ impl<'a> NumbersView<'a> {
     // The bytes in which they stand, as which they are written.
     #[tactic(auto, using(crate::specs::NumberLaws::whole))]
     pub(crate) fn bytes(&self) -> &'a [u8]
-        ensures { result.now ≡ bytes_of_numbers (numbers_view_model self.now) }
+        ensures { result.now ≡ flat_map (little_bytes 4) (numbers_view_model self.now) }
     {
         self.bytes
     }
@@ -142,13 +142,13 @@ pub struct NumbersIterator<'a> {
 }
 
 impl<'a> Iterator for NumbersIterator<'a> {
-    ghost use Rattle.sock_diag_attributes.specs.NumbersModel.{numbers_left};
+    ghost use Rattle.sock_diag_attributes.specs.NumbersModel.{numbers_view_model};
 
     type Item = u32;
 
-    ghost next_gives = { YieldsFirst numbers_left };
+    ghost next_gives = { λ old item new. YieldsFirst numbers_view_model old.rest item new.rest };
 
-    ghost remaining = { item_count numbers_left };
+    ghost remaining = { λ walk. item_count numbers_view_model walk.rest };
 
     #[tactic(auto, using(crate::specs::NumberLaws::numbers_in_none, crate::specs::NumberLaws::numbers_in_first))]
     fn next(&mut self) -> Option<u32> {
@@ -163,11 +163,11 @@ impl<'a> Iterator for NumbersIterator<'a> {
     /// How many numbers are left, exactly.
     #[tactic(auto, using(crate::specs::NumberLaws::how_many))]
     fn size_hint(&self) -> (usize, Option<usize>)
-        ensures lower { IsWithinCount result.0 (item_count numbers_left self.now) }
-        ensures upper { IfSome result.1 (UpTo (item_count numbers_left self.now)) }
+        ensures lower { IsWithinCount result.0 (item_count numbers_view_model self.now.rest) }
+        ensures upper { IfSome result.1 (UpTo (item_count numbers_view_model self.now.rest)) }
         ensures exact { result ≡ (
-          length (numbers_left self.now),
-          Some (length (numbers_left self.now)),
+          length (numbers_view_model self.now.rest),
+          Some (length (numbers_view_model self.now.rest)),
         ) }
     {
         (self.rest.len(), Some(self.rest.len()))
@@ -177,7 +177,8 @@ impl<'a> Iterator for NumbersIterator<'a> {
 /// Writes the two numbers at the front, and leaves the rest.
 pub(crate) fn emit_u32_pair(first: u32, second: u32, buffer: &mut [u8])
     requires { 8 ≤ length buffer.old }
-    ensures { buffer.new ≡ bytes_of_two (first, second) ++ drop 8 buffer.old }
+    ensures { buffer.new ≡ little_bytes 4 first ++ little_bytes 4 second
+        ++ drop 8 buffer.old }
 {
     LittleEndian::write_u32_into(&[first, second], &mut buffer[..8]);
 }
@@ -185,9 +186,9 @@ pub(crate) fn emit_u32_pair(first: u32, second: u32, buffer: &mut [u8])
 /// Writes the numbers one after the other at the front, and leaves the rest.
 #[tactic(auto, using(crate::specs::NumberLaws::length_numbers, crate::specs::NumberLaws::front_of))]
 pub(crate) fn emit_numbers(numbers: &[u32], buffer: &mut [u8])
-    requires { length (bytes_of_numbers numbers.now) ≤ length buffer.old }
-    ensures { buffer.new ≡ bytes_of_numbers numbers.now
-        ++ drop (length (bytes_of_numbers numbers.now)) buffer.old }
+    requires { length (flat_map (little_bytes 4) numbers.now) ≤ length buffer.old }
+    ensures { buffer.new ≡ flat_map (little_bytes 4) numbers.now
+        ++ drop (length (flat_map (little_bytes 4) numbers.now)) buffer.old }
 {
     LittleEndian::write_u32_into(numbers, &mut buffer[..4 * numbers.len()]);
 }

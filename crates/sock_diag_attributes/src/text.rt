@@ -1,13 +1,13 @@
 //! Texts that fill the value of an attribute.
 
-ghost use Rattle.std.specs.Prelude.{◌≡◌, ◌≤◌, ◌++◌, length, drop, IsUtf8};
+ghost use Rattle.std.specs.Prelude.{◌≡◌, ◌≤◌, [], ◌∷◌, ◌++◌, length, drop, IsUtf8};
 ghost use Rattle.netlink_core.specs.Bytes.{IsBytes};
-ghost use Rattle.sock_diag_attributes.specs.Text.{text_bytes};
 
 /// Writes the text and an end zero at the front, and leaves the rest.
 pub(crate) fn emit_text(text: &str, buffer: &mut [u8])
-    requires { length (text_bytes text.now) ≤ length buffer.old }
-    ensures { buffer.new ≡ text_bytes text.now ++ drop (length (text_bytes text.now)) buffer.old }
+    requires { length (text.now ++ 0 ∷ []) ≤ length buffer.old }
+    ensures { buffer.new ≡ (text.now ++ 0 ∷ [])
+        ++ drop (length (text.now ++ 0 ∷ [])) buffer.old }
 {
     buffer[..text.len()].copy_from_slice(text.as_bytes());
     buffer[text.len()] = 0;

@@ -7,7 +7,7 @@ use Rattle.std.proofs.lemmas.Bool.{and_parts, cases_Bool, cases_eq, eqb-true, lt
 use Rattle.capture_tables.specs.Escapes.{byte_digits, bytes_told, shown}
 use Rattle.capture_tables.proofs.Telling.{shown_told, told_digits, told_plain}
 use Rattle.netlink_core.specs.Bytes.{IsBytes}
-use Rattle.sock_diag_attributes.specs.Name.{abstract, pathname}
+use Rattle.sock_diag_attributes.specs.declared.unix.name.SocketName.TheVariants.{Abstract, Pathname}
 use Rattle.sock_diag_captures.specs.Table.{is_mistaken, name_cell, name_told, path_text}
 
 not_false : true ≡ false → ⊥
@@ -27,12 +27,12 @@ mistaken_told utf8 (p ∷ ps) t in_range held =
 
 -- a path of which the first byte is told by its digits
 mistaken_cell : (utf8 : Bool) (path t : List ℕ) → IsBytes path → is_mistaken path ≡ true
-    → bytes_told 0 t ≡ [] → name_told (path_text utf8 path ++ t) ≡ Some (pathname path)
+    → bytes_told 0 t ≡ [] → name_told (path_text utf8 path ++ t) ≡ Some (Pathname path)
 mistaken_cell utf8 path t in_range held none =
     let found : bytes_told 0 (path_text utf8 path ++ t) ≡ path =
     mistaken_told utf8 path t in_range held
     ∙ ap (λ (l : List ℕ). path ++ l) none ∙ append-nil path in
-    rw held (ap (λ (l : List ℕ). Some (pathname l)) (rw held at found))
+    rw held (ap (λ (l : List ℕ). Some (Pathname l)) (rw held at found))
 
 at_mistaken : (xs : List ℕ) → is_mistaken (64 ∷ xs) ≡ true
 at_mistaken xs = rw (lt-ltb 0 (length (64 ∷ xs)) (omega arith)) refl
@@ -43,8 +43,8 @@ star_told t = refl
 
 -- a path whose text begins neither so nor so
 plain_cell : (text path : List ℕ) → is_mistaken path ≡ false → bytes_told 0 text ≡ path
-    → name_told text ≡ Some (pathname path)
-plain_cell [] path other found = ap (λ (l : List ℕ). Some (pathname l)) found
+    → name_told text ≡ Some (Pathname path)
+plain_cell [] path other found = ap (λ (l : List ℕ). Some (Pathname l)) found
 plain_cell (c ∷ []) path other found = elim (cases_eq c 64) [
   | inl at ↦
       let begins : 64 ∷ bytes_told 0 [] ≡ path = sym (told_plain 64 [] (λ e. omega (arith, e))
@@ -52,7 +52,7 @@ plain_cell (c ∷ []) path other found = elim (cases_eq c 64) [
       let wrong = sym (at_mistaken (bytes_told 0 [])) ∙ ap is_mistaken begins ∙ other in
       absurd (not_false wrong)
   | inr different ↦ rw (ne_eqb c 64 different, and_false (c == 42))
-      (ap (λ (l : List ℕ). Some (pathname l)) found)
+      (ap (λ (l : List ℕ). Some (Pathname l)) found)
 ]
 plain_cell (c ∷ d ∷ text) path other found = elim (cases_eq c 64) [
   | inl at ↦
@@ -70,13 +70,13 @@ plain_cell (c ∷ d ∷ text) path other found = elim (cases_eq c 64) [
         ∙ subst (λ (x : ℕ). bytes_told 0 (42 ∷ x ∷ text) ≡ path) space
         (subst (λ (x : ℕ). bytes_told 0 (x ∷ d ∷ text) ≡ path) star found) in
         absurd (not_false (ap is_mistaken alone ∙ other))
-    | inr single ↦ rw (single, ne_eqb c 64 different) (ap (λ (l : List ℕ). Some (pathname l)) found)
+    | inr single ↦ rw (single, ne_eqb c 64 different) (ap (λ (l : List ℕ). Some (Pathname l)) found)
   ]
 ]
 
 -- the cell of a path tells it
 pub path_cell : (utf8 : Bool) (path t : List ℕ) → IsBytes path → bytes_told 0 t ≡ []
-    → name_told (name_cell utf8 (Some (pathname path)) ++ t) ≡ Some (pathname path)
+    → name_told (name_cell utf8 (Some (Pathname path)) ++ t) ≡ Some (Pathname path)
 path_cell utf8 path t in_range none = elim (cases_Bool (is_mistaken path)) [
   | inl held ↦ mistaken_cell utf8 path t in_range held none
   | inr other ↦ rw other (plain_cell (shown utf8 path
@@ -86,7 +86,7 @@ path_cell utf8 path t in_range none = elim (cases_Bool (is_mistaken path)) [
 
 -- the cell of an abstract name tells it
 pub abstract_cell : (utf8 : Bool) (address t : List ℕ) → IsBytes address → bytes_told 0 t ≡ []
-    → name_told (name_cell utf8 (Some (abstract address)) ++ t) ≡ Some (abstract address)
+    → name_told (name_cell utf8 (Some (Abstract address)) ++ t) ≡ Some (Abstract address)
 abstract_cell utf8 address t in_range none =
-    ap (λ (l : List ℕ). Some (abstract l)) (shown_told utf8 address t in_range
+    ap (λ (l : List ℕ). Some (Abstract l)) (shown_told utf8 address t in_range
     ∙ ap (λ (l : List ℕ). address ++ l) none ∙ append-nil address)

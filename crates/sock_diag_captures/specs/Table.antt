@@ -10,7 +10,8 @@ use Rattle.capture_tables.specs.declared.parts.TimerWords.{TimerWords}
 use Rattle.capture_tables.specs.declared.options.Options.{Options}
 use Rattle.sock_diag_records.specs.declared.inet.response.InetResponseHeader.{InetResponseHeader}
 use Rattle.sock_diag_records.specs.declared.unix.response.UnixResponseHeader.{UnixResponseHeader}
-use Rattle.sock_diag_attributes.specs.Name.{SocketName, abstract, pathname}
+use Rattle.sock_diag_attributes.specs.declared.unix.name.SocketName.{SocketName}
+use Rattle.sock_diag_attributes.specs.declared.unix.name.SocketName.TheVariants.{Abstract, Pathname}
 use Rattle.sock_diag_attributes.specs.UnixAttributes.{unix}
 use Rattle.sock_diag_captures.specs.Details.{details}
 use Rattle.sock_diag_captures.specs.Pieces.{Piece, first_value}
@@ -35,17 +36,17 @@ abbrev pub unix_kind : ℕ → List ℕ
 unix_kind kind = if kind == 1 then codes "u_str" else (if kind == 2 then codes "u_dgr" else (if kind == 5 then codes "u_seq" else codes "unix"))
 
 -- the path, or `@` and an abstract name, or `*` where none is told
-abbrev pub name_cell : Bool → Option SocketName → List ℕ
+abbrev pub name_cell : Bool → Option (SocketName (List ℕ)) → List ℕ
 name_cell utf8 None = codes "*"
-name_cell utf8 (Some (pathname path)) = path_text utf8 path
-name_cell utf8 (Some (abstract address)) = 64 ∷ shown utf8 address
+name_cell utf8 (Some (Pathname path)) = path_text utf8 path
+name_cell utf8 (Some (Abstract address)) = 64 ∷ shown utf8 address
 
 -- the name that such a cell tells, which a space, 32, ends
-abbrev pub name_told : List ℕ → Option SocketName
+abbrev pub name_told : List ℕ → Option (SocketName (List ℕ))
 name_told cell =
     if (slice_index cell 0 == 42) && (slice_index cell 1 == 32) then None
-    else if slice_index cell 0 == 64 then Some (abstract (bytes_told 0 (drop 1 cell)))
-    else Some (pathname (bytes_told 0 cell))
+    else if slice_index cell 0 == 64 then Some (Abstract (bytes_told 0 (drop 1 cell)))
+    else Some (Pathname (bytes_told 0 cell))
 
 -- ---- IPv4 and IPv6 sockets
 

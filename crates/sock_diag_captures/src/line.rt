@@ -5,7 +5,7 @@ ghost use Rattle.capture_tables.specs.CellsModel.{cells_model};
 ghost use Rattle.netlink_core.specs.Layout.{read};
 ghost use Rattle.sock_diag_records.specs.InetResponse.{inet_response_header};
 ghost use Rattle.sock_diag_records.specs.UnixResponseHeader.{unix_response_header};
-ghost use Rattle.sock_diag_attributes.specs.NameModel.{name_view_model};
+ghost use Rattle.sock_diag_attributes.specs.NameModel.{name_of};
 ghost use Rattle.sock_diag_attributes.specs.UnixAttributes.{unix};
 ghost use Rattle.sock_diag_records.specs.ResponseKind.{response_kind};
 ghost use Rattle.sock_diag_captures.specs.Details.{timer_in};
@@ -161,7 +161,7 @@ fn unix_cells(header: &UnixResponseHeader, queues: Option<(u32, u32)>) -> Cells
 
 /// The name of a UNIX socket, where one is told that can be read.
 fn name_in<'a>(attributes: &'a [u8]) -> Option<NameView<'a>>
-    ensures { option_map name_view_model result
+    ensures { option_map (name_of (λ b. b.now)) result
         ≡ first_value unix 0 (pieces 0 attributes.entry.now) }
 {
     match find_kind(attributes, UNIX_DIAG_NAME) {

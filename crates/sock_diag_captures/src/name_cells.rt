@@ -3,8 +3,9 @@
 ghost use Rattle.std.specs.Prelude.{◌≡◌, ◌++◌, [], ℕ, List, OnOk, Some, option_map};
 ghost use Rattle.capture_tables.specs.Cells.{column};
 ghost use Rattle.capture_tables.specs.Escapes.{bytes_told};
-ghost use Rattle.sock_diag_attributes.specs.Name.{abstract, pathname};
-ghost use Rattle.sock_diag_attributes.specs.NameModel.{name_view_model};
+ghost use Rattle.sock_diag_attributes.specs.declared.unix.name.SocketName.TheVariants.{Abstract};
+ghost use Rattle.sock_diag_attributes.specs.declared.unix.name.SocketName.TheVariants.{Pathname};
+ghost use Rattle.sock_diag_attributes.specs.NameModel.{name_of};
 ghost use Rattle.sock_diag_captures.specs.Table.{is_mistaken, name_cell, name_told};
 
 use capture_tables::{end_column, push_digits, push_shown};
@@ -19,7 +20,7 @@ pub(crate) fn push_name_column(
     name: Option<NameView<'_>>,
 ) -> Result<(), AllocError>
     ensures { OnOk result (text.new.items ≡ text.old.items
-        ++ column width (name_cell utf8 (option_map name_view_model name.entry))) }
+        ++ column width (name_cell utf8 (option_map (name_of (λ b. b.now)) name.entry))) }
 {
     let start = text.len();
     match name {
@@ -33,11 +34,11 @@ pub(crate) fn push_name_column(
 /// Adds an abstract name behind `@`.
 fn push_abstract(text: &mut Vec<u8>, utf8: bool, address: &[u8]) -> Result<(), AllocError>
     ensures cell { OnOk result (text.new.items
-        ≡ text.old.items ++ name_cell utf8 (Some (abstract address.now))) }
+        ≡ text.old.items ++ name_cell utf8 (Some (Abstract address.now))) }
     // The cell tells the name, where a space follows.
     ensures told { (behind : List ℕ) → bytes_told 0 behind ≡ []
-        → name_told (name_cell utf8 (Some (abstract address.now)) ++ behind)
-        ≡ Some (abstract address.now) }
+        → name_told (name_cell utf8 (Some (Abstract address.now)) ++ behind)
+        ≡ Some (Abstract address.now) }
 {
     text.push(b'@')?;
     push_shown(text, utf8, address)
@@ -47,11 +48,11 @@ fn push_abstract(text: &mut Vec<u8>, utf8: bool, address: &[u8]) -> Result<(), A
 /// has its first byte as `\x` and two digits.
 fn push_path(text: &mut Vec<u8>, utf8: bool, path: &[u8]) -> Result<(), AllocError>
     ensures cell { OnOk result (text.new.items
-        ≡ text.old.items ++ name_cell utf8 (Some (pathname path.now))) }
+        ≡ text.old.items ++ name_cell utf8 (Some (Pathname path.now))) }
     // The cell tells the name, where a space follows.
     ensures told { (behind : List ℕ) → bytes_told 0 behind ≡ []
-        → name_told (name_cell utf8 (Some (pathname path.now)) ++ behind)
-        ≡ Some (pathname path.now) }
+        → name_told (name_cell utf8 (Some (Pathname path.now)) ++ behind)
+        ≡ Some (Pathname path.now) }
 {
     if !is_mistaken(path) {
         return push_shown(text, utf8, path);

@@ -3,7 +3,8 @@ use Rattle.std.specs.Prelude.{ℕ, List, [], ◌∷◌, ◌++◌, codes, decimal
 use Rattle.std.specs.Prelude.{option_map}
 use Rattle.std.specs.List.{flat_map, join_with_byte}
 use Rattle.netlink_core.specs.AttributeSet.{content}
-use Rattle.sock_diag_attributes.specs.Name.{SocketName, abstract, pathname}
+use Rattle.sock_diag_attributes.specs.declared.unix.name.SocketName.{SocketName}
+use Rattle.sock_diag_attributes.specs.declared.unix.name.SocketName.TheVariants.{Abstract, Pathname}
 use Rattle.sock_diag_attributes.specs.UnixAttributes.{unix}
 use Rattle.sock_diag_replies.specs.UnixGetters.{first_of, listening_queue_of, other_queue_of}
 use Rattle.sock_diag_replies.specs.UnixResponseSpec.{UnixResponseValue}
@@ -15,9 +16,9 @@ or_none text_of None = codes "none"
 or_none text_of (Some found) = text_of found
 
 -- the sort of a name, and its bytes as a hex field
-abbrev pub name_word : SocketName → List ℕ
-name_word (pathname path) = codes "path:" ++ field_of path
-name_word (abstract address) = codes "abstract:" ++ field_of address
+abbrev pub name_word : SocketName (List ℕ) → List ℕ
+name_word (Pathname path) = codes "path:" ++ field_of path
+name_word (Abstract address) = codes "abstract:" ++ field_of address
 
 -- numbers in decimal, with a comma, 44, in front of each but the first; `-` for no numbers
 abbrev pub comma_list : List ℕ → List ℕ

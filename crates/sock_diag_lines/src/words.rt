@@ -3,7 +3,7 @@
 ghost use Rattle.std.specs.Prelude.{◌≡◌, ◌≢◌, ◌∷◌, ◌++◌, decimal, OnOk, option_map};
 ghost use Rattle.hex.specs.Hex.{encode_lower};
 ghost use Rattle.netlink_core.specs.declared.fault.DecodeError.TheVariants.{Memory};
-ghost use Rattle.sock_diag_attributes.specs.NameModel.{name_view_model};
+ghost use Rattle.sock_diag_attributes.specs.NameModel.{name_of};
 ghost use Rattle.sock_diag_attributes.specs.NumbersModel.{numbers_view_model};
 ghost use Rattle.sock_diag_lines.specs.HexField.{field_of};
 ghost use Rattle.sock_diag_lines.specs.TextSteps.{accepted, refused};
@@ -100,7 +100,7 @@ pub(crate) fn push_name_word(
     name: Option<NameView<'_>>,
 ) -> Result<(), AllocError>
     ensures { OnOk result (text.new.items
-        ≡ text.old.items ++ 32 ∷ or_none name_word (option_map name_view_model name.entry)) }
+        ≡ text.old.items ++ 32 ∷ or_none name_word (option_map (name_of (λ b. b.now)) name.entry)) }
 {
     match name {
         Some(NameView::Pathname(path)) => {

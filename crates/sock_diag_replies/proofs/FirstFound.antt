@@ -15,8 +15,7 @@ use Rattle.netlink_core.specs.AttributeSet.{AttributeValue, ValueAt, content}
 use Rattle.netlink_core.specs.declared.attribute.NlaBuffer.{NlaBuffer}
 use Rattle.netlink_core.specs.declared.nla.DefaultNla.{DefaultNla}
 use Rattle.sock_diag_attributes.specs.declared.numbers.NumbersView.{NumbersView}
-use Rattle.sock_diag_attributes.specs.declared.unix.name.NameView.{NameView}
-use Rattle.sock_diag_attributes.specs.declared.unix.name.UnixDiagName.{UnixDiagName}
+use Rattle.sock_diag_attributes.specs.declared.unix.name.SocketName.{SocketName}
 use Rattle.sock_diag_attributes.specs.declared.unix.nlas.UnixNla.{UnixNla}
 use Rattle.sock_diag_attributes.specs.UnixModel.{nla_model, nla_view_model}
 use Rattle.sock_diag_attributes.specs.UnixAttributes.{unix}
@@ -96,10 +95,10 @@ module _ {A B C D F : Type 0} {g : Mut F (A × Unit {0}) (Option C)} {f : F} (v 
 
 -- an attribute of a UNIX socket, owned and in place
 abbrev Nla : Type 0
-Nla = UnixNla UnixDiagName (Vec ℕ Global) DefaultNla
+Nla = UnixNla (SocketName (Vec ℕ Global)) (Vec ℕ Global) DefaultNla
 
 abbrev NlaView : Type 0
-NlaView = UnixNla NameView NumbersView NlaBuffer
+NlaView = UnixNla (SocketName (Bor (List ℕ))) NumbersView NlaBuffer
 
 -- in a list of attributes, what is said under a number
 pub first_owned : {C F : Type 0} {g : Mut F (Bor Nla × Unit {0}) (Option C)} {f : F} {s : Iter Nla}

@@ -3,7 +3,7 @@ use Rattle.std.specs.Prelude.{ℕ, Vec}
 use Rattle.std.specs.declared.alloc.Global.{Global}
 use Rattle.netlink_core.specs.declared.nla.DefaultNla.{DefaultNla}
 use Rattle.sock_diag_attributes.specs.UnixModel.{nla_model}
-use Rattle.sock_diag_attributes.specs.declared.unix.name.UnixDiagName.{UnixDiagName}
+use Rattle.sock_diag_attributes.specs.declared.unix.name.SocketName.{SocketName}
 use Rattle.sock_diag_attributes.specs.declared.unix.nlas.UnixNla.{UnixNla}
 use Rattle.sock_diag_records.specs.declared.unix.response.UnixResponseHeader.{UnixResponseHeader}
 use Rattle.sock_diag_replies.specs.declared.response.Reply.{Reply}
@@ -12,5 +12,5 @@ use Rattle.sock_diag_replies.specs.UnixResponseSpec.{UnixResponseValue}
 
 -- the same header, and the model of each attribute
 abbrev pub unix_response_model : Reply UnixResponseHeader
-    (UnixNla UnixDiagName (Vec ℕ Global) DefaultNla) → UnixResponseValue
+    (UnixNla (SocketName (Vec ℕ Global)) (Vec ℕ Global) DefaultNla) → UnixResponseValue
 unix_response_model = response_model (λ h. h) nla_model

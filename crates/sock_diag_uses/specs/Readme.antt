@@ -9,7 +9,8 @@ use Rattle.netlink_core.specs.declared.fault.DecodeError.{DecodeError}
 use Rattle.netlink_core.specs.Envelope.{done_with, error_with, overrun_with, inner}
 use Rattle.netlink_core.specs.AttributeSet.{content}
 use Rattle.netlink_core.specs.Items.{Item, ItemsAre}
-use Rattle.sock_diag_attributes.specs.Name.{SocketName, pathname, abstract}
+use Rattle.sock_diag_attributes.specs.declared.unix.name.SocketName.{SocketName}
+use Rattle.sock_diag_attributes.specs.declared.unix.name.SocketName.TheVariants.{Pathname, Abstract}
 use Rattle.sock_diag_attributes.specs.UnixAttributes.{unix}
 use Rattle.netlink_packet_sock_diag.specs.Dump.{end_of}
 use Rattle.netlink_packet_sock_diag.specs.Message.{Message, message_of, message_codec}
@@ -23,9 +24,9 @@ path_bytes None = None
 path_bytes (Some path) = Some path.now
 
 -- the path that a name is
-abbrev pub path_in : SocketName → Option (List ℕ)
-path_in (pathname path) = Some path
-path_in (abstract address) = None
+abbrev pub path_in : SocketName (List ℕ) → Option (List ℕ)
+path_in (Pathname path) = Some path
+path_in (Abstract address) = None
 
 -- the path that the message's first name is
 abbrev pub path_of : Message → Option (List ℕ)

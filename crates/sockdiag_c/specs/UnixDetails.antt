@@ -3,7 +3,8 @@ use Rattle.std.specs.Prelude.{◌≡◌, ℕ, List, [], Option, option_map, unwr
 use Rattle.netlink_core.specs.AttributeSet.{AttributeValue, content}
 use Rattle.sock_diag_values.specs.declared.unix.mem_info.MemInfo.{MemInfo}
 use Rattle.sock_diag_values.specs.declared.unix.vfs.Vfs.{Vfs}
-use Rattle.sock_diag_attributes.specs.Name.{SocketName, pathname, abstract}
+use Rattle.sock_diag_attributes.specs.declared.unix.name.SocketName.{SocketName}
+use Rattle.sock_diag_attributes.specs.declared.unix.name.SocketName.TheVariants.{Pathname, Abstract}
 use Rattle.sock_diag_attributes.specs.UnixAttributes.{unix}
 use Rattle.sock_diag_replies.specs.UnixGetters.{first_of}
 use Rattle.sock_diag_replies.specs.UnixResponseSpec.{UnixResponseValue}
@@ -14,9 +15,9 @@ use Rattle.sockdiag_c.specs.Details.{text_of, first_number}
 use Rattle.sockdiag_c.specs.Headers.{unix_header_of}
 
 -- a path is of the kind 1, and an abstract name of the kind 2
-abbrev pub name_parts : SocketName → ℕ × List ℕ
-name_parts (pathname path) = (1, path)
-name_parts (abstract address) = (2, address)
+abbrev pub name_parts : SocketName (List ℕ) → ℕ × List ℕ
+name_parts (Pathname path) = (1, path)
+name_parts (Abstract address) = (2, address)
 
 -- the name, where one is said
 abbrev pub named : AttributeValue unix → Option (ℕ × List ℕ)

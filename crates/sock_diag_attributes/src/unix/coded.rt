@@ -7,9 +7,10 @@ ghost use Rattle.netlink_core.specs.FirstAttributeLaws.{first_attribute_keeps_la
 ghost use Rattle.sock_diag_attributes.specs.UnixAttributes.{unix};
 ghost use Rattle.sock_diag_attributes.specs.UnixAttributeLaws.{unix_laws};
 ghost use Rattle.sock_diag_attributes.specs.UnixModel.{nla_model};
-ghost use Rattle.sock_diag_attributes.specs.NameModel.{name_model};
-ghost use Rattle.sock_diag_attributes.specs.EqualUnixLaws.{equal, same_names};
-ghost use Rattle.sock_diag_attributes.specs.LentLaws.{kept_row, list_row, name_row};
+ghost use Rattle.sock_diag_attributes.specs.NameModel.{name_of};
+ghost use Rattle.sock_diag_attributes.specs.EqualUnixLaws.{equal};
+ghost use Rattle.sock_diag_attributes.specs.EqualNameLaws.{same_names};
+ghost use Rattle.sock_diag_attributes.specs.LentLaws.{byte_list_row, kept_row, list_row, name_row};
 
 use super::nlas::{Nla, NlaView};
 use netlink_core::{Coded, DecodeError, NlaBuffer, Wire, WireNla};
@@ -28,8 +29,9 @@ impl Coded for Nla {
         self.parts().1.in_range();
     }
 
-    ghost eq_is_model = { equal name_row list_row kept_row _ _ _ name_model vec_items
-        kept_attribute same_names (λ _ _. refl) (λ _ _. refl) };
+    ghost eq_is_model = { equal name_row list_row kept_row _ _ _ (name_of vec_items) vec_items
+        kept_attribute (same_names byte_list_row _ vec_items (λ _ _. refl)) (λ _ _. refl)
+        (λ _ _. refl) };
 
     ghost laws = { first_attribute_keeps_laws unix unix_laws };
 }

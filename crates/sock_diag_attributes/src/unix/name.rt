@@ -1,9 +1,9 @@
 //! The name of a UNIX socket.
 
-ghost use Rattle.std.proofs.Common.{rules};
 ghost use Rattle.std.specs.Prelude.{◌≡◌, ◌<◌, ◌≤◌, ◌++◌, length, take, drop, slice_index, IfOk};
-ghost use Rattle.std.specs.Prelude.{IsOk, MatchOption, MatchResult, Ok, Err, true, refl};
-ghost use Rattle.sock_diag_attributes.specs.Name.{IsNameInRange, read_name, name_bytes, name_codec};
+ghost use Rattle.std.specs.Prelude.{IsOk, MatchOption, MatchResult, Ok, Err, true, refl, vec_items};
+ghost use Rattle.netlink_core.specs.Bytes.{IsBytes};
+ghost use Rattle.sock_diag_attributes.specs.Name.{read_name, name_bytes, name_codec};
 ghost use Rattle.sock_diag_attributes.specs.NameLaws.{HasNoZero, name_keeps_laws};
 
 use netlink_core::{
@@ -11,32 +11,40 @@ use netlink_core::{
 };
 use std::alloc::{AllocError, Global};
 
-/// The name that a UNIX socket is bound to, as the attribute `UNIX_DIAG_NAME` tells it.
+/// The name that a UNIX socket is bound to, as the attribute `UNIX_DIAG_NAME` tells it. A `B` holds
+/// its bytes.
 ///
 /// A first byte of zero says an abstract name. Any other name is a path, which ends with its one
 /// zero.
-#[derive(Debug, Drop, PartialEq, Eq)]
-pub enum UnixDiagName {
+#[derive(Clone, Copy, Debug, Drop, PartialEq, Eq)]
+pub enum SocketName<B> {
     /// The path of a file, without the zero at its end. It is written with that zero.
-    Pathname(Vec<u8>),
+    Pathname(B),
     /// The bytes behind the zero that tells an abstract name; zeros may be among them.
-    Abstract(Vec<u8>),
+    Abstract(B),
 }
 
+/// The name that a UNIX socket is bound to, with bytes of its own.
+pub type UnixDiagName = SocketName<Vec<u8>>;
+
+/// The name that a UNIX socket is bound to, read in place: a [`UnixDiagName`] whose bytes are
+/// borrowed.
+pub type NameView<'a> = SocketName<&'a [u8]>;
+
 impl UnixDiagName {
-    ghost use Rattle.sock_diag_attributes.specs.NameModel.{name_model, name_view_model};
+    ghost use Rattle.sock_diag_attributes.specs.NameModel.{name_of};
 
     /// An equal name. It fails only for want of memory, which a name of one byte doesn't need.
     pub fn clone(&self, alloc: Global) -> Result<Self, AllocError>
-        ensures equal { IfOk result (λ name. name_model name ≡ name_model self.now) }
-        ensures spare { length (name_bytes (name_model self.now)) ≤ 1 → IsOk result }
+        ensures equal { IfOk result (λ name. name_of vec_items name ≡ name_of vec_items self.now) }
+        ensures spare { length (name_bytes (name_of vec_items self.now)) ≤ 1 → IsOk result }
     {
         self.view().to_owned(alloc)
     }
 
     // The same name, its bytes borrowed.
     pub(crate) fn view(&self) -> NameView<'_>
-        ensures { name_view_model result ≡ name_model self.now }
+        ensures { name_of (λ b. b.now) result ≡ name_of vec_items self.now }
     {
         match self {
             UnixDiagName::Pathname(path) => NameView::Pathname(path),
@@ -45,18 +53,8 @@ impl UnixDiagName {
     }
 }
 
-/// The name that a UNIX socket is bound to, read in place: a [`UnixDiagName`] whose bytes are
-/// borrowed.
-#[derive(Clone, Copy, Debug, PartialEq, Eq)]
-pub enum NameView<'a> {
-    /// The path of a file, without the zero at its end.
-    Pathname(&'a [u8]),
-    /// The bytes behind the zero that tells an abstract name; zeros may be among them.
-    Abstract(&'a [u8]),
-}
-
 impl<'a> NameView<'a> {
-    ghost use Rattle.sock_diag_attributes.specs.NameModel.{name_model, name_view_model};
+    ghost use Rattle.sock_diag_attributes.specs.NameModel.{name_of};
 
     /// The whole of the bytes as a name. No bytes are `NameEmpty`. Of a path, a first zero before
     /// the last byte is `NameInnerZero`, and no zero is `NameWithoutEnd`.
@@ -64,7 +62,7 @@ impl<'a> NameView<'a> {
     #[tactic(auto, using(crate::specs::NameLaws::reads_inner_zero, crate::specs::NameLaws::reads_path, crate::specs::NameLaws::reads_no_end))]
     pub fn parse(bytes: &'a [u8]) -> Result<NameView<'a>, DecodeError>
         ensures { MatchResult result
-            (λ name. read_name bytes.entry.now ≡ Ok (name_view_model name))
+            (λ name. read_name bytes.entry.now ≡ Ok (name_of (λ b. b.now) name))
             (λ e. read_name bytes.entry.now ≡ Err e) }
     {
         let Some((last, path)) = bytes.split_last() else {
@@ -86,7 +84,7 @@ impl<'a> NameView<'a> {
     #[tactic(auto, using(crate::specs::NameLaws::known_path))]
     pub fn new(bytes: &'a [u8]) -> NameView<'a>
         requires { IsOk (read_name bytes.now) }
-        ensures { read_name bytes.entry.now ≡ Ok (name_view_model result) }
+        ensures { read_name bytes.entry.now ≡ Ok (name_of (λ b. b.now) result) }
     {
         let Some((_, path)) = bytes.split_last() else {
             unreachable!();
@@ -99,7 +97,7 @@ impl<'a> NameView<'a> {
 
     // How many bytes it is written as.
     pub(crate) fn len(&self) -> usize
-        ensures { result ≡ length (name_bytes (name_view_model self.now)) }
+        ensures { result ≡ length (name_bytes (name_of (λ b. b.now) self.now)) }
     {
         match self {
             NameView::Pathname(path) => path.len() + 1,
@@ -109,9 +107,9 @@ impl<'a> NameView<'a> {
 
     // Writes the name with its zero at the start of the buffer, and leaves the rest.
     pub(crate) fn emit(&self, buffer: &mut [u8])
-        requires { length (name_bytes (name_view_model self.now)) ≤ length buffer.old }
-        ensures { buffer.new ≡ name_bytes (name_view_model self.now)
-            ++ drop (length (name_bytes (name_view_model self.now))) buffer.old }
+        requires { length (name_bytes (name_of (λ b. b.now) self.now)) ≤ length buffer.old }
+        ensures { buffer.new ≡ name_bytes (name_of (λ b. b.now) self.now)
+            ++ drop (length (name_bytes (name_of (λ b. b.now) self.now))) buffer.old }
     {
         match self {
             NameView::Pathname(path) => {
@@ -126,8 +124,9 @@ impl<'a> NameView<'a> {
     }
 
     // Tells the prover that its bytes are bytes. It does nothing.
+    #[tactic(auto, using(crate::specs::NameLaws::path_bytes_in_range, crate::specs::NameLaws::address_bytes_in_range))]
     pub(crate) fn in_range(&self)
-        ensures { IsNameInRange (name_view_model self.now) }
+        ensures { IsBytes (name_bytes (name_of (λ b. b.now) self.now)) }
     {
         match self {
             NameView::Pathname(path) => bytes_in_range(path),
@@ -138,8 +137,9 @@ impl<'a> NameView<'a> {
     /// The name with bytes of its own. It fails only for want of memory, which a name of one byte
     /// doesn't need.
     pub fn to_owned(&self, alloc: Global) -> Result<UnixDiagName, AllocError>
-        ensures equal { IfOk result (λ name. name_model name ≡ name_view_model self.now) }
-        ensures spare { length (name_bytes (name_view_model self.now)) ≤ 1 → IsOk result }
+        ensures equal { IfOk result (λ name.
+            name_of vec_items name ≡ name_of (λ b. b.now) self.now) }
+        ensures spare { length (name_bytes (name_of (λ b. b.now) self.now)) ≤ 1 → IsOk result }
     {
         Ok(match self {
             NameView::Pathname(path) => UnixDiagName::Pathname(copy_list(alloc, path)?),
@@ -163,11 +163,11 @@ impl<'a> Parseable<&'a [u8]> for UnixDiagName {
 }
 
 impl Emitable for UnixDiagName {
-    ghost use Rattle.sock_diag_attributes.specs.NameModel.{name_model};
+    ghost use Rattle.sock_diag_attributes.specs.NameModel.{name_of};
 
-    ghost bytes = { λ v. name_bytes (name_model v) };
+    ghost bytes = { λ v. name_bytes (name_of vec_items v) };
 
-    ghost writable = { λ v. length (name_bytes (name_model v)) ≤ 4294967295 };
+    ghost writable = { λ v. length (name_bytes (name_of vec_items v)) ≤ 4294967295 };
 
     fn is_writable(&self) -> bool {
         self.view().len() <= u32::MAX as usize
@@ -183,13 +183,15 @@ impl Emitable for UnixDiagName {
 }
 
 impl Coded for UnixDiagName {
-    ghost use Rattle.sock_diag_attributes.specs.NameModel.{name_model};
+    ghost use Rattle.sock_diag_attributes.specs.NameModel.{name_of};
+    ghost use Rattle.sock_diag_attributes.specs.EqualNameLaws.{names_equal};
+    ghost use Rattle.sock_diag_attributes.specs.LentLaws.{byte_list_row};
 
     type Param = ();
 
     ghost codec = { name_codec };
 
-    ghost model = { name_model };
+    ghost model = { name_of vec_items };
 
     ghost type_written = { λ _. 0 };
 
@@ -197,7 +199,7 @@ impl Coded for UnixDiagName {
         self.view().in_range();
     }
 
-    ghost eq_is_model = { Prim.search rules };
+    ghost eq_is_model = { names_equal byte_list_row _ vec_items (λ _ _. refl) };
 
     ghost laws = { name_keeps_laws };
 }

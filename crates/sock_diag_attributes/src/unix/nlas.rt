@@ -10,7 +10,7 @@ ghost use Rattle.sock_diag_attributes.specs.ValueSteps.{value_bytes, IsValueInRa
 use crate::lent::{LendsName, LendsNumbers, OtherNla};
 pub use crate::numbers::{NumbersIterator, NumbersView};
 use crate::numbers::{exact_u8, exact_u32, exact_u32_pair};
-pub use crate::unix::name::{NameView, UnixDiagName};
+pub use crate::unix::name::{NameView, SocketName, UnixDiagName};
 use crate::value::Value;
 use netlink_core::{
     DecodeError, DefaultNla, Emitable, Nla as NlaTrait, NlaBuffer, Parseable, Readable, emit_nla,

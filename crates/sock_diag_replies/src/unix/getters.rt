@@ -1,9 +1,10 @@
 //! What the attributes of a reply about a UNIX socket tell.
 
 ghost use Rattle.std.specs.Prelude.{◌≡◌, if◌then◌else◌, None, IsSome, option_map, option_copied};
+ghost use Rattle.std.specs.Prelude.{vec_items};
 ghost use Rattle.netlink_core.specs.AttributeSet.{content};
 ghost use Rattle.sock_diag_attributes.specs.UnixAttributes.{unix};
-ghost use Rattle.sock_diag_attributes.specs.NameModel.{name_model};
+ghost use Rattle.sock_diag_attributes.specs.NameModel.{name_of};
 ghost use Rattle.sock_diag_replies.specs.UnixGetters.{first_of};
 
 use crate::unix::UnixResponse;
@@ -26,7 +27,7 @@ impl UnixResponse {
 
     /// The socket's name, where an attribute tells it: the content of the first `Name`.
     pub fn name(&self) -> Option<&UnixDiagName>
-        ensures { option_map name_model (option_copied result) ≡ first_of (content unix 0)
+        ensures { option_map (name_of vec_items) (option_copied result) ≡ first_of (content unix 0)
             (unix_response_model self.now).nlas }
     {
         self.nlas.as_slice().iter().find_map(|nla| match nla {

@@ -1,7 +1,7 @@
 //! What the attributes of a reply about a UNIX socket tell, read in place.
 
 ghost use Rattle.std.specs.Prelude.{◌≡◌, if◌then◌else◌, None, IsSome, option_map};
-ghost use Rattle.sock_diag_attributes.specs.NameModel.{name_view_model};
+ghost use Rattle.sock_diag_attributes.specs.NameModel.{name_of};
 ghost use Rattle.sock_diag_attributes.specs.NumbersModel.{numbers_view_model};
 ghost use Rattle.sock_diag_replies.specs.UnixGetters.{first_of};
 ghost use Rattle.netlink_core.specs.AttributeSet.{content};
@@ -30,7 +30,7 @@ impl<'a> UnixResponseView<'a> {
 
     /// The socket's name, where an attribute tells it: the content of the first `Name`.
     pub fn name(&self) -> Option<NameView<'a>>
-        ensures { option_map name_view_model result ≡ first_of (content unix 0)
+        ensures { option_map (name_of (λ b. b.now)) result ≡ first_of (content unix 0)
             (unix_response_view_model self.now).nlas }
     {
         self.attributes().find_map(|nla| match nla {

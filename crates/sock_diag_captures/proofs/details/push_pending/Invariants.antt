@@ -1,10 +1,10 @@
 use Rattle.std.proofs.Common.{◌≡◌, ◌++◌, codes, flat_map}
 use Rattle.capture_tables.specs.Parts.{detail}
-use Rattle.sock_diag_attributes.specs.NumbersModel.{numbers_left, numbers_view_model}
+use Rattle.sock_diag_attributes.specs.NumbersModel.{numbers_view_model}
 use Rattle.sock_diag_captures.proofs.details.push_pending.Given as goal
 
 -- what was added and what is left to be added make the whole
 abbrev pub invariant-loop-inode : goal.invariant-loop-inode
 invariant-loop-inode l =
-    l.text.items ++ flat_map (detail (codes "pending")) (numbers_left l.inode-iterator)
+    l.text.items ++ flat_map (detail (codes "pending")) (numbers_view_model l.inode-iterator.rest)
     ≡ l.fn.text.items ++ flat_map (detail (codes "pending")) (numbers_view_model l.inodes)

@@ -1,24 +1,20 @@
-use Rattle.std.proofs.Common.{arith}
+use Rattle.std.proofs.Common.{ℕ, List, Bor, refl, arith}
 use Rattle.netlink_core.proofs.ValueTests.{value_test}
+use Rattle.netlink_core.specs.Walk.{attribute_of}
+use Rattle.sock_diag_attributes.specs.EqualNameLaws.{same_names}
 use Rattle.sock_diag_attributes.specs.EqualUnixLaws.{unix_tests, tests, list_views_model}
-use Rattle.sock_diag_attributes.specs.EqualUnixLaws.{name_views_model}
 use Rattle.sock_diag_attributes.specs.LentLaws.{buffer_row, name_view_row, numbers_row}
+use Rattle.sock_diag_attributes.specs.LentLaws.{text_view_row}
+use Rattle.sock_diag_attributes.specs.NameModel.{name_of}
+use Rattle.sock_diag_attributes.specs.NumbersModel.{numbers_view_model}
+use Rattle.sock_diag_attributes.specs.UnixAttributes.{unix}
 use Rattle.sock_diag_replies.specs.EqualResponseLaws.{then_rest}
 use Rattle.sock_diag_replies.proofs.unix.reply.UnixResponseHeaderReplyHeader.is_same.Goals as goal
 
 pub returns-then-eq : goal.returns-then-eq
 returns-then-eq c =
-    grind (
-      arith,
-      then_rest,
-      value_test,
-      unix_tests,
-      tests,
-      name_view_row,
-      numbers_row,
-      buffer_row,
-      name_views_model,
-      list_views_model,
-      c.eq.ensures,
-      c.same_views.ensures,
-    )
+    let held = λ (b : Bor (List ℕ)). b.now in
+    let attributes = c.same_views.ensures (value_test unix unix_tests)
+    (tests name_view_row numbers_row buffer_row _ _ _ (name_of held) numbers_view_model
+    attribute_of (same_names text_view_row _ held (λ _ _. refl)) list_views_model (λ _ _. refl)) in
+    grind (arith, then_rest, value_test, c.eq.ensures, attributes)

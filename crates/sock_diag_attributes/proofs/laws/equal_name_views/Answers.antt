@@ -1,0 +1,9 @@
+use Rattle.std.proofs.Common.{ℕ, List, Bor, refl}
+use Rattle.sock_diag_attributes.specs.EqualNameLaws.{names_equal}
+use Rattle.sock_diag_attributes.specs.LentLaws.{text_view_row}
+use Rattle.sock_diag_attributes.proofs.laws.equal_name_views.Goals as goal
+
+pub returns : goal.returns
+returns c =
+    rw c.eq.ensures (names_equal text_view_row _ (λ (b : Bor (List ℕ)). b.now) (λ _ _. refl)
+    c.args.v.now c.args.w.now)
