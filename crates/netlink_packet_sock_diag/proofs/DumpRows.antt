@@ -2,9 +2,9 @@
 -- second.
 use Rattle.std.proofs.lemmas.Grind.{common_steps}
 use Rattle.std.proofs.Common.{◌≡◌, ◌≢◌, ◌↔◌, ℕ, ◌⊎◌, inl, inr, List, [], ◌∷◌, ◌++◌, refl, sym, ap}
-use Rattle.std.proofs.Common.{◌∙◌, append_assoc, arith, Bool, false, IsTrue}
+use Rattle.std.proofs.Common.{◌∙◌, append_assoc, arith, Bool, IsTrue}
 use Rattle.std.specs.Prelude.{MatchOption, Option, Some, None, Result, Ok, Err, slice_get, IsBitSet}
-use Rattle.std.specs.List.{AllByRecursion, AllZip, flat_map}
+use Rattle.std.specs.List.{AllByRecursion, AllZip, concat, flat_map}
 use Rattle.std.proofs.lemmas.List.{append-nil}
 use Rattle.netlink_core.specs.declared.fault.DecodeError.{DecodeError}
 use Rattle.netlink_core.specs.declared.header.NetlinkHeader.{NetlinkHeader}
@@ -23,11 +23,18 @@ use Rattle.netlink_core.proofs.Items.{whole_items}
 use Rattle.netlink_packet_sock_diag.specs.declared.dump.DumpState.TheVariants.{Reading, Failed}
 use Rattle.netlink_packet_sock_diag.specs.declared.dump.DumpError.{DumpError}
 use Rattle.netlink_packet_sock_diag.specs.declared.dump.DumpError.TheVariants.{Ended, Fault}
-use Rattle.netlink_packet_sock_diag.specs.Dump.{concatenation, end_of, kept, Dump}
-use Rattle.netlink_packet_sock_diag.specs.Dump.{DatagramDump, DatagramsDump, AreSplit, Standing}
-use Rattle.netlink_packet_sock_diag.specs.Dump.{unended}
+use Rattle.netlink_packet_sock_diag.specs.Dump.{AreSplit, DatagramsDump, Dump, Standing}
+use Rattle.netlink_packet_sock_diag.specs.Dump.{end_of, kept}
 use Rattle.netlink_packet_sock_diag.specs.Feed.{FeedLeaves, FeedsLeave, Interrupt, Stage}
 use Rattle.netlink_packet_sock_diag.specs.Feed.{Takes, untouched}
+
+-- lists one after the other, as one
+abbrev pub concatenation : {A : Type 0} → List (List A) → List A
+concatenation lists = flat_map (λ one. one) lists
+
+-- no end has come yet
+abbrev pub unended : Standing
+unended = (Reading, None)
 
 -- how a dump ends, or its fault
 abbrev pub End : Type 0
@@ -166,7 +173,7 @@ module _ {A : Type 0} where
 
 -- bytes one after the other are bytes
 pub bytes-concatenation : (datagrams : List (List ℕ)) → AllByRecursion IsBytes datagrams
-    → IsBytes (concatenation datagrams)
+    → IsBytes (concat datagrams)
 bytes-concatenation [] in_range = IsBytes-nil
 bytes-concatenation (b ∷ later) in_range =
     grind (arith, common_steps, bytes-concatenation later in_range.1)
@@ -217,27 +224,26 @@ module _ (C : Codec ℕ) where
       → AllZip (ItemsAre C) others ys → concatenation xs ≡ concatenation ys
       → (before after : List C.Value) (end : End) → DatagramsDump C before datagrams after end
       → DatagramsDump C before others after end
-  same_dump one datagrams others xs ys in_range each also same before after end (row, items, d) =
-      let parts = one_row one datagrams in_range items.0 xs items.1 each in
-      (row, (ys, also, rw (← same, ← parts) items.2), d)
+  same_dump one datagrams others xs ys in_range each also same before after end (items, are, d) =
+      let parts = one_row one datagrams in_range items xs are each in
+      (ys, also, rw (← same, ← parts) d)
 
   -- and datagrams one dump
   pub one_dumps : OneList → (before : List C.Value) (datagrams : List (List ℕ))
       → AllByRecursion IsBytes datagrams → (a b : List C.Value) (e f : End)
       → DatagramsDump C before datagrams a e → DatagramsDump C before datagrams b f
       → (a ≡ b) × (e ≡ f)
-  one_dumps one before datagrams in_range a b e f (row, items, d) (other, parts, t) =
-      let same = one_row one datagrams in_range items.0 parts.0 items.1 parts.1 in
-      one_dump before _ a b e f (rw (items.2, same) at d) (rw parts.2 at t)
+  one_dumps one before datagrams in_range a b e f (items, are, d) (parts, also, t) =
+      let same = one_row one datagrams in_range items parts are also in
+      one_dump before (concatenation parts) a b e f (rw same at d) t
 
   -- a datagram has one dump and one flag
-  takes_once : OneList → (b : List ℕ) → IsBytes b → (before p q : List C.Value) (was i j : Bool)
-      (e f : End) → Takes C before was b p i e → Takes C before was b q j f
-      → (p ≡ q) × (e ≡ f) × (i ≡ j)
-  takes_once one b in_range before p q was i j e f t u =
-      let rows = one b in_range t.0.0 u.0.0 t.0.1 u.0.1 in
-      let ends = one_dump before u.0.0 p q e f (rw rows at t.0.2) u.0.2 in
-      (ends.0, ends.1, one_flag i j (rw rows at t.1) u.1)
+  takes_once : OneList → (b : List ℕ) → IsBytes b → (old p q : Stage C.Value) (e f : End)
+      → Takes C old b p e → Takes C old b q f → (p.0 ≡ q.0) × (e ≡ f) × (p.2 ≡ q.2)
+  takes_once one b in_range old p q e f t u =
+      let rows = one b in_range t.0 u.0 t.1 u.1 in
+      let ends = one_dump old.0 u.0 p.0 q.0 e f (rw rows at t.2) u.2 in
+      (ends.0, ends.1, one_flag p.2 q.2 (rw rows at t.3) u.3)
 
   -- ---- how whole messages are split into datagrams
 
@@ -251,34 +257,55 @@ module _ (C : Codec ℕ) where
   -- the items of split datagrams are those of all their bytes
   split_items : (datagrams : List (List ℕ)) (parts : List (List (Item C.Value)))
       → AreSplit datagrams → AllZip (ItemsAre C) datagrams parts
-      → ItemsAre C (concatenation datagrams) (concatenation parts)
+      → ItemsAre C (concat datagrams) (concatenation parts)
   split_items [] [] split each = no_items C
   split_items (b ∷ later) (p ∷ parts) split each = elim (last_or_whole b later parts split each.1) [
     | inl none ↦ rw (none.0, none.1, append-nil b, append-nil p) each.0
-    | inr whole ↦ items_of_concatenation C b (concatenation later) whole.0 p (concatenation parts)
+    | inr whole ↦ items_of_concatenation C b (concat later) whole.0 p (concatenation parts)
         whole.1 each.0 (split_items later parts split.1 each.1)
   ]
   split_items datagrams parts split each = grind arith
 
+  -- the dump over the items of one part is that over a row of it
+  of_one_part : (before : List C.Value) (datagram : List ℕ) (after : List C.Value) (end : End)
+      (parts : List (List (Item C.Value))) → AllZip (ItemsAre C) (datagram ∷ []) parts
+      → Dump before (concatenation parts) after end
+      → (items : List (Item C.Value)) × ItemsAre C datagram items × Dump before items after end
+  of_one_part before datagram after end (items ∷ []) are d = (items, are.0, rw append-nil at d)
+  of_one_part before datagram after end parts are d = grind arith
+
+  -- the dump over the items of a datagram
+  abbrev pub DatagramDump : List C.Value → List ℕ → List C.Value → End → Type 0
+  DatagramDump before datagram after end =
+      (items : List (Item C.Value)) × ItemsAre C datagram items × Dump before items after end
+
+  -- is that over this datagram alone
+  pub dump_of_one : (before : List C.Value) (datagram : List ℕ) (after : List C.Value) (end : End)
+      → DatagramDump before datagram after end ↔ DatagramsDump C before (datagram ∷ []) after end
+  dump_of_one before datagram after end = (
+    λ (items, are, d). (items ∷ [], (are, tt), rw append-nil d),
+    λ (parts, are, d). of_one_part before datagram after end parts are d,
+  )
+
   -- the dump of split datagrams is that of the items of all their bytes
   pub dump_of_split : (datagrams : List (List ℕ)) → AreSplit datagrams
       → (before after : List C.Value) (end : End) → DatagramsDump C before datagrams after end
-      → DatagramDump C before (concatenation datagrams) after end
-  dump_of_split datagrams split before after end (row, items, d) =
-      (concatenation items.0, split_items datagrams items.0 split items.1, rw items.2 at d)
+      → DatagramDump before (concat datagrams) after end
+  dump_of_split datagrams split before after end (items, are, d) =
+      (concatenation items, split_items datagrams items split are, d)
 
   -- the other way round
   pub split_of_dump : SomeItems → OneList → (datagrams : List (List ℕ))
       → AllByRecursion IsBytes datagrams → AreSplit datagrams
       → (before after : List C.Value) (end : End)
-      → DatagramDump C before (concatenation datagrams) after end
+      → DatagramDump before (concat datagrams) after end
       → DatagramsDump C before datagrams after end
   split_of_dump some one datagrams in_range split before after end d =
       let parts = items_of_each some datagrams in_range in
-      let bytes = concatenation datagrams in
+      let bytes = concat datagrams in
       let same = one bytes (bytes-concatenation datagrams in_range) d.0 (concatenation parts.0) d.1
       (split_items datagrams parts.0 split parts.1) in
-      (concatenation parts.0, (parts.0, parts.1, refl), rw same at d.2)
+      (parts.0, parts.1, rw same at d.2)
 
   -- ---- what feeding leaves
 
@@ -301,15 +328,15 @@ module _ (C : Codec ℕ) where
   flags_of_split : (b : List ℕ) (later : List (List ℕ)) (items : List (Item C.Value))
       (parts : List (List (Item C.Value))) → AreSplit (b ∷ later) → ItemsAre C b items
       → AllZip (ItemsAre C) later parts
-      → (Interrupt (b ++ concatenation later) (items ++ concatenation parts)
-      ↔ (Interrupt b items ⊎ (Plain items × Interrupt (concatenation later) (concatenation parts))))
+      → (Interrupt (b ++ concat later) (items ++ concatenation parts)
+      ↔ (Interrupt b items ⊎ (Plain items × Interrupt (concat later) (concatenation parts))))
   flags_of_split b later items parts split are each =
       grind (
         arith,
         last_or_whole b later parts split each,
         append-nil b,
         append-nil items,
-        flags_of_concatenation b (concatenation later),
+        flags_of_concatenation b (concat later),
         whole_items,
       )
 
@@ -323,13 +350,13 @@ module _ (C : Codec ℕ) where
 
   feed_step : (old new : Stage C.Value) (datagram : List ℕ) (answer : Result Unit DumpError)
       → old.1 ≡ unended → FeedLeaves C old datagram new answer → answer ≢ Err (Fault Memory)
-      → (end : End) × Takes C old.0 old.2 datagram new.0 new.2 end × (new.1 ≡ state_left end)
+      → (end : End) × Takes C old datagram new end × (new.1 ≡ state_left end)
   feed_step old new datagram answer reading f some =
       grind arith
 
   ended_stays : (datagrams : List (List ℕ)) (old new : Stage C.Value) → old.1 ≢ unended
       → FeedsLeave C old datagrams new → new ≡ old
-  ended_stays (datagram ∷ later) old new over (next, Err Ended, leaves, some, more) =
+  ended_stays (datagram ∷ later) old new over (next, (Err Ended, leaves, some), more) =
       grind (arith, ended_stays later old new over)
   ended_stays datagrams old new over f = grind arith
 
@@ -339,46 +366,47 @@ module _ (C : Codec ℕ) where
       → (old new : Stage C.Value) → old.1 ≡ unended → FeedsLeave C old datagrams new
       → (end : End) × (all : DatagramsDump C old.0 datagrams new.0 end)
       × (new.1 ≡ state_left end) × (AreSplit datagrams → (IsTrue new.2
-      ↔ (IsTrue old.2 ⊎ Interrupt (concatenation datagrams) (concatenation all.1.0))))
-  feeds_dump some [] in_range old new reading f = rw f (
+      ↔ (IsTrue old.2 ⊎ Interrupt (concat datagrams) (concatenation all.0))))
+  feeds_dump some [] in_range old new reading f = rw (← f) (
     Ok unended,
-    ([], ([], tt, refl), (dump_is old.0 old.0 [] (Ok unended)).1 refl),
+    ([], tt, (dump_is old.0 old.0 [] (Ok unended)).1 refl),
     reading,
     λ split. grind arith,
   )
   feeds_dump some (datagram ∷ later) in_range old new reading f =
-      let one = feed_step old f.0 datagram f.1 reading f.2 f.3 in
-      let dump = one.1.0 in
-      let items = dump.0 in
-      let went = (dump_is old.0 f.0.0 items one.0).0 dump.2 in
+      let one = feed_step old f.0 datagram f.1.0 reading f.1.1 f.1.2 in
+      let items = one.1.0 in
+      let are = one.1.1 in
+      let went = (dump_is old.0 f.0.0 items one.0).0 one.1.2 in
       let plain = rw went at (all_plain old.0 items) in
       elim (rw went at ((goes_on old.0 items [] _ _).0 refl)) [
         | inl on ↦
-            let rest = feeds_dump some later in_range.1 f.0 new (one.2 ∙ ap state_left on.0) f.4 in
-            let row = rest.1 in (
+            let rest = feeds_dump some later in_range.1 f.0 new (one.2 ∙ ap state_left on.0) f.2 in
+            let parts = rest.1 in (
               rest.0,
               (
-                items ++ row.0,
-                (items ∷ row.1.0, (dump.1, row.1.1), rw row.1.2),
-                joined old.0 f.0.0 new.0 one.0 rest.0 items row.0 dump.2 (inl (on.0, row.2)),
+                items ∷ parts.0,
+                (are, parts.1),
+                joined old.0 f.0.0 new.0 one.0 rest.0 items (concatenation parts.0) one.1.2
+                    (inl (on.0, parts.2)),
               ),
               rest.2,
-              λ split. grows one.1.1 (let flag = rest.3 split.1 in grind (arith, plain.0 on.0))
-                  (flags_of_split datagram later items row.1.0 split dump.1 row.1.1),
+              λ split. grows one.1.3 (let flag = rest.3 split.1 in grind (arith, plain.0 on.0))
+                  (flags_of_split datagram later items parts.0 split are parts.1),
             )
         | inr off ↦
             let parts = items_of_each some later in_range.1 in
-            rw (ended_stays later f.0 new (λ is. off.0 (left_reading one.0 (sym one.2 ∙ is))) f.4) (
+            rw (ended_stays later f.0 new (λ is. off.0 (left_reading one.0 (sym one.2 ∙ is))) f.2) (
               one.0,
               (
-                concatenation (items ∷ parts.0),
-                (items ∷ parts.0, (dump.1, parts.1), refl),
-                joined old.0 f.0.0 f.0.0 one.0 one.0 items (concatenation parts.0) dump.2
+                items ∷ parts.0,
+                (are, parts.1),
+                joined old.0 f.0.0 f.0.0 one.0 one.0 items (concatenation parts.0) one.1.2
                     (inr (off.0, refl, refl)),
               ),
               one.2,
-              λ split. grows one.1.1 (grind (arith, plain.1))
-                  (flags_of_split datagram later items parts.0 split dump.1 parts.1),
+              λ split. grows one.1.3 (grind (arith, plain.1))
+                  (flags_of_split datagram later items parts.0 split are parts.1),
             )
       ]
 
@@ -397,23 +425,24 @@ module _ (C : Codec ℕ) (laws : KeepsLaws C) where
   -- feeding split datagrams leaves what the dump over all the bytes does
   pub whole_feed : (datagrams : List (List ℕ)) → AllByRecursion IsBytes datagrams
       → AreSplit datagrams → (left : Stage C.Value) → FeedsLeave C untouched datagrams left
-      → (all : (end : End) × Takes C [] false (concatenation datagrams) left.0 left.2 end)
+      → (all : (end : End) × Takes C untouched (concat datagrams) left end)
       × (left.1 ≡ state_left C all.0)
   unfolding dump_of_split
   whole_feed datagrams in_range split left f =
       let a = feeds_dump C some datagrams in_range untouched left refl f in
-      ((a.0, (dump_of_split C datagrams split [] left.0 a.0 a.1, a.3 split)), a.2)
+      let d = dump_of_split C datagrams split [] left.0 a.0 a.1 in
+      ((a.0, (d.0, d.1, d.2, a.3 split)), a.2)
 
   -- feeding the same bytes in split datagrams leaves the same
   pub same_feeds : (datagrams others : List (List ℕ)) → AllByRecursion IsBytes datagrams
       → AllByRecursion IsBytes others → AreSplit datagrams → AreSplit others
-      → concatenation datagrams ≡ concatenation others → (left also : Stage C.Value)
+      → concat datagrams ≡ concat others → (left also : Stage C.Value)
       → FeedsLeave C untouched datagrams left → FeedsLeave C untouched others also → left ≡ also
   same_feeds datagrams others in_range fits split cut same left also f g =
       let a = whole_feed datagrams in_range split left f in
       let b = whole_feed others fits cut also g in
-      let ends = takes_once C one (concatenation others) (bytes-concatenation others fits) [] left.0
-      also.0 false left.2 also.2 a.0.0 b.0.0 (rw same at a.0.1) b.0.1 in
+      let ends = takes_once C one (concat others) (bytes-concatenation others fits) untouched left
+      also a.0.0 b.0.0 (rw same at a.0.1) b.0.1 in
       let state : left.1 ≡ also.1 = cc (a.1, b.1, ends.1) in
       λ i. (ends.0 i, state i, ends.2 i)
 

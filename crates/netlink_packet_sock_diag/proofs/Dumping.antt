@@ -16,9 +16,9 @@ use Rattle.netlink_core.proofs.Datagrams.{no_fault_at_message}
 use Rattle.netlink_core.proofs.Headers.{one_header}
 use Rattle.netlink_core.proofs.Items.{items_of, leading_item, rest_in_range}
 use Rattle.netlink_core.proofs.Items.{fault_alone}
-use Rattle.netlink_packet_sock_diag.specs.Dump.{end_of, kept, unended}
+use Rattle.netlink_packet_sock_diag.specs.Dump.{end_of, kept}
 use Rattle.netlink_packet_sock_diag.specs.Feed.{Interrupt, Stops, Takes}
-use Rattle.netlink_packet_sock_diag.proofs.DumpRows.{End, dump_is, first_or_later, reach}
+use Rattle.netlink_packet_sock_diag.proofs.DumpRows.{End, dump_is, first_or_later, reach, unended}
 
 -- no fault stands at the start of a message
 pub no_fault_in_message : (message : List ℕ) (e : DecodeError) → IsMessageString message
@@ -74,19 +74,17 @@ module _ {C : Codec ℕ} {datagram rest : List ℕ} {before after : List C.Value
   -- no message is left
   pub closes : (later : List (Item C.Value)) (end : End) → ItemsAre C rest later
       → reach after later ≡ (after, end) → (Interrupt rest later → ⊥)
-      → Takes C before was datagram after is end
+      → Takes C (before, unended, was) datagram (after, unended, is) end
   closes later end are ends none = (
-    (
-      p.passed ++ later,
-      p.items later are,
-      (dump_is before after (p.passed ++ later) end).1 (p.leads later ∙ ends),
-    ),
+    p.passed ++ later,
+    p.items later are,
+    (dump_is before after (p.passed ++ later) end).1 (p.leads later ∙ ends),
     grind (arith, p.flags later, none),
   )
 
   pub cut_off : {e : DecodeError} → rest ≢ [] → IsEnvelopeFault rest e
-      → (e ≢ Memory → Takes C before was datagram after is (Err e))
-      × (e ≡ Memory → Stops C before was datagram after is)
+      → (e ≢ Memory → Takes C (before, unended, was) datagram (after, unended, is) (Err e))
+      × (e ≡ Memory → Stops C (before, unended, was) datagram (after, unended, is))
   cut_off {e} some fault = (
     λ named. closes (Err e ∷ []) (Err e) (fault_alone C rest e some fault) refl
         (λ (m, next, s, _). no_fault_at_message rest m next e s fault),
@@ -105,22 +103,20 @@ module _ {C : Codec ℕ} {datagram next : List ℕ} {before after : List C.Value
   }
 
   pub ends_at : {end : End} → KeepsLaws C → end_of item ≡ Some end
-      → Takes C before was datagram after now end
+      → Takes C (before, unended, was) datagram (after, unended, now) end
   ends_at {end} laws ends =
       let later = items_of C laws.answered next p.in_range in (
-        (
-          p.passed ++ (item ∷ later.0),
-          p.items later.0 later.1,
-          (dump_is before after (p.passed ++ (item ∷ later.0)) end).1
-              (p.leads (item ∷ later.0) ∙ (rw ends)),
-        ),
+        p.passed ++ (item ∷ later.0),
+        p.items later.0 later.1,
+        (dump_is before after (p.passed ++ (item ∷ later.0)) end).1
+            (p.leads (item ∷ later.0) ∙ (rw ends)),
         grind (arith, p.flags later.0, ends),
       )
 
 pub stops_at : {C : Codec ℕ} {datagram next : List ℕ} {before after : List C.Value} {was now : Bool}
     {value : C.Value} → KeepsLaws C
     → Here C datagram next before after was now (Ok (inner value))
-    → Stops C before was datagram after now
+    → Stops C (before, unended, was) datagram (after, unended, now)
 stops_at {C} {datagram} {next} {before} {after} {was} {now} {value} laws p =
     let later = items_of C laws.answered next p.in_range in (
       p.passed,

@@ -10,7 +10,7 @@ use Rattle.netlink_core.proofs.Headers.{header_stands}
 use Rattle.netlink_packet_sock_diag.specs.Message.{Message, message_codec}
 use Rattle.sock_diag_records.specs.ResponseKind.{MessageKind, inet_request, inet_response}
 use Rattle.sock_diag_records.specs.ResponseKind.{unix_request, unix_response}
-use Rattle.netlink_packet_sock_diag.specs.MessageLaws.{length-message_bytes, other_type_refused}
+use Rattle.netlink_packet_sock_diag.specs.MessageLaws.{length-written, other_type_refused}
 
 -- one test of the kinds tells a kind
 pub one_of : (own : MessageKind) (tests : MessageKind → Bool)
@@ -40,7 +40,7 @@ destroy_is_refused h m rest bytes in_range fits whole =
     (let short = fits.1 in omega arith, (omega arith, in_range.1.1)) in
     let stands = header_stands own inside rest own-in_range refl in
     let refused : message_codec.refuses inside 21 (UnknownMessageType 21) =
-    inl (other_type_refused inside 21 (length-message_bytes m) (λ is. omega (arith, is))) in
+    inl (other_type_refused inside 21 (length-written m) (λ is. omega (arith, is))) in
     rw whole (inr (own, stands.0, inr (omega arith), rw stands.1 refused))
 
 -- the type of a finalized inner message is 20, a type of inner messages

@@ -1,14 +1,15 @@
 -- What was fed to the reader of a dump, with one datagram more.
 use Rattle.std.proofs.Common.{◌≡◌, ◌≢◌, ◌⊎◌, inl, inr, ℕ, List, [], ◌∷◌, ◌++◌, refl, sym, ◌∙◌}
 use Rattle.std.proofs.Common.{arith}
+use Rattle.std.proofs.lemmas.Fn.{FoldsTo-push}
 use Rattle.std.specs.Prelude.{None, Result, Ok, Err}
 use Rattle.netlink_core.specs.Codec.{Codec}
 use Rattle.netlink_core.specs.declared.fault.DecodeError.TheVariants.{Memory}
 use Rattle.netlink_packet_sock_diag.specs.declared.dump.DumpState.TheVariants.{Failed}
 use Rattle.netlink_packet_sock_diag.specs.declared.dump.DumpError.{DumpError}
 use Rattle.netlink_packet_sock_diag.specs.declared.dump.DumpError.TheVariants.{Ended, Fault}
-use Rattle.netlink_packet_sock_diag.specs.Dump.{unended}
 use Rattle.netlink_packet_sock_diag.specs.Feed.{FeedLeaves, FeedsLeave, Stage, untouched}
+use Rattle.netlink_packet_sock_diag.proofs.DumpRows.{unended}
 
 module _ (C : Codec ℕ) where
   -- as the ghost field of the reader says
@@ -20,16 +21,10 @@ module _ (C : Codec ℕ) where
       ⊎ ((now.1 ≡ (Failed, None)) × (last : List ℕ) × (answer : Result Unit DumpError)
       × FeedLeaves C before last now answer))
 
-  -- one more datagram is fed at the end
-  one_more : (datagrams : List (List ℕ)) (old before after : Stage C.Value) (datagram : List ℕ)
-      (answer : Result Unit DumpError) → FeedsLeave C old datagrams before
-      → FeedLeaves C before datagram after answer → answer ≢ Err (Fault Memory)
-      → FeedsLeave C old (datagrams ++ datagram ∷ []) after
-  one_more [] old before after datagram answer here f some =
-      grind arith
-  one_more (first ∷ later) old before after datagram answer (next, given, leaves, named, more) f
-      some =
-      grind (arith, one_more later next before after datagram answer more f some)
+  -- a datagram is fed, with memory for all
+  abbrev Feeds : Stage C.Value → List ℕ → Stage C.Value → Type 0
+  Feeds old datagram new = (answer : Result Unit DumpError) × FeedLeaves C old datagram new answer
+      × (answer ≢ Err (Fault Memory))
 
   -- a dump that is read was left so with memory for all
   pub fed_on : (before after : Stage C.Value) (datagram : List ℕ)
@@ -39,7 +34,8 @@ module _ (C : Codec ℕ) where
   fed_on before after datagram (Ok done) (datagrams, old, leave, inl same) f = (
     datagrams ++ datagram ∷ [],
     after,
-    one_more datagrams untouched before after datagram (Ok done) (rw same at leave) f (λ e. cc),
+    FoldsTo-push Feeds untouched datagrams before datagram after (rw same at leave)
+        (Ok done, f, λ e. cc),
     inl refl,
   )
   fed_on before after datagram (Err (Fault e)) (datagrams, old, leave, inl same) f =

@@ -10,10 +10,10 @@ use Rattle.netlink_core.specs.declared.fault.DecodeError.{DecodeError}
 use Rattle.netlink_core.specs.Envelope.{done_with, error_with, no_payload, overrun_with, inner}
 use Rattle.netlink_core.specs.Header.{IsEnvelopeFault}
 use Rattle.netlink_core.specs.Items.{Item, ItemIs}
-use Rattle.netlink_packet_sock_diag.specs.Dump.{DatagramDump, Standing}
+use Rattle.netlink_packet_sock_diag.specs.Dump.{DatagramsDump, Standing}
 use Rattle.netlink_packet_sock_diag.specs.Lossy.{lossy}
 use Rattle.netlink_packet_sock_diag.proofs.Dumping.{no_fault_in_message}
-use Rattle.netlink_packet_sock_diag.proofs.DumpRows.{dump_is, reach}
+use Rattle.netlink_packet_sock_diag.proofs.DumpRows.{dump_is, dump_of_one, reach}
 
 -- the fault behind the messages of a datagram, if there is one
 abbrev last : {A : Type 0} → Option DecodeError → List (Item A)
@@ -58,16 +58,20 @@ module _ (C : Codec ℕ) where
 
   -- what is kept of a datagram without a fault
   pub lossy_keeps : (datagram : List ℕ) (before after : List C.Value) (s : Standing)
-      → DatagramDump C before datagram after (Ok s)
-      → DatagramDump (lossy C) (map (λ v. Ok v) before) datagram (map (λ v. Ok v) after) (Ok s)
-  lossy_keeps datagram before after s (items, (messages, end, carried, cut, each, all), d) =
-      let entries = map as_entry carried ++ last end in
-      let went = (dump_is before after items (Ok s)).0 d in
-      let told = zip_entries datagram messages end cut carried each in (
+      → DatagramsDump C before (datagram ∷ []) after (Ok s)
+      → DatagramsDump (lossy C) (map (λ v. Ok v) before) (datagram ∷ []) (map (λ v. Ok v) after)
+      (Ok s)
+  lossy_keeps datagram before after s dump =
+      let one = (dump_of_one C before datagram after (Ok s)).1 dump in
+      let are = one.1 in
+      let entries = map as_entry are.2 ++ last are.1 in
+      let went = (dump_is before after one.0 (Ok s)).0 one.2 in
+      let told = zip_entries datagram are.0 are.1 are.3 are.2 are.4 in
+      (dump_of_one (lossy C) (entries_of before) datagram (entries_of after) (Ok s)).0 (
         entries,
-        (messages, end, map as_entry carried, cut, told, refl),
+        (are.0, are.1, map as_entry are.2, are.3, told, refl),
         (dump_is (entries_of before) (entries_of after) entries (Ok s)).1
-            (reach_entries carried end before after s (rw all at went)),
+            (reach_entries are.2 are.1 before after s (rw are.5 at went)),
       )
 
   -- ---- the faults
@@ -91,8 +95,10 @@ module _ (C : Codec ℕ) where
   fault_in bytes messages end carried cut each before after e went = grind arith
 
   pub lossy_faults : (datagram : List ℕ) (before after : List (Result C.Value DecodeError))
-      (e : DecodeError) → DatagramDump (lossy C) before datagram after (Err e)
+      (e : DecodeError) → DatagramsDump (lossy C) before (datagram ∷ []) after (Err e)
       → (rest : List ℕ) × IsEnvelopeFault rest e
-  lossy_faults datagram before after e (items, (messages, end, carried, cut, each, all), d) =
-      let went = (dump_is before after items (Err e)).0 d in
-      fault_in datagram messages end carried cut each before after e (rw all at went)
+  lossy_faults datagram before after e dump =
+      let one = (dump_of_one (lossy C) before datagram after (Err e)).1 dump in
+      let are = one.1 in
+      let went = (dump_is before after one.0 (Err e)).0 one.2 in
+      fault_in datagram are.0 are.1 are.2 are.3 are.4 before after e (rw are.5 at went)

@@ -12,17 +12,9 @@ use Rattle.netlink_packet_sock_diag.specs.declared.dump.DumpState.{DumpState}
 use Rattle.netlink_packet_sock_diag.specs.declared.dump.DumpState.TheVariants.{Reading, Done, Error}
 use Rattle.netlink_packet_sock_diag.specs.declared.dump.DumpState.TheVariants.{Overrun}
 
--- lists one after the other, as one
-abbrev pub concatenation : {A : Type 0} → List (List A) → List A
-concatenation lists = flat_map (λ one. one) lists
-
 -- how a dump stands: its state, and the number that the message which ended it begins with
 abbrev pub Standing : Type 0
 Standing = DumpState × Option ℤ
-
--- no end has come yet
-abbrev pub unended : Standing
-unended = (Reading, None)
 
 module _ {A : Type 0} where
   -- what is kept of the item
@@ -45,24 +37,14 @@ module _ {A : Type 0} where
   abbrev pub Dump : List A → List (Item A) → List A → Result Standing DecodeError → Type 0
   Dump before items after end = (passed later : List (Item A)) × (items ≡ passed ++ later)
       × AllByRecursion (λ one. end_of one ≡ None) passed × (after ≡ before ++ flat_map kept passed)
-      × MatchOption (slice_get later 0) (end ≡ Ok unended) (λ item. end_of item ≡ Some end)
+      × MatchOption (slice_get later 0) (end ≡ Ok (Reading, None)) (λ item. end_of item ≡ Some end)
 
--- the dump over the items of a datagram, by the codec of inner messages under a type
-module _ (C : Codec ℕ) where
-  -- to its end
-  abbrev pub DatagramDump : List C.Value → List ℕ → List C.Value → Result Standing DecodeError → Type 0
-  DatagramDump before datagram after end =
-      (items : List (Item C.Value)) × ItemsAre C datagram items × Dump before items after end
-
-  -- these are the items of the datagrams, in a row
-  abbrev pub HaveItems : List (List ℕ) → List (Item C.Value) → Type 0
-  HaveItems datagrams row = (items : List (List (Item C.Value)))
-      × AllZip (ItemsAre C) datagrams items × (row ≡ concatenation items)
-
-  -- the dump over several datagrams, one after the other
-  abbrev pub DatagramsDump : List C.Value → List (List ℕ) → List C.Value → Result Standing DecodeError → Type 0
-  DatagramsDump before datagrams after end =
-      (row : List (Item C.Value)) × HaveItems datagrams row × Dump before row after end
+-- the dump over datagrams: over the items of all in a row, by the codec of inner messages under a
+-- type
+abbrev pub DatagramsDump : (C : Codec ℕ) → List C.Value → List (List ℕ) → List C.Value
+    → Result Standing DecodeError → Type 0
+DatagramsDump C before datagrams after end = (items : List (List (Item C.Value)))
+    × AllZip (ItemsAre C) datagrams items × Dump before (flat_map (λ one. one) items) after end
 
 -- each datagram but the last one is whole messages alone, with all padding there
 abbrev pub AreSplit : List (List ℕ) → Type 0

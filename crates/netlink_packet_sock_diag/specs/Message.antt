@@ -1,6 +1,6 @@
 -- Messages of sock_diag(7): requests, and replies about the sockets of two families. Replies alone
 -- are read.
-use Rattle.std.specs.Prelude.{◌≡◌, ℕ, ◌⊎◌, List, Ok, Err}
+use Rattle.std.specs.Prelude.{◌≡◌, ℕ, ◌⊎◌, Ok, Err}
 use Rattle.netlink_core.specs.Codec.{Codec, record_codec}
 use Rattle.netlink_core.specs.Response.{response_codec}
 use Rattle.sock_diag_records.specs.InetRequest.{inet_request as inet_request_layout}
@@ -21,25 +21,17 @@ codec_of unix_response = response_codec unix_response_spec
 pub data Message : Type 0 where
   message_of : (kind : MessageKind) → (codec_of kind).Value → Message
 
--- the message's kind
-abbrev pub message_kind : Message → MessageKind
-message_kind (message_of kind v) = kind
-
--- a message is so, by its kind and what it holds
-abbrev pub OfMessage : ((kind : MessageKind) → (codec_of kind).Value → Type 0) → Message → Type 0
-OfMessage is (message_of kind v) = is kind v
-
--- the bytes of what the message holds
-abbrev pub message_bytes : Message → List ℕ
-message_bytes (message_of kind v) = (codec_of kind).written v
+-- what is told by a message's kind and by what it holds
+abbrev pub of_message {ℓ} : {T : Type ℓ} → ((kind : MessageKind) → (codec_of kind).Value → T) → Message → T
+of_message tells (message_of kind v) = tells kind v
 
 -- a message under the type of its header, of 16 bits
 abbrev pub message_codec : Codec ℕ
 message_codec = record {
   Value = Message;
-  is_in_range = OfMessage (λ kind v. (codec_of kind).is_in_range v);
+  is_in_range = of_message (λ kind v. (codec_of kind).is_in_range v);
   -- it is of the kind of reply that the bytes are under the type, and so read
-  reads = λ b t m. OfMessage (λ kind v. (response_kind b t ≡ Ok kind) × (codec_of kind).reads b tt v) m;
+  reads = λ b t m. of_message (λ kind v. (response_kind b t ≡ Ok kind) × (codec_of kind).reads b tt v) m;
   -- the bytes are no reply, or the reply of their kind is refused
   refuses = λ b t e. (response_kind b t ≡ Err e)
       ⊎ ((kind : MessageKind) × (response_kind b t ≡ Ok kind) × (codec_of kind).refuses b tt e);
@@ -48,9 +40,9 @@ message_codec = record {
   idle = λ t b c. (kind : MessageKind) × (response_kind b t ≡ Ok kind)
       × (response_kind c t ≡ Ok kind) × (codec_of kind).idle tt b c;
   -- a reply in normal form, under the type 20
-  is_normal = λ t m. OfMessage (λ kind v. (t ≡ 20) × ((kind ≡ inet_response) ⊎ (kind ≡ unix_response))
+  is_normal = λ t m. of_message (λ kind v. (t ≡ 20) × ((kind ≡ inet_response) ⊎ (kind ≡ unix_response))
       × (codec_of kind).is_normal tt v) m;
-  written = message_bytes;
+  written = of_message (λ kind v. (codec_of kind).written v);
   -- what it holds has room for its lengths; a request has in any case
-  fits = OfMessage (λ kind v. (codec_of kind).fits v);
+  fits = of_message (λ kind v. (codec_of kind).fits v);
 }

@@ -1,7 +1,6 @@
 -- The model of a message: what contracts see of it.
 use Rattle.netlink_packet_sock_diag.specs.declared.message.SockDiagMessage.{SockDiagMessage}
 use Rattle.netlink_packet_sock_diag.specs.declared.message.SockDiagMessage.TheVariants as message
-use Rattle.netlink_packet_sock_diag.specs.declared.message.SockDiagDestroy.{SockDiagDestroy}
 use Rattle.sock_diag_attributes.specs.InetModel as inet
 use Rattle.sock_diag_attributes.specs.UnixModel as unix
 use Rattle.sock_diag_replies.specs.ResponseModel.{response_model}
@@ -17,7 +16,3 @@ message_model (message.InetResponse reply) =
 message_model (message.UnixRequest request) = message_of unix_request request
 message_model (message.UnixResponse reply) =
     message_of unix_response (response_model (λ h. h) unix.nla_model reply.value)
-
--- the value of the message that asks to close sockets
-abbrev pub destroy_model : SockDiagDestroy → Message
-destroy_model destroy = message_model destroy.0

@@ -2,7 +2,7 @@
 
 ghost use Rattle.netlink_packet_sock_diag.specs.Message.{message_codec};
 ghost use Rattle.netlink_packet_sock_diag.specs.MessageLaws.{message_laws};
-ghost use Rattle.netlink_packet_sock_diag.specs.MessageModel.{message_model, destroy_model};
+ghost use Rattle.netlink_packet_sock_diag.specs.MessageModel.{message_model};
 ghost use Rattle.netlink_packet_sock_diag.specs.EqualMessageLaws.{message_equal};
 ghost use Rattle.netlink_packet_sock_diag.specs.MessageViewModel.{message_view_model};
 
@@ -95,7 +95,7 @@ impl Coded for SockDiagDestroy {
 
     ghost codec = { message_codec };
 
-    ghost model = { destroy_model };
+    ghost model = { λ destroy. message_model destroy.0 };
 
     ghost type_written = { λ _. 21 };
 

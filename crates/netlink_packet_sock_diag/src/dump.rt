@@ -1,9 +1,8 @@
 //! Dumps: the messages of several datagrams, up to the one that ends them.
 
-ghost use Rattle.std.specs.Prelude.{◌≡◌, [], map, false};
+ghost use Rattle.std.specs.Prelude.{◌≡◌, map};
 ghost use Rattle.std.proofs.Common.{rules};
-ghost use Rattle.netlink_packet_sock_diag.specs.Dump.{unended};
-ghost use Rattle.netlink_packet_sock_diag.specs.Feed.{FeedLeaves};
+ghost use Rattle.netlink_packet_sock_diag.specs.Feed.{FeedLeaves, untouched};
 ghost use Rattle.netlink_packet_sock_diag.specs.Message.{message_codec};
 ghost use Rattle.netlink_packet_sock_diag.specs.MessageModel.{message_model};
 
@@ -56,13 +55,11 @@ pub struct DumpReader {
 }
 
 impl DumpReader {
-    ghost use Rattle.netlink_packet_sock_diag.specs.DumpModel.{kept_messages, progress, standing};
+    ghost use Rattle.netlink_packet_sock_diag.specs.DumpModel.{progress};
 
     /// A dump of which nothing has come. The allocator is kept.
     pub fn new(alloc: Global) -> Self
-        ensures messages { kept_messages result ≡ [] }
-        ensures state { standing result ≡ unended }
-        ensures interrupted { (progress result).2 ≡ false }
+        ensures { progress message_model result.dump ≡ untouched }
     {
         DumpReader {
             dump: FedDump::new(alloc),
@@ -73,29 +70,29 @@ impl DumpReader {
     /// and where memory runs out, the messages in front are kept and the dump has failed. Once the
     /// dump has ended nothing changes.
     pub fn feed(&mut self, datagram: &[u8]) -> Result<(), DumpError>
-        ensures leaves { FeedLeaves message_codec (progress self.old) datagram.now
-            (progress self.new) result }
+        ensures leaves { FeedLeaves message_codec (progress message_model self.old.dump)
+            datagram.now (progress message_model self.new.dump) result }
     {
         self.dump.feed(datagram)
     }
 
     /// The messages so far.
     pub fn messages(&self) -> &[SockDiagMessage]
-        ensures { map message_model result.now ≡ kept_messages self.now }
+        ensures { map message_model result.now ≡ (progress message_model self.now.dump).0 }
     {
         self.dump.kept.as_slice()
     }
 
     /// The messages, once no more datagrams are fed.
     pub fn into_messages(self) -> Vec<SockDiagMessage>
-        ensures { map message_model result.items ≡ kept_messages self }
+        ensures { map message_model result.items ≡ (progress message_model self.dump).0 }
     {
         self.dump.kept
     }
 
     /// How far the dump is.
     pub fn state(&self) -> DumpState
-        ensures { result ≡ (standing self.now).0 }
+        ensures { result ≡ self.now.dump.standing.0 }
     {
         self.dump.standing.0
     }
@@ -104,7 +101,7 @@ impl DumpReader {
     /// where all went well, else `-errno` (errno(3)). `None` while it is read, and where its end
     /// tells none.
     pub fn error_number(&self) -> Option<i32>
-        ensures { result ≡ (standing self.now).1 }
+        ensures { result ≡ self.now.dump.standing.1 }
     {
         self.dump.standing.1
     }
@@ -113,7 +110,7 @@ impl DumpReader {
     /// told some twice: a message up to the end, or the end, had `NLM_F_DUMP_INTR` of netlink(7).
     /// Make the request again then.
     pub fn is_interrupted(&self) -> bool
-        ensures { result ≡ (progress self.now).2 }
+        ensures { result ≡ self.now.dump.interrupted }
     {
         self.dump.interrupted
     }

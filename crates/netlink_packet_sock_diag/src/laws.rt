@@ -1,9 +1,9 @@
 //! Laws of replies and of messages. The functions do nothing: their contracts are the laws.
 
 ghost use Rattle.std.specs.Prelude.{Bool, true, ◌≡◌, ◌≢◌, ◌%◌, ◌↔◌, ◌⊎◌, ◌++◌, ℕ, List, [], ◌∷◌};
-ghost use Rattle.std.specs.Prelude.{false, length, count_by, IsTrue, Result, IfOk, IsOk, map};
+ghost use Rattle.std.specs.Prelude.{length, count_by, IsTrue, Result, IfOk, IsOk, map, None};
 ghost use Rattle.std.specs.Iterator.{Drains};
-ghost use Rattle.std.specs.List.{AllByRecursion, AllZip};
+ghost use Rattle.std.specs.List.{AllByRecursion, AllZip, concat, flat_map};
 ghost use Rattle.netlink_core.specs.Bytes.{IsBytes};
 ghost use Rattle.netlink_core.specs.declared.fault.DecodeError.{DecodeError};
 ghost use Rattle.netlink_core.specs.declared.fault.DecodeError.TheVariants.{Memory};
@@ -17,16 +17,14 @@ ghost use Rattle.netlink_core.specs.declared.message.NetlinkPayload.TheVariants.
 ghost use Rattle.netlink_core.specs.Items.{ItemsAre};
 ghost use Rattle.netlink_core.specs.EnvelopeModel.{envelope_of};
 ghost use Rattle.netlink_core.specs.Response.{ValueOf, response_bytes, response_codec};
-ghost use Rattle.netlink_packet_sock_diag.specs.MessageModel.{destroy_model};
 ghost use Rattle.netlink_packet_sock_diag.specs.contracts.coded.SockDiagMessageEmitable.TheImpl.{ghosts as owned_messages};
 ghost use Rattle.netlink_packet_sock_diag.specs.contracts.coded.SockDiagViewEmitable.TheImpl.{ghosts as message_views};
 ghost use Rattle.netlink_packet_sock_diag.specs.contracts.coded.SockDiagDestroyCoded.TheImpl.{ghosts as destroys};
 ghost use Rattle.netlink_packet_sock_diag.specs.contracts.coded.SockDiagMessageCoded.TheImpl.{ghosts as messages};
 ghost use Rattle.netlink_packet_sock_diag.specs.declared.message.SockDiagDestroy.{SockDiagDestroy};
-ghost use Rattle.netlink_packet_sock_diag.specs.Dump.{concatenation, Dump};
-ghost use Rattle.netlink_packet_sock_diag.specs.Dump.{DatagramDump, DatagramsDump};
-ghost use Rattle.netlink_packet_sock_diag.specs.Dump.{AreSplit, Standing, unended};
+ghost use Rattle.netlink_packet_sock_diag.specs.Dump.{AreSplit, DatagramsDump, Dump, Standing};
 ghost use Rattle.netlink_packet_sock_diag.specs.Feed.{FeedsLeave, Stage, Takes, untouched};
+ghost use Rattle.netlink_packet_sock_diag.specs.declared.dump.DumpState.TheVariants.{Reading};
 ghost use Rattle.netlink_packet_sock_diag.specs.declared.dump.views.DumpViews.{DumpViews};
 ghost use Rattle.netlink_packet_sock_diag.specs.declared.dump.views.PayloadView.{PayloadView};
 ghost use Rattle.netlink_core.specs.DatagramWalk.{datagram_left};
@@ -39,7 +37,7 @@ ghost use Rattle.sock_diag_replies.specs.InetResponseSpec.{inet_response_spec};
 ghost use Rattle.sock_diag_replies.specs.ViewModel.{view_model};
 ghost use Rattle.netlink_packet_sock_diag.specs.MessageViewModel.{message_view_model};
 ghost use Rattle.netlink_packet_sock_diag.specs.Lossy.{lossy};
-ghost use Rattle.netlink_packet_sock_diag.specs.Message.{Message, message_kind, message_codec};
+ghost use Rattle.netlink_packet_sock_diag.specs.Message.{Message, message_codec, of_message};
 ghost use Rattle.sock_diag_records.specs.ResponseKind.{MessageKind, inet_request, inet_response};
 ghost use Rattle.sock_diag_records.specs.ResponseKind.{unix_request, unix_response};
 
@@ -63,14 +61,15 @@ pub fn reply_lengths_are_multiples_of_four()
 /// Exactly one of four tests, each for one kind, is true of a message.
 pub fn one_kind()
     ensures { (m : Message) (tests : MessageKind → Bool)
-        → ((kind : MessageKind) → IsTrue (tests kind) ↔ (message_kind m ≡ kind))
+        → ((kind : MessageKind) → IsTrue (tests kind) ↔ (of_message (λ kind v. kind) m ≡ kind))
         → count_by tests (inet_request ∷ inet_response ∷ unix_request ∷ unix_response ∷ []) ≡ 1 }
 {}
 
 /// A message that was read is a reply.
 pub fn read_messages_are_replies()
     ensures { (b : List ℕ) (t : ℕ) (m : Message) → message_codec.reads b t m
-        → (message_kind m ≡ inet_response) ⊎ (message_kind m ≡ unix_response) }
+        → (of_message (λ kind v. kind) m ≡ inet_response)
+        ⊎ (of_message (λ kind v. kind) m ≡ unix_response) }
 {}
 
 /// A request to close sockets is written under the type 21, `SOCK_DESTROY`, and a message under 20,
@@ -115,13 +114,13 @@ pub fn finalized_destroy_in_hand_is_refused()
     ensures { (message : NetlinkMessage SockDiagDestroy) (destroy : SockDiagDestroy) (rest : List ℕ)
         → message.payload ≡ InnerMessage destroy
         → IsHeaderInRange message.header
-        → (envelope_codec message_codec).fits (envelope_of destroy_model message)
+        → (envelope_codec message_codec).fits (envelope_of destroys.model message)
         → (envelope_codec message_codec).refuses
-        ((envelope_codec message_codec).written (envelope_of destroy_model (record message {
+        ((envelope_codec message_codec).written (envelope_of destroys.model (record message {
           header = finalized message_codec.written destroys.type_written
-              (envelope_of destroy_model message);
+              (envelope_of destroys.model message);
         })) ++ rest) tt
-        (UnknownMessageType (destroys.type_written (destroy_model destroy))) }
+        (UnknownMessageType (destroys.type_written (destroys.model destroy))) }
 {}
 
 /// Bytes have one netlink message of sock_diag(7) at their start or one fault, which has a name.
@@ -194,8 +193,8 @@ pub fn dump_over_concatenation()
         → (Dump before (xs ++ ys) after end
         ↔ ((middle : List Message) × (state : Result Standing DecodeError)
         × Dump before xs middle state
-        × (((state ≡ Ok unended) × Dump middle ys after end)
-        ⊎ ((state ≢ Ok unended) × (after ≡ middle) × (end ≡ state))))) }
+        × (((state ≡ Ok (Reading, None)) × Dump middle ys after end)
+        ⊎ ((state ≢ Ok (Reading, None)) × (after ≡ middle) × (end ≡ state))))) }
 {}
 
 /// Datagrams with the same items in a row have the same dump.
@@ -204,7 +203,7 @@ pub fn same_items_have_one_dump()
         (xs ys : List (List (Result (Payload Message) DecodeError)))
         → AllByRecursion IsBytes datagrams
         → AllZip (ItemsAre message_codec) datagrams xs → AllZip (ItemsAre message_codec) others ys
-        → concatenation xs ≡ concatenation ys
+        → flat_map (λ one. one) xs ≡ flat_map (λ one. one) ys
         → (before after : List Message) (end : Result Standing DecodeError)
         → DatagramsDump message_codec before datagrams after end
         → DatagramsDump message_codec before others after end }
@@ -217,7 +216,7 @@ pub fn same_items_have_one_dump()
 pub fn split_changes_no_dump()
     ensures { (datagrams others : List (List ℕ)) → AllByRecursion IsBytes datagrams
         → AllByRecursion IsBytes others
-        → AreSplit datagrams → AreSplit others → concatenation datagrams ≡ concatenation others
+        → AreSplit datagrams → AreSplit others → concat datagrams ≡ concat others
         → (before after : List Message) (end : Result Standing DecodeError)
         → DatagramsDump message_codec before datagrams after end
         → DatagramsDump message_codec before others after end }
@@ -232,14 +231,14 @@ pub fn split_changes_no_dump()
 pub fn split_changes_no_feed()
     ensures same { (datagrams others : List (List ℕ)) → AllByRecursion IsBytes datagrams
         → AllByRecursion IsBytes others
-        → AreSplit datagrams → AreSplit others → concatenation datagrams ≡ concatenation others
+        → AreSplit datagrams → AreSplit others → concat datagrams ≡ concat others
         → (left also : Stage Message) → FeedsLeave message_codec untouched datagrams left
         → FeedsLeave message_codec untouched others also → left ≡ also }
     ensures whole { (datagrams : List (List ℕ)) → AllByRecursion IsBytes datagrams
         → AreSplit datagrams
         → (left : Stage Message) → FeedsLeave message_codec untouched datagrams left
         → (end : Result Standing DecodeError)
-        × Takes message_codec [] false (concatenation datagrams) left.0 left.2 end }
+        × Takes message_codec untouched (concat datagrams) left end }
 {}
 
 /// Nor does it where datagrams have the same items in a row, as where one of them lacks the padding
@@ -250,7 +249,7 @@ pub fn same_items_change_no_feed()
         (xs ys : List (List (Result (Payload Message) DecodeError)))
         → AllByRecursion IsBytes datagrams → AllByRecursion IsBytes others
         → AllZip (ItemsAre message_codec) datagrams xs → AllZip (ItemsAre message_codec) others ys
-        → concatenation xs ≡ concatenation ys
+        → flat_map (λ one. one) xs ≡ flat_map (λ one. one) ys
         → (left also : Stage Message) → FeedsLeave message_codec untouched datagrams left
         → FeedsLeave message_codec untouched others also
         → (left.0 ≡ also.0) × (left.1 ≡ also.1) }
@@ -262,7 +261,7 @@ pub fn same_items_change_no_feed()
 pub fn split_changes_no_lossy_feed()
     ensures same { (datagrams others : List (List ℕ)) → AllByRecursion IsBytes datagrams
         → AllByRecursion IsBytes others
-        → AreSplit datagrams → AreSplit others → concatenation datagrams ≡ concatenation others
+        → AreSplit datagrams → AreSplit others → concat datagrams ≡ concat others
         → (left also : Stage (Result Message DecodeError))
         → FeedsLeave (lossy message_codec) untouched datagrams left
         → FeedsLeave (lossy message_codec) untouched others also → left ≡ also }
@@ -271,7 +270,7 @@ pub fn split_changes_no_lossy_feed()
         → (left : Stage (Result Message DecodeError))
         → FeedsLeave (lossy message_codec) untouched datagrams left
         → (end : Result Standing DecodeError)
-        × Takes (lossy message_codec) [] false (concatenation datagrams) left.0 left.2 end }
+        × Takes (lossy message_codec) untouched (concat datagrams) left end }
 {}
 
 /// Nor does it where datagrams have the same items in a row: fed to two new `LossyDump`s, and with
@@ -282,7 +281,7 @@ pub fn same_items_change_no_lossy_feed()
         → AllByRecursion IsBytes datagrams → AllByRecursion IsBytes others
         → AllZip (ItemsAre (lossy message_codec)) datagrams xs
         → AllZip (ItemsAre (lossy message_codec)) others ys
-        → concatenation xs ≡ concatenation ys
+        → flat_map (λ one. one) xs ≡ flat_map (λ one. one) ys
         → (left also : Stage (Result Message DecodeError))
         → FeedsLeave (lossy message_codec) untouched datagrams left
         → FeedsLeave (lossy message_codec) untouched others also
@@ -293,12 +292,12 @@ pub fn same_items_change_no_lossy_feed()
 /// and ends as that does; and a fault that ends it is one of what is no message.
 pub fn lossy_dump_keeps_messages()
     ensures kept { (datagram : List ℕ) (before after : List Message) (end : Standing)
-        → DatagramDump message_codec before datagram after (Ok end)
-        → DatagramDump (lossy message_codec) (map (λ (m : Message). Ok m) before) datagram
+        → DatagramsDump message_codec before (datagram ∷ []) after (Ok end)
+        → DatagramsDump (lossy message_codec) (map (λ (m : Message). Ok m) before) (datagram ∷ [])
         (map (λ (m : Message). Ok m) after) (Ok end) }
     ensures fault { (datagram : List ℕ) (before after : List (Result Message DecodeError))
         (fault : DecodeError)
-        → DatagramDump (lossy message_codec) before datagram after (Err fault)
+        → DatagramsDump (lossy message_codec) before (datagram ∷ []) after (Err fault)
         → (rest : List ℕ) × IsEnvelopeFault rest fault }
 {}
 

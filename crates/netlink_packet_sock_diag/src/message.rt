@@ -4,7 +4,7 @@ ghost use Rattle.std.specs.Prelude.{◌≡◌, ◌≢◌, ◌<◌, ◌↔◌, �
 ghost use Rattle.netlink_core.specs.declared.fault.DecodeError.TheVariants.{Memory};
 ghost use Rattle.netlink_core.specs.Spare.{WantsMemory};
 ghost use Rattle.netlink_core.specs.declared.message.NetlinkPayload.TheVariants.{InnerMessage};
-ghost use Rattle.netlink_packet_sock_diag.specs.Message.{message_kind, message_codec};
+ghost use Rattle.netlink_packet_sock_diag.specs.Message.{message_codec, of_message};
 ghost use Rattle.sock_diag_records.specs.ResponseKind.{inet_request, inet_response, unix_request};
 ghost use Rattle.sock_diag_records.specs.ResponseKind.{unix_response};
 
@@ -35,28 +35,32 @@ impl SockDiagMessage {
 
     /// Whether the message asks for IPv4 or IPv6 sockets.
     pub fn is_inet_request(&self) -> bool
-        ensures { IsTrue result ↔ (message_kind (message_model self.now) ≡ inet_request) }
+        ensures { IsTrue result
+            ↔ (of_message (λ kind v. kind) (message_model self.now) ≡ inet_request) }
     {
         matches!(self, SockDiagMessage::InetRequest(_))
     }
 
     /// Whether the message tells an IPv4 or IPv6 socket.
     pub fn is_inet_response(&self) -> bool
-        ensures { IsTrue result ↔ (message_kind (message_model self.now) ≡ inet_response) }
+        ensures { IsTrue result
+            ↔ (of_message (λ kind v. kind) (message_model self.now) ≡ inet_response) }
     {
         matches!(self, SockDiagMessage::InetResponse(_))
     }
 
     /// Whether the message asks for UNIX sockets.
     pub fn is_unix_request(&self) -> bool
-        ensures { IsTrue result ↔ (message_kind (message_model self.now) ≡ unix_request) }
+        ensures { IsTrue result
+            ↔ (of_message (λ kind v. kind) (message_model self.now) ≡ unix_request) }
     {
         matches!(self, SockDiagMessage::UnixRequest(_))
     }
 
     /// Whether the message tells a UNIX socket.
     pub fn is_unix_response(&self) -> bool
-        ensures { IsTrue result ↔ (message_kind (message_model self.now) ≡ unix_response) }
+        ensures { IsTrue result
+            ↔ (of_message (λ kind v. kind) (message_model self.now) ≡ unix_response) }
     {
         matches!(self, SockDiagMessage::UnixResponse(_))
     }
@@ -71,7 +75,7 @@ impl SockDiagMessage {
     /// An equal message. It fails only for want of memory, and a request never does.
     pub fn clone(&self, alloc: Global) -> Result<Self, AllocError>
         ensures equal { IfOk result (λ copy. message_model copy ≡ message_model self.now) }
-        ensures spare { let kind = message_kind (message_model self.now) in
+        ensures spare { let kind = of_message (λ kind v. kind) (message_model self.now) in
             (kind ≡ inet_request) ⊎ (kind ≡ unix_request) → IsOk result }
     {
         Ok(match self {
@@ -242,19 +246,19 @@ impl From<SockDiagMessage> for NetlinkPayload<SockDiagMessage> {
 pub struct SockDiagDestroy(pub(crate) SockDiagMessage);
 
 impl SockDiagDestroy {
-    ghost use Rattle.netlink_packet_sock_diag.specs.MessageModel.{message_model, destroy_model};
+    ghost use Rattle.netlink_packet_sock_diag.specs.MessageModel.{message_model};
 
     /// The request to close what the message tells.
     pub fn new(message: SockDiagMessage) -> Self
-        ensures { destroy_model result ≡ message_model message }
+        ensures { message_model result.0 ≡ message_model message }
     {
         SockDiagDestroy(message)
     }
 
     /// An equal request. It fails only for want of memory, and not where it holds a request.
     pub fn clone(&self, alloc: Global) -> Result<Self, AllocError>
-        ensures equal { IfOk result (λ copy. destroy_model copy ≡ destroy_model self.now) }
-        ensures spare { let kind = message_kind (destroy_model self.now) in
+        ensures equal { IfOk result (λ copy. message_model copy.0 ≡ message_model self.now.0) }
+        ensures spare { let kind = of_message (λ kind v. kind) (message_model self.now.0) in
             (kind ≡ inet_request) ⊎ (kind ≡ unix_request) → IsOk result }
     {
         Ok(SockDiagDestroy(self.0.clone(alloc)?))

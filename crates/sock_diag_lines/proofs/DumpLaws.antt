@@ -1,20 +1,20 @@
 -- The dump over datagrams: there is one, and how it grows by a datagram.
 use Rattle.std.proofs.Common.{◌≡◌, ◌≢◌, ◌⊎◌, inl, ℕ, List, [], ◌∷◌, ◌++◌, Option, Some, None}
-use Rattle.std.proofs.Common.{Result, Ok, refl}
+use Rattle.std.proofs.Common.{Result, Ok}
 use Rattle.std.proofs.lemmas.List.{append-nil}
 use Rattle.std.proofs.lemmas.List.Concat.{flat_map-append}
-use Rattle.std.specs.List.{AllByRecursion, AllZip}
+use Rattle.std.specs.List.{AllByRecursion, AllZip, concat}
 use Rattle.netlink_core.specs.Bytes.{IsBytes}
 use Rattle.netlink_core.specs.declared.fault.DecodeError.{DecodeError}
 use Rattle.netlink_core.specs.Envelope.{Payload}
 use Rattle.netlink_core.specs.Items.{ItemsAre}
 use Rattle.netlink_core.proofs.Items.{items_of, one_list, zip_append}
-use Rattle.netlink_packet_sock_diag.specs.Dump.{AreSplit, Dump, HaveItems, Standing}
-use Rattle.netlink_packet_sock_diag.specs.Dump.{concatenation, unended}
+use Rattle.netlink_packet_sock_diag.specs.Dump.{AreSplit, Dump, Standing}
 use Rattle.netlink_packet_sock_diag.specs.Message.{Message, message_codec}
 use Rattle.netlink_packet_sock_diag.specs.MessageLaws.{message_laws}
 use Rattle.netlink_packet_sock_diag.proofs.DumpRows.{dump_of_split, has_dump, items_of_each, joined}
-use Rattle.netlink_packet_sock_diag.proofs.DumpRows.{one_dump, one_row, same_dump, split_of_dump}
+use Rattle.netlink_packet_sock_diag.proofs.DumpRows.{concatenation, one_dumps, same_dump}
+use Rattle.netlink_packet_sock_diag.proofs.DumpRows.{split_of_dump, unended}
 use Rattle.sock_diag_lines.specs.DumpLine.{IsDumpAnswer, dump_text}
 use Rattle.sock_diag_lines.specs.HexField.{IsHexField}
 use Rattle.sock_diag_lines.specs.ReadDumpSteps.{DumpOutcome, IsDumpOf, IsWritable, ended_with}
@@ -38,10 +38,8 @@ one_items = one_list message_codec (one_value envelope_subject envelope_laws)
 -- datagrams have one dump
 one_of : (datagrams : List (List ℕ)) → AllByRecursion IsBytes datagrams → (d e : DumpOutcome)
     → IsDumpOf datagrams d → IsDumpOf datagrams e → d ≡ e
-one_of datagrams in_range d e (row, (parts, each, is), dump) (other, (parts', each', is'), also) =
-    let rows : other ≡ row = rw (is', is)
-    (rw (one_row message_codec one_items datagrams in_range parts' parts each' each)) in
-    let same = one_dump [] row d.0 e.0 d.1 e.1 dump (rw rows at also) in
+one_of datagrams in_range d e dump also =
+    let same = one_dumps message_codec one_items [] datagrams in_range d.0 e.0 d.1 e.1 dump also in
     λ i. (same.0 i, same.1 i)
 
 -- ---- one text
@@ -62,7 +60,7 @@ has_dump_text datagrams in_range =
     let parts = items_of_each message_codec some_items datagrams in_range in
     let dump = has_dump [] (concatenation parts.0) in
     has_text IsWritable dump_text (IsDumpOf datagrams) (λ fault. ⊥)
-    (inl ((dump.0, dump.1), (concatenation parts.0, (parts.0, parts.1, refl), dump.2)))
+    (inl ((dump.0, dump.1), (parts.0, parts.1, dump.2)))
     (λ d. each_or_not _ message_fits_or_not d.0)
 
 -- and no other
@@ -74,17 +72,17 @@ one_dump_text datagrams in_range = one_text IsWritable dump_text (IsDumpOf datag
 
 -- what answers datagrams answers others with the same items
 pub answers_same_items : (datagrams others : List (List ℕ))
-    (row : List (Result (Payload Message) DecodeError))
-    → AllByRecursion IsBytes datagrams → HaveItems message_codec datagrams row
-    → HaveItems message_codec others row
+    (xs ys : List (List (Result (Payload Message) DecodeError)))
+    → AllByRecursion IsBytes datagrams → AllZip (ItemsAre message_codec) datagrams xs
+    → AllZip (ItemsAre message_codec) others ys → concatenation xs ≡ concatenation ys
     → (text : List ℕ) → IsDumpAnswer datagrams text → IsDumpAnswer others text
-answers_same_items datagrams others row in_range (xs, each, is) (ys, also, is') text =
+answers_same_items datagrams others xs ys in_range each also same text =
     answers_more IsWritable dump_text (λ d. same_dump message_codec one_items datagrams others xs ys
-    in_range each also (rw (← is) is') [] d.0 d.1) (λ fault never. never)
+    in_range each also same [] d.0 d.1) (λ fault never. never)
 
 -- and another split
 pub answers_split : (datagrams others : List (List ℕ)) → AllByRecursion IsBytes others
-    → AreSplit datagrams → AreSplit others → concatenation datagrams ≡ concatenation others
+    → AreSplit datagrams → AreSplit others → concat datagrams ≡ concat others
     → (text : List ℕ) → IsDumpAnswer datagrams text → IsDumpAnswer others text
 answers_split datagrams others in_range split cut same text =
     answers_more IsWritable dump_text (λ d is. split_of_dump message_codec some_items one_items
@@ -100,12 +98,13 @@ pub one_more : (datagrams : List (List ℕ)) (datagram : List ℕ) (old new : Du
     → ((old.1 ≡ Ok unended) × Dump old.0 items new.0 new.1)
     ⊎ ((old.1 ≢ Ok unended) × (new.0 ≡ old.0) × (new.1 ≡ old.1))
     → IsDumpOf (datagrams ++ datagram ∷ []) new
-one_more datagrams datagram old new items are (row, (parts, each, is), dump) next =
+one_more datagrams datagram old new items are (parts, each, dump) next =
     let all = zip_append (ItemsAre message_codec) datagrams (datagram ∷ []) parts (items ∷ []) each
     (are, tt) in (
-      row ++ items,
-      (parts ++ items ∷ [], all, rw (is, flat_map-append, append-nil)),
-      joined [] old.0 new.0 old.1 new.1 row items dump next,
+      parts ++ items ∷ [],
+      all,
+      rw (flat_map-append, append-nil)
+          (joined [] old.0 new.0 old.1 new.1 (concatenation parts) items dump next),
     )
 
 -- one that has ended is no more read

@@ -4,9 +4,11 @@ ghost use Rattle.sock_diag_lines.specs.declared.answers.Name.{Name};
 ghost use Rattle.sock_diag_lines.specs.declared.answers.Name.TheVariants.{UnixView};
 ghost use Rattle.std.specs.Prelude.{◌≡◌, ◌≢◌, ◌↔◌, ◌++◌, ◌∷◌, [], ℕ, List, codes, decimal, Result};
 ghost use Rattle.std.specs.Prelude.{IfOk, OnOk, MatchOption};
+ghost use Rattle.std.specs.List.{AllZip, concat, flat_map};
 ghost use Rattle.netlink_core.specs.Envelope.{Payload, inner as of_inner, envelope_codec};
+ghost use Rattle.netlink_core.specs.Items.{ItemsAre};
 ghost use Rattle.netlink_core.specs.declared.fault.DecodeError.{DecodeError};
-ghost use Rattle.netlink_packet_sock_diag.specs.Dump.{AreSplit, HaveItems, concatenation};
+ghost use Rattle.netlink_packet_sock_diag.specs.Dump.{AreSplit};
 ghost use Rattle.netlink_packet_sock_diag.specs.Message.{Message, message_codec};
 ghost use Rattle.netlink_packet_sock_diag.specs.MessageViewModel.{message_view_model};
 ghost use Rattle.netlink_packet_sock_diag.specs.PayloadViewModel.{envelope_view_model};
@@ -90,16 +92,18 @@ pub fn answer(alloc: Global, line: &[u8]) -> Result<Vec<u8>, AllocError>
     // Two dumps whose datagrams have the same items in a row have one answer.
     ensures dumps { IfOk result
         (λ text. (other text' : List ℕ) (datagrams datagrams' : List (List ℕ))
-        (row : List (Result (Payload Message) DecodeError))
+        (items items' : List (List (Result (Payload Message) DecodeError)))
         → IsDumpRequest line.now datagrams → IsDumpRequest other datagrams'
-        → HaveItems message_codec datagrams row → HaveItems message_codec datagrams' row
+        → AllZip (ItemsAre message_codec) datagrams items
+        → AllZip (ItemsAre message_codec) datagrams' items'
+        → flat_map (λ one. one) items ≡ flat_map (λ one. one) items'
         → IsAnswerOf other text' → text.items ≡ text') }
     // So have two dumps of the same bytes, of which each datagram but the last is whole messages.
     ensures split { IfOk result
         (λ text. (other text' : List ℕ) (datagrams datagrams' : List (List ℕ))
         → IsDumpRequest line.now datagrams → IsDumpRequest other datagrams'
         → AreSplit datagrams → AreSplit datagrams'
-        → concatenation datagrams ≡ concatenation datagrams'
+        → concat datagrams ≡ concat datagrams'
         → IsAnswerOf other text' → text.items ≡ text') }
 {
     let mut text = Vec::new(alloc);

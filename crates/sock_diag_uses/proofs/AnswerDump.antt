@@ -23,6 +23,10 @@ use Rattle.sock_diag_replies.specs.UnixResponseSpec.{UnixResponseValue, unix_res
 use Rattle.sock_diag_uses.specs.TestKernel.{CanBeSent, IsAnswer, IsWholeDump, end_under}
 use Rattle.sock_diag_uses.specs.TestKernel.{message_under, reply_under}
 
+-- the message of a reply
+abbrev sent : UnixResponseValue → Message
+sent reply = message_of unix_response reply
+
 -- no padding stands behind a message whose length is a multiple of four
 no_fill : (message : List ℕ) → length message % 4 ≡ 0 → 0 ≡ fill (length message)
 no_fill message even = rw even refl
@@ -135,16 +139,16 @@ module _ (reads_back : (v : Envelope Message) → (envelope_codec message_codec)
   carries_reply : ((v : UnixResponseValue) → (response_codec unix_response_spec).is_in_range v
       → length (response_bytes unix_response_spec v) % 4 ≡ 0)
       → (n : ℕ) → n < 2 ^ 32 → (r : UnixResponseValue) → CanBeSent r
-      → Carries (reply_under n r) (Ok (inner (message_of unix_response r)))
-  carries_reply even n small r found = carries_payload n (inner (message_of unix_response r)) (
-    header_in_range n (inner (message_of unix_response r)) small found.short (omega arith),
+      → Carries (reply_under n r) (Ok (inner (sent r)))
+  carries_reply even n small r found = carries_payload n (inner (sent r)) (
+    header_in_range n (inner (sent r)) small found.short (omega arith),
     found.in_range,
   ) (found.fits, found.short) (refl, inr refl, found.normal) (even r found.in_range)
 
   carries_all : ((v : UnixResponseValue) → (response_codec unix_response_spec).is_in_range v
       → length (response_bytes unix_response_spec v) % 4 ≡ 0)
       → (n : ℕ) → n < 2 ^ 32 → (rs : List UnixResponseValue) → AllByRecursion CanBeSent rs
-      → AllByRecursion (λ r. Carries (reply_under n r) (Ok (inner (message_of unix_response r)))) rs
+      → AllByRecursion (λ r. Carries (reply_under n r) (Ok (inner (sent r)))) rs
   carries_all even n small [] found = tt
   carries_all even n small (r ∷ rs) found =
       (carries_reply even n small r found.0, carries_all even n small rs found.1)
@@ -158,14 +162,14 @@ module _ (reads_back : (v : Envelope Message) → (envelope_codec message_codec)
 
 plain_all : (rs : List UnixResponseValue)
     → AllByRecursion (λ item. end_of {A = Message} item ≡ None)
-    (map (λ r. Ok (inner (message_of unix_response r))) rs)
+    (map (λ r. Ok (inner (sent r))) rs)
 plain_all [] = tt
 plain_all (r ∷ rs) = (refl, plain_all rs)
 
-keeps_all : (rs : List UnixResponseValue) → map (message_of unix_response) rs
-    ≡ flat_map kept (map (λ (r : UnixResponseValue). Ok (inner (message_of unix_response r))) rs)
+keeps_all : (rs : List UnixResponseValue) → map sent rs
+    ≡ flat_map kept (map (λ (r : UnixResponseValue). Ok (inner (sent r))) rs)
 keeps_all [] = refl
-keeps_all (r ∷ rs) = ap (λ (ms : List Message). message_of unix_response r ∷ ms) (keeps_all rs)
+keeps_all (r ∷ rs) = ap (λ (ms : List Message). sent r ∷ ms) (keeps_all rs)
 
 pub whole_dump : ((v : Envelope Message) → (envelope_codec message_codec).is_in_range v
     → (envelope_codec message_codec).fits v → v.header ≡ finalized message_codec.written (λ _. 20) v
@@ -186,18 +190,21 @@ whole_dump reads_back even concatenation request replies datagram answer found =
     let small = answer.framed.1.1.1.1.0 in
     let ends = one_item (end_under n) (Ok (done_with (0 ∷ 0 ∷ 0 ∷ 0 ∷ [])))
     (carries_end reads_back n small) in
-    let items = map (λ (r : UnixResponseValue). Ok (inner (message_of unix_response r))) replies
+    let items = map (λ (r : UnixResponseValue). Ok (inner (sent r))) replies
     ++ (Ok (done_with (0 ∷ 0 ∷ 0 ∷ 0 ∷ [])) ∷ []) in
     let all = items_of_all concatenation (reply_under n) (λ r.
-    Ok (inner (message_of unix_response r)))
+    Ok (inner (sent r)))
     (end_under n) (Ok (done_with (0 ∷ 0 ∷ 0 ∷ 0 ∷ [])) ∷ []) replies
     (carries_all reads_back even n small replies found) ends in
     record {
       dump = (
-        items,
-        subst (λ (bytes : List ℕ). ItemsAre message_codec bytes items) (sym answer.written) all,
+        items ∷ [],
         (
-          map (λ (r : UnixResponseValue). Ok (inner (message_of unix_response r))) replies,
+          subst (λ (bytes : List ℕ). ItemsAre message_codec bytes items) (sym answer.written) all,
+          tt,
+        ),
+        rw append-nil (
+          map (λ (r : UnixResponseValue). Ok (inner (sent r))) replies,
           Ok (done_with (0 ∷ 0 ∷ 0 ∷ 0 ∷ [])) ∷ [],
           refl,
           plain_all replies,

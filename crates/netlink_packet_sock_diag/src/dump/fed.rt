@@ -3,7 +3,6 @@
 ghost use Rattle.std.specs.Prelude.{◌≡◌, ◌≢◌, ◌⊎◌, ◌↔◌, ℕ, List, [], map, Result, Ok as ok};
 ghost use Rattle.std.specs.Prelude.{Err as err, MatchResult, IsBitSet, IsTrue, None, false};
 ghost use Rattle.netlink_core.specs.declared.fault.DecodeError.TheVariants.{Memory};
-ghost use Rattle.netlink_packet_sock_diag.specs.Dump.{unended};
 ghost use Rattle.netlink_packet_sock_diag.specs.Feed.{FeedLeaves, FeedsLeave, Stage, Stops};
 ghost use Rattle.netlink_packet_sock_diag.specs.Feed.{Takes, untouched};
 ghost use Rattle.netlink_packet_sock_diag.specs.declared.dump.DumpError.{DumpError as Refusal};
@@ -39,14 +38,15 @@ fn take_messages<I: Kept>(
     datagram: &[u8],
 ) -> Result<(DumpState, Option<i32>), DecodeError>
     ensures { MatchResult result
-        (λ standing. Takes I.codec (map I.model messages.old.items) interrupted.old datagram.now
-        (map I.model messages.new.items) interrupted.new (ok standing))
-        (λ e. (e ≢ Memory
-        → Takes I.codec (map I.model messages.old.items) interrupted.old datagram.now
-        (map I.model messages.new.items) interrupted.new (err e))
-        × (e ≡ Memory
-        → Stops I.codec (map I.model messages.old.items) interrupted.old datagram.now
-        (map I.model messages.new.items) interrupted.new)) }
+        (λ standing. Takes I.codec
+        (map I.model messages.old.items, (Reading, None), interrupted.old) datagram.now
+        (map I.model messages.new.items, standing, interrupted.new) (ok standing))
+        (λ e. (e ≢ Memory → Takes I.codec
+        (map I.model messages.old.items, (Reading, None), interrupted.old) datagram.now
+        (map I.model messages.new.items, (Failed, None), interrupted.new) (err e))
+        × (e ≡ Memory → Stops I.codec
+        (map I.model messages.old.items, (Reading, None), interrupted.old) datagram.now
+        (map I.model messages.new.items, (Failed, None), interrupted.new))) }
 {
     for item in MessageStrings::new(datagram) {
         let message = item?;
@@ -74,7 +74,7 @@ pub(crate) struct FedDump<I: Kept> {
     /// Whether a message had the flag that says that what is dumped changed meanwhile.
     pub(crate) interrupted: bool,
     // A dump that is still read has no number.
-    ghost unnumbered: { (standing.0 ≡ Reading) → (standing ≡ unended) },
+    ghost unnumbered: { (standing.0 ≡ Reading) → (standing ≡ (Reading, None)) },
     // Datagrams were fed, with memory for all, and left it so; or one more was, and the dump has
     // failed.
     ghost fed: { ∥ ((datagrams : List (List ℕ)) × (before : Stage I.codec.Value)
@@ -86,10 +86,12 @@ pub(crate) struct FedDump<I: Kept> {
 }
 
 impl<I: Kept> FedDump<I> {
+    ghost use Rattle.netlink_packet_sock_diag.specs.DumpModel.{progress};
+
     /// A dump of which nothing has come. The allocator is kept.
     pub(crate) fn new(alloc: Global) -> Self
         ensures kept { result.kept.items ≡ [] }
-        ensures state { result.standing ≡ unended }
+        ensures state { result.standing ≡ (Reading, None) }
         ensures interrupted { result.interrupted ≡ false }
     {
         FedDump {
@@ -102,9 +104,8 @@ impl<I: Kept> FedDump<I> {
 
     /// Takes the messages of a datagram, as [`DumpReader::feed`](crate::DumpReader::feed) says.
     pub(crate) fn feed(&mut self, datagram: &[u8]) -> Result<(), DumpError>
-        ensures { FeedLeaves I.codec
-            (map I.model self.old.kept.items, self.old.standing, self.old.interrupted) datagram.now
-            (map I.model self.new.kept.items, self.new.standing, self.new.interrupted) result }
+        ensures { FeedLeaves I.codec (progress I.model self.old) datagram.now
+            (progress I.model self.new) result }
     {
         if self.standing.0 != DumpState::Reading {
             return Err(DumpError::Ended);

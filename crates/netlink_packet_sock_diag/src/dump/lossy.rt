@@ -1,8 +1,7 @@
 //! Dumps that go past refused replies.
 
-ghost use Rattle.std.specs.Prelude.{◌≡◌, [], map, false};
+ghost use Rattle.std.specs.Prelude.{◌≡◌, [], None, false};
 ghost use Rattle.netlink_core.specs.Faults.{map_ok};
-ghost use Rattle.netlink_packet_sock_diag.specs.Dump.{unended};
 ghost use Rattle.netlink_packet_sock_diag.specs.Feed.{FeedLeaves};
 ghost use Rattle.netlink_packet_sock_diag.specs.Lossy.{lossy};
 ghost use Rattle.netlink_packet_sock_diag.specs.Message.{message_codec};
@@ -24,10 +23,13 @@ pub struct LossyDump {
 }
 
 impl LossyDump {
+    ghost use Rattle.netlink_packet_sock_diag.specs.DumpModel.{progress};
+    ghost use Rattle.netlink_packet_sock_diag.specs.declared.dump.DumpState.TheVariants.{Reading};
+
     /// A dump of which nothing has come. The allocator is kept.
     pub fn new(alloc: Global) -> Self
         ensures entries { result.dump.kept.items ≡ [] }
-        ensures state { result.dump.standing ≡ unended }
+        ensures state { result.dump.standing ≡ (Reading, None) }
         ensures interrupted { result.dump.interrupted ≡ false }
     {
         LossyDump {
@@ -40,15 +42,9 @@ impl LossyDump {
     /// `EnvelopeLengthPast`, and where memory runs out, the entries in front are kept and the dump
     /// has failed. Once the dump has ended nothing changes.
     pub fn feed(&mut self, datagram: &[u8]) -> Result<(), DumpError>
-        ensures leaves { FeedLeaves (lossy message_codec) (
-          map (map_ok message_model) self.old.dump.kept.items,
-          self.old.dump.standing,
-          self.old.dump.interrupted,
-        ) datagram.now (
-          map (map_ok message_model) self.new.dump.kept.items,
-          self.new.dump.standing,
-          self.new.dump.interrupted,
-        ) result }
+        ensures leaves { FeedLeaves (lossy message_codec)
+            (progress (map_ok message_model) self.old.dump) datagram.now
+            (progress (map_ok message_model) self.new.dump) result }
     {
         self.dump.feed(datagram)
     }

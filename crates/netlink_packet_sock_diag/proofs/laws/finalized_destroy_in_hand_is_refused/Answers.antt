@@ -1,8 +1,9 @@
 use Rattle.std.proofs.Common.{refl}
-use Rattle.netlink_packet_sock_diag.specs.MessageModel.{destroy_model}
+use Rattle.netlink_packet_sock_diag.specs.MessageModel.{message_model}
 use Rattle.netlink_packet_sock_diag.proofs.Envelopes.{destroy_is_refused}
 use Rattle.netlink_packet_sock_diag.proofs.laws.finalized_destroy_in_hand_is_refused.Goals as goal
 
 pub returns : goal.returns
 returns c = λ message destroy rest is in_range fits. rw is
-    (destroy_is_refused message.header (destroy_model destroy) rest _ in_range (rw is at fits) refl)
+    (destroy_is_refused message.header (message_model destroy.0) rest _ in_range (rw is at fits)
+    refl)

@@ -1,7 +1,6 @@
 use Rattle.std.proofs.Common.{List, ℕ, subst}
 use Rattle.netlink_packet_sock_diag.specs.Message.{message_codec}
-use Rattle.netlink_packet_sock_diag.specs.Dump.{DatagramDump}
-use Rattle.netlink_packet_sock_diag.proofs.DumpRows.{dump_of_split, split_of_dump}
+use Rattle.netlink_packet_sock_diag.proofs.DumpRows.{DatagramDump, dump_of_split, split_of_dump}
 use Rattle.netlink_packet_sock_diag.proofs.laws.split_changes_no_dump.Goals as goal
 
 pub returns : goal.returns

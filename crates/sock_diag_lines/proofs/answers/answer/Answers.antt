@@ -21,11 +21,12 @@ returns-clause-alike c = λ name other bytes bytes' text' asked asked' ok ok' is
     (answers_as_idle name _ other bytes bytes' _ text' is is' asked asked' ok ok').1
 
 pub returns-clause-dumps : goal.returns-clause-dumps
-returns-clause-dumps c = λ other text' datagrams datagrams' row asked asked' have have' is'.
+returns-clause-dumps c = λ other text' datagrams datagrams' xs ys asked asked' each also same is'.
     let is = whole c.args.line.now _ _ c.new-text.ensures.items c.in_ok-push_answer.ensures in
     one_dump_text datagrams' (datagrams_in_range other datagrams' asked') _ text'
-    (answers_same_items datagrams datagrams' row
-    (datagrams_in_range c.args.line.now datagrams asked) have have' _ (is.dumped datagrams asked))
+    (answers_same_items datagrams datagrams' xs ys
+    (datagrams_in_range c.args.line.now datagrams asked) each also same _
+    (is.dumped datagrams asked))
     (is'.dumped datagrams' asked')
 
 pub returns-clause-split : goal.returns-clause-split

@@ -1,6 +1,8 @@
 use Rattle.std.proofs.Common.{◌+◌, [], ◌∷◌, ◌++◌, Ok, refl, ap, arith, append_assoc}
 use Rattle.std.proofs.lemmas.List.{length-drop, take_rest}
 use Rattle.std.specs.List.{slice_split}
+use Rattle.netlink_packet_sock_diag.specs.Feed.{Stage}
+use Rattle.netlink_packet_sock_diag.specs.Message.{Message}
 use Rattle.sock_diag_lines.specs.TextSteps.{is_space}
 use Rattle.sock_diag_lines.proofs.FieldLists.{each_has_bytes}
 use Rattle.sock_diag_lines.proofs.dump_line.read_dump.Goals as goal
@@ -11,8 +13,15 @@ fields-init c = record {
   read = record {
     is = (
       [],
-      ([], tt, refl),
-      ([], [], refl, tt, c.new.ensures.messages, ap Ok c.new.ensures.state),
+      tt,
+      (
+        [],
+        [],
+        refl,
+        tt,
+        ap (λ (stage : Stage Message). stage.0) c.new.ensures,
+        ap (λ (stage : Stage Message). Ok stage.1) c.new.ensures,
+      ),
     );
     faultless = λ _. refl;
   };

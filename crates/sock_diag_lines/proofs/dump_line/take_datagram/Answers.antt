@@ -9,7 +9,7 @@ pub returns-in-Ok : goal.returns-in-Ok
 returns-in-Ok c = λ datagrams read.
     let leaves = c.in-Ok.ensures.leaves in
     let none = read.faultless leaves.0 in
-    let (items, are, dump) = leaves.1.0 in
+    let (items, are, dump, flag) = leaves.1 in
     record {
       is = one_more datagrams c.args.datagram.now _ _ items are read.is
           (inl (rw (none, leaves.0), rw none dump));
@@ -31,7 +31,7 @@ returns-in-Err-Ended c = λ datagrams read.
 pub returns-in_default : goal.returns-in_default
 returns-in_default c = λ datagrams read.
     let leaves = rw c.in-Err-Fault.field-0-is at c.in-Err-Fault.ensures.leaves in
-    let (items, are, dump) = (leaves.2 c.in_default.not-Memory).0 in
+    let (items, are, dump, flag) = leaves.2 c.in_default.not-Memory in
     record {
       is = one_more datagrams c.args.datagram.now _ _ items are read.is
           (inl (rw (read.faultless leaves.0, leaves.0), dump));

@@ -3,8 +3,8 @@ use Rattle.std.proofs.Math.Logic.{∥∥₁_map}
 use Rattle.netlink_packet_sock_diag.specs.declared.dump.DumpError.TheVariants.{Fault}
 use Rattle.netlink_packet_sock_diag.specs.contracts.dump.DumpState.{the_type}
 use Rattle.netlink_packet_sock_diag.specs.declared.dump.DumpState.TheVariants.{Reading}
-use Rattle.netlink_packet_sock_diag.specs.Dump.{Standing, unended}
-use Rattle.netlink_packet_sock_diag.proofs.DumpRows.{unnumbered}
+use Rattle.netlink_packet_sock_diag.specs.Dump.{Standing}
+use Rattle.netlink_packet_sock_diag.proofs.DumpRows.{unended, unnumbered}
 use Rattle.netlink_packet_sock_diag.proofs.Feeding.{fed_on}
 use Rattle.netlink_packet_sock_diag.proofs.dump.fed.FedDump.feed.Goals as goal
 use denote.Enum.Bare.{sameb}
@@ -22,7 +22,7 @@ invariant_of-self g c =
     let read = still_reading dump.standing _ dump.unnumbered c.ne.ensures c.if-ne.false in
     let took = c.in-Ok.ensures in
     record {
-      unnumbered = unnumbered took.0.2.1 c.in-Ok.standing took.0.2.5;
+      unnumbered = unnumbered took.2.1 c.in-Ok.standing took.2.5;
       fed = ∥∥₁_map dump.fed (λ some. fed_on g.I.Kept.codec _ _ c.args.datagram.now (Ok tt) some
           (read, took));
     }
