@@ -4,14 +4,15 @@ use Rattle.std.specs.Prelude.{nat_lt, if◌then◌else◌, Option, None, Some}
 use Rattle.std.specs.Int.{cast_signed, w32}
 use Rattle.byteorder.specs.Endian.{little_number}
 use Rattle.netlink_core.specs.declared.header.NetlinkHeader.{NetlinkHeader}
+use Rattle.netlink_core.specs.declared.message.NetlinkPayload.{NetlinkPayload}
+use Rattle.netlink_core.specs.declared.message.NetlinkPayload.TheVariants.{Done, Error, Noop}
+use Rattle.netlink_core.specs.declared.message.NetlinkPayload.TheVariants.{Overrun, InnerMessage}
 use Rattle.netlink_core.specs.Header.{IsHeaderInRange, header_bytes, HasHeader, IsEnvelopeFault}
 use Rattle.netlink_core.specs.Codec.{Codec}
 
--- what a message carries, without where it lies in memory
-pub data Payload (A : Type 0) : Type 0 where
-  no_payload : Payload A
-  error_with done_with overrun_with : List ℕ → Payload A
-  inner : A → Payload A
+-- what a message carries, its bytes as a list
+abbrev pub Payload : Type 0 → Type 0
+Payload A = NetlinkPayload A (List ℕ)
 
 -- a header and what the message carries
 pub record Envelope (A : Type 0) : Type 0 where
@@ -25,33 +26,33 @@ IsInnerType t = (t ≡ 0) ⊎ (5 ≤ t)
 -- the payload that belongs to its bytes under the message's type, where this is what belongs to
 -- those of an inner message
 abbrev pub PayloadIs : {A : Type 0} → (List ℕ → ℕ → A → Type 0) → List ℕ → ℕ → Payload A → Type 0
-PayloadIs reads bytes t no_payload = t ≡ 1
-PayloadIs reads bytes t (error_with given) = (t ≡ 2) × (given ≡ bytes)
-PayloadIs reads bytes t (done_with given) = (t ≡ 3) × (given ≡ bytes)
-PayloadIs reads bytes t (overrun_with given) = (t ≡ 4) × (given ≡ bytes)
-PayloadIs reads bytes t (inner value) = IsInnerType t × reads bytes t value
+PayloadIs reads bytes t Noop = t ≡ 1
+PayloadIs reads bytes t (Error given) = (t ≡ 2) × (given ≡ bytes)
+PayloadIs reads bytes t (Done given) = (t ≡ 3) × (given ≡ bytes)
+PayloadIs reads bytes t (Overrun given) = (t ≡ 4) × (given ≡ bytes)
+PayloadIs reads bytes t (InnerMessage value) = IsInnerType t × reads bytes t value
 
 -- ---- what is written
 
 -- the bytes of a payload, by those of an inner message
 abbrev pub payload_bytes : {A : Type 0} → (A → List ℕ) → Payload A → List ℕ
-payload_bytes bytes (done_with given) = given
-payload_bytes bytes (error_with given) = given
-payload_bytes bytes no_payload = []
-payload_bytes bytes (overrun_with given) = given
-payload_bytes bytes (inner value) = bytes value
+payload_bytes bytes (Done given) = given
+payload_bytes bytes (Error given) = given
+payload_bytes bytes Noop = []
+payload_bytes bytes (Overrun given) = given
+payload_bytes bytes (InnerMessage value) = bytes value
 
 -- the type of a payload's message, by that of an inner message
 abbrev pub payload_type : {A : Type 0} → (A → ℕ) → Payload A → ℕ
-payload_type type_of no_payload = 1
-payload_type type_of (error_with given) = 2
-payload_type type_of (done_with given) = 3
-payload_type type_of (overrun_with given) = 4
-payload_type type_of (inner value) = type_of value
+payload_type type_of Noop = 1
+payload_type type_of (Error given) = 2
+payload_type type_of (Done given) = 3
+payload_type type_of (Overrun given) = 4
+payload_type type_of (InnerMessage value) = type_of value
 
 -- an inner message, if there is one, is so
 abbrev pub OfInner : {A : Type 0} → (A → Type 0) → Payload A → Type 0
-OfInner is (inner value) = is value
+OfInner is (InnerMessage value) = is value
 OfInner is _ = ⊤
 
 -- the number of errno(3), with its sign, that an error or an end begins with: none where there are
@@ -61,8 +62,8 @@ leading_number given = if nat_lt (length given) 4 then None else Some (cast_sign
 
 -- that of a payload
 abbrev pub error_number_of : {A : Type 0} → Payload A → Option ℤ
-error_number_of (error_with given) = leading_number given
-error_number_of (done_with given) = leading_number given
+error_number_of (Error given) = leading_number given
+error_number_of (Done given) = leading_number given
 error_number_of _ = None
 
 -- the header with the message's own length and type, and else as it was

@@ -3,7 +3,7 @@
 
 ghost use Rattle.std.specs.Prelude.{◌≡◌, ◌↔◌, ◌⊎◌, ◌<◌, ◌++◌, ℕ, List, [], ◌∷◌, length, map};
 ghost use Rattle.std.specs.Prelude.{Option, Some, None, Result, Ok, Err, IsTrue, IfOk, IsOk, true};
-ghost use Rattle.std.specs.Prelude.{false};
+ghost use Rattle.std.specs.Prelude.{false, vec_items};
 ghost use Rattle.std.specs.Borrow.{Bor};
 ghost use Rattle.std.specs.Iterator.{Drains, YieldsThen};
 ghost use Rattle.std.specs.List.{AllByRecursion, flat_map};
@@ -152,7 +152,7 @@ pub fn equal_messages<I: Coded>(v: &NetlinkMessage<I>, w: &NetlinkMessage<I>) ->
 
 /// `==` says whether two payloads carry the same.
 pub fn equal_payloads<I: Coded>(v: &NetlinkPayload<I>, w: &NetlinkPayload<I>) -> bool
-    ensures { IsTrue result ↔ (payload_of I.model v.now ≡ payload_of I.model w.now) }
+    ensures { IsTrue result ↔ (payload_of vec_items I.model v.now ≡ payload_of vec_items I.model w.now) }
 {
     v == w
 }

@@ -10,7 +10,7 @@ use Rattle.netlink_core.specs.declared.fault.DecodeError.TheVariants.{Memory}
 use Rattle.netlink_core.specs.declared.header.NetlinkHeader.{NetlinkHeader}
 use Rattle.netlink_core.specs.Header.{HasHeader, IsEnvelopeFault}
 use Rattle.netlink_core.specs.Datagram.{IsMessageString, StartsWithMessage}
-use Rattle.netlink_core.specs.Envelope.{inner}
+use Rattle.netlink_core.specs.declared.message.NetlinkPayload.TheVariants.{InnerMessage}
 use Rattle.netlink_core.specs.Items.{Item, ItemIs, ItemsAre}
 use Rattle.netlink_core.proofs.Datagrams.{no_fault_at_message}
 use Rattle.netlink_core.proofs.Headers.{one_header}
@@ -119,7 +119,7 @@ module _ {C : Codec ℕ} {datagram next : List ℕ} {before after : List C.Value
 
 pub stops_at : {C : Codec ℕ} {datagram next : List ℕ} {before after : List C.Value} {was now : Bool}
     {value : C.Value} → KeepsLaws C
-    → Here C datagram next before after was now (Ok (inner value))
+    → Here C datagram next before after was now (Ok (InnerMessage value))
     → Stops C before was datagram after now
 stops_at {C} {datagram} {next} {before} {after} {was} {now} {value} laws p =
     let later = items_of C laws.answered next p.in_range in (

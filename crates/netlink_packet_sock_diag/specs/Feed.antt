@@ -3,7 +3,7 @@ use Rattle.std.specs.Prelude.{◌≡◌, ◌≢◌, ◌↔◌, ◌⊎◌, ℕ, L
 use Rattle.std.specs.Prelude.{Result, Ok, Err, None, IsBitSet}
 use Rattle.netlink_core.specs.Codec.{Codec}
 use Rattle.netlink_core.specs.Datagram.{StartsWithMessage}
-use Rattle.netlink_core.specs.Envelope.{inner}
+use Rattle.netlink_core.specs.declared.message.NetlinkPayload.TheVariants.{InnerMessage}
 use Rattle.netlink_core.specs.Header.{HasHeader}
 use Rattle.netlink_core.specs.Items.{Item, ItemsAre}
 use Rattle.netlink_core.specs.declared.fault.DecodeError.{DecodeError}
@@ -40,8 +40,8 @@ module _ (C : Codec ℕ) where
   -- up to a message for which there was no memory: over the items in front of it it is still read
   abbrev pub Stops : List C.Value → Bool → List ℕ → List C.Value → Bool → Type 0
   Stops before was b after is = (front later : List (Item C.Value)) × (m : C.Value)
-      × ItemsAre C b (front ++ (Ok (inner m) ∷ later)) × Dump before front after (Ok unended)
-      × (IsTrue is ↔ (IsTrue was ⊎ Interrupt b (front ++ Ok (inner m) ∷ [])))
+      × ItemsAre C b (front ++ (Ok (InnerMessage m) ∷ later)) × Dump before front after (Ok unended)
+      × (IsTrue is ↔ (IsTrue was ⊎ Interrupt b (front ++ Ok (InnerMessage m) ∷ [])))
 
   -- Of a dump that was read: its end in the datagram, or its fault, or that memory ran out. One
   -- that had ended is as it was.

@@ -10,7 +10,7 @@ ghost use Rattle.netlink_core.specs.declared.fault.DecodeError.TheVariants.{Memo
 ghost use Rattle.netlink_core.specs.declared.fault.DecodeError.TheVariants.{UnknownMessageType};
 ghost use Rattle.netlink_core.specs.declared.header.NetlinkHeader.{NetlinkHeader};
 ghost use Rattle.netlink_core.specs.Header.{IsEnvelopeFault, IsHeaderInRange};
-ghost use Rattle.netlink_core.specs.Envelope.{Payload, Envelope, inner, OfInner, finalized};
+ghost use Rattle.netlink_core.specs.Envelope.{Payload, Envelope, OfInner, finalized};
 ghost use Rattle.netlink_core.specs.Envelope.{envelope_codec};
 ghost use Rattle.netlink_core.specs.declared.message.NetlinkMessage.{NetlinkMessage};
 ghost use Rattle.netlink_core.specs.declared.message.NetlinkPayload.TheVariants.{InnerMessage};
@@ -28,7 +28,7 @@ ghost use Rattle.netlink_packet_sock_diag.specs.Dump.{DatagramDump, DatagramsDum
 ghost use Rattle.netlink_packet_sock_diag.specs.Dump.{AreSplit, Standing, unended};
 ghost use Rattle.netlink_packet_sock_diag.specs.Feed.{FeedsLeave, Stage, Takes, untouched};
 ghost use Rattle.netlink_packet_sock_diag.specs.declared.dump.views.DumpViews.{DumpViews};
-ghost use Rattle.netlink_packet_sock_diag.specs.declared.dump.views.PayloadView.{PayloadView};
+ghost use Rattle.netlink_packet_sock_diag.specs.PayloadViewModel.{PayloadView};
 ghost use Rattle.netlink_core.specs.DatagramWalk.{datagram_left};
 ghost use Rattle.netlink_packet_sock_diag.specs.DumpWalk.{GivesView};
 ghost use Rattle.netlink_packet_sock_diag.specs.PayloadViewModel.{payload_view_model};
@@ -99,12 +99,12 @@ pub fn readers_take_memory() -> (bool, bool, bool)
 /// its own, and messages are read under 20 alone.
 pub fn finalized_destroy_is_refused()
     ensures { (h : NetlinkHeader) (m : Message) → IsHeaderInRange h
-        → (envelope_codec message_codec).fits (record { header = h; payload = inner m })
+        → (envelope_codec message_codec).fits (record { header = h; payload = InnerMessage m })
         → (envelope_codec message_codec).refuses
         ((envelope_codec message_codec).written (record {
           header = finalized message_codec.written destroys.type_written
-              (record { header = h; payload = inner m });
-          payload = inner m;
+              (record { header = h; payload = InnerMessage m });
+          payload = InnerMessage m;
         })) tt
         (UnknownMessageType (destroys.type_written m)) }
 {}
@@ -349,7 +349,7 @@ pub fn equal_inet_views(v: &InetResponseView<'_>, w: &InetResponseView<'_>) -> b
 }
 
 /// `==` says whether two payloads in place tell the same.
-#[tactic(auto, using(crate::specs::EqualPayloadLaws::payload_equal))]
+#[tactic(auto, using(crate::specs::EqualMessageLaws::view_equal))]
 pub fn equal_payload_views(v: &View<'_>, w: &View<'_>) -> bool
     ensures { IsTrue result ↔ (payload_view_model v.now ≡ payload_view_model w.now) }
 {

@@ -12,7 +12,8 @@ use Rattle.netlink_core.specs.declared.header.NetlinkHeader.{NetlinkHeader}
 use Rattle.netlink_core.specs.Header.{IsHeaderInRange}
 use Rattle.netlink_core.specs.Datagram.{AreWholeMessages, CutIntoMessages, IsMessageString}
 use Rattle.netlink_core.specs.Datagram.{StartsWithMessage}
-use Rattle.netlink_core.specs.Envelope.{Envelope, Payload, done_with, inner, finalized, OfInner}
+use Rattle.netlink_core.specs.Envelope.{Envelope, Payload, finalized, OfInner}
+use Rattle.netlink_core.specs.declared.message.NetlinkPayload.TheVariants.{Done, InnerMessage}
 use Rattle.netlink_core.specs.Envelope.{payload_bytes, payload_type, envelope_codec}
 use Rattle.netlink_core.specs.Items.{ItemIs, ItemsAre}
 use Rattle.netlink_core.specs.Response.{response_bytes, response_codec}
@@ -135,35 +136,35 @@ module _ (reads_back : (v : Envelope Message) → (envelope_codec message_codec)
   carries_reply : ((v : UnixResponseValue) → (response_codec unix_response_spec).is_in_range v
       → length (response_bytes unix_response_spec v) % 4 ≡ 0)
       → (n : ℕ) → n < 2 ^ 32 → (r : UnixResponseValue) → CanBeSent r
-      → Carries (reply_under n r) (Ok (inner (message_of unix_response r)))
-  carries_reply even n small r found = carries_payload n (inner (message_of unix_response r)) (
-    header_in_range n (inner (message_of unix_response r)) small found.short (omega arith),
+      → Carries (reply_under n r) (Ok (InnerMessage (message_of unix_response r)))
+  carries_reply even n small r found = carries_payload n (InnerMessage (message_of unix_response r)) (
+    header_in_range n (InnerMessage (message_of unix_response r)) small found.short (omega arith),
     found.in_range,
   ) (found.fits, found.short) (refl, inr refl, found.normal) (even r found.in_range)
 
   carries_all : ((v : UnixResponseValue) → (response_codec unix_response_spec).is_in_range v
       → length (response_bytes unix_response_spec v) % 4 ≡ 0)
       → (n : ℕ) → n < 2 ^ 32 → (rs : List UnixResponseValue) → AllByRecursion CanBeSent rs
-      → AllByRecursion (λ r. Carries (reply_under n r) (Ok (inner (message_of unix_response r)))) rs
+      → AllByRecursion (λ r. Carries (reply_under n r) (Ok (InnerMessage (message_of unix_response r)))) rs
   carries_all even n small [] found = tt
   carries_all even n small (r ∷ rs) found =
       (carries_reply even n small r found.0, carries_all even n small rs found.1)
 
-  carries_end : (n : ℕ) → n < 2 ^ 32 → Carries (end_under n) (Ok (done_with (0 ∷ 0 ∷ 0 ∷ 0 ∷ [])))
-  carries_end n small = carries_payload n (done_with (0 ∷ 0 ∷ 0 ∷ 0 ∷ []))
-      (header_in_range n (done_with (0 ∷ 0 ∷ 0 ∷ 0 ∷ [])) small (omega arith) (omega arith), tt)
+  carries_end : (n : ℕ) → n < 2 ^ 32 → Carries (end_under n) (Ok (Done (0 ∷ 0 ∷ 0 ∷ 0 ∷ [])))
+  carries_end n small = carries_payload n (Done (0 ∷ 0 ∷ 0 ∷ 0 ∷ []))
+      (header_in_range n (Done (0 ∷ 0 ∷ 0 ∷ 0 ∷ [])) small (omega arith) (omega arith), tt)
       (tt, omega arith) tt refl
 
 -- ---- the dump
 
 plain_all : (rs : List UnixResponseValue)
     → AllByRecursion (λ item. end_of {A = Message} item ≡ None)
-    (map (λ r. Ok (inner (message_of unix_response r))) rs)
+    (map (λ r. Ok (InnerMessage (message_of unix_response r))) rs)
 plain_all [] = tt
 plain_all (r ∷ rs) = (refl, plain_all rs)
 
 keeps_all : (rs : List UnixResponseValue) → map (message_of unix_response) rs
-    ≡ flat_map kept (map (λ (r : UnixResponseValue). Ok (inner (message_of unix_response r))) rs)
+    ≡ flat_map kept (map (λ (r : UnixResponseValue). Ok (InnerMessage (message_of unix_response r))) rs)
 keeps_all [] = refl
 keeps_all (r ∷ rs) = ap (λ (ms : List Message). message_of unix_response r ∷ ms) (keeps_all rs)
 
@@ -184,21 +185,21 @@ pub whole_dump : ((v : Envelope Message) → (envelope_codec message_codec).is_i
 whole_dump reads_back even concatenation request replies datagram answer found =
     let n = answer.header.sequence_number in
     let small = answer.framed.1.1.1.1.0 in
-    let ends = one_item (end_under n) (Ok (done_with (0 ∷ 0 ∷ 0 ∷ 0 ∷ [])))
+    let ends = one_item (end_under n) (Ok (Done (0 ∷ 0 ∷ 0 ∷ 0 ∷ [])))
     (carries_end reads_back n small) in
-    let items = map (λ (r : UnixResponseValue). Ok (inner (message_of unix_response r))) replies
-    ++ (Ok (done_with (0 ∷ 0 ∷ 0 ∷ 0 ∷ [])) ∷ []) in
+    let items = map (λ (r : UnixResponseValue). Ok (InnerMessage (message_of unix_response r))) replies
+    ++ (Ok (Done (0 ∷ 0 ∷ 0 ∷ 0 ∷ [])) ∷ []) in
     let all = items_of_all concatenation (reply_under n) (λ r.
-    Ok (inner (message_of unix_response r)))
-    (end_under n) (Ok (done_with (0 ∷ 0 ∷ 0 ∷ 0 ∷ [])) ∷ []) replies
+    Ok (InnerMessage (message_of unix_response r)))
+    (end_under n) (Ok (Done (0 ∷ 0 ∷ 0 ∷ 0 ∷ [])) ∷ []) replies
     (carries_all reads_back even n small replies found) ends in
     record {
       dump = (
         items,
         subst (λ (bytes : List ℕ). ItemsAre message_codec bytes items) (sym answer.written) all,
         (
-          map (λ (r : UnixResponseValue). Ok (inner (message_of unix_response r))) replies,
-          Ok (done_with (0 ∷ 0 ∷ 0 ∷ 0 ∷ [])) ∷ [],
+          map (λ (r : UnixResponseValue). Ok (InnerMessage (message_of unix_response r))) replies,
+          Ok (Done (0 ∷ 0 ∷ 0 ∷ 0 ∷ [])) ∷ [],
           refl,
           plain_all replies,
           keeps_all replies,

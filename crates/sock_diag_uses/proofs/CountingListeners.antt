@@ -14,7 +14,7 @@ use Rattle.netlink_core.proofs.Items.{Following, fault_alone, items_begin, items
 use Rattle.netlink_core.proofs.Items.{no_items}
 use Rattle.netlink_core.specs.DatagramWalk.{datagram_left}
 use Rattle.netlink_packet_sock_diag.specs.declared.dump.views.DumpViews.{DumpViews}
-use Rattle.netlink_packet_sock_diag.specs.declared.dump.views.PayloadView.{PayloadView}
+use Rattle.netlink_packet_sock_diag.specs.PayloadViewModel.{PayloadView}
 use Rattle.netlink_packet_sock_diag.specs.Dump.{end_of}
 use Rattle.netlink_packet_sock_diag.specs.DumpWalk.{GivesView}
 use Rattle.netlink_packet_sock_diag.specs.Message.{Message, message_codec}

@@ -5,7 +5,7 @@ ghost use Rattle.std.specs.Iterator.{Drains};
 ghost use Rattle.std.specs.List.{filter_map};
 ghost use Rattle.netlink_core.specs.declared.fault.DecodeError.{DecodeError as Fault};
 ghost use Rattle.netlink_packet_sock_diag.specs.DumpWalk.{GivesView};
-ghost use Rattle.netlink_packet_sock_diag.specs.declared.dump.views.PayloadView.{PayloadView};
+ghost use Rattle.netlink_packet_sock_diag.specs.PayloadViewModel.{PayloadView};
 ghost use Rattle.netlink_packet_sock_diag.specs.MessageViewModel.{message_view_model};
 ghost use Rattle.netlink_packet_sock_diag.specs.PayloadViewModel.{item_view_model};
 ghost use Rattle.sock_diag_uses.specs.Lister.{AreLinesOf, line_of, socket_of};

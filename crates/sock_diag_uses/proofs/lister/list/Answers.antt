@@ -4,7 +4,7 @@ use Rattle.std.specs.Iterator.{Drains}
 use Rattle.std.specs.List.{filter_map}
 use Rattle.netlink_core.specs.Items.{ItemsAre}
 use Rattle.netlink_core.specs.declared.fault.DecodeError.{DecodeError}
-use Rattle.netlink_packet_sock_diag.specs.declared.dump.views.PayloadView.{PayloadView}
+use Rattle.netlink_packet_sock_diag.specs.PayloadViewModel.{PayloadView}
 use Rattle.netlink_packet_sock_diag.specs.DumpWalk.{GivesView}
 use Rattle.netlink_packet_sock_diag.specs.Message.{message_codec}
 use Rattle.netlink_packet_sock_diag.specs.PayloadViewModel.{item_view_model}

@@ -4,10 +4,10 @@ use Rattle.std.proofs.lemmas.Bool.{eq-eqb, ne_eqb}
 use Rattle.std.proofs.lemmas.Result.{err_from_is_err_and}
 use Rattle.netlink_core.specs.Bytes.{IsBytes}
 use Rattle.sock_diag_records.specs.declared.unix.response.UnixResponseHeader.{UnixResponseHeader}
-use Rattle.netlink_packet_sock_diag.specs.declared.dump.views.PayloadView.TheVariants.{Done, Error}
-use Rattle.netlink_packet_sock_diag.specs.declared.dump.views.PayloadView.TheVariants.{Noop}
-use Rattle.netlink_packet_sock_diag.specs.declared.dump.views.PayloadView.TheVariants.{Overrun}
-use Rattle.netlink_packet_sock_diag.specs.declared.dump.views.PayloadView.TheVariants.{InnerMessage}
+use Rattle.netlink_core.specs.declared.message.NetlinkPayload.TheVariants.{Done, Error}
+use Rattle.netlink_core.specs.declared.message.NetlinkPayload.TheVariants.{Noop}
+use Rattle.netlink_core.specs.declared.message.NetlinkPayload.TheVariants.{Overrun}
+use Rattle.netlink_core.specs.declared.message.NetlinkPayload.TheVariants.{InnerMessage}
 use Rattle.netlink_packet_sock_diag.specs.declared.message.SockDiagView.TheVariants.{InetResponse}
 use Rattle.netlink_packet_sock_diag.specs.declared.message.SockDiagView.TheVariants.{UnixResponse}
 use Rattle.netlink_packet_sock_diag.specs.PayloadViewModel.{item_view_model}
