@@ -9,19 +9,20 @@ use Rattle.netlink_core.specs.declared.fault.DecodeError.{DecodeError}
 use Rattle.netlink_core.specs.declared.fault.DecodeError.TheVariants.{Memory}
 use Rattle.netlink_core.specs.declared.header.NetlinkHeader.{NetlinkHeader}
 use Rattle.netlink_core.specs.Header.{HasHeader, IsEnvelopeFault}
-use Rattle.netlink_core.specs.Datagram.{IsMessageString, StartsWithMessage}
+use Rattle.netlink_core.specs.Datagram.{StartsWithMessage}
 use Rattle.netlink_core.specs.declared.message.NetlinkPayload.TheVariants.{InnerMessage}
 use Rattle.netlink_core.specs.Items.{Item, ItemIs, ItemsAre}
 use Rattle.netlink_core.proofs.Datagrams.{no_fault_at_message}
 use Rattle.netlink_core.proofs.Headers.{one_header}
 use Rattle.netlink_core.proofs.Items.{items_of, leading_item, rest_in_range}
 use Rattle.netlink_core.proofs.Items.{fault_alone}
+use Rattle.netlink_core.proofs.Datagrams.{IsOfOwnLength}
 use Rattle.netlink_packet_sock_diag.specs.Dump.{end_of, kept, unended}
 use Rattle.netlink_packet_sock_diag.specs.Feed.{Interrupt, Stops, Takes}
 use Rattle.netlink_packet_sock_diag.proofs.DumpRows.{End, dump_is, first_or_later, reach}
 
 -- no fault stands at the start of a message
-pub no_fault_in_message : (message : List ℕ) (e : DecodeError) → IsMessageString message
+pub no_fault_in_message : (message : List ℕ) (e : DecodeError) → IsOfOwnLength message
     → IsEnvelopeFault message e → ⊥
 no_fault_in_message message e whole f = grind arith
 

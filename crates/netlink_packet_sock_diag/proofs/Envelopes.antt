@@ -3,7 +3,8 @@ use Rattle.std.proofs.Common.{◌≡◌, ◌↔◌, inr, inl, ℕ, Bool, List, [
 use Rattle.std.specs.Prelude.{IsTrue, count_by}
 use Rattle.netlink_core.specs.declared.fault.DecodeError.TheVariants.{UnknownMessageType}
 use Rattle.netlink_core.specs.declared.header.NetlinkHeader.{NetlinkHeader}
-use Rattle.netlink_core.specs.Header.{IsHeaderInRange}
+use Rattle.netlink_core.specs.Table.{Fit}
+use Rattle.netlink_core.specs.Header.{header_fields, header_values}
 use Rattle.netlink_core.specs.Envelope.{Payload, IsInnerType, OfInner, finalized}
 use Rattle.netlink_core.specs.declared.message.NetlinkPayload.TheVariants.{InnerMessage}
 use Rattle.netlink_core.specs.Envelope.{payload_type, envelope_codec}
@@ -29,7 +30,7 @@ sent h m = (envelope_codec message_codec).written (record {
 
 -- no message is read under that type, and so none is where more bytes stand behind it
 pub destroy_is_refused : (h : NetlinkHeader) (m : Message) (rest bytes : List ℕ)
-    → IsHeaderInRange h
+    → Fit header_fields (header_values h)
     → (envelope_codec message_codec).fits (record { header = h; payload = InnerMessage m })
     → bytes ≡ sent h m ++ rest
     → (envelope_codec message_codec).refuses bytes tt (UnknownMessageType 21)
@@ -37,7 +38,7 @@ destroy_is_refused h m rest bytes in_range fits whole =
     let inside = message_codec.written m in
     let own = finalized message_codec.written
     (λ _. 21) (record { header = h; payload = InnerMessage m }) in
-    let own-in_range : IsHeaderInRange own =
+    let own-in_range : Fit header_fields (header_values own) =
     (let short = fits.1 in omega arith, (omega arith, in_range.1.1)) in
     let stands = header_stands own inside rest own-in_range refl in
     let refused : message_codec.refuses inside 21 (UnknownMessageType 21) =

@@ -5,12 +5,13 @@ use Rattle.std.specs.Prelude.{Option, option_map, Some, None, Result, Ok, Err}
 use Rattle.std.specs.List.{AllZip}
 use Rattle.std.proofs.lemmas.List.{append-nil, map-append}
 use Rattle.netlink_core.specs.Codec.{Codec}
-use Rattle.netlink_core.specs.Datagram.{CutIntoMessages, IsMessageString}
+use Rattle.netlink_core.specs.Datagram.{CutIntoMessages}
 use Rattle.netlink_core.specs.declared.fault.DecodeError.{DecodeError}
 use Rattle.netlink_core.specs.declared.message.NetlinkPayload.TheVariants.{Done, Error, Noop}
 use Rattle.netlink_core.specs.declared.message.NetlinkPayload.TheVariants.{Overrun, InnerMessage}
 use Rattle.netlink_core.specs.Header.{IsEnvelopeFault}
 use Rattle.netlink_core.specs.Items.{Item, ItemIs}
+use Rattle.netlink_core.proofs.Datagrams.{IsOfOwnLength}
 use Rattle.netlink_packet_sock_diag.specs.Dump.{DatagramDump, Standing}
 use Rattle.netlink_packet_sock_diag.specs.Lossy.{lossy}
 use Rattle.netlink_packet_sock_diag.proofs.Dumping.{no_fault_in_message}
@@ -43,7 +44,7 @@ module _ {A : Type 0} where
   reach_entries items end before after s e = grind arith
 
 module _ (C : Codec ℕ) where
-  is_entry : (message : List ℕ) (item : Item C.Value) → IsMessageString message
+  is_entry : (message : List ℕ) (item : Item C.Value) → IsOfOwnLength message
       → ItemIs C message item → ItemIs (lossy C) message (as_entry item)
   is_entry message item whole is =
       grind (arith, no_fault_in_message message)

@@ -1,10 +1,10 @@
 -- The messages that a dump keeps of the items of its datagrams, and how it ends.
-use Rattle.std.specs.Prelude.{◌≡◌, ℕ, ℤ, List, [], ◌∷◌, ◌++◌, ⊤, ◌⊎◌, Option, Some, None}
+use Rattle.std.specs.Prelude.{◌≡◌, ◌%◌, length, ℕ, ℤ, List, [], ◌∷◌, ◌++◌, ⊤, ◌⊎◌, Option, Some, None}
 use Rattle.std.specs.Prelude.{MatchOption, Result, Ok, Err, slice_get}
 use Rattle.std.specs.List.{AllByRecursion, AllZip, flat_map}
 use Rattle.netlink_core.specs.declared.fault.DecodeError.{DecodeError}
 use Rattle.netlink_core.specs.Codec.{Codec}
-use Rattle.netlink_core.specs.Datagram.{AreWholeMessages}
+use Rattle.netlink_core.specs.Datagram.{CutIntoMessages}
 use Rattle.netlink_core.specs.declared.message.NetlinkPayload.TheVariants as payload
 use Rattle.netlink_core.specs.Envelope.{leading_number}
 use Rattle.netlink_core.specs.Items.{Item, ItemsAre}
@@ -67,5 +67,5 @@ module _ (C : Codec ℕ) where
 -- each datagram but the last one is whole messages alone, with all padding there
 abbrev pub AreSplit : List (List ℕ) → Type 0
 AreSplit [] = ⊤
-AreSplit (datagram ∷ later) =
-    ((later ≡ []) ⊎ ((messages : List (List ℕ)) × AreWholeMessages datagram messages)) × AreSplit later
+AreSplit (datagram ∷ later) = ((later ≡ []) ⊎ ((messages : List (List ℕ))
+    × CutIntoMessages datagram messages None × (length datagram % 4 ≡ 0))) × AreSplit later

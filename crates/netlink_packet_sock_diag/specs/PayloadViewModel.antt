@@ -1,8 +1,6 @@
 -- The model of what a message carries, where it is read in place: what contracts see of it.
-use Rattle.std.specs.Prelude.{ℕ, List, Result}
+use Rattle.std.specs.Prelude.{ℕ, List}
 use Rattle.std.specs.Borrow.{Bor}
-use Rattle.netlink_core.specs.Faults.{map_ok}
-use Rattle.netlink_core.specs.declared.fault.DecodeError.{DecodeError}
 use Rattle.netlink_core.specs.declared.message.NetlinkPayload.{NetlinkPayload}
 use Rattle.netlink_core.specs.Envelope.{Payload, Envelope}
 use Rattle.netlink_core.specs.EnvelopeModel.{payload_of}
@@ -22,7 +20,3 @@ payload_view_model p = payload_of (λ (b : Bor (List ℕ)). b.now) message_view_
 -- the message, with its header
 abbrev pub envelope_view_model : MessageView → Envelope Message
 envelope_view_model v = record { header = v.header; payload = payload_view_model v.payload }
-
--- the model of an item of a datagram
-abbrev pub item_view_model : Result PayloadView DecodeError → Result (Payload Message) DecodeError
-item_view_model item = map_ok payload_view_model item

@@ -9,11 +9,13 @@ ghost use Rattle.netlink_core.specs.declared.fault.DecodeError.{DecodeError};
 ghost use Rattle.netlink_core.specs.declared.fault.DecodeError.TheVariants.{Memory};
 ghost use Rattle.netlink_core.specs.declared.fault.DecodeError.TheVariants.{UnknownMessageType};
 ghost use Rattle.netlink_core.specs.declared.header.NetlinkHeader.{NetlinkHeader};
-ghost use Rattle.netlink_core.specs.Header.{IsEnvelopeFault, IsHeaderInRange};
+ghost use Rattle.netlink_core.specs.Header.{IsEnvelopeFault, header_fields, header_values};
+ghost use Rattle.netlink_core.specs.Table.{Fit};
 ghost use Rattle.netlink_core.specs.Envelope.{Payload, Envelope, OfInner, finalized};
 ghost use Rattle.netlink_core.specs.Envelope.{envelope_codec};
 ghost use Rattle.netlink_core.specs.declared.message.NetlinkMessage.{NetlinkMessage};
 ghost use Rattle.netlink_core.specs.declared.message.NetlinkPayload.TheVariants.{InnerMessage};
+ghost use Rattle.netlink_core.specs.Faults.{map_ok};
 ghost use Rattle.netlink_core.specs.Items.{ItemsAre};
 ghost use Rattle.netlink_core.specs.EnvelopeModel.{envelope_of};
 ghost use Rattle.netlink_core.specs.Response.{ValueOf, response_bytes, response_codec};
@@ -32,7 +34,6 @@ ghost use Rattle.netlink_packet_sock_diag.specs.PayloadViewModel.{PayloadView};
 ghost use Rattle.netlink_core.specs.DatagramWalk.{datagram_left};
 ghost use Rattle.netlink_packet_sock_diag.specs.DumpWalk.{GivesView};
 ghost use Rattle.netlink_packet_sock_diag.specs.PayloadViewModel.{payload_view_model};
-ghost use Rattle.netlink_packet_sock_diag.specs.PayloadViewModel.{item_view_model};
 ghost use Rattle.sock_diag_replies.specs.UnixResponseSpec.{UnixResponseValue};
 ghost use Rattle.sock_diag_replies.specs.UnixResponseSpec.{unix_response_spec};
 ghost use Rattle.sock_diag_replies.specs.InetResponseSpec.{inet_response_spec};
@@ -98,7 +99,7 @@ pub fn readers_take_memory() -> (bool, bool, bool)
 /// A finalized request to close sockets is refused by its own reader: it is written under a type of
 /// its own, and messages are read under 20 alone.
 pub fn finalized_destroy_is_refused()
-    ensures { (h : NetlinkHeader) (m : Message) → IsHeaderInRange h
+    ensures { (h : NetlinkHeader) (m : Message) → Fit header_fields (header_values h)
         → (envelope_codec message_codec).fits (record { header = h; payload = InnerMessage m })
         → (envelope_codec message_codec).refuses
         ((envelope_codec message_codec).written (record {
@@ -114,7 +115,7 @@ pub fn finalized_destroy_is_refused()
 pub fn finalized_destroy_in_hand_is_refused()
     ensures { (message : NetlinkMessage SockDiagDestroy) (destroy : SockDiagDestroy) (rest : List ℕ)
         → message.payload ≡ InnerMessage destroy
-        → IsHeaderInRange message.header
+        → Fit header_fields (header_values message.header)
         → (envelope_codec message_codec).fits (envelope_of destroy_model message)
         → (envelope_codec message_codec).refuses
         ((envelope_codec message_codec).written (envelope_of destroy_model (record message {
@@ -307,7 +308,7 @@ pub fn lossy_dump_keeps_messages()
 pub fn whole_views_are_the_datagram()
     ensures { (walk : DumpViews) (given : List (Result PayloadView DecodeError))
         → Drains GivesView walk given
-        → ItemsAre message_codec (datagram_left walk.messages) (map item_view_model given) }
+        → ItemsAre message_codec (datagram_left walk.messages) (map (map_ok payload_view_model) given) }
 {}
 
 /// `==` says whether two errors of a dump are the same.

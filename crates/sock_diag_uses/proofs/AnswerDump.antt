@@ -9,13 +9,14 @@ use Rattle.byteorder.specs.Numbers.{little_number-reads_back}
 use Rattle.netlink_core.specs.Attribute.{fill}
 use Rattle.netlink_core.specs.declared.fault.DecodeError.{DecodeError}
 use Rattle.netlink_core.specs.declared.header.NetlinkHeader.{NetlinkHeader}
-use Rattle.netlink_core.specs.Header.{IsHeaderInRange}
-use Rattle.netlink_core.specs.Datagram.{AreWholeMessages, CutIntoMessages, IsMessageString}
-use Rattle.netlink_core.specs.Datagram.{StartsWithMessage}
+use Rattle.netlink_core.specs.Table.{Fit}
+use Rattle.netlink_core.specs.Header.{header_fields, header_values}
+use Rattle.netlink_core.specs.Datagram.{CutIntoMessages, StartsWithMessage}
 use Rattle.netlink_core.specs.Envelope.{Envelope, Payload, finalized, OfInner}
 use Rattle.netlink_core.specs.declared.message.NetlinkPayload.TheVariants.{Done, InnerMessage}
 use Rattle.netlink_core.specs.Envelope.{payload_bytes, payload_type, envelope_codec}
-use Rattle.netlink_core.specs.Items.{ItemIs, ItemsAre}
+use Rattle.netlink_core.proofs.Datagrams.{IsOfOwnLength}
+use Rattle.netlink_core.specs.Items.{Item, ItemIs, ItemsAre}
 use Rattle.netlink_core.specs.Response.{response_bytes, response_codec}
 use Rattle.netlink_packet_sock_diag.specs.Dump.{end_of, kept}
 use Rattle.netlink_packet_sock_diag.specs.Message.{Message, message_of, message_codec}
@@ -31,13 +32,13 @@ no_fill message even = rw even refl
 -- ---- messages one after the other
 
 -- a message that is carried whole
-pub record Carries (message : List ℕ) (item : Result (Payload Message) DecodeError) : Type 0 where
-  pub whole : IsMessageString message
+pub record Carries (message : List ℕ) (item : Item Message) : Type 0 where
+  pub whole : IsOfOwnLength message
   pub even : length message % 4 ≡ 0
   pub is : ItemIs message_codec message item
 
 -- it is cut into itself alone
-alone : (message : List ℕ) → IsMessageString message → length message % 4 ≡ 0
+alone : (message : List ℕ) → IsOfOwnLength message → length message % 4 ≡ 0
     → CutIntoMessages message (message ∷ []) None
 alone message whole even =
     let starts : StartsWithMessage message message [] =
@@ -50,18 +51,18 @@ alone message whole even =
     ([], starts, refl)
 
 -- it has its item alone
-pub one_item : (message : List ℕ) (item : Result (Payload Message) DecodeError)
+pub one_item : (message : List ℕ) (item : Item Message)
     → Carries message item → ItemsAre message_codec message (item ∷ [])
 one_item message item c =
     (message ∷ [], None, item ∷ [], alone message c.whole c.even, (c.is, tt), refl)
 
 -- and those of messages stand in a row
 pub items_of_all : ((front back : List ℕ) (messages : List (List ℕ))
-    (xs ys : List (Result (Payload Message) DecodeError)) → AreWholeMessages front messages
+    (xs ys : List (Item Message)) → CutIntoMessages front messages None × (length front % 4 ≡ 0)
     → ItemsAre message_codec front xs → ItemsAre message_codec back ys
     → ItemsAre message_codec (front ++ back) (xs ++ ys))
-    → {A : Type 0} (bytes : A → List ℕ) (item : A → Result (Payload Message) DecodeError)
-    (last : List ℕ) (ends : List (Result (Payload Message) DecodeError))
+    → {A : Type 0} (bytes : A → List ℕ) (item : A → Item Message)
+    (last : List ℕ) (ends : List (Item Message))
     → (xs : List A) → AllByRecursion (λ x. Carries (bytes x) (item x)) xs
     → ItemsAre message_codec last ends
     → ItemsAre message_codec (flat_map bytes xs ++ last) (map item xs ++ ends)
@@ -88,14 +89,15 @@ envelope_under n payload = record { header = header_under n payload; payload = p
 
 header_in_range : (n : ℕ) (payload : Payload Message) → n < 2 ^ 32
     → 16 + length (payload_bytes message_codec.written payload) ≤ 4294967295
-    → payload_type (λ _. 20) payload < 2 ^ 16 → IsHeaderInRange (header_under n payload)
+    → payload_type (λ _. 20) payload < 2 ^ 16
+    → Fit header_fields (header_values (header_under n payload))
 header_in_range n carried small short kind =
     (omega arith, (kind, (omega arith, (small, (omega arith, tt)))))
 
 -- it is as long as its length word says
 whole_message : (n : ℕ) (payload : Payload Message)
     → 16 + length (payload_bytes message_codec.written payload) ≤ 4294967295
-    → IsMessageString (message_under n payload)
+    → IsOfOwnLength (message_under n payload)
 unfolding message_under
 whole_message n payload short =
     let size = 16 + length (payload_bytes message_codec.written payload) in
@@ -176,7 +178,7 @@ pub whole_dump : ((v : Envelope Message) → (envelope_codec message_codec).is_i
     → length (response_bytes unix_response_spec v) % 4
     ≡ 0)
     → ((front back : List ℕ) (messages : List (List ℕ))
-    (xs ys : List (Result (Payload Message) DecodeError)) → AreWholeMessages front messages
+    (xs ys : List (Item Message)) → CutIntoMessages front messages None × (length front % 4 ≡ 0)
     → ItemsAre message_codec front xs → ItemsAre message_codec back ys
     → ItemsAre message_codec (front ++ back) (xs ++ ys))
     → (request : List ℕ) (replies : List UnixResponseValue) (datagram : List ℕ)

@@ -3,9 +3,9 @@
 ghost use Rattle.std.specs.Prelude.{◌≡◌, ◌↔◌, length, IfOk, IfErr, IsTrue, SomeIff};
 ghost use Rattle.netlink_core.specs.Envelope.{IsInnerType, OfInner, PayloadIs, envelope_codec};
 ghost use Rattle.netlink_core.specs.Envelope.{payload_bytes};
+ghost use Rattle.netlink_core.specs.Faults.{map_ok};
 ghost use Rattle.netlink_core.specs.Items.{ItemIs};
 ghost use Rattle.netlink_packet_sock_diag.specs.Message.{message_codec};
-ghost use Rattle.netlink_packet_sock_diag.specs.PayloadViewModel.{item_view_model};
 ghost use Rattle.netlink_packet_sock_diag.specs.PayloadViewModel.{payload_view_model};
 
 use crate::message::SockDiagView;
@@ -94,7 +94,7 @@ impl<'a> MessageView<'a> {
 // What the message in these bytes carries, or the first fault.
 #[inline(always)]
 fn carried<'a>(message: &'a [u8]) -> Result<PayloadView<'a>, DecodeError>
-    ensures { ItemIs message_codec message.entry.now (item_view_model result) }
+    ensures { ItemIs message_codec message.entry.now (map_ok payload_view_model result) }
 {
     match MessageView::parse(message) {
         Ok(view) => Ok(view.payload),
