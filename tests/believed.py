@@ -138,7 +138,7 @@ class Item:
 
 class Module:
     """A module of specs/ or proofs/: its items, and what names stand for in it."""
-    START = re.compile(rf"(?:(abbrev|unfoldable) )?(?:pub )?({WORD})(?: {{ℓ}})? :|(?:pub )?(record|data|module) ({WORD})")
+    START = re.compile(rf"(?:(abbrev|unfoldable) )?(?:pub )?({WORD})(?: \{{\w+\}})? :|(?:pub )?(record|data|module) ({WORD})")
 
     def __init__(self, path, full_name):
         text = path.read_text(encoding="utf-8")

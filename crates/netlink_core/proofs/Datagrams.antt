@@ -1,7 +1,7 @@
 -- A message at the start of bytes, and messages one after the other.
 use Rattle.std.proofs.Common.{◌≡◌, ℕ, ◌+◌, ◌%◌, ◌<◌, ◌≤◌, List, [], ◌∷◌, ◌++◌}
 use Rattle.std.proofs.Common.{length, take, drop, sym, ap, ◌∙◌, append_assoc, arith}
-use Rattle.std.specs.Prelude.{Option}
+use Rattle.std.specs.Prelude.{Option, None}
 use Rattle.std.proofs.lemmas.List.{take-append-drop, drop-drop}
 use Rattle.std.proofs.lemmas.List.{length-take, length-append}
 use Rattle.byteorder.specs.Endian.{little_number}
@@ -9,7 +9,7 @@ use Rattle.netlink_core.specs.declared.header.NetlinkHeader.{NetlinkHeader}
 use Rattle.netlink_core.specs.declared.fault.DecodeError.{DecodeError}
 use Rattle.netlink_core.specs.Attribute.{fill}
 use Rattle.netlink_core.specs.Header.{HasHeader, IsEnvelopeFault}
-use Rattle.netlink_core.specs.Datagram.{StartsWithMessage, CutIntoMessages, AreWholeMessages}
+use Rattle.netlink_core.specs.Datagram.{StartsWithMessage, CutIntoMessages}
 use Rattle.netlink_core.specs.PrefixLaws.{same_parts}
 use Rattle.byteorder.specs.Numbers.{little_from-append}
 use Rattle.netlink_core.proofs.Padding.{padding_there}
@@ -18,6 +18,10 @@ use Rattle.netlink_core.proofs.Framing.{one_framing_fault}
 use Rattle.netlink_core.proofs.Headers.{header_length}
 
 -- ---- one message
+
+-- a message is as long as its own length word says
+abbrev pub IsOfOwnLength : List ℕ → Type 0
+IsOfOwnLength message = (16 ≤ length message) × (little_number 4 message ≡ length message)
 
 -- the message is as long as the header says, and behind it come the padding and the rest, as much
 -- of either as there is
@@ -80,7 +84,7 @@ starts_in_concatenation front back message rest s even =
 -- what whole messages and then more bytes are cut into
 pub messages_of_concatenation : (front back : List ℕ) (xs ys : List (List ℕ))
     (end : Option DecodeError)
-    → AreWholeMessages front xs → CutIntoMessages back ys end
+    → CutIntoMessages front xs None × (length front % 4 ≡ 0) → CutIntoMessages back ys end
     → CutIntoMessages (front ++ back) (xs ++ ys) end
 messages_of_concatenation front back [] ys end h k = rw h.0 k
 messages_of_concatenation front back (x ∷ xs) ys end h k =

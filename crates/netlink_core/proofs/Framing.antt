@@ -6,8 +6,9 @@ use Rattle.netlink_core.specs.declared.fault.DecodeError.TheVariants.{Memory}
 use Rattle.netlink_core.specs.declared.header.NetlinkHeader.{NetlinkHeader}
 use Rattle.netlink_core.specs.Bytes.{IsBytes}
 use Rattle.netlink_core.specs.Header.{HasHeader, IsEnvelopeFault}
-use Rattle.netlink_core.specs.Envelope.{Payload, done_with, error_with, no_payload, overrun_with}
-use Rattle.netlink_core.specs.Envelope.{inner, Envelope, IsInnerType, PayloadIs}
+use Rattle.netlink_core.specs.declared.message.NetlinkPayload.TheVariants.{Done, Error, Noop}
+use Rattle.netlink_core.specs.declared.message.NetlinkPayload.TheVariants.{Overrun, InnerMessage}
+use Rattle.netlink_core.specs.Envelope.{Payload, Envelope, IsInnerType, PayloadIs}
 use Rattle.netlink_core.specs.Envelope.{envelope_codec}
 use Rattle.netlink_core.specs.Codec.{Codec}
 use Rattle.netlink_core.proofs.TableLaws.{AreBytes-drop}
@@ -47,11 +48,11 @@ module _ (C : Codec ℕ) where
       → ((m : C.Value) × C.reads x t m) ⊎ ((e : DecodeError) × C.refuses x t e)
       → ((p : Payload C.Value) × PayloadIs C.reads x t p)
       ⊎ ((e : DecodeError) × (IsInnerType t × C.refuses x t e))
-  payload_or_fault x (suc zero) law = inl (no_payload, refl)
-  payload_or_fault x (suc (suc zero)) law = inl (error_with x, (refl, refl))
-  payload_or_fault x (suc (suc (suc zero))) law = inl (done_with x, (refl, refl))
-  payload_or_fault x (suc (suc (suc (suc zero)))) law = inl (overrun_with x, (refl, refl))
-  payload_or_fault x t (inl m) = inl (inner m.0, (grind arith, m.1))
+  payload_or_fault x (suc zero) law = inl (Noop, refl)
+  payload_or_fault x (suc (suc zero)) law = inl (Error x, (refl, refl))
+  payload_or_fault x (suc (suc (suc zero))) law = inl (Done x, (refl, refl))
+  payload_or_fault x (suc (suc (suc (suc zero)))) law = inl (Overrun x, (refl, refl))
+  payload_or_fault x t (inl m) = inl (InnerMessage m.0, (grind arith, m.1))
   payload_or_fault x t (inr f) = inr (f.0, (grind arith, f.1))
 
   -- a message or a fault

@@ -11,8 +11,8 @@ use Rattle.netlink_core.specs.declared.fault.DecodeError.TheVariants.{EnvelopeCu
 use Rattle.netlink_core.specs.declared.fault.DecodeError.TheVariants.{EnvelopeLengthUnder16}
 use Rattle.netlink_core.specs.declared.fault.DecodeError.TheVariants.{EnvelopeLengthPast}
 use Rattle.netlink_core.specs.Bytes.{IsBytes}
-use Rattle.netlink_core.specs.Table.{values_of}
-use Rattle.netlink_core.specs.Header.{header_fields, header_values, header_bytes, IsHeaderInRange}
+use Rattle.netlink_core.specs.Table.{Fit, values_of}
+use Rattle.netlink_core.specs.Header.{header_fields, header_values, header_bytes}
 use Rattle.netlink_core.specs.Header.{HasHeader, IsEnvelopeFault}
 use Rattle.netlink_core.proofs.Numbers.{masked-all}
 use Rattle.netlink_core.proofs.TableLaws.{IsTable, table_from_test, values-bytes_of, values-fit}
@@ -85,19 +85,19 @@ same_leading_header b c h k tb tc head other =
     )
 
 -- written, the fields are read again, whatever follows
-values_back : (h : NetlinkHeader) (rest : List ℕ) → IsHeaderInRange h
+values_back : (h : NetlinkHeader) (rest : List ℕ) → Fit header_fields (header_values h)
     → values_of header_fields (header_bytes h ++ rest) ≡ header_values h
 values_back h rest in_range =
     grind (arith, values-bytes_of, header_table)
 
 -- so headers in range are known by their bytes
-pub known_by_bytes : (h k : NetlinkHeader) → IsHeaderInRange h → IsHeaderInRange k
-    → header_bytes h ≡ header_bytes k → h ≡ k
+pub known_by_bytes : (h k : NetlinkHeader) → Fit header_fields (header_values h)
+    → Fit header_fields (header_values k) → header_bytes h ≡ header_bytes k → h ≡ k
 known_by_bytes h k th tk e = same_header h k (cc (values_back h [] th, values_back k [] tk))
 
 -- in front of its payload and more bytes a header stands, and behind it its payload
-pub header_stands : (h : NetlinkHeader) (payload rest : List ℕ) → IsHeaderInRange h
-    → h.length ≡ 16 + length payload
+pub header_stands : (h : NetlinkHeader) (payload rest : List ℕ)
+    → Fit header_fields (header_values h) → h.length ≡ 16 + length payload
     → HasHeader (header_bytes h ++ (payload ++ rest)) h
     × (take (h.length - 16) (drop 16 (header_bytes h ++ (payload ++ rest))) ≡ payload)
 header_stands h payload rest in_range size =

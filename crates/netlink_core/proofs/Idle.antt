@@ -1,14 +1,15 @@
 -- Messages are equal exactly where their bytes are idle, and read back as themselves exactly where
 -- they are in normal form.
 use Rattle.std.proofs.lemmas.Grind.{common_steps}
-use Rattle.std.proofs.Common.{◌≡◌, ◌↔◌, ℕ, List, take}
+use Rattle.std.proofs.Common.{◌≡◌, ◌↔◌, ◌⊎◌, ◌≤◌, ℕ, List, take}
 use Rattle.std.proofs.Common.{ap, arith}
 use Rattle.std.proofs.lemmas.List.{append-nil}
 use Rattle.netlink_core.specs.Bytes.{IsBytes}
-use Rattle.netlink_core.specs.Header.{IsHeaderInRange}
+use Rattle.netlink_core.specs.Table.{Fit}
+use Rattle.netlink_core.specs.Header.{header_fields, header_values}
 use Rattle.netlink_core.specs.Envelope.{Payload}
 use Rattle.netlink_core.specs.Envelope.{Envelope, IsInnerType, PayloadIs, payload_bytes}
-use Rattle.netlink_core.specs.Envelope.{payload_type, OfInner, finalized, IdlePayloads}
+use Rattle.netlink_core.specs.Envelope.{payload_type, OfInner, finalized}
 use Rattle.netlink_core.specs.Envelope.{envelope_codec}
 use Rattle.netlink_core.specs.Codec.{Codec}
 use Rattle.netlink_core.proofs.Headers.{header_length, header_stands, header_type, known_by_bytes}
@@ -20,7 +21,7 @@ module _ {A : Type 0} (reads : List ℕ → ℕ → A → Type 0) where
   payloads_idle : (idle : ℕ → List ℕ → List ℕ → Type 0) (t : ℕ) (x y : List ℕ)
       → ((v w : A) → reads x t v → reads y t w → ((v ≡ w) ↔ idle t x y))
       → (p q : Payload A) → PayloadIs reads x t p → PayloadIs reads y t q
-      → ((p ≡ q) ↔ IdlePayloads idle t x y)
+      → ((p ≡ q) ↔ ((t ≡ 1) ⊎ (((2 ≤ t) × (t ≤ 4) × (x ≡ y)) ⊎ (IsInnerType t × idle t x y))))
   payloads_idle idle t x y law p q h k =
       grind (arith, law)
 
@@ -75,7 +76,8 @@ module _ (C : Codec ℕ) where
   payload_itself type_of t p e law = grind arith
 
   -- the bytes of a finalized message read back as it exactly where it is in normal form
-  pub reads_back_exactly : (type_of : C.Value → ℕ) (v : Envelope C.Value) → IsHeaderInRange v.header
+  pub reads_back_exactly : (type_of : C.Value → ℕ) (v : Envelope C.Value)
+      → Fit header_fields (header_values v.header)
       → v.header ≡ finalized C.written type_of v
       → OfInner (λ m. C.reads (C.written m) v.header.message_type m
       ↔ C.is_normal v.header.message_type m) v.payload

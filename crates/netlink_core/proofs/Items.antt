@@ -1,7 +1,7 @@
 -- The items of a datagram, one after the other.
 use Rattle.std.proofs.Common.{arith}
-use Rattle.std.proofs.Common.{◌≡◌, ◌≢◌, ℕ, ◌+◌, ◌⊎◌, inl, inr, List, [], ◌∷◌, ◌++◌}
-use Rattle.std.proofs.Common.{refl, ap, append_assoc}
+use Rattle.std.proofs.Common.{◌≡◌, ◌≢◌, ℕ, ◌+◌, ◌%◌, ◌⊎◌, inl, inr, List, [], ◌∷◌, ◌++◌}
+use Rattle.std.proofs.Common.{refl, ap, append_assoc, length}
 use Rattle.std.specs.Option.{option_to_list}
 use Rattle.std.specs.Prelude.{option_map, Option, Some, None, Ok, Err}
 use Rattle.std.specs.List.{AllZip}
@@ -11,7 +11,7 @@ use Rattle.netlink_core.specs.ByteLaws.{IsBytes-left, IsBytes-right}
 use Rattle.netlink_core.specs.Attribute.{fill}
 use Rattle.netlink_core.specs.declared.fault.DecodeError.{DecodeError}
 use Rattle.netlink_core.specs.Header.{IsEnvelopeFault}
-use Rattle.netlink_core.specs.Datagram.{StartsWithMessage, CutIntoMessages, AreWholeMessages}
+use Rattle.netlink_core.specs.Datagram.{StartsWithMessage, CutIntoMessages}
 use Rattle.netlink_core.specs.Codec.{Codec}
 use Rattle.netlink_core.specs.Envelope.{Envelope, envelope_codec}
 use Rattle.netlink_core.specs.Items.{Item, ItemIs, ItemsAre}
@@ -64,14 +64,16 @@ module _ (C : Codec ℕ) where
 
   -- whole messages have the items of the messages alone
   pub whole_items : (bytes : List ℕ) (messages : List (List ℕ))
-      (items : List (Item C.Value)) → AreWholeMessages bytes messages
+      (items : List (Item C.Value))
+      → CutIntoMessages bytes messages None × (length bytes % 4 ≡ 0)
       → ItemsAre C bytes items → AllZip (ItemIs C) messages items
   whole_items bytes messages items whole a =
       grind (arith, one_cut_into_messages bytes a.0 messages a.1, append-nil a.2)
 
   -- whole messages and then more bytes have the items of the one and then of the other
   pub items_of_concatenation : (front back : List ℕ) (messages : List (List ℕ))
-      (xs ys : List (Item C.Value)) → AreWholeMessages front messages
+      (xs ys : List (Item C.Value))
+      → CutIntoMessages front messages None × (length front % 4 ≡ 0)
       → ItemsAre C front xs → ItemsAre C back ys → ItemsAre C (front ++ back) (xs ++ ys)
   items_of_concatenation front back messages xs ys whole a b =
       grind (

@@ -1,19 +1,19 @@
 -- The model of a message: what contracts see of it.
+use Rattle.std.specs.Prelude.{ℕ, List, vec_items}
 use Rattle.netlink_core.specs.declared.message.NetlinkPayload.{NetlinkPayload}
 use Rattle.netlink_core.specs.declared.message.NetlinkPayload.TheVariants.{Done, Error, Noop}
 use Rattle.netlink_core.specs.declared.message.NetlinkPayload.TheVariants.{Overrun, InnerMessage}
 use Rattle.netlink_core.specs.declared.message.NetlinkMessage.{NetlinkMessage}
-use Rattle.netlink_core.specs.Envelope.{Payload, done_with, error_with, no_payload, overrun_with}
-use Rattle.netlink_core.specs.Envelope.{inner, Envelope}
+use Rattle.netlink_core.specs.Envelope.{Payload, Envelope}
 
--- what a message carries, by the model of an inner message
-abbrev pub payload_of : {I A : Type 0} → (I → A) → NetlinkPayload I → Payload A
-payload_of model (Done bytes) = done_with bytes.items
-payload_of model (Error bytes) = error_with bytes.items
-payload_of model Noop = no_payload
-payload_of model (Overrun bytes) = overrun_with bytes.items
-payload_of model (InnerMessage message) = inner (model message)
+-- what a message carries, by what holds its bytes and by the model of an inner message
+abbrev pub payload_of : {I B A : Type 0} → (B → List ℕ) → (I → A) → NetlinkPayload I B → Payload A
+payload_of bytes model (Done held) = Done (bytes held)
+payload_of bytes model (Error held) = Error (bytes held)
+payload_of bytes model Noop = Noop
+payload_of bytes model (Overrun held) = Overrun (bytes held)
+payload_of bytes model (InnerMessage message) = InnerMessage (model message)
 
 -- a message, by the model of an inner one
 abbrev pub envelope_of : {I A : Type 0} → (I → A) → NetlinkMessage I → Envelope A
-envelope_of model m = record { header = m.header; payload = payload_of model m.payload }
+envelope_of model m = record { header = m.header; payload = payload_of vec_items model m.payload }

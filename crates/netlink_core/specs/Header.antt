@@ -17,18 +17,15 @@ header_fields = number 0 4 ∷ (row number 4 2 2 ++ row number 8 4 2)
 abbrev pub header_values : NetlinkHeader → List ℕ
 header_values h = h.length ∷ h.message_type ∷ h.flags ∷ h.sequence_number ∷ h.port_number ∷ []
 
--- each field is within its type
-abbrev pub IsHeaderInRange : NetlinkHeader → Type 0
-IsHeaderInRange h = Fit header_fields (header_values h)
-
 -- the bytes of the five fields
 abbrev pub header_bytes : NetlinkHeader → List ℕ
 header_bytes h = bytes_of header_fields (header_values h)
 
--- the header stands at the start, and its length counts itself and bytes that are there
+-- the header stands at the start, each field within its type, and its length counts itself and
+-- bytes that are there
 abbrev pub HasHeader : List ℕ → NetlinkHeader → Type 0
-HasHeader bytes h = (values_of header_fields bytes ≡ header_values h) × IsHeaderInRange h
-    × (16 ≤ h.length) × (h.length ≤ length bytes)
+HasHeader bytes h = (values_of header_fields bytes ≡ header_values h)
+    × Fit header_fields (header_values h) × (16 ≤ h.length) × (h.length ≤ length bytes)
 
 -- No message stands at the start of the bytes, and why. Of several faults it is the first.
 abbrev pub IsEnvelopeFault : List ℕ → DecodeError → Type 0

@@ -1,5 +1,5 @@
 -- What the messages of a datagram carry, and the faults among them.
-use Rattle.std.specs.Prelude.{◌≡◌, ℕ, List, ◌++◌, Option, option_map, Result, Ok, Err}
+use Rattle.std.specs.Prelude.{◌≡◌, ℕ, List, ◌++◌, Option, option_map, Result, Err, MatchResult}
 use Rattle.std.specs.Option.{option_to_list}
 use Rattle.std.specs.List.{AllZip}
 use Rattle.netlink_core.specs.declared.fault.DecodeError.{DecodeError}
@@ -16,9 +16,8 @@ Item A = Result (Payload A) DecodeError
 module _ (C : Codec ℕ) where
   -- a message as what it carries, or as its fault
   abbrev pub ItemIs : List ℕ → Item C.Value → Type 0
-  ItemIs message (Ok payload) =
-      (h : NetlinkHeader) × (envelope_codec C).reads message tt (record { header = h; payload = payload })
-  ItemIs message (Err e) = (envelope_codec C).refuses message tt e
+  ItemIs m item = MatchResult item (λ p. (h : NetlinkHeader) × (envelope_codec C).reads m tt
+      (record { header = h; payload = p })) ((envelope_codec C).refuses m tt)
 
   -- the messages of a datagram in order, and last the fault of what stands behind them, if there is
   -- one

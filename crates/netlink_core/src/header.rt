@@ -1,8 +1,9 @@
 //! The header of a netlink message.
 
 ghost use Rattle.std.specs.Prelude.{◌≡◌, length, MatchResult};
-ghost use Rattle.netlink_core.specs.Header.{HasHeader, IsEnvelopeFault, IsHeaderInRange};
-ghost use Rattle.netlink_core.specs.Header.{header_bytes};
+ghost use Rattle.netlink_core.specs.Header.{HasHeader, IsEnvelopeFault, header_fields};
+ghost use Rattle.netlink_core.specs.Header.{header_bytes, header_values};
+ghost use Rattle.netlink_core.specs.Table.{Fit};
 
 use crate::fault::DecodeError;
 use byteorder::{ByteOrder, LittleEndian};
@@ -61,7 +62,7 @@ impl NetlinkHeader {
 
     /// Tells the prover that its numbers are within their types. It does nothing.
     pub fn in_range(&self)
-        ensures { IsHeaderInRange self.now }
+        ensures { Fit header_fields (header_values self.now) }
     {
         let NetlinkHeader {
             length: _length,

@@ -1,9 +1,9 @@
 //! Laws of the framing of attributes and of messages. The functions do nothing: their contracts are
 //! the laws.
 
-ghost use Rattle.std.specs.Prelude.{◌≡◌, ◌↔◌, ◌⊎◌, ◌<◌, ◌++◌, ℕ, List, [], ◌∷◌, length, map};
+ghost use Rattle.std.specs.Prelude.{◌≡◌, ◌↔◌, ◌⊎◌, ◌%◌, ◌<◌, ◌++◌, ℕ, List, [], ◌∷◌, length, map};
 ghost use Rattle.std.specs.Prelude.{Option, Some, None, Result, Ok, Err, IsTrue, IfOk, IsOk, true};
-ghost use Rattle.std.specs.Prelude.{false};
+ghost use Rattle.std.specs.Prelude.{false, vec_items};
 ghost use Rattle.std.specs.Borrow.{Bor};
 ghost use Rattle.std.specs.Iterator.{Drains, YieldsThen};
 ghost use Rattle.std.specs.List.{AllByRecursion, flat_map};
@@ -12,7 +12,7 @@ ghost use Rattle.netlink_core.specs.Attribute.{IsFramingFault, fill, unpadded, w
 ghost use Rattle.netlink_core.specs.Layout.{read, StandsIn};
 ghost use Rattle.netlink_core.specs.Bytes.{IsBytes};
 ghost use Rattle.netlink_core.specs.Walk.{attribute_of, bytes_left, GivesAttribute};
-ghost use Rattle.netlink_core.specs.Datagram.{CutIntoMessages, AreWholeMessages};
+ghost use Rattle.netlink_core.specs.Datagram.{CutIntoMessages};
 ghost use Rattle.netlink_core.specs.DatagramWalk.{datagram_left, GivesMessage};
 ghost use Rattle.netlink_core.specs.Items.{ItemsAre};
 ghost use Rattle.netlink_core.specs.EnvelopeModel.{envelope_of, payload_of};
@@ -153,7 +153,7 @@ pub fn equal_messages<I: Coded>(v: &NetlinkMessage<I>, w: &NetlinkMessage<I>) ->
 
 /// `==` says whether two payloads carry the same.
 pub fn equal_payloads<I: Coded>(v: &NetlinkPayload<I>, w: &NetlinkPayload<I>) -> bool
-    ensures { IsTrue result ↔ (payload_of I.model v.now ≡ payload_of I.model w.now) }
+    ensures { IsTrue result ↔ (payload_of vec_items I.model v.now ≡ payload_of vec_items I.model w.now) }
 {
     v == w
 }
@@ -284,7 +284,7 @@ pub fn one_list_of_items<I: Coded<Param = u16>>()
 pub fn items_of_concatenation<I: Coded<Param = u16>>()
     ensures { (front back : List ℕ) (messages : List (List ℕ))
         (xs ys : List (Result (Payload I.codec.Value) DecodeError))
-        → AreWholeMessages front messages
+        → CutIntoMessages front messages None × (length front % 4 ≡ 0)
         → ItemsAre I.codec front xs → ItemsAre I.codec back ys
         → ItemsAre I.codec (front ++ back) (xs ++ ys) }
 {}

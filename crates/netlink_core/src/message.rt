@@ -1,7 +1,8 @@
 //! Netlink messages: a header, and what it frames.
 
 ghost use Rattle.std.specs.Prelude.{◌≡◌, ◌≢◌, ◌≤◌, ◌<◌, ◌++◌, ◌↔◌, length, drop, IfOk, IfErr};
-ghost use Rattle.std.specs.Prelude.{IsTrue};
+ghost use Rattle.std.specs.Prelude.{IsTrue, List, ℕ, vec_items};
+ghost use Rattle.std.specs.Borrow.{Bor};
 ghost use Rattle.byteorder.specs.Endian.{little_number};
 ghost use Rattle.netlink_core.specs.declared.fault.DecodeError.TheVariants.{Memory};
 ghost use Rattle.netlink_core.specs.Envelope.{Payload, Envelope, leading_number, error_number_of};
@@ -78,17 +79,18 @@ pub trait NetlinkDeserializable: Coded<Param = u16> {
             × Self.codec.reads payload.now header.now.message_type m) };
 }
 
-/// What a message carries, by its type.
-#[derive(Debug, Drop, PartialEq, Eq)]
-pub enum NetlinkPayload<I> {
+/// What a message carries, by its type. One that is read in place borrows its bytes: then `B` is
+/// `&[u8]`.
+#[derive(Clone, Copy, Debug, Drop, PartialEq, Eq)]
+pub enum NetlinkPayload<I, B = Vec<u8>> {
     /// A dump ends. The bytes are kept as they came.
-    Done(Vec<u8>),
+    Done(B),
     /// A request failed, or is acknowledged. The bytes are kept as they came.
-    Error(Vec<u8>),
+    Error(B),
     /// Nothing.
     Noop,
     /// Data was lost. The bytes are kept as they came.
-    Overrun(Vec<u8>),
+    Overrun(B),
     /// A message of the protocol.
     InnerMessage(I),
 }
@@ -109,7 +111,21 @@ impl<I: Coded> NetlinkPayload<I> {
     /// The number that an error or an end tells, as [`error_number`] reads it, and `None` of any
     /// other payload.
     pub fn error_number(&self) -> Option<i32>
-        ensures { result ≡ error_number_of (payload_of I.model self.now) }
+        ensures { result ≡ error_number_of (payload_of vec_items I.model self.now) }
+    {
+        match self {
+            NetlinkPayload::Done(bytes) | NetlinkPayload::Error(bytes) => error_number(bytes),
+            _ => None,
+        }
+    }
+}
+
+impl<I> NetlinkPayload<I, &[u8]> {
+    /// The number that an error or an end tells, as [`error_number`] reads it, and `None` of any
+    /// other payload.
+    pub fn error_number(&self) -> Option<i32>
+        ensures { result ≡ error_number_of (payload_of (λ (b : Bor (List ℕ)). b.now) (λ m. m)
+            self.now) }
     {
         match self {
             NetlinkPayload::Done(bytes) | NetlinkPayload::Error(bytes) => error_number(bytes),
@@ -122,7 +138,7 @@ impl<I: NetlinkSerializable> NetlinkPayload<I> {
     /// The type that the message's header is to tell: `NLMSG_DONE`, `NLMSG_ERROR`, `NLMSG_NOOP`,
     /// `NLMSG_OVERRUN`, or that of the inner message.
     pub fn message_type(&self) -> u16
-        ensures { result ≡ payload_type I.type_written (payload_of I.model self.now) }
+        ensures { result ≡ payload_type I.type_written (payload_of vec_items I.model self.now) }
     {
         match self {
             NetlinkPayload::Done(_) => NLMSG_DONE,
@@ -135,7 +151,7 @@ impl<I: NetlinkSerializable> NetlinkPayload<I> {
 
     // Whether an inner message, if there is one, can be written.
     fn is_writable(&self) -> bool
-        ensures { IsTrue result ↔ OfInner I.codec.fits (payload_of I.model self.now) }
+        ensures { IsTrue result ↔ OfInner I.codec.fits (payload_of vec_items I.model self.now) }
     {
         match self {
             NetlinkPayload::InnerMessage(message) => message.is_writable(),
@@ -145,8 +161,8 @@ impl<I: NetlinkSerializable> NetlinkPayload<I> {
 
     // How many bytes the payload is written as.
     fn buffer_len(&self) -> usize
-        requires { OfInner I.codec.fits (payload_of I.model self.now) }
-        ensures { result ≡ length (payload_bytes I.codec.written (payload_of I.model self.now)) }
+        requires { OfInner I.codec.fits (payload_of vec_items I.model self.now) }
+        ensures { result ≡ length (payload_bytes I.codec.written (payload_of vec_items I.model self.now)) }
     {
         match self {
             NetlinkPayload::Done(bytes)
@@ -159,11 +175,11 @@ impl<I: NetlinkSerializable> NetlinkPayload<I> {
 
     // Writes the payload at the start of the buffer, and leaves the rest.
     fn serialize(&self, buffer: &mut [u8])
-        requires writable { OfInner I.codec.fits (payload_of I.model self.now) }
-        requires room { length (payload_bytes I.codec.written (payload_of I.model self.now))
+        requires writable { OfInner I.codec.fits (payload_of vec_items I.model self.now) }
+        requires room { length (payload_bytes I.codec.written (payload_of vec_items I.model self.now))
             ≤ length buffer.old }
-        ensures { buffer.new ≡ payload_bytes I.codec.written (payload_of I.model self.now)
-            ++ drop (length (payload_bytes I.codec.written (payload_of I.model self.now)))
+        ensures { buffer.new ≡ payload_bytes I.codec.written (payload_of vec_items I.model self.now)
+            ++ drop (length (payload_bytes I.codec.written (payload_of vec_items I.model self.now)))
             buffer.old }
     {
         match self {
@@ -180,7 +196,7 @@ impl<I: NetlinkDeserializable> NetlinkPayload<I> {
     // The payload under the header's type. A payload of nothing never wants memory.
     fn read(alloc: Global, header: &NetlinkHeader, bytes: &[u8]) -> Result<Self, DecodeError>
         ensures value { IfOk result (λ p. PayloadIs I.codec.reads bytes.now header.now.message_type
-            (payload_of I.model p)) }
+            (payload_of vec_items I.model p)) }
         ensures fault { IfErr result (λ e. e ≢ Memory
             → IsInnerType header.now.message_type
             × I.codec.refuses bytes.now header.now.message_type e) }

@@ -2,7 +2,7 @@
 -- second.
 use Rattle.std.proofs.lemmas.Grind.{common_steps}
 use Rattle.std.proofs.Common.{◌≡◌, ◌≢◌, ◌↔◌, ℕ, ◌⊎◌, inl, inr, List, [], ◌∷◌, ◌++◌, refl, sym, ap}
-use Rattle.std.proofs.Common.{◌∙◌, append_assoc, arith, Bool, IsTrue}
+use Rattle.std.proofs.Common.{◌∙◌, append_assoc, arith, Bool, IsTrue, ◌%◌, length, false}
 use Rattle.std.specs.Prelude.{MatchOption, Option, Some, None, Result, Ok, Err, slice_get, IsBitSet}
 use Rattle.std.specs.List.{AllByRecursion, AllZip, concat, flat_map}
 use Rattle.std.proofs.lemmas.List.{append-nil}
@@ -13,7 +13,7 @@ use Rattle.netlink_core.specs.Codec.{Codec, KeepsLaws}
 use Rattle.netlink_core.specs.Header.{HasHeader}
 use Rattle.netlink_core.specs.declared.fault.DecodeError.TheVariants.{Memory}
 use Rattle.netlink_core.specs.ByteLaws.{IsBytes-nil}
-use Rattle.netlink_core.specs.Datagram.{AreWholeMessages, StartsWithMessage}
+use Rattle.netlink_core.specs.Datagram.{CutIntoMessages, StartsWithMessage}
 use Rattle.netlink_core.specs.Items.{Item, ItemIs, ItemsAre}
 use Rattle.netlink_core.proofs.Datagrams.{one_message, starts_in_concatenation}
 use Rattle.netlink_core.proofs.Framing.{envelope_or_fault_apart, one_envelope_fault}
@@ -250,7 +250,8 @@ module _ (C : Codec ℕ) where
   -- the last datagram has the bytes and the items; else it is whole messages
   last_or_whole : (b : List ℕ) (later : List (List ℕ)) (parts : List (List (Item C.Value)))
       → AreSplit (b ∷ later) → AllZip (ItemsAre C) later parts
-      → ((later ≡ []) × (parts ≡ [])) ⊎ ((messages : List (List ℕ)) × AreWholeMessages b messages)
+      → ((later ≡ []) × (parts ≡ [])) ⊎ ((messages : List (List ℕ))
+      × CutIntoMessages b messages None × (length b % 4 ≡ 0))
   last_or_whole b later parts split each =
       grind arith
 
@@ -262,7 +263,7 @@ module _ (C : Codec ℕ) where
   split_items (b ∷ later) (p ∷ parts) split each = elim (last_or_whole b later parts split each.1) [
     | inl none ↦ rw (none.0, none.1, append-nil b, append-nil p) each.0
     | inr whole ↦ items_of_concatenation C b (concat later) whole.0 p (concatenation parts)
-        whole.1 each.0 (split_items later parts split.1 each.1)
+        (whole.1, whole.2) each.0 (split_items later parts split.1 each.1)
   ]
   split_items datagrams parts split each = grind arith
 
@@ -311,7 +312,8 @@ module _ (C : Codec ℕ) where
 
   -- where the flag is in whole messages and then more bytes
   flags_of_concatenation : (front back : List ℕ) (messages : List (List ℕ))
-      (xs ys : List (Item C.Value)) → AreWholeMessages front messages
+      (xs ys : List (Item C.Value))
+      → CutIntoMessages front messages None × (length front % 4 ≡ 0)
       → AllZip (ItemIs C) messages xs → (Interrupt (front ++ back) (xs ++ ys)
       ↔ (Interrupt front xs ⊎ (Plain xs × Interrupt back ys)))
   flags_of_concatenation front back [] [] ys whole each = rw whole.0 (grind arith)

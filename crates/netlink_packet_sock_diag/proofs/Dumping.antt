@@ -9,19 +9,20 @@ use Rattle.netlink_core.specs.declared.fault.DecodeError.{DecodeError}
 use Rattle.netlink_core.specs.declared.fault.DecodeError.TheVariants.{Memory}
 use Rattle.netlink_core.specs.declared.header.NetlinkHeader.{NetlinkHeader}
 use Rattle.netlink_core.specs.Header.{HasHeader, IsEnvelopeFault}
-use Rattle.netlink_core.specs.Datagram.{IsMessageString, StartsWithMessage}
-use Rattle.netlink_core.specs.Envelope.{inner}
+use Rattle.netlink_core.specs.Datagram.{StartsWithMessage}
+use Rattle.netlink_core.specs.declared.message.NetlinkPayload.TheVariants.{InnerMessage}
 use Rattle.netlink_core.specs.Items.{Item, ItemIs, ItemsAre}
 use Rattle.netlink_core.proofs.Datagrams.{no_fault_at_message}
 use Rattle.netlink_core.proofs.Headers.{one_header}
 use Rattle.netlink_core.proofs.Items.{items_of, leading_item, rest_in_range}
 use Rattle.netlink_core.proofs.Items.{fault_alone}
 use Rattle.netlink_packet_sock_diag.specs.Dump.{end_of, kept}
+use Rattle.netlink_core.proofs.Datagrams.{IsOfOwnLength}
 use Rattle.netlink_packet_sock_diag.specs.Feed.{Interrupt, Stops, Takes}
 use Rattle.netlink_packet_sock_diag.proofs.DumpRows.{End, dump_is, first_or_later, reach, unended}
 
 -- no fault stands at the start of a message
-pub no_fault_in_message : (message : List ℕ) (e : DecodeError) → IsMessageString message
+pub no_fault_in_message : (message : List ℕ) (e : DecodeError) → IsOfOwnLength message
     → IsEnvelopeFault message e → ⊥
 no_fault_in_message message e whole f = grind arith
 
@@ -115,7 +116,7 @@ module _ {C : Codec ℕ} {datagram next : List ℕ} {before after : List C.Value
 
 pub stops_at : {C : Codec ℕ} {datagram next : List ℕ} {before after : List C.Value} {was now : Bool}
     {value : C.Value} → KeepsLaws C
-    → Here C datagram next before after was now (Ok (inner value))
+    → Here C datagram next before after was now (Ok (InnerMessage value))
     → Stops C (before, unended, was) datagram (after, unended, now)
 stops_at {C} {datagram} {next} {before} {after} {was} {now} {value} laws p =
     let later = items_of C laws.answered next p.in_range in (

@@ -3,8 +3,10 @@ use Rattle.std.proofs.Common.{◌≡◌, ◌↔◌, inr, inl, ℕ, Bool, List, [
 use Rattle.std.specs.Prelude.{IsTrue, count_by}
 use Rattle.netlink_core.specs.declared.fault.DecodeError.TheVariants.{UnknownMessageType}
 use Rattle.netlink_core.specs.declared.header.NetlinkHeader.{NetlinkHeader}
-use Rattle.netlink_core.specs.Header.{IsHeaderInRange}
-use Rattle.netlink_core.specs.Envelope.{Payload, inner, IsInnerType, OfInner, finalized}
+use Rattle.netlink_core.specs.Table.{Fit}
+use Rattle.netlink_core.specs.Header.{header_fields, header_values}
+use Rattle.netlink_core.specs.Envelope.{Payload, IsInnerType, OfInner, finalized}
+use Rattle.netlink_core.specs.declared.message.NetlinkPayload.TheVariants.{InnerMessage}
 use Rattle.netlink_core.specs.Envelope.{payload_type, envelope_codec}
 use Rattle.netlink_core.proofs.Headers.{header_stands}
 use Rattle.netlink_packet_sock_diag.specs.Message.{Message, message_codec}
@@ -22,21 +24,21 @@ one_of own tests tell =
 -- the bytes of a message whose header is finalized under the type 21
 abbrev pub sent : NetlinkHeader → Message → List ℕ
 sent h m = (envelope_codec message_codec).written (record {
-  header = finalized message_codec.written (λ _. 21) (record { header = h; payload = inner m });
-  payload = inner m;
+  header = finalized message_codec.written (λ _. 21) (record { header = h; payload = InnerMessage m });
+  payload = InnerMessage m;
 })
 
 -- no message is read under that type, and so none is where more bytes stand behind it
 pub destroy_is_refused : (h : NetlinkHeader) (m : Message) (rest bytes : List ℕ)
-    → IsHeaderInRange h
-    → (envelope_codec message_codec).fits (record { header = h; payload = inner m })
+    → Fit header_fields (header_values h)
+    → (envelope_codec message_codec).fits (record { header = h; payload = InnerMessage m })
     → bytes ≡ sent h m ++ rest
     → (envelope_codec message_codec).refuses bytes tt (UnknownMessageType 21)
 destroy_is_refused h m rest bytes in_range fits whole =
     let inside = message_codec.written m in
     let own = finalized message_codec.written
-    (λ _. 21) (record { header = h; payload = inner m }) in
-    let own-in_range : IsHeaderInRange own =
+    (λ _. 21) (record { header = h; payload = InnerMessage m }) in
+    let own-in_range : Fit header_fields (header_values own) =
     (let short = fits.1 in omega arith, (omega arith, in_range.1.1)) in
     let stands = header_stands own inside rest own-in_range refl in
     let refused : message_codec.refuses inside 21 (UnknownMessageType 21) =

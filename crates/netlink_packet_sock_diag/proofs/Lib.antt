@@ -5,3 +5,4 @@ pub mod DumpRows
 pub mod LossyDumps
 pub mod Feeding
 pub mod WholeViews
+mod EqualPayloads

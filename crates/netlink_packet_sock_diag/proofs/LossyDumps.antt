@@ -5,12 +5,14 @@ use Rattle.std.specs.Prelude.{Option, option_map, Some, None, Result, Ok, Err}
 use Rattle.std.specs.List.{AllZip}
 use Rattle.std.proofs.lemmas.List.{append-nil, map-append}
 use Rattle.netlink_core.specs.Codec.{Codec}
-use Rattle.netlink_core.specs.Datagram.{CutIntoMessages, IsMessageString}
+use Rattle.netlink_core.specs.Datagram.{CutIntoMessages}
 use Rattle.netlink_core.specs.declared.fault.DecodeError.{DecodeError}
-use Rattle.netlink_core.specs.Envelope.{done_with, error_with, no_payload, overrun_with, inner}
+use Rattle.netlink_core.specs.declared.message.NetlinkPayload.TheVariants.{Done, Error, Noop}
+use Rattle.netlink_core.specs.declared.message.NetlinkPayload.TheVariants.{Overrun, InnerMessage}
 use Rattle.netlink_core.specs.Header.{IsEnvelopeFault}
 use Rattle.netlink_core.specs.Items.{Item, ItemIs}
 use Rattle.netlink_packet_sock_diag.specs.Dump.{DatagramsDump, Standing}
+use Rattle.netlink_core.proofs.Datagrams.{IsOfOwnLength}
 use Rattle.netlink_packet_sock_diag.specs.Lossy.{lossy}
 use Rattle.netlink_packet_sock_diag.proofs.Dumping.{no_fault_in_message}
 use Rattle.netlink_packet_sock_diag.proofs.DumpRows.{dump_is, dump_of_one, reach}
@@ -22,12 +24,12 @@ last end = option_to_list (option_map Err end)
 module _ {A : Type 0} where
   -- the item that a lossy dump has of one: a refused message is one that is kept
   abbrev as_entry : Item A → Item (Result A DecodeError)
-  as_entry (Ok (inner v)) = Ok (inner (Ok v))
-  as_entry (Ok no_payload) = Ok no_payload
-  as_entry (Ok (done_with given)) = Ok (done_with given)
-  as_entry (Ok (error_with given)) = Ok (error_with given)
-  as_entry (Ok (overrun_with given)) = Ok (overrun_with given)
-  as_entry (Err e) = Ok (inner (Err e))
+  as_entry (Ok (InnerMessage v)) = Ok (InnerMessage (Ok v))
+  as_entry (Ok Noop) = Ok Noop
+  as_entry (Ok (Done given)) = Ok (Done given)
+  as_entry (Ok (Error given)) = Ok (Error given)
+  as_entry (Ok (Overrun given)) = Ok (Overrun given)
+  as_entry (Err e) = Ok (InnerMessage (Err e))
 
   abbrev entries_of : List A → List (Result A DecodeError)
   entries_of vs = map (λ v. Ok v) vs
@@ -35,14 +37,14 @@ module _ {A : Type 0} where
   reach_entries : (items : List (Item A)) (end : Option DecodeError) (before after : List A)
       (s : Standing) → reach before (items ++ last end) ≡ (after, Ok s)
       → reach (entries_of before) (map as_entry items ++ last end) ≡ (entries_of after, Ok s)
-  reach_entries (Ok (inner v) ∷ items) end before after s e =
+  reach_entries (Ok (InnerMessage v) ∷ items) end before after s e =
       grind (arith, map-append, reach_entries items end (before ++ v ∷ []) after s e)
-  reach_entries (Ok no_payload ∷ items) end before after s e =
+  reach_entries (Ok Noop ∷ items) end before after s e =
       grind (arith, append-nil, reach_entries items end before after s)
   reach_entries items end before after s e = grind arith
 
 module _ (C : Codec ℕ) where
-  is_entry : (message : List ℕ) (item : Item C.Value) → IsMessageString message
+  is_entry : (message : List ℕ) (item : Item C.Value) → IsOfOwnLength message
       → ItemIs C message item → ItemIs (lossy C) message (as_entry item)
   is_entry message item whole is =
       grind (arith, no_fault_in_message message)
@@ -86,9 +88,9 @@ module _ (C : Codec ℕ) where
   fault_in bytes [] None [] cut each before after e went = grind arith
   fault_in bytes [] (Some f) [] cut each before after e went =
       let same : f ≡ e = grind arith in (bytes, rw same at cut.1)
-  fault_in bytes (m ∷ messages) end (Ok (inner v) ∷ xs) cut each before after e went =
+  fault_in bytes (m ∷ messages) end (Ok (InnerMessage v) ∷ xs) cut each before after e went =
       fault_in cut.0 messages end xs cut.2 each.1 _ after e went
-  fault_in bytes (m ∷ messages) end (Ok no_payload ∷ xs) cut each before after e went =
+  fault_in bytes (m ∷ messages) end (Ok Noop ∷ xs) cut each before after e went =
       fault_in cut.0 messages end xs cut.2 each.1 _ after e went
   fault_in bytes (m ∷ messages) end (Err f ∷ xs) cut (inl fault, each) before after e went =
       let same : f ≡ e = grind arith in (m, rw same at fault)

@@ -9,11 +9,12 @@ use Rattle.netlink_core.specs.Items.{ItemsAre}
 use Rattle.netlink_core.proofs.Datagrams.{shorter-rest}
 use Rattle.netlink_core.proofs.Items.{leading_item, no_items, fault_alone}
 use Rattle.netlink_packet_sock_diag.specs.declared.dump.views.DumpViews.{DumpViews}
-use Rattle.netlink_packet_sock_diag.specs.declared.dump.views.PayloadView.{PayloadView}
+use Rattle.netlink_packet_sock_diag.specs.PayloadViewModel.{PayloadView}
 use Rattle.netlink_core.specs.DatagramWalk.{datagram_left}
 use Rattle.netlink_packet_sock_diag.specs.DumpWalk.{GivesView}
 use Rattle.netlink_packet_sock_diag.specs.Message.{message_codec}
-use Rattle.netlink_packet_sock_diag.specs.PayloadViewModel.{item_view_model}
+use Rattle.netlink_core.specs.Faults.{map_ok}
+use Rattle.netlink_packet_sock_diag.specs.PayloadViewModel.{payload_view_model}
 
 -- where nothing is left nothing is given
 nothing_more : (walk : DumpViews) (given : List (Result PayloadView DecodeError))
@@ -24,14 +25,14 @@ nothing_more walk (g ∷ given) h none =
 
 pub whole_views : (walk : DumpViews) (given : List (Result PayloadView DecodeError))
     → Drains GivesView walk given → ItemsAre message_codec (datagram_left walk.messages)
-    (map item_view_model given)
+    (map (map_ok payload_view_model) given)
 whole_views walk [] h = rw (h.1.1, h.1.2.0) (no_items message_codec)
 whole_views walk (g ∷ given) h =
     let bytes = datagram_left walk.messages in
     let later : Drains GivesView h.1.1.0 given = (h.0, (h.1.0, h.1.1.2, h.1.2)) in
     elim h.1.1.1 [
       | inl s ↦ leading_item message_codec bytes s.0 (datagram_left h.1.1.0.messages)
-          (item_view_model g) (map item_view_model given) s.1 s.2 (whole_views h.1.1.0 given later)
+          (map_ok payload_view_model g) (map (map_ok payload_view_model) given) s.1 s.2 (whole_views h.1.1.0 given later)
       | inr f ↦ rw (f.1, nothing_more h.1.1.0 given later f.4)
           (fault_alone message_codec bytes f.0 f.2 f.3)
     ]

@@ -1,11 +1,11 @@
 -- The messages that a dump keeps of the items of its datagrams, and how it ends.
-use Rattle.std.specs.Prelude.{◌≡◌, ℕ, ℤ, List, [], ◌∷◌, ◌++◌, ⊤, ◌⊎◌, Option, Some, None}
+use Rattle.std.specs.Prelude.{◌≡◌, ◌%◌, length, ℕ, ℤ, List, [], ◌∷◌, ◌++◌, ⊤, ◌⊎◌, Option, Some, None}
 use Rattle.std.specs.Prelude.{MatchOption, Result, Ok, Err, slice_get}
 use Rattle.std.specs.List.{AllByRecursion, AllZip, flat_map}
 use Rattle.netlink_core.specs.declared.fault.DecodeError.{DecodeError}
 use Rattle.netlink_core.specs.Codec.{Codec}
-use Rattle.netlink_core.specs.Datagram.{AreWholeMessages}
-use Rattle.netlink_core.specs.Envelope.{done_with, error_with, overrun_with, inner}
+use Rattle.netlink_core.specs.Datagram.{CutIntoMessages}
+use Rattle.netlink_core.specs.declared.message.NetlinkPayload.TheVariants as payload
 use Rattle.netlink_core.specs.Envelope.{leading_number}
 use Rattle.netlink_core.specs.Items.{Item, ItemsAre}
 use Rattle.netlink_packet_sock_diag.specs.declared.dump.DumpState.{DumpState}
@@ -19,15 +19,15 @@ Standing = DumpState × Option ℤ
 module _ {A : Type 0} where
   -- what is kept of the item
   abbrev pub kept : Item A → List A
-  kept (Ok (inner value)) = value ∷ []
+  kept (Ok (payload.InnerMessage value)) = value ∷ []
   kept _ = []
 
   -- how a dump stands that the item ends, or its fault; after a message, or one of nothing, it goes
   -- on
   abbrev pub end_of : Item A → Option (Result Standing DecodeError)
-  end_of (Ok (done_with given)) = Some (Ok (Done, leading_number given))
-  end_of (Ok (error_with given)) = Some (Ok (Error, leading_number given))
-  end_of (Ok (overrun_with given)) = Some (Ok (Overrun, None))
+  end_of (Ok (payload.Done given)) = Some (Ok (Done, leading_number given))
+  end_of (Ok (payload.Error given)) = Some (Ok (Error, leading_number given))
+  end_of (Ok (payload.Overrun given)) = Some (Ok (Overrun, None))
   end_of (Err e) = Some (Err e)
   end_of _ = None
 
@@ -49,5 +49,5 @@ DatagramsDump C before datagrams after end = (items : List (List (Item C.Value))
 -- each datagram but the last one is whole messages alone, with all padding there
 abbrev pub AreSplit : List (List ℕ) → Type 0
 AreSplit [] = ⊤
-AreSplit (datagram ∷ later) =
-    ((later ≡ []) ⊎ ((messages : List (List ℕ)) × AreWholeMessages datagram messages)) × AreSplit later
+AreSplit (datagram ∷ later) = ((later ≡ []) ⊎ ((messages : List (List ℕ))
+    × CutIntoMessages datagram messages None × (length datagram % 4 ≡ 0))) × AreSplit later

@@ -6,9 +6,10 @@ use Rattle.netlink_core.specs.DatagramWalk.{datagram_left}
 use Rattle.netlink_core.specs.Header.{IsEnvelopeFault}
 use Rattle.netlink_core.specs.Items.{ItemIs}
 use Rattle.netlink_packet_sock_diag.specs.declared.dump.views.DumpViews.{DumpViews}
-use Rattle.netlink_packet_sock_diag.specs.declared.dump.views.PayloadView.{PayloadView}
+use Rattle.netlink_packet_sock_diag.specs.PayloadViewModel.{PayloadView}
 use Rattle.netlink_packet_sock_diag.specs.Message.{message_codec}
-use Rattle.netlink_packet_sock_diag.specs.PayloadViewModel.{item_view_model}
+use Rattle.netlink_core.specs.Faults.{map_ok}
+use Rattle.netlink_packet_sock_diag.specs.PayloadViewModel.{payload_view_model}
 
 -- A step gives what the first message of what was left carries, or its fault, and what follows its
 -- padding is left then. Or it gives the fault where there is no message, and then nothing is left.
@@ -18,5 +19,6 @@ GivesView old given new =
     let left = datagram_left old.messages in
     let later = datagram_left new.messages in
     MatchOption given ((left ≡ []) × (later ≡ []))
-    (λ item. ((message : List ℕ) × StartsWithMessage left message later × ItemIs message_codec message (item_view_model item))
+    (λ item. ((message : List ℕ) × StartsWithMessage left message later
+    × ItemIs message_codec message (map_ok payload_view_model item))
     ⊎ ((e : DecodeError) × (item ≡ Err e) × (left ≢ []) × IsEnvelopeFault left e × (later ≡ [])))

@@ -4,7 +4,7 @@ use Rattle.std.specs.Prelude.{Result, Ok, Err, None, IsBitSet}
 use Rattle.std.specs.List.{FoldsTo}
 use Rattle.netlink_core.specs.Codec.{Codec}
 use Rattle.netlink_core.specs.Datagram.{StartsWithMessage}
-use Rattle.netlink_core.specs.Envelope.{inner}
+use Rattle.netlink_core.specs.declared.message.NetlinkPayload.TheVariants.{InnerMessage}
 use Rattle.netlink_core.specs.Header.{HasHeader}
 use Rattle.netlink_core.specs.Items.{Item, ItemsAre}
 use Rattle.netlink_core.specs.declared.fault.DecodeError.{DecodeError}
@@ -42,8 +42,8 @@ module _ (C : Codec ℕ) where
   -- up to a message for which there was no memory: over the items in front of it it is still read
   abbrev pub Stops : Stage C.Value → List ℕ → Stage C.Value → Type 0
   Stops p b q = (front later : List (Item C.Value)) × (m : C.Value)
-      × ItemsAre C b (front ++ (Ok (inner m) ∷ later)) × Dump p.0 front q.0 (Ok (Reading, None))
-      × (IsTrue q.2 ↔ (IsTrue p.2 ⊎ Interrupt b (front ++ Ok (inner m) ∷ [])))
+      × ItemsAre C b (front ++ (Ok (InnerMessage m) ∷ later)) × Dump p.0 front q.0 (Ok (Reading, None))
+      × (IsTrue q.2 ↔ (IsTrue p.2 ⊎ Interrupt b (front ++ Ok (InnerMessage m) ∷ [])))
 
   -- Of a dump that was read: its end in the datagram, or its fault, or that memory ran out. One
   -- that had ended is as it was.

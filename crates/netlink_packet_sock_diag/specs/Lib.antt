@@ -10,4 +10,3 @@ pub mod Feed
 pub mod DumpModel
 pub mod PayloadViewModel
 pub mod DumpWalk
-pub mod EqualPayloadLaws

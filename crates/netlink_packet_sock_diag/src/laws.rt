@@ -9,11 +9,13 @@ ghost use Rattle.netlink_core.specs.declared.fault.DecodeError.{DecodeError};
 ghost use Rattle.netlink_core.specs.declared.fault.DecodeError.TheVariants.{Memory};
 ghost use Rattle.netlink_core.specs.declared.fault.DecodeError.TheVariants.{UnknownMessageType};
 ghost use Rattle.netlink_core.specs.declared.header.NetlinkHeader.{NetlinkHeader};
-ghost use Rattle.netlink_core.specs.Header.{IsEnvelopeFault, IsHeaderInRange};
-ghost use Rattle.netlink_core.specs.Envelope.{Payload, Envelope, inner, OfInner, finalized};
+ghost use Rattle.netlink_core.specs.Header.{IsEnvelopeFault, header_fields, header_values};
+ghost use Rattle.netlink_core.specs.Table.{Fit};
+ghost use Rattle.netlink_core.specs.Envelope.{Payload, Envelope, OfInner, finalized};
 ghost use Rattle.netlink_core.specs.Envelope.{envelope_codec};
 ghost use Rattle.netlink_core.specs.declared.message.NetlinkMessage.{NetlinkMessage};
 ghost use Rattle.netlink_core.specs.declared.message.NetlinkPayload.TheVariants.{InnerMessage};
+ghost use Rattle.netlink_core.specs.Faults.{map_ok};
 ghost use Rattle.netlink_core.specs.Items.{ItemsAre};
 ghost use Rattle.netlink_core.specs.EnvelopeModel.{envelope_of};
 ghost use Rattle.netlink_core.specs.Response.{ValueOf, response_bytes, response_codec};
@@ -26,11 +28,10 @@ ghost use Rattle.netlink_packet_sock_diag.specs.Dump.{AreSplit, DatagramsDump, D
 ghost use Rattle.netlink_packet_sock_diag.specs.Feed.{FeedsLeave, Stage, Takes, untouched};
 ghost use Rattle.netlink_packet_sock_diag.specs.declared.dump.DumpState.TheVariants.{Reading};
 ghost use Rattle.netlink_packet_sock_diag.specs.declared.dump.views.DumpViews.{DumpViews};
-ghost use Rattle.netlink_packet_sock_diag.specs.declared.dump.views.PayloadView.{PayloadView};
+ghost use Rattle.netlink_packet_sock_diag.specs.PayloadViewModel.{PayloadView};
 ghost use Rattle.netlink_core.specs.DatagramWalk.{datagram_left};
 ghost use Rattle.netlink_packet_sock_diag.specs.DumpWalk.{GivesView};
 ghost use Rattle.netlink_packet_sock_diag.specs.PayloadViewModel.{payload_view_model};
-ghost use Rattle.netlink_packet_sock_diag.specs.PayloadViewModel.{item_view_model};
 ghost use Rattle.sock_diag_replies.specs.UnixResponseSpec.{UnixResponseValue};
 ghost use Rattle.sock_diag_replies.specs.UnixResponseSpec.{unix_response_spec};
 ghost use Rattle.sock_diag_replies.specs.InetResponseSpec.{inet_response_spec};
@@ -97,13 +98,13 @@ pub fn readers_take_memory() -> (bool, bool, bool)
 /// A finalized request to close sockets is refused by its own reader: it is written under a type of
 /// its own, and messages are read under 20 alone.
 pub fn finalized_destroy_is_refused()
-    ensures { (h : NetlinkHeader) (m : Message) → IsHeaderInRange h
-        → (envelope_codec message_codec).fits (record { header = h; payload = inner m })
+    ensures { (h : NetlinkHeader) (m : Message) → Fit header_fields (header_values h)
+        → (envelope_codec message_codec).fits (record { header = h; payload = InnerMessage m })
         → (envelope_codec message_codec).refuses
         ((envelope_codec message_codec).written (record {
           header = finalized message_codec.written destroys.type_written
-              (record { header = h; payload = inner m });
-          payload = inner m;
+              (record { header = h; payload = InnerMessage m });
+          payload = InnerMessage m;
         })) tt
         (UnknownMessageType (destroys.type_written m)) }
 {}
@@ -113,7 +114,7 @@ pub fn finalized_destroy_is_refused()
 pub fn finalized_destroy_in_hand_is_refused()
     ensures { (message : NetlinkMessage SockDiagDestroy) (destroy : SockDiagDestroy) (rest : List ℕ)
         → message.payload ≡ InnerMessage destroy
-        → IsHeaderInRange message.header
+        → Fit header_fields (header_values message.header)
         → (envelope_codec message_codec).fits (envelope_of destroys.model message)
         → (envelope_codec message_codec).refuses
         ((envelope_codec message_codec).written (envelope_of destroys.model (record message {
@@ -306,7 +307,7 @@ pub fn lossy_dump_keeps_messages()
 pub fn whole_views_are_the_datagram()
     ensures { (walk : DumpViews) (given : List (Result PayloadView DecodeError))
         → Drains GivesView walk given
-        → ItemsAre message_codec (datagram_left walk.messages) (map item_view_model given) }
+        → ItemsAre message_codec (datagram_left walk.messages) (map (map_ok payload_view_model) given) }
 {}
 
 /// `==` says whether two errors of a dump are the same.
@@ -348,7 +349,7 @@ pub fn equal_inet_views(v: &InetResponseView<'_>, w: &InetResponseView<'_>) -> b
 }
 
 /// `==` says whether two payloads in place tell the same.
-#[tactic(auto, using(crate::specs::EqualPayloadLaws::payload_equal))]
+#[tactic(auto, using(crate::specs::EqualMessageLaws::view_equal))]
 pub fn equal_payload_views(v: &View<'_>, w: &View<'_>) -> bool
     ensures { IsTrue result ↔ (payload_view_model v.now ≡ payload_view_model w.now) }
 {

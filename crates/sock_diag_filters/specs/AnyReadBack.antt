@@ -1,6 +1,7 @@
 -- Requests of any family that are written, and what is read from them.
 use Rattle.std.specs.Prelude.{◌≡◌, ℕ, ◌+◌, List, ◌++◌, length}
-use Rattle.netlink_core.specs.Header.{IsHeaderInRange, header_bytes}
+use Rattle.netlink_core.specs.Table.{Fit}
+use Rattle.netlink_core.specs.Header.{header_bytes, header_fields, header_values}
 use Rattle.netlink_core.specs.declared.header.NetlinkHeader.{NetlinkHeader}
 use Rattle.sock_diag_records.specs.declared.inet.request.InetRequest.{InetRequest}
 use Rattle.sock_diag_filters.specs.declared.request.RequestAttribute.{RequestAttribute}
@@ -19,7 +20,7 @@ record_request_bytes family h request attributes =
 -- in normal form.
 pub record IsWhole (family : RecordFamily) (h : NetlinkHeader) (request : (codec_of family).Value)
     (attributes : List ℕ) : Type 0 where
-  pub header : IsHeaderInRange h
+  pub header : Fit header_fields (header_values h)
   pub kind : IsRequestType h.message_type
   pub counted : h.length ≡ 16 + (size_of family + length attributes)
   pub in_range : (codec_of family).is_in_range request

@@ -4,7 +4,8 @@ use Rattle.std.specs.Prelude.{None}
 use Rattle.std.specs.List.{AllByRecursion, filter_map, flat_map, last_or}
 use Rattle.netlink_core.specs.Attribute.{written}
 use Rattle.netlink_core.specs.Layout.{IsNormal, IsInRange}
-use Rattle.netlink_core.specs.Header.{IsHeaderInRange}
+use Rattle.netlink_core.specs.Table.{Fit}
+use Rattle.netlink_core.specs.Header.{header_fields, header_values}
 use Rattle.netlink_core.specs.declared.header.NetlinkHeader.{NetlinkHeader}
 use Rattle.sock_diag_records.specs.InetRequest.{inet_request}
 use Rattle.sock_diag_records.specs.declared.inet.request.InetRequest.{InetRequest}
@@ -27,7 +28,7 @@ Fits (Protocol protocol) = protocol < 2 ^ 32
 -- the header's numbers, the request's and the attributes' fit, and the request is in normal form
 pub record CanBeAsked (h : NetlinkHeader) (request : InetRequest)
     (attributes : List RequestAttribute) : Type 0 where
-  pub header : IsHeaderInRange (written_header h attributes)
+  pub header : Fit header_fields (header_values (written_header h attributes))
   pub in_range : IsInRange inet_request request
   pub normal : IsNormal inet_request tt request
   pub fit : AllByRecursion Fits attributes

@@ -7,8 +7,10 @@ use Rattle.std.proofs.lemmas.Slice.Eq.{bytes_eq-Decides}
 use Rattle.netlink_core.specs.Attribute.{HasFittingValue}
 use Rattle.netlink_core.specs.AttributeSet.{encodes}
 use Rattle.netlink_core.specs.Response.{ResponseSpec, ValueOf, response_bytes, response_codec}
-use Rattle.netlink_core.specs.Envelope.{Payload, done_with, error_with, no_payload, overrun_with}
-use Rattle.netlink_core.specs.Envelope.{inner, Envelope, OfInner, payload_bytes, envelope_codec}
+use Rattle.netlink_core.specs.Envelope.{Payload, Envelope, OfInner, payload_bytes}
+use Rattle.netlink_core.specs.Envelope.{envelope_codec}
+use Rattle.netlink_core.specs.declared.message.NetlinkPayload.TheVariants.{Done, Error, Noop}
+use Rattle.netlink_core.specs.declared.message.NetlinkPayload.TheVariants.{Overrun, InnerMessage}
 use Rattle.sock_diag_replies.specs.InetResponseSpec.{inet_response_spec}
 use Rattle.sock_diag_replies.specs.UnixResponseSpec.{unix_response_spec}
 use Rattle.netlink_packet_sock_diag.specs.Message.{Message, message_of, message_codec}
@@ -52,11 +54,11 @@ message_fits_or_not (message_of unix_response reply) = reply_fits_or_not unix_re
 
 inner_fits_or_not : (payload : Payload Message) → OfInner message_codec.fits payload
     ⊎ ¬ OfInner message_codec.fits payload
-inner_fits_or_not (inner message) = message_fits_or_not message
-inner_fits_or_not (done_with given) = inl tt
-inner_fits_or_not (error_with given) = inl tt
-inner_fits_or_not no_payload = inl tt
-inner_fits_or_not (overrun_with given) = inl tt
+inner_fits_or_not (InnerMessage message) = message_fits_or_not message
+inner_fits_or_not (Done given) = inl tt
+inner_fits_or_not (Error given) = inl tt
+inner_fits_or_not Noop = inl tt
+inner_fits_or_not (Overrun given) = inl tt
 
 pub envelope_fits_or_not : (value : Envelope Message) → (envelope_codec message_codec).fits value
     ⊎ ¬ (envelope_codec message_codec).fits value

@@ -2,8 +2,9 @@
 use Rattle.std.proofs.Common.{◌≡◌, ℕ, ◌<◌, ◌^◌, List, decimal, sym, subst, arith}
 use Rattle.std.proofs.lemmas.Fmt.{decimal_injective}
 use Rattle.netlink_core.specs.Bytes.{IsBytes}
-use Rattle.netlink_core.specs.Envelope.{Payload, done_with, error_with, no_payload, overrun_with}
-use Rattle.netlink_core.specs.Envelope.{inner, PayloadIs, payload_bytes}
+use Rattle.netlink_core.specs.Envelope.{Payload, PayloadIs, payload_bytes}
+use Rattle.netlink_core.specs.declared.message.NetlinkPayload.TheVariants.{Done, Error, Noop}
+use Rattle.netlink_core.specs.declared.message.NetlinkPayload.TheVariants.{Overrun, InnerMessage}
 use Rattle.netlink_core.proofs.Framing.{envelope_or_fault, envelope_or_fault_apart}
 use Rattle.netlink_core.proofs.Framing.{one_envelope_fault, payload_in_range}
 use Rattle.netlink_core.proofs.Idle.{equal_where_idle, payloads_alike}
@@ -30,11 +31,11 @@ word-same m n rest other hm hn e =
 -- what is written of a payload that was read is bytes
 payload_written : (t : ℕ) (x : List ℕ) (p : Payload Message) → IsBytes x
     → PayloadIs message_codec.reads x t p → IsBytes (payload_bytes message_codec.written p)
-payload_written t x no_payload hx r = λ i. omega arith
-payload_written t x (error_with given) hx r = subst IsBytes (sym r.1) hx
-payload_written t x (done_with given) hx r = subst IsBytes (sym r.1) hx
-payload_written t x (overrun_with given) hx r = subst IsBytes (sym r.1) hx
-payload_written t x (inner m) hx r =
+payload_written t x Noop hx r = λ i. omega arith
+payload_written t x (Error given) hx r = subst IsBytes (sym r.1) hx
+payload_written t x (Done given) hx r = subst IsBytes (sym r.1) hx
+payload_written t x (Overrun given) hx r = subst IsBytes (sym r.1) hx
+payload_written t x (InnerMessage m) hx r =
     message_laws.written_bytes m (message_laws.reads_normal x t m hx r.1).0
 
 -- ---- messages

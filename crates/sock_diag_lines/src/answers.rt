@@ -5,8 +5,9 @@ ghost use Rattle.sock_diag_lines.specs.declared.answers.Name.TheVariants.{UnixVi
 ghost use Rattle.std.specs.Prelude.{◌≡◌, ◌≢◌, ◌↔◌, ◌++◌, ◌∷◌, [], ℕ, List, codes, decimal, Result};
 ghost use Rattle.std.specs.Prelude.{IfOk, OnOk, MatchOption};
 ghost use Rattle.std.specs.List.{AllZip, concat, flat_map};
-ghost use Rattle.netlink_core.specs.Envelope.{Payload, inner as of_inner, envelope_codec};
+ghost use Rattle.netlink_core.specs.Envelope.{Payload, envelope_codec};
 ghost use Rattle.netlink_core.specs.Items.{ItemsAre};
+ghost use Rattle.netlink_core.specs.declared.message.NetlinkPayload.TheVariants.{InnerMessage};
 ghost use Rattle.netlink_core.specs.declared.fault.DecodeError.{DecodeError};
 ghost use Rattle.netlink_packet_sock_diag.specs.Dump.{AreSplit};
 ghost use Rattle.netlink_packet_sock_diag.specs.Message.{Message, message_codec};
@@ -267,7 +268,7 @@ fn push_inner(
     ensures { OnOk result (text.new.items ≡ text.old.items ++ accepted
         (envelope_text (record {
           header = header.now;
-          payload = of_inner (message_view_model inner.now);
+          payload = InnerMessage (message_view_model inner.now);
         }))) }
 {
     let mut bytes = vec![in alloc; 0; inner.buffer_len()]?;

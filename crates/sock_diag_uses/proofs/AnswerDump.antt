@@ -1,20 +1,21 @@
 -- An answer of the kernel for tests, read as a dump.
 use Rattle.std.proofs.Common.{◌≡◌, ◌↔◌, ℕ, ◌+◌, ◌%◌, ◌^◌, ◌<◌, ◌≤◌, inl, inr, List, [], ◌∷◌, ◌++◌}
 use Rattle.std.proofs.Common.{length, refl, sym, ap, subst, ◌∙◌, append_assoc, arith}
-use Rattle.std.specs.Prelude.{map, None, Result, Ok}
+use Rattle.std.specs.Prelude.{map, None, Ok}
 use Rattle.std.specs.List.{AllByRecursion, flat_map}
 use Rattle.std.proofs.lemmas.List.{append-nil}
 use Rattle.byteorder.specs.Endian.{little_number}
 use Rattle.byteorder.specs.Numbers.{little_number-reads_back}
 use Rattle.netlink_core.specs.Attribute.{fill}
-use Rattle.netlink_core.specs.declared.fault.DecodeError.{DecodeError}
 use Rattle.netlink_core.specs.declared.header.NetlinkHeader.{NetlinkHeader}
-use Rattle.netlink_core.specs.Header.{IsHeaderInRange}
-use Rattle.netlink_core.specs.Datagram.{AreWholeMessages, CutIntoMessages, IsMessageString}
-use Rattle.netlink_core.specs.Datagram.{StartsWithMessage}
-use Rattle.netlink_core.specs.Envelope.{Envelope, Payload, done_with, inner, finalized, OfInner}
+use Rattle.netlink_core.specs.Table.{Fit}
+use Rattle.netlink_core.specs.Header.{header_fields, header_values}
+use Rattle.netlink_core.specs.Datagram.{CutIntoMessages, StartsWithMessage}
+use Rattle.netlink_core.specs.Envelope.{Envelope, Payload, finalized, OfInner}
+use Rattle.netlink_core.specs.declared.message.NetlinkPayload.TheVariants.{Done, InnerMessage}
 use Rattle.netlink_core.specs.Envelope.{payload_bytes, payload_type, envelope_codec}
-use Rattle.netlink_core.specs.Items.{ItemIs, ItemsAre}
+use Rattle.netlink_core.proofs.Datagrams.{IsOfOwnLength}
+use Rattle.netlink_core.specs.Items.{Item, ItemIs, ItemsAre}
 use Rattle.netlink_core.specs.Response.{response_bytes, response_codec}
 use Rattle.netlink_packet_sock_diag.specs.Dump.{end_of, kept}
 use Rattle.netlink_packet_sock_diag.specs.Message.{Message, message_of, message_codec}
@@ -34,13 +35,13 @@ no_fill message even = rw even refl
 -- ---- messages one after the other
 
 -- a message that is carried whole
-pub record Carries (message : List ℕ) (item : Result (Payload Message) DecodeError) : Type 0 where
-  pub whole : IsMessageString message
+pub record Carries (message : List ℕ) (item : Item Message) : Type 0 where
+  pub whole : IsOfOwnLength message
   pub even : length message % 4 ≡ 0
   pub is : ItemIs message_codec message item
 
 -- it is cut into itself alone
-alone : (message : List ℕ) → IsMessageString message → length message % 4 ≡ 0
+alone : (message : List ℕ) → IsOfOwnLength message → length message % 4 ≡ 0
     → CutIntoMessages message (message ∷ []) None
 alone message whole even =
     let starts : StartsWithMessage message message [] =
@@ -53,18 +54,18 @@ alone message whole even =
     ([], starts, refl)
 
 -- it has its item alone
-pub one_item : (message : List ℕ) (item : Result (Payload Message) DecodeError)
+pub one_item : (message : List ℕ) (item : Item Message)
     → Carries message item → ItemsAre message_codec message (item ∷ [])
 one_item message item c =
     (message ∷ [], None, item ∷ [], alone message c.whole c.even, (c.is, tt), refl)
 
 -- and those of messages stand in a row
 pub items_of_all : ((front back : List ℕ) (messages : List (List ℕ))
-    (xs ys : List (Result (Payload Message) DecodeError)) → AreWholeMessages front messages
+    (xs ys : List (Item Message)) → CutIntoMessages front messages None × (length front % 4 ≡ 0)
     → ItemsAre message_codec front xs → ItemsAre message_codec back ys
     → ItemsAre message_codec (front ++ back) (xs ++ ys))
-    → {A : Type 0} (bytes : A → List ℕ) (item : A → Result (Payload Message) DecodeError)
-    (last : List ℕ) (ends : List (Result (Payload Message) DecodeError))
+    → {A : Type 0} (bytes : A → List ℕ) (item : A → Item Message)
+    (last : List ℕ) (ends : List (Item Message))
     → (xs : List A) → AllByRecursion (λ x. Carries (bytes x) (item x)) xs
     → ItemsAre message_codec last ends
     → ItemsAre message_codec (flat_map bytes xs ++ last) (map item xs ++ ends)
@@ -91,14 +92,15 @@ envelope_under n payload = record { header = header_under n payload; payload = p
 
 header_in_range : (n : ℕ) (payload : Payload Message) → n < 2 ^ 32
     → 16 + length (payload_bytes message_codec.written payload) ≤ 4294967295
-    → payload_type (λ _. 20) payload < 2 ^ 16 → IsHeaderInRange (header_under n payload)
+    → payload_type (λ _. 20) payload < 2 ^ 16
+    → Fit header_fields (header_values (header_under n payload))
 header_in_range n carried small short kind =
     (omega arith, (kind, (omega arith, (small, (omega arith, tt)))))
 
 -- it is as long as its length word says
 whole_message : (n : ℕ) (payload : Payload Message)
     → 16 + length (payload_bytes message_codec.written payload) ≤ 4294967295
-    → IsMessageString (message_under n payload)
+    → IsOfOwnLength (message_under n payload)
 unfolding message_under
 whole_message n payload short =
     let size = 16 + length (payload_bytes message_codec.written payload) in
@@ -139,35 +141,35 @@ module _ (reads_back : (v : Envelope Message) → (envelope_codec message_codec)
   carries_reply : ((v : UnixResponseValue) → (response_codec unix_response_spec).is_in_range v
       → length (response_bytes unix_response_spec v) % 4 ≡ 0)
       → (n : ℕ) → n < 2 ^ 32 → (r : UnixResponseValue) → CanBeSent r
-      → Carries (reply_under n r) (Ok (inner (sent r)))
-  carries_reply even n small r found = carries_payload n (inner (sent r)) (
-    header_in_range n (inner (sent r)) small found.short (omega arith),
+      → Carries (reply_under n r) (Ok (InnerMessage (sent r)))
+  carries_reply even n small r found = carries_payload n (InnerMessage (sent r)) (
+    header_in_range n (InnerMessage (sent r)) small found.short (omega arith),
     found.in_range,
   ) (found.fits, found.short) (refl, inr refl, found.normal) (even r found.in_range)
 
   carries_all : ((v : UnixResponseValue) → (response_codec unix_response_spec).is_in_range v
       → length (response_bytes unix_response_spec v) % 4 ≡ 0)
       → (n : ℕ) → n < 2 ^ 32 → (rs : List UnixResponseValue) → AllByRecursion CanBeSent rs
-      → AllByRecursion (λ r. Carries (reply_under n r) (Ok (inner (sent r)))) rs
+      → AllByRecursion (λ r. Carries (reply_under n r) (Ok (InnerMessage (sent r)))) rs
   carries_all even n small [] found = tt
   carries_all even n small (r ∷ rs) found =
       (carries_reply even n small r found.0, carries_all even n small rs found.1)
 
-  carries_end : (n : ℕ) → n < 2 ^ 32 → Carries (end_under n) (Ok (done_with (0 ∷ 0 ∷ 0 ∷ 0 ∷ [])))
-  carries_end n small = carries_payload n (done_with (0 ∷ 0 ∷ 0 ∷ 0 ∷ []))
-      (header_in_range n (done_with (0 ∷ 0 ∷ 0 ∷ 0 ∷ [])) small (omega arith) (omega arith), tt)
+  carries_end : (n : ℕ) → n < 2 ^ 32 → Carries (end_under n) (Ok (Done (0 ∷ 0 ∷ 0 ∷ 0 ∷ [])))
+  carries_end n small = carries_payload n (Done (0 ∷ 0 ∷ 0 ∷ 0 ∷ []))
+      (header_in_range n (Done (0 ∷ 0 ∷ 0 ∷ 0 ∷ [])) small (omega arith) (omega arith), tt)
       (tt, omega arith) tt refl
 
 -- ---- the dump
 
 plain_all : (rs : List UnixResponseValue)
     → AllByRecursion (λ item. end_of {A = Message} item ≡ None)
-    (map (λ r. Ok (inner (sent r))) rs)
+    (map (λ r. Ok (InnerMessage (sent r))) rs)
 plain_all [] = tt
 plain_all (r ∷ rs) = (refl, plain_all rs)
 
 keeps_all : (rs : List UnixResponseValue) → map sent rs
-    ≡ flat_map kept (map (λ (r : UnixResponseValue). Ok (inner (sent r))) rs)
+    ≡ flat_map kept (map (λ (r : UnixResponseValue). Ok (InnerMessage (sent r))) rs)
 keeps_all [] = refl
 keeps_all (r ∷ rs) = ap (λ (ms : List Message). sent r ∷ ms) (keeps_all rs)
 
@@ -179,7 +181,7 @@ pub whole_dump : ((v : Envelope Message) → (envelope_codec message_codec).is_i
     → length (response_bytes unix_response_spec v) % 4
     ≡ 0)
     → ((front back : List ℕ) (messages : List (List ℕ))
-    (xs ys : List (Result (Payload Message) DecodeError)) → AreWholeMessages front messages
+    (xs ys : List (Item Message)) → CutIntoMessages front messages None × (length front % 4 ≡ 0)
     → ItemsAre message_codec front xs → ItemsAre message_codec back ys
     → ItemsAre message_codec (front ++ back) (xs ++ ys))
     → (request : List ℕ) (replies : List UnixResponseValue) (datagram : List ℕ)
@@ -188,13 +190,13 @@ pub whole_dump : ((v : Envelope Message) → (envelope_codec message_codec).is_i
 whole_dump reads_back even concatenation request replies datagram answer found =
     let n = answer.header.sequence_number in
     let small = answer.framed.1.1.1.1.0 in
-    let ends = one_item (end_under n) (Ok (done_with (0 ∷ 0 ∷ 0 ∷ 0 ∷ [])))
+    let ends = one_item (end_under n) (Ok (Done (0 ∷ 0 ∷ 0 ∷ 0 ∷ [])))
     (carries_end reads_back n small) in
-    let items = map (λ (r : UnixResponseValue). Ok (inner (sent r))) replies
-    ++ (Ok (done_with (0 ∷ 0 ∷ 0 ∷ 0 ∷ [])) ∷ []) in
+    let items = map (λ (r : UnixResponseValue). Ok (InnerMessage (sent r))) replies
+    ++ (Ok (Done (0 ∷ 0 ∷ 0 ∷ 0 ∷ [])) ∷ []) in
     let all = items_of_all concatenation (reply_under n) (λ r.
-    Ok (inner (sent r)))
-    (end_under n) (Ok (done_with (0 ∷ 0 ∷ 0 ∷ 0 ∷ [])) ∷ []) replies
+    Ok (InnerMessage (sent r)))
+    (end_under n) (Ok (Done (0 ∷ 0 ∷ 0 ∷ 0 ∷ [])) ∷ []) replies
     (carries_all reads_back even n small replies found) ends in
     record {
       dump = (
@@ -204,8 +206,8 @@ whole_dump reads_back even concatenation request replies datagram answer found =
           tt,
         ),
         rw append-nil (
-          map (λ (r : UnixResponseValue). Ok (inner (sent r))) replies,
-          Ok (done_with (0 ∷ 0 ∷ 0 ∷ 0 ∷ [])) ∷ [],
+          map (λ (r : UnixResponseValue). Ok (InnerMessage (sent r))) replies,
+          Ok (Done (0 ∷ 0 ∷ 0 ∷ 0 ∷ [])) ∷ [],
           refl,
           plain_all replies,
           keeps_all replies,

@@ -14,12 +14,13 @@ use Rattle.netlink_core.proofs.Items.{Following, fault_alone, items_begin, items
 use Rattle.netlink_core.proofs.Items.{no_items}
 use Rattle.netlink_core.specs.DatagramWalk.{datagram_left}
 use Rattle.netlink_packet_sock_diag.specs.declared.dump.views.DumpViews.{DumpViews}
-use Rattle.netlink_packet_sock_diag.specs.declared.dump.views.PayloadView.{PayloadView}
+use Rattle.netlink_packet_sock_diag.specs.PayloadViewModel.{PayloadView}
 use Rattle.netlink_packet_sock_diag.specs.Dump.{end_of}
 use Rattle.netlink_packet_sock_diag.specs.DumpWalk.{GivesView}
 use Rattle.netlink_packet_sock_diag.specs.Message.{Message, message_codec}
 use Rattle.netlink_packet_sock_diag.specs.MessageLaws.{message_laws}
-use Rattle.netlink_packet_sock_diag.specs.PayloadViewModel.{item_view_model}
+use Rattle.netlink_core.specs.Faults.{map_ok}
+use Rattle.netlink_packet_sock_diag.specs.PayloadViewModel.{payload_view_model}
 use Rattle.sock_diag_uses.specs.Readme.{EndsWith, IsCounted, listens}
 
 -- so many were counted in front of what is left
@@ -50,10 +51,10 @@ pub data Step (left : List ℕ) (item : Item Message) (later : List ℕ) : Type 
 -- so it is by the walk
 pub step_of : (old new : DumpViews) (item : Result PayloadView DecodeError)
     → GivesView old (Some item) new
-    → Step (datagram_left old.messages) (item_view_model item) (datagram_left new.messages)
+    → Step (datagram_left old.messages) (map_ok payload_view_model item) (datagram_left new.messages)
 step_of old new item (inl (bytes, s, is)) = message bytes s is
 step_of old new item (inr (e, is, some, fault, none)) =
-    no_message e (ap item_view_model is) some fault
+    no_message e (ap (map_ok payload_view_model) is) some fault
 
 go_on_push : (xs : List (Item Message)) (item : Item Message)
     → AllByRecursion (λ item. end_of item ≡ None) xs → end_of item ≡ None

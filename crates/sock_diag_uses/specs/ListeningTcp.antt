@@ -1,6 +1,7 @@
 -- The request for all TCP sockets that listen.
 use Rattle.std.specs.Prelude.{ℕ, replicate}
-use Rattle.netlink_core.specs.Envelope.{Envelope, inner}
+use Rattle.netlink_core.specs.Envelope.{Envelope}
+use Rattle.netlink_core.specs.declared.message.NetlinkPayload.TheVariants.{InnerMessage}
 use Rattle.std.specs.declared.net.ip_addr.IpAddr.{IpAddr}
 use Rattle.std.specs.declared.net.ip_addr.IpAddr.TheVariants.{V4, V6}
 use Rattle.netlink_packet_sock_diag.specs.Message.{Message, message_of}
@@ -23,7 +24,7 @@ no_address Inet6 = V6 record { segments = replicate 8 0 }
 abbrev pub listening_request : Family → ℕ → Envelope Message
 listening_request family sequence_number = record {
   header = record { length = 72; message_type = 20; flags = 0x301; sequence_number = sequence_number; port_number = 0 };
-  payload = inner (message_of inet_request (record {
+  payload = InnerMessage (message_of inet_request (record {
     family = family_number family;
     protocol = 6;
     extensions = record { 0 = 0 };

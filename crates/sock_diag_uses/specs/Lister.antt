@@ -2,8 +2,9 @@
 use Rattle.std.specs.Prelude.{◌≡◌, ℕ, List, Option, Some, None, Result, Ok, Err}
 use Rattle.std.specs.List.{filter_map}
 use Rattle.netlink_core.specs.declared.fault.DecodeError.{DecodeError}
-use Rattle.netlink_core.specs.Envelope.{Payload, done_with, error_with, no_payload, overrun_with}
-use Rattle.netlink_core.specs.Envelope.{inner}
+use Rattle.netlink_core.specs.Envelope.{Payload}
+use Rattle.netlink_core.specs.declared.message.NetlinkPayload.TheVariants.{Done, Error, Noop}
+use Rattle.netlink_core.specs.declared.message.NetlinkPayload.TheVariants.{Overrun, InnerMessage}
 use Rattle.netlink_core.specs.Items.{ItemsAre}
 use Rattle.netlink_packet_sock_diag.specs.Message.{Message, message_of, message_codec}
 use Rattle.sock_diag_records.specs.ResponseKind.{inet_request, inet_response, unix_request}
@@ -20,11 +21,11 @@ socket_of (message_of unix_response v) = Some (Socket v.header.state v.header.in
 
 -- the line of what a message carries, or of its fault
 abbrev pub line_of : Result (Payload Message) DecodeError → Option Line
-line_of (Ok (inner message)) = socket_of message
-line_of (Ok (done_with given)) = Some End
-line_of (Ok (error_with given)) = Some Failure
-line_of (Ok (overrun_with given)) = Some Failure
-line_of (Ok no_payload) = None
+line_of (Ok (InnerMessage message)) = socket_of message
+line_of (Ok (Done given)) = Some End
+line_of (Ok (Error given)) = Some Failure
+line_of (Ok (Overrun given)) = Some Failure
+line_of (Ok Noop) = None
 line_of (Err e) = Some (Refused e)
 
 -- the lines of a datagram's items, in order

@@ -6,7 +6,8 @@ use Rattle.std.specs.Bool.{then_some}
 use Rattle.std.specs.List.{AllByRecursion, starts_with}
 use Rattle.std.specs.Option.{option_and_then}
 use Rattle.netlink_core.specs.declared.fault.DecodeError.{DecodeError}
-use Rattle.netlink_core.specs.Envelope.{done_with, error_with, overrun_with, inner}
+use Rattle.netlink_core.specs.declared.message.NetlinkPayload.TheVariants.{Done, Error}
+use Rattle.netlink_core.specs.declared.message.NetlinkPayload.TheVariants.{Overrun, InnerMessage}
 use Rattle.netlink_core.specs.AttributeSet.{content}
 use Rattle.netlink_core.specs.Items.{Item, ItemsAre}
 use Rattle.sock_diag_attributes.specs.declared.unix.name.SocketName.{SocketName}
@@ -37,17 +38,17 @@ path_of (message_of unix_response v) = option_and_then path_in (first_of (conten
 
 -- it is a reply about a UNIX socket that listens, state 10
 abbrev pub listens : Item Message → Bool
-listens (Ok (inner (message_of unix_response v))) = v.header.state == 10
+listens (Ok (InnerMessage (message_of unix_response v))) = v.header.state == 10
 listens _ = false
 
 -- What is answered where so many were counted and these items are left. Nothing is, or the first of
 -- them ends the dump: well, by a number 0 in front; or with a failure, or with a fault.
 abbrev pub EndsWith : ℕ → List (Item Message) → Result (Option ℕ) DecodeError → Type 0
 EndsWith count [] answer = answer ≡ Ok (Some count)
-EndsWith count (Ok (done_with status) ∷ later) answer =
+EndsWith count (Ok (Done status) ∷ later) answer =
     answer ≡ Ok (then_some (starts_with ◌==◌ status (0 ∷ 0 ∷ 0 ∷ 0 ∷ [])) count)
-EndsWith count (Ok (error_with status) ∷ later) answer = answer ≡ Ok None
-EndsWith count (Ok (overrun_with status) ∷ later) answer = answer ≡ Ok None
+EndsWith count (Ok (Error status) ∷ later) answer = answer ≡ Ok None
+EndsWith count (Ok (Overrun status) ∷ later) answer = answer ≡ Ok None
 EndsWith count (Err e ∷ later) answer = answer ≡ Err e
 EndsWith count (_ ∷ later) answer = ⊥
 

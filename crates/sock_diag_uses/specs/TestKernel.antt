@@ -6,7 +6,8 @@ use Rattle.netlink_core.specs.declared.header.NetlinkHeader.{NetlinkHeader}
 use Rattle.netlink_core.specs.declared.fault.DecodeError.{DecodeError}
 use Rattle.netlink_core.specs.declared.fault.DecodeError.TheVariants.{UnknownMessageType}
 use Rattle.netlink_core.specs.Header.{HasHeader, IsEnvelopeFault}
-use Rattle.netlink_core.specs.Envelope.{Payload, OfInner, done_with, inner, payload_bytes}
+use Rattle.netlink_core.specs.Envelope.{Payload, OfInner, payload_bytes}
+use Rattle.netlink_core.specs.declared.message.NetlinkPayload.TheVariants as netlink
 use Rattle.netlink_core.specs.Envelope.{payload_type, envelope_codec}
 use Rattle.netlink_core.specs.Layout.{read}
 use Rattle.sock_diag_records.specs.declared.unix.request.UnixRequest.{UnixRequest}
@@ -38,11 +39,11 @@ message_under sequence_number payload = (envelope_codec message_codec).written (
 -- a reply in a message of its own; the length of each is a multiple of four, so no padding follows
 abbrev pub reply_under : ℕ → UnixResponseValue → List ℕ
 reply_under sequence_number reply =
-    message_under sequence_number (inner (message_of unix_response reply))
+    message_under sequence_number (netlink.InnerMessage (message_of unix_response reply))
 
 -- the end of a dump, with four zeros
 abbrev pub end_under : ℕ → List ℕ
-end_under sequence_number = message_under sequence_number (done_with (0 ∷ 0 ∷ 0 ∷ 0 ∷ []))
+end_under sequence_number = message_under sequence_number (netlink.Done (0 ∷ 0 ∷ 0 ∷ 0 ∷ []))
 
 -- The first bytes are a message of type 20 that asks for UNIX sockets. The others are the messages
 -- of the replies, in order, and then the end, each with its sequence number.
@@ -68,7 +69,7 @@ HasRoom payload = OfInner message_codec.fits payload × (16 + length (payload_by
 
 -- a message of its own for the reply can be written
 abbrev pub ReplyHasRoom : UnixResponseValue → Type 0
-ReplyHasRoom reply = HasRoom (inner (message_of unix_response reply))
+ReplyHasRoom reply = HasRoom (netlink.InnerMessage (message_of unix_response reply))
 
 -- no fault of a request, and `Unwritable` for this reason alone; nothing is said of memory
 abbrev pub FailsFor : Type 0 → AnswerError → Type 0

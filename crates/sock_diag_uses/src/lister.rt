@@ -5,9 +5,10 @@ ghost use Rattle.std.specs.Iterator.{Drains};
 ghost use Rattle.std.specs.List.{filter_map};
 ghost use Rattle.netlink_core.specs.declared.fault.DecodeError.{DecodeError as Fault};
 ghost use Rattle.netlink_packet_sock_diag.specs.DumpWalk.{GivesView};
-ghost use Rattle.netlink_packet_sock_diag.specs.declared.dump.views.PayloadView.{PayloadView};
+ghost use Rattle.netlink_packet_sock_diag.specs.PayloadViewModel.{PayloadView};
 ghost use Rattle.netlink_packet_sock_diag.specs.MessageViewModel.{message_view_model};
-ghost use Rattle.netlink_packet_sock_diag.specs.PayloadViewModel.{item_view_model};
+ghost use Rattle.netlink_core.specs.Faults.{map_ok};
+ghost use Rattle.netlink_packet_sock_diag.specs.PayloadViewModel.{payload_view_model};
 ghost use Rattle.sock_diag_uses.specs.Lister.{AreLinesOf, line_of, socket_of};
 
 use netlink_core::DecodeError;
@@ -52,7 +53,7 @@ pub fn equal_lines(v: &Line, w: &Line) -> bool
 fn lines_of(alloc: Global, views: DumpViews<'_>) -> Result<Vec<Line>, AllocError>
     ensures { IfOk result (λ lines. (given : List (Result PayloadView Fault))
         × Drains GivesView views.entry given
-        × (lines.items ≡ filter_map line_of (map item_view_model given))) }
+        × (lines.items ≡ filter_map line_of (map (map_ok payload_view_model) given))) }
 {
     let mut lines = Vec::new(alloc);
     for item in views {
@@ -65,7 +66,7 @@ fn lines_of(alloc: Global, views: DumpViews<'_>) -> Result<Vec<Line>, AllocError
 
 // The line of an item, if it has one.
 fn line_for(item: Result<PayloadView<'_>, DecodeError>) -> Option<Line>
-    ensures { result ≡ line_of (item_view_model item.entry) }
+    ensures { result ≡ line_of (map_ok payload_view_model item.entry) }
 {
     match item {
         Ok(PayloadView::InnerMessage(message)) => Some(socket_line(&message)),

@@ -1,6 +1,6 @@
 //! A kernel for tests: it answers a request for UNIX sockets with given replies, as one datagram.
 
-ghost use Rattle.std.specs.Prelude.{◌≡◌, ◌++◌, ℕ, List, map, OnOk, IfOk, IfErr};
+ghost use Rattle.std.specs.Prelude.{◌≡◌, ◌++◌, ℕ, List, map, OnOk, IfOk, IfErr, vec_items};
 ghost use Rattle.std.specs.List.{AllByRecursion, flat_map};
 ghost use Rattle.netlink_core.specs.EnvelopeModel.{payload_of};
 ghost use Rattle.netlink_packet_sock_diag.specs.MessageModel.{message_model};
@@ -149,8 +149,8 @@ fn push_message(
     payload: NetlinkPayload<SockDiagMessage>,
 ) -> Result<(), AnswerError>
     ensures added { OnOk result (datagram.new.items ≡ datagram.old.items
-        ++ message_under sequence_number (payload_of message_model payload)) }
-    ensures err { IfErr result (FailsFor (¬ HasRoom (payload_of message_model payload))) }
+        ++ message_under sequence_number (payload_of vec_items message_model payload)) }
+    ensures err { IfErr result (FailsFor (¬ HasRoom (payload_of vec_items message_model payload))) }
 {
     let header = NetlinkHeader {
         flags: NLM_F_MULTI,

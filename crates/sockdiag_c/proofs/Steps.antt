@@ -5,7 +5,8 @@ use Rattle.std.proofs.lemmas.List.{drop-drop, take_at}
 use Rattle.netlink_core.specs.Attribute.{Attribute, Cut, StartsWith, fill}
 use Rattle.netlink_core.specs.Datagram.{StartsWithMessage}
 use Rattle.netlink_core.specs.declared.header.NetlinkHeader.{NetlinkHeader}
-use Rattle.netlink_core.specs.Envelope.{done_with, error_with, no_payload, overrun_with}
+use Rattle.netlink_core.specs.declared.message.NetlinkPayload.TheVariants.{Done, Error, Noop}
+use Rattle.netlink_core.specs.declared.message.NetlinkPayload.TheVariants.{Overrun}
 use Rattle.netlink_core.specs.Header.{HasHeader}
 use Rattle.netlink_core.specs.PrefixLaws.{prefix_or_fault_apart}
 use Rattle.netlink_core.proofs.Cutting.{one_start}
@@ -84,10 +85,10 @@ message_passed bytes place end h head end-is =
 -- what is kept as it came is carried, and so is nothing
 pub kept_is_carried : (payload : List ℕ) (t : ℕ) → (t ≡ 1) ⊎ ((t ≡ 2) ⊎ ((t ≡ 3) ⊎ (t ≡ 4)))
     → Carries payload t 1
-kept_is_carried payload t (inl one) = inl (refl, (no_payload, one))
-kept_is_carried payload t (inr (inl two)) = inl (refl, (error_with payload, (two, refl)))
-kept_is_carried payload t (inr (inr (inl three))) = inl (refl, (done_with payload, (three, refl)))
-kept_is_carried payload t (inr (inr (inr four))) = inl (refl, (overrun_with payload, (four, refl)))
+kept_is_carried payload t (inl one) = inl (refl, (Noop, one))
+kept_is_carried payload t (inr (inl two)) = inl (refl, (Error payload, (two, refl)))
+kept_is_carried payload t (inr (inr (inl three))) = inl (refl, (Done payload, (three, refl)))
+kept_is_carried payload t (inr (inr (inr four))) = inl (refl, (Overrun payload, (four, refl)))
 
 -- ---- steps over bytes that are cut into attributes
 

@@ -3,80 +3,51 @@
 ghost use Rattle.std.specs.Prelude.{◌≡◌, ◌↔◌, length, IfOk, IfErr, IsTrue, SomeIff};
 ghost use Rattle.netlink_core.specs.Envelope.{IsInnerType, OfInner, PayloadIs, envelope_codec};
 ghost use Rattle.netlink_core.specs.Envelope.{payload_bytes};
+ghost use Rattle.netlink_core.specs.Faults.{map_ok};
 ghost use Rattle.netlink_core.specs.Items.{ItemIs};
 ghost use Rattle.netlink_packet_sock_diag.specs.Message.{message_codec};
-ghost use Rattle.netlink_packet_sock_diag.specs.PayloadViewModel.{item_view_model};
+ghost use Rattle.netlink_packet_sock_diag.specs.PayloadViewModel.{payload_view_model};
 
 use crate::message::SockDiagView;
 use netlink_core::{
     DecodeError, Emitable, MessageStrings, NETLINK_HEADER_LEN, NLMSG_DONE, NLMSG_ERROR, NLMSG_NOOP,
-    NLMSG_OVERRUN, NetlinkHeader, error_number,
+    NLMSG_OVERRUN, NetlinkHeader, NetlinkPayload,
 };
 
-/// What a message carries, read in place: a [`netlink_core::NetlinkPayload`] whose bytes are
-/// borrowed.
-#[derive(Clone, Copy, Debug, PartialEq, Eq)]
-pub enum PayloadView<'a> {
-    /// A dump ends. The bytes are those behind the header.
-    Done(&'a [u8]),
-    /// A request failed, or is acknowledged. The bytes are those behind the header.
-    Error(&'a [u8]),
-    /// Nothing.
-    Noop,
-    /// Data was lost. The bytes are those behind the header.
-    Overrun(&'a [u8]),
-    /// A message of the protocol.
-    InnerMessage(SockDiagView<'a>),
+/// What a message carries, read in place.
+pub type PayloadView<'a> = NetlinkPayload<SockDiagView<'a>, &'a [u8]>;
+
+// What a message carries behind its header, or the fault of an inner message.
+#[inline(always)]
+fn read_payload<'a>(
+    header: &NetlinkHeader,
+    payload: &'a [u8],
+) -> Result<PayloadView<'a>, DecodeError>
+    ensures value { IfOk result (λ view. PayloadIs message_codec.reads payload.entry.now
+        header.now.message_type (payload_view_model view)) }
+    ensures fault { IfErr result (λ e. IsInnerType header.now.message_type
+        × message_codec.refuses payload.entry.now header.now.message_type e) }
+{
+    Ok(match header.message_type {
+        NLMSG_NOOP => PayloadView::Noop,
+        NLMSG_ERROR => PayloadView::Error(payload),
+        NLMSG_DONE => PayloadView::Done(payload),
+        NLMSG_OVERRUN => PayloadView::Overrun(payload),
+        message_type => PayloadView::InnerMessage(SockDiagView::parse(payload, message_type)?),
+    })
 }
 
-impl<'a> PayloadView<'a> {
-    ghost use Rattle.netlink_core.specs.Envelope.{error_number_of};
-    ghost use Rattle.netlink_packet_sock_diag.specs.PayloadViewModel.{payload_view_model};
-
-    /// The number that an error or an end tells, as [`error_number`] reads it, and `None` of any
-    /// other payload.
-    pub fn error_number(&self) -> Option<i32>
-        ensures { result ≡ error_number_of (payload_view_model self.now) }
-    {
-        match self {
-            PayloadView::Done(bytes) | PayloadView::Error(bytes) => error_number(bytes),
-            _ => None,
+// How many bytes are written of what a message carries, where it can be written.
+fn payload_writable_len(payload: &PayloadView<'_>) -> Option<usize>
+    ensures { SomeIff result (OfInner message_codec.fits (payload_view_model payload.now))
+        (length (payload_bytes message_codec.written (payload_view_model payload.now))) }
+{
+    match payload {
+        PayloadView::Noop => Some(0),
+        PayloadView::Done(bytes) | PayloadView::Error(bytes) | PayloadView::Overrun(bytes) => {
+            Some(bytes.len())
         }
-    }
-
-    // What a message carries behind its header, or the fault of an inner message.
-    #[inline(always)]
-    fn read(header: &NetlinkHeader, payload: &'a [u8]) -> Result<PayloadView<'a>, DecodeError>
-        ensures value { IfOk result (λ view. PayloadIs message_codec.reads payload.entry.now
-            header.now.message_type (payload_view_model view)) }
-        ensures fault { IfErr result (λ e. IsInnerType header.now.message_type
-            × message_codec.refuses payload.entry.now header.now.message_type e) }
-    {
-        Ok(match header.message_type {
-            NLMSG_NOOP => PayloadView::Noop,
-            NLMSG_ERROR => PayloadView::Error(payload),
-            NLMSG_DONE => PayloadView::Done(payload),
-            NLMSG_OVERRUN => PayloadView::Overrun(payload),
-            message_type => PayloadView::InnerMessage(SockDiagView::parse(payload, message_type)?),
-        })
-    }
-}
-
-impl PayloadView<'_> {
-    ghost use Rattle.netlink_packet_sock_diag.specs.PayloadViewModel.{payload_view_model};
-
-    // How many bytes are written of it, where it can be written.
-    fn writable_len(&self) -> Option<usize>
-        ensures { SomeIff result (OfInner message_codec.fits (payload_view_model self.now))
-            (length (payload_bytes message_codec.written (payload_view_model self.now))) }
-    {
-        match self {
-            PayloadView::Noop => Some(0),
-            PayloadView::Done(bytes) | PayloadView::Error(bytes) | PayloadView::Overrun(bytes) => {
-                Some(bytes.len())
-            }
-            PayloadView::InnerMessage(message) => message.writable_len(),
-        }
+        PayloadView::InnerMessage(message) => message.writable_len(),
     }
 }
 
@@ -103,7 +74,7 @@ impl<'a> MessageView<'a> {
     {
         let header = NetlinkHeader::from_prefix(bytes)?;
         let payload = &bytes[NETLINK_HEADER_LEN..header.length as usize];
-        let payload = PayloadView::read(&header, payload)?;
+        let payload = read_payload(&header, payload)?;
         Ok(MessageView { header, payload })
     }
 
@@ -113,7 +84,7 @@ impl<'a> MessageView<'a> {
         ensures { IsTrue result
             ↔ (envelope_codec message_codec).fits (envelope_view_model self.now) }
     {
-        match self.payload.writable_len() {
+        match payload_writable_len(&self.payload) {
             Some(len) => len <= u32::MAX as usize - NETLINK_HEADER_LEN,
             None => false,
         }
@@ -123,7 +94,7 @@ impl<'a> MessageView<'a> {
 // What the message in these bytes carries, or the first fault.
 #[inline(always)]
 fn carried<'a>(message: &'a [u8]) -> Result<PayloadView<'a>, DecodeError>
-    ensures { ItemIs message_codec message.entry.now (item_view_model result) }
+    ensures { ItemIs message_codec message.entry.now (map_ok payload_view_model result) }
 {
     match MessageView::parse(message) {
         Ok(view) => Ok(view.payload),

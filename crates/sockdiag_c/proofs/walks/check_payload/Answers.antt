@@ -1,5 +1,6 @@
 use Rattle.std.proofs.Common.{rules, refl, inl, inr}
-use Rattle.netlink_core.specs.Envelope.{IsInnerType, inner}
+use Rattle.netlink_core.specs.Envelope.{IsInnerType}
+use Rattle.netlink_core.specs.declared.message.NetlinkPayload.TheVariants.{InnerMessage}
 use Rattle.netlink_packet_sock_diag.specs.MessageViewModel.{message_view_model}
 use Rattle.sockdiag_c.proofs.Steps.{kept_is_carried}
 use Rattle.sockdiag_c.proofs.walks.check_payload.Goals as goal
@@ -19,4 +20,4 @@ returns-in-4 c = kept_is_carried c.args.payload.now c.args.message_type (inr (in
 pub returns-in-Ok : goal.returns-in-Ok
 returns-in-Ok c =
     let other : IsInnerType c.args.message_type = search rules in
-    inl (refl, (inner (message_view_model c.in-Ok.field-0), (other, c.in-Ok.ensures.value)))
+    inl (refl, (InnerMessage (message_view_model c.in-Ok.field-0), (other, c.in-Ok.ensures.value)))

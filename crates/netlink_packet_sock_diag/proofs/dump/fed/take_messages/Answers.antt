@@ -1,8 +1,9 @@
 use Rattle.std.proofs.Common.{Ok, Err, [], arith, refl, rules}
 use Rattle.std.proofs.lemmas.Result.{err_from_is_err_and}
 use Rattle.std.proofs.lemmas.List.{append-nil, map_push}
-use Rattle.netlink_core.specs.Envelope.{IsInnerType, done_with, error_with, overrun_with}
-use Rattle.netlink_core.specs.Envelope.{no_payload, inner}
+use Rattle.netlink_core.specs.Envelope.{IsInnerType}
+use Rattle.netlink_core.specs.declared.message.NetlinkPayload.TheVariants.{Done, Error, Noop}
+use Rattle.netlink_core.specs.declared.message.NetlinkPayload.TheVariants.{Overrun, InnerMessage}
 use Rattle.netlink_core.proofs.Framing.{fault_within}
 use Rattle.netlink_core.proofs.Items.{no_items}
 use Rattle.netlink_packet_sock_diag.proofs.Dumping.{closes, cut_off, ends_at, here}
@@ -34,14 +35,14 @@ pub loop-item-preserved-in-1 : goal.loop-item-preserved-in-1
 loop-item-preserved-in-1 g c =
     let start = rw c.in_ok-message.was at c.in-Some.ensures.steps in
     let head = c.in_ok-header.ensures in
-    rw append-nil at (passes (here c.loop-item.invariant (Ok no_payload) start head
+    rw append-nil at (passes (here c.loop-item.invariant (Ok Noop) start head
     (_, (head, c.in-1.is)) c.interrupted_by.ensures) refl)
 
 pub returns-in-2 : goal.returns-in-2
 returns-in-2 g c =
     let start = rw c.in_ok-message.was at c.in-Some.ensures.steps in
     let head = c.in_ok-header.ensures in
-    ends_at (here c.loop-item.invariant (Ok (error_with _)) start head
+    ends_at (here c.loop-item.invariant (Ok (Error _)) start head
     (_, (head, (c.in-2.is, refl))) c.interrupted_by.ensures) g.met.I.Kept.laws
     (rw c.error_number.ensures)
 
@@ -49,7 +50,7 @@ pub returns-in-3 : goal.returns-in-3
 returns-in-3 g c =
     let start = rw c.in_ok-message.was at c.in-Some.ensures.steps in
     let head = c.in_ok-header.ensures in
-    ends_at (here c.loop-item.invariant (Ok (done_with _)) start head
+    ends_at (here c.loop-item.invariant (Ok (Done _)) start head
     (_, (head, (c.in-3.is, refl))) c.interrupted_by.ensures) g.met.I.Kept.laws
     (rw c.error_number-in-3.ensures)
 
@@ -57,7 +58,7 @@ pub returns-in-4 : goal.returns-in-4
 returns-in-4 g c =
     let start = rw c.in_ok-message.was at c.in-Some.ensures.steps in
     let head = c.in_ok-header.ensures in
-    ends_at (here c.loop-item.invariant (Ok (overrun_with _)) start head
+    ends_at (here c.loop-item.invariant (Ok (Overrun _)) start head
     (_, (head, (c.in-4.is, refl))) c.interrupted_by.ensures) g.met.I.Kept.laws refl
 
 pub returns-in_err-take-in_default : goal.returns-in_err-take-in_default
@@ -73,7 +74,7 @@ returns-in_err-take-in_default g c =
           (other, c.in_err-take-in_default.ensures.fault named)) c.interrupted_by.ensures)
           g.met.I.Kept.laws refl,
       λ none. let m = c.in_err-take-in_default.ensures.wanted none in
-          stops_at g.met.I.Kept.laws (here c.loop-item.invariant (Ok (inner m.0)) start head
+          stops_at g.met.I.Kept.laws (here c.loop-item.invariant (Ok (InnerMessage m.0)) start head
           (_, (head, (other, m.1))) c.interrupted_by.ensures),
     )
 
@@ -83,7 +84,7 @@ loop-item-preserved g c =
     let head = c.in_ok-header.ensures in
     let other : IsInnerType c.in_ok-header.header.message_type = search rules in
     rw (c.in_ok-push-in_default.ensures.items, map_push)
-    (passes (here c.loop-item.invariant (Ok (inner _)) start head
+    (passes (here c.loop-item.invariant (Ok (InnerMessage _)) start head
     (_, (head, (other, c.in_ok-take-in_default.ensures.value))) c.interrupted_by.ensures) refl)
 
 pub returns-in_err-push-in_default : goal.returns-in_err-push-in_default
@@ -95,7 +96,7 @@ returns-in_err-push-in_default g c =
     let other : IsInnerType c.in_ok-header.header.message_type = search rules in
     rw (p.1, p.2, c.in_err-push-in_default.ensures.items) (
       λ named. absurd (named refl),
-      λ _. stops_at g.met.I.Kept.laws (here c.loop-item.invariant (Ok (inner _)) start head
+      λ _. stops_at g.met.I.Kept.laws (here c.loop-item.invariant (Ok (InnerMessage _)) start head
           (_, (head, (other, c.in_ok-take-in_default.ensures.value))) c.interrupted_by.ensures),
     )
 

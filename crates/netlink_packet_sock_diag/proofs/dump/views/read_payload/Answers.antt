@@ -1,7 +1,7 @@
 use Rattle.std.proofs.Common.{rules}
 use Rattle.std.proofs.lemmas.Result.{err_from_is_err_and}
 use Rattle.netlink_core.specs.Envelope.{IsInnerType}
-use Rattle.netlink_packet_sock_diag.proofs.dump.views.PayloadView.read.Goals as goal
+use Rattle.netlink_packet_sock_diag.proofs.dump.views.read_payload.Goals as goal
 
 pub returns-in_err-parse-in_default-clause-fault : goal.returns-in_err-parse-in_default-clause-fault
 returns-in_err-parse-in_default-clause-fault c =
