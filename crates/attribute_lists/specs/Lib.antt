@@ -1,1 +1,3 @@
 pub mod AttributesIn
+pub mod LeadingAttribute
+pub mod StandingLaws

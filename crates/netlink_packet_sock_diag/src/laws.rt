@@ -32,7 +32,7 @@ ghost use Rattle.netlink_packet_sock_diag.specs.PayloadViewModel.{PayloadView};
 ghost use Rattle.netlink_core.specs.DatagramWalk.{datagram_left};
 ghost use Rattle.netlink_packet_sock_diag.specs.DumpWalk.{GivesView};
 ghost use Rattle.netlink_packet_sock_diag.specs.PayloadViewModel.{payload_view_model};
-ghost use Rattle.sock_diag_replies.specs.UnixResponseSpec.{UnixResponseValue};
+
 ghost use Rattle.sock_diag_replies.specs.UnixResponseSpec.{unix_response_spec};
 ghost use Rattle.sock_diag_replies.specs.InetResponseSpec.{inet_response_spec};
 ghost use Rattle.sock_diag_replies.specs.ViewModel.{view_model};
@@ -52,7 +52,8 @@ use std::alloc::{AllocError, Global};
 /// The number of bytes that a reply is written as, `buffer_len`, is a multiple of 4, for both
 /// families.
 pub fn reply_lengths_are_multiples_of_four()
-    ensures unix { (v : UnixResponseValue) → (response_codec unix_response_spec).is_in_range v
+    ensures unix { (v : ValueOf unix_response_spec)
+        → (response_codec unix_response_spec).is_in_range v
         → length (response_bytes unix_response_spec v) % 4 ≡ 0 }
     ensures inet { (v : ValueOf inet_response_spec)
         → (response_codec inet_response_spec).is_in_range v

@@ -2,11 +2,10 @@
 
 ghost use Rattle.std.specs.Prelude.{◌≡◌, ◌↔◌, Some, IsTrue, IfOk, IfErr};
 ghost use Rattle.netlink_core.specs.AttributeSet.{content};
-ghost use Rattle.netlink_core.specs.Response.{response_codec};
+ghost use Rattle.netlink_core.specs.Response.{response_codec, ValueOf};
 ghost use Rattle.sock_diag_attributes.specs.declared.unix.name.SocketName.TheVariants.{Pathname};
 ghost use Rattle.sock_diag_attributes.specs.UnixAttributes.{unix};
 ghost use Rattle.sock_diag_replies.specs.UnixGetters.{first_of};
-ghost use Rattle.sock_diag_replies.specs.UnixResponseSpec.{UnixResponseValue};
 ghost use Rattle.sock_diag_replies.specs.UnixResponseSpec.{unix_response_spec};
 
 use netlink_core::DecodeError;
@@ -16,7 +15,7 @@ use sock_diag_replies::unix::nlas::NameView;
 /// Whether a reply about a UNIX socket tells that it is bound to this path.
 pub fn is_bound_to(reply: &[u8], path: &[u8]) -> Result<bool, DecodeError>
     ensures value { IfOk result (λ bound.
-        (v : UnixResponseValue) × (response_codec unix_response_spec).reads reply.now
+        (v : ValueOf unix_response_spec) × (response_codec unix_response_spec).reads reply.now
         tt v
         × (IsTrue bound ↔ (first_of (content unix 0) v.nlas ≡ Some (Pathname path.now)))) }
     ensures fault { IfErr result ((response_codec unix_response_spec).refuses reply.now tt) }

@@ -13,8 +13,8 @@ use Rattle.netlink_core.specs.declared.fault.DecodeError.TheVariants.{AttributeH
 use Rattle.netlink_core.specs.declared.fault.DecodeError.TheVariants.{AttributeLengthUnder4}
 use Rattle.netlink_core.specs.declared.fault.DecodeError.TheVariants.{AttributeLengthPast}
 use Rattle.netlink_core.proofs.Walking.{StartsWith-some, prefix_of_start}
-use Rattle.attribute_lists.specs.AttributesIn.{attributes_behind, leading_attribute}
-use Rattle.attribute_lists.proofs.Finding.{found_first}
+use Rattle.attribute_lists.specs.LeadingAttribute.{leading_attribute}
+use Rattle.attribute_lists.specs.StandingLaws.{attributes_behind, found_first}
 use Rattle.sock_diag_captures.specs.Pieces.{Piece, followed}
 use Rattle.sock_diag_captures.specs.Pieces.{front_piece, pieces}
 

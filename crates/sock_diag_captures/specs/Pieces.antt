@@ -12,7 +12,7 @@ use Rattle.netlink_core.specs.declared.fault.DecodeError.{DecodeError}
 use Rattle.netlink_core.specs.declared.fault.DecodeError.TheVariants.{AttributeHeaderCut}
 use Rattle.netlink_core.specs.declared.fault.DecodeError.TheVariants.{AttributeLengthUnder4}
 use Rattle.netlink_core.specs.declared.fault.DecodeError.TheVariants.{AttributeLengthPast}
-use Rattle.attribute_lists.specs.AttributesIn.{leading_attribute}
+use Rattle.attribute_lists.specs.LeadingAttribute.{leading_attribute}
 
 -- an attribute, or why none stands there
 abbrev pub Piece : Type 0

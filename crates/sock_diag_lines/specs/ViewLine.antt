@@ -6,8 +6,9 @@ use Rattle.netlink_core.specs.AttributeSet.{content}
 use Rattle.sock_diag_attributes.specs.declared.unix.name.SocketName.{SocketName}
 use Rattle.sock_diag_attributes.specs.declared.unix.name.SocketName.TheVariants.{Abstract, Pathname}
 use Rattle.sock_diag_attributes.specs.UnixAttributes.{unix}
+use Rattle.netlink_core.specs.Response.{ValueOf}
 use Rattle.sock_diag_replies.specs.UnixGetters.{first_of, listening_queue_of, other_queue_of}
-use Rattle.sock_diag_replies.specs.UnixResponseSpec.{UnixResponseValue}
+use Rattle.sock_diag_replies.specs.UnixResponseSpec.{unix_response_spec}
 use Rattle.sock_diag_lines.specs.HexField.{field_of}
 
 -- the text of what is found, or `none`
@@ -26,7 +27,7 @@ comma_list [] = codes "-"
 comma_list (n ∷ ns) = decimal n ++ flat_map (λ m. 44 ∷ decimal m) ns
 
 -- thirteen words with one space, 32, between: three of the header, and one for each getter
-abbrev pub reply_text : UnixResponseValue → List ℕ
+abbrev pub reply_text : ValueOf unix_response_spec → List ℕ
 reply_text v =
     let found = λ (k : ℕ). first_of (content unix k) v.nlas in
     join_with_byte 32 (decimal v.header.kind ∷ decimal v.header.state ∷ decimal v.header.inode ∷

@@ -11,9 +11,11 @@ use Rattle.std.specs.Slice.Iter.{iter_rest, iter_steps}
 use Rattle.std.proofs.lemmas.Iterator.{YieldsList}
 use Rattle.std.proofs.lemmas.Iterator.Consumers.{YieldsList-so_far, YieldsList-end}
 use Rattle.std.proofs.lemmas.Iterator.Consumers.{YieldsList-from_shown, YieldsList-from_first}
-use Rattle.netlink_core.specs.AttributeSet.{AttributeValue, ValueAt, content}
+use Rattle.attribute_lists.specs.AttributesIn.{values_in}
+use Rattle.netlink_core.specs.AttributeSet.{AttributeValue, ValueAt, content, decodes}
 use Rattle.netlink_core.specs.declared.attribute.NlaBuffer.{NlaBuffer}
 use Rattle.netlink_core.specs.declared.nla.DefaultNla.{DefaultNla}
+use Rattle.netlink_core.specs.Walk.{bytes_left}
 use Rattle.sock_diag_attributes.specs.declared.numbers.NumbersView.{NumbersView}
 use Rattle.sock_diag_attributes.specs.declared.unix.name.SocketName.{SocketName}
 use Rattle.sock_diag_attributes.specs.declared.unix.nlas.UnixNla.{UnixNla}
@@ -22,7 +24,6 @@ use Rattle.sock_diag_attributes.specs.UnixAttributes.{unix}
 use Rattle.sock_diag_replies.specs.declared.view.AttributeViews.{AttributeViews}
 use Rattle.sock_diag_replies.specs.declared.view.ReplyHeader.{Ghosts}
 use Rattle.sock_diag_replies.specs.UnixGetters.{first_of}
-use Rattle.sock_diag_replies.specs.ViewModel.{left_in}
 use denote.Param.Members.{Mut}
 use lib.ListN.{length-map}
 
@@ -116,16 +117,20 @@ first_owned {s = s} k shows blank filled xs rest told =
     first_found (λ x. nla_model x.now) (content unix k) shows blank filled told
     (subst (λ ys. YieldsList iter_steps (λ x. nla_model x.now) s (map nla_model ys)) rest said)
 
+-- what the attributes that the iterator has not given yet decode to
+abbrev left_in : {H : Type 0} {of : Ghosts H} → AttributeViews H of → List (AttributeValue unix)
+left_in views = values_in (decodes unix) (bytes_left views.walk)
+
 -- and in a walk over such as are read in place
 pub first_in_view : {H : Type 0} {of : Ghosts H} {C F : Type 0}
     {g : Mut F (NlaView × Unit {0}) (Option C)} {f : F} {s : AttributeViews H of} (k : ℕ)
     (shows : Option C → Option (ValueAt unix k))
     → shows None ≡ None → ((y : C) → IsSome (shows (Some y)))
-    → (all : List (AttributeValue unix)) → left_in unix s ≡ all
+    → (all : List (AttributeValue unix)) → left_in s ≡ all
     → ((x : NlaView) (o : Option C) (q : F) → Called g f (x, tt) o q → (q ≡ f)
     × (shows o ≡ content unix k (nla_view_model x)))
-    → (r : Option C) → Finds (YieldsFirstBy nla_view_model (left_in unix)) g s f r
+    → (r : Option C) → Finds (YieldsFirstBy nla_view_model left_in) g s f r
     → shows r ≡ first_of (content unix k) all
 first_in_view k shows blank filled all rest told =
     first_found nla_view_model (content unix k) shows blank filled told
-    (YieldsList-from_first nla_view_model (left_in unix) all rest)
+    (YieldsList-from_first nla_view_model left_in all rest)

@@ -1,6 +1,6 @@
 -- Replies about IPv4 and IPv6 sockets: the header of 72 bytes, and then attributes.
 use Rattle.netlink_core.specs.ValueCodec.{value_codec}
-use Rattle.netlink_core.specs.Response.{ResponseSpec, ValueOf}
+use Rattle.netlink_core.specs.Response.{ResponseSpec}
 use Rattle.sock_diag_records.specs.InetResponse.{inet_response_header}
 use Rattle.sock_diag_attributes.specs.InetAttributes.{inet}
 
@@ -8,7 +8,3 @@ use Rattle.sock_diag_attributes.specs.InetAttributes.{inet}
 abbrev pub inet_response_spec : ResponseSpec
 inet_response_spec =
     record { header = value_codec inet_response_header; size = 72; attribute_set = inet }
-
--- the value of a reply, without where it lies in memory
-abbrev pub InetResponseValue : Type 0
-InetResponseValue = ValueOf inet_response_spec

@@ -3,6 +3,7 @@ use Rattle.std.proofs.Common.{◌≡◌, ◌↔◌, ℕ, ◌≤◌, List, Bool, 
 use Rattle.std.proofs.Common.{Ok, arith}
 use Rattle.std.proofs.lemmas.List.{get_or_append_left}
 use Rattle.netlink_core.specs.Layout.{read}
+use Rattle.netlink_core.specs.Response.{ValueOf}
 use Rattle.netlink_core.specs.ShownLaws.{ResponseLaws}
 use Rattle.sock_diag_records.specs.contracts.inet.exact.InetResponseHeaderExact.TheImpl.Laws.{exact-law as exact_header}
 use Rattle.sock_diag_records.specs.contracts.inet.response.InetResponseHeaderPartialEq.TheImpl.{ghosts as headers}
@@ -16,7 +17,7 @@ use Rattle.sock_diag_attributes.specs.InetAttributes.{inet}
 use Rattle.sock_diag_attributes.specs.InetAttributeLaws.{inet_laws}
 use Rattle.sock_diag_replies.specs.EqualResponseLaws.{response_test, response_test_decides}
 use Rattle.sock_diag_replies.specs.HeaderLaws.{enough, response_laws}
-use Rattle.sock_diag_replies.specs.InetResponseSpec.{InetResponseValue, inet_response_spec}
+use Rattle.sock_diag_replies.specs.InetResponseSpec.{inet_response_spec}
 
 -- bytes behind a header change nothing of what it tells
 goes_on : (tag : IpVersions × ℕ) (left rest : List ℕ) → inet_response_header.least ≤ length left
@@ -42,8 +43,8 @@ pub inet_response_laws : ResponseLaws inet_response_spec
 inet_response_laws = response_laws inet_response_header header_size header_sound goes_on inet_laws
 
 -- the test of two replies
-abbrev pub inet_test : InetResponseValue → InetResponseValue → Bool
+abbrev pub inet_test : ValueOf inet_response_spec → ValueOf inet_response_spec → Bool
 inet_test = response_test headers.eq inet inet_tests
 
-pub inet_test_decides : (v w : InetResponseValue) → IsTrue (inet_test v w) ↔ (v ≡ w)
+pub inet_test_decides : (v w : ValueOf inet_response_spec) → IsTrue (inet_test v w) ↔ (v ≡ w)
 inet_test_decides = response_test_decides headers.eq inet inet_tests exact_header.0

@@ -1,6 +1,5 @@
 pub mod UnixResponseSpec
 pub mod UnixResponseSpecLaws
-pub mod UnixResponseModel
 pub mod UnixGetters
 pub mod InetResponseSpec
 pub mod InetResponseSpecLaws
@@ -8,3 +7,4 @@ pub mod ResponseModel
 pub mod ViewModel
 pub mod EqualResponseLaws
 pub mod HeaderLaws
+pub mod OneValueLaws

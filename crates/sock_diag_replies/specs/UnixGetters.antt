@@ -2,17 +2,18 @@
 use Rattle.std.specs.Prelude.{ℕ, ◌==◌, if◌then◌else◌, List, Option, None, slice_get}
 use Rattle.std.specs.List.{filter_map}
 use Rattle.netlink_core.specs.AttributeSet.{content}
+use Rattle.netlink_core.specs.Response.{ValueOf}
 use Rattle.sock_diag_attributes.specs.UnixAttributes.{unix}
-use Rattle.sock_diag_replies.specs.UnixResponseSpec.{UnixResponseValue}
+use Rattle.sock_diag_replies.specs.UnixResponseSpec.{unix_response_spec}
 
 -- the first content that an element of the list has
 abbrev pub first_of : {A B : Type 0} → (A → Option B) → List A → Option B
 first_of content xs = slice_get (filter_map content xs) 0
 
 -- the lengths of the queues of a listening socket, whose state is 10
-abbrev pub listening_queue_of : UnixResponseValue → Option (ℕ × ℕ)
+abbrev pub listening_queue_of : ValueOf unix_response_spec → Option (ℕ × ℕ)
 listening_queue_of v = if v.header.state == 10 then first_of (content unix 4) v.nlas else None
 
 -- those of any other socket
-abbrev pub other_queue_of : UnixResponseValue → Option (ℕ × ℕ)
+abbrev pub other_queue_of : ValueOf unix_response_spec → Option (ℕ × ℕ)
 other_queue_of v = if v.header.state == 10 then None else first_of (content unix 4) v.nlas

@@ -1,6 +1,6 @@
 -- Replies about UNIX sockets: the header of 16 bytes, and then attributes.
 use Rattle.netlink_core.specs.ValueCodec.{value_codec}
-use Rattle.netlink_core.specs.Response.{ResponseSpec, ValueOf}
+use Rattle.netlink_core.specs.Response.{ResponseSpec}
 use Rattle.sock_diag_records.specs.UnixResponseHeader.{unix_response_header}
 use Rattle.sock_diag_attributes.specs.UnixAttributes.{unix}
 
@@ -8,7 +8,3 @@ use Rattle.sock_diag_attributes.specs.UnixAttributes.{unix}
 abbrev pub unix_response_spec : ResponseSpec
 unix_response_spec =
     record { header = value_codec unix_response_header; size = 16; attribute_set = unix }
-
--- the value of a reply, without where it lies in memory
-abbrev pub UnixResponseValue : Type 0
-UnixResponseValue = ValueOf unix_response_spec

@@ -1,6 +1,7 @@
 -- The laws of replies about UNIX sockets.
 use Rattle.std.proofs.Common.{◌≡◌, ◌≤◌, ◌↔◌, ℕ, List, Bool, IsTrue, length, Ok, refl}
 use Rattle.netlink_core.specs.Layout.{read}
+use Rattle.netlink_core.specs.Response.{ValueOf}
 use Rattle.netlink_core.specs.ShownLaws.{ResponseLaws}
 use Rattle.sock_diag_records.specs.contracts.unix.response.UnixResponseHeaderExact.TheImpl.Laws.{exact-law as exact_header}
 use Rattle.sock_diag_records.specs.contracts.unix.response.UnixResponseHeaderPartialEq.TheImpl.{ghosts as headers}
@@ -12,7 +13,7 @@ use Rattle.sock_diag_attributes.specs.UnixAttributes.{unix}
 use Rattle.sock_diag_attributes.specs.UnixAttributeLaws.{unix_laws}
 use Rattle.sock_diag_replies.specs.EqualResponseLaws.{response_test, response_test_decides}
 use Rattle.sock_diag_replies.specs.HeaderLaws.{enough, response_laws}
-use Rattle.sock_diag_replies.specs.UnixResponseSpec.{UnixResponseValue, unix_response_spec}
+use Rattle.sock_diag_replies.specs.UnixResponseSpec.{unix_response_spec}
 
 -- a string with a header has all its bytes
 pub header_enough : (b : List ℕ) (h : UnixResponseHeader) → read unix_response_header tt b ≡ Ok h
@@ -29,8 +30,8 @@ unix_response_laws = response_laws unix_response_header (
     (λ tag left rest long e. e) unix_laws
 
 -- the test of two replies
-abbrev pub unix_test : UnixResponseValue → UnixResponseValue → Bool
+abbrev pub unix_test : ValueOf unix_response_spec → ValueOf unix_response_spec → Bool
 unix_test = response_test headers.eq unix unix_tests
 
-pub unix_test_decides : (v w : UnixResponseValue) → IsTrue (unix_test v w) ↔ (v ≡ w)
+pub unix_test_decides : (v w : ValueOf unix_response_spec) → IsTrue (unix_test v w) ↔ (v ≡ w)
 unix_test_decides = response_test_decides headers.eq unix unix_tests exact_header.0

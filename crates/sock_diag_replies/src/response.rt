@@ -8,8 +8,7 @@ ghost use Rattle.netlink_core.specs.Codec.{KeepsLaws};
 ghost use Rattle.netlink_core.specs.declared.fault.DecodeError.{DecodeError};
 ghost use Rattle.netlink_core.specs.AttributeSet.{decodes, encodes, IsSpareBy};
 ghost use Rattle.netlink_core.specs.Response.{response_bytes, response_codec};
-ghost use Rattle.attribute_lists.specs.AttributesIn.{HasNoFault, response_behind, response_with};
-ghost use Rattle.attribute_lists.specs.AttributesIn.{values_in};
+ghost use Rattle.attribute_lists.specs.AttributesIn.{HasNoFault, response_behind, values_in};
 
 use crate::reply::{emit_reply, fitting_reply_len, reply_len, without_memory};
 use crate::view::{ReplyHeader, ReplyView};
@@ -64,7 +63,7 @@ pub trait ReplyOwned: ReplyHeader + Exact + Emitable {
         ≡ map (encodes set) (values_in (decodes set) b)) };
 
     ghost keeps: { KeepsLaws (response_codec
-        (response_with Self.ReplyHeader.reply Self.Nla.FamilyNla.attribute_set)) };
+        (record (Self.ReplyHeader.reply) { attribute_set = Self.Nla.FamilyNla.attribute_set })) };
 }
 
 impl<H: ReplyOwned + Debug, N: Debug> Debug for Reply<H, N> {
@@ -86,8 +85,8 @@ impl<H: ReplyOwned> Reply<H, H::Nla> {
             response_model H.header_model H.Nla.FamilyNla.model copy
             ≡ response_model H.header_model H.Nla.FamilyNla.model
             self.now) }
-        ensures spare { (response_codec (response_with H.reply
-            H.Nla.FamilyNla.attribute_set)).is_spare
+        ensures spare { (response_codec
+            (record (H.reply) { attribute_set = H.Nla.FamilyNla.attribute_set })).is_spare
             (response_model H.header_model H.Nla.FamilyNla.model self.now)
             → IsOk result }
     {
@@ -149,12 +148,12 @@ impl<H: ReplyOwned> ReplyView<'_, H> {
     pub fn to_owned(&self, alloc: Global) -> Result<Reply<H, H::Nla>, AllocError>
         ensures equal { IfOk result (λ reply.
             response_model H.header_model H.Nla.FamilyNla.model reply
-            ≡ response_behind (response_with H.reply H.Nla.FamilyNla.attribute_set)
+            ≡ response_behind (record (H.reply) { attribute_set = H.Nla.FamilyNla.attribute_set })
             (view_model self.now).header
             (drop H.reply.size self.now.bytes.now)) }
-        ensures spare { (response_codec (response_with H.reply
-            H.Nla.FamilyNla.attribute_set)).is_spare
-            (response_behind (response_with H.reply H.Nla.FamilyNla.attribute_set)
+        ensures spare { (response_codec
+            (record (H.reply) { attribute_set = H.Nla.FamilyNla.attribute_set })).is_spare
+            (response_behind (record (H.reply) { attribute_set = H.Nla.FamilyNla.attribute_set })
             (view_model self.now).header
             (drop H.reply.size self.now.bytes.now)) → IsOk result }
     {
@@ -171,7 +170,7 @@ impl<H: ReplyOwned> ReplyView<'_, H> {
     pub fn to_boxed(&self, alloc: Global) -> Result<Box<Reply<H, H::Nla>>, AllocError>
         ensures { IfOk result (λ reply. response_model H.header_model H.Nla.FamilyNla.model
             reply.value
-            ≡ response_behind (response_with H.reply H.Nla.FamilyNla.attribute_set)
+            ≡ response_behind (record (H.reply) { attribute_set = H.Nla.FamilyNla.attribute_set })
             (view_model self.now).header
             (drop H.reply.size self.now.bytes.now)) }
     {
@@ -188,11 +187,12 @@ impl<H: ReplyOwned> ReplyView<'_, H> {
 impl<H: ReplyOwned> Emitable for Reply<H, H::Nla> {
     ghost use Rattle.sock_diag_replies.specs.ResponseModel.{response_model};
 
-    ghost bytes = { λ v. response_bytes (response_with H.reply H.Nla.FamilyNla.attribute_set)
+    ghost bytes = { λ v. response_bytes
+        (record (H.reply) { attribute_set = H.Nla.FamilyNla.attribute_set })
         (response_model H.header_model H.Nla.FamilyNla.model v) };
 
     ghost writable = { λ v. (response_codec
-        (response_with H.reply H.Nla.FamilyNla.attribute_set)).fits
+        (record (H.reply) { attribute_set = H.Nla.FamilyNla.attribute_set })).fits
         (response_model H.header_model H.Nla.FamilyNla.model v) };
 
     fn is_writable(&self) -> bool {
@@ -218,7 +218,8 @@ impl<H: ReplyOwned> Coded for Reply<H, H::Nla> {
 
     type Param = ();
 
-    ghost codec = { response_codec (response_with H.reply H.Nla.FamilyNla.attribute_set) };
+    ghost codec = { response_codec
+        (record (H.reply) { attribute_set = H.Nla.FamilyNla.attribute_set }) };
 
     ghost model = { response_model H.header_model H.Nla.FamilyNla.model };
 

@@ -3,7 +3,7 @@
 ghost use Rattle.std.specs.Prelude.{◌≡◌, ◌≢◌, ◌≤◌, ◌↔◌, ◌++◌, ⊤, ℕ, List, Bool, length, drop, map};
 ghost use Rattle.std.specs.Prelude.{Ok, Err, OnOk, IfOk, IfErr, IsTrue, Some, IfSome, SomeIff};
 ghost use Rattle.std.specs.Cmp.{partial_equiv_from_equiv};
-ghost use Rattle.std.specs.Iterator.{Drains, UpTo, YieldsFirstBy, YieldsThen, item_count};
+ghost use Rattle.std.specs.Iterator.{Drains, UpTo, YieldsFirstBy, YieldsThen, at_most};
 ghost use Rattle.std.specs.Iterator.SizeHint.{IsWithinCount};
 ghost use Rattle.netlink_core.specs.declared.fault.DecodeError.{DecodeError as Fault};
 ghost use Rattle.netlink_core.specs.declared.fault.DecodeError.TheVariants.{Memory};
@@ -14,8 +14,8 @@ ghost use Rattle.netlink_core.specs.Response.{ResponseSpec, ValueOf, response_by
 ghost use Rattle.netlink_core.specs.Response.{response_codec};
 ghost use Rattle.netlink_core.specs.Walk.{bytes_left};
 ghost use Rattle.netlink_core.proofs.Equality.{equivalence};
-ghost use Rattle.attribute_lists.specs.AttributesIn.{HasNoFault, IsAccepted, response_behind};
-ghost use Rattle.attribute_lists.specs.AttributesIn.{response_with, values_in};
+ghost use Rattle.attribute_lists.specs.AttributesIn.{HasNoFault, response_behind, values_in};
+ghost use Rattle.sock_diag_replies.specs.OneValueLaws.{one_value_in};
 
 use attribute_lists::{CheckedNlas, next_view};
 use netlink_core::{DecodeError, Emitable, FamilyView, NlasIterator};
@@ -109,7 +109,11 @@ pub struct ReplyView<'a, H: ReplyHeader> {
     count: usize,
     header: PhantomData<H>,
     ghost long: { H.reply.size ≤ length bytes.now },
-    ghost accepted: { IsAccepted H.reply bytes.now },
+    // What the header says.
+    ghost head: { (h : H.reply.header.Value)
+        × (H.reply.header.reads tt bytes.now ≡ Ok h) } by { one_value_in
+            (H.reply.header.reads tt bytes.now) },
+    ghost clean: { HasNoFault (decodes H.reply.attribute_set) (drop H.reply.size bytes.now) },
     ghost counted: { count
         ≡ length (values_in (decodes H.reply.attribute_set) (drop H.reply.size bytes.now)) },
 }
@@ -188,7 +192,6 @@ impl<'a, H: ReplyHeader> ReplyView<'a, H> {
 
 impl<'a, H: ReplyViews<'a>> ReplyView<'a, H> {
     ghost use Rattle.attribute_lists.specs.declared.checked.CheckedNlas.{CheckedNlas};
-    ghost use Rattle.sock_diag_replies.specs.ViewModel.{left_in};
 
     /// The header, and the attributes, each of which is checked as it is given: for who wants each
     /// once. It takes no memory. A fault of the header is told here, and that of an attribute in
@@ -203,7 +206,7 @@ impl<'a, H: ReplyViews<'a>> ReplyView<'a, H> {
         ensures left { IfOk result (λ parts.
             bytes_left parts.1.walk ≡ drop H.reply.size bytes.entry.now) }
         ensures value { let reply = response_codec
-            (response_with H.reply H.View.FamilyView.attribute_set) in
+            (record (H.reply) { attribute_set = H.View.FamilyView.attribute_set }) in
             let gives = ⟦<CheckedNlas<'a, H::View> as Iterator>⟧.next_gives in
             IfOk result (λ parts. (nlas : List H.View)
             → Drains gives parts.1 (map (λ (nla : H.View). Ok nla) nlas)
@@ -212,7 +215,7 @@ impl<'a, H: ReplyViews<'a>> ReplyView<'a, H> {
               nlas = map H.View.FamilyView.model nlas;
             })) }
         ensures refused { let reply = response_codec
-            (response_with H.reply H.View.FamilyView.attribute_set) in
+            (record (H.reply) { attribute_set = H.View.FamilyView.attribute_set }) in
             let gives = ⟦<CheckedNlas<'a, H::View> as Iterator>⟧.next_gives in
             IfOk result (λ parts. (nlas : List H.View) (e : Fault) (last : CheckedNlas H.View)
             → YieldsThen gives parts.1 (map (λ (nla : H.View). Ok nla) nlas) (Some (Err e)) last
@@ -226,9 +229,9 @@ impl<'a, H: ReplyViews<'a>> ReplyView<'a, H> {
 
     /// The attributes, in the order that they came.
     pub fn attributes(&self) -> AttributeViews<'a, H>
-        ensures { left_in H.View.FamilyView.attribute_set result
-            ≡ values_in (decodes H.View.FamilyView.attribute_set)
-            (drop H.reply.size self.now.bytes.now) }
+        ensures { let reads = decodes H.View.FamilyView.attribute_set in
+            values_in reads (bytes_left result.walk)
+            ≡ values_in reads (drop H.reply.size self.now.bytes.now) }
     {
         AttributeViews {
             walk: NlasIterator::new(self.attribute_bytes()),
@@ -302,10 +305,9 @@ pub struct AttributeViews<'a, H: ReplyHeader> {
 }
 
 impl<H: ReplyHeader> Clone for AttributeViews<'_, H> {
-    ghost use Rattle.sock_diag_replies.specs.ViewModel.{left_in};
-
-    ghost is_clone = { λ views copy. left_in H.reply.attribute_set copy
-        ≡ left_in H.reply.attribute_set views };
+    ghost is_clone = { λ views copy. values_in (decodes H.reply.attribute_set)
+        (bytes_left copy.walk)
+        ≡ values_in (decodes H.reply.attribute_set) (bytes_left views.walk) };
 
     ghost is_infallible = { λ _. ⊤ };
 
@@ -319,14 +321,14 @@ impl<H: ReplyHeader> Clone for AttributeViews<'_, H> {
 }
 
 impl<'a, H: ReplyViews<'a>> Iterator for AttributeViews<'a, H> {
-    ghost use Rattle.sock_diag_replies.specs.ViewModel.{left_in};
-
     type Item = H::View;
 
-    ghost next_gives = { YieldsFirstBy H.View.FamilyView.model
-        (left_in H.View.FamilyView.attribute_set) };
+    ghost next_gives = { λ old given new. YieldsFirstBy H.View.FamilyView.model (λ walk.
+        values_in (decodes H.View.FamilyView.attribute_set) (bytes_left walk)) old.walk given
+        new.walk };
 
-    ghost remaining = { item_count (left_in H.View.FamilyView.attribute_set) };
+    ghost remaining = { λ views. at_most (length
+        (values_in (decodes H.View.FamilyView.attribute_set) (bytes_left views.walk))) };
 
     #[inline(always)]
     fn next(&mut self) -> Option<H::View> {
@@ -337,12 +339,15 @@ impl<'a, H: ReplyViews<'a>> Iterator for AttributeViews<'a, H> {
 
     /// How many attributes are left, exactly.
     fn size_hint(&self) -> (usize, Option<usize>)
-        ensures lower { IsWithinCount result.0
-            (item_count (left_in H.View.FamilyView.attribute_set) self.now) }
-        ensures upper { IfSome result.1
-            (UpTo (item_count (left_in H.View.FamilyView.attribute_set) self.now)) }
-        ensures exact { let left = length (left_in H.View.FamilyView.attribute_set self.now) in
-            result ≡ (left, Some left) }
+        ensures lower { let left = values_in (decodes H.View.FamilyView.attribute_set)
+            (bytes_left self.now.walk) in
+            IsWithinCount result.0 (at_most (length left)) }
+        ensures upper { let left = values_in (decodes H.View.FamilyView.attribute_set)
+            (bytes_left self.now.walk) in
+            IfSome result.1 (UpTo (at_most (length left))) }
+        ensures exact { let left = values_in (decodes H.View.FamilyView.attribute_set)
+            (bytes_left self.now.walk) in
+            result ≡ (length left, Some (length left)) }
     {
         (self.count, Some(self.count))
     }

@@ -16,11 +16,11 @@ use Rattle.netlink_core.specs.declared.message.NetlinkPayload.TheVariants.{Done,
 use Rattle.netlink_core.specs.Envelope.{payload_bytes, payload_type, envelope_codec}
 use Rattle.netlink_core.proofs.Datagrams.{IsOfOwnLength}
 use Rattle.netlink_core.specs.Items.{Item, ItemIs, ItemsAre}
-use Rattle.netlink_core.specs.Response.{response_bytes, response_codec}
+use Rattle.netlink_core.specs.Response.{response_bytes, response_codec, ValueOf}
 use Rattle.netlink_packet_sock_diag.specs.Dump.{end_of, kept}
 use Rattle.netlink_packet_sock_diag.specs.Message.{Message, message_of, message_codec}
 use Rattle.sock_diag_records.specs.ResponseKind.{unix_response}
-use Rattle.sock_diag_replies.specs.UnixResponseSpec.{UnixResponseValue, unix_response_spec}
+use Rattle.sock_diag_replies.specs.UnixResponseSpec.{unix_response_spec}
 use Rattle.sock_diag_uses.specs.TestKernel.{CanBeSent, IsAnswer, IsWholeDump, end_under}
 use Rattle.sock_diag_uses.specs.TestKernel.{message_under, reply_under}
 
@@ -138,18 +138,20 @@ module _ (reads_back : (v : Envelope Message) → (envelope_codec message_codec)
     );
   }
 
-  carries_reply : ((v : UnixResponseValue) → (response_codec unix_response_spec).is_in_range v
+  carries_reply : ((v : ValueOf unix_response_spec)
+      → (response_codec unix_response_spec).is_in_range v
       → length (response_bytes unix_response_spec v) % 4 ≡ 0)
-      → (n : ℕ) → n < 2 ^ 32 → (r : UnixResponseValue) → CanBeSent r
+      → (n : ℕ) → n < 2 ^ 32 → (r : ValueOf unix_response_spec) → CanBeSent r
       → Carries (reply_under n r) (Ok (InnerMessage (sent r)))
   carries_reply even n small r found = carries_payload n (InnerMessage (sent r)) (
     header_in_range n (InnerMessage (sent r)) small found.short (omega arith),
     found.in_range,
   ) (found.fits, found.short) (refl, inr refl, found.normal) (even r found.in_range)
 
-  carries_all : ((v : UnixResponseValue) → (response_codec unix_response_spec).is_in_range v
+  carries_all : ((v : ValueOf unix_response_spec)
+      → (response_codec unix_response_spec).is_in_range v
       → length (response_bytes unix_response_spec v) % 4 ≡ 0)
-      → (n : ℕ) → n < 2 ^ 32 → (rs : List UnixResponseValue) → AllByRecursion CanBeSent rs
+      → (n : ℕ) → n < 2 ^ 32 → (rs : List (ValueOf unix_response_spec)) → AllByRecursion CanBeSent rs
       → AllByRecursion (λ r. Carries (reply_under n r) (Ok (InnerMessage (sent r)))) rs
   carries_all even n small [] found = tt
   carries_all even n small (r ∷ rs) found =
@@ -162,14 +164,14 @@ module _ (reads_back : (v : Envelope Message) → (envelope_codec message_codec)
 
 -- ---- the dump
 
-plain_all : (rs : List UnixResponseValue)
+plain_all : (rs : List (ValueOf unix_response_spec))
     → AllByRecursion (λ item. end_of {A = Message} item ≡ None)
     (map (λ r. Ok (InnerMessage (sent r))) rs)
 plain_all [] = tt
 plain_all (r ∷ rs) = (refl, plain_all rs)
 
-keeps_all : (rs : List UnixResponseValue) → map sent rs
-    ≡ flat_map kept (map (λ (r : UnixResponseValue). Ok (InnerMessage (sent r))) rs)
+keeps_all : (rs : List (ValueOf unix_response_spec)) → map sent rs
+    ≡ flat_map kept (map (λ (r : ValueOf unix_response_spec). Ok (InnerMessage (sent r))) rs)
 keeps_all [] = refl
 keeps_all (r ∷ rs) = ap (λ (ms : List Message). sent r ∷ ms) (keeps_all rs)
 
@@ -177,14 +179,15 @@ pub whole_dump : ((v : Envelope Message) → (envelope_codec message_codec).is_i
     → (envelope_codec message_codec).fits v → v.header ≡ finalized message_codec.written (λ _. 20) v
     → ((envelope_codec message_codec).reads ((envelope_codec message_codec).written v) tt v
     ↔ OfInner (message_codec.is_normal 20) v.payload))
-    → ((v : UnixResponseValue) → (response_codec unix_response_spec).is_in_range v
+    → ((v : ValueOf unix_response_spec)
+    → (response_codec unix_response_spec).is_in_range v
     → length (response_bytes unix_response_spec v) % 4
     ≡ 0)
     → ((front back : List ℕ) (messages : List (List ℕ))
     (xs ys : List (Item Message)) → CutIntoMessages front messages None × (length front % 4 ≡ 0)
     → ItemsAre message_codec front xs → ItemsAre message_codec back ys
     → ItemsAre message_codec (front ++ back) (xs ++ ys))
-    → (request : List ℕ) (replies : List UnixResponseValue) (datagram : List ℕ)
+    → (request : List ℕ) (replies : List (ValueOf unix_response_spec)) (datagram : List ℕ)
     → IsAnswer request replies datagram → AllByRecursion CanBeSent replies
     → IsWholeDump datagram replies
 whole_dump reads_back even concatenation request replies datagram answer found =
@@ -192,7 +195,7 @@ whole_dump reads_back even concatenation request replies datagram answer found =
     let small = answer.framed.1.1.1.1.0 in
     let ends = one_item (end_under n) (Ok (Done (0 ∷ 0 ∷ 0 ∷ 0 ∷ [])))
     (carries_end reads_back n small) in
-    let items = map (λ (r : UnixResponseValue). Ok (InnerMessage (sent r))) replies
+    let items = map (λ (r : ValueOf unix_response_spec). Ok (InnerMessage (sent r))) replies
     ++ (Ok (Done (0 ∷ 0 ∷ 0 ∷ 0 ∷ [])) ∷ []) in
     let all = items_of_all concatenation (reply_under n) (λ r.
     Ok (InnerMessage (sent r)))
@@ -206,7 +209,7 @@ whole_dump reads_back even concatenation request replies datagram answer found =
           tt,
         ),
         rw append-nil (
-          map (λ (r : UnixResponseValue). Ok (InnerMessage (sent r))) replies,
+          map (λ (r : ValueOf unix_response_spec). Ok (InnerMessage (sent r))) replies,
           Ok (Done (0 ∷ 0 ∷ 0 ∷ 0 ∷ [])) ∷ [],
           refl,
           plain_all replies,

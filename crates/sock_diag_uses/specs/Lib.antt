@@ -4,3 +4,4 @@ pub mod Stored
 pub mod Lister
 pub mod Link
 pub mod TestKernel
+pub mod UnixResponseModel

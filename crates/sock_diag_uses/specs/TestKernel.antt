@@ -12,12 +12,12 @@ use Rattle.netlink_core.specs.Envelope.{payload_type, envelope_codec}
 use Rattle.netlink_core.specs.Layout.{read}
 use Rattle.sock_diag_records.specs.declared.unix.request.UnixRequest.{UnixRequest}
 use Rattle.sock_diag_records.specs.UnixRequest.{unix_request}
-use Rattle.netlink_core.specs.Response.{response_bytes, response_codec}
+use Rattle.netlink_core.specs.Response.{ValueOf, response_bytes, response_codec}
 use Rattle.netlink_packet_sock_diag.specs.declared.dump.DumpState.TheVariants.{Done}
 use Rattle.netlink_packet_sock_diag.specs.Dump.{DatagramsDump}
 use Rattle.netlink_packet_sock_diag.specs.Message.{Message, message_of, message_codec}
 use Rattle.sock_diag_records.specs.ResponseKind.{unix_response}
-use Rattle.sock_diag_replies.specs.UnixResponseSpec.{UnixResponseValue, unix_response_spec}
+use Rattle.sock_diag_replies.specs.UnixResponseSpec.{unix_response_spec}
 use Rattle.sock_diag_uses.specs.declared.test_kernel.AnswerError.{AnswerError}
 use Rattle.sock_diag_uses.specs.declared.test_kernel.AnswerError.TheVariants.{Request, Unwritable}
 use Rattle.sock_diag_uses.specs.declared.test_kernel.AnswerError.TheVariants.{Memory}
@@ -37,7 +37,7 @@ message_under sequence_number payload = (envelope_codec message_codec).written (
 })
 
 -- a reply in a message of its own; the length of each is a multiple of four, so no padding follows
-abbrev pub reply_under : ℕ → UnixResponseValue → List ℕ
+abbrev pub reply_under : ℕ → ValueOf unix_response_spec → List ℕ
 reply_under sequence_number reply =
     message_under sequence_number (netlink.InnerMessage (message_of unix_response reply))
 
@@ -47,8 +47,8 @@ end_under sequence_number = message_under sequence_number (netlink.Done (0 ∷ 0
 
 -- The first bytes are a message of type 20 that asks for UNIX sockets. The others are the messages
 -- of the replies, in order, and then the end, each with its sequence number.
-pub record IsAnswer (request : List ℕ) (replies : List UnixResponseValue) (datagram : List ℕ) : Type
-    0 where
+pub record IsAnswer (request : List ℕ) (replies : List (ValueOf unix_response_spec))
+    (datagram : List ℕ) : Type 0 where
   pub header : NetlinkHeader
   pub asked : UnixRequest
   pub framed : HasHeader request header
@@ -68,7 +68,7 @@ abbrev pub HasRoom : Payload Message → Type 0
 HasRoom payload = OfInner message_codec.fits payload × (16 + length (payload_bytes message_codec.written payload) ≤ 4294967295)
 
 -- a message of its own for the reply can be written
-abbrev pub ReplyHasRoom : UnixResponseValue → Type 0
+abbrev pub ReplyHasRoom : ValueOf unix_response_spec → Type 0
 ReplyHasRoom reply = HasRoom (netlink.InnerMessage (message_of unix_response reply))
 
 -- no fault of a request, and `Unwritable` for this reason alone; nothing is said of memory
@@ -85,19 +85,19 @@ Asks request = (h : NetlinkHeader) × (asked : UnixRequest)
 
 -- why there is no answer: the request is refused; or it is one, and some reply can't be written or
 -- memory is wanted
-abbrev pub GivesNoAnswer : List ℕ → List UnixResponseValue → AnswerError → Type 0
+abbrev pub GivesNoAnswer : List ℕ → List (ValueOf unix_response_spec) → AnswerError → Type 0
 GivesNoAnswer request replies (Request e) = RefusesRequest request e
 GivesNoAnswer request replies Unwritable = Asks request × ¬ AllByRecursion ReplyHasRoom replies
 GivesNoAnswer request replies Memory = Asks request
 
 -- a reply as readers give it, whose message can be written
-pub record CanBeSent (reply : UnixResponseValue) : Type 0 where
+pub record CanBeSent (reply : ValueOf unix_response_spec) : Type 0 where
   pub in_range : (response_codec unix_response_spec).is_in_range reply
   pub normal : (response_codec unix_response_spec).is_normal tt reply
   pub fits : (response_codec unix_response_spec).fits reply
   pub short : 16 + length (response_bytes unix_response_spec reply) ≤ 4294967295
 
 -- the dump over the datagram is done, its number is 0, and it has these replies
-pub record IsWholeDump (datagram : List ℕ) (replies : List UnixResponseValue) : Type 0 where
+pub record IsWholeDump (datagram : List ℕ) (replies : List (ValueOf unix_response_spec)) : Type 0 where
   pub dump : DatagramsDump message_codec [] (datagram ∷ [])
       (map (message_of unix_response) replies) (Ok (Done, Some (pos 0)))

@@ -4,8 +4,9 @@ ghost use Rattle.std.specs.Prelude.{◌≡◌, ◌++◌, ℕ, List, map, OnOk, I
 ghost use Rattle.std.specs.List.{AllByRecursion, flat_map};
 ghost use Rattle.netlink_core.specs.EnvelopeModel.{payload_of};
 ghost use Rattle.netlink_packet_sock_diag.specs.MessageModel.{message_model};
-ghost use Rattle.sock_diag_replies.specs.UnixResponseModel.{unix_response_model};
-ghost use Rattle.sock_diag_replies.specs.UnixResponseSpec.{UnixResponseValue};
+ghost use Rattle.sock_diag_uses.specs.UnixResponseModel.{unix_response_model};
+ghost use Rattle.netlink_core.specs.Response.{ValueOf};
+ghost use Rattle.sock_diag_replies.specs.UnixResponseSpec.{unix_response_spec};
 ghost use Rattle.sock_diag_uses.specs.TestKernel.{CanBeSent, FailsFor, GivesNoAnswer, HasRoom};
 ghost use Rattle.sock_diag_uses.specs.TestKernel.{IsAnswer, IsWholeDump, ReplyHasRoom};
 ghost use Rattle.sock_diag_uses.specs.TestKernel.{message_under, reply_under};
@@ -90,7 +91,7 @@ pub fn answer(
 /// The dump over an answer is done, and has the given replies, where each is as readers give it and
 /// can be written. The function does nothing: its contract is the law.
 pub fn answer_is_a_whole_dump()
-    ensures { (request : List ℕ) (replies : List UnixResponseValue) (datagram : List ℕ)
+    ensures { (request : List ℕ) (replies : List (ValueOf unix_response_spec)) (datagram : List ℕ)
         → IsAnswer request replies datagram
         → AllByRecursion CanBeSent replies → IsWholeDump datagram replies }
 {

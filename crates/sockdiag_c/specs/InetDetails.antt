@@ -2,7 +2,8 @@
 use Rattle.std.specs.Prelude.{◌≡◌, ℕ, if◌then◌else◌, Bool, List, Option, option_map}
 use Rattle.netlink_core.specs.AttributeSet.{AttributeValue, content}
 use Rattle.sock_diag_attributes.specs.InetAttributes.{inet}
-use Rattle.sock_diag_replies.specs.InetResponseSpec.{InetResponseValue}
+use Rattle.netlink_core.specs.Response.{ValueOf}
+use Rattle.sock_diag_replies.specs.InetResponseSpec.{inet_response_spec}
 use Rattle.sock_diag_replies.specs.UnixGetters.{first_of}
 use Rattle.sockdiag_c.specs.declared.details.Text.{Text}
 use Rattle.sockdiag_c.specs.declared.headers.InetHeader.{InetHeader}
@@ -34,5 +35,5 @@ HasInetDetails header d vs =
     (d ≡ inet_details_of header d.congestion vs) × (text_of d.congestion ≡ first_of controlled vs)
 
 -- all of the reply is told
-abbrev pub IsInetDetailsOf : InetResponseValue → InetDetails → Type 0
+abbrev pub IsInetDetailsOf : ValueOf inet_response_spec → InetDetails → Type 0
 IsInetDetailsOf v d = HasInetDetails (inet_header_of v.header) d v.nlas

@@ -6,8 +6,9 @@ use Rattle.sock_diag_values.specs.declared.unix.vfs.Vfs.{Vfs}
 use Rattle.sock_diag_attributes.specs.declared.unix.name.SocketName.{SocketName}
 use Rattle.sock_diag_attributes.specs.declared.unix.name.SocketName.TheVariants.{Pathname, Abstract}
 use Rattle.sock_diag_attributes.specs.UnixAttributes.{unix}
+use Rattle.netlink_core.specs.Response.{ValueOf}
 use Rattle.sock_diag_replies.specs.UnixGetters.{first_of}
-use Rattle.sock_diag_replies.specs.UnixResponseSpec.{UnixResponseValue}
+use Rattle.sock_diag_replies.specs.UnixResponseSpec.{unix_response_spec}
 use Rattle.sockdiag_c.specs.declared.details.Text.{Text}
 use Rattle.sockdiag_c.specs.declared.headers.UnixHeader.{UnixHeader}
 use Rattle.sockdiag_c.specs.declared.unix_details.UnixDetails.{UnixDetails}
@@ -49,5 +50,5 @@ HasUnixDetails header d vs =
     (d ≡ unix_details_of header d.name vs) × (text_of d.name ≡ first_of named vs)
 
 -- all of the reply is told
-abbrev pub IsUnixDetailsOf : UnixResponseValue → UnixDetails → Type 0
+abbrev pub IsUnixDetailsOf : ValueOf unix_response_spec → UnixDetails → Type 0
 IsUnixDetailsOf v d = HasUnixDetails (unix_header_of v.header) d v.nlas

@@ -2,8 +2,7 @@
 
 ghost use Rattle.std.specs.Prelude.{◌≡◌, ◌⊎◌, slice_get};
 ghost use Rattle.netlink_core.specs.declared.fault.DecodeError.{DecodeError};
-ghost use Rattle.netlink_core.specs.Response.{response_codec};
-ghost use Rattle.sock_diag_replies.specs.UnixResponseSpec.{UnixResponseValue};
+ghost use Rattle.netlink_core.specs.Response.{ValueOf, response_codec};
 ghost use Rattle.sock_diag_replies.specs.UnixResponseSpec.{unix_response_spec};
 ghost use Rattle.sockdiag_c.specs.Answers.{AnswersItem};
 ghost use Rattle.sockdiag_c.specs.UnixDetails.{pending};
@@ -16,7 +15,8 @@ use netlink_packet_sock_diag::unix::UnixResponseView;
 /// reply is refused, and then the inode is left as it was.
 #[unsafe(no_mangle)]
 pub extern "C" fn sockdiag_unix_get_pending(payload: &[u8], index: usize, inode: &mut u32) -> u32
-    ensures { ((v : UnixResponseValue) × (response_codec unix_response_spec).reads payload.now tt v
+    ensures { ((v : ValueOf unix_response_spec)
+        × (response_codec unix_response_spec).reads payload.now tt v
         × AnswersItem (slice_get (pending v.nlas) index) inode.old inode.new result)
         ⊎ ((e : DecodeError) × (response_codec unix_response_spec).refuses payload.now tt e
         × (result ≡ 0)

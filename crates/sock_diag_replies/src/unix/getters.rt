@@ -1,10 +1,10 @@
 //! What the attributes of a reply about a UNIX socket tell.
 
-ghost use Rattle.std.specs.Prelude.{◌≡◌, if◌then◌else◌, None, IsSome, option_map, option_copied};
-ghost use Rattle.std.specs.Prelude.{vec_items};
+ghost use Rattle.std.specs.Prelude.{◌≡◌, if◌then◌else◌, None, IsSome, option_map, option_copied, vec_items, map};
 ghost use Rattle.netlink_core.specs.AttributeSet.{content};
 ghost use Rattle.sock_diag_attributes.specs.UnixAttributes.{unix};
 ghost use Rattle.sock_diag_attributes.specs.NameModel.{name_of};
+ghost use Rattle.sock_diag_attributes.specs.UnixModel.{nla_model};
 ghost use Rattle.sock_diag_replies.specs.UnixGetters.{first_of};
 
 use crate::unix::UnixResponse;
@@ -12,12 +12,10 @@ use crate::unix::nlas::{MemInfo, Nla, UnixDiagName};
 use sock_diag_records::constants::TCP_LISTEN;
 
 impl UnixResponse {
-    ghost use Rattle.sock_diag_replies.specs.UnixResponseModel.{unix_response_model};
-
     /// The inode of the socket's peer, where an attribute tells it: the content of the first
     /// `Peer`.
     pub fn peer(&self) -> Option<u32>
-        ensures { result ≡ first_of (content unix 2) (unix_response_model self.now).nlas }
+        ensures { result ≡ first_of (content unix 2) (map nla_model self.now.nlas.items) }
     {
         self.nlas.as_slice().iter().find_map(|nla| match nla {
             Nla::Peer(inode) => Some(*inode),
@@ -27,8 +25,8 @@ impl UnixResponse {
 
     /// The socket's name, where an attribute tells it: the content of the first `Name`.
     pub fn name(&self) -> Option<&UnixDiagName>
-        ensures { option_map (name_of vec_items) (option_copied result) ≡ first_of (content unix 0)
-            (unix_response_model self.now).nlas }
+        ensures { option_map (name_of vec_items) (option_copied result)
+            ≡ first_of (content unix 0) (map nla_model self.now.nlas.items) }
     {
         self.nlas.as_slice().iter().find_map(|nla| match nla {
             Nla::Name(name) => Some(name),
@@ -39,8 +37,8 @@ impl UnixResponse {
     /// The inodes of the connections that wait to be accepted: the content of the first
     /// `PendingConnections`.
     pub fn pending_connections(&self) -> Option<&[u32]>
-        ensures { option_copied result ≡ first_of (content unix 3)
-            (unix_response_model self.now).nlas }
+        ensures { option_copied result
+            ≡ first_of (content unix 3) (map nla_model self.now.nlas.items) }
     {
         self.nlas.as_slice().iter().find_map(|nla| match nla {
             Nla::PendingConnections(inodes) => Some(inodes.as_slice()),
@@ -50,7 +48,7 @@ impl UnixResponse {
 
     /// Which directions are shut down: the content of the first `Shutdown`.
     pub fn shutdown_state(&self) -> Option<u8>
-        ensures { result ≡ first_of (content unix 6) (unix_response_model self.now).nlas }
+        ensures { result ≡ first_of (content unix 6) (map nla_model self.now.nlas.items) }
     {
         self.nlas.as_slice().iter().find_map(|nla| match nla {
             Nla::Shutdown(state) => Some(*state),
@@ -60,7 +58,7 @@ impl UnixResponse {
 }
 
 impl UnixResponse {
-    ghost use Rattle.sock_diag_replies.specs.UnixResponseModel.{unix_response_model};
+    ghost use Rattle.sock_diag_replies.specs.ResponseModel.{response_model};
     ghost use Rattle.sock_diag_replies.specs.UnixGetters.{listening_queue_of};
     ghost use Rattle.sock_diag_replies.specs.UnixGetters.{other_queue_of};
 
@@ -71,8 +69,9 @@ impl UnixResponse {
     /// [`send_queue_size`](Self::send_queue_size) are not.
     pub fn number_of_pending_connection(&self) -> Option<u32>
         ensures value { result ≡ option_map (λ ns. ns.0)
-            (listening_queue_of (unix_response_model self.now)) }
-        ensures alone { IsSome result → other_queue_of (unix_response_model self.now) ≡ None }
+            (listening_queue_of (response_model (λ h. h) nla_model self.now)) }
+        ensures alone { IsSome result
+            → other_queue_of (response_model (λ h. h) nla_model self.now) ≡ None }
     {
         let (waiting, _) = self.queue_where(true)?;
         Some(waiting)
@@ -81,8 +80,8 @@ impl UnixResponse {
     /// How many connections may wait to be accepted, of a listening socket: the second number of
     /// the first `ReceiveQueueLength`.
     pub fn max_number_of_pending_connection(&self) -> Option<u32>
-        ensures { result ≡ option_map (λ ns.
-            ns.1) (listening_queue_of (unix_response_model self.now)) }
+        ensures { result ≡ option_map (λ ns. ns.1)
+            (listening_queue_of (response_model (λ h. h) nla_model self.now)) }
     {
         let (_, limit) = self.queue_where(true)?;
         Some(limit)
@@ -90,7 +89,7 @@ impl UnixResponse {
 
     // The content of the first `ReceiveQueueLength`.
     fn queue(&self) -> Option<(u32, u32)>
-        ensures { result ≡ first_of (content unix 4) (unix_response_model self.now).nlas }
+        ensures { result ≡ first_of (content unix 4) (map nla_model self.now.nlas.items) }
     {
         self.nlas.as_slice().iter().find_map(|nla| match nla {
             Nla::ReceiveQueueLength(first, second) => Some((*first, *second)),
@@ -100,8 +99,9 @@ impl UnixResponse {
 
     // The lengths of the queues, where the socket listens or does not, as is asked.
     fn queue_where(&self, listens: bool) -> Option<(u32, u32)>
-        ensures { result ≡ if listens then listening_queue_of (unix_response_model self.now)
-            else other_queue_of (unix_response_model self.now) }
+        ensures { result ≡ if listens
+            then listening_queue_of (response_model (λ h. h) nla_model self.now)
+            else other_queue_of (response_model (λ h. h) nla_model self.now) }
     {
         if (self.header.state == TCP_LISTEN) == listens {
             self.queue()
@@ -113,7 +113,8 @@ impl UnixResponse {
     /// How many bytes wait to be read, of a socket that does not listen: the first number of the
     /// first `ReceiveQueueLength`.
     pub fn receive_queue_size(&self) -> Option<u32>
-        ensures { result ≡ option_map (λ ns. ns.0) (other_queue_of (unix_response_model self.now)) }
+        ensures { result ≡ option_map (λ ns. ns.0)
+            (other_queue_of (response_model (λ h. h) nla_model self.now)) }
     {
         let (received, _) = self.queue_where(false)?;
         Some(received)
@@ -122,7 +123,8 @@ impl UnixResponse {
     /// How many bytes of memory are taken by what was sent and is not yet read, of a socket that
     /// does not listen: the second number of the first `ReceiveQueueLength`.
     pub fn send_queue_size(&self) -> Option<u32>
-        ensures { result ≡ option_map (λ ns. ns.1) (other_queue_of (unix_response_model self.now)) }
+        ensures { result ≡ option_map (λ ns. ns.1)
+            (other_queue_of (response_model (λ h. h) nla_model self.now)) }
     {
         let (_, sent) = self.queue_where(false)?;
         Some(sent)
@@ -130,13 +132,11 @@ impl UnixResponse {
 }
 
 impl UnixResponse {
-    ghost use Rattle.sock_diag_replies.specs.UnixResponseModel.{unix_response_model};
-
     /// The size of the send buffer, which bounds a datagram: the field `max_datagram_size` of the
     /// first `MemInfo`.
     pub fn max_datagram_size(&self) -> Option<u32>
         ensures { result ≡ option_map (λ info. info.max_datagram_size)
-            (first_of (content unix 5) (unix_response_model self.now).nlas) }
+            (first_of (content unix 5) (map nla_model self.now.nlas.items)) }
     {
         Some(self.memory()?.max_datagram_size)
     }
@@ -145,14 +145,14 @@ impl UnixResponse {
     /// of the first `MemInfo`.
     pub fn memory_used_for_outgoing_data(&self) -> Option<u32>
         ensures { result ≡ option_map (λ info. info.alloc)
-            (first_of (content unix 5) (unix_response_model self.now).nlas) }
+            (first_of (content unix 5) (map nla_model self.now.nlas.items)) }
     {
         Some(self.memory()?.alloc)
     }
 
     // The content of the first `MemInfo`.
     fn memory(&self) -> Option<MemInfo>
-        ensures { result ≡ first_of (content unix 5) (unix_response_model self.now).nlas }
+        ensures { result ≡ first_of (content unix 5) (map nla_model self.now.nlas.items) }
     {
         self.nlas.as_slice().iter().find_map(|nla| match nla {
             Nla::MemInfo(info) => Some(*info),

@@ -2,8 +2,7 @@
 
 ghost use Rattle.std.specs.Prelude.{◌≡◌, ◌↔◌, ◌⊎◌, ◌<◌, ◌++◌, length, drop, IsTrue, IfOk, IfErr};
 ghost use Rattle.std.specs.Prelude.{MatchOption};
-ghost use Rattle.netlink_core.specs.Response.{response_bytes, response_codec};
-ghost use Rattle.sock_diag_replies.specs.UnixResponseSpec.{UnixResponseValue};
+ghost use Rattle.netlink_core.specs.Response.{ValueOf, response_bytes, response_codec};
 ghost use Rattle.sock_diag_replies.specs.UnixResponseSpec.{unix_response_spec};
 
 use netlink_core::{DecodeError, Emitable};
@@ -15,7 +14,7 @@ pub fn tell_the_same(one: &[u8], other: &[u8]) -> Result<bool, DecodeError>
         IsTrue same ↔ (response_codec unix_response_spec).idle tt one.now
         other.now) }
     ensures fault { IfErr result (λ e. (response_codec unix_response_spec).refuses one.now tt e
-        ⊎ ((v : UnixResponseValue) × (response_codec unix_response_spec).reads one.now tt v
+        ⊎ ((v : ValueOf unix_response_spec) × (response_codec unix_response_spec).reads one.now tt v
         × (response_codec unix_response_spec).refuses other.now tt e)) }
 {
     Ok(UnixResponseView::parse(one)? == UnixResponseView::parse(other)?)
@@ -23,7 +22,7 @@ pub fn tell_the_same(one: &[u8], other: &[u8]) -> Result<bool, DecodeError>
 
 /// Writes a reply's canonical bytes into a buffer, and says how many there are. No memory is taken.
 pub fn rewrite(bytes: &[u8], buffer: &mut [u8]) -> Result<Option<usize>, DecodeError>
-    ensures value { IfOk result (λ written. (v : UnixResponseValue)
+    ensures value { IfOk result (λ written. (v : ValueOf unix_response_spec)
         × (response_codec unix_response_spec).reads bytes.now tt v
         × MatchOption written
         ((buffer.new ≡ buffer.old)

@@ -1,6 +1,6 @@
 use Rattle.std.proofs.Common.{◌≡◌, ◌++◌, drop, map}
 use Rattle.std.specs.List.{flat_map}
-use Rattle.sock_diag_replies.specs.UnixResponseModel.{unix_response_model}
+use Rattle.sock_diag_uses.specs.UnixResponseModel.{unix_response_model}
 use Rattle.sock_diag_uses.specs.TestKernel.{reply_under}
 use Rattle.sock_diag_uses.proofs.test_kernel.push_replies.Given as goal
 

@@ -14,7 +14,7 @@ pub returns-then-is_err-clause-wanted : goal.returns-then-is_err-clause-wanted
 returns-then-is_err-clause-wanted g c = λ memory. (
   _,
   kept_reads g.H.ReplyHeader.reply g.H.Nla.FamilyNla.attribute_set g.met.H.ReplyOwned.same.1 _ _
-      c.in_ok-view.view.accepted c.in_ok-view.ensures.kept
+      c.in_ok-view.view.head c.in_ok-view.view.clean c.in_ok-view.ensures.kept
       (λ i. omega (arith, c.type_inv.bytes i)),
   λ spare. fault_is_no_value c.own_into.result _ c.if-is_err.true c.is_err.ensures.value
       (c.own_into.ensures.spare c.new-nlas.ensures.capacity spare),
@@ -25,5 +25,6 @@ returns-clause-value g c =
     let same = on_no_fault c.own_into.result _ c.if-is_err.false c.is_err.ensures.value
     c.own_into.ensures.equal in
     rw (c.header.ensures, same) (kept_reads g.H.ReplyHeader.reply g.H.Nla.FamilyNla.attribute_set
-    g.met.H.ReplyOwned.same.1 _ _ c.in_ok-view.view.accepted c.in_ok-view.ensures.kept
+    g.met.H.ReplyOwned.same.1 _ _ c.in_ok-view.view.head c.in_ok-view.view.clean
+    c.in_ok-view.ensures.kept
     (λ i. omega (arith, c.type_inv.bytes i)))

@@ -3,7 +3,7 @@ use Rattle.std.proofs.lemmas.Result.{IfOk-weaker, IfErr-weaker}
 use Rattle.netlink_core.specs.Bytes.{IsBytes}
 use Rattle.netlink_core.specs.Response.{response_codec}
 use Rattle.netlink_core.proofs.Rewriting.{gives_up}
-use Rattle.attribute_lists.specs.AttributesIn.{response_behind, response_with}
+use Rattle.attribute_lists.specs.AttributesIn.{response_behind}
 use Rattle.sock_diag_replies.specs.ViewModel.{view_model}
 use Rattle.attribute_lists.proofs.Kept.{kept_bytes, kept_fits, kept_reads, kept_refused}
 use Rattle.sock_diag_replies.proofs.response.ReplyNlaWire.rewrite.Goals as goal
@@ -15,7 +15,7 @@ returns-in-Ok-clause-written g c =
     let view = c.in-Ok.view in
     let same = g.met.H.ReplyOwned.same in
     let in_range : IsBytes c.args.bytes.now = λ i. omega (arith, c.type_inv.bytes i) in
-    let reads = kept_reads R F same.1 _ _ view.accepted c.in-Ok.ensures.kept in_range in
+    let reads = kept_reads R F same.1 _ _ view.head view.clean c.in-Ok.ensures.kept in_range in
     let bytes = kept_bytes R F same.3 (view_model view).header (drop R.size view.bytes.now) in
     let fit = kept_fits R F same.3 (view_model view).header (drop R.size view.bytes.now) in
     IfOk-weaker c.write_new.result _ _
@@ -26,13 +26,14 @@ pub returns-in-Ok-clause-err : goal.returns-in-Ok-clause-err
 returns-in-Ok-clause-err g c =
     let R = g.H.ReplyHeader.reply in
     let F = g.H.Nla.FamilyNla.attribute_set in
-    let codec = response_codec (response_with R F) in
+    let codec = response_codec (record R { attribute_set = F }) in
     let same = g.met.H.ReplyOwned.same in
     let bytes = c.args.bytes.now in
     let in_range : IsBytes bytes = λ i. omega (arith, c.type_inv.bytes i) in
-    let reads = kept_reads R F same.1 _ _ c.in-Ok.view.accepted c.in-Ok.ensures.kept in_range in
+    let reads = kept_reads R F same.1 _ _ c.in-Ok.view.head c.in-Ok.view.clean c.in-Ok.ensures.kept
+    in_range in
     IfErr-weaker c.write_new.result _ _
-    (gives_up (λ view. response_behind (response_with R F) (view_model view).header
+    (gives_up (λ view. response_behind (record R { attribute_set = F }) (view_model view).header
     (drop R.size view.bytes.now))
     (codec.reads bytes tt) (codec.refuses bytes tt) codec.fits _ c.in-Ok.view reads
     (λ view h. (kept_fits R F same.3 (view_model view).header (drop R.size view.bytes.now)).1 h))

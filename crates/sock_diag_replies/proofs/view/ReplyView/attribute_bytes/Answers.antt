@@ -1,8 +1,7 @@
 use Rattle.std.proofs.Common.{arith}
 use Rattle.std.proofs.lemmas.List.{take_rest}
-use Rattle.attribute_lists.proofs.Finding.{behind_accepted}
 use Rattle.sock_diag_replies.proofs.view.ReplyView.attribute_bytes.Goals as goal
 
 pub returns-clause-clean : goal.returns-clause-clean
 returns-clause-clean g c =
-    grind (arith, behind_accepted g.H.ReplyHeader.reply, take_rest, c.length.ensures)
+    grind (arith, take_rest, c.length.ensures, c.args.self.now.clean)

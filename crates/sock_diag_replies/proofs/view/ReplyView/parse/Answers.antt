@@ -4,7 +4,7 @@ use Rattle.std.proofs.lemmas.Result.{err_from_is_err_and}
 use Rattle.netlink_core.specs.Bytes.{IsBytes}
 use Rattle.netlink_core.specs.AttributeSet.{decodes}
 use Rattle.attribute_lists.specs.AttributesIn.{values_in}
-use Rattle.attribute_lists.proofs.Finding.{response_accepted, behind_refused, accepted_means}
+use Rattle.attribute_lists.proofs.Finding.{behind_refused, accepted_means}
 use Rattle.sock_diag_replies.proofs.view.ReplyView.parse.Goals as goal
 
 pub returns-in_err-_header-clause-named : goal.returns-in_err-_header-clause-named
@@ -40,8 +40,8 @@ invariant_of-result g c =
     let part = take_rest bytes _ ∙ ap (λ (n : ℕ). drop n bytes) c.length.ensures in
     record {
       long = g.met.H.ReplyHeader.enough c.args.bytes.now _ c.in_ok-_header.ensures.value;
-      accepted = response_accepted R _ _ part _ c.in_ok-_header.ensures.value
-          c.in_ok-count.ensures.clean;
+      head = (_, c.in_ok-_header.ensures.value);
+      clean = rw part at c.in_ok-count.ensures.clean;
       counted = c.in_ok-count.ensures.count
           ∙ ap (λ (b : List ℕ). length (values_in (decodes R.attribute_set) b)) part;
     }
