@@ -14,9 +14,9 @@ answer_lines answer lines = flat_map (λ line. answer line ++ 10 ∷ []) lines
 -- Of a run: what answers each line, and the bytes that are left to read and held as written, before
 -- and after it, where they are known.
 module _ (answer : List ℕ → List ℕ) (left left' held held' : Option (List ℕ)) where
-  -- What is written when a run over these whole lines, of all these lines, ends so: the answers to
-  -- all lines; where a read failed, those to the whole lines; where memory ran out, those to some
-  -- first whole lines; and where a write failed, a beginning of those to all lines.
+  -- What is written when a run ends so, of the whole lines and of all lines that were read: the
+  -- answers to all; where a read failed, those to the whole ones; where memory ran out, those to
+  -- some first whole ones; and where a write failed, a beginning of those to all.
   abbrev pub Ended : Result Bool ServeError → List (List ℕ) → List (List ℕ) → Type 0
   Ended (Ok is_good) whole all = Appends held held' (answer_lines answer all)
   Ended (Err Read) whole all = Appends held held' (answer_lines answer whole)

@@ -22,7 +22,9 @@ name_word (abstract address) = codes "abstract:" ++ field_of address
 abbrev pub comma_list : List ℕ → List ℕ
 comma_list ns = if length ns == 0 then codes "-" else join_by decimal (codes ",") ns
 
--- thirteen words with one space, 32, between: three of the header, and one for each getter
+-- Thirteen words with one space, 32, between: three of the header, and one for each getter. `found`
+-- is the value of the first attribute of a type: UNIX_DIAG_NAME is 0, UNIX_DIAG_PEER 2,
+-- UNIX_DIAG_ICONS 3, UNIX_DIAG_MEMINFO 5, UNIX_DIAG_SHUTDOWN 6. `both` are the numbers of a pair.
 abbrev pub reply_text : UnixResponseValue → List ℕ
 reply_text v = let found = λ (k : ℕ). first_of (content unix k) v.nlas in
     let both = λ (o : Option (ℕ × ℕ)). option_map (λ p. p.0) o ∷ option_map (λ p. p.1) o ∷ [] in

@@ -73,7 +73,7 @@ pub fn answer(alloc: Global, line: &[u8]) -> Result<Vec<u8>, AllocError>
     ensures answers { IfOk result (λ text. IsAnswerOf line.now text.items) }
 
     // Two fields of one name whose values can be written have one answer exactly where they differ
-    // in idle details alone. Only `unixview` shows less than that.
+    // in idle details alone. Only `unixview` shows less than that. `C` is the codec of the name.
     ensures same { IfOk result (λ text. (name : Name) → name ≢ UnixView
         → let C = (entry_of name).1.1 in let param = (entry_of name).1.2 in
         (other bytes bytes' text' : List ℕ) (value value' : C.Value)
