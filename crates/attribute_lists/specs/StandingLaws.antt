@@ -3,14 +3,14 @@ use Rattle.std.proofs.Common.{◌≡◌, ℕ, zero, suc, ◌+◌, ◌-◌, List,
 use Rattle.std.proofs.Common.{inl, inr, refl, ap, append_assoc, arith}
 use Rattle.std.proofs.lemmas.List.{take_at, drop_at, drop_all, length-append}
 use Rattle.netlink_core.specs.Attribute.{Attribute, StartsWith, fill, unpadded}
-use Rattle.netlink_core.specs.Table.{number_in, little_endian}
 use Rattle.attribute_lists.specs.LeadingAttribute.{leading_attribute}
+use Rattle.byteorder.specs.Endian.{little_number}
 
 -- those behind the next so many bytes, each at the next multiple of four
 unfoldable pub attributes_behind : ℕ → List ℕ → List Attribute
 attributes_behind n [] = []
 attributes_behind zero (byte ∷ bytes) =
-    let word = number_in little_endian 2 (byte ∷ bytes) in
+    let word = little_number 2 (byte ∷ bytes) in
     leading_attribute (byte ∷ bytes) ∷ attributes_behind (word + fill word - 1) bytes
 attributes_behind (suc n) (byte ∷ bytes) = attributes_behind n bytes
 
@@ -28,11 +28,11 @@ pub found_first : (bytes rest : List ℕ) (a : Attribute) → StartsWith bytes a
 unfolding attributes_behind
 found_first bytes rest a s =
     let all : List ℕ = unpadded a ++ (s.padding ++ rest) in
-    let long : number_in little_endian 2 all ≡ 4 + length a.value = omega (arith, s.fits) in
-    let types : number_in little_endian 2 (drop 2 all) ≡ a.type_word = omega (arith, s.fits) in
-    let value : take (number_in little_endian 2 all - 4) (drop 4 all) ≡ a.value =
+    let long : little_number 2 all ≡ 4 + length a.value = omega (arith, s.fits) in
+    let types : little_number 2 (drop 2 all) ≡ a.type_word = omega (arith, s.fits) in
+    let value : take (little_number 2 all - 4) (drop 4 all) ≡ a.value =
     take_at a.value (s.padding ++ rest) _ (omega arith) in
-    let reach : ℕ = number_in little_endian 2 all + fill (number_in little_endian 2 all) - 1 in
+    let reach : ℕ = little_number 2 all + fill (little_number 2 all) - 1 in
     let behind : drop reach (drop 1 (unpadded a) ++ (s.padding ++ rest)) ≡ rest = elim s.filled [
       | inl full ↦ rw (← append_assoc) (drop_at (drop 1 (unpadded a) ++ s.padding) rest _
           (omega (arith, full, length-append a.value s.padding)))

@@ -13,7 +13,7 @@ use Rattle.std.proofs.lemmas.List.Concat.{flat_map-append}
 use Rattle.std.proofs.lemmas.List.Folds.{list_all-append, list_all-map}
 use Rattle.std.proofs.Math.Seq.{take-append_seam}
 use Rattle.line_server.specs.Lines.{Splits, with_rest}
-use Rattle.line_server.specs.Run.{Answers, Exchange, answer_lines}
+use Rattle.line_server.specs.Run.{Answers, answer_lines}
 use Rattle.line_server.specs.RunSteps.{WritesPart, all_good}
 use Rattle.line_server.proofs.LinesLemmas.{Splits-append, Splits-one_way}
 use Rattle.line_server.specs.declared.stream.ServeError.{ServeError}
@@ -37,19 +37,27 @@ pub goods_begin : (f : List ℕ → List ℕ) (good : List ℕ → Bool) (whole 
 goods_begin f good whole rest =
     grind (arith, list_all-map, with_rest-append whole, list_all-append)
 
+-- a text of these whole lines and this rest was read, and this was written
+pub record Exchange (left left' held held' : Option (List ℕ)) (whole : List (List ℕ))
+    (rest written : List ℕ) : Type 0 where
+  pub text : List ℕ
+  pub read : Consumes left left' text
+  pub splits : Splits text whole rest
+  pub appended : Appends held held' written
+
 -- of what was read and written
-module _ {f : List ℕ → List ℕ} {r r' c c' : Option (List ℕ)} {whole : List (List ℕ)}
-    {rest written : List ℕ} (up : Exchange f r r' c c' whole rest written) where
+module _ {r r' c c' : Option (List ℕ)} {whole : List (List ℕ)} {rest written : List ℕ}
+    (up : Exchange r r' c c' whole rest written) where
   -- no more was read
   pub waited : (r'' : Option (List ℕ)) → Consumes r' r'' []
-      → Exchange f r r'' c c' whole rest written
+      → Exchange r r'' c c' whole rest written
   waited r'' none =
       grind (arith, append-nil)
 
   -- more was read
   pub read_on : (r'' : Option (List ℕ)) (piece last : List ℕ) (next : List (List ℕ))
       → Consumes r' r'' piece → Splits (rest ++ piece) next last
-      → Exchange f r r'' c c' (whole ++ next) last written
+      → Exchange r r'' c c' (whole ++ next) last written
   read_on r'' piece last next read splits = record {
     text = up.text ++ piece;
     read = Consumes-trans r r' r'' up.text piece up.read read;
@@ -59,24 +67,25 @@ module _ {f : List ℕ → List ℕ} {r r' c c' : Option (List ℕ)} {whole : Li
 
   -- more was written
   pub write_on : (c'' : Option (List ℕ)) (more all : List ℕ) → Appends c' c'' more
-      → written ++ more ≡ all → Exchange f r r' c c'' whole rest all
+      → written ++ more ≡ all → Exchange r r' c c'' whole rest all
   write_on c'' more all wrote e =
       grind (arith, common_steps)
 
   -- not all of a text with which the answers go on was written
-  pub run_failed : (good : List ℕ → Bool) (n : ℕ) (c'' : Option (List ℕ)) (text more : List ℕ)
-      (e : ServeError) → written ≡ answer_lines f (take n whole)
+  pub run_failed : (f : List ℕ → List ℕ) (good : List ℕ → Bool) (n : ℕ) (c'' : Option (List ℕ))
+      (text more : List ℕ) (e : ServeError) → written ≡ answer_lines f (take n whole)
       → answer_lines f (with_rest whole rest) ≡ (written ++ text) ++ more
       → WritesPart c' c'' text e → Answers f r r' c c'' good (Err e)
-  run_failed good n c'' text more Read first begins wrote = absurd wrote
-  run_failed good n c'' text more Memory first begins wrote =
+  run_failed f good n c'' text more Read first begins wrote = absurd wrote
+  run_failed f good n c'' text more Memory first begins wrote =
       let none = Appends-kept c' c' c'' [] (Appends-nil c') wrote in
-      (whole, rest, (n, write_on c'' [] _ none (append-nil _ ∙ first)), tt)
-  run_failed good n c'' text more (Write is_closed) first begins (front, later, is, wrote) =
+      let sent = write_on c'' [] _ none (append-nil _ ∙ first) in
+      (whole, rest, _, sent.read, sent.splits, (n, sent.appended), tt)
+  run_failed f good n c'' text more (Write is_closed) first begins (front, later, is, wrote) =
       let all = answer_lines f (with_rest whole rest) in
       let sent = write_on c'' front (take (length (written ++ front)) all) wrote
       (rw (begins, is, ← append_assoc, append_assoc, take-append_seam)) in
-      (whole, rest, (length (written ++ front), sent), tt)
+      (whole, rest, _, sent.read, sent.splits, (length (written ++ front), sent.appended), tt)
 
 -- a run that ended well answered all that its reader told, by each function that gives each line
 -- its answer
@@ -90,10 +99,9 @@ pub run_complete : (answers : List ℕ → List ℕ → Type 0) (good : List ℕ
     → Splits text whole rest → Appends c c' (answer_lines f (with_rest whole rest))))
 run_complete answers good a only r r' c c' (Err e) ended p = tt
 run_complete answers good a only None r' c c' (Ok is_good) ended p = tt
-run_complete answers good a only (Some text) None c c' (Ok is_good) ended (_, _, p, _) =
-    grind arith
+run_complete answers good a only (Some text) None c c' (Ok is_good) ended p = absurd p.3
 run_complete answers good a only (Some text) (Some left) c c' (Ok is_good) ended
-    (lines, last, p, judged) = λ f whole rest right splits.
-    let all : text ≡ p.text = p.read ∙ rw ended (append-nil p.text) in
-    let same = Splits-one_way text lines whole last rest (rw (← all) at p.splits) splits in
-    rw (← only f right, ← same.0, ← same.1) p.appended
+    (lines, last, all, read, parts, added, judged) = λ f whole rest right splits.
+    let same : text ≡ all = read ∙ rw ended (append-nil all) in
+    let one = Splits-one_way text lines whole last rest (rw (← same) at parts) splits in
+    rw (← only f right, ← one.0, ← one.1) added

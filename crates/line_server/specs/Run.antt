@@ -14,25 +14,18 @@ answer_lines answer lines = flat_map (λ line. answer line ++ 10 ∷ []) lines
 -- Of a run: what answers each line, and the bytes that are left to read and held as written, before
 -- and after it, where they are known.
 module _ (answer : List ℕ → List ℕ) (left left' held held' : Option (List ℕ)) where
-  -- a text of these whole lines and this rest was read, and this was written
-  pub record Exchange (whole : List (List ℕ)) (rest written : List ℕ) : Type 0 where
-    pub text : List ℕ
-    pub read : Consumes left left' text
-    pub splits : Splits text whole rest
-    pub appended : Appends held held' written
+  -- What is written when a run ends so, of the whole lines and of all lines that were read: the
+  -- answers to all; where a read failed, those to the whole ones; where memory ran out, those to
+  -- some first whole ones; and where a write failed, a beginning of those to all.
+  abbrev pub Ended : Result Bool ServeError → List (List ℕ) → List (List ℕ) → Type 0
+  Ended (Ok is_good) whole all = Appends held held' (answer_lines answer all)
+  Ended (Err Read) whole all = Appends held held' (answer_lines answer whole)
+  Ended (Err Memory) whole all = (k : ℕ) × Appends held held' (answer_lines answer (take k whole))
+  Ended (Err (Write _)) whole all = (k : ℕ) × Appends held held' (take k (answer_lines answer all))
 
-  -- What is written when a run ends so: the answers to all lines; where a read failed, those to the
-  -- whole lines; where memory ran out, those to some first whole lines; and where a write failed, a
-  -- beginning of those to all lines.
-  abbrev pub Ended : Result Bool ServeError → List (List ℕ) → List ℕ → Type 0
-  Ended (Ok is_good) whole rest = Exchange whole rest (answer_lines answer (with_rest whole rest))
-  Ended (Err Read) whole rest = Exchange whole rest (answer_lines answer whole)
-  Ended (Err Memory) whole rest = (k : ℕ) × Exchange whole rest (answer_lines answer (take k whole))
-  Ended (Err (Write is_closed)) whole rest =
-      (k : ℕ) × Exchange whole rest (take k (answer_lines answer (with_rest whole rest)))
-
-  -- what was read and what was written belong together as a run ends so, which says where all went
-  -- well whether each answer is a good one
+  -- A text was read, of these whole lines and this rest, and what was written belongs to it as the
+  -- run ends so, which says where all went well whether each answer is a good one.
   abbrev pub Answers : (List ℕ → Bool) → Result Bool ServeError → Type 0
-  Answers good result = (whole : List (List ℕ)) × (rest : List ℕ) × Ended result whole rest
+  Answers good result = (whole : List (List ℕ)) × (rest text : List ℕ) × Consumes left left' text
+      × Splits text whole rest × Ended result whole (with_rest whole rest)
       × IfOk result (λ is_good. is_good ≡ list_all good (map answer (with_rest whole rest)))

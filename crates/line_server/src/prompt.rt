@@ -4,9 +4,10 @@ ghost use Rattle.std.specs.Prelude.{◌≡◌, ◌↔◌, ◌==◌, ◌<◌, ◌
 ghost use Rattle.std.specs.Prelude.{false, List, Option, length, IfOk, IfErr, IsTrue, MatchResult};
 ghost use Rattle.std.specs.Prelude.{⊤};
 ghost use Rattle.std.specs.IoError.{error_kind};
-ghost use Rattle.std.specs.Io.KnownBytes.{Keeps, ReadConsumes, WriteAppends};
+ghost use Rattle.std.specs.Io.KnownBytes.{Appends, Consumes, Keeps, ReadConsumes, WriteAppends};
 ghost use Rattle.std.specs.Io.{ReadsAtMost};
-ghost use Rattle.line_server.specs.Run.{Exchange, answer_lines};
+ghost use Rattle.line_server.specs.Lines.{Splits};
+ghost use Rattle.line_server.specs.Run.{answer_lines};
 
 use crate::stream::{ServeError, Start};
 use std::io;
@@ -33,8 +34,9 @@ pub trait PromptRead {
         piece: &mut [u8],
     ) -> Result<usize, ServeError>
         // The answers to all whole lines that were read are written, and `line` follows these.
-        requires { (whole : List (List ℕ)) × Exchange S.answer S.remaining (left self.old)
-            S.contents (W.held output.now) whole line.now (answer_lines S.answer whole) }
+        requires { (whole : List (List ℕ)) × (text : List ℕ)
+            × Consumes S.remaining (left self.old) text × Splits text whole line.now
+            × Appends S.contents (W.held output.now) (answer_lines S.answer whole) }
         ensures bound { ReadsAtMost result piece.new }
         ensures bytes { ReadConsumes (left self.old) (left self.new) result piece.new }
         ensures counted { (n : ℕ) → reads self.old n → reads self.new (n + 1) }

@@ -14,7 +14,7 @@ use Rattle.sock_diag_lines.specs.AskedSteps.{IsAnswerTo, IsNoRequest, IsReadAs}
 use Rattle.sock_diag_lines.specs.DumpLine.{IsDumpRequest, IsDumpAnswer, dump_text}
 use Rattle.sock_diag_lines.specs.HexField.{IsHexField}
 use Rattle.sock_diag_lines.specs.ReadDumpSteps.{AreHexFields, IsWritable}
-use Rattle.sock_diag_lines.specs.AnswerText.{AreIdleAs, IsAccepted, IsAnswerAs}
+use Rattle.sock_diag_lines.specs.AnswerText.{IsAnswerAs}
 use Rattle.sock_diag_lines.specs.TextSteps.{is_space}
 use Rattle.sock_diag_lines.specs.declared.answers.Asked.{Asked}
 use Rattle.sock_diag_lines.specs.declared.answers.Asked.TheVariants.{Field, Dump, Nothing}
@@ -31,6 +31,7 @@ use Rattle.sock_diag_lines.proofs.FieldLaws.{IsBytes-field}
 use Rattle.sock_diag_lines.proofs.FieldLists.{field_or_not, one_field, one_list_of_bytes}
 use Rattle.sock_diag_lines.proofs.FieldLists.{row_or_not}
 use Rattle.sock_diag_lines.proofs.NameLaws.{laws_of}
+use Rattle.sock_diag_lines.proofs.SubjectLaws.{AreIdleAs, IsAccepted}
 
 -- ---- names
 

@@ -3,10 +3,9 @@ use Rattle.std.proofs.Common.{◌≡◌, ◌⊎◌, ◌∙◌, inl, inr, ℕ, Li
 use Rattle.std.proofs.lemmas.List.{append_cancel_left}
 use Rattle.netlink_core.specs.Bytes.{IsBytes}
 use Rattle.netlink_core.specs.declared.fault.DecodeError.{DecodeError}
-use Rattle.sock_diag_lines.specs.AnswerText.{AreIdleAs, IsAccepted, IsAnswerAs}
-use Rattle.sock_diag_lines.specs.AnswerText.{IsAnswerText, Subject}
+use Rattle.sock_diag_lines.specs.AnswerText.{IsAnswerAs, IsAnswerText, Subject}
 use Rattle.sock_diag_lines.specs.TextSteps.{accepted, refused, unwritable}
-use Rattle.sock_diag_lines.proofs.SubjectLaws.{LawsOf, HasFullText}
+use Rattle.sock_diag_lines.proofs.SubjectLaws.{AreIdleAs, HasFullText, IsAccepted, LawsOf}
 
 -- what answers values and faults answers what has these too
 pub answers_more : {Value : Type 0} (fits : Value → Type 0) (text_of : Value → List ℕ)
@@ -47,29 +46,29 @@ module _ {Value : Type 0} (fits : Value → Type 0) (text_of : Value → List �
 
 module _ (S : Subject) (laws : LawsOf S) where
   -- bytes have one value
-  pub one_value : (b : List ℕ) (v w : S.codec.Value) → IsBytes b → S.codec.reads b S.param v
-      → S.codec.reads b S.param w → v ≡ w
+  pub one_value : (b : List ℕ) (v w : S.1.Value) → IsBytes b → S.1.reads b S.2 v
+      → S.1.reads b S.2 w → v ≡ w
   one_value b v w h r s = (laws.same_value b b v w h h r s).1
       ((laws.same_value b b v v h h r r).0 refl)
 
   -- bytes have a text
   pub some_answer : (b : List ℕ) → IsBytes b → (text : List ℕ) × IsAnswerAs S b text
-  some_answer b h = has_text S.codec.fits S.text_of (S.codec.reads b S.param)
-      (S.codec.refuses b S.param) (laws.answered b h) laws.fits_or_not
+  some_answer b h = has_text S.1.fits S.3 (S.1.reads b S.2)
+      (S.1.refuses b S.2) (laws.answered b h) laws.fits_or_not
 
   -- and no other
   pub same_answer : (b x y : List ℕ) → IsBytes b → IsAnswerAs S b x → IsAnswerAs S b y → x ≡ y
-  same_answer b x y h = one_text S.codec.fits S.text_of (S.codec.reads b S.param)
-      (S.codec.refuses b S.param) (λ v w. one_value b v w h) (laws.one_answer b)
+  same_answer b x y h = one_text S.1.fits S.3 (S.1.reads b S.2)
+      (S.1.refuses b S.2) (λ v w. one_value b v w h) (laws.one_answer b)
       (laws.one_fault b) x y
 
   -- of two fields whose values can be written
   module _ (b c x y : List ℕ) (hb : IsBytes b) (hc : IsBytes c) (tells : IsAnswerAs S b x)
       (also : IsAnswerAs S c y) (ok : IsAccepted S b) (ok' : IsAccepted S c) where
-    shown : x ≡ accepted (S.text_of ok.0)
+    shown : x ≡ accepted (S.3 ok.0)
     shown = same_answer b x _ hb tells (inl (ok.0, ok.1, ok.2, refl))
 
-    shown' : y ≡ accepted (S.text_of ok'.0)
+    shown' : y ≡ accepted (S.3 ok'.0)
     shown' = same_answer c y _ hc also (inl (ok'.0, ok'.1, ok'.2, refl))
 
     -- idle ones are answered alike, and where the text has all, no others

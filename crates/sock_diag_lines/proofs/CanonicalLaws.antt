@@ -3,7 +3,7 @@ use Rattle.std.proofs.Common.{◌≡◌, ◌⊎◌, ℕ, List, refl}
 use Rattle.netlink_core.specs.Bytes.{IsBytes}
 use Rattle.netlink_core.specs.Codec.{Codec, KeepsLaws}
 use Rattle.sock_diag_lines.proofs.FieldLaws.{field_of-same}
-use Rattle.sock_diag_lines.specs.Subjects.{subject}
+use Rattle.sock_diag_lines.specs.AnswerText.{subject}
 use Rattle.sock_diag_lines.proofs.SubjectLaws.{HasFullText, SubjectLaws}
 
 module _ {Param : Type 0} (C : Codec Param) (laws : KeepsLaws C) (param : Param) where

@@ -21,7 +21,8 @@ use Rattle.sock_diag_lines.specs.ReadDumpSteps.{DumpOutcome, IsDumpOf, IsWritabl
 use Rattle.sock_diag_lines.proofs.Deciding.{each_or_not, message_fits_or_not}
 use Rattle.sock_diag_lines.proofs.EnvelopeLaws.{envelope_laws}
 use Rattle.sock_diag_lines.proofs.FieldLaws.{IsBytes-field}
-use Rattle.sock_diag_lines.specs.Subjects.{envelope_subject}
+use Rattle.sock_diag_lines.specs.Answer.{entry_of}
+use Rattle.sock_diag_lines.specs.declared.answers.Name.TheVariants.{NetlinkMessage}
 use Rattle.sock_diag_lines.proofs.AnswerTexts.{answers_more, has_text, one_text, one_value}
 
 -- each datagram has items
@@ -32,7 +33,7 @@ some_items = items_of message_codec message_laws.answered
 -- and no others
 one_items : (b : List ℕ) → IsBytes b → (xs ys : List (Result (Payload Message) DecodeError))
     → ItemsAre message_codec b xs → ItemsAre message_codec b ys → xs ≡ ys
-one_items = one_list message_codec (one_value envelope_subject envelope_laws)
+one_items = one_list message_codec (one_value (entry_of NetlinkMessage).1 envelope_laws)
     envelope_laws.one_answer envelope_laws.one_fault
 
 -- datagrams have one dump

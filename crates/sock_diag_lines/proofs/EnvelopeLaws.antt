@@ -14,7 +14,8 @@ use Rattle.sock_diag_lines.proofs.CanonicalLaws.{same_written}
 use Rattle.sock_diag_lines.proofs.Deciding.{envelope_fits_or_not}
 use Rattle.sock_diag_lines.specs.TextSteps.{word}
 use Rattle.sock_diag_lines.proofs.FieldLaws.{decimal_digits, field_of-same, word_and_rest}
-use Rattle.sock_diag_lines.specs.Subjects.{envelope_subject}
+use Rattle.sock_diag_lines.specs.Answer.{entry_of}
+use Rattle.sock_diag_lines.specs.declared.answers.Name.TheVariants.{NetlinkMessage}
 use Rattle.sock_diag_lines.proofs.SubjectLaws.{LawsOf, HasFullText}
 
 -- ---- words
@@ -41,7 +42,7 @@ payload_written t x (InnerMessage m) hx r =
 -- ---- messages
 
 -- the fields of the header and the written payload show all of a message
-pub envelope_has_full_text : HasFullText envelope_subject
+pub envelope_has_full_text : HasFullText (entry_of NetlinkMessage).1
 envelope_has_full_text b c v w hb hc r s f g e =
     let h = r.0.1 in
     let k = s.0.1 in
@@ -74,7 +75,7 @@ envelope_has_full_text b c v w hb hc r s f g e =
       payload = payloads i;
     }
 
-pub envelope_laws : LawsOf envelope_subject
+pub envelope_laws : LawsOf (entry_of NetlinkMessage).1
 envelope_laws = record {
   answered = λ b h. envelope_or_fault message_codec b h message_laws.answered;
   one_answer = λ b v e. envelope_or_fault_apart message_codec b v e

@@ -1,7 +1,8 @@
 -- Hex fields and decimal words tell what they were made of.
-use Rattle.std.proofs.Common.{◌≡◌, inl, inr, ℕ, ◌<◌, ◌^◌, true, List, [], ◌∷◌, ◌++◌}
+use Rattle.std.proofs.Common.{◌≡◌, ◌==◌, inl, inr, ℕ, ◌<◌, ◌^◌, true, List, [], ◌∷◌, ◌++◌, length}
 use Rattle.std.proofs.Common.{decimal, refl, sym, ap₂, subst, arith}
 use Rattle.std.specs.Str.{all_ascii_digits}
+use Rattle.std.proofs.lemmas.Bool.{eqb-true, false_from_ne_true}
 use Rattle.std.proofs.lemmas.Fmt.{digits_decimal}
 use Rattle.std.proofs.lemmas.Str.Parse.{numerals_by_value, tells_all_ascii_digits}
 use Rattle.hex.proofs.HexLemmas.{decode_of-encode_lower, decode_of-ok}
@@ -17,7 +18,9 @@ IsBytes-field field content (inr digits) = (decode_of-ok field content digits.1)
 -- the field of bytes stands for them
 field_stands : (x : List ℕ) → IsBytes x → IsHexField (field_of x) x
 field_stands [] h = inl (refl, refl)
-field_stands (b ∷ x) h = inr (omega arith, decode_of-encode_lower (b ∷ x) h)
+field_stands (b ∷ x) h =
+    let some = false_from_ne_true (length (b ∷ x) == 0) (λ e. omega (arith, eqb-true _ 0 e)) in
+    rw some (inr (omega arith, decode_of-encode_lower (b ∷ x) h))
 
 -- equal fields stand for equal bytes
 pub field_of-same : (x y : List ℕ) → IsBytes x → IsBytes y → field_of x ≡ field_of y → x ≡ y

@@ -23,7 +23,7 @@ use Rattle.sock_diag_lines.specs.declared.answers.Name.TheVariants.{UnixRequest,
 use Rattle.sock_diag_lines.specs.declared.answers.Name.TheVariants.{InetRequest, InetResponse}
 use Rattle.sock_diag_lines.specs.declared.answers.Name.TheVariants.{SocketId4, SocketId6, Message}
 use Rattle.sock_diag_lines.specs.declared.answers.Name.TheVariants.{NetlinkMessage, UnixView}
-use Rattle.sock_diag_lines.specs.Subjects.{subject}
+use Rattle.sock_diag_lines.specs.AnswerText.{subject}
 use Rattle.sock_diag_lines.proofs.CanonicalLaws.{canonical_has_full_text, text_laws}
 use Rattle.sock_diag_lines.proofs.Deciding.{message_fits_or_not, reply_fits_or_not}
 use Rattle.sock_diag_lines.proofs.EnvelopeLaws.{envelope_laws, envelope_has_full_text}

@@ -20,11 +20,18 @@ pub record SubjectLaws {Value : Type 0} (reads : List ℕ → Value → Type 0)
   pub fits_or_not : (v : Value) → fits v ⊎ ¬ fits v
 
 abbrev pub LawsOf : Subject → Type 0
-LawsOf S = SubjectLaws (λ b v. S.codec.reads b S.param v) (λ b e. S.codec.refuses b S.param e)
-    S.codec.fits (S.codec.idle S.param)
+LawsOf (_, C, p, text_of) =
+    SubjectLaws (λ b v. C.reads b p v) (λ b e. C.refuses b p e) C.fits (C.idle p)
 
 -- values that can be written and show the same are equal
 abbrev pub HasFullText : Subject → Type 0
-HasFullText S = (b c : List ℕ) (v w : S.codec.Value) → IsBytes b → IsBytes c
-    → S.codec.reads b S.param v → S.codec.reads c S.param w
-    → S.codec.fits v → S.codec.fits w → S.text_of v ≡ S.text_of w → v ≡ w
+HasFullText (_, C, p, text_of) = (b c : List ℕ) (v w : C.Value) → IsBytes b → IsBytes c
+    → C.reads b p v → C.reads c p w → C.fits v → C.fits w → text_of v ≡ text_of w → v ≡ w
+
+-- the bytes have a value that can be written
+abbrev pub IsAccepted : Subject → List ℕ → Type 0
+IsAccepted (_, C, p, text_of) b = (v : C.Value) × C.reads b p v × C.fits v
+
+-- they differ in idle details alone
+abbrev pub AreIdleAs : Subject → List ℕ → List ℕ → Type 0
+AreIdleAs (_, C, p, text_of) b c = C.idle p b c

@@ -1,5 +1,5 @@
 -- The answer to a line: a name, one space and a hex field, a dump over datagrams, or anything else.
-use Rattle.std.specs.Prelude.{◌≡◌, ◌&&◌, ◌∷◌, ℕ, Bool, List, ◌++◌, codes, eqb, not}
+use Rattle.std.specs.Prelude.{◌≡◌, ◌&&◌, ◌∷◌, ℕ, Bool, List, ◌++◌, codes, eqb, not, ⊤}
 use Rattle.std.specs.List.{starts_with}
 use Rattle.sock_diag_records.specs.UnixRequest.{unix_request}
 use Rattle.sock_diag_records.specs.InetRequest.{inet_request}
@@ -8,11 +8,13 @@ use Rattle.sock_diag_replies.specs.UnixResponseSpec.{unix_response_spec}
 use Rattle.sock_diag_replies.specs.InetResponseSpec.{inet_response_spec}
 use Rattle.netlink_packet_sock_diag.specs.Message.{message_codec}
 use Rattle.netlink_core.specs.Codec.{record_codec}
+use Rattle.netlink_core.specs.Envelope.{envelope_codec}
 use Rattle.netlink_core.specs.Response.{response_codec}
 use Rattle.sock_diag_lines.specs.DumpLine.{IsDumpRequest, IsDumpAnswer}
 use Rattle.sock_diag_lines.specs.HexField.{IsHexField}
-use Rattle.sock_diag_lines.specs.AnswerText.{Subject, IsAnswerAs}
-use Rattle.sock_diag_lines.specs.Subjects.{subject, envelope_subject, view_subject}
+use Rattle.sock_diag_lines.specs.AnswerText.{Subject, subject, IsAnswerAs}
+use Rattle.sock_diag_lines.specs.EnvelopeLine.{envelope_text}
+use Rattle.sock_diag_lines.specs.ViewLine.{reply_text}
 use Rattle.sock_diag_lines.specs.declared.answers.Name.{Name}
 use Rattle.sock_diag_lines.specs.declared.answers.Name.TheVariants.{UnixRequest, UnixResponse}
 use Rattle.sock_diag_lines.specs.declared.answers.Name.TheVariants.{InetRequest, InetResponse}
@@ -29,8 +31,11 @@ entry_of InetResponse = (codes "inet", subject (response_codec inet_response_spe
 entry_of SocketId4 = (codes "sockid4", subject (record_codec socket_id) 2)
 entry_of SocketId6 = (codes "sockid6", subject (record_codec socket_id) 10)
 entry_of Message = (codes "message", subject message_codec 20)
-entry_of NetlinkMessage = (codes "netlink", envelope_subject)
-entry_of UnixView = (codes "unixview", view_subject)
+-- the fields of the header as they were read, and the written bytes of the payload
+entry_of NetlinkMessage = (codes "netlink", (_, envelope_codec message_codec, tt, envelope_text))
+-- thirteen words of a reply about a UNIX socket, whether or not it can be written
+entry_of UnixView = let replies = record (response_codec unix_response_spec) { fits = λ v. ⊤ } in
+    (codes "unixview", (_, replies, tt, reply_text))
 
 -- the line is a name, one space and a hex field of these bytes
 abbrev pub IsRequest : List ℕ → Name → List ℕ → Type 0

@@ -34,6 +34,5 @@ dump_text dump = end_word dump.1 ++ 32 ∷ decimal (length dump.0)
 -- The text answers the dump over the datagrams, which is never refused. It can be written where
 -- each message that it keeps can be.
 abbrev pub IsDumpAnswer : List (List ℕ) → List ℕ → Type 0
-IsDumpAnswer datagrams text = IsAnswerText (λ dump.
-    DatagramsDump message_codec [] datagrams dump.0 dump.1)
-    (λ fault. ⊥) (λ dump. AllByRecursion message_codec.fits dump.0) dump_text text
+IsDumpAnswer given = IsAnswerText (λ d. DatagramsDump message_codec [] given d.0 d.1) (λ e. ⊥)
+    (λ d. AllByRecursion message_codec.fits d.0) dump_text

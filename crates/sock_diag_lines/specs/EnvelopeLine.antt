@@ -3,12 +3,12 @@
 use Rattle.std.specs.Prelude.{ℕ, List, [], ◌∷◌, ◌++◌, map, decimal}
 use Rattle.std.specs.List.{join_with_byte}
 use Rattle.netlink_core.specs.Envelope.{Envelope, payload_bytes}
+use Rattle.netlink_core.specs.Header.{header_values}
 use Rattle.netlink_packet_sock_diag.specs.Message.{Message, message_codec}
 use Rattle.sock_diag_lines.specs.HexField.{field_of}
 
 -- length, type, flags, sequence number and port number as they were read, and the payload as it is
 -- written, with one space, 32, between
 abbrev pub envelope_text : Envelope Message → List ℕ
-envelope_text e = let h = e.header in join_with_byte 32 (
-    map decimal (h.length ∷ h.message_type ∷ h.flags ∷ h.sequence_number ∷ h.port_number ∷ [])
+envelope_text e = join_with_byte 32 (map decimal (header_values e.header)
     ++ field_of (payload_bytes message_codec.written e.payload) ∷ [])

@@ -4,7 +4,6 @@ pub mod TextSteps
 pub mod EnvelopeLine
 pub mod ViewLine
 pub mod ViewSteps
-pub mod Subjects
 pub mod DumpLine
 pub mod Answer
 pub mod ReadDumpSteps

@@ -1,7 +1,7 @@
 //! The answer to one line.
 
 ghost use Rattle.sock_diag_lines.specs.declared.answers.Name.{Name};
-ghost use Rattle.sock_diag_lines.specs.declared.answers.Name.TheVariants.{UnixView};
+ghost use Rattle.sock_diag_lines.specs.declared.answers.Name.TheVariants.{NetlinkMessage, UnixView};
 ghost use Rattle.std.specs.Prelude.{◌≡◌, ◌≢◌, ◌↔◌, ◌++◌, ◌∷◌, [], ℕ, List, codes, decimal, Result};
 ghost use Rattle.std.specs.Prelude.{IfOk, OnOk, MatchOption};
 ghost use Rattle.std.specs.List.{AllZip, concat, flat_map};
@@ -18,9 +18,7 @@ ghost use Rattle.sock_diag_lines.specs.AskedSteps.{IsAnswerTo, IsReadAs};
 ghost use Rattle.sock_diag_lines.specs.DumpLine.{IsDumpRequest};
 ghost use Rattle.sock_diag_lines.specs.EnvelopeLine.{envelope_text};
 ghost use Rattle.sock_diag_lines.specs.HexField.{field_of};
-ghost use Rattle.sock_diag_lines.specs.Subjects.{envelope_subject};
-ghost use Rattle.sock_diag_lines.specs.AnswerText.{AreIdleAs, IsAccepted, IsAnswerAs};
-ghost use Rattle.sock_diag_lines.specs.AnswerText.{IsAnswerText};
+ghost use Rattle.sock_diag_lines.specs.AnswerText.{IsAnswerAs, IsAnswerText};
 ghost use Rattle.sock_diag_lines.specs.TextSteps.{Adds, accepted, word};
 
 use crate::dump_line::{ReadDump, push_dump, read_dump};
@@ -78,18 +76,22 @@ pub fn answer(alloc: Global, line: &[u8]) -> Result<Vec<u8>, AllocError>
     ensures answers { IfOk result (λ text. IsAnswerOf line.now text.items) }
 
     // Two fields of one name whose values can be written have one answer exactly where they differ
-    // in idle details alone. Only `unixview` shows less than that.
+    // in idle details alone. Only `unixview` shows less than that. `C` is the codec of the name.
     ensures same { IfOk result (λ text. (name : Name) → name ≢ UnixView
-        → (other bytes bytes' text' : List ℕ)
+        → let C = (entry_of name).1.1 in let param = (entry_of name).1.2 in
+        (other bytes bytes' text' : List ℕ) (value value' : C.Value)
         → IsRequest line.now name bytes → IsRequest other name bytes'
-        → IsAccepted (entry_of name).1 bytes → IsAccepted (entry_of name).1 bytes'
-        → IsAnswerOf other text' → ((text.items ≡ text')
-        ↔ AreIdleAs (entry_of name).1 bytes bytes')) }
+        → C.reads bytes param value → C.fits value
+        → C.reads bytes' param value' → C.fits value'
+        → IsAnswerOf other text' → ((text.items ≡ text') ↔ C.idle param bytes bytes')) }
     // Two fields of any name that differ in idle details alone have one answer.
-    ensures alike { IfOk result (λ text. (name : Name) (other bytes bytes' text' : List ℕ)
+    ensures alike { IfOk result (λ text. (name : Name)
+        → let C = (entry_of name).1.1 in let param = (entry_of name).1.2 in
+        (other bytes bytes' text' : List ℕ) (value value' : C.Value)
         → IsRequest line.now name bytes → IsRequest other name bytes'
-        → IsAccepted (entry_of name).1 bytes → IsAccepted (entry_of name).1 bytes'
-        → IsAnswerOf other text' → AreIdleAs (entry_of name).1 bytes bytes' → text.items ≡ text') }
+        → C.reads bytes param value → C.fits value
+        → C.reads bytes' param value' → C.fits value'
+        → IsAnswerOf other text' → C.idle param bytes bytes' → text.items ≡ text') }
     // Two dumps whose datagrams have the same items in a row have one answer.
     ensures dumps { IfOk result
         (λ text. (other text' : List ℕ) (datagrams datagrams' : List (List ℕ))
@@ -227,7 +229,7 @@ fn push_canonical<T: Wire + Drop>(
 /// the fault.
 fn push_netlink_message(alloc: Global, text: &mut Vec<u8>, bytes: &[u8]) -> Result<(), AllocError>
     ensures { OnOk result (Adds text.old.items text.new.items
-        (IsAnswerAs envelope_subject bytes.now)) }
+        (IsAnswerAs (entry_of NetlinkMessage).1 bytes.now)) }
 {
     match MessageView::parse(bytes) {
         Ok(message) => push_envelope_text(alloc, text, &message),

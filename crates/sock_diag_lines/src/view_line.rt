@@ -2,8 +2,9 @@
 
 ghost use Rattle.std.specs.Prelude.{◌≡◌, ◌∷◌, ◌++◌, decimal, OnOk};
 ghost use Rattle.sock_diag_replies.specs.ViewModel.{view_model};
-ghost use Rattle.sock_diag_lines.specs.Subjects.{view_subject};
+ghost use Rattle.sock_diag_lines.specs.Answer.{entry_of};
 ghost use Rattle.sock_diag_lines.specs.AnswerText.{IsAnswerAs};
+ghost use Rattle.sock_diag_lines.specs.declared.answers.Name.TheVariants.{UnixView};
 ghost use Rattle.sock_diag_lines.specs.TextSteps.{Adds, accepted};
 ghost use Rattle.sock_diag_lines.specs.ViewLine.{reply_text};
 ghost use Rattle.sock_diag_lines.specs.ViewSteps.{with_details, with_memory, with_queues};
@@ -17,7 +18,8 @@ use std::alloc::AllocError;
 /// Adds `ok` and thirteen words of a reply that is read in place, or `refused` and the number of
 /// the fault.
 pub(crate) fn push_view(text: &mut Vec<u8>, bytes: &[u8]) -> Result<(), AllocError>
-    ensures { OnOk result (Adds text.old.items text.new.items (IsAnswerAs view_subject bytes.now)) }
+    ensures { OnOk result (Adds text.old.items text.new.items
+        (IsAnswerAs (entry_of UnixView).1 bytes.now)) }
 {
     match UnixResponseView::parse(bytes) {
         Ok(view) => push_reply(text, &view),

@@ -16,7 +16,8 @@ pub returns-in_err-count-clause-answered : goal.returns-in_err-count-clause-answ
 returns-in_err-count-clause-answered g c =
     let r = c.from_residual in let p = err_from_is_err_and r.result r.ensures.1 in
     let none = Consumes-kept _ _ _ [] (Consumes-nil _) c.in_err-count.ensures.bytes in
-    rw (p.1, p.2, c.in_err-count.ensures.cause.0) (_, _, waited c.reads.invariant.up _ none, tt)
+    let up = waited c.reads.invariant.up _ none in
+    rw (p.1, p.2, c.in_err-count.ensures.cause.0) (_, _, _, up.read, up.splits, up.appended, tt)
 
 pub returns-in_err-is_last_good-clause-answered : goal.returns-in_err-is_last_good-clause-answered
 returns-in_err-is_last_good-clause-answered g c =
@@ -24,9 +25,9 @@ returns-in_err-is_last_good-clause-answered g c =
     let p = err_from_is_err_and r.result r.ensures.1 in
     let inv = c.reads.invariant in
     let none = rw c.if-count-eq0.true at c.in_ok-count.ensures.bytes.0 in
-    rw (p.1, p.2) (run_failed (waited inv.up _ none) g.A.LineAnswers.good (length inv.whole) _ _ []
-    _ (rw (take_all, le_refl)) (rw append-nil (answers_begin _ inv.whole _))
-    c.in_err-is_last_good.ensures.written)
+    rw (p.1, p.2) (run_failed (waited inv.up _ none) g.S.Start.answer g.A.LineAnswers.good
+    (length inv.whole) _ _ [] _ (rw (take_all, le_refl))
+    (rw append-nil (answers_begin _ inv.whole _)) c.in_err-is_last_good.ensures.written)
 
 pub returns-then-count-eq0-clause-answered : goal.returns-then-count-eq0-clause-answered
 returns-then-count-eq0-clause-answered g c =
@@ -34,8 +35,16 @@ returns-then-count-eq0-clause-answered g c =
     let none = rw c.if-count-eq0.true at c.in_ok-count.ensures.bytes.0 in
     let up = write_on (waited inv.up _ none) _ _ _ c.in_ok-is_last_good.ensures.written
     (sym (answers_begin _ inv.whole _)) in
-    let last = c.in_ok-is_last_good.ensures.judged in
-    (_, _, up, rw (inv.judged, last) (sym (goods_begin _ _ inv.whole _)))
+    let last = c.in_ok-is_last_good.ensures.judged in (
+      _,
+      _,
+      _,
+      up.read,
+      up.splits,
+      up.appended,
+      rw (inv.judged, last)
+          (sym (goods_begin _ _ inv.whole _)),
+    )
 
 pub returns-in_err-is_piece_good-clause-answered : goal.returns-in_err-is_piece_good-clause-answered
 returns-in_err-is_piece_good-clause-answered g c =
@@ -45,7 +54,15 @@ returns-in_err-is_piece_good-clause-answered g c =
     let line = c.reads.kept.line.items in
     let s = split_of (line ++ take c.in_ok-count.count c.read_prompt.new.piece) in
     let read = read_on inv.up _ _ _ _ c.in_ok-count.ensures.bytes.0 s.splits in
-    rw (p.1, p.2) (inv.whole ++ s.whole, s.rest, (length inv.whole, rw take-append_seam read), tt)
+    rw (p.1, p.2) (
+      inv.whole ++ s.whole,
+      s.rest,
+      _,
+      read.read,
+      read.splits,
+      (length inv.whole, rw take-append_seam read.appended),
+      tt,
+    )
 
 pub returns-in_err-send-clause-answered : goal.returns-in_err-send-clause-answered
 returns-in_err-send-clause-answered g c =
@@ -57,9 +74,9 @@ returns-in_err-send-clause-answered g c =
     let begins = rw flat_map-append at (answers_begin g.S.Start.answer (inv.whole ++ piece.whole)
     c.take_piece.new.kept.line.items) in
     rw (p.1, p.2) (run_failed
-    (read_on inv.up _ _ _ _ c.in_ok-count.ensures.bytes.0 piece.splits) g.A.LineAnswers.good
-    (length inv.whole) _ _ _ _ (ap (answer_lines _) (sym (take-append_seam inv.whole _)))
-    begins sent)
+    (read_on inv.up _ _ _ _ c.in_ok-count.ensures.bytes.0 piece.splits) g.S.Start.answer
+    g.A.LineAnswers.good (length inv.whole) _ _ _ _
+    (ap (answer_lines _) (sym (take-append_seam inv.whole _))) begins sent)
 
 pub reads-preserved : goal.reads-preserved
 reads-preserved g c =

@@ -1,13 +1,14 @@
 use Rattle.std.proofs.Common.{◌≡◌, List, ℕ, []}
-use Rattle.line_server.specs.Run.{Exchange, answer_lines}
+use Rattle.line_server.specs.Run.{answer_lines}
 use Rattle.line_server.specs.RunSteps.{IsLine, all_good}
+use Rattle.line_server.proofs.RunLemmas.{Exchange}
 use Rattle.line_server.proofs.stream.serve.Given as goal
 
 -- before each read
 abbrev pub invariant-reads : goal.invariant-reads
 invariant-reads g l = record {
   whole : List (List ℕ);
-  up : Exchange g.S.Start.answer g.S.Start.remaining (g.R.PromptRead.left l.input)
+  up : Exchange g.S.Start.remaining (g.R.PromptRead.left l.input)
       g.S.Start.contents (g.W.AnswerWrite.held l.output) whole l.kept.line.items
       (answer_lines g.S.Start.answer whole);
   judged : l.is_good ≡ all_good g.A.LineAnswers.good g.S.Start.answer whole;

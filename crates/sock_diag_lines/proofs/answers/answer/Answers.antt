@@ -10,15 +10,16 @@ whole : (line old new : List ℕ) → old ≡ [] → Adds old new (IsAnswerOf li
 whole line old new none (more, e, is) = rw (e, none) is
 
 pub returns-clause-same : goal.returns-clause-same
-returns-clause-same c = λ name all other bytes bytes' text' asked asked' ok ok' is'.
+returns-clause-same c = λ name all other bytes bytes' text' v w asked asked' r f s g is'.
     let is = whole c.args.line.now _ _ c.new-text.ensures.items c.in_ok-push_answer.ensures in
-    let t = answers_as_idle name _ other bytes bytes' _ text' is is' asked asked' ok ok' in
+    let t = answers_as_idle name _ other bytes bytes' _ text' is is' asked asked' (v, r, f)
+    (w, s, g) in
     (t.0 all, t.1)
 
 pub returns-clause-alike : goal.returns-clause-alike
-returns-clause-alike c = λ name other bytes bytes' text' asked asked' ok ok' is'.
+returns-clause-alike c = λ name other bytes bytes' text' v w asked asked' r f s g is'.
     let is = whole c.args.line.now _ _ c.new-text.ensures.items c.in_ok-push_answer.ensures in
-    (answers_as_idle name _ other bytes bytes' _ text' is is' asked asked' ok ok').1
+    (answers_as_idle name _ other bytes bytes' _ text' is is' asked asked' (v, r, f) (w, s, g)).1
 
 pub returns-clause-dumps : goal.returns-clause-dumps
 returns-clause-dumps c = λ other text' datagrams datagrams' xs ys asked asked' each also same is'.
