@@ -40,7 +40,6 @@ pub fn lenient_walk_of_good_bytes<'a, V: FamilyView<'a>>()
 
 /// The first fields are those of the port's `TcpInfo`, and the later ones stand behind them, one
 /// after the other, up to byte 280.
-#[tactic(auto, unfolding(sock_diag_values::specs::TcpInfo::tcp_info))]
 pub fn tcp_fields_are_rows()
     ensures first { map row_of first_fields ≡ tcp_info.table tt }
     ensures later { IsTrue (is_table 232 (map row_of later_fields) 280) }
