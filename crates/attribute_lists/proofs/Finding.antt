@@ -16,12 +16,12 @@ use Rattle.attribute_lists.specs.StandingLaws.{standing}
 
 -- in no bytes none is found
 pub found_none : standing.0 [] ≡ []
-found_none = standing.1
+found_none = standing.1.none
 
 -- the attribute that bytes begin with is found first
 pub found_first : (bytes rest : List ℕ) (a : Attribute) → StartsWith bytes a rest
     → standing.0 bytes ≡ a ∷ standing.0 rest
-found_first = standing.2
+found_first = standing.1.first
 
 -- the value in an answer that is no fault
 value_in : {A : Type 0} (answer : Result A DecodeError) → ((e : DecodeError)

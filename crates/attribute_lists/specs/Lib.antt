@@ -1,3 +1,4 @@
 pub mod AttributesIn
 pub mod LeadingAttribute
+pub mod Finds
 pub mod StandingLaws

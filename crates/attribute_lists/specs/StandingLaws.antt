@@ -3,6 +3,7 @@ use Rattle.std.proofs.Common.{◌≡◌, ℕ, zero, suc, ◌+◌, ◌-◌, List,
 use Rattle.std.proofs.Common.{inl, inr, refl, ap, append_assoc, arith}
 use Rattle.std.proofs.lemmas.List.{take_at, drop_at, drop_all, length-append}
 use Rattle.netlink_core.specs.Attribute.{Attribute, StartsWith, fill, unpadded}
+use Rattle.attribute_lists.specs.Finds.{Finds}
 use Rattle.attribute_lists.specs.LeadingAttribute.{leading_attribute}
 use Rattle.byteorder.specs.Endian.{little_number}
 
@@ -47,9 +48,6 @@ pub found_none : attributes_behind 0 [] ≡ []
 unfolding attributes_behind
 found_none = refl
 
--- None stand in no bytes. Where bytes begin with an attribute it is the first, and the others are
--- those that stand in the rest.
-pub standing : (found : List ℕ → List Attribute) × (found [] ≡ [])
-    × ((bytes rest : List ℕ) (a : Attribute) → StartsWith bytes a rest
-    → found bytes ≡ a ∷ found rest)
-standing = (attributes_behind 0, found_none, found_first)
+-- what finds them
+pub standing : (found : List ℕ → List Attribute) × Finds found
+standing = (attributes_behind 0, record { none = found_none; first = found_first })

@@ -25,7 +25,7 @@ use Rattle.sock_diag_uses.specs.TestKernel.{CanBeSent, IsAnswer, IsWholeDump, en
 use Rattle.sock_diag_uses.specs.TestKernel.{message_under, reply_under}
 
 -- the message of a reply
-abbrev sent : UnixResponseValue → Message
+abbrev sent : ValueOf unix_response_spec → Message
 sent reply = message_of unix_response reply
 
 -- no padding stands behind a message whose length is a multiple of four
