@@ -31,7 +31,7 @@ read_name bytes = let i = position_or_len (λ byte. byte == 0) bytes in
     if i + 1 == length bytes then Ok (Pathname (take i bytes))
     else Err (if i == length bytes then NameWithoutEnd else NameInnerZero i)
 
--- a name as the value of an attribute; its bytes are bytes
+-- a name as the value of an attribute, in range where what it is written as is bytes
 abbrev pub name_value : ValueCodec (Unit {0})
 name_value = exact_value read_name name_bytes (λ name. IsBytes (name_bytes name)) IsNormalName
 

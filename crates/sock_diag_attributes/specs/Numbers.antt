@@ -20,7 +20,7 @@ two_value k = exact_value {A = ℕ × ℕ}
     else Err (WrongLength (Some k) (length b) 8)) (λ ns. little_bytes 4 ns.0 ++ little_bytes 4 ns.1)
     (λ ns. (ns.0 < 2 ^ 32) × (ns.1 < 2 ^ 32)) (λ ns. ⊤)
 
--- numbers in four bytes each, of any number, as the value of an attribute
+-- any number of numbers, in four bytes each, as the value of an attribute
 abbrev pub numbers_value : ValueCodec (Unit {0})
 numbers_value = exact_value
     (λ b. if length b % 4 == 0 then Ok (numbers_in b) else Err (NotMultipleOfFour (length b)))

@@ -5,7 +5,7 @@ use Rattle.netlink_core.specs.Parse.{text_in}
 use Rattle.netlink_core.specs.ValueCodec.{ValueCodec}
 use Rattle.netlink_core.specs.AttributeSpecs.{exact_value}
 
--- the left bytes do not end in a zero, and the right ones are they followed by one zero
+-- the right bytes are the left ones, which do not end in a zero, followed by one zero
 abbrev pub AddsEndZero : List ℕ → List ℕ → Type 0
 AddsEndZero left right = ¬ ((front : List ℕ) × (left ≡ front ++ 0 ∷ [])) × (right ≡ left ++ 0 ∷ [])
 
