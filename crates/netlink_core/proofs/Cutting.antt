@@ -10,7 +10,8 @@ use Rattle.std.specs.List.{AllZip, AllByRecursion, flat_map}
 use Rattle.netlink_core.specs.declared.fault.DecodeError.{DecodeError}
 use Rattle.netlink_core.specs.Bytes.{IsBytes}
 use Rattle.netlink_core.specs.Attribute.{CutOff}
-use Rattle.netlink_core.specs.Attribute.{Attribute, FitsWords, fill, unpadded}
+use Rattle.netlink_core.specs.Attribute.{Attribute, fill, unpadded}
+use Rattle.netlink_core.specs.PrefixLaws.{FitsWords}
 use Rattle.netlink_core.specs.Attribute.{written, StartsWith, Cut, IsPrefixFault}
 use Rattle.netlink_core.specs.Attribute.{AttributesMean, AttributeFault}
 use Rattle.netlink_core.specs.ByteLaws.{IsBytes-nil, IsBytes-right}

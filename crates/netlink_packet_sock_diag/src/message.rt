@@ -3,7 +3,7 @@
 ghost use Rattle.std.specs.Prelude.{◌≡◌, ◌≢◌, ◌<◌, ◌↔◌, ◌⊎◌, true, refl, IsTrue, IfOk, IfErr, IsOk};
 ghost use Rattle.netlink_core.specs.declared.fault.DecodeError.TheVariants.{Memory};
 ghost use Rattle.netlink_core.specs.declared.message.NetlinkPayload.TheVariants.{InnerMessage};
-ghost use Rattle.netlink_packet_sock_diag.specs.Message.{message_codec, of_message};
+ghost use Rattle.netlink_packet_sock_diag.specs.Message.{Message, message_codec, of_message};
 ghost use Rattle.sock_diag_records.specs.ResponseKind.{inet_request, inet_response, unix_request};
 ghost use Rattle.sock_diag_records.specs.ResponseKind.{unix_response};
 
