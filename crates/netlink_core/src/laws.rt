@@ -1,7 +1,8 @@
 //! Laws of the framing of attributes and of messages. The functions do nothing: their contracts are
 //! the laws.
 
-ghost use Rattle.std.specs.Prelude.{◌≡◌, ◌↔◌, ◌⊎◌, ◌%◌, ◌^◌, ◌<◌, ◌++◌, ℕ, List, [], ◌∷◌, length, map};
+ghost use Rattle.std.specs.Prelude.{◌≡◌, ◌↔◌, ◌⊎◌, ◌%◌, ◌^◌, ◌<◌, ◌++◌};
+ghost use Rattle.std.specs.Prelude.{ℕ, List, [], ◌∷◌, length, map};
 ghost use Rattle.std.specs.Prelude.{Option, Some, None, Result, Ok, Err, IsTrue, IfOk, IsOk, true};
 ghost use Rattle.std.specs.Prelude.{false, vec_items};
 ghost use Rattle.std.specs.Borrow.{Bor};
@@ -155,7 +156,8 @@ pub fn equal_messages<I: Coded>(v: &NetlinkMessage<I>, w: &NetlinkMessage<I>) ->
 
 /// `==` says whether two payloads carry the same.
 pub fn equal_payloads<I: Coded>(v: &NetlinkPayload<I>, w: &NetlinkPayload<I>) -> bool
-    ensures { IsTrue result ↔ (payload_of vec_items I.model v.now ≡ payload_of vec_items I.model w.now) }
+    ensures { IsTrue result
+        ↔ (payload_of vec_items I.model v.now ≡ payload_of vec_items I.model w.now) }
 {
     v == w
 }

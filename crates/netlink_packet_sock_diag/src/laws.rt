@@ -308,7 +308,8 @@ pub fn lossy_dump_keeps_messages()
 pub fn whole_views_are_the_datagram()
     ensures { (walk : DumpViews) (given : List (Result PayloadView DecodeError))
         → Drains GivesView walk given
-        → ItemsAre message_codec (datagram_left walk.messages) (map (map_ok payload_view_model) given) }
+        → ItemsAre message_codec (datagram_left walk.messages)
+        (map (map_ok payload_view_model) given) }
 {}
 
 /// `==` says whether two errors of a dump are the same.

@@ -26,7 +26,8 @@ returns c = on_ok
     c.lines_of.result
     (λ lines h. record {
       items = map (map_ok payload_view_model) h.0;
-      are = subst (λ (bytes : List ℕ). ItemsAre message_codec bytes (map (map_ok payload_view_model) h.0))
+      are = subst
+          (λ (bytes : List ℕ). ItemsAre message_codec bytes (map (map_ok payload_view_model) h.0))
           c.new.ensures (c.whole_views_are_the_datagram.ensures c.new.result h.0 h.1);
       found = h.2;
     })

@@ -2,23 +2,19 @@ use Rattle.std.proofs.Common.{rules}
 use Rattle.sock_diag_families.proofs.vsock.response.VsockResponseHeaderRecord.fields_in_range.Goals as goal
 
 pub returns : goal.returns
-returns c =
-    record {
-      shaped = tt;
-      fit = (
+returns c = (
+  tt,
+  (
+    search rules,
+    (
+      search rules,
+      (
         search rules,
         (
           search rules,
-          (
-            search rules,
-            (
-              search rules,
-              (
-                search rules,
-                (search rules, (search rules, (search rules, c.long_words_in_range.ensures 24))),
-              ),
-            ),
-          ),
+          (search rules, (search rules, (search rules, c.long_words_in_range.ensures 24))),
         ),
-      );
-    }
+      ),
+    ),
+  ),
+)
