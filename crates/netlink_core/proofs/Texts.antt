@@ -1,25 +1,48 @@
 -- Texts in bytes, and the zero at their end.
-use Rattle.std.proofs.Common.{◌≡◌, ◌≢◌, ℕ, List, [], ◌∷◌, ◌++◌, Ok}
-use Rattle.std.proofs.Common.{Err, refl, arith}
+use Rattle.std.proofs.Common.{◌≡◌, ◌≢◌, ◌⊎◌, inl, inr, ℕ, zero, suc, ◌-◌, List, [], ◌∷◌, ◌++◌, Ok}
+use Rattle.std.proofs.Common.{Err, length, slice_index, refl, ap, arith}
+use Rattle.std.proofs.lemmas.List.{length-append, take_at}
+use Rattle.std.proofs.lemmas.Bool.Decides.{nat_tests}
 use Rattle.std.specs.Prelude.{IsUtf8}
 use Rattle.std.proofs.lemmas.Str.{IsUtf8-from_is_utf8, is_utf8-from_IsUtf8}
 use Rattle.netlink_core.specs.declared.fault.DecodeError.TheVariants.{NotUtf8}
 use Rattle.netlink_core.specs.Parse.{without_end_zero, text_in}
 
+-- the last byte of a text and one more is that one
+last_there : (text : List ℕ) (last : ℕ) → slice_index (text ++ last ∷ []) (length text) ≡ last
+last_there [] last = refl
+last_there (byte ∷ text) last = last_there text last
+
+one_more : (text : List ℕ) (last : ℕ) → length (text ++ last ∷ []) - 1 ≡ length text
+one_more text last = omega (arith, length-append text (last ∷ []))
+
 -- a zero at the end is taken off
 pub end_zero : (text : List ℕ) → without_end_zero (text ++ 0 ∷ []) ≡ text
-end_zero [] = refl
-end_zero (byte ∷ text) =
-    grind (arith, end_zero text)
+end_zero text =
+    rw (one_more text 0, last_there text 0, take_at text (0 ∷ []) (length text) refl) refl
 
 -- another byte there stays
 pub other_end : (text : List ℕ) (last : ℕ) → last ≢ 0
     → without_end_zero (text ++ last ∷ []) ≡ text ++ last ∷ []
-other_end [] last other = grind arith
-other_end (byte ∷ []) last other =
-    grind (arith, other_end [] last other)
-other_end (byte ∷ next ∷ text) last other =
-    grind (arith, other_end (next ∷ text) last other)
+other_end text last other =
+    rw (one_more text last, last_there text last) (grind (arith, nat_tests))
+
+-- a string is empty, or bytes in front of a last one
+ends : (s : List ℕ) → (s ≡ []) ⊎ ((front : List ℕ) × (last : ℕ) × (s ≡ front ++ last ∷ []))
+ends [] = inl refl
+ends (x ∷ []) = inr ([], x, refl)
+ends (x ∷ y ∷ rest) = elim (ends (y ∷ rest)) [
+  | inl none ↦ absurd (let wrong = none in cc)
+  | inr (front, last, e) ↦ inr (x ∷ front, last, ap (λ (tail : List ℕ). x ∷ tail) e)
+]
+
+-- a string ends in a zero, or all of it is kept
+pub kept_or_ends : (s : List ℕ) → (s ≡ without_end_zero s ++ 0 ∷ []) ⊎ (without_end_zero s ≡ s)
+kept_or_ends s = elim (ends s) [
+  | inl none ↦ inr (rw none refl)
+  | inr (front, zero, e) ↦ inl (rw (e, end_zero front) refl)
+  | inr (front, suc n, e) ↦ inr (rw e (other_end front (suc n) (λ z. omega (arith, z))))
+]
 
 -- UTF-8 is a text
 pub text_there : (bytes text : List ℕ) → text ≡ without_end_zero bytes

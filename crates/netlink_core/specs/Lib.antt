@@ -27,4 +27,3 @@ pub mod Datagram
 pub mod DatagramWalk
 pub mod Items
 pub mod EnvelopeModel
-pub mod Spare

@@ -1,6 +1,6 @@
 -- Numbers and texts that fill their bytes.
-use Rattle.std.specs.Prelude.{ℕ, zero, ◌==◌, if◌then◌else◌, List, [], ◌∷◌, length, Option, Result}
-use Rattle.std.specs.Prelude.{Ok, Err}
+use Rattle.std.specs.Prelude.{ℕ, ◌-◌, ◌==◌, if◌then◌else◌, List, length, take, slice_index}
+use Rattle.std.specs.Prelude.{Option, Result, Ok, Err}
 use Rattle.std.specs.Str.{is_utf8}
 use Rattle.byteorder.specs.Endian.{little_number}
 use Rattle.netlink_core.specs.declared.fault.DecodeError.{DecodeError}
@@ -9,15 +9,13 @@ use Rattle.netlink_core.specs.declared.fault.DecodeError.TheVariants.{WrongLengt
 -- the number in exactly so many bytes, the low byte first; the fault of another length has a type,
 -- where there is one
 abbrev pub exact_number : Option ℕ → ℕ → List ℕ → Result ℕ DecodeError
-exact_number kind width bytes =
-    if length bytes == width then Ok (little_number width bytes) else Err (WrongLength kind (length bytes) width)
+exact_number kind width b =
+    if length b == width then Ok (little_number width b) else Err (WrongLength kind (length b) width)
 
 -- the bytes without a zero at their end, of which at most one is taken off
 abbrev pub without_end_zero : List ℕ → List ℕ
-without_end_zero [] = []
-without_end_zero (zero ∷ []) = []
-without_end_zero (byte ∷ bytes) = byte ∷ without_end_zero bytes
+without_end_zero b = if slice_index b (length b - 1) == 0 then take (length b - 1) b else b
 
 -- the text in the bytes: what is left without a zero at their end, where that is UTF-8
 abbrev pub text_in : List ℕ → Result (List ℕ) DecodeError
-text_in bytes = if is_utf8 (without_end_zero bytes) then Ok (without_end_zero bytes) else Err NotUtf8
+text_in b = if is_utf8 (without_end_zero b) then Ok (without_end_zero b) else Err NotUtf8

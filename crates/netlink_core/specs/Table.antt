@@ -59,7 +59,6 @@ Fit _ _ = ⊥
 -- no flag has a bit outside its mask
 abbrev pub AreDefined : List Field → List ℕ → Type 0
 AreDefined (unread offset written ∷ fields) values = AreDefined fields values
-AreDefined (flags offset width mask ∷ fields) (value ∷ values) =
-    (bit_and value mask ≡ value) × AreDefined fields values
+AreDefined (flags at width mask ∷ fields) (n ∷ rest) = (bit_and n mask ≡ n) × AreDefined fields rest
 AreDefined (field ∷ fields) (value ∷ values) = AreDefined fields values
 AreDefined _ _ = Unit {0}

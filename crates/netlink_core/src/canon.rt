@@ -1,9 +1,10 @@
 //! One string for all strings that differ in idle details alone.
 
-ghost use Rattle.std.specs.Prelude.{◌≡◌, ◌↔◌, ℕ, List, IfOk, IfErr};
+ghost use Rattle.std.specs.Prelude.{◌≡◌, ◌≢◌, ◌↔◌, ℕ, List, IfOk, IfErr};
 ghost use Rattle.netlink_core.specs.Bytes.{IsBytes};
-ghost use Rattle.netlink_core.specs.Canonical.{GivesUp, from_fault};
-ghost use Rattle.netlink_core.specs.declared.canon.CanonError.TheVariants.{Memory};
+ghost use Rattle.netlink_core.specs.Canonical.{GivesUp};
+ghost use Rattle.netlink_core.specs.declared.canon.CanonError.TheVariants.{Memory, Refused};
+ghost use Rattle.netlink_core.specs.declared.fault.DecodeError.TheVariants as faults;
 
 use crate::{DecodeError, Wire};
 use std::alloc::{AllocError, Global};
@@ -20,7 +21,9 @@ pub enum CanonError {
 }
 
 impl From<DecodeError> for CanonError {
-    ghost from_gives = { λ fault e. e ≡ from_fault fault };
+    // Want of memory is its own case.
+    ghost from_gives = { λ fault e. (fault ≡ faults.Memory → e ≡ Memory)
+        × (fault ≢ faults.Memory → e ≡ Refused fault) };
 
     fn from(fault: DecodeError) -> CanonError {
         match fault {

@@ -5,7 +5,6 @@ ghost use Rattle.std.proofs.Common.{sym, ap, ◌∙◌, subst};
 ghost use Rattle.netlink_core.specs.Bytes.{IsBytes};
 ghost use Rattle.netlink_core.specs.Canonical.{GivesUp};
 ghost use Rattle.netlink_core.specs.Codec.{Codec, KeepsLaws};
-ghost use Rattle.netlink_core.specs.Spare.{WantsMemory};
 ghost use Rattle.netlink_core.specs.declared.fault.DecodeError.TheVariants.{Memory};
 
 use crate::{CanonError, DecodeError, Emitable, Readable};
@@ -119,7 +118,8 @@ pub trait Wire: Coded + Readable + Emitable {
         ensures memory { IfErr result (λ e. e ≡ Memory → IsTrue Self.TAKES_MEMORY) }
         // Memory is wanted only where the string has a value, and one that is not spare.
         ensures wanted { IfErr result (λ e. e ≡ Memory
-            → WantsMemory (Self.codec.reads bytes.now param) Self.codec.is_spare) };
+            → (v : Self.codec.Value) × Self.codec.reads bytes.now param v
+            × ¬ Self.codec.is_spare v) };
 
     /// The bytes that the value in the bytes is written as: what [`canonical`](crate::canonical)
     /// answers. It makes a value, and a type that has a view writes from that instead.

@@ -10,12 +10,11 @@ use Rattle.netlink_core.specs.AttributeSet.{IsSpareBy}
 use Rattle.netlink_core.specs.AttributeSetLaws.{set_faults_named}
 use Rattle.netlink_core.specs.FirstAttribute.{first_attribute_codec}
 use Rattle.netlink_core.specs.ShownLaws.{AttributeSetLaws}
-use Rattle.netlink_core.specs.Spare.{WantsMemory}
 
 -- memory is answered where it is wanted
 abbrev Wanted : (F : AttributeSet) → List ℕ → {T : Type 0} → Result T DecodeError → Type 0
 Wanted F b r = IfErr r (λ e. e ≡ Memory
-    → WantsMemory ((first_attribute_codec F).reads b tt) (IsSpareBy F))
+    → (v : AttributeValue F) × (first_attribute_codec F).reads b tt v × ¬ IsSpareBy F v)
 
 -- not where the value is refused
 pub refused_wants_none : (F : AttributeSet) → AttributeSetLaws F

@@ -1,5 +1,5 @@
 -- The laws of a text as the value of an attribute.
-use Rattle.std.proofs.Common.{Ok, ◌≡◌, ◌↔◌, ◌⊎◌, inl, inr, ℕ, zero, suc, List, [], ◌∷◌, ◌++◌}
+use Rattle.std.proofs.Common.{Ok, ◌≡◌, ◌↔◌, ◌⊎◌, inl, inr, ℕ, List, [], ◌∷◌, ◌++◌}
 use Rattle.std.proofs.Common.{length, refl, ap, sym, subst, arith}
 use Rattle.std.specs.Prelude.{IsUtf8}
 use Rattle.std.proofs.lemmas.List.{length-append}
@@ -9,18 +9,8 @@ use Rattle.netlink_core.specs.ByteLaws.{IsBytes-append, IsBytes-cons, IsBytes-le
 use Rattle.netlink_core.specs.Parse.{without_end_zero, text_in}
 use Rattle.netlink_core.specs.Codec.{KeepsLaws, as_codec}
 use Rattle.netlink_core.specs.PrefixLaws.{value_or_reason}
-use Rattle.netlink_core.proofs.Texts.{end_zero, text_there}
+use Rattle.netlink_core.proofs.Texts.{end_zero, kept_or_ends, text_there}
 use Rattle.sock_diag_attributes.specs.Text.{text_value}
-
--- a string ends in a zero, or all of it is kept
-kept_or_ends : (s : List ℕ) → (s ≡ without_end_zero s ++ 0 ∷ []) ⊎ (without_end_zero s ≡ s)
-kept_or_ends [] = inr refl
-kept_or_ends (zero ∷ []) = inl refl
-kept_or_ends (suc n ∷ []) = inr refl
-kept_or_ends (zero ∷ next ∷ rest) =
-    grind (arith, kept_or_ends (next ∷ rest))
-kept_or_ends (suc n ∷ next ∷ rest) =
-    grind (arith, kept_or_ends (next ∷ rest))
 
 -- not both
 all_kept : (s : List ℕ) → ¬ ((front : List ℕ) × (s ≡ front ++ 0 ∷ [])) ↔ (without_end_zero s ≡ s)

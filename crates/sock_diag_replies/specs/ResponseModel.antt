@@ -5,5 +5,4 @@ use Rattle.sock_diag_replies.specs.declared.response.Reply.{Reply}
 
 -- the model of the header, and the model of each attribute
 abbrev pub response_model : {H N V W : Type 0} → (H → V) → (N → W) → Reply H N → ResponseValue V W
-response_model header_model model reply =
-    record { header = header_model reply.header; nlas = map model reply.nlas.items }
+response_model of_header of r = record { header = of_header r.header; nlas = map of r.nlas.items }
