@@ -20,7 +20,7 @@ use Rattle.netlink_core.proofs.Framing.{envelope_or_fault}
 use Rattle.netlink_core.proofs.Padding.{by_length, some_or_none}
 use Rattle.netlink_core.proofs.Datagrams.{starts_with_message, shorter-rest}
 use Rattle.netlink_core.proofs.Datagrams.{messages_of_concatenation}
-use Rattle.netlink_core.proofs.Datagrams.{one_cut_into_messages}
+use Rattle.netlink_core.proofs.Datagrams.{IsOfOwnLength, one_cut_into_messages}
 
 -- what stands behind a message in bytes is bytes
 pub rest_in_range : (bytes message rest : List ℕ) → StartsWithMessage bytes message rest
@@ -39,42 +39,40 @@ pub zip_append : {A B : Type 0} (R : A → B → Type 0) (xs ys : List A) (vs ws
 zip_append R (x ∷ xs) ys (v ∷ vs) ws h k = (h.0, zip_append R xs ys vs ws h.1 k)
 zip_append R xs ys vs ws h k = grind arith
 
-module _ (C : Codec ℕ) where
+module _ {A : Type 0} (is : List ℕ → Item A → Type 0) where
   -- the item of a message in front of others
-  pub leading_item : (bytes message rest : List ℕ) (item : Item C.Value)
-      (later : List (Item C.Value)) → StartsWithMessage bytes message rest → ItemIs C message item
-      → ItemsAre C rest later → ItemsAre C bytes (item ∷ later)
-  leading_item bytes message rest item later s is (messages, end, carried, cut, each, parts) = (
+  pub leading_item : (bytes message rest : List ℕ) (item : Item A)
+      (later : List (Item A)) → StartsWithMessage bytes message rest → is message item
+      → ItemsAre is rest later → ItemsAre is bytes (item ∷ later)
+  leading_item bytes message rest item later s one (messages, end, carried, cut, each, parts) = (
     message ∷ messages,
     end,
     item ∷ carried,
     (rest, s, cut),
-    (is, each),
+    (one, each),
     cc,
   )
 
   -- no bytes have no items
-  pub no_items : ItemsAre C [] []
+  pub no_items : ItemsAre is [] []
   no_items = ([], None, [], refl, tt, refl)
 
   -- bytes with no message in front have the fault alone
   pub fault_alone : (bytes : List ℕ) (e : DecodeError) → bytes ≢ [] → IsEnvelopeFault bytes e
-      → ItemsAre C bytes (Err e ∷ [])
+      → ItemsAre is bytes (Err e ∷ [])
   fault_alone bytes e some f = ([], Some e, [], (some, f), tt, refl)
 
   -- whole messages have the items of the messages alone
   pub whole_items : (bytes : List ℕ) (messages : List (List ℕ))
-      (items : List (Item C.Value))
-      → CutIntoMessages bytes messages None × (length bytes % 4 ≡ 0)
-      → ItemsAre C bytes items → AllZip (ItemIs C) messages items
+      (items : List (Item A)) → CutIntoMessages bytes messages None × (length bytes % 4 ≡ 0)
+      → ItemsAre is bytes items → AllZip is messages items
   whole_items bytes messages items whole a =
       grind (arith, one_cut_into_messages bytes a.0 messages a.1, append-nil a.2)
 
   -- whole messages and then more bytes have the items of the one and then of the other
   pub items_of_concatenation : (front back : List ℕ) (messages : List (List ℕ))
-      (xs ys : List (Item C.Value))
-      → CutIntoMessages front messages None × (length front % 4 ≡ 0)
-      → ItemsAre C front xs → ItemsAre C back ys → ItemsAre C (front ++ back) (xs ++ ys)
+      (xs ys : List (Item A)) → CutIntoMessages front messages None × (length front % 4 ≡ 0)
+      → ItemsAre is front xs → ItemsAre is back ys → ItemsAre is (front ++ back) (xs ++ ys)
   items_of_concatenation front back messages xs ys whole a b =
       grind (
         arith,
@@ -87,10 +85,10 @@ module _ (C : Codec ℕ) where
   -- ---- the walk
 
   -- What was found goes on with whatever items the rest has.
-  pub record Following (bytes : List ℕ) (so_far : List (Item C.Value))
+  pub record Following (bytes : List ℕ) (so_far : List (Item A))
       (rest : List ℕ) : Type 0 where
-    pub items : (later : List (Item C.Value)) → ItemsAre C rest later
-        → ItemsAre C bytes (so_far ++ later)
+    pub items : (later : List (Item A)) → ItemsAre is rest later
+        → ItemsAre is bytes (so_far ++ later)
     pub in_range : IsBytes bytes → IsBytes rest
 
   -- the walk begins with all the bytes
@@ -98,20 +96,39 @@ module _ (C : Codec ℕ) where
   items_begin bytes = record { items = λ later h. h; in_range = λ h. h }
 
   -- it goes on behind a message
-  pub items_go_on : (bytes rest after message : List ℕ) (so_far : List (Item C.Value))
-      (item : Item C.Value) → Following bytes so_far rest → StartsWithMessage rest message after
-      → ItemIs C message item → Following bytes (so_far ++ item ∷ []) after
-  items_go_on bytes rest after message so_far item walk s is = record {
+  pub items_go_on : (bytes rest after message : List ℕ) (so_far : List (Item A))
+      (item : Item A) → Following bytes so_far rest → StartsWithMessage rest message after
+      → is message item → Following bytes (so_far ++ item ∷ []) after
+  items_go_on bytes rest after message so_far item walk s one = record {
     items = λ later h. rw append_assoc
-        (walk.items (item ∷ later) (leading_item rest message after item later s is h));
+        (walk.items (item ∷ later) (leading_item rest message after item later s one h));
     in_range = λ h. rest_in_range rest message after s (walk.in_range h);
   }
+
+-- where each message has an item
+module _ {A : Type 0} (is : List ℕ → Item A → Type 0) (some_item : (message : List ℕ)
+    → IsBytes message → IsOfOwnLength message → (item : Item A) × is message item) where
+  -- each datagram has items
+  pub items_by : (bytes : List ℕ) → IsBytes bytes → (items : List (Item A))
+      × ItemsAre is bytes items
+  items_by = by_length _ (λ bytes others fits. elim (some_or_none bytes) [
+    | inl none ↦ ([], ([], None, [], none, tt, refl))
+    | inr some ↦ elim (header_or_fault bytes fits) [
+      | inl (h, head) ↦
+          let s = starts_with_message bytes _ _ h (h.length + fill h.length) head refl refl refl in
+          let later = others _ (shorter-rest bytes _ _ s) (rest_in_range bytes _ _ s fits) in
+          let item = some_item _ (message_in_range bytes _ _ s fits) s.whole in
+          (item.0 ∷ later.0, leading_item is bytes _ _ item.0 later.0 s item.1 later.1)
+      | inr f ↦ (Err f.0 ∷ [], fault_alone is bytes f.0 some f.1)
+    ]
+  ])
 
 -- where payloads of inner messages have one of them or one fault
 module _ (C : Codec ℕ) (law : (b : List ℕ) (t : ℕ) → IsBytes b → ((m : C.Value) × C.reads b t m)
     ⊎ ((e : DecodeError) × C.refuses b t e)) where
   -- a message has an item
-  item_of : (message : List ℕ) → IsBytes message → (item : Item C.Value) × ItemIs C message item
+  pub item_of : (message : List ℕ) → IsBytes message → (item : Item C.Value)
+      × ItemIs C message item
   item_of message in_range = elim (envelope_or_fault C message in_range law) [
     | inl v ↦ (Ok v.0.payload, (v.0.header, v.1))
     | inr e ↦ (Err e.0, e.1)
@@ -119,28 +136,46 @@ module _ (C : Codec ℕ) (law : (b : List ℕ) (t : ℕ) → IsBytes b → ((m :
 
   -- each datagram has items
   pub items_of : (bytes : List ℕ) → IsBytes bytes → (items : List (Item C.Value))
-      × ItemsAre C bytes items
-  items_of = by_length _ (λ bytes others fits. elim (some_or_none bytes) [
-    | inl none ↦ ([], ([], None, [], none, tt, refl))
-    | inr some ↦ elim (header_or_fault bytes fits) [
-      | inl (h, head) ↦
-          let s = starts_with_message bytes _ _ h (h.length + fill h.length) head refl refl refl in
-          let later = others _ (shorter-rest bytes _ _ s) (rest_in_range bytes _ _ s fits) in
-          let item = item_of _ (message_in_range bytes _ _ s fits) in
-          (item.0 ∷ later.0, leading_item C bytes _ _ item.0 later.0 s item.1 later.1)
-      | inr f ↦ (Err f.0 ∷ [], fault_alone C bytes f.0 some f.1)
-    ]
-  ])
+      × ItemsAre (ItemIs C) bytes items
+  items_of = items_by (ItemIs C) (λ message in_range whole. item_of message in_range)
 
   -- all items, where one that was found is followed by others
   pub items_with : (bytes rest after message : List ℕ) (so_far : List (Item C.Value))
-      (item : Item C.Value) → IsBytes bytes → Following C bytes so_far rest
+      (item : Item C.Value) → IsBytes bytes → Following (ItemIs C) bytes so_far rest
       → StartsWithMessage rest message after → ItemIs C message item
-      → (later : List (Item C.Value)) × ItemsAre C bytes (so_far ++ (item ∷ later))
+      → (later : List (Item C.Value)) × ItemsAre (ItemIs C) bytes (so_far ++ (item ∷ later))
   items_with bytes rest after message so_far item in_range walk s is =
       let later = items_of after (rest_in_range rest message after s (walk.in_range in_range)) in (
         later.0,
-        walk.items (item ∷ later.0) (leading_item C rest message after item later.0 s is later.1),
+        walk.items (item ∷ later.0)
+            (leading_item (ItemIs C) rest message after item later.0 s is later.1),
+      )
+
+-- where each message has one item alone
+module _ {A : Type 0} (is : List ℕ → Item A → Type 0) (one_item : (message : List ℕ)
+    → IsBytes message → (i j : Item A) → is message i → is message j → i ≡ j) where
+  -- the items of messages
+  one_carried : (b : List ℕ) → IsBytes b → (messages : List (List ℕ)) (end : Option DecodeError)
+      → CutIntoMessages b messages end → (vs ws : List (Item A))
+      → AllZip is messages vs → AllZip is messages ws → vs ≡ ws
+  one_carried b in_range (m ∷ messages) end cut (v ∷ vs) (w ∷ ws) h k =
+      grind (
+        arith,
+        one_item m (message_in_range b m cut.0 cut.1 in_range) v w h.0 k.0,
+        message_in_range b m cut.0 cut.1 in_range,
+        one_carried cut.0 (rest_in_range b m cut.0 cut.1 in_range) messages end cut.2 vs ws h.1 k.1,
+        rest_in_range b m cut.0 cut.1 in_range,
+      )
+  one_carried b in_range messages end cut vs ws h k = grind arith
+
+  -- one list of items
+  pub one_list_by : (b : List ℕ) → IsBytes b → (xs ys : List (Item A))
+      → ItemsAre is b xs → ItemsAre is b ys → xs ≡ ys
+  one_list_by b in_range xs ys h k =
+      grind (
+        arith,
+        one_cut_into_messages b h.0 k.0 h.1 k.1 h.3 k.3,
+        one_carried b in_range k.0 k.1 k.3 h.2 k.2,
       )
 
 -- Each message has one item and each datagram one list of them, where bytes have one message or one
@@ -153,7 +188,8 @@ module _ (C : Codec ℕ)
     (one_fault : (b : List ℕ) (e f : DecodeError) → (envelope_codec C).refuses b tt e
     → (envelope_codec C).refuses b tt f → e ≡ f) where
   -- one item
-  one_item : (b : List ℕ) → IsBytes b → (i j : Item C.Value) → ItemIs C b i → ItemIs C b j → i ≡ j
+  pub one_item : (b : List ℕ) → IsBytes b → (i j : Item C.Value) → ItemIs C b i → ItemIs C b j
+      → i ≡ j
   one_item b in_range (Ok p) (Ok q) h k =
       ap (λ (v : Envelope C.Value). Ok v.payload)
       (one_value b (record { header = h.0; payload = p }) (record { header = k.0; payload = q })
@@ -162,26 +198,7 @@ module _ (C : Codec ℕ)
   one_item b in_range (Err e) (Ok q) h k = absurd (one_answer b _ e k.1 h)
   one_item b in_range (Err e) (Err f) h k = ap Err (one_fault b e f h k)
 
-  -- the items of messages
-  one_carried : (b : List ℕ) → IsBytes b → (messages : List (List ℕ)) (end : Option DecodeError)
-      → CutIntoMessages b messages end → (vs ws : List (Item C.Value))
-      → AllZip (ItemIs C) messages vs → AllZip (ItemIs C) messages ws → vs ≡ ws
-  one_carried b in_range (m ∷ messages) end cut (v ∷ vs) (w ∷ ws) h k =
-      grind (
-        arith,
-        one_item m (message_in_range b m cut.0 cut.1 in_range) v w h.0 k.0,
-        message_in_range b m cut.0 cut.1 in_range,
-        one_carried cut.0 (rest_in_range b m cut.0 cut.1 in_range) messages end cut.2 vs ws h.1 k.1,
-        rest_in_range b m cut.0 cut.1 in_range,
-      )
-  one_carried b in_range messages end cut vs ws h k = grind arith
-
   -- one list of items
   pub one_list : (b : List ℕ) → IsBytes b → (xs ys : List (Item C.Value))
-      → ItemsAre C b xs → ItemsAre C b ys → xs ≡ ys
-  one_list b in_range xs ys h k =
-      grind (
-        arith,
-        one_cut_into_messages b h.0 k.0 h.1 k.1 h.3 k.3,
-        one_carried b in_range k.0 k.1 k.3 h.2 k.2,
-      )
+      → ItemsAre (ItemIs C) b xs → ItemsAre (ItemIs C) b ys → xs ≡ ys
+  one_list = one_list_by (ItemIs C) one_item

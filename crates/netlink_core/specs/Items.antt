@@ -12,16 +12,14 @@ use Rattle.netlink_core.specs.Envelope.{Payload, envelope_codec}
 abbrev pub Item : Type 0 → Type 0
 Item A = Result (Payload A) DecodeError
 
--- What belongs to a datagram, by the codec of inner messages under a type.
-module _ (C : Codec ℕ) where
-  -- a message as what it carries, or as its fault
-  abbrev pub ItemIs : List ℕ → Item C.Value → Type 0
-  ItemIs m item = MatchResult item (λ p. (h : NetlinkHeader) × (envelope_codec C).reads m tt
-      (record { header = h; payload = p })) ((envelope_codec C).refuses m tt)
+-- a message as what it carries, or as its fault, by the codec of inner messages under a type
+abbrev pub ItemIs : (C : Codec ℕ) → List ℕ → Item C.Value → Type 0
+ItemIs C m item = MatchResult item (λ p. (h : NetlinkHeader) × (envelope_codec C).reads m tt
+    (record { header = h; payload = p })) ((envelope_codec C).refuses m tt)
 
-  -- the messages of a datagram in order, and last the fault of what stands behind them, if there is
-  -- one
-  abbrev pub ItemsAre : List ℕ → List (Item C.Value) → Type 0
-  ItemsAre bytes items = (messages : List (List ℕ)) × (end : Option DecodeError)
-      × (carried : List (Item C.Value)) × CutIntoMessages bytes messages end
-      × AllZip ItemIs messages carried × (items ≡ carried ++ option_to_list (option_map Err end))
+-- the messages of a datagram in order, each as such an item, and last the fault of what stands
+-- behind them, if there is one
+abbrev pub ItemsAre : {A : Type 0} → (List ℕ → Item A → Type 0) → List ℕ → List (Item A) → Type 0
+ItemsAre {A} is bytes items = (messages : List (List ℕ)) × (end : Option DecodeError)
+    × (carried : List (Item A)) × CutIntoMessages bytes messages end
+    × AllZip is messages carried × (items ≡ carried ++ option_to_list (option_map Err end))

@@ -15,7 +15,7 @@ ghost use Rattle.netlink_core.specs.Bytes.{IsBytes};
 ghost use Rattle.netlink_core.specs.Walk.{attribute_of, bytes_left, GivesAttribute};
 ghost use Rattle.netlink_core.specs.Datagram.{CutIntoMessages};
 ghost use Rattle.netlink_core.specs.DatagramWalk.{datagram_left, GivesMessage};
-ghost use Rattle.netlink_core.specs.Items.{ItemsAre};
+ghost use Rattle.netlink_core.specs.Items.{ItemIs, ItemsAre};
 ghost use Rattle.netlink_core.specs.EnvelopeModel.{envelope_of, payload_of};
 ghost use Rattle.netlink_core.specs.declared.attribute.NlaBuffer.{NlaBuffer};
 ghost use Rattle.netlink_core.specs.declared.attribute.NlasIterator.{NlasIterator};
@@ -271,14 +271,14 @@ pub fn one_list_of_messages()
 pub fn datagram_has_items<I: Coded<Param = u16>>()
     ensures { (bytes : List ℕ) → IsBytes bytes
         → (items : List (Result (Payload I.codec.Value) DecodeError))
-        × ItemsAre I.codec bytes items }
+        × ItemsAre (ItemIs I.codec) bytes items }
 {}
 
 /// Each datagram has one list of items.
 pub fn one_list_of_items<I: Coded<Param = u16>>()
     ensures { (bytes : List ℕ) → IsBytes bytes
         → (xs ys : List (Result (Payload I.codec.Value) DecodeError))
-        → ItemsAre I.codec bytes xs → ItemsAre I.codec bytes ys → xs ≡ ys }
+        → ItemsAre (ItemIs I.codec) bytes xs → ItemsAre (ItemIs I.codec) bytes ys → xs ≡ ys }
 {
     one_message_or_fault::<I>();
 }
@@ -289,8 +289,8 @@ pub fn items_of_concatenation<I: Coded<Param = u16>>()
     ensures { (front back : List ℕ) (messages : List (List ℕ))
         (xs ys : List (Result (Payload I.codec.Value) DecodeError))
         → CutIntoMessages front messages None × (length front % 4 ≡ 0)
-        → ItemsAre I.codec front xs → ItemsAre I.codec back ys
-        → ItemsAre I.codec (front ++ back) (xs ++ ys) }
+        → ItemsAre (ItemIs I.codec) front xs → ItemsAre (ItemIs I.codec) back ys
+        → ItemsAre (ItemIs I.codec) (front ++ back) (xs ++ ys) }
 {}
 
 /// The types, flags and lengths at the root have the numbers of netlink(7).

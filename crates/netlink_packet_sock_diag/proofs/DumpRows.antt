@@ -18,8 +18,8 @@ use Rattle.netlink_core.specs.Items.{Item, ItemIs, ItemsAre}
 use Rattle.netlink_core.proofs.Datagrams.{one_message, starts_in_concatenation}
 use Rattle.netlink_core.proofs.Framing.{envelope_or_fault_apart, one_envelope_fault}
 use Rattle.netlink_core.proofs.Idle.{equal_where_idle}
-use Rattle.netlink_core.proofs.Items.{no_items, items_of, items_of_concatenation, one_list}
-use Rattle.netlink_core.proofs.Items.{whole_items}
+use Rattle.netlink_core.proofs.Items.{no_items, items_of, items_of_concatenation}
+use Rattle.netlink_core.proofs.Items.{one_item, one_list_by, whole_items}
 use Rattle.netlink_packet_sock_diag.specs.declared.dump.DumpState.TheVariants.{Reading, Failed}
 use Rattle.netlink_packet_sock_diag.specs.declared.dump.DumpError.{DumpError}
 use Rattle.netlink_packet_sock_diag.specs.declared.dump.DumpError.TheVariants.{Ended, Fault}
@@ -192,18 +192,18 @@ first_or_later bytes message rest item items s = (
   λ e. (message, rest, s, e),
 )
 
-module _ (C : Codec ℕ) where
+module _ {A : Type 0} (item_is : List ℕ → Item A → Type 0) where
   -- bytes have items, and one list of them
   abbrev pub SomeItems : Type 0
-  SomeItems = (b : List ℕ) → IsBytes b → (items : List (Item C.Value)) × ItemsAre C b items
+  SomeItems = (b : List ℕ) → IsBytes b → (items : List (Item A)) × ItemsAre item_is b items
 
   abbrev pub OneList : Type 0
-  OneList = (b : List ℕ) → IsBytes b → (xs ys : List (Item C.Value)) → ItemsAre C b xs
-      → ItemsAre C b ys → xs ≡ ys
+  OneList = (b : List ℕ) → IsBytes b → (xs ys : List (Item A)) → ItemsAre item_is b xs
+      → ItemsAre item_is b ys → xs ≡ ys
 
   -- datagrams have items
   pub items_of_each : SomeItems → (datagrams : List (List ℕ)) → AllByRecursion IsBytes datagrams
-      → (parts : List (List (Item C.Value))) × AllZip (ItemsAre C) datagrams parts
+      → (parts : List (List (Item A))) × AllZip (ItemsAre item_is) datagrams parts
   items_of_each some [] in_range = ([], tt)
   items_of_each some (b ∷ later) in_range =
       let first = some b in_range.0 in
@@ -212,34 +212,34 @@ module _ (C : Codec ℕ) where
 
   -- and one list of them each
   pub one_row : OneList → (datagrams : List (List ℕ)) → AllByRecursion IsBytes datagrams
-      → (xs ys : List (List (Item C.Value))) → AllZip (ItemsAre C) datagrams xs
-      → AllZip (ItemsAre C) datagrams ys → xs ≡ ys
+      → (xs ys : List (List (Item A))) → AllZip (ItemsAre item_is) datagrams xs
+      → AllZip (ItemsAre item_is) datagrams ys → xs ≡ ys
   one_row one (b ∷ later) in_range (x ∷ xs) (y ∷ ys) h k =
       cc (one b in_range.0 x y h.0 k.0, one_row one later in_range.1 xs ys h.1 k.1)
   one_row one datagrams in_range xs ys h k = grind arith
 
   pub same_dump : OneList
-      → (datagrams others : List (List ℕ)) (xs ys : List (List (Item C.Value)))
-      → AllByRecursion IsBytes datagrams → AllZip (ItemsAre C) datagrams xs
-      → AllZip (ItemsAre C) others ys → concatenation xs ≡ concatenation ys
-      → (before after : List C.Value) (end : End) → DatagramsDump C before datagrams after end
-      → DatagramsDump C before others after end
+      → (datagrams others : List (List ℕ)) (xs ys : List (List (Item A)))
+      → AllByRecursion IsBytes datagrams → AllZip (ItemsAre item_is) datagrams xs
+      → AllZip (ItemsAre item_is) others ys → concatenation xs ≡ concatenation ys
+      → (before after : List A) (end : End) → DatagramsDump item_is before datagrams after end
+      → DatagramsDump item_is before others after end
   same_dump one datagrams others xs ys in_range each also same before after end (items, are, d) =
       let parts = one_row one datagrams in_range items xs are each in
       (ys, also, rw (← same, ← parts) d)
 
   -- and datagrams one dump
-  pub one_dumps : OneList → (before : List C.Value) (datagrams : List (List ℕ))
-      → AllByRecursion IsBytes datagrams → (a b : List C.Value) (e f : End)
-      → DatagramsDump C before datagrams a e → DatagramsDump C before datagrams b f
+  pub one_dumps : OneList → (before : List A) (datagrams : List (List ℕ))
+      → AllByRecursion IsBytes datagrams → (a b : List A) (e f : End)
+      → DatagramsDump item_is before datagrams a e → DatagramsDump item_is before datagrams b f
       → (a ≡ b) × (e ≡ f)
   one_dumps one before datagrams in_range a b e f (items, are, d) (parts, also, t) =
       let same = one_row one datagrams in_range items parts are also in
       one_dump before (concatenation parts) a b e f (rw same at d) t
 
   -- a datagram has one dump and one flag
-  takes_once : OneList → (b : List ℕ) → IsBytes b → (old p q : Stage C.Value) (e f : End)
-      → Takes C old b p e → Takes C old b q f → (p.0 ≡ q.0) × (e ≡ f) × (p.2 ≡ q.2)
+  takes_once : OneList → (b : List ℕ) → IsBytes b → (old p q : Stage A) (e f : End)
+      → Takes item_is old b p e → Takes item_is old b q f → (p.0 ≡ q.0) × (e ≡ f) × (p.2 ≡ q.2)
   takes_once one b in_range old p q e f t u =
       let rows = one b in_range t.0 u.0 t.1 u.1 in
       let ends = one_dump old.0 u.0 p.0 q.0 e f (rw rows at t.2) u.2 in
@@ -248,41 +248,42 @@ module _ (C : Codec ℕ) where
   -- ---- how whole messages are split into datagrams
 
   -- the last datagram has the bytes and the items; else it is whole messages
-  last_or_whole : (b : List ℕ) (later : List (List ℕ)) (parts : List (List (Item C.Value)))
-      → AreSplit (b ∷ later) → AllZip (ItemsAre C) later parts
+  last_or_whole : (b : List ℕ) (later : List (List ℕ)) (parts : List (List (Item A)))
+      → AreSplit (b ∷ later) → AllZip (ItemsAre item_is) later parts
       → ((later ≡ []) × (parts ≡ [])) ⊎ ((messages : List (List ℕ))
       × CutIntoMessages b messages None × (length b % 4 ≡ 0))
   last_or_whole b later parts split each =
       grind arith
 
   -- the items of split datagrams are those of all their bytes
-  split_items : (datagrams : List (List ℕ)) (parts : List (List (Item C.Value)))
-      → AreSplit datagrams → AllZip (ItemsAre C) datagrams parts
-      → ItemsAre C (concat datagrams) (concatenation parts)
-  split_items [] [] split each = no_items C
+  split_items : (datagrams : List (List ℕ)) (parts : List (List (Item A)))
+      → AreSplit datagrams → AllZip (ItemsAre item_is) datagrams parts
+      → ItemsAre item_is (concat datagrams) (concatenation parts)
+  split_items [] [] split each = no_items item_is
   split_items (b ∷ later) (p ∷ parts) split each = elim (last_or_whole b later parts split each.1) [
     | inl none ↦ rw (none.0, none.1, append-nil b, append-nil p) each.0
-    | inr whole ↦ items_of_concatenation C b (concat later) whole.0 p (concatenation parts)
+    | inr whole ↦ items_of_concatenation item_is b (concat later) whole.0 p (concatenation parts)
         (whole.1, whole.2) each.0 (split_items later parts split.1 each.1)
   ]
   split_items datagrams parts split each = grind arith
 
   -- the dump over the items of one part is that over a row of it
-  of_one_part : (before : List C.Value) (datagram : List ℕ) (after : List C.Value) (end : End)
-      (parts : List (List (Item C.Value))) → AllZip (ItemsAre C) (datagram ∷ []) parts
+  of_one_part : (before : List A) (datagram : List ℕ) (after : List A) (end : End)
+      (parts : List (List (Item A))) → AllZip (ItemsAre item_is) (datagram ∷ []) parts
       → Dump before (concatenation parts) after end
-      → (items : List (Item C.Value)) × ItemsAre C datagram items × Dump before items after end
+      → (items : List (Item A)) × ItemsAre item_is datagram items × Dump before items after end
   of_one_part before datagram after end (items ∷ []) are d = (items, are.0, rw append-nil at d)
   of_one_part before datagram after end parts are d = grind arith
 
   -- the dump over the items of a datagram
-  abbrev pub DatagramDump : List C.Value → List ℕ → List C.Value → End → Type 0
+  abbrev pub DatagramDump : List A → List ℕ → List A → End → Type 0
   DatagramDump before datagram after end =
-      (items : List (Item C.Value)) × ItemsAre C datagram items × Dump before items after end
+      (items : List (Item A)) × ItemsAre item_is datagram items × Dump before items after end
 
   -- is that over this datagram alone
-  pub dump_of_one : (before : List C.Value) (datagram : List ℕ) (after : List C.Value) (end : End)
-      → DatagramDump before datagram after end ↔ DatagramsDump C before (datagram ∷ []) after end
+  pub dump_of_one : (before : List A) (datagram : List ℕ) (after : List A) (end : End)
+      → DatagramDump before datagram after end
+      ↔ DatagramsDump item_is before (datagram ∷ []) after end
   dump_of_one before datagram after end = (
     λ (items, are, d). (items ∷ [], (are, tt), rw append-nil d),
     λ (parts, are, d). of_one_part before datagram after end parts are d,
@@ -290,7 +291,7 @@ module _ (C : Codec ℕ) where
 
   -- the dump of split datagrams is that of the items of all their bytes
   pub dump_of_split : (datagrams : List (List ℕ)) → AreSplit datagrams
-      → (before after : List C.Value) (end : End) → DatagramsDump C before datagrams after end
+      → (before after : List A) (end : End) → DatagramsDump item_is before datagrams after end
       → DatagramDump before (concat datagrams) after end
   dump_of_split datagrams split before after end (items, are, d) =
       (concatenation items, split_items datagrams items split are, d)
@@ -298,9 +299,9 @@ module _ (C : Codec ℕ) where
   -- the other way round
   pub split_of_dump : SomeItems → OneList → (datagrams : List (List ℕ))
       → AllByRecursion IsBytes datagrams → AreSplit datagrams
-      → (before after : List C.Value) (end : End)
+      → (before after : List A) (end : End)
       → DatagramDump before (concat datagrams) after end
-      → DatagramsDump C before datagrams after end
+      → DatagramsDump item_is before datagrams after end
   split_of_dump some one datagrams in_range split before after end d =
       let parts = items_of_each some datagrams in_range in
       let bytes = concat datagrams in
@@ -312,9 +313,8 @@ module _ (C : Codec ℕ) where
 
   -- where the flag is in whole messages and then more bytes
   flags_of_concatenation : (front back : List ℕ) (messages : List (List ℕ))
-      (xs ys : List (Item C.Value))
-      → CutIntoMessages front messages None × (length front % 4 ≡ 0)
-      → AllZip (ItemIs C) messages xs → (Interrupt (front ++ back) (xs ++ ys)
+      (xs ys : List (Item A)) → CutIntoMessages front messages None × (length front % 4 ≡ 0)
+      → AllZip item_is messages xs → (Interrupt (front ++ back) (xs ++ ys)
       ↔ (Interrupt front xs ⊎ (Plain xs × Interrupt back ys)))
   flags_of_concatenation front back [] [] ys whole each = rw whole.0 (grind arith)
   flags_of_concatenation front back (m ∷ messages) (x ∷ xs) ys whole each =
@@ -327,9 +327,9 @@ module _ (C : Codec ℕ) where
   flags_of_concatenation front back messages xs ys whole each = grind arith
 
   -- and in a datagram and then others
-  flags_of_split : (b : List ℕ) (later : List (List ℕ)) (items : List (Item C.Value))
-      (parts : List (List (Item C.Value))) → AreSplit (b ∷ later) → ItemsAre C b items
-      → AllZip (ItemsAre C) later parts
+  flags_of_split : (b : List ℕ) (later : List (List ℕ)) (items : List (Item A))
+      (parts : List (List (Item A))) → AreSplit (b ∷ later) → ItemsAre item_is b items
+      → AllZip (ItemsAre item_is) later parts
       → (Interrupt (b ++ concat later) (items ++ concatenation parts)
       ↔ (Interrupt b items ⊎ (Plain items × Interrupt (concat later) (concatenation parts))))
   flags_of_split b later items parts split are each =
@@ -339,7 +339,7 @@ module _ (C : Codec ℕ) where
         append-nil b,
         append-nil items,
         flags_of_concatenation b (concat later),
-        whole_items,
+        whole_items item_is,
       )
 
   -- the state in which a dump is left
@@ -350,14 +350,14 @@ module _ (C : Codec ℕ) where
   left_reading : (end : End) → state_left end ≡ unended → end ≡ Ok unended
   left_reading end is = grind arith
 
-  feed_step : (old new : Stage C.Value) (datagram : List ℕ) (answer : Result Unit DumpError)
-      → old.1 ≡ unended → FeedLeaves C old datagram new answer → answer ≢ Err (Fault Memory)
-      → (end : End) × Takes C old datagram new end × (new.1 ≡ state_left end)
+  feed_step : (old new : Stage A) (datagram : List ℕ) (answer : Result Unit DumpError)
+      → old.1 ≡ unended → FeedLeaves item_is old datagram new answer → answer ≢ Err (Fault Memory)
+      → (end : End) × Takes item_is old datagram new end × (new.1 ≡ state_left end)
   feed_step old new datagram answer reading f some =
       grind arith
 
-  ended_stays : (datagrams : List (List ℕ)) (old new : Stage C.Value) → old.1 ≢ unended
-      → FeedsLeave C old datagrams new → new ≡ old
+  ended_stays : (datagrams : List (List ℕ)) (old new : Stage A) → old.1 ≢ unended
+      → FeedsLeave item_is old datagrams new → new ≡ old
   ended_stays (datagram ∷ later) old new over (next, (Err Ended, leaves, some), more) =
       grind (arith, ended_stays later old new over)
   ended_stays datagrams old new over f = grind arith
@@ -365,8 +365,8 @@ module _ (C : Codec ℕ) where
   -- Feeding datagrams in a row gives their dump. Where they are split, it is interrupted where all
   -- the bytes do so.
   feeds_dump : SomeItems → (datagrams : List (List ℕ)) → AllByRecursion IsBytes datagrams
-      → (old new : Stage C.Value) → old.1 ≡ unended → FeedsLeave C old datagrams new
-      → (end : End) × (all : DatagramsDump C old.0 datagrams new.0 end)
+      → (old new : Stage A) → old.1 ≡ unended → FeedsLeave item_is old datagrams new
+      → (end : End) × (all : DatagramsDump item_is old.0 datagrams new.0 end)
       × (new.1 ≡ state_left end) × (AreSplit datagrams → (IsTrue new.2
       ↔ (IsTrue old.2 ⊎ Interrupt (concat datagrams) (concatenation all.0))))
   feeds_dump some [] in_range old new reading f = rw (← f) (
@@ -413,51 +413,59 @@ module _ (C : Codec ℕ) where
       ]
 
 module _ (C : Codec ℕ) (laws : KeepsLaws C) where
-  some : SomeItems C
-  some = items_of C laws.answered
+  pub some_items : SomeItems (ItemIs C)
+  some_items = items_of C laws.answered
 
-  one : OneList C
-  one =
+  -- a message has one item
+  pub one_item_of : (message : List ℕ) → IsBytes message → (i j : Item C.Value)
+      → ItemIs C message i → ItemIs C message j → i ≡ j
+  one_item_of =
       let same = equal_where_idle C laws.same_value in
-      one_list C (λ b v w in_range r s. (same b b v w in_range in_range r s).1
+      one_item C (λ b v w in_range r s. (same b b v w in_range in_range r s).1
       ((same b b v v in_range in_range r r).0 refl))
       (λ b v e. envelope_or_fault_apart C b v e (λ x t m. laws.one_answer x t m e))
       (λ b e f. one_envelope_fault C b e f (λ x t. laws.one_fault x t e f))
 
+  pub one_list_of : OneList (ItemIs C)
+  one_list_of = one_list_by (ItemIs C) one_item_of
+
+module _ {A : Type 0} (item_is : List ℕ → Item A → Type 0) (some : SomeItems item_is)
+    (one : OneList item_is) where
   -- feeding split datagrams leaves what the dump over all the bytes does
   pub whole_feed : (datagrams : List (List ℕ)) → AllByRecursion IsBytes datagrams
-      → AreSplit datagrams → (left : Stage C.Value) → FeedsLeave C untouched datagrams left
-      → (all : (end : End) × Takes C untouched (concat datagrams) left end)
-      × (left.1 ≡ state_left C all.0)
+      → AreSplit datagrams → (left : Stage A) → FeedsLeave item_is untouched datagrams left
+      → (all : (end : End) × Takes item_is untouched (concat datagrams) left end)
+      × (left.1 ≡ state_left item_is all.0)
   unfolding dump_of_split
   whole_feed datagrams in_range split left f =
-      let a = feeds_dump C some datagrams in_range untouched left refl f in
-      let d = dump_of_split C datagrams split [] left.0 a.0 a.1 in
+      let a = feeds_dump item_is some datagrams in_range untouched left refl f in
+      let d = dump_of_split item_is datagrams split [] left.0 a.0 a.1 in
       ((a.0, (d.0, d.1, d.2, a.3 split)), a.2)
 
   -- feeding the same bytes in split datagrams leaves the same
   pub same_feeds : (datagrams others : List (List ℕ)) → AllByRecursion IsBytes datagrams
       → AllByRecursion IsBytes others → AreSplit datagrams → AreSplit others
-      → concat datagrams ≡ concat others → (left also : Stage C.Value)
-      → FeedsLeave C untouched datagrams left → FeedsLeave C untouched others also → left ≡ also
+      → concat datagrams ≡ concat others → (left also : Stage A)
+      → FeedsLeave item_is untouched datagrams left → FeedsLeave item_is untouched others also
+      → left ≡ also
   same_feeds datagrams others in_range fits split cut same left also f g =
       let a = whole_feed datagrams in_range split left f in
       let b = whole_feed others fits cut also g in
-      let ends = takes_once C one (concat others) (bytes-concatenation others fits) untouched left
-      also a.0.0 b.0.0 (rw same at a.0.1) b.0.1 in
+      let ends = takes_once item_is one (concat others) (bytes-concatenation others fits) untouched
+      left also a.0.0 b.0.0 (rw same at a.0.1) b.0.1 in
       let state : left.1 ≡ also.1 = cc (a.1, b.1, ends.1) in
       λ i. (ends.0 i, state i, ends.2 i)
 
   -- feeding datagrams with the same items in a row leaves the same messages and state
-  pub same_items_feeds : (datagrams others : List (List ℕ)) (xs ys : List (List (Item C.Value)))
+  pub same_items_feeds : (datagrams others : List (List ℕ)) (xs ys : List (List (Item A)))
       → AllByRecursion IsBytes datagrams → AllByRecursion IsBytes others
-      → AllZip (ItemsAre C) datagrams xs → AllZip (ItemsAre C) others ys
-      → concatenation xs ≡ concatenation ys → (left also : Stage C.Value)
-      → FeedsLeave C untouched datagrams left → FeedsLeave C untouched others also
+      → AllZip (ItemsAre item_is) datagrams xs → AllZip (ItemsAre item_is) others ys
+      → concatenation xs ≡ concatenation ys → (left also : Stage A)
+      → FeedsLeave item_is untouched datagrams left → FeedsLeave item_is untouched others also
       → (left.0 ≡ also.0) × (left.1 ≡ also.1)
   same_items_feeds datagrams others xs ys in_range fits each them same left also f g =
-      let a = feeds_dump C some datagrams in_range untouched left refl f in
-      let b = feeds_dump C some others fits untouched also refl g in
-      let moved = same_dump C one datagrams others xs ys in_range each them same [] _ _ a.1 in
-      let ends = one_dumps C one [] others fits left.0 also.0 a.0 b.0 moved b.1 in
+      let a = feeds_dump item_is some datagrams in_range untouched left refl f in
+      let b = feeds_dump item_is some others fits untouched also refl g in
+      let moved = same_dump item_is one datagrams others xs ys in_range each them same [] _ _ a.1 in
+      let ends = one_dumps item_is one [] others fits left.0 also.0 a.0 b.0 moved b.1 in
       (ends.0, cc (a.2, b.2, ends.1))

@@ -3,7 +3,7 @@ use Rattle.std.proofs.Common.{◌≡◌, ◌≢◌, ◌⊎◌, inl, inr, ℕ, Li
 use Rattle.std.proofs.Common.{arith}
 use Rattle.std.proofs.lemmas.Fn.{FoldsTo-push}
 use Rattle.std.specs.Prelude.{None, Result, Ok, Err}
-use Rattle.netlink_core.specs.Codec.{Codec}
+use Rattle.netlink_core.specs.Items.{Item}
 use Rattle.netlink_core.specs.declared.fault.DecodeError.TheVariants.{Memory}
 use Rattle.netlink_packet_sock_diag.specs.declared.dump.DumpState.TheVariants.{Failed}
 use Rattle.netlink_packet_sock_diag.specs.declared.dump.DumpError.{DumpError}
@@ -11,25 +11,25 @@ use Rattle.netlink_packet_sock_diag.specs.declared.dump.DumpError.TheVariants.{E
 use Rattle.netlink_packet_sock_diag.specs.Feed.{FeedLeaves, FeedsLeave, Stage, untouched}
 use Rattle.netlink_packet_sock_diag.proofs.DumpRows.{unended}
 
-module _ (C : Codec ℕ) where
+module _ {A : Type 0} (item_is : List ℕ → Item A → Type 0) where
   -- as the ghost field of the reader says
-  abbrev pub Fed : Stage C.Value → Type 0
+  abbrev pub Fed : Stage A → Type 0
   Fed now =
-      (datagrams : List (List ℕ)) × (before : Stage C.Value)
-      × FeedsLeave C untouched datagrams before
+      (datagrams : List (List ℕ)) × (before : Stage A)
+      × FeedsLeave item_is untouched datagrams before
       × ((before ≡ now)
       ⊎ ((now.1 ≡ (Failed, None)) × (last : List ℕ) × (answer : Result Unit DumpError)
-      × FeedLeaves C before last now answer))
+      × FeedLeaves item_is before last now answer))
 
   -- a datagram is fed, with memory for all
-  abbrev Feeds : Stage C.Value → List ℕ → Stage C.Value → Type 0
-  Feeds old datagram new = (answer : Result Unit DumpError) × FeedLeaves C old datagram new answer
-      × (answer ≢ Err (Fault Memory))
+  abbrev Feeds : Stage A → List ℕ → Stage A → Type 0
+  Feeds old datagram new = (answer : Result Unit DumpError)
+      × FeedLeaves item_is old datagram new answer × (answer ≢ Err (Fault Memory))
 
   -- a dump that is read was left so with memory for all
-  pub fed_on : (before after : Stage C.Value) (datagram : List ℕ)
-      (answer : Result Unit DumpError) → Fed before → FeedLeaves C before datagram after answer
-      → Fed after
+  pub fed_on : (before after : Stage A) (datagram : List ℕ)
+      (answer : Result Unit DumpError) → Fed before
+      → FeedLeaves item_is before datagram after answer → Fed after
   fed_on before after datagram (Err Ended) fed f = rw f.1 fed
   fed_on before after datagram (Ok done) (datagrams, old, leave, inl same) f = (
     datagrams ++ datagram ∷ [],

@@ -1,36 +1,27 @@
 -- What a dump without a fault keeps, a lossy one keeps too, and at which faults that one ends.
-use Rattle.std.proofs.Common.{◌≡◌, ℕ, inl, List, [], ◌∷◌, ◌++◌, map, refl, arith}
+use Rattle.std.proofs.Common.{◌≡◌, ℕ, List, [], ◌∷◌, ◌++◌, map, refl, arith}
 use Rattle.std.specs.Option.{option_to_list}
 use Rattle.std.specs.Prelude.{Option, option_map, Some, None, Result, Ok, Err}
 use Rattle.std.specs.List.{AllZip}
 use Rattle.std.proofs.lemmas.List.{append-nil, map-append}
-use Rattle.netlink_core.specs.Codec.{Codec}
+use Rattle.netlink_core.specs.Codec.{Codec, KeepsLaws}
 use Rattle.netlink_core.specs.Datagram.{CutIntoMessages}
 use Rattle.netlink_core.specs.declared.fault.DecodeError.{DecodeError}
-use Rattle.netlink_core.specs.declared.message.NetlinkPayload.TheVariants.{Done, Error, Noop}
-use Rattle.netlink_core.specs.declared.message.NetlinkPayload.TheVariants.{Overrun, InnerMessage}
+use Rattle.netlink_core.specs.declared.message.NetlinkPayload.TheVariants.{InnerMessage, Noop}
 use Rattle.netlink_core.specs.Header.{IsEnvelopeFault}
 use Rattle.netlink_core.specs.Items.{Item, ItemIs}
+use Rattle.netlink_core.proofs.Items.{items_by, one_list_by}
 use Rattle.netlink_packet_sock_diag.specs.Dump.{DatagramsDump, Standing}
-use Rattle.netlink_core.proofs.Datagrams.{IsOfOwnLength}
-use Rattle.netlink_packet_sock_diag.specs.Lossy.{lossy}
-use Rattle.netlink_packet_sock_diag.proofs.Dumping.{no_fault_in_message}
-use Rattle.netlink_packet_sock_diag.proofs.DumpRows.{dump_is, dump_of_one, reach}
+use Rattle.netlink_packet_sock_diag.specs.Lossy.{EntryIs}
+use Rattle.netlink_packet_sock_diag.specs.KeptLaws.{as_entry, is_entry, one_entry, keeps_entries}
+use Rattle.netlink_packet_sock_diag.proofs.DumpRows.{OneList, SomeItems, dump_is, dump_of_one}
+use Rattle.netlink_packet_sock_diag.proofs.DumpRows.{one_item_of, reach}
 
 -- the fault behind the messages of a datagram, if there is one
 abbrev last : {A : Type 0} → Option DecodeError → List (Item A)
 last end = option_to_list (option_map Err end)
 
 module _ {A : Type 0} where
-  -- the item that a lossy dump has of one: a refused message is one that is kept
-  abbrev as_entry : Item A → Item (Result A DecodeError)
-  as_entry (Ok (InnerMessage v)) = Ok (InnerMessage (Ok v))
-  as_entry (Ok Noop) = Ok Noop
-  as_entry (Ok (Done given)) = Ok (Done given)
-  as_entry (Ok (Error given)) = Ok (Error given)
-  as_entry (Ok (Overrun given)) = Ok (Overrun given)
-  as_entry (Err e) = Ok (InnerMessage (Err e))
-
   abbrev entries_of : List A → List (Result A DecodeError)
   entries_of vs = map (λ v. Ok v) vs
 
@@ -44,32 +35,31 @@ module _ {A : Type 0} where
   reach_entries items end before after s e = grind arith
 
 module _ (C : Codec ℕ) where
-  is_entry : (message : List ℕ) (item : Item C.Value) → IsOfOwnLength message
-      → ItemIs C message item → ItemIs (lossy C) message (as_entry item)
-  is_entry message item whole is =
-      grind (arith, no_fault_in_message message)
-
   zip_entries : (bytes : List ℕ) (messages : List (List ℕ)) (end : Option DecodeError)
       → CutIntoMessages bytes messages end → (carried : List (Item C.Value))
       → AllZip (ItemIs C) messages carried
-      → AllZip (ItemIs (lossy C)) messages (map as_entry carried)
+      → AllZip (EntryIs C) messages (map as_entry carried)
   zip_entries bytes [] end cut [] each = tt
   zip_entries bytes (m ∷ messages) end cut (x ∷ xs) each =
-      grind (arith, is_entry m x cut.1.whole each.0, zip_entries cut.0 messages end cut.2 xs each.1)
+      grind (
+        arith,
+        is_entry C m x cut.1.whole each.0,
+        zip_entries cut.0 messages end cut.2 xs each.1,
+      )
   zip_entries bytes messages end cut carried each = grind arith
 
   -- what is kept of a datagram without a fault
   pub lossy_keeps : (datagram : List ℕ) (before after : List C.Value) (s : Standing)
-      → DatagramsDump C before (datagram ∷ []) after (Ok s)
-      → DatagramsDump (lossy C) (map (λ v. Ok v) before) (datagram ∷ []) (map (λ v. Ok v) after)
+      → DatagramsDump (ItemIs C) before (datagram ∷ []) after (Ok s)
+      → DatagramsDump (EntryIs C) (map (λ v. Ok v) before) (datagram ∷ []) (map (λ v. Ok v) after)
       (Ok s)
   lossy_keeps datagram before after s dump =
-      let one = (dump_of_one C before datagram after (Ok s)).1 dump in
+      let one = (dump_of_one (ItemIs C) before datagram after (Ok s)).1 dump in
       let are = one.1 in
       let entries = map as_entry are.2 ++ last are.1 in
       let went = (dump_is before after one.0 (Ok s)).0 one.2 in
       let told = zip_entries datagram are.0 are.1 are.3 are.2 are.4 in
-      (dump_of_one (lossy C) (entries_of before) datagram (entries_of after) (Ok s)).0 (
+      (dump_of_one (EntryIs C) (entries_of before) datagram (entries_of after) (Ok s)).0 (
         entries,
         (are.0, are.1, map as_entry are.2, are.3, told, refl),
         (dump_is (entries_of before) (entries_of after) entries (Ok s)).1
@@ -81,7 +71,7 @@ module _ (C : Codec ℕ) where
   -- where a lossy dump ends with a fault, that is one of what is no message
   fault_in : (bytes : List ℕ) (messages : List (List ℕ)) (end : Option DecodeError)
       (carried : List (Item (Result C.Value DecodeError))) → CutIntoMessages bytes messages end
-      → AllZip (ItemIs (lossy C)) messages carried
+      → AllZip (EntryIs C) messages carried
       → (before after : List (Result C.Value DecodeError)) (e : DecodeError)
       → reach before (carried ++ last end) ≡ (after, Err e)
       → (rest : List ℕ) × IsEnvelopeFault rest e
@@ -92,15 +82,22 @@ module _ (C : Codec ℕ) where
       fault_in cut.0 messages end xs cut.2 each.1 _ after e went
   fault_in bytes (m ∷ messages) end (Ok Noop ∷ xs) cut each before after e went =
       fault_in cut.0 messages end xs cut.2 each.1 _ after e went
-  fault_in bytes (m ∷ messages) end (Err f ∷ xs) cut (inl fault, each) before after e went =
-      let same : f ≡ e = grind arith in (m, rw same at fault)
   fault_in bytes messages end carried cut each before after e went = grind arith
 
   pub lossy_faults : (datagram : List ℕ) (before after : List (Result C.Value DecodeError))
-      (e : DecodeError) → DatagramsDump (lossy C) before (datagram ∷ []) after (Err e)
+      (e : DecodeError) → DatagramsDump (EntryIs C) before (datagram ∷ []) after (Err e)
       → (rest : List ℕ) × IsEnvelopeFault rest e
   lossy_faults datagram before after e dump =
-      let one = (dump_of_one (lossy C) before datagram after (Err e)).1 dump in
+      let one = (dump_of_one (EntryIs C) before datagram after (Err e)).1 dump in
       let are = one.1 in
       let went = (dump_is before after one.0 (Err e)).0 one.2 in
       fault_in datagram are.0 are.1 are.2 are.3 are.4 before after e (rw are.5 at went)
+
+-- ---- a datagram has one list of entries
+
+module _ (C : Codec ℕ) (laws : KeepsLaws C) where
+  pub some_entries : SomeItems (EntryIs C)
+  some_entries = items_by (EntryIs C) (keeps_entries C laws).some_item
+
+  pub one_list_of_entries : OneList (EntryIs C)
+  one_list_of_entries = one_list_by (EntryIs C) (one_entry C (one_item_of C laws))

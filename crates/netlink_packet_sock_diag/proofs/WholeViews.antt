@@ -5,7 +5,7 @@ use Rattle.std.proofs.Common.{arith}
 use Rattle.std.specs.Prelude.{map}
 use Rattle.std.specs.Iterator.{Drains}
 use Rattle.netlink_core.specs.declared.fault.DecodeError.{DecodeError}
-use Rattle.netlink_core.specs.Items.{ItemsAre}
+use Rattle.netlink_core.specs.Items.{ItemIs, ItemsAre}
 use Rattle.netlink_core.proofs.Datagrams.{shorter-rest}
 use Rattle.netlink_core.proofs.Items.{leading_item, no_items, fault_alone}
 use Rattle.netlink_packet_sock_diag.specs.declared.dump.views.DumpViews.{DumpViews}
@@ -24,16 +24,16 @@ nothing_more walk (g ∷ given) h none =
     grind (arith, shorter-rest (datagram_left walk.messages))
 
 pub whole_views : (walk : DumpViews) (given : List (Result PayloadView DecodeError))
-    → Drains GivesView walk given → ItemsAre message_codec (datagram_left walk.messages)
+    → Drains GivesView walk given → ItemsAre (ItemIs message_codec) (datagram_left walk.messages)
     (map (map_ok payload_view_model) given)
-whole_views walk [] h = rw (h.1.1, h.1.2.0) (no_items message_codec)
+whole_views walk [] h = rw (h.1.1, h.1.2.0) (no_items (ItemIs message_codec))
 whole_views walk (g ∷ given) h =
     let bytes = datagram_left walk.messages in
     let later : Drains GivesView h.1.1.0 given = (h.0, (h.1.0, h.1.1.2, h.1.2)) in
     elim h.1.1.1 [
-      | inl s ↦ leading_item message_codec bytes s.0 (datagram_left h.1.1.0.messages)
+      | inl s ↦ leading_item (ItemIs message_codec) bytes s.0 (datagram_left h.1.1.0.messages)
           (map_ok payload_view_model g) (map (map_ok payload_view_model) given) s.1 s.2
               (whole_views h.1.1.0 given later)
       | inr f ↦ rw (f.1, nothing_more h.1.1.0 given later f.4)
-          (fault_alone message_codec bytes f.0 f.2 f.3)
+          (fault_alone (ItemIs message_codec) bytes f.0 f.2 f.3)
     ]

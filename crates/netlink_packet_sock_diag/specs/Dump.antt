@@ -3,7 +3,6 @@ use Rattle.std.specs.Prelude.{◌≡◌, ◌%◌, length, ℕ, ℤ, List, [], �
 use Rattle.std.specs.Prelude.{MatchOption, Result, Ok, Err, slice_get}
 use Rattle.std.specs.List.{AllByRecursion, AllZip, flat_map}
 use Rattle.netlink_core.specs.declared.fault.DecodeError.{DecodeError}
-use Rattle.netlink_core.specs.Codec.{Codec}
 use Rattle.netlink_core.specs.Datagram.{CutIntoMessages}
 use Rattle.netlink_core.specs.declared.message.NetlinkPayload.TheVariants as payload
 use Rattle.netlink_core.specs.Envelope.{leading_number}
@@ -39,12 +38,11 @@ module _ {A : Type 0} where
       × AllByRecursion (λ one. end_of one ≡ None) passed × (after ≡ before ++ flat_map kept passed)
       × MatchOption (slice_get later 0) (end ≡ Ok (Reading, None)) (λ item. end_of item ≡ Some end)
 
--- the dump over datagrams: over the items of all in a row, by the codec of inner messages under a
--- type
-abbrev pub DatagramsDump : (C : Codec ℕ) → List C.Value → List (List ℕ) → List C.Value
-    → Result Standing DecodeError → Type 0
-DatagramsDump C before datagrams after end = (items : List (List (Item C.Value)))
-    × AllZip (ItemsAre C) datagrams items × Dump before (flat_map (λ one. one) items) after end
+  -- the dump over datagrams: over the items of all in a row, where each message is such an item
+  abbrev pub DatagramsDump : (List ℕ → Item A → Type 0) → List A → List (List ℕ) → List A
+      → Result Standing DecodeError → Type 0
+  DatagramsDump is before datagrams after end = (items : List (List (Item A)))
+      × AllZip (ItemsAre is) datagrams items × Dump before (flat_map (λ one. one) items) after end
 
 -- each datagram but the last one is whole messages alone, with all padding there
 abbrev pub AreSplit : List (List ℕ) → Type 0

@@ -2,7 +2,6 @@
 use Rattle.std.specs.Prelude.{◌≡◌, ◌≢◌, ◌↔◌, ◌⊎◌, ℕ, List, [], ◌∷◌, ◌++◌, Bool, false, IsTrue}
 use Rattle.std.specs.Prelude.{Result, Ok, Err, None, IsBitSet}
 use Rattle.std.specs.List.{FoldsTo}
-use Rattle.netlink_core.specs.Codec.{Codec}
 use Rattle.netlink_core.specs.Datagram.{StartsWithMessage}
 use Rattle.netlink_core.specs.declared.message.NetlinkPayload.TheVariants.{InnerMessage}
 use Rattle.netlink_core.specs.Header.{HasHeader}
@@ -32,28 +31,28 @@ Interrupt bytes (item ∷ items) = (message rest : List ℕ) × StartsWithMessag
     × (((h : NetlinkHeader) × HasHeader message h × IsBitSet h.flags 4)
     ⊎ ((end_of item ≡ None) × Interrupt rest items))
 
--- by the codec of inner messages under a type
-module _ (C : Codec ℕ) where
+-- where each message is such an item
+module _ {A : Type 0} (is : List ℕ → Item A → Type 0) where
   -- the dump over a datagram to its end, interrupted where it was or the datagram interrupts it
-  abbrev pub Takes : Stage C.Value → List ℕ → Stage C.Value → Result Standing DecodeError → Type 0
-  Takes p b q end = (items : List (Item C.Value)) × ItemsAre C b items × Dump p.0 items q.0 end
+  abbrev pub Takes : Stage A → List ℕ → Stage A → Result Standing DecodeError → Type 0
+  Takes p b q end = (items : List (Item A)) × ItemsAre is b items × Dump p.0 items q.0 end
       × (IsTrue q.2 ↔ (IsTrue p.2 ⊎ Interrupt b items))
 
   -- up to a message for which there was no memory: over the items in front of it it is still read
-  abbrev pub Stops : Stage C.Value → List ℕ → Stage C.Value → Type 0
-  Stops p b q = (front later : List (Item C.Value)) × (m : C.Value)
-      × ItemsAre C b (front ++ (Ok (InnerMessage m) ∷ later)) × Dump p.0 front q.0 (Ok (Reading, None))
+  abbrev pub Stops : Stage A → List ℕ → Stage A → Type 0
+  Stops p b q = (front later : List (Item A)) × (m : A)
+      × ItemsAre is b (front ++ (Ok (InnerMessage m) ∷ later)) × Dump p.0 front q.0 (Ok (Reading, None))
       × (IsTrue q.2 ↔ (IsTrue p.2 ⊎ Interrupt b (front ++ Ok (InnerMessage m) ∷ [])))
 
   -- Of a dump that was read: its end in the datagram, or its fault, or that memory ran out. One
   -- that had ended is as it was.
-  abbrev pub FeedLeaves : Stage C.Value → List ℕ → Stage C.Value → Result Unit DumpError → Type 0
+  abbrev pub FeedLeaves : Stage A → List ℕ → Stage A → Result Unit DumpError → Type 0
   FeedLeaves p b q (Ok _) = (p.1 ≡ (Reading, None)) × Takes p b q (Ok q.1)
   FeedLeaves p b q (Err Ended) = (p.1 ≢ (Reading, None)) × (q ≡ p)
   FeedLeaves p b q (Err (Fault e)) = (p.1 ≡ (Reading, None)) × (q.1 ≡ (Failed, None))
       × (e ≢ Memory → Takes p b q (Err e)) × (e ≡ Memory → Stops p b q)
 
   -- the same of datagrams that are fed one after the other, where there was memory for all
-  abbrev pub FeedsLeave : Stage C.Value → List (List ℕ) → Stage C.Value → Type 0
+  abbrev pub FeedsLeave : Stage A → List (List ℕ) → Stage A → Type 0
   FeedsLeave = FoldsTo (λ p b q. (answer : Result Unit DumpError) × FeedLeaves p b q answer
       × (answer ≢ Err (Fault Memory)))

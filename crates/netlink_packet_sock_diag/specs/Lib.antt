@@ -4,7 +4,8 @@ pub mod MessageModel
 pub mod MessageViewModel
 pub mod EqualMessageLaws
 pub mod Lossy
-pub mod LossyLaws
+pub mod KeptSteps
+pub mod KeptLaws
 pub mod Dump
 pub mod Feed
 pub mod DumpModel

@@ -1,20 +1,15 @@
--- A codec of what is read alone, where a refused string has a value too: its fault.
-use Rattle.std.specs.Prelude.{ℕ, [], ⊤, Result, MatchResult}
-use Rattle.netlink_core.specs.declared.fault.DecodeError.{DecodeError}
+-- The entries of a dump that goes past refused messages.
+use Rattle.std.specs.Prelude.{ℕ, List, ◌-◌, take, drop, Result, Ok, Err, MatchResult}
 use Rattle.netlink_core.specs.Codec.{Codec}
+use Rattle.netlink_core.specs.Envelope.{PayloadIs}
+use Rattle.netlink_core.specs.Header.{HasHeader}
+use Rattle.netlink_core.specs.Items.{Item}
+use Rattle.netlink_core.specs.declared.fault.DecodeError.{DecodeError}
+use Rattle.netlink_core.specs.declared.header.NetlinkHeader.{NetlinkHeader}
 
--- what C tells of a string, its value or its fault; nothing is refused, and nothing is written
-abbrev pub lossy : Codec ℕ → Codec ℕ
-lossy C = record {
-  Value = Result C.Value DecodeError;
-  is_in_range = λ entry. ⊤;
-  reads = λ b t entry. MatchResult entry (C.reads b t) (C.refuses b t);
-  refuses = λ b t e. ⊥;
-  is_spare = λ entry. ⊥;
-  -- both have one value, or one fault
-  idle = λ t b c. (entry : Result C.Value DecodeError) × MatchResult entry
-      (λ v. C.reads b t v × C.reads c t v) (λ e. C.refuses b t e × C.refuses c t e);
-  is_normal = λ t entry. ⊤;
-  written = λ entry. [];
-  fits = λ entry. ⊥;
-}
+-- a message as what it carries; an inner message that is refused is carried as its fault
+abbrev pub EntryIs : (C : Codec ℕ) → List ℕ → Item (Result C.Value DecodeError) → Type 0
+EntryIs C message (Ok payload) = (h : NetlinkHeader) × HasHeader message h
+    × PayloadIs (λ b t entry. MatchResult entry (C.reads b t) (C.refuses b t))
+    (take (h.length - 16) (drop 16 message)) h.message_type payload
+EntryIs C message (Err e) = ⊥

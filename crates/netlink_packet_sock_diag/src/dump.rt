@@ -2,6 +2,7 @@
 
 ghost use Rattle.std.specs.Prelude.{◌≡◌, map};
 ghost use Rattle.std.proofs.Common.{rules};
+ghost use Rattle.netlink_core.specs.Items.{ItemIs};
 ghost use Rattle.netlink_packet_sock_diag.specs.Feed.{FeedLeaves, untouched};
 ghost use Rattle.netlink_packet_sock_diag.specs.Message.{message_codec};
 ghost use Rattle.netlink_packet_sock_diag.specs.MessageModel.{message_model};
@@ -70,7 +71,7 @@ impl DumpReader {
     /// and where memory runs out, the messages in front are kept and the dump has failed. Once the
     /// dump has ended nothing changes.
     pub fn feed(&mut self, datagram: &[u8]) -> Result<(), DumpError>
-        ensures leaves { FeedLeaves message_codec (progress message_model self.old.dump)
+        ensures leaves { FeedLeaves (ItemIs message_codec) (progress message_model self.old.dump)
             datagram.now (progress message_model self.new.dump) result }
     {
         self.dump.feed(datagram)

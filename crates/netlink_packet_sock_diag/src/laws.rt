@@ -16,7 +16,7 @@ ghost use Rattle.netlink_core.specs.Envelope.{envelope_codec};
 ghost use Rattle.netlink_core.specs.declared.message.NetlinkMessage.{NetlinkMessage};
 ghost use Rattle.netlink_core.specs.declared.message.NetlinkPayload.TheVariants.{InnerMessage};
 ghost use Rattle.netlink_core.specs.Faults.{map_ok};
-ghost use Rattle.netlink_core.specs.Items.{ItemsAre};
+ghost use Rattle.netlink_core.specs.Items.{ItemIs, ItemsAre};
 ghost use Rattle.netlink_core.specs.EnvelopeModel.{envelope_of};
 ghost use Rattle.netlink_core.specs.Response.{ValueOf, response_bytes, response_codec};
 ghost use Rattle.netlink_packet_sock_diag.specs.contracts.coded.SockDiagMessageEmitable.TheImpl.{ghosts as owned_messages};
@@ -32,12 +32,11 @@ ghost use Rattle.netlink_packet_sock_diag.specs.PayloadViewModel.{PayloadView};
 ghost use Rattle.netlink_core.specs.DatagramWalk.{datagram_left};
 ghost use Rattle.netlink_packet_sock_diag.specs.DumpWalk.{GivesView};
 ghost use Rattle.netlink_packet_sock_diag.specs.PayloadViewModel.{payload_view_model};
-
 ghost use Rattle.sock_diag_replies.specs.UnixResponseSpec.{unix_response_spec};
 ghost use Rattle.sock_diag_replies.specs.InetResponseSpec.{inet_response_spec};
 ghost use Rattle.sock_diag_replies.specs.ViewModel.{view_model};
 ghost use Rattle.netlink_packet_sock_diag.specs.MessageViewModel.{message_view_model};
-ghost use Rattle.netlink_packet_sock_diag.specs.Lossy.{lossy};
+ghost use Rattle.netlink_packet_sock_diag.specs.Lossy.{EntryIs};
 ghost use Rattle.netlink_packet_sock_diag.specs.Message.{Message, message_codec, of_message};
 ghost use Rattle.sock_diag_records.specs.ResponseKind.{MessageKind, inet_request, inet_response};
 ghost use Rattle.sock_diag_records.specs.ResponseKind.{unix_request, unix_response};
@@ -204,11 +203,12 @@ pub fn same_items_have_one_dump()
     ensures { (datagrams others : List (List ℕ))
         (xs ys : List (List (Result (Payload Message) DecodeError)))
         → AllByRecursion IsBytes datagrams
-        → AllZip (ItemsAre message_codec) datagrams xs → AllZip (ItemsAre message_codec) others ys
+        → AllZip (ItemsAre (ItemIs message_codec)) datagrams xs
+        → AllZip (ItemsAre (ItemIs message_codec)) others ys
         → flat_map (λ one. one) xs ≡ flat_map (λ one. one) ys
         → (before after : List Message) (end : Result Standing DecodeError)
-        → DatagramsDump message_codec before datagrams after end
-        → DatagramsDump message_codec before others after end }
+        → DatagramsDump (ItemIs message_codec) before datagrams after end
+        → DatagramsDump (ItemIs message_codec) before others after end }
 {
     laws::one_list_of_items::<SockDiagMessage>();
 }
@@ -220,8 +220,8 @@ pub fn split_changes_no_dump()
         → AllByRecursion IsBytes others
         → AreSplit datagrams → AreSplit others → concat datagrams ≡ concat others
         → (before after : List Message) (end : Result Standing DecodeError)
-        → DatagramsDump message_codec before datagrams after end
-        → DatagramsDump message_codec before others after end }
+        → DatagramsDump (ItemIs message_codec) before datagrams after end
+        → DatagramsDump (ItemIs message_codec) before others after end }
 {
     laws::datagram_has_items::<SockDiagMessage>();
     laws::one_list_of_items::<SockDiagMessage>();
@@ -234,13 +234,13 @@ pub fn split_changes_no_feed()
     ensures same { (datagrams others : List (List ℕ)) → AllByRecursion IsBytes datagrams
         → AllByRecursion IsBytes others
         → AreSplit datagrams → AreSplit others → concat datagrams ≡ concat others
-        → (left also : Stage Message) → FeedsLeave message_codec untouched datagrams left
-        → FeedsLeave message_codec untouched others also → left ≡ also }
+        → (left also : Stage Message) → FeedsLeave (ItemIs message_codec) untouched datagrams left
+        → FeedsLeave (ItemIs message_codec) untouched others also → left ≡ also }
     ensures whole { (datagrams : List (List ℕ)) → AllByRecursion IsBytes datagrams
         → AreSplit datagrams
-        → (left : Stage Message) → FeedsLeave message_codec untouched datagrams left
+        → (left : Stage Message) → FeedsLeave (ItemIs message_codec) untouched datagrams left
         → (end : Result Standing DecodeError)
-        × Takes message_codec untouched (concat datagrams) left end }
+        × Takes (ItemIs message_codec) untouched (concat datagrams) left end }
 {}
 
 /// Nor does it where datagrams have the same items in a row, as where one of them lacks the padding
@@ -250,10 +250,11 @@ pub fn same_items_change_no_feed()
     ensures { (datagrams others : List (List ℕ))
         (xs ys : List (List (Result (Payload Message) DecodeError)))
         → AllByRecursion IsBytes datagrams → AllByRecursion IsBytes others
-        → AllZip (ItemsAre message_codec) datagrams xs → AllZip (ItemsAre message_codec) others ys
+        → AllZip (ItemsAre (ItemIs message_codec)) datagrams xs
+        → AllZip (ItemsAre (ItemIs message_codec)) others ys
         → flat_map (λ one. one) xs ≡ flat_map (λ one. one) ys
-        → (left also : Stage Message) → FeedsLeave message_codec untouched datagrams left
-        → FeedsLeave message_codec untouched others also
+        → (left also : Stage Message) → FeedsLeave (ItemIs message_codec) untouched datagrams left
+        → FeedsLeave (ItemIs message_codec) untouched others also
         → (left.0 ≡ also.0) × (left.1 ≡ also.1) }
 {}
 
@@ -265,14 +266,14 @@ pub fn split_changes_no_lossy_feed()
         → AllByRecursion IsBytes others
         → AreSplit datagrams → AreSplit others → concat datagrams ≡ concat others
         → (left also : Stage (Result Message DecodeError))
-        → FeedsLeave (lossy message_codec) untouched datagrams left
-        → FeedsLeave (lossy message_codec) untouched others also → left ≡ also }
+        → FeedsLeave (EntryIs message_codec) untouched datagrams left
+        → FeedsLeave (EntryIs message_codec) untouched others also → left ≡ also }
     ensures whole { (datagrams : List (List ℕ)) → AllByRecursion IsBytes datagrams
         → AreSplit datagrams
         → (left : Stage (Result Message DecodeError))
-        → FeedsLeave (lossy message_codec) untouched datagrams left
+        → FeedsLeave (EntryIs message_codec) untouched datagrams left
         → (end : Result Standing DecodeError)
-        × Takes (lossy message_codec) untouched (concat datagrams) left end }
+        × Takes (EntryIs message_codec) untouched (concat datagrams) left end }
 {}
 
 /// Nor does it where datagrams have the same items in a row: fed to two new `LossyDump`s, and with
@@ -281,12 +282,12 @@ pub fn same_items_change_no_lossy_feed()
     ensures { (datagrams others : List (List ℕ))
         (xs ys : List (List (Result (Payload (Result Message DecodeError)) DecodeError)))
         → AllByRecursion IsBytes datagrams → AllByRecursion IsBytes others
-        → AllZip (ItemsAre (lossy message_codec)) datagrams xs
-        → AllZip (ItemsAre (lossy message_codec)) others ys
+        → AllZip (ItemsAre (EntryIs message_codec)) datagrams xs
+        → AllZip (ItemsAre (EntryIs message_codec)) others ys
         → flat_map (λ one. one) xs ≡ flat_map (λ one. one) ys
         → (left also : Stage (Result Message DecodeError))
-        → FeedsLeave (lossy message_codec) untouched datagrams left
-        → FeedsLeave (lossy message_codec) untouched others also
+        → FeedsLeave (EntryIs message_codec) untouched datagrams left
+        → FeedsLeave (EntryIs message_codec) untouched others also
         → (left.0 ≡ also.0) × (left.1 ≡ also.1) }
 {}
 
@@ -294,12 +295,12 @@ pub fn same_items_change_no_lossy_feed()
 /// and ends as that does; and a fault that ends it is one of what is no message.
 pub fn lossy_dump_keeps_messages()
     ensures kept { (datagram : List ℕ) (before after : List Message) (end : Standing)
-        → DatagramsDump message_codec before (datagram ∷ []) after (Ok end)
-        → DatagramsDump (lossy message_codec) (map (λ (m : Message). Ok m) before) (datagram ∷ [])
+        → DatagramsDump (ItemIs message_codec) before (datagram ∷ []) after (Ok end)
+        → DatagramsDump (EntryIs message_codec) (map (λ (m : Message). Ok m) before) (datagram ∷ [])
         (map (λ (m : Message). Ok m) after) (Ok end) }
     ensures fault { (datagram : List ℕ) (before after : List (Result Message DecodeError))
         (fault : DecodeError)
-        → DatagramsDump (lossy message_codec) before (datagram ∷ []) after (Err fault)
+        → DatagramsDump (EntryIs message_codec) before (datagram ∷ []) after (Err fault)
         → (rest : List ℕ) × IsEnvelopeFault rest fault }
 {}
 
@@ -308,7 +309,7 @@ pub fn lossy_dump_keeps_messages()
 pub fn whole_views_are_the_datagram()
     ensures { (walk : DumpViews) (given : List (Result PayloadView DecodeError))
         → Drains GivesView walk given
-        → ItemsAre message_codec (datagram_left walk.messages)
+        → ItemsAre (ItemIs message_codec) (datagram_left walk.messages)
         (map (map_ok payload_view_model) given) }
 {}
 

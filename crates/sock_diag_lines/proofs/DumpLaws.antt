@@ -7,7 +7,7 @@ use Rattle.std.specs.List.{AllByRecursion, AllZip, concat}
 use Rattle.netlink_core.specs.Bytes.{IsBytes}
 use Rattle.netlink_core.specs.declared.fault.DecodeError.{DecodeError}
 use Rattle.netlink_core.specs.Envelope.{Payload}
-use Rattle.netlink_core.specs.Items.{ItemsAre}
+use Rattle.netlink_core.specs.Items.{ItemIs, ItemsAre}
 use Rattle.netlink_core.proofs.Items.{items_of, one_list, zip_append}
 use Rattle.netlink_packet_sock_diag.specs.Dump.{AreSplit, Dump, Standing}
 use Rattle.netlink_packet_sock_diag.specs.Message.{Message, message_codec}
@@ -27,12 +27,12 @@ use Rattle.sock_diag_lines.proofs.AnswerTexts.{answers_more, has_text, one_text,
 
 -- each datagram has items
 pub some_items : (b : List ℕ) → IsBytes b → (items : List (Result (Payload Message) DecodeError))
-    × ItemsAre message_codec b items
+    × ItemsAre (ItemIs message_codec) b items
 some_items = items_of message_codec message_laws.answered
 
 -- and no others
 one_items : (b : List ℕ) → IsBytes b → (xs ys : List (Result (Payload Message) DecodeError))
-    → ItemsAre message_codec b xs → ItemsAre message_codec b ys → xs ≡ ys
+    → ItemsAre (ItemIs message_codec) b xs → ItemsAre (ItemIs message_codec) b ys → xs ≡ ys
 one_items = one_list message_codec (one_value (entry_of NetlinkMessage).1 envelope_laws)
     envelope_laws.one_answer envelope_laws.one_fault
 
@@ -40,7 +40,8 @@ one_items = one_list message_codec (one_value (entry_of NetlinkMessage).1 envelo
 one_of : (datagrams : List (List ℕ)) → AllByRecursion IsBytes datagrams → (d e : DumpOutcome)
     → IsDumpOf datagrams d → IsDumpOf datagrams e → d ≡ e
 one_of datagrams in_range d e dump also =
-    let same = one_dumps message_codec one_items [] datagrams in_range d.0 e.0 d.1 e.1 dump also in
+    let same = one_dumps (ItemIs message_codec) one_items [] datagrams in_range d.0 e.0 d.1 e.1 dump
+    also in
     λ i. (same.0 i, same.1 i)
 
 -- ---- one text
@@ -58,7 +59,7 @@ fields_in_range (f ∷ fields) (d ∷ datagrams) each =
 pub has_dump_text : (datagrams : List (List ℕ)) → AllByRecursion IsBytes datagrams → (text : List ℕ)
     × IsDumpAnswer datagrams text
 has_dump_text datagrams in_range =
-    let parts = items_of_each message_codec some_items datagrams in_range in
+    let parts = items_of_each (ItemIs message_codec) some_items datagrams in_range in
     let dump = has_dump [] (concatenation parts.0) in
     has_text IsWritable dump_text (IsDumpOf datagrams) (λ fault. ⊥)
     (inl ((dump.0, dump.1), (parts.0, parts.1, dump.2)))
@@ -74,34 +75,35 @@ one_dump_text datagrams in_range = one_text IsWritable dump_text (IsDumpOf datag
 -- what answers datagrams answers others with the same items
 pub answers_same_items : (datagrams others : List (List ℕ))
     (xs ys : List (List (Result (Payload Message) DecodeError)))
-    → AllByRecursion IsBytes datagrams → AllZip (ItemsAre message_codec) datagrams xs
-    → AllZip (ItemsAre message_codec) others ys → concatenation xs ≡ concatenation ys
+    → AllByRecursion IsBytes datagrams → AllZip (ItemsAre (ItemIs message_codec)) datagrams xs
+    → AllZip (ItemsAre (ItemIs message_codec)) others ys → concatenation xs ≡ concatenation ys
     → (text : List ℕ) → IsDumpAnswer datagrams text → IsDumpAnswer others text
 answers_same_items datagrams others xs ys in_range each also same text =
-    answers_more IsWritable dump_text (λ d. same_dump message_codec one_items datagrams others xs ys
-    in_range each also same [] d.0 d.1) (λ fault never. never)
+    answers_more IsWritable dump_text (λ d. same_dump (ItemIs message_codec) one_items datagrams
+    others xs ys in_range each also same [] d.0 d.1) (λ fault never. never)
 
 -- and another split
 pub answers_split : (datagrams others : List (List ℕ)) → AllByRecursion IsBytes others
     → AreSplit datagrams → AreSplit others → concat datagrams ≡ concat others
     → (text : List ℕ) → IsDumpAnswer datagrams text → IsDumpAnswer others text
 answers_split datagrams others in_range split cut same text =
-    answers_more IsWritable dump_text (λ d is. split_of_dump message_codec some_items one_items
-    others in_range cut [] d.0 d.1
-    (rw same at (dump_of_split message_codec datagrams split [] d.0 d.1 is))) (λ fault never. never)
+    answers_more IsWritable dump_text (λ d is. split_of_dump (ItemIs message_codec) some_items
+    one_items others in_range cut [] d.0 d.1
+    (rw same at (dump_of_split (ItemIs message_codec) datagrams split [] d.0 d.1 is)))
+    (λ fault never. never)
 
 -- ---- one datagram more
 
 -- a further datagram goes on with a dump that is still read, and leaves another as it is
 pub one_more : (datagrams : List (List ℕ)) (datagram : List ℕ) (old new : DumpOutcome)
-    (items : List (Result (Payload Message) DecodeError)) → ItemsAre message_codec datagram items
-    → IsDumpOf datagrams old
+    (items : List (Result (Payload Message) DecodeError))
+    → ItemsAre (ItemIs message_codec) datagram items → IsDumpOf datagrams old
     → ((old.1 ≡ Ok unended) × Dump old.0 items new.0 new.1)
     ⊎ ((old.1 ≢ Ok unended) × (new.0 ≡ old.0) × (new.1 ≡ old.1))
     → IsDumpOf (datagrams ++ datagram ∷ []) new
 one_more datagrams datagram old new items are (parts, each, dump) next =
-    let all = zip_append (ItemsAre message_codec) datagrams (datagram ∷ []) parts (items ∷ []) each
-    (are, tt) in (
+    let all = zip_append (ItemsAre (ItemIs message_codec)) datagrams (datagram ∷ []) parts
+    (items ∷ []) each (are, tt) in (
       parts ++ items ∷ [],
       all,
       rw (flat_map-append, append-nil)

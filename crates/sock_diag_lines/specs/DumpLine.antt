@@ -6,6 +6,7 @@ use Rattle.netlink_core.specs.declared.fault.DecodeError.{DecodeError}
 use Rattle.netlink_core.specs.Faults.{number_of}
 use Rattle.netlink_packet_sock_diag.specs.declared.dump.DumpState.TheVariants.{Reading, Done, Error}
 use Rattle.netlink_packet_sock_diag.specs.declared.dump.DumpState.TheVariants.{Overrun, Failed}
+use Rattle.netlink_core.specs.Items.{ItemIs}
 use Rattle.netlink_packet_sock_diag.specs.Dump.{DatagramsDump, Standing}
 use Rattle.netlink_packet_sock_diag.specs.Message.{Message, message_codec}
 use Rattle.sock_diag_lines.specs.HexField.{IsHexField, field_of}
@@ -34,5 +35,5 @@ dump_text dump = end_word dump.1 ++ 32 ∷ decimal (length dump.0)
 -- The text answers the dump over the datagrams, which is never refused. It can be written where
 -- each message that it keeps can be.
 abbrev pub IsDumpAnswer : List (List ℕ) → List ℕ → Type 0
-IsDumpAnswer given = IsAnswerText (λ d. DatagramsDump message_codec [] given d.0 d.1) (λ e. ⊥)
-    (λ d. AllByRecursion message_codec.fits d.0) dump_text
+IsDumpAnswer given = IsAnswerText (λ d. DatagramsDump (ItemIs message_codec) [] given d.0 d.1)
+    (λ e. ⊥) (λ d. AllByRecursion message_codec.fits d.0) dump_text

@@ -6,6 +6,7 @@ use Rattle.netlink_packet_sock_diag.specs.DumpModel.{progress}
 use Rattle.netlink_packet_sock_diag.specs.declared.dump.DumpState.TheVariants.{Reading}
 use Rattle.sock_diag_lines.specs.declared.dump_line.ReadDump.{ReadDump}
 use Rattle.std.specs.List.{AllByRecursion, AllZip, slice_split}
+use Rattle.netlink_core.specs.Items.{ItemIs}
 use Rattle.netlink_packet_sock_diag.specs.Dump.{DatagramsDump, Standing}
 use Rattle.netlink_packet_sock_diag.specs.Message.{Message, message_codec}
 use Rattle.netlink_packet_sock_diag.specs.MessageModel.{message_model}
@@ -21,7 +22,7 @@ DumpOutcome = List Message × Result Standing DecodeError
 
 -- the dump over the datagrams
 abbrev pub IsDumpOf : List (List ℕ) → DumpOutcome → Type 0
-IsDumpOf datagrams dump = DatagramsDump message_codec [] datagrams dump.0 dump.1
+IsDumpOf datagrams dump = DatagramsDump (ItemIs message_codec) [] datagrams dump.0 dump.1
 
 -- each message that it keeps can be written
 abbrev pub IsWritable : DumpOutcome → Type 0

@@ -6,7 +6,7 @@ ghost use Rattle.std.specs.Prelude.{◌≡◌, ◌≢◌, ◌↔◌, ◌++◌, �
 ghost use Rattle.std.specs.Prelude.{IfOk, OnOk, MatchOption};
 ghost use Rattle.std.specs.List.{AllZip, concat, flat_map};
 ghost use Rattle.netlink_core.specs.Envelope.{Payload, envelope_codec};
-ghost use Rattle.netlink_core.specs.Items.{ItemsAre};
+ghost use Rattle.netlink_core.specs.Items.{ItemIs, ItemsAre};
 ghost use Rattle.netlink_core.specs.declared.message.NetlinkPayload.TheVariants.{InnerMessage};
 ghost use Rattle.netlink_core.specs.declared.fault.DecodeError.{DecodeError};
 ghost use Rattle.netlink_packet_sock_diag.specs.Dump.{AreSplit};
@@ -97,8 +97,8 @@ pub fn answer(alloc: Global, line: &[u8]) -> Result<Vec<u8>, AllocError>
         (λ text. (other text' : List ℕ) (datagrams datagrams' : List (List ℕ))
         (items items' : List (List (Result (Payload Message) DecodeError)))
         → IsDumpRequest line.now datagrams → IsDumpRequest other datagrams'
-        → AllZip (ItemsAre message_codec) datagrams items
-        → AllZip (ItemsAre message_codec) datagrams' items'
+        → AllZip (ItemsAre (ItemIs message_codec)) datagrams items
+        → AllZip (ItemsAre (ItemIs message_codec)) datagrams' items'
         → flat_map (λ one. one) items ≡ flat_map (λ one. one) items'
         → IsAnswerOf other text' → text.items ≡ text') }
     // So have two dumps of the same bytes, of which each datagram but the last is whole messages.

@@ -54,21 +54,21 @@ alone message whole even =
     ([], starts, refl)
 
 -- it has its item alone
-pub one_item : (message : List ℕ) (item : Item Message)
-    → Carries message item → ItemsAre message_codec message (item ∷ [])
+pub one_item : (message : List ℕ) (item : Result (Payload Message) DecodeError)
+    → Carries message item → ItemsAre (ItemIs message_codec) message (item ∷ [])
 one_item message item c =
     (message ∷ [], None, item ∷ [], alone message c.whole c.even, (c.is, tt), refl)
 
 -- and those of messages stand in a row
 pub items_of_all : ((front back : List ℕ) (messages : List (List ℕ))
     (xs ys : List (Item Message)) → CutIntoMessages front messages None × (length front % 4 ≡ 0)
-    → ItemsAre message_codec front xs → ItemsAre message_codec back ys
-    → ItemsAre message_codec (front ++ back) (xs ++ ys))
-    → {A : Type 0} (bytes : A → List ℕ) (item : A → Item Message)
-    (last : List ℕ) (ends : List (Item Message))
+    → ItemsAre (ItemIs message_codec) front xs → ItemsAre (ItemIs message_codec) back ys
+    → ItemsAre (ItemIs message_codec) (front ++ back) (xs ++ ys))
+    → {A : Type 0} (bytes : A → List ℕ) (item : A → Result (Payload Message) DecodeError)
+    (last : List ℕ) (ends : List (Result (Payload Message) DecodeError))
     → (xs : List A) → AllByRecursion (λ x. Carries (bytes x) (item x)) xs
-    → ItemsAre message_codec last ends
-    → ItemsAre message_codec (flat_map bytes xs ++ last) (map item xs ++ ends)
+    → ItemsAre (ItemIs message_codec) last ends
+    → ItemsAre (ItemIs message_codec) (flat_map bytes xs ++ last) (map item xs ++ ends)
 items_of_all law bytes item last ends [] all are = are
 items_of_all law bytes item last ends (x ∷ xs) all are =
     rw append_assoc (law (bytes x) (flat_map bytes xs ++ last) (bytes x ∷ []) (item x ∷ [])
@@ -186,8 +186,8 @@ pub whole_dump : ((v : Envelope Message) → (envelope_codec message_codec).is_i
     ≡ 0)
     → ((front back : List ℕ) (messages : List (List ℕ))
     (xs ys : List (Item Message)) → CutIntoMessages front messages None × (length front % 4 ≡ 0)
-    → ItemsAre message_codec front xs → ItemsAre message_codec back ys
-    → ItemsAre message_codec (front ++ back) (xs ++ ys))
+    → ItemsAre (ItemIs message_codec) front xs → ItemsAre (ItemIs message_codec) back ys
+    → ItemsAre (ItemIs message_codec) (front ++ back) (xs ++ ys))
     → (request : List ℕ) (replies : List (ValueOf unix_response_spec)) (datagram : List ℕ)
     → IsAnswer request replies datagram → AllByRecursion CanBeSent replies
     → IsWholeDump datagram replies
@@ -206,7 +206,8 @@ whole_dump reads_back even concatenation request replies datagram answer found =
       dump = (
         items ∷ [],
         (
-          subst (λ (bytes : List ℕ). ItemsAre message_codec bytes items) (sym answer.written) all,
+          subst (λ (bytes : List ℕ). ItemsAre (ItemIs message_codec) bytes items)
+              (sym answer.written) all,
           tt,
         ),
         rw append-nil (

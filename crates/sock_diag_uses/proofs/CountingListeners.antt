@@ -26,7 +26,7 @@ use Rattle.sock_diag_uses.specs.Readme.{EndsWith, IsCounted, listens}
 -- so many were counted in front of what is left
 pub record Counting (datagram left : List ℕ) (count : ℕ) : Type 0 where
   pub passed : List (Item Message)
-  pub walk : Following message_codec datagram passed left
+  pub walk : Following (ItemIs message_codec) datagram passed left
   pub go_on : AllByRecursion (λ item. end_of item ≡ None) passed
   pub counted : count ≡ count_by listens passed
   -- each message has sixteen bytes
@@ -35,7 +35,7 @@ pub record Counting (datagram left : List ℕ) (count : ℕ) : Type 0 where
 pub counting_begins : (datagram : List ℕ) → Counting datagram datagram 0
 counting_begins datagram = record {
   passed = [];
-  walk = items_begin message_codec datagram;
+  walk = items_begin (ItemIs message_codec) datagram;
   go_on = tt;
   counted = refl;
   short = omega arith;
@@ -81,7 +81,7 @@ pub counts_on : (datagram left later : List ℕ) (count : ℕ) (item : Item Mess
     → Counting datagram later (count + cond (listens item) 1 0)
 counts_on datagram left later count item c (message bytes s is) plain = record {
   passed = c.passed ++ item ∷ [];
-  walk = items_go_on message_codec datagram left later bytes c.passed item c.walk s is;
+  walk = items_go_on (ItemIs message_codec) datagram left later bytes c.passed item c.walk s is;
   go_on = go_on_push c.passed item c.go_on plain;
   counted = ap (λ n. n + cond (listens item) 1 0) c.counted ∙ sym (count_push c.passed item);
   short = omega (arith, c.short, shorter left bytes later s, at_most_one (listens item));
@@ -127,8 +127,8 @@ counts_to datagram left later count item answer in_range c (no_message e is some
       passed = c.passed;
       later = item ∷ [];
       are = c.walk.items (item ∷ []) (subst (λ (i : Item Message).
-          ItemsAre message_codec left (i ∷ []))
-          (sym is) (fault_alone message_codec left e some fault));
+          ItemsAre (ItemIs message_codec) left (i ∷ []))
+          (sym is) (fault_alone (ItemIs message_codec) left e some fault));
       go_on = c.go_on;
       ends = subst (λ n. EndsWith n (item ∷ []) answer) c.counted (ends []);
     }
@@ -139,8 +139,8 @@ pub counts_all : (datagram left : List ℕ) (count : ℕ) → Counting datagram 
 counts_all datagram left count c none = record {
   passed = c.passed;
   later = [];
-  are = c.walk.items [] (subst (λ (b : List ℕ). ItemsAre message_codec b []) (sym none)
-      (no_items message_codec));
+  are = c.walk.items [] (subst (λ (b : List ℕ). ItemsAre (ItemIs message_codec) b []) (sym none)
+      (no_items (ItemIs message_codec)));
   go_on = c.go_on;
   ends = ap (λ n. Ok (Some n)) c.counted;
 }

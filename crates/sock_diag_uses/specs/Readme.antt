@@ -9,7 +9,7 @@ use Rattle.netlink_core.specs.declared.fault.DecodeError.{DecodeError}
 use Rattle.netlink_core.specs.declared.message.NetlinkPayload.TheVariants.{Done, Error}
 use Rattle.netlink_core.specs.declared.message.NetlinkPayload.TheVariants.{Overrun, InnerMessage}
 use Rattle.netlink_core.specs.AttributeSet.{content}
-use Rattle.netlink_core.specs.Items.{Item, ItemsAre}
+use Rattle.netlink_core.specs.Items.{Item, ItemIs, ItemsAre}
 use Rattle.sock_diag_attributes.specs.declared.unix.name.SocketName.{SocketName}
 use Rattle.sock_diag_attributes.specs.declared.unix.name.SocketName.TheVariants.{Pathname, Abstract}
 use Rattle.sock_diag_attributes.specs.UnixAttributes.{unix}
@@ -56,6 +56,6 @@ EndsWith count (_ ∷ later) answer = ⊥
 pub record IsCounted (datagram : List ℕ) (answer : Result (Option ℕ) DecodeError) : Type 0 where
   pub passed : List (Item Message)
   pub later : List (Item Message)
-  pub are : ItemsAre message_codec datagram (passed ++ later)
+  pub are : ItemsAre (ItemIs message_codec) datagram (passed ++ later)
   pub go_on : AllByRecursion (λ item. end_of item ≡ None) passed
   pub ends : EndsWith (count_by listens passed) later answer

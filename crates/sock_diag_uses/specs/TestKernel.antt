@@ -14,6 +14,7 @@ use Rattle.sock_diag_records.specs.declared.unix.request.UnixRequest.{UnixReques
 use Rattle.sock_diag_records.specs.UnixRequest.{unix_request}
 use Rattle.netlink_core.specs.Response.{ValueOf, response_bytes, response_codec}
 use Rattle.netlink_packet_sock_diag.specs.declared.dump.DumpState.TheVariants.{Done}
+use Rattle.netlink_core.specs.Items.{ItemIs}
 use Rattle.netlink_packet_sock_diag.specs.Dump.{DatagramsDump}
 use Rattle.netlink_packet_sock_diag.specs.Message.{Message, message_of, message_codec}
 use Rattle.sock_diag_records.specs.ResponseKind.{unix_response}
@@ -99,5 +100,5 @@ pub record CanBeSent (reply : ValueOf unix_response_spec) : Type 0 where
 
 -- the dump over the datagram is done, its number is 0, and it has these replies
 pub record IsWholeDump (datagram : List ℕ) (replies : List (ValueOf unix_response_spec)) : Type 0 where
-  pub dump : DatagramsDump message_codec [] (datagram ∷ [])
+  pub dump : DatagramsDump (ItemIs message_codec) [] (datagram ∷ [])
       (map (message_of unix_response) replies) (Ok (Done, Some (pos 0)))

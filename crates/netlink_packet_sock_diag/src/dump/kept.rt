@@ -1,11 +1,10 @@
 //! What a dump keeps of the messages of the protocol.
 
-ghost use Rattle.std.specs.Prelude.{◌≡◌, ◌≢◌, ℕ, IfOk, IfErr};
-ghost use Rattle.netlink_core.specs.Codec.{Codec, KeepsLaws};
+ghost use Rattle.std.specs.Prelude.{◌≡◌, ◌≢◌, IfOk, IfErr};
 ghost use Rattle.netlink_core.specs.Faults.{map_ok};
 ghost use Rattle.netlink_core.specs.declared.fault.DecodeError.TheVariants.{Memory};
-ghost use Rattle.netlink_packet_sock_diag.specs.Lossy.{lossy};
-ghost use Rattle.netlink_packet_sock_diag.specs.LossyLaws.{lossy_laws};
+ghost use Rattle.netlink_packet_sock_diag.specs.KeptSteps.{Keeping, KeepsItems, entries, messages};
+ghost use Rattle.netlink_packet_sock_diag.specs.KeptLaws.{keeps_entries, keeps_messages};
 ghost use Rattle.netlink_packet_sock_diag.specs.Message.{message_codec};
 ghost use Rattle.netlink_packet_sock_diag.specs.MessageLaws.{message_laws};
 ghost use Rattle.netlink_packet_sock_diag.specs.MessageModel.{message_model};
@@ -17,9 +16,9 @@ use std::alloc::Global;
 /// What a dump keeps of a message of the protocol.
 pub(crate) trait Kept: Drop + Sized {
     // How it stands in a payload under the header's type, and the model of a value.
-    ghost codec: { Codec ℕ };
+    ghost codec: { Keeping };
 
-    ghost model: { Self → codec.Value };
+    ghost model: { Self → codec.Entry };
 
     /// Reads what is kept of a payload under the header's type, or returns the fault that ends the
     /// dump.
@@ -29,16 +28,16 @@ pub(crate) trait Kept: Drop + Sized {
         ensures fault { IfErr result (λ e. e ≢ Memory
             → Self.codec.refuses payload.now header.now.message_type e) }
         // Memory is wanted only for a payload of which something is kept.
-        ensures wanted { IfErr result (λ e. e ≡ Memory → (m : Self.codec.Value)
+        ensures wanted { IfErr result (λ e. e ≡ Memory → (m : Self.codec.Entry)
             × Self.codec.reads payload.now header.now.message_type m) };
 
-    // A payload has one value or one fault.
-    ghost laws: { KeepsLaws codec };
+    // A message is told by its payload.
+    ghost laws: { KeepsItems codec };
 }
 
 /// The message; a refused one ends the dump.
 impl Kept for SockDiagMessage {
-    ghost codec = { message_codec };
+    ghost codec = { messages message_codec };
 
     ghost model = { message_model };
 
@@ -46,12 +45,12 @@ impl Kept for SockDiagMessage {
         SockDiagMessage::deserialize(alloc, header, payload)
     }
 
-    ghost laws = { message_laws };
+    ghost laws = { keeps_messages message_codec message_laws };
 }
 
 /// The message, or its fault; want of memory alone ends the dump.
 impl Kept for Result<SockDiagMessage, DecodeError> {
-    ghost codec = { lossy message_codec };
+    ghost codec = { entries message_codec };
 
     ghost model = { map_ok message_model };
 
@@ -62,5 +61,5 @@ impl Kept for Result<SockDiagMessage, DecodeError> {
         }
     }
 
-    ghost laws = { lossy_laws message_codec message_laws };
+    ghost laws = { keeps_entries message_codec message_laws };
 }

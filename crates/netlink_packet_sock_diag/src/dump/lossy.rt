@@ -3,7 +3,7 @@
 ghost use Rattle.std.specs.Prelude.{◌≡◌, [], None, false};
 ghost use Rattle.netlink_core.specs.Faults.{map_ok};
 ghost use Rattle.netlink_packet_sock_diag.specs.Feed.{FeedLeaves};
-ghost use Rattle.netlink_packet_sock_diag.specs.Lossy.{lossy};
+ghost use Rattle.netlink_packet_sock_diag.specs.Lossy.{EntryIs};
 ghost use Rattle.netlink_packet_sock_diag.specs.Message.{message_codec};
 ghost use Rattle.netlink_packet_sock_diag.specs.MessageModel.{message_model};
 
@@ -42,7 +42,7 @@ impl LossyDump {
     /// `EnvelopeLengthPast`, and where memory runs out, the entries in front are kept and the dump
     /// has failed. Once the dump has ended nothing changes.
     pub fn feed(&mut self, datagram: &[u8]) -> Result<(), DumpError>
-        ensures leaves { FeedLeaves (lossy message_codec)
+        ensures leaves { FeedLeaves (EntryIs message_codec)
             (progress (map_ok message_model) self.old.dump) datagram.now
             (progress (map_ok message_model) self.new.dump) result }
     {

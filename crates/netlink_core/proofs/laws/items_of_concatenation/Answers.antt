@@ -1,5 +1,6 @@
+use Rattle.netlink_core.specs.Items.{ItemIs}
 use Rattle.netlink_core.proofs.Items.{items_of_concatenation}
 use Rattle.netlink_core.proofs.laws.items_of_concatenation.Goals as goal
 
 pub returns : goal.returns
-returns g c = items_of_concatenation g.I.Coded.codec
+returns g c = items_of_concatenation (ItemIs g.I.Coded.codec)

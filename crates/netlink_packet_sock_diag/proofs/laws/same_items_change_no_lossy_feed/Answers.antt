@@ -1,9 +1,10 @@
-use Rattle.netlink_packet_sock_diag.specs.Lossy.{lossy}
-use Rattle.netlink_packet_sock_diag.specs.LossyLaws.{lossy_laws}
+use Rattle.netlink_packet_sock_diag.specs.Lossy.{EntryIs}
 use Rattle.netlink_packet_sock_diag.specs.Message.{message_codec}
 use Rattle.netlink_packet_sock_diag.specs.MessageLaws.{message_laws}
 use Rattle.netlink_packet_sock_diag.proofs.DumpRows.{same_items_feeds}
+use Rattle.netlink_packet_sock_diag.proofs.LossyDumps.{one_list_of_entries, some_entries}
 use Rattle.netlink_packet_sock_diag.proofs.laws.same_items_change_no_lossy_feed.Goals as goal
 
 pub returns : goal.returns
-returns c = same_items_feeds (lossy message_codec) (lossy_laws message_codec message_laws)
+returns c = same_items_feeds (EntryIs message_codec) (some_entries message_codec message_laws)
+    (one_list_of_entries message_codec message_laws)

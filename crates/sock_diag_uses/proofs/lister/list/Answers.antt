@@ -2,7 +2,7 @@ use Rattle.std.proofs.Common.{◌≡◌, List, Result, Ok, Err, subst}
 use Rattle.std.specs.Prelude.{IfOk, map, ℕ}
 use Rattle.std.specs.Iterator.{Drains}
 use Rattle.std.specs.List.{filter_map}
-use Rattle.netlink_core.specs.Items.{ItemsAre}
+use Rattle.netlink_core.specs.Items.{ItemIs, ItemsAre}
 use Rattle.netlink_core.specs.declared.fault.DecodeError.{DecodeError}
 use Rattle.netlink_packet_sock_diag.specs.PayloadViewModel.{PayloadView}
 use Rattle.netlink_packet_sock_diag.specs.DumpWalk.{GivesView}
@@ -27,7 +27,8 @@ returns c = on_ok
     (λ lines h. record {
       items = map (map_ok payload_view_model) h.0;
       are = subst
-          (λ (bytes : List ℕ). ItemsAre message_codec bytes (map (map_ok payload_view_model) h.0))
+          (λ (bytes : List ℕ). ItemsAre (ItemIs message_codec) bytes
+              (map (map_ok payload_view_model) h.0))
           c.new.ensures (c.whole_views_are_the_datagram.ensures c.new.result h.0 h.1);
       found = h.2;
     })

@@ -4,10 +4,10 @@ use Rattle.std.proofs.lemmas.List.{append-nil, map_push}
 use Rattle.netlink_core.specs.Envelope.{IsInnerType}
 use Rattle.netlink_core.specs.declared.message.NetlinkPayload.TheVariants.{Done, Error, Noop}
 use Rattle.netlink_core.specs.declared.message.NetlinkPayload.TheVariants.{Overrun, InnerMessage}
-use Rattle.netlink_core.proofs.Framing.{fault_within}
 use Rattle.netlink_core.proofs.Items.{no_items}
 use Rattle.netlink_packet_sock_diag.proofs.Dumping.{closes, cut_off, ends_at, here}
-use Rattle.netlink_packet_sock_diag.proofs.Dumping.{no_fault_in_message, passes, stops_at}
+use Rattle.netlink_packet_sock_diag.proofs.Dumping.{passes, stops_at}
+use Rattle.netlink_packet_sock_diag.specs.KeptLaws.{no_fault_in_message}
 use Rattle.netlink_packet_sock_diag.proofs.dump.fed.take_messages.Goals as goal
 
 pub loop-item-init : goal.loop-item-init
@@ -35,31 +35,36 @@ pub loop-item-preserved-in-1 : goal.loop-item-preserved-in-1
 loop-item-preserved-in-1 g c =
     let start = rw c.in_ok-message.was at c.in-Some.ensures.steps in
     let head = c.in_ok-header.ensures in
+    let told = g.met.I.Kept.laws.carries c.in_ok-message.message.now c.in_ok-header.header in
     rw append-nil at (passes (here c.loop-item.invariant (Ok Noop) start head
-    (_, (head, c.in-1.is)) c.interrupted_by.ensures) refl)
+    (told Noop head c.in-1.is) c.interrupted_by.ensures) refl)
 
 pub returns-in-2 : goal.returns-in-2
 returns-in-2 g c =
     let start = rw c.in_ok-message.was at c.in-Some.ensures.steps in
     let head = c.in_ok-header.ensures in
+    let told = g.met.I.Kept.laws.carries c.in_ok-message.message.now c.in_ok-header.header in
     ends_at (here c.loop-item.invariant (Ok (Error _)) start head
-    (_, (head, (c.in-2.is, refl))) c.interrupted_by.ensures) g.met.I.Kept.laws
-    (rw c.error_number.ensures)
+    (told (Error _) head (c.in-2.is, refl)) c.interrupted_by.ensures)
+    g.met.I.Kept.laws.some_item (rw c.error_number.ensures)
 
 pub returns-in-3 : goal.returns-in-3
 returns-in-3 g c =
     let start = rw c.in_ok-message.was at c.in-Some.ensures.steps in
     let head = c.in_ok-header.ensures in
+    let told = g.met.I.Kept.laws.carries c.in_ok-message.message.now c.in_ok-header.header in
     ends_at (here c.loop-item.invariant (Ok (Done _)) start head
-    (_, (head, (c.in-3.is, refl))) c.interrupted_by.ensures) g.met.I.Kept.laws
-    (rw c.error_number-in-3.ensures)
+    (told (Done _) head (c.in-3.is, refl)) c.interrupted_by.ensures)
+    g.met.I.Kept.laws.some_item (rw c.error_number-in-3.ensures)
 
 pub returns-in-4 : goal.returns-in-4
 returns-in-4 g c =
     let start = rw c.in_ok-message.was at c.in-Some.ensures.steps in
     let head = c.in_ok-header.ensures in
+    let told = g.met.I.Kept.laws.carries c.in_ok-message.message.now c.in_ok-header.header in
     ends_at (here c.loop-item.invariant (Ok (Overrun _)) start head
-    (_, (head, (c.in-4.is, refl))) c.interrupted_by.ensures) g.met.I.Kept.laws refl
+    (told (Overrun _) head (c.in-4.is, refl)) c.interrupted_by.ensures)
+    g.met.I.Kept.laws.some_item refl
 
 pub returns-in_err-take-in_default : goal.returns-in_err-take-in_default
 returns-in_err-take-in_default g c =
@@ -68,14 +73,16 @@ returns-in_err-take-in_default g c =
     let start = rw c.in_ok-message.was at c.in-Some.ensures.steps in
     let head = c.in_ok-header.ensures in
     let other : IsInnerType c.in_ok-header.header.message_type = search rules in
+    let laws = g.met.I.Kept.laws in
+    let message = c.in_ok-message.message.now in
+    let h = c.in_ok-header.header in
     rw (p.1, p.2) (
       λ named. ends_at (here c.loop-item.invariant (Err _) start head
-          (fault_within g.I.Kept.codec _ _ _ head
-          (other, c.in_err-take-in_default.ensures.fault named)) c.interrupted_by.ensures)
-          g.met.I.Kept.laws refl,
+          (laws.refused message h _ head other (c.in_err-take-in_default.ensures.fault named))
+          c.interrupted_by.ensures) laws.some_item refl,
       λ none. let m = c.in_err-take-in_default.ensures.wanted none in
-          stops_at g.met.I.Kept.laws (here c.loop-item.invariant (Ok (InnerMessage m.0)) start head
-          (_, (head, (other, m.1))) c.interrupted_by.ensures),
+          stops_at laws.some_item (here c.loop-item.invariant (Ok (InnerMessage m.0)) start head
+          (laws.carries message h (InnerMessage m.0) head (other, m.1)) c.interrupted_by.ensures),
     )
 
 pub loop-item-preserved : goal.loop-item-preserved
@@ -83,9 +90,12 @@ loop-item-preserved g c =
     let start = rw c.in_ok-message.was at c.in-Some.ensures.steps in
     let head = c.in_ok-header.ensures in
     let other : IsInnerType c.in_ok-header.header.message_type = search rules in
+    let told = g.met.I.Kept.laws.carries c.in_ok-message.message.now c.in_ok-header.header in
     rw (c.in_ok-push-in_default.ensures.items, map_push)
     (passes (here c.loop-item.invariant (Ok (InnerMessage _)) start head
-    (_, (head, (other, c.in_ok-take-in_default.ensures.value))) c.interrupted_by.ensures) refl)
+    (told (InnerMessage _) head (other, c.in_ok-take-in_default.ensures.value))
+        c.interrupted_by.ensures)
+    refl)
 
 pub returns-in_err-push-in_default : goal.returns-in_err-push-in_default
 returns-in_err-push-in_default g c =
@@ -94,12 +104,15 @@ returns-in_err-push-in_default g c =
     let start = rw c.in_ok-message.was at c.in-Some.ensures.steps in
     let head = c.in_ok-header.ensures in
     let other : IsInnerType c.in_ok-header.header.message_type = search rules in
+    let laws = g.met.I.Kept.laws in
+    let told = laws.carries c.in_ok-message.message.now c.in_ok-header.header in
     rw (p.1, p.2, c.in_err-push-in_default.ensures.items) (
       λ named. absurd (named refl),
-      λ _. stops_at g.met.I.Kept.laws (here c.loop-item.invariant (Ok (InnerMessage _)) start head
-          (_, (head, (other, c.in_ok-take-in_default.ensures.value))) c.interrupted_by.ensures),
+      λ _. stops_at laws.some_item (here c.loop-item.invariant (Ok (InnerMessage _)) start head
+          (told (InnerMessage _) head (other, c.in_ok-take-in_default.ensures.value))
+          c.interrupted_by.ensures),
     )
 
 pub returns : goal.returns
 returns g c = closes c.loop-item.invariant [] _
-    (rw c.in-None.ensures.steps.0 (no_items g.I.Kept.codec)) refl (λ never. never)
+    (rw c.in-None.ensures.steps.0 (no_items g.I.Kept.codec.item_is)) refl (λ never. never)
