@@ -105,7 +105,8 @@ impl SockDiagMessage {
             → message_codec.refuses payload.now message_type e) }
         // Memory is wanted only for bytes that have a message.
         ensures wanted { IfErr result (λ e. e ≡ Memory
-            → (m : Message) × message_codec.reads payload.now message_type m) }
+            → (m : Message) × message_codec.reads payload.now message_type m
+            × ¬ message_codec.is_spare m) }
     {
         Ok(SockDiagView::parse(payload, message_type)?.to_owned(alloc)?)
     }
