@@ -3,7 +3,7 @@
 ghost use Rattle.std.specs.Prelude.{◌≡◌, ◌≢◌, ◌<◌, ◌↔◌, ◌⊎◌, true, refl, IsTrue, IfOk, IfErr, IsOk};
 ghost use Rattle.netlink_core.specs.declared.fault.DecodeError.TheVariants.{Memory};
 ghost use Rattle.netlink_core.specs.declared.message.NetlinkPayload.TheVariants.{InnerMessage};
-ghost use Rattle.netlink_packet_sock_diag.specs.Message.{message_codec, of_message};
+ghost use Rattle.netlink_packet_sock_diag.specs.Message.{Message, message_codec, of_message};
 ghost use Rattle.sock_diag_records.specs.ResponseKind.{inet_request, inet_response, unix_request};
 ghost use Rattle.sock_diag_records.specs.ResponseKind.{unix_response};
 
@@ -105,7 +105,8 @@ impl SockDiagMessage {
             → message_codec.refuses payload.now message_type e) }
         // Memory is wanted only for bytes that have a message.
         ensures wanted { IfErr result (λ e. e ≡ Memory
-            → (m : Message) × message_codec.reads payload.now message_type m) }
+            → (m : Message) × message_codec.reads payload.now message_type m
+            × ¬ message_codec.is_spare m) }
     {
         Ok(SockDiagView::parse(payload, message_type)?.to_owned(alloc)?)
     }
