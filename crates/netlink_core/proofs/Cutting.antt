@@ -10,11 +10,13 @@ use Rattle.std.specs.List.{AllZip, AllByRecursion, flat_map}
 use Rattle.netlink_core.specs.declared.fault.DecodeError.{DecodeError}
 use Rattle.netlink_core.specs.Bytes.{IsBytes}
 use Rattle.netlink_core.specs.Attribute.{CutOff}
-use Rattle.netlink_core.specs.Attribute.{Attribute, FitsWords, fill, unpadded}
+use Rattle.netlink_core.specs.Attribute.{Attribute, fill, unpadded}
+use Rattle.netlink_core.specs.PrefixLaws.{FitsWords}
 use Rattle.netlink_core.specs.Attribute.{written, StartsWith, Cut, IsPrefixFault}
 use Rattle.netlink_core.specs.Attribute.{AttributesMean, AttributeFault}
 use Rattle.netlink_core.specs.ByteLaws.{IsBytes-nil, IsBytes-right}
-use Rattle.netlink_core.specs.PrefixLaws.{IsAttributeInRange, same_parts, one_prefix, written_in_range, word_is}
+use Rattle.netlink_core.specs.PrefixLaws.{IsAttributeInRange, same_parts, one_prefix}
+use Rattle.netlink_core.specs.PrefixLaws.{written_in_range, word_is}
 use Rattle.netlink_core.specs.PrefixLaws.{prefix_or_fault_apart, prefix_or_fault, value_or_reason}
 use Rattle.netlink_core.specs.PrefixLaws.{one_prefix_fault, one_attribute, prefix_in_range}
 use Rattle.netlink_core.proofs.TableLaws.{AreBytes-drop}
@@ -67,7 +69,8 @@ written_is_cut (x ∷ xs) fits rest = (
 pub all_written_is_cut : (xs : List Attribute) → AllByRecursion FitsWords xs
     → Cut (flat_map written xs) xs []
 all_written_is_cut xs fits =
-    subst (λ (b : List ℕ). Cut b xs []) (append-nil (flat_map written xs)) (written_is_cut xs fits [])
+    subst (λ (b : List ℕ). Cut b xs []) (append-nil (flat_map written xs))
+        (written_is_cut xs fits [])
 
 -- ---- attributes in bytes are in range
 

@@ -19,7 +19,8 @@ length-field order width offset (suc count) bytes =
     grind (arith, length-field order width (offset + width) count bytes)
 
 field-at : (order : Order) (width offset count : ℕ) (bytes : List ℕ) (k : ℕ) → k < count
-    → slice_index (values_of (row (field_in order) offset width count) bytes) k ≡ number_in order width
+    → slice_index (values_of (row (field_in order) offset width count) bytes) k
+    ≡ number_in order width
     (drop (offset + width * k) bytes)
 field-at order width offset (suc count) bytes (suc k) h =
     grind (arith, field-at order width (offset + width) count bytes k, mul-suc width k)

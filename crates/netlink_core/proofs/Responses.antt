@@ -5,7 +5,8 @@ use Rattle.std.specs.Prelude.{drop, map}
 use Rattle.std.specs.List.{AllByRecursion, AllZip, flat_map}
 use Rattle.std.proofs.lemmas.List.{drop_at}
 use Rattle.netlink_core.specs.Bytes.{IsBytes}
-use Rattle.netlink_core.specs.Attribute.{Attribute, FitsWords, HasFittingValue}
+use Rattle.netlink_core.specs.Attribute.{Attribute, HasFittingValue}
+use Rattle.netlink_core.specs.PrefixLaws.{FitsWords}
 use Rattle.netlink_core.specs.PrefixLaws.{IsAttributeInRange}
 use Rattle.netlink_core.specs.Attribute.{written, Cut}
 use Rattle.netlink_core.specs.AttributeSet.{AttributeSet, AttributeValue, decodes, encodes}

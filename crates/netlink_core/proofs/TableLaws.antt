@@ -25,7 +25,8 @@ use Rattle.netlink_core.specs.Bytes.{IsBytes}
 use Rattle.netlink_core.specs.PrefixLaws.{same_parts}
 use Rattle.netlink_core.specs.ByteLaws.{IsBytes-append}
 use Rattle.netlink_core.proofs.Numbers.{number-same, number-take, number-fits, number-reads_back}
-use Rattle.netlink_core.proofs.Numbers.{length-bytes_in, bytes_in-bytes, masked, masked-all, masked-none}
+use Rattle.netlink_core.proofs.Numbers.{length-bytes_in, bytes_in-bytes, masked}
+use Rattle.netlink_core.proofs.Numbers.{masked-all, masked-none}
 use Rattle.netlink_core.proofs.Numbers.{length-masked, masked-bytes, and_number}
 
 and_parts : (a b : Bool) → IsTrue (a && b) → IsTrue a × IsTrue b

@@ -18,10 +18,6 @@ pub record Attribute : Type 0 where
 abbrev pub attribute_type : Attribute → ℕ
 attribute_type a = bit_and a.type_word 0x3fff
 
--- a type word of 16 bits, and a value whose length word is one of 16 bits
-abbrev pub FitsWords : Attribute → Type 0
-FitsWords a = (a.type_word < 2 ^ 16) × (length a.value ≤ 65531)
-
 -- the number from 0 to 3 that brings a length to a multiple of four
 abbrev pub fill : ℕ → ℕ
 fill n = (4 - n % 4) % 4
@@ -44,14 +40,15 @@ AreWritable attributes limit = AllByRecursion HasFittingValue attributes × (len
 
 -- the bytes begin with the attribute
 abbrev pub HasPrefix : List ℕ → Attribute → Type 0
-HasPrefix bytes a = (tail : List ℕ) × (bytes ≡ unpadded a ++ tail) × FitsWords a
+HasPrefix bytes a = (tail : List ℕ) × (bytes ≡ unpadded a ++ tail)
+    × ((a.type_word < 2 ^ 16) × HasFittingValue a)
 
 -- The bytes are the attribute, its padding and the rest. Where nothing follows, the padding may be
 -- short.
 pub record StartsWith (bytes : List ℕ) (a : Attribute) (rest : List ℕ) : Type 0 where
   pub padding : List ℕ
   pub parts : bytes ≡ unpadded a ++ (padding ++ rest)
-  pub fits : FitsWords a
+  pub fits : (a.type_word < 2 ^ 16) × HasFittingValue a
   pub filled : (length padding ≡ fill (length a.value)) ⊎ ((length padding < fill (length a.value)) × (rest ≡ []))
 
 -- the bytes are these attributes, one after the other, and then the rest

@@ -1,6 +1,6 @@
 -- A message: its header, and its payload by its type.
 use Rattle.std.specs.Prelude.{◌≡◌, ℕ, ℤ, ◌+◌, ◌-◌, ◌≤◌, ◌⊎◌, List, [], ◌++◌, length, take, drop, ⊤}
-use Rattle.std.specs.Prelude.{nat_lt, if◌then◌else◌, Option, None, Some}
+use Rattle.std.specs.Prelude.{nat_lt, ◌==◌, if◌then◌else◌, Option, None, Some}
 use Rattle.std.specs.Int.{cast_signed, w32}
 use Rattle.byteorder.specs.Endian.{little_number}
 use Rattle.netlink_core.specs.declared.header.NetlinkHeader.{NetlinkHeader}
@@ -59,11 +59,10 @@ OfInner is payload = by_type ⊤ (λ own given. ⊤) is payload
 abbrev pub leading_number : List ℕ → Option ℤ
 leading_number b = if nat_lt (length b) 4 then None else Some (cast_signed w32 (little_number 4 b))
 
--- that of a payload
+-- that of a payload: none of NLMSG_OVERRUN, 4
 abbrev pub error_number_of : {A : Type 0} → Payload A → Option ℤ
-error_number_of (Error given) = leading_number given
-error_number_of (Done given) = leading_number given
-error_number_of _ = None
+error_number_of payload = by_type None
+    (λ own given. if own == 4 then None else leading_number given) (λ value. None) payload
 
 -- the header with the message's own length and type, and else as it was
 abbrev pub finalized : {A : Type 0} → (A → List ℕ) → (A → ℕ) → Envelope A → NetlinkHeader

@@ -3,7 +3,8 @@
 use Rattle.std.proofs.Common.{arith}
 use Rattle.std.proofs.Common.{Ok, ◌≡◌, inl, inr, [], length, replicate}
 use Rattle.std.proofs.Common.{refl, sym, ap}
-use Rattle.netlink_core.specs.Attribute.{Attribute, FitsWords, fill}
+use Rattle.netlink_core.specs.Attribute.{Attribute, fill}
+use Rattle.netlink_core.specs.PrefixLaws.{FitsWords}
 use Rattle.netlink_core.specs.Attribute.{written}
 use Rattle.netlink_core.specs.AttributeSet.{AttributeSet, AttributeValue, decodes, encodes}
 use Rattle.netlink_core.specs.ShownLaws.{AttributeSetLaws}

@@ -9,10 +9,14 @@ use Rattle.netlink_core.specs.declared.fault.DecodeError.TheVariants.{AttributeH
 use Rattle.netlink_core.specs.declared.fault.DecodeError.TheVariants.{AttributeLengthUnder4}
 use Rattle.netlink_core.specs.declared.fault.DecodeError.TheVariants.{AttributeLengthPast}
 use Rattle.netlink_core.specs.Bytes.{IsBytes}
-use Rattle.netlink_core.specs.Attribute.{Attribute, FitsWords, unpadded}
+use Rattle.netlink_core.specs.Attribute.{Attribute, unpadded}
 use Rattle.netlink_core.specs.Attribute.{written, HasPrefix, IsFramingFault, IsPrefixFault}
 use Rattle.netlink_core.specs.ByteLaws.{IsBytes-append, IsBytes-left, IsBytes-number}
 use Rattle.netlink_core.specs.ByteLaws.{IsBytes-zeros}
+
+-- a type word of 16 bits, and a value whose length word is one of 16 bits
+abbrev pub FitsWords : Attribute → Type 0
+FitsWords a = (a.type_word < 2 ^ 16) × (length a.value ≤ 65531)
 
 -- a type word of 16 bits, and a value of bytes
 abbrev pub IsAttributeInRange : Attribute → Type 0

@@ -1,13 +1,14 @@
 //! Laws of the framing of attributes and of messages. The functions do nothing: their contracts are
 //! the laws.
 
-ghost use Rattle.std.specs.Prelude.{◌≡◌, ◌↔◌, ◌⊎◌, ◌%◌, ◌<◌, ◌++◌, ℕ, List, [], ◌∷◌, length, map};
+ghost use Rattle.std.specs.Prelude.{◌≡◌, ◌↔◌, ◌⊎◌, ◌%◌, ◌^◌, ◌<◌, ◌++◌};
+ghost use Rattle.std.specs.Prelude.{ℕ, List, [], ◌∷◌, length, map};
 ghost use Rattle.std.specs.Prelude.{Option, Some, None, Result, Ok, Err, IsTrue, IfOk, IsOk, true};
 ghost use Rattle.std.specs.Prelude.{false, vec_items};
 ghost use Rattle.std.specs.Borrow.{Bor};
 ghost use Rattle.std.specs.Iterator.{Drains, YieldsThen};
 ghost use Rattle.std.specs.List.{AllByRecursion, flat_map};
-ghost use Rattle.netlink_core.specs.Attribute.{Attribute, FitsWords, Cut, CutOff};
+ghost use Rattle.netlink_core.specs.Attribute.{Attribute, HasFittingValue, Cut, CutOff};
 ghost use Rattle.netlink_core.specs.Attribute.{IsFramingFault, fill, unpadded, written};
 ghost use Rattle.netlink_core.specs.Layout.{read, StandsIn};
 ghost use Rattle.netlink_core.specs.Bytes.{IsBytes};
@@ -47,7 +48,8 @@ pub fn cut_is_as_stated()
     ensures none { (bytes : List ℕ) → Cut bytes [] [] ↔ (bytes ≡ []) }
     ensures some { (bytes : List ℕ) (a : Attribute) (later : List Attribute)
         → Cut bytes (a ∷ later) [] ↔ ((padding rest : List ℕ)
-        × (bytes ≡ unpadded a ++ (padding ++ rest)) × FitsWords a
+        × (bytes ≡ unpadded a ++ (padding ++ rest))
+        × ((a.type_word < 2 ^ 16) × HasFittingValue a)
         × (((length padding ≡ fill (length a.value)) × Cut rest later [])
         ⊎ ((length padding < fill (length a.value)) × (rest ≡ []) × (later ≡ [])))) }
 {}
@@ -61,7 +63,8 @@ pub fn one_list_of_attributes()
 /// The written bytes of attributes that fit their words are cut into those attributes, whatever
 /// follows: so all padding is there.
 pub fn written_attributes_are_cut()
-    ensures { (xs : List Attribute) → AllByRecursion FitsWords xs
+    ensures { (xs : List Attribute) → AllByRecursion
+        (λ (a : Attribute). (a.type_word < 2 ^ 16) × HasFittingValue a) xs
         → (rest : List ℕ) → Cut (flat_map written xs ++ rest) xs rest }
 {}
 
@@ -153,7 +156,8 @@ pub fn equal_messages<I: Coded>(v: &NetlinkMessage<I>, w: &NetlinkMessage<I>) ->
 
 /// `==` says whether two payloads carry the same.
 pub fn equal_payloads<I: Coded>(v: &NetlinkPayload<I>, w: &NetlinkPayload<I>) -> bool
-    ensures { IsTrue result ↔ (payload_of vec_items I.model v.now ≡ payload_of vec_items I.model w.now) }
+    ensures { IsTrue result
+        ↔ (payload_of vec_items I.model v.now ≡ payload_of vec_items I.model w.now) }
 {
     v == w
 }

@@ -24,7 +24,8 @@ one_of own tests tell =
 -- the bytes of a message whose header is finalized under the type 21
 abbrev pub sent : NetlinkHeader → Message → List ℕ
 sent h m = (envelope_codec message_codec).written (record {
-  header = finalized message_codec.written (λ _. 21) (record { header = h; payload = InnerMessage m });
+  header = finalized message_codec.written (λ _. 21)
+      (record { header = h; payload = InnerMessage m });
   payload = InnerMessage m;
 })
 

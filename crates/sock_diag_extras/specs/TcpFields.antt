@@ -1,7 +1,7 @@
 -- The fields of `struct tcp_info` of linux/tcp.h, as Linux 6.18 has them.
 use Rattle.std.specs.Prelude.{ℕ, ◌+◌, ◌==◌, if◌then◌else◌, List, [], ◌∷◌, drop}
 use Rattle.byteorder.specs.Endian.{little_number}
-use Rattle.netlink_core.specs.Table.{Field, byte, number, little_endian}
+use Rattle.netlink_core.specs.Table.{Field, byte, number}
 use Rattle.sock_diag_extras.specs.declared.tcp_info.TcpField.{TcpField}
 use Rattle.sock_diag_extras.specs.declared.tcp_info.TcpField.TheVariants as field
 
@@ -83,8 +83,7 @@ end_of f = (span_of f).0 + (span_of f).1
 -- the field of a table that it is
 abbrev pub row_of : TcpField → Field
 row_of f =
-    if (span_of f).1 == 1 then byte (span_of f).0
-    else number (span_of f).0 (span_of f).1 little_endian
+    if (span_of f).1 == 1 then byte (span_of f).0 else number (span_of f).0 (span_of f).1
 
 -- its number in bytes that have all of it
 abbrev pub value_of : TcpField → List ℕ → ℕ

@@ -7,7 +7,7 @@ use Rattle.byteorder.specs.Endian.{little_bytes, little_number}
 use Rattle.netlink_core.proofs.Numbers.{little_endian}
 use Rattle.netlink_core.proofs.Numbers.{number-reads_back}
 use Rattle.std.specs.declared.net.ip_addr.IpAddr.{IpAddr}
-use Rattle.sock_diag_filters.specs.declared.condition.ValueCodec.{ValueCodec}
+use Rattle.sock_diag_filters.specs.declared.condition.Prefix.{Prefix}
 use Rattle.sock_diag_filters.specs.declared.condition.Host.{Host}
 use Rattle.sock_diag_filters.specs.declared.condition.Condition.{Condition}
 use Rattle.sock_diag_filters.specs.declared.filter.Filter.{Filter}
@@ -50,13 +50,13 @@ address_found : (a : IpAddr) (bits port family : ℕ) (octets : List ℕ)
 address_found a bits port family octets =
     grind arith
 
-prefix_found : (o : Option ValueCodec) (port family : ℕ) (octets : List ℕ)
+prefix_found : (o : Option Prefix) (port family : ℕ) (octets : List ℕ)
     → finds_address family octets (slice_index (host o port) 0) (slice_index (host o port) 1)
     (drop 8 (host o port)) ≡ has_prefix o family octets
 prefix_found o port family octets =
     grind (arith, address_found)
 
-port_at : (o : Option ValueCodec) (port : ℕ) → port < 2 ^ 32
+port_at : (o : Option Prefix) (port : ℕ) → port < 2 ^ 32
     → little_number 4 (drop 4 (host o port)) ≡ port
 port_at o port h =
     grind (arith, back 4 port)

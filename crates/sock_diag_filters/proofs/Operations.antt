@@ -7,7 +7,7 @@ use Rattle.byteorder.specs.Endian.{little_bytes}
 use Rattle.netlink_core.proofs.Numbers.{little_endian}
 use Rattle.netlink_core.proofs.Numbers.{number-reads_back}
 use Rattle.std.specs.declared.net.ip_addr.IpAddr.{IpAddr}
-use Rattle.sock_diag_filters.specs.declared.condition.ValueCodec.{ValueCodec}
+use Rattle.sock_diag_filters.specs.declared.condition.Prefix.{Prefix}
 use Rattle.sock_diag_filters.specs.declared.condition.Condition.{Condition}
 use Rattle.sock_diag_filters.specs.declared.filter.Filter.{Filter}
 use Rattle.sock_diag_filters.specs.declared.filter.Filter.TheVariants as parts
@@ -47,7 +47,7 @@ abbrev pub with_address : IpAddr → ℕ → ℕ → List ℕ
 with_address a bits port =
     (family_of a ∷ bits ∷ 0 ∷ 0 ∷ []) ++ (little_bytes 4 port ++ octets_of a)
 
-abbrev pub host : Option ValueCodec → ℕ → List ℕ
+abbrev pub host : Option Prefix → ℕ → List ℕ
 host o port = front_of o ++ (little_bytes 4 port ++ octets_behind o)
 
 address_in_fours : (a : IpAddr) (bits port : ℕ) → length (with_address a bits port) % 4 ≡ 0
@@ -66,18 +66,18 @@ address_bits : (a : IpAddr) (bits port : ℕ) → bits ≤ bits_of a
 address_bits a bits port h =
     grind arith
 
-host_in_fours : (o : Option ValueCodec) (port : ℕ) → length (host o port) % 4 ≡ 0
+host_in_fours : (o : Option Prefix) (port : ℕ) → length (host o port) % 4 ≡ 0
 host_in_fours o port =
     grind (arith, address_in_fours)
 
-host_least : (o : Option ValueCodec) (code far port : ℕ) (rest : List ℕ)
+host_least : (o : Option Prefix) (code far port : ℕ) (rest : List ℕ)
     → option_map (λ (n : ℕ). 12 + n)
     (address_length (slice_index (operation code (host o port) far ++ rest) 4))
     ≡ Some (4 + length (host o port))
 host_least o code far port rest =
     grind (arith, address_least)
 
-host_bits : (o : Option ValueCodec) (code far port : ℕ) (rest : List ℕ)
+host_bits : (o : Option Prefix) (code far port : ℕ) (rest : List ℕ)
     → slice_index (operation code (host o port) far ++ rest) 5
     ≤ 8 * (4 + length (host o port) - 12)
 host_bits o code far port rest =

@@ -6,7 +6,8 @@ use Rattle.std.specs.Prelude.{map, slice_index, unwrap_or, None, Some}
 use Rattle.std.proofs.lemmas.Bool.{cases_lt}
 use Rattle.std.specs.List.{AllByRecursion, AllZip, filter_map, flat_map, last_or}
 use Rattle.std.proofs.lemmas.List.{append-nil, drop_at, length-append}
-use Rattle.netlink_core.specs.Attribute.{Attribute, AttributeFault, Cut, FitsWords}
+use Rattle.netlink_core.specs.Attribute.{Attribute, AttributeFault, Cut}
+use Rattle.netlink_core.specs.PrefixLaws.{FitsWords}
 use Rattle.netlink_core.specs.Attribute.{fill, written}
 use Rattle.netlink_core.specs.Datagram.{CutIntoMessages}
 use Rattle.netlink_core.specs.declared.fault.DecodeError.{DecodeError}

@@ -5,7 +5,7 @@ use Rattle.std.specs.declared.net.ip_addr.IpAddr.{IpAddr}
 use Rattle.sock_diag_filters.specs.declared.condition.Comparison.{Comparison}
 use Rattle.sock_diag_filters.specs.declared.condition.Comparison.TheVariants.{AtLeast, AtMost}
 use Rattle.sock_diag_filters.specs.declared.condition.Comparison.TheVariants.{Equal}
-use Rattle.sock_diag_filters.specs.declared.condition.ValueCodec.{ValueCodec}
+use Rattle.sock_diag_filters.specs.declared.condition.Prefix.{Prefix}
 use Rattle.sock_diag_filters.specs.declared.condition.Host.{Host}
 use Rattle.sock_diag_filters.specs.declared.condition.Condition.{Condition}
 use Rattle.sock_diag_filters.specs.declared.condition.Condition.TheVariants.{SourcePort, Source}
@@ -16,7 +16,7 @@ use Rattle.sock_diag_filters.specs.declared.condition.Condition.TheVariants.{Aut
 use Rattle.sock_diag_filters.specs.Prefixes.{bits_of, family_of, octets_of, port_bytes}
 
 -- there are these bits of the address, exactly where it has as many
-abbrev pub IsPrefix : Option ValueCodec → IpAddr → ℕ → Type 0
+abbrev pub IsPrefix : Option Prefix → IpAddr → ℕ → Type 0
 IsPrefix (Some p) address bits = (p.address ≡ address) × (p.bits ≡ bits)
 IsPrefix None address bits = bits ≤ bits_of address → ⊥
 
@@ -46,11 +46,11 @@ code_of AutoBound = 6
 
 -- family, number of bits, two bytes that are not read, and behind the port the octets; without
 -- an address AF_UNSPEC and no bits
-abbrev pub front_of : Option ValueCodec → List ℕ
+abbrev pub front_of : Option Prefix → List ℕ
 front_of None = 0 ∷ 0 ∷ 0 ∷ 0 ∷ []
 front_of (Some p) = family_of p.address ∷ p.bits ∷ 0 ∷ 0 ∷ []
 
-abbrev pub octets_behind : Option ValueCodec → List ℕ
+abbrev pub octets_behind : Option Prefix → List ℕ
 octets_behind None = []
 octets_behind (Some p) = octets_of p.address
 

@@ -8,7 +8,7 @@ use Rattle.std.specs.declared.net.ip_addr.IpAddr.TheVariants.{V4, V6}
 use Rattle.sock_diag_filters.specs.declared.condition.Comparison.{Comparison}
 use Rattle.sock_diag_filters.specs.declared.condition.Comparison.TheVariants.{AtLeast, AtMost}
 use Rattle.sock_diag_filters.specs.declared.condition.Comparison.TheVariants.{Equal}
-use Rattle.sock_diag_filters.specs.declared.condition.ValueCodec.{ValueCodec}
+use Rattle.sock_diag_filters.specs.declared.condition.Prefix.{Prefix}
 use Rattle.sock_diag_filters.specs.declared.condition.Host.{Host}
 use Rattle.sock_diag_filters.specs.declared.condition.Condition.{Condition}
 use Rattle.sock_diag_filters.specs.declared.condition.Condition.TheVariants.{SourcePort, Source}
@@ -103,7 +103,7 @@ is_within (V4 ip) bits family octets =
 is_within (V6 ip) bits family octets =
     if 10 == family then bits == 0 || begins_alike bits octets (octets_of (V6 ip)) else false
 
-abbrev pub has_prefix : Option ValueCodec → ℕ → List ℕ → Bool
+abbrev pub has_prefix : Option Prefix → ℕ → List ℕ → Bool
 has_prefix None family octets = true
 has_prefix (Some p) family octets = is_within p.address p.bits family octets
 

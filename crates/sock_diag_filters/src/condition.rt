@@ -21,7 +21,7 @@ pub enum Comparison {
 
 /// The first bits of an IPv4 or IPv6 address.
 #[derive(Clone, Copy, Debug, PartialEq, Eq)]
-pub struct ValueCodec {
+pub struct Prefix {
     /// The address that has them.
     pub address: IpAddr,
     /// How many they are: at most 32 of an IPv4 address, and at most 128 of an IPv6 address.
@@ -29,11 +29,11 @@ pub struct ValueCodec {
     ghost in_range: { bits ≤ bits_of address },
 }
 
-impl ValueCodec {
+impl Prefix {
     ghost use Rattle.sock_diag_filters.specs.Conditions.{IsPrefix};
 
     /// The first so many bits of an address, or none where it hasn't as many.
-    pub fn new(address: IpAddr, bits: u8) -> Option<ValueCodec>
+    pub fn new(address: IpAddr, bits: u8) -> Option<Prefix>
         ensures { IsPrefix result address bits }
     {
         let most = match address {
@@ -43,7 +43,7 @@ impl ValueCodec {
         if bits > most {
             return None;
         }
-        Some(ValueCodec { address, bits })
+        Some(Prefix { address, bits })
     }
 }
 
@@ -52,7 +52,7 @@ impl ValueCodec {
 #[derive(Clone, Copy, Debug, PartialEq, Eq)]
 pub struct Host {
     /// The address begins with these bits.
-    pub prefix: Option<ValueCodec>,
+    pub prefix: Option<Prefix>,
     /// The port.
     pub port: Option<u16>,
 }
@@ -168,13 +168,13 @@ impl Host {
         match self.prefix {
             None => 8,
             Some(
-                ValueCodec {
+                Prefix {
                     address: IpAddr::V4(_),
                     ..
                 },
             ) => 12,
             Some(
-                ValueCodec {
+                Prefix {
                     address: IpAddr::V6(_),
                     ..
                 },

@@ -12,7 +12,7 @@ mod view;
 
 pub use crate::any::{AnyRequestView, RecordRequestView};
 pub use crate::assembly::{AssembleError, MAX_PROGRAM, assemble};
-pub use crate::condition::{Comparison, Condition, Host, ValueCodec};
+pub use crate::condition::{Comparison, Condition, Host, Prefix};
 pub use crate::filter::Filter;
 pub use crate::request::{
     INET_DIAG_REQ_BYTECODE, INET_DIAG_REQ_PROTOCOL, REQUEST_FRONT, RequestAttribute,

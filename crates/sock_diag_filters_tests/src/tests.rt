@@ -2,7 +2,7 @@ use netlink_core::Emitable;
 use sock_diag_filters::uses::listening_on;
 use sock_diag_filters::{
     AnyRequestView, Comparison, Condition, Filter, Host, RequestAttribute, RequestView,
-    RequestWithAttributes, ValueCodec, assemble,
+    RequestWithAttributes, Prefix, assemble,
 };
 use std::alloc::Global;
 use std::net::{IpAddr, Ipv4Addr, Ipv6Addr};
@@ -20,7 +20,7 @@ fn assembles(rt: &impl Abort, alloc: Global, filter: &Filter, program: &str) -> 
 #[test]
 fn conditions_are_those_of_ss(rt: HostRuntime) -> Result<(), Fail> {
     let local = Host {
-        prefix: ValueCodec::new(IpAddr::V6(Ipv6Addr::LOCALHOST), 128),
+        prefix: Prefix::new(IpAddr::V6(Ipv6Addr::LOCALHOST), 128),
         port: Some(53),
     };
     for (condition, program) in [
@@ -45,7 +45,7 @@ fn conditions_are_those_of_ss(rt: HostRuntime) -> Result<(), Fail> {
 #[test]
 fn a_filter_is_that_of_ss(rt: HostRuntime) -> Result<(), Fail> {
     let source = Filter::Condition(Condition::Source(Host {
-        prefix: ValueCodec::new(IpAddr::V4(Ipv4Addr::new(10, 0, 0, 0)), 8),
+        prefix: Prefix::new(IpAddr::V4(Ipv4Addr::new(10, 0, 0, 0)), 8),
         port: None,
     }));
     let elsewhere = Filter::Not(&source);

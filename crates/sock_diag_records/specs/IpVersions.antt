@@ -16,8 +16,7 @@ IpVersions = IpVersion × IpVersion
 
 -- what a family tells: AF_INET is 2 and AF_INET6 is 10
 abbrev pub versions_of_family : ℕ → Result IpVersions DecodeError
-versions_of_family family =
-    if family == 2 then Ok (ipv4, ipv4)
+versions_of_family family = if family == 2 then Ok (ipv4, ipv4)
     else if family == 10 then Ok (ipv6, ipv6) else Err (UnsupportedFamily family)
 
 -- of an address its version, how many numbers it has, and these: four octets or eight segments

@@ -7,4 +7,5 @@ use Rattle.sock_diag_records.specs.UnixResponseHeader.{unix_response_header}
 
 pub unix_response_header_sound : IsSound unix_response_header
 unix_response_header_sound =
-    plain_sound refl (λ _. refl) (λ _. refl) (λ _. refl) (λ value shaped. grind (arith, first_all 8))
+    plain_sound refl (λ _. refl) (λ _. refl) (λ _. refl)
+        (λ value shaped. grind (arith, first_all 8))

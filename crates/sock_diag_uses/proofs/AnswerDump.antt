@@ -151,7 +151,8 @@ module _ (reads_back : (v : Envelope Message) → (envelope_codec message_codec)
   carries_all : ((v : ValueOf unix_response_spec)
       → (response_codec unix_response_spec).is_in_range v
       → length (response_bytes unix_response_spec v) % 4 ≡ 0)
-      → (n : ℕ) → n < 2 ^ 32 → (rs : List (ValueOf unix_response_spec)) → AllByRecursion CanBeSent rs
+      → (n : ℕ) → n < 2 ^ 32 → (rs : List (ValueOf unix_response_spec))
+      → AllByRecursion CanBeSent rs
       → AllByRecursion (λ r. Carries (reply_under n r) (Ok (InnerMessage (sent r)))) rs
   carries_all even n small [] found = tt
   carries_all even n small (r ∷ rs) found =

@@ -51,7 +51,8 @@ pub data Step (left : List ℕ) (item : Item Message) (later : List ℕ) : Type 
 -- so it is by the walk
 pub step_of : (old new : DumpViews) (item : Result PayloadView DecodeError)
     → GivesView old (Some item) new
-    → Step (datagram_left old.messages) (map_ok payload_view_model item) (datagram_left new.messages)
+    → Step (datagram_left old.messages) (map_ok payload_view_model item)
+    (datagram_left new.messages)
 step_of old new item (inl (bytes, s, is)) = message bytes s is
 step_of old new item (inr (e, is, some, fault, none)) =
     no_message e (ap (map_ok payload_view_model) is) some fault

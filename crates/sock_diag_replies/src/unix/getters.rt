@@ -1,6 +1,7 @@
 //! What the attributes of a reply about a UNIX socket tell.
 
-ghost use Rattle.std.specs.Prelude.{◌≡◌, if◌then◌else◌, None, IsSome, option_map, option_copied, vec_items, map};
+ghost use Rattle.std.specs.Prelude.{◌≡◌, if◌then◌else◌, None, IsSome, option_map};
+ghost use Rattle.std.specs.Prelude.{option_copied, vec_items, map};
 ghost use Rattle.netlink_core.specs.AttributeSet.{content};
 ghost use Rattle.sock_diag_attributes.specs.UnixAttributes.{unix};
 ghost use Rattle.sock_diag_attributes.specs.NameModel.{name_of};

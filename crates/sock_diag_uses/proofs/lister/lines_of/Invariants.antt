@@ -8,4 +8,5 @@ use Rattle.sock_diag_uses.proofs.lister.lines_of.Given as goal
 
 -- the lines of the items so far
 abbrev pub invariant-loop-item : goal.invariant-loop-item
-invariant-loop-item l = l.lines.items ≡ filter_map line_of (map (map_ok payload_view_model) l.yielded)
+invariant-loop-item l = l.lines.items
+    ≡ filter_map line_of (map (map_ok payload_view_model) l.yielded)

@@ -27,7 +27,8 @@ returns c = on_ok
     (λ lines h. record {
       items = map (map_ok payload_view_model) h.0;
       are = subst
-          (λ (bytes : List ℕ). ItemsAre (ItemIs message_codec) bytes (map (map_ok payload_view_model) h.0))
+          (λ (bytes : List ℕ). ItemsAre (ItemIs message_codec) bytes
+              (map (map_ok payload_view_model) h.0))
           c.new.ensures (c.whole_views_are_the_datagram.ensures c.new.result h.0 h.1);
       found = h.2;
     })

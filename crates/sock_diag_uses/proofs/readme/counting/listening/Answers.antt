@@ -75,7 +75,8 @@ returns-in-Done c =
     (rw (c.in_ok-reply.was, c.in-Done.is) at c.in-Some.ensures.steps) in
     let answer = c.then_some.ensures ∙ ap (λ (b : Bool). then_some b c.loop-item.count)
     c.starts_with.ensures.value in
-    counts_to _ _ _ _ (map_ok payload_view_model item) _ in_range c.loop-item.invariant step (λ more.
+    counts_to _ _ _ _ (map_ok payload_view_model item) _ in_range c.loop-item.invariant step
+        (λ more.
     ap Ok answer)
 
 pub returns-in-Error : goal.returns-in-Error
@@ -84,7 +85,8 @@ returns-in-Error c =
     let in_range : IsBytes c.args.datagram.now = λ i. omega (arith, c.type_inv.datagram i) in
     let step = step_of c.loop-item.item-iterator c.next.new.self item
     (rw (c.in_ok-reply.was, c.in-Error.is) at c.in-Some.ensures.steps) in
-    counts_to _ _ _ _ (map_ok payload_view_model item) _ in_range c.loop-item.invariant step (λ more. refl)
+    counts_to _ _ _ _ (map_ok payload_view_model item) _ in_range c.loop-item.invariant step
+        (λ more. refl)
 
 pub returns-in-Overrun : goal.returns-in-Overrun
 returns-in-Overrun c =
@@ -92,7 +94,8 @@ returns-in-Overrun c =
     let in_range : IsBytes c.args.datagram.now = λ i. omega (arith, c.type_inv.datagram i) in
     let step = step_of c.loop-item.item-iterator c.next.new.self item
     (rw (c.in_ok-reply.was, c.in-Overrun.is) at c.in-Some.ensures.steps) in
-    counts_to _ _ _ _ (map_ok payload_view_model item) _ in_range c.loop-item.invariant step (λ more. refl)
+    counts_to _ _ _ _ (map_ok payload_view_model item) _ in_range c.loop-item.invariant step
+        (λ more. refl)
 
 pub returns : goal.returns
 returns c = counts_all _ _ _ c.loop-item.invariant c.in-None.ensures.steps.0

@@ -3,22 +3,5 @@ use Rattle.sock_diag_families.proofs.vsock.response.VsockResponseHeaderRecord.fi
 
 pub returns : goal.returns
 returns c =
-    record {
-      shaped = tt;
-      fit = (
-        search rules,
-        (
-          search rules,
-          (
-            search rules,
-            (
-              search rules,
-              (
-                search rules,
-                (search rules, (search rules, (search rules, c.long_words_in_range.ensures 24))),
-              ),
-            ),
-          ),
-        ),
-      );
-    }
+    (tt, (search rules, (search rules, (search rules, (search rules, (search rules,
+        (search rules, (search rules, (search rules, c.long_words_in_range.ensures 24)))))))))
