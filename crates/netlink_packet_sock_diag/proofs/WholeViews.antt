@@ -33,7 +33,7 @@ whole_views walk (g ∷ given) h =
     elim h.1.1.1 [
       | inl s ↦ leading_item (ItemIs message_codec) bytes s.0 (datagram_left h.1.1.0.messages)
           (map_ok payload_view_model g) (map (map_ok payload_view_model) given) s.1 s.2
-              (whole_views h.1.1.0 given later)
+          (whole_views h.1.1.0 given later)
       | inr f ↦ rw (f.1, nothing_more h.1.1.0 given later f.4)
           (fault_alone (ItemIs message_codec) bytes f.0 f.2 f.3)
     ]

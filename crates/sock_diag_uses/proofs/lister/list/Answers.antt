@@ -28,7 +28,7 @@ returns c = on_ok
       items = map (map_ok payload_view_model) h.0;
       are = subst
           (λ (bytes : List ℕ). ItemsAre (ItemIs message_codec) bytes
-              (map (map_ok payload_view_model) h.0))
+          (map (map_ok payload_view_model) h.0))
           c.new.ensures (c.whole_views_are_the_datagram.ensures c.new.result h.0 h.1);
       found = h.2;
     })

@@ -94,7 +94,7 @@ loop-item-preserved g c =
     rw (c.in_ok-push-in_default.ensures.items, map_push)
     (passes (here c.loop-item.invariant (Ok (InnerMessage _)) start head
     (told (InnerMessage _) head (other, c.in_ok-take-in_default.ensures.value))
-        c.interrupted_by.ensures)
+    c.interrupted_by.ensures)
     refl)
 
 pub returns-in_err-push-in_default : goal.returns-in_err-push-in_default

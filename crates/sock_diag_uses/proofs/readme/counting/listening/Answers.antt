@@ -76,7 +76,7 @@ returns-in-Done c =
     let answer = c.then_some.ensures ∙ ap (λ (b : Bool). then_some b c.loop-item.count)
     c.starts_with.ensures.value in
     counts_to _ _ _ _ (map_ok payload_view_model item) _ in_range c.loop-item.invariant step
-        (λ more.
+    (λ more.
     ap Ok answer)
 
 pub returns-in-Error : goal.returns-in-Error
@@ -86,7 +86,7 @@ returns-in-Error c =
     let step = step_of c.loop-item.item-iterator c.next.new.self item
     (rw (c.in_ok-reply.was, c.in-Error.is) at c.in-Some.ensures.steps) in
     counts_to _ _ _ _ (map_ok payload_view_model item) _ in_range c.loop-item.invariant step
-        (λ more. refl)
+    (λ more. refl)
 
 pub returns-in-Overrun : goal.returns-in-Overrun
 returns-in-Overrun c =
@@ -95,7 +95,7 @@ returns-in-Overrun c =
     let step = step_of c.loop-item.item-iterator c.next.new.self item
     (rw (c.in_ok-reply.was, c.in-Overrun.is) at c.in-Some.ensures.steps) in
     counts_to _ _ _ _ (map_ok payload_view_model item) _ in_range c.loop-item.invariant step
-        (λ more. refl)
+    (λ more. refl)
 
 pub returns : goal.returns
 returns c = counts_all _ _ _ c.loop-item.invariant c.in-None.ensures.steps.0
