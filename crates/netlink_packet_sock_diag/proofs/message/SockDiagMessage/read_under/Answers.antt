@@ -16,4 +16,5 @@ returns-in_err-to_owned-clause-wanted c =
     rw (p.1, p.2) (λ memory. (
       message_view_model c.in_ok-parse.field-0,
       c.in_ok-parse.ensures.value,
+      λ spare. spare,
     ))
