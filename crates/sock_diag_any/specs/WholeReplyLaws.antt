@@ -1,7 +1,8 @@
 -- The laws of replies whose attributes are kept whole.
-use Rattle.std.proofs.Common.{ℕ, List, refl}
+use Rattle.std.proofs.Common.{◌≡◌, ◌≤◌, ℕ, List, length, replicate, refl, arith}
+use Rattle.std.proofs.lemmas.List.{length-replicate}
 use Rattle.netlink_core.specs.Codec.{KeepsLaws}
-use Rattle.netlink_core.specs.Layout.{plain}
+use Rattle.netlink_core.specs.Layout.{bytes, plain}
 use Rattle.netlink_core.specs.Response.{response_codec}
 use Rattle.netlink_core.specs.SoundLaws.{IsSound}
 use Rattle.netlink_core.specs.Table.{Field}
@@ -15,7 +16,13 @@ pub plain_replies_keep_laws : {Value : Type 0} {name : RecordName} {size : ℕ} 
     {values : Value → List ℕ} {value : List ℕ → Value} {is_shaped : Value → Type 0}
     → IsSound (plain name size fields values value is_shaped)
     → KeepsLaws (response_codec (whole_reply (plain name size fields values value is_shaped)))
-plain_replies_keep_laws {name} {size} {fields} {values} {value} {is_shaped} sound =
+plain_replies_keep_laws {Value} {name} {size} {fields} {values} {value} {is_shaped} sound =
     let header = plain name size fields values value is_shaped in
-    responses_keep_laws (whole_reply header)
-    (response_laws header (refl, λ _. refl) sound (λ tag left rest long told. told) tt)
+    let zeros : List ℕ = replicate size 0 in
+    let some : length zeros ≡ size = length-replicate size 0 in
+    let all : size ≤ length zeros = omega (arith, some) in
+    let room : sound.size tt ≤ length zeros = sound.room tt tt zeros all refl in
+    let long : (v : Value) → length (bytes header v) ≡ size =
+        λ v. omega (arith, sound.long v, sound.enough v, some, room) in
+    responses_keep_laws (whole_reply header) (response_laws header (refl, long) sound
+    (λ tag left rest long told. told) tt)
