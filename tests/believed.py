@@ -28,7 +28,7 @@ ROOT = Path(__file__).resolve().parent.parent / "crates"
 BESIDE = ["sock_diag_families", "sock_diag_any", "sock_diag_extras", "sock_diag_filters", "sock_diag_uses",
     "capture_tables", "sock_diag_captures", "sockdiag_c"]
 # So many lines have to be believed at most.
-MOST = 1100
+MOST = 900
 # Ghost members that say something: their types and their bodies are read.
 MEANING = set("""codec model type_written bytes writable held input TAKES_MEMORY attribute layout Tag Value view inverse is_clone
     is_made_with

@@ -70,7 +70,7 @@ pub all_written_is_cut : (xs : List Attribute) → AllByRecursion FitsWords xs
     → Cut (flat_map written xs) xs []
 all_written_is_cut xs fits =
     subst (λ (b : List ℕ). Cut b xs []) (append-nil (flat_map written xs))
-        (written_is_cut xs fits [])
+    (written_is_cut xs fits [])
 
 -- ---- attributes in bytes are in range
 

@@ -8,9 +8,10 @@ use Rattle.netlink_core.specs.declared.fault.RecordName.{RecordName}
 
 -- How a record stands in bytes: its name in faults, the fewest bytes that it is read from, and the
 -- tables of its fields. A tag chooses between tables: a string that is long enough has the tag by
--- which it is read, or the fault that refuses it, and a value has the one by which it is written. Beside the fields, a shape says that arrays are as long as their type has
--- it, and `is_own` what normal form asks. `value` is the inverse of `values`: `StandsIn` says what
--- belongs to a string without it, and the law `read_where_it_stands` that this is the same.
+-- which it is read, or the fault that refuses it, and a value has the one by which it is written.
+-- Beside the fields, a shape says that arrays are as long as their type has it, and `is_own` what
+-- normal form asks. `value` is the inverse of `values`: `StandsIn` says what belongs to a string
+-- without it, and the law `read_where_it_stands` that this is the same.
 pub record Layout (Param Tag Value : Type 0) : Type 1 where
   pub name : RecordName
   pub least : ℕ

@@ -1,5 +1,5 @@
 -- The laws of replies whose attributes are kept whole.
-use Rattle.std.proofs.Common.{◌≡◌, ◌≤◌, ℕ, List, length, replicate, refl, arith}
+use Rattle.std.proofs.Common.{ℕ, ◌≡◌, ◌≤◌, List, length, replicate, refl, arith}
 use Rattle.std.proofs.lemmas.List.{length-replicate}
 use Rattle.netlink_core.specs.Codec.{KeepsLaws}
 use Rattle.netlink_core.specs.Layout.{bytes, plain}
@@ -19,10 +19,9 @@ pub plain_replies_keep_laws : {Value : Type 0} {name : RecordName} {size : ℕ} 
 plain_replies_keep_laws {Value} {name} {size} {fields} {values} {value} {is_shaped} sound =
     let header = plain name size fields values value is_shaped in
     let zeros : List ℕ = replicate size 0 in
-    let some : length zeros ≡ size = length-replicate size 0 in
-    let all : size ≤ length zeros = omega (arith, some) in
-    let room : sound.size tt ≤ length zeros = sound.room tt tt zeros all refl in
-    let long : (v : Value) → length (bytes header v) ≡ size =
-        λ v. omega (arith, sound.long v, sound.enough v, some, room) in
-    responses_keep_laws (whole_reply header) (response_laws header (refl, long) sound
-    (λ tag left rest long told. told) tt)
+    let long : length zeros ≡ size = length-replicate {A = ℕ} size 0 in
+    let room : sound.size tt ≤ length zeros = sound.room tt tt zeros (omega (arith, long)) refl in
+    let fixed : (v : Value) → length (bytes header v) ≡ size =
+    λ v. omega (arith, sound.long v, sound.enough v, room, long) in
+    responses_keep_laws (whole_reply header)
+    (response_laws header (refl, fixed) sound (λ tag left rest long told. told) tt)

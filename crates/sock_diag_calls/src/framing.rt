@@ -1,6 +1,6 @@
 //! A walk over attributes, by `netlink_core`.
 
-ghost use Rattle.std.specs.Prelude.{◌≡◌, List, length, IfOk, IfErr};
+ghost use Rattle.std.specs.Prelude.{◌≡◌, List, [], length, IfOk, IfErr};
 ghost use Rattle.netlink_core.specs.Attribute.{Attribute, Cut, CutOff, IsFramingFault};
 
 use netlink_core::{DecodeError, NlasIterator};

@@ -42,7 +42,7 @@ module _ (F : AttributeSet) where
       → item ≡ Err (record { attribute = None; fault = e }) → later ≡ []
       → ItemsAre F bytes (item ∷ later)
   framing_last bytes e item later some fault same none =
-      ([], inr (e, ([], bytes, refl, refl, some, fault), λ z. same z ∷ none z))
+      ([], inr (e, (bytes, refl, some, fault), λ z. same z ∷ none z))
 
   -- what is told of an attribute in front of good bytes is what it says
   item_good : (a : Attribute) (item : Result (AttributeValue F) Refusal) → item ≡ item_of F a

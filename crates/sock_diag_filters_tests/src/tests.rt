@@ -1,8 +1,8 @@
 use netlink_core::Emitable;
 use sock_diag_filters::uses::listening_on;
 use sock_diag_filters::{
-    AnyRequestView, Comparison, Condition, Filter, Host, RequestAttribute, RequestView,
-    RequestWithAttributes, Prefix, assemble,
+    AnyRequestView, Comparison, Condition, Filter, Host, Prefix, RequestAttribute, RequestView,
+    RequestWithAttributes, assemble,
 };
 use std::alloc::Global;
 use std::net::{IpAddr, Ipv4Addr, Ipv6Addr};

@@ -8,4 +8,4 @@ use Rattle.sock_diag_records.specs.UnixResponseHeader.{unix_response_header}
 pub unix_response_header_sound : IsSound unix_response_header
 unix_response_header_sound =
     plain_sound refl (λ _. refl) (λ _. refl) (λ _. refl)
-        (λ value shaped. grind (arith, first_all 8))
+    (λ value shaped. grind (arith, first_all 8))

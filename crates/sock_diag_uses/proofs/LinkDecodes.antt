@@ -87,9 +87,7 @@ name_here rest after a s kind ok =
     let name = named (text_in a.value) ok in (
       [],
       (
-        [],
         rest,
-        refl,
         refl,
         StartsWith-some rest after a s,
         (a, prefix_of_start rest after a s, name.0, decodes_name a name.0 kind name.1),

@@ -2,7 +2,6 @@
 
 ghost use Rattle.std.specs.Prelude.{◌≡◌, [], ◌∷◌, replicate, IfOk};
 ghost use Rattle.netlink_core.specs.AttributeSet.{of_type};
-ghost use Rattle.sock_diag_replies.specs.UnixResponseModel.{unix_response_model};
 ghost use Rattle.sock_diag_attributes.specs.declared.unix.name.SocketName.TheVariants.{Pathname};
 ghost use Rattle.sock_diag_uses.specs.UnixResponseModel.{unix_response_model};
 ghost use Rattle.sock_diag_attributes.specs.UnixAttributes.{unix};
