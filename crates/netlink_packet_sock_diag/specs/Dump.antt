@@ -1,6 +1,6 @@
 -- The messages that a dump keeps of the items of its datagrams, and how it ends.
-use Rattle.std.specs.Prelude.{◌≡◌, ◌%◌, length, ℕ, ℤ, List, [], ◌∷◌, ◌++◌, ⊤, ◌⊎◌, Option, Some, None}
-use Rattle.std.specs.Prelude.{MatchOption, Result, Ok, Err, slice_get}
+use Rattle.std.specs.Prelude.{◌≡◌, ◌%◌, length, ℕ, ℤ, List, [], ◌∷◌, ◌++◌, ⊤, ◌⊎◌, Option, Some}
+use Rattle.std.specs.Prelude.{None, MatchOption, Result, Ok, Err, slice_get}
 use Rattle.std.specs.List.{AllByRecursion, AllZip, flat_map}
 use Rattle.netlink_core.specs.declared.fault.DecodeError.{DecodeError}
 use Rattle.netlink_core.specs.Datagram.{CutIntoMessages}

@@ -40,8 +40,8 @@ module _ {A : Type 0} (is : List ℕ → Item A → Type 0) where
 
   -- up to a message for which there was no memory: over the items in front of it it is still read
   abbrev pub Stops : Stage A → List ℕ → Stage A → Type 0
-  Stops p b q = (front later : List (Item A)) × (m : A)
-      × ItemsAre is b (front ++ (Ok (InnerMessage m) ∷ later)) × Dump p.0 front q.0 (Ok (Reading, None))
+  Stops p b q = (front later : List (Item A)) × (m : A) × ItemsAre is b
+      (front ++ Ok (InnerMessage m) ∷ later) × Dump p.0 front q.0 (Ok (Reading, None))
       × (IsTrue q.2 ↔ (IsTrue p.2 ⊎ Interrupt b (front ++ Ok (InnerMessage m) ∷ [])))
 
   -- Of a dump that was read: its end in the datagram, or its fault, or that memory ran out. One

@@ -55,7 +55,7 @@ alone message whole even =
     ([], starts, refl)
 
 -- it has its item alone
-pub one_item : (message : List ℕ) (item : Result (Payload Message) DecodeError)
+pub one_item : (message : List ℕ) (item : Item Message)
     → Carries message item → ItemsAre (ItemIs message_codec) message (item ∷ [])
 one_item message item c =
     (message ∷ [], None, item ∷ [], alone message c.whole c.even, (c.is, tt), refl)
@@ -65,8 +65,8 @@ pub items_of_all : ((front back : List ℕ) (messages : List (List ℕ))
     (xs ys : List (Item Message)) → CutIntoMessages front messages None × (length front % 4 ≡ 0)
     → ItemsAre (ItemIs message_codec) front xs → ItemsAre (ItemIs message_codec) back ys
     → ItemsAre (ItemIs message_codec) (front ++ back) (xs ++ ys))
-    → {A : Type 0} (bytes : A → List ℕ) (item : A → Result (Payload Message) DecodeError)
-    (last : List ℕ) (ends : List (Result (Payload Message) DecodeError))
+    → {A : Type 0} (bytes : A → List ℕ) (item : A → Item Message)
+    (last : List ℕ) (ends : List (Item Message))
     → (xs : List A) → AllByRecursion (λ x. Carries (bytes x) (item x)) xs
     → ItemsAre (ItemIs message_codec) last ends
     → ItemsAre (ItemIs message_codec) (flat_map bytes xs ++ last) (map item xs ++ ends)

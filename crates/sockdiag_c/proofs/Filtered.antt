@@ -1,6 +1,6 @@
 -- Requests with attributes behind them, as they are checked and written.
 use Rattle.std.proofs.Common.{◌≡◌, ◌∙◌, ℕ, ◌+◌, ◌<◌, ◌≤◌, List, ◌++◌, length, replicate, refl, ap}
-use Rattle.std.proofs.Common.{Result, Ok, inl, inr, arith}
+use Rattle.std.proofs.Common.{[], Result, Ok, inl, inr, arith}
 use Rattle.std.proofs.lemmas.Bool.{lt-ltb, le-ltb}
 use Rattle.std.proofs.lemmas.List.{length-append, length-replicate}
 use Rattle.netlink_core.specs.Attribute.{Attribute, AttributeFault, AttributesMean, Cut, fill}
@@ -25,7 +25,7 @@ are_whole bytes values means = (means.0, means.1)
 -- so each fault is one of the framing
 pub are_cut_off : (bytes : List ℕ) (e : DecodeError) → AttributeFault itself bytes e
     → AreCutOff bytes e
-are_cut_off bytes e (given, (before, after, parts, cut, some, fault), read) =
+are_cut_off bytes e (given, (rest, cut, some, fault), read) =
     grind arith
 
 -- ---- lengths

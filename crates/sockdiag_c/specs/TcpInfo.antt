@@ -1,6 +1,6 @@
 -- The bytes that tell of a TCP connection.
 use Rattle.std.specs.Prelude.{ℕ, ◌-◌, ◌⊎◌, ◌==◌, if◌then◌else◌, List, ◌++◌, length, take, replicate}
-use Rattle.std.specs.Prelude.{Option, Some, None}
+use Rattle.std.specs.Prelude.{[], Option, Some, None}
 use Rattle.netlink_core.specs.Attribute.{Attribute, Cut, CutOff, IsFramingFault, attribute_type}
 use Rattle.netlink_core.specs.declared.fault.DecodeError.{DecodeError}
 

@@ -1,6 +1,6 @@
 //! Requests with attributes of the caller's behind them, as the bytecode of a filter is one.
 
-ghost use Rattle.std.specs.Prelude.{◌≡◌, ◌+◌, ◌≤◌, ◌⊎◌, ◌++◌, List, length, drop, OnOk, IfErr};
+ghost use Rattle.std.specs.Prelude.{◌≡◌, ◌+◌, ◌≤◌, ◌⊎◌, ◌++◌, List, [], length, drop, OnOk, IfErr};
 ghost use Rattle.netlink_core.specs.Attribute.{Attribute, Cut, fill};
 ghost use Rattle.netlink_core.specs.Layout.{bytes};
 ghost use Rattle.netlink_core.specs.Header.{header_bytes};
