@@ -177,7 +177,8 @@ impl<I: NetlinkSerializable> NetlinkPayload<I> {
     // Writes the payload at the start of the buffer, and leaves the rest.
     fn serialize(&self, buffer: &mut [u8])
         requires writable { OfInner I.codec.fits (payload_of vec_items I.model self.now) }
-        requires room { length (payload_bytes I.codec.written (payload_of vec_items I.model self.now))
+        requires room { length
+            (payload_bytes I.codec.written (payload_of vec_items I.model self.now))
             ≤ length buffer.old }
         ensures { buffer.new ≡ payload_bytes I.codec.written (payload_of vec_items I.model self.now)
             ++ drop (length (payload_bytes I.codec.written (payload_of vec_items I.model self.now)))
