@@ -1,4 +1,3 @@
-pub mod Apart
 pub mod PieceWalk
 pub mod Asking
 pub mod NamesTold

@@ -1,6 +1,6 @@
 -- Requests with attributes behind them, as they are checked and written.
-use Rattle.std.proofs.Common.{◌≡◌, ◌∙◌, ℕ, ◌+◌, ◌<◌, ◌≤◌, List, ◌++◌, length, replicate, refl, ap}
-use Rattle.std.proofs.Common.{[], Result, Ok, inl, inr, arith}
+use Rattle.std.proofs.Common.{◌≡◌, ℕ, ◌+◌, ◌<◌, ◌≤◌, List, length, refl}
+use Rattle.std.proofs.Common.{[], Result, Ok, arith}
 use Rattle.std.proofs.lemmas.Bool.{lt-ltb, le-ltb}
 use Rattle.std.proofs.lemmas.List.{length-append, length-replicate}
 use Rattle.netlink_core.specs.Attribute.{Attribute, AttributeFault, AttributesMean, Cut, fill}

@@ -1,6 +1,6 @@
 -- Steps of walks, by the place of a cursor.
-use Rattle.std.proofs.Common.{◌≡◌, ◌∙◌, ℕ, ◌+◌, ◌-◌, ◌≤◌, ◌⊎◌, inl, inr, List, [], ◌∷◌, ◌++◌}
-use Rattle.std.proofs.Common.{length, take, drop, refl, sym, ap, subst, arith}
+use Rattle.std.proofs.Common.{◌≡◌, ℕ, ◌+◌, ◌-◌, ◌⊎◌, inl, inr, List, [], ◌∷◌, ◌++◌}
+use Rattle.std.proofs.Common.{length, take, drop, refl, sym, arith}
 use Rattle.std.proofs.lemmas.List.{drop-drop, take_at}
 use Rattle.netlink_core.specs.Attribute.{Attribute, Cut, StartsWith, fill}
 use Rattle.netlink_core.specs.Datagram.{StartsWithMessage}
@@ -12,12 +12,11 @@ use Rattle.netlink_core.specs.PrefixLaws.{prefix_or_fault_apart}
 use Rattle.netlink_core.proofs.Cutting.{one_start}
 use Rattle.netlink_core.proofs.Datagrams.{starts_with_message}
 use Rattle.netlink_core.proofs.Padding.{starts_with}
-use Rattle.netlink_core.proofs.Walking.{StartsWith-some, prefix_of_start}
+use Rattle.netlink_core.proofs.Walking.{prefix_of_start}
 use Rattle.sockdiag_c.specs.declared.walks.AttributePart.{AttributePart}
 use Rattle.sockdiag_c.specs.declared.walks.Cursor.{Cursor}
 use Rattle.sockdiag_c.specs.declared.walks.MessagePart.{MessagePart}
 use Rattle.sockdiag_c.specs.Walks.{Carries, NextAttribute, attribute_in, header_in, left_of}
-use Rattle.sockdiag_c.specs.Walks.{payload_in}
 
 -- the attribute at a place is the one whose value stands behind the two words there
 attribute_read : (bytes rest : List ℕ) (place : ℕ) (a : Attribute)

@@ -1,7 +1,6 @@
 -- The values of a reply, one behind the other, and their first fault.
 use Rattle.std.proofs.Common.{arith}
-use Rattle.std.proofs.Common.{◌≡◌, ◌∙◌, List, [], ◌∷◌, Option, Some, None, Result, Ok, refl, subst}
-use Rattle.std.proofs.Common.{sym}
+use Rattle.std.proofs.Common.{◌≡◌, List, [], ◌∷◌, Option, Some, None, Result, Ok}
 use Rattle.std.specs.Prelude.{IsOkAnd}
 use Rattle.std.specs.Result.{result_err}
 use Rattle.netlink_core.specs.declared.fault.DecodeError.{DecodeError}

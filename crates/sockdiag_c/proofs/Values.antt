@@ -1,13 +1,12 @@
 -- The first value of a kind among the attributes that bytes are cut into.
 use Rattle.std.proofs.lemmas.Grind.{common_steps}
 use Rattle.std.proofs.Common.{◌≡◌, ◌≢◌, ◌∙◌, ℕ, List, [], ◌∷◌, refl, sym, ap, subst, unwrap_or}
-use Rattle.std.proofs.Common.{Option, rules, append_assoc}
-use Rattle.std.proofs.Common.{◌+◌, ◌-◌, ◌++◌, length, take, replicate, min, inl, inr, arith}
+use Rattle.std.proofs.Common.{Option, rules}
+use Rattle.std.proofs.Common.{◌+◌, ◌++◌, length, take, replicate, min, inl, inr, arith}
 use Rattle.std.proofs.lemmas.Bool.{cases_lt, ne_eqb}
 use Rattle.std.proofs.lemmas.List.{take_all}
 use Rattle.netlink_core.specs.Attribute.{Attribute, IsFramingFault, StartsWith}
 use Rattle.netlink_core.specs.Attribute.{attribute_type}
-use Rattle.netlink_core.specs.Attribute.{unpadded}
 use Rattle.netlink_core.specs.declared.fault.DecodeError.{DecodeError}
 use Rattle.netlink_core.specs.PrefixLaws.{prefix_or_fault_apart}
 use Rattle.netlink_core.proofs.Cutting.{one_start}

@@ -1,8 +1,5 @@
-use Rattle.std.proofs.Common.{◌≡◌, length, sym, ap, ◌∙◌, arith}
-use Rattle.std.specs.List.{flat_map}
-use Rattle.byteorder.specs.Endian.{big_bytes}
+use Rattle.std.proofs.Common.{arith}
 use Rattle.netlink_core.proofs.FieldReads.{first_all}
-use Rattle.sock_diag_records.specs.SocketId.{address_bytes}
 use Rattle.sockdiag_c.proofs.headers.address_octets.Goals as goal
 
 pub returns-in-V6 : goal.returns-in-V6

@@ -1,5 +1,4 @@
 use Rattle.std.proofs.Common.{arith}
-use Rattle.std.proofs.Common.{◌∙◌, sym}
 use Rattle.sockdiag_c.proofs.Values.{found_fault, found_goes_on, found_here, found_nowhere}
 use Rattle.sockdiag_c.proofs.tcp_info.first_value.Goals as goal
 

@@ -1,8 +1,5 @@
 use Rattle.std.proofs.Common.{arith}
-use Rattle.std.proofs.Common.{◌∙◌, [], ap, sym}
 use Rattle.std.proofs.lemmas.List.{take_rest}
-use Rattle.sockdiag_c.specs.declared.headers.UnixHeader.{UnixHeader}
-use Rattle.sockdiag_c.specs.UnixDetails.{unix_details_of}
 use Rattle.sockdiag_c.proofs.unix_details.UnixDetailsKeepsDetails.tell_header.Goals as goal
 
 pub returns-clause-value : goal.returns-clause-value
