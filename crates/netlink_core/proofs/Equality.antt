@@ -1,8 +1,7 @@
 -- Tests of equality, put together from those of their parts.
-use Rattle.std.proofs.Common.{◌≡◌, ◌↔◌, ◌&&◌, ℕ, List, ◌∷◌, Option, Bool, true}
+use Rattle.std.proofs.Common.{◌≡◌, ◌↔◌, ◌&&◌, ℕ, List, ◌∷◌, Bool, true}
 use Rattle.std.proofs.Common.{false, eqb, IsTrue, map, rules, arith}
 use Rattle.std.specs.Cmp.{IsEquivalence, both_ways}
-use Rattle.std.specs.Option.{option_eq}
 use lib.Pointwise.{pointwise}
 
 -- of two tests that hold together, each holds

@@ -1,11 +1,10 @@
 -- A walk over the attributes of bytes, one attribute after the other.
-use Rattle.std.proofs.Common.{length}
 use Rattle.std.proofs.Common.{Result, Ok, Err, ◌≡◌, ◌≢◌, ℕ, inl, inr, List, [], ◌∷◌, ◌++◌, refl}
-use Rattle.std.proofs.Common.{sym, arith, ap, ◌∙◌, append_assoc}
-use Rattle.std.proofs.lemmas.List.{append-nil, length-append, nil_from_length}
+use Rattle.std.proofs.Common.{arith, append_assoc}
+use Rattle.std.proofs.lemmas.List.{append-nil}
 use Rattle.netlink_core.specs.declared.fault.DecodeError.{DecodeError}
 use Rattle.netlink_core.specs.Attribute.{Attribute, StartsWith, HasPrefix, CutOff, IsFramingFault}
-use Rattle.netlink_core.specs.Attribute.{IsPrefixFault, AttributesMean, AttributeFault, unpadded}
+use Rattle.netlink_core.specs.Attribute.{IsPrefixFault, AttributesMean, AttributeFault}
 
 -- bytes that an attribute begins are some
 pub StartsWith-some : (bytes rest : List ℕ) (a : Attribute) → StartsWith bytes a rest → bytes ≢ []

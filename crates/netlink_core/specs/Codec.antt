@@ -1,7 +1,7 @@
 -- A reader joined with a writer, and the laws between them.
-use Rattle.std.specs.Prelude.{⊤, ◌≡◌, ◌↔◌, ◌⊎◌, ℕ, List, length, Ok, Err}
+use Rattle.std.specs.Prelude.{⊤, ◌≡◌, ◌↔◌, ◌⊎◌, ℕ, List, Ok, Err}
 use Rattle.netlink_core.specs.Bytes.{IsBytes}
-use Rattle.netlink_core.specs.Layout.{Layout, read, StandsIn, bytes}
+use Rattle.netlink_core.specs.Layout.{Layout, read, StandsIn}
 use Rattle.netlink_core.specs.ValueCodec.{ValueCodec, value_codec}
 use Rattle.netlink_core.specs.declared.fault.DecodeError.{DecodeError}
 use Rattle.netlink_core.specs.declared.fault.DecodeError.TheVariants.{Memory}

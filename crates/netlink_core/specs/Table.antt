@@ -1,7 +1,7 @@
 -- Records of a fixed length, as tables: fields one after the other, each with its offset. A list of
 -- bytes is a list of numbers below 256.
-use Rattle.std.specs.Prelude.{◌≡◌, ◌<◌, ℕ, zero, suc, ◌+◌, ◌^◌, List, [], ◌∷◌, ◌++◌, length, drop}
-use Rattle.std.specs.Prelude.{replicate, slice_index, bit_and}
+use Rattle.std.specs.Prelude.{◌≡◌, ◌<◌, ℕ, zero, suc, ◌+◌, ◌^◌, List, [], ◌∷◌, ◌++◌, drop}
+use Rattle.std.specs.Prelude.{slice_index, bit_and}
 use Rattle.byteorder.specs.Endian.{little_number, big_number, little_bytes, big_bytes}
 
 -- What stands at an offset: a byte; a number of so many bytes, the low byte first, or in network
