@@ -8,7 +8,7 @@ use Rattle.netlink_core.specs.AttributeSet.{IsSpareBy, AreIdleAttributes}
 use Rattle.netlink_core.specs.Codec.{Codec}
 
 -- What the first attribute decodes to, and nothing of what follows it. It is refused for its
--- framing or its value, and is idle with another that stands there.
+-- framing or its value. Strings are idle whose first attributes are idle by the set.
 abbrev pub first_attribute_codec : AttributeSet → Codec (Unit {0})
 first_attribute_codec F = record {
   Value = AttributeValue F;

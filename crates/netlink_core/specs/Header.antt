@@ -9,7 +9,7 @@ use Rattle.netlink_core.specs.declared.fault.DecodeError.TheVariants.{EnvelopeLe
 use Rattle.netlink_core.specs.declared.fault.DecodeError.TheVariants.{EnvelopeLengthPast}
 use Rattle.netlink_core.specs.declared.header.NetlinkHeader.{NetlinkHeader}
 
--- the length at 0, the type at 4, the flags at 6, the sender's number at 8 and its port at 12
+-- the length at 0, the type at 4, the flags at 6, the sequence number at 8 and the port at 12
 abbrev pub header_fields : List Field
 header_fields = number 0 4 ∷ (row number 4 2 2 ++ row number 8 4 2)
 

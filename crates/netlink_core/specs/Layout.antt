@@ -10,8 +10,8 @@ use Rattle.netlink_core.specs.declared.fault.RecordName.{RecordName}
 -- tables of its fields. A tag chooses between tables: a string that is long enough has the tag by
 -- which it is read, or the fault that refuses it, and a value has the one by which it is written.
 -- Beside the fields, a shape says that arrays are as long as their type has it, and `is_own` what
--- normal form asks. `value` is the inverse of `values`: `StandsIn` says what belongs to a string
--- without it, and the law `read_where_it_stands` that this is the same.
+-- normal form asks. `value` is the inverse of `values` there: `StandsIn` says what belongs to a
+-- string without it, and the law `read_where_it_stands` that this is the same.
 pub record Layout (Param Tag Value : Type 0) : Type 1 where
   pub name : RecordName
   pub least : ℕ
@@ -60,7 +60,7 @@ module _ {Param Tag Value : Type 0} (layout : Layout Param Tag Value) where
   AreIdle param b c = (tag : Tag) × (numbers : List ℕ)
       × HasFields param b tag numbers × HasFields param c tag numbers
 
-  -- each number is within its type: the numbers fit their fields, and what else the shape asks
+  -- the value has its shape, and each of its numbers fits its field
   abbrev pub IsInRange : Value → Type 0
   IsInRange v = layout.is_shaped v × Fit (layout.table (layout.tag_of v)) (layout.values v)
 

@@ -6,7 +6,7 @@ use Rattle.byteorder.specs.Endian.{little_number, big_number, little_bytes, big_
 
 -- What stands at an offset: a byte; a number of so many bytes, the low byte first, or in network
 -- byte order, the high byte first; a number of which only the bits of the mask are defined, the low
--- byte first; or bytes that no reader looks at, with what is written there.
+-- byte first; or bytes that the table doesn't read, with what is written there.
 pub data Field : Type 0 where
   byte : (offset : ℕ) → Field
   number network : (offset width : ℕ) → Field

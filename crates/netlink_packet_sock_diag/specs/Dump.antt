@@ -11,7 +11,7 @@ use Rattle.netlink_packet_sock_diag.specs.declared.dump.DumpState.{DumpState}
 use Rattle.netlink_packet_sock_diag.specs.declared.dump.DumpState.TheVariants.{Reading, Done, Error}
 use Rattle.netlink_packet_sock_diag.specs.declared.dump.DumpState.TheVariants.{Overrun}
 
--- how a dump stands: its state, and the number that the message which ended it begins with
+-- how a dump stands: its state, and the number that its `Done` or `Error` begins with
 abbrev pub Standing : Type 0
 Standing = DumpState × Option ℤ
 

@@ -30,14 +30,15 @@ pub enum DumpState {
     Error,
     /// A message came that tells that data was lost.
     Overrun,
-    /// A message was refused, or memory ran out.
+    /// Bytes were no message, a [`DumpReader`] met a refused one, or memory ran out.
     Failed,
 }
 
 /// Why not all of a datagram was taken.
 #[derive(Clone, Copy, Debug, PartialEq, Eq)]
 pub enum DumpError {
-    /// A message was refused, or memory ran out. The messages in front of it are kept.
+    /// Bytes were no message, a [`DumpReader`] met a refused one, or memory ran out. The messages
+    /// in front are kept.
     Fault(DecodeError),
     /// The dump had ended, so nothing was taken.
     Ended,

@@ -214,7 +214,7 @@ pub fn same_items_have_one_dump()
 }
 
 /// The dump does not depend on the split: any two ways to cut the same bytes into datagrams, of
-/// which all but the last are whole messages, have the same dump.
+/// which all but the last are whole messages with all padding, have the same dump.
 pub fn split_changes_no_dump()
     ensures { (datagrams others : List (List ℕ)) → AllByRecursion IsBytes datagrams
         → AllByRecursion IsBytes others

@@ -101,7 +101,8 @@ pub fn answer(alloc: Global, line: &[u8]) -> Result<Vec<u8>, AllocError>
         → AllZip (ItemsAre (ItemIs message_codec)) datagrams' items'
         → flat_map (λ one. one) items ≡ flat_map (λ one. one) items'
         → IsAnswerOf other text' → text.items ≡ text') }
-    // So have two dumps of the same bytes, of which each datagram but the last is whole messages.
+    // So have two dumps of the same bytes, of which each datagram but the last is whole messages
+    // with all padding.
     ensures split { IfOk result
         (λ text. (other text' : List ℕ) (datagrams datagrams' : List (List ℕ))
         → IsDumpRequest line.now datagrams → IsDumpRequest other datagrams'

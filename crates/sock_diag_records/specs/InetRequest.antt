@@ -9,9 +9,8 @@ use Rattle.sock_diag_records.specs.SocketId.{IsShaped, socket_id_fields, socket_
 use Rattle.sock_diag_records.specs.IpVersions.{IpVersions, versions_of, versions_of_family}
 use Rattle.sock_diag_records.specs.InetRequestInverse.{inet_request_of}
 
--- 56 bytes: the bytes at 0, 1 and 2, the word at 4 and the identity at 8; the byte at 3 is written
--- 0. A string of as many is refused where its family is another; in normal form the addresses are
--- of its version
+-- 56 bytes: the bytes at 0, 1 and 2, the flags at 4 and the identity at 8; the byte at 3 is written
+-- 0. A family that is neither 2 nor 10 is refused; in normal form the addresses are of its version
 unfoldable pub inet_request : Layout (Unit {0}) IpVersions InetRequest
 inet_request = record {
   name = name.InetRequest;

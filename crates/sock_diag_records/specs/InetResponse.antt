@@ -17,7 +17,7 @@ use Rattle.netlink_core.specs.Table.{number, row}
 
 -- 72 bytes, by the versions of the addresses and the timer's class: the byte at 3 is read under
 -- retransmit, and the word at 52 under all but no timer and time-wait, else they are written 0. A
--- string of as many is refused where its family is another. In normal form the addresses are of the
+-- family that is neither 2 nor 10 is refused. In normal form the addresses are of the
 -- family's version, and the timer's duration is whole milliseconds of 32 bits; one with 10^9
 -- nanoseconds or more never is.
 unfoldable pub inet_response_header : Layout (Unit {0}) (IpVersions × ℕ) InetResponseHeader

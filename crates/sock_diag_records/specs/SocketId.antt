@@ -51,8 +51,8 @@ IsAddress address = length (address_data address).2 ≡ (address_data address).1
 abbrev pub IsShaped : SocketId → Type 0
 IsShaped v = IsAddress v.source_address × IsAddress v.destination_address × (length v.cookie ≡ 8)
 
--- 48 bytes. A string of as many is refused where the family is another; in normal form the
--- addresses are of its version
+-- 48 bytes. A family that is neither 2 nor 10 is refused; in normal form the addresses are of its
+-- version
 unfoldable pub socket_id : Layout ℕ IpVersions SocketId
 socket_id = record {
   name = name.SocketId;

@@ -1,6 +1,6 @@
 -- The timer of an IPv4 or IPv6 socket. Its class is the kernel's `idiag_timer`, the byte at 2: 0 no
--- timer, 1 retransmit, 2 keep-alive, 3 time-wait, 4 probe. With it two fields of its numbers are
--- read or not.
+-- timer, 1 retransmit, 2 keep-alive, 3 time-wait, 4 probe. By it the byte at 3 and the word at 52
+-- are read or not.
 use Rattle.std.specs.Prelude.{ℕ, ◌/◌, ◌%◌, ◌^◌, nat_lt, if◌then◌else◌}
 use Rattle.std.specs.Prelude.{List, [], ◌∷◌, Option, Some, None}
 use Rattle.std.specs.Duration.{as_nanos}
@@ -9,7 +9,7 @@ use Rattle.sock_diag_records.specs.declared.inet.response.Timer.{Timer}
 use Rattle.sock_diag_records.specs.declared.inet.response.Timer.TheVariants.{Retransmit, KeepAlive}
 use Rattle.sock_diag_records.specs.declared.inet.response.Timer.TheVariants.{TimeWait, Probe}
 
--- the whole milliseconds of a duration, in 32 bits
+-- the whole milliseconds of a duration, modulo 2^32
 abbrev pub milliseconds : Duration → ℕ
 milliseconds time = as_nanos time / 1_000_000 % 2 ^ 32
 

@@ -8,7 +8,7 @@ use Rattle.sock_diag_records.specs.declared.unix.request.UnixRequest.{UnixReques
 use Rattle.sock_diag_records.specs.UnixRequestInverse.{unix_request_of}
 use Rattle.netlink_core.specs.Table.{number}
 
--- the words at 4, 8 and 12, two of them of flags, and the eight bytes of cookie at 16
+-- the words at 4, 8 and 12, the first and the last of flags, and the eight bytes of cookie at 16
 abbrev pub unix_request : Layout (Unit {0}) (Unit {0}) UnixRequest
 unix_request = plain name.UnixRequest 24 (unread 0 (1 ∷ 0 ∷ 0 ∷ 0 ∷ []) ∷ flags 4 4 0x402
     ∷ number 8 4 ∷ flags 12 4 0x3f ∷ bytes_at 16 8)

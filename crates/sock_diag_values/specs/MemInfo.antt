@@ -21,7 +21,8 @@ abbrev pub last_words : Option ℕ → Option ℕ → List ℕ
 last_words backlog (Some drops) = unwrap_or backlog 0 ∷ drops ∷ []
 last_words backlog None = option_to_list backlog
 
--- the words at 0, 4, .. as many as there are; in normal form drops come behind a backlog
+-- the words at 0, 4, .. as many as there are, at most nine; in normal form drops come behind a
+-- backlog
 abbrev pub mem_info : Layout (Unit {0}) ℕ MemInfo
 mem_info = record {
   name = name.MemInfo;

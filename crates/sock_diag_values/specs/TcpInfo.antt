@@ -32,7 +32,7 @@ tcp_info_values t = t.state ∷ t.ca_state ∷ t.retransmits ∷ t.probes ∷ t.
     -- the words at 216
     t.dsack_dups ∷ t.reord_seen ∷ t.rcv_ooopack ∷ t.snd_wnd ∷ []
 
--- 232 bytes, and of each group the offset, the width, and how many numbers
+-- 232 bytes: eight at 0, then of each group the offset, the width, and how many numbers
 unfoldable pub tcp_info : Layout (Unit {0}) (Unit {0}) TcpInfo
 tcp_info = plain name.TcpInfo 232 (bytes_at 0 8 ++ row number 8 4 24 ++
     row number 104 8 4 ++ row number 136 4 6 ++ row number 160 8 4
