@@ -3,8 +3,7 @@
 
 The roots are the clauses of public functions and of the methods of public traits, the invariants of public structs, and
 the ghost members of public traits and of their impls. From these the way goes on by the names that they hold, through the
-imports, to definitions in specs/, and from each of them likewise. A lemma is not followed, but where a definition takes
-what it computes with from one: then what the lemma states is believed, and its proof is not. What Rust types declare is
+imports, to definitions in specs/, and from each of them likewise. A lemma is not followed. What Rust types declare is
 code, and what the kit defines is the kit's: the way ends there.
 
     tests/believed.py             each definition that is reached: module: name, lines, comment; sums; and what is odd
@@ -124,14 +123,12 @@ class Item:
         self.is_lemma = self.kind == "" and not computes
         self.is_layout = answer.startswith("Layout ")
         self.is_definition = self.kind != "module" and not self.is_lemma
-        # Of a lemma what it states is read, and of anything else all.
-        self.read = len([line for line in self.head.split("\n") if line.strip()]) if self.is_lemma else len(self.lines)
 
     def names(self, is_constructor):
-        """The names that its head, its fields and its equations hold; of a lemma those of its head."""
+        """The names that its head, its fields and its equations hold."""
         outer = {name for head in self.heads for name in head.bound} | {self.name}
         found = names_in(self.head, outer if self.equations else outer | self.bound | set(self.parts))
-        for equation in self.equations if not self.is_lemma else []:
+        for equation in self.equations:
             place = next(at_depth_zero(equation, "="))
             pattern = [token for token, is_path in tokens_of(equation[:place]) if is_path]
             found += filter(is_constructor, pattern)
@@ -172,7 +169,7 @@ class Module:
 
     def lines(self, holds):
         """How many lines the items have of which something holds."""
-        return sum(item.read for item in self.items.values() if holds(item))
+        return sum(len(item.lines) for item in self.items.values() if holds(item))
 
 
 class Specs:
@@ -206,12 +203,12 @@ class Specs:
         found = self.find(path, module.names)
         return bool(found) and found[0].name.endswith(INVERSE)
 
-    def reach(self, path, names, where, by, of_definition=False):
+    def reach(self, path, names, where, by):
         """Marks what a path of a root or of a definition stands for, and what that holds in turn."""
         found = self.find(path, names)
         if found is False:
             self.faults.append(f"{where}: {path} resolves to nothing.")
-        if not found or not (found[1].is_definition or of_definition and found[1].is_lemma):
+        if not found or not found[1].is_definition:
             return
         module, item = found
         for one in [item, *item.heads]:
@@ -219,7 +216,7 @@ class Specs:
                 one.reached = by
                 for name in one.names(lambda name: self.is_constructor(name, module)):
                     if not (one.is_layout and self.is_inverse(name, module)):
-                        self.reach(name, module.names, f"{module.name}: {one.name}", by, not one.is_lemma)
+                        self.reach(name, module.names, f"{module.name}: {one.name}", by)
 
 
 class Source:
@@ -311,7 +308,7 @@ def print_all(specs, counted, sizes):
     """What is reached, by crate and module, and how many lines it has."""
     for module in specs.modules.values():
         for item in (item for item in module.items.values() if item.reached in counted):
-            print(f"{module.name}: {item.kind == 'module' and 'module ' or ''}{item.name}, {item.read}, {item.comment}")
+            print(f"{module.name}: {item.kind == 'module' and 'module ' or ''}{item.name}, {len(item.lines)}, {item.comment}")
     print(*(f"{name}: {lines} lines" for name, lines in sizes.items() if lines), sep="\n")
     of_crates = [sum(lines for name, lines in sizes.items() if name.startswith(crate + ".")) for crate in CRATES]
     print(*(f"{crate}: {lines} lines" for crate, lines in zip(CRATES, of_crates)), f"In all: {sum(of_crates)} lines.", sep="\n")

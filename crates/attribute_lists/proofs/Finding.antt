@@ -12,16 +12,7 @@ use Rattle.netlink_core.proofs.TableLaws.{AreBytes-drop}
 use Rattle.netlink_core.proofs.Walking.{StartsWith-some, prefix_of_start, later_fault, fault_here}
 use Rattle.netlink_core.proofs.Cutting.{means_or_fault, means_or_fault_apart}
 use Rattle.attribute_lists.specs.AttributesIn.{HasNoFault, response_behind, values_in}
-use Rattle.attribute_lists.specs.StandingLaws.{standing}
-
--- in no bytes none is found
-pub found_none : standing.0 [] ≡ []
-found_none = standing.1.none
-
--- the attribute that bytes begin with is found first
-pub found_first : (bytes rest : List ℕ) (a : Attribute) → StartsWith bytes a rest
-    → standing.0 bytes ≡ a ∷ standing.0 rest
-found_first = standing.1.first
+use Rattle.attribute_lists.proofs.Standing.{found_first, found_none}
 
 -- the value in an answer that is no fault
 value_in : {A : Type 0} (answer : Result A DecodeError) → ((e : DecodeError)

@@ -1,4 +1,5 @@
 pub mod Finding
+pub mod Standing
 pub mod Checking
 pub mod Kept
 mod EncodedAttributes

@@ -1,4 +1,1 @@
 pub mod AttributesIn
-pub mod LeadingAttribute
-pub mod Finds
-pub mod StandingLaws

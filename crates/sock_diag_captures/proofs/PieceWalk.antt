@@ -1,6 +1,6 @@
 -- The walk over attributes gives the pieces of its bytes.
 use Rattle.std.proofs.Common.{Ok, Err, ◌≡◌, ◌≢◌, ℕ, zero, suc, ◌+◌}
-use Rattle.std.proofs.Common.{◌-◌, List, [], ◌∷◌, ◌++◌, length, drop, inl}
+use Rattle.std.proofs.Common.{◌-◌, List, [], ◌∷◌, ◌++◌, length, take, drop, inl}
 use Rattle.std.proofs.Common.{inr, refl, sym, ap, ◌∙◌, append_assoc, arith}
 use Rattle.std.proofs.lemmas.List.{drop_at, drop_all, length-append}
 use Rattle.std.proofs.lemmas.Bool.{lt-ltb, le-ltb}
@@ -13,8 +13,8 @@ use Rattle.netlink_core.specs.declared.fault.DecodeError.TheVariants.{AttributeH
 use Rattle.netlink_core.specs.declared.fault.DecodeError.TheVariants.{AttributeLengthUnder4}
 use Rattle.netlink_core.specs.declared.fault.DecodeError.TheVariants.{AttributeLengthPast}
 use Rattle.netlink_core.proofs.Walking.{StartsWith-some, prefix_of_start}
-use Rattle.attribute_lists.specs.LeadingAttribute.{leading_attribute}
-use Rattle.attribute_lists.specs.StandingLaws.{attributes_behind, found_first}
+use Rattle.attribute_lists.specs.AttributesIn.{attributes_behind}
+use Rattle.attribute_lists.proofs.Standing.{found_first}
 use Rattle.sock_diag_captures.specs.Pieces.{Piece, followed}
 use Rattle.sock_diag_captures.specs.Pieces.{front_piece, pieces}
 
@@ -26,7 +26,14 @@ behind_is zero (b ∷ bs) = refl
 behind_is (suc n) [] = refl
 behind_is (suc n) (b ∷ bs) = behind_is n bs
 
--- the first attribute by its two words
+-- the attribute at the start of bytes, by its two words
+abbrev leading_attribute : List ℕ → Attribute
+leading_attribute bytes = record {
+  type_word = little_number 2 (drop 2 bytes);
+  value = take (little_number 2 bytes - 4) (drop 4 bytes);
+}
+
+-- it is the first one
 front_is : (bytes rest : List ℕ) (a : Attribute) → StartsWith bytes a rest
     → leading_attribute bytes ≡ a
 unfolding attributes_behind

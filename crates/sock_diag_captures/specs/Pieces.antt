@@ -1,6 +1,6 @@
 -- The attributes that stand in bytes one after the other, up to the end or to what is none.
 use Rattle.std.specs.Prelude.{ℕ, zero, suc, ◌+◌, ◌-◌, ◌==◌, nat_lt, if◌then◌else◌, List, [], ◌∷◌}
-use Rattle.std.specs.Prelude.{length, Option, None, Some, option_and_then, Result, Ok, Err}
+use Rattle.std.specs.Prelude.{drop, length, take, Option, None, Some, option_and_then, Result, Ok, Err}
 use Rattle.byteorder.specs.Endian.{little_number}
 use Rattle.netlink_core.specs.Attribute.{Attribute, fill, attribute_type}
 use Rattle.netlink_core.specs.AttributeSet.{AttributeSet, AttributeValue, ValueAt, content, decodes}
@@ -12,7 +12,6 @@ use Rattle.netlink_core.specs.declared.fault.DecodeError.{DecodeError}
 use Rattle.netlink_core.specs.declared.fault.DecodeError.TheVariants.{AttributeHeaderCut}
 use Rattle.netlink_core.specs.declared.fault.DecodeError.TheVariants.{AttributeLengthUnder4}
 use Rattle.netlink_core.specs.declared.fault.DecodeError.TheVariants.{AttributeLengthPast}
-use Rattle.attribute_lists.specs.LeadingAttribute.{leading_attribute}
 
 -- an attribute, or why none stands there
 abbrev pub Piece : Type 0
@@ -20,12 +19,12 @@ Piece = Result Attribute DecodeError
 
 -- the first attribute, or the first reason why none stands there
 abbrev pub front_piece : List ℕ → Piece
-front_piece bytes =
-    let word = little_number 2 bytes in
-    if nat_lt (length bytes) 4 then Err (AttributeHeaderCut (length bytes))
+front_piece b =
+    let word = little_number 2 b in
+    if nat_lt (length b) 4 then Err (AttributeHeaderCut (length b))
     else if nat_lt word 4 then Err (AttributeLengthUnder4 word)
-    else if nat_lt (length bytes) word then Err (AttributeLengthPast word (length bytes))
-    else Ok (leading_attribute bytes)
+    else if nat_lt (length b) word then Err (AttributeLengthPast word (length b))
+    else Ok (record { type_word = little_number 2 (drop 2 b); value = take (word - 4) (drop 4 b) })
 
 -- nothing follows a fault
 abbrev pub followed : Piece → List Piece → List Piece

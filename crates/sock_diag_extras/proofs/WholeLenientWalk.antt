@@ -9,7 +9,8 @@ use Rattle.netlink_core.specs.AttributeSet.{AttributeSet, AttributeValue, decode
 use Rattle.netlink_core.specs.Walk.{bytes_left}
 use Rattle.netlink_core.proofs.Walking.{StartsWith-some, cut_off_behind}
 use Rattle.attribute_lists.specs.AttributesIn.{HasNoFault, values_in}
-use Rattle.attribute_lists.proofs.Finding.{value_first, found_none, rest_has_no_fault}
+use Rattle.attribute_lists.proofs.Finding.{value_first, rest_has_no_fault}
+use Rattle.attribute_lists.proofs.Standing.{found_none}
 use Rattle.attribute_lists.proofs.Finding.{no_framing_fault, first_is_accepted}
 use Rattle.sock_diag_extras.specs.Lenient.{GivesLeniently, ItemsAre, Refusal, model, item_of}
 use Rattle.sock_diag_extras.specs.declared.lenient.LenientNlas.{LenientNlas}

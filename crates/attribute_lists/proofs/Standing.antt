@@ -1,19 +1,10 @@
--- The attributes that stand in bytes one after the other, found by their length words.
+-- What finds the attributes in bytes, the first one and none.
 use Rattle.std.proofs.Common.{◌≡◌, ℕ, zero, suc, ◌+◌, ◌-◌, List, [], ◌∷◌, ◌++◌, take, drop, length}
 use Rattle.std.proofs.Common.{inl, inr, refl, ap, append_assoc, arith}
 use Rattle.std.proofs.lemmas.List.{take_at, drop_at, drop_all, length-append}
 use Rattle.netlink_core.specs.Attribute.{Attribute, StartsWith, fill, unpadded}
-use Rattle.attribute_lists.specs.Finds.{Finds}
-use Rattle.attribute_lists.specs.LeadingAttribute.{leading_attribute}
+use Rattle.attribute_lists.specs.AttributesIn.{attributes_behind}
 use Rattle.byteorder.specs.Endian.{little_number}
-
--- those behind the next so many bytes, each at the next multiple of four
-unfoldable pub attributes_behind : ℕ → List ℕ → List Attribute
-attributes_behind n [] = []
-attributes_behind zero (byte ∷ bytes) =
-    let word = little_number 2 (byte ∷ bytes) in
-    leading_attribute (byte ∷ bytes) ∷ attributes_behind (word + fill word - 1) bytes
-attributes_behind (suc n) (byte ∷ bytes) = attributes_behind n bytes
 
 -- those behind so many bytes are those at the start of what follows them
 behind_is : (n : ℕ) (bytes rest : List ℕ) → drop n bytes ≡ rest
@@ -47,7 +38,3 @@ found_first bytes rest a s =
 pub found_none : attributes_behind 0 [] ≡ []
 unfolding attributes_behind
 found_none = refl
-
--- what finds them
-pub standing : (found : List ℕ → List Attribute) × Finds found
-standing = (attributes_behind 0, record { none = found_none; first = found_first })
