@@ -32,14 +32,15 @@ MOST = 900
 MEANING = set("""codec model type_written bytes writable held input TAKES_MEMORY attribute layout Tag Value view inverse is_clone
     is_made_with
     is_infallible from_gives bitor_gives can_next next_gives remaining table set_of attribute_set contents answer left reads failed
-    reply header_model name numbers flushed describes listed attributes""".split())
+    reply header_model name numbers flushed describes listed attributes Entry refuses item_is""".split())
 # Ghost members that are laws: the type that a trait declares is read, and their bodies are proofs. `eq` and `tests` are
 # among them: what `==` answers is computed there, and said in the words of contracts by `eq_is_model` and in laws.rt.
 LAWS = set("""laws fills exact eq_is_model written_is fits_is emitted_is writable_is written_as
     compared idle_reflexive idle_symmetric idle_transitive one_value equal_by_bytes idle_with_written reads_back_exactly
     written_alike eq tests test enough keeps same written fits answers asks good""".split())
-# Private functions whose clauses docs/PROMISES.md cites.
-CITED = {"serve", "read_prompt"}
+# Private functions whose clauses docs/PROMISES.md cites, a private struct whose invariant it cites, and the private trait whose
+# impls say what that one names.
+CITED = {"serve", "read_prompt", "FedDump", "Kept"}
 # A module of specs/ with this ending holds lemmas and what they stand on, and one with that the words of private functions.
 LEMMAS, STEPS = "Laws", "Steps"
 # One with this ending holds the inverse of a layout's `values`. A layout alone may lead there, and the way ends: the law
@@ -264,8 +265,9 @@ class Source:
             block, name = self.block(m.start()), m.group(1) or name
             if name not in MEANING | LAWS and block.group(2) != "struct":
                 faults.append(f"{self.name}: the ghost member {name} is in no list of tests/believed.py.")
+            cited = block.group(2) != "trait" and not CITED.isdisjoint(re.findall(r"\w+", block.group(3)))
             if m.group(2) == ":" or name in MEANING:
-                yield m.start(3), "", self.is_promised(block)
+                yield m.start(3), "", cited or self.is_promised(block)
 
     def roots(self, faults):
         """Of each root its paths one by one, what names stand for there, where it stands, and whether it is promised."""

@@ -1,5 +1,5 @@
--- The attributes that stand in bytes one after the other, found by their length words, and what they
--- decode to.
+-- The attributes that stand in bytes one after the other, found by their length words, and what
+-- they decode to. netlink(7) has the layout of one: a length word, a type word, and the value.
 use Rattle.std.specs.Prelude.{ℕ, zero, suc, ◌+◌, ◌-◌, List, [], ◌∷◌, take, drop, Result}
 use Rattle.std.specs.List.{filter_map}
 use Rattle.std.specs.Result.{result_ok}

@@ -1,6 +1,6 @@
 -- What a dump keeps of messages is told by them.
 use Rattle.std.proofs.Common.{◌≡◌, ℕ, List, inl, inr, refl, sym, ap, ◌∙◌, arith}
-use Rattle.std.specs.Prelude.{Result, Ok, Err}
+use Rattle.std.specs.Prelude.{Result, Ok, Err, MatchResult}
 use Rattle.netlink_core.specs.Bytes.{IsBytes}
 use Rattle.netlink_core.specs.Codec.{Codec, KeepsLaws}
 use Rattle.netlink_core.specs.Envelope.{Payload}
@@ -11,7 +11,7 @@ use Rattle.netlink_core.specs.Items.{Item, ItemIs}
 use Rattle.netlink_core.specs.declared.fault.DecodeError.{DecodeError}
 use Rattle.netlink_core.proofs.Datagrams.{IsOfOwnLength}
 use Rattle.netlink_core.proofs.Items.{item_of}
-use Rattle.netlink_packet_sock_diag.specs.KeptSteps.{KeepsItems, entries, messages}
+use Rattle.netlink_packet_sock_diag.specs.KeptSteps.{KeepsItems}
 use Rattle.netlink_packet_sock_diag.specs.Lossy.{EntryIs}
 
 -- no fault stands at the start of a message
@@ -80,14 +80,15 @@ module _ (C : Codec ℕ) where
   one_entry one message in_range (Ok p) (Err f) h k = absurd k
 
 module _ (C : Codec ℕ) (laws : KeepsLaws C) where
-  pub keeps_messages : KeepsItems (messages C)
+  pub keeps_messages : KeepsItems C.reads C.refuses (ItemIs C)
   keeps_messages = record {
     carries = λ message h payload head is. (h, (head, is));
     refused = λ message h e head other refused. inr (h, head, other, refused);
     some_item = λ message in_range whole. item_of C laws.answered message in_range;
   }
 
-  pub keeps_entries : KeepsItems (entries C)
+  pub keeps_entries : KeepsItems (λ b t entry. MatchResult entry (C.reads b t) (C.refuses b t))
+      (λ b t e. ⊥) (EntryIs C)
   keeps_entries = record {
     carries = λ message h payload head is. (h, head, is);
     refused = λ message h e head other never. absurd never;

@@ -1,6 +1,7 @@
 -- The attributes that stand in bytes one after the other, up to the end or to what is none.
 use Rattle.std.specs.Prelude.{ℕ, zero, suc, ◌+◌, ◌-◌, ◌==◌, nat_lt, if◌then◌else◌, List, [], ◌∷◌}
-use Rattle.std.specs.Prelude.{drop, length, take, Option, None, Some, option_and_then, Result, Ok, Err}
+use Rattle.std.specs.Prelude.{drop, length, take, Option, None, Some, option_and_then, Result}
+use Rattle.std.specs.Prelude.{Ok, Err}
 use Rattle.byteorder.specs.Endian.{little_number}
 use Rattle.netlink_core.specs.Attribute.{Attribute, fill, attribute_type}
 use Rattle.netlink_core.specs.AttributeSet.{AttributeSet, AttributeValue, ValueAt, content, decodes}

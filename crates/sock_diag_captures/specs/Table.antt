@@ -33,7 +33,8 @@ path_text utf8 path =
 
 -- the kind of a UNIX socket
 abbrev pub unix_kind : ℕ → List ℕ
-unix_kind kind = if kind == 1 then codes "u_str" else (if kind == 2 then codes "u_dgr" else (if kind == 5 then codes "u_seq" else codes "unix"))
+unix_kind kind = if kind == 1 then codes "u_str" else (if kind == 2 then codes "u_dgr"
+    else (if kind == 5 then codes "u_seq" else codes "unix"))
 
 -- the path, or `@` and an abstract name, or `*` where none is told
 abbrev pub name_cell : Bool → Option (SocketName (List ℕ)) → List ℕ
@@ -90,7 +91,8 @@ inet_line protocol h =
       send_queue = Some h.send_queue;
       inode = h.inode;
       uid = Some h.uid;
-    }) (endpoint id.source_address id.interface_id id.source_port) (endpoint id.destination_address 0 id.destination_port)
+    }) (endpoint id.source_address id.interface_id id.source_port)
+    (endpoint id.destination_address 0 id.destination_port)
 
 -- the lines of a UNIX socket, where they are asked for: its columns, and what is told beside them
 abbrev pub unix_lines : Options → UnixResponseHeader → List Piece → List ℕ

@@ -32,7 +32,8 @@ model F view_model item = result_map_both view_model refusal_of item
 
 -- what is told of the bytes in front, and what is left behind them: of the attribute there, or the
 -- framing fault
-abbrev pub FrontIs : (F : AttributeSet) → List ℕ → Result (AttributeValue F) Refusal → List ℕ → Type 0
+abbrev pub FrontIs : (F : AttributeSet) → List ℕ → Result (AttributeValue F) Refusal → List ℕ
+    → Type 0
 FrontIs F left item later =
     ((a : Attribute) × StartsWith left a later × (item ≡ item_of F a))
     ⊎ ((e : DecodeError) × (left ≢ []) × IsFramingFault left e × (later ≡ [])
@@ -47,7 +48,8 @@ GivesLeniently F view_model old given new =
 
 -- The items of bytes: of each attribute that the bytes are cut into what it says or why it is
 -- refused, in order, and last the fault of the framing, where there is one.
-abbrev pub ItemsAre : (F : AttributeSet) → List ℕ → List (Result (AttributeValue F) Refusal) → Type 0
+abbrev pub ItemsAre : (F : AttributeSet) → List ℕ → List (Result (AttributeValue F) Refusal)
+    → Type 0
 ItemsAre F bytes items = (attributes : List Attribute) × (
     (Cut bytes attributes [] × (items ≡ map (item_of F) attributes))
     ⊎ ((e : DecodeError) × CutOff IsFramingFault bytes attributes e

@@ -49,8 +49,8 @@ asked_tcp states socket_id = record {
 abbrev pub program_attribute : List ℕ → Attribute
 program_attribute program = record { type_word = 1; value = program }
 
--- The bytes that close a socket of TCP: length 72, type 21, flags 5, the sequence number and port 0;
--- the family, protocol 6, no extensions, a pad and all states; and the identity, 48 bytes.
+-- The bytes that close a socket of TCP: length 72, type 21, flags 5, the sequence number and port
+-- 0; the family, protocol 6, no extensions, a pad and all states; and the identity, 48 bytes.
 abbrev pub closing_bytes : SocketId → ℕ → List ℕ
 closing_bytes socket_id sequence_number =
     (72 ∷ 0 ∷ 0 ∷ 0 ∷ 21 ∷ 0 ∷ 5 ∷ 0 ∷ [])

@@ -54,7 +54,8 @@ from_fault fault = errors.Attribute fault
 
 -- an attribute with a name stands at the start of the bytes
 abbrev pub IsNamePrefix : List ℕ → Type 0
-IsNamePrefix bytes = (a : Attribute) × HasPrefix bytes a × (name : List ℕ) × (decodes_link a ≡ Ok (name_attribute name))
+IsNamePrefix bytes = (a : Attribute) × HasPrefix bytes a × (name : List ℕ)
+    × (decodes_link a ≡ Ok (name_attribute name))
 
 -- behind attributes that can be read stands one with a name
 abbrev pub HasName : List ℕ → Type 0

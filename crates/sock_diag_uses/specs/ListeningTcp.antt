@@ -23,7 +23,13 @@ no_address Inet6 = V6 record { segments = replicate 8 0 }
 -- socket's identity nothing is told.
 abbrev pub listening_request : Family → ℕ → Envelope Message
 listening_request family sequence_number = record {
-  header = record { length = 72; message_type = 20; flags = 0x301; sequence_number = sequence_number; port_number = 0 };
+  header = record {
+    length = 72;
+    message_type = 20;
+    flags = 0x301;
+    sequence_number = sequence_number;
+    port_number = 0;
+  };
   payload = InnerMessage (message_of inet_request (record {
     family = family_number family;
     protocol = 6;

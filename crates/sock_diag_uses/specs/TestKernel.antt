@@ -55,18 +55,23 @@ pub record IsAnswer (request : List ℕ) (replies : List (ValueOf unix_response_
   pub framed : HasHeader request header
   pub kind : header.message_type ≡ 20
   pub asks : read unix_request tt (take (header.length - 16) (drop 16 request)) ≡ Ok asked
-  pub written : datagram ≡ flat_map (reply_under header.sequence_number) replies ++ end_under header.sequence_number
+  pub written : datagram ≡ flat_map (reply_under header.sequence_number) replies
+      ++ end_under header.sequence_number
 
 -- The request is refused: for what stands for its netlink header, for its type, or for what it
 -- asks.
 pub data RefusesRequest (request : List ℕ) (e : DecodeError) : Type 0 where
   no_message : IsEnvelopeFault request e → RefusesRequest request e
-  other_type : (h : NetlinkHeader) → HasHeader request h → h.message_type ≢ 20 → e ≡ UnknownMessageType h.message_type → RefusesRequest request e
-  no_request : (h : NetlinkHeader) → HasHeader request h → h.message_type ≡ 20 → read unix_request tt (take (h.length - 16) (drop 16 request)) ≡ Err e → RefusesRequest request e
+  other_type : (h : NetlinkHeader) → HasHeader request h → h.message_type ≢ 20
+      → e ≡ UnknownMessageType h.message_type → RefusesRequest request e
+  no_request : (h : NetlinkHeader) → HasHeader request h → h.message_type ≡ 20
+      → read unix_request tt (take (h.length - 16) (drop 16 request)) ≡ Err e
+      → RefusesRequest request e
 
 -- a message with this payload can be written
 abbrev pub HasRoom : Payload Message → Type 0
-HasRoom payload = OfInner message_codec.fits payload × (16 + length (payload_bytes message_codec.written payload) ≤ 4294967295)
+HasRoom payload = OfInner message_codec.fits payload
+    × (16 + length (payload_bytes message_codec.written payload) ≤ 4294967295)
 
 -- a message of its own for the reply can be written
 abbrev pub ReplyHasRoom : ValueOf unix_response_spec → Type 0
@@ -99,6 +104,7 @@ pub record CanBeSent (reply : ValueOf unix_response_spec) : Type 0 where
   pub short : 16 + length (response_bytes unix_response_spec reply) ≤ 4294967295
 
 -- the dump over the datagram is done, its number is 0, and it has these replies
-pub record IsWholeDump (datagram : List ℕ) (replies : List (ValueOf unix_response_spec)) : Type 0 where
+pub record IsWholeDump (datagram : List ℕ) (replies : List (ValueOf unix_response_spec))
+    : Type 0 where
   pub dump : DatagramsDump (ItemIs message_codec) [] (datagram ∷ [])
       (map (message_of unix_response) replies) (Ok (Done, Some (pos 0)))

@@ -12,7 +12,8 @@ use Rattle.sockdiag_c.specs.declared.family_requests.VsockRequest.{VsockRequest}
 
 -- the record that is asked for, each field by its name
 abbrev pub show_request_of : (family : ℕ) → ShowRequest → show.ShowRequest family
-show_request_of family r = record { protocol = r.protocol; inode = r.inode; show = r.show; cookie = r.cookie }
+show_request_of family r =
+    record { protocol = r.protocol; inode = r.inode; show = r.show; cookie = r.cookie }
 
 abbrev pub vsock_request_of : VsockRequest → vsock.VsockRequest
 vsock_request_of r = record { states = r.states; cookie = r.cookie }
@@ -20,7 +21,9 @@ vsock_request_of r = record { states = r.states; cookie = r.cookie }
 -- the messages under the type SOCK_DIAG_BY_FAMILY, 20
 abbrev pub show_message : ℕ → ShowRequest → List ℕ
 show_message family r =
-    header_bytes (header_of 36 20 r.header) ++ bytes (show_request family) (show_request_of family r)
+    header_bytes (header_of 36 20 r.header)
+    ++ bytes (show_request family) (show_request_of family r)
 
 abbrev pub vsock_message : VsockRequest → List ℕ
-vsock_message r = header_bytes (header_of 40 20 r.header) ++ bytes vsock_request (vsock_request_of r)
+vsock_message r =
+    header_bytes (header_of 40 20 r.header) ++ bytes vsock_request (vsock_request_of r)

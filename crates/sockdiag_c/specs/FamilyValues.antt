@@ -49,4 +49,5 @@ abbrev pub RefusesValue : (R : ResponseSpec) → (ValueOf R → List (Option Dec
     → DecodeError → Type 0
 RefusesValue R faults payload e =
     (response_codec R).refuses payload tt e
-    ⊎ ((v : ValueOf R) × (response_codec R).reads payload tt v × (first_of (λ o. o) (faults v) ≡ Some e))
+    ⊎ ((v : ValueOf R) × (response_codec R).reads payload tt v
+    × (first_of (λ o. o) (faults v) ≡ Some e))

@@ -40,7 +40,10 @@ unix_request_of r = record {
 -- the address in sixteen bytes: under AF_INET, 2, the first four octets, and else eight segments
 abbrev pub address_under : ℕ → List ℕ → IpAddr
 address_under family octets =
-    if family == 2 then V4 record { octets = slice_index octets 0 ∷ slice_index octets 1 ∷ slice_index octets 2 ∷ slice_index octets 3 ∷ [] }
+    if family == 2 then V4 record {
+      octets = slice_index octets 0 ∷ slice_index octets 1 ∷ slice_index octets 2
+          ∷ slice_index octets 3 ∷ []
+    }
     else V6 record { segments = segments_of octets }
 
 -- the record that is asked for, each field by its name, its addresses of the family's version, and

@@ -23,22 +23,26 @@ EndsAt bytes old new was now answer =
 
 -- Some bytes are left, and there the fault is, of which the answer is the number. Then nothing is
 -- left, and nothing is told.
-abbrev pub FailsAt : {T : Type 0} → (List ℕ → DecodeError → Type 0) → List ℕ → Cursor → Cursor → T → T → ℕ → Type 0
+abbrev pub FailsAt : {T : Type 0} → (List ℕ → DecodeError → Type 0) → List ℕ → Cursor → Cursor
+    → T → T → ℕ → Type 0
 FailsAt IsFault bytes old new was now answer =
-    (e : DecodeError) × IsFault (left_of bytes old) e × (answer ≡ number_of e) × (left_of bytes old ≢ []) × (left_of bytes new ≡ []) × (now ≡ was)
+    (e : DecodeError) × IsFault (left_of bytes old) e × (answer ≡ number_of e)
+    × (left_of bytes old ≢ []) × (left_of bytes new ≡ []) × (now ≡ was)
 
 -- ---- attributes
 
 -- the attribute whose value stands there
 abbrev pub attribute_in : List ℕ → AttributePart → Attribute
-attribute_in bytes part = record { type_word = part.type_word; value = take part.length (drop part.offset bytes) }
+attribute_in bytes part =
+    record { type_word = part.type_word; value = take part.length (drop part.offset bytes) }
 
 -- The attribute at the start of what was left is told, its value behind the two words, and the walk
 -- passes it and its padding. Or the walk ends, or fails.
 abbrev pub NextAttribute : List ℕ → Cursor → Cursor → AttributePart → AttributePart → ℕ → Type 0
 NextAttribute bytes old new was now answer =
     EndsAt bytes old new was now answer
-    ⊎ (((answer ≡ 1) × StartsWith (left_of bytes old) (attribute_in bytes now) (left_of bytes new) × (now.offset ≡ old.place + 4))
+    ⊎ (((answer ≡ 1) × StartsWith (left_of bytes old) (attribute_in bytes now) (left_of bytes new)
+    × (now.offset ≡ old.place + 4))
     ⊎ FailsAt IsFramingFault bytes old new was now answer)
 
 -- ---- messages
@@ -62,7 +66,8 @@ payload_in bytes part = take part.length (drop part.offset bytes)
 abbrev pub Carries : List ℕ → ℕ → ℕ → Type 0
 Carries payload t answer =
     ((answer ≡ 1) × ((carried : Payload Message) × PayloadIs message_codec.reads payload t carried))
-    ⊎ ((e : DecodeError) × IsInnerType t × message_codec.refuses payload t e × (answer ≡ number_of e))
+    ⊎ ((e : DecodeError) × IsInnerType t × message_codec.refuses payload t e
+    × (answer ≡ number_of e))
 
 -- The message at the start of what was left is told, its payload behind the header, and the walk
 -- passes it and its padding.
@@ -86,4 +91,5 @@ NextMessage bytes old new was now answer =
 abbrev pub NextEnvelope : List ℕ → Cursor → Cursor → MessagePart → MessagePart → ℕ → Type 0
 NextEnvelope bytes old new was now answer =
     EndsAt bytes old new was now answer
-    ⊎ (((answer ≡ 1) × IsFramed bytes old new now) ⊎ FailsAt IsEnvelopeFault bytes old new was now answer)
+    ⊎ (((answer ≡ 1) × IsFramed bytes old new now)
+    ⊎ FailsAt IsEnvelopeFault bytes old new was now answer)

@@ -23,7 +23,8 @@ IsXdpDetailsOf old v d =
     × IsOkAnd (read_of word 6 v.nlas) (λ o. d.fill_ring ≡ number_of o)
     × IsOkAnd (read_of word 7 v.nlas) (λ o. d.completion_ring ≡ number_of o)
     × IsOkAnd (read_of memory 8 v.nlas) (λ o. d.memory ≡ memory_of o)
-    × IsOkAnd (read_of xdp_statistics 9 v.nlas) (λ o. AnswersItem o old.statistics d.statistics d.has_statistics)
+    × IsOkAnd (read_of xdp_statistics 9 v.nlas)
+    (λ o. AnswersItem o old.statistics d.statistics d.has_statistics)
 
 -- the faults of its values, in their order
 abbrev pub xdp_faults : ValueOf (whole_reply xdp_header) → List (Option DecodeError)

@@ -38,13 +38,13 @@ fn take_messages<I: Kept>(
     datagram: &[u8],
 ) -> Result<(DumpState, Option<i32>), DecodeError>
     ensures { MatchResult result
-        (λ standing. Takes I.codec.item_is
+        (λ standing. Takes I.item_is
         (map I.model messages.old.items, (Reading, None), interrupted.old) datagram.now
         (map I.model messages.new.items, standing, interrupted.new) (ok standing))
-        (λ e. (e ≢ Memory → Takes I.codec.item_is
+        (λ e. (e ≢ Memory → Takes I.item_is
         (map I.model messages.old.items, (Reading, None), interrupted.old) datagram.now
         (map I.model messages.new.items, (Failed, None), interrupted.new) (err e))
-        × (e ≡ Memory → Stops I.codec.item_is
+        × (e ≡ Memory → Stops I.item_is
         (map I.model messages.old.items, (Reading, None), interrupted.old) datagram.now
         (map I.model messages.new.items, (Failed, None), interrupted.new))) }
 {
@@ -77,11 +77,11 @@ pub(crate) struct FedDump<I: Kept> {
     ghost unnumbered: { (standing.0 ≡ Reading) → (standing ≡ (Reading, None)) },
     // Datagrams were fed, with memory for all, and left it so; or one more was, and the dump has
     // failed.
-    ghost fed: { ∥ ((datagrams : List (List ℕ)) × (before : Stage I.codec.Entry)
-        × FeedsLeave I.codec.item_is untouched datagrams before
+    ghost fed: { ∥ ((datagrams : List (List ℕ)) × (before : Stage I.Entry)
+        × FeedsLeave I.item_is untouched datagrams before
         × ((before ≡ (map I.model kept.items, standing, interrupted))
         ⊎ ((standing ≡ (Failed, None)) × (last : List ℕ) × (answer : Result Unit Refusal)
-        × FeedLeaves I.codec.item_is before last (map I.model kept.items, standing, interrupted)
+        × FeedLeaves I.item_is before last (map I.model kept.items, standing, interrupted)
         answer))) ∥₁ },
 }
 
@@ -104,7 +104,7 @@ impl<I: Kept> FedDump<I> {
 
     /// Takes the messages of a datagram, as [`DumpReader::feed`](crate::DumpReader::feed) says.
     pub(crate) fn feed(&mut self, datagram: &[u8]) -> Result<(), DumpError>
-        ensures { FeedLeaves I.codec.item_is (progress I.model self.old) datagram.now
+        ensures { FeedLeaves I.item_is (progress I.model self.old) datagram.now
             (progress I.model self.new) result }
     {
         if self.standing.0 != DumpState::Reading {

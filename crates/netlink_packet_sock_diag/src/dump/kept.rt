@@ -1,11 +1,14 @@
 //! What a dump keeps of the messages of the protocol.
 
-ghost use Rattle.std.specs.Prelude.{◌≡◌, ◌≢◌, IfOk, IfErr};
+ghost use Rattle.std.specs.Prelude.{◌≡◌, ◌≢◌, ℕ, List, Result as result, MatchResult, IfOk, IfErr};
 ghost use Rattle.netlink_core.specs.Faults.{map_ok};
+ghost use Rattle.netlink_core.specs.Items.{Item, ItemIs};
+ghost use Rattle.netlink_core.specs.declared.fault.DecodeError.{DecodeError as Fault};
 ghost use Rattle.netlink_core.specs.declared.fault.DecodeError.TheVariants.{Memory};
-ghost use Rattle.netlink_packet_sock_diag.specs.KeptSteps.{Keeping, KeepsItems, entries, messages};
+ghost use Rattle.netlink_packet_sock_diag.specs.KeptSteps.{KeepsItems};
 ghost use Rattle.netlink_packet_sock_diag.specs.KeptLaws.{keeps_entries, keeps_messages};
-ghost use Rattle.netlink_packet_sock_diag.specs.Message.{message_codec};
+ghost use Rattle.netlink_packet_sock_diag.specs.Lossy.{EntryIs};
+ghost use Rattle.netlink_packet_sock_diag.specs.Message.{Message, message_codec};
 ghost use Rattle.netlink_packet_sock_diag.specs.MessageLaws.{message_laws};
 ghost use Rattle.netlink_packet_sock_diag.specs.MessageModel.{message_model};
 
@@ -15,29 +18,42 @@ use std::alloc::Global;
 
 /// What a dump keeps of a message of the protocol.
 pub(crate) trait Kept: Drop + Sized {
-    // How it stands in a payload under the header's type, and the model of a value.
-    ghost codec: { Keeping };
+    // What is kept of a payload under the header's type, which ones are refused, what a message is
+    // in a dump, and the model of a value.
+    ghost Entry: { Type 0 };
 
-    ghost model: { Self → codec.Entry };
+    ghost reads: { List ℕ → ℕ → Entry → Type 0 };
+
+    ghost refuses: { List ℕ → ℕ → Fault → Type 0 };
+
+    ghost item_is: { List ℕ → Item Entry → Type 0 };
+
+    ghost model: { Self → Entry };
 
     /// Reads what is kept of a payload under the header's type, or returns the fault that ends the
     /// dump.
     fn take(alloc: Global, header: &NetlinkHeader, payload: &[u8]) -> Result<Self, DecodeError>
         ensures value { IfOk result
-            (λ m. Self.codec.reads payload.now header.now.message_type (Self.model m)) }
+            (λ m. Self.reads payload.now header.now.message_type (Self.model m)) }
         ensures fault { IfErr result (λ e. e ≢ Memory
-            → Self.codec.refuses payload.now header.now.message_type e) }
+            → Self.refuses payload.now header.now.message_type e) }
         // Memory is wanted only for a payload of which something is kept.
-        ensures wanted { IfErr result (λ e. e ≡ Memory → (m : Self.codec.Entry)
-            × Self.codec.reads payload.now header.now.message_type m) };
+        ensures wanted { IfErr result (λ e. e ≡ Memory → (m : Self.Entry)
+            × Self.reads payload.now header.now.message_type m) };
 
     // A message is told by its payload.
-    ghost laws: { KeepsItems codec };
+    ghost laws: { KeepsItems reads refuses item_is };
 }
 
 /// The message; a refused one ends the dump.
 impl Kept for SockDiagMessage {
-    ghost codec = { messages message_codec };
+    ghost Entry = { Message };
+
+    ghost reads = { message_codec.reads };
+
+    ghost refuses = { message_codec.refuses };
+
+    ghost item_is = { ItemIs message_codec };
 
     ghost model = { message_model };
 
@@ -50,7 +66,14 @@ impl Kept for SockDiagMessage {
 
 /// The message, or its fault; want of memory alone ends the dump.
 impl Kept for Result<SockDiagMessage, DecodeError> {
-    ghost codec = { entries message_codec };
+    ghost Entry = { result Message Fault };
+
+    ghost reads = { λ b t entry. MatchResult entry (message_codec.reads b t)
+        (message_codec.refuses b t) };
+
+    ghost refuses = { λ b t e. ⊥ };
+
+    ghost item_is = { EntryIs message_codec };
 
     ghost model = { map_ok message_model };
 

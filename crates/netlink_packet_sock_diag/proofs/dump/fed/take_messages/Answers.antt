@@ -115,4 +115,4 @@ returns-in_err-push-in_default g c =
 
 pub returns : goal.returns
 returns g c = closes c.loop-item.invariant [] _
-    (rw c.in-None.ensures.steps.0 (no_items g.I.Kept.codec.item_is)) refl (λ never. never)
+    (rw c.in-None.ensures.steps.0 (no_items g.I.Kept.item_is)) refl (λ never. never)

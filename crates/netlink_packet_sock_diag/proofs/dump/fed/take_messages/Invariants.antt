@@ -6,6 +6,6 @@ use Rattle.netlink_packet_sock_diag.proofs.dump.fed.take_messages.Given as goal
 -- the dump goes on with what is left
 abbrev pub invariant-loop-item : goal.invariant-loop-item
 invariant-loop-item g l =
-    Passing g.I.Kept.codec.item_is l.datagram (datagram_left l.item-iterator)
+    Passing g.I.Kept.item_is l.datagram (datagram_left l.item-iterator)
     (map g.I.Kept.model l.fn.messages.items) (map g.I.Kept.model l.messages.items)
     l.fn.interrupted l.interrupted

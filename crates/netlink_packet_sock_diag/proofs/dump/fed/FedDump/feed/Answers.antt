@@ -23,7 +23,7 @@ invariant_of-self g c =
     let took = c.in-Ok.ensures in
     record {
       unnumbered = unnumbered took.2.1 c.in-Ok.standing took.2.5;
-      fed = ∥∥₁_map dump.fed (λ some. fed_on g.I.Kept.codec.item_is _ _ c.args.datagram.now (Ok tt)
+      fed = ∥∥₁_map dump.fed (λ some. fed_on g.I.Kept.item_is _ _ c.args.datagram.now (Ok tt)
           some (read, took));
     }
 
@@ -34,7 +34,7 @@ invariant_of-self-in-Err g c =
     let took = c.in-Err.ensures in
     record {
       unnumbered = λ is. cc;
-      fed = ∥∥₁_map dump.fed (λ some. fed_on g.I.Kept.codec.item_is _ _ c.args.datagram.now
+      fed = ∥∥₁_map dump.fed (λ some. fed_on g.I.Kept.item_is _ _ c.args.datagram.now
           (Err (Fault c.in-Err.fault)) some (read, refl, took.0, took.1));
     }
 
