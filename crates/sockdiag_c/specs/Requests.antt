@@ -42,7 +42,7 @@ abbrev pub address_under : ℕ → List ℕ → IpAddr
 address_under family octets =
     if family == 2 then V4 record {
       octets = slice_index octets 0 ∷ slice_index octets 1 ∷ slice_index octets 2
-          ∷ slice_index octets 3 ∷ []
+          ∷ slice_index octets 3 ∷ [];
     }
     else V6 record { segments = segments_of octets }
 
