@@ -1,5 +1,5 @@
 #!/usr/bin/env python3
-"""Prints what has to be believed: the definitions that the contracts of the port's crates reach.
+"""Prints what has to be believed: the definitions of the port's crates that the contracts of all crates reach.
 
 The roots are the clauses of public functions and of the methods of public traits, the invariants of public structs, and
 the ghost members of public traits and of their impls. From these the way goes on by the names that they hold, through the
@@ -9,7 +9,7 @@ code, and what the kit defines is the kit's: the way ends there.
     tests/believed.py             each definition that is reached: module: name, lines, comment; sums; and what is odd
     tests/believed.py --lines     the lines that are reached in each module, most first
     tests/believed.py --private   the clauses and members of private functions and traits are roots too
-    tests/believed.py --beside    the lines that the contracts of each crate beside the port reach in its own specs/; and what is odd
+    tests/believed.py --beside    the lines that the contracts of all crates reach in the specs/ of each crate beside the port
 
 It fails, with status 1, where a name resolves to nothing, a ghost member is in none of the two lists below, something
 stands in the wrong place (what has to be believed, lemmas, and the words of private functions stand in modules apart), or
@@ -23,21 +23,22 @@ from pathlib import Path
 CRATES = ["netlink_core", "attribute_lists", "sock_diag_values", "sock_diag_records", "sock_diag_attributes",
     "sock_diag_replies", "netlink_packet_sock_diag", "line_server", "sock_diag_lines"]
 ROOT = Path(__file__).resolve().parent.parent / "crates"
-# The libraries beside the port, by figures of their own.
-BESIDE = ["sock_diag_families", "sock_diag_any", "sock_diag_extras", "sock_diag_filters", "sock_diag_uses",
-    "capture_tables", "sock_diag_captures", "sockdiag_c"]
+# The crates beside the port, by figures of their own.
+BESIDE = ["sock_diag_families", "sock_diag_any", "sock_diag_extras", "sock_diag_filters", "sock_diag_calls", "sock_diag_uses",
+    "capture_tables", "sock_diag_captures", "sockdiag_c", "sockdiag", "sslist"]
 # So many lines have to be believed at most.
 MOST = 900
 # Ghost members that say something: their types and their bodies are read.
 MEANING = set("""codec model type_written bytes writable held input TAKES_MEMORY attribute layout Tag Value view inverse is_clone
     is_made_with
     is_infallible from_gives bitor_gives can_next next_gives remaining table set_of attribute_set contents answer left reads failed
-    reply header_model name numbers flushed describes listed attributes Entry refuses item_is""".split())
-# Ghost members that are laws: the type that a trait declares is read, and their bodies are proofs. `eq` and `tests` are
-# among them: what `==` answers is computed there, and said in the words of contracts by `eq_is_model` and in laws.rt.
+    reply header_model name numbers flushed describes listed attributes Entry refuses item_is answers good""".split())
+# Ghost members that are laws: the type that a trait declares is read, and their bodies are proofs. `eq`, `test` and `tests`
+# are among them: what `==` answers is computed there, and said in the words of contracts by `eq_is_model`, `compared` and in
+# laws.rt; and `asks`, what a private struct keeps of a line until it is answered.
 LAWS = set("""laws fills exact eq_is_model written_is fits_is emitted_is writable_is written_as
     compared idle_reflexive idle_symmetric idle_transitive one_value equal_by_bytes idle_with_written reads_back_exactly
-    written_alike eq tests test enough keeps same written fits answers asks good""".split())
+    written_alike eq tests test enough keeps same written fits asks""".split())
 # Private functions whose clauses docs/PROMISES.md cites, a private struct whose invariant it cites, and the private trait whose
 # impls say what that one names.
 CITED = {"serve", "read_prompt", "FedDump", "Kept"}
@@ -144,6 +145,7 @@ class Module:
     def __init__(self, path, full_name):
         text = path.read_text(encoding="utf-8")
         self.name, self.items = full_name.removeprefix("Rattle."), {}
+        self.crate = self.name.split(".")[0]
         heads, item, comment = [], None, []
         for number, line in enumerate(text.splitlines(), 1):
             words, indent = line.strip(), len(line) - len(line.lstrip())
@@ -178,7 +180,7 @@ class Specs:
 
     def __init__(self):
         self.modules, self.faults = {}, []
-        folders = [ROOT / crate / folder for crate in CRATES for folder in ("specs", "proofs")]
+        folders = [ROOT / crate / folder for crate in CRATES + BESIDE for folder in ("specs", "proofs")]
         for path in (path for folder in folders for path in sorted(folder.glob("*.antt"))):
             name = f"Rattle.{path.parent.parent.name}.{path.parent.name}.{path.stem}"
             self.modules[name] = Module(path, name)
@@ -190,7 +192,7 @@ class Specs:
         if target in self.modules:
             item = self.modules[target].things.get(name or "".join(rest[:1]))
             return (self.modules[target], item) if item else False
-        ours = re.match(rf"Rattle\.({'|'.join(CRATES)})\.(specs\.(?!declared|contracts)|proofs\.\w+$)", target)
+        ours = re.match(rf"Rattle\.({'|'.join(CRATES + BESIDE)})\.(specs\.(?!declared|contracts)|proofs\.\w+$)", target)
         return None if target and not ours else False
 
     def is_constructor(self, path, module):
@@ -282,44 +284,43 @@ class Source:
                     yield path, names, f"{self.name}:{self.text.count(chr(10), 0, place) + 1}", promised
 
 
-def named_beside():
-    """The definitions that the crates beside the port import: their module and their name."""
-    paths = (path for end in ("rt", "antt") for path in sorted(ROOT.glob(f"*/s*/**/*.{end}")))
-    texts = [path.read_text(encoding="utf-8") for path in paths if path.relative_to(ROOT).parts[0] not in CRATES]
-    return {found for text in texts for found in imports(text).values()}
-
-
 def odd_things(specs, counted):
     """Sentences on what stands in the wrong place: a definition that no promise reaches, one that a promise reaches among
-    lemmas or steps, and a lemma among definitions."""
-    beside = named_beside()
+    lemmas or steps, and a lemma among definitions. In the crates beside the port words of private functions may stand among
+    others."""
     for full_name, module in specs.modules.items():
         if ".specs." not in full_name or full_name in OF_TESTS:
             continue
         apart = full_name.endswith((LEMMAS, STEPS, INVERSE))
+        read = counted if module.crate in CRATES else {"promise", "private"}
         for name, item in module.items.items():
             if item.is_lemma and not full_name.endswith(LEMMAS):
                 yield f"{module.name}: {name} is a lemma among definitions."
             if item.is_definition and apart and item.reached == "promise":
                 yield f"{module.name}: {name} is reached by a promise, and stands among what need not be believed."
-            if item.is_definition and not apart and item.reached not in counted and (full_name, name) not in beside:
+            if item.is_definition and not apart and item.reached not in read:
                 yield f"{module.name}: {name} is reached by no promise."
 
 
+def lines_of(crate, sizes):
+    """How many lines are reached in a crate's specs/."""
+    return sum(lines for name, lines in sizes.items() if name.split(".")[0] == crate)
+
+
 def print_all(specs, counted, sizes):
-    """What is reached, by crate and module, and how many lines it has."""
-    for module in specs.modules.values():
+    """What is reached in the port's crates, by crate and module, and how many lines it has."""
+    for module in (module for module in specs.modules.values() if module.crate in CRATES):
         for item in (item for item in module.items.values() if item.reached in counted):
             print(f"{module.name}: {item.kind == 'module' and 'module ' or ''}{item.name}, {len(item.lines)}, {item.comment}")
-    print(*(f"{name}: {lines} lines" for name, lines in sizes.items() if lines), sep="\n")
-    of_crates = [sum(lines for name, lines in sizes.items() if name.startswith(crate + ".")) for crate in CRATES]
-    print(*(f"{crate}: {lines} lines" for crate, lines in zip(CRATES, of_crates)), f"In all: {sum(of_crates)} lines.", sep="\n")
+    print(*(f"{name}: {lines} lines" for name, lines in sizes.items() if lines and name.split(".")[0] in CRATES), sep="\n")
+    print(*(f"{crate}: {lines_of(crate, sizes)} lines" for crate in CRATES), sep="\n")
+    print(f"In all: {sum(lines_of(crate, sizes) for crate in CRATES)} lines.")
 
 
 def reached_specs():
-    """The specs of all crates of the list, with what the roots in their sources reach."""
+    """The specs of all crates, with what the roots in their sources reach."""
     specs = Specs()
-    paths = [path for crate in CRATES for path in sorted((ROOT / crate / "src").rglob("*.rt")) if "/tests" not in path.relative_to(ROOT).as_posix()]
+    paths = [path for crate in CRATES + BESIDE for path in sorted((ROOT / crate / "src").rglob("*.rt")) if "/tests" not in path.relative_to(ROOT).as_posix()]
     private = {name for path in paths for name in re.findall(r"^\s*(?:pub\(\w+\) )?trait (\w+)", path.read_text(), re.M)}
     roots = [root for path in paths for root in Source(path, private).roots(specs.faults)]
     for path, names, where, promised in sorted(roots, key=lambda root: not root[3]):
@@ -329,28 +330,20 @@ def reached_specs():
 
 def main():
     flags = set(sys.argv[1:])
-    if "--beside" in flags:
-        CRATES.extend(BESIDE)
     specs = reached_specs()
-    if "--beside" in flags:
-        for crate in BESIDE:
-            modules = (module for module in specs.modules.values() if module.name.startswith(crate + "."))
-            print(f"{crate}: {sum(module.lines(lambda item: item.reached == 'promise') for module in modules)} lines")
-        odd = [one for one in odd_things(specs, {"promise", "private"}) if one.startswith(tuple(BESIDE))]
-        print(*specs.faults, *odd, sep="\n", end="\n" * bool(specs.faults or odd), file=sys.stderr)
-        return int(bool(specs.faults or odd))
     counted = {"promise", "private"} if "--private" in flags else {"promise"}
     sizes = {module.name: module.lines(lambda item: item.reached in counted) for module in specs.modules.values()}
     odd = list(odd_things(specs, counted))
-    in_all = sum(lines for name, lines in sizes.items() if name.split(".")[0] in CRATES)
+    in_all = sum(lines_of(crate, sizes) for crate in CRATES)
     if in_all > MOST and "--private" not in flags:
         odd.append(f"{in_all} lines have to be believed, more than {MOST}.")
-    if "--lines" in flags:
+    if "--beside" in flags:
+        print(*(f"{crate}: {lines_of(crate, sizes)} lines" for crate in BESIDE), sep="\n")
+    elif "--lines" in flags:
         print(*(f"{lines:5} {name}" for name, lines in sorted(sizes.items(), key=lambda pair: -pair[1]) if lines), sep="\n")
     else:
         print_all(specs, counted, sizes)
-        print(*odd, sep="\n", end="\n" * bool(odd))
-    print(*specs.faults, sep="\n", end="\n" * bool(specs.faults), file=sys.stderr)
+    print(*odd, *specs.faults, sep="\n", end="\n" * bool(odd or specs.faults), file=sys.stderr)
     return int(bool(specs.faults or odd))
 
 

@@ -35,7 +35,7 @@ HasFittingValue a = length a.value ≤ 65531
 
 -- each has such a length word, and all their bytes are at most this many
 abbrev pub AreWritable : List Attribute → ℕ → Type 0
-AreWritable attributes limit = AllByRecursion HasFittingValue attributes × (length (flat_map written attributes) ≤ limit)
+AreWritable all limit = AllByRecursion HasFittingValue all × (length (flat_map written all) ≤ limit)
 
 -- the bytes begin with the attribute
 abbrev pub HasPrefix : List ℕ → Attribute → Type 0
@@ -75,7 +75,7 @@ module _ {A : Type 0} (reads : Attribute → Result A DecodeError) where
 
   -- the first fault that applies at the start of the bytes
   abbrev pub IsPrefixFault : List ℕ → DecodeError → Type 0
-  IsPrefixFault bytes e = IsFramingFault bytes e ⊎ ((a : Attribute) × HasPrefix bytes a × (reads a ≡ Err e))
+  IsPrefixFault b e = IsFramingFault b e ⊎ ((a : Attribute) × HasPrefix b a × (reads a ≡ Err e))
 
   -- the first fault stands behind attributes that can be read
   abbrev pub AttributeFault : List ℕ → DecodeError → Type 0

@@ -54,8 +54,8 @@ IsInRangeBy (spec ∷ others) (inr v) = IsInRangeBy others v
 -- number of none
 abbrev pub IsNormalBy : (F : AttributeSet) → AttributeValue F → Type 0
 IsNormalBy [] a = ⊤
-IsNormalBy (spec ∷ others) (inl x) = spec.value.is_normal tt x
-IsNormalBy (spec ∷ others) (inr v) = (attribute_type (encodes others v) ≢ spec.number) × IsNormalBy others v
+IsNormalBy (spec ∷ F) (inl x) = spec.value.is_normal tt x
+IsNormalBy (spec ∷ F) (inr v) = (attribute_type (encodes F v) ≢ spec.number) × IsNormalBy F v
 
 -- it is kept without memory: a value of a type in the set whose values are
 abbrev pub IsSpareBy : (F : AttributeSet) → AttributeValue F → Type 0

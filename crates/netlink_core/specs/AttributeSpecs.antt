@@ -28,5 +28,5 @@ exact_value {A} reads bytes is_in_range is_normal = record {
 
 -- a type of numbers of exactly so many bytes; the fault of another length has the type
 abbrev pub number_spec : ℕ → ℕ → AttributeSpec
-number_spec k width =
-    spec k (exact_value (exact_number (Some k) width) (little_bytes width) (λ n. n < 256 ^ width) (λ n. ⊤))
+number_spec k w =
+    spec k (exact_value (exact_number (Some k) w) (little_bytes w) (λ n. n < 256 ^ w) (λ n. ⊤))

@@ -9,8 +9,8 @@ use Rattle.netlink_core.specs.declared.fault.DecodeError.TheVariants.{WrongLengt
 -- the number in exactly so many bytes, the low byte first; the fault of another length has a type,
 -- where there is one
 abbrev pub exact_number : Option ℕ → ℕ → List ℕ → Result ℕ DecodeError
-exact_number kind width b =
-    if length b == width then Ok (little_number width b) else Err (WrongLength kind (length b) width)
+exact_number k width b =
+    if length b == width then Ok (little_number width b) else Err (WrongLength k (length b) width)
 
 -- the bytes without a zero at their end, of which at most one is taken off
 abbrev pub without_end_zero : List ℕ → List ℕ

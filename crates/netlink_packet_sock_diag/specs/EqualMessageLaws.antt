@@ -13,7 +13,7 @@ use Rattle.sock_diag_records.specs.contracts.unix.response.UnixResponseHeaderExa
 use Rattle.netlink_packet_sock_diag.specs.declared.message.SockDiagMessage.{SockDiagMessage}
 use Rattle.netlink_packet_sock_diag.specs.declared.message.SockDiagMessage.TheVariants as message
 use Rattle.netlink_packet_sock_diag.specs.contracts.message.SockDiagMessagePartialEq.TheImpl.{ghosts}
-use Rattle.netlink_packet_sock_diag.specs.Message.{codec_of, Message, message_of, of_message}
+use Rattle.netlink_packet_sock_diag.specs.Message.{codec_of, Message, message_of, by_kind}
 use Rattle.sock_diag_records.specs.ResponseKind.{MessageKind, inet_request, inet_response}
 use Rattle.sock_diag_records.specs.ResponseKind.{unix_request, unix_response}
 use Rattle.netlink_packet_sock_diag.specs.MessageModel.{message_model}
@@ -60,7 +60,7 @@ message_equal (message.UnixRequest a) (message.UnixRequest x) =
 message_equal (message.UnixResponse a) (message.UnixResponse x) =
     by_held unix_response _ _ _
     (responses_equal (λ h. h) unix.nla_model exact_unix.0 same_unix a.value x.value)
-message_equal v w = apart (λ e. let kinds = ap (of_message (λ kind v. kind)) e in cc)
+message_equal v w = apart (λ e. let kinds = ap (by_kind (λ kind v. kind)) e in cc)
 
 -- and so are messages that are read in place
 pub view_equal : (v w : SockDiagView) → IsTrue (views.eq v w)
@@ -69,4 +69,4 @@ view_equal (view.InetResponse a) (view.InetResponse x) =
     by_held inet_response _ _ _ (inet_test_decides (view_model a) (view_model x))
 view_equal (view.UnixResponse a) (view.UnixResponse x) =
     by_held unix_response _ _ _ (unix_test_decides (view_model a) (view_model x))
-view_equal v w = apart (λ e. let kinds = ap (of_message (λ kind v. kind)) e in cc)
+view_equal v w = apart (λ e. let kinds = ap (by_kind (λ kind v. kind)) e in cc)

@@ -22,16 +22,16 @@ pub data Message : Type 0 where
   message_of : (kind : MessageKind) → (codec_of kind).Value → Message
 
 -- what is told by a message's kind and by what it holds
-abbrev pub of_message {ℓ} : {T : Type ℓ} → ((kind : MessageKind) → (codec_of kind).Value → T) → Message → T
-of_message tells (message_of kind v) = tells kind v
+abbrev pub by_kind {ℓ} : {T : Type ℓ} → ((k : MessageKind) → (codec_of k).Value → T) → Message → T
+by_kind tells (message_of kind v) = tells kind v
 
 -- a message under the type of its header, of 16 bits
 abbrev pub message_codec : Codec ℕ
 message_codec = record {
   Value = Message;
-  is_in_range = of_message (λ kind v. (codec_of kind).is_in_range v);
+  is_in_range = by_kind (λ k v. (codec_of k).is_in_range v);
   -- it is of the kind of reply that the bytes are under the type, and so read
-  reads = λ b t m. of_message (λ kind v. (response_kind b t ≡ Ok kind) × (codec_of kind).reads b tt v) m;
+  reads = λ b t m. by_kind (λ k v. (response_kind b t ≡ Ok k) × (codec_of k).reads b tt v) m;
   -- the bytes are no reply, or the reply of their kind is refused
   refuses = λ b t e. (response_kind b t ≡ Err e)
       ⊎ ((kind : MessageKind) × (response_kind b t ≡ Ok kind) × (codec_of kind).refuses b tt e);
@@ -40,9 +40,9 @@ message_codec = record {
   idle = λ t b c. (kind : MessageKind) × (response_kind b t ≡ Ok kind)
       × (response_kind c t ≡ Ok kind) × (codec_of kind).idle tt b c;
   -- a reply in normal form, under the type 20
-  is_normal = λ t m. of_message (λ kind v. (t ≡ 20) × ((kind ≡ inet_response) ⊎ (kind ≡ unix_response))
-      × (codec_of kind).is_normal tt v) m;
-  written = of_message (λ kind v. (codec_of kind).written v);
+  is_normal = λ t m. by_kind (λ k v. (t ≡ 20) × ((k ≡ inet_response) ⊎ (k ≡ unix_response))
+      × (codec_of k).is_normal tt v) m;
+  written = by_kind (λ k v. (codec_of k).written v);
   -- what it holds has room for its lengths; a request has in any case
-  fits = of_message (λ kind v. (codec_of kind).fits v);
+  fits = by_kind (λ k v. (codec_of k).fits v);
 }

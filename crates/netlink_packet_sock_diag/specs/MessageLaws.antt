@@ -23,7 +23,7 @@ use Rattle.sock_diag_replies.specs.InetResponseSpec.{inet_response_spec}
 use Rattle.sock_diag_replies.specs.UnixResponseSpec.{unix_response_spec}
 use Rattle.sock_diag_replies.specs.InetResponseSpecLaws.{inet_response_laws}
 use Rattle.sock_diag_replies.specs.UnixResponseSpecLaws.{unix_response_laws}
-use Rattle.netlink_packet_sock_diag.specs.Message.{codec_of, Message, message_of, of_message}
+use Rattle.netlink_packet_sock_diag.specs.Message.{codec_of, Message, message_of, by_kind}
 use Rattle.netlink_packet_sock_diag.specs.Message.{message_codec}
 use Rattle.sock_diag_records.specs.ResponseKind.{MessageKind, inet_request, inet_response}
 use Rattle.sock_diag_records.specs.ResponseKind.{unix_request, unix_response, response_kind}
@@ -67,8 +67,8 @@ response_kinds b t found h = rw (← h) (grind (arith, nat_tests, eqb-true))
 
 -- what is read is a reply, under the type 20
 pub read_reply : (b : List ℕ) (t : ℕ) (m : Message) → message_codec.reads b t m
-    → (t ≡ 20) × ((of_message (λ kind v. kind) m ≡ inet_response)
-    ⊎ (of_message (λ kind v. kind) m ≡ unix_response))
+    → (t ≡ 20) × ((by_kind (λ kind v. kind) m ≡ inet_response)
+    ⊎ (by_kind (λ kind v. kind) m ≡ unix_response))
 read_reply b t (message_of kind v) r = response_kinds b t (Ok kind) r.0
 
 -- ---- one message or one fault
@@ -149,7 +149,7 @@ kind_of_versions family versions h =
 
 -- a message in normal form is written as a reply of its kind
 kind_written : (t : ℕ) (m : Message) → message_codec.is_normal t m
-    → response_kind (message_codec.written m) t ≡ Ok (of_message (λ kind v. kind) m)
+    → response_kind (message_codec.written m) t ≡ Ok (by_kind (λ kind v. kind) m)
 unfolding inet_response_header
 kind_written t (message_of inet_response v) (is, reply, normal) =
     grind (

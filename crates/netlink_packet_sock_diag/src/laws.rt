@@ -37,7 +37,7 @@ ghost use Rattle.sock_diag_replies.specs.InetResponseSpec.{inet_response_spec};
 ghost use Rattle.sock_diag_replies.specs.ViewModel.{view_model};
 ghost use Rattle.netlink_packet_sock_diag.specs.MessageViewModel.{message_view_model};
 ghost use Rattle.netlink_packet_sock_diag.specs.Lossy.{EntryIs};
-ghost use Rattle.netlink_packet_sock_diag.specs.Message.{Message, message_codec, of_message};
+ghost use Rattle.netlink_packet_sock_diag.specs.Message.{Message, message_codec, by_kind};
 ghost use Rattle.sock_diag_records.specs.ResponseKind.{MessageKind, inet_request, inet_response};
 ghost use Rattle.sock_diag_records.specs.ResponseKind.{unix_request, unix_response};
 
@@ -62,15 +62,15 @@ pub fn reply_lengths_are_multiples_of_four()
 /// Exactly one of four tests, each for one kind, is true of a message.
 pub fn one_kind()
     ensures { (m : Message) (tests : MessageKind → Bool)
-        → ((kind : MessageKind) → IsTrue (tests kind) ↔ (of_message (λ kind v. kind) m ≡ kind))
+        → ((kind : MessageKind) → IsTrue (tests kind) ↔ (by_kind (λ kind v. kind) m ≡ kind))
         → count_by tests (inet_request ∷ inet_response ∷ unix_request ∷ unix_response ∷ []) ≡ 1 }
 {}
 
 /// A message that was read is a reply.
 pub fn read_messages_are_replies()
     ensures { (b : List ℕ) (t : ℕ) (m : Message) → message_codec.reads b t m
-        → (of_message (λ kind v. kind) m ≡ inet_response)
-        ⊎ (of_message (λ kind v. kind) m ≡ unix_response) }
+        → (by_kind (λ kind v. kind) m ≡ inet_response)
+        ⊎ (by_kind (λ kind v. kind) m ≡ unix_response) }
 {}
 
 /// A request to close sockets is written under the type 21, `SOCK_DESTROY`, and a message under 20,

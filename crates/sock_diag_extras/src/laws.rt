@@ -1,16 +1,16 @@
 //! Laws of what is read leniently, and of the fields of `struct tcp_info`. The functions do
 //! nothing: their contracts are the laws.
 
-ghost use Rattle.std.specs.Prelude.{◌≡◌, List, Result, Ok, IsTrue, map};
+ghost use Rattle.std.specs.Prelude.{◌≡◌, List, [], ◌∷◌, ◌++◌, Result, Ok, map};
 ghost use Rattle.std.specs.Iterator.{Drains};
 ghost use Rattle.netlink_core.specs.Attribute.{AttributesMean};
 ghost use Rattle.netlink_core.specs.AttributeSet.{decodes};
-ghost use Rattle.netlink_core.specs.SoundLaws.{is_table};
 ghost use Rattle.netlink_core.specs.Walk.{bytes_left};
 ghost use Rattle.attribute_lists.specs.AttributesIn.{HasNoFault, values_in};
 ghost use Rattle.sock_diag_values.specs.TcpInfo.{tcp_info};
 ghost use Rattle.sock_diag_extras.specs.Lenient.{GivesLeniently, ItemsAre, model};
-ghost use Rattle.sock_diag_extras.specs.TcpFields.{first_fields, later_fields, row_of};
+ghost use Rattle.sock_diag_extras.specs.TcpFields.{first_fields, later_fields};
+ghost use Rattle.sock_diag_extras.specs.TcpFields.{end_of, row_of, span_of};
 ghost use Rattle.sock_diag_extras.specs.declared.lenient.LenientNlas.{LenientNlas};
 ghost use Rattle.sock_diag_extras.specs.declared.lenient.Refused.{Refused};
 
@@ -42,5 +42,6 @@ pub fn lenient_walk_of_good_bytes<'a, V: FamilyView<'a>>()
 /// after the other, up to byte 280.
 pub fn tcp_fields_are_rows()
     ensures first { map row_of first_fields ≡ tcp_info.table tt }
-    ensures later { IsTrue (is_table 232 (map row_of later_fields) 280) }
+    ensures later { map (λ f. (span_of f).0) later_fields ++ 280 ∷ []
+        ≡ 232 ∷ map end_of later_fields }
 {}

@@ -6,6 +6,7 @@ pub mod UnixRequestLaws
 pub mod IpVersions
 pub mod SocketIdInverse
 pub mod SocketId
+pub mod SocketIdSteps
 pub mod SocketIdLaws
 pub mod UnixResponseHeaderInverse
 pub mod UnixResponseHeader

@@ -1,10 +1,7 @@
 -- The record of a socket's identity: 48 bytes. An address has 16 bytes: an IPv4 address stands in
 -- the first four, an IPv6 address in all, as eight segments, high byte first.
 use Rattle.std.specs.Prelude.{◌≡◌, ℕ, ◌+◌, List, [], ◌∷◌, ◌++◌, length, replicate, Ok}
-use Rattle.std.specs.List.{flat_map}
-use Rattle.byteorder.specs.Endian.{big_bytes}
 use Rattle.std.specs.declared.net.ip_addr.IpAddr.{IpAddr}
-use Rattle.std.specs.declared.net.ip_addr.IpAddr.TheVariants.{V4, V6}
 use Rattle.netlink_core.specs.Table.{Field, unread, bytes_at}
 use Rattle.netlink_core.specs.Table.{first}
 use Rattle.netlink_core.specs.Layout.{Layout}
@@ -24,11 +21,6 @@ address_fields offset ipv6 = row network offset 2 8
 -- the values of an address in its fields
 abbrev pub address_values : IpAddr → List ℕ
 address_values address = first (address_data address).1 (address_data address).2
-
--- four octets and twelve zeros, or eight segments
-abbrev pub address_bytes : IpAddr → List ℕ
-address_bytes (V4 ip) = first 4 ip.octets ++ replicate 12 0
-address_bytes (V6 ip) = flat_map (big_bytes 2) (first 8 ip.segments)
 
 -- ---- the record
 

@@ -13,7 +13,8 @@ use Rattle.netlink_core.specs.Table.{first, Fit}
 use Rattle.netlink_core.specs.SoundLaws.{IsSound, IsFixed}
 use Rattle.netlink_core.specs.Layout.{IsInRange, bytes}
 use Rattle.sock_diag_records.specs.declared.inet.socket_id.SocketId.{SocketId}
-use Rattle.sock_diag_records.specs.SocketId.{address_values, address_bytes}
+use Rattle.sock_diag_records.specs.SocketId.{address_values}
+use Rattle.sock_diag_records.specs.SocketIdSteps.{address_bytes}
 use Rattle.sock_diag_records.specs.SocketId.{socket_id_fields, socket_id_values, socket_id}
 use Rattle.sock_diag_records.specs.SocketId.{IsAddress}
 use Rattle.sock_diag_records.specs.SocketId.{IsShaped}

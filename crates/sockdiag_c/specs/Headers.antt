@@ -1,9 +1,12 @@
 -- What C is told of the headers of replies.
-use Rattle.std.specs.Prelude.{map, slice_index}
+use Rattle.std.specs.Prelude.{ℕ, List, map, slice_index}
+use Rattle.std.specs.declared.net.ip_addr.IpAddr.{IpAddr}
+use Rattle.netlink_core.specs.Table.{bytes_of}
 use Rattle.sock_diag_records.specs.declared.inet.response.InetResponseHeader.{InetResponseHeader}
 use Rattle.sock_diag_records.specs.declared.unix.response.UnixResponseHeader.{UnixResponseHeader}
 use Rattle.sock_diag_records.specs.Timer.{timer_data, milliseconds}
-use Rattle.sock_diag_records.specs.SocketId.{address_bytes}
+use Rattle.sock_diag_records.specs.IpVersions.{address_data}
+use Rattle.sock_diag_records.specs.SocketId.{address_fields, address_values}
 use Rattle.netlink_packet_sock_diag.specs.Message.{Message, message_of}
 use Rattle.sock_diag_records.specs.ResponseKind.{inet_request, inet_response, unix_request}
 use Rattle.sock_diag_records.specs.ResponseKind.{unix_response}
@@ -14,6 +17,10 @@ use Rattle.sockdiag_c.specs.declared.headers.UnixHeader.{UnixHeader}
 -- each field by its name
 abbrev pub unix_header_of : UnixResponseHeader → UnixHeader
 unix_header_of h = record { kind = h.kind; state = h.state; inode = h.inode; cookie = h.cookie }
+
+-- the sixteen bytes of an address in a socket's identity
+abbrev pub address_bytes : IpAddr → List ℕ
+address_bytes ip = bytes_of (address_fields 0 (address_data ip).0) (address_values ip)
 
 -- each field by its name; of the timer its byte, and its count and its milliseconds or else zeros;
 -- of an address its octets, and zeros behind four of them

@@ -2,8 +2,7 @@
 
 ghost use Rattle.std.specs.Prelude.{◌≡◌, map, slice_index};
 ghost use Rattle.sock_diag_records.specs.Timer.{timer_data, milliseconds};
-ghost use Rattle.sock_diag_records.specs.SocketId.{address_bytes};
-ghost use Rattle.sockdiag_c.specs.Headers.{inet_header_of, unix_header_of};
+ghost use Rattle.sockdiag_c.specs.Headers.{address_bytes, inet_header_of, unix_header_of};
 
 use byteorder::{BigEndian, ByteOrder};
 use netlink_packet_sock_diag::inet::{InetResponseHeader, SocketId, Timer};
