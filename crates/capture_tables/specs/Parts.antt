@@ -33,7 +33,8 @@ abbrev pub memory_part : List ℕ → Option ℕ → List ℕ
 memory_part word None = []
 memory_part word (Some n) = 44 ∷ word ++ decimal n
 
--- the directions that are not shut down: the bit 1 is for what is received, and 2 for what is sent
+-- `<`, `-` and `>`, but `-` for `<` where receiving is shut down (mask 1), and for `>` where
+-- sending is (mask 2)
 abbrev pub directions : ℕ → List ℕ
 directions state =
     32 ∷ (if bit_and state 1 == 0 then 60 else 45) ∷ 45
@@ -53,14 +54,14 @@ timer_name class =
     else if class == 3 then codes "timewait" else if class == 4 then codes "persist"
     else codes "unknown"
 
--- the timer that runs, the time until it ends, in milliseconds, and how often was sent again
+-- the timer that runs, the time until it ends, in milliseconds, and how often it was sent again
 abbrev pub timer_text : TimerWords → List ℕ
 timer_text t =
     if t.class == 0 then []
     else codes " timer:(" ++ timer_name t.class ++ 44 ∷ decimal t.expires ++ codes "ms,"
     ++ decimal t.retransmits ++ 41 ∷ []
 
--- a socket without one
+-- the words of a socket that runs no timer
 abbrev pub no_timer : TimerWords
 no_timer = record { class = 0; retransmits = 0; expires = 0 }
 
@@ -73,11 +74,11 @@ abbrev pub cookie_if_asked : Options → List ℕ → List ℕ
 cookie_if_asked o cookie =
     if shows o Extended then codes " sk:" ++ digits 16 false (little_number 8 cookie) else []
 
--- a line of its own behind a tab, or the same line where one is asked for
+-- a line feed, 10, and a tab, 9, or nothing where one line is asked for
 abbrev pub separator : Options → List ℕ
 separator o = if o.one_line then [] else 10 ∷ 9 ∷ []
 
--- what is told stands apart, and nothing where nothing is told
+-- what is told, behind the separator; nothing where nothing is told
 abbrev pub set_apart : Options → List ℕ → List ℕ
 set_apart o [] = []
 set_apart o (c ∷ told) = separator o ++ c ∷ told

@@ -23,7 +23,7 @@ const SHUT_SENDING: u8 = 2;
 pub struct TimerWords {
     /// Which timer, `idiag_timer` of sock_diag(7), 0 for none.
     pub class: u8,
-    /// How often was sent again, `idiag_retrans`.
+    /// How often it was sent again, `idiag_retrans`.
     pub retransmits: u8,
     /// The time until it ends, `idiag_expires`, in milliseconds.
     pub expires: u32,
@@ -57,7 +57,7 @@ pub fn push_shown_timer(
     push_timer(text, timer)
 }
 
-/// Adds the timer that runs, the time until it ends, and how often was sent again.
+/// Adds the timer that runs, the time until it ends, and how often it was sent again.
 fn push_timer(text: &mut Vec<u8>, timer: &TimerWords) -> Result<(), AllocError>
     ensures { OnOk result (text.new.items ≡ text.old.items ++ timer_text timer.now) }
 {

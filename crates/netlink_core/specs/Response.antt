@@ -9,13 +9,13 @@ use Rattle.netlink_core.specs.AttributeSet.{IsInRangeBy, IsNormalBy}
 use Rattle.netlink_core.specs.AttributeSet.{IsSpareBy, AreIdleAttributes}
 use Rattle.netlink_core.specs.Codec.{Codec}
 
--- a header, the number of its bytes, and the set of the attributes behind it
+-- how a header is read and written, how many bytes it has, and the set of the attributes behind it
 pub record ResponseSpec : Type 1 where
   pub header : ValueCodec (Unit {0})
   pub size : ℕ
   pub attribute_set : AttributeSet
 
--- a reply without where it lies in memory
+-- the value of a reply: that of its header, and one for each attribute
 pub record ResponseValue (H V : Type 0) : Type 0 where
   pub header : H
   pub nlas : List V
@@ -29,7 +29,7 @@ abbrev pub response_bytes : (R : ResponseSpec) → ValueOf R → List ℕ
 response_bytes R v = R.header.bytes v.header
     ++ flat_map written (map (encodes R.attribute_set) v.nlas)
 
--- a reply
+-- how a reply is read and written
 abbrev pub response_codec : ResponseSpec → Codec (Unit {0})
 response_codec R = record {
   Value = ValueOf R;
@@ -42,7 +42,7 @@ response_codec R = record {
       ⊎ ((h : R.header.Value) × (R.header.reads p b ≡ Ok h) × AttributeFault (decodes R.attribute_set) (drop R.size b) e);
   -- at most eight attributes, each of them kept without memory
   is_spare = λ v. (length v.nlas ≤ 8) × AllByRecursion (IsSpareBy R.attribute_set) v.nlas;
-  -- the headers are idle, and both are cut into as many attributes, which are idle at each place
+  -- the headers are idle, and what is behind both is cut into as many attributes, idle in pairs
   idle = λ p b c. R.header.idle p b c × (left right : List Attribute)
       × Cut (drop R.size b) left [] × Cut (drop R.size c) right []
       × AllZip (AreIdleAttributes R.attribute_set) left right;

@@ -16,9 +16,8 @@ use std::alloc::Global;
 use std::io::{Read, Write};
 
 /// Writes the table of a capture: a heading, and the lines of each packet before the next one is
-/// read. What is told of packets goes to `errors`, each line behind `front`, and where that can't
-/// be written it is dropped.
-/// It answers whether each packet was listed whole.
+/// read. What is told of packets goes to `errors`, where each line begins with `front`; what can't
+/// be written there is dropped. It answers whether each packet was listed whole.
 pub fn run<R: Read, W: Write, E: Write>(
     alloc: Global,
     options: Options,
@@ -38,7 +37,7 @@ pub fn run<R: Read, W: Write, E: Write>(
     write_table(alloc, options, front, input, output, errors)
 }
 
-/// `run`, which knows which calls failed.
+/// What `run` does, for a reader and a writer that say which calls failed.
 fn write_table<R: Source, W: Sink, E: Write>(
     alloc: Global,
     options: Options,

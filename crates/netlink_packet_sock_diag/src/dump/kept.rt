@@ -18,8 +18,8 @@ use std::alloc::Global;
 
 /// What a dump keeps of a message of the protocol.
 pub(crate) trait Kept: Drop + Sized {
-    // What is kept of a payload under the header's type, which ones are refused, what a message is
-    // in a dump, and the model of a value.
+    // By the header's type, what is kept of a payload, and with which fault one is refused; which
+    // item of a dump a message is; and the model of what is kept.
     ghost Entry: { Type 0 };
 
     ghost reads: { List ℕ → ℕ → Entry → Type 0 };
@@ -37,11 +37,11 @@ pub(crate) trait Kept: Drop + Sized {
             (λ m. Self.reads payload.now header.now.message_type (Self.model m)) }
         ensures fault { IfErr result (λ e. e ≢ Memory
             → Self.refuses payload.now header.now.message_type e) }
-        // Memory is wanted only for a payload of which something is kept.
+        // Memory runs out only over a payload of which something would be kept.
         ensures wanted { IfErr result (λ e. e ≡ Memory → (m : Self.Entry)
             × Self.reads payload.now header.now.message_type m) };
 
-    // A message is told by its payload.
+    // Which item a message is follows from what its payload is read as, or from its fault.
     ghost laws: { KeepsItems reads refuses item_is };
 }
 
@@ -64,7 +64,7 @@ impl Kept for SockDiagMessage {
     ghost laws = { keeps_messages message_codec message_laws };
 }
 
-/// The message, or its fault; want of memory alone ends the dump.
+/// The message, or its fault: `take` fails only where memory runs out.
 impl Kept for Result<SockDiagMessage, DecodeError> {
     ghost Entry = { result Message Fault };
 
