@@ -31,7 +31,7 @@ MOST = 900
 # Ghost members that say something: their types and their bodies are read.
 MEANING = set("""codec model type_written bytes writable held input TAKES_MEMORY attribute layout Tag Value view inverse is_clone
     is_made_with
-    is_infallible from_gives bitor_gives can_next next_gives remaining table set_of attribute_set contents answer left reads failed
+    is_infallible from_gives bitor_gives can_next next_gives remaining table set_of attribute_set contents answer left reads failed is_in_range
     reply header_model name numbers flushed describes listed attributes Entry refuses item_is answers good""".split())
 # Ghost members that are laws: the type that a trait declares is read, and their bodies are proofs. `eq`, `test` and `tests`
 # are among them: what `==` answers is computed there, and said in the words of contracts by `eq_is_model`, `compared` and in
@@ -47,6 +47,12 @@ LEMMAS, STEPS = "Laws", "Steps"
 # One with this ending holds the inverse of a layout's `values`. A layout alone may lead there, and the way ends: the law
 # `read_where_it_stands` says what is read without it.
 INVERSE = "Inverse"
+# Definitions that a law determines, and the function whose contract is that law: whoever believes the law need not read
+# what they compute. Their types are read, and the way ends.
+DETERMINED = {
+    "attribute_lists.specs.AttributesIn: values_in": "attribute_lists::laws::found_values_are_the_attributes",
+    "netlink_core.specs.AttributeSet: content": "netlink_core::laws::content_is_of_its_type",
+}
 # Definitions of the tests.
 OF_TESTS = set()
 # Words of the language, and what needs no import.
@@ -126,11 +132,11 @@ class Item:
         self.is_layout = answer.startswith("Layout ")
         self.is_definition = self.kind != "module" and not self.is_lemma
 
-    def names(self, is_constructor):
-        """The names that its head, its fields and its equations hold."""
+    def names(self, is_constructor, equations=True):
+        """The names that its head, its fields and, unless they are left out, its equations hold."""
         outer = {name for head in self.heads for name in head.bound} | {self.name}
         found = names_in(self.head, outer if self.equations else outer | self.bound | set(self.parts))
-        for equation in self.equations:
+        for equation in self.equations if equations else []:
             place = next(at_depth_zero(equation, "="))
             pattern = [token for token, is_path in tokens_of(equation[:place]) if is_path]
             found += filter(is_constructor, pattern)
@@ -217,9 +223,22 @@ class Specs:
         for one in [item, *item.heads]:
             if not one.reached:
                 one.reached = by
-                for name in one.names(lambda name: self.is_constructor(name, module)):
+                is_read = by == "law" or f"{module.name}: {one.name}" not in DETERMINED
+                for name in one.names(lambda name: self.is_constructor(name, module), is_read):
                     if not (one.is_layout and self.is_inverse(name, module)):
                         self.reach(name, module.names, f"{module.name}: {one.name}", by)
+
+    def reach_determined(self):
+        """Marks what the equations of the determined definitions hold, and no promise reaches otherwise. The laws have to
+        be public functions."""
+        for full_name, law in DETERMINED.items():
+            crate, *inner, name = law.split("::")
+            source = ROOT / crate / "src" / f"{'/'.join(inner)}.rt"
+            if not re.search(rf"^pub fn {name}\b", source.read_text(encoding="utf-8"), re.M):
+                self.faults.append(f"{law} is no public function.")
+            module, item = (self.modules[f"Rattle.{full_name.split(':')[0]}"], full_name.split(": ")[1])
+            for name in module.items[item].names(lambda name: self.is_constructor(name, module)):
+                self.reach(name, module.names, full_name, "law")
 
 
 class Source:
@@ -298,7 +317,7 @@ def odd_things(specs, counted):
                 yield f"{module.name}: {name} is a lemma among definitions."
             if item.is_definition and apart and item.reached == "promise":
                 yield f"{module.name}: {name} is reached by a promise, and stands among what need not be believed."
-            if item.is_definition and not apart and item.reached not in read:
+            if item.is_definition and not apart and item.reached not in read | {"law"}:
                 yield f"{module.name}: {name} is reached by no promise."
 
 
@@ -325,6 +344,7 @@ def reached_specs():
     roots = [root for path in paths for root in Source(path, private).roots(specs.faults)]
     for path, names, where, promised in sorted(roots, key=lambda root: not root[3]):
         specs.reach(path, names, where, "promise" if promised else "private")
+    specs.reach_determined()
     return specs
 
 

@@ -1,6 +1,6 @@
 -- The attributes that are found in bytes are those that the bytes are cut into.
 use Rattle.std.proofs.Common.{Result, Ok, Err, IsOk, ◌≡◌, ◌≢◌, ℕ, List, [], ◌∷◌, drop, inl, inr}
-use Rattle.std.proofs.Common.{refl, arith}
+use Rattle.std.proofs.Common.{◌↔◌, subst, refl, arith}
 use Rattle.std.proofs.lemmas.List.{append-nil}
 use Rattle.netlink_core.specs.declared.fault.DecodeError.{DecodeError}
 use Rattle.netlink_core.specs.Bytes.{IsBytes}
@@ -50,6 +50,14 @@ module _ {A : Type 0} (reads : Attribute → Result A DecodeError) where
         | inl m ↦ rw (values_are bytes m.0 m.1) m.1
         | inr f ↦ absurd (clean.none f.0 f.1)
       ]
+
+  -- and no other values
+  pub values_determined : (bytes : List ℕ) (values : List A) → IsBytes bytes → HasNoFault reads bytes
+      → (values_in reads bytes ≡ values) ↔ AttributesMean reads bytes values
+  values_determined bytes values in_range clean = (
+    λ same. subst (AttributesMean reads bytes) same (values_mean bytes in_range clean),
+    values_are bytes values,
+  )
 
   -- behind an attribute that says something there is no fault either
   pub rest_has_no_fault : (bytes rest : List ℕ) (a : Attribute) (v : A) → StartsWith bytes a rest

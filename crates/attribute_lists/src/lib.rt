@@ -3,6 +3,7 @@
 #![tactic(auto)]
 
 mod checked;
+pub mod laws;
 mod owned;
 mod views;
 

@@ -9,6 +9,7 @@ pub mod Cutting
 pub mod Stated
 pub mod Writing
 pub mod AttributeTypeLaws
+pub mod AttributeContent
 pub mod Texts
 pub mod PrefixCodecs
 pub mod Responses

@@ -1,7 +1,7 @@
 -- Sets of attributes: a list of attribute types, and what follows from it: what each attribute
 -- decodes to, which decode to the same, and what is written.
 use Rattle.std.specs.Prelude.{◌≡◌, ◌≢◌, ℕ, ◌⊎◌, ◌==◌, if◌then◌else◌, cond, Bool, true, false}
-use Rattle.std.specs.Prelude.{◌<◌, ◌^◌, List, [], ◌∷◌, Option, Some, None, Result, Ok, ⊤}
+use Rattle.std.specs.Prelude.{◌<◌, ◌^◌, List, [], ◌∷◌, map, Option, Some, None, Result, Ok, ⊤}
 use Rattle.std.proofs.Common.{inl, inr}
 use Rattle.netlink_core.specs.declared.fault.DecodeError.{DecodeError}
 use Rattle.netlink_core.specs.Attribute.{Attribute, attribute_type}
@@ -19,6 +19,10 @@ pub record AttributeSpec : Type 1 where
 -- a set: its types
 abbrev pub AttributeSet : Type 1
 AttributeSet = List AttributeSpec
+
+-- the numbers of the types
+abbrev pub numbers : AttributeSet → List ℕ
+numbers F = map (λ (spec : AttributeSpec). spec.number) F
 
 -- what an attribute decodes to: a value of one of the types, or else the attribute itself
 abbrev pub AttributeValue : AttributeSet → Type 0

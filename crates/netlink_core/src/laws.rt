@@ -1,7 +1,7 @@
 //! Laws of the framing of attributes and of messages. The functions do nothing: their contracts are
 //! the laws.
 
-ghost use Rattle.std.specs.Prelude.{◌≡◌, ◌↔◌, ◌⊎◌, ◌%◌, ◌^◌, ◌<◌, ◌++◌};
+ghost use Rattle.std.specs.Prelude.{◌≡◌, ◌≢◌, ◌↔◌, ◌⊎◌, ◌%◌, ◌^◌, ◌<◌, ◌++◌, Contains};
 ghost use Rattle.std.specs.Prelude.{ℕ, List, [], ◌∷◌, length, map};
 ghost use Rattle.std.specs.Prelude.{Option, Some, None, Result, Ok, Err, IsTrue, IfOk, IsOk, true};
 ghost use Rattle.std.specs.Prelude.{false, vec_items};
@@ -10,6 +10,8 @@ ghost use Rattle.std.specs.Iterator.{Drains, YieldsThen};
 ghost use Rattle.std.specs.List.{AllByRecursion, flat_map};
 ghost use Rattle.netlink_core.specs.Attribute.{Attribute, HasFittingValue, Cut, CutOff};
 ghost use Rattle.netlink_core.specs.Attribute.{IsFramingFault, fill, unpadded, written};
+ghost use Rattle.netlink_core.specs.AttributeSet.{AttributeValue, ValueAt, content};
+ghost use Rattle.netlink_core.specs.AttributeSet.{numbers, of_type};
 ghost use Rattle.netlink_core.specs.Layout.{read, StandsIn};
 ghost use Rattle.netlink_core.specs.Bytes.{IsBytes};
 ghost use Rattle.netlink_core.specs.Walk.{attribute_of, bytes_left, GivesAttribute};
@@ -29,6 +31,7 @@ use crate::canon::CanonError;
 use crate::codec::Readable;
 use crate::datagram::MessageStrings;
 use crate::exact::Exact;
+use crate::family::FamilyNla;
 use crate::fault::DecodeError as Fault;
 use crate::header::NetlinkHeader;
 use crate::message::{NetlinkMessage, NetlinkPayload};
@@ -89,6 +92,18 @@ pub fn attributes_take_memory() -> bool
 {
     DefaultNla::TAKES_MEMORY
 }
+
+/// Proof only: the contract states the property. For any set of attribute types, the value of a type
+/// is found under the number of its type and under no other number, and nothing is found under a
+/// number of no type.
+pub fn content_is_of_its_type<T: FamilyNla>()
+    ensures own { (k : ℕ) (x : ValueAt T.attribute_set k) → Contains (numbers T.attribute_set) k
+        → content T.attribute_set k (of_type T.attribute_set k x) ≡ Some x }
+    ensures other { (k j : ℕ) (x : ValueAt T.attribute_set k) → j ≢ k
+        → content T.attribute_set j (of_type T.attribute_set k x) ≡ None }
+    ensures none { (k : ℕ) (v : AttributeValue T.attribute_set)
+        → ¬ Contains (numbers T.attribute_set) k → content T.attribute_set k v ≡ None }
+{}
 
 /// A walk that ends without a fault gave the attributes into which the bytes are cut, and one that
 /// ends with a fault those that stand in front of it.
