@@ -65,8 +65,8 @@ pub fn own_nlas<T: FamilyNla>(
     Ok(())
 }
 
-// Puts the attribute in bytes that are accepted at the end of the list, which has room for it. What
-// is large has a branch of its own, so that the others don't carry room for it along.
+// Appends the attribute in accepted bytes to the list, which has room for it. The large kind has a
+// branch of its own, so that the other kinds reserve no stack for its value.
 #[inline(always)]
 fn push_accepted<T: FamilyNla>(
     alloc: Global,
@@ -83,7 +83,7 @@ fn push_accepted<T: FamilyNla>(
         → decodes T.attribute_set (attribute_of nla.now) ≡ Ok value
         → IsSpareBy T.attribute_set value → IsOk result }
 {
-    if T::is_large(nla) {
+    if T::LARGE_KIND == Some(nla.kind()) {
         nlas.push_reserved(T::own_accepted(alloc, nla)?);
         return Ok(());
     }

@@ -1,5 +1,5 @@
 //! Captures of netlink traffic are read, and the cells and words of a table of them are written.
-//! What the datagrams say is not looked at.
+//! The datagrams are not decoded.
 #![tactic(auto)]
 
 mod capture;

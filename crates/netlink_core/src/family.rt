@@ -37,6 +37,10 @@ pub trait FamilyView<'a>: Nla + PartialEq + Sized {
 
 /// An attribute of one family of replies, with memory of its own.
 pub trait FamilyNla: Nla + PartialEq + MadeWith<Global> + Drop + Sized {
+    /// The kind whose values are much larger than all others, if there is one. A list is built with
+    /// a branch of its own for this kind; the result does not depend on it.
+    const LARGE_KIND: Option<u16> = None;
+
     // The set of attributes, and what an attribute decodes to in it.
     ghost attribute_set: { AttributeSet };
 
@@ -50,12 +54,6 @@ pub trait FamilyNla: Nla + PartialEq + MadeWith<Global> + Drop + Sized {
         ensures spare { (value : AttributeValue attribute_set)
             → decodes attribute_set (attribute_of nla.now) ≡ Ok value
             → IsSpareBy attribute_set value → IsOk result };
-
-    /// Whether the value takes much more room than those of other kinds. It is a hint for speed.
-    #[inline(always)]
-    fn is_large(_nla: &NlaBuffer<'_>) -> bool {
-        false
-    }
 
     /// An equal attribute.
     fn copy_nla(&self, alloc: Global) -> Result<Self, AllocError>

@@ -1,7 +1,7 @@
 //! Netlink messages: a header, and what it frames.
 
 ghost use Rattle.std.specs.Prelude.{◌≡◌, ◌≢◌, ◌≤◌, ◌<◌, ◌++◌, ◌↔◌, length, drop, IfOk, IfErr};
-ghost use Rattle.std.specs.Prelude.{IsTrue, List, ℕ, vec_items};
+ghost use Rattle.std.specs.Prelude.{IsTrue, List, ℕ, vec_items, ⊤};
 ghost use Rattle.std.specs.Borrow.{Bor};
 ghost use Rattle.byteorder.specs.Endian.{little_number};
 ghost use Rattle.netlink_core.specs.declared.fault.DecodeError.TheVariants.{Memory};
@@ -14,7 +14,7 @@ use crate::fault::DecodeError;
 use crate::header::{NETLINK_HEADER_LEN, NetlinkHeader};
 use crate::wire::Coded;
 use byteorder::{ByteOrder, LittleEndian};
-use std::alloc::Global;
+use std::alloc::{AllocError, Global};
 
 /// The type of a message that says nothing, `NLMSG_NOOP` in netlink(7).
 pub const NLMSG_NOOP: u16 = 1;
@@ -74,14 +74,16 @@ pub trait NetlinkDeserializable: Coded<Param = u16> {
             (λ m. Self.codec.reads payload.now header.now.message_type (Self.model m)) }
         ensures fault { IfErr result (λ e. e ≢ Memory
             → Self.codec.refuses payload.now header.now.message_type e) }
-        // Memory is wanted only for a payload that has a message.
+        // `Memory` only if the payload has a message, and one that needs to allocate.
         ensures wanted { IfErr result (λ e. e ≡ Memory → (m : Self.codec.Value)
-            × Self.codec.reads payload.now header.now.message_type m) };
+            × Self.codec.reads payload.now header.now.message_type m
+            × ¬ Self.codec.is_spare m) };
 }
 
-/// What a message carries, by its type. One that is read in place borrows its bytes: then `B` is
-/// `&[u8]`.
-#[derive(Clone, Copy, Debug, Drop, PartialEq, Eq)]
+/// The payload of a message, by the message's type. `B` holds the bytes of a payload that is not
+/// decoded: `Vec<u8>`, or `&[u8]` in a borrowed payload. Only a borrowed payload is `Clone` and
+/// `Copy`.
+#[derive(Copy, Debug, Drop, PartialEq, Eq)]
 pub enum NetlinkPayload<I, B = Vec<u8>> {
     /// A dump ends. The bytes are kept as they came.
     Done(B),
@@ -93,6 +95,17 @@ pub enum NetlinkPayload<I, B = Vec<u8>> {
     Overrun(B),
     /// A message of the protocol.
     InnerMessage(I),
+}
+
+// By hand: a derived impl would give a payload that owns its bytes a `clone` without an allocator.
+impl<I: Copy, B: Copy> Clone for NetlinkPayload<I, B> {
+    ghost is_clone = { λ payload copy. copy ≡ payload };
+
+    ghost is_infallible = { λ _. ⊤ };
+
+    fn clone(&self) -> Result<Self, AllocError> {
+        Ok(*self)
+    }
 }
 
 /// The number that the payload of `NLMSG_ERROR` or `NLMSG_DONE` begins with: 0 for an

@@ -7,8 +7,8 @@ ghost use Rattle.netlink_core.specs.declared.fault.DecodeError.TheVariants.{Memo
 ghost use Rattle.netlink_core.specs.Codec.{record_codec, RecordLaws};
 
 use crate::{
-    Coded, DecodeError, Emitable, Exact, Parseable, ParseableParametrized, Readable, RecordName,
-    Wire,
+    Coded, DecodeError, Emitable, Exact, Parseable, ParseableParametrized, ReadParam, Readable,
+    RecordName, Wire,
 };
 use std::alloc::{AllocError, Global};
 use std::marker::{Model, PhantomData};
@@ -17,8 +17,8 @@ use std::marker::{Model, PhantomData};
 ///
 /// What follows its bytes is ignored, and fewer bytes are [`DecodeError::BufferTooSmall`].
 pub trait Record: Exact + Sized {
-    /// What the reader takes beside the bytes.
-    type Param: Copy;
+    /// What the reader takes in addition to the bytes.
+    type Param: ReadParam;
 
     ghost Tag: { Type 0 } = { Unit {0} };
 
@@ -125,6 +125,7 @@ impl<T: Record> Wire for T {
     ghost fits_is = { λ _. (λ h. h, λ h. h) };
 
     fn read(_alloc: Global, bytes: &[u8], param: T::Param) -> Result<Self, DecodeError> {
+        param.prove_in_range();
         read_record(bytes, param)
     }
 }

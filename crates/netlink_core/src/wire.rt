@@ -7,14 +7,14 @@ ghost use Rattle.netlink_core.specs.Canonical.{GivesUp};
 ghost use Rattle.netlink_core.specs.Codec.{Codec, KeepsLaws};
 ghost use Rattle.netlink_core.specs.declared.fault.DecodeError.TheVariants.{Memory};
 
-use crate::{CanonError, DecodeError, Emitable, Readable};
+use crate::{CanonError, DecodeError, Emitable, ReadParam, Readable};
 use std::alloc::Global;
 
 /// A value that stands in bytes: how it is read and written, what is compared of it, and the laws
 /// between them.
 pub trait Coded: PartialEq + Sized {
-    /// What the reader takes beside the bytes.
-    type Param: Copy;
+    /// What the reader takes in addition to the bytes.
+    type Param: ReadParam;
 
     // How it stands in bytes, and the model of a value: each field, and lists by their elements.
     ghost codec: { Codec Self.Param };
@@ -113,6 +113,7 @@ pub trait Wire: Coded + Readable + Emitable {
     /// Reads a value, or returns the first fault.
     fn read(alloc: Global, bytes: &[u8], param: Self::Param) -> Result<Self, DecodeError>
         ensures in_range { IsBytes bytes.now }
+        ensures param_in_range { Self.Param.is_in_range param }
         ensures value { IfOk result (λ v. Self.codec.reads bytes.now param (Self.model v)) }
         ensures fault { IfErr result (λ e. e ≢ Memory → Self.codec.refuses bytes.now param e) }
         ensures memory { IfErr result (λ e. e ≡ Memory → IsTrue Self.TAKES_MEMORY) }

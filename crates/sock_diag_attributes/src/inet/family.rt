@@ -29,6 +29,8 @@ impl<'a> FamilyView<'a> for NlaView<'a> {
 }
 
 impl FamilyNla for Nla {
+    const LARGE_KIND: Option<u16> = Some(INET_DIAG_INFO);
+
     ghost attribute_set = { inet };
 
     ghost model = { nla_model };
@@ -36,11 +38,6 @@ impl FamilyNla for Nla {
     #[inline(always)]
     fn own_accepted(alloc: Global, nla: &NlaBuffer<'_>) -> Result<Self, AllocError> {
         NlaView::new(nla).to_owned(alloc)
-    }
-
-    #[inline(always)]
-    fn is_large(nla: &NlaBuffer<'_>) -> bool {
-        nla.kind() == INET_DIAG_INFO
     }
 
     fn copy_nla(&self, alloc: Global) -> Result<Self, AllocError> {

@@ -88,13 +88,17 @@ impl Emitable for Nla {
     }
 }
 
-// What stands in the places of a small vector that are not used. It takes no memory, and all of it
-// is zeros, as memory is before: so to fill the places costs nothing.
+// Fills the unused slots of a `SmallVec`. All of it is zeros, as fresh memory is, so filling costs
+// nothing.
 impl MadeWith<Global> for Nla {
-    ghost use Rattle.sock_diag_attributes.specs.InetAttributes.{inet};
-    ghost use Rattle.sock_diag_attributes.specs.InetModel.{nla_model};
+    ghost use Rattle.sock_diag_attributes.specs.declared.inet.nlas.InetNla.TheVariants as variants;
 
-    ghost is_made_with = { λ nla. IsSpareBy inet (nla_model nla) };
+    ghost is_made_with = { λ nla. nla ≡ variants.LegacyMemInfo (record {
+      receive_queue = 0;
+      bottom_send_queue = 0;
+      cache = 0;
+      send_queue = 0;
+    }) };
 
     #[inline(always)]
     fn made_with(_alloc: Global) -> Self {

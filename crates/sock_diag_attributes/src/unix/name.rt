@@ -2,6 +2,7 @@
 
 ghost use Rattle.std.specs.Prelude.{◌≡◌, ◌<◌, ◌≤◌, ◌++◌, length, take, drop, slice_index, IfOk};
 ghost use Rattle.std.specs.Prelude.{IsOk, MatchOption, MatchResult, Ok, Err, true, refl, vec_items};
+ghost use Rattle.std.specs.Prelude.{⊤};
 ghost use Rattle.netlink_core.specs.Bytes.{IsBytes};
 ghost use Rattle.sock_diag_attributes.specs.Name.{read_name, name_bytes, name_codec};
 ghost use Rattle.sock_diag_attributes.specs.NameLaws.{HasNoZero, name_keeps_laws};
@@ -11,17 +12,28 @@ use netlink_core::{
 };
 use std::alloc::{AllocError, Global};
 
-/// The name that a UNIX socket is bound to, as the attribute `UNIX_DIAG_NAME` tells it. A `B` holds
-/// its bytes.
+/// The name that a UNIX socket is bound to (`UNIX_DIAG_NAME`). `B` holds its bytes: `Vec<u8>`, or
+/// `&[u8]` in a borrowed name. Only a borrowed name is `Clone` and `Copy`.
 ///
-/// A first byte of zero says an abstract name. Any other name is a path, which ends with its one
-/// zero.
-#[derive(Clone, Copy, Debug, Drop, PartialEq, Eq)]
+/// The first byte of an abstract name is zero. Any other name is a path, whose last byte is its
+/// only zero.
+#[derive(Copy, Debug, Drop, PartialEq, Eq)]
 pub enum SocketName<B> {
     /// The path of a file, without the zero at its end. It is written with that zero.
     Pathname(B),
     /// The bytes behind the zero that tells an abstract name; zeros may be among them.
     Abstract(B),
+}
+
+// By hand: a derived impl would give a name that owns its bytes a `clone` without an allocator.
+impl<B: Copy> Clone for SocketName<B> {
+    ghost is_clone = { λ name copy. copy ≡ name };
+
+    ghost is_infallible = { λ _. ⊤ };
+
+    fn clone(&self) -> Result<Self, AllocError> {
+        Ok(*self)
+    }
 }
 
 /// The name that a UNIX socket is bound to, with bytes of its own.

@@ -80,12 +80,11 @@ impl Emitable for Nla {
     }
 }
 
-// What stands in the places of a small vector that are not used. It takes no memory.
+// Fills the unused slots of a `SmallVec`. It does not allocate.
 impl MadeWith<Global> for Nla {
-    ghost use Rattle.sock_diag_attributes.specs.UnixAttributes.{unix};
-    ghost use Rattle.sock_diag_attributes.specs.UnixModel.{nla_model};
+    ghost use Rattle.sock_diag_attributes.specs.declared.unix.nlas.UnixNla.TheVariants.{Peer};
 
-    ghost is_made_with = { λ nla. IsSpareBy unix (nla_model nla) };
+    ghost is_made_with = { λ nla. nla ≡ Peer 0 };
 
     fn made_with(_alloc: Global) -> Self {
         Nla::Peer(0)

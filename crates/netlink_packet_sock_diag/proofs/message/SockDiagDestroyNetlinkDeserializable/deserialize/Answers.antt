@@ -4,5 +4,4 @@ use Rattle.netlink_packet_sock_diag.proofs.message.SockDiagDestroyNetlinkDeseria
 pub returns-in_err-message-clause-wanted : goal.returns-in_err-message-clause-wanted
 returns-in_err-message-clause-wanted c =
     let p = err_from_is_err_and c.from_residual.result c.from_residual.ensures.1 in
-    rw (p.1, p.2) (λ memory. let wanted = c.in_err-message.ensures.wanted memory in
-    (wanted.0, wanted.1))
+    rw (p.1, p.2) c.in_err-message.ensures.wanted

@@ -1,8 +1,8 @@
 use Rattle.std.proofs.lemmas.Result.{IfErr-weaker}
-use Rattle.netlink_packet_sock_diag.proofs.message.SockDiagMessageNetlinkDeserializable.deserialize.Goals as goal
+use Rattle.netlink_packet_sock_diag.proofs.dump.kept.SockDiagMessageKept.take.Goals as goal
 
 pub returns-clause-wanted : goal.returns-clause-wanted
 returns-clause-wanted c =
-    IfErr-weaker c.read_under.result _ _
+    IfErr-weaker c.deserialize.result _ _
     (λ e wants memory. let wanted = wants memory in (wanted.0, wanted.1))
-    c.read_under.ensures.wanted
+    c.deserialize.ensures.wanted
