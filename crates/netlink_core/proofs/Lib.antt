@@ -1,6 +1,7 @@
 pub mod Numbers
 pub mod TableLaws
 pub mod LayoutLaws
+pub mod SignificantBits
 pub mod FieldReads
 pub mod Congruence
 pub mod Padding

@@ -15,6 +15,7 @@ use Rattle.byteorder.specs.Numbers.{little_number-reads_back, big_number-reads_b
 use Rattle.byteorder.specs.Numbers.{length-bytes_low_first, length-bytes_high_first}
 use Rattle.netlink_core.specs.Table.{Field, number, network}
 use Rattle.netlink_core.specs.Bytes.{IsBytes}
+use Rattle.netlink_core.specs.SignificantBits.{masked}
 use Rattle.netlink_core.specs.ByteLaws.{byte_at-lt, IsBytes-number}
 
 -- ---- numbers in either order
@@ -39,11 +40,6 @@ bytes_in little_endian width n = little_bytes width n
 bytes_in big_endian width n = big_bytes width n
 
 -- ---- a number fixes its bytes
-
--- the bytes with the bits outside the masks taken off, as far as the masks go
-abbrev pub masked : List ℕ → List ℕ → List ℕ
-masked (mask ∷ masks) (one ∷ bytes) = bit_and one mask ∷ masked masks bytes
-masked _ _ = []
 
 little-same : (n : ℕ) (xs ys : List ℕ) → IsBytes xs → IsBytes ys → n ≤ length xs → n ≤ length ys
     → little_from 0 n xs ≡ little_from 0 n ys → take n xs ≡ take n ys

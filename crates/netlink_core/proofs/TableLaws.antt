@@ -22,10 +22,11 @@ use Rattle.netlink_core.proofs.Numbers.{Order, little_endian, big_endian, number
 use Rattle.netlink_core.specs.Table.{Fit, AreDefined}
 use Rattle.netlink_core.specs.SoundLaws.{is_table, offset_of, width_of, is_written}
 use Rattle.netlink_core.specs.Bytes.{IsBytes}
+use Rattle.netlink_core.specs.SignificantBits.{masked}
 use Rattle.netlink_core.specs.PrefixLaws.{same_parts}
 use Rattle.netlink_core.specs.ByteLaws.{IsBytes-append}
 use Rattle.netlink_core.proofs.Numbers.{number-same, number-take, number-fits, number-reads_back}
-use Rattle.netlink_core.proofs.Numbers.{length-bytes_in, bytes_in-bytes, masked}
+use Rattle.netlink_core.proofs.Numbers.{length-bytes_in, bytes_in-bytes}
 use Rattle.netlink_core.proofs.Numbers.{masked-all, masked-none}
 use Rattle.netlink_core.proofs.Numbers.{length-masked, masked-bytes, and_number}
 

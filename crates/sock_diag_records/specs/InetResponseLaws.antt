@@ -39,7 +39,7 @@ abbrev pub with_class : ℕ → Result IpVersions DecodeError → Result (IpVers
 with_class class tag_found = map_ok (λ versions. (versions, class)) tag_found
 
 -- what holds of 0 to 4 holds of each class
-each : (P : ℕ → Type 0) → P 0 → P 1 → P 2 → P 3 → P 4 → (class : ℕ) → class < 5 → P class
+pub each : (P : ℕ → Type 0) → P 0 → P 1 → P 2 → P 3 → P 4 → (class : ℕ) → class < 5 → P class
 each P none retransmits keeps_alive waits probes class h = grind arith
 
 -- ---- what is read

@@ -20,3 +20,4 @@ pub mod InetResponse
 pub mod InetResponseLaws
 pub mod EqualRecordLaws
 pub mod ResponseKind
+pub mod SignificantBits

@@ -3,5 +3,6 @@
 
 pub mod constants;
 pub mod inet;
+pub mod laws;
 mod named;
 pub mod unix;

@@ -13,3 +13,4 @@ pub mod TcpInfo
 pub mod TcpInfoSteps
 pub mod TcpInfoLaws
 pub mod TcpInfoEqualLaws
+pub mod SignificantBits

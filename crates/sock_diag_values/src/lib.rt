@@ -2,4 +2,5 @@
 #![tactic(auto)]
 
 pub mod inet;
+pub mod laws;
 pub mod unix;

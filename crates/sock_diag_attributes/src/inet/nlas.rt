@@ -15,7 +15,7 @@ use netlink_core::{
     nla_len, parse_str,
 };
 use sock_diag_records::constants::*;
-pub use sock_diag_values::inet::{
+pub use sock_diag_records::inet::nlas::{
     LegacyMemInfo, LegacyMemInfoBuffer, MemInfo, MemInfoBuffer, MemInfoBytes, TcpInfo,
     TcpInfoBuffer,
 };

@@ -17,7 +17,7 @@ use netlink_core::{
     nla_len,
 };
 use sock_diag_records::constants::*;
-pub use sock_diag_values::unix::{MemInfo, MemInfoBuffer, Vfs, VfsBuffer};
+pub use sock_diag_records::unix::nlas::{MemInfo, MemInfoBuffer, Vfs, VfsBuffer};
 use std::alloc::{AllocError, Global};
 use std::default::MadeWith;
 

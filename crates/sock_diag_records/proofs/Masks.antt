@@ -1,0 +1,96 @@
+-- The masks of the tables of `SocketId`, `InetRequest` and `InetResponseHeader` are those of the
+-- family and the timer byte.
+use Rattle.std.proofs.Common.{◌≡◌, ◌⊎◌, inl, inr, ◌<◌, ℕ, Result, Ok, refl, ◌∙◌, arith}
+use Rattle.netlink_core.proofs.TableLaws.{live_bits}
+use Rattle.netlink_core.specs.declared.fault.DecodeError.{DecodeError}
+use Rattle.sock_diag_records.specs.SignificantBits.{IsInetFamily, SameTimerClass}
+use Rattle.sock_diag_records.specs.SignificantBits.{socket_id_masks, inet_request_masks}
+use Rattle.sock_diag_records.specs.SignificantBits.{inet_response_header_masks}
+use Rattle.sock_diag_records.specs.IpVersions.{ipv4, ipv6, IpVersions, versions_of_family}
+use Rattle.sock_diag_records.specs.SocketId.{socket_id}
+use Rattle.sock_diag_records.specs.InetRequest.{inet_request}
+use Rattle.sock_diag_records.specs.InetResponse.{inet_response_header}
+use Rattle.sock_diag_records.specs.InetResponseLaws.{each, class_lt, with_class}
+use Rattle.sock_diag_records.specs.Timer.{class_of_byte}
+
+-- ---- families
+
+-- a family that has IP versions is AF_INET or AF_INET6
+inet_or_inet6 : (family : ℕ) (versions : IpVersions) → versions_of_family family ≡ Ok versions
+    → ((family ≡ 2) × (versions ≡ (ipv4, ipv4))) ⊎ ((family ≡ 10) × (versions ≡ (ipv6, ipv6)))
+inet_or_inet6 family versions e = grind arith
+
+pub is_inet_family : (family : ℕ) (versions : IpVersions) → versions_of_family family ≡ Ok versions
+    → IsInetFamily family
+is_inet_family family versions e = grind (arith, inet_or_inet6 family versions e)
+
+pub has_versions : (family : ℕ) → IsInetFamily family
+    → (versions : IpVersions) × (versions_of_family family ≡ Ok versions)
+has_versions family (inl e) = ((ipv4, ipv4), rw e)
+has_versions family (inr e) = ((ipv6, ipv6), rw e)
+
+pub masks_of_socket_id : (family : ℕ) (versions : IpVersions)
+    → versions_of_family family ≡ Ok versions
+    → live_bits (socket_id.table versions) ≡ socket_id_masks family
+unfolding socket_id
+masks_of_socket_id family versions e = elim (inet_or_inet6 family versions e) [
+  | inl (f, v) ↦ rw (f, v)
+  | inr (f, v) ↦ rw (f, v)
+]
+
+pub masks_of_request : (family : ℕ) (versions : IpVersions)
+    → versions_of_family family ≡ Ok versions
+    → live_bits (inet_request.table versions) ≡ inet_request_masks family
+unfolding inet_request
+masks_of_request family versions e = elim (inet_or_inet6 family versions e) [
+  | inl (f, v) ↦ rw (f, v)
+  | inr (f, v) ↦ rw (f, v)
+]
+
+-- ---- the header of a reply
+
+-- timer bytes have the same class if and only if the layout chooses the same table for them
+pub same_timer : (x y : ℕ) → class_of_byte x ≡ class_of_byte y → SameTimerClass x y
+same_timer x y e = grind arith
+
+pub same_class : (x y : ℕ) → SameTimerClass x y → class_of_byte x ≡ class_of_byte y
+same_class x y h = grind arith
+
+abbrev ok_tag : IpVersions × ℕ → Result (IpVersions × ℕ) DecodeError
+ok_tag tag = Ok tag
+
+-- the tag of a header is the IP versions of its family and the class of its timer
+pub tag_parts : (class : ℕ) (versions : Result IpVersions DecodeError) (tag : IpVersions × ℕ)
+    → with_class class versions ≡ ok_tag tag → (versions ≡ Ok tag.0) × (class ≡ tag.1)
+tag_parts class versions tag e = grind arith
+
+pub tag_of_parts : (class : ℕ) (versions : Result IpVersions DecodeError) (tag : IpVersions × ℕ)
+    → versions ≡ Ok tag.0 → class ≡ tag.1 → with_class class versions ≡ ok_tag tag
+tag_of_parts class versions tag e f = grind arith
+
+-- a timer byte has the masks of its class
+masks_of_class : (family timer : ℕ) → inet_response_header_masks family (class_of_byte timer)
+    ≡ inet_response_header_masks family timer
+masks_of_class family timer = grind arith
+
+masks_ipv4 : (class : ℕ) → class < 5
+    → live_bits (inet_response_header.table ((ipv4, ipv4), class))
+    ≡ inet_response_header_masks 2 class
+unfolding inet_response_header
+masks_ipv4 = each _ refl refl refl refl refl
+
+masks_ipv6 : (class : ℕ) → class < 5
+    → live_bits (inet_response_header.table ((ipv6, ipv6), class))
+    ≡ inet_response_header_masks 10 class
+unfolding inet_response_header
+masks_ipv6 = each _ refl refl refl refl refl
+
+pub masks_of_header : (family timer : ℕ) (tag : IpVersions × ℕ)
+    → versions_of_family family ≡ Ok tag.0 → class_of_byte timer ≡ tag.1
+    → live_bits (inet_response_header.table tag) ≡ inet_response_header_masks family timer
+masks_of_header family timer (versions, class) e f = elim (inet_or_inet6 family versions e) [
+  | inl (is, v) ↦ rw (is, v, ← f) (masks_ipv4 (class_of_byte timer) (class_lt timer)
+      ∙ masks_of_class 2 timer)
+  | inr (is, v) ↦ rw (is, v, ← f) (masks_ipv6 (class_of_byte timer) (class_lt timer)
+      ∙ masks_of_class 10 timer)
+]

@@ -1,0 +1,64 @@
+//! Equivalence of the five records, on bytes.
+//!
+//! Proof only: the contracts state the property.
+
+ghost use Rattle.std.specs.Prelude.{◌≡◌, ◌↔◌, ◌≤◌, ℕ, List, length, slice_index};
+ghost use Rattle.netlink_core.specs.Bytes.{IsBytes};
+ghost use Rattle.netlink_core.specs.SignificantBits.{EqualUnder};
+ghost use Rattle.sock_diag_records.specs.SignificantBits.{inet_request_masks, IsInetFamily};
+ghost use Rattle.sock_diag_records.specs.SignificantBits.{inet_response_header_masks};
+ghost use Rattle.sock_diag_records.specs.SignificantBits.{SameTimerClass, socket_id_masks};
+ghost use Rattle.sock_diag_records.specs.SignificantBits.{unix_request_masks};
+ghost use Rattle.sock_diag_records.specs.SignificantBits.{unix_response_header_masks};
+
+use crate::inet::{InetRequest, InetResponseHeader, SocketId};
+use crate::unix::{UnixRequest, UnixResponseHeader};
+use netlink_core::Coded;
+
+/// States that two byte strings are equivalent as [`SocketId`] of a family if and only if both have
+/// at least 48 bytes, the family is `AF_INET` or `AF_INET6`, and the significant bits of that
+/// family are equal.
+pub fn equivalent_socket_ids()
+    ensures { (family : ℕ) (b c : List ℕ) → IsBytes b → IsBytes c
+        → ⟦<SocketId as Coded>⟧.codec.idle family b c
+        ↔ ((48 ≤ length b) × (48 ≤ length c) × IsInetFamily family
+        × EqualUnder (socket_id_masks family) b c) }
+{}
+
+/// States that two byte strings are equivalent as [`InetRequest`] if and only if both have at least
+/// 56 bytes, the family of the first is `AF_INET` or `AF_INET6`, and the significant bits of that
+/// family are equal. The byte of the family is significant.
+pub fn equivalent_inet_requests()
+    ensures { (b c : List ℕ) → IsBytes b → IsBytes c
+        → ⟦<InetRequest as Coded>⟧.codec.idle tt b c
+        ↔ ((56 ≤ length b) × (56 ≤ length c) × IsInetFamily (slice_index b 0)
+        × EqualUnder (inet_request_masks (slice_index b 0)) b c) }
+{}
+
+/// States that two byte strings are equivalent as [`InetResponseHeader`] if and only if both have
+/// at least 72 bytes, the family of the first is `AF_INET` or `AF_INET6`, both timer bytes have the
+/// same class, and the significant bits of the first's family and timer are equal. The byte of the
+/// family is significant.
+pub fn equivalent_inet_response_headers()
+    ensures { (b c : List ℕ) → IsBytes b → IsBytes c
+        → ⟦<InetResponseHeader as Coded>⟧.codec.idle tt b c
+        ↔ ((72 ≤ length b) × (72 ≤ length c)
+        × (IsInetFamily (slice_index b 0) × SameTimerClass (slice_index b 2) (slice_index c 2))
+        × EqualUnder (inet_response_header_masks (slice_index b 0) (slice_index b 2)) b c) }
+{}
+
+/// States that two byte strings are equivalent as [`UnixRequest`] if and only if both have at least
+/// 24 bytes and equal significant bits.
+pub fn equivalent_unix_requests()
+    ensures { (b c : List ℕ) → IsBytes b → IsBytes c
+        → ⟦<UnixRequest as Coded>⟧.codec.idle tt b c
+        ↔ ((24 ≤ length b) × (24 ≤ length c) × EqualUnder unix_request_masks b c) }
+{}
+
+/// States that two byte strings are equivalent as [`UnixResponseHeader`] if and only if both have
+/// at least 16 bytes and equal significant bits.
+pub fn equivalent_unix_response_headers()
+    ensures { (b c : List ℕ) → IsBytes b → IsBytes c
+        → ⟦<UnixResponseHeader as Coded>⟧.codec.idle tt b c
+        ↔ ((16 ≤ length b) × (16 ≤ length c) × EqualUnder unix_response_header_masks b c) }
+{}

@@ -1,0 +1,46 @@
+use Rattle.std.proofs.Common.{◌≡◌, ◌⊎◌, ◌≤◌, ℕ, List, length, Result, Ok, sym, ap, ◌∙◌, arith}
+use Rattle.netlink_core.specs.declared.fault.DecodeError.{DecodeError}
+use Rattle.netlink_core.proofs.TableLaws.{live_bits}
+use Rattle.netlink_core.proofs.SignificantBits.{equivalent_by_condition}
+use Rattle.sock_diag_values.specs.MemInfo.{mem_info, words_in}
+use Rattle.sock_diag_values.specs.MemInfoLaws.{mem_info_sound}
+use Rattle.sock_diag_values.specs.SignificantBits.{mem_info_masks, word_count}
+use Rattle.sock_diag_values.proofs.laws.equivalent_mem_infos.Goals as goal
+
+abbrev ok_count : ℕ → Result ℕ DecodeError
+ok_count words = Ok words
+
+-- the layout and the statement count the same fields
+count_is : (b : List ℕ) → 28 ≤ length b → words_in (length b) ≡ word_count b
+count_is b h = grind arith
+
+same_count : (b : List ℕ) (words : ℕ) → 28 ≤ length b
+    → ok_count (words_in (length b)) ≡ ok_count words → word_count b ≡ words
+same_count b words h e = grind (arith, count_is b h)
+
+seven_to_nine : (b : List ℕ) → 28 ≤ length b
+    → (word_count b ≡ 7) ⊎ ((word_count b ≡ 8) ⊎ (word_count b ≡ 9))
+seven_to_nine b h = grind arith
+
+-- in each of the three tables all bits are significant
+masks_of_mem_info : (words : ℕ) → (words ≡ 7) ⊎ ((words ≡ 8) ⊎ (words ≡ 9))
+    → live_bits (mem_info.table words) ≡ mem_info_masks words
+masks_of_mem_info words h = grind arith
+
+pub returns : goal.returns
+returns c = λ x y hx hy.
+    let words = word_count x in
+    equivalent_by_condition mem_info mem_info_sound tt (mem_info_masks words)
+    (words ≡ word_count y) x y hx hy
+    (λ lx ly tag here there.
+    let is = same_count x tag lx here in (
+      is ∙ sym (same_count y tag ly there),
+      ap (λ (n : ℕ). live_bits (mem_info.table n)) (sym is)
+          ∙ masks_of_mem_info words (seven_to_nine x lx),
+    ))
+    (λ lx ly same equal. (
+      words,
+      ap (λ (n : ℕ). ok_count n) (count_is x lx),
+      ap (λ (n : ℕ). ok_count n) (count_is y ly ∙ sym same),
+      masks_of_mem_info words (seven_to_nine x lx),
+    ))
