@@ -1,13 +1,16 @@
 #!/usr/bin/env python3
-"""Fails, with status 1, where CHANGELOG.md, a program, the C header or the Rust crate tells another version."""
+"""Fails, with status 1, if CHANGELOG.md, a program, the C header or the Rust crate has another version than VERSION.
+
+CHANGELOG.md may begin with a heading [Unreleased], for the changes since that version.
+"""
 import os
 import re
 import sys
 
 TOP = os.path.dirname(os.path.dirname(os.path.realpath(__file__)))
-# What tells the version in each file; the first match counts.
+# The line with the version in each file; the first match counts.
 TOLD = {
-    "CHANGELOG.md": r"(?m)^## \[?([^\]\s]+)",
+    "CHANGELOG.md": r"(?m)^## (?!\[Unreleased\])\[?([^\]\s]+)",
     "crates/sock_diag_captures/src/lib.rt": r'(?m)^pub const VERSION: &str = "([^"]*)";$',
     "crates/sock_diag_lines/src/lib.rt": r'(?m)^pub const VERSION: &str = "([^"]*)";$',
     "include/sockdiag.h": r'(?m)^#define SOCKDIAG_VERSION "([^"]*)"$',

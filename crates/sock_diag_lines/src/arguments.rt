@@ -8,18 +8,25 @@ ghost use Rattle.sock_diag_lines.specs.declared.arguments.Choice.TheVariants.{Ve
 use netlink_core::Exact;
 
 /// The text that `--help` prints.
-pub const HELP: &str = "Usage: sockdiag [--strict | --help | --version]\n\n\
-Reads lines from standard input and writes one answer line for each. A line is\n\
-a name, a space and a hex field:\n\n\
-\x20   unixreq 01000000020400003412000004000000ffffffffffffffff\n\n\
-Names: unixreq, unix, unixview, inetreq, inet, sockid4, sockid6, message,\n\
-netlink, and dump, which takes one or more fields.\n\n\
-\x20 --strict   exit with status 3 if an answer is not ok or a dump failed\n\
-\x20 --help     print this text and exit\n\
-\x20 --version  print the version and exit\n\n\
-An option counts only if it is the sole argument. Any other arguments are\n\
-ignored.\n\n\
-Exit status: 0 at the end of input; 1 if reading or writing failed or memory\n\
+pub const HELP: &str = "\
+Usage: sockdiag [--strict | --help | --version]
+
+Reads lines from standard input and writes one answer line for each. A line is
+a name, a space and a hex field:
+
+    unixreq 01000000020400003412000004000000ffffffffffffffff
+
+Names: unixreq, unix, unixview, inetreq, inet, sockid4, sockid6, message,
+netlink, and dump, which takes one or more fields.
+
+  --strict   exit with status 3 if an answer is not ok or a dump failed
+  --help     print this text and exit
+  --version  print the version and exit
+
+An option counts only if it is the sole argument. Any other arguments are
+ignored.
+
+Exit status: 0 at the end of input; 1 if reading or writing failed or memory
 ran out, with the reason on standard error.";
 
 /// What the command line asks for.
