@@ -16,8 +16,8 @@ use Rattle.line_server.specs.Lines.{Splits, with_rest}
 use Rattle.line_server.specs.Run.{Answers, answer_lines}
 use Rattle.line_server.specs.RunSteps.{WritesPart, all_good}
 use Rattle.line_server.proofs.LinesLemmas.{Splits-append, Splits-one_way}
-use Rattle.line_server.specs.declared.stream.ServeError.{ServeError}
-use Rattle.line_server.specs.declared.stream.ServeError.TheVariants.{Read, Write, Memory}
+use Rattle.line_server.specs.declared.stream.RunError.{RunError}
+use Rattle.line_server.specs.declared.stream.RunError.TheVariants.{Read, Write, Memory}
 
 -- the last line stands behind the whole ones
 with_rest-append : (whole : List (List ℕ)) (rest : List ℕ) → with_rest whole rest
@@ -73,7 +73,7 @@ module _ {r r' c c' : Option (List ℕ)} {whole : List (List ℕ)} {rest written
 
   -- not all of a text with which the answers go on was written
   pub run_failed : (f : List ℕ → List ℕ) (good : List ℕ → Bool) (n : ℕ) (c'' : Option (List ℕ))
-      (text more : List ℕ) (e : ServeError) → written ≡ answer_lines f (take n whole)
+      (text more : List ℕ) (e : RunError) → written ≡ answer_lines f (take n whole)
       → answer_lines f (with_rest whole rest) ≡ (written ++ text) ++ more
       → WritesPart c' c'' text e → Answers f r r' c c'' good (Err e)
   run_failed f good n c'' text more Read first begins wrote = absurd wrote
@@ -81,7 +81,7 @@ module _ {r r' c c' : Option (List ℕ)} {whole : List (List ℕ)} {rest written
       let none = Appends-kept c' c' c'' [] (Appends-nil c') wrote in
       let sent = write_on c'' [] _ none (append-nil _ ∙ first) in
       (whole, rest, _, sent.read, sent.splits, (n, sent.appended), tt)
-  run_failed f good n c'' text more (Write is_closed) first begins (front, later, is, wrote) =
+  run_failed f good n c'' text more Write first begins (front, later, is, wrote) =
       let all = answer_lines f (with_rest whole rest) in
       let sent = write_on c'' front (take (length (written ++ front)) all) wrote
       (rw (begins, is, ← append_assoc, append_assoc, take-append_seam)) in
@@ -92,7 +92,7 @@ module _ {r r' c c' : Option (List ℕ)} {whole : List (List ℕ)} {rest written
 pub run_complete : (answers : List ℕ → List ℕ → Type 0) (good : List ℕ → Bool)
     (a : List ℕ → List ℕ)
     → ((f : List ℕ → List ℕ) → ((line : List ℕ) → answers line (f line)) → a ≡ f)
-    → (r r' c c' : Option (List ℕ)) (result : Result Bool ServeError) → OnOk result (IsAtEnd r')
+    → (r r' c c' : Option (List ℕ)) (result : Result Bool RunError) → OnOk result (IsAtEnd r')
     → Answers a r r' c c' good result
     → OnOk result (IfSome r (λ text. (f : List ℕ → List ℕ) (whole : List (List ℕ)) (rest : List ℕ)
     → ((line : List ℕ) → answers line (f line))

@@ -4,8 +4,8 @@ use Rattle.std.specs.Prelude.{Err, IfOk}
 use Rattle.std.specs.List.{flat_map, list_all}
 use Rattle.std.specs.Io.KnownBytes.{Appends, Consumes}
 use Rattle.line_server.specs.Lines.{Splits, with_rest}
-use Rattle.line_server.specs.declared.stream.ServeError.{ServeError}
-use Rattle.line_server.specs.declared.stream.ServeError.TheVariants.{Read, Write, Memory}
+use Rattle.line_server.specs.declared.stream.RunError.{RunError}
+use Rattle.line_server.specs.declared.stream.RunError.TheVariants.{Read, Write, Memory}
 
 -- the answer lines of some lines, in order
 abbrev pub answer_lines : (List ℕ → List ℕ) → List (List ℕ) → List ℕ
@@ -17,15 +17,15 @@ module _ (answer : List ℕ → List ℕ) (left left' held held' : Option (List 
   -- What is written when a run ends so, of the whole lines and of all lines that were read: the
   -- answers to all; where a read failed, those to the whole ones; where memory ran out, those to
   -- some first whole ones; and where a write failed, a beginning of those to all.
-  abbrev pub Ended : Result Bool ServeError → List (List ℕ) → List (List ℕ) → Type 0
+  abbrev pub Ended : Result Bool RunError → List (List ℕ) → List (List ℕ) → Type 0
   Ended (Ok is_good) whole all = Appends held held' (answer_lines answer all)
   Ended (Err Read) whole all = Appends held held' (answer_lines answer whole)
   Ended (Err Memory) whole all = (k : ℕ) × Appends held held' (answer_lines answer (take k whole))
-  Ended (Err (Write _)) whole all = (k : ℕ) × Appends held held' (take k (answer_lines answer all))
+  Ended (Err Write) whole all = (k : ℕ) × Appends held held' (take k (answer_lines answer all))
 
   -- A text was read, of these whole lines and this rest, and what was written belongs to it as the
   -- run ends so, which says where all went well whether each answer is a good one.
-  abbrev pub Answers : (List ℕ → Bool) → Result Bool ServeError → Type 0
+  abbrev pub Answers : (List ℕ → Bool) → Result Bool RunError → Type 0
   Answers good result = (whole : List (List ℕ)) × (rest text : List ℕ) × Consumes left left' text
       × Splits text whole rest × Ended result whole (with_rest whole rest)
       × IfOk result (λ is_good. is_good ≡ list_all good (map answer (with_rest whole rest)))

@@ -5,8 +5,8 @@ use Rattle.std.specs.List.{All, list_all}
 use Rattle.std.specs.Io.KnownBytes.{Appends, Keeps}
 use Rattle.line_server.specs.Lines.{Splits}
 use Rattle.line_server.specs.Run.{answer_lines}
-use Rattle.line_server.specs.declared.stream.ServeError.{ServeError}
-use Rattle.line_server.specs.declared.stream.ServeError.TheVariants.{Read, Write, Memory}
+use Rattle.line_server.specs.declared.stream.RunError.{RunError}
+use Rattle.line_server.specs.declared.stream.RunError.TheVariants.{Read, Write, Memory}
 
 -- bytes without a line feed
 abbrev pub IsLine : List ℕ → Type 0
@@ -17,14 +17,14 @@ abbrev pub fed : List ℕ → List ℕ
 fed text = text ++ 10 ∷ []
 
 -- a beginning of the text was written where a write failed, or nothing where memory ran out
-abbrev pub WritesPart : Option (List ℕ) → Option (List ℕ) → List ℕ → ServeError → Type 0
+abbrev pub WritesPart : Option (List ℕ) → Option (List ℕ) → List ℕ → RunError → Type 0
 WritesPart contents contents' text Read = ⊥
 WritesPart contents contents' text Memory = Keeps contents contents'
-WritesPart contents contents' text (Write is_closed) = (front more : List ℕ)
+WritesPart contents contents' text Write = (front more : List ℕ)
     × (text ≡ front ++ more) × Appends contents contents' front
 
 -- the text was written, or a part of it
-abbrev pub Writes : {A : Type 0} → Option (List ℕ) → Option (List ℕ) → List ℕ → Result A ServeError
+abbrev pub Writes : {A : Type 0} → Option (List ℕ) → Option (List ℕ) → List ℕ → Result A RunError
     → Type 0
 Writes contents contents' text (Ok done) = Appends contents contents' text
 Writes contents contents' text (Err e) = WritesPart contents contents' text e

@@ -2,8 +2,9 @@
 //! before each further read.
 #![tactic(auto)]
 
+pub mod laws;
 mod prompt;
 mod stream;
 
 pub use prompt::{AnswerWrite, PromptRead};
-pub use stream::{LineAnswers, ServeError, Start, serve, try_send};
+pub use stream::{LineAnswers, RunError, Start, serve, try_send};

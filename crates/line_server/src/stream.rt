@@ -5,7 +5,7 @@ ghost use Rattle.std.specs.Io.KnownBytes.{Appends, IsAtEnd};
 ghost use Rattle.line_server.specs.Lines.{with_rest};
 ghost use Rattle.line_server.specs.Run.{Answers, answer_lines};
 ghost use Rattle.line_server.specs.RunSteps.{AnswersPiece, IsLine, Writes, all_good, fed};
-ghost use Rattle.line_server.specs.declared.stream.ServeError.TheVariants.{Memory};
+ghost use Rattle.line_server.specs.declared.stream.RunError.TheVariants.{Memory};
 
 use crate::prompt::{AnswerWrite, PromptRead};
 use memchr::memchr;
@@ -13,36 +13,33 @@ use std::alloc::{AllocError, AllocFailed, Global};
 use std::marker::Brand;
 use thiserror::Error;
 
-/// Why a run ended before the end of its input.
+/// The reason why a run ended before the end of its input.
 #[derive(Clone, Copy, Debug, PartialEq, Eq, Error)]
-pub enum ServeError {
-    /// A read failed, or the end did not come within 2^64 - 1 reads.
+pub enum RunError {
+    /// A read failed, or the input did not end within 2^64 - 1 reads.
     #[error("reading failed")]
     Read,
     /// A write or the last flush failed, or a write took no bytes.
     #[error("writing failed")]
-    Write {
-        /// Nobody reads the output any more (`EPIPE`).
-        is_closed: bool,
-    },
-    /// Memory ran out.
+    Write,
+    /// An allocation failed.
     #[error("out of memory")]
     Memory,
 }
 
-impl From<AllocError> for ServeError {
+impl From<AllocError> for RunError {
     ghost from_gives = { λ _ e. e ≡ Memory };
 
-    fn from(_e: AllocError) -> ServeError {
-        ServeError::Memory
+    fn from(_e: AllocError) -> RunError {
+        RunError::Memory
     }
 }
 
-impl<T: Drop> From<AllocFailed<T>> for ServeError {
+impl<T: Drop> From<AllocFailed<T>> for RunError {
     ghost from_gives = { λ _ e. e ≡ Memory };
 
-    fn from(_e: AllocFailed<T>) -> ServeError {
-        ServeError::Memory
+    fn from(_e: AllocFailed<T>) -> RunError {
+        RunError::Memory
     }
 }
 
@@ -128,17 +125,16 @@ pub fn serve<S: Start, A: LineAnswers, R: PromptRead, W: AnswerWrite>(
     alloc: Global,
     input: &mut R,
     output: &mut W,
-) -> Result<bool, ServeError>
+) -> Result<bool, RunError>
     requires start { (S.remaining ≡ R.left input.old) × (S.contents ≡ W.held output.old)
         × R.reads input.old 0 }
     requires right { (line : List ℕ) → A.answers line (S.answer line) }
     ensures ended { OnOk result (IsAtEnd (R.left input.new)) }
     ensures answered { Answers S.answer S.remaining (R.left input.new) S.contents
         (W.held output.new) A.good result }
-    ensures read_cause { IfErr result (λ e. e ≡ ServeError.Read
+    ensures read_cause { IfErr result (λ e. e ≡ RunError.Read
         → R.failed input.new ⊎ R.reads input.new (2 ^ 64 - 1)) }
-    ensures write_cause { IfErr result (λ e. (is_closed : Bool) → e ≡ ServeError.Write is_closed
-        → W.failed output.new is_closed) }
+    ensures write_cause { IfErr result (λ e. e ≡ RunError.Write → W.failed output.new) }
 {
     let mut kept = Kept {
         line: Vec::new(alloc),
@@ -158,7 +154,7 @@ pub fn serve<S: Start, A: LineAnswers, R: PromptRead, W: AnswerWrite>(
         send(output, kept.answers.as_slice())?;
         empty(alloc, &mut kept.answers);
     }
-    Err(ServeError::Read)
+    Err(RunError::Read)
 }
 
 /// Answers the last line, where it has bytes and no line feed, and flushes. Returns whether its
@@ -167,14 +163,13 @@ fn finish<S: Start, A: LineAnswers, W: AnswerWrite>(
     alloc: Global,
     kept: &mut Kept,
     output: &mut W,
-) -> Result<bool, ServeError>
+) -> Result<bool, RunError>
     requires { (kept.old.answers.items ≡ []) × ((line : List ℕ) → A.answers line (S.answer line)) }
     ensures written { Writes (W.held output.old) (W.held output.new)
         (answer_lines S.answer (with_rest [] kept.old.line.items)) result }
     ensures judged { IfOk result (λ is_good.
         is_good ≡ all_good A.good S.answer (with_rest [] kept.old.line.items)) }
-    ensures cause { IfErr result (λ e. (is_closed : Bool) → e ≡ ServeError.Write is_closed
-        → W.failed output.new is_closed) }
+    ensures cause { IfErr result (λ e. e ≡ RunError.Write → W.failed output.new) }
 {
     let is_good = end_last_line::<S, A>(alloc, kept)?;
     send(output, kept.answers.as_slice())?;
@@ -294,10 +289,9 @@ fn empty(alloc: Global, room: &mut Vec<u8>)
 }
 
 /// Writes all the bytes.
-fn send<W: AnswerWrite>(output: &mut W, bytes: &[u8]) -> Result<(), ServeError>
+fn send<W: AnswerWrite>(output: &mut W, bytes: &[u8]) -> Result<(), RunError>
     ensures written { Writes (W.held output.old) (W.held output.new) bytes.now result }
-    ensures cause { IfErr result (λ e. (is_closed : Bool) → e ≡ ServeError.Write is_closed
-        → W.failed output.new is_closed) }
+    ensures cause { IfErr result (λ e. e ≡ RunError.Write → W.failed output.new) }
 {
     let mut rest = bytes;
     'writes: while !rest.is_empty() {

@@ -1,42 +1,66 @@
 //! What the arguments of a program that answers lines ask for.
 
-ghost use Rattle.std.specs.Prelude.{◌≡◌, ◌↔◌, codes};
+ghost use Rattle.std.specs.Prelude.{◌≡◌, ◌↔◌, ◌∷◌, [], codes, map, string_bytes};
+ghost use Rattle.std.proofs.Common.{rules};
 ghost use Rattle.sock_diag_lines.specs.declared.arguments.Choice.TheVariants.{Help, Strict};
 ghost use Rattle.sock_diag_lines.specs.declared.arguments.Choice.TheVariants.{Version};
 
-/// How `sockdiag` is called.
-pub const HELP: &str = "sockdiag [--strict | --help | --version]\n\n\
-Answers each line of standard input by one line. A line is a name, one space and a hex field:\n\
-unixreq 01000000020400003412000004000000ffffffffffffffff\n\n\
-The names are unixreq, unix, unixview, inetreq, inet, sockid4, sockid6, message, netlink, and\n\
-dump, which has one field or more.\n\n\
-The status is 0 at the end of input, 1 where reading or writing failed or memory ran out, which\n\
-standard error names but where nobody reads the output, and 2 for arguments that are not known.\n\
-With --strict it is 3 at the end of input where an answer was not ok, or a dump failed.";
+use netlink_core::Exact;
 
-/// What an argument asks for.
+/// The text that `--help` prints.
+pub const HELP: &str = "\
+Usage: sockdiag [--strict | --help | --version]
+
+Reads lines from standard input and writes one answer line for each. A line is
+a name, a space and a hex field:
+
+    unixreq 01000000020400003412000004000000ffffffffffffffff
+
+Names: unixreq, unix, unixview, inetreq, inet, sockid4, sockid6, message,
+netlink, and dump, which takes one or more fields.
+
+  --strict   exit with status 3 if an answer is not ok or a dump failed
+  --help     print this text and exit
+  --version  print the version and exit
+
+An option counts only if it is the sole argument. Any other arguments are
+ignored.
+
+Exit status: 0 at the end of input; 1 if reading or writing failed or memory
+ran out, with the reason on standard error.";
+
+/// What the command line asks for.
 #[derive(Clone, Copy, Debug, PartialEq, Eq)]
 pub enum Choice {
-    /// A status of its own where an answer is not `ok`, or a dump failed.
+    /// To answer the lines of standard input.
+    Answer,
+    /// The same, with status 3 if an answer is not `ok` or a dump failed.
     Strict,
-    /// How the program is called.
+    /// To print the help text.
     Help,
-    /// The version.
+    /// To print the version.
     Version,
-    /// Nothing that is known.
-    Unknown,
 }
 
-/// What the one argument asks for.
-pub fn choose(word: &str) -> Choice
-    ensures strict { (result ≡ Strict) ↔ (word.now ≡ codes "--strict") }
-    ensures help { (result ≡ Help) ↔ (word.now ≡ codes "--help") }
-    ensures version { (result ≡ Version) ↔ (word.now ≡ codes "--version") }
+impl Exact for Choice {
+    ghost exact = { Prim.search rules };
+}
+
+/// Returns what the command line asks for, by the arguments after the program's name: `Answer`
+/// unless there is exactly one argument and it is a known option.
+pub fn choose(arguments: &[String]) -> Choice
+    ensures strict { (result ≡ Strict) ↔ (map string_bytes arguments.now ≡ codes "--strict" ∷ []) }
+    ensures help { (result ≡ Help) ↔ (map string_bytes arguments.now ≡ codes "--help" ∷ []) }
+    ensures version { (result ≡ Version)
+        ↔ (map string_bytes arguments.now ≡ codes "--version" ∷ []) }
 {
-    match word {
+    let [argument] = arguments else {
+        return Choice::Answer;
+    };
+    match argument.as_str() {
         "--strict" => Choice::Strict,
         "--help" => Choice::Help,
         "--version" => Choice::Version,
-        _ => Choice::Unknown,
+        _ => Choice::Answer,
     }
 }

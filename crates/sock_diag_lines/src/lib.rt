@@ -2,14 +2,14 @@
 //! one answer line for each of them.
 #![tactic(auto)]
 
-ghost use Rattle.std.specs.Prelude.{◌≡◌, ◌≢◌, ◌&&◌, ◌++◌, ◌∷◌, [], if◌then◌else◌, not, true, false};
+ghost use Rattle.std.specs.Prelude.{◌≡◌, ◌≢◌, ◌&&◌, ◌++◌, ◌∷◌, [], if◌then◌else◌, not};
 ghost use Rattle.std.specs.Prelude.{ℕ, Bool, List, Result, codes, IfSome, IfErr, MatchResult};
 ghost use Rattle.std.specs.Process.{exit_status};
 ghost use Rattle.std.specs.Io.KnownBytes.{Appends, IsAtEnd, Keeps};
 ghost use Rattle.sock_diag_lines.specs.Answer.{IsAnswerOf, is_good};
 ghost use Rattle.line_server.specs.Lines.{Splits, with_rest};
 ghost use Rattle.line_server.specs.Run.{Answers, answer_lines};
-ghost use Rattle.line_server.specs.declared.stream.ServeError.{ServeError};
+ghost use Rattle.line_server.specs.declared.stream.RunError.{RunError};
 
 mod answers;
 mod arguments;
@@ -21,20 +21,19 @@ mod words;
 
 pub use answers::answer;
 pub use arguments::{Choice, HELP, choose};
-use line_server::ServeError;
+pub use line_server::RunError;
 use std::alloc::Global;
 use std::io::{Read, Write};
 use std::process::ExitCode;
-pub use stream::{RunError, run};
+pub use stream::run;
 use stream::{answer_all, report};
 
 /// The version, that of the repository's file `VERSION`.
 pub const VERSION: &str = "0.11.0";
 
-/// `run`, which tells on `errors` in one line why it failed, but where nobody reads the output any
-/// more. The status is 0 where it came to the end of its input, and 1 where it failed. If it is
-/// strict, the status is 3 where it came to the end and an answer is not a good one: not `ok`, or a
-/// dump that failed.
+/// Does what `run` does, writes one line on `errors` that names the failure if there is one, and
+/// returns the exit status: 0 at the end of the input, and 1 after a failure. If `is_strict`, the
+/// status at the end of the input is 3 if an answer is not `ok`, or if a dump failed.
 pub fn run_to_status<R: Read, W: Write, E: Write>(
     alloc: Global,
     is_strict: bool,
@@ -50,11 +49,11 @@ pub fn run_to_status<R: Read, W: Write, E: Write>(
         (answer_lines answer (with_rest whole rest))) }
     ensures silent { exit_status result ≢ 1
         → Keeps (E.contents errors.old) (E.contents errors.new) }
-    // How it ended, and whether each answer is a good one. One line names a failure on `errors`, or
-    // its beginning where a write fails.
+    // How the run ended, and whether each answer is good. After a failure `errors` has the line
+    // that names it, or a prefix of that line if a write failed there too.
     ensures answered { (answer : List ℕ → List ℕ)
         → ((line : List ℕ) → IsAnswerOf line (answer line))
-        → (outcome : Result Bool ServeError)
+        → (outcome : Result Bool RunError)
         × MatchResult outcome
         (λ good. exit_status result ≡ (if is_strict && not good then 3 else 0))
         (λ _. exit_status result ≡ 1)
@@ -62,19 +61,17 @@ pub fn run_to_status<R: Read, W: Write, E: Write>(
         (W.contents output.old) (W.contents output.new) is_good outcome
         × IfErr outcome (λ e. (reported more : List ℕ)
         × Appends (E.contents errors.old) (E.contents errors.new) reported
-        × (e ≡ ServeError.Read → reported ++ more ≡ codes "sockdiag: reading failed" ++ 10 ∷ [])
-        × (e ≡ ServeError.Write false → reported ++ more
-        ≡ codes "sockdiag: writing failed" ++ 10 ∷ [])
-        × (e ≡ ServeError.Write true → reported ++ more ≡ [])
-        × (e ≡ ServeError.Memory → reported ++ more ≡ codes "sockdiag: out of memory" ++ 10 ∷ [])) }
+        × (e ≡ RunError.Read → reported ++ more ≡ codes "sockdiag: reading failed" ++ 10 ∷ [])
+        × (e ≡ RunError.Write → reported ++ more ≡ codes "sockdiag: writing failed" ++ 10 ∷ [])
+        × (e ≡ RunError.Memory → reported ++ more ≡ codes "sockdiag: out of memory" ++ 10 ∷ [])) }
 {
     let outcome = answer_all(alloc, input, output);
     report(errors, &outcome);
     exit_code(&outcome, is_strict)
 }
 
-/// The status of a run that ended so.
-fn exit_code(outcome: &Result<bool, ServeError>, is_strict: bool) -> ExitCode
+/// Returns the exit status of a run.
+fn exit_code(outcome: &Result<bool, RunError>, is_strict: bool) -> ExitCode
     ensures { MatchResult outcome.now
         (λ good. exit_status result ≡ (if is_strict && not good then 3 else 0))
         (λ _. exit_status result ≡ 1) }

@@ -4,32 +4,17 @@ ghost use Rattle.std.specs.Prelude.{IsOk, MatchResult};
 ghost use Rattle.std.specs.Io.KnownBytes.{Appends, IsAtEnd, Keeps};
 ghost use Rattle.line_server.specs.Lines.{Splits, with_rest};
 ghost use Rattle.line_server.specs.Run.{Answers, answer_lines};
-ghost use Rattle.line_server.specs.declared.stream.ServeError.{ServeError as Failure};
+ghost use Rattle.line_server.specs.declared.stream.RunError.{RunError};
 ghost use Rattle.sock_diag_lines.specs.Answer.{IsAnswerOf, is_good};
 ghost use Rattle.sock_diag_lines.specs.AskedSteps.{IsReadAs};
 ghost use Rattle.sock_diag_lines.specs.RunSteps.{failure_line};
 
 use crate::answers::{Asked, push_answer_text, read_request};
 use crate::words::OK;
-use line_server::{LineAnswers, ServeError, serve, try_send};
+use line_server::{LineAnswers, RunError, serve, try_send};
 use std::alloc::{AllocError, Global};
 use std::io::{Read, Write};
 use std::marker::Brand;
-use thiserror::Error;
-
-/// Why a run ended before the end of its input.
-#[derive(Clone, Copy, Debug, PartialEq, Eq, Error)]
-pub enum RunError {
-    /// A read failed, or the end did not come within 2^64 - 1 reads.
-    #[error("reading failed")]
-    Read,
-    /// A write or the last flush failed, or a write took no bytes.
-    #[error("writing failed")]
-    Write,
-    /// Memory ran out.
-    #[error("out of memory")]
-    Memory,
-}
 
 /// The line protocol.
 struct Protocol;
@@ -80,20 +65,13 @@ pub fn run<R: Read, W: Write>(alloc: Global, input: &mut R, output: &mut W) -> R
     // What was read and written, for each way to end.
     ensures answered { (answer : List ℕ → List ℕ)
         → ((line : List ℕ) → IsAnswerOf line (answer line))
-        → (outcome : Result Bool Failure)
+        → (outcome : Result Bool RunError)
         × Answers answer (R.remaining input.old) (R.remaining input.new)
         (W.contents output.old) (W.contents output.new) is_good outcome
-        × MatchResult outcome (λ _. result ≡ Ok tt) (λ e.
-        (e ≡ ServeError.Read → result ≡ Err RunError.Read)
-        × ((is_closed : Bool) → e ≡ ServeError.Write is_closed → result ≡ Err RunError.Write)
-        × (e ≡ ServeError.Memory → result ≡ Err RunError.Memory)) }
+        × MatchResult outcome (λ _. result ≡ Ok tt) (λ error. result ≡ Err error) }
 {
-    match answer_all(alloc, input, output) {
-        Ok(_) => Ok(()),
-        Err(ServeError::Read) => Err(RunError::Read),
-        Err(ServeError::Write { is_closed: _ }) => Err(RunError::Write),
-        Err(ServeError::Memory) => Err(RunError::Memory),
-    }
+    let _is_good = answer_all(alloc, input, output)?;
+    Ok(())
 }
 
 /// Writes the answer line of each line of `input`, flushes, and returns whether each answer is a
@@ -103,7 +81,7 @@ pub(crate) fn answer_all<R: Read, W: Write>(
     alloc: Global,
     input: &mut R,
     output: &mut W,
-) -> Result<bool, ServeError>
+) -> Result<bool, RunError>
     // All is read, and the answers to all lines that the reader told at the start are written.
     ensures ended { OnOk result (IsAtEnd (R.remaining input.new)) }
     ensures complete { OnOk result (IfSome (R.remaining input.old) (λ text.
@@ -121,9 +99,8 @@ pub(crate) fn answer_all<R: Read, W: Write>(
     serve::<Brand, Protocol, R, W>(alloc, input, output)
 }
 
-/// Tells why a run failed, but where nobody reads the output any more. Where this can't be written
-/// either, the exit status alone tells of the failure.
-pub(crate) fn report<E: Write>(errors: &mut E, outcome: &Result<bool, ServeError>)
+/// Writes the line that names the failure, if the run failed, or a prefix of it if a write fails.
+pub(crate) fn report<E: Write>(errors: &mut E, outcome: &Result<bool, RunError>)
     ensures silent { IsOk outcome.now → Keeps (E.contents errors.old) (E.contents errors.new) }
     ensures reported { IfErr outcome.now (λ e. (reported : List ℕ)
         × ((more : List ℕ) × (failure_line e ≡ reported ++ more))
@@ -134,14 +111,13 @@ pub(crate) fn report<E: Write>(errors: &mut E, outcome: &Result<bool, ServeError
     }
 }
 
-/// The line that tells of a failure. It is empty where nobody reads the output.
-fn failure_line(error: ServeError) -> &'static [u8]
+/// Returns the line that names a failure.
+fn failure_line(error: RunError) -> &'static [u8]
     ensures { result.now ≡ failure_line error }
 {
     match error {
-        ServeError::Read => b"sockdiag: reading failed\n",
-        ServeError::Write { is_closed: false } => b"sockdiag: writing failed\n",
-        ServeError::Write { is_closed: true } => b"",
-        ServeError::Memory => b"sockdiag: out of memory\n",
+        RunError::Read => b"sockdiag: reading failed\n",
+        RunError::Write => b"sockdiag: writing failed\n",
+        RunError::Memory => b"sockdiag: out of memory\n",
     }
 }

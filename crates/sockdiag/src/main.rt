@@ -3,27 +3,32 @@
 #![tactic(auto)]
 
 use sock_diag_lines::{Choice, HELP, VERSION, choose, run_to_status};
+use std::alloc::AllocError;
 use std::env;
 use std::io::{self, ErrorKind};
 use std::process::ExitCode;
 
 fn main(rt: HostRuntime) -> ExitCode {
-    let mut words = match env::args(&rt) {
-        Ok(words) => words,
-        Err(error) if error.kind() == ErrorKind::OutOfMemory => return tell_no_memory(&rt),
-        Err(_) => return refuse(&rt),
-    };
-    let _program = words.next();
-    match (words.next(), words.next()) {
-        (None, _) => answer_lines(&rt, false),
-        (Some(word), None) => match choose(word.as_str()) {
-            Choice::Strict => answer_lines(&rt, true),
-            Choice::Help => status_of(rt.println(HELP)),
-            Choice::Version => status_of(println!(rt; "sockdiag {VERSION}")),
-            Choice::Unknown => refuse(&rt),
-        },
-        (Some(_), Some(_)) => refuse(&rt),
+    match read_choice(&rt) {
+        Ok(Choice::Answer) => answer_lines(&rt, false),
+        Ok(Choice::Strict) => answer_lines(&rt, true),
+        Ok(Choice::Help) => status_of(&rt, rt.println(HELP)),
+        Ok(Choice::Version) => status_of(&rt, println!(rt; "sockdiag {VERSION}")),
+        Err(AllocError) => fail(&rt, "sockdiag: out of memory"),
     }
+}
+
+/// Returns what the command line asks for.
+fn read_choice(rt: &HostRuntime) -> Result<Choice, AllocError> {
+    let mut arguments = match env::args(rt) {
+        Ok(arguments) => arguments,
+        Err(error) if error.kind() == ErrorKind::OutOfMemory => return Err(AllocError),
+        // An argument is not valid UTF-8, so the command line is none that `choose` knows.
+        Err(_) => return Ok(Choice::Answer),
+    };
+    let _program = arguments.next();
+    let arguments = arguments.collect::<Vec<String>>(rt.alloc())?;
+    Ok(choose(arguments.as_slice()))
 }
 
 /// Answers the lines of standard input.
@@ -37,22 +42,16 @@ fn answer_lines(rt: &HostRuntime, is_strict: bool) -> ExitCode {
     )
 }
 
-/// Status 0 where it was printed.
-fn status_of(printed: io::Result<()>) -> ExitCode {
+/// Returns status 0 if a text was printed.
+fn status_of(rt: &impl Eprint, printed: io::Result<()>) -> ExitCode {
     match printed {
         Ok(()) => ExitCode::SUCCESS,
-        Err(_) => ExitCode::FAILURE,
+        Err(_) => fail(rt, "sockdiag: writing failed"),
     }
 }
 
-/// Tells that memory ran out, with status 1.
-fn tell_no_memory(rt: &impl Eprint) -> ExitCode {
-    let _ = rt.eprintln("sockdiag: out of memory");
+/// Reports a failure on standard error, and returns status 1.
+fn fail(rt: &impl Eprint, line: &str) -> ExitCode {
+    let _ = rt.eprintln(line);
     ExitCode::FAILURE
-}
-
-/// Tells that the arguments are not known, with status 2.
-fn refuse(rt: &impl Eprint) -> ExitCode {
-    let _ = rt.eprintln("sockdiag: unknown arguments, sockdiag --help tells those that are known");
-    ExitCode::from(2)
 }
