@@ -1,167 +1,337 @@
 #!/usr/bin/env python3
-"""Compares the tables in specs/ and the constants with the headers of Linux, by a C program that gcc compiles.
+"""Compares the layouts and the constants of the crates with the kernel's headers, by gcc.
 
-Run it by hand, where gcc and /usr/include/linux are. Each field of a table is compared with the offset and width of
-that of the C struct, and each constant with the header's. What the headers don't have is named: those of an older
-Linux lack the newest fields and constants. It fails, with status 1, where something differs.
+For each record of RECORDS the script parses its table in specs/, and finds the member of the Rust
+struct that each number of the table belongs to. A C program prints the size of the kernel's struct,
+and the offset and the end of each of its members. The fields of `tcp_info`, the bits of
+`inet_diag_sockopt` and the public constants are compared in the same way. The headers of an older
+kernel have fewer of these: the last line but one lists what the installed headers lack.
+
+The exit status is 1 if anything differs, if the headers lack a struct or a member that they must
+have, if a layout of specs/ is missing from RECORDS, or if a table has a form that the script does
+not parse. Without gcc or without the headers the script prints one line and compares nothing.
 """
 
 import re
+import shutil
 import subprocess
 import sys
 import tempfile
 from pathlib import Path
 
-ROOT = Path(__file__).resolve().parent.parent / "crates"
-HEADERS = """
-#include <stdio.h>
-#include <stddef.h>
-#include <sys/socket.h>
-#include <netinet/in.h>
-#include <linux/netlink.h>
-#include <linux/sock_diag.h>
-#include <linux/inet_diag.h>
-#include <linux/unix_diag.h>
-#include <linux/tcp.h>
-#include <linux/tls.h>
-#include <linux/mptcp.h>
-#include <linux/bpf.h>
+# The crates whose public constants are the kernel's.
+NAMING = """netlink_core sock_diag_records sock_diag_families sock_diag_extras sock_diag_filters
+    sock_diag_uses""".split()
+CRATES = Path(__file__).resolve().parent.parent / "crates"
+INCLUDED = Path("/usr/include/linux/inet_diag.h")
+HEADERS = """stdio.h stddef.h sys/socket.h netinet/in.h linux/netlink.h linux/sock_diag.h
+    linux/inet_diag.h linux/unix_diag.h linux/netlink_diag.h linux/packet_diag.h
+    linux/vm_sockets_diag.h linux/xdp_diag.h linux/tcp.h linux/tls.h linux/mptcp.h linux/bpf.h
+    linux/if_link.h""".split()
+# The questions: the size of a struct, where a member starts and ends, and the position of a bit.
+MACROS = r"""
+#define SIZE(s) sizeof(struct s)
+#define START(s, m) offsetof(struct s, m)
+#define END(s, m) (offsetof(struct s, m) + sizeof(((struct s *)0)->m))
+#define BIT(s, m) ({ union { struct s it; unsigned char bytes[sizeof(struct s)]; } u = {}; \
+    u.it.m = 1; int at = 0; while (!(u.bytes[at / 8] >> at % 8 & 1)) at++; at; })
 """
-# Constants that these headers have under another name.
-STATES = "ESTABLISHED SYN_SENT SYN_RECV FIN_WAIT1 FIN_WAIT2 TIME_WAIT CLOSE CLOSE_WAIT LAST_ACK LISTEN CLOSING"
-STATES = f"{STATES} NEW_SYN_RECV BOUND_INACTIVE".split()
-CONTROL = "Open Disorder Recovery Loss".split()
-OTHERS = {f"TCP_{name}": f"BPF_TCP_{name}" for name in STATES}
-OTHERS |= {f"{kind}_{name.upper()}": f"{kind}_{name}" for name in CONTROL for kind in ("TCP_CA", "TCPF_CA")}
-# A table: where it stands, its C struct, the number of its bytes (None: more fields follow), and for each field that is
-# read that of the struct.
-TABLES = [
-    ("sock_diag_values/specs/Vfs.antt", "vfs", "unix_diag_vfs", 8, ["udiag_vfs_ino", "udiag_vfs_dev"]),
-    ("sock_diag_values/specs/LegacyMemInfo.antt", "legacy_mem_info", "inet_diag_meminfo", 16,
-     ["idiag_rmem", "idiag_wmem", "idiag_fmem", "idiag_tmem"]),
-    ("sock_diag_records/specs/UnixRequest.antt", "unix_request", "unix_diag_req", 24,
-     ["udiag_states", "udiag_ino", "udiag_show", "udiag_cookie"]),
-    ("sock_diag_records/specs/UnixResponseHeader.antt", "unix_response_header", "unix_diag_msg", 16,
-     ["udiag_type", "udiag_state", "udiag_ino", "udiag_cookie"]),
-    ("sock_diag_records/specs/SocketId.antt", "socket_id_fields", "inet_diag_sockid", 48,
-     ["idiag_sport", "idiag_dport", "idiag_src", "idiag_dst", "idiag_if", "idiag_cookie"]),
-    ("sock_diag_records/specs/InetRequest.antt", "inet_request", "inet_diag_req_v2", 56,
-     ["sdiag_family sdiag_protocol idiag_ext", "idiag_states", "id"]),
-    ("sock_diag_records/specs/InetResponse.antt", "inet_response_header", "inet_diag_msg", 72,
-     ["idiag_family", "idiag_state", "idiag_retrans", "id", "idiag_expires", "idiag_rqueue", "idiag_wqueue",
-      "idiag_uid", "idiag_inode"]),
-    ("netlink_core/specs/Header.antt", "header_fields", "nlmsghdr", 16,
-     ["nlmsg_len", "nlmsg_type", "nlmsg_flags", "nlmsg_seq", "nlmsg_pid"]),
-    ("sock_diag_extras/specs/Congestion.antt", "vegas_info", "tcpvegas_info", 16,
-     ["tcpv_enabled", "tcpv_rttcnt", "tcpv_rtt", "tcpv_minrtt"]),
-    ("sock_diag_extras/specs/Congestion.antt", "dctcp_info", "tcp_dctcp_info", 16,
-     ["dctcp_enabled", "dctcp_ce_state", "dctcp_alpha", "dctcp_ab_ecn", "dctcp_ab_tot"]),
-    ("sock_diag_extras/specs/Congestion.antt", "bbr_info", "tcp_bbr_info", 20,
-     ["bbr_bw_lo bbr_bw_hi", "bbr_min_rtt", "bbr_pacing_gain", "bbr_cwnd_gain"]),
-    ("sock_diag_extras/specs/Md5Signature.antt", "md5_signature", "tcp_diag_md5sig", 100,
-     ["tcpm_family", "tcpm_prefixlen", "tcpm_keylen", "tcpm_addr", "tcpm_key"]),
-    ("sock_diag_extras/specs/StoredAddress.antt", "stored_address", "sockaddr_storage", 128, None),
-    ("sock_diag_extras/specs/SocketOptions.antt", "socket_options", "inet_diag_sockopt", 2, None),
+SOCKET_ID = """source_port=id.idiag_sport destination_port=id.idiag_dport
+    source_address=id.idiag_src destination_address=id.idiag_dst interface_id=id.idiag_if
+    cookie=id.idiag_cookie"""
+# The table of each record, its C struct, and for each member of the Rust struct its C members:
+# several after `+`, none if it is not compared. `tcpi_` alone is the prefix of all C members.
+RECORDS = [
+    ("header_fields", "nlmsghdr", """length=nlmsg_len message_type=nlmsg_type flags=nlmsg_flags
+        sequence_number=nlmsg_seq port_number=nlmsg_pid"""),
+    ("vfs", "unix_diag_vfs", "inode=udiag_vfs_ino device=udiag_vfs_dev"),
+    ("legacy_mem_info", "inet_diag_meminfo", """receive_queue=idiag_rmem
+        bottom_send_queue=idiag_wmem cache=idiag_fmem send_queue=idiag_tmem"""),
+    ("tcp_info", "tcp_info", "tcpi_"),
+    ("unix_request", "unix_diag_req", """state_flags=udiag_states inode=udiag_ino
+        show_flags=udiag_show cookie=udiag_cookie"""),
+    ("unix_response_header", "unix_diag_msg", """kind=udiag_type state=udiag_state inode=udiag_ino
+        cookie=udiag_cookie"""),
+    ("socket_id", "inet_diag_sockid", SOCKET_ID.replace("id.", "")),
+    ("inet_request", "inet_diag_req_v2", f"""family=sdiag_family protocol=sdiag_protocol
+        extensions=idiag_ext states=idiag_states {SOCKET_ID}"""),
+    ("inet_response_header", "inet_diag_msg", f"""family=idiag_family state=idiag_state
+        timer.1=idiag_retrans {SOCKET_ID} timer.2=idiag_expires recv_queue=idiag_rqueue
+        send_queue=idiag_wqueue uid=idiag_uid inode=idiag_inode"""),
+    ("show_request", "netlink_diag_req", """protocol=sdiag_protocol inode=ndiag_ino
+        show=ndiag_show cookie=ndiag_cookie"""),
+    ("show_request", "packet_diag_req", """protocol=sdiag_protocol inode=pdiag_ino
+        show=pdiag_show cookie=pdiag_cookie"""),
+    ("show_request", "xdp_diag_req", """protocol=sdiag_protocol inode=xdiag_ino
+        show=xdiag_show cookie=xdiag_cookie"""),
+    ("vsock_request", "vsock_diag_req", "states=vdiag_states cookie=vdiag_cookie"),
+    ("netlink_header", "netlink_diag_msg", """kind=ndiag_type protocol=ndiag_protocol
+        state=ndiag_state port=ndiag_portid destination_port=ndiag_dst_portid
+        destination_group=ndiag_dst_group inode=ndiag_ino cookie=ndiag_cookie"""),
+    ("packet_header", "packet_diag_msg", """kind=pdiag_type protocol=pdiag_num inode=pdiag_ino
+        cookie=pdiag_cookie"""),
+    ("packet_info", "packet_diag_info", """interface=pdi_index version=pdi_version
+        reserve=pdi_reserve copy_threshold=pdi_copy_thresh timestamp=pdi_tstamp flags=pdi_flags"""),
+    ("packet_ring", "packet_diag_ring", """block_size=pdr_block_size blocks=pdr_block_nr
+        frame_size=pdr_frame_size frames=pdr_frame_nr retire_timeout=pdr_retire_tmo
+        private_size=pdr_sizeof_priv features=pdr_features"""),
+    ("vsock_header", "vsock_diag_msg", """kind=vdiag_type state=vdiag_state shutdown=vdiag_shutdown
+        source_context=vdiag_src_cid source_port=vdiag_src_port destination_context=vdiag_dst_cid
+        destination_port=vdiag_dst_port inode=vdiag_ino cookie=vdiag_cookie"""),
+    ("xdp_header", "xdp_diag_msg", "kind=xdiag_type inode=xdiag_ino cookie=xdiag_cookie"),
+    ("xdp_info", "xdp_diag_info", "interface=ifindex queue=queue_id"),
+    ("xdp_umem", "xdp_diag_umem", """size=size id=id pages=num_pages chunk_size=chunk_size
+        headroom=headroom interface=ifindex queue=queue_id flags=flags references=refs"""),
+    ("xdp_statistics", "xdp_diag_stats", """received_dropped=n_rx_dropped
+        received_invalid=n_rx_invalid received_full=n_rx_full fill_ring_empty=n_fill_ring_empty
+        sent_invalid=n_tx_invalid send_ring_empty=n_tx_ring_empty"""),
+    ("vegas_info", "tcpvegas_info", """enabled=tcpv_enabled rtt_count=tcpv_rttcnt rtt=tcpv_rtt
+        min_rtt=tcpv_minrtt"""),
+    ("dctcp_info", "tcp_dctcp_info", """enabled=dctcp_enabled ce_state=dctcp_ce_state
+        alpha=dctcp_alpha marked_bytes=dctcp_ab_ecn acked_bytes=dctcp_ab_tot"""),
+    ("bbr_info", "tcp_bbr_info", """bandwidth=bbr_bw_lo+bbr_bw_hi min_rtt=bbr_min_rtt
+        pacing_gain=bbr_pacing_gain window_gain=bbr_cwnd_gain"""),
+    ("md5_signature", "tcp_diag_md5sig", """family=tcpm_family prefix_length=tcpm_prefixlen
+        key_length=tcpm_keylen address=tcpm_addr key=tcpm_key"""),
+    ("stored_address", "sockaddr_storage", """family=ss_family port= front= segments= scope_id=
+        rest="""),
+    ("stored_address", "sockaddr_in", """family=sin_family port=sin_port front=sin_addr segments=
+        scope_id= rest="""),
+    ("stored_address", "sockaddr_in6", """family=sin6_family port=sin6_port front=sin6_flowinfo
+        segments=sin6_addr scope_id=sin6_scope_id rest="""),
+    ("socket_options", "inet_diag_sockopt", "bits="),
+    # Arrays of u32, indexed by constants.
+    ("mem_info", "", """receive_queue=RMEM_ALLOC receive_queue_max=RCVBUF
+        bottom_send_queues=WMEM_ALLOC send_queue_max=SNDBUF cache=FWD_ALLOC send_queue=WMEM_QUEUED
+        options=OPTMEM backlog_queue_length=BACKLOG drops=DROPS"""),
+    ("unix_mem_info", "", "so_rcvbuf=RCVBUF max_datagram_size=SNDBUF alloc=WMEM_QUEUED"),
 ]
-# A field, or fields, of a table: what, its offset, and its width or count.
-OFFSET = r"(?:\(offset \+ (\d+)\)|(\d+)|offset)"
+# Structs that are longer in newer kernels, or are the start of a longer record.
+OTHER_SIZE = {"tcp_info", "sockaddr_in", "sockaddr_in6"}
+# A question that all headers answer: these two structs gain members in newer kernels.
+ANSWERED = re.compile(r"(?:SIZE|START|END|BIT)\((?!tcp_info,|inet_diag_sockopt,)")
+# Members of `tcp_info` that are bytes of bit fields, and the first C member of each.
+BIT_FIELDS = {"wscale": "tcpi_snd_wscale"}
+BIT_FIELDS["delivery_rate_app_limited"] = "tcpi_delivery_rate_app_limited"
+# The bits of `inet_diag_sockopt`.
+OPTIONS = """recverr is_icsk freebind hdrincl mc_loop transparent mc_all nodefrag
+    bind_address_no_port recverr_rfc4884 defer_connect""".split()
+# Constants that have another name in the headers.
+STATES = """ESTABLISHED SYN_SENT SYN_RECV FIN_WAIT1 FIN_WAIT2 TIME_WAIT CLOSE CLOSE_WAIT LAST_ACK
+    LISTEN CLOSING NEW_SYN_RECV BOUND_INACTIVE""".split()
+CONTROL = "Open Disorder Recovery Loss".split()
+OTHERS = {"AF_DECNET": "AF_DECnet"} | {f"TCP_{name}": f"BPF_TCP_{name}" for name in STATES}
+for kind in ("TCP_CA", "TCPF_CA"):
+    OTHERS |= {f"{kind}_{name.upper()}": f"{kind}_{name}" for name in CONTROL}
+CONSTANT = re.compile(r"^ *pub const ([A-Z0-9_]+): u(?:8|16|32|64) = ([0-9a-fx]+);", re.M)
+# A definition of a layout, and the clauses of any definition.
+LAYOUT = re.compile(
+    r"^(?:abbrev|unfoldable) pub (\w+) : (?:\([^)]*\) → )?(?:Layout|RecordTable) "
+    r"|^(\w+)[^=\n]*= fields \d", re.M
+)
+CLAUSE = re.compile(r"^([a-z]\w*)\b([^:=\n]*)=((?:.|\n(?!\S))*)", re.M)
+# The import that a module with tables has.
+TABLES = "use Rattle.netlink_core.specs.Table."
+# The forms of a layout, each with its length, its table and the values of the fields.
+ARGUMENT = r"(?:\((?:[^()]|\((?:[^()]|\([^()]*\))*\))*\)|(?!then\b|else\b)[\w.]+)"
+FORM = re.compile(
+    rf"plain {ARGUMENT} (\d+) ({ARGUMENT}) ({ARGUMENT})"
+    rf"|fields \d+ \w+ (\d+) ({ARGUMENT}) (.*)"
+    r"|(?:least|size) = (\d+);.* (?:table|fields) = (.*?); values = (.*?);"
+)
+# The fields of a table with their arguments, and the values of these fields.
 FIELD = re.compile(
-    rf"\b(numbers|number|bytes_at|byte|flags|address_fields|socket_id_fields) {OFFSET}(?: (\d+))?(?: \w+_endian)?(?: (\d+))?"
+    r"\b(row|number|network|flags|byte|bytes_at|unread|\w+_fields|\w+_rows)\b"
+    rf"((?: {ARGUMENT})*)"
+)
+MEMBER = re.compile(
+    r"\bfirst (\d+) \w+\.(\w+)|\((timer)_data \w+\.timer\)(\.\d)|\b(socket_id_values) "
+    r"|(\w+) = slice_index \w+ (\d+)|(?<!socket_id_values )\b[a-z]\w*\.([a-z]\w*)"
 )
 
 
-def definition(path, name):
-    """The body of a definition in specs/."""
-    text = re.sub(r"--.*", "", (ROOT / path).read_text())
-    found = re.search(rf"^{name}\b[^=\n]*=(.*?)(?=^\S|\Z)", text, re.S | re.M)
-    return found.group(1)
+def definitions():
+    """Returns the clauses of the definitions in modules with tables, and all layouts' names."""
+    clauses, layouts = {}, set()
+    for path in CRATES.glob("*/specs/*.antt"):
+        text = re.sub(r" *--.*", "", path.read_text(encoding="utf-8"))
+        layouts |= {one or other for one, other in LAYOUT.findall(text)}
+        for name, parameters, body in CLAUSE.findall(text if TABLES in text else ""):
+            clauses.setdefault(name, []).append((parameters.split(), " ".join(body.split())))
+    return clauses, layouts
 
 
-def fields_of(body):
-    """The offset and the width of each field that is read; bytes in a row are one."""
-    fields = []
-    for what, behind, offset, second, third in FIELD.findall(body):
-        at = int(behind or offset or 0)
-        if what == "numbers":
-            fields += [(at + n * int(second), int(second)) for n in range(int(third or 1))]
+CLAUSES, LAYOUTS = definitions()
+
+
+def body_of(name):
+    """Returns the text of a definition that has one clause."""
+    clauses = CLAUSES.get(name, [])
+    return clauses[0][1] if len(clauses) == 1 else sys.exit(f"{name}: {len(clauses)} definitions")
+
+
+def number_of(text, offset):
+    """Returns a number or a sum. `offset` is that of a nested table, and `words` at most 9."""
+    known = {"offset": offset, "words": 9}
+    return sum(known[it] if it in known else int(it, 0) for it in re.findall(r"\w+", text))
+
+
+def fields_of(text, offset=0):
+    """Yields the offset and the width of each field of a table, and whether it is read."""
+    for form, rest in FIELD.findall(text):
+        first, *args = re.findall(ARGUMENT, rest) or ["0"]
+        if form == "row":
+            at, width, count = (number_of(it, offset) for it in args)
+            yield from ((at + n * width, width, True) for n in range(count))
+        elif form == "bytes_at":
+            at, count = number_of(first, offset), number_of(args[0], offset)
+            yield from ((at + n, 1, True) for n in range(count))
+        elif form == "unread":
+            zeros = re.search(r"replicate (\d+)", args[0])
+            yield number_of(first, offset), int(zeros[1] if zeros else args[0].count("∷")), False
+        elif form in ("byte", "number", "network", "flags"):
+            yield number_of(first, offset), number_of((args or ["1"])[0], offset), True
+        elif form == "address_fields":
+            # One clause for each version of IP: an address is one field here.
+            at, versions = number_of(first, offset), CLAUSES[form]
+            ends = {sum(list(fields_of(body, at))[-1][:2]) for _, body in versions}
+            yield at, ends.pop() - at if len(ends) == 1 else sys.exit("addresses differ"), True
         else:
-            width = {"byte": 1, "address_fields": 16, "socket_id_fields": 48}.get(what) or int(second)
-            fields.append((at, width))
-    return fields
+            at = number_of(first, offset) if form == "socket_id_fields" else 0
+            yield from fields_of(body_of(form), at)
 
 
-def tcp_fields():
-    """The name, the offset and the width of each field of struct tcp_info."""
-    text = (ROOT / "sock_diag_extras/specs/TcpFields.antt").read_text()
-    found = re.findall(r"^span_of field\.(\w+) = \((\d+), (\d+)\)", text, re.M)
-    return [("tcpi_" + re.sub(r"(?<!^)(?=[A-Z])", "_", name).lower(), int(at), int(width)) for name, at, width in found]
+def members_of(text):
+    """Yields the member of the Rust struct that each number of a table belongs to."""
+    found = sorted(MEMBER.findall(text), key=lambda it: int(it[6] or 0))
+    for count, array, timer, part, socket_id, indexed, _, member in found:
+        if socket_id:
+            yield from members_of(body_of(socket_id))
+        else:
+            yield from [array] * int(count or 0) or [timer + part or indexed or member]
 
 
-def constants():
-    """Each constant of the repository that a header of Linux names, and its number."""
-    for path in ["sock_diag_records/src/constants.rt", "sock_diag_extras/src/constants.rt", "netlink_core/src/message.rt"]:
-        file = ROOT / path
-        if file.exists():
-            yield from re.findall(r"^pub const ([A-Z0-9_]+): u\d+ = ([0-9a-fx]+);", file.read_text(), re.M)
+def record_of(name):
+    """Returns the length of a record, that of its table, and each member's offset and width."""
+    found = FORM.search(body_of(name))
+    if found:
+        least, table, values = (it for it in found.groups() if it)
+    elif name.endswith("_fields"):
+        least, table, values = "0", body_of(name), name.replace("_fields", "_values")
+    else:
+        sys.exit(f"{name}: a form of a layout that this script does not parse")
+    values = body_of(values) if values in CLAUSES else values
+    fields, end, members = {}, 0, {}
+    for at, width, is_read in fields_of(table):
+        if at == end:
+            end += width
+        elif at + width != end:
+            sys.exit(f"{name}: no field at {end}")
+        # A condition has two fields, of which one is read.
+        fields[at] = (width, is_read or fields.get(at, (0, False))[1])
+    read = [(at, width) for at, (width, is_read) in fields.items() if is_read]
+    owners = list(members_of(values))
+    if len(read) != len(owners):
+        sys.exit(f"{name}: {len(read)} fields, and {len(owners)} values")
+    for (at, width), member in zip(read, owners):
+        start, length = members.get(member, (at, 0))
+        members[member] = (start, length + width)
+    return int(least), end, members
+
+
+# The rest of the script does not depend on the form of layouts.
+
+
+def members_in(struct, members, names):
+    """Yields the questions about members of a struct, each with the answer of specs/."""
+    for member, (at, width) in members.items():
+        inside = names[member]
+        if not struct:
+            yield f"4 * SK_MEMINFO_{inside}", at
+            yield f"4 * (SK_MEMINFO_{inside} + 1)", at + width
+        elif struct == "tcp_info" and member in BIT_FIELDS:
+            yield f"BIT({struct}, {BIT_FIELDS[member]})", at * 8
+        elif inside:
+            first, last = inside.split("+")[0], inside.split("+")[-1]
+            yield f"START({struct}, {first})", at
+            yield f"END({struct}, {last})", at + width
+
+
+def about_record(table, struct, names):
+    """Yields the questions about a record, each with the answer of specs/."""
+    least, end, members = record_of(table)
+    size = f"SIZE({struct})" if struct else "4 * SK_MEMINFO_VARS"
+    yield f"{size} > 0", 1
+    if struct not in OTHER_SIZE:
+        yield size, end
+        yield size, least if struct and least else end
+    known = dict(it.split("=") for it in names.split() if "=" in it)
+    known = known or {member: names + member for member in members}
+    if known.keys() != members.keys():
+        sys.exit(f"{table}: RECORDS and specs/ differ in {known.keys() ^ members.keys()}")
+    yield from members_in(struct, members, known)
 
 
 def questions():
-    """Each question to the headers: what is asked, as an expression in C, and what the repository says."""
-    for path, name, struct, size, fields in TABLES:
-        yield f"sizeof(struct {struct})", size
-        ours = fields_of(definition(path, name))
-        if fields is None:
-            continue
-        if len(ours) != len(fields):
-            sys.exit(f"{path}: {name} has {len(ours)} fields, and {len(fields)} are known")
-        for (at, width), names in zip(ours, fields):
-            first, *others = names.split()
-            sizes = " + ".join(f"sizeof(((struct {struct} *)0)->{one})" for one in [first, *others])
-            yield f"offsetof(struct {struct}, {first})", at
-            yield sizes, width
-            for one, behind in zip([first, *others], others):
-                gap = f"offsetof(struct {struct}, {behind}) - offsetof(struct {struct}, {one})"
-                yield f"{gap} - sizeof(((struct {struct} *)0)->{one})", 0
-    for name, at, width in tcp_fields():
-        if name not in ("tcpi_wscale", "tcpi_delivery_rate_app_limited"):
-            yield f"offsetof(struct tcp_info, {name})", at
-            yield f"sizeof(((struct tcp_info *)0)->{name})", width
-    for name, number in constants():
-        yield OTHERS.get(name, name), int(number, 0)
+    """Yields all questions, C expressions, each with the answer of the crates."""
+    for record in RECORDS:
+        yield from about_record(*record)
+    for (field,), body in CLAUSES["span_of"]:
+        member = re.sub(r"(?<=[a-z\d])(?=[A-Z])", "_", field.removeprefix("field.")).lower()
+        at, width = re.findall(r"\d+", body)
+        members = {member: (int(at), int(width))}
+        yield from members_in("tcp_info", members, {member: f"tcpi_{member}"})
+    for (option,), body in CLAUSES["bit_of"]:
+        squeezed = option.removeprefix("option.").lower()
+        (member,) = (it for it in OPTIONS if it.replace("_", "") == squeezed)
+        yield f"BIT(inet_diag_sockopt, {member})", int(body)
+    for crate in NAMING:
+        paths = CRATES.glob(f"{crate}/src/**/*.rt")
+        text = "\n".join(path.read_text(encoding="utf-8") for path in paths)
+        constants = CONSTANT.findall(text) or sys.exit(f"{crate} has no constants")
+        yield from ((OTHERS.get(name, name), int(value, 0)) for name, value in constants)
 
 
 def answers(asked):
-    """What the headers say to each question, or None where they don't know of it."""
+    """Returns the headers' answer to each question, except those that do not compile."""
     left = list(asked)
+    included = "".join(f"#if __has_include(<{it}>)\n#include <{it}>\n#endif\n" for it in HEADERS)
     with tempfile.TemporaryDirectory() as folder:
         source, program = Path(folder, "ask.c"), Path(folder, "ask")
         while True:
             lines = "\n".join(f'printf("%llu\\n", (unsigned long long)({one}));' for one in left)
-            source.write_text(f"{HEADERS}\n#line 1\nint main(void) {{\n{lines}\nreturn 0; }}\n")
-            built = subprocess.run(["gcc", "-fmax-errors=0", "-o", program, source], capture_output=True, text=True)
-            unknown = {int(line) - 2 for line in re.findall(r"ask\.c:(\d+):\d+: error", built.stderr)}
+            text = f"{included}{MACROS}\n#line 1\nint main(void) {{\n{lines}\nreturn 0; }}\n"
+            source.write_text(text, encoding="utf-8")
+            # Errors inside a macro have the line of its use.
+            command = ["gcc", "-ftrack-macro-expansion=0", "-fmax-errors=0", "-o", program, source]
+            built = subprocess.run(command, capture_output=True, text=True, check=False)
+            unknown = {int(it) - 2 for it in re.findall(r"ask\.c:(\d+):\d+: error", built.stderr)}
             if built.returncode == 0:
                 break
             if not unknown:
                 sys.exit(built.stderr)
             left = [one for number, one in enumerate(left) if number not in unknown]
-        told = subprocess.run([program], capture_output=True, text=True, check=True).stdout.split()
-    return dict(zip(left, map(int, told)))
+        values = subprocess.run([program], capture_output=True, text=True, check=True).stdout
+    return dict(zip(left, map(int, values.split()), strict=True))
 
 
 def main():
+    if not shutil.which("gcc") or not INCLUDED.exists():
+        print(f"tests/kernel_headers.py: skipped, no gcc or no {INCLUDED}")
+        return 0
     asked = list(questions())
-    told = answers([one for one, _ in asked])
-    wrong = 0
-    missing = [one for one, _ in asked if one not in told]
-    print("not in these headers:", ", ".join(missing) or "none")
-    for one, number in asked:
-        if told.get(one, number) != number:
-            wrong += 1
-            print(f"{one} is {told[one]}, and {number} here")
-    print(f"{len(told)} offsets, sizes and numbers compared, {wrong} differ")
-    sys.exit(1 if wrong else 0)
+    found = answers(dict.fromkeys(one for one, _ in asked))
+    missing = dict.fromkeys(one for one, _ in asked if one not in found)
+    differ = ((one, ours) for one, ours in asked if found.get(one, ours) != ours)
+    wrong = [f"{one} is {found[one]}, and {ours} here" for one, ours in differ]
+    wrong += [f"the headers do not answer {it}" for it in missing if ANSWERED.match(it)]
+    wrong += [f"RECORDS lacks {it}" for it in LAYOUTS - {table for table, _, _ in RECORDS}]
+    print(*wrong, sep="\n", end="\n" * bool(wrong))
+    lacking = dict.fromkeys(re.findall(r"\w+", it)[-1] for it in missing)
+    print("The installed headers lack:", ", ".join(lacking) or "nothing")
+    print(f"{len(found)} lengths, offsets and constants compared, {len(wrong)} errors")
+    return int(bool(wrong) or not found)
 
 
 if __name__ == "__main__":
-    main()
+    sys.exit(main())

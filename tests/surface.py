@@ -1,14 +1,16 @@
 #!/usr/bin/env python3
-"""Compares the public items of the port's crates with the list tests/surface.txt.
+"""Compares the public items of the libraries with the list tests/surface.txt.
 
-    tests/surface.py             prints what differs, and fails, with status 1, where something does
+    tests/surface.py             prints the differences, and exits with status 1 if there are any
     tests/surface.py --write     writes the list anew
 
-A line is an item, its path first: where it is declared. Listed are functions, methods and what
-traits ask for, by their signatures without the clauses; types with their fields or variants and
-their attributes; impls with their associated types and constants, but those of private traits or
-for private types; constants with their numbers; public modules; each name of a `pub use`; macros
-and their calls outside of functions, whole; and each `cfg` with what it stands over.
+The libraries are the crates of crates.txt, except programs and crates of tests. A line of the list
+is an item, after the path of its declaration. Listed are functions, methods and the items of
+traits, by their signatures without the clauses; types with their fields or variants and their
+attributes; impls with their associated types and constants, except those of private traits or for
+private types; constants with their values; public modules; each name of a `pub use`; functions that
+are exported under a C name, public or not; macros and their calls outside of functions, whole; and
+each `cfg` with the item that it applies to.
 """
 
 import difflib
@@ -17,13 +19,13 @@ import sys
 from itertools import accumulate, islice
 from pathlib import Path
 
-CRATES = """netlink_core attribute_lists sock_diag_values sock_diag_records sock_diag_attributes
-    sock_diag_replies netlink_packet_sock_diag""".split()
 TOP = Path(__file__).resolve().parent.parent
 LIST = TOP / "tests" / "surface.txt"
-# Comments, texts, characters, words, blanks, and any other sign alone.
+# Comments, texts, characters, words, blanks, and single other characters.
 TOKEN = r"""//[^\n]*|/\*.*?\*/|b?"(?:\\.|[^"\\])*"|b?'(?:\\[^']+|[^\\'\s])'|[\w']+|\s+|."""
-# What an item begins with: whether it is public, its kind, its name.
+# A blank inside a text, which is kept.
+BLANK = "\0"
+# The start of an item: its visibility, its kind, its name.
 ITEM = re.compile(
     r"(pub(?:\([^)]*\))? )?(?:(?:async|unsafe|const(?= (?:unsafe )?fn\b)|extern \"\w+\") )*"
     r"(mod|use|fn|struct|enum|union|trait|type|const|static|impl|ghost|extern|[\w:]+!)\s*(\w*)"
@@ -31,38 +33,52 @@ ITEM = re.compile(
 # The trait and the type of an impl, and the last name of such a path.
 IMPL = re.compile(r"(?:unsafe )?impl(?:<(?:[^<>]|<[^<>]*>)*>)? (?:(\S.*) for )?(.*)")
 NAME = re.compile(r"(?:&|'\w+ |mut )*(?:\w+::)*([^<]+)")
-# What stands before a brace that opens no body: a clause, or an item that ends with a semicolon.
+# The text before a brace that opens no body: a clause, or an item that ends with a semicolon.
 CLAUSE = r" (?:ghost|requires|ensures)\*?(?: \w+)?"
 PUB = r"(?:pub(?:\(.*?\))? )?"
 GOES_ON = re.compile(rf"{CLAUSE}$|^{PUB}(?:use|type|static|ghost|const(?! (?:unsafe )?fn\b))\b")
 DECLARED = re.compile(r"^\s*(pub )?(?:pub\(.*?\) )?(?:trait|struct|enum|union) (\w+)", re.M)
-# A macro cfg, or an attribute cfg and what it stands over.
+# A macro cfg, or an attribute cfg and the item that it applies to.
 OVER = rf"(?: ?#\[.*?\])* (?:{PUB}use [^;]*|[^{{;,=]*)"
 CFG = re.compile(rf"\bcfg!\([^{{;]*|#!?\[cfg(?:_attr)?\b.*?\]{OVER}")
-# Attributes that change nothing for a caller, or are listed in another way.
+# Attributes that do not concern a caller, or are listed in another way.
 QUIET = re.compile(r"#!?\[(?:tactic|inline|cold|doc|allow|expect|cfg|derive)\b.*")
+# Attributes that export a function under a C name.
+EXPORTED = re.compile(r"#\[.*\b(?:no_mangle|export_name)\b")
+
+
+def libraries():
+    """Returns the crates of crates.txt, except programs and crates of tests."""
+    crates = re.findall(r"^\w+", (TOP / "crates.txt").read_text(encoding="utf-8"), re.M)
+    others = [it for it in crates if not it.endswith("_tests")]
+    return [it for it in others if (TOP / "crates" / it / "src" / "lib.rt").exists()]
 
 
 def tokens_of(path):
-    """The tokens of a file. A comment, as a run of blanks, is one blank."""
-    found = re.findall(TOKEN, path.read_text(encoding="utf-8"), re.S)
-    return [" " if it.isspace() or it.startswith(("//", "/*")) else it for it in found]
+    """Returns the tokens of a file. A comment or a run of blanks is one blank."""
+    for it in re.findall(TOKEN, path.read_text(encoding="utf-8"), re.S):
+        if it.startswith(('"', 'b"')):
+            text = re.sub(r"\\\n\s*", "", it).replace("\n", r"\n")
+            yield text.replace(" ", BLANK)
+        else:
+            yield " " if it.isspace() or it.startswith(("//", "/*")) else it
 
 
 def text_of(tokens):
-    """The tokens on one line, written alike wherever lines break."""
+    """Returns the tokens as one line, which does not depend on line breaks."""
     text = re.sub(r"([(\[<]) ", r"\1", " ".join("".join(tokens).split()))
-    return re.sub(r",? ([)\]>])", r"\1", text.replace(", }", " }")).rstrip(",")
+    text = re.sub(r",? ([)\]>])", r"\1", text.replace(", }", " }")).rstrip(",")
+    return text.replace(BLANK, " ")
 
 
 def closing(tokens, at):
-    """The place of the bracket that closes the one at that place."""
+    """Returns the index of the bracket that closes the one at `at`."""
     signs = ((it in set("([{")) - (it in set(")]}")) for it in islice(tokens, at, None))
-    return at + next(place for place, depth in enumerate(accumulate(signs)) if depth == 0)
+    return at + next(index for index, depth in enumerate(accumulate(signs)) if depth == 0)
 
 
 def without_attributes(tokens):
-    """The attributes in front, as texts, and the tokens behind them."""
+    """Returns the leading attributes, as texts, and the tokens after them."""
     attributes, at = [], 0
     while at < len(tokens) and tokens[at] in " #":
         if tokens[at] == "#":
@@ -74,7 +90,7 @@ def without_attributes(tokens):
 
 
 def items(tokens):
-    """Of each item its attributes, its tokens up to its body, and those in its body, or None."""
+    """Yields for each item its attributes, its tokens before its body, and its body or None."""
     start = at = 0
     while at < len(tokens):
         end = closing(tokens, at) if tokens[at] in set("([{") else at
@@ -87,7 +103,7 @@ def items(tokens):
 
 
 def parts(tokens):
-    """The attributes and the tokens of what commas outside of brackets set apart."""
+    """Yields the attributes and the tokens between commas that are outside of brackets."""
     start = at = depth = 0
     while at <= len(tokens):
         sign = tokens[at] if at < len(tokens) else ","
@@ -102,7 +118,7 @@ def parts(tokens):
 
 
 def names_of_use(tokens, before=""):
-    """Of each name that a use gives the name, and the path that it stands for."""
+    """Yields each name that a `use` declares, and its path."""
     head = before + text_of(tokens).partition("{")[0].strip()
     if "{" not in tokens:
         path, _, name = head.removesuffix("::self").partition(" as ")
@@ -113,48 +129,50 @@ def names_of_use(tokens, before=""):
 
 
 class Surface:
-    """The lines of a crate."""
+    """The lines of one crate."""
 
     def __init__(self, crate):
         folder, self.lines = TOP / "crates" / crate / "src", []
         texts = [path.read_text(encoding="utf-8") for path in folder.rglob("*.rt")]
         declared = {found for text in texts for found in DECLARED.findall(text)}
         self.private = {name for public, name in declared if ("pub ", name) not in declared}
-        self.read(tokens_of(folder / "lib.rt"), folder, crate)
+        self.read(list(tokens_of(folder / "lib.rt")), folder, crate)
 
     def read(self, tokens, folder, module):
         self.lines += [f"{module}: {cfg}" for cfg in CFG.findall(text_of(tokens))]
         for attributes, head, body in items(tokens):
             text = text_of(head)
-            found = ITEM.match(text) or sys.exit(f"{module}: what is {text[:80]}?")
+            found = ITEM.match(text) or sys.exit(f"{module}: unknown item {text[:80]}")
             public, kind, path = found[1] == "pub ", found[2], f"{module}::{found[3]}"
             if kind == "mod":
                 self.lines += [f"{path}: pub mod"] * public
                 inner, file = folder / found[3], folder / f"{found[3]}.rt"
                 file = file if file.exists() else inner / "mod.rt"
-                self.read(tokens_of(file) if body is None else body, inner, path)
+                self.read(list(tokens_of(file)) if body is None else body, inner, path)
             elif kind == "impl":
                 self.read_impl(module, text, body)
             elif kind == "use" and public:
                 names = names_of_use(head[head.index("use") + 1 :])
                 self.lines += [f"{module}::{name}: pub use {whole}" for name, whole in names]
             elif kind == "extern" or kind.endswith("!"):
-                self.lines.append(f"{module}: {text} {text_of(body or [])}".rstrip())
-            elif public:
+                whole = " ".join([*attributes, text, text_of(body or [])])
+                self.lines.append(f"{module}: {whole}".rstrip())
+            elif public or any(EXPORTED.match(it) for it in attributes):
                 self.read_public(path, kind, attributes, text, body or [])
 
     def read_public(self, path, kind, attributes, text, body=()):
-        """An item that is public itself, or one of a public trait."""
-        told = {re.split(rf"{CLAUSE} {{", text)[0]}
+        """Lists an item that is public itself, or an item of a public trait."""
+        facts = {re.split(rf"{CLAUSE} {{", text)[0]}
         for it in attributes:
             derived = re.findall(r"[\w:]+", it.partition("derive(")[2])
-            told |= {f"derives {name}" for name in derived} | {it} - set(QUIET.findall(it))
+            facts |= {f"derives {name}" for name in derived} | {it} - set(QUIET.findall(it))
         inner = [" ".join([text_of(it), *of]) for of, it in parts(body) if kind != "trait"]
         if kind == "enum":
             self.lines += [f"{path}::{it}" for it in inner]
         elif kind in ("struct", "union"):
             self.lines += [f"{path}.{it[4:]}" for it in inner if it.startswith("pub ")]
-            told |= {"has private fields" for it in inner if not it.startswith(("pub ", "ghost "))}
+            hidden = [it for it in inner if not it.startswith(("pub ", "ghost "))]
+            facts |= {"has private fields" for _ in hidden}
         elif kind == "trait":
             for of, head, given in items(body):
                 text = text_of(head)
@@ -164,10 +182,10 @@ class Surface:
                 if name != "use":
                     text = f"provided {text}" if given is not None else text
                     self.read_public(f"{path}::{name}", asked, of, text)
-        self.lines += [f"{path}: {it}" for it in told]
+        self.lines += [f"{path}: {it}" for it in facts]
 
     def read_impl(self, module, head, body):
-        """A trait's impl with its types and constants, or the public members of a type."""
+        """Lists a trait's impl with its types and constants, or the public members of a type."""
         of, over = IMPL.match(head).groups()
         name, trait = NAME.match(over)[1], NAME.match(of or "-")[1]
         if {name, trait} & self.private:
@@ -185,13 +203,13 @@ class Surface:
 
 
 def main():
-    lines = sorted(line for crate in CRATES for line in Surface(crate).lines)
+    lines = sorted(line for crate in libraries() for line in Surface(crate).lines)
     if "--write" in sys.argv[1:]:
         LIST.write_text("\n".join(lines) + "\n", encoding="utf-8")
     listed = LIST.read_text(encoding="utf-8").splitlines()
     if lines != listed:
         print(*difflib.unified_diff(listed, lines, "list", "crates", n=0, lineterm=""), sep="\n")
-        print("Where that is meant, run tests/surface.py --write.")
+        print("If this is intended, run tests/surface.py --write.")
     return int(lines != listed)
 
 
