@@ -1,6 +1,6 @@
 #!/usr/bin/env python3
 """Looks for links and paths in the pages that lead nowhere: a file that isn't there, or a heading that its page
-doesn't have. It fails too where README.md has more than 1,500 words."""
+doesn't have."""
 
 import re
 import sys
@@ -8,7 +8,6 @@ from pathlib import Path
 
 TOP = Path(__file__).resolve().parent.parent
 PAGES = ["*.md", "docs/*.md", "crates/*/*.md"]
-WORDS = 1500
 LINK = re.compile(r"\[[^\]]*\]\(([^)\s]+)\)")
 # A path from the top, in code marks. NAME and CRATE stand for any name, and try_it for a new one.
 PATH = re.compile(r"`((?:bench|crates|docs|examples|include|tests|tools)/[\w./]+)`")
@@ -32,16 +31,14 @@ def is_dead(page, link):
 
 def main():
     pages = sorted(page for pattern in PAGES for page in TOP.glob(pattern))
-    dead, words = [], {}
+    dead = []
     for page in pages:
         text = page.read_text(encoding="utf-8")
-        words[page] = len(text.split())
         gone = [it for it in LINK.findall(text) if is_dead(page, it)]
         gone += [it for it in PATH.findall(text) if not ANY.search(it) and not (TOP / it).exists()]
         dead += [f"{page.relative_to(TOP)}: {it} leads nowhere" for it in gone]
-    first = words[TOP / "README.md"]
-    print("\n".join([*dead, f"{len(dead)} dead links; {first} words in README.md, {sum(words.values())} in all pages"]))
-    return 1 if dead or first > WORDS else 0
+    print("\n".join([*dead, f"{len(dead)} dead links in {len(pages)} pages"]))
+    return 1 if dead else 0
 
 
 sys.exit(main())

@@ -52,11 +52,11 @@ module _ {A : Type 0} (reads : Attribute → Result A DecodeError) where
       ]
 
   -- and no other values
-  pub values_determined : (bytes : List ℕ) (values : List A) → IsBytes bytes → HasNoFault reads bytes
-      → (values_in reads bytes ≡ values) ↔ AttributesMean reads bytes values
-  values_determined bytes values in_range clean = (
+  pub values_fixed : (bytes : List ℕ) (vs : List A) → IsBytes bytes → HasNoFault reads bytes
+      → (values_in reads bytes ≡ vs) ↔ AttributesMean reads bytes vs
+  values_fixed bytes vs in_range clean = (
     λ same. subst (AttributesMean reads bytes) same (values_mean bytes in_range clean),
-    values_are bytes values,
+    values_are bytes vs,
   )
 
   -- behind an attribute that says something there is no fault either

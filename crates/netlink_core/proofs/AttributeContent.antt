@@ -7,20 +7,22 @@ use Rattle.std.proofs.lemmas.Map.Made.{Contains-tail}
 use Rattle.netlink_core.specs.AttributeSet.{AttributeSet, AttributeValue, ValueAt}
 use Rattle.netlink_core.specs.AttributeSet.{put, got, of_type, content, numbers}
 
--- the value that was injected on a side is found there
-found_there : (A : Type 0) {B C : Type 0} (t : Bool) (make : B → C) (find : C → Option B) (x : cond t A B)
-    → (t ≡ false → (y : B) → find (make y) ≡ Some y) → got t find (put t make x) ≡ Some x
-found_there A true make find x later = refl
-found_there A false make find x later = later refl x
+-- A is the type of the values on the first side
+module _ (A : Type 0) where
+  -- the value that was injected on a side is found there
+  found_there : {B C : Type 0} (t : Bool) (make : B → C) (find : C → Option B) (x : cond t A B)
+      → (t ≡ false → (y : B) → find (make y) ≡ Some y) → got t find (put t make x) ≡ Some x
+  found_there true make find x later = refl
+  found_there false make find x later = later refl x
 
--- and not on the other side
-not_found_elsewhere : (A : Type 0) {B C D : Type 0} (s t : Bool) (make : B → C) (find : C → Option D)
-    (x : cond t A B) → (s ≡ true → t ≡ true → ⊥) → ((y : B) → find (make y) ≡ None)
-    → got s find (put t make x) ≡ None
-not_found_elsewhere A true true make find x apart later = absurd (apart refl refl)
-not_found_elsewhere A true false make find x apart later = refl
-not_found_elsewhere A false true make find x apart later = refl
-not_found_elsewhere A false false make find x apart later = later x
+  -- and not on the other side
+  not_elsewhere : {B C D : Type 0} (s t : Bool) (make : B → C) (find : C → Option D)
+      → (x : cond t A B) → (s ≡ true → t ≡ true → ⊥) → ((y : B) → find (make y) ≡ None)
+      → got s find (put t make x) ≡ None
+  not_elsewhere true true make find x apart later = absurd (apart refl refl)
+  not_elsewhere true false make find x apart later = refl
+  not_elsewhere false true make find x apart later = refl
+  not_elsewhere false false make find x apart later = later x
 
 not_found : {A B C : Type 0} (t : Bool) (find : C → Option B) (v : A ⊎ C) → t ≡ false
     → ((w : C) → find w ≡ None) → got t find v ≡ None
@@ -50,8 +52,9 @@ pub no_content_of_other_type : (F : AttributeSet) (k j : ℕ) (x : ValueAt F k) 
     → content F j (of_type F k x) ≡ None
 no_content_of_other_type [] k j x differ = refl
 no_content_of_other_type (spec ∷ others) k j x differ =
-    not_found_elsewhere _ (spec.number == j) (spec.number == k) (of_type others k) (content others j) x
-    (grind (arith, nat_tests)) (λ y. no_content_of_other_type others k j y differ)
+    not_elsewhere _ (spec.number == j) (spec.number == k) (of_type others k)
+    (content others j) x (grind (arith, nat_tests))
+    (λ y. no_content_of_other_type others k j y differ)
 
 pub no_content_of_no_type : (F : AttributeSet) (k : ℕ) (v : AttributeValue F)
     → (Contains (numbers F) k → ⊥) → content F k v ≡ None

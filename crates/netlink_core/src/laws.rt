@@ -93,9 +93,9 @@ pub fn attributes_take_memory() -> bool
     DefaultNla::TAKES_MEMORY
 }
 
-/// Proof only: the contract states the property. For any set of attribute types, the value of a type
-/// is found under the number of its type and under no other number, and nothing is found under a
-/// number of no type.
+/// Proof only: the contract states the property. For any set of attribute types, the value of a
+/// type is found under the number of its type and under no other number, and nothing is found under
+/// a number of no type.
 pub fn content_is_of_its_type<T: FamilyNla>()
     ensures own { (k : ℕ) (x : ValueAt T.attribute_set k) → Contains (numbers T.attribute_set) k
         → content T.attribute_set k (of_type T.attribute_set k x) ≡ Some x }
