@@ -6,8 +6,9 @@ CRATE, EDIT or CRATE/EDIT; with none, all are tried.
 Edits of functions that don't call each other make a group. One check of a copy tries a group, over
 what the crate's own proof kept in out/. An edit is refused where the prover refuses the function
 that it changes, and not since that one calls another. What no group can hold or tell is tried
-alone, as rt ci tries it. --list prints the groups, and tries nothing. The exit status is 1 where
-an edit isn't refused, or can't be told."""
+alone, as rt ci tries it. --list prints the groups and tries nothing; it names the edits that can't
+be applied. The exit status is 1 if there is one, if an edit isn't refused or if nothing is known of
+it."""
 import argparse
 import glob
 import importlib.machinery
@@ -189,6 +190,9 @@ def main():
             groups, alone = groups_of(edits, functions)
             for at, group in enumerate([*groups, *[[it] for it in alone]], 1):
                 print(f"{crate.name} {at}:", *[it.name.partition("/")[2] for it in group])
+            for it in [it for it in edits if it.texts is None]:
+                failed += 1
+                print(f"{it.name}: {rt.read_edit(it.file, crate.folder)[1]}", file=sys.stderr)
         elif edits:
             failed += try_crate(crate, edits, functions, ["--jobs", given.jobs])
     if not given.list:
