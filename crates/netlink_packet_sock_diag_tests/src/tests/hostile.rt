@@ -32,14 +32,14 @@ fn changed(rt: &impl Abort, alloc: Global, whole: &[u8], place: usize, change: u
 
 /// Reads the bytes by both readers with each byte in turn changed to each other one. The counts are
 /// shown like this.
-fn changes<T: ReadTwice<Param = ()>>(rt: &impl Abort, alloc: Global, parts: &[&str], counts: &str) {
+fn changes<T: ReadTwice>(rt: &impl Abort, alloc: Global, parts: &[&str], counts: &str) {
     let whole = bytes(rt, alloc, parts);
-    let value = T::read(alloc, &whole, ()).expect(rt, "refused");
+    let value = T::read_once(alloc, &whole).expect(rt, "refused");
     let mut tally = [0; 11];
     for place in 0..whole.len() {
         for change in 1..=u8::MAX {
             let changed = changed(rt, alloc, &whole, place, change);
-            count(&mut tally, read_twice::<T>(rt, alloc, &changed, ()), &value);
+            count(&mut tally, read_twice::<T>(rt, alloc, &changed), &value);
         }
     }
     shows(rt, alloc, &tally, counts);

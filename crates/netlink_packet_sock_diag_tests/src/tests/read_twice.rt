@@ -8,52 +8,75 @@ use std::alloc::Global;
 use std::fmt::Debug;
 use std::process::Abort;
 
-/// A value with two readers.
-pub(crate) trait ReadTwice: Wire + Debug + Drop {
-    /// A copy of what the other reader reads.
-    fn read_again(alloc: Global, bytes: &[u8], param: Self::Param) -> Result<Self, DecodeError>;
+/// A value with two readers. A message is read under type 20. The trait does not extend `Wire`,
+/// whose laws make each call of a generic helper slow to prove.
+pub(crate) trait ReadTwice: Sized + PartialEq + Debug + Drop {
+    /// Reads an owned value.
+    fn read_once(alloc: Global, bytes: &[u8]) -> Result<Self, DecodeError>;
+
+    /// Reads by the other reader, and returns a copy.
+    fn read_again(alloc: Global, bytes: &[u8]) -> Result<Self, DecodeError>;
 }
 
-/// What both readers tell of the bytes: the same value or the same fault.
+/// Returns the value or the error that both readers return.
 pub(crate) fn read_twice<T: ReadTwice>(
     rt: &impl Abort,
     alloc: Global,
     bytes: &[u8],
-    param: T::Param,
 ) -> Result<T, DecodeError> {
-    let read = T::read(alloc, bytes, param);
-    assert!(rt; T::read_again(alloc, bytes, param) == read, "{bytes:?}");
+    let read = T::read_once(alloc, bytes);
+    assert!(rt; T::read_again(alloc, bytes) == read, "{bytes:?}");
     read
 }
 
 impl ReadTwice for UnixResponse {
-    fn read_again(alloc: Global, bytes: &[u8], _param: ()) -> Result<Self, DecodeError> {
+    fn read_once(alloc: Global, bytes: &[u8]) -> Result<Self, DecodeError> {
+        UnixResponse::read(alloc, bytes, ())
+    }
+
+    fn read_again(alloc: Global, bytes: &[u8]) -> Result<Self, DecodeError> {
         let view = UnixResponseView::parse(bytes)?;
         Ok(view.to_owned(alloc)?.clone(alloc)?)
     }
 }
 
 impl ReadTwice for InetResponse {
-    fn read_again(alloc: Global, bytes: &[u8], _param: ()) -> Result<Self, DecodeError> {
+    fn read_once(alloc: Global, bytes: &[u8]) -> Result<Self, DecodeError> {
+        InetResponse::read(alloc, bytes, ())
+    }
+
+    fn read_again(alloc: Global, bytes: &[u8]) -> Result<Self, DecodeError> {
         let view = InetResponseView::parse(bytes)?;
         Ok(view.to_owned(alloc)?.clone(alloc)?)
     }
 }
 
 impl ReadTwice for SockDiagMessage {
-    fn read_again(alloc: Global, bytes: &[u8], message_type: u16) -> Result<Self, DecodeError> {
-        Ok(SockDiagMessage::parse_with_param(alloc, bytes, message_type)?.clone(alloc)?)
+    fn read_once(alloc: Global, bytes: &[u8]) -> Result<Self, DecodeError> {
+        SockDiagMessage::read(alloc, bytes, 20)
+    }
+
+    fn read_again(alloc: Global, bytes: &[u8]) -> Result<Self, DecodeError> {
+        Ok(SockDiagMessage::parse_with_param(alloc, bytes, 20)?.clone(alloc)?)
     }
 }
 
 impl ReadTwice for UnixRequest {
-    fn read_again(alloc: Global, bytes: &[u8], _param: ()) -> Result<Self, DecodeError> {
+    fn read_once(alloc: Global, bytes: &[u8]) -> Result<Self, DecodeError> {
+        UnixRequest::read(alloc, bytes, ())
+    }
+
+    fn read_again(alloc: Global, bytes: &[u8]) -> Result<Self, DecodeError> {
         Ok(UnixRequest::parse(alloc, bytes)?.clone()?)
     }
 }
 
 impl ReadTwice for InetRequest {
-    fn read_again(alloc: Global, bytes: &[u8], _param: ()) -> Result<Self, DecodeError> {
+    fn read_once(alloc: Global, bytes: &[u8]) -> Result<Self, DecodeError> {
+        InetRequest::read(alloc, bytes, ())
+    }
+
+    fn read_again(alloc: Global, bytes: &[u8]) -> Result<Self, DecodeError> {
         Ok(InetRequest::parse(alloc, bytes)?.clone()?)
     }
 }

@@ -3,7 +3,7 @@
 use super::read_twice::ReadTwice;
 use super::{INET, LISTENING, PATH};
 use hex::FromHexError;
-use netlink_core::{CanonError, DecodeError, NetlinkMessage, canonical};
+use netlink_core::{CanonError, DecodeError, NetlinkMessage, Wire, canonical};
 use netlink_packet_sock_diag::inet::InetResponse;
 use netlink_packet_sock_diag::unix::UnixResponse;
 use netlink_packet_sock_diag::{DumpReader, DumpState, LossyDump, SockDiagMessage};
@@ -45,9 +45,8 @@ fn agree<T: PartialEq + Drop>(
 }
 
 /// Both readers give the value and `canonical` gives these bytes, or they want memory.
-fn copes<T: ReadTwice>(rt: &impl Abort, alloc: Global, bytes: &[u8], param: T::Param) {
-    let read = T::read(alloc, bytes, param);
-    assert!(rt; agree(read, T::read_again(alloc, bytes, param)));
+fn copes<T: ReadTwice + Wire>(rt: &impl Abort, alloc: Global, bytes: &[u8], param: T::Param) {
+    assert!(rt; agree(T::read_once(alloc, bytes), T::read_again(alloc, bytes)));
     match canonical::<T>(alloc, bytes, param) {
         Ok(form) => assert!(rt; form.as_slice() == bytes),
         Err(fault) => assert!(rt; fault == CanonError::Memory),
@@ -55,7 +54,7 @@ fn copes<T: ReadTwice>(rt: &impl Abort, alloc: Global, bytes: &[u8], param: T::P
 }
 
 /// The same of a reply, also as a message.
-fn copes_with_reply<T: ReadTwice<Param = ()>>(
+fn copes_with_reply<T: ReadTwice + Wire<Param = ()>>(
     rt: &impl Abort,
     alloc: Global,
     header: &str,
@@ -103,7 +102,7 @@ fn number<T: Drop>(read: Result<T, DecodeError>) -> u8 {
 }
 
 /// Both readers give a value of so many bytes, or the fault of this number, in every run.
-fn answers<T: ReadTwice<Param = ()>>(
+fn answers<T: ReadTwice>(
     rt: &impl Abort,
     alloc: Global,
     (header, attributes): (&str, &str),
@@ -112,8 +111,8 @@ fn answers<T: ReadTwice<Param = ()>>(
 ) {
     if let Some(bytes) = reply(rt, alloc, header, attributes) {
         let bytes = bytes.get(..count).expect(rt, "so many bytes");
-        assert!(rt; number(T::read(alloc, bytes, ())) == want);
-        assert!(rt; number(T::read_again(alloc, bytes, ())) == want);
+        assert!(rt; number(T::read_once(alloc, bytes)) == want);
+        assert!(rt; number(T::read_again(alloc, bytes)) == want);
     }
 }
 

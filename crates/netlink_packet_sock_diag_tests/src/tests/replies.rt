@@ -12,9 +12,9 @@ use std::fmt::Debug;
 use std::process::Abort;
 
 /// What both readers tell of a row.
-fn tell<T: ReadTwice>(rt: &impl Abort, alloc: Global, param: T::Param, front: &str, row: &str) {
+fn tell<T: ReadTwice>(rt: &impl Abort, alloc: Global, front: &str, row: &str) {
     let (reply, part) = cells(rt, alloc, front, row);
-    shows(rt, alloc, &read_twice::<T>(rt, alloc, &reply, param), part);
+    shows(rt, alloc, &read_twice::<T>(rt, alloc, &reply), part);
 }
 
 /// Behind a path.
@@ -44,11 +44,11 @@ cookie: [52, 18, 0, 0, 4, 0, 0, 0] }, nlas: [Peer(1)] }))";
 #[test]
 fn replies_and_a_message(rt: HostRuntime) {
     let alloc = rt.alloc();
-    tell::<UnixResponse>(&rt, alloc, (), PATH, WITH_PATH);
-    tell::<UnixResponse>(&rt, alloc, (), PEER, WITH_PEER);
+    tell::<UnixResponse>(&rt, alloc, PATH, WITH_PATH);
+    tell::<UnixResponse>(&rt, alloc, PEER, WITH_PEER);
     let inet = [INET, SHUTDOWN].concat(alloc).expect(&rt, "memory");
-    tell::<InetResponse>(&rt, alloc, (), &inet, WITH_SHUTDOWN);
-    tell::<SockDiagMessage>(&rt, alloc, 20, "", MESSAGE);
+    tell::<InetResponse>(&rt, alloc, &inet, WITH_SHUTDOWN);
+    tell::<SockDiagMessage>(&rt, alloc, "", MESSAGE);
 }
 
 /// What is told of each message in its envelope.

@@ -9,18 +9,29 @@ use netlink_packet_sock_diag::unix::UnixResponse;
 use std::alloc::Global;
 use std::process::Abort;
 
-/// There is memory for the header and each number of attributes.
-fn has_room<T: ReadTwice<Param = ()>>(
+/// Asserts that both readers accept the bytes.
+fn accepts<T: ReadTwice>(rt: &impl Abort, alloc: Global, bytes: &[u8]) {
+    assert!(rt; read_twice::<T>(rt, alloc, bytes).is_ok());
+}
+
+/// Returns the bytes of a header and of a number of equal attributes.
+fn repeated(
     rt: &impl Abort,
     alloc: Global,
     header: &str,
     attribute: &str,
-) {
+    count: usize,
+) -> Vec<u8> {
+    let attributes = attribute.repeat(alloc, count).expect(rt, "memory");
+    bytes(rt, alloc, &[header, &attributes])
+}
+
+/// There is memory for the header and each number of attributes.
+fn has_room<T: ReadTwice>(rt: &impl Abort, alloc: Global, header: &str, attribute: &str) {
     for count in [0, 1, 2, 3, 4, 5, 6, 7, 8, 9, 100, 10_000] {
-        let attributes = attribute.repeat(alloc, count).expect(rt, "memory");
-        let reply = bytes(rt, alloc, &[header, &attributes]);
-        assert!(rt; read_twice::<T>(rt, alloc, &reply, ()).is_ok());
-        assert!(rt; read_twice::<SockDiagMessage>(rt, alloc, &reply, 20).is_ok());
+        let reply = repeated(rt, alloc, header, attribute, count);
+        accepts::<T>(rt, alloc, &reply);
+        accepts::<SockDiagMessage>(rt, alloc, &reply);
     }
 }
 
@@ -35,11 +46,10 @@ fn lists_of_attributes(rt: HostRuntime) {
 /// There is memory for a long payload of each type of netlink(7).
 #[test]
 fn long_payloads(rt: HostRuntime) {
-    let alloc = rt.alloc();
     for kind in ["0200", "0300", "0400"] {
-        let mut message = bytes(&rt, alloc, &["80110100", kind, "00000000000000000000"]);
-        message.resize(70_016, 7).expect(&rt, "memory");
-        let read = NetlinkMessage::<SockDiagMessage>::deserialize(alloc, &message);
+        let digits = ["80110100", kind, "00000000000000000000"];
+        let message = padded(&rt, rt.alloc(), &digits, 7, 70_000);
+        let read = NetlinkMessage::<SockDiagMessage>::deserialize(rt.alloc(), &message);
         assert!(rt; read.is_ok());
     }
 }
@@ -59,17 +69,20 @@ fn written_len(alloc: Global, bytes: &[u8]) -> Result<usize, CanonError> {
     Ok(canonical::<SockDiagMessage>(alloc, bytes, 20)?.len())
 }
 
+/// Returns the bytes of these digits and then a number of equal bytes.
+fn padded(rt: &impl Abort, alloc: Global, digits: &[&str], byte: u8, count: usize) -> Vec<u8> {
+    let mut padded = bytes(rt, alloc, digits);
+    let len = padded.len().saturating_add(count);
+    padded.resize(len, byte).expect(rt, "memory");
+    padded
+}
+
 #[test]
 fn long_attributes(rt: HostRuntime) {
-    let alloc = rt.alloc();
     for (header, head, byte, count, back, part) in LONG {
-        let mut reply = bytes(&rt, alloc, &[header, head]);
-        reply
-            .resize(reply.len().saturating_add(count), byte)
-            .expect(&rt, "memory");
-        reply
-            .extend_from_slice(&bytes(&rt, alloc, &[back]))
-            .expect(&rt, "memory");
-        shows(&rt, alloc, &written_len(alloc, &reply), part);
+        let mut reply = padded(&rt, rt.alloc(), &[header, head], byte, count);
+        let back = bytes(&rt, rt.alloc(), &[back]);
+        reply.extend_from_slice(&back).expect(&rt, "memory");
+        shows(&rt, rt.alloc(), &written_len(rt.alloc(), &reply), part);
     }
 }

@@ -1,7 +1,7 @@
 //! What is read in place, replies and the messages of a datagram, and how far dumps are.
 
 use super::{INET, PATH, SHUTDOWN, bytes, gives, shows};
-use netlink_core::{Emitable, write_new};
+use netlink_core::{DecodeError, Emitable, write_new};
 use netlink_packet_sock_diag::inet::InetResponseView;
 use netlink_packet_sock_diag::unix::UnixResponseView;
 use netlink_packet_sock_diag::{
@@ -141,21 +141,36 @@ unknown+error reply: (Err(Ended), Error, Some(238), \
 unknown+reply+00: (Err(Fault(EnvelopeCut { got: 1 })), Failed, None, \
 [Some(UnknownMessageType { message_type: 21 }), None])";
 
+/// Returns the error of each entry, if it has one.
+fn faults(rt: &impl Abort, alloc: Global, dump: LossyDump) -> Vec<Option<DecodeError>> {
+    let mut faults = Vec::new(alloc);
+    for entry in dump.into_entries() {
+        faults.push(entry.err()).expect(rt, "memory");
+    }
+    faults
+}
+
+/// Feeds the datagrams to a `LossyDump`, and asserts that its report contains the text.
+fn lossy(rt: &impl Abort, alloc: Global, datagrams: &str, part: &str) {
+    let mut dump = LossyDump::new(alloc);
+    let mut answer = Ok(());
+    for names in datagrams.split(' ') {
+        answer = dump.feed(&datagram(rt, alloc, names));
+    }
+    let (state, number) = (dump.state(), dump.error_number());
+    shows(
+        rt,
+        alloc,
+        &(answer, state, number, faults(rt, alloc, dump)),
+        part,
+    );
+}
+
 #[test]
 fn dumps_go_past_refused_replies(rt: HostRuntime) {
     for row in LOSSY_DUMPS.lines() {
         let (datagrams, part) = row.split_once(": ").expect(&rt, "no part");
-        let mut dump = LossyDump::new(rt.alloc());
-        let mut answer = Ok(());
-        for names in datagrams.split(' ') {
-            answer = dump.feed(&datagram(&rt, rt.alloc(), names));
-        }
-        let (state, number) = (dump.state(), dump.error_number());
-        let mut faults = Vec::new(rt.alloc());
-        for entry in dump.into_entries() {
-            faults.push(entry.err()).expect(&rt, "memory");
-        }
-        shows(&rt, rt.alloc(), &(answer, state, number, faults), part);
+        lossy(&rt, rt.alloc(), datagrams, part);
     }
 }
 
