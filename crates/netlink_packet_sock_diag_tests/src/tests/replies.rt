@@ -2,11 +2,11 @@
 //! follow those in front of it, and behind a space that part.
 
 use super::read_twice::{ReadTwice, read_twice};
-use super::{INET, PATH, PEER, SHUTDOWN, cells, shows};
+use super::{INET, PATH, PEER, SHUTDOWN, bytes, cells, shows};
 use netlink_core::{NetlinkDeserializable, NetlinkMessage};
 use netlink_packet_sock_diag::inet::InetResponse;
 use netlink_packet_sock_diag::unix::UnixResponse;
-use netlink_packet_sock_diag::{SockDiagDestroy, SockDiagMessage};
+use netlink_packet_sock_diag::{MessageView, SockDiagDestroy, SockDiagMessage};
 use std::alloc::Global;
 use std::fmt::Debug;
 use std::process::Abort;
@@ -76,6 +76,18 @@ nlas: [] })) })
 120000000400010307000080443322110900 Ok(NetlinkMessage { header: NetlinkHeader { length: 18, \
 message_type: 4, flags: 769, sequence_number: 2147483655, port_number: 287454020 }, payload: \
 Overrun([9, 0]) })";
+
+#[test]
+fn a_borrowed_message(rt: HostRuntime) {
+    let end = bytes(
+        &rt,
+        rt.alloc(),
+        &["1400000003000200070000000000000000000000"],
+    );
+    let text = "Ok(MessageView { header: NetlinkHeader { length: 20, message_type: 3, flags: 2, \
+        sequence_number: 7, port_number: 0 }, payload: Done([0, 0, 0, 0]) })";
+    shows(&rt, rt.alloc(), &MessageView::parse(&end), text);
+}
 
 /// The request to close a socket, under the type that it is read under and under its own.
 const CLOSING: &str = "2000000014000000000000000000000001010100b77c00002200000000000000 payload: \
