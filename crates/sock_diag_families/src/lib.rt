@@ -2,6 +2,7 @@
 //! headers of replies, and what the values of attributes tell.
 #![tactic(auto)]
 
+pub mod laws;
 pub mod netlink;
 pub mod packet;
 mod request;

@@ -13,3 +13,5 @@ pub mod Uses
 pub mod ReadBack
 pub mod AnyReadBack
 pub mod Sockets
+pub mod ViewModels
+pub mod EqualConditionLaws

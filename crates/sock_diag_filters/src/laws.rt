@@ -1,15 +1,16 @@
-//! Laws. The functions do nothing: their contracts are the laws.
+//! Properties. Proof only: the contract of each function states the property.
 
-ghost use Rattle.std.specs.Prelude.{◌≡◌, ℕ, Bool, List, map};
+ghost use Rattle.std.specs.Prelude.{◌≡◌, ◌↔◌, ℕ, Bool, List, [], ◌∷◌, map, IfOk, IsOk, IsTrue};
 ghost use Rattle.netlink_core.specs.declared.fault.DecodeError.{DecodeError};
 ghost use Rattle.netlink_core.specs.declared.header.NetlinkHeader.{NetlinkHeader};
+ghost use Rattle.sock_diag_records.specs.Constants.{AreEqual};
 ghost use Rattle.sock_diag_records.specs.declared.inet.request.InetRequest.{InetRequest};
 ghost use Rattle.sock_diag_filters.specs.declared.filter.Filter.{Filter};
 ghost use Rattle.sock_diag_filters.specs.Conditions.{arguments, code_of};
 ghost use Rattle.sock_diag_filters.specs.Filters.{meaning};
 ghost use Rattle.sock_diag_filters.specs.Run.{Runs};
 ghost use Rattle.sock_diag_filters.specs.Sockets.{AreInRange, Socket, found_by, meets};
-ghost use Rattle.sock_diag_filters.specs.Asked.{Asks, IsRequestType, RefusesRequest};
+ghost use Rattle.sock_diag_filters.specs.Asked.{Asks, IsRequestType, RefusesRequest, asked_of};
 ghost use Rattle.sock_diag_filters.specs.AnyRequest.{AnyAsks, AnyRequest, RecordFamily};
 ghost use Rattle.sock_diag_filters.specs.AnyRequest.{RefusesAnyRequest, codec_of, of_family};
 ghost use Rattle.sock_diag_filters.specs.AnyReadBack.{IsInetReadBack, IsWhole};
@@ -17,7 +18,19 @@ ghost use Rattle.sock_diag_filters.specs.AnyReadBack.{record_request_bytes};
 ghost use Rattle.sock_diag_filters.specs.ReadBack.{CanBeAsked, IsReadBack};
 ghost use Rattle.sock_diag_filters.specs.Requests.{attribute_of, request_bytes};
 ghost use Rattle.sock_diag_filters.specs.declared.request.RequestAttribute.{RequestAttribute};
+ghost use Rattle.sock_diag_filters.specs.ViewModels.{any_request_of, record_request_of, request_of};
 ghost use Rattle.sock_diag_filters.specs.declared.view.RequestView.{RequestView};
+
+use crate::any::{AnyRequestView, RecordRequestView};
+use crate::assembly::{AssembleError, MAX_PROGRAM};
+use crate::filter::Filter;
+use crate::request::{
+    INET_DIAG_REQ_BYTECODE, INET_DIAG_REQ_PROTOCOL, REQUEST_FRONT, RequestAttribute,
+};
+use crate::uses::NLM_F_ACK;
+use crate::view::RequestView;
+use netlink_core::Exact;
+use std::alloc::AllocError;
 
 /// What `RequestWithAttributes` writes, `RequestView::parse` reads: no fault is one of these bytes,
 /// and what they ask is what was written.
@@ -70,4 +83,68 @@ pub fn filters_find_what_they_mean()
 pub fn one_verdict()
     ensures { (found : ℕ → List ℕ → Bool) (program : List ℕ) (v w : Bool)
         → Runs found program v → Runs found program w → v ≡ w }
+{}
+
+/// States that `==` holds if and only if two attributes of requests ask for the same.
+pub fn equal_request_attributes(v: &RequestAttribute<'_>, w: &RequestAttribute<'_>) -> bool
+    ensures { IsTrue result ↔ (asked_of v.now ≡ asked_of w.now) }
+{
+    v == w
+}
+
+/// States that a copy asks for the same, and that `clone` never fails.
+pub fn copied_request_attribute<'a>(
+    attribute: &RequestAttribute<'a>,
+) -> Result<RequestAttribute<'a>, AllocError>
+    ensures ok { IsOk result }
+    ensures same { IfOk result (λ copy. asked_of copy ≡ asked_of attribute.now) }
+{
+    attribute.clone()
+}
+
+/// States that a copy is the same filter, and that `clone` never fails.
+pub fn copied_filter<'a>(filter: &Filter<'a>) -> Result<Filter<'a>, AllocError>
+    ensures ok { IsOk result }
+    ensures same { IfOk result (λ copy. copy ≡ filter.now) }
+{
+    filter.clone()
+}
+
+/// States that `==` holds if and only if two errors are the same.
+pub fn equal_assemble_errors(v: &AssembleError, w: &AssembleError) -> bool
+    ensures { IsTrue result ↔ (v.now ≡ w.now) }
+{
+    v == w
+}
+
+/// States that `==` holds if and only if two requests have the same header, record, protocol and
+/// program.
+pub fn equal_request_views(v: &RequestView<'_>, w: &RequestView<'_>) -> bool
+    ensures { IsTrue result ↔ (request_of v.now ≡ request_of w.now) }
+{
+    v == w
+}
+
+/// States that `==` holds if and only if two requests have the same header, record and attributes'
+/// bytes.
+pub fn equal_record_request_views<R: Exact>(
+    v: &RecordRequestView<'_, R>,
+    w: &RecordRequestView<'_, R>,
+) -> bool
+    ensures { IsTrue result ↔ (record_request_of v.now ≡ record_request_of w.now) }
+{
+    v == w
+}
+
+/// States that `==` holds if and only if two requests ask the same of the same family.
+pub fn equal_any_request_views(v: &AnyRequestView<'_>, w: &AnyRequestView<'_>) -> bool
+    ensures { IsTrue result ↔ (any_request_of v.now ≡ any_request_of w.now) }
+{
+    v == w
+}
+
+/// States the number of each constant.
+pub fn filter_constants_have_their_numbers()
+    ensures { AreEqual ((MAX_PROGRAM, 65531) ∷ (INET_DIAG_REQ_BYTECODE, 1) ∷
+        (INET_DIAG_REQ_PROTOCOL, 3) ∷ (REQUEST_FRONT, 72) ∷ (NLM_F_ACK, 4) ∷ []) }
 {}

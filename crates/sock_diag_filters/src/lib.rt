@@ -4,6 +4,7 @@
 mod any;
 mod assembly;
 mod condition;
+mod exact;
 mod filter;
 pub mod laws;
 mod request;

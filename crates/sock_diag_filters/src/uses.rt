@@ -1,12 +1,13 @@
 //! Callers to copy from.
 
-ghost use Rattle.std.specs.Prelude.{◌≡◌, ◌&&◌, [], ◌∷◌, IfOk, ℕ, List, Bool};
+ghost use Rattle.std.specs.Prelude.{◌≡◌, ◌&&◌, [], ◌∷◌, IfErr, IfOk, ℕ, List, Bool};
 ghost use Rattle.sock_diag_filters.specs.Audit.{IsAudited};
 ghost use Rattle.sock_diag_filters.specs.Prefixes.{port_bytes};
 ghost use Rattle.sock_diag_filters.specs.Requests.{request_bytes};
 ghost use Rattle.sock_diag_filters.specs.Run.{Runs};
 ghost use Rattle.sock_diag_filters.specs.Uses.{asked_header, asked_tcp, closing_bytes, no_socket};
 ghost use Rattle.sock_diag_filters.specs.Uses.{program_attribute};
+ghost use Rattle.sock_diag_filters.specs.declared.assembly.AssembleError.TheVariants.{Memory};
 
 use crate::{
     AssembleError, Comparison, Condition, Filter, REQUEST_FRONT, RequestAttribute,
@@ -26,18 +27,20 @@ pub const NLM_F_ACK: u16 = 4;
 
 /// The request for the TCP sockets over IPv4 that listen on a port from the first to the last: the
 /// kernel runs a program that wants exactly those whose port is found to be at least the first
-/// (`INET_DIAG_BC_S_GE`, 2) and at most the last (`INET_DIAG_BC_S_LE`, 3).
+/// (`INET_DIAG_BC_S_GE`, 2) and at most the last (`INET_DIAG_BC_S_LE`, 3). Fails only if an
+/// allocation fails: its program is never too long, and a first port above the last is no error.
 pub fn listening_on(
     alloc: Global,
     first: u16,
     last: u16,
     sequence_number: u32,
 ) -> Result<Vec<u8>, AssembleError>
-    ensures { IfOk result (λ message. (program : List ℕ) × IsAudited program
+    ensures asked { IfOk result (λ message. (program : List ℕ) × IsAudited program
         × ((found : ℕ → List ℕ → Bool)
         → Runs found program (found 2 (port_bytes first) && found 3 (port_bytes last)))
         × (message.items ≡ request_bytes (asked_header 20 0x301 sequence_number)
         (asked_tcp 0x400 no_socket) (program_attribute program ∷ []))) }
+    ensures fails { IfErr result (λ e. e ≡ Memory) }
 {
     let from = Filter::Condition(Condition::SourcePort(Comparison::AtLeast, first));
     let to = Filter::Condition(Condition::SourcePort(Comparison::AtMost, last));

@@ -1,8 +1,8 @@
-use netlink_core::Emitable;
+use netlink_core::{Emitable, RecordName};
 use sock_diag_filters::uses::listening_on;
 use sock_diag_filters::{
-    AnyRequestView, Comparison, Condition, Filter, Host, Prefix, RequestAttribute, RequestView,
-    RequestWithAttributes, assemble,
+    AnyRequestView, AssembleError, Comparison, Condition, Filter, Host, Prefix, RequestAttribute,
+    RequestView, RequestWithAttributes, assemble,
 };
 use std::alloc::Global;
 use std::net::{IpAddr, Ipv4Addr, Ipv6Addr};
@@ -122,4 +122,95 @@ fn requests_are_read(rt: HostRuntime) -> Result<(), Fail> {
         "|Ok(Inet(|protocol: 262, program: Some([6, 4, 8, 0])",
     ];
     is_shown(&rt, rt.alloc(), asked.concat(rt.alloc())?.as_str())
+}
+
+fn is_text(rt: &impl Abort, shown: &str, text: &str) {
+    assert!(rt; shown == text, "{shown}");
+}
+
+// The names of records of other families, and why a filter has no program.
+#[test]
+fn names_and_errors_have_texts(rt: HostRuntime) -> Result<(), Fail> {
+    let alloc = rt.alloc();
+    for (name, text) in [
+        (
+            RecordName::FamilyRequest { family: 16 },
+            "FamilyRequest { family: 16 }",
+        ),
+        (
+            RecordName::FamilyResponseHeader { family: 44 },
+            "FamilyResponseHeader { family: 44 }",
+        ),
+        (
+            RecordName::FamilyAttribute {
+                family: 17,
+                kind: 2,
+            },
+            "FamilyAttribute { family: 17, kind: 2 }",
+        ),
+    ] {
+        is_text(&rt, format!(in alloc; "{name}")?.as_str(), text);
+    }
+    for (error, text) in [
+        (
+            AssembleError::TooLong,
+            "TooLong: a filter of more than 65531 bytes",
+        ),
+        (AssembleError::Memory, "Memory: out of memory"),
+    ] {
+        is_text(&rt, format!(in alloc; "{error:?}: {error}")?.as_str(), text);
+    }
+    Ok(())
+}
+
+// Conditions and attributes of requests as `Debug` prints them.
+#[test]
+fn conditions_have_texts(rt: HostRuntime) -> Result<(), Fail> {
+    let alloc = rt.alloc();
+    let local = Host {
+        prefix: Prefix::new(IpAddr::V4(Ipv4Addr::LOCALHOST), 8),
+        port: None,
+    };
+    let any = Host {
+        prefix: None,
+        port: Some(53),
+    };
+    for (condition, text) in [
+        (
+            Condition::SourcePort(Comparison::AtLeast, 1),
+            "SourcePort(AtLeast, 1)",
+        ),
+        (
+            Condition::DestinationPort(Comparison::AtMost, 2),
+            "DestinationPort(AtMost, 2)",
+        ),
+        (
+            Condition::SourcePort(Comparison::Equal, 3),
+            "SourcePort(Equal, 3)",
+        ),
+        (
+            Condition::Source(local),
+            "Source(Host { prefix: Some(Prefix { address: 127.0.0.1, bits: 8 }), port: None })",
+        ),
+        (
+            Condition::Destination(any),
+            "Destination(Host { prefix: None, port: Some(53) })",
+        ),
+        (Condition::Interface(4), "Interface(4)"),
+        (
+            Condition::Mark { mark: 5, mask: 6 },
+            "Mark { mark: 5, mask: 6 }",
+        ),
+        (Condition::Cgroup(7), "Cgroup(7)"),
+        (Condition::AutoBound, "AutoBound"),
+    ] {
+        is_text(&rt, format!(in alloc; "{condition:?}")?.as_str(), text);
+    }
+    for (attribute, text) in [
+        (RequestAttribute::Program(&[6, 4]), "Program([6, 4])"),
+        (RequestAttribute::Protocol(262), "Protocol(262)"),
+    ] {
+        is_text(&rt, format!(in alloc; "{attribute:?}")?.as_str(), text);
+    }
+    Ok(())
 }

@@ -1,12 +1,13 @@
 //! What the values of attributes of a reply about a packet socket tell.
 
+ghost use Rattle.std.proofs.Common.{rules};
 ghost use Rattle.std.specs.Prelude.{◌≡◌};
 ghost use Rattle.sock_diag_families.specs.PacketAttributes.{packet_info, packet_ring};
 
 use super::PACKET_DIAG_INFO;
 use crate::values::enough_in;
-use netlink_core::DecodeError;
 use netlink_core::fields::words_at;
+use netlink_core::{DecodeError, Exact};
 use sock_diag_records::constants::AF_PACKET;
 
 /// What a packet socket is set to: `struct packet_diag_info`, the first 24 bytes of
@@ -26,6 +27,10 @@ pub struct PacketInfo {
     pub timestamp: u32,
     /// The bits `PDI_..`, at 20.
     pub flags: u32,
+}
+
+impl Exact for PacketInfo {
+    ghost exact = { Prim.search rules };
 }
 
 impl PacketInfo {
@@ -73,6 +78,10 @@ pub struct PacketRing {
     pub private_size: u32,
     /// The bits `TP_FT_..`, at 24.
     pub features: u32,
+}
+
+impl Exact for PacketRing {
+    ghost exact = { Prim.search rules };
 }
 
 impl PacketRing {

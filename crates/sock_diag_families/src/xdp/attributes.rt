@@ -1,5 +1,6 @@
 //! What the values of attributes of a reply about an XDP socket tell.
 
+ghost use Rattle.std.proofs.Common.{rules};
 ghost use Rattle.std.specs.Prelude.{◌≡◌, ◌≤◌, length};
 ghost use Rattle.netlink_core.specs.Table.{values_of};
 ghost use Rattle.sock_diag_families.specs.XdpAttributes.{xdp_info, xdp_umem, xdp_umem_of};
@@ -8,8 +9,8 @@ ghost use Rattle.sock_diag_families.specs.XdpAttributes.{xdp_statistics_of, xdp_
 
 use super::{AF_XDP, XDP_DIAG_INFO, XDP_DIAG_STATS, XDP_DIAG_UMEM};
 use crate::values::enough_in;
-use netlink_core::DecodeError;
 use netlink_core::fields::{long_words_at, words_at};
+use netlink_core::{DecodeError, Exact};
 
 /// Where an XDP socket is bound: `struct xdp_diag_info`, the first 8 bytes of `XDP_DIAG_INFO`.
 #[repr(C)]
@@ -19,6 +20,10 @@ pub struct XdpInfo {
     pub interface: u32,
     /// Its queue, a `u32` at 4.
     pub queue: u32,
+}
+
+impl Exact for XdpInfo {
+    ghost exact = { Prim.search rules };
 }
 
 impl XdpInfo {
@@ -58,6 +63,10 @@ pub struct XdpUmem {
     pub references: u32,
 }
 
+impl Exact for XdpUmem {
+    ghost exact = { Prim.search rules };
+}
+
 impl XdpUmem {
     /// What the value of an attribute `XDP_DIAG_UMEM` tells. Fewer than 40 bytes are
     /// `BufferTooSmall`.
@@ -86,6 +95,10 @@ pub struct XdpStatistics {
     pub sent_invalid: u64,
     /// How often nothing was there to send, at 40.
     pub send_ring_empty: u64,
+}
+
+impl Exact for XdpStatistics {
+    ghost exact = { Prim.search rules };
 }
 
 impl XdpStatistics {

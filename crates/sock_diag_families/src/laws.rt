@@ -1,0 +1,62 @@
+//! Properties of constants and of attributes that are kept whole. Proof only: the contract of each
+//! function states the property.
+
+ghost use Rattle.std.specs.Prelude.{◌≡◌, ◌↔◌, [], ◌∷◌, IfOk, IsOk, IsTrue};
+ghost use Rattle.netlink_core.specs.Walk.{attribute_of};
+ghost use Rattle.sock_diag_records.specs.Constants.{AreEqual};
+
+use crate::WholeNla;
+use crate::netlink::{
+    NDIAG_PROTO_ALL, NDIAG_SHOW_FLAGS, NDIAG_SHOW_GROUPS, NDIAG_SHOW_MEMINFO, NETLINK_DIAG_FLAGS,
+    NETLINK_DIAG_GROUPS, NETLINK_DIAG_MEMINFO, NETLINK_DIAG_RX_RING, NETLINK_DIAG_TX_RING,
+};
+use crate::packet::{
+    PACKET_DIAG_FANOUT, PACKET_DIAG_FILTER, PACKET_DIAG_INFO, PACKET_DIAG_MCLIST,
+    PACKET_DIAG_MEMINFO, PACKET_DIAG_RX_RING, PACKET_DIAG_TX_RING, PACKET_DIAG_UID,
+    PACKET_SHOW_FANOUT, PACKET_SHOW_FILTER, PACKET_SHOW_INFO, PACKET_SHOW_MCLIST,
+    PACKET_SHOW_MEMINFO, PACKET_SHOW_RING_CFG,
+};
+use crate::vsock::AF_VSOCK;
+use crate::xdp::{
+    AF_XDP, XDP_DIAG_INFO, XDP_DIAG_MEMINFO, XDP_DIAG_RX_RING, XDP_DIAG_STATS, XDP_DIAG_TX_RING,
+    XDP_DIAG_UID, XDP_DIAG_UMEM, XDP_DIAG_UMEM_COMPLETION_RING, XDP_DIAG_UMEM_FILL_RING,
+    XDP_SHOW_INFO, XDP_SHOW_MEMINFO, XDP_SHOW_RING_CFG, XDP_SHOW_STATS, XDP_SHOW_UMEM,
+};
+use std::alloc::AllocError;
+
+/// States that `==` holds if and only if two attributes have the same type word and the same value.
+#[tactic(auto, using(netlink_core::proofs::ValueTests::attribute_test_decides))]
+pub fn equal_whole_nlas(v: &WholeNla<'_>, w: &WholeNla<'_>) -> bool
+    ensures { IsTrue result ↔ (attribute_of v.now.0 ≡ attribute_of w.now.0) }
+{
+    v == w
+}
+
+/// States that a copy is the same attribute, and that `clone` never fails.
+pub fn copied_whole_nla<'a>(nla: &WholeNla<'a>) -> Result<WholeNla<'a>, AllocError>
+    ensures ok { IsOk result }
+    ensures same { IfOk result (λ copy. attribute_of copy.0 ≡ attribute_of nla.now.0) }
+{
+    nla.clone()
+}
+
+/// States the number of each constant.
+pub fn family_constants_have_their_numbers()
+    ensures families { AreEqual ((AF_VSOCK, 40) ∷ (AF_XDP, 44) ∷ []) }
+    ensures netlink_requests { AreEqual ((NDIAG_PROTO_ALL, 255) ∷ (NDIAG_SHOW_MEMINFO, 1) ∷
+        (NDIAG_SHOW_GROUPS, 2) ∷ (NDIAG_SHOW_FLAGS, 8) ∷ []) }
+    ensures netlink_attributes { AreEqual ((NETLINK_DIAG_MEMINFO, 0) ∷ (NETLINK_DIAG_GROUPS, 1)
+        ∷ (NETLINK_DIAG_RX_RING, 2) ∷ (NETLINK_DIAG_TX_RING, 3) ∷ (NETLINK_DIAG_FLAGS, 4) ∷ []) }
+    ensures packet_requests { AreEqual ((PACKET_SHOW_INFO, 1) ∷ (PACKET_SHOW_MCLIST, 2) ∷
+        (PACKET_SHOW_RING_CFG, 4) ∷ (PACKET_SHOW_FANOUT, 8) ∷ (PACKET_SHOW_MEMINFO, 16) ∷
+        (PACKET_SHOW_FILTER, 32) ∷ []) }
+    ensures packet_attributes { AreEqual ((PACKET_DIAG_INFO, 0) ∷ (PACKET_DIAG_MCLIST, 1) ∷
+        (PACKET_DIAG_RX_RING, 2) ∷ (PACKET_DIAG_TX_RING, 3) ∷ (PACKET_DIAG_FANOUT, 4) ∷
+        (PACKET_DIAG_UID, 5) ∷ (PACKET_DIAG_MEMINFO, 6) ∷ (PACKET_DIAG_FILTER, 7) ∷ []) }
+    ensures xdp_requests { AreEqual ((XDP_SHOW_INFO, 1) ∷ (XDP_SHOW_RING_CFG, 2) ∷
+        (XDP_SHOW_UMEM, 4) ∷ (XDP_SHOW_MEMINFO, 8) ∷ (XDP_SHOW_STATS, 16) ∷ []) }
+    ensures xdp_attributes { AreEqual ((XDP_DIAG_INFO, 1) ∷ (XDP_DIAG_UID, 2) ∷
+        (XDP_DIAG_RX_RING, 3) ∷ (XDP_DIAG_TX_RING, 4) ∷ (XDP_DIAG_UMEM, 5) ∷
+        (XDP_DIAG_UMEM_FILL_RING, 6) ∷ (XDP_DIAG_UMEM_COMPLETION_RING, 7) ∷
+        (XDP_DIAG_MEMINFO, 8) ∷ (XDP_DIAG_STATS, 9) ∷ []) }
+{}

@@ -1,0 +1,56 @@
+-- What requests that borrow their bytes ask, without where the bytes are stored.
+use Rattle.std.specs.Prelude.{ℕ, List, Option, option_map}
+use Rattle.netlink_core.specs.declared.header.NetlinkHeader.{NetlinkHeader}
+use Rattle.sock_diag_families.specs.declared.request.ShowRequest.{ShowRequest}
+use Rattle.sock_diag_families.specs.declared.vsock.request.VsockRequest.{VsockRequest}
+use Rattle.sock_diag_records.specs.declared.inet.request.InetRequest.{InetRequest}
+use Rattle.sock_diag_records.specs.declared.unix.request.UnixRequest.{UnixRequest}
+use Rattle.sock_diag_filters.specs.declared.any.AnyRequestView.{AnyRequestView}
+use Rattle.sock_diag_filters.specs.declared.any.AnyRequestView.TheVariants as view
+use Rattle.sock_diag_filters.specs.declared.any.RecordRequestView.{RecordRequestView}
+use Rattle.sock_diag_filters.specs.declared.view.RequestView.{RequestView}
+
+-- the header, the record, the protocol and the program of a request for internet sockets
+pub record InternetRequest : Type 0 where
+  pub header : NetlinkHeader
+  pub request : InetRequest
+  pub protocol : ℕ
+  pub program : Option (List ℕ)
+
+abbrev pub request_of : RequestView → InternetRequest
+request_of v = record {
+  header = v.header;
+  request = v.request;
+  protocol = v.protocol;
+  program = option_map (λ program. program.now) v.program;
+}
+
+-- the header, the record and the bytes of attributes of another request
+pub record FamilyRequest (R : Type 0) : Type 0 where
+  pub header : NetlinkHeader
+  pub request : R
+  pub attributes : List ℕ
+
+abbrev pub record_request_of : {R : Type 0} → RecordRequestView R → FamilyRequest R
+record_request_of v = record {
+  header = v.header;
+  request = v.request;
+  attributes = v.attributes.now;
+}
+
+-- a request of any family
+pub data RequestOfFamily : Type 0 where
+  of_inet : InternetRequest → RequestOfFamily
+  of_unix : FamilyRequest UnixRequest → RequestOfFamily
+  of_netlink : FamilyRequest (ShowRequest 16) → RequestOfFamily
+  of_packet : FamilyRequest (ShowRequest 17) → RequestOfFamily
+  of_vsock : FamilyRequest VsockRequest → RequestOfFamily
+  of_xdp : FamilyRequest (ShowRequest 44) → RequestOfFamily
+
+abbrev pub any_request_of : AnyRequestView → RequestOfFamily
+any_request_of (view.Inet v) = of_inet (request_of v)
+any_request_of (view.Unix v) = of_unix (record_request_of v)
+any_request_of (view.Netlink v) = of_netlink (record_request_of v)
+any_request_of (view.Packet v) = of_packet (record_request_of v)
+any_request_of (view.Vsock v) = of_vsock (record_request_of v)
+any_request_of (view.Xdp v) = of_xdp (record_request_of v)

@@ -1,0 +1,24 @@
+//! `==` and `clone` of conditions compare and copy all of their parts.
+
+ghost use Rattle.std.proofs.Common.{rules};
+ghost use Rattle.sock_diag_filters.specs.EqualConditionLaws.{condition_equal, host_equal};
+ghost use Rattle.sock_diag_filters.specs.EqualConditionLaws.{prefix_equal};
+
+use crate::condition::{Comparison, Condition, Host, Prefix};
+use netlink_core::Exact;
+
+impl Exact for Comparison {
+    ghost exact = { Prim.search rules };
+}
+
+impl Exact for Prefix {
+    ghost exact = { (prefix_equal, Prim.search rules, Prim.search rules depth 12) };
+}
+
+impl Exact for Host {
+    ghost exact = { (host_equal, Prim.search rules, Prim.search rules depth 12) };
+}
+
+impl Exact for Condition {
+    ghost exact = { (condition_equal, Prim.search rules, Prim.search rules depth 12) };
+}
