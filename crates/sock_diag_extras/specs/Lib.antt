@@ -9,3 +9,4 @@ pub mod UlpInfo
 pub mod Records
 pub mod Md5Signature
 pub mod StoredAddress
+pub mod EqualTcpFieldLaws

@@ -1,20 +1,39 @@
-//! Laws of what is read leniently, and of the fields of `struct tcp_info`. The functions do
-//! nothing: their contracts are the laws.
+//! Properties of replies that are read leniently, of the fields of `struct tcp_info`, and of `==`
+//! and `clone`. Proof only: the contract of each function states the property.
 
-ghost use Rattle.std.specs.Prelude.{◌≡◌, List, [], ◌∷◌, ◌++◌, Result, Ok, map};
+ghost use Rattle.std.specs.Prelude.{◌≡◌, ◌↔◌, ℕ, List, [], ◌∷◌, ◌++◌, map, drop};
+ghost use Rattle.std.specs.Prelude.{Result, Ok, Err};
+ghost use Rattle.std.specs.Prelude.{IfErr, IfOk, IsOk, IsTrue, MatchOption};
 ghost use Rattle.std.specs.Iterator.{Drains};
 ghost use Rattle.netlink_core.specs.Attribute.{AttributesMean};
 ghost use Rattle.netlink_core.specs.AttributeSet.{decodes};
+ghost use Rattle.netlink_core.specs.Layout.{read};
 ghost use Rattle.netlink_core.specs.Walk.{bytes_left};
 ghost use Rattle.attribute_lists.specs.AttributesIn.{HasNoFault, values_in};
 ghost use Rattle.sock_diag_values.specs.TcpInfo.{tcp_info};
-ghost use Rattle.sock_diag_extras.specs.Lenient.{GivesLeniently, ItemsAre, model};
+ghost use Rattle.sock_diag_records.specs.InetResponse.{inet_response_header};
+ghost use Rattle.sock_diag_records.specs.UnixResponseHeader.{unix_response_header};
+ghost use Rattle.sock_diag_attributes.specs.InetAttributes.{inet};
+ghost use Rattle.sock_diag_attributes.specs.InetModel.{nla_view_model as inet_view_model};
+ghost use Rattle.sock_diag_attributes.specs.UnixAttributes.{unix};
+ghost use Rattle.sock_diag_attributes.specs.UnixModel.{nla_view_model as unix_view_model};
+ghost use Rattle.sock_diag_extras.specs.Lenient.{FrontIs, GivesLeniently, ItemsAre, model};
+ghost use Rattle.sock_diag_extras.specs.Lenient.{refusal_of};
 ghost use Rattle.sock_diag_extras.specs.TcpFields.{first_fields, later_fields};
 ghost use Rattle.sock_diag_extras.specs.TcpFields.{end_of, row_of, span_of};
 ghost use Rattle.sock_diag_extras.specs.declared.lenient.LenientNlas.{LenientNlas};
 ghost use Rattle.sock_diag_extras.specs.declared.lenient.Refused.{Refused};
 
-use netlink_core::FamilyView;
+use crate::acknowledgement::{AckAttributes, AckView};
+use crate::lenient::{LenientInetReply, LenientReply, LenientUnixReply, Refused};
+use crate::nested::NestedNlas;
+use crate::storages::BpfStorage;
+use crate::tcp_info::TcpInfoBytes;
+use crate::ulp_info::{SubflowInfo, TlsInfo, UlpInfo};
+use netlink_core::{DecodeError, FamilyView};
+use sock_diag_attributes::inet::nlas::NlaView as InetNlaView;
+use sock_diag_attributes::unix::nlas::NlaView as UnixNlaView;
+use std::alloc::AllocError;
 
 /// A whole walk gives of each attribute that the bytes are cut into what it says or why it is
 /// refused, in order, and last the fault of the framing, where there is one.
@@ -45,3 +64,168 @@ pub fn tcp_fields_are_rows()
     ensures later { map (λ f. (span_of f).0) later_fields ++ 280 ∷ []
         ≡ 232 ∷ map end_of later_fields }
 {}
+
+/// States that a lenient reply about an IPv4 or IPv6 socket has the header of these replies,
+/// and that its attributes follow the 72 bytes of the header.
+#[tactic(auto, unfolding(sock_diag_records::specs::InetResponse::inet_response_header))]
+pub fn lenient_inet_header<'a>(bytes: &'a [u8]) -> Result<LenientInetReply<'a>, DecodeError>
+    ensures header { IfOk result (λ lenient.
+        read inet_response_header tt bytes.entry.now ≡ Ok lenient.header) }
+    ensures attributes { IfOk result (λ lenient. lenient.bytes.now ≡ drop 72 bytes.entry.now) }
+    ensures fault { IfErr result (λ e. read inet_response_header tt bytes.entry.now ≡ Err e) }
+{
+    LenientReply::parse(bytes)
+}
+
+/// States that the first attribute of a lenient reply about an IPv4 or IPv6 socket is decoded
+/// by the kinds of these replies. The others are of the same type, so they are too.
+pub fn lenient_inet_attribute<'a>(
+    reply: &LenientInetReply<'a>,
+) -> Option<Result<InetNlaView<'a>, Refused<'a>>>
+    ensures { MatchOption result (reply.now.bytes.now ≡ []) (λ item. (later : List ℕ)
+        × FrontIs inet reply.now.bytes.now (model inet inet_view_model item) later) }
+{
+    reply.attributes().next()
+}
+
+/// States that a lenient reply about a UNIX socket has the header of these replies,
+/// and that its attributes follow the 16 bytes of the header.
+pub fn lenient_unix_header<'a>(bytes: &'a [u8]) -> Result<LenientUnixReply<'a>, DecodeError>
+    ensures header { IfOk result (λ lenient.
+        read unix_response_header tt bytes.entry.now ≡ Ok lenient.header) }
+    ensures attributes { IfOk result (λ lenient. lenient.bytes.now ≡ drop 16 bytes.entry.now) }
+    ensures fault { IfErr result (λ e. read unix_response_header tt bytes.entry.now ≡ Err e) }
+{
+    LenientReply::parse(bytes)
+}
+
+/// States that the first attribute of a lenient reply about a UNIX socket is decoded
+/// by the kinds of these replies. The others are of the same type, so they are too.
+pub fn lenient_unix_attribute<'a>(
+    reply: &LenientUnixReply<'a>,
+) -> Option<Result<UnixNlaView<'a>, Refused<'a>>>
+    ensures { MatchOption result (reply.now.bytes.now ≡ []) (λ item. (later : List ℕ)
+        × FrontIs unix reply.now.bytes.now (model unix unix_view_model item) later) }
+{
+    reply.attributes().next()
+}
+
+/// States that a copy is rejected for the same reason, and that `clone` never fails.
+pub fn copied_refused<'a>(refused: &Refused<'a>) -> Result<Refused<'a>, AllocError>
+    ensures ok { IsOk result }
+    ensures same { IfOk result (λ copy. refusal_of copy ≡ refusal_of refused.now) }
+{
+    refused.clone()
+}
+
+/// States that `==` holds if and only if two values have the same bytes, that a copy has the same
+/// bytes, and that `clone` never fails.
+pub fn compared_tcp_info_bytes<'a>(
+    v: &TcpInfoBytes<'a>,
+    w: &TcpInfoBytes<'_>,
+) -> (bool, Result<TcpInfoBytes<'a>, AllocError>)
+    ensures equal { IsTrue result.0 ↔ (v.now.bytes.now ≡ w.now.bytes.now) }
+    ensures ok { IsOk result.1 }
+    ensures same { IfOk result.1 (λ copy. copy.bytes.now ≡ v.now.bytes.now) }
+{
+    (v == w, v.clone())
+}
+
+/// States that `==` holds if and only if two values have the same bytes, that a copy has the same
+/// bytes, and that `clone` never fails.
+pub fn compared_nested_nlas<'a>(
+    v: &NestedNlas<'a>,
+    w: &NestedNlas<'_>,
+) -> (bool, Result<NestedNlas<'a>, AllocError>)
+    ensures equal { IsTrue result.0 ↔ (v.now.bytes.now ≡ w.now.bytes.now) }
+    ensures ok { IsOk result.1 }
+    ensures same { IfOk result.1 (λ copy. copy.bytes.now ≡ v.now.bytes.now) }
+{
+    (v == w, v.clone())
+}
+
+/// States that `==` holds if and only if two values have the same bytes, that a copy has the same
+/// bytes, and that `clone` never fails.
+pub fn compared_ack_attributes<'a>(
+    v: &AckAttributes<'a>,
+    w: &AckAttributes<'_>,
+) -> (bool, Result<AckAttributes<'a>, AllocError>)
+    ensures equal { IsTrue result.0 ↔ (v.now.0.bytes.now ≡ w.now.0.bytes.now) }
+    ensures ok { IsOk result.1 }
+    ensures same { IfOk result.1 (λ copy. copy.0.bytes.now ≡ v.now.0.bytes.now) }
+{
+    (v == w, v.clone())
+}
+
+/// States that `==` holds if and only if two values have the same bytes, that a copy has the same
+/// bytes, and that `clone` never fails.
+pub fn compared_bpf_storages<'a>(
+    v: &BpfStorage<'a>,
+    w: &BpfStorage<'_>,
+) -> (bool, Result<BpfStorage<'a>, AllocError>)
+    ensures equal { IsTrue result.0 ↔ (v.now.0.bytes.now ≡ w.now.0.bytes.now) }
+    ensures ok { IsOk result.1 }
+    ensures same { IfOk result.1 (λ copy. copy.0.bytes.now ≡ v.now.0.bytes.now) }
+{
+    (v == w, v.clone())
+}
+
+/// States that `==` holds if and only if two values have the same bytes, that a copy has the same
+/// bytes, and that `clone` never fails.
+pub fn compared_ulp_infos<'a>(
+    v: &UlpInfo<'a>,
+    w: &UlpInfo<'_>,
+) -> (bool, Result<UlpInfo<'a>, AllocError>)
+    ensures equal { IsTrue result.0 ↔ (v.now.0.bytes.now ≡ w.now.0.bytes.now) }
+    ensures ok { IsOk result.1 }
+    ensures same { IfOk result.1 (λ copy. copy.0.bytes.now ≡ v.now.0.bytes.now) }
+{
+    (v == w, v.clone())
+}
+
+/// States that `==` holds if and only if two values have the same bytes, that a copy has the same
+/// bytes, and that `clone` never fails.
+pub fn compared_tls_infos<'a>(
+    v: &TlsInfo<'a>,
+    w: &TlsInfo<'_>,
+) -> (bool, Result<TlsInfo<'a>, AllocError>)
+    ensures equal { IsTrue result.0 ↔ (v.now.0.bytes.now ≡ w.now.0.bytes.now) }
+    ensures ok { IsOk result.1 }
+    ensures same { IfOk result.1 (λ copy. copy.0.bytes.now ≡ v.now.0.bytes.now) }
+{
+    (v == w, v.clone())
+}
+
+/// States that `==` holds if and only if two values have the same bytes, that a copy has the same
+/// bytes, and that `clone` never fails.
+pub fn compared_subflow_infos<'a>(
+    v: &SubflowInfo<'a>,
+    w: &SubflowInfo<'_>,
+) -> (bool, Result<SubflowInfo<'a>, AllocError>)
+    ensures equal { IsTrue result.0 ↔ (v.now.0.bytes.now ≡ w.now.0.bytes.now) }
+    ensures ok { IsOk result.1 }
+    ensures same { IfOk result.1 (λ copy. copy.0.bytes.now ≡ v.now.0.bytes.now) }
+{
+    (v == w, v.clone())
+}
+
+/// States that `==` holds if and only if two acknowledgements have the same number, request and
+/// bytes of attributes.
+pub fn equal_ack_views(v: &AckView<'_>, w: &AckView<'_>) -> bool
+    ensures { IsTrue result ↔ ((v.now.number ≡ w.now.number)
+        × (v.now.request.now ≡ w.now.request.now)
+        × (v.now.attributes.now ≡ w.now.attributes.now)) }
+{
+    v == w
+}
+
+/// States that a copy has the same number, request and bytes of attributes, and that `clone` never
+/// fails.
+pub fn copied_ack_view<'a>(view: &AckView<'a>) -> Result<AckView<'a>, AllocError>
+    ensures ok { IsOk result }
+    ensures number { IfOk result (λ copy. copy.number ≡ view.now.number) }
+    ensures request { IfOk result (λ copy. copy.request.now ≡ view.now.request.now) }
+    ensures attributes { IfOk result (λ copy. copy.attributes.now ≡ view.now.attributes.now) }
+{
+    view.clone()
+}

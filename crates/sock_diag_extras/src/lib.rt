@@ -8,6 +8,7 @@ mod acknowledgement;
 mod bytes;
 mod congestion;
 pub mod constants;
+mod exact;
 pub mod laws;
 mod lenient;
 mod md5_signature;

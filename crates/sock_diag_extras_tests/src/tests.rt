@@ -1,22 +1,32 @@
 //! The bytes are worked out by hand from the layouts of sock_diag(7) and `linux/inet_diag.h`.
 
-use netlink_core::{DecodeError, NlasIterator};
+use netlink_core::{DecodeError, FamilyView, NlasIterator};
 use sock_diag_extras::{
-    AckView, AttributeRecord, AttributeRecords, BbrInfo, BpfStorage, DctcpInfo, LenientInetReply,
-    Md5Signature, SocketOptions, StoredAddress, SubflowField, TcpField, TcpInfoBytes, TlsField,
-    UlpInfo, VegasInfo, read_attribute_record, write_attribute_record,
+    AckAttributes, AckView, AttributeRecord, AttributeRecords, BbrInfo, BpfStorage, DctcpInfo,
+    LenientInetReply, LenientNlas, LenientUnixReply, Md5Signature, NestedNlas, Refused,
+    SocketOption, SocketOptions, StoredAddress, SubflowField, SubflowInfo, TcpField, TcpInfoBytes,
+    TlsField, TlsInfo, UlpInfo, VegasInfo, read_attribute_record, write_attribute_record,
 };
 use std::alloc::Global;
 use std::fmt::Debug;
+use std::process::Abort;
 use std::test::Fail;
 
-/// What each attribute of a reply tells, or its kind and why it is refused.
-fn reply(alloc: Global, attributes: &[u8]) -> Result<String, Fail> {
-    let mut bytes = vec![in alloc; 0; 72]?;
-    bytes[0] = 2;
+/// The bytes of a reply: a header of zeros that begins with the family, and attributes.
+fn reply(alloc: Global, family: u8, header: usize, attributes: &[u8]) -> Result<Vec<u8>, Fail> {
+    let mut bytes = Vec::from_slice(alloc, &[family])?;
+    bytes.resize(header, 0)?;
     bytes.extend_from_slice(attributes)?;
+    Ok(bytes)
+}
+
+/// What each attribute of a reply says, or its kind and why it is rejected.
+fn items<'a, V>(alloc: Global, attributes: LenientNlas<'a, V>) -> Result<String, Fail>
+where
+    V: FamilyView<'a> + Debug + Drop,
+{
     let mut text = String::new(alloc);
-    for item in LenientInetReply::parse(&bytes)?.attributes() {
+    for item in attributes {
         let line = match item {
             Ok(view) => format!(in alloc; "{view:?};")?,
             Err(refused) => format!(in alloc; "{:?} {};", refused.kind(), refused.fault())?,
@@ -89,7 +99,14 @@ fn storages(alloc: Global, value: &[u8]) -> Result<String, Fail> {
 /// What is told by bytes, by the word that stands before them: a digit is the flags of an error.
 fn told(alloc: Global, word: &str, bytes: &[u8]) -> Result<String, Fail> {
     match word {
-        "reply" => reply(alloc, bytes),
+        "reply" => {
+            let bytes = reply(alloc, 2, 72, bytes)?;
+            items(alloc, LenientInetReply::parse(&bytes)?.attributes())
+        }
+        "unix" => {
+            let bytes = reply(alloc, 1, 16, bytes)?;
+            items(alloc, LenientUnixReply::parse(&bytes)?.attributes())
+        }
         "vegas" => record::<VegasInfo>(alloc, bytes),
         "dctcp" => record::<DctcpInfo>(alloc, bytes),
         "bbr" => record::<BbrInfo>(alloc, bytes),
@@ -112,6 +129,15 @@ reply |
 reply 08000200010203040500080001000000|\
 Some(2) TcpInfo: buffer of 4 bytes, at least 232 needed;Shutdown(1);
 reply 05000880010000000300|Shutdown(1);None attribute header cut: 2 bytes left;
+unix |
+unix 050000006100000006000000006200000800020007000000|\
+Name(Pathname([97]));Name(Abstract([98]));Peer(7);
+unix 0c00010005000000060000000c00030008000000090000000c0004000100000002000000|\
+Vfs(Vfs { inode: 5, device: 6 });\
+PendingConnections(NumbersView { bytes: [8, 0, 0, 0, 9, 0, 0, 0] });ReceiveQueueLength(1, 2);
+unix 0800050001000000050006000300000008000700e80300000300|\
+Some(5) UnixMemInfo: buffer of 4 bytes, at least 36 needed;Shutdown(3);\
+Other(NlaBuffer { type_word: 7, value: [232, 3, 0, 0] });None attribute header cut: 2 bytes left;
 vegas 01000000020000000300000004000000|\
 VegasInfo { enabled: 1, rtt_count: 2, rtt: 3, min_rtt: 4 } true
 dctcp 01000200030000000400000005000000|\
@@ -201,4 +227,67 @@ fn signatures(rt: HostRuntime) -> Result<(), Fail> {
     assert!(&rt; told.address.starts_with(&[127, 0, 0, 2]) && told.key.starts_with(b"secret\0"));
     assert!(&rt; records.next().is_none() && records.rest().len() == 7);
     Ok(())
+}
+
+/// A value is printed by `Debug` as a text that begins like this.
+fn is_text(
+    rt: &impl Abort,
+    alloc: Global,
+    value: impl Debug + Drop,
+    text: &str,
+) -> Result<(), Fail> {
+    let shown = format!(in alloc; "{value:?}")?;
+    assert!(rt; shown.starts_with(text), "{shown}");
+    Ok(())
+}
+
+#[test]
+fn values_have_texts(rt: HostRuntime) -> Result<(), Fail> {
+    let alloc = rt.alloc();
+    let nested = NestedNlas::parse(&[4, 0, 1, 0])?;
+    let bytes = "NestedNlas { bytes: [4, 0, 1, 0] }";
+    is_text(&rt, alloc, nested, bytes)?;
+    let text = format!(in alloc; "UlpInfo({bytes})")?;
+    is_text(&rt, alloc, UlpInfo(nested), text.as_str())?;
+    let text = format!(in alloc; "TlsInfo({bytes})")?;
+    is_text(&rt, alloc, TlsInfo(nested), text.as_str())?;
+    let text = format!(in alloc; "SubflowInfo({bytes})")?;
+    is_text(&rt, alloc, SubflowInfo(nested), text.as_str())?;
+    let text = format!(in alloc; "BpfStorage({bytes})")?;
+    is_text(&rt, alloc, BpfStorage(nested), text.as_str())?;
+    let text = format!(in alloc; "AckAttributes({bytes})")?;
+    is_text(&rt, alloc, AckAttributes(nested), text.as_str())?;
+    let told = TcpInfoBytes::new(&[7]);
+    is_text(&rt, alloc, told, "TcpInfoBytes { bytes: [7] }")?;
+    let text = "AckView { number: 1, request: [], attributes: [9] }";
+    let ack = AckView::of_done(512, &[1, 0, 0, 0, 9]).ok_or("too short")?;
+    is_text(&rt, alloc, ack, text)?;
+    let cut = DecodeError::AttributeHeaderCut { left: 2 };
+    let text = "Framing(AttributeHeaderCut { left: 2 })";
+    is_text(&rt, alloc, Refused::Framing(cut), text)
+}
+
+#[test]
+fn fields_and_records_have_texts(rt: HostRuntime) -> Result<(), Fail> {
+    let alloc = rt.alloc();
+    is_text(&rt, alloc, SocketOption::RecvErrRfc4884, "RecvErrRfc4884")?;
+    is_text(&rt, alloc, TcpField::AccecnOptSeen, "AccecnOptSeen")?;
+    is_text(&rt, alloc, TlsField::Receiving, "Receiving")?;
+    is_text(&rt, alloc, SubflowField::SequenceOffset, "SequenceOffset")?;
+    let zeros = [0; 128];
+    let text = "StoredAddress { family: 0, port: 0, front: [0, 0, 0, 0], segments: [0, 0, 0, 0, \
+                0, 0, 0, 0], scope_id: 0, rest: [0, 0, ";
+    is_text(
+        &rt,
+        alloc,
+        read_attribute_record::<StoredAddress>(&zeros).ok_or("too short")?,
+        text,
+    )?;
+    let text = "Md5Signature { family: 0, prefix_length: 0, key_length: 0, address: [0, 0, ";
+    is_text(
+        &rt,
+        alloc,
+        read_attribute_record::<Md5Signature>(&zeros).ok_or("too short")?,
+        text,
+    )
 }

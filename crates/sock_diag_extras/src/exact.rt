@@ -1,0 +1,52 @@
+//! `==` and `clone` of records and of names of fields compare and copy the whole value.
+
+ghost use Rattle.std.proofs.Common.{rules};
+ghost use Rattle.sock_diag_extras.specs.EqualTcpFieldLaws.{tcp_field_equal};
+
+use crate::congestion::{BbrInfo, DctcpInfo, VegasInfo};
+use crate::md5_signature::Md5Signature;
+use crate::options::{SocketOption, SocketOptions};
+use crate::stored_address::StoredAddress;
+use crate::tcp_info::TcpField;
+use crate::ulp_info::{SubflowField, TlsField};
+use netlink_core::Exact;
+
+impl Exact for VegasInfo {
+    ghost exact = { Prim.search rules };
+}
+
+impl Exact for DctcpInfo {
+    ghost exact = { Prim.search rules };
+}
+
+impl Exact for BbrInfo {
+    ghost exact = { Prim.search rules };
+}
+
+impl Exact for Md5Signature {
+    ghost exact = { Prim.search rules };
+}
+
+impl Exact for SocketOption {
+    ghost exact = { Prim.search rules };
+}
+
+impl Exact for SocketOptions {
+    ghost exact = { Prim.search rules };
+}
+
+impl Exact for StoredAddress {
+    ghost exact = { Prim.search rules };
+}
+
+impl Exact for TcpField {
+    ghost exact = { (tcp_field_equal, Prim.search rules, Prim.search rules) };
+}
+
+impl Exact for SubflowField {
+    ghost exact = { Prim.search rules };
+}
+
+impl Exact for TlsField {
+    ghost exact = { Prim.search rules };
+}
