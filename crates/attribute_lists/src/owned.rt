@@ -83,11 +83,10 @@ fn push_accepted<T: FamilyNla>(
         → decodes T.attribute_set (attribute_of nla.now) ≡ Ok value
         → IsSpareBy T.attribute_set value → IsOk result }
 {
-    if T::LARGE_KIND == Some(nla.kind()) {
-        nlas.push_reserved(T::own_accepted(alloc, nla)?);
-        return Ok(());
+    match T::LARGE_KIND {
+        Some(kind) if kind == nla.kind() => nlas.push_reserved(T::own_accepted(alloc, nla)?),
+        _ => nlas.push_reserved(T::own_accepted(alloc, nla)?),
     }
-    nlas.push_reserved(T::own_accepted(alloc, nla)?);
     Ok(())
 }
 
