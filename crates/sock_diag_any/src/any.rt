@@ -1,4 +1,4 @@
-//! A reply about a socket of any family, read in place.
+//! A borrowed reply about a socket of any family.
 
 ghost use Rattle.std.specs.Prelude.{◌≡◌, IfOk, IfErr};
 
@@ -11,28 +11,29 @@ use netlink_packet_sock_diag::{AF_NETLINK, AF_PACKET, SOCK_DIAG_BY_FAMILY, SockD
 use sock_diag_families::vsock::AF_VSOCK;
 use sock_diag_families::xdp::AF_XDP;
 
-/// A reply about a socket of any family that is read here or in the port, read in place.
+/// A borrowed reply about a socket of a family that the port or this crate parses.
 #[derive(Clone, Copy, Debug, PartialEq, Eq)]
 pub enum AnySockDiagView<'a> {
-    /// Tells an IPv4, IPv6 or UNIX socket.
+    /// A reply describing an IPv4, IPv6 or UNIX socket.
     Port(SockDiagView<'a>),
-    /// Tells a netlink socket.
+    /// A reply describing a netlink socket.
     Netlink(NetlinkResponseView<'a>),
-    /// Tells a packet socket.
+    /// A reply describing a packet socket.
     Packet(PacketResponseView<'a>),
-    /// Tells a vsock socket.
+    /// A reply describing a vsock socket.
     Vsock(VsockResponseView<'a>),
-    /// Tells an XDP socket.
+    /// A reply describing an XDP socket.
     Xdp(XdpResponseView<'a>),
 }
 
 impl<'a> AnySockDiagView<'a> {
     ghost use Rattle.sock_diag_any.specs.AnyMessage.{AnyReads, AnyRefuses, viewed_any};
 
-    /// Checks the whole of the bytes under a message type, and takes no memory. Under the type
-    /// `SOCK_DIAG_BY_FAMILY` a first byte `AF_NETLINK`, `AF_PACKET`, `AF_VSOCK` or `AF_XDP` chooses
-    /// the view of that family's replies. All else [`SockDiagView::parse`] decides, as fewer than 2
-    /// bytes, another type, and any other first byte.
+    /// Parses all of the bytes as a reply under a message type.
+    ///
+    /// If there are at least 2 bytes, the type is `SOCK_DIAG_BY_FAMILY` and the first byte is
+    /// `AF_NETLINK`, `AF_PACKET`, `AF_VSOCK` or `AF_XDP`, they are parsed as a reply of that
+    /// family. Otherwise the result is that of [`SockDiagView::parse`].
     pub fn parse(payload: &'a [u8], message_type: u16) -> Result<AnySockDiagView<'a>, DecodeError>
         ensures value { IfOk result
             (λ view. AnyReads payload.entry.now message_type (viewed_any view)) }
@@ -58,7 +59,7 @@ impl<'a> AnySockDiagView<'a> {
     }
 }
 
-/// The answer of the view that a message holds.
+/// Evaluates an expression with the view of the message's variant.
 macro_rules! held {
     ($message:expr, $held:ident => $answer:expr) => {
         match $message {
@@ -71,7 +72,7 @@ macro_rules! held {
     };
 }
 
-/// Writes the bytes of the reply's canonical form, and takes no memory.
+/// Serializes the reply in canonical form.
 impl Emitable for AnySockDiagView<'_> {
     ghost use Rattle.sock_diag_any.specs.AnyMessage.{AnyFits, any_bytes, viewed_any};
 

@@ -1,4 +1,4 @@
-//! What the attributes of a reply tell, each by its kind.
+//! Values of the attributes of a reply, each by its kind.
 
 ghost use Rattle.std.specs.Prelude.{◌≡◌, List, option_map};
 ghost use Rattle.netlink_core.specs.Attribute.{Attribute};
@@ -10,19 +10,18 @@ ghost use Rattle.sock_diag_families.specs.Found.{first_value, within};
 use crate::{FamilyHeader, WholeView};
 use netlink_core::{DecodeError, Record, parse_u32, read_record};
 
-/// The attributes of a reply, of which each getter takes the first of a kind, whatever its flag
-/// bits. None takes memory.
+/// Getters of the attributes of a reply. Each uses the first attribute of a kind, whatever its flag
+/// bits.
 pub trait WholeAttributes {
-    // The attributes, in the order that they came.
+    // The attributes, in order.
     ghost attributes: { Self → List Attribute };
 
-    /// The value of the first attribute of the kind.
+    /// Returns the value of the first attribute of the kind, or `None` if there is none.
     fn value_of(&self, kind: u16) -> Option<&[u8]>
         ensures { option_map (λ value. value.now) result
             ≡ first_value kind (attributes self.now) };
 
-    /// The number of 32 bits that is all of the value, low byte first. Another length is
-    /// `WrongLength`.
+    /// Parses the value as a little-endian `u32`. Another length than 4 is `WrongLength`.
     fn number_of(&self, kind: u16) -> Result<Option<u32>, DecodeError>
         ensures { result ≡ within (exact_number None 4) (first_value kind (attributes self.now)) }
     {
@@ -32,7 +31,7 @@ pub trait WholeAttributes {
         }
     }
 
-    /// The record at the start of the value. A fault is that of the record's reader.
+    /// Parses the record at the start of the value. An error is that of the record's parser.
     fn record_of<T: Record<Param = ()>>(&self, kind: u16) -> Result<Option<T>, DecodeError>
         ensures { result ≡ within (read T.layout tt) (first_value kind (attributes self.now)) }
     {
@@ -51,7 +50,7 @@ impl<H: FamilyHeader> WholeAttributes for WholeView<'_, H> {
     }
 }
 
-// The value of the first attribute of the kind. It is there as long as the reply's bytes are.
+// Returns the value of the first attribute of the kind. It borrows from the reply's bytes.
 pub(crate) fn value_in<'a, H: FamilyHeader>(reply: &WholeView<'a, H>, kind: u16) -> Option<&'a [u8]>
     ensures { option_map (λ value. value.now) result
         ≡ first_value kind (view_model reply.now).nlas }

@@ -1,9 +1,10 @@
-//! Replies about sockets of any family, read in place: those of the port, and those about vsock,
-//! netlink, packet and XDP sockets, whose attributes are kept whole.
+//! Borrowed replies about sockets of any family: those of the port, and those about vsock, netlink,
+//! packet and XDP sockets, whose attributes are not decoded.
 #![tactic(auto)]
 
 mod any;
 mod attributes;
+pub mod laws;
 pub mod netlink;
 pub mod packet;
 pub mod vsock;

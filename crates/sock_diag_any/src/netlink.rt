@@ -1,4 +1,4 @@
-//! Replies about netlink sockets, read in place.
+//! Borrowed replies about netlink sockets.
 
 ghost use Rattle.std.specs.Prelude.{◌≡◌, option_map};
 ghost use Rattle.netlink_core.specs.Layout.{read};
@@ -17,10 +17,10 @@ use sock_diag_families::netlink::{
 };
 use sock_diag_values::inet::MemInfo;
 
-/// The reply about one netlink socket, read in place.
+/// A borrowed reply describing one netlink socket.
 ///
-/// Of `parse`, fewer than 28 bytes are `BufferTooSmall`; else the first fault of an attribute is
-/// told.
+/// `parse` returns `BufferTooSmall` for fewer than 28 bytes, or else the first error of an
+/// attribute.
 pub type NetlinkResponseView<'a> = WholeView<'a, NetlinkResponseHeader>;
 
 impl FamilyHeader for NetlinkResponseHeader {
@@ -29,15 +29,15 @@ impl FamilyHeader for NetlinkResponseHeader {
     ghost keeps = { plain_replies_keep_laws netlink_header_sound };
 }
 
-/// The memory of the socket, `NETLINK_DIAG_MEMINFO`.
+/// Returns the memory of the socket, `NETLINK_DIAG_MEMINFO`.
 pub fn memory(reply: &NetlinkResponseView<'_>) -> Result<Option<MemInfo>, DecodeError>
     ensures { result ≡ within (read mem_info tt) (first_value 0 (view_model reply.now).nlas) }
 {
     reply.record_of(NETLINK_DIAG_MEMINFO)
 }
 
-/// The groups that the socket is a member of, `NETLINK_DIAG_GROUPS`: a bit for each, that of
-/// group 1 the lowest of the first byte.
+/// Returns the groups that the socket is a member of, `NETLINK_DIAG_GROUPS`: one bit for each. The
+/// lowest bit of the first byte is group 1.
 pub fn groups<'a>(reply: &NetlinkResponseView<'a>) -> Option<&'a [u8]>
     ensures { option_map (λ groups. groups.now) result
         ≡ first_value 1 (view_model reply.now).nlas }
@@ -45,7 +45,7 @@ pub fn groups<'a>(reply: &NetlinkResponseView<'a>) -> Option<&'a [u8]>
     value_in(reply, NETLINK_DIAG_GROUPS)
 }
 
-/// The bits `NDIAG_FLAG_..` of the socket, `NETLINK_DIAG_FLAGS`.
+/// Returns the flags `NDIAG_FLAG_..` of the socket, `NETLINK_DIAG_FLAGS`.
 pub fn flags(reply: &NetlinkResponseView<'_>) -> Result<Option<u32>, DecodeError>
     ensures { result ≡ within (exact_number None 4) (first_value 4 (view_model reply.now).nlas) }
 {

@@ -1,4 +1,4 @@
-//! Replies about packet sockets, read in place.
+//! Borrowed replies about packet sockets.
 
 ghost use Rattle.std.specs.Prelude.{◌≡◌, option_map};
 ghost use Rattle.netlink_core.specs.Layout.{read};
@@ -20,10 +20,10 @@ use sock_diag_families::packet::{
 };
 use sock_diag_values::inet::MemInfo;
 
-/// The reply about one packet socket, read in place.
+/// A borrowed reply describing one packet socket.
 ///
-/// Of `parse`, fewer than 16 bytes are `BufferTooSmall`; else the first fault of an attribute is
-/// told.
+/// `parse` returns `BufferTooSmall` for fewer than 16 bytes, or else the first error of an
+/// attribute.
 pub type PacketResponseView<'a> = WholeView<'a, PacketResponseHeader>;
 
 impl FamilyHeader for PacketResponseHeader {
@@ -32,7 +32,7 @@ impl FamilyHeader for PacketResponseHeader {
     ghost keeps = { plain_replies_keep_laws packet_header_sound };
 }
 
-// The ring that an attribute of this kind tells.
+// Parses the ring in the attribute of this kind.
 fn ring(reply: &PacketResponseView<'_>, kind: u16) -> Result<Option<PacketRing>, DecodeError>
     ensures { result ≡ within (packet_ring kind) (first_value kind (view_model reply.now).nlas) }
 {
@@ -42,7 +42,8 @@ fn ring(reply: &PacketResponseView<'_>, kind: u16) -> Result<Option<PacketRing>,
     }
 }
 
-/// What the socket is set to, `PACKET_DIAG_INFO`. Fewer than 24 bytes are `BufferTooSmall`.
+/// Returns the settings of the socket, `PACKET_DIAG_INFO`. Fewer than 24 bytes are
+/// `BufferTooSmall`.
 pub fn info(reply: &PacketResponseView<'_>) -> Result<Option<PacketInfo>, DecodeError>
     ensures { result ≡ within packet_info (first_value 0 (view_model reply.now).nlas) }
 {
@@ -52,8 +53,8 @@ pub fn info(reply: &PacketResponseView<'_>) -> Result<Option<PacketInfo>, Decode
     }
 }
 
-/// The addresses that the socket receives beside its interface's, `PACKET_DIAG_MCLIST`: 44
-/// bytes each, `struct packet_diag_mclist`.
+/// Returns the addresses that the socket receives in addition to its interface's,
+/// `PACKET_DIAG_MCLIST`: 44 bytes each, `struct packet_diag_mclist`.
 pub fn addresses<'a>(reply: &PacketResponseView<'a>) -> Option<&'a [u8]>
     ensures { option_map (λ value. value.now) result
         ≡ first_value 1 (view_model reply.now).nlas }
@@ -61,43 +62,43 @@ pub fn addresses<'a>(reply: &PacketResponseView<'a>) -> Option<&'a [u8]>
     value_in(reply, PACKET_DIAG_MCLIST)
 }
 
-/// The ring for what is received, `PACKET_DIAG_RX_RING`. Fewer than 28 bytes are
-/// `BufferTooSmall`.
+/// Returns the receive ring, `PACKET_DIAG_RX_RING`. Fewer than 28 bytes are `BufferTooSmall`.
 pub fn receive_ring(reply: &PacketResponseView<'_>) -> Result<Option<PacketRing>, DecodeError>
     ensures { result ≡ within (packet_ring 2) (first_value 2 (view_model reply.now).nlas) }
 {
     ring(reply, PACKET_DIAG_RX_RING)
 }
 
-/// The ring for what is sent, `PACKET_DIAG_TX_RING`. Fewer than 28 bytes are `BufferTooSmall`.
+/// Returns the transmit ring, `PACKET_DIAG_TX_RING`. Fewer than 28 bytes are `BufferTooSmall`.
 pub fn send_ring(reply: &PacketResponseView<'_>) -> Result<Option<PacketRing>, DecodeError>
     ensures { result ≡ within (packet_ring 3) (first_value 3 (view_model reply.now).nlas) }
 {
     ring(reply, PACKET_DIAG_TX_RING)
 }
 
-/// The number of the fanout, and its way in the high 16 bits, `PACKET_DIAG_FANOUT`.
+/// Returns the id of the fanout group, with its mode in the high 16 bits, `PACKET_DIAG_FANOUT`.
 pub fn fanout(reply: &PacketResponseView<'_>) -> Result<Option<u32>, DecodeError>
     ensures { result ≡ within (exact_number None 4) (first_value 4 (view_model reply.now).nlas) }
 {
     reply.number_of(PACKET_DIAG_FANOUT)
 }
 
-/// The user who owns the socket, `PACKET_DIAG_UID`.
+/// Returns the user id of the socket's owner, `PACKET_DIAG_UID`.
 pub fn owner(reply: &PacketResponseView<'_>) -> Result<Option<u32>, DecodeError>
     ensures { result ≡ within (exact_number None 4) (first_value 5 (view_model reply.now).nlas) }
 {
     reply.number_of(PACKET_DIAG_UID)
 }
 
-/// The memory of the socket, `PACKET_DIAG_MEMINFO`.
+/// Returns the memory of the socket, `PACKET_DIAG_MEMINFO`.
 pub fn memory(reply: &PacketResponseView<'_>) -> Result<Option<MemInfo>, DecodeError>
     ensures { result ≡ within (read mem_info tt) (first_value 6 (view_model reply.now).nlas) }
 {
     reply.record_of(PACKET_DIAG_MEMINFO)
 }
 
-/// The steps of the filter, `PACKET_DIAG_FILTER`: 8 bytes each, `struct sock_filter`.
+/// Returns the instructions of the filter, `PACKET_DIAG_FILTER`: 8 bytes each,
+/// `struct sock_filter`.
 pub fn filter<'a>(reply: &PacketResponseView<'a>) -> Option<&'a [u8]>
     ensures { option_map (λ value. value.now) result
         ≡ first_value 7 (view_model reply.now).nlas }

@@ -1,4 +1,4 @@
-//! Replies about vsock sockets, read in place.
+//! Borrowed replies about vsock sockets.
 
 ghost use Rattle.sock_diag_families.specs.RecordLaws.{vsock_header_sound};
 ghost use Rattle.sock_diag_any.specs.WholeReplyLaws.{plain_replies_keep_laws};
@@ -6,10 +6,10 @@ ghost use Rattle.sock_diag_any.specs.WholeReplyLaws.{plain_replies_keep_laws};
 use crate::{FamilyHeader, WholeView};
 use sock_diag_families::vsock::VsockResponseHeader;
 
-/// The reply about one vsock socket, read in place.
+/// A borrowed reply describing one vsock socket.
 ///
-/// Of `parse`, fewer than 32 bytes are `BufferTooSmall`; else the first fault of an attribute is
-/// told.
+/// `parse` returns `BufferTooSmall` for fewer than 32 bytes, or else the first error of an
+/// attribute.
 pub type VsockResponseView<'a> = WholeView<'a, VsockResponseHeader>;
 
 impl FamilyHeader for VsockResponseHeader {

@@ -1,4 +1,4 @@
-//! Replies whose attributes are kept whole.
+//! Replies whose attributes are not decoded.
 
 ghost use Rattle.std.specs.Prelude.{[], refl};
 ghost use Rattle.netlink_core.proofs.LayoutLaws.{accepted};
@@ -22,11 +22,11 @@ pub trait FamilyHeader: Record<Param = ()> + Drop {
     ghost keeps: { KeepsLaws (response_codec (whole_reply Self.layout)) };
 }
 
-/// The header of a reply whose attributes are kept whole.
+/// The header of a reply whose attributes are not decoded.
 #[derive(Debug, Drop, PartialEq, Eq)]
 pub struct Whole<H>(pub H);
 
-/// A reply whose attributes are kept whole, read in place.
+/// A borrowed reply whose attributes are not decoded.
 pub type WholeView<'a, H> = ReplyView<'a, Whole<H>>;
 
 impl<H: FamilyHeader> ReplyHeader for Whole<H> {

@@ -1,4 +1,4 @@
-//! Replies about XDP sockets, read in place.
+//! Borrowed replies about XDP sockets.
 
 ghost use Rattle.std.specs.Prelude.{◌≡◌};
 ghost use Rattle.netlink_core.specs.Layout.{read};
@@ -18,10 +18,10 @@ use sock_diag_families::xdp::{
 };
 use sock_diag_values::inet::MemInfo;
 
-/// The reply about one XDP socket, read in place.
+/// A borrowed reply describing one XDP socket.
 ///
-/// Of `parse`, fewer than 16 bytes are `BufferTooSmall`; else the first fault of an attribute is
-/// told.
+/// `parse` returns `BufferTooSmall` for fewer than 16 bytes, or else the first error of an
+/// attribute.
 pub type XdpResponseView<'a> = WholeView<'a, XdpResponseHeader>;
 
 impl FamilyHeader for XdpResponseHeader {
@@ -30,7 +30,8 @@ impl FamilyHeader for XdpResponseHeader {
     ghost keeps = { plain_replies_keep_laws xdp_header_sound };
 }
 
-/// Where the socket is bound, `XDP_DIAG_INFO`. Fewer than 8 bytes are `BufferTooSmall`.
+/// Returns the interface and the queue that the socket is bound to, `XDP_DIAG_INFO`. Fewer than 8
+/// bytes are `BufferTooSmall`.
 pub fn info(reply: &XdpResponseView<'_>) -> Result<Option<XdpInfo>, DecodeError>
     ensures { result ≡ within xdp_info (first_value 1 (view_model reply.now).nlas) }
 {
@@ -40,28 +41,28 @@ pub fn info(reply: &XdpResponseView<'_>) -> Result<Option<XdpInfo>, DecodeError>
     }
 }
 
-/// The user who owns the socket, `XDP_DIAG_UID`.
+/// Returns the user id of the socket's owner, `XDP_DIAG_UID`.
 pub fn owner(reply: &XdpResponseView<'_>) -> Result<Option<u32>, DecodeError>
     ensures { result ≡ within (exact_number None 4) (first_value 2 (view_model reply.now).nlas) }
 {
     reply.number_of(XDP_DIAG_UID)
 }
 
-/// How many entries the ring for what is received has, `XDP_DIAG_RX_RING`.
+/// Returns the number of entries of the receive ring, `XDP_DIAG_RX_RING`.
 pub fn receive_ring(reply: &XdpResponseView<'_>) -> Result<Option<u32>, DecodeError>
     ensures { result ≡ within (exact_number None 4) (first_value 3 (view_model reply.now).nlas) }
 {
     reply.number_of(XDP_DIAG_RX_RING)
 }
 
-/// How many the ring for what is sent has, `XDP_DIAG_TX_RING`.
+/// Returns the number of entries of the transmit ring, `XDP_DIAG_TX_RING`.
 pub fn send_ring(reply: &XdpResponseView<'_>) -> Result<Option<u32>, DecodeError>
     ensures { result ≡ within (exact_number None 4) (first_value 4 (view_model reply.now).nlas) }
 {
     reply.number_of(XDP_DIAG_TX_RING)
 }
 
-/// The memory that the socket shares, `XDP_DIAG_UMEM`. Fewer than 40 bytes are
+/// Returns the shared memory area of the socket, `XDP_DIAG_UMEM`. Fewer than 40 bytes are
 /// `BufferTooSmall`.
 pub fn shared_memory(reply: &XdpResponseView<'_>) -> Result<Option<XdpUmem>, DecodeError>
     ensures { result ≡ within xdp_umem (first_value 5 (view_model reply.now).nlas) }
@@ -72,14 +73,14 @@ pub fn shared_memory(reply: &XdpResponseView<'_>) -> Result<Option<XdpUmem>, Dec
     }
 }
 
-/// The memory of the socket, `XDP_DIAG_MEMINFO`.
+/// Returns the memory of the socket, `XDP_DIAG_MEMINFO`.
 pub fn memory(reply: &XdpResponseView<'_>) -> Result<Option<MemInfo>, DecodeError>
     ensures { result ≡ within (read mem_info tt) (first_value 8 (view_model reply.now).nlas) }
 {
     reply.record_of(XDP_DIAG_MEMINFO)
 }
 
-/// What the socket counted, `XDP_DIAG_STATS`. Fewer than 48 bytes are `BufferTooSmall`.
+/// Returns the counters of the socket, `XDP_DIAG_STATS`. Fewer than 48 bytes are `BufferTooSmall`.
 pub fn statistics(reply: &XdpResponseView<'_>) -> Result<Option<XdpStatistics>, DecodeError>
     ensures { result ≡ within xdp_statistics (first_value 9 (view_model reply.now).nlas) }
 {

@@ -9,6 +9,7 @@ use Rattle.netlink_core.specs.declared.fault.DecodeError.{DecodeError}
 use Rattle.netlink_core.specs.declared.message.NetlinkPayload.TheVariants.{Done, Error}
 use Rattle.netlink_core.specs.declared.message.NetlinkPayload.TheVariants.{Overrun, InnerMessage}
 use Rattle.netlink_core.specs.AttributeSet.{content}
+use Rattle.netlink_core.specs.Response.{ValueOf, response_codec}
 use Rattle.netlink_core.specs.Items.{Item, ItemIs, ItemsAre}
 use Rattle.sock_diag_attributes.specs.declared.unix.name.SocketName.{SocketName}
 use Rattle.sock_diag_attributes.specs.declared.unix.name.SocketName.TheVariants.{Pathname, Abstract}
@@ -18,8 +19,14 @@ use Rattle.netlink_packet_sock_diag.specs.Message.{Message, message_of, message_
 use Rattle.sock_diag_records.specs.ResponseKind.{inet_request, inet_response, unix_request}
 use Rattle.sock_diag_records.specs.ResponseKind.{unix_response}
 use Rattle.sock_diag_replies.specs.UnixGetters.{first_of}
+use Rattle.sock_diag_replies.specs.UnixResponseSpec.{unix_response_spec}
 
--- the bytes of a path that is lent
+-- the bytes parse as a reply about a UNIX socket
+abbrev pub IsUnixReply : List ℕ → Type 0
+IsUnixReply bytes =
+    (v : ValueOf unix_response_spec) × (response_codec unix_response_spec).reads bytes tt v
+
+-- the bytes of a borrowed path
 abbrev pub path_bytes : Option (Bor (List ℕ)) → Option (List ℕ)
 path_bytes None = None
 path_bytes (Some path) = Some path.now

@@ -1,12 +1,24 @@
 -- The keys of replies.
 use Rattle.std.specs.Prelude.{◌≡◌, ℕ, List}
 use Rattle.netlink_core.specs.Bytes.{IsBytes}
+use Rattle.netlink_core.specs.Canonical.{GivesUp}
+use Rattle.netlink_core.specs.declared.canon.CanonError.{CanonError}
 use Rattle.netlink_packet_sock_diag.specs.Message.{Message, message_codec}
 
--- a message belongs to the bytes under the type 20, and the key is what it is written as
+-- the bytes parse as a message under the type 20, and the key is what it is serialized to
 pub record IsKey (reply key : List ℕ) : Type 0 where
   pub in_range : IsBytes reply
   pub message : Message
   pub is : message_codec.reads reply 20 message
   pub fits : message_codec.fits message
   pub written : key ≡ message_codec.written message
+
+-- the reply has a key
+abbrev pub HasKey : List ℕ → Type 0
+HasKey reply = (key : List ℕ) × IsKey reply key
+
+-- why no key is returned: the reply is rejected with this error, or parses as a message that can't
+-- be serialized, or parses and memory ran out
+abbrev pub KeyFails : List ℕ → CanonError → Type 0
+KeyFails reply = GivesUp (message_codec.reads reply 20) (message_codec.refuses reply 20)
+    message_codec.fits

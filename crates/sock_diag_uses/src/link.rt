@@ -2,6 +2,7 @@
 //! netlink family.
 
 ghost use Rattle.std.specs.Prelude.{◌≡◌, ◌≤◌, ◌↔◌, ℕ, List, [], None, length, drop, IfOk, IfErr};
+ghost use Rattle.std.specs.Prelude.{IsTrue};
 ghost use Rattle.std.specs.List.{filter_map, last_or};
 ghost use Rattle.netlink_core.specs.Attribute.{Attribute, AttributesMean, HasFittingValue, written};
 ghost use Rattle.netlink_core.specs.Bytes.{IsBytes};
@@ -16,33 +17,33 @@ use netlink_core::{
 };
 use std::alloc::Global;
 
-/// The type of the attribute with the name, a text with a zero at its end.
+/// Type of the attribute with the name, a text with a terminating NUL.
 pub const IFLA_IFNAME: u16 = 3;
 
-/// The type of the attribute with the MTU, 4 bytes.
+/// Type of the attribute with the MTU, 4 bytes.
 pub const IFLA_MTU: u16 = 4;
 
-/// How many bytes stand in front of the attributes: `struct ifinfomsg`.
+/// Length of `struct ifinfomsg` in bytes; the attributes follow it.
 const HEADER: usize = 16;
 
-/// What a message of type `RTM_NEWLINK` tells of an interface.
+/// Name and MTU of an interface, from a message of type `RTM_NEWLINK`.
 #[derive(Debug, Drop, PartialEq, Eq)]
 pub struct Link {
-    /// Its name. Of several the last counts, as for the kernel.
+    /// Name (`IFLA_IFNAME`). Of several the last counts, as for the kernel.
     pub name: Option<String>,
-    /// The most bytes of a packet, likewise.
+    /// Maximum length of a packet in bytes (`IFLA_MTU`). Of several the last counts.
     pub mtu: Option<u32>,
 }
 
-/// Why a message tells no interface.
+/// Error of [`parse_link`].
 #[derive(Debug, Drop, PartialEq, Eq)]
 pub enum LinkError {
-    /// It has fewer than the 16 bytes of its header.
+    /// The payload has fewer than the 16 bytes of its header.
     TooShort {
-        /// How many bytes there are.
+        /// Length of the payload in bytes.
         got: usize,
     },
-    /// An attribute is refused, or memory ran out.
+    /// An attribute is invalid, or memory ran out.
     Attribute(DecodeError),
 }
 
@@ -54,7 +55,7 @@ impl From<DecodeError> for LinkError {
     }
 }
 
-/// Reads the payload of a message about an interface: what stands behind the netlink header.
+/// Parses the payload of a message about an interface: the bytes after the netlink header.
 pub fn parse_link(alloc: Global, payload: &[u8]) -> Result<Link, LinkError>
     ensures value { IfOk result (λ link. (found : List LinkAttribute) × (16 ≤ length payload.now)
         × AttributesMean decodes_link (drop 16 payload.now) found
@@ -80,8 +81,24 @@ pub fn parse_link(alloc: Global, payload: &[u8]) -> Result<Link, LinkError>
     Ok(link)
 }
 
-/// The canonical bytes of the first attribute, of whatever family: one string for all that
-/// differ in paddings and in what follows alone.
+/// Compares two interfaces by `==`, which is true if and only if their names and their MTUs are
+/// equal.
+pub fn equal_links(v: &Link, w: &Link) -> bool
+    ensures { IsTrue result
+        ↔ ((text_of v.now.name ≡ text_of w.now.name) × (v.now.mtu ≡ w.now.mtu)) }
+{
+    v == w
+}
+
+/// Compares two errors by `==`, which is true if and only if they are equal.
+pub fn equal_link_errors(v: &LinkError, w: &LinkError) -> bool
+    ensures { IsTrue result ↔ (v.now ≡ w.now) }
+{
+    v == w
+}
+
+/// Returns the canonical bytes of the first attribute, of any family. Attributes that differ only
+/// in padding and in what follows have the same canonical bytes.
 pub fn attribute_key(alloc: Global, attribute: &[u8]) -> Result<Vec<u8>, CanonError>
     ensures written { IfOk result (λ key.
         (a : Attribute) × (first_attribute_codec []).reads attribute.now tt a

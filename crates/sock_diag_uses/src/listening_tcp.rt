@@ -1,5 +1,6 @@
 //! The request for all TCP sockets that listen.
 
+ghost use Rattle.std.proofs.Common.{rules};
 ghost use Rattle.std.specs.Prelude.{◌≡◌, [], ◌∷◌, ◌++◌, replicate};
 ghost use Rattle.byteorder.specs.Endian.{little_bytes};
 ghost use Rattle.netlink_core.specs.EnvelopeModel.{envelope_of};
@@ -9,25 +10,31 @@ ghost use Rattle.netlink_packet_sock_diag.specs.MessageModel.{message_model};
 ghost use Rattle.sock_diag_uses.specs.ListeningTcp.{family_number, listening_request};
 
 use bitflags::Flags;
-use netlink_core::{NLM_F_DUMP, NLM_F_REQUEST, NetlinkHeader, NetlinkMessage, NetlinkPayload};
+use netlink_core::{
+    Exact, NLM_F_DUMP, NLM_F_REQUEST, NetlinkHeader, NetlinkMessage, NetlinkPayload,
+};
 use netlink_packet_sock_diag::SockDiagMessage;
 use netlink_packet_sock_diag::constants::{AF_INET, AF_INET6, IPPROTO_TCP};
 use netlink_packet_sock_diag::inet::{ExtensionFlags, InetRequest, SocketId, StateFlags};
 
-/// How many bytes the request has: 16 of the netlink header and 56 of `struct inet_diag_req_v2`.
+/// Length of the request in bytes: 16 of the netlink header and 56 of `struct inet_diag_req_v2`.
 pub const REQUEST_LENGTH: usize = 72;
 
-/// Which internet sockets are asked for.
+/// Address family of the sockets that are requested.
 #[derive(Clone, Copy, Debug, PartialEq, Eq)]
 pub enum Family {
-    /// Those with IPv4 addresses, `AF_INET`.
+    /// IPv4, `AF_INET`.
     Inet,
-    /// Those with IPv6 addresses, `AF_INET6`.
+    /// IPv6, `AF_INET6`.
     Inet6,
 }
 
-/// The request for all TCP sockets of a family that listen, and for none of their attributes. The
-/// kernel's replies repeat the sequence number.
+impl Exact for Family {
+    ghost exact = { Prim.search rules };
+}
+
+/// Returns the request for all listening TCP sockets of a family, and for none of their attributes.
+/// The kernel's replies repeat the sequence number.
 #[tactic(auto, unfolding(sock_diag_records::specs::InetRequest::inet_request))]
 pub fn listening_tcp(family: Family, sequence_number: u32) -> NetlinkMessage<SockDiagMessage>
     ensures { envelope_of message_model result ≡ listening_request family sequence_number }
@@ -53,7 +60,7 @@ pub fn listening_tcp(family: Family, sequence_number: u32) -> NetlinkMessage<Soc
     message
 }
 
-/// The bytes of [`listening_tcp`], as they are sent. No memory is taken.
+/// Returns the bytes of [`listening_tcp`] as they are sent.
 #[tactic(auto, unfolding(sock_diag_records::specs::InetRequest::inet_request))]
 pub fn listening_tcp_bytes(family: Family, sequence_number: u32) -> [u8; REQUEST_LENGTH]
     ensures written { result ≡ (envelope_codec message_codec).written

@@ -1,4 +1,4 @@
-//! A listing of what a datagram of a dump tells, read in place.
+//! A listing of the messages of a dump's datagram.
 
 ghost use Rattle.std.specs.Prelude.{◌≡◌, ◌↔◌, List, Result, Some, IfOk, IsTrue, map};
 ghost use Rattle.std.specs.Iterator.{Drains};
@@ -27,14 +27,14 @@ pub enum Line {
     },
     /// The dump ends.
     End,
-    /// The kernel tells an error, or that data was lost.
+    /// The kernel reports an error, or that data was lost.
     Failure,
-    /// A message is refused, or what stands there is no message.
+    /// A message is invalid, or the remaining bytes are no message.
     Refused(DecodeError),
 }
 
-/// The lines of a datagram, in order: one for each message but those of nothing, and one for what
-/// is no message. Only the lines take memory.
+/// Returns the lines of a datagram, in order: one for each message except `NLMSG_NOOP`, and one for
+/// remaining bytes that are no message.
 pub fn list(alloc: Global, datagram: &[u8]) -> Result<Vec<Line>, AllocError>
     ensures { IfOk result (λ lines. AreLinesOf datagram.now lines.items) }
 {
@@ -42,14 +42,14 @@ pub fn list(alloc: Global, datagram: &[u8]) -> Result<Vec<Line>, AllocError>
     lines_of(alloc, DumpViews::new(datagram))
 }
 
-/// `==` says whether two lines are the same.
+/// Compares two lines by `==`, which is true if and only if they are equal.
 pub fn equal_lines(v: &Line, w: &Line) -> bool
     ensures { IsTrue result ↔ (v.now ≡ w.now) }
 {
     v == w
 }
 
-// The lines of what a walk gives.
+// Returns the lines of the items of a walk.
 fn lines_of(alloc: Global, views: DumpViews<'_>) -> Result<Vec<Line>, AllocError>
     ensures { IfOk result (λ lines. (given : List (Result PayloadView Fault))
         × Drains GivesView views.entry given
@@ -64,7 +64,7 @@ fn lines_of(alloc: Global, views: DumpViews<'_>) -> Result<Vec<Line>, AllocError
     Ok(lines)
 }
 
-// The line of an item, if it has one.
+// Returns the line of an item, if it has one.
 fn line_for(item: Result<PayloadView<'_>, DecodeError>) -> Option<Line>
     ensures { result ≡ line_of (map_ok payload_view_model item.entry) }
 {
@@ -77,7 +77,7 @@ fn line_for(item: Result<PayloadView<'_>, DecodeError>) -> Option<Line>
     }
 }
 
-// The line of a socket.
+// Returns the line of a socket.
 fn socket_line(message: &SockDiagView<'_>) -> Line
     ensures { Some result ≡ socket_of (message_view_model message.now) }
 {

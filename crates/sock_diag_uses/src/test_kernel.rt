@@ -1,6 +1,7 @@
 //! A kernel for tests: it answers a request for UNIX sockets with given replies, as one datagram.
 
-ghost use Rattle.std.specs.Prelude.{◌≡◌, ◌++◌, ℕ, List, map, OnOk, IfOk, IfErr, vec_items};
+ghost use Rattle.std.specs.Prelude.{◌≡◌, ◌↔◌, ◌++◌, ℕ, List, map, IsTrue, OnOk, IfOk, IfErr};
+ghost use Rattle.std.specs.Prelude.{vec_items};
 ghost use Rattle.std.specs.List.{AllByRecursion, flat_map};
 ghost use Rattle.netlink_core.specs.EnvelopeModel.{payload_of};
 ghost use Rattle.netlink_packet_sock_diag.specs.MessageModel.{message_model};
@@ -24,12 +25,12 @@ use std::alloc::{AllocError, AllocFailed, Global};
 /// The flag of a header that says that the message is one of several, `NLM_F_MULTI` of netlink(7).
 pub const NLM_F_MULTI: u16 = 2;
 
-/// Why there is no answer.
+/// Error of [`answer`].
 #[derive(Debug, Drop, PartialEq, Eq)]
 pub enum AnswerError {
-    /// The request is refused.
+    /// The request is invalid.
     Request(DecodeError),
-    /// A reply is too long to be written.
+    /// A reply is too long to be serialized.
     Unwritable,
     /// Memory ran out.
     Memory,
@@ -59,9 +60,16 @@ impl<T: Drop> From<AllocFailed<T>> for AnswerError {
     }
 }
 
-/// The answer to a request for UNIX sockets: each reply in a message of its own, and the message
-/// that ends a dump, all of them with the request's sequence number. What the request asks for is
-/// read, and doesn't choose among the replies.
+/// Compares two errors by `==`, which is true if and only if they are equal.
+pub fn equal_answer_errors(v: &AnswerError, w: &AnswerError) -> bool
+    ensures { IsTrue result ↔ (v.now ≡ w.now) }
+{
+    v == w
+}
+
+/// Returns the answer to a request for UNIX sockets: each reply in its own message, and the message
+/// that ends a dump, all with the request's sequence number. The request is parsed, but does not
+/// select among the replies.
 pub fn answer(
     alloc: Global,
     request: &[u8],
@@ -88,8 +96,8 @@ pub fn answer(
     Ok(datagram)
 }
 
-/// The dump over an answer is done, and has the given replies, where each is as readers give it and
-/// can be written. The function does nothing: its contract is the law.
+/// States that the dump over an answer is complete and has the given replies, if each is as parsers
+/// return it and can be serialized. Proof only: the contract states the property.
 pub fn answer_is_a_whole_dump()
     ensures { (request : List ℕ) (replies : List (ValueOf unix_response_spec)) (datagram : List ℕ)
         → IsAnswer request replies datagram

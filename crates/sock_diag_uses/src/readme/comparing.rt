@@ -1,26 +1,29 @@
-//! Replies are compared and rewritten in place.
+//! Borrowed replies are compared and rewritten.
 
 ghost use Rattle.std.specs.Prelude.{◌≡◌, ◌↔◌, ◌⊎◌, ◌<◌, ◌++◌, length, drop, IsTrue, IfOk, IfErr};
-ghost use Rattle.std.specs.Prelude.{MatchOption};
+ghost use Rattle.std.specs.Prelude.{MatchOption, OnOk};
 ghost use Rattle.netlink_core.specs.Response.{ValueOf, response_bytes, response_codec};
 ghost use Rattle.sock_diag_replies.specs.UnixResponseSpec.{unix_response_spec};
+ghost use Rattle.sock_diag_uses.specs.Readme.{IsUnixReply};
 
 use netlink_core::{DecodeError, Emitable};
 use netlink_packet_sock_diag::unix::UnixResponseView;
 
-/// Whether two replies tell the same, whatever their pads and paddings.
+/// Returns whether two replies have the same header and the same attributes, whatever their
+/// padding.
 pub fn tell_the_same(one: &[u8], other: &[u8]) -> Result<bool, DecodeError>
     ensures value { IfOk result (λ same.
         IsTrue same ↔ (response_codec unix_response_spec).idle tt one.now
         other.now) }
+    ensures accepted { OnOk result (IsUnixReply one.now × IsUnixReply other.now) }
     ensures fault { IfErr result (λ e. (response_codec unix_response_spec).refuses one.now tt e
-        ⊎ ((v : ValueOf unix_response_spec) × (response_codec unix_response_spec).reads one.now tt v
-        × (response_codec unix_response_spec).refuses other.now tt e)) }
+        ⊎ (IsUnixReply one.now × (response_codec unix_response_spec).refuses other.now tt e)) }
 {
     Ok(UnixResponseView::parse(one)? == UnixResponseView::parse(other)?)
 }
 
-/// Writes a reply's canonical bytes into a buffer, and says how many there are. No memory is taken.
+/// Serializes a reply in canonical form at the start of a buffer, and returns the number of bytes,
+/// or `None` if it can't be serialized or the buffer is shorter.
 pub fn rewrite(bytes: &[u8], buffer: &mut [u8]) -> Result<Option<usize>, DecodeError>
     ensures value { IfOk result (λ written. (v : ValueOf unix_response_spec)
         × (response_codec unix_response_spec).reads bytes.now tt v

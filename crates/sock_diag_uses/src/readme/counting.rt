@@ -1,4 +1,4 @@
-//! A datagram of a dump is gone over in place.
+//! The messages of a dump's datagram, borrowed one by one.
 
 ghost use Rattle.sock_diag_uses.specs.Readme.{IsCounted};
 
@@ -6,8 +6,8 @@ use netlink_core::DecodeError;
 use netlink_packet_sock_diag::constants::TCP_LISTEN;
 use netlink_packet_sock_diag::{DumpViews, PayloadView, SockDiagView};
 
-/// How many replies of a datagram are about UNIX sockets that listen, or `None` where the kernel
-/// says that its dump failed or that data was lost. No memory is taken.
+/// Returns how many replies of a datagram are about listening UNIX sockets, or `None` if the kernel
+/// reports that its dump failed or that data was lost.
 pub fn listening(datagram: &[u8]) -> Result<Option<usize>, DecodeError>
     ensures { IsCounted datagram.now result }
 {

@@ -1,4 +1,4 @@
-//! A reply is made from its parts.
+//! A reply is made of its fields.
 
 ghost use Rattle.std.specs.Prelude.{◌≡◌, [], ◌∷◌, replicate, IfOk};
 ghost use Rattle.netlink_core.specs.AttributeSet.{of_type};
@@ -12,7 +12,7 @@ use netlink_packet_sock_diag::unix::{UnixResponse, UnixResponseHeader};
 use smallvec::SmallVec;
 use std::alloc::{AllocError, Global};
 
-/// The reply about a stream socket that listens at a path.
+/// Returns the reply about a stream socket that listens at a path.
 pub fn listener(alloc: Global, inode: u32, path: &[u8]) -> Result<UnixResponse, AllocError>
     ensures header { IfOk result
         (λ reply. reply.header ≡ record {

@@ -7,7 +7,7 @@ use Rattle.sock_diag_replies.specs.UnixResponseSpecLaws.{unix_test_decides}
 use Rattle.netlink_core.proofs.Responses.{responses_keep_laws}
 use Rattle.sock_diag_uses.proofs.readme.comparing.tell_the_same.Goals as goal
 
--- `==` compares what the two tell, and that is equal exactly where the bytes are idle
+-- `==` compares the models, which are equal if and only if the bytes are equivalent
 pub returns-clause-value : goal.returns-clause-value
 returns-clause-value c =
     let v = view_model c.in_ok-parse.field-0 in
@@ -19,12 +19,17 @@ returns-clause-value c =
     c.in_ok-parse.ensures.value c.in_ok-parse-2.ensures.value in
     rw c.eq.ensures (λ same. idle.0 (found.0 same), λ i. found.1 (idle.1 i))
 
+pub returns-clause-accepted : goal.returns-clause-accepted
+returns-clause-accepted c = (
+  (view_model c.in_ok-parse.field-0, c.in_ok-parse.ensures.value),
+  (view_model c.in_ok-parse-2.field-0, c.in_ok-parse-2.ensures.value),
+)
+
 pub returns-in_err-parse-2-clause-fault : goal.returns-in_err-parse-2-clause-fault
 returns-in_err-parse-2-clause-fault c =
     let p = err_from_is_err_and c.from_residual-in_err-parse-2.result
     c.from_residual-in_err-parse-2.ensures.1 in
     rw (p.1, p.2) (inr (
-      view_model c.in_ok-parse.field-0,
-      c.in_ok-parse.ensures.value,
+      (view_model c.in_ok-parse.field-0, c.in_ok-parse.ensures.value),
       c.in_err-parse-2.ensures.fault,
     ))

@@ -1,0 +1,51 @@
+//! Properties of `==` and `clone` of the types of this crate. Each function calls one of the two,
+//! and its contract states the property.
+
+ghost use Rattle.std.specs.Prelude.{◌≡◌, ◌↔◌, IfOk, IsOk, IsTrue};
+ghost use Rattle.sock_diag_replies.specs.ViewModel.{view_model};
+ghost use Rattle.sock_diag_any.specs.AnyMessage.{viewed_any};
+
+use crate::{AnySockDiagView, FamilyHeader, Whole, WholeView};
+use std::alloc::AllocError;
+
+/// Compares two headers by `==`, which is true if and only if they are equal.
+pub fn equal_wholes<H: FamilyHeader>(v: &Whole<H>, w: &Whole<H>) -> bool
+    ensures { IsTrue result ↔ (v.now ≡ w.now) }
+{
+    v == w
+}
+
+/// Compares two borrowed replies of one family by `==`, which is true if and only if their headers
+/// are equal and their attributes are the same in the same order.
+pub fn equal_whole_views<H: FamilyHeader>(v: &WholeView<'_, H>, w: &WholeView<'_, H>) -> bool
+    ensures { IsTrue result ↔ (view_model v.now ≡ view_model w.now) }
+{
+    v == w
+}
+
+/// Compares two borrowed replies of any family by `==`, which is true if and only if they describe
+/// the same: replies of one family with equal headers, and the same attributes in the same order.
+#[tactic(auto, using(crate::proofs::EqualAny::any_equal))]
+pub fn equal_any_views(v: &AnySockDiagView<'_>, w: &AnySockDiagView<'_>) -> bool
+    ensures { IsTrue result ↔ (viewed_any v.now ≡ viewed_any w.now) }
+{
+    v == w
+}
+
+/// Copies a borrowed reply of one family by `clone`, which never fails and returns the same reply.
+pub fn copied_whole_view<'a, H: FamilyHeader>(
+    view: &WholeView<'a, H>,
+) -> Result<WholeView<'a, H>, AllocError>
+    ensures ok { IsOk result }
+    ensures same { IfOk result (λ copy. view_model copy ≡ view_model view.now) }
+{
+    view.clone()
+}
+
+/// Copies a borrowed reply of any family by `clone`, which never fails and returns the same reply.
+pub fn copied_any_view<'a>(view: &AnySockDiagView<'a>) -> Result<AnySockDiagView<'a>, AllocError>
+    ensures ok { IsOk result }
+    ensures same { IfOk result (λ copy. viewed_any copy ≡ viewed_any view.now) }
+{
+    view.clone()
+}
