@@ -1,6 +1,6 @@
 //! Answers to lines that are too long to be stored, or are no text.
 
-use super::{Repeated, repeated};
+use super::{LARGE, Repeated, repeated};
 use sock_diag_lines::answer;
 use std::alloc::Global;
 use std::process::Abort;
@@ -8,6 +8,10 @@ use std::process::Abort;
 fn answers(rt: &impl Abort, alloc: Global, line: &[u8], want: &[u8]) {
     assert!(rt; answer(alloc, line).expect(rt, "memory").as_slice() == want);
 }
+
+/// The header of a reply about a TCP connection.
+const INET_HEADER: &str = "02010200eb1401bbc0a8b23c000000000000000000000000acd917830000000000000000\
+00000000000000005203000000000000806000000000000000000000e8030000a8da2900";
 
 /// A reply about a TCP connection, as far as the letters of its congestion algorithm.
 const INET: &str = "inet 02010200eb1401bbc0a8b23c000000000000000000000000acd9178300000000000000000\
@@ -60,15 +64,16 @@ fn answers_bytes_that_are_no_text(rt: HostRuntime) {
     }
 }
 
-/// Memory is never wanted where there is some. With two digits a byte, the longest line has 1 MiB.
+/// A name, and the space that follows it.
+const WORDS: &str = "unixreq |inetreq |sockid4 |unix |inet |message |netlink |unixview |dump ";
+
+/// Checks that a field of each size is answered if there is memory. With two digits a byte, the
+/// longest line has 1 MiB.
 #[test]
 fn lines_of_each_size(rt: HostRuntime) {
     let alloc = rt.alloc();
-    for size in [
-        1, 2, 4, 8, 16, 32, 64, 128, 256, 512, 1024, 2048, 4096, 8192, 16_384, 32_768, 65_536,
-        131_072, 262_144, 524_288,
-    ] {
-        for word in "unix |inet |message |netlink |unixview |dump |".split('|') {
+    for word in WORDS.split('|') {
+        for size in (0..301).chain(LARGE) {
             let line = repeated(&rt, alloc, (word, "01", size, ""));
             assert!(rt;
                 !answer(alloc, line.as_bytes())
@@ -76,5 +81,99 @@ fn lines_of_each_size(rt: HostRuntime) {
                     .is_empty()
             );
         }
+    }
+}
+
+/// Asserts that the answer to a line of these parts begins with `ok`.
+fn accepts(rt: &impl Abort, alloc: Global, parts: &[&str]) {
+    let line = parts.concat(alloc).expect(rt, "memory");
+    let text = answer(alloc, line.as_bytes()).expect(rt, "memory");
+    assert!(rt; text.starts_with(b"ok "));
+}
+
+/// The header of a reply about a UNIX socket.
+const SOCKET: &str = "01010100b77c00002200000000000000";
+
+/// An attribute of 8 bytes that is valid in a reply about a UNIX and an internet socket.
+const ATTRIBUTE: &str = "0500060002000000";
+
+/// A netlink message with a reply about a UNIX socket.
+const REPLY: &str = "2000000014000200070000000000000001010a000e4f0000a002000000000000";
+
+/// The same message, in a datagram of its own.
+const NEXT_REPLY: &str = " 2000000014000200070000000000000001010a000e4f0000a002000000000000";
+
+/// Numbers of attributes or messages over 300.
+const COUNTS: [usize; 9] = [
+    512, 1_000, 1_024, 2_048, 4_096, 8_192, 10_000, 16_384, 32_768,
+];
+
+/// Asserts that the answer to a number of equal items, after a header, begins with `ok`.
+fn accepts_items(rt: &impl Abort, alloc: Global, header: &str, item: &str, count: usize) {
+    let items = item.repeat(alloc, count).expect(rt, "memory");
+    accepts(rt, alloc, &[header, items.as_str()]);
+}
+
+/// Checks replies with each number of attributes, and dumps with each number of messages and of
+/// datagrams.
+#[test]
+fn lists_of_each_size(rt: HostRuntime) {
+    for (front, header, item) in [
+        ("unix ", SOCKET, ATTRIBUTE),
+        ("unixview ", SOCKET, ATTRIBUTE),
+        ("message ", SOCKET, ATTRIBUTE),
+        ("inet ", INET_HEADER, ATTRIBUTE),
+        ("dump ", REPLY, REPLY),
+        ("dump ", REPLY, NEXT_REPLY),
+    ] {
+        let header = [front, header].concat(rt.alloc()).expect(&rt, "memory");
+        for count in (0..301).chain(COUNTS) {
+            accepts_items(&rt, rt.alloc(), header.as_str(), item, count);
+        }
+    }
+}
+
+/// Checks messages of type `NLMSG_DONE` with a payload of each size.
+#[test]
+fn payloads_of_each_size(rt: HostRuntime) {
+    for size in (0..301).chain(LARGE) {
+        let length = size.saturating_add(16).swap_bytes() >> 32;
+        let header = format!(in rt.alloc(); "netlink {length:08x}030000000000000000000000");
+        let header = header.expect(&rt, "memory");
+        let payload = "5a".repeat(rt.alloc(), size).expect(&rt, "memory");
+        accepts(&rt, rt.alloc(), &[header.as_str(), payload.as_str()]);
+    }
+}
+
+/// Sizes of names over 300, up to the longest.
+const NAMES: [usize; 7] = [512, 1_000, 1_024, 4_096, 10_000, 32_768, 65_530];
+
+/// Asserts that the answers to a name of a number of letters begin with `ok`.
+fn accepts_name(rt: &impl Abort, alloc: Global, size: usize) {
+    let length = size.saturating_add(5).swap_bytes() >> 48;
+    let header = format!(in alloc; "{SOCKET}{length:04x}0000").expect(rt, "memory");
+    let letters = "61".repeat(alloc, size).expect(rt, "memory");
+    accepts(
+        rt,
+        alloc,
+        &["unix ", header.as_str(), letters.as_str(), "00"],
+    );
+    accepts(
+        rt,
+        alloc,
+        &["unixview ", header.as_str(), letters.as_str(), "00"],
+    );
+    accepts(
+        rt,
+        alloc,
+        &["message ", header.as_str(), letters.as_str(), "00"],
+    );
+}
+
+/// Checks UNIX sockets with a name of each size and its terminating NUL.
+#[test]
+fn names_of_each_size(rt: HostRuntime) {
+    for size in (1..301).chain(NAMES) {
+        accepts_name(&rt, rt.alloc(), size);
     }
 }

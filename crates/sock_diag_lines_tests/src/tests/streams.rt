@@ -1,7 +1,7 @@
 //! Runs over readers and writers that move few bytes a call, fail at a call, or go on for long.
 
-use super::{INPUT, OUTPUT, Repeated, repeated};
-use sock_diag_lines::{RunError, run, run_to_status};
+use super::{INPUT, LARGE, OUTPUT, Repeated, repeated};
+use sock_diag_lines::{RunError, answer, run, run_to_status};
 use std::alloc::Global;
 use std::cell::Cell;
 use std::io;
@@ -14,19 +14,60 @@ const NEVER: usize = usize::MAX;
 /// Stands for the flush among the numbers of calls.
 const FLUSH: usize = usize::MAX - 1;
 
-/// How many bytes a stream moves a call at most, and which of its calls fails.
+/// The errors of calls that fail.
+const ERRORS: [ErrorKind; 14] = [
+    ErrorKind::Interrupted,
+    ErrorKind::Other,
+    ErrorKind::BrokenPipe,
+    ErrorKind::WouldBlock,
+    ErrorKind::UnexpectedEof,
+    ErrorKind::WriteZero,
+    ErrorKind::TimedOut,
+    ErrorKind::OutOfMemory,
+    ErrorKind::InvalidData,
+    ErrorKind::StorageFull,
+    ErrorKind::ConnectionReset,
+    ErrorKind::PermissionDenied,
+    ErrorKind::IsADirectory,
+    ErrorKind::Uncategorized,
+];
+
+/// The size and the failure of the calls of a stream.
 #[derive(Clone, Copy)]
 struct Pace {
+    /// Limit of the bytes that a call moves.
     most: usize,
+    /// Growth of this limit after each call.
+    growth: usize,
+    /// Number of the call that fails.
     fails_at: usize,
+    /// Index of its error in [`ERRORS`].
+    error: usize,
 }
 
-/// Moves at most so many bytes a call, and does not fail.
+/// Returns the pace of a stream that never fails, with a limit of the bytes that a call moves.
 fn steady(most: usize) -> Pace {
     Pace {
         most,
+        growth: 0,
         fails_at: NEVER,
+        error: 0,
     }
+}
+
+/// Returns the pace of a stream of which one call fails.
+fn failing(most: usize, fails_at: usize, error: usize) -> Pace {
+    Pace {
+        fails_at,
+        error,
+        ..steady(most)
+    }
+}
+
+/// Returns the error of the call that fails.
+fn failure(pace: &Pace) -> io::Error {
+    let kind = ERRORS.get(pace.error).copied();
+    io::Error::from(kind.unwrap_or(ErrorKind::Other))
 }
 
 fn line_count(text: &[u8]) -> usize {
@@ -72,9 +113,10 @@ impl Read for PacedReader<'_> {
             self.is_late = true;
         }
         if call == self.pace.fails_at {
-            return Err(io::Error::from(ErrorKind::Interrupted));
+            return Err(failure(&self.pace));
         }
         let count = self.pace.most.min(self.rest.len()).min(buf.len());
+        self.pace.most = self.pace.most.saturating_add(self.pace.growth);
         let (given, rest) = self.rest.split_at(count);
         buf[..count].copy_from_slice(given);
         self.lines = self.lines.saturating_add(line_count(given));
@@ -110,9 +152,10 @@ impl Write for PacedWriter<'_> {
         let call = self.calls;
         self.calls = call.saturating_add(1);
         if call == self.pace.fails_at {
-            return Err(io::Error::from(ErrorKind::Interrupted));
+            return Err(failure(&self.pace));
         }
         let count = self.pace.most.min(buf.len());
+        self.pace.most = self.pace.most.saturating_add(self.pace.growth);
         let taken = &buf[..count];
         self.taken.extend_from_slice(taken)?;
         let lines = self.answered.get().saturating_add(line_count(taken));
@@ -123,7 +166,7 @@ impl Write for PacedWriter<'_> {
     fn flush(&mut self) -> io::Result<()> {
         self.flushes = self.flushes.saturating_add(1);
         if self.pace.fails_at == FLUSH {
-            return Err(io::Error::from(ErrorKind::Other));
+            return Err(failure(&self.pace));
         }
         Ok(())
     }
@@ -166,7 +209,7 @@ fn each_read_fails(rt: HostRuntime) {
             let read = most.saturating_mul(fails_at).min(text.len());
             let end = ENDS.get(line_count(&text[..read])).copied().unwrap_or(0);
             let written = OUTPUT.as_bytes().get(..end).unwrap_or(b"");
-            let paces = (Pace { most, fails_at }, steady(most));
+            let paces = (failing(most, fails_at, most), steady(most));
             let failed = Err(RunError::Read);
             ends(&rt, rt.alloc(), text, paces, failed, written);
         }
@@ -180,7 +223,7 @@ fn each_write_fails(rt: HostRuntime) {
         let read = if most == 1 { 1 } else { NEVER };
         for fails_at in 0..whole.len().div_ceil(most) {
             let written = &whole[..most.saturating_mul(fails_at).min(whole.len())];
-            let paces = (steady(read), Pace { most, fails_at });
+            let paces = (steady(read), failing(most, fails_at, most));
             let failed = Err(RunError::Write);
             ends(&rt, rt.alloc(), INPUT.as_bytes(), paces, failed, written);
         }
@@ -201,9 +244,28 @@ fn ends_of_a_run(rt: HostRuntime) {
         (unended, NEVER, NEVER, Ok(()), OUTPUT),
         (unended, 1, NEVER, Ok(()), OUTPUT),
     ] {
-        let paces = (steady(NEVER), Pace { most, fails_at });
+        let paces = (steady(NEVER), failing(most, fails_at, 1));
         let (text, written) = (text.as_bytes(), written.as_bytes());
         ends(&rt, rt.alloc(), text, paces, outcome, written);
+    }
+}
+
+/// Checks that a read, a write or the flush that fails with any error ends the run with `Read` or
+/// `Write`.
+#[test]
+fn each_error_of_a_stream(rt: HostRuntime) {
+    for error in 0..ERRORS.len() {
+        for (read_fails, write_fails, failed, written) in [
+            (0, NEVER, RunError::Read, ""),
+            (1, NEVER, RunError::Read, OUTPUT),
+            (NEVER, 0, RunError::Write, ""),
+            (NEVER, FLUSH, RunError::Write, OUTPUT),
+        ] {
+            let reads = failing(NEVER, read_fails, error);
+            let paces = (reads, failing(NEVER, write_fails, error));
+            let (text, written) = (INPUT.as_bytes(), written.as_bytes());
+            ends(&rt, rt.alloc(), text, paces, Err(failed), written);
+        }
     }
 }
 
@@ -251,15 +313,104 @@ fn pieces_of_any_size(rt: HostRuntime) {
     }
 }
 
-/// A hundred thousand lines, and a million reads of one byte.
+/// Two lines of 1 MiB, the second one with an answer of 1 MiB.
+const LONGEST: [(Repeated, Repeated); 2] = [
+    (("unixreq ", "00", 524_288, ""), ("ok 01", "00", 23, "")),
+    (
+        (
+            "netlink 00000800030000000000000000000000",
+            "5a",
+            524_272,
+            "",
+        ),
+        ("ok 524288 3 0 0 0 ", "5a", 524_272, ""),
+    ),
+];
+
+/// Checks lines of 1 MiB.
+#[test]
+fn longest_lines(rt: HostRuntime) {
+    let alloc = rt.alloc();
+    for (long, answered) in LONGEST {
+        let text = repeated(&rt, alloc, long);
+        let written = repeated(&rt, alloc, answered);
+        let written = [written.as_str(), "\n"].concat(alloc).expect(&rt, "memory");
+        for most in [1, 8_191] {
+            answers_in_pieces(&rt, alloc, text.as_bytes(), written.as_bytes(), most);
+        }
+    }
+}
+
+/// Asserts that a number of equal texts are answered by equal texts, at these paces.
+fn answers_many(
+    rt: &impl Abort,
+    alloc: Global,
+    (lines, answers): (&str, &str),
+    times: usize,
+    paces: (Pace, Pace),
+) {
+    let text = lines.as_bytes().repeat(alloc, times).expect(rt, "memory");
+    let written = answers.as_bytes().repeat(alloc, times).expect(rt, "memory");
+    ends(rt, alloc, &text, paces, Ok(()), &written);
+}
+
+/// Checks a hundred thousand lines, and a million reads and writes of one byte or of odd sizes.
 #[test]
 fn many_lines_and_reads(rt: HostRuntime) {
+    for (times, read, write) in [
+        (33_334, NEVER, NEVER),
+        (6_000, 1, NEVER),
+        (6_000, 1, 1),
+        (6_000, 3, 7),
+        (6_000, 8_191, 1_021),
+    ] {
+        let paces = (steady(read), steady(write));
+        answers_many(&rt, rt.alloc(), (INPUT, OUTPUT), times, paces);
+    }
+}
+
+/// Checks reads of 1 byte, then of 8, of 15, and so on, to 8 KiB, and such writes.
+#[test]
+fn pieces_that_grow(rt: HostRuntime) {
+    let growing = Pace {
+        growth: 7,
+        ..steady(1)
+    };
+    let paces = (growing, steady(NEVER));
+    answers_many(&rt, rt.alloc(), (INPUT, OUTPUT), 28_000, paces);
+    let paces = (steady(NEVER), growing);
+    answers_many(&rt, rt.alloc(), ("\n", "bad line\n"), 540_000, paces);
+}
+
+/// Checks that one run answers lines of each size as `answer` does.
+#[test]
+fn lines_of_each_size(rt: HostRuntime) {
     let alloc = rt.alloc();
-    for (times, most) in [(33_334, NEVER), (6_000, 1)] {
-        let text = INPUT.as_bytes().repeat(alloc, times).expect(&rt, "memory");
-        let written = OUTPUT.as_bytes().repeat(alloc, times).expect(&rt, "memory");
-        let paces = (steady(most), steady(NEVER));
-        ends(&rt, alloc, &text, paces, Ok(()), &written);
+    let (mut text, mut written) = (Vec::new(alloc), Vec::new(alloc));
+    for size in (0..301).chain(LARGE) {
+        let line = repeated(&rt, alloc, ("unixreq ", "01", size, "\n"));
+        text.extend_from_slice(line.as_bytes())
+            .expect(&rt, "memory");
+        let line = line.strip_suffix('\n').unwrap_or("");
+        let answered = answer(alloc, line.as_bytes()).expect(&rt, "memory");
+        written.extend_from_slice(&answered).expect(&rt, "memory");
+        written.push(b'\n').expect(&rt, "memory");
+    }
+    for most in [7, NEVER] {
+        answers_in_pieces(&rt, alloc, &text, &written, most);
+    }
+}
+
+/// Checks a text of each byte. It has two lines.
+#[test]
+fn each_byte_is_read(rt: HostRuntime) {
+    let alloc = rt.alloc();
+    let mut text = Vec::new(alloc);
+    for byte in 0..=u8::MAX {
+        text.push(byte).expect(&rt, "memory");
+    }
+    for most in [1, 3, 256] {
+        answers_in_pieces(&rt, alloc, &text, b"bad line\nbad line\n", most);
     }
 }
 

@@ -1,0 +1,120 @@
+#!/usr/bin/env python3
+"""tests/programs.py SOCKDIAG SSLIST: runs the two built programs at these paths with each form of arguments, and
+compares standard output, standard error and exit status. Each difference is printed, and then the status is 1."""
+import os
+import re
+import subprocess
+import sys
+from pathlib import Path
+
+CRATES = Path(__file__).resolve().parent.parent / "crates"
+VERSION = (CRATES.parent / "VERSION").read_bytes()
+CAPTURE = CRATES / "sslist/stdin"
+# The names in the first column of the sockets that an option selects.
+KINDS = {"-t": "tcp inet inet6", "-u": "udp inet inet6", "-M": "mptcp inet inet6", "-x": "unix u_str u_dgr u_seq"}
+KINDS |= {"-0": "p_raw p_dgr", "--family=netlink": "nl", "--vsock": "vsock v_str v_dgr v_seq", "--xdp": "xdp"}
+# A detail that one option shows and the others do not.
+DETAILS = {"-o": b" timer:", "-e": b" sk:", "-m": b" skmem:", "-i": b" cwnd:"}
+failures = []
+
+
+def help_text(crate):
+    """Returns the text HELP in the sources of a crate."""
+    sources = "".join(path.read_text() for path in (CRATES / crate / "src").glob("*.rt"))
+    text = re.search(r'(?s)pub const HELP: &str = "((?:[^"\\]|\\.)*)";', sources)[1]
+    return re.sub(r"\\\n\s*", "", text).encode() + b"\n"
+
+
+def run(program, arguments, given, to=subprocess.PIPE):
+    """Returns status, standard output and standard error of a run. Its input is bytes or a descriptor."""
+    source = {"input": given} if isinstance(given, bytes) else {"stdin": given}
+    ended = subprocess.run([program, *arguments], stdout=to, stderr=subprocess.PIPE, timeout=60, **source)
+    return ended.returncode, ended.stdout or b"", ended.stderr
+
+
+def check(program, arguments, given, status, output, errors=b"", to=subprocess.PIPE):
+    """Compares a run with what is expected. The expected errors are a regular expression."""
+    got = run(program, arguments, given, to)
+    if got[:2] != (status, output) or not re.fullmatch(errors, got[2]):
+        shown = f"{got[0]} {got[1][-60:]} {got[2]}, expected {status} {output[-60:]} {errors}"
+        failures.append(f"{program} {arguments}: {shown}")
+
+
+def check_failed_writes(program, arguments, given, closed, full):
+    """Checks runs whose output is a pipe without a reader, or a full device: status 1 and these errors."""
+    read, pipe = os.pipe()
+    os.close(read)
+    for output, errors in [(pipe, closed), (os.open("/dev/full", os.O_WRONLY), full)]:
+        check(program, arguments, given, 1, b"", errors, output)
+
+
+def test_sockdiag(program):
+    lines, answers = ((CRATES / "sockdiag" / it).read_bytes() for it in ("stdin", "stdout"))
+    line, answer = lines.splitlines(True)[0], answers.splitlines(True)[0]
+    for arguments in ([], ["-h"], [""], ["file"], [b"\xff"], ["--strict=1"], ["--strict"] * 2, ["--help", "x"]):
+        check(program, arguments, lines, 0, answers)
+    check(program, ["--help"], lines, 0, help_text("sock_diag_lines"))
+    check(program, ["--version"], lines, 0, b"sockdiag " + VERSION)
+    for text, told, strict in [
+        (b"", b"", 0), (line, answer, 0), (lines, answers, 3), (line + b"unix 00", answer + b"refused 2\n", 3),
+        (b"\n", b"bad line\n", 3), (b"dump -", b"ok reading 0\n", 0), (b"dump 00", b"ok failed:16 0\n", 3),
+    ]:
+        check(program, [], text, 0, told)
+        check(program, ["--strict"], text, strict, told)
+    for arguments in ([], ["--strict"], ["--help"], ["--version"]):
+        check_failed_writes(program, arguments, line, *[b"sockdiag: writing failed\n"] * 2)
+    check(program, [], os.open("/", os.O_RDONLY), 1, b"", b"sockdiag: reading failed\n")
+
+
+def test_sslist(program):
+    capture, table = CAPTURE.read_bytes(), (CRATES / "sslist/stdout").read_bytes()
+    note, missing = b"sslist: .*packet 12, message 1: .*\n", b"sslist: /nowhere: .*\n"
+    for arguments, status, told, errors in [
+        ([], 1, b"", b"sslist: .*\n"), ([b"\xff"], 2, b"", b"sslist: .*\n"), ([""], 1, b"", b"sslist: : .*\n"),
+        ([CAPTURE], 0, table, note), ([CAPTURE, CAPTURE], 0, table * 2, note * 2), (["/"], 1, b"", b"sslist: /: .*\n"),
+        ([CAPTURE, "/nowhere"], 1, table, note + missing), (["/nowhere", CAPTURE], 1, table, missing + note),
+        (["-q", CAPTURE], 2, b"", b"sslist: -q .*\n"), (["-t", "--no", "--help"], 2, b"", b"sslist: --no .*\n"),
+        (["-"], 2, b"", b"sslist: - .*\n"), ([CAPTURE, "--version"], 0, b"sslist " + VERSION, b""),
+        (["-t", "--help", "-q"], 0, help_text("sock_diag_captures"), b""),
+    ]:
+        check(program, arguments, b"", status, told, errors)
+    check(program, [], capture, 0, table, note)
+    check_failed_writes(program, [], capture, b"", b"sslist: writing failed\n")
+    check_failed_writes(program, ["--help"], b"", b"", b"")
+
+
+def packet(body, flags=0):
+    """Returns a packet of a capture: a message of type 20 with the sequence number 77."""
+    message = bytes([16 + len(body), 0, 0, 0, 20, 0, *flags.to_bytes(2, "little"), 77, *bytes(7), *body])
+    length = (16 + len(message)).to_bytes(4, "little")
+    return bytes(8) + length + length + bytes.fromhex("00040338") + bytes(11) + b"\4" + message
+
+
+def test_options(program):
+    """Lists the stored capture, followed by a UDP request, its answer, and a socket of each other family."""
+    bodies = [[2, 7, *bytes(70)], [16, *bytes(27)], [17, 3, *bytes(14)], [40, *bytes(31)], [44, *bytes(15)]]
+    capture = CAPTURE.read_bytes() + packet([2, 17, 0, 0, 0xFE, *bytes(51)], 0x301) + b"".join(map(packet, bodies))
+    status, table, errors = run(program, [], capture)
+    heading, *rows = table.replace(b"\n\t", b"").splitlines(True)
+    for one, other in [(one, other) for one in KINDS for other in KINDS]:
+        chosen = [row for row in rows if row.split()[0].decode() in f"{KINDS[one]} {KINDS[other]}".split()]
+        assert 0 < len(chosen) < len(rows), (one, other)
+        check(program, ["-O", one, other], capture, status, heading + b"".join(chosen), errors)
+    for arguments in (["-n"], ["-a"], ["-na"], ["-oemi"], ["-o", "-e", "-mi"]):
+        check(program, arguments, capture, status, table, errors)
+    for option in DETAILS:
+        shown = [it for it in DETAILS if DETAILS[it] in run(program, [option], capture)[1]]
+        assert shown == [option], (shown, option)
+    text = run(program, ["--requests"], capture)[1]
+    assert re.sub(rb"(?m)^-- .*\n", b"", text) == table and b"\n-- 0.000000 udp states:0xfe\n" in text, "--requests"
+    named, told = (it.replace(b"/listening", "/hörening".encode()) for it in (capture, table))
+    check(program, ["--utf8"], named, status, told, errors)
+    assert run(program, [], named)[1].split() == told.replace("ö".encode(), b"\\xc3\\xb6").split(), "without --utf8"
+
+
+if __name__ == "__main__":
+    test_sockdiag(os.path.abspath(sys.argv[1]))
+    test_sslist(os.path.abspath(sys.argv[2]))
+    test_options(os.path.abspath(sys.argv[2]))
+    print("\n".join(failures) or "both programs answer as expected")
+    sys.exit(1 if failures else 0)
