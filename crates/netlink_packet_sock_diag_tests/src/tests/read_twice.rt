@@ -1,6 +1,6 @@
 //! What has two readers: replies and messages are read with memory of their own and in place.
 
-use netlink_core::{DecodeError, Parseable, ParseableParametrized, Wire};
+use netlink_core::{CanonError, DecodeError, Parseable, ParseableParametrized, Wire, canonical};
 use netlink_packet_sock_diag::SockDiagMessage;
 use netlink_packet_sock_diag::inet::{InetRequest, InetResponse, InetResponseView};
 use netlink_packet_sock_diag::unix::{UnixRequest, UnixResponse, UnixResponseView};
@@ -16,6 +16,9 @@ pub(crate) trait ReadTwice: Sized + PartialEq + Debug + Drop {
 
     /// Reads by the other reader, and returns a copy.
     fn read_again(alloc: Global, bytes: &[u8]) -> Result<Self, DecodeError>;
+
+    /// Returns the canonical form.
+    fn rewritten(alloc: Global, bytes: &[u8]) -> Result<Vec<u8>, CanonError>;
 }
 
 /// Returns the value or the error that both readers return.
@@ -38,6 +41,10 @@ impl ReadTwice for UnixResponse {
         let view = UnixResponseView::parse(bytes)?;
         Ok(view.to_owned(alloc)?.clone(alloc)?)
     }
+
+    fn rewritten(alloc: Global, bytes: &[u8]) -> Result<Vec<u8>, CanonError> {
+        canonical::<UnixResponse>(alloc, bytes, ())
+    }
 }
 
 impl ReadTwice for InetResponse {
@@ -49,6 +56,10 @@ impl ReadTwice for InetResponse {
         let view = InetResponseView::parse(bytes)?;
         Ok(view.to_owned(alloc)?.clone(alloc)?)
     }
+
+    fn rewritten(alloc: Global, bytes: &[u8]) -> Result<Vec<u8>, CanonError> {
+        canonical::<InetResponse>(alloc, bytes, ())
+    }
 }
 
 impl ReadTwice for SockDiagMessage {
@@ -58,6 +69,10 @@ impl ReadTwice for SockDiagMessage {
 
     fn read_again(alloc: Global, bytes: &[u8]) -> Result<Self, DecodeError> {
         Ok(SockDiagMessage::parse_with_param(alloc, bytes, 20)?.clone(alloc)?)
+    }
+
+    fn rewritten(alloc: Global, bytes: &[u8]) -> Result<Vec<u8>, CanonError> {
+        canonical::<SockDiagMessage>(alloc, bytes, 20)
     }
 }
 
@@ -69,6 +84,10 @@ impl ReadTwice for UnixRequest {
     fn read_again(alloc: Global, bytes: &[u8]) -> Result<Self, DecodeError> {
         Ok(UnixRequest::parse(alloc, bytes)?.clone()?)
     }
+
+    fn rewritten(alloc: Global, bytes: &[u8]) -> Result<Vec<u8>, CanonError> {
+        canonical::<UnixRequest>(alloc, bytes, ())
+    }
 }
 
 impl ReadTwice for InetRequest {
@@ -78,5 +97,9 @@ impl ReadTwice for InetRequest {
 
     fn read_again(alloc: Global, bytes: &[u8]) -> Result<Self, DecodeError> {
         Ok(InetRequest::parse(alloc, bytes)?.clone()?)
+    }
+
+    fn rewritten(alloc: Global, bytes: &[u8]) -> Result<Vec<u8>, CanonError> {
+        canonical::<InetRequest>(alloc, bytes, ())
     }
 }

@@ -3,7 +3,7 @@
 use super::read_twice::ReadTwice;
 use super::{INET, LISTENING, PATH};
 use hex::FromHexError;
-use netlink_core::{CanonError, DecodeError, NetlinkMessage, Wire, canonical};
+use netlink_core::{CanonError, DecodeError, NetlinkMessage};
 use netlink_packet_sock_diag::inet::InetResponse;
 use netlink_packet_sock_diag::unix::UnixResponse;
 use netlink_packet_sock_diag::{DumpReader, DumpState, LossyDump, SockDiagMessage};
@@ -45,24 +45,19 @@ fn agree<T: PartialEq + Drop>(
 }
 
 /// Both readers give the value and `canonical` gives these bytes, or they want memory.
-fn copes<T: ReadTwice + Wire>(rt: &impl Abort, alloc: Global, bytes: &[u8], param: T::Param) {
+fn copes<T: ReadTwice>(rt: &impl Abort, alloc: Global, bytes: &[u8]) {
     assert!(rt; agree(T::read_once(alloc, bytes), T::read_again(alloc, bytes)));
-    match canonical::<T>(alloc, bytes, param) {
+    match T::rewritten(alloc, bytes) {
         Ok(form) => assert!(rt; form.as_slice() == bytes),
         Err(fault) => assert!(rt; fault == CanonError::Memory),
     }
 }
 
 /// The same of a reply, also as a message.
-fn copes_with_reply<T: ReadTwice + Wire<Param = ()>>(
-    rt: &impl Abort,
-    alloc: Global,
-    header: &str,
-    attributes: &str,
-) {
+fn copes_with_reply<T: ReadTwice>(rt: &impl Abort, alloc: Global, header: &str, attributes: &str) {
     if let Some(bytes) = reply(rt, alloc, header, attributes) {
-        copes::<T>(rt, alloc, &bytes, ());
-        copes::<SockDiagMessage>(rt, alloc, &bytes, 20);
+        copes::<T>(rt, alloc, &bytes);
+        copes::<SockDiagMessage>(rt, alloc, &bytes);
     }
 }
 

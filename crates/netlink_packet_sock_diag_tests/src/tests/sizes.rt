@@ -1,17 +1,43 @@
-//! Lists of each size, for which there is memory, and long attributes.
+//! Lists, payloads and dumps of each size: no allocation fails if there is memory. Long attributes.
 
 use super::read_twice::{ReadTwice, read_twice};
 use super::{CONNECTED, INET, LISTENING, bytes, shows};
 use netlink_core::{CanonError, NetlinkMessage, canonical};
-use netlink_packet_sock_diag::SockDiagMessage;
 use netlink_packet_sock_diag::inet::InetResponse;
 use netlink_packet_sock_diag::unix::UnixResponse;
+use netlink_packet_sock_diag::{DumpReader, LossyDump, SockDiagDestroy, SockDiagMessage};
 use std::alloc::Global;
 use std::process::Abort;
 
-/// Asserts that both readers accept the bytes.
+/// Numbers of attributes and of messages over 300. Tests also have each up to 300.
+const COUNTS: [usize; 7] = [512, 1_000, 1_024, 2_048, 4_096, 8_192, 10_000];
+
+/// Sizes of payloads over 300, up to a million. Tests also have each up to 300.
+const SIZES: [u32; 15] = [
+    512, 1_000, 1_024, 2_048, 4_096, 8_192, 10_000, 16_384, 32_768, 65_536, 100_000, 131_072,
+    262_144, 524_288, 1_000_000,
+];
+
+/// Asserts that both readers accept the bytes, and that they have a canonical form.
 fn accepts<T: ReadTwice>(rt: &impl Abort, alloc: Global, bytes: &[u8]) {
     assert!(rt; read_twice::<T>(rt, alloc, bytes).is_ok());
+    assert!(rt; T::rewritten(alloc, bytes).is_ok());
+}
+
+/// Returns a netlink message of a type.
+fn envelope(rt: &impl Abort, alloc: Global, kind: u8, payload: &[u8]) -> Vec<u8> {
+    let length = u32::try_from(payload.len().saturating_add(16)).unwrap_or(0);
+    let [a, b, c, d] = length.to_le_bytes();
+    let header = [a, b, c, d, kind, 0, 0, 0, 0, 0, 0, 0, 0, 0, 0, 0];
+    let mut message = Vec::from_slice(alloc, &header).expect(rt, "memory");
+    message.extend_from_slice(payload).expect(rt, "memory");
+    message
+}
+
+/// Asserts that a whole message is read.
+fn opens(rt: &impl Abort, alloc: Global, message: &[u8]) {
+    assert!(rt; NetlinkMessage::<SockDiagMessage>::deserialize(alloc, message).is_ok());
+    assert!(rt; NetlinkMessage::<SockDiagDestroy>::deserialize(alloc, message).is_ok());
 }
 
 /// Returns the bytes of a header and of a number of equal attributes.
@@ -26,12 +52,13 @@ fn repeated(
     bytes(rt, alloc, &[header, &attributes])
 }
 
-/// There is memory for the header and each number of attributes.
+/// Asserts that a reply with each number of attributes is read, by itself and in its message.
 fn has_room<T: ReadTwice>(rt: &impl Abort, alloc: Global, header: &str, attribute: &str) {
-    for count in [0, 1, 2, 3, 4, 5, 6, 7, 8, 9, 100, 10_000] {
+    for count in (0..301).chain(COUNTS) {
         let reply = repeated(rt, alloc, header, attribute, count);
         accepts::<T>(rt, alloc, &reply);
         accepts::<SockDiagMessage>(rt, alloc, &reply);
+        opens(rt, alloc, &envelope(rt, alloc, 20, &reply));
     }
 }
 
@@ -43,15 +70,47 @@ fn lists_of_attributes(rt: HostRuntime) {
     has_room::<InetResponse>(&rt, rt.alloc(), INET, "0600040061000000");
 }
 
-/// There is memory for a long payload of each type of netlink(7).
+/// Checks a payload of each size, under each type of netlink(7) that keeps its bytes.
 #[test]
-fn long_payloads(rt: HostRuntime) {
-    for kind in ["0200", "0300", "0400"] {
-        let digits = ["80110100", kind, "00000000000000000000"];
-        let message = padded(&rt, rt.alloc(), &digits, 7, 70_000);
-        let read = NetlinkMessage::<SockDiagMessage>::deserialize(rt.alloc(), &message);
-        assert!(rt; read.is_ok());
+fn payloads(rt: HostRuntime) {
+    for kind in [2, 3, 4] {
+        for size in (0..301).chain(SIZES) {
+            let payload = vec![in rt.alloc(); 7; size as usize].expect(&rt, "memory");
+            opens(&rt, rt.alloc(), &envelope(&rt, rt.alloc(), kind, &payload));
+        }
     }
+}
+
+/// Asserts that both kinds of dump keep all messages of a datagram.
+fn keeps(rt: &impl Abort, alloc: Global, datagram: &[u8], count: usize) {
+    let mut dump = DumpReader::new(alloc);
+    assert!(rt; dump.feed(datagram).is_ok() && dump.messages().len() == count);
+    let mut dump = LossyDump::new(alloc);
+    assert!(rt; dump.feed(datagram).is_ok() && dump.entries().len() == count);
+}
+
+/// Checks a dump of one datagram with each number of messages.
+#[test]
+fn dumps_of_one_datagram(rt: HostRuntime) {
+    let reply = bytes(&rt, rt.alloc(), &[LISTENING]);
+    let message = envelope(&rt, rt.alloc(), 20, &reply);
+    for count in (0..301).chain(COUNTS) {
+        let datagram = message.repeat(rt.alloc(), count).expect(&rt, "memory");
+        keeps(&rt, rt.alloc(), &datagram, count);
+    }
+}
+
+/// Checks a dump whose datagrams have one message each, so that it grows by one message a datagram.
+#[test]
+fn dumps_of_many_datagrams(rt: HostRuntime) {
+    let reply = bytes(&rt, rt.alloc(), &[LISTENING]);
+    let message = envelope(&rt, rt.alloc(), 20, &reply);
+    let mut reader = DumpReader::new(rt.alloc());
+    let mut lossy = LossyDump::new(rt.alloc());
+    for _ in 0..100_000 {
+        assert!(rt; reader.feed(&message).is_ok() && lossy.feed(&message).is_ok());
+    }
+    assert!(rt; reader.messages().len() == 100_000 && lossy.entries().len() == 100_000);
 }
 
 /// A header, the head of an attribute, a byte so many times and what follows; and how many bytes
