@@ -3,3 +3,5 @@ pub mod Filling
 pub mod Showing
 pub mod Telling
 pub mod Stops
+pub mod Choosing
+pub mod Listed

@@ -1,5 +1,5 @@
 -- The cooked header in front of a datagram: 16 bytes, each number with its high byte first.
-use Rattle.std.specs.Prelude.{◌≡◌, ℕ, ◌<◌, ◌≤◌, List, length, drop}
+use Rattle.std.specs.Prelude.{◌≡◌, ⊤, ℕ, ◌<◌, ◌≤◌, List, length, drop}
 use Rattle.byteorder.specs.Endian.{big_number}
 use Rattle.capture_tables.specs.declared.capture.Packet.{Packet}
 use Rattle.capture_tables.specs.declared.capture.Packet.TheVariants.{SockDiag, Other, Short}
@@ -14,3 +14,10 @@ IsPacketOf bytes (SockDiag datagram) = (16 ≤ length bytes) × IsOfSockDiag byt
     × (datagram.now ≡ drop 16 bytes)
 IsPacketOf bytes Other = (16 ≤ length bytes) × ¬ IsOfSockDiag bytes
 IsPacketOf bytes Short = length bytes < 16
+
+-- two packets are of one kind and have equal datagrams
+abbrev pub AreEqualPackets : Packet → Packet → Type 0
+AreEqualPackets (SockDiag x) (SockDiag y) = x.now ≡ y.now
+AreEqualPackets Other Other = ⊤
+AreEqualPackets Short Short = ⊤
+AreEqualPackets _ _ = ⊥

@@ -8,3 +8,5 @@ pub mod Cells
 pub mod CellsModel
 pub mod Parts
 pub mod Times
+pub mod Choice
+pub mod Files

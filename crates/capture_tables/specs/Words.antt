@@ -1,26 +1,19 @@
--- What the arguments of a program that lists ask for.
-use Rattle.std.specs.Prelude.{◌≡◌, ◌≢◌, ℕ, ◌<◌, ◌||◌, ◌==◌, Bool, List, ◌∷◌, codes, length}
-use Rattle.std.specs.List.{AllPass, list_any}
+-- What one argument of a command line is.
+use Rattle.std.specs.Prelude.{◌≡◌, ◌≢◌, ℕ, ◌<◌, true, List, ◌∷◌, codes, length}
+use Rattle.std.specs.List.{AllPass}
+use Rattle.capture_tables.specs.Choice.{is_letter, with_letters}
 use Rattle.capture_tables.specs.declared.options.Options.{Options}
 use Rattle.capture_tables.specs.declared.words.Argument.{Argument}
 use Rattle.capture_tables.specs.declared.words.Argument.TheVariants.{Help, Version, Letters, File}
 use Rattle.capture_tables.specs.declared.words.Argument.TheVariants.{Unknown, Utf8, Requests}
 use Rattle.capture_tables.specs.declared.words.Argument.TheVariants.{Netlink, Vsock, Xdp}
 
--- the letter stands among these
-abbrev pub has : ℕ → List ℕ → Bool
-has letter letters = list_any (λ c. c == letter) letters
-
--- the letters of options: -t, -u, -x, -M, -0, -o, -e, -m, -i, -O, -n and -a
-abbrev pub is_letter : ℕ → Bool
-is_letter letter = has letter (codes "tuxM0oemiOna")
-
 -- there are letters, and each is one of an option
 abbrev pub AreLetters : List ℕ → Type 0
 AreLetters letters = (0 < length letters) × AllPass is_letter letters
 
--- what an argument is that is none of the words below: letters behind a hyphen, 45, or what begins
--- with no hyphen, or an option that is not known
+-- an argument that is none of the names below: letters after a hyphen, 45, or what does not begin
+-- with a hyphen, or an unknown option
 abbrev pub IsOther : List ℕ → Argument → Type 0
 IsOther word (Letters letters) = (word ≡ 45 ∷ letters.now) × AreLetters letters.now
 IsOther word File = (rest : List ℕ) → word ≢ 45 ∷ rest
@@ -41,26 +34,12 @@ IsArgument word other =
     × (word ≢ codes "--requests") × (word ≢ codes "--family=netlink") × (word ≢ codes "--vsock")
     × (word ≢ codes "--xdp") × IsOther word other
 
--- the details that letters ask for, and one line, beside those asked for before
-abbrev pub with_details : List ℕ → Options → Options
-with_details letters o = record o {
-  timer = o.timer || has 111 letters;
-  extended = o.extended || has 101 letters;
-  memory = o.memory || has 109 letters;
-  connection = o.connection || has 105 letters;
-  one_line = o.one_line || has 79 letters;
-}
-
--- the sockets that they ask for
-abbrev pub with_sockets : List ℕ → Options → Options
-with_sockets letters o = record o {
-  tcp = o.tcp || has 116 letters;
-  udp = o.udp || has 117 letters;
-  mptcp = o.mptcp || has 77 letters;
-  unix = o.unix || has 120 letters;
-  packet = o.packet || has 48 letters;
-}
-
--- both
-abbrev pub with_letters : List ℕ → Options → Options
-with_letters letters o = with_sockets letters (with_details letters o)
+-- what an argument adds to the options
+abbrev pub with_argument : Argument → Options → Options
+with_argument (Letters letters) o = with_letters letters.now o
+with_argument Utf8 o = record o { utf8 = true }
+with_argument Requests o = record o { requests = true }
+with_argument Netlink o = record o { netlink = true }
+with_argument Vsock o = record o { vsock = true }
+with_argument Xdp o = record o { xdp = true }
+with_argument _ o = o

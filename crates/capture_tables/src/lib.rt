@@ -4,6 +4,9 @@
 
 mod capture;
 mod cells;
+mod choice;
+mod files;
+pub mod laws;
 mod names;
 mod notes;
 mod options;
@@ -19,6 +22,8 @@ pub use cells::{
     push_endpoint_column, push_escaped_byte, push_first_columns, push_hex, push_number,
     push_number_column, push_peer,
 };
+pub use choice::{Choice, choose};
+pub use files::{ListCapture, list_captures};
 pub use names::push_shown;
 pub use notes::{Written, push_cut_note, push_short};
 pub use options::{Detail, Family, Options};
@@ -30,4 +35,3 @@ pub use parts::{
 pub use run::{RunError, read_header, read_packet, send};
 pub use streams::{Sink, Source};
 pub use times::push_time;
-pub use words::{Argument, choose};

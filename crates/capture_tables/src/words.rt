@@ -1,41 +1,41 @@
-//! What the arguments of a program that lists ask for.
+//! What each argument of a program that lists asks for.
 
 ghost use Rattle.std.specs.Prelude.{◌≡◌, ◌↔◌, IsTrue};
-ghost use Rattle.capture_tables.specs.Words.{AreLetters, IsArgument, IsOther, with_details};
-ghost use Rattle.capture_tables.specs.Words.{with_letters, with_sockets};
+ghost use Rattle.capture_tables.specs.Choice.{is_file, with_details, with_letters, with_sockets};
+ghost use Rattle.capture_tables.specs.Words.{AreLetters, IsArgument, IsOther, with_argument};
 
 use crate::options::Options;
 
-/// The letters that stand behind a hyphen.
+/// The letters of options.
 const LETTERS: &[u8] = b"tuxM0oemiOna";
 
-/// What an argument is.
-#[derive(Clone, Copy, Debug, PartialEq, Eq)]
-pub enum Argument<'a> {
-    /// It asks how the program is called.
+/// One argument.
+#[derive(Clone, Copy)]
+pub(crate) enum Argument<'a> {
+    /// `--help`.
     Help,
-    /// It asks for the version.
+    /// `--version`.
     Version,
-    /// It asks that names show their UTF-8.
+    /// `--utf8`.
     Utf8,
-    /// It asks that requests have lines.
+    /// `--requests`.
     Requests,
-    /// It asks for netlink sockets.
+    /// `--family=netlink`.
     Netlink,
-    /// It asks for vsock sockets.
+    /// `--vsock`.
     Vsock,
-    /// It asks for XDP sockets.
+    /// `--xdp`.
     Xdp,
-    /// Letters of options, each of which is known.
+    /// The letters of options after a hyphen.
     Letters(&'a [u8]),
-    /// The name of a file, which begins with no hyphen.
+    /// The name of a file, which does not begin with a hyphen.
     File,
-    /// An option that is not known.
+    /// An unknown option.
     Unknown,
 }
 
-/// What an argument is.
-pub fn choose(word: &str) -> Argument<'_>
+/// Parses one argument.
+pub(crate) fn parse_argument(word: &str) -> Argument<'_>
     ensures { IsArgument word.entry.now result }
 {
     match word {
@@ -46,15 +46,15 @@ pub fn choose(word: &str) -> Argument<'_>
         "--family=netlink" => Argument::Netlink,
         "--vsock" => Argument::Vsock,
         "--xdp" => Argument::Xdp,
-        _ => choose_other(word.as_bytes()),
+        _ => parse_other(word.as_bytes()),
     }
 }
 
-/// What an argument is that is no word of those.
-fn choose_other(word: &[u8]) -> Argument<'_>
+/// Parses an argument that is none of these names.
+fn parse_other(word: &[u8]) -> Argument<'_>
     ensures { IsOther word.entry.now result }
 {
-    if word.is_empty() || word[0] != b'-' {
+    if is_file(word) {
         return Argument::File;
     }
     let letters = &word[1..];
@@ -65,7 +65,14 @@ fn choose_other(word: &[u8]) -> Argument<'_>
     }
 }
 
-/// Whether there are letters, and each is known.
+/// Returns whether an argument is the name of a file.
+pub(crate) fn is_file(word: &[u8]) -> bool
+    ensures { result ≡ is_file word.now }
+{
+    word.is_empty() || word[0] != b'-'
+}
+
+/// Returns whether there are letters, and each is that of an option.
 fn are_letters(letters: &[u8]) -> bool
     ensures { IsTrue result ↔ AreLetters letters.now }
 {
@@ -73,15 +80,30 @@ fn are_letters(letters: &[u8]) -> bool
 }
 
 impl Options {
-    /// Adds what letters ask for.
-    pub fn add(&mut self, letters: &[u8])
+    /// Adds what an argument asks for.
+    pub(crate) fn add_argument(&mut self, argument: Argument<'_>)
+        ensures { self.new ≡ with_argument argument.entry self.old }
+    {
+        match argument {
+            Argument::Letters(letters) => self.add_letters(letters),
+            Argument::Utf8 => self.utf8 = true,
+            Argument::Requests => self.requests = true,
+            Argument::Netlink => self.netlink = true,
+            Argument::Vsock => self.vsock = true,
+            Argument::Xdp => self.xdp = true,
+            Argument::Help | Argument::Version | Argument::File | Argument::Unknown => {}
+        }
+    }
+
+    /// Adds the options of letters.
+    fn add_letters(&mut self, letters: &[u8])
         ensures { self.new ≡ with_letters letters.now self.old }
     {
         self.add_details(letters);
         self.add_sockets(letters);
     }
 
-    /// Adds which details they ask for.
+    /// Adds the details that letters ask for.
     fn add_details(&mut self, letters: &[u8])
         ensures { self.new ≡ with_details letters.now self.old }
     {
@@ -92,7 +114,7 @@ impl Options {
         self.one_line |= letters.contains(&b'O');
     }
 
-    /// Adds which sockets they ask for.
+    /// Adds the sockets that letters ask for.
     fn add_sockets(&mut self, letters: &[u8])
         ensures { self.new ≡ with_sockets letters.now self.old }
     {

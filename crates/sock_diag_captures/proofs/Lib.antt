@@ -4,3 +4,4 @@ pub mod NamesTold
 pub mod Listings
 pub mod Progress
 pub mod Failing
+pub mod IssueEquality

@@ -1,14 +1,15 @@
 //! Lists the sockets that a capture of netlink traffic tells, as ss(8) does of a running system.
 #![tactic(auto)]
 
-ghost use Rattle.std.specs.Prelude.{◌≡◌, ◌↔◌, ◌++◌, ℕ, Bool, true, IsOkAnd, IsTrue, List};
-ghost use Rattle.std.specs.Prelude.{MatchResult, Result, ⊤};
+ghost use Rattle.std.specs.Prelude.{◌≡◌, ◌↔◌, ◌⊎◌, ◌++◌, ℕ, Bool, true, List};
+ghost use Rattle.std.specs.Prelude.{IsOk, MatchResult, Result, ⊤};
 ghost use Rattle.std.specs.Process.{exit_status};
-ghost use Rattle.std.specs.Io.KnownBytes.{Appends, Consumes, IsAtEnd};
+ghost use Rattle.std.specs.Io.KnownBytes.{Appends, Consumes, IsAtEnd, Keeps};
 ghost use Rattle.capture_tables.specs.declared.run.RunError.{RunError};
 ghost use Rattle.sock_diag_captures.specs.Run.{Fails, Finishes, IsTable};
 
 mod details;
+pub mod laws;
 mod line;
 mod list;
 mod name_cells;
@@ -19,8 +20,8 @@ mod requests;
 mod stream;
 
 pub use capture_tables::{
-    Argument, ByteOrder, CaptureError, FileHeader, Options, Packet, PacketHeader, RunError,
-    TimeUnit, Written, choose,
+    ByteOrder, CaptureError, Choice, FileHeader, ListCapture, Options, Packet, PacketHeader,
+    RunError, TimeUnit, Written, choose, list_captures,
 };
 pub use line::HEADING;
 pub use list::{Issue, list_packet};
@@ -54,9 +55,9 @@ input. A capture is one of pcap, as tcpdump -i nlmon0 -w - writes it.
 The status is 0 where all was listed, 1 where something was not, which standard error names but
 where nobody reads the output, and 2 for an option that is not known.";
 
-/// `run`, which tells on `errors`, behind `front`, why it failed, but where nobody reads the output
-/// any more. The status is 0 where the whole capture was listed whole, and 1 where the run failed
-/// or a packet was not listed whole.
+/// Does what `run` does, writes one line on `errors` that begins with `front` and names the failure
+/// if there is one, unless nobody reads the output any more, and returns the exit status: 0 if the
+/// whole capture was listed whole, and 1 if the run failed or a packet was not listed whole.
 pub fn run_to_status<R: Read, W: Write, E: Write>(
     alloc: Global,
     options: Options,
@@ -70,9 +71,10 @@ pub fn run_to_status<R: Read, W: Write, E: Write>(
         × IsTable options bytes lines true
         × Consumes (R.remaining input.old) (R.remaining input.new) bytes
         × Appends (W.contents output.old) (W.contents output.new) (HEADING.now ++ lines) }
-    // 0 exactly where the whole capture was listed whole.
+    // The status is 0 if and only if the whole capture was listed whole; otherwise it is 1.
     ensures outcome { (outcome : Result Bool RunError)
         × ((exit_status result ≡ 0) ↔ (outcome ≡ Ok true))
+        × ((exit_status result ≡ 1) ↔ ¬ (outcome ≡ Ok true))
         × MatchResult outcome
         (Finishes options (R.remaining input.old) (R.remaining input.new) (W.contents output.old)
         (W.contents output.new) HEADING.now)
@@ -80,20 +82,28 @@ pub fn run_to_status<R: Read, W: Write, E: Write>(
         (W.contents output.new) HEADING.now ⊤) }
 {
     let outcome = run(alloc, options, front, input, output, errors);
-    match &outcome {
-        // Nobody reads any more, and nobody has to be told.
-        Ok(_) | Err(RunError::Closed) => {}
-        Err(error) => {
-            // Where this can't be written either, the exit status alone tells of the failure.
-            let _ = writeln!(errors, "{front}{error}");
-        }
-    }
+    report(errors, front, &outcome);
     exit_code(&outcome)
 }
 
-/// Status 0 where all was listed, and 1 where it was not.
+/// Writes one line that names the failure, unless the run did not fail or nobody reads the output
+/// any more. If this can't be written either, the exit status alone reports the failure.
+fn report<E: Write>(errors: &mut E, front: &str, outcome: &Result<bool, RunError>)
+    ensures silent { IsOk outcome.now ⊎ (outcome.now ≡ Err RunError.Closed)
+        → Keeps (E.contents errors.old) (E.contents errors.new) }
+{
+    match outcome {
+        Ok(_) | Err(RunError::Closed) => {}
+        Err(error) => {
+            let _ = writeln!(errors, "{front}{error}");
+        }
+    }
+}
+
+/// Returns the exit status of a run: 0 if the whole capture was listed whole, otherwise 1.
 fn exit_code(outcome: &Result<bool, RunError>) -> ExitCode
-    ensures { (exit_status result ≡ 0) ↔ IsOkAnd outcome.now (λ is_whole. IsTrue is_whole) }
+    ensures success { (exit_status result ≡ 0) ↔ (outcome.now ≡ Ok true) }
+    ensures failure { (exit_status result ≡ 1) ↔ ¬ (outcome.now ≡ Ok true) }
 {
     match outcome {
         Ok(true) => ExitCode::SUCCESS,

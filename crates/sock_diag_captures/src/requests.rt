@@ -1,13 +1,14 @@
 //! The requests that a capture holds, by which the protocol of a reply is known.
 
 ghost use Rattle.std.specs.Prelude.{◌≡◌, ◌≤◌, [], length, OnOk, option_map};
+ghost use Rattle.std.proofs.Common.{rules};
 ghost use Rattle.netlink_core.specs.Walk.{attribute_of};
 ghost use Rattle.sock_diag_captures.specs.Requests.{asked_in, inet_asked, noted, protocol_of};
 ghost use Rattle.sock_diag_captures.specs.Requests.{protocol_by, request_in};
 
 use crate::pieces::find_kind;
 use byteorder::{ByteOrder, LittleEndian};
-use netlink_core::{NLM_F_REQUEST, NlaBuffer};
+use netlink_core::{Exact, NLM_F_REQUEST, NlaBuffer};
 use sock_diag_records::constants::{AF_INET, AF_INET6, SOCK_DIAG_BY_FAMILY};
 use std::alloc::{AllocError, Global};
 
@@ -33,6 +34,10 @@ pub struct Asked {
     pub(crate) family: u8,
     /// A bit for each state that is asked for, `idiag_states`.
     pub(crate) states: u32,
+}
+
+impl Exact for Asked {
+    ghost exact = { Prim.search rules };
 }
 
 /// The newest requests for IPv4 and IPv6 sockets, 16 at most.

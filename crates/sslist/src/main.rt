@@ -1,71 +1,64 @@
-//! Lists the sockets that captures of netlink traffic tell, as ss(8) does of a running system.
+//! Lists the sockets in captures of netlink traffic, as ss(8) lists those of a running system.
 #![tactic(auto)]
 
-use sock_diag_captures::{Argument, HELP, Options, VERSION, choose, run_to_status};
+ghost use Rattle.std.specs.Prelude.{⊤};
+
+use sock_diag_captures::{
+    Choice, HELP, ListCapture, Options, VERSION, choose, list_captures, run_to_status,
+};
 use std::env;
 use std::fs::File;
 use std::io::{self, BufReader, ErrorKind, Read};
 use std::process::ExitCode;
 
 fn main(rt: HostRuntime) -> ExitCode {
-    let mut words = match env::args(&rt) {
-        Ok(words) => words,
-        Err(error) if error.kind() == ErrorKind::OutOfMemory => {
-            let _ = rt.eprintln("sslist: out of memory");
-            return ExitCode::FAILURE;
-        }
+    let mut arguments = match env::args(&rt) {
+        Ok(arguments) => arguments,
+        Err(error) if error.kind() == ErrorKind::OutOfMemory => return out_of_memory(&rt),
         Err(_) => {
-            let _ = rt.eprintln("sslist: an argument is no UTF-8");
+            let _ = rt.eprintln("sslist: an argument is not valid UTF-8");
             return ExitCode::from(2);
         }
     };
-    let _program = words.next();
-    match words.collect::<Vec<String>>(rt.alloc()) {
-        Ok(words) => answer(&rt, words.as_slice()),
-        Err(_) => ExitCode::FAILURE,
+    let _program = arguments.next();
+    match arguments.collect::<Vec<String>>(rt.alloc()) {
+        Ok(arguments) => answer(&rt, arguments.as_slice()),
+        Err(_) => out_of_memory(&rt),
     }
 }
 
-/// Answers the arguments: the first one that asks for help or for the version, or is not known, and
-/// else the files, or standard input where none is named.
-fn answer(rt: &HostRuntime, words: &[String]) -> ExitCode {
-    let mut options = Options::default();
-    for word in words {
-        match choose(word.as_str()) {
-            Argument::Help => return status_of(rt.println(HELP)),
-            Argument::Version => return status_of(println!(rt; "sslist {VERSION}")),
-            Argument::Letters(letters) => options.add(letters),
-            Argument::Utf8 => options.utf8 = true,
-            Argument::Requests => options.requests = true,
-            Argument::Netlink => options.netlink = true,
-            Argument::Vsock => options.vsock = true,
-            Argument::Xdp => options.xdp = true,
-            Argument::File => {}
-            Argument::Unknown => return refuse(rt, word.as_str()),
-        }
+/// Does what the arguments ask for.
+fn answer(rt: &HostRuntime, arguments: &[String]) -> ExitCode {
+    match choose(arguments) {
+        Choice::Help => status_of(rt.println(HELP)),
+        Choice::Version => status_of(println!(rt; "sslist {VERSION}")),
+        Choice::Reject(argument) => reject(rt, argument),
+        Choice::Captures(options) => list_captures(arguments, &mut Lister { rt, options }),
     }
-    list_files(rt, options, words).unwrap_or_else(|| list(rt, options, "sslist: ", rt.stdin()))
 }
 
-/// Lists the captures in the files that are named, if some are. The status is the last that isn't
-/// 0.
-fn list_files(rt: &HostRuntime, options: Options, words: &[String]) -> Option<ExitCode> {
-    let mut status = None;
-    for word in words {
-        if choose(word.as_str()) == Argument::File {
-            let one = list_file(rt, options, word.as_str());
-            if status.is_none() || one != ExitCode::SUCCESS {
-                status = Some(one);
-            }
+/// Lists captures on standard output, by some options.
+#[derive(Drop)]
+struct Lister<'a> {
+    rt: &'a HostRuntime,
+    options: Options,
+}
+
+impl ListCapture for Lister<'_> {
+    ghost listed = { λ _ _. ⊤ };
+
+    fn list_capture(&mut self, name: Option<&str>) -> ExitCode {
+        match name {
+            Some(name) => list_file(self.rt, self.options, name),
+            None => list(self.rt, self.options, "sslist: ", self.rt.stdin()),
         }
     }
-    status
 }
 
 /// Lists the capture in a file.
 fn list_file(rt: &HostRuntime, options: Options, name: &str) -> ExitCode {
     let Ok(front) = format!(in rt.alloc(); "sslist: {name}: ") else {
-        return ExitCode::FAILURE;
+        return out_of_memory(rt);
     };
     match File::open(rt, name) {
         Ok(file) => list(rt, options, front.as_str(), file),
@@ -76,16 +69,16 @@ fn list_file(rt: &HostRuntime, options: Options, name: &str) -> ExitCode {
     }
 }
 
-/// Lists the capture that is read.
+/// Lists the capture that a reader has.
 fn list<R: Read + Drop>(rt: &HostRuntime, options: Options, front: &str, input: R) -> ExitCode {
     let (alloc, output, errors) = (rt.alloc(), &mut rt.stdout(), &mut rt.stderr());
     match BufReader::new(alloc, input) {
         Ok(mut input) => run_to_status(alloc, options, front, &mut input, output, errors),
-        Err(_) => ExitCode::FAILURE,
+        Err(_) => out_of_memory(rt),
     }
 }
 
-/// Status 0 where it was printed.
+/// Returns status 0 if a text was printed.
 fn status_of(printed: io::Result<()>) -> ExitCode {
     match printed {
         Ok(()) => ExitCode::SUCCESS,
@@ -93,8 +86,14 @@ fn status_of(printed: io::Result<()>) -> ExitCode {
     }
 }
 
-/// Tells that an option is not known, with status 2.
-fn refuse(rt: &HostRuntime, word: &str) -> ExitCode {
-    let _ = eprintln!(rt; "sslist: {word} is not known, sslist --help tells what is");
+/// Reports an unknown option, with status 2.
+fn reject(rt: &HostRuntime, argument: &str) -> ExitCode {
+    let _ = eprintln!(rt; "sslist: unknown option {argument}; try sslist --help");
     ExitCode::from(2)
+}
+
+/// Reports that an allocation failed, with status 1.
+fn out_of_memory(rt: &HostRuntime) -> ExitCode {
+    let _ = rt.eprintln("sslist: out of memory");
+    ExitCode::FAILURE
 }

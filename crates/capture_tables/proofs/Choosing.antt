@@ -1,0 +1,127 @@
+-- What one argument decides, or adds to the options.
+use Rattle.std.proofs.Common.{◌≡◌, ◌≢◌, ◌<◌, ◌+◌, ℕ, Bool, true, false, List, [], ◌∷◌, length, map}
+use Rattle.std.proofs.Common.{bytes_eq, codes, drop, find, fold, get_or, Some, refl, ap, sym, ◌∙◌}
+use Rattle.std.proofs.Common.{arith}
+use Rattle.std.specs.List.{list_all}
+use Rattle.std.proofs.lemmas.Bool.{false_from_ne_true, ne_eqb}
+use Rattle.std.proofs.lemmas.List.{drop_more}
+use Rattle.std.proofs.lemmas.List.Sums.{AllPass-from_list_all, list_all-from_AllPass}
+use Rattle.std.proofs.lemmas.Slice.Eq.{bytes_eq-Decides}
+use Rattle.capture_tables.specs.Choice.{are_letters, decides, is_letter, with_word}
+use Rattle.capture_tables.specs.Words.{AreLetters, IsArgument, with_argument}
+use Rattle.capture_tables.specs.declared.options.Options.{Options}
+use Rattle.capture_tables.specs.declared.words.Argument.{Argument}
+use Rattle.capture_tables.specs.declared.words.Argument.TheVariants.{Help, Version, Letters, File}
+use Rattle.capture_tables.specs.declared.words.Argument.TheVariants.{Unknown, Utf8, Requests}
+use Rattle.capture_tables.specs.declared.words.Argument.TheVariants.{Netlink, Vsock, Xdp}
+
+-- two texts differ
+differ : (xs ys : List ℕ) → xs ≢ ys → bytes_eq xs ys ≡ false
+differ xs ys h = false_from_ne_true (bytes_eq xs ys) (λ same. h ((bytes_eq-Decides xs ys).0 same))
+
+letters_pass : (letters : List ℕ) → AreLetters letters → are_letters letters ≡ true
+letters_pass [] h = absurd (omega arith)
+letters_pass (l ∷ ls) h = list_all-from_AllPass is_letter (l ∷ ls) h.1
+
+letters_fail : (letters : List ℕ) → ¬ AreLetters letters → are_letters letters ≡ false
+letters_fail [] h = refl
+letters_fail (l ∷ ls) h = false_from_ne_true (list_all is_letter (l ∷ ls))
+    (λ held. h (omega arith, AllPass-from_list_all is_letter (l ∷ ls) held))
+
+-- the argument is of these that decide
+abbrev decides_as : Argument → Bool
+decides_as Help = true
+decides_as Version = true
+decides_as Unknown = true
+decides_as _ = false
+
+-- an argument decides by what it is
+pub decides_by : (word : List ℕ) (a : Argument) → IsArgument word a → decides word ≡ decides_as a
+decides_by word Help h = ap decides h
+decides_by word Version h = ap decides h
+decides_by word Utf8 h = ap decides h
+decides_by word Requests h = ap decides h
+decides_by word Netlink h = ap decides h
+decides_by word Vsock h = ap decides h
+decides_by word Xdp h = ap decides h
+decides_by word (Letters letters) h = ap decides h.7.0 ∙ (rw (letters_pass letters.now h.7.1) refl)
+decides_by [] File h = refl
+decides_by (c ∷ rest) File h = rw (ne_eqb c 45 (λ is. h.7 rest (ap (λ (k : ℕ). k ∷ rest) is))) refl
+decides_by word Unknown h =
+    let (letters, is, none) = h.7 in
+    rw (
+      differ word (codes "--utf8") h.2,
+      differ word (codes "--requests") h.3,
+      differ word (codes "--family=netlink") h.4,
+      differ word (codes "--vsock") h.5,
+      differ word (codes "--xdp") h.6,
+      is,
+      letters_fail letters none,
+    ) refl
+
+-- an argument adds what it is
+pub adds_by : (word : List ℕ) (a : Argument) (o : Options) → IsArgument word a
+    → decides_as a ≡ false → with_word o word ≡ with_argument a o
+adds_by word Help o h unmet = absurd (cc)
+adds_by word Version o h unmet = absurd (cc)
+adds_by word Unknown o h unmet = absurd (cc)
+adds_by word Utf8 o h unmet = ap (with_word o) h
+adds_by word Requests o h unmet = ap (with_word o) h
+adds_by word Netlink o h unmet = ap (with_word o) h
+adds_by word Vsock o h unmet = ap (with_word o) h
+adds_by word Xdp o h unmet = ap (with_word o) h
+adds_by word (Letters letters) o h unmet =
+    rw (
+      differ word (codes "--utf8") h.2,
+      differ word (codes "--requests") h.3,
+      differ word (codes "--family=netlink") h.4,
+      differ word (codes "--vsock") h.5,
+      differ word (codes "--xdp") h.6,
+      h.7.0,
+      letters_pass letters.now h.7.1,
+    ) refl
+adds_by [] File o h unmet = refl
+adds_by (c ∷ rest) File o h unmet =
+    rw (ne_eqb c 45 (λ is. h.7 rest (ap (λ (k : ℕ). k ∷ rest) is))) refl
+
+-- ---- one step of the loop over the arguments
+
+-- none that was passed decides, and the options of all are these and those that are left
+pub record Passed {X : Type 0} (f : X → List ℕ) (xs : List X) (i : ℕ) (o all : Options)
+    : Type 0 where
+  pub first : find decides (map f (drop i xs)) ≡ find decides (map f xs)
+  pub options : fold with_word o (map f (drop i xs)) ≡ all
+
+-- one that is none of these doesn't decide
+pub passes : (a : Argument) → (a ≢ Help) → (a ≢ Version) → (a ≢ Unknown) → decides_as a ≡ false
+passes Help h v u = absurd (h refl)
+passes Version h v u = absurd (v refl)
+passes Unknown h v u = absurd (u refl)
+passes (Letters letters) h v u = refl
+passes File h v u = refl
+passes Utf8 h v u = refl
+passes Requests h v u = refl
+passes Netlink h v u = refl
+passes Vsock h v u = refl
+passes Xdp h v u = refl
+
+-- this one decides
+pub decided : {X : Type 0} (f : X → List ℕ) (xs : List X) (i : ℕ) (o all : Options) (x : X)
+    (a : Argument) (word : List ℕ) → Passed f xs i o all → i < length xs → x ≡ get_or xs i x
+    → word ≡ f x → IsArgument word a → decides_as a ≡ true → find decides (map f xs) ≡ Some word
+decided f xs i o all x a word passed low is same kind held =
+    sym passed.first ∙ ap (λ l. find decides (map f l)) (drop_more xs i x low)
+    ∙ (rw (sym is, sym same, decides_by word a kind, held) refl)
+
+-- this one adds
+pub added : {X : Type 0} (f : X → List ℕ) (xs : List X) (i : ℕ) (o o' all : Options) (x : X)
+    (a : Argument) (word : List ℕ) → Passed f xs i o all → i < length xs → x ≡ get_or xs i x
+    → word ≡ f x → IsArgument word a → decides_as a ≡ false → o' ≡ with_argument a o
+    → Passed f xs (i + 1) o' all
+added f xs i o o' all x a word passed low is same kind unmet more = record {
+  first = sym (ap (λ l. find decides (map f l)) (drop_more xs i x low)
+      ∙ (rw (sym is, sym same, decides_by word a kind, unmet) refl)) ∙ passed.first;
+  options = sym (ap (λ l. fold with_word o (map f l)) (drop_more xs i x low)
+      ∙ (rw (sym is, sym same) (ap (λ (p : Options). fold with_word p (map f (drop (i + 1) xs)))
+      (adds_by word a o kind unmet ∙ sym more)))) ∙ passed.options;
+}
