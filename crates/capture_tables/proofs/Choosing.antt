@@ -120,8 +120,8 @@ pub added : {X : Type 0} (f : X → List ℕ) (xs : List X) (i : ℕ) (o o' all 
     → Passed f xs (i + 1) o' all
 added f xs i o o' all x a word passed low is same kind unmet more = record {
   first = sym (ap (λ l. find decides (map f l)) (drop_more xs i x low)
-    ∙ (rw (sym is, sym same, decides_by word a kind, unmet) refl)) ∙ passed.first;
+      ∙ (rw (sym is, sym same, decides_by word a kind, unmet) refl)) ∙ passed.first;
   options = sym (ap (λ l. fold with_word o (map f l)) (drop_more xs i x low)
-    ∙ (rw (sym is, sym same) (ap (λ (p : Options). fold with_word p (map f (drop (i + 1) xs)))
-    (adds_by word a o kind unmet ∙ sym more)))) ∙ passed.options;
+      ∙ (rw (sym is, sym same) (ap (λ (p : Options). fold with_word p (map f (drop (i + 1) xs)))
+      (adds_by word a o kind unmet ∙ sym more)))) ∙ passed.options;
 }

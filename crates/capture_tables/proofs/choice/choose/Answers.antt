@@ -30,9 +30,9 @@ returns-in-Unknown c =
     let same = c.as_str.ensures.value ∙ sym c.as_str-in-Unknown.ensures.value in
     let kind = rw c.in-Unknown.is at c.parse_argument.ensures in (
       decided string_bytes _ _ _ _ _ c.parse_argument.result c.as_str.result.now
-      c.loop-argument.invariant c.loop-argument-test.true c.argument-item.is
-      c.as_str.ensures.value c.parse_argument.ensures (rw c.in-Unknown.is refl)
-      ∙ ap Some same,
+          c.loop-argument.invariant c.loop-argument-test.true c.argument-item.is
+          c.as_str.ensures.value c.parse_argument.ensures (rw c.in-Unknown.is refl)
+          ∙ ap Some same,
       (λ is. kind.0 (same ∙ is)),
       (λ is. kind.1 (same ∙ is)),
     )

@@ -13,11 +13,11 @@ loop-argument-preserved g c =
     let tested = ap is_file (sym c.as_bytes.ensures.value) ∙ sym c.is_file.ensures in
     rw (more, sym c.argument-item.is) (elim c.if-is_file.branch [
       | then-is_file w ↦ rw (w.lister-is, w.status-is, w.is_named-is) (file_more _ _ _
-      (string_bytes item) _ _ _ _ c.loop-argument.invariant (tested ∙ w.if-is_file.true)
-      w.later_failure-status.ensures
-      (λ before held. rw w.as_str.ensures.value at (w.list_capture-next.ensures before held)))
+          (string_bytes item) _ _ _ _ c.loop-argument.invariant (tested ∙ w.if-is_file.true)
+          w.later_failure-status.ensures
+          (λ before held. rw w.as_str.ensures.value at (w.list_capture-next.ensures before held)))
       | else-is_file w ↦ rw (w.lister-is, w.status-is, w.is_named-is) (option_more _ _
-      (string_bytes item) _ _ c.loop-argument.invariant (tested ∙ w.if-is_file.false))
+          (string_bytes item) _ _ c.loop-argument.invariant (tested ∙ w.if-is_file.false))
     ])
 
 pub returns-then-is_named : goal.returns-then-is_named
