@@ -5,3 +5,4 @@ pub mod Telling
 pub mod Stops
 pub mod Choosing
 pub mod Listed
+pub mod OptionsEquality

@@ -53,6 +53,13 @@ pub fn equal_file_headers(v: &FileHeader, w: &FileHeader) -> bool
     v == w
 }
 
+/// Compares two sets of options by `==`, which is true if and only if they are equal.
+pub fn equal_options(v: &Options, w: &Options) -> bool
+    ensures { IsTrue result ↔ (v.now ≡ w.now) }
+{
+    v == w
+}
+
 /// Compares two packets by `==`, which is true if and only if they are of one kind and have equal
 /// datagrams.
 pub fn equal_packets(v: &Packet<'_>, w: &Packet<'_>) -> bool
