@@ -1,12 +1,13 @@
 use crate::ported::add_paths;
-use netlink_core::Parseable;
+use netlink_core::{DecodeError, Parseable};
 use netlink_packet_sock_diag::unix::UnixResponse;
 use sock_diag_calls::reading_back::copy_by_bytes;
-use sock_diag_uses::link::{attribute_key, parse_link};
+use sock_diag_uses::link::{LinkError, attribute_key, parse_link};
+use sock_diag_uses::listening_tcp::Family;
 use sock_diag_uses::lister::list;
 use sock_diag_uses::readme::{listener, listening};
 use sock_diag_uses::stored::{key, same_reply};
-use sock_diag_uses::test_kernel::answer;
+use sock_diag_uses::test_kernel::{AnswerError, answer};
 use sock_diag_values::unix::Vfs;
 use std::alloc::Global;
 use std::fmt::Debug;
@@ -30,6 +31,12 @@ const MESSAGE: &[u8] = b"\x2c\0\0\0\x14\0\x02\0\x07\0\0\0\0\0\0\0\
 const DUMP: [u8; 52] = [
     32, 0, 0, 0, 20, 0, 2, 0, 7, 0, 0, 0, 0, 0, 0, 0, 1, 1, 10, 0, 0x0e, 0x4f, 0, 0, 0xa0, 2, 0, 0,
     0, 0, 0, 0, 20, 0, 0, 0, 3, 0, 2, 0, 7, 0, 0, 0, 0, 0, 0, 0, 0, 0, 0, 0,
+];
+
+// An error that the kernel reports, ENOENT, and lost data.
+const FAILURES: [u8; 40] = [
+    20, 0, 0, 0, 2, 0, 0, 0, 7, 0, 0, 0, 0, 0, 0, 0, 0xfe, 0xff, 0xff, 0xff, 20, 0, 0, 0, 4, 0, 0,
+    0, 7, 0, 0, 0, 0, 0, 0, 0, 0, 0, 0, 0,
 ];
 
 // What rtnetlink(7) tells of eth0, an ethernet device: name, an attribute of kind 13, MTU.
@@ -56,7 +63,13 @@ fn replies_are_stored_by_what_they_tell(rt: HostRuntime) -> Result<(), Fail> {
     assert!(rt; key(alloc, NAMED)?.as_slice() == WRITTEN);
     assert!(rt; same_reply(alloc, NAMED, WRITTEN)?);
     assert!(rt; !same_reply(alloc, NAMED, &LISTENING)?);
-    Ok(())
+    let cut = "Some(Refused(BufferTooSmall { which: UnixResponseHeader, got: 8, need: 16 }))";
+    shows(
+        &rt,
+        alloc,
+        &same_reply(alloc, &NAMED[..8], &NAMED[..9]).err(),
+        cut,
+    )
 }
 
 #[test]
@@ -70,6 +83,7 @@ fn datagrams_are_listed_and_counted(rt: HostRuntime) -> Result<(), Fail> {
         (&DUMP[..], one, "Ok(Some(1))"),
         (&failed, one, "Ok(None)"),
         (&DUMP[48..], cut, "Err(EnvelopeCut { got: 4 })"),
+        (&FAILURES, "[Failure, Failure]", "Ok(None)"),
     ] {
         shows(&rt, alloc, &list(alloc, datagram)?, lines)?;
         shows(&rt, alloc, &listening(datagram), count)?;
@@ -98,6 +112,7 @@ fn links_have_their_name_and_their_mtu(rt: HostRuntime) -> Result<(), Fail> {
     let wrong = "Err(Attribute(WrongLength { kind: None, got: 3, need: 4 }))";
     for (payload, text) in [
         (&ETH0[..], link),
+        (&ETH0[..16], "Ok(Link { name: None, mtu: None })"),
         (&ETH0[..15], "Err(TooShort { got: 15 })"),
         (&odd, wrong),
     ] {
@@ -131,7 +146,27 @@ fn requests_are_answered(rt: HostRuntime) -> Result<(), Fail> {
     let path = vec![in rt.alloc(); 97; 65_531]?;
     let long = [listener(rt.alloc(), 7, &path)?];
     let why = answer(rt.alloc(), &REQUEST, &long).err();
-    shows(&rt, rt.alloc(), &why, "Some(Unwritable)")
+    shows(&rt, rt.alloc(), &why, "Some(Unwritable)")?;
+    let why = answer(rt.alloc(), &REQUEST[..15], &long).err();
+    shows(
+        &rt,
+        rt.alloc(),
+        &why,
+        "Some(Request(EnvelopeCut { got: 15 }))",
+    )
+}
+
+#[test]
+fn debug_texts(rt: HostRuntime) -> Result<(), Fail> {
+    let alloc = rt.alloc();
+    shows(&rt, alloc, &AnswerError::Memory, "Memory")?;
+    shows(
+        &rt,
+        alloc,
+        &LinkError::Attribute(DecodeError::Memory),
+        "Attribute(Memory)",
+    )?;
+    shows(&rt, alloc, &[Family::Inet, Family::Inet6], "[Inet, Inet6]")
 }
 
 #[test]
