@@ -1,6 +1,6 @@
 #!/usr/bin/env python3
 """tests/programs.py SOCKDIAG SSLIST: runs the two built programs at these paths with each form of arguments, and
-compares standard output, standard error and exit status. Each difference is printed, and then the status is 1."""
+compares standard output, standard error and exit status. Prints each difference, and then the status is 1."""
 import os
 import re
 import subprocess
@@ -116,5 +116,4 @@ if __name__ == "__main__":
     test_sockdiag(os.path.abspath(sys.argv[1]))
     test_sslist(os.path.abspath(sys.argv[2]))
     test_options(os.path.abspath(sys.argv[2]))
-    print("\n".join(failures) or "both programs answer as expected")
-    sys.exit(1 if failures else 0)
+    sys.exit("\n".join(failures) or 0)

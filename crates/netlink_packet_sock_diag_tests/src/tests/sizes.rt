@@ -52,13 +52,33 @@ fn repeated(
     bytes(rt, alloc, &[header, &attributes])
 }
 
-/// Asserts that a reply with each number of attributes is read, by itself and in its message.
+/// Asserts that a reply with a number of attributes is read, by itself and in its message.
+fn has_room_for<T: ReadTwice>(
+    rt: &impl Abort,
+    alloc: Global,
+    header: &str,
+    attribute: &str,
+    count: usize,
+) {
+    let reply = repeated(rt, alloc, header, attribute, count);
+    accepts::<T>(rt, alloc, &reply);
+    accepts::<SockDiagMessage>(rt, alloc, &reply);
+    opens(rt, alloc, &envelope(rt, alloc, 20, &reply));
+}
+
+/// Asserts that a reply with each number of attributes is read.
 fn has_room<T: ReadTwice>(rt: &impl Abort, alloc: Global, header: &str, attribute: &str) {
     for count in (0..301).chain(COUNTS) {
-        let reply = repeated(rt, alloc, header, attribute, count);
-        accepts::<T>(rt, alloc, &reply);
-        accepts::<SockDiagMessage>(rt, alloc, &reply);
-        opens(rt, alloc, &envelope(rt, alloc, 20, &reply));
+        has_room_for::<T>(rt, alloc, header, attribute, count);
+    }
+}
+
+/// Checks lists of up to 131,072 attributes.
+#[test]
+fn long_lists(rt: HostRuntime) {
+    for count in [16_384, 32_768, 65_536, 100_000, 131_072] {
+        has_room_for::<UnixResponse>(&rt, rt.alloc(), CONNECTED, "0500060002000000", count);
+        has_room_for::<InetResponse>(&rt, rt.alloc(), INET, "0500080002000000", count);
     }
 }
 

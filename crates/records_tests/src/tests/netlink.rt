@@ -1,7 +1,8 @@
+use super::sizes::LARGE;
 use super::{gives, shows};
 use netlink_core::{
     CanonError, DecodeError, DefaultNla, MessageStrings, NlaBuffer, NlasIterator, Parseable,
-    RecordBuffer, RecordName, canonical, parse_string, write_new,
+    RecordBuffer, RecordName, canonical, copy_list, parse_string, write_new,
 };
 use std::alloc::Global;
 use std::process::Abort;
@@ -127,17 +128,11 @@ fn faults_tell_numbers_and_texts(rt: HostRuntime) {
     shows(&rt, rt.alloc(), &reasons, "[Unwritable, Memory]");
 }
 
-// Sizes up to 1 MiB, and that of the longest value.
-const SIZES: [usize; 22] = [
-    1, 2, 4, 8, 16, 32, 64, 128, 256, 512, 1024, 2048, 4096, 8192, 16_384, 32_768, 65_531, 65_536,
-    131_072, 262_144, 524_288, 1_048_576,
-];
-
-// Memory is never wanted where there is some: a text is read, an attribute copied, written and
-// rewritten.
+// A text is read, bytes are copied, and an attribute is copied, written and rewritten.
 fn has_room(rt: &impl Abort, alloc: Global, size: usize) {
     let bytes = vec![in alloc; b'a'; size].expect(rt, "memory");
     parse_string(alloc, &bytes).expect(rt, "refused");
+    copy_list(alloc, &bytes).expect(rt, "memory");
     let written = write_new(
         alloc,
         &DefaultNla::new(7, bytes).clone(alloc).expect(rt, "memory"),
@@ -150,7 +145,7 @@ fn has_room(rt: &impl Abort, alloc: Global, size: usize) {
 
 #[test]
 fn sizes(rt: HostRuntime) {
-    for size in SIZES {
+    for size in (0..301).chain(LARGE) {
         has_room(&rt, rt.alloc(), size);
     }
 }

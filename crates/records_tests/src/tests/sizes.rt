@@ -1,10 +1,10 @@
-//! Memory is never wanted where there is some, over inputs of each size.
+//! Readers, copies and writers over inputs of each size: no allocation fails if there is memory.
 
 use super::attributes::Viewed;
 use super::shows;
-use netlink_core::canonical;
+use netlink_core::{NlaBuffer, canonical, write_new};
 use sock_diag_attributes::inet::nlas::Nla as InetNla;
-use sock_diag_attributes::unix::nlas::{Nla, UnixDiagName};
+use sock_diag_attributes::unix::nlas::{Nla, NlaView, UnixDiagName};
 use std::alloc::{AllocError, Global};
 use std::process::Abort;
 
@@ -21,23 +21,24 @@ pub(super) fn attribute(
     Ok(bytes)
 }
 
-/// It is read, shown and copied from where it is read in place, and rewritten.
+/// Asserts that a value is read, copied from a borrowed one, shown and written.
 fn has_room<T: Viewed>(rt: &impl Abort, alloc: Global, bytes: &[u8]) {
-    T::read(alloc, bytes, ()).expect(rt, "refused");
+    let value = T::read(alloc, bytes, ()).expect(rt, "refused");
     T::viewed(rt, alloc, bytes);
+    assert!(rt; write_new(alloc, &value).is_ok());
     assert!(rt; canonical::<T>(alloc, bytes, ()).is_ok());
 }
 
-/// Sizes of names up to 1 MiB.
-const SIZES: [usize; 21] = [
-    1, 2, 4, 8, 16, 32, 64, 128, 256, 512, 1024, 2048, 4096, 8192, 16_384, 32_768, 65_536, 131_072,
-    262_144, 524_288, 1_048_576,
+/// Sizes over 300, up to a million. Tests of sizes also have each size up to 300.
+pub(super) const LARGE: [usize; 16] = [
+    512, 1_000, 1_024, 2_048, 4_096, 8_192, 10_000, 16_384, 32_768, 65_531, 65_536, 100_000,
+    131_072, 262_144, 524_288, 1_000_000,
 ];
 
 #[test]
 fn names(rt: HostRuntime) {
     let alloc = rt.alloc();
-    for size in SIZES {
+    for size in (0..301).chain(LARGE) {
         for first in [b'a', 0] {
             let mut bytes = vec![in alloc; first; 1].expect(&rt, "memory");
             bytes.resize(size, b'a').expect(&rt, "memory");
@@ -47,26 +48,51 @@ fn names(rt: HostRuntime) {
     }
 }
 
-/// Length words of attributes of every size, the header's 4 bytes counted, all multiples of 4.
-const LENGTHS: [u16; 16] = [
-    4, 8, 12, 20, 36, 68, 132, 260, 516, 1028, 2052, 4100, 8196, 16_388, 32_772, 65_532,
+/// Lengths of attributes over 304, with the 4 bytes of the header, all multiples of 4.
+const LENGTHS: [u16; 11] = [
+    516, 1_004, 1_028, 2_052, 4_100, 8_196, 10_004, 16_388, 32_772, 50_004, 65_532,
 ];
 
 #[test]
-fn attributes(rt: HostRuntime) {
+fn unix_attributes(rt: HostRuntime) {
     let alloc = rt.alloc();
-    for length in LENGTHS {
-        for (kind, byte, more) in [(0, 0, 1), (7, 1, 0), (7, 1, 3), (3, 1, 0)] {
-            let bytes = attribute(alloc, length.saturating_add(more), kind, byte).expect(
-                &rt, "memory",
-            );
-            has_room::<Nla>(&rt, alloc, &bytes);
+    for length in (4..305).chain(LENGTHS) {
+        for (kind, byte, more) in [(0, 0, 1), (7, 1, 0), (7, 1, 3)] {
+            let bytes = attribute(alloc, length.saturating_add(more), kind, byte);
+            has_room::<Nla>(&rt, alloc, &bytes.expect(&rt, "memory"));
         }
+    }
+}
+
+/// Asserts that a list of numbers is read, copied from a borrowed one, shown and written.
+fn has_room_for_numbers(rt: &impl Abort, alloc: Global, bytes: &[u8]) {
+    has_room::<Nla>(rt, alloc, bytes);
+    let nla = NlaBuffer::new_checked(bytes).expect(rt, "refused");
+    let NlaView::PendingConnections(numbers) = NlaView::parse(&nla).expect(rt, "refused") else {
+        panic!(rt; "no numbers");
+    };
+    assert!(rt; numbers.to_owned(alloc).is_ok());
+}
+
+/// Numbers of 32-bit numbers in a list over 300.
+const COUNTS: [u16; 7] = [512, 1_000, 1_024, 4_096, 8_192, 10_000, 16_382];
+
+#[test]
+fn lists_of_numbers(rt: HostRuntime) {
+    for count in (0..301).chain(COUNTS) {
+        let length = count.saturating_add(1).saturating_mul(4);
+        let bytes = attribute(rt.alloc(), length, 3, 1).expect(&rt, "memory");
+        has_room_for_numbers(&rt, rt.alloc(), &bytes);
+    }
+}
+
+#[test]
+fn inet_attributes(rt: HostRuntime) {
+    let alloc = rt.alloc();
+    for length in (4..305).chain(LENGTHS) {
         for (kind, byte, more) in [(4, b'a', 2), (3, 1, 0), (3, 1, 3)] {
-            let bytes = attribute(alloc, length.saturating_add(more), kind, byte).expect(
-                &rt, "memory",
-            );
-            has_room::<InetNla>(&rt, alloc, &bytes);
+            let bytes = attribute(alloc, length.saturating_add(more), kind, byte);
+            has_room::<InetNla>(&rt, alloc, &bytes.expect(&rt, "memory"));
         }
     }
     // A text of the longest attribute has no room for its end zero.
