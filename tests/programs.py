@@ -69,12 +69,13 @@ def test_sockdiag(program):
 def test_sslist(program):
     capture, table = CAPTURE.read_bytes(), (CRATES / "sslist/stdout").read_bytes()
     note, missing = b"sslist: .*packet 12, message 1: .*\n", b"sslist: /nowhere: .*\n"
+    unknown, no_text = b"sslist: unknown option %s; try sslist --help\n", b"sslist: an argument is not valid UTF-8\n"
     for arguments, status, told, errors in [
-        ([], 1, b"", b"sslist: .*\n"), ([b"\xff"], 2, b"", b"sslist: .*\n"), ([""], 1, b"", b"sslist: : .*\n"),
+        ([], 1, b"", b"sslist: .*\n"), ([b"\xff"], 2, b"", no_text), ([""], 1, b"", b"sslist: : .*\n"),
         ([CAPTURE], 0, table, note), ([CAPTURE, CAPTURE], 0, table * 2, note * 2), (["/"], 1, b"", b"sslist: /: .*\n"),
         ([CAPTURE, "/nowhere"], 1, table, note + missing), (["/nowhere", CAPTURE], 1, table, missing + note),
-        (["-q", CAPTURE], 2, b"", b"sslist: -q .*\n"), (["-t", "--no", "--help"], 2, b"", b"sslist: --no .*\n"),
-        (["-"], 2, b"", b"sslist: - .*\n"), ([CAPTURE, "--version"], 0, b"sslist " + VERSION, b""),
+        (["-q", CAPTURE], 2, b"", unknown % b"-q"), (["-t", "--no", "--help"], 2, b"", unknown % b"--no"),
+        (["-"], 2, b"", unknown % b"-"), ([CAPTURE, "--version"], 0, b"sslist " + VERSION, b""),
         (["-t", "--help", "-q"], 0, help_text("sock_diag_captures"), b""),
     ]:
         check(program, arguments, b"", status, told, errors)
