@@ -3,6 +3,7 @@
 
 use netlink_core::{DecodeError, Emitable, write_new};
 use sock_diag_any::AnySockDiagView;
+use sock_diag_any::laws::{equal_whole_views, equal_wholes};
 use sock_diag_any::netlink::{self, NetlinkResponseView};
 use sock_diag_any::packet::{self, PacketResponseView};
 use sock_diag_any::vsock::VsockResponseView;
@@ -35,6 +36,9 @@ const XDP: &str = "2c0300000b00000006000000000000000c000100030000000100000008000
 00060000100000340009000100000000000000020000000000000003000000000000000400000000000000050000000000\
 00000600000000000000";
 
+/// A listening UNIX socket.
+const UNIX: &str = "01010a000e4f0000a002000000000000";
+
 /// The value is written as these digits say.
 fn writes<T: Emitable>(rt: &impl Abort, alloc: Global, value: &T, row: &str) -> Result<(), Fail> {
     let written = write_new(alloc, value).ok().ok_or("unwritable")?;
@@ -49,7 +53,25 @@ fn shows<T: Debug>(rt: &impl Abort, alloc: Global, value: &T, part: &str) -> Res
     Ok(())
 }
 
-/// How many packets were dropped at the netlink socket that a reply tells.
+/// `Debug` shows the reply by the names of its variant and its type, with its bytes and the count
+/// of its attributes.
+fn shows_reply(
+    rt: &impl Abort,
+    alloc: Global,
+    row: &str,
+    before: &str,
+    after: &str,
+) -> Result<(), Fail> {
+    let bytes = hex::decode(alloc, row)?;
+    let shown = format!(in alloc; "{:?}", AnySockDiagView::parse(&bytes, 20)?)?;
+    assert!(rt;
+        shown == format!(in alloc; "{before}{bytes:?}{after}")?,
+        "{shown}"
+    );
+    Ok(())
+}
+
+/// How many packets were dropped at the netlink socket that a reply describes.
 fn dropped_packets(reply: &[u8]) -> Result<Option<u32>, DecodeError> {
     let reply = NetlinkResponseView::parse(reply)?;
     let Some(memory) = netlink::memory(&reply)? else {
@@ -63,16 +85,19 @@ fn what_linux_sent(rt: HostRuntime) -> Result<(), Fail> {
     let alloc = rt.alloc();
     let bytes = hex::decode(alloc, NETLINK)?;
     let reply = NetlinkResponseView::parse(&bytes)?;
-    let text = "kind: 3, protocol: 0, state: 7, port: 6250, destination_port: 0, \
-        destination_group: 0, inode: 87039, cookie: 4097";
+    let text = "Whole(NetlinkResponseHeader { kind: 3, protocol: 0, state: 7, port: 6250, \
+        destination_port: 0, destination_group: 0, inode: 87039, cookie: 4097 })";
     shows(&rt, alloc, &reply.header(), text)?;
+    assert!(&rt; equal_whole_views(&reply, &reply));
+    assert!(&rt; equal_wholes(&reply.header(), &reply.header()));
     let told = (netlink::groups(&reply), netlink::flags(&reply)?);
     let text = "(Some([17, 0, 0, 0, 0, 0, 0, 0]), Some(32))";
     shows(&rt, alloc, &told, text)?;
     shows(&rt, alloc, &dropped_packets(&bytes)?, "Some(0)")?;
     let bytes = hex::decode(alloc, PACKET)?;
     let reply = PacketResponseView::parse(&bytes)?;
-    let text = "kind: 3, protocol: 2048, inode: 87040, cookie: 4099";
+    let text = "Whole(PacketResponseHeader { kind: 3, protocol: 2048, inode: 87040, \
+        cookie: 4099 })";
     shows(&rt, alloc, &reply.header(), text)?;
     let text = "interface: 1, version: 0, reserve: 0, copy_threshold: 0, timestamp: 0, flags: 1";
     shows(&rt, alloc, &packet::info(&reply)?, text)?;
@@ -88,12 +113,14 @@ fn what_the_headers_say(rt: HostRuntime) -> Result<(), Fail> {
     let alloc = rt.alloc();
     let bytes = hex::decode(alloc, VSOCK)?;
     let reply = VsockResponseView::parse(&bytes)?;
-    let text = "kind: 1, state: 10, shutdown: 0, source_context: 2, source_port: 22, \
-        destination_context: 4294967295, destination_port: 4294967295, inode: 20490, cookie: 5";
+    let text = "Whole(VsockResponseHeader { kind: 1, state: 10, shutdown: 0, source_context: 2, \
+        source_port: 22, destination_context: 4294967295, destination_port: 4294967295, \
+        inode: 20490, cookie: 5 })";
     shows(&rt, alloc, &reply.header(), text)?;
     let bytes = hex::decode(alloc, XDP)?;
     let reply = XdpResponseView::parse(&bytes)?;
-    shows(&rt, alloc, &reply.header(), "kind: 3, inode: 11, cookie: 6")?;
+    let text = "Whole(XdpResponseHeader { kind: 3, inode: 11, cookie: 6 })";
+    shows(&rt, alloc, &reply.header(), text)?;
     let text = "size: 4194304, id: 2, pages: 1024, chunk_size: 4096, headroom: 0, interface: 3, \
         queue: 1, flags: 1, references: 1";
     shows(&rt, alloc, &xdp::shared_memory(&reply)?, text)?;
@@ -114,15 +141,35 @@ fn what_the_headers_say(rt: HostRuntime) -> Result<(), Fail> {
 }
 
 #[test]
+fn debug_texts(rt: HostRuntime) -> Result<(), Fail> {
+    for (row, before, after) in [
+        (
+            NETLINK,
+            "Netlink(NetlinkResponseView { bytes: ",
+            ", count: 3 })",
+        ),
+        (
+            PACKET,
+            "Packet(PacketResponseView { bytes: ",
+            ", count: 7 })",
+        ),
+        (VSOCK, "Vsock(VsockResponseView { bytes: ", ", count: 0 })"),
+        (XDP, "Xdp(XdpResponseView { bytes: ", ", count: 6 })"),
+        (
+            UNIX,
+            "Port(UnixResponse(UnixResponseView { bytes: ",
+            ", count: 0 }))",
+        ),
+    ] {
+        shows_reply(&rt, rt.alloc(), row, before, after)?;
+    }
+    Ok(())
+}
+
+#[test]
 fn of_any_family(rt: HostRuntime) -> Result<(), Fail> {
     let alloc = rt.alloc();
-    for row in [
-        NETLINK,
-        PACKET,
-        VSOCK,
-        XDP,
-        "01010a000e4f0000a002000000000000",
-    ] {
+    for row in [NETLINK, PACKET, VSOCK, XDP, UNIX] {
         let bytes = hex::decode(alloc, row)?;
         writes(&rt, alloc, &AnySockDiagView::parse(&bytes, 20)?, row)?;
     }
