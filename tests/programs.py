@@ -55,12 +55,12 @@ def test_sockdiag(program):
         check(program, arguments, lines, 0, answers)
     check(program, ["--help"], lines, 0, help_text("sock_diag_lines"))
     check(program, ["--version"], lines, 0, b"sockdiag " + VERSION)
-    for text, told, strict in [
+    for text, printed, strict in [
         (b"", b"", 0), (line, answer, 0), (lines, answers, 3), (line + b"unix 00", answer + b"refused 2\n", 3),
         (b"\n", b"bad line\n", 3), (b"dump -", b"ok reading 0\n", 0), (b"dump 00", b"ok failed:16 0\n", 3),
     ]:
-        check(program, [], text, 0, told)
-        check(program, ["--strict"], text, strict, told)
+        check(program, [], text, 0, printed)
+        check(program, ["--strict"], text, strict, printed)
     for arguments in ([], ["--strict"], ["--help"], ["--version"]):
         check_failed_writes(program, arguments, line, *[b"sockdiag: writing failed\n"] * 2)
     check(program, [], os.open("/", os.O_RDONLY), 1, b"", b"sockdiag: reading failed\n")
@@ -70,7 +70,7 @@ def test_sslist(program):
     capture, table = CAPTURE.read_bytes(), (CRATES / "sslist/stdout").read_bytes()
     note, missing = b"sslist: .*packet 12, message 1: .*\n", b"sslist: /nowhere: .*\n"
     unknown, no_text = b"sslist: unknown option %s; try sslist --help\n", b"sslist: an argument is not valid UTF-8\n"
-    for arguments, status, told, errors in [
+    for arguments, status, printed, errors in [
         ([], 1, b"", b"sslist: .*\n"), ([b"\xff"], 2, b"", no_text), ([""], 1, b"", b"sslist: : .*\n"),
         ([CAPTURE], 0, table, note), ([CAPTURE, CAPTURE], 0, table * 2, note * 2), (["/"], 1, b"", b"sslist: /: .*\n"),
         ([CAPTURE, "/nowhere"], 1, table, note + missing), (["/nowhere", CAPTURE], 1, table, missing + note),
@@ -78,7 +78,7 @@ def test_sslist(program):
         (["-"], 2, b"", unknown % b"-"), ([CAPTURE, "--version"], 0, b"sslist " + VERSION, b""),
         (["-t", "--help", "-q"], 0, help_text("sock_diag_captures"), b""),
     ]:
-        check(program, arguments, b"", status, told, errors)
+        check(program, arguments, b"", status, printed, errors)
     check(program, [], capture, 0, table, note)
     check_failed_writes(program, [], capture, b"", b"sslist: writing failed\n")
     check_failed_writes(program, ["--help"], b"", b"", b"")
@@ -108,9 +108,9 @@ def test_options(program):
         assert shown == [option], (shown, option)
     text = run(program, ["--requests"], capture)[1]
     assert re.sub(rb"(?m)^-- .*\n", b"", text) == table and b"\n-- 0.000000 udp states:0xfe\n" in text, "--requests"
-    named, told = (it.replace(b"/listening", "/hörening".encode()) for it in (capture, table))
-    check(program, ["--utf8"], named, status, told, errors)
-    assert run(program, [], named)[1].split() == told.replace("ö".encode(), b"\\xc3\\xb6").split(), "without --utf8"
+    named, printed = (it.replace(b"/listening", "/hörening".encode()) for it in (capture, table))
+    check(program, ["--utf8"], named, status, printed, errors)
+    assert run(program, [], named)[1].split() == printed.replace("ö".encode(), b"\\xc3\\xb6").split(), "without --utf8"
 
 
 if __name__ == "__main__":
