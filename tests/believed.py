@@ -6,10 +6,10 @@ the ghost members of public traits and of their impls. From these the way goes o
 imports, to definitions in specs/, and from each of them likewise. A lemma is not followed. What Rust types declare is
 code, and what the kit defines is the kit's: the way ends there.
 
-    tests/believed.py             each definition that is reached: module: name, lines, comment; sums; and what is odd
-    tests/believed.py --lines     the lines that are reached in each module, most first
-    tests/believed.py --private   the clauses and members of private functions and traits are roots too
-    tests/believed.py --beside    the lines that the contracts of all crates reach in the specs/ of each crate beside the port
+    tests/believed.py             prints each definition of the port that is reached (module: name, lines, comment), then
+                                  the definitions, lines and tokens of each crate, the port's first
+    tests/believed.py --lines     prints the lines that are reached in each module, most first
+    tests/believed.py --private   takes the clauses and members of private functions and traits as roots too
 
 It fails, with status 1, if a name does not resolve, a ghost member is in neither of the two lists below, or something is
 in the wrong place (what has to be believed, lemmas, and the words of private functions are in separate modules).
@@ -173,9 +173,12 @@ class Module:
         self.things = {part: item for item in self.items.values() if item.kind == "data" for part in item.parts} | self.items
         self.names = imports(text) | {thing: (full_name, thing) for thing in self.things}
 
-    def lines(self, holds):
-        """How many lines the items have of which something holds."""
-        return sum(len(item.lines) for item in self.items.values() if holds(item))
+    def size(self, counted):
+        """Returns the number of definitions that are reached by one of `counted`, and of their lines and tokens."""
+        reached = [item for item in self.items.values() if item.reached in counted]
+        lines = [line for item in reached for line in item.lines]
+        definitions = sum(item.kind != "module" for item in reached)
+        return (definitions, len(lines), sum(len(tokens_of(line)) for line in lines))
 
 
 class Specs:
@@ -318,19 +321,22 @@ def odd_things(specs, counted):
                 yield f"{module.name}: {name} is reached by no promise."
 
 
-def lines_of(crate, sizes):
-    """How many lines are reached in a crate's specs/."""
-    return sum(lines for name, lines in sizes.items() if name.split(".")[0] == crate)
+def print_sums(title, crates, sizes):
+    """Prints the definitions, lines and tokens that are reached in the specs/ of each crate, and their sums."""
+    of_crates = {crate: [size for name, size in sizes.items() if name.split(".")[0] == crate] for crate in crates}
+    of_crates[title] = [size for listed in list(of_crates.values()) for size in listed]
+    for crate, listed in of_crates.items():
+        definitions, lines, tokens = map(sum, zip((0, 0, 0), *listed))
+        print(f"{crate}: {definitions} definitions, {lines} lines, {tokens} tokens")
 
 
 def print_all(specs, counted, sizes):
-    """What is reached in the port's crates, by crate and module, and how many lines it has."""
+    """Prints the definitions that are reached in the port's crates, and the sums of all crates."""
     for module in (module for module in specs.modules.values() if module.crate in CRATES):
         for item in (item for item in module.items.values() if item.reached in counted):
             print(f"{module.name}: {item.kind == 'module' and 'module ' or ''}{item.name}, {len(item.lines)}, {item.comment}")
-    print(*(f"{name}: {lines} lines" for name, lines in sizes.items() if lines and name.split(".")[0] in CRATES), sep="\n")
-    print(*(f"{crate}: {lines_of(crate, sizes)} lines" for crate in CRATES), sep="\n")
-    print(f"In all: {sum(lines_of(crate, sizes) for crate in CRATES)} lines.")
+    print_sums("the port", CRATES, sizes)
+    print_sums("extension crates and programs", BESIDE, sizes)
 
 
 def reached_specs():
@@ -349,12 +355,11 @@ def main():
     flags = set(sys.argv[1:])
     specs = reached_specs()
     counted = {"promise", "private"} if "--private" in flags else {"promise"}
-    sizes = {module.name: module.lines(lambda item: item.reached in counted) for module in specs.modules.values()}
+    sizes = {module.name: module.size(counted) for module in specs.modules.values() if ".specs." in f".{module.name}."}
     odd = list(odd_things(specs, counted))
-    if "--beside" in flags:
-        print(*(f"{crate}: {lines_of(crate, sizes)} lines" for crate in BESIDE), sep="\n")
-    elif "--lines" in flags:
-        print(*(f"{lines:5} {name}" for name, lines in sorted(sizes.items(), key=lambda pair: -pair[1]) if lines), sep="\n")
+    if "--lines" in flags:
+        lines = {name: size[1] for name, size in sizes.items() if size[1]}
+        print(*(f"{count:5} {name}" for name, count in sorted(lines.items(), key=lambda pair: -pair[1])), sep="\n")
     else:
         print_all(specs, counted, sizes)
     print(*odd, *specs.faults, sep="\n", end="\n" * bool(odd or specs.faults), file=sys.stderr)

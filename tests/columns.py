@@ -13,7 +13,7 @@ ROOT = Path(__file__).resolve().parent.parent
 # So many columns a line may have.
 MOST = 100
 # So many lines of definitions are longer.
-LEFT = 31
+LEFT = 6
 # The modules of specs/ with these endings hold lemmas.
 LEMMAS = ("Laws", "Steps", "Inverse")
 

@@ -20,7 +20,8 @@ attributes_behind zero (byte ∷ bytes) = let word = little_number 2 (byte ∷ b
     ∷ attributes_behind (word + fill word - 1) bytes
 
 -- no fault is in the bytes
-pub record HasNoFault {A : Type 0} (reads : Attribute → Result A DecodeError) (bytes : List ℕ) : Type 0 where
+pub record HasNoFault {A : Type 0} (reads : Attribute → Result A DecodeError) (bytes : List ℕ)
+    : Type 0 where
   pub none : (e : DecodeError) → AttributeFault reads bytes e → ⊥
 
 -- what the attributes that stand in bytes decode to, in order, but for refused ones

@@ -48,7 +48,8 @@ pub record StartsWith (bytes : List ℕ) (a : Attribute) (rest : List ℕ) : Typ
   pub padding : List ℕ
   pub parts : bytes ≡ unpadded a ++ (padding ++ rest)
   pub fits : (a.type_word < 2 ^ 16) × HasFittingValue a
-  pub filled : (length padding ≡ fill (length a.value)) ⊎ ((length padding < fill (length a.value)) × (rest ≡ []))
+  pub filled : (length padding ≡ fill (length a.value))
+      ⊎ ((length padding < fill (length a.value)) × (rest ≡ []))
 
 -- the bytes are these attributes, one after the other, and then the rest
 abbrev pub Cut : List ℕ → List Attribute → List ℕ → Type 0
@@ -58,8 +59,11 @@ Cut bytes (a ∷ later) rest = (left : List ℕ) × StartsWith bytes a left × C
 -- No attribute stands at the start of the bytes, and why. Of several faults it is the first.
 abbrev pub IsFramingFault : List ℕ → DecodeError → Type 0
 IsFramingFault bytes (AttributeHeaderCut left) = (left ≡ length bytes) × (length bytes < 4)
-IsFramingFault bytes (AttributeLengthUnder4 word) = (word ≡ little_number 2 bytes) × (4 ≤ length bytes) × (word < 4)
-IsFramingFault bytes (AttributeLengthPast word left) = (word ≡ little_number 2 bytes) × (left ≡ length bytes) × (4 ≤ length bytes) × (4 ≤ word) × (length bytes < word)
+IsFramingFault bytes (AttributeLengthUnder4 word) =
+    (word ≡ little_number 2 bytes) × (4 ≤ length bytes) × (word < 4)
+IsFramingFault bytes (AttributeLengthPast word left) =
+    (word ≡ little_number 2 bytes) × (left ≡ length bytes)
+    × (4 ≤ length bytes) × (4 ≤ word) × (length bytes < word)
 IsFramingFault bytes _ = ⊥
 
 -- attributes come first; then bytes are left, and there the fault is

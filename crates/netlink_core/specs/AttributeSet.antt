@@ -32,7 +32,9 @@ AttributeValue (spec ∷ others) = spec.value.Value ⊎ AttributeValue others
 -- what an attribute decodes to, or why it is refused
 abbrev pub decodes : (F : AttributeSet) → Attribute → Result (AttributeValue F) DecodeError
 decodes [] a = Ok a
-decodes (spec ∷ others) a = if attribute_type a == spec.number then map_ok inl (spec.value.reads tt a.value) else map_ok inr (decodes others a)
+decodes (spec ∷ others) a =
+    if attribute_type a == spec.number then map_ok inl (spec.value.reads tt a.value)
+    else map_ok inr (decodes others a)
 
 -- the attribute that is written: the type without flag bits and the value's bytes, or else the
 -- attribute itself

@@ -16,7 +16,8 @@ abbrev pub memory_spec : ℕ → ValueCodec (Unit {0}) → AttributeSpec
 memory_spec k value = record { number = k; value = value; is_spare = ⊥ }
 
 -- what is read of all bytes, each of which is live
-abbrev pub exact_value : {A : Type 0} → (List ℕ → Result A DecodeError) → (A → List ℕ) → (A → Type 0) → (A → Type 0) → ValueCodec (Unit {0})
+abbrev pub exact_value : {A : Type 0} → (List ℕ → Result A DecodeError) → (A → List ℕ)
+    → (A → Type 0) → (A → Type 0) → ValueCodec (Unit {0})
 exact_value {A} reads bytes is_in_range is_normal = record {
   Value = A;
   reads = λ p b. reads b;

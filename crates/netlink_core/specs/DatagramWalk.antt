@@ -13,5 +13,8 @@ datagram_left walk = drop walk.at walk.bytes.now
 
 -- A step gives the first message of what was left, and what follows its padding is left then. Or it
 -- gives the fault there.
-abbrev pub GivesMessage : MessageStrings → Option (Result (Bor (List ℕ)) DecodeError) → MessageStrings → Type 0
-GivesMessage old given new = Gives (λ left message later. StartsWithMessage left message.now later) IsEnvelopeFault (datagram_left old) given (datagram_left new)
+abbrev pub GivesMessage : MessageStrings → Option (Result (Bor (List ℕ)) DecodeError)
+    → MessageStrings → Type 0
+GivesMessage old given new =
+    Gives (λ left message later. StartsWithMessage left message.now later) IsEnvelopeFault
+    (datagram_left old) given (datagram_left new)

@@ -36,10 +36,12 @@ response_codec R = record {
   is_in_range = λ v. R.header.is_in_range v.header
       × AllByRecursion (IsInRangeBy R.attribute_set) v.nlas;
   -- the header's value, and one value for each attribute behind it
-  reads = λ b p v. (R.header.reads p b ≡ Ok v.header) × AttributesMean (decodes R.attribute_set) (drop R.size b) v.nlas;
+  reads = λ b p v. (R.header.reads p b ≡ Ok v.header)
+      × AttributesMean (decodes R.attribute_set) (drop R.size b) v.nlas;
   -- the header's fault, or behind a header that can be read the first fault of the attributes
   refuses = λ b p e. (R.header.reads p b ≡ Err e)
-      ⊎ ((h : R.header.Value) × (R.header.reads p b ≡ Ok h) × AttributeFault (decodes R.attribute_set) (drop R.size b) e);
+      ⊎ ((h : R.header.Value) × (R.header.reads p b ≡ Ok h)
+      × AttributeFault (decodes R.attribute_set) (drop R.size b) e);
   -- at most eight attributes, each of them kept without memory
   is_spare = λ v. (length v.nlas ≤ 8) × AllByRecursion (IsSpareBy R.attribute_set) v.nlas;
   -- the headers are idle, and what is behind both is cut into as many attributes, idle in pairs

@@ -25,8 +25,9 @@ use Rattle.netlink_packet_sock_diag.specs.declared.dump.DumpError.{DumpError}
 use Rattle.netlink_packet_sock_diag.specs.declared.dump.DumpError.TheVariants.{Ended, Fault}
 use Rattle.netlink_packet_sock_diag.specs.Dump.{AreSplit, DatagramsDump, Dump, Standing}
 use Rattle.netlink_packet_sock_diag.specs.Dump.{end_of, kept}
-use Rattle.netlink_packet_sock_diag.specs.Feed.{FeedLeaves, FeedsLeave, Interrupt, Stage}
-use Rattle.netlink_packet_sock_diag.specs.Feed.{Takes, untouched}
+use Rattle.netlink_packet_sock_diag.specs.Feed.{DumpProgress, FeedLeaves, FeedsLeave}
+use Rattle.netlink_packet_sock_diag.specs.Feed.{Interrupt, IsReading, ReadsDatagram, end_so_far}
+use Rattle.netlink_packet_sock_diag.specs.Feed.{new_dump}
 
 -- lists one after the other, as one
 abbrev pub concatenation : {A : Type 0} → List (List A) → List A
@@ -238,12 +239,14 @@ module _ {A : Type 0} (item_is : List ℕ → Item A → Type 0) where
       one_dump before (concatenation parts) a b e f (rw same at d) t
 
   -- a datagram has one dump and one flag
-  takes_once : OneList → (b : List ℕ) → IsBytes b → (old p q : Stage A) (e f : End)
-      → Takes item_is old b p e → Takes item_is old b q f → (p.0 ≡ q.0) × (e ≡ f) × (p.2 ≡ q.2)
+  takes_once : OneList → (b : List ℕ) → IsBytes b → (old p q : DumpProgress A) (e f : End)
+      → ReadsDatagram item_is old b p e → ReadsDatagram item_is old b q f
+      → (p.messages ≡ q.messages) × (e ≡ f)
+      × (p.is_interrupted ≡ q.is_interrupted)
   takes_once one b in_range old p q e f t u =
       let rows = one b in_range t.0 u.0 t.1 u.1 in
-      let ends = one_dump old.0 u.0 p.0 q.0 e f (rw rows at t.2) u.2 in
-      (ends.0, ends.1, one_flag p.2 q.2 (rw rows at t.3) u.3)
+      let ends = one_dump old.messages u.0 p.messages q.messages e f (rw rows at t.2) u.2 in
+      (ends.0, ends.1, one_flag p.is_interrupted q.is_interrupted (rw rows at t.3) u.3)
 
   -- ---- how whole messages are split into datagrams
 
@@ -350,13 +353,13 @@ module _ {A : Type 0} (item_is : List ℕ → Item A → Type 0) where
   left_reading : (end : End) → state_left end ≡ unended → end ≡ Ok unended
   left_reading end is = grind arith
 
-  feed_step : (old new : Stage A) (datagram : List ℕ) (answer : Result Unit DumpError)
-      → old.1 ≡ unended → FeedLeaves item_is old datagram new answer → answer ≢ Err (Fault Memory)
-      → (end : End) × Takes item_is old datagram new end × (new.1 ≡ state_left end)
+  feed_step : (old new : DumpProgress A) (datagram : List ℕ) (answer : Result Unit DumpError)
+      → IsReading old → FeedLeaves item_is old datagram new answer → answer ≢ Err (Fault Memory)
+      → (end : End) × ReadsDatagram item_is old datagram new end × (end_so_far new ≡ state_left end)
   feed_step old new datagram answer reading f some =
       grind arith
 
-  ended_stays : (datagrams : List (List ℕ)) (old new : Stage A) → old.1 ≢ unended
+  ended_stays : (datagrams : List (List ℕ)) (old new : DumpProgress A) → ¬ IsReading old
       → FeedsLeave item_is old datagrams new → new ≡ old
   ended_stays (datagram ∷ later) old new over (next, (Err Ended, leaves, some), more) =
       grind (arith, ended_stays later old new over)
@@ -365,13 +368,13 @@ module _ {A : Type 0} (item_is : List ℕ → Item A → Type 0) where
   -- Feeding datagrams in a row gives their dump. Where they are split, it is interrupted where all
   -- the bytes do so.
   feeds_dump : SomeItems → (datagrams : List (List ℕ)) → AllByRecursion IsBytes datagrams
-      → (old new : Stage A) → old.1 ≡ unended → FeedsLeave item_is old datagrams new
-      → (end : End) × (all : DatagramsDump item_is old.0 datagrams new.0 end)
-      × (new.1 ≡ state_left end) × (AreSplit datagrams → (IsTrue new.2
-      ↔ (IsTrue old.2 ⊎ Interrupt (concat datagrams) (concatenation all.0))))
+      → (old new : DumpProgress A) → IsReading old → FeedsLeave item_is old datagrams new
+      → (end : End) × (all : DatagramsDump item_is old.messages datagrams new.messages end)
+      × (end_so_far new ≡ state_left end) × (AreSplit datagrams → (IsTrue new.is_interrupted
+      ↔ (IsTrue old.is_interrupted ⊎ Interrupt (concat datagrams) (concatenation all.0))))
   feeds_dump some [] in_range old new reading f = rw (← f) (
     Ok unended,
-    ([], tt, (dump_is old.0 old.0 [] (Ok unended)).1 refl),
+    ([], tt, (dump_is old.messages old.messages [] (Ok unended)).1 refl),
     reading,
     λ split. grind arith,
   )
@@ -379,9 +382,9 @@ module _ {A : Type 0} (item_is : List ℕ → Item A → Type 0) where
       let one = feed_step old f.0 datagram f.1.0 reading f.1.1 f.1.2 in
       let items = one.1.0 in
       let are = one.1.1 in
-      let went = (dump_is old.0 f.0.0 items one.0).0 one.1.2 in
-      let plain = rw went at (all_plain old.0 items) in
-      elim (rw went at ((goes_on old.0 items [] _ _).0 refl)) [
+      let went = (dump_is old.messages f.0.messages items one.0).0 one.1.2 in
+      let plain = rw went at (all_plain old.messages items) in
+      elim (rw went at ((goes_on old.messages items [] _ _).0 refl)) [
         | inl on ↦
             let rest = feeds_dump some later in_range.1 f.0 new (one.2 ∙ ap state_left on.0) f.2 in
             let parts = rest.1 in (
@@ -389,7 +392,8 @@ module _ {A : Type 0} (item_is : List ℕ → Item A → Type 0) where
               (
                 items ∷ parts.0,
                 (are, parts.1),
-                joined old.0 f.0.0 new.0 one.0 rest.0 items (concatenation parts.0) one.1.2
+                joined old.messages f.0.messages new.messages one.0 rest.0 items
+                    (concatenation parts.0) one.1.2
                     (inl (on.0, parts.2)),
               ),
               rest.2,
@@ -403,7 +407,8 @@ module _ {A : Type 0} (item_is : List ℕ → Item A → Type 0) where
               (
                 items ∷ parts.0,
                 (are, parts.1),
-                joined old.0 f.0.0 f.0.0 one.0 one.0 items (concatenation parts.0) one.1.2
+                joined old.messages f.0.messages f.0.messages one.0 one.0 items
+                    (concatenation parts.0) one.1.2
                     (inr (off.0, refl, refl)),
               ),
               one.2,
@@ -433,39 +438,47 @@ module _ {A : Type 0} (item_is : List ℕ → Item A → Type 0) (some : SomeIte
     (one : OneList item_is) where
   -- feeding split datagrams leaves what the dump over all the bytes does
   pub whole_feed : (datagrams : List (List ℕ)) → AllByRecursion IsBytes datagrams
-      → AreSplit datagrams → (left : Stage A) → FeedsLeave item_is untouched datagrams left
-      → (all : (end : End) × Takes item_is untouched (concat datagrams) left end)
-      × (left.1 ≡ state_left item_is all.0)
+      → AreSplit datagrams → (left : DumpProgress A) → FeedsLeave item_is new_dump datagrams left
+      → (all : (end : End) × ReadsDatagram item_is new_dump (concat datagrams) left end)
+      × (end_so_far left ≡ state_left item_is all.0)
   unfolding dump_of_split
   whole_feed datagrams in_range split left f =
-      let a = feeds_dump item_is some datagrams in_range untouched left refl f in
-      let d = dump_of_split item_is datagrams split [] left.0 a.0 a.1 in
+      let a = feeds_dump item_is some datagrams in_range new_dump left refl f in
+      let d = dump_of_split item_is datagrams split [] left.messages a.0 a.1 in
       ((a.0, (d.0, d.1, d.2, a.3 split)), a.2)
 
   -- feeding the same bytes in split datagrams leaves the same
   pub same_feeds : (datagrams others : List (List ℕ)) → AllByRecursion IsBytes datagrams
       → AllByRecursion IsBytes others → AreSplit datagrams → AreSplit others
-      → concat datagrams ≡ concat others → (left also : Stage A)
-      → FeedsLeave item_is untouched datagrams left → FeedsLeave item_is untouched others also
+      → concat datagrams ≡ concat others → (left also : DumpProgress A)
+      → FeedsLeave item_is new_dump datagrams left → FeedsLeave item_is new_dump others also
       → left ≡ also
   same_feeds datagrams others in_range fits split cut same left also f g =
       let a = whole_feed datagrams in_range split left f in
       let b = whole_feed others fits cut also g in
-      let ends = takes_once item_is one (concat others) (bytes-concatenation others fits) untouched
+      let ends = takes_once item_is one (concat others) (bytes-concatenation others fits) new_dump
       left also a.0.0 b.0.0 (rw same at a.0.1) b.0.1 in
-      let state : left.1 ≡ also.1 = cc (a.1, b.1, ends.1) in
-      λ i. (ends.0 i, state i, ends.2 i)
+      let state : end_so_far left ≡ end_so_far also = cc (a.1, b.1, ends.1) in
+      λ i. record {
+        messages = ends.0 i;
+        state = (state i).0;
+        error_number = (state i).1;
+        is_interrupted = ends.2 i;
+      }
 
   -- feeding datagrams with the same items in a row leaves the same messages and state
   pub same_items_feeds : (datagrams others : List (List ℕ)) (xs ys : List (List (Item A)))
       → AllByRecursion IsBytes datagrams → AllByRecursion IsBytes others
       → AllZip (ItemsAre item_is) datagrams xs → AllZip (ItemsAre item_is) others ys
-      → concatenation xs ≡ concatenation ys → (left also : Stage A)
-      → FeedsLeave item_is untouched datagrams left → FeedsLeave item_is untouched others also
-      → (left.0 ≡ also.0) × (left.1 ≡ also.1)
+      → concatenation xs ≡ concatenation ys → (left also : DumpProgress A)
+      → FeedsLeave item_is new_dump datagrams left → FeedsLeave item_is new_dump others also
+      → (left.messages ≡ also.messages) × (left.state ≡ also.state)
+      × (left.error_number ≡ also.error_number)
   same_items_feeds datagrams others xs ys in_range fits each them same left also f g =
-      let a = feeds_dump item_is some datagrams in_range untouched left refl f in
-      let b = feeds_dump item_is some others fits untouched also refl g in
+      let a = feeds_dump item_is some datagrams in_range new_dump left refl f in
+      let b = feeds_dump item_is some others fits new_dump also refl g in
       let moved = same_dump item_is one datagrams others xs ys in_range each them same [] _ _ a.1 in
-      let ends = one_dumps item_is one [] others fits left.0 also.0 a.0 b.0 moved b.1 in
-      (ends.0, cc (a.2, b.2, ends.1))
+      let ends = one_dumps item_is one [] others fits left.messages also.messages a.0 b.0
+      moved b.1 in
+      let state : end_so_far left ≡ end_so_far also = cc (a.2, b.2, ends.1) in
+      (ends.0, λ i. (state i).0, λ i. (state i).1)

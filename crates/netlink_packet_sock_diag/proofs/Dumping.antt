@@ -17,7 +17,8 @@ use Rattle.netlink_core.proofs.Items.{items_by, leading_item, rest_in_range}
 use Rattle.netlink_core.proofs.Items.{fault_alone}
 use Rattle.netlink_packet_sock_diag.specs.Dump.{end_of, kept}
 use Rattle.netlink_core.proofs.Datagrams.{IsOfOwnLength}
-use Rattle.netlink_packet_sock_diag.specs.Feed.{Interrupt, Stops, Takes}
+use Rattle.netlink_packet_sock_diag.specs.Feed.{Interrupt, ReadsDatagram, ReadsUpToMemory}
+use Rattle.netlink_packet_sock_diag.specs.Feed.{dump_with}
 use Rattle.netlink_packet_sock_diag.proofs.DumpRows.{End, dump_is, first_or_later, reach}
 use Rattle.netlink_packet_sock_diag.proofs.DumpRows.{unended}
 
@@ -76,7 +77,8 @@ module _ {A : Type 0} {item_is : List ℕ → Item A → Type 0} {datagram rest 
   -- no message is left
   pub closes : (later : List (Item A)) (end : End) → ItemsAre item_is rest later
       → reach after later ≡ (after, end) → (Interrupt rest later → ⊥)
-      → Takes item_is (before, unended, was) datagram (after, unended, is) end
+      → ReadsDatagram item_is (dump_with before unended was) datagram
+      (dump_with after unended is) end
   closes later end are ends none = (
     p.passed ++ later,
     p.items later are,
@@ -85,8 +87,10 @@ module _ {A : Type 0} {item_is : List ℕ → Item A → Type 0} {datagram rest 
   )
 
   pub cut_off : {e : DecodeError} → rest ≢ [] → IsEnvelopeFault rest e
-      → (e ≢ Memory → Takes item_is (before, unended, was) datagram (after, unended, is) (Err e))
-      × (e ≡ Memory → Stops item_is (before, unended, was) datagram (after, unended, is))
+      → (e ≢ Memory → ReadsDatagram item_is (dump_with before unended was) datagram
+      (dump_with after unended is) (Err e))
+      × (e ≡ Memory → ReadsUpToMemory item_is (dump_with before unended was) datagram
+      (dump_with after unended is))
   cut_off {e} some fault = (
     λ named. closes (Err e ∷ []) (Err e) (fault_alone item_is rest e some fault) refl
         (λ (m, next, s, _). no_fault_at_message rest m next e s fault),
@@ -107,7 +111,8 @@ module _ {A : Type 0} {item_is : List ℕ → Item A → Type 0} {datagram next 
   }
 
   pub ends_at : {end : End} → SomeItem item_is → end_of item ≡ Some end
-      → Takes item_is (before, unended, was) datagram (after, unended, now) end
+      → ReadsDatagram item_is (dump_with before unended was) datagram
+      (dump_with after unended now) end
   ends_at {end} some ends =
       let later = items_by item_is some next p.in_range in (
         p.passed ++ (item ∷ later.0),
@@ -120,7 +125,7 @@ module _ {A : Type 0} {item_is : List ℕ → Item A → Type 0} {datagram next 
 pub stops_at : {A : Type 0} {item_is : List ℕ → Item A → Type 0} {datagram next : List ℕ}
     {before after : List A} {was now : Bool} {value : A} → SomeItem item_is
     → Here item_is datagram next before after was now (Ok (InnerMessage value))
-    → Stops item_is (before, unended, was) datagram (after, unended, now)
+    → ReadsUpToMemory item_is (dump_with before unended was) datagram (dump_with after unended now)
 stops_at {A} {item_is} {datagram} {next} {before} {after} {was} {now} {value} some p =
     let later = items_by item_is some next p.in_range in (
       p.passed,

@@ -8,33 +8,34 @@ use Rattle.netlink_core.specs.declared.fault.DecodeError.TheVariants.{Memory}
 use Rattle.netlink_packet_sock_diag.specs.declared.dump.DumpState.TheVariants.{Failed}
 use Rattle.netlink_packet_sock_diag.specs.declared.dump.DumpError.{DumpError}
 use Rattle.netlink_packet_sock_diag.specs.declared.dump.DumpError.TheVariants.{Ended, Fault}
-use Rattle.netlink_packet_sock_diag.specs.Feed.{FeedLeaves, FeedsLeave, Stage, untouched}
+use Rattle.netlink_packet_sock_diag.specs.Feed.{DumpProgress, FeedLeaves, FeedsLeave}
+use Rattle.netlink_packet_sock_diag.specs.Feed.{end_so_far, new_dump}
 use Rattle.netlink_packet_sock_diag.proofs.DumpRows.{unended}
 
 module _ {A : Type 0} (item_is : List ℕ → Item A → Type 0) where
   -- as the ghost field of the reader says
-  abbrev pub Fed : Stage A → Type 0
+  abbrev pub Fed : DumpProgress A → Type 0
   Fed now =
-      (datagrams : List (List ℕ)) × (before : Stage A)
-      × FeedsLeave item_is untouched datagrams before
+      (datagrams : List (List ℕ)) × (before : DumpProgress A)
+      × FeedsLeave item_is new_dump datagrams before
       × ((before ≡ now)
-      ⊎ ((now.1 ≡ (Failed, None)) × (last : List ℕ) × (answer : Result Unit DumpError)
+      ⊎ ((end_so_far now ≡ (Failed, None)) × (last : List ℕ) × (answer : Result Unit DumpError)
       × FeedLeaves item_is before last now answer))
 
   -- a datagram is fed, with memory for all
-  abbrev Feeds : Stage A → List ℕ → Stage A → Type 0
+  abbrev Feeds : DumpProgress A → List ℕ → DumpProgress A → Type 0
   Feeds old datagram new = (answer : Result Unit DumpError)
       × FeedLeaves item_is old datagram new answer × (answer ≢ Err (Fault Memory))
 
   -- a dump that is read was left so with memory for all
-  pub fed_on : (before after : Stage A) (datagram : List ℕ)
+  pub fed_on : (before after : DumpProgress A) (datagram : List ℕ)
       (answer : Result Unit DumpError) → Fed before
       → FeedLeaves item_is before datagram after answer → Fed after
   fed_on before after datagram (Err Ended) fed f = rw f.1 fed
   fed_on before after datagram (Ok done) (datagrams, old, leave, inl same) f = (
     datagrams ++ datagram ∷ [],
     after,
-    FoldsTo-push Feeds untouched datagrams before datagram after (rw same at leave)
+    FoldsTo-push Feeds new_dump datagrams before datagram after (rw same at leave)
         (Ok done, f, λ e. cc),
     inl refl,
   )

@@ -1,9 +1,28 @@
--- The model of a dump that is read: what contracts see of it.
-use Rattle.std.specs.Prelude.{map}
+-- The model of the readers of dumps: what contracts see of them.
+use Rattle.std.specs.Prelude.{List, Result, map}
+use Rattle.netlink_core.specs.Faults.{map_ok}
+use Rattle.netlink_core.specs.declared.fault.DecodeError.{DecodeError}
+use Rattle.netlink_packet_sock_diag.specs.declared.dump.DumpReader.{DumpReader}
 use Rattle.netlink_packet_sock_diag.specs.declared.dump.fed.FedDump.{FedDump}
 use Rattle.netlink_packet_sock_diag.specs.declared.dump.kept.Kept.{Ghosts}
-use Rattle.netlink_packet_sock_diag.specs.Feed.{Stage}
+use Rattle.netlink_packet_sock_diag.specs.declared.dump.lossy.LossyDump.{LossyDump}
+use Rattle.netlink_packet_sock_diag.specs.declared.message.SockDiagMessage.{SockDiagMessage}
+use Rattle.netlink_packet_sock_diag.specs.Feed.{DumpProgress, dump_with}
+use Rattle.netlink_packet_sock_diag.specs.Message.{Message}
+use Rattle.netlink_packet_sock_diag.specs.MessageModel.{message_model}
 
--- how far it is: the models of what it keeps, how it stands, and whether it is interrupted
-abbrev pub progress : {I A : Type 0} {G : Ghosts I} → (I → A) → FedDump I G → Stage A
-progress model dump = (map model dump.kept.items, dump.standing, dump.interrupted)
+-- a dump by the models of what it keeps
+abbrev pub progress : {I A : Type 0} {G : Ghosts I} → (I → A) → FedDump I G → DumpProgress A
+progress model dump = dump_with (map model dump.kept.items) dump.standing dump.interrupted
+
+-- the dump that a `DumpReader` reads
+abbrev pub reader_progress : DumpReader → DumpProgress Message
+reader_progress reader = progress message_model reader.dump
+
+-- the entries of a `LossyDump`: messages, and the errors of rejected ones
+abbrev pub lossy_entries : LossyDump → List (Result SockDiagMessage DecodeError)
+lossy_entries lossy = lossy.dump.kept.items
+
+-- the dump that a `LossyDump` reads
+abbrev pub lossy_progress : LossyDump → DumpProgress (Result Message DecodeError)
+lossy_progress lossy = progress (map_ok message_model) lossy.dump

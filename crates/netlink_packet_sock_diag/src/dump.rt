@@ -3,7 +3,7 @@
 ghost use Rattle.std.specs.Prelude.{◌≡◌, map};
 ghost use Rattle.std.proofs.Common.{rules};
 ghost use Rattle.netlink_core.specs.Items.{ItemIs};
-ghost use Rattle.netlink_packet_sock_diag.specs.Feed.{FeedLeaves, untouched};
+ghost use Rattle.netlink_packet_sock_diag.specs.Feed.{FeedLeaves, new_dump};
 ghost use Rattle.netlink_packet_sock_diag.specs.Message.{message_codec};
 ghost use Rattle.netlink_packet_sock_diag.specs.MessageModel.{message_model};
 
@@ -57,11 +57,11 @@ pub struct DumpReader {
 }
 
 impl DumpReader {
-    ghost use Rattle.netlink_packet_sock_diag.specs.DumpModel.{progress};
+    ghost use Rattle.netlink_packet_sock_diag.specs.DumpModel.{reader_progress};
 
     /// A dump of which nothing has come. The allocator is kept.
     pub fn new(alloc: Global) -> Self
-        ensures { progress message_model result.dump ≡ untouched }
+        ensures { reader_progress result ≡ new_dump }
     {
         DumpReader {
             dump: FedDump::new(alloc),
@@ -72,29 +72,29 @@ impl DumpReader {
     /// and where memory runs out, the messages in front are kept and the dump has failed. Once the
     /// dump has ended nothing changes.
     pub fn feed(&mut self, datagram: &[u8]) -> Result<(), DumpError>
-        ensures leaves { FeedLeaves (ItemIs message_codec) (progress message_model self.old.dump)
-            datagram.now (progress message_model self.new.dump) result }
+        ensures leaves { FeedLeaves (ItemIs message_codec) (reader_progress self.old) datagram.now
+            (reader_progress self.new) result }
     {
         self.dump.feed(datagram)
     }
 
     /// The messages so far.
     pub fn messages(&self) -> &[SockDiagMessage]
-        ensures { map message_model result.now ≡ (progress message_model self.now.dump).0 }
+        ensures { map message_model result.now ≡ (reader_progress self.now).messages }
     {
         self.dump.kept.as_slice()
     }
 
     /// The messages, once no more datagrams are fed.
     pub fn into_messages(self) -> Vec<SockDiagMessage>
-        ensures { map message_model result.items ≡ (progress message_model self.dump).0 }
+        ensures { map message_model result.items ≡ (reader_progress self).messages }
     {
         self.dump.kept
     }
 
     /// How far the dump is.
     pub fn state(&self) -> DumpState
-        ensures { result ≡ self.now.dump.standing.0 }
+        ensures { result ≡ (reader_progress self.now).state }
     {
         self.dump.standing.0
     }
@@ -103,7 +103,7 @@ impl DumpReader {
     /// where all went well, else `-errno` (errno(3)). `None` while it is read, and where its end
     /// tells none.
     pub fn error_number(&self) -> Option<i32>
-        ensures { result ≡ self.now.dump.standing.1 }
+        ensures { result ≡ (reader_progress self.now).error_number }
     {
         self.dump.standing.1
     }
@@ -112,7 +112,7 @@ impl DumpReader {
     /// told some twice: a message up to the end, or the end, had `NLM_F_DUMP_INTR` of netlink(7).
     /// Make the request again then.
     pub fn is_interrupted(&self) -> bool
-        ensures { result ≡ self.now.dump.interrupted }
+        ensures { result ≡ (reader_progress self.now).is_interrupted }
     {
         self.dump.interrupted
     }

@@ -25,7 +25,8 @@ ghost use Rattle.netlink_packet_sock_diag.specs.contracts.coded.SockDiagDestroyC
 ghost use Rattle.netlink_packet_sock_diag.specs.contracts.coded.SockDiagMessageCoded.TheImpl.{ghosts as messages};
 ghost use Rattle.netlink_packet_sock_diag.specs.declared.message.SockDiagDestroy.{SockDiagDestroy};
 ghost use Rattle.netlink_packet_sock_diag.specs.Dump.{AreSplit, DatagramsDump, Dump, Standing};
-ghost use Rattle.netlink_packet_sock_diag.specs.Feed.{FeedsLeave, Stage, Takes, untouched};
+ghost use Rattle.netlink_packet_sock_diag.specs.Feed.{DumpProgress, FeedsLeave, ReadsDatagram};
+ghost use Rattle.netlink_packet_sock_diag.specs.Feed.{new_dump};
 ghost use Rattle.netlink_packet_sock_diag.specs.declared.dump.DumpState.TheVariants.{Reading};
 ghost use Rattle.netlink_packet_sock_diag.specs.declared.dump.views.DumpViews.{DumpViews};
 ghost use Rattle.netlink_packet_sock_diag.specs.PayloadViewModel.{PayloadView};
@@ -234,13 +235,14 @@ pub fn split_changes_no_feed()
     ensures same { (datagrams others : List (List ℕ)) → AllByRecursion IsBytes datagrams
         → AllByRecursion IsBytes others
         → AreSplit datagrams → AreSplit others → concat datagrams ≡ concat others
-        → (left also : Stage Message) → FeedsLeave (ItemIs message_codec) untouched datagrams left
-        → FeedsLeave (ItemIs message_codec) untouched others also → left ≡ also }
+        → (left also : DumpProgress Message)
+        → FeedsLeave (ItemIs message_codec) new_dump datagrams left
+        → FeedsLeave (ItemIs message_codec) new_dump others also → left ≡ also }
     ensures whole { (datagrams : List (List ℕ)) → AllByRecursion IsBytes datagrams
         → AreSplit datagrams
-        → (left : Stage Message) → FeedsLeave (ItemIs message_codec) untouched datagrams left
+        → (left : DumpProgress Message) → FeedsLeave (ItemIs message_codec) new_dump datagrams left
         → (end : Result Standing DecodeError)
-        × Takes (ItemIs message_codec) untouched (concat datagrams) left end }
+        × ReadsDatagram (ItemIs message_codec) new_dump (concat datagrams) left end }
 {}
 
 /// Nor does it where datagrams have the same items in a row, as where one of them lacks the padding
@@ -253,9 +255,11 @@ pub fn same_items_change_no_feed()
         → AllZip (ItemsAre (ItemIs message_codec)) datagrams xs
         → AllZip (ItemsAre (ItemIs message_codec)) others ys
         → flat_map (λ one. one) xs ≡ flat_map (λ one. one) ys
-        → (left also : Stage Message) → FeedsLeave (ItemIs message_codec) untouched datagrams left
-        → FeedsLeave (ItemIs message_codec) untouched others also
-        → (left.0 ≡ also.0) × (left.1 ≡ also.1) }
+        → (left also : DumpProgress Message)
+        → FeedsLeave (ItemIs message_codec) new_dump datagrams left
+        → FeedsLeave (ItemIs message_codec) new_dump others also
+        → (left.messages ≡ also.messages) × (left.state ≡ also.state)
+        × (left.error_number ≡ also.error_number) }
 {}
 
 /// What feeding a `LossyDump` leaves does not depend on the split either: the same bytes, fed to
@@ -265,15 +269,15 @@ pub fn split_changes_no_lossy_feed()
     ensures same { (datagrams others : List (List ℕ)) → AllByRecursion IsBytes datagrams
         → AllByRecursion IsBytes others
         → AreSplit datagrams → AreSplit others → concat datagrams ≡ concat others
-        → (left also : Stage (Result Message DecodeError))
-        → FeedsLeave (EntryIs message_codec) untouched datagrams left
-        → FeedsLeave (EntryIs message_codec) untouched others also → left ≡ also }
+        → (left also : DumpProgress (Result Message DecodeError))
+        → FeedsLeave (EntryIs message_codec) new_dump datagrams left
+        → FeedsLeave (EntryIs message_codec) new_dump others also → left ≡ also }
     ensures whole { (datagrams : List (List ℕ)) → AllByRecursion IsBytes datagrams
         → AreSplit datagrams
-        → (left : Stage (Result Message DecodeError))
-        → FeedsLeave (EntryIs message_codec) untouched datagrams left
+        → (left : DumpProgress (Result Message DecodeError))
+        → FeedsLeave (EntryIs message_codec) new_dump datagrams left
         → (end : Result Standing DecodeError)
-        × Takes (EntryIs message_codec) untouched (concat datagrams) left end }
+        × ReadsDatagram (EntryIs message_codec) new_dump (concat datagrams) left end }
 {}
 
 /// Nor does it where datagrams have the same items in a row: fed to two new `LossyDump`s, and with
@@ -285,10 +289,11 @@ pub fn same_items_change_no_lossy_feed()
         → AllZip (ItemsAre (EntryIs message_codec)) datagrams xs
         → AllZip (ItemsAre (EntryIs message_codec)) others ys
         → flat_map (λ one. one) xs ≡ flat_map (λ one. one) ys
-        → (left also : Stage (Result Message DecodeError))
-        → FeedsLeave (EntryIs message_codec) untouched datagrams left
-        → FeedsLeave (EntryIs message_codec) untouched others also
-        → (left.0 ≡ also.0) × (left.1 ≡ also.1) }
+        → (left also : DumpProgress (Result Message DecodeError))
+        → FeedsLeave (EntryIs message_codec) new_dump datagrams left
+        → FeedsLeave (EntryIs message_codec) new_dump others also
+        → (left.messages ≡ also.messages) × (left.state ≡ also.state)
+        × (left.error_number ≡ also.error_number) }
 {}
 
 /// Of a datagram without a fault a `LossyDump` keeps what a [`DumpReader`](crate::DumpReader) does,

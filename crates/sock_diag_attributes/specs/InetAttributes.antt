@@ -1,4 +1,5 @@
--- The attributes of replies about IPv4 and IPv6 sockets: one line for each type.
+-- The attributes of replies about IPv4 and IPv6 sockets (`enum` of INET_DIAG_.. in
+-- linux/inet_diag.h): one line for each type that is decoded, with the codec of its value.
 use Rattle.std.specs.Prelude.{[], ◌∷◌}
 use Rattle.netlink_core.specs.AttributeSet.{AttributeSet}
 use Rattle.netlink_core.specs.ValueCodec.{value_codec}
@@ -8,12 +9,29 @@ use Rattle.sock_diag_values.specs.MemInfo.{mem_info}
 use Rattle.sock_diag_values.specs.TcpInfo.{tcp_info}
 use Rattle.sock_diag_attributes.specs.Text.{text_value}
 use Rattle.sock_diag_attributes.specs.Flag.{flag_value}
+use Rattle.sock_diag_records.specs.declared.constants.TheConstants.{INET_DIAG_MEMINFO}
+use Rattle.sock_diag_records.specs.declared.constants.TheConstants.{INET_DIAG_INFO, INET_DIAG_CONG}
+use Rattle.sock_diag_records.specs.declared.constants.TheConstants.{INET_DIAG_TOS, INET_DIAG_TCLASS}
+use Rattle.sock_diag_records.specs.declared.constants.TheConstants.{INET_DIAG_SKMEMINFO}
+use Rattle.sock_diag_records.specs.declared.constants.TheConstants.{INET_DIAG_SHUTDOWN}
+use Rattle.sock_diag_records.specs.declared.constants.TheConstants.{INET_DIAG_PROTOCOL}
+use Rattle.sock_diag_records.specs.declared.constants.TheConstants.{INET_DIAG_SKV6ONLY}
+use Rattle.sock_diag_records.specs.declared.constants.TheConstants.{INET_DIAG_MARK}
+use Rattle.sock_diag_records.specs.declared.constants.TheConstants.{INET_DIAG_CLASS_ID}
 
--- the memory as older kernels tell it, the TCP connection, the congestion control algorithm, the
+-- memory in the format of old kernels, the TCP connection, the congestion control algorithm, the
 -- type of service, the traffic class, the memory, the directions that are shut down, the protocol,
--- whether for IPv6 alone, mark and class
+-- whether the socket is for IPv6 only, the mark, and the class
 abbrev pub inet : AttributeSet
 inet =
-    spec 1 (value_codec legacy_mem_info) ∷ spec 2 (value_codec tcp_info) ∷ memory_spec 4 text_value
-    ∷ number_spec 5 1 ∷ number_spec 6 1 ∷ spec 7 (value_codec mem_info) ∷ number_spec 8 1
-    ∷ number_spec 10 1 ∷ spec 11 (flag_value 11) ∷ number_spec 15 4 ∷ number_spec 17 4 ∷ []
+    spec INET_DIAG_MEMINFO (value_codec legacy_mem_info) ∷
+    spec INET_DIAG_INFO (value_codec tcp_info) ∷
+    memory_spec INET_DIAG_CONG text_value ∷
+    number_spec INET_DIAG_TOS 1 ∷
+    number_spec INET_DIAG_TCLASS 1 ∷
+    spec INET_DIAG_SKMEMINFO (value_codec mem_info) ∷
+    number_spec INET_DIAG_SHUTDOWN 1 ∷
+    number_spec INET_DIAG_PROTOCOL 1 ∷
+    spec INET_DIAG_SKV6ONLY (flag_value INET_DIAG_SKV6ONLY) ∷
+    number_spec INET_DIAG_MARK 4 ∷
+    number_spec INET_DIAG_CLASS_ID 4 ∷ []

@@ -11,23 +11,34 @@ use Rattle.netlink_core.specs.Walk.{attribute_of}
 use Rattle.sock_diag_attributes.specs.declared.inet.nlas.InetNla.{InetNla}
 use Rattle.sock_diag_attributes.specs.declared.inet.nlas.InetNla.TheVariants as nla
 use Rattle.sock_diag_attributes.specs.InetAttributes.{inet}
+use Rattle.sock_diag_records.specs.declared.constants.TheConstants.{INET_DIAG_MEMINFO}
+use Rattle.sock_diag_records.specs.declared.constants.TheConstants.{INET_DIAG_INFO}
+use Rattle.sock_diag_records.specs.declared.constants.TheConstants.{INET_DIAG_CONG}
+use Rattle.sock_diag_records.specs.declared.constants.TheConstants.{INET_DIAG_TOS}
+use Rattle.sock_diag_records.specs.declared.constants.TheConstants.{INET_DIAG_TCLASS}
+use Rattle.sock_diag_records.specs.declared.constants.TheConstants.{INET_DIAG_SKMEMINFO}
+use Rattle.sock_diag_records.specs.declared.constants.TheConstants.{INET_DIAG_SHUTDOWN}
+use Rattle.sock_diag_records.specs.declared.constants.TheConstants.{INET_DIAG_PROTOCOL}
+use Rattle.sock_diag_records.specs.declared.constants.TheConstants.{INET_DIAG_SKV6ONLY}
+use Rattle.sock_diag_records.specs.declared.constants.TheConstants.{INET_DIAG_MARK}
+use Rattle.sock_diag_records.specs.declared.constants.TheConstants.{INET_DIAG_CLASS_ID}
 
 -- over what a text and an attribute of another type lend
 module _ {T O : Type 0} (text : T → List ℕ) (other : O → Attribute) where
   -- the same value; texts by their bytes, records as they are; 0xffff is the number of no type in
   -- the set
   abbrev pub model : InetNla T O → AttributeValue inet
-  model (nla.LegacyMemInfo m) = of_type inet 1 m
-  model (nla.TcpInfo t) = of_type inet 2 t
-  model (nla.Congestion t) = of_type inet 4 (text t)
-  model (nla.Tos n) = of_type inet 5 n
-  model (nla.Tc n) = of_type inet 6 n
-  model (nla.MemInfo m) = of_type inet 7 m
-  model (nla.Shutdown n) = of_type inet 8 n
-  model (nla.Protocol n) = of_type inet 10 n
-  model (nla.SkV6Only flag) = of_type inet 11 flag
-  model (nla.Mark n) = of_type inet 15 n
-  model (nla.ClassId n) = of_type inet 17 n
+  model (nla.LegacyMemInfo m) = of_type inet INET_DIAG_MEMINFO m
+  model (nla.TcpInfo t) = of_type inet INET_DIAG_INFO t
+  model (nla.Congestion t) = of_type inet INET_DIAG_CONG (text t)
+  model (nla.Tos n) = of_type inet INET_DIAG_TOS n
+  model (nla.Tc n) = of_type inet INET_DIAG_TCLASS n
+  model (nla.MemInfo m) = of_type inet INET_DIAG_SKMEMINFO m
+  model (nla.Shutdown n) = of_type inet INET_DIAG_SHUTDOWN n
+  model (nla.Protocol n) = of_type inet INET_DIAG_PROTOCOL n
+  model (nla.SkV6Only flag) = of_type inet INET_DIAG_SKV6ONLY flag
+  model (nla.Mark n) = of_type inet INET_DIAG_MARK n
+  model (nla.ClassId n) = of_type inet INET_DIAG_CLASS_ID n
   model (nla.Other a) = of_type inet 0xffff (other a)
 
 -- that of one with memory of its own

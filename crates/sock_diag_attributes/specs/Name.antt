@@ -37,4 +37,7 @@ name_value = exact_value read_name name_bytes (λ name. IsBytes (name_bytes name
 
 -- a name by itself, which takes memory
 abbrev pub name_codec : Codec (Unit {0})
-name_codec = record (as_codec name_value) { is_spare = λ v. ⊥; fits = λ v. length (name_bytes v) ≤ 4294967295 }
+name_codec = record (as_codec name_value) {
+  is_spare = λ v. ⊥;
+  fits = λ v. length (name_bytes v) ≤ 4294967295;
+}

@@ -1,4 +1,5 @@
--- The attributes of replies about UNIX sockets: one line for each type.
+-- The attributes of replies about UNIX sockets (`enum` of UNIX_DIAG_.. in linux/unix_diag.h): one
+-- line for each type, with the codec of its value.
 use Rattle.std.specs.Prelude.{[], ◌∷◌}
 use Rattle.netlink_core.specs.AttributeSet.{AttributeSet}
 use Rattle.netlink_core.specs.ValueCodec.{value_codec}
@@ -7,10 +8,20 @@ use Rattle.sock_diag_values.specs.Vfs.{vfs}
 use Rattle.sock_diag_values.specs.UnixMemInfo.{unix_mem_info}
 use Rattle.sock_diag_attributes.specs.Name.{name_value}
 use Rattle.sock_diag_attributes.specs.Numbers.{two_value, numbers_value}
+use Rattle.sock_diag_records.specs.declared.constants.TheConstants.{UNIX_DIAG_NAME, UNIX_DIAG_VFS}
+use Rattle.sock_diag_records.specs.declared.constants.TheConstants.{UNIX_DIAG_PEER, UNIX_DIAG_ICONS}
+use Rattle.sock_diag_records.specs.declared.constants.TheConstants.{UNIX_DIAG_RQLEN}
+use Rattle.sock_diag_records.specs.declared.constants.TheConstants.{UNIX_DIAG_MEMINFO}
+use Rattle.sock_diag_records.specs.declared.constants.TheConstants.{UNIX_DIAG_SHUTDOWN}
 
--- the name, the file, the peer, the pending connections, the lengths of the queues, the memory, and
--- the directions that are shut down
+-- the name, the file, the peer, the pending connections, the queue lengths, the memory, and the
+-- directions that are shut down
 abbrev pub unix : AttributeSet
-unix = memory_spec 0 name_value ∷ spec 1 (value_codec vfs) ∷ number_spec 2 4
-    ∷ memory_spec 3 numbers_value ∷ spec 4 (two_value 4) ∷ spec 5 (value_codec unix_mem_info)
-    ∷ number_spec 6 1 ∷ []
+unix =
+    memory_spec UNIX_DIAG_NAME name_value ∷
+    spec UNIX_DIAG_VFS (value_codec vfs) ∷
+    number_spec UNIX_DIAG_PEER 4 ∷
+    memory_spec UNIX_DIAG_ICONS numbers_value ∷
+    spec UNIX_DIAG_RQLEN (two_value UNIX_DIAG_RQLEN) ∷
+    spec UNIX_DIAG_MEMINFO (value_codec unix_mem_info) ∷
+    number_spec UNIX_DIAG_SHUTDOWN 1 ∷ []

@@ -15,25 +15,35 @@ use Rattle.sock_diag_attributes.specs.declared.unix.nlas.UnixNla.TheVariants as 
 use Rattle.sock_diag_attributes.specs.NameModel.{name_of}
 use Rattle.sock_diag_attributes.specs.NumbersModel.{numbers_view_model}
 use Rattle.sock_diag_attributes.specs.UnixAttributes.{unix}
+use Rattle.sock_diag_records.specs.declared.constants.TheConstants.{UNIX_DIAG_NAME}
+use Rattle.sock_diag_records.specs.declared.constants.TheConstants.{UNIX_DIAG_VFS}
+use Rattle.sock_diag_records.specs.declared.constants.TheConstants.{UNIX_DIAG_PEER}
+use Rattle.sock_diag_records.specs.declared.constants.TheConstants.{UNIX_DIAG_ICONS}
+use Rattle.sock_diag_records.specs.declared.constants.TheConstants.{UNIX_DIAG_RQLEN}
+use Rattle.sock_diag_records.specs.declared.constants.TheConstants.{UNIX_DIAG_MEMINFO}
+use Rattle.sock_diag_records.specs.declared.constants.TheConstants.{UNIX_DIAG_SHUTDOWN}
 
 -- over what a name, a list and an attribute of another type lend
-module _ {N L O : Type 0} (name : N → SocketName (List ℕ)) (list : L → List ℕ) (other : O → Attribute) where
+module _ {N L O : Type 0} (name : N → SocketName (List ℕ)) (list : L → List ℕ)
+    (other : O → Attribute) where
   -- the same value; lists by their elements, records as they are; 0xffff is the number of no type
   -- in the set
   abbrev pub model : UnixNla N L O → AttributeValue unix
-  model (nla.Name n) = of_type unix 0 (name n)
-  model (nla.Vfs v) = of_type unix 1 v
-  model (nla.Peer n) = of_type unix 2 n
-  model (nla.PendingConnections ns) = of_type unix 3 (list ns)
-  model (nla.ReceiveQueueLength first second) = of_type unix 4 (first, second)
-  model (nla.MemInfo m) = of_type unix 5 m
-  model (nla.Shutdown n) = of_type unix 6 n
+  model (nla.Name n) = of_type unix UNIX_DIAG_NAME (name n)
+  model (nla.Vfs v) = of_type unix UNIX_DIAG_VFS v
+  model (nla.Peer n) = of_type unix UNIX_DIAG_PEER n
+  model (nla.PendingConnections ns) = of_type unix UNIX_DIAG_ICONS (list ns)
+  model (nla.ReceiveQueueLength first second) = of_type unix UNIX_DIAG_RQLEN (first, second)
+  model (nla.MemInfo m) = of_type unix UNIX_DIAG_MEMINFO m
+  model (nla.Shutdown n) = of_type unix UNIX_DIAG_SHUTDOWN n
   model (nla.Other a) = of_type unix 0xffff (other a)
 
 -- that of one with memory of its own
-abbrev pub nla_model : UnixNla (SocketName (Vec ℕ Global)) (Vec ℕ Global) DefaultNla → AttributeValue unix
+abbrev pub nla_model : UnixNla (SocketName (Vec ℕ Global)) (Vec ℕ Global) DefaultNla
+    → AttributeValue unix
 nla_model a = model (name_of vec_items) vec_items kept_attribute a
 
 -- that of one that is read in place
-abbrev pub nla_view_model : UnixNla (SocketName (Bor (List ℕ))) NumbersView NlaBuffer → AttributeValue unix
+abbrev pub nla_view_model : UnixNla (SocketName (Bor (List ℕ))) NumbersView NlaBuffer
+    → AttributeValue unix
 nla_view_model a = model (name_of (λ (b : Bor (List ℕ)). b.now)) numbers_view_model attribute_of a

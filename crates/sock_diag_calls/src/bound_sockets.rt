@@ -5,6 +5,7 @@ ghost use Rattle.netlink_core.specs.AttributeSet.{content};
 ghost use Rattle.netlink_core.specs.Response.{response_codec, ValueOf};
 ghost use Rattle.sock_diag_attributes.specs.declared.unix.name.SocketName.TheVariants.{Pathname};
 ghost use Rattle.sock_diag_attributes.specs.UnixAttributes.{unix};
+ghost use Rattle.sock_diag_records.specs.declared.constants.TheConstants.{UNIX_DIAG_NAME};
 ghost use Rattle.sock_diag_replies.specs.UnixGetters.{first_of};
 ghost use Rattle.sock_diag_replies.specs.UnixResponseSpec.{unix_response_spec};
 
@@ -17,7 +18,8 @@ pub fn is_bound_to(reply: &[u8], path: &[u8]) -> Result<bool, DecodeError>
     ensures value { IfOk result (λ bound.
         (v : ValueOf unix_response_spec) × (response_codec unix_response_spec).reads reply.now
         tt v
-        × (IsTrue bound ↔ (first_of (content unix 0) v.nlas ≡ Some (Pathname path.now)))) }
+        × (IsTrue bound
+        ↔ (first_of (content unix UNIX_DIAG_NAME) v.nlas ≡ Some (Pathname path.now)))) }
     ensures fault { IfErr result ((response_codec unix_response_spec).refuses reply.now tt) }
 {
     let view = UnixResponseView::parse(reply)?;

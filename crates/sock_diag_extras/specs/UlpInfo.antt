@@ -1,6 +1,20 @@
--- The rows of what stands on TCP, by linux/tls.h and linux/mptcp.h: of each number the kind of its
--- attribute, and how many bytes it has.
+-- The fields of the upper-layer protocols of a TCP socket, by linux/tls.h and linux/mptcp.h: for
+-- each its attribute type, and its width in bytes.
 use Rattle.std.specs.Prelude.{ℕ}
+use Rattle.sock_diag_extras.specs.declared.constants.TheConstants.{TLS_INFO_VERSION}
+use Rattle.sock_diag_extras.specs.declared.constants.TheConstants.{TLS_INFO_CIPHER}
+use Rattle.sock_diag_extras.specs.declared.constants.TheConstants.{TLS_INFO_TXCONF}
+use Rattle.sock_diag_extras.specs.declared.constants.TheConstants.{TLS_INFO_RXCONF}
+use Rattle.sock_diag_extras.specs.declared.constants.TheConstants.{MPTCP_SUBFLOW_ATTR_TOKEN_REM}
+use Rattle.sock_diag_extras.specs.declared.constants.TheConstants.{MPTCP_SUBFLOW_ATTR_TOKEN_LOC}
+use Rattle.sock_diag_extras.specs.declared.constants.TheConstants.{MPTCP_SUBFLOW_ATTR_RELWRITE_SEQ}
+use Rattle.sock_diag_extras.specs.declared.constants.TheConstants.{MPTCP_SUBFLOW_ATTR_MAP_SEQ}
+use Rattle.sock_diag_extras.specs.declared.constants.TheConstants.{MPTCP_SUBFLOW_ATTR_MAP_SFSEQ}
+use Rattle.sock_diag_extras.specs.declared.constants.TheConstants.{MPTCP_SUBFLOW_ATTR_SSN_OFFSET}
+use Rattle.sock_diag_extras.specs.declared.constants.TheConstants.{MPTCP_SUBFLOW_ATTR_MAP_DATALEN}
+use Rattle.sock_diag_extras.specs.declared.constants.TheConstants.{MPTCP_SUBFLOW_ATTR_FLAGS}
+use Rattle.sock_diag_extras.specs.declared.constants.TheConstants.{MPTCP_SUBFLOW_ATTR_ID_REM}
+use Rattle.sock_diag_extras.specs.declared.constants.TheConstants.{MPTCP_SUBFLOW_ATTR_ID_LOC}
 use Rattle.sock_diag_extras.specs.declared.ulp_info.SubflowField.{SubflowField}
 use Rattle.sock_diag_extras.specs.declared.ulp_info.SubflowField.TheVariants as subflow
 use Rattle.sock_diag_extras.specs.declared.ulp_info.TlsField.{TlsField}
@@ -8,20 +22,20 @@ use Rattle.sock_diag_extras.specs.declared.ulp_info.TlsField.TheVariants as tls
 
 -- TLS_INFO_..
 abbrev pub tls_row : TlsField → ℕ × ℕ
-tls_row tls.Version = (1, 2)
-tls_row tls.Cipher = (2, 2)
-tls_row tls.Sending = (3, 2)
-tls_row tls.Receiving = (4, 2)
+tls_row tls.Version = (TLS_INFO_VERSION, 2)
+tls_row tls.Cipher = (TLS_INFO_CIPHER, 2)
+tls_row tls.Sending = (TLS_INFO_TXCONF, 2)
+tls_row tls.Receiving = (TLS_INFO_RXCONF, 2)
 
 -- MPTCP_SUBFLOW_ATTR_..
 abbrev pub subflow_row : SubflowField → ℕ × ℕ
-subflow_row subflow.RemoteToken = (1, 4)
-subflow_row subflow.LocalToken = (2, 4)
-subflow_row subflow.RelativeWriteSequence = (3, 4)
-subflow_row subflow.MapSequence = (4, 8)
-subflow_row subflow.MapSubflowSequence = (5, 4)
-subflow_row subflow.SequenceOffset = (6, 4)
-subflow_row subflow.MapLength = (7, 2)
-subflow_row subflow.Flags = (8, 4)
-subflow_row subflow.RemoteId = (9, 1)
-subflow_row subflow.LocalId = (10, 1)
+subflow_row subflow.RemoteToken = (MPTCP_SUBFLOW_ATTR_TOKEN_REM, 4)
+subflow_row subflow.LocalToken = (MPTCP_SUBFLOW_ATTR_TOKEN_LOC, 4)
+subflow_row subflow.RelativeWriteSequence = (MPTCP_SUBFLOW_ATTR_RELWRITE_SEQ, 4)
+subflow_row subflow.MapSequence = (MPTCP_SUBFLOW_ATTR_MAP_SEQ, 8)
+subflow_row subflow.MapSubflowSequence = (MPTCP_SUBFLOW_ATTR_MAP_SFSEQ, 4)
+subflow_row subflow.SequenceOffset = (MPTCP_SUBFLOW_ATTR_SSN_OFFSET, 4)
+subflow_row subflow.MapLength = (MPTCP_SUBFLOW_ATTR_MAP_DATALEN, 2)
+subflow_row subflow.Flags = (MPTCP_SUBFLOW_ATTR_FLAGS, 4)
+subflow_row subflow.RemoteId = (MPTCP_SUBFLOW_ATTR_ID_REM, 1)
+subflow_row subflow.LocalId = (MPTCP_SUBFLOW_ATTR_ID_LOC, 1)

@@ -132,7 +132,7 @@ impl<'a> AckAttributes<'a> {
     /// What went wrong, or a warning, `NLMSGERR_ATTR_MSG`. What is not UTF-8 is `NotUtf8`.
     pub fn message(&self) -> Result<Option<&'a str>, DecodeError>
         ensures { map_ok (option_map (λ text. text.now)) result
-            ≡ within text_in (first_in 1 self.now.0.bytes.now) }
+            ≡ within text_in (first_in NLMSGERR_ATTR_MSG self.now.0.bytes.now) }
     {
         self.0.text_of(NLMSGERR_ATTR_MSG)
     }
@@ -140,21 +140,24 @@ impl<'a> AckAttributes<'a> {
     /// Where the attribute at fault stands, counted from the first byte of the request's header,
     /// `NLMSGERR_ATTR_OFFS`. Other than four bytes are `WrongLength`.
     pub fn offset(&self) -> Result<Option<u32>, DecodeError>
-        ensures { result ≡ within (exact_number None 4) (first_in 2 self.now.0.bytes.now) }
+        ensures { result
+            ≡ within (exact_number None 4) (first_in NLMSGERR_ATTR_OFFS self.now.0.bytes.now) }
     {
         self.0.word_of(NLMSGERR_ATTR_OFFS)
     }
 
     /// What the part of the kernel has to say, `NLMSGERR_ATTR_COOKIE`.
     pub fn cookie(&self) -> Option<&'a [u8]>
-        ensures { option_map (λ value. value.now) result ≡ first_in 3 self.now.0.bytes.now }
+        ensures { option_map (λ value. value.now) result
+            ≡ first_in NLMSGERR_ATTR_COOKIE self.now.0.bytes.now }
     {
         self.0.value_of(NLMSGERR_ATTR_COOKIE)
     }
 
     /// What the attribute at fault may be, as attributes, `NLMSGERR_ATTR_POLICY`.
     pub fn policy(&self) -> Option<&'a [u8]>
-        ensures { option_map (λ value. value.now) result ≡ first_in 4 self.now.0.bytes.now }
+        ensures { option_map (λ value. value.now) result
+            ≡ first_in NLMSGERR_ATTR_POLICY self.now.0.bytes.now }
     {
         self.0.value_of(NLMSGERR_ATTR_POLICY)
     }
@@ -162,7 +165,8 @@ impl<'a> AckAttributes<'a> {
     /// The kind of the attribute that is missing, `NLMSGERR_ATTR_MISS_TYPE`. Other than four bytes
     /// are `WrongLength`.
     pub fn missing_kind(&self) -> Result<Option<u32>, DecodeError>
-        ensures { result ≡ within (exact_number None 4) (first_in 5 self.now.0.bytes.now) }
+        ensures { result
+            ≡ within (exact_number None 4) (first_in NLMSGERR_ATTR_MISS_TYPE self.now.0.bytes.now) }
     {
         self.0.word_of(NLMSGERR_ATTR_MISS_TYPE)
     }
@@ -171,7 +175,8 @@ impl<'a> AckAttributes<'a> {
     /// `NLMSGERR_ATTR_MISS_NEST`. There is none where it is missing in the message itself. Other
     /// than four bytes are `WrongLength`.
     pub fn missing_nest(&self) -> Result<Option<u32>, DecodeError>
-        ensures { result ≡ within (exact_number None 4) (first_in 6 self.now.0.bytes.now) }
+        ensures { result
+            ≡ within (exact_number None 4) (first_in NLMSGERR_ATTR_MISS_NEST self.now.0.bytes.now) }
     {
         self.0.word_of(NLMSGERR_ATTR_MISS_NEST)
     }

@@ -26,9 +26,10 @@ impl<'a> BpfStorage<'a> {
     pub fn parse(nla: &NlaBuffer<'a>) -> Result<Option<BpfStorage<'a>>, DecodeError>
         ensures kept { IfOk result (λ found. MatchOption found
             (attribute_type (attribute_of nla.now) ≢ 1)
-            (λ storage. (attribute_type (attribute_of nla.now) ≡ 1)
+            (λ storage. (attribute_type (attribute_of nla.now) ≡ SK_DIAG_BPF_STORAGE)
             × (storage.0.bytes.now ≡ (attribute_of nla.now).value))) }
-        ensures fault { IfErr result (λ e. (attribute_type (attribute_of nla.now) ≡ 1)
+        ensures fault { IfErr result (λ e.
+            (attribute_type (attribute_of nla.now) ≡ SK_DIAG_BPF_STORAGE)
             × AttributeFault (decodes []) (attribute_of nla.now).value e) }
     {
         if nla.kind() != SK_DIAG_BPF_STORAGE {
@@ -40,14 +41,17 @@ impl<'a> BpfStorage<'a> {
     /// The number of the map, `SK_DIAG_BPF_STORAGE_MAP_ID`. Other than four bytes are
     /// `WrongLength`.
     pub fn map_id(&self) -> Result<Option<u32>, DecodeError>
-        ensures { result ≡ within (exact_number None 4) (first_in 2 self.now.0.bytes.now) }
+        ensures { result
+            ≡ within (exact_number None 4)
+            (first_in SK_DIAG_BPF_STORAGE_MAP_ID self.now.0.bytes.now) }
     {
         self.0.word_of(SK_DIAG_BPF_STORAGE_MAP_ID)
     }
 
     /// The value in the map, `SK_DIAG_BPF_STORAGE_MAP_VALUE`.
     pub fn map_value(&self) -> Option<&'a [u8]>
-        ensures { option_map (λ value. value.now) result ≡ first_in 3 self.now.0.bytes.now }
+        ensures { option_map (λ value. value.now) result
+            ≡ first_in SK_DIAG_BPF_STORAGE_MAP_VALUE self.now.0.bytes.now }
     {
         self.0.value_of(SK_DIAG_BPF_STORAGE_MAP_VALUE)
     }

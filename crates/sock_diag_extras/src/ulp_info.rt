@@ -36,7 +36,7 @@ impl<'a> UlpInfo<'a> {
     /// The name, as `tls` or `mptcp`, `INET_ULP_INFO_NAME`. What is not UTF-8 is `NotUtf8`.
     pub fn name(&self) -> Result<Option<&'a str>, DecodeError>
         ensures { map_ok (option_map (λ text. text.now)) result
-            ≡ within text_in (first_in 1 self.now.0.bytes.now) }
+            ≡ within text_in (first_in INET_ULP_INFO_NAME self.now.0.bytes.now) }
     {
         self.0.text_of(INET_ULP_INFO_NAME)
     }
@@ -45,8 +45,8 @@ impl<'a> UlpInfo<'a> {
     /// it.
     pub fn tls(&self) -> Result<Option<TlsInfo<'a>>, DecodeError>
         ensures kept { IfOk result (λ found. option_map (λ tls. tls.0.bytes.now) found
-            ≡ first_in 2 self.now.0.bytes.now) }
-        ensures fault { IfErr result (λ e. IfSome (first_in 2 self.now.0.bytes.now)
+            ≡ first_in INET_ULP_INFO_TLS self.now.0.bytes.now) }
+        ensures fault { IfErr result (λ e. IfSome (first_in INET_ULP_INFO_TLS self.now.0.bytes.now)
             (λ value. AttributeFault (decodes []) value e)) }
     {
         match self.0.nested_of(INET_ULP_INFO_TLS)? {
@@ -59,8 +59,9 @@ impl<'a> UlpInfo<'a> {
     /// framing refuses it.
     pub fn mptcp(&self) -> Result<Option<SubflowInfo<'a>>, DecodeError>
         ensures kept { IfOk result (λ found. option_map (λ subflow. subflow.0.bytes.now) found
-            ≡ first_in 3 self.now.0.bytes.now) }
-        ensures fault { IfErr result (λ e. IfSome (first_in 3 self.now.0.bytes.now)
+            ≡ first_in INET_ULP_INFO_MPTCP self.now.0.bytes.now) }
+        ensures fault { IfErr result (λ e.
+            IfSome (first_in INET_ULP_INFO_MPTCP self.now.0.bytes.now)
             (λ value. AttributeFault (decodes []) value e)) }
     {
         match self.0.nested_of(INET_ULP_INFO_MPTCP)? {
@@ -117,14 +118,14 @@ impl TlsInfo<'_> {
 
     /// Whether files are sent without a copy, `TLS_INFO_ZC_RO_TX`.
     pub fn sends_without_copy(&self) -> bool
-        ensures { IsTrue result ↔ IsSome (first_in 5 self.now.0.bytes.now) }
+        ensures { IsTrue result ↔ IsSome (first_in TLS_INFO_ZC_RO_TX self.now.0.bytes.now) }
     {
         self.0.value_of(TLS_INFO_ZC_RO_TX).is_some()
     }
 
     /// Whether records are taken to come without padding, `TLS_INFO_RX_NO_PAD`.
     pub fn expects_no_padding(&self) -> bool
-        ensures { IsTrue result ↔ IsSome (first_in 6 self.now.0.bytes.now) }
+        ensures { IsTrue result ↔ IsSome (first_in TLS_INFO_RX_NO_PAD self.now.0.bytes.now) }
     {
         self.0.value_of(TLS_INFO_RX_NO_PAD).is_some()
     }

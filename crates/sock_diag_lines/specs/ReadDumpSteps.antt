@@ -2,14 +2,13 @@
 use Rattle.std.specs.Prelude.{◌≡◌, ◌==◌, ℕ, List, [], ◌∷◌, ◌++◌, Option, Some, None, Result, Ok}
 use Rattle.std.specs.Prelude.{Err}
 use Rattle.netlink_core.specs.declared.fault.DecodeError.{DecodeError}
-use Rattle.netlink_packet_sock_diag.specs.DumpModel.{progress}
-use Rattle.netlink_packet_sock_diag.specs.declared.dump.DumpState.TheVariants.{Reading}
+use Rattle.netlink_packet_sock_diag.specs.DumpModel.{reader_progress}
+use Rattle.netlink_packet_sock_diag.specs.Feed.{IsReading, end_so_far}
 use Rattle.sock_diag_lines.specs.declared.dump_line.ReadDump.{ReadDump}
 use Rattle.std.specs.List.{AllByRecursion, AllZip, slice_split}
 use Rattle.netlink_core.specs.Items.{ItemIs}
 use Rattle.netlink_packet_sock_diag.specs.Dump.{DatagramsDump, Standing}
 use Rattle.netlink_packet_sock_diag.specs.Message.{Message, message_codec}
-use Rattle.netlink_packet_sock_diag.specs.MessageModel.{message_model}
 use Rattle.sock_diag_lines.specs.HexField.{IsHexField, field_of}
 
 -- the parts of the text between spaces, 32, are hex fields of these datagrams
@@ -39,16 +38,16 @@ ended_with state (Some fault) = Err fault
 
 -- how it ends
 abbrev pub end_of : ReadDump → Result Standing DecodeError
-end_of dump = ended_with dump.reader.dump.standing dump.fault
+end_of dump = ended_with (end_so_far (reader_progress dump.reader)) dump.fault
 
 -- the answer to it
 abbrev pub dump_outcome : ReadDump → DumpOutcome
-dump_outcome dump = ((progress message_model dump.reader.dump).0, end_of dump)
+dump_outcome dump = ((reader_progress dump.reader).messages, end_of dump)
 
 -- it is the dump over these datagrams, and has no fault while it is read
 pub record IsReadDump (datagrams : List (List ℕ)) (dump : ReadDump) : Type 0 where
   pub is : IsDumpOf datagrams (dump_outcome dump)
-  pub faultless : dump.reader.dump.standing ≡ (Reading, None) → dump.fault ≡ None
+  pub faultless : IsReading (reader_progress dump.reader) → dump.fault ≡ None
 
 -- whatever datagrams were read, this one was read behind them
 abbrev pub TakesDatagram : ReadDump → List ℕ → ReadDump → Type 0

@@ -6,6 +6,10 @@ use Rattle.netlink_core.specs.AttributeSet.{content}
 use Rattle.sock_diag_attributes.specs.declared.unix.name.SocketName.{SocketName}
 use Rattle.sock_diag_attributes.specs.declared.unix.name.SocketName.TheVariants.{Abstract, Pathname}
 use Rattle.sock_diag_attributes.specs.UnixAttributes.{unix}
+use Rattle.sock_diag_records.specs.declared.constants.TheConstants.{UNIX_DIAG_ICONS}
+use Rattle.sock_diag_records.specs.declared.constants.TheConstants.{UNIX_DIAG_MEMINFO}
+use Rattle.sock_diag_records.specs.declared.constants.TheConstants.{UNIX_DIAG_NAME, UNIX_DIAG_PEER}
+use Rattle.sock_diag_records.specs.declared.constants.TheConstants.{UNIX_DIAG_SHUTDOWN}
 use Rattle.netlink_core.specs.Response.{ValueOf}
 use Rattle.sock_diag_replies.specs.UnixGetters.{first_of, listening_queue_of, other_queue_of}
 use Rattle.sock_diag_replies.specs.UnixResponseSpec.{unix_response_spec}
@@ -24,17 +28,18 @@ name_word (Abstract address) = codes "abstract:" ++ field_of address
 abbrev pub comma_list : List ℕ → List ℕ
 comma_list ns = if length ns == 0 then codes "-" else join_by decimal (codes ",") ns
 
--- Thirteen words with one space, 32, between: three of the header, and one for each getter. `found`
--- is the value of the first attribute of a type: UNIX_DIAG_NAME is 0, UNIX_DIAG_PEER 2,
--- UNIX_DIAG_ICONS 3, UNIX_DIAG_MEMINFO 5, UNIX_DIAG_SHUTDOWN 6. `both` are the numbers of a pair.
+-- Thirteen words separated by one space, 32: three of the header, and one for each getter. `found`
+-- is the value of the first attribute of a type, and `both` are the numbers of a pair.
 abbrev pub reply_text : ValueOf unix_response_spec → List ℕ
 reply_text v = let found = λ (k : ℕ). first_of (content unix k) v.nlas in
     let both = λ (o : Option (ℕ × ℕ)). option_map (λ p. p.0) o ∷ option_map (λ p. p.1) o ∷ [] in
     join_with_byte 32 (map decimal (v.header.kind ∷ v.header.state ∷ v.header.inode ∷ [])
     -- the peer, the name, and the pending connections
-    ++ or_none decimal (found 2) ∷ or_none name_word (found 0) ∷ or_none comma_list (found 3)
+    ++ or_none decimal (found UNIX_DIAG_PEER) ∷ or_none name_word (found UNIX_DIAG_NAME)
+    ∷ or_none comma_list (found UNIX_DIAG_ICONS)
     -- which directions are shut down, the queues of a listening socket, and those of any other
-    ∷ map (or_none decimal) (found 6 ∷ both (listening_queue_of v) ++ both (other_queue_of v)
+    ∷ map (or_none decimal) (found UNIX_DIAG_SHUTDOWN
+    ∷ both (listening_queue_of v) ++ both (other_queue_of v)
     -- the memory
-    ++ option_map (λ info. info.max_datagram_size) (found 5)
-    ∷ option_map (λ info. info.alloc) (found 5) ∷ []))
+    ++ option_map (λ info. info.max_datagram_size) (found UNIX_DIAG_MEMINFO)
+    ∷ option_map (λ info. info.alloc) (found UNIX_DIAG_MEMINFO) ∷ []))

@@ -2,6 +2,10 @@
 use Rattle.std.specs.Prelude.{List, ℕ, ◌∷◌, ◌++◌, decimal, option_map}
 use Rattle.netlink_core.specs.AttributeSet.{content}
 use Rattle.sock_diag_attributes.specs.UnixAttributes.{unix}
+use Rattle.sock_diag_records.specs.declared.constants.TheConstants.{UNIX_DIAG_ICONS}
+use Rattle.sock_diag_records.specs.declared.constants.TheConstants.{UNIX_DIAG_MEMINFO}
+use Rattle.sock_diag_records.specs.declared.constants.TheConstants.{UNIX_DIAG_NAME, UNIX_DIAG_PEER}
+use Rattle.sock_diag_records.specs.declared.constants.TheConstants.{UNIX_DIAG_SHUTDOWN}
 use Rattle.netlink_core.specs.Response.{ValueOf}
 use Rattle.sock_diag_replies.specs.UnixGetters.{first_of, listening_queue_of, other_queue_of}
 use Rattle.sock_diag_replies.specs.UnixResponseSpec.{unix_response_spec}
@@ -11,8 +15,10 @@ use Rattle.sock_diag_lines.specs.ViewLine.{comma_list, name_word, or_none}
 abbrev pub with_details : List ℕ → ValueOf unix_response_spec → List ℕ
 with_details text v =
     let found = λ (k : ℕ). first_of (content unix k) v.nlas in
-    text ++ 32 ∷ or_none decimal (found 2) ++ 32 ∷ or_none name_word (found 0)
-    ++ 32 ∷ or_none comma_list (found 3) ++ 32 ∷ or_none decimal (found 6)
+    text ++ 32 ∷ or_none decimal (found UNIX_DIAG_PEER)
+    ++ 32 ∷ or_none name_word (found UNIX_DIAG_NAME)
+    ++ 32 ∷ or_none comma_list (found UNIX_DIAG_ICONS)
+    ++ 32 ∷ or_none decimal (found UNIX_DIAG_SHUTDOWN)
 
 -- the queues of a listening socket, and those of any other
 abbrev pub with_queues : List ℕ → ValueOf unix_response_spec → List ℕ
@@ -24,6 +30,6 @@ with_queues text v =
 
 -- the memory
 abbrev pub with_memory : List ℕ → ValueOf unix_response_spec → List ℕ
-with_memory text v = let memory = first_of (content unix 5) v.nlas in
+with_memory text v = let memory = first_of (content unix UNIX_DIAG_MEMINFO) v.nlas in
     text ++ 32 ∷ or_none decimal (option_map (λ info. info.max_datagram_size) memory)
     ++ 32 ∷ or_none decimal (option_map (λ info. info.alloc) memory)

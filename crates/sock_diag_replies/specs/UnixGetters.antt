@@ -1,19 +1,22 @@
--- What the getters of a reply about a UNIX socket answer.
+-- What the getters of a reply about a UNIX socket return.
 use Rattle.std.specs.Prelude.{ℕ, ◌==◌, if◌then◌else◌, List, Option, None, slice_get}
 use Rattle.std.specs.List.{filter_map}
 use Rattle.netlink_core.specs.AttributeSet.{content}
 use Rattle.netlink_core.specs.Response.{ValueOf}
 use Rattle.sock_diag_attributes.specs.UnixAttributes.{unix}
+use Rattle.sock_diag_records.specs.declared.constants.TheConstants.{TCP_LISTEN, UNIX_DIAG_RQLEN}
 use Rattle.sock_diag_replies.specs.UnixResponseSpec.{unix_response_spec}
 
 -- the first content that an element of the list has
 abbrev pub first_of : {A B : Type 0} → (A → Option B) → List A → Option B
 first_of content xs = slice_get (filter_map content xs) 0
 
--- the lengths of the queues of a listening socket, whose state is 10
+-- the queue lengths of a listening socket
 abbrev pub listening_queue_of : ValueOf unix_response_spec → Option (ℕ × ℕ)
-listening_queue_of v = if v.header.state == 10 then first_of (content unix 4) v.nlas else None
+listening_queue_of v =
+    if v.header.state == TCP_LISTEN then first_of (content unix UNIX_DIAG_RQLEN) v.nlas else None
 
--- those of any other socket
+-- the queue lengths of a socket that does not listen
 abbrev pub other_queue_of : ValueOf unix_response_spec → Option (ℕ × ℕ)
-other_queue_of v = if v.header.state == 10 then None else first_of (content unix 4) v.nlas
+other_queue_of v =
+    if v.header.state == TCP_LISTEN then None else first_of (content unix UNIX_DIAG_RQLEN) v.nlas

@@ -10,6 +10,7 @@ use Rattle.netlink_core.specs.declared.message.NetlinkPayload.TheVariants.{Done,
 use Rattle.netlink_core.specs.declared.message.NetlinkPayload.TheVariants.{Overrun, InnerMessage}
 use Rattle.netlink_core.specs.AttributeSet.{content}
 use Rattle.netlink_core.specs.Response.{ValueOf, response_codec}
+use Rattle.sock_diag_records.specs.declared.constants.TheConstants.{TCP_LISTEN, UNIX_DIAG_NAME}
 use Rattle.netlink_core.specs.Items.{Item, ItemIs, ItemsAre}
 use Rattle.sock_diag_attributes.specs.declared.unix.name.SocketName.{SocketName}
 use Rattle.sock_diag_attributes.specs.declared.unix.name.SocketName.TheVariants.{Pathname, Abstract}
@@ -41,11 +42,12 @@ abbrev pub path_of : Message → Option (List ℕ)
 path_of (message_of inet_request v) = None
 path_of (message_of inet_response v) = None
 path_of (message_of unix_request v) = None
-path_of (message_of unix_response v) = option_and_then path_in (first_of (content unix 0) v.nlas)
+path_of (message_of unix_response v) =
+    option_and_then path_in (first_of (content unix UNIX_DIAG_NAME) v.nlas)
 
--- it is a reply about a UNIX socket that listens, state 10
+-- it is a reply about a listening UNIX socket
 abbrev pub listens : Item Message → Bool
-listens (Ok (InnerMessage (message_of unix_response v))) = v.header.state == 10
+listens (Ok (InnerMessage (message_of unix_response v))) = v.header.state == TCP_LISTEN
 listens _ = false
 
 -- What is answered where so many were counted and these items are left. Nothing is, or the first of

@@ -2,6 +2,13 @@
 use Rattle.std.specs.Prelude.{◌≡◌, ℕ, if◌then◌else◌, Bool, List, Option, option_map}
 use Rattle.netlink_core.specs.AttributeSet.{AttributeValue, content}
 use Rattle.sock_diag_attributes.specs.InetAttributes.{inet}
+use Rattle.sock_diag_records.specs.declared.constants.TheConstants.{INET_DIAG_CLASS_ID}
+use Rattle.sock_diag_records.specs.declared.constants.TheConstants.{INET_DIAG_CONG}
+use Rattle.sock_diag_records.specs.declared.constants.TheConstants.{INET_DIAG_MARK}
+use Rattle.sock_diag_records.specs.declared.constants.TheConstants.{INET_DIAG_PROTOCOL}
+use Rattle.sock_diag_records.specs.declared.constants.TheConstants.{INET_DIAG_SHUTDOWN}
+use Rattle.sock_diag_records.specs.declared.constants.TheConstants.{INET_DIAG_SKV6ONLY}
+use Rattle.sock_diag_records.specs.declared.constants.TheConstants.{INET_DIAG_TCLASS, INET_DIAG_TOS}
 use Rattle.netlink_core.specs.Response.{ValueOf}
 use Rattle.sock_diag_replies.specs.InetResponseSpec.{inet_response_spec}
 use Rattle.sock_diag_replies.specs.UnixGetters.{first_of}
@@ -13,20 +20,20 @@ use Rattle.sockdiag_c.specs.Headers.{inet_header_of}
 
 -- the algorithm of congestion control, where one is said: a text of the kind 1
 abbrev pub controlled : AttributeValue inet → Option (ℕ × List ℕ)
-controlled v = option_map (λ (t : List ℕ). (1, t)) (content inet 4 v)
+controlled v = option_map (λ (t : List ℕ). (1, t)) (content inet INET_DIAG_CONG v)
 
 -- behind a header and an algorithm, each number of the first value of its type
 abbrev pub inet_details_of : InetHeader → Text → List (AttributeValue inet) → InetDetails
 inet_details_of header congestion vs = record {
   header = header;
   congestion = congestion;
-  tos = first_number inet 5 (λ (n : ℕ). n) vs;
-  tclass = first_number inet 6 (λ (n : ℕ). n) vs;
-  shutdown = first_number inet 8 (λ (n : ℕ). n) vs;
-  protocol = first_number inet 10 (λ (n : ℕ). n) vs;
-  v6only = first_number inet 11 (λ (only : Bool). if only then 1 else 0) vs;
-  mark = first_number inet 15 (λ (n : ℕ). n) vs;
-  class_id = first_number inet 17 (λ (n : ℕ). n) vs;
+  tos = first_number inet INET_DIAG_TOS (λ (n : ℕ). n) vs;
+  tclass = first_number inet INET_DIAG_TCLASS (λ (n : ℕ). n) vs;
+  shutdown = first_number inet INET_DIAG_SHUTDOWN (λ (n : ℕ). n) vs;
+  protocol = first_number inet INET_DIAG_PROTOCOL (λ (n : ℕ). n) vs;
+  v6only = first_number inet INET_DIAG_SKV6ONLY (λ (only : Bool). if only then 1 else 0) vs;
+  mark = first_number inet INET_DIAG_MARK (λ (n : ℕ). n) vs;
+  class_id = first_number inet INET_DIAG_CLASS_ID (λ (n : ℕ). n) vs;
 }
 
 -- this header and these attributes are told, and nothing else

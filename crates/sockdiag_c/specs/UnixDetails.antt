@@ -6,6 +6,12 @@ use Rattle.sock_diag_values.specs.declared.unix.vfs.Vfs.{Vfs}
 use Rattle.sock_diag_attributes.specs.declared.unix.name.SocketName.{SocketName}
 use Rattle.sock_diag_attributes.specs.declared.unix.name.SocketName.TheVariants.{Pathname, Abstract}
 use Rattle.sock_diag_attributes.specs.UnixAttributes.{unix}
+use Rattle.sock_diag_records.specs.declared.constants.TheConstants.{UNIX_DIAG_ICONS}
+use Rattle.sock_diag_records.specs.declared.constants.TheConstants.{UNIX_DIAG_MEMINFO}
+use Rattle.sock_diag_records.specs.declared.constants.TheConstants.{UNIX_DIAG_NAME, UNIX_DIAG_PEER}
+use Rattle.sock_diag_records.specs.declared.constants.TheConstants.{UNIX_DIAG_RQLEN}
+use Rattle.sock_diag_records.specs.declared.constants.TheConstants.{UNIX_DIAG_SHUTDOWN}
+use Rattle.sock_diag_records.specs.declared.constants.TheConstants.{UNIX_DIAG_VFS}
 use Rattle.netlink_core.specs.Response.{ValueOf}
 use Rattle.sock_diag_replies.specs.UnixGetters.{first_of}
 use Rattle.sock_diag_replies.specs.UnixResponseSpec.{unix_response_spec}
@@ -22,26 +28,26 @@ name_parts (Abstract address) = (2, address)
 
 -- the name, where one is said
 abbrev pub named : AttributeValue unix → Option (ℕ × List ℕ)
-named v = option_map name_parts (content unix 0 v)
+named v = option_map name_parts (content unix UNIX_DIAG_NAME v)
 
 -- the inodes that wait to be accepted: those of the first list
 abbrev pub pending : List (AttributeValue unix) → List ℕ
-pending vs = unwrap_or (first_of (content unix 3) vs) []
+pending vs = unwrap_or (first_of (content unix UNIX_DIAG_ICONS) vs) []
 
 -- behind a header and a name, each number of the first value of its type
 abbrev pub unix_details_of : UnixHeader → Text → List (AttributeValue unix) → UnixDetails
 unix_details_of header name vs = record {
   header = header;
   name = name;
-  file_inode = first_number unix 1 (λ (f : Vfs). f.inode) vs;
-  file_device = first_number unix 1 (λ (f : Vfs). f.device) vs;
-  peer = first_number unix 2 (λ (n : ℕ). n) vs;
-  recv_queue = first_number unix 4 (λ (q : ℕ × ℕ). q.0) vs;
-  send_queue = first_number unix 4 (λ (q : ℕ × ℕ). q.1) vs;
-  receive_buffer = first_number unix 5 (λ (m : MemInfo). m.so_rcvbuf) vs;
-  send_buffer = first_number unix 5 (λ (m : MemInfo). m.max_datagram_size) vs;
-  queued = first_number unix 5 (λ (m : MemInfo). m.alloc) vs;
-  shutdown = first_number unix 6 (λ (n : ℕ). n) vs;
+  file_inode = first_number unix UNIX_DIAG_VFS (λ (f : Vfs). f.inode) vs;
+  file_device = first_number unix UNIX_DIAG_VFS (λ (f : Vfs). f.device) vs;
+  peer = first_number unix UNIX_DIAG_PEER (λ (n : ℕ). n) vs;
+  recv_queue = first_number unix UNIX_DIAG_RQLEN (λ (q : ℕ × ℕ). q.0) vs;
+  send_queue = first_number unix UNIX_DIAG_RQLEN (λ (q : ℕ × ℕ). q.1) vs;
+  receive_buffer = first_number unix UNIX_DIAG_MEMINFO (λ (m : MemInfo). m.so_rcvbuf) vs;
+  send_buffer = first_number unix UNIX_DIAG_MEMINFO (λ (m : MemInfo). m.max_datagram_size) vs;
+  queued = first_number unix UNIX_DIAG_MEMINFO (λ (m : MemInfo). m.alloc) vs;
+  shutdown = first_number unix UNIX_DIAG_SHUTDOWN (λ (n : ℕ). n) vs;
 }
 
 -- this header and these attributes are told, and nothing else

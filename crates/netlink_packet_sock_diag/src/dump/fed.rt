@@ -3,8 +3,9 @@
 ghost use Rattle.std.specs.Prelude.{◌≡◌, ◌≢◌, ◌⊎◌, ◌↔◌, ℕ, List, [], map, Result, Ok as ok};
 ghost use Rattle.std.specs.Prelude.{Err as err, MatchResult, IsBitSet, IsTrue, None, false};
 ghost use Rattle.netlink_core.specs.declared.fault.DecodeError.TheVariants.{Memory};
-ghost use Rattle.netlink_packet_sock_diag.specs.Feed.{FeedLeaves, FeedsLeave, Stage, Stops};
-ghost use Rattle.netlink_packet_sock_diag.specs.Feed.{Takes, untouched};
+ghost use Rattle.netlink_packet_sock_diag.specs.Feed.{DumpProgress, FeedLeaves, FeedsLeave};
+ghost use Rattle.netlink_packet_sock_diag.specs.Feed.{ReadsDatagram, ReadsUpToMemory, dump_with};
+ghost use Rattle.netlink_packet_sock_diag.specs.Feed.{new_dump};
 ghost use Rattle.netlink_packet_sock_diag.specs.declared.dump.DumpError.{DumpError as Refusal};
 ghost use Rattle.netlink_packet_sock_diag.specs.declared.dump.DumpState.TheVariants.{Reading};
 ghost use Rattle.netlink_packet_sock_diag.specs.declared.dump.DumpState.TheVariants.{Failed};
@@ -38,15 +39,15 @@ fn take_messages<I: Kept>(
     datagram: &[u8],
 ) -> Result<(DumpState, Option<i32>), DecodeError>
     ensures { MatchResult result
-        (λ standing. Takes I.item_is
-        (map I.model messages.old.items, (Reading, None), interrupted.old) datagram.now
-        (map I.model messages.new.items, standing, interrupted.new) (ok standing))
-        (λ e. (e ≢ Memory → Takes I.item_is
-        (map I.model messages.old.items, (Reading, None), interrupted.old) datagram.now
-        (map I.model messages.new.items, (Failed, None), interrupted.new) (err e))
-        × (e ≡ Memory → Stops I.item_is
-        (map I.model messages.old.items, (Reading, None), interrupted.old) datagram.now
-        (map I.model messages.new.items, (Failed, None), interrupted.new))) }
+        (λ end. ReadsDatagram I.item_is
+        (dump_with (map I.model messages.old.items) (Reading, None) interrupted.old) datagram.now
+        (dump_with (map I.model messages.new.items) end interrupted.new) (ok end))
+        (λ e. (e ≢ Memory → ReadsDatagram I.item_is
+        (dump_with (map I.model messages.old.items) (Reading, None) interrupted.old) datagram.now
+        (dump_with (map I.model messages.new.items) (Failed, None) interrupted.new) (err e))
+        × (e ≡ Memory → ReadsUpToMemory I.item_is
+        (dump_with (map I.model messages.old.items) (Reading, None) interrupted.old) datagram.now
+        (dump_with (map I.model messages.new.items) (Failed, None) interrupted.new))) }
 {
     for item in MessageStrings::new(datagram) {
         let message = item?;
@@ -77,12 +78,12 @@ pub(crate) struct FedDump<I: Kept> {
     ghost unnumbered: { (standing.0 ≡ Reading) → (standing ≡ (Reading, None)) },
     // Datagrams were fed, with memory for all, and left it so; or one more was, and the dump has
     // failed.
-    ghost fed: { ∥ ((datagrams : List (List ℕ)) × (before : Stage I.Entry)
-        × FeedsLeave I.item_is untouched datagrams before
-        × ((before ≡ (map I.model kept.items, standing, interrupted))
+    ghost fed: { ∥ ((datagrams : List (List ℕ)) × (before : DumpProgress I.Entry)
+        × FeedsLeave I.item_is new_dump datagrams before
+        × ((before ≡ dump_with (map I.model kept.items) standing interrupted)
         ⊎ ((standing ≡ (Failed, None)) × (last : List ℕ) × (answer : Result Unit Refusal)
-        × FeedLeaves I.item_is before last (map I.model kept.items, standing, interrupted)
-        answer))) ∥₁ },
+        × FeedLeaves I.item_is before last
+        (dump_with (map I.model kept.items) standing interrupted) answer))) ∥₁ },
 }
 
 impl<I: Kept> FedDump<I> {

@@ -1,11 +1,9 @@
 //! Dumps that go past refused replies.
 
-ghost use Rattle.std.specs.Prelude.{◌≡◌, [], None, false};
-ghost use Rattle.netlink_core.specs.Faults.{map_ok};
-ghost use Rattle.netlink_packet_sock_diag.specs.Feed.{FeedLeaves};
+ghost use Rattle.std.specs.Prelude.{◌≡◌};
+ghost use Rattle.netlink_packet_sock_diag.specs.Feed.{FeedLeaves, new_dump};
 ghost use Rattle.netlink_packet_sock_diag.specs.Lossy.{EntryIs};
 ghost use Rattle.netlink_packet_sock_diag.specs.Message.{message_codec};
-ghost use Rattle.netlink_packet_sock_diag.specs.MessageModel.{message_model};
 
 use super::fed::FedDump;
 use super::{DumpError, DumpState};
@@ -23,14 +21,11 @@ pub struct LossyDump {
 }
 
 impl LossyDump {
-    ghost use Rattle.netlink_packet_sock_diag.specs.DumpModel.{progress};
-    ghost use Rattle.netlink_packet_sock_diag.specs.declared.dump.DumpState.TheVariants.{Reading};
+    ghost use Rattle.netlink_packet_sock_diag.specs.DumpModel.{lossy_entries, lossy_progress};
 
     /// A dump of which nothing has come. The allocator is kept.
     pub fn new(alloc: Global) -> Self
-        ensures entries { result.dump.kept.items ≡ [] }
-        ensures state { result.dump.standing ≡ (Reading, None) }
-        ensures interrupted { result.dump.interrupted ≡ false }
+        ensures { lossy_progress result ≡ new_dump }
     {
         LossyDump {
             dump: FedDump::new(alloc),
@@ -42,30 +37,29 @@ impl LossyDump {
     /// `EnvelopeLengthPast`, and where memory runs out, the entries in front are kept and the dump
     /// has failed. Once the dump has ended nothing changes.
     pub fn feed(&mut self, datagram: &[u8]) -> Result<(), DumpError>
-        ensures leaves { FeedLeaves (EntryIs message_codec)
-            (progress (map_ok message_model) self.old.dump) datagram.now
-            (progress (map_ok message_model) self.new.dump) result }
+        ensures leaves { FeedLeaves (EntryIs message_codec) (lossy_progress self.old) datagram.now
+            (lossy_progress self.new) result }
     {
         self.dump.feed(datagram)
     }
 
     /// The entries so far: each message, or the fault of a refused one.
     pub fn entries(&self) -> &[Result<SockDiagMessage, DecodeError>]
-        ensures { result.now ≡ self.now.dump.kept.items }
+        ensures { result.now ≡ lossy_entries self.now }
     {
         self.dump.kept.as_slice()
     }
 
     /// The entries, once no more datagrams are fed.
     pub fn into_entries(self) -> Vec<Result<SockDiagMessage, DecodeError>>
-        ensures { result.items ≡ self.dump.kept.items }
+        ensures { result.items ≡ lossy_entries self }
     {
         self.dump.kept
     }
 
     /// How far the dump is.
     pub fn state(&self) -> DumpState
-        ensures { result ≡ self.now.dump.standing.0 }
+        ensures { result ≡ (lossy_progress self.now).state }
     {
         self.dump.standing.0
     }
@@ -73,7 +67,7 @@ impl LossyDump {
     /// The number that the end of the dump tells, as that of
     /// [`DumpReader`](crate::DumpReader::error_number).
     pub fn error_number(&self) -> Option<i32>
-        ensures { result ≡ self.now.dump.standing.1 }
+        ensures { result ≡ (lossy_progress self.now).error_number }
     {
         self.dump.standing.1
     }
@@ -81,7 +75,7 @@ impl LossyDump {
     /// Whether what is dumped changed meanwhile, as that of
     /// [`DumpReader`](crate::DumpReader::is_interrupted). The flag of a refused message counts.
     pub fn is_interrupted(&self) -> bool
-        ensures { result ≡ self.now.dump.interrupted }
+        ensures { result ≡ (lossy_progress self.now).is_interrupted }
     {
         self.dump.interrupted
     }

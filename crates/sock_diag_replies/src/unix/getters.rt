@@ -6,6 +6,12 @@ ghost use Rattle.netlink_core.specs.AttributeSet.{content};
 ghost use Rattle.sock_diag_attributes.specs.UnixAttributes.{unix};
 ghost use Rattle.sock_diag_attributes.specs.NameModel.{name_of};
 ghost use Rattle.sock_diag_attributes.specs.UnixModel.{nla_model};
+ghost use Rattle.sock_diag_records.specs.declared.constants.TheConstants.{UNIX_DIAG_ICONS};
+ghost use Rattle.sock_diag_records.specs.declared.constants.TheConstants.{UNIX_DIAG_MEMINFO};
+ghost use Rattle.sock_diag_records.specs.declared.constants.TheConstants.{UNIX_DIAG_NAME};
+ghost use Rattle.sock_diag_records.specs.declared.constants.TheConstants.{UNIX_DIAG_PEER};
+ghost use Rattle.sock_diag_records.specs.declared.constants.TheConstants.{UNIX_DIAG_RQLEN};
+ghost use Rattle.sock_diag_records.specs.declared.constants.TheConstants.{UNIX_DIAG_SHUTDOWN};
 ghost use Rattle.sock_diag_replies.specs.UnixGetters.{first_of};
 
 use crate::unix::UnixResponse;
@@ -16,7 +22,8 @@ impl UnixResponse {
     /// The inode of the socket's peer, where an attribute tells it: the content of the first
     /// `Peer`.
     pub fn peer(&self) -> Option<u32>
-        ensures { result ≡ first_of (content unix 2) (map nla_model self.now.nlas.items) }
+        ensures { result
+            ≡ first_of (content unix UNIX_DIAG_PEER) (map nla_model self.now.nlas.items) }
     {
         self.nlas.as_slice().iter().find_map(|nla| match nla {
             Nla::Peer(inode) => Some(*inode),
@@ -27,7 +34,7 @@ impl UnixResponse {
     /// The socket's name, where an attribute tells it: the content of the first `Name`.
     pub fn name(&self) -> Option<&UnixDiagName>
         ensures { option_map (name_of vec_items) (option_copied result)
-            ≡ first_of (content unix 0) (map nla_model self.now.nlas.items) }
+            ≡ first_of (content unix UNIX_DIAG_NAME) (map nla_model self.now.nlas.items) }
     {
         self.nlas.as_slice().iter().find_map(|nla| match nla {
             Nla::Name(name) => Some(name),
@@ -39,7 +46,7 @@ impl UnixResponse {
     /// `PendingConnections`.
     pub fn pending_connections(&self) -> Option<&[u32]>
         ensures { option_copied result
-            ≡ first_of (content unix 3) (map nla_model self.now.nlas.items) }
+            ≡ first_of (content unix UNIX_DIAG_ICONS) (map nla_model self.now.nlas.items) }
     {
         self.nlas.as_slice().iter().find_map(|nla| match nla {
             Nla::PendingConnections(inodes) => Some(inodes.as_slice()),
@@ -49,7 +56,8 @@ impl UnixResponse {
 
     /// Which directions are shut down: the content of the first `Shutdown`.
     pub fn shutdown_state(&self) -> Option<u8>
-        ensures { result ≡ first_of (content unix 6) (map nla_model self.now.nlas.items) }
+        ensures { result
+            ≡ first_of (content unix UNIX_DIAG_SHUTDOWN) (map nla_model self.now.nlas.items) }
     {
         self.nlas.as_slice().iter().find_map(|nla| match nla {
             Nla::Shutdown(state) => Some(*state),
@@ -90,7 +98,8 @@ impl UnixResponse {
 
     // The content of the first `ReceiveQueueLength`.
     fn queue(&self) -> Option<(u32, u32)>
-        ensures { result ≡ first_of (content unix 4) (map nla_model self.now.nlas.items) }
+        ensures { result
+            ≡ first_of (content unix UNIX_DIAG_RQLEN) (map nla_model self.now.nlas.items) }
     {
         self.nlas.as_slice().iter().find_map(|nla| match nla {
             Nla::ReceiveQueueLength(first, second) => Some((*first, *second)),
@@ -137,7 +146,7 @@ impl UnixResponse {
     /// first `MemInfo`.
     pub fn max_datagram_size(&self) -> Option<u32>
         ensures { result ≡ option_map (λ info. info.max_datagram_size)
-            (first_of (content unix 5) (map nla_model self.now.nlas.items)) }
+            (first_of (content unix UNIX_DIAG_MEMINFO) (map nla_model self.now.nlas.items)) }
     {
         Some(self.memory()?.max_datagram_size)
     }
@@ -146,14 +155,15 @@ impl UnixResponse {
     /// of the first `MemInfo`.
     pub fn memory_used_for_outgoing_data(&self) -> Option<u32>
         ensures { result ≡ option_map (λ info. info.alloc)
-            (first_of (content unix 5) (map nla_model self.now.nlas.items)) }
+            (first_of (content unix UNIX_DIAG_MEMINFO) (map nla_model self.now.nlas.items)) }
     {
         Some(self.memory()?.alloc)
     }
 
     // The content of the first `MemInfo`.
     fn memory(&self) -> Option<MemInfo>
-        ensures { result ≡ first_of (content unix 5) (map nla_model self.now.nlas.items) }
+        ensures { result
+            ≡ first_of (content unix UNIX_DIAG_MEMINFO) (map nla_model self.now.nlas.items) }
     {
         self.nlas.as_slice().iter().find_map(|nla| match nla {
             Nla::MemInfo(info) => Some(*info),

@@ -3,6 +3,12 @@
 ghost use Rattle.std.specs.Prelude.{◌≡◌, if◌then◌else◌, None, IsSome, option_map};
 ghost use Rattle.sock_diag_attributes.specs.NameModel.{name_of};
 ghost use Rattle.sock_diag_attributes.specs.NumbersModel.{numbers_view_model};
+ghost use Rattle.sock_diag_records.specs.declared.constants.TheConstants.{UNIX_DIAG_ICONS};
+ghost use Rattle.sock_diag_records.specs.declared.constants.TheConstants.{UNIX_DIAG_MEMINFO};
+ghost use Rattle.sock_diag_records.specs.declared.constants.TheConstants.{UNIX_DIAG_NAME};
+ghost use Rattle.sock_diag_records.specs.declared.constants.TheConstants.{UNIX_DIAG_PEER};
+ghost use Rattle.sock_diag_records.specs.declared.constants.TheConstants.{UNIX_DIAG_RQLEN};
+ghost use Rattle.sock_diag_records.specs.declared.constants.TheConstants.{UNIX_DIAG_SHUTDOWN};
 ghost use Rattle.sock_diag_replies.specs.UnixGetters.{first_of};
 ghost use Rattle.netlink_core.specs.AttributeSet.{content};
 ghost use Rattle.sock_diag_attributes.specs.UnixAttributes.{unix};
@@ -20,7 +26,8 @@ impl<'a> UnixResponseView<'a> {
     /// The inode of the socket's peer, where an attribute tells it: the content of the first
     /// `Peer`.
     pub fn peer(&self) -> Option<u32>
-        ensures { result ≡ first_of (content unix 2) (unix_response_view_model self.now).nlas }
+        ensures { result
+            ≡ first_of (content unix UNIX_DIAG_PEER) (unix_response_view_model self.now).nlas }
     {
         self.attributes().find_map(|nla| match nla {
             NlaView::Peer(inode) => Some(inode),
@@ -30,7 +37,7 @@ impl<'a> UnixResponseView<'a> {
 
     /// The socket's name, where an attribute tells it: the content of the first `Name`.
     pub fn name(&self) -> Option<NameView<'a>>
-        ensures { option_map (name_of (λ b. b.now)) result ≡ first_of (content unix 0)
+        ensures { option_map (name_of (λ b. b.now)) result ≡ first_of (content unix UNIX_DIAG_NAME)
             (unix_response_view_model self.now).nlas }
     {
         self.attributes().find_map(|nla| match nla {
@@ -42,7 +49,7 @@ impl<'a> UnixResponseView<'a> {
     /// The inodes of the connections that wait to be accepted: the content of the first
     /// `PendingConnections`.
     pub fn pending_connections(&self) -> Option<NumbersView<'a>>
-        ensures { option_map numbers_view_model result ≡ first_of (content unix 3)
+        ensures { option_map numbers_view_model result ≡ first_of (content unix UNIX_DIAG_ICONS)
             (unix_response_view_model self.now).nlas }
     {
         self.attributes().find_map(|nla| match nla {
@@ -53,7 +60,8 @@ impl<'a> UnixResponseView<'a> {
 
     /// Which directions are shut down: the content of the first `Shutdown`.
     pub fn shutdown_state(&self) -> Option<u8>
-        ensures { result ≡ first_of (content unix 6) (unix_response_view_model self.now).nlas }
+        ensures { result
+            ≡ first_of (content unix UNIX_DIAG_SHUTDOWN) (unix_response_view_model self.now).nlas }
     {
         self.attributes().find_map(|nla| match nla {
             NlaView::Shutdown(state) => Some(state),
@@ -96,7 +104,8 @@ impl<'a> UnixResponseView<'a> {
 
     // The content of the first `ReceiveQueueLength`.
     fn queue(&self) -> Option<(u32, u32)>
-        ensures { result ≡ first_of (content unix 4) (unix_response_view_model self.now).nlas }
+        ensures { result
+            ≡ first_of (content unix UNIX_DIAG_RQLEN) (unix_response_view_model self.now).nlas }
     {
         self.attributes().find_map(|nla| match nla {
             NlaView::ReceiveQueueLength(first, second) => Some((first, second)),
@@ -147,7 +156,7 @@ impl<'a> UnixResponseView<'a> {
     /// first `MemInfo`.
     pub fn max_datagram_size(&self) -> Option<u32>
         ensures { result ≡ option_map (λ info. info.max_datagram_size)
-            (first_of (content unix 5) (unix_response_view_model self.now).nlas) }
+            (first_of (content unix UNIX_DIAG_MEMINFO) (unix_response_view_model self.now).nlas) }
     {
         Some(self.memory()?.max_datagram_size)
     }
@@ -156,14 +165,15 @@ impl<'a> UnixResponseView<'a> {
     /// of the first `MemInfo`.
     pub fn memory_used_for_outgoing_data(&self) -> Option<u32>
         ensures { result ≡ option_map (λ info. info.alloc)
-            (first_of (content unix 5) (unix_response_view_model self.now).nlas) }
+            (first_of (content unix UNIX_DIAG_MEMINFO) (unix_response_view_model self.now).nlas) }
     {
         Some(self.memory()?.alloc)
     }
 
     // The content of the first `MemInfo`.
     fn memory(&self) -> Option<MemInfo>
-        ensures { result ≡ first_of (content unix 5) (unix_response_view_model self.now).nlas }
+        ensures { result
+            ≡ first_of (content unix UNIX_DIAG_MEMINFO) (unix_response_view_model self.now).nlas }
     {
         self.attributes().find_map(|nla| match nla {
             NlaView::MemInfo(info) => Some(info),

@@ -1,5 +1,5 @@
 use Rattle.std.proofs.Common.{ap, arith, inl, inr, refl, sym, ◌∙◌}
-use Rattle.netlink_packet_sock_diag.specs.Feed.{Stage}
+use Rattle.netlink_packet_sock_diag.specs.Feed.{DumpProgress, end_so_far}
 use Rattle.netlink_packet_sock_diag.specs.Dump.{Standing}
 use Rattle.netlink_packet_sock_diag.specs.Message.{Message}
 use Rattle.sock_diag_lines.proofs.DumpLaws.{one_more, over_at, some_items}
@@ -20,8 +20,8 @@ pub returns-in-Err-Ended : goal.returns-in-Err-Ended
 returns-in-Err-Ended c = λ datagrams read.
     let (over, same) = rw c.in-Err-Ended.field-0-is at c.in-Err-Ended.ensures.leaves in
     let (items, are) = some_items c.args.datagram.now (λ i. omega (arith, c.type_inv.datagram i)) in
-    let state = ap (λ (p : Stage Message). p.1) same in
-    let kept = ap (λ (p : Stage Message). p.0) same in
+    let state = ap (λ (p : DumpProgress Message). end_so_far p) same in
+    let kept = ap (λ (p : DumpProgress Message). p.messages) same in
     record {
       is = one_more datagrams c.args.datagram.now _ _ items are read.is
           (inr (over_at _ _ over, kept, rw state refl));
