@@ -1,4 +1,4 @@
--- The messages that a dump keeps of the items of its datagrams, and how it ends.
+-- The messages that a dump keeps of the items of its datagrams, and the end of the dump.
 use Rattle.std.specs.Prelude.{◌≡◌, ◌%◌, length, ℕ, ℤ, List, [], ◌∷◌, ◌++◌, ⊤, ◌⊎◌, Option, Some}
 use Rattle.std.specs.Prelude.{None, MatchOption, Result, Ok, Err, slice_get}
 use Rattle.std.specs.List.{AllByRecursion, AllZip, flat_map}
@@ -11,18 +11,17 @@ use Rattle.netlink_packet_sock_diag.specs.declared.dump.DumpState.{DumpState}
 use Rattle.netlink_packet_sock_diag.specs.declared.dump.DumpState.TheVariants.{Reading, Done, Error}
 use Rattle.netlink_packet_sock_diag.specs.declared.dump.DumpState.TheVariants.{Overrun}
 
--- how a dump stands: its state, and the number that its `Done` or `Error` begins with
+-- the state of a dump, and the error number at the start of its NLMSG_DONE or NLMSG_ERROR
 abbrev pub Standing : Type 0
 Standing = DumpState × Option ℤ
 
 module _ {A : Type 0} where
-  -- what is kept of the item
+  -- the inner message of an item, if it has one
   abbrev pub kept : Item A → List A
   kept (Ok (payload.InnerMessage value)) = value ∷ []
   kept _ = []
 
-  -- how a dump stands that the item ends, or its fault; after a message, or one of nothing, it goes
-  -- on
+  -- the end of a dump at an item that ends it; an inner message and NLMSG_NOOP do not
   abbrev pub end_of : Item A → Option (Result Standing DecodeError)
   end_of (Ok (payload.Done given)) = Some (Ok (Done, leading_number given))
   end_of (Ok (payload.Error given)) = Some (Ok (Error, leading_number given))
@@ -30,21 +29,20 @@ module _ {A : Type 0} where
   end_of (Err e) = Some (Err e)
   end_of _ = None
 
-  -- The inner messages of the longest beginning of the items that holds inner messages and messages
-  -- of nothing alone follow those before. The next item is the end; where there is none the dump is
-  -- still read.
+  -- Appends the inner messages up to the first item that is neither an inner message nor NLMSG_NOOP.
+  -- That item ends the dump; if there is none, the dump is still being read.
   abbrev pub Dump : List A → List (Item A) → List A → Result Standing DecodeError → Type 0
   Dump before items after end = (passed later : List (Item A)) × (items ≡ passed ++ later)
       × AllByRecursion (λ one. end_of one ≡ None) passed × (after ≡ before ++ flat_map kept passed)
       × MatchOption (slice_get later 0) (end ≡ Ok (Reading, None)) (λ item. end_of item ≡ Some end)
 
-  -- the dump over datagrams: over the items of all in a row, where each message is such an item
+  -- the dump over datagrams: over the items of all of them, in order
   abbrev pub DatagramsDump : (List ℕ → Item A → Type 0) → List A → List (List ℕ) → List A
       → Result Standing DecodeError → Type 0
   DatagramsDump is before datagrams after end = (items : List (List (Item A)))
       × AllZip (ItemsAre is) datagrams items × Dump before (flat_map (λ one. one) items) after end
 
--- each datagram but the last one is whole messages alone, with all padding there
+-- each datagram except the last consists of complete messages with all their padding
 abbrev pub AreSplit : List (List ℕ) → Type 0
 AreSplit [] = ⊤
 AreSplit (datagram ∷ later) = ((later ≡ []) ⊎ ((messages : List (List ℕ))

@@ -1,4 +1,4 @@
--- The entries of a dump that goes past refused messages.
+-- The entries of a dump that continues after invalid messages.
 use Rattle.std.specs.Prelude.{ℕ, List, ◌-◌, take, drop, Result, Ok, Err, MatchResult}
 use Rattle.netlink_core.specs.Codec.{Codec}
 use Rattle.netlink_core.specs.Envelope.{PayloadIs}
@@ -7,7 +7,7 @@ use Rattle.netlink_core.specs.Items.{Item}
 use Rattle.netlink_core.specs.declared.fault.DecodeError.{DecodeError}
 use Rattle.netlink_core.specs.declared.header.NetlinkHeader.{NetlinkHeader}
 
--- a message as what it carries; an inner message that is refused is carried as its fault
+-- a message as its payload, in which an invalid inner message is its decode error
 abbrev pub EntryIs : (C : Codec ℕ) → List ℕ → Item (Result C.Value DecodeError) → Type 0
 EntryIs C message (Ok payload) = (h : NetlinkHeader) × HasHeader message h
     × PayloadIs (λ b t entry. MatchResult entry (C.reads b t) (C.refuses b t))

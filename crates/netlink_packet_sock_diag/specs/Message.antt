@@ -1,5 +1,5 @@
--- Messages of sock_diag(7): requests, and replies about the sockets of two families. Replies alone
--- are read.
+-- Messages of sock_diag(7): requests, and replies about IPv4, IPv6 and UNIX sockets. Only replies
+-- are parsed.
 use Rattle.std.specs.Prelude.{◌≡◌, ℕ, ◌⊎◌, Ok, Err}
 use Rattle.netlink_core.specs.Codec.{Codec, record_codec}
 use Rattle.netlink_core.specs.Response.{response_codec}
@@ -10,39 +10,39 @@ use Rattle.sock_diag_records.specs.ResponseKind.{MessageKind, inet_request, inet
 use Rattle.sock_diag_records.specs.ResponseKind.{unix_request, unix_response, response_kind}
 use Rattle.sock_diag_replies.specs.UnixResponseSpec.{unix_response_spec}
 
--- how what a message of each kind holds is read and written
+-- the codec of the request or reply of each kind of message
 abbrev pub codec_of : MessageKind → Codec (Unit {0})
 codec_of inet_request = record_codec inet_request_layout
 codec_of inet_response = response_codec inet_response_spec
 codec_of unix_request = record_codec unix_request_layout
 codec_of unix_response = response_codec unix_response_spec
 
--- the value of a message, without where it lies in memory
+-- a message: its kind and its request or reply
 pub data Message : Type 0 where
   message_of : (kind : MessageKind) → (codec_of kind).Value → Message
 
--- what is told by a message's kind and by what it holds
+-- a function of the kind and of the request or reply, applied to a message
 abbrev pub by_kind {ℓ} : {T : Type ℓ} → ((k : MessageKind) → (codec_of k).Value → T) → Message → T
 by_kind tells (message_of kind v) = tells kind v
 
--- a message under the type of its header, of 16 bits
+-- the codec of messages under the 16-bit type of the netlink header
 abbrev pub message_codec : Codec ℕ
 message_codec = record {
   Value = Message;
   is_in_range = by_kind (λ k v. (codec_of k).is_in_range v);
-  -- it is of the kind of reply that the bytes are under the type, and so read
+  -- the bytes dispatch to this kind of reply under the type, and parse as this value
   reads = λ b t m. by_kind (λ k v. (response_kind b t ≡ Ok k) × (codec_of k).reads b tt v) m;
-  -- the bytes are no reply, or the reply of their kind is refused
+  -- the bytes dispatch to no reply, or the reply of their kind is rejected
   refuses = λ b t e. (response_kind b t ≡ Err e)
       ⊎ ((kind : MessageKind) × (response_kind b t ≡ Ok kind) × (codec_of kind).refuses b tt e);
   is_spare = λ m. ⊥;
-  -- both are replies of one kind under the type, and idle
+  -- both dispatch to the same kind of reply, and are equivalent as such replies
   idle = λ t b c. (kind : MessageKind) × (response_kind b t ≡ Ok kind)
       × (response_kind c t ≡ Ok kind) × (codec_of kind).idle tt b c;
   -- a reply in normal form, under the type 20
   is_normal = λ t m. by_kind (λ k v. (t ≡ 20) × ((k ≡ inet_response) ⊎ (k ≡ unix_response))
       × (codec_of k).is_normal tt v) m;
   written = by_kind (λ k v. (codec_of k).written v);
-  -- what it holds has room for its lengths; a request has in any case
+  -- the lengths of the reply fit their fields; those of a request always do
   fits = by_kind (λ k v. (codec_of k).fits v);
 }

@@ -1,4 +1,4 @@
-//! Dumps: the messages of several datagrams, up to the one that ends them.
+//! Dumps: the messages of several datagrams, up to the message that ends the dump.
 
 ghost use Rattle.std.specs.Prelude.{◌≡◌, map};
 ghost use Rattle.std.proofs.Common.{rules};
@@ -19,28 +19,28 @@ use crate::message::SockDiagMessage;
 use netlink_core::{DecodeError, Exact};
 use std::alloc::Global;
 
-/// How far a dump is.
+/// The state of a dump.
 #[derive(Clone, Copy, Debug, PartialEq, Eq)]
 pub enum DumpState {
-    /// No end has come yet.
+    /// No message has ended the dump yet.
     Reading,
-    /// The message that ends a dump came.
+    /// `NLMSG_DONE` was received.
     Done,
-    /// A message came that tells an error.
+    /// `NLMSG_ERROR` was received.
     Error,
-    /// A message came that tells that data was lost.
+    /// `NLMSG_OVERRUN` was received: data was lost.
     Overrun,
-    /// Bytes were no message, a [`DumpReader`] met a refused one, or memory ran out.
+    /// Bytes are not a message, a [`DumpReader`] received an invalid message, or memory ran out.
     Failed,
 }
 
-/// Why not all of a datagram was taken.
+/// Why a datagram was not read to its end.
 #[derive(Clone, Copy, Debug, PartialEq, Eq)]
 pub enum DumpError {
-    /// Bytes were no message, a [`DumpReader`] met a refused one, or memory ran out. The messages
-    /// in front are kept.
+    /// Bytes are not a message, a [`DumpReader`] received an invalid message, or memory ran out.
+    /// The messages before are kept.
     Fault(DecodeError),
-    /// The dump had ended, so nothing was taken.
+    /// The dump had already ended; nothing was read.
     Ended,
 }
 
@@ -48,9 +48,9 @@ impl Exact for DumpState {
     ghost exact = { Prim.search rules };
 }
 
-/// The reader of a dump, which comes in several datagrams. It keeps the messages of the protocol in
-/// order, and passes over those that say nothing. What follows the end is not read. A refused
-/// message ends it; a [`LossyDump`] goes on.
+/// The reader of a dump, which arrives in several datagrams. It keeps the messages of the protocol
+/// in order, and skips `NLMSG_NOOP`. Nothing after the end of the dump is read. An invalid message
+/// ends the dump; a [`LossyDump`] continues.
 #[derive(Drop)]
 pub struct DumpReader {
     dump: FedDump<SockDiagMessage>,
@@ -59,7 +59,7 @@ pub struct DumpReader {
 impl DumpReader {
     ghost use Rattle.netlink_packet_sock_diag.specs.DumpModel.{reader_progress};
 
-    /// A dump of which nothing has come. The allocator is kept.
+    /// Returns a reader that nothing was fed to. It keeps the allocator.
     pub fn new(alloc: Global) -> Self
         ensures { reader_progress result ≡ new_dump }
     {
@@ -68,9 +68,9 @@ impl DumpReader {
         }
     }
 
-    /// Takes the messages of a datagram of whole messages, up to the end of the dump. At a fault,
-    /// and where memory runs out, the messages in front are kept and the dump has failed. Once the
-    /// dump has ended nothing changes.
+    /// Reads the messages of a datagram of complete messages, up to the end of the dump. If a
+    /// message is invalid or memory runs out, the messages before it are kept, and the dump has
+    /// failed. Feeding a dump that has ended changes nothing.
     pub fn feed(&mut self, datagram: &[u8]) -> Result<(), DumpError>
         ensures leaves { FeedLeaves (ItemIs message_codec) (reader_progress self.old) datagram.now
             (reader_progress self.new) result }
@@ -78,39 +78,39 @@ impl DumpReader {
         self.dump.feed(datagram)
     }
 
-    /// The messages so far.
+    /// Returns the messages read so far.
     pub fn messages(&self) -> &[SockDiagMessage]
         ensures { map message_model result.now ≡ (reader_progress self.now).messages }
     {
         self.dump.kept.as_slice()
     }
 
-    /// The messages, once no more datagrams are fed.
+    /// Returns the messages, and drops the rest of the reader.
     pub fn into_messages(self) -> Vec<SockDiagMessage>
         ensures { map message_model result.items ≡ (reader_progress self).messages }
     {
         self.dump.kept
     }
 
-    /// How far the dump is.
+    /// Returns the state of the dump.
     pub fn state(&self) -> DumpState
         ensures { result ≡ (reader_progress self.now).state }
     {
         self.dump.standing.0
     }
 
-    /// The number that the end of the dump tells, as [`netlink_core::error_number`] reads it: 0
-    /// where all went well, else `-errno` (errno(3)). `None` while it is read, and where its end
-    /// tells none.
+    /// Returns the error number that the end of the dump carries, as
+    /// [`netlink_core::error_number`] reads it: 0 if the dump is complete, else `-errno`
+    /// (errno(3)). Returns `None` while the dump is read, and if its end carries no number.
     pub fn error_number(&self) -> Option<i32>
         ensures { result ≡ (reader_progress self.now).error_number }
     {
         self.dump.standing.1
     }
 
-    /// Whether what is dumped changed meanwhile, so that the kernel may have left out entries or
-    /// told some twice: a message up to the end, or the end, had `NLM_F_DUMP_INTR` of netlink(7).
-    /// Make the request again then.
+    /// Returns whether the dump was interrupted: a message up to and including its end had
+    /// `NLM_F_DUMP_INTR` (netlink(7)). Its sockets changed during the dump, so that entries may be
+    /// missing or occur twice; repeat the request.
     pub fn is_interrupted(&self) -> bool
         ensures { result ≡ (reader_progress self.now).is_interrupted }
     {

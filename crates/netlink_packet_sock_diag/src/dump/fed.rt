@@ -1,4 +1,4 @@
-//! A dump that is fed datagrams, whatever it keeps of their messages.
+//! The reader of a dump, generic over what it keeps of each message.
 
 ghost use Rattle.std.specs.Prelude.{◌≡◌, ◌≢◌, ◌⊎◌, ◌↔◌, ℕ, List, [], map, Result, Ok as ok};
 ghost use Rattle.std.specs.Prelude.{Err as err, MatchResult, IsBitSet, IsTrue, None, false};
@@ -18,10 +18,10 @@ use netlink_core::{
 };
 use std::alloc::Global;
 
-/// The flag of a header that says that what is dumped changed meanwhile, `NLM_F_DUMP_INTR`.
+/// `NLM_F_DUMP_INTR` (netlink(7)): the dump was interrupted.
 const NLM_F_DUMP_INTR: u16 = 0x10;
 
-// Whether a dump was interrupted, where a message with this header comes.
+// Returns whether a dump is interrupted after a message with this header.
 #[inline(always)]
 fn interrupted_by(was: bool, header: &NetlinkHeader) -> bool
     ensures { IsTrue result ↔ (IsTrue was ⊎ IsBitSet header.now.flags 4) }
@@ -29,9 +29,9 @@ fn interrupted_by(was: bool, header: &NetlinkHeader) -> bool
     was || header.flags & NLM_F_DUMP_INTR != 0
 }
 
-// Takes the messages of a datagram up to the end of the dump, and tells how the dump then stands:
-// its state, and the number that its end tells. The type and the flags of each are looked at before
-// memory is taken.
+// Reads the messages of a datagram up to the end of the dump, and returns the new state of the dump
+// and the error number of its end. The type and the flags of a message are read before its payload,
+// which may need memory.
 fn take_messages<I: Kept>(
     alloc: Global,
     messages: &mut Vec<I>,
@@ -65,19 +65,19 @@ fn take_messages<I: Kept>(
     Ok((DumpState::Reading, None))
 }
 
-/// A dump that was fed datagrams: what it keeps of them in order, and how it stands.
+/// The reader of a dump: what it has kept of the messages, in order, and its state.
 #[derive(Drop)]
 pub(crate) struct FedDump<I: Kept> {
     alloc: Global,
     pub(crate) kept: Vec<I>,
-    /// Its state, and the number that its end tells.
+    /// The state, and the error number of the end of the dump.
     pub(crate) standing: (DumpState, Option<i32>),
-    /// Whether a message had the flag that says that what is dumped changed meanwhile.
+    /// Whether a message had `NLM_F_DUMP_INTR`.
     pub(crate) interrupted: bool,
-    // A dump that is still read has no number.
+    // A dump that has not ended has no error number.
     ghost unnumbered: { (standing.0 ≡ Reading) → (standing ≡ (Reading, None)) },
-    // Datagrams were fed, with memory for all, and left it so; or one more was, and the dump has
-    // failed.
+    // Feeding some datagrams, with enough memory, leads to this progress; or feeding one more did,
+    // and the dump has failed.
     ghost fed: { ∥ ((datagrams : List (List ℕ)) × (before : DumpProgress I.Entry)
         × FeedsLeave I.item_is new_dump datagrams before
         × ((before ≡ dump_with (map I.model kept.items) standing interrupted)
@@ -89,7 +89,7 @@ pub(crate) struct FedDump<I: Kept> {
 impl<I: Kept> FedDump<I> {
     ghost use Rattle.netlink_packet_sock_diag.specs.DumpModel.{progress};
 
-    /// A dump of which nothing has come. The allocator is kept.
+    /// Returns a reader that nothing was fed to. It keeps the allocator.
     pub(crate) fn new(alloc: Global) -> Self
         ensures kept { result.kept.items ≡ [] }
         ensures state { result.standing ≡ (Reading, None) }
@@ -103,7 +103,7 @@ impl<I: Kept> FedDump<I> {
         }
     }
 
-    /// Takes the messages of a datagram, as [`DumpReader::feed`](crate::DumpReader::feed) says.
+    /// Reads the messages of a datagram; see [`DumpReader::feed`](crate::DumpReader::feed).
     pub(crate) fn feed(&mut self, datagram: &[u8]) -> Result<(), DumpError>
         ensures { FeedLeaves I.item_is (progress I.model self.old) datagram.now
             (progress I.model self.new) result }
