@@ -29,7 +29,7 @@ module _ {A : Type 0} where
   end_of (Err e) = Some (Err e)
   end_of _ = None
 
-  -- Appends the inner messages up to the first item that is neither an inner message nor NLMSG_NOOP.
+  -- Appends the inner messages before the first item that is neither an inner message nor a NOOP.
   -- That item ends the dump; if there is none, the dump is still being read.
   abbrev pub Dump : List A → List (Item A) → List A → Result Standing DecodeError → Type 0
   Dump before items after end = (passed later : List (Item A)) × (items ≡ passed ++ later)
