@@ -49,6 +49,8 @@ INVERSE = "Inverse"
 DETERMINED = {
     "attribute_lists.specs.AttributesIn: values_in": "attribute_lists::laws::found_values_are_the_attributes",
     "netlink_core.specs.AttributeSet: content": "netlink_core::laws::content_is_of_its_type",
+    "sock_diag_attributes.specs.InetModel: inet_variant": "sock_diag_attributes::laws::inet_values_are_variants",
+    "sock_diag_attributes.specs.UnixModel: unix_variant": "sock_diag_attributes::laws::unix_values_are_variants",
 }
 # Definitions of the tests.
 OF_TESTS = set()

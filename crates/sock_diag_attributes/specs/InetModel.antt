@@ -1,6 +1,7 @@
 -- The model of an attribute of a reply about an IPv4 or IPv6 socket: what contracts see of it.
 use Rattle.std.specs.Borrow.{Bor}
 use Rattle.std.specs.Prelude.{ℕ, List, String, string_bytes}
+use Rattle.std.proofs.Common.{inl, inr}
 use Rattle.std.specs.declared.alloc.Global.{Global}
 use Rattle.netlink_core.specs.declared.attribute.NlaBuffer.{NlaBuffer}
 use Rattle.netlink_core.specs.declared.nla.DefaultNla.{DefaultNla}
@@ -40,6 +41,23 @@ module _ {T O : Type 0} (text : T → List ℕ) (other : O → Attribute) where
   model (nla.Mark n) = of_type inet INET_DIAG_MARK n
   model (nla.ClassId n) = of_type inet INET_DIAG_CLASS_ID n
   model (nla.Other a) = of_type inet 0xffff (other a)
+
+-- the variant that a decoded value is
+abbrev pub inet_variant : AttributeValue inet → InetNla (List ℕ) Attribute
+inet_variant (inl memory) = nla.LegacyMemInfo memory
+inet_variant (inr (inl info)) = nla.TcpInfo info
+inet_variant (inr (inr (inl name))) = nla.Congestion name
+inet_variant (inr (inr (inr (inl tos)))) = nla.Tos tos
+inet_variant (inr (inr (inr (inr (inl class))))) = nla.Tc class
+inet_variant (inr (inr (inr (inr (inr (inl memory)))))) = nla.MemInfo memory
+inet_variant (inr (inr (inr (inr (inr (inr (inl state))))))) = nla.Shutdown state
+inet_variant (inr (inr (inr (inr (inr (inr (inr (inl protocol)))))))) = nla.Protocol protocol
+inet_variant (inr (inr (inr (inr (inr (inr (inr (inr (inl only))))))))) = nla.SkV6Only only
+inet_variant (inr (inr (inr (inr (inr (inr (inr (inr (inr (inl mark)))))))))) = nla.Mark mark
+inet_variant (inr (inr (inr (inr (inr (inr (inr (inr (inr (inr (inl class))))))))))) =
+    nla.ClassId class
+inet_variant (inr (inr (inr (inr (inr (inr (inr (inr (inr (inr (inr other))))))))))) =
+    nla.Other other
 
 -- that of one with memory of its own
 abbrev pub nla_model : InetNla (String Global) DefaultNla → AttributeValue inet

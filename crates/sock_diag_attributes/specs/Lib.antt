@@ -15,6 +15,7 @@ pub mod InetAttributes
 pub mod InetAttributeLaws
 pub mod InetModel
 pub mod ValueSteps
+pub mod VariantLaws
 pub mod LentLaws
 pub mod EqualNameLaws
 pub mod EqualUnixLaws

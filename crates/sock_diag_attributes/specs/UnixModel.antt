@@ -1,6 +1,7 @@
 -- The model of an attribute of a reply about a UNIX socket: what contracts see of it.
 use Rattle.std.specs.Borrow.{Bor}
 use Rattle.std.specs.Prelude.{ℕ, List, Vec, vec_items}
+use Rattle.std.proofs.Common.{inl, inr}
 use Rattle.std.specs.declared.alloc.Global.{Global}
 use Rattle.netlink_core.specs.declared.attribute.NlaBuffer.{NlaBuffer}
 use Rattle.netlink_core.specs.declared.nla.DefaultNla.{DefaultNla}
@@ -37,6 +38,17 @@ module _ {N L O : Type 0} (name : N → SocketName (List ℕ)) (list : L → Lis
   model (nla.MemInfo m) = of_type unix UNIX_DIAG_MEMINFO m
   model (nla.Shutdown n) = of_type unix UNIX_DIAG_SHUTDOWN n
   model (nla.Other a) = of_type unix 0xffff (other a)
+
+-- the variant that a decoded value is
+abbrev pub unix_variant : AttributeValue unix → UnixNla (SocketName (List ℕ)) (List ℕ) Attribute
+unix_variant (inl name) = nla.Name name
+unix_variant (inr (inl file)) = nla.Vfs file
+unix_variant (inr (inr (inl inode))) = nla.Peer inode
+unix_variant (inr (inr (inr (inl inodes)))) = nla.PendingConnections inodes
+unix_variant (inr (inr (inr (inr (inl queues))))) = nla.ReceiveQueueLength queues.0 queues.1
+unix_variant (inr (inr (inr (inr (inr (inl memory)))))) = nla.MemInfo memory
+unix_variant (inr (inr (inr (inr (inr (inr (inl state))))))) = nla.Shutdown state
+unix_variant (inr (inr (inr (inr (inr (inr (inr other))))))) = nla.Other other
 
 -- that of one with memory of its own
 abbrev pub nla_model : UnixNla (SocketName (Vec ℕ Global)) (Vec ℕ Global) DefaultNla

@@ -3,7 +3,12 @@
 ghost use Rattle.std.specs.Prelude.{◌≡◌, ◌↔◌, IsTrue, IsOk, IfOk, true};
 ghost use Rattle.sock_diag_attributes.specs.NameModel.{name_of};
 ghost use Rattle.sock_diag_attributes.specs.NumbersModel.{numbers_view_model};
+ghost use Rattle.netlink_core.specs.AttributeSet.{AttributeValue};
+ghost use Rattle.sock_diag_attributes.specs.InetAttributes.{inet};
+ghost use Rattle.sock_diag_attributes.specs.InetModel.{inet_variant, model as inet_model};
 ghost use Rattle.sock_diag_attributes.specs.InetModel.{nla_view_model as inet_view_model};
+ghost use Rattle.sock_diag_attributes.specs.UnixAttributes.{unix};
+ghost use Rattle.sock_diag_attributes.specs.UnixModel.{model as unix_model, unix_variant};
 ghost use Rattle.sock_diag_attributes.specs.UnixModel.{nla_view_model as unix_view_model};
 
 use crate::inet::nlas::{Nla as InetNla, NlaView as InetNlaView};
@@ -23,6 +28,22 @@ pub fn readers_take_memory() -> (bool, bool, bool)
         UnixDiagName::TAKES_MEMORY,
     )
 }
+
+/// Proof only: the contract states the property. Each decoded value of an attribute of a reply
+/// about a UNIX socket is the model of its variant.
+#[tactic(auto, using(crate::specs::VariantLaws::unix_variant-same))]
+pub fn unix_values_are_variants()
+    ensures { (v : AttributeValue unix)
+        → unix_model (λ name. name) (λ list. list) (λ other. other) (unix_variant v) ≡ v }
+{}
+
+/// Proof only: the contract states the property. Each decoded value of an attribute of a reply
+/// about an IPv4 or IPv6 socket is the model of its variant.
+#[tactic(auto, using(crate::specs::VariantLaws::inet_variant-same))]
+pub fn inet_values_are_variants()
+    ensures { (v : AttributeValue inet)
+        → inet_model (λ text. text) (λ other. other) (inet_variant v) ≡ v }
+{}
 
 /// `==` says whether two names in place are the same name.
 pub fn equal_name_views(v: &NameView<'_>, w: &NameView<'_>) -> bool

@@ -3,7 +3,6 @@ use Rattle.std.specs.Prelude.{ℕ, ◌==◌, ◌||◌, ◌/◌, ◌%◌, if◌th
 use Rattle.std.specs.Prelude.{Bool, drop, false, flat_map, codes, decimal, bit_and, nat_lt}
 use Rattle.std.specs.Prelude.{slice_index, Option, None, Some, option_map, unwrap_or, Result, Ok}
 use Rattle.std.specs.Prelude.{Err}
-use Rattle.std.proofs.Common.{inl, inr}
 use Rattle.byteorder.specs.Endian.{little_number}
 use Rattle.capture_tables.specs.Parts.{cookie_if_asked, detail, directions, flag_detail, hex_detail}
 use Rattle.capture_tables.specs.Parts.{memory_part, packet_flags, pair_detail, some_detail}
@@ -28,8 +27,15 @@ use Rattle.sock_diag_values.specs.MemInfo.{mem_info}
 use Rattle.sock_diag_values.specs.declared.inet.legacy_mem_info.LegacyMemInfo.{LegacyMemInfo}
 use Rattle.sock_diag_values.specs.declared.inet.mem_info.MemInfo.{MemInfo}
 use Rattle.sock_diag_values.specs.declared.inet.tcp_info.TcpInfo.{TcpInfo}
+use Rattle.sock_diag_attributes.specs.declared.inet.nlas.InetNla.{InetNla}
+use Rattle.sock_diag_attributes.specs.declared.inet.nlas.InetNla.TheVariants as inet_nla
+use Rattle.sock_diag_attributes.specs.declared.unix.name.SocketName.{SocketName}
+use Rattle.sock_diag_attributes.specs.declared.unix.nlas.UnixNla.{UnixNla}
+use Rattle.sock_diag_attributes.specs.declared.unix.nlas.UnixNla.TheVariants as unix_nla
 use Rattle.sock_diag_attributes.specs.InetAttributes.{inet}
+use Rattle.sock_diag_attributes.specs.InetModel.{inet_variant}
 use Rattle.sock_diag_attributes.specs.UnixAttributes.{unix}
+use Rattle.sock_diag_attributes.specs.UnixModel.{unix_variant}
 use Rattle.sock_diag_families.specs.PacketAttributes.{packet_info}
 use Rattle.sock_diag_families.specs.declared.packet.attributes.PacketInfo.{PacketInfo}
 use Rattle.sock_diag_captures.specs.Pieces.{Piece}
@@ -183,38 +189,43 @@ memory_in (Err e) = []
 abbrev pub unknown : Attribute → List ℕ
 unknown a = pair_detail (codes "unknown") (attribute_type a) (length a.value)
 
--- What an attribute of a reply about an IPv4 or IPv6 socket tells, in the order of its set: the
--- memory as older kernels tell it, the connection, the congestion control algorithm, the type of
--- service, the traffic class, the memory, the directions, the protocol, whether for IPv6 alone, the
--- mark, the class; or an attribute of another type.
-abbrev pub inet_text : Options → Attribute → AttributeValue inet → List ℕ
-inet_text o a (inl m) = legacy_memory m
-inet_text o a (inr (inl t)) = connection t
-inet_text o a (inr (inr (inl text))) = codes " cong:" ++ shown o.utf8 text
-inet_text o a (inr (inr (inr (inl n)))) = hex_detail (codes "tos") n
-inet_text o a (inr (inr (inr (inr (inl n))))) = hex_detail (codes "tclass") n
-inet_text o a (inr (inr (inr (inr (inr (inl m)))))) = memory m
-inet_text o a (inr (inr (inr (inr (inr (inr (inl n))))))) = directions n
-inet_text o a (inr (inr (inr (inr (inr (inr (inr (inl n)))))))) = detail (codes "protocol") n
-inet_text o a (inr (inr (inr (inr (inr (inr (inr (inr (inl flag))))))))) =
-    detail (codes "v6only") (if flag then 1 else 0)
-inet_text o a (inr (inr (inr (inr (inr (inr (inr (inr (inr (inl n)))))))))) =
-    hex_detail (codes "fwmark") n
-inet_text o a (inr (inr (inr (inr (inr (inr (inr (inr (inr (inr (inl n))))))))))) =
-    hex_detail (codes "class_id") n
-inet_text o a (inr (inr (inr (inr (inr (inr (inr (inr (inr (inr (inr other))))))))))) = unknown a
+-- the text of an attribute of a reply about an IPv4 or IPv6 socket, by its variant
+abbrev pub inet_variant_text : Options → Attribute → InetNla (List ℕ) Attribute → List ℕ
+inet_variant_text o a (inet_nla.LegacyMemInfo m) = legacy_memory m
+inet_variant_text o a (inet_nla.TcpInfo t) = connection t
+inet_variant_text o a (inet_nla.Congestion name) = codes " cong:" ++ shown o.utf8 name
+inet_variant_text o a (inet_nla.Tos n) = hex_detail (codes "tos") n
+inet_variant_text o a (inet_nla.Tc n) = hex_detail (codes "tclass") n
+inet_variant_text o a (inet_nla.MemInfo m) = memory m
+inet_variant_text o a (inet_nla.Shutdown n) = directions n
+inet_variant_text o a (inet_nla.Protocol n) = detail (codes "protocol") n
+inet_variant_text o a (inet_nla.SkV6Only flag) = detail (codes "v6only") (if flag then 1 else 0)
+inet_variant_text o a (inet_nla.Mark n) = hex_detail (codes "fwmark") n
+inet_variant_text o a (inet_nla.ClassId n) = hex_detail (codes "class_id") n
+inet_variant_text o a (inet_nla.Other other) = unknown a
 
--- What one of a reply about a UNIX socket tells beside its columns: the file, the inodes of
--- pending connections, the memory, the directions; or an attribute of another type.
+-- the text of a decoded attribute of such a reply
+abbrev pub inet_text : Options → Attribute → AttributeValue inet → List ℕ
+inet_text o a v = inet_variant_text o a (inet_variant v)
+
+-- The text of an attribute of a reply about a UNIX socket, by its variant; the name, the peer and
+-- the queue lengths have columns. The memory is read again, since its variant has three of its nine
+-- fields.
+abbrev pub unix_variant_text : Attribute → UnixNla (SocketName (List ℕ)) (List ℕ) Attribute
+    → List ℕ
+unix_variant_text a (unix_nla.Name name) = []
+unix_variant_text a (unix_nla.Vfs v) = pair_detail (codes "vfs") v.inode v.device
+unix_variant_text a (unix_nla.Peer n) = []
+unix_variant_text a (unix_nla.PendingConnections inodes) =
+    flat_map (detail (codes "pending")) inodes
+unix_variant_text a (unix_nla.ReceiveQueueLength first second) = []
+unix_variant_text a (unix_nla.MemInfo m) = memory_in (read mem_info tt a.value)
+unix_variant_text a (unix_nla.Shutdown n) = directions n
+unix_variant_text a (unix_nla.Other other) = unknown a
+
+-- the text of a decoded attribute of such a reply
 abbrev pub unix_text : Attribute → AttributeValue unix → List ℕ
-unix_text a (inl name) = []
-unix_text a (inr (inl v)) = pair_detail (codes "vfs") v.inode v.device
-unix_text a (inr (inr (inl peer))) = []
-unix_text a (inr (inr (inr (inl inodes)))) = flat_map (detail (codes "pending")) inodes
-unix_text a (inr (inr (inr (inr (inl queues))))) = []
-unix_text a (inr (inr (inr (inr (inr (inl m)))))) = memory_in (read mem_info tt a.value)
-unix_text a (inr (inr (inr (inr (inr (inr (inl n))))))) = directions n
-unix_text a (inr (inr (inr (inr (inr (inr (inr other))))))) = unknown a
+unix_text a v = unix_variant_text a (unix_variant v)
 
 -- the words of an attribute's value, or why it is refused
 abbrev pub words_of : {A : Type 0} → (Attribute → A → List ℕ) → Attribute
