@@ -1,1 +1,2 @@
 pub mod AttributesIn
+pub mod CheckedModel

@@ -6,7 +6,7 @@ ghost use Rattle.std.specs.Iterator.SizeHint.{IsWithinCount};
 ghost use Rattle.netlink_core.specs.Attribute.{Attribute, IsPrefixFault, StartsWith};
 ghost use Rattle.netlink_core.specs.AttributeSet.{decodes};
 ghost use Rattle.netlink_core.specs.Gives.{Gives};
-ghost use Rattle.netlink_core.specs.Walk.{bytes_left};
+ghost use Rattle.attribute_lists.specs.CheckedModel.{checked_left};
 
 use netlink_core::{DecodeError, FamilyView, NlasIterator};
 use std::marker::PhantomData;
@@ -25,7 +25,7 @@ pub struct CheckedNlas<'a, V> {
 impl<'a, V> CheckedNlas<'a, V> {
     /// The walk over these bytes.
     pub fn new(bytes: &'a [u8]) -> CheckedNlas<'a, V>
-        ensures { bytes_left result.walk ≡ bytes.entry.now }
+        ensures { checked_left result ≡ bytes.entry.now }
     {
         CheckedNlas {
             walk: NlasIterator::new(bytes),
@@ -42,11 +42,11 @@ impl<'a, V: FamilyView<'a>> Iterator for CheckedNlas<'a, V> {
     ghost next_gives = { λ old given new. Gives
         (λ left view later. (a : Attribute) × StartsWith left a later
         × (decodes V.attribute_set a ≡ Ok (V.model view)))
-        (IsPrefixFault (decodes V.attribute_set)) (bytes_left old.walk) given
-        (bytes_left new.walk) };
+        (IsPrefixFault (decodes V.attribute_set)) (checked_left old) given
+        (checked_left new) };
 
     // At most one item for each four bytes, rounded up.
-    ghost remaining = { λ nlas. at_most ((length (bytes_left nlas.walk) + 3) / 4) };
+    ghost remaining = { λ nlas. at_most ((length (checked_left nlas) + 3) / 4) };
 
     #[inline(always)]
     fn next(&mut self) -> Option<Result<V, DecodeError>> {
@@ -64,9 +64,9 @@ impl<'a, V: FamilyView<'a>> Iterator for CheckedNlas<'a, V> {
     /// How many are left is told by the walk alone.
     fn size_hint(&self) -> (usize, Option<usize>)
         ensures lower { IsWithinCount result.0
-            (at_most ((length (bytes_left self.now.walk) + 3) / 4)) }
+            (at_most ((length (checked_left self.now) + 3) / 4)) }
         ensures upper { IfSome result.1
-            (UpTo (at_most ((length (bytes_left self.now.walk) + 3) / 4))) }
+            (UpTo (at_most ((length (checked_left self.now) + 3) / 4))) }
         ensures unknown { result ≡ (0, None) }
     {
         (0, None)

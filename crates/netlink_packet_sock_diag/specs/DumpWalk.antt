@@ -1,4 +1,4 @@
--- What the walk over the messages of a datagram, each as what it carries, holds and gives.
+-- The iterator over the messages of a datagram, each as its payload: its state and its steps.
 use Rattle.std.specs.Prelude.{◌≡◌, ◌≢◌, ◌⊎◌, ℕ, List, [], Option, Result, Err, MatchOption}
 use Rattle.netlink_core.specs.declared.fault.DecodeError.{DecodeError}
 use Rattle.netlink_core.specs.Datagram.{StartsWithMessage}
@@ -11,13 +11,17 @@ use Rattle.netlink_packet_sock_diag.specs.Message.{message_codec}
 use Rattle.netlink_core.specs.Faults.{map_ok}
 use Rattle.netlink_packet_sock_diag.specs.PayloadViewModel.{payload_view_model}
 
--- A step gives what the first message of what was left carries, or its fault, and what follows its
--- padding is left then. Or it gives the fault where there is no message, and then nothing is left.
--- None comes only where nothing was left.
+-- the bytes that the iterator has not read yet
+abbrev pub views_left : DumpViews → List ℕ
+views_left views = datagram_left views.messages
+
+-- A step yields the payload of the first message, or its error, and the bytes after the padding of
+-- the message are left. If the bytes do not start with a message, it yields the error, and no bytes
+-- are left. It yields `None` only if no bytes were left.
 abbrev pub GivesView : DumpViews → Option (Result PayloadView DecodeError) → DumpViews → Type 0
 GivesView old given new =
-    let left = datagram_left old.messages in
-    let later = datagram_left new.messages in
+    let left = views_left old in
+    let later = views_left new in
     MatchOption given ((left ≡ []) × (later ≡ []))
     (λ item. ((message : List ℕ) × StartsWithMessage left message later
     × ItemIs message_codec message (map_ok payload_view_model item))

@@ -30,8 +30,7 @@ ghost use Rattle.netlink_packet_sock_diag.specs.Feed.{new_dump};
 ghost use Rattle.netlink_packet_sock_diag.specs.declared.dump.DumpState.TheVariants.{Reading};
 ghost use Rattle.netlink_packet_sock_diag.specs.declared.dump.views.DumpViews.{DumpViews};
 ghost use Rattle.netlink_packet_sock_diag.specs.PayloadViewModel.{PayloadView};
-ghost use Rattle.netlink_core.specs.DatagramWalk.{datagram_left};
-ghost use Rattle.netlink_packet_sock_diag.specs.DumpWalk.{GivesView};
+ghost use Rattle.netlink_packet_sock_diag.specs.DumpWalk.{GivesView, views_left};
 ghost use Rattle.netlink_packet_sock_diag.specs.PayloadViewModel.{payload_view_model};
 ghost use Rattle.sock_diag_replies.specs.UnixResponseSpec.{unix_response_spec};
 ghost use Rattle.sock_diag_replies.specs.InetResponseSpec.{inet_response_spec};
@@ -314,7 +313,7 @@ pub fn lossy_dump_keeps_messages()
 pub fn whole_views_are_the_datagram()
     ensures { (walk : DumpViews) (given : List (Result PayloadView DecodeError))
         → Drains GivesView walk given
-        → ItemsAre (ItemIs message_codec) (datagram_left walk.messages)
+        → ItemsAre (ItemIs message_codec) (views_left walk)
         (map (map_ok payload_view_model) given) }
 {}
 
@@ -337,7 +336,7 @@ pub fn copied_dump_error(v: &DumpError) -> Result<DumpError, AllocError>
 pub fn copied_views<'a>(walk: &Views<'a>) -> Result<Views<'a>, AllocError>
     ensures ok { IsOk result }
     ensures same { IfOk result
-        (λ copy. datagram_left copy.messages ≡ datagram_left walk.now.messages) }
+        (λ copy. views_left copy ≡ views_left walk.now) }
 {
     walk.clone()
 }

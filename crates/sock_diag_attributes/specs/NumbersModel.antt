@@ -1,8 +1,13 @@
--- The model of numbers that are read in place: what contracts see of it.
+-- The model of borrowed numbers and of their iterator: what contracts see of them.
 use Rattle.std.specs.Prelude.{ℕ, List}
+use Rattle.sock_diag_attributes.specs.declared.numbers.NumbersIterator.{NumbersIterator}
 use Rattle.sock_diag_attributes.specs.declared.numbers.NumbersView.{NumbersView}
 use Rattle.sock_diag_attributes.specs.Numbers.{numbers_in}
 
 -- the numbers
 abbrev pub numbers_view_model : NumbersView → List ℕ
 numbers_view_model numbers = numbers_in numbers.bytes.now
+
+-- the numbers that the iterator has not yielded yet
+abbrev pub numbers_left : NumbersIterator → List ℕ
+numbers_left walk = numbers_view_model walk.rest

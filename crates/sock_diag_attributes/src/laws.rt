@@ -2,7 +2,7 @@
 
 ghost use Rattle.std.specs.Prelude.{◌≡◌, ◌↔◌, IsTrue, IsOk, IfOk, true};
 ghost use Rattle.sock_diag_attributes.specs.NameModel.{name_of};
-ghost use Rattle.sock_diag_attributes.specs.NumbersModel.{numbers_view_model};
+ghost use Rattle.sock_diag_attributes.specs.NumbersModel.{numbers_left, numbers_view_model};
 ghost use Rattle.netlink_core.specs.AttributeSet.{AttributeValue};
 ghost use Rattle.sock_diag_attributes.specs.InetAttributes.{inet};
 ghost use Rattle.sock_diag_attributes.specs.InetModel.{inet_variant, model as inet_model};
@@ -95,8 +95,7 @@ pub fn copied_numbers_walk<'a>(
     walk: &NumbersIterator<'a>,
 ) -> Result<NumbersIterator<'a>, AllocError>
     ensures ok { IsOk result }
-    ensures same { IfOk result (λ copy. numbers_view_model copy.rest
-        ≡ numbers_view_model walk.now.rest) }
+    ensures same { IfOk result (λ copy. numbers_left copy ≡ numbers_left walk.now) }
 {
     walk.clone()
 }

@@ -65,7 +65,7 @@ pub struct NumbersView<'a> {
 }
 
 impl<'a> NumbersView<'a> {
-    ghost use Rattle.sock_diag_attributes.specs.NumbersModel.{numbers_view_model};
+    ghost use Rattle.sock_diag_attributes.specs.NumbersModel.{numbers_left, numbers_view_model};
 
     /// The numbers in the bytes. A length that is no multiple of four is `NotMultipleOfFour`.
     pub(crate) fn parse(bytes: &'a [u8]) -> Result<NumbersView<'a>, DecodeError>
@@ -108,7 +108,7 @@ impl<'a> NumbersView<'a> {
 
     /// The numbers, one after the other.
     pub fn iter(&self) -> NumbersIterator<'a>
-        ensures { numbers_view_model result.rest ≡ numbers_view_model self.now }
+        ensures { numbers_left result ≡ numbers_view_model self.now }
     {
         NumbersIterator { rest: *self }
     }
@@ -142,13 +142,13 @@ pub struct NumbersIterator<'a> {
 }
 
 impl<'a> Iterator for NumbersIterator<'a> {
-    ghost use Rattle.sock_diag_attributes.specs.NumbersModel.{numbers_view_model};
+    ghost use Rattle.sock_diag_attributes.specs.NumbersModel.{numbers_left};
 
     type Item = u32;
 
-    ghost next_gives = { λ old item new. YieldsFirst numbers_view_model old.rest item new.rest };
+    ghost next_gives = { λ old item new. YieldsFirst numbers_left old item new };
 
-    ghost remaining = { λ walk. item_count numbers_view_model walk.rest };
+    ghost remaining = { λ walk. item_count numbers_left walk };
 
     #[tactic(auto, using(crate::specs::NumberLaws::numbers_in_none, crate::specs::NumberLaws::numbers_in_first))]
     fn next(&mut self) -> Option<u32> {
@@ -163,11 +163,11 @@ impl<'a> Iterator for NumbersIterator<'a> {
     /// How many numbers are left, exactly.
     #[tactic(auto, using(crate::specs::NumberLaws::how_many))]
     fn size_hint(&self) -> (usize, Option<usize>)
-        ensures lower { IsWithinCount result.0 (item_count numbers_view_model self.now.rest) }
-        ensures upper { IfSome result.1 (UpTo (item_count numbers_view_model self.now.rest)) }
+        ensures lower { IsWithinCount result.0 (item_count numbers_left self.now) }
+        ensures upper { IfSome result.1 (UpTo (item_count numbers_left self.now)) }
         ensures exact { result ≡ (
-          length (numbers_view_model self.now.rest),
-          Some (length (numbers_view_model self.now.rest)),
+          length (numbers_left self.now),
+          Some (length (numbers_left self.now)),
         ) }
     {
         (self.rest.len(), Some(self.rest.len()))

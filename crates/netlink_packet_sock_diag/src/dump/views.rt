@@ -112,11 +112,11 @@ pub struct DumpViews<'a> {
 }
 
 impl<'a> DumpViews<'a> {
-    ghost use Rattle.netlink_core.specs.DatagramWalk.{datagram_left};
+    ghost use Rattle.netlink_packet_sock_diag.specs.DumpWalk.{views_left};
 
-    /// The walk over this datagram.
+    /// Returns the iterator over the messages of this datagram.
     pub fn new(datagram: &'a [u8]) -> DumpViews<'a>
-        ensures { datagram_left result.messages ≡ datagram.entry.now }
+        ensures { views_left result ≡ datagram.entry.now }
     {
         DumpViews {
             messages: MessageStrings::new(datagram),
@@ -128,15 +128,14 @@ impl<'a> Iterator for DumpViews<'a> {
     ghost use Rattle.std.specs.Prelude.{◌+◌, ◌/◌, IfSome, None};
     ghost use Rattle.std.specs.Iterator.{at_most, UpTo};
     ghost use Rattle.std.specs.Iterator.SizeHint.{IsWithinCount};
-    ghost use Rattle.netlink_core.specs.DatagramWalk.{datagram_left};
-    ghost use Rattle.netlink_packet_sock_diag.specs.DumpWalk.{GivesView};
+    ghost use Rattle.netlink_packet_sock_diag.specs.DumpWalk.{GivesView, views_left};
 
     type Item = Result<PayloadView<'a>, DecodeError>;
 
     ghost next_gives = { GivesView };
 
     // At most one item for each sixteen bytes, rounded up.
-    ghost remaining = { λ walk. at_most ((length (datagram_left walk.messages) + 15) / 16) };
+    ghost remaining = { λ walk. at_most ((length (views_left walk) + 15) / 16) };
 
     /// What the next message carries, or its fault. At what is no message the faults are those of
     /// [`NetlinkHeader::from_prefix`], over the bytes that are left.
@@ -151,9 +150,9 @@ impl<'a> Iterator for DumpViews<'a> {
     /// How many are left is told by the walk alone.
     fn size_hint(&self) -> (usize, Option<usize>)
         ensures lower { IsWithinCount result.0
-            (at_most ((length (datagram_left self.now.messages) + 15) / 16)) }
+            (at_most ((length (views_left self.now) + 15) / 16)) }
         ensures upper { IfSome result.1
-            (UpTo (at_most ((length (datagram_left self.now.messages) + 15) / 16))) }
+            (UpTo (at_most ((length (views_left self.now) + 15) / 16))) }
         ensures unknown { result ≡ (0, None) }
     {
         (0, None)
