@@ -75,6 +75,12 @@ def names_in(text, bound):
         end = at + 1
         while end < len(tokens) and tokens[end][1]:
             end += 1
+        if token == "λ" and tokens[end][0] == "(":
+            at = end
+            while tokens[at][0] != ")":
+                bound |= {tokens[at][0]} if tokens[at][1] else set()
+                at += 1
+            continue
         if token in ("λ", "let") or token in ("(", "{") and end < len(tokens) and tokens[end][0] == ":":
             bound |= {name for name, _ in tokens[at + 1:end]}
             at = end

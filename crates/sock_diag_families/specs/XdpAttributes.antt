@@ -6,18 +6,18 @@ use Rattle.sock_diag_families.specs.Found.{fields}
 use Rattle.sock_diag_families.specs.declared.xdp.attributes.XdpInfo.{XdpInfo}
 use Rattle.sock_diag_families.specs.declared.xdp.attributes.XdpStatistics.{XdpStatistics}
 use Rattle.sock_diag_families.specs.declared.xdp.attributes.XdpUmem.{XdpUmem}
-use Rattle.netlink_core.specs.Table.{number, row}
+use Rattle.netlink_core.specs.Table.{number, array}
 
 -- two words of 32 bits
 abbrev pub xdp_info : List ℕ → Result XdpInfo DecodeError
-xdp_info = fields 44 1 8 (row number 0 4 2) (λ words. record {
+xdp_info = fields 44 1 8 (array number 0 4 2) (λ words. record {
   interface = slice_index words 0;
   queue = slice_index words 1;
 })
 
 -- a word of 64 bits, and eight of 32
 abbrev pub xdp_umem_rows : List Field
-xdp_umem_rows = number 0 8 ∷ row number 8 4 8
+xdp_umem_rows = number 0 8 ∷ array number 8 4 8
 
 abbrev pub xdp_umem_of : List ℕ → XdpUmem
 xdp_umem_of words = record {
@@ -37,7 +37,7 @@ xdp_umem = fields 44 5 40 xdp_umem_rows xdp_umem_of
 
 -- six words of 64 bits
 abbrev pub xdp_statistics_rows : List Field
-xdp_statistics_rows = row number 0 8 6
+xdp_statistics_rows = array number 0 8 6
 
 abbrev pub xdp_statistics_of : List ℕ → XdpStatistics
 xdp_statistics_of words = record {
