@@ -76,11 +76,12 @@ def names_in(text, bound):
         while end < len(tokens) and tokens[end][1]:
             end += 1
         if token == "λ" and tokens[end][0] == "(":
-            at = end
-            while tokens[at][0] != ")":
-                bound |= {tokens[at][0]} if tokens[at][1] else set()
-                at += 1
-            continue
+            # A tuple pattern, as in `λ (a, b).`. A binder with a type follows below.
+            close = next(place for place in range(end, len(tokens)) if tokens[place][0] in (")", ":"))
+            if tokens[close][0] == ")":
+                bound |= {name for name, is_name in tokens[at + 1:close] if is_name}
+                at = close + 1
+                continue
         if token in ("λ", "let") or token in ("(", "{") and end < len(tokens) and tokens[end][0] == ":":
             bound |= {name for name, _ in tokens[at + 1:end]}
             at = end
