@@ -131,14 +131,14 @@ LAYOUT = re.compile(
 )
 CLAUSE = re.compile(r"^([a-z]\w*)\b([^:=\n]*)=((?:.|\n(?!\S))*)", re.M)
 # The imports of modules with layouts.
-LAYS_OUT = re.compile(r"use Rattle\.netlink_core\.specs\.(?:Rows|Table)\.")
-# The forms of a layout: its length and its rows, or its fields and the value with their numbers.
+LAYS_OUT = re.compile(r"use Rattle\.netlink_core\.specs\.(?:Rows|Table)\.|\bfields, u32_at\b")
+# The forms of a layout: its length and its rows, or the members of a record that is only parsed.
 ARGUMENT = r"(?:\((?:[^()]|\((?:[^()]|\([^()]*\))*\))*\)|[\w.]+)"
 FORM = re.compile(
     rf"plain {ARGUMENT} (\d+) ({ARGUMENT})"
     r"|(?:least|size) = (\d+);.* rows = (?:λ (?:\w+|\([^)]*\))\. )?([^;]*);"
 )
-READ_ONLY = re.compile(rf"fields \d+ \w+ (\d+) ({ARGUMENT}) (.*)")
+ONLY_PARSED = re.compile(r"fields \d+ \w+ (\d+) (.*)")
 # The width of each kind of row that has one number.
 ROWS = CRATES / "netlink_core" / "specs" / "Rows.antt"
 WIDTH = re.compile(r"^ +(\w+) offset(?: mask)? = single \(\w+ offset(?: (\d+))?", re.M)
@@ -150,8 +150,7 @@ ADDRESS = 16
 MEMBER = re.compile(
     r"\((timer)_data \w+\.timer\)(\.\d)|\b[A-Z]\w*\.([a-z]\w*)|\b[a-z]\w*\.(?!timer\b)([a-z]\w*)"
 )
-FIELD = re.compile(rf"\b(array (?:number|network)|number)((?: {ARGUMENT})*)")
-INDEXED = re.compile(r"(\w+) = slice_index \w+ (\d+)")
+PARSED = re.compile(r"(\w+) = u(32|64)_at (\d+) bytes;")
 
 
 def definitions():
@@ -243,27 +242,23 @@ def parsed(row, offset):
         sys.exit(f"{row}: a form of a row that this script does not parse")
 
 
-def fields_of(table, value):
+def fields_of(value):
     """Yields the offset, the width and the member of each field of a record that is only parsed."""
-    members = dict((int(at), member) for member, at in INDEXED.findall(value))
-    widths = []
-    for form, rest in FIELD.findall(table):
-        at, width, *count = map(number_of, rest.split())
-        widths += [(at + n * width, width) for n in range(*count or [1])]
-    if sorted(members) != list(range(len(widths))):
-        sys.exit(f"{table}: {len(widths)} fields, and {len(members)} members")
-    yield from ((at, width, members[n]) for n, (at, width) in enumerate(widths))
+    found = PARSED.findall(value)
+    if len(found) != value.count("="):
+        sys.exit(f"{value}: a form of a record that this script does not parse")
+    yield from ((int(at), int(bits) // 8, member) for member, bits, at in found)
 
 
 def record_of(name):
     """Returns the length of a record, that of its rows, and each member's offset and width."""
-    found, read_only = FORM.search(body_of(name)), READ_ONLY.search(body_of(name))
+    found, parsed_only = FORM.search(body_of(name)), ONLY_PARSED.search(body_of(name))
     if found:
         least, rows = (it for it in found.groups() if it)
         rows = rows_of(rows)
-    elif read_only:
-        least, *others = read_only.groups()
-        rows = fields_of(*(body_of(it) if it in CLAUSES else it for it in others))
+    elif parsed_only:
+        least, value = parsed_only.groups()
+        rows = fields_of(body_of(value) if value in CLAUSES else value)
     elif name.endswith("_rows"):
         least, rows = "0", rows_of(name)
     else:
