@@ -77,6 +77,13 @@ def names_in(text, bound):
         end = at + 1
         while end < len(tokens) and tokens[end][1]:
             end += 1
+        if token == "λ" and tokens[end][0] == "(":
+            # A tuple pattern, as in `λ (a, b).`. A binder with a type follows below.
+            close = next(place for place in range(end, len(tokens)) if tokens[place][0] in (")", ":"))
+            if tokens[close][0] == ")":
+                bound |= {name for name, is_name in tokens[at + 1:close] if is_name}
+                at = close + 1
+                continue
         if token in ("λ", "let") or token in ("(", "{") and end < len(tokens) and tokens[end][0] == ":":
             bound |= {name for name, _ in tokens[at + 1:end]}
             at = end

@@ -1,15 +1,15 @@
 #!/usr/bin/env python3
 """Compares the layouts and the constants of the crates with the kernel's headers, by gcc.
 
-For each record of RECORDS the script parses its table in specs/, and finds the member of the Rust
-struct that each number of the table belongs to. A C program prints the size of the kernel's struct,
-and the offset and the end of each of its members. The fields of `tcp_info`, the bits of
+For each record of RECORDS the script parses its rows in specs/: an offset, a width and the member of
+the Rust struct. A C program prints the size of the kernel's struct, and the offset and the end of
+each of its members. The fields of `tcp_info`, the bits of
 `inet_diag_sockopt` and the public constants are compared in the same way. The headers of an older
 kernel have fewer of these: the last line but one lists what the installed headers lack.
 
 The exit status is 1 if anything differs, if the headers lack a struct or a member that they must
-have, if a layout of specs/ is missing from RECORDS, or if a table has a form that the script does
-not parse. Without gcc or without the headers the script prints one line and compares nothing.
+have, if a layout of specs/ is missing from RECORDS, or if a row has a form that the script does not
+parse. Without gcc or without the headers the script prints one line and compares nothing.
 """
 
 import re
@@ -39,10 +39,10 @@ MACROS = r"""
 SOCKET_ID = """source_port=id.idiag_sport destination_port=id.idiag_dport
     source_address=id.idiag_src destination_address=id.idiag_dst interface_id=id.idiag_if
     cookie=id.idiag_cookie"""
-# The table of each record, its C struct, and for each member of the Rust struct its C members:
+# The layout of each record, its C struct, and for each member of the Rust struct its C members:
 # several after `+`, none if it is not compared. `tcpi_` alone is the prefix of all C members.
 RECORDS = [
-    ("header_fields", "nlmsghdr", """length=nlmsg_len message_type=nlmsg_type flags=nlmsg_flags
+    ("header_rows", "nlmsghdr", """length=nlmsg_len message_type=nlmsg_type flags=nlmsg_flags
         sequence_number=nlmsg_seq port_number=nlmsg_pid"""),
     ("vfs", "unix_diag_vfs", "inode=udiag_vfs_ino device=udiag_vfs_dev"),
     ("legacy_mem_info", "inet_diag_meminfo", """receive_queue=idiag_rmem
@@ -130,33 +130,36 @@ LAYOUT = re.compile(
     r"|^(\w+)[^=\n]*= fields \d", re.M
 )
 CLAUSE = re.compile(r"^([a-z]\w*)\b([^:=\n]*)=((?:.|\n(?!\S))*)", re.M)
-# The import that a module with tables has.
-TABLES = "use Rattle.netlink_core.specs.Table."
-# The forms of a layout, each with its length, its table and the values of the fields.
-ARGUMENT = r"(?:\((?:[^()]|\((?:[^()]|\([^()]*\))*\))*\)|(?!then\b|else\b)[\w.]+)"
+# The imports of modules with layouts.
+LAYS_OUT = re.compile(r"use Rattle\.netlink_core\.specs\.(?:Rows|Table)\.|\bfields, u32_at\b")
+# The forms of a layout: its length and its rows, or the members of a record that is only parsed.
+ARGUMENT = r"(?:\((?:[^()]|\((?:[^()]|\([^()]*\))*\))*\)|[\w.]+)"
 FORM = re.compile(
-    rf"plain {ARGUMENT} (\d+) ({ARGUMENT}) ({ARGUMENT})"
-    rf"|fields \d+ \w+ (\d+) ({ARGUMENT}) (.*)"
-    r"|(?:least|size) = (\d+);.* (?:table|fields) = (.*?); values = (.*?);"
+    rf"plain {ARGUMENT} (\d+) ({ARGUMENT})"
+    r"|(?:least|size) = (\d+);.* rows = (?:λ (?:\w+|\([^)]*\))\. )?([^;]*);"
 )
-# The fields of a table with their arguments, and the values of these fields.
-FIELD = re.compile(
-    r"\b(row|number|network|flags|byte|bytes_at|unread|\w+_fields|\w+_rows)\b"
-    rf"((?: {ARGUMENT})*)"
-)
+ONLY_PARSED = re.compile(r"fields \d+ \w+ (\d+) (.*)")
+# The width of each kind of row that has one number.
+ROWS = CRATES / "netlink_core" / "specs" / "Rows.antt"
+WIDTH = re.compile(r"^ +(\w+) offset(?: mask)? = single \(\w+ offset(?: (\d+))?", re.M)
+WIDTHS = {name: int(width or 1) for name, width in WIDTH.findall(ROWS.read_text(encoding="utf-8"))}
+# The width of an element of an array, and that of an address of any IP version.
+ELEMENTS = {"u8s": 1, "be16s": 2}
+ADDRESS = 16
+# The member of the Rust struct in an accessor.
 MEMBER = re.compile(
-    r"\bfirst (\d+) \w+\.(\w+)|\((timer)_data \w+\.timer\)(\.\d)|\b(socket_id_values) "
-    r"|(\w+) = slice_index \w+ (\d+)|(?<!socket_id_values )\b[a-z]\w*\.([a-z]\w*)"
+    r"\((timer)_data \w+\.timer\)(\.\d)|\b[A-Z]\w*\.([a-z]\w*)|\b[a-z]\w*\.(?!timer\b)([a-z]\w*)"
 )
+PARSED = re.compile(r"(\w+) = u(32|64)_at (\d+) bytes;")
 
 
 def definitions():
-    """Returns the clauses of the definitions in modules with tables, and all layouts' names."""
+    """Returns the clauses of the definitions in modules with layouts, and all layouts' names."""
     clauses, layouts = {}, set()
     for path in CRATES.glob("*/specs/*.antt"):
         text = re.sub(r" *--.*", "", path.read_text(encoding="utf-8"))
         layouts |= {one or other for one, other in LAYOUT.findall(text)}
-        for name, parameters, body in CLAUSE.findall(text if TABLES in text else ""):
+        for name, parameters, body in CLAUSE.findall(text if LAYS_OUT.search(text) else ""):
             clauses.setdefault(name, []).append((parameters.split(), " ".join(body.split())))
     return clauses, layouts
 
@@ -170,72 +173,105 @@ def body_of(name):
     return clauses[0][1] if len(clauses) == 1 else sys.exit(f"{name}: {len(clauses)} definitions")
 
 
-def number_of(text, offset):
-    """Returns a number or a sum. `offset` is that of a nested table, and `words` at most 9."""
-    known = {"offset": offset, "words": 9}
-    return sum(known[it] if it in known else int(it, 0) for it in re.findall(r"\w+", text))
+def number_of(text, offset=0):
+    """Returns a number or a sum. `offset` is that of an embedded record."""
+    terms = re.findall(r"\w+", text)
+    return sum(offset if it == "offset" else int(it, 0) for it in terms)
 
 
-def fields_of(text, offset=0):
-    """Yields the offset and the width of each field of a table, and whether it is read."""
-    for form, rest in FIELD.findall(text):
-        first, *args = re.findall(ARGUMENT, rest) or ["0"]
-        if form == "row":
-            at, width, count = (number_of(it, offset) for it in args)
-            yield from ((at + n * width, width, True) for n in range(count))
-        elif form == "bytes_at":
-            at, count = number_of(first, offset), number_of(args[0], offset)
-            yield from ((at + n, 1, True) for n in range(count))
-        elif form == "unread":
-            zeros = re.search(r"replicate (\d+)", args[0])
-            yield number_of(first, offset), int(zeros[1] if zeros else args[0].count("∷")), False
-        elif form in ("byte", "number", "network", "flags"):
-            yield number_of(first, offset), number_of((args or ["1"])[0], offset), True
-        elif form == "address_fields":
-            # One clause for each version of IP: an address is one field here.
-            at, versions = number_of(first, offset), CLAUSES[form]
-            ends = {sum(list(fields_of(body, at))[-1][:2]) for _, body in versions}
-            yield at, ends.pop() - at if len(ends) == 1 else sys.exit("addresses differ"), True
+def elements(text):
+    """Returns the elements of a list that is written by `∷` and ends with `[]`."""
+    parts, depth = [""], 0
+    for sign in text:
+        depth += (sign in "([{") - (sign in ")]}")
+        if sign == "∷" and depth == 0:
+            parts.append("")
         else:
-            at = number_of(first, offset) if form == "socket_id_fields" else 0
-            yield from fields_of(body_of(form), at)
+            parts[-1] += sign
+    if parts.pop().strip() != "[]":
+        sys.exit(f"{text}: not a list of rows")
+    return [part.strip() for part in parts]
 
 
-def members_of(text):
-    """Yields the member of the Rust struct that each number of a table belongs to."""
-    found = sorted(MEMBER.findall(text), key=lambda it: int(it[6] or 0))
-    for count, array, timer, part, socket_id, indexed, _, member in found:
-        if socket_id:
-            yield from members_of(body_of(socket_id))
-        else:
-            yield from [array] * int(count or 0) or [timer + part or indexed or member]
+def inside(text):
+    """Returns a text without the parentheses around it."""
+    return inside(text[1:-1].strip()) if re.fullmatch(ARGUMENT, text) and text[0] == "(" else text
+
+
+def member_of(accessor):
+    """Returns the member of the Rust struct that an accessor reads."""
+    found = {"".join(it) for it in MEMBER.findall(accessor)}
+    return found.pop() if len(found) == 1 else sys.exit(f"{accessor}: {len(found)} members")
+
+
+def rows_of(text, offset=0):
+    """Yields the offset, the width and the member of each row of a list, None if it is ignored."""
+    name, *arguments = text.split()
+    if name in CLAUSES:
+        # The rows of a record, embedded at an offset.
+        at = number_of(arguments[0], offset) if arguments else 0
+        yield from rows_of(body_of(name), at)
+    else:
+        for row in elements(inside(text)):
+            yield from parsed(inside(row), offset)
+
+
+def parsed(row, offset):
+    """Yields the offset, the width and the member of a row; both if a condition selects a row."""
+    kind, *args = row.split(" ", 1)
+    if kind == "if":
+        for one in re.split(r" (?:then|else) ", row)[1:]:
+            yield from parsed(inside(one), offset)
+        return
+    args = re.findall(ARGUMENT, "".join(args))
+    if kind == "when" and len(args) == 2:
+        yield from parsed(inside(args[1]), offset)
+    elif kind == "embed" and len(args) == 2:
+        yield from rows_of(inside(args[1]), offset)
+    elif kind == "skip" and len(args) == 2:
+        repeated = re.search(r"replicate (\d+)", args[1])
+        yield number_of(args[0], offset), int(repeated[1] if repeated else args[1].count("∷")), None
+    elif kind in ELEMENTS and len(args) == 3:
+        width = ELEMENTS[kind] * number_of(args[1])
+        yield number_of(args[0], offset), width, member_of(args[2])
+    elif kind == "address" and len(args) == 3:
+        yield number_of(args[0], offset), ADDRESS, member_of(args[2])
+    elif kind in WIDTHS and len(args) == 2 + kind.startswith("flags"):
+        yield number_of(args[0], offset), WIDTHS[kind], member_of(args[-1])
+    else:
+        sys.exit(f"{row}: a form of a row that this script does not parse")
+
+
+def fields_of(value):
+    """Yields the offset, the width and the member of each field of a record that is only parsed."""
+    found = PARSED.findall(value)
+    if len(found) != value.count("="):
+        sys.exit(f"{value}: a form of a record that this script does not parse")
+    yield from ((int(at), int(bits) // 8, member) for member, bits, at in found)
 
 
 def record_of(name):
-    """Returns the length of a record, that of its table, and each member's offset and width."""
-    found = FORM.search(body_of(name))
+    """Returns the length of a record, that of its rows, and each member's offset and width."""
+    found, parsed_only = FORM.search(body_of(name)), ONLY_PARSED.search(body_of(name))
     if found:
-        least, table, values = (it for it in found.groups() if it)
-    elif name.endswith("_fields"):
-        least, table, values = "0", body_of(name), name.replace("_fields", "_values")
+        least, rows = (it for it in found.groups() if it)
+        rows = rows_of(rows)
+    elif parsed_only:
+        least, value = parsed_only.groups()
+        rows = fields_of(body_of(value) if value in CLAUSES else value)
+    elif name.endswith("_rows"):
+        least, rows = "0", rows_of(name)
     else:
         sys.exit(f"{name}: a form of a layout that this script does not parse")
-    values = body_of(values) if values in CLAUSES else values
-    fields, end, members = {}, 0, {}
-    for at, width, is_read in fields_of(table):
+    end, members = 0, {}
+    for at, width, member in rows:
         if at == end:
             end += width
         elif at + width != end:
-            sys.exit(f"{name}: no field at {end}")
-        # A condition has two fields, of which one is read.
-        fields[at] = (width, is_read or fields.get(at, (0, False))[1])
-    read = [(at, width) for at, (width, is_read) in fields.items() if is_read]
-    owners = list(members_of(values))
-    if len(read) != len(owners):
-        sys.exit(f"{name}: {len(read)} fields, and {len(owners)} values")
-    for (at, width), member in zip(read, owners):
-        start, length = members.get(member, (at, 0))
-        members[member] = (start, length + width)
+            # A condition selects one of two rows.
+            sys.exit(f"{name}: no row at {end}")
+        if member:
+            members[member] = (at, width)
     return int(least), end, members
 
 

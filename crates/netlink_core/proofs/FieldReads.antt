@@ -7,19 +7,19 @@ use Rattle.std.proofs.lemmas.List.{ext_get_or, drop-take, drop-drop, drop_more}
 use Rattle.byteorder.specs.Endian.{IsRead}
 use Rattle.netlink_core.specs.Bytes.{IsBytes}
 use Rattle.netlink_core.specs.Table.{Field, number, unread}
-use Rattle.netlink_core.specs.Table.{bytes_at, row, values_of, first, Fit}
+use Rattle.netlink_core.specs.Table.{bytes_at, array, values_of, first, Fit}
 use Rattle.netlink_core.proofs.Numbers.{Order, field_in, number_in}
 use Rattle.netlink_core.proofs.Numbers.{number-take}
 use Rattle.netlink_core.proofs.TableLaws.{AreBytes-drop}
 
 length-field : (order : Order) (width offset count : ℕ) (bytes : List ℕ)
-    → length (values_of (row (field_in order) offset width count) bytes) ≡ count
+    → length (values_of (array (field_in order) offset width count) bytes) ≡ count
 length-field order width offset zero bytes = refl
 length-field order width offset (suc count) bytes =
     grind (arith, length-field order width (offset + width) count bytes)
 
 field-at : (order : Order) (width offset count : ℕ) (bytes : List ℕ) (k : ℕ) → k < count
-    → slice_index (values_of (row (field_in order) offset width count) bytes) k
+    → slice_index (values_of (array (field_in order) offset width count) bytes) k
     ≡ number_in order width
     (drop (offset + width * k) bytes)
 field-at order width offset (suc count) bytes (suc k) h =
@@ -39,10 +39,10 @@ inside order width offset size from bytes h =
 pub fields_read : (order : Order) (width offset count : ℕ) (bytes source field : List ℕ)
     → length field ≡ count → source ≡ take (width * count) (drop offset bytes)
     → IsRead (number_in order) width source field
-    → field ≡ values_of (row (field_in order) offset width count)
+    → field ≡ values_of (array (field_in order) offset width count)
     bytes
 fields_read order width offset count bytes source field l s r =
-    ext_get_or 0 field (values_of (row (field_in order) offset width count) bytes)
+    ext_get_or 0 field (values_of (array (field_in order) offset width count) bytes)
     (l ∙ sym (length-field order width offset count bytes)) (λ k h.
     let below : k < count = omega arith in
     let reach : width * (k + 1) ≤ width * count = mul-le-mul_left width (omega arith) in
@@ -83,7 +83,7 @@ fit-bytes offset (suc count) bytes in_range =
 
 -- all numbers of a list
 pub fit_numbers : (offset width : ℕ) (xs : List ℕ)
-    → ((i : ℕ) → slice_index xs i < 256 ^ width) → Fit (row number offset width (length xs)) xs
+    → ((i : ℕ) → slice_index xs i < 256 ^ width) → Fit (array number offset width (length xs)) xs
 fit_numbers offset width [] below = tt
 fit_numbers offset width (x ∷ xs) below =
     (below 0, fit_numbers (offset + width) width xs (λ i. below (suc i)))

@@ -4,11 +4,12 @@ use Rattle.std.proofs.Common.{Result, Ok, Err, refl, sym, ap, ◌∙◌, arith}
 use Rattle.std.proofs.Common.{append-nil, le-ltb, lt-ltb}
 use Rattle.std.proofs.lemmas.Bool.{cases_lt}
 use Rattle.netlink_core.specs.Bytes.{IsBytes}
-use Rattle.netlink_core.specs.Table.{Field, values_of, bytes_of}
+use Rattle.netlink_core.specs.Table.{values_of, bytes_of}
 use Rattle.netlink_core.specs.SoundLaws.{is_table, IsSound}
 use Rattle.netlink_core.specs.Layout.{Layout, read, read_fields, StandsIn, bytes, AreIdle}
 use Rattle.netlink_core.specs.Layout.{IsInRange}
-use Rattle.netlink_core.specs.Layout.{IsNormal, plain}
+use Rattle.netlink_core.specs.Layout.{IsNormal, plain, table, values}
+use Rattle.netlink_core.specs.Rows.{Row, fields_of, numbers_of}
 use Rattle.netlink_core.specs.Faults.{map_ok}
 use Rattle.netlink_core.specs.Codec.{KeepsLaws, RecordLaws, record_codec}
 use Rattle.netlink_core.specs.PrefixLaws.{value_or_reason}
@@ -28,13 +29,13 @@ pub record Accepts {Param Tag Value : Type 0} (layout : Layout Param Tag Value) 
   pub long : layout.least ≤ length left
   pub tag : Tag
   pub tag_found : layout.tag_at param left ≡ Ok tag
-  pub is : value ≡ layout.value tag (values_of (layout.table tag) left)
+  pub is : value ≡ layout.value tag (values_of (table layout tag) left)
 
 module _ {Param Tag Value : Type 0} (layout : Layout Param Tag Value) where
   -- the value in a string, by the table of its tag
   abbrev read_tagged : List ℕ → Result Tag DecodeError → Result Value DecodeError
   read_tagged left tag_found = map_ok (λ tag.
-      layout.value tag (values_of (layout.table tag) left)) tag_found
+      layout.value tag (values_of (table layout tag) left)) tag_found
 
   -- a string that is too short is refused
   pub too_short : (param : Param) (left : List ℕ) → length left < layout.least
@@ -48,19 +49,19 @@ module _ {Param Tag Value : Type 0} (layout : Layout Param Tag Value) where
 
   -- a tag that was found gives its value
   pub accepts : (param : Param) (left : List ℕ) (tag : Tag) → layout.tag_at param left ≡ Ok tag
-      → read_fields layout param left ≡ Ok (layout.value tag (values_of (layout.table tag) left))
+      → read_fields layout param left ≡ Ok (layout.value tag (values_of (table layout tag) left))
   accepts param left tag e = ap (read_tagged left) e
 
   accepted_by : (tag_found : Result Tag DecodeError) (left : List ℕ) (value : Value)
       → read_tagged left tag_found ≡ Ok value → (tag : Tag) × (tag_found ≡ Ok tag)
-      × (value ≡ layout.value tag (values_of (layout.table tag) left))
+      × (value ≡ layout.value tag (values_of (table layout tag) left))
   accepted_by tag_found left value e =
       grind arith
 
   -- a value that was read by its fields is that of a tag that was found
   pub accepted_fields : (param : Param) (left : List ℕ) (value : Value)
       → read_fields layout param left ≡ Ok value → (tag : Tag) × (layout.tag_at param left ≡ Ok tag)
-      × (value ≡ layout.value tag (values_of (layout.table tag) left))
+      × (value ≡ layout.value tag (values_of (table layout tag) left))
   accepted_fields param left value e = accepted_by (layout.tag_at param left) left value e
 
   -- a value that was read is that of a tag that was found, in a string that is long enough
@@ -86,11 +87,11 @@ same_tag r s t e f = cc
 module _ {Param Tag Value : Type 0} (layout : Layout Param Tag Value) (sound : IsSound layout) where
   -- the table of a string's tag, and that of a value
   table_is : (param : Param) (tag : Tag) (left : List ℕ) → layout.tag_at param left ≡ Ok tag
-      → IsTable 0 (layout.table tag) (sound.size tag)
+      → IsTable 0 (table layout tag) (sound.size tag)
   table_is param tag left tag_found =
       grind (arith, table_from_test 0)
 
-  own_table_is : (value : Value) → IsTable 0 (layout.table (layout.tag_of value))
+  own_table_is : (value : Value) → IsTable 0 (table layout (layout.tag_of value))
       (sound.size (layout.tag_of value))
   own_table_is value =
       grind (arith, table_from_test 0)
@@ -103,7 +104,7 @@ module _ {Param Tag Value : Type 0} (layout : Layout Param Tag Value) (sound : I
   -- the value of a tag that was found stands there
   stands : (param : Param) (tag : Tag) (left : List ℕ) → IsBytes left → layout.least ≤ length left
       → layout.tag_at param left ≡ Ok tag
-      → StandsIn layout left param (layout.value tag (values_of (layout.table tag) left))
+      → StandsIn layout left param (layout.value tag (values_of (table layout tag) left))
   stands param tag left h long found =
       grind (arith, values-fit, values-defined)
 
@@ -123,7 +124,7 @@ module _ {Param Tag Value : Type 0} (layout : Layout Param Tag Value) (sound : I
       → StandsIn layout left param value → StandsIn layout right param value
       → AreIdle layout param left right
   idle_from_equal param left right value a b =
-      (layout.tag_of value, layout.values value, a.0, b.0)
+      (layout.tag_of value, values layout value, a.0, b.0)
 
   equal_from_idle : (param : Param) (left right : List ℕ) → AreIdle layout param left right
       → read layout param left ≡ read layout param right
@@ -140,8 +141,8 @@ module _ {Param Tag Value : Type 0} (layout : Layout Param Tag Value) (sound : I
         (
           omega arith,
           sound.tag_written param value t n,
-          values-bytes_of 0 (layout.table (layout.tag_of value)) (sound.size (layout.tag_of value))
-              (layout.values value) (bytes layout value) [] (own_table_is value) t.1 n.0
+          values-bytes_of 0 (table layout (layout.tag_of value)) (sound.size (layout.tag_of value))
+              (values layout value) (bytes layout value) [] (own_table_is value) t.1 n.0
               (sym (append-nil (bytes layout value))),
         ),
         t,
@@ -176,20 +177,20 @@ module _ {Param Tag Value : Type 0} (layout : Layout Param Tag Value) (sound : I
       grind (arith, keeps_laws, stands, stands_where_read)
 
 -- what is shown of a record with one table
-pub plain_sound : {Value : Type 0} {name : RecordName} {size : ℕ} {fields : List Field}
-    {values : Value
-    → List ℕ} {value : List ℕ → Value} {is_shaped : Value → Type 0}
-    → IsTrue (is_table 0 fields size)
-    → ((v : Value) → length (bytes_of fields (values v)) ≡ size)
-    → ((left : List ℕ) → values (value (values_of fields left)) ≡ values_of fields left)
-    → ((left : List ℕ) → is_shaped (value (values_of fields left)))
-    → ((v : Value) → is_shaped v → value (values v) ≡ v)
-    → IsSound (plain name size fields values value is_shaped)
-plain_sound {size = size} table long kept shaped back = record {
+pub plain_sound : {Value : Type 0} {name : RecordName} {size : ℕ} {rows : List (Row Value)}
+    {value : List ℕ → Value} {is_shaped : Value → Type 0}
+    → IsTrue (is_table 0 (fields_of rows) size)
+    → ((v : Value) → length (bytes_of (fields_of rows) (numbers_of rows v)) ≡ size)
+    → ((left : List ℕ) → numbers_of rows (value (values_of (fields_of rows) left))
+    ≡ values_of (fields_of rows) left)
+    → ((left : List ℕ) → is_shaped (value (values_of (fields_of rows) left)))
+    → ((v : Value) → is_shaped v → value (numbers_of rows v) ≡ v)
+    → IsSound (plain name size rows value is_shaped)
+plain_sound {size = size} rows_are long kept shaped back = record {
   size = λ tag. size;
-  tables = λ param tag left e. table;
+  tables = λ param tag left e. rows_are;
   room = λ param tag left enough e. enough;
-  own_table = λ value. table;
+  own_table = λ value. rows_are;
   enough = λ value. omega arith;
   long = long;
   named = λ param left e. grind arith;

@@ -8,31 +8,31 @@ use Rattle.netlink_core.specs.Bytes.{IsBytes}
 use Rattle.netlink_core.specs.SignificantBits.{EqualUnder}
 use Rattle.netlink_core.specs.Table.{values_of}
 use Rattle.netlink_core.specs.SoundLaws.{is_table, IsSound}
-use Rattle.netlink_core.specs.Layout.{Layout, AreIdle}
+use Rattle.netlink_core.specs.Layout.{Layout, AreIdle, table}
 use Rattle.netlink_core.proofs.TableLaws.{table_from_test, live_bits, values_and_bits}
 
 -- A layout whose tables pass their test, each with its size. A byte string that is long enough and
 -- has a tag has at least the size of that tag's table.
 module _ {Param Tag Value : Type 0} (layout : Layout Param Tag Value) (size : Tag → ℕ)
     (tables : (param : Param) (tag : Tag) (left : List ℕ) → layout.tag_at param left ≡ Ok tag
-    → IsTrue (is_table 0 (layout.table tag) (size tag)))
+    → IsTrue (is_table 0 (table layout tag) (size tag)))
     (enough : (param : Param) (tag : Tag) (left : List ℕ) → layout.least ≤ length left
     → layout.tag_at param left ≡ Ok tag → size tag ≤ length left) where
   -- both are long enough, have the same tag, and have equal bits under the masks of its table
   abbrev pub EqualByTag : Param → List ℕ → List ℕ → Type 0
   EqualByTag param b c = (layout.least ≤ length b) × (layout.least ≤ length c) × (tag : Tag)
       × (layout.tag_at param b ≡ Ok tag) × (layout.tag_at param c ≡ Ok tag)
-      × EqualUnder (live_bits (layout.table tag)) b c
+      × EqualUnder (live_bits (table layout tag)) b c
 
   -- with one tag, equal values are equal bits under the masks
   values_and_masks : (param : Param) (tag : Tag) (b c : List ℕ) → IsBytes b → IsBytes c
       → layout.least ≤ length b → layout.least ≤ length c
       → layout.tag_at param b ≡ Ok tag → layout.tag_at param c ≡ Ok tag
-      → (values_of (layout.table tag) b ≡ values_of (layout.table tag) c)
-      ↔ EqualUnder (live_bits (layout.table tag)) b c
+      → (values_of (table layout tag) b ≡ values_of (table layout tag) c)
+      ↔ EqualUnder (live_bits (table layout tag)) b c
   values_and_masks param tag b c hb hc lb lc tb tc =
-      values_and_bits 0 (layout.table tag) (size tag) b c
-      (table_from_test 0 (layout.table tag) (size tag) (tables param tag b tb)) hb hc
+      values_and_bits 0 (table layout tag) (size tag) b c
+      (table_from_test 0 (table layout tag) (size tag) (tables param tag b tb)) hb hc
       (enough param tag b lb tb) (enough param tag c lc tc)
 
   equal_if_equivalent : (param : Param) (b c : List ℕ) → IsBytes b → IsBytes c
@@ -44,7 +44,7 @@ module _ {Param Tag Value : Type 0} (layout : Layout Param Tag Value) (size : Ta
       → EqualByTag param b c → AreIdle layout param b c
   equivalent_if_equal param b c hb hc (lb, lc, tag, tb, tc, equal) = (
     tag,
-    values_of (layout.table tag) b,
+    values_of (table layout tag) b,
     (lb, tb, refl),
     (lc, tc, sym ((values_and_masks param tag b c hb hc lb lc tb tc).1 equal)),
   )
@@ -57,12 +57,12 @@ module _ {Param Tag Value : Type 0} (layout : Layout Param Tag Value) (size : Ta
 -- equivalence by a layout with one table, which has these masks
 pub equivalent_by_masks : {Value : Type 0} (layout : Layout (Unit {0}) (Unit {0}) Value)
     (masks : List ℕ) → ((left : List ℕ) → layout.tag_at tt left ≡ Ok tt)
-    → IsTrue (is_table 0 (layout.table tt) layout.least) → live_bits (layout.table tt) ≡ masks
+    → IsTrue (is_table 0 (table layout tt) layout.least) → live_bits (table layout tt) ≡ masks
     → (b c : List ℕ) → IsBytes b → IsBytes c
     → AreIdle layout tt b c
     ↔ ((layout.least ≤ length b) × (layout.least ≤ length c) × EqualUnder masks b c)
-equivalent_by_masks layout masks tag table same b c hb hc =
-    let both = equivalent_by_tag layout (λ t. layout.least) (λ p t left e. table)
+equivalent_by_masks layout masks tag well_formed same b c hb hc =
+    let both = equivalent_by_tag layout (λ t. layout.least) (λ p t left e. well_formed)
     (λ p t left l e. l) tt b c hb hc in
     rw (← same) (
       λ equivalent. let equal = both.0 equivalent in (equal.0, equal.1, equal.5),
@@ -73,7 +73,7 @@ module _ {Param Tag Value : Type 0} (layout : Layout Param Tag Value) (sound : I
   -- both byte strings have the same tag, and its table has these masks
   abbrev pub HasMasks : Param → List ℕ → List ℕ → List ℕ → Type 0
   HasMasks param masks b c = (tag : Tag) × (layout.tag_at param b ≡ Ok tag)
-      × (layout.tag_at param c ≡ Ok tag) × (live_bits (layout.table tag) ≡ masks)
+      × (layout.tag_at param c ≡ Ok tag) × (live_bits (table layout tag) ≡ masks)
 
   -- Equivalence by a layout with several tables. A condition says, without the layout, that both
   -- byte strings have the same tag, and its table has these masks.
@@ -81,7 +81,7 @@ module _ {Param Tag Value : Type 0} (layout : Layout Param Tag Value) (sound : I
       → IsBytes b → IsBytes c
       → (layout.least ≤ length b → layout.least ≤ length c → (tag : Tag)
       → layout.tag_at param b ≡ Ok tag → layout.tag_at param c ≡ Ok tag
-      → Condition × (live_bits (layout.table tag) ≡ masks))
+      → Condition × (live_bits (table layout tag) ≡ masks))
       → (layout.least ≤ length b → layout.least ≤ length c → Condition → EqualUnder masks b c
       → HasMasks param masks b c)
       → AreIdle layout param b c

@@ -1,7 +1,8 @@
--- The netlink header at the start of a message, and why none stands there.
-use Rattle.std.specs.Prelude.{◌≡◌, ℕ, ◌<◌, ◌≤◌, List, [], ◌∷◌, ◌++◌, length}
+-- The header of a netlink message, and the errors of a truncated or malformed one.
+use Rattle.std.specs.Prelude.{◌≡◌, ℕ, ◌<◌, ◌≤◌, List, [], ◌∷◌, length}
 use Rattle.byteorder.specs.Endian.{little_number}
-use Rattle.netlink_core.specs.Table.{Field, number, row, values_of, bytes_of}
+use Rattle.netlink_core.specs.Table.{Field, values_of, bytes_of}
+use Rattle.netlink_core.specs.Rows.{Row, u16, u32, fields_of, numbers_of}
 use Rattle.netlink_core.specs.Table.{Fit}
 use Rattle.netlink_core.specs.declared.fault.DecodeError.{DecodeError}
 use Rattle.netlink_core.specs.declared.fault.DecodeError.TheVariants.{EnvelopeCut}
@@ -9,27 +10,38 @@ use Rattle.netlink_core.specs.declared.fault.DecodeError.TheVariants.{EnvelopeLe
 use Rattle.netlink_core.specs.declared.fault.DecodeError.TheVariants.{EnvelopeLengthPast}
 use Rattle.netlink_core.specs.declared.header.NetlinkHeader.{NetlinkHeader}
 
--- the length at 0, the type at 4, the flags at 6, the sequence number at 8 and the port at 12
+-- `struct nlmsghdr` (linux/netlink.h)
+abbrev pub header_rows : List (Row NetlinkHeader)
+header_rows =
+    u32 0 NetlinkHeader.length ∷
+    u16 4 NetlinkHeader.message_type ∷
+    u16 6 NetlinkHeader.flags ∷
+    u32 8 NetlinkHeader.sequence_number ∷
+    u32 12 NetlinkHeader.port_number ∷ []
+
+-- the fields of the header
 abbrev pub header_fields : List Field
-header_fields = number 0 4 ∷ (row number 4 2 2 ++ row number 8 4 2)
+header_fields = fields_of header_rows
 
--- the five fields, in this order
+-- the numbers of a header in its fields
 abbrev pub header_values : NetlinkHeader → List ℕ
-header_values h = h.length ∷ h.message_type ∷ h.flags ∷ h.sequence_number ∷ h.port_number ∷ []
+header_values = numbers_of header_rows
 
--- the bytes of the five fields
+-- the bytes of a header
 abbrev pub header_bytes : NetlinkHeader → List ℕ
 header_bytes h = bytes_of header_fields (header_values h)
 
--- the header stands at the start, each field within its type, and its length counts itself and
--- bytes that are there
+-- the bytes begin with the header, each of whose fields is within its type, and its length is at
+-- least that of the header and at most that of the bytes
 abbrev pub HasHeader : List ℕ → NetlinkHeader → Type 0
 HasHeader bytes h = (values_of header_fields bytes ≡ header_values h)
     × Fit header_fields (header_values h) × (16 ≤ h.length) × (h.length ≤ length bytes)
 
--- No message stands at the start of the bytes, and why. Of several faults it is the first.
+-- the first reason for which the bytes do not begin with a message
 abbrev pub IsEnvelopeFault : List ℕ → DecodeError → Type 0
 IsEnvelopeFault bytes (EnvelopeCut got) = (got ≡ length bytes) × (length bytes < 16)
-IsEnvelopeFault bytes (EnvelopeLengthUnder16 word) = (word ≡ little_number 4 bytes) × (16 ≤ length bytes) × (word < 16)
-IsEnvelopeFault bytes (EnvelopeLengthPast word got) = (word ≡ little_number 4 bytes) × (got ≡ length bytes) × (16 ≤ length bytes) × (16 ≤ word) × (length bytes < word)
+IsEnvelopeFault bytes (EnvelopeLengthUnder16 word) =
+    (word ≡ little_number 4 bytes) × (16 ≤ length bytes) × (word < 16)
+IsEnvelopeFault bytes (EnvelopeLengthPast word got) = (word ≡ little_number 4 bytes)
+    × (got ≡ length bytes) × (16 ≤ length bytes) × (16 ≤ word) × (length bytes < word)
 IsEnvelopeFault bytes _ = ⊥

@@ -1,6 +1,7 @@
 pub mod Bytes
 pub mod ByteLaws
 pub mod Table
+pub mod Rows
 pub mod SignificantBits
 pub mod Layout
 pub mod SoundLaws

@@ -5,7 +5,7 @@ use Rattle.std.specs.Prelude.{Err, IsTrue}
 use Rattle.std.specs.List.{list_all}
 use Rattle.netlink_core.specs.Bytes.{IsBytes}
 use Rattle.netlink_core.specs.Table.{Field, byte, number, network, flags, unread, values_of}
-use Rattle.netlink_core.specs.Layout.{Layout, bytes, IsInRange, IsNormal}
+use Rattle.netlink_core.specs.Layout.{Layout, table, values, bytes, IsInRange, IsNormal}
 use Rattle.netlink_core.specs.declared.fault.DecodeError.TheVariants.{Memory}
 
 -- where a field begins, and how many bytes it has
@@ -44,11 +44,11 @@ module _ {Param Tag Value : Type 0} (layout : Layout Param Tag Value) where
     -- each value, whose size is not under the least.
     pub tables : (param : Param) (tag : Tag) (left : List ℕ)
         → layout.tag_at param left ≡ Ok tag
-        → IsTrue (is_table 0 (layout.table tag) (size tag))
+        → IsTrue (is_table 0 (table layout tag) (size tag))
     pub room : (param : Param) (tag : Tag) (left : List ℕ) → layout.least ≤ length left
         → layout.tag_at param left ≡ Ok tag → size tag ≤ length left
     pub own_table : (value : Value)
-        → IsTrue (is_table 0 (layout.table (layout.tag_of value))
+        → IsTrue (is_table 0 (table layout (layout.tag_of value))
         (size (layout.tag_of value)))
     pub enough : (value : Value) → layout.least ≤ size (layout.tag_of value)
     -- each value has as many bytes, and no fault of a string's tag is want of memory
@@ -59,20 +59,20 @@ module _ {Param Tag Value : Type 0} (layout : Layout Param Tag Value) where
     -- form asks
     pub kept : (param : Param) (tag : Tag) (left : List ℕ) → IsBytes left
         → layout.tag_at param left ≡ Ok tag
-        → layout.values (layout.value tag (values_of (layout.table tag) left))
-        ≡ values_of (layout.table tag) left
+        → values layout (layout.value tag (values_of (table layout tag) left))
+        ≡ values_of (table layout tag) left
     pub tagged : (param : Param) (tag : Tag) (left : List ℕ) → layout.tag_at param left ≡ Ok tag
-        → layout.tag_of (layout.value tag (values_of (layout.table tag) left)) ≡ tag
+        → layout.tag_of (layout.value tag (values_of (table layout tag) left)) ≡ tag
     pub shaped : (param : Param) (tag : Tag) (left : List ℕ) → IsBytes left
         → layout.tag_at param left ≡ Ok tag
-        → layout.is_shaped (layout.value tag (values_of (layout.table tag) left))
+        → layout.is_shaped (layout.value tag (values_of (table layout tag) left))
     pub owned : (param : Param) (tag : Tag) (left : List ℕ) → IsBytes left
         → layout.tag_at param left ≡ Ok tag
-        → layout.is_own param (layout.value tag (values_of (layout.table tag) left))
+        → layout.is_own param (layout.value tag (values_of (table layout tag) left))
     -- a value in range in normal form is that of its values, and its bytes have its tag
     pub back : (param : Param) (value : Value) → IsInRange layout value
         → IsNormal layout param value
-        → layout.value (layout.tag_of value) (layout.values value) ≡ value
+        → layout.value (layout.tag_of value) (values layout value) ≡ value
     pub tag_written : (param : Param) (value : Value) → IsInRange layout value
         → IsNormal layout param value
         → layout.tag_at param (bytes layout value) ≡ Ok (layout.tag_of value)

@@ -1,17 +1,20 @@
--- What congestion control tells, by linux/inet_diag.h.
-use Rattle.std.specs.Prelude.{⊤, [], ◌∷◌, ◌++◌, slice_index}
+-- Information about congestion control (linux/inet_diag.h).
+use Rattle.std.specs.Prelude.{⊤, [], ◌∷◌, slice_index}
 use Rattle.sock_diag_extras.specs.RecordTable.{RecordTable}
 use Rattle.sock_diag_extras.specs.declared.congestion.VegasInfo.{VegasInfo}
 use Rattle.sock_diag_extras.specs.declared.congestion.DctcpInfo.{DctcpInfo}
 use Rattle.sock_diag_extras.specs.declared.congestion.BbrInfo.{BbrInfo}
-use Rattle.netlink_core.specs.Table.{number, row}
+use Rattle.netlink_core.specs.Rows.{u16, u32, u64}
 
--- struct tcpvegas_info: 16 bytes, four words
+-- `struct tcpvegas_info` (linux/inet_diag.h)
 abbrev pub vegas_info : RecordTable VegasInfo
 vegas_info = record {
   size = 16;
-  fields = row number 0 4 4;
-  values = λ v. v.enabled ∷ v.rtt_count ∷ v.rtt ∷ v.min_rtt ∷ [];
+  rows =
+      u32 0 VegasInfo.enabled ∷
+      u32 4 VegasInfo.rtt_count ∷
+      u32 8 VegasInfo.rtt ∷
+      u32 12 VegasInfo.min_rtt ∷ [];
   value = λ w. record {
     enabled = slice_index w 0;
     rtt_count = slice_index w 1;
@@ -21,12 +24,16 @@ vegas_info = record {
   is_shaped = λ v. ⊤;
 }
 
--- struct tcp_dctcp_info: 16 bytes, two shorts and three words
+-- `struct tcp_dctcp_info` (linux/inet_diag.h)
 abbrev pub dctcp_info : RecordTable DctcpInfo
 dctcp_info = record {
   size = 16;
-  fields = row number 0 2 2 ++ row number 4 4 3;
-  values = λ v. v.enabled ∷ v.ce_state ∷ v.alpha ∷ v.marked_bytes ∷ v.acked_bytes ∷ [];
+  rows =
+      u16 0 DctcpInfo.enabled ∷
+      u16 2 DctcpInfo.ce_state ∷
+      u32 4 DctcpInfo.alpha ∷
+      u32 8 DctcpInfo.marked_bytes ∷
+      u32 12 DctcpInfo.acked_bytes ∷ [];
   value = λ w. record {
     enabled = slice_index w 0;
     ce_state = slice_index w 1;
@@ -37,13 +44,16 @@ dctcp_info = record {
   is_shaped = λ v. ⊤;
 }
 
--- struct tcp_bbr_info: 20 bytes, five words, of which the first two are the low and the high half
--- of one number
+-- `struct tcp_bbr_info` (linux/inet_diag.h): `bbr_bw_lo` and `bbr_bw_hi` are the low and the high
+-- half of one number
 abbrev pub bbr_info : RecordTable BbrInfo
 bbr_info = record {
   size = 20;
-  fields = row number 0 8 1 ++ row number 8 4 3;
-  values = λ v. v.bandwidth ∷ v.min_rtt ∷ v.pacing_gain ∷ v.window_gain ∷ [];
+  rows =
+      u64 0 BbrInfo.bandwidth ∷
+      u32 8 BbrInfo.min_rtt ∷
+      u32 12 BbrInfo.pacing_gain ∷
+      u32 16 BbrInfo.window_gain ∷ [];
   value = λ w. record {
     bandwidth = slice_index w 0;
     min_rtt = slice_index w 1;

@@ -1,16 +1,19 @@
--- What INET_DIAG_MD5SIG tells of one peer, by linux/tcp.h: struct tcp_diag_md5sig, 100 bytes.
-use Rattle.std.specs.Prelude.{◌≡◌, ◌∷◌, ◌++◌, length, take, drop, slice_index}
-use Rattle.netlink_core.specs.Table.{byte, bytes_at, first}
+-- The MD5 signature key of one peer, in INET_DIAG_MD5SIG.
+use Rattle.std.specs.Prelude.{◌≡◌, [], ◌∷◌, length, take, drop, slice_index}
 use Rattle.sock_diag_extras.specs.RecordTable.{RecordTable}
 use Rattle.sock_diag_extras.specs.declared.md5_signature.Md5Signature.{Md5Signature}
-use Rattle.netlink_core.specs.Table.{number}
+use Rattle.netlink_core.specs.Rows.{u8, u16, u8s}
 
--- two bytes and a short, 16 bytes of address and 80 of key
+-- `struct tcp_diag_md5sig` (linux/tcp.h)
 abbrev pub md5_signature : RecordTable Md5Signature
 md5_signature = record {
   size = 100;
-  fields = byte 0 ∷ byte 1 ∷ number 2 2 ∷ bytes_at 4 16 ++ bytes_at 20 80;
-  values = λ v. v.family ∷ v.prefix_length ∷ v.key_length ∷ first 16 v.address ++ first 80 v.key;
+  rows =
+      u8 0 Md5Signature.family ∷
+      u8 1 Md5Signature.prefix_length ∷
+      u16 2 Md5Signature.key_length ∷
+      u8s 4 16 Md5Signature.address ∷
+      u8s 20 80 Md5Signature.key ∷ [];
   value = λ w. record {
     family = slice_index w 0;
     prefix_length = slice_index w 1;

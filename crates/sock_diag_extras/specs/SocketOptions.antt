@@ -1,22 +1,21 @@
--- What INET_DIAG_SOCKOPT tells, by linux/inet_diag.h: struct inet_diag_sockopt, two bytes of bits.
+-- The options of a socket, in INET_DIAG_SOCKOPT.
 use Rattle.std.specs.Prelude.{⊤, ℕ, [], ◌∷◌, slice_index}
 use Rattle.sock_diag_extras.specs.RecordTable.{RecordTable}
 use Rattle.sock_diag_extras.specs.declared.options.SocketOption.{SocketOption}
 use Rattle.sock_diag_extras.specs.declared.options.SocketOption.TheVariants as option
 use Rattle.sock_diag_extras.specs.declared.options.SocketOptions.{SocketOptions}
-use Rattle.netlink_core.specs.Table.{number, row}
+use Rattle.netlink_core.specs.Rows.{u16}
 
--- the bits as one number, the first byte low
+-- `struct inet_diag_sockopt` (linux/inet_diag.h), two bytes of bits as one little-endian number
 abbrev pub socket_options : RecordTable SocketOptions
 socket_options = record {
   size = 2;
-  fields = row number 0 2 1;
-  values = λ v. v.bits ∷ [];
+  rows = u16 0 SocketOptions.bits ∷ [];
   value = λ w. record { bits = slice_index w 0 };
   is_shaped = λ v. ⊤;
 }
 
--- which bit says an option, from the lowest of the first byte on
+-- the bit of an option, from the least significant bit of the first byte
 abbrev pub bit_of : SocketOption → ℕ
 bit_of option.RecvErr = 0
 bit_of option.IsIcsk = 1

@@ -1,22 +1,24 @@
--- An address in INET_DIAG_LOCALS or INET_DIAG_PEERS: struct sockaddr_storage, 128 bytes, in which a
--- struct sockaddr_in or sockaddr_in6 stands, by ip(7) and ipv6(7).
-use Rattle.std.specs.Prelude.{◌≡◌, ◌==◌, if◌then◌else◌, ◌∷◌, ◌++◌, length, take, drop, slice_index}
+-- An address in INET_DIAG_LOCALS or INET_DIAG_PEERS, 128 bytes.
+use Rattle.std.specs.Prelude.{◌≡◌, ◌==◌, if◌then◌else◌, [], ◌∷◌, length, take, drop, slice_index}
 use Rattle.std.specs.Prelude.{Option, Some, None}
 use Rattle.std.specs.declared.net.ip_addr.IpAddr.{IpAddr}
 use Rattle.std.specs.declared.net.ip_addr.IpAddr.TheVariants.{V4, V6}
-use Rattle.netlink_core.specs.Table.{bytes_at, first}
 use Rattle.sock_diag_extras.specs.RecordTable.{RecordTable}
 use Rattle.sock_diag_extras.specs.declared.stored_address.StoredAddress.{StoredAddress}
-use Rattle.netlink_core.specs.Table.{number, network, row}
+use Rattle.netlink_core.specs.Rows.{u16, u32, be16, be16s, u8s}
 
--- the family, the port, four bytes, eight segments, the scope, and what no address of IP has
+-- `struct sockaddr_storage` (linux/socket.h) that contains a `struct sockaddr_in` (ip(7)) or a
+-- `struct sockaddr_in6` (ipv6(7)), and the bytes after it
 abbrev pub stored_address : RecordTable StoredAddress
 stored_address = record {
   size = 128;
-  fields = number 0 2 ∷ network 2 2 ∷ bytes_at 4 4
-      ++ row network 8 2 8 ++ number 24 4 ∷ bytes_at 28 100;
-  values = λ v. v.family ∷ v.port ∷ first 4 v.front ++ first 8 v.segments
-      ++ v.scope_id ∷ first 100 v.rest;
+  rows =
+      u16 0 StoredAddress.family ∷
+      be16 2 StoredAddress.port ∷
+      u8s 4 4 StoredAddress.front ∷
+      be16s 8 8 StoredAddress.segments ∷
+      u32 24 StoredAddress.scope_id ∷
+      u8s 28 100 StoredAddress.rest ∷ [];
   value = λ w. record {
     family = slice_index w 0;
     port = slice_index w 1;

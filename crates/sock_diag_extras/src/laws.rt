@@ -8,6 +8,7 @@ ghost use Rattle.std.specs.Iterator.{Drains};
 ghost use Rattle.netlink_core.specs.Attribute.{AttributesMean};
 ghost use Rattle.netlink_core.specs.AttributeSet.{decodes};
 ghost use Rattle.netlink_core.specs.Layout.{read};
+ghost use Rattle.netlink_core.specs.Layout.{table};
 ghost use Rattle.netlink_core.specs.Walk.{bytes_left};
 ghost use Rattle.attribute_lists.specs.AttributesIn.{HasNoFault, values_in};
 ghost use Rattle.sock_diag_values.specs.TcpInfo.{tcp_info};
@@ -60,7 +61,7 @@ pub fn lenient_walk_of_good_bytes<'a, V: FamilyView<'a>>()
 /// The first fields are those of the port's `TcpInfo`, and the later ones stand behind them, one
 /// after the other, up to byte 280.
 pub fn tcp_fields_are_rows()
-    ensures first { map row_of first_fields ≡ tcp_info.table tt }
+    ensures first { map row_of first_fields ≡ table tcp_info tt }
     ensures later { map (λ f. (span_of f).0) later_fields ++ 280 ∷ []
         ≡ 232 ∷ map end_of later_fields }
 {}

@@ -1,9 +1,9 @@
 -- What the getters of attributes that are kept whole answer.
-use Rattle.std.specs.Prelude.{ℕ, ◌==◌, nat_lt, if◌then◌else◌, List, [], ◌∷◌, length, Option, Some}
+use Rattle.std.specs.Prelude.{ℕ, ◌==◌, nat_lt, if◌then◌else◌, List, [], ◌∷◌, drop, length, Option, Some}
 use Rattle.std.specs.Prelude.{None, Result, Ok, Err}
+use Rattle.byteorder.specs.Endian.{little_number}
 use Rattle.netlink_core.specs.Attribute.{Attribute, attribute_type}
 use Rattle.netlink_core.specs.Faults.{map_ok}
-use Rattle.netlink_core.specs.Table.{Field, values_of}
 use Rattle.netlink_core.specs.declared.fault.DecodeError.{DecodeError}
 use Rattle.netlink_core.specs.declared.fault.DecodeError.TheVariants.{BufferTooSmall}
 use Rattle.netlink_core.specs.declared.fault.RecordName.TheVariants as name
@@ -20,15 +20,20 @@ abbrev pub within : {A : Type 0} → (List ℕ → Result A DecodeError) → Opt
 within reads None = Ok None
 within reads (Some value) = map_ok Some (reads value)
 
--- The value of an attribute of that family and type, where it has so many bytes. More may follow:
--- later kernels tell more.
-abbrev pub enough : ℕ → ℕ → ℕ → List ℕ → Result (List ℕ) DecodeError
+-- the value of an attribute of the family and the kind, if it has at least so many bytes
+abbrev pub enough : (family kind least : ℕ) → List ℕ → Result (List ℕ) DecodeError
 enough family kind least value =
     if nat_lt (length value) least
     then Err (BufferTooSmall (name.FamilyAttribute family kind) (length value) least) else Ok value
 
--- what such a value tells by the fields of a table
-abbrev pub fields : {A : Type 0} → ℕ → ℕ → ℕ → List Field → (List ℕ → A) → List ℕ
+-- a little-endian `__u32` and `__u64` at an offset
+abbrev pub u32_at : (offset : ℕ) → List ℕ → ℕ
+u32_at offset bytes = little_number 4 (drop offset bytes)
+
+abbrev pub u64_at : (offset : ℕ) → List ℕ → ℕ
+u64_at offset bytes = little_number 8 (drop offset bytes)
+
+-- parses such a value, or returns the error of one that is too short
+abbrev pub fields : {A : Type 0} → (family kind least : ℕ) → (List ℕ → A) → List ℕ
     → Result A DecodeError
-fields family kind least table of value =
-    map_ok (λ found. of (values_of table found)) (enough family kind least value)
+fields family kind least of value = map_ok of (enough family kind least value)

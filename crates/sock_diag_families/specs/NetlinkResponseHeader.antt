@@ -1,10 +1,9 @@
--- The header of a reply about a netlink socket: 28 bytes, the byte at 0 not read and written 16.
-use Rattle.std.specs.Prelude.{⊤, ℕ, List, [], ◌∷◌, ◌++◌, slice_index}
+-- The header of a reply about a netlink socket, 28 bytes.
+use Rattle.std.specs.Prelude.{⊤, ℕ, List, [], ◌∷◌, slice_index}
 use Rattle.netlink_core.specs.Layout.{Layout, plain}
-use Rattle.netlink_core.specs.Table.{bytes_at, unread}
+use Rattle.netlink_core.specs.Rows.{skip, u8, u32, u64}
 use Rattle.netlink_core.specs.declared.fault.RecordName.TheVariants as name
 use Rattle.sock_diag_families.specs.declared.netlink.response.NetlinkResponseHeader.{NetlinkResponseHeader}
-use Rattle.netlink_core.specs.Table.{number, row}
 
 -- the header with the numbers of its fields
 abbrev pub netlink_header_of : List ℕ → NetlinkResponseHeader
@@ -19,11 +18,15 @@ netlink_header_of values = record {
   cookie = slice_index values 7;
 }
 
--- the bytes at 1, 2 and 3, four words of 32 bits from 4 on, and one of 64 at 20, low byte first
+-- `struct netlink_diag_msg` (linux/netlink_diag.h): the family is ignored
 abbrev pub netlink_header : Layout (Unit {0}) (Unit {0}) NetlinkResponseHeader
-netlink_header = plain (name.FamilyResponseHeader 16) 28
-    (unread 0 (16 ∷ []) ∷ bytes_at 1 3 ++ row number 4 4 4
-    ++ number 20 8 ∷ [])
-    (λ value. value.kind ∷ value.protocol ∷ value.state ∷ value.port ∷ value.destination_port
-    ∷ value.destination_group ∷ value.inode ∷ value.cookie ∷ [])
-    netlink_header_of (λ value. ⊤)
+netlink_header = plain (name.FamilyResponseHeader 16) 28 (
+    skip 0 (16 ∷ []) ∷
+    u8 1 NetlinkResponseHeader.kind ∷
+    u8 2 NetlinkResponseHeader.protocol ∷
+    u8 3 NetlinkResponseHeader.state ∷
+    u32 4 NetlinkResponseHeader.port ∷
+    u32 8 NetlinkResponseHeader.destination_port ∷
+    u32 12 NetlinkResponseHeader.destination_group ∷
+    u32 16 NetlinkResponseHeader.inode ∷
+    u64 20 NetlinkResponseHeader.cookie ∷ []) netlink_header_of (λ value. ⊤)

@@ -1,30 +1,30 @@
--- The tables of what the attributes of a reply about a packet socket tell.
-use Rattle.std.specs.Prelude.{ℕ, List, slice_index, Result}
+-- The values of attributes of a reply about a packet socket. More bytes may follow each: newer
+-- kernels append members.
+use Rattle.std.specs.Prelude.{ℕ, List, Result}
 use Rattle.netlink_core.specs.declared.fault.DecodeError.{DecodeError}
-use Rattle.sock_diag_families.specs.Found.{fields}
+use Rattle.sock_diag_families.specs.Found.{fields, u32_at}
 use Rattle.sock_diag_families.specs.declared.packet.attributes.PacketInfo.{PacketInfo}
 use Rattle.sock_diag_families.specs.declared.packet.attributes.PacketRing.{PacketRing}
-use Rattle.netlink_core.specs.Table.{number, row}
 
--- six words of 32 bits, low byte first
+-- `struct packet_diag_info` (linux/packet_diag.h)
 abbrev pub packet_info : List ℕ → Result PacketInfo DecodeError
-packet_info = fields 17 0 24 (row number 0 4 6) (λ words. record {
-  interface = slice_index words 0;
-  version = slice_index words 1;
-  reserve = slice_index words 2;
-  copy_threshold = slice_index words 3;
-  timestamp = slice_index words 4;
-  flags = slice_index words 5;
+packet_info = fields 17 0 24 (λ bytes. record {
+  interface = u32_at 0 bytes;
+  version = u32_at 4 bytes;
+  reserve = u32_at 8 bytes;
+  copy_threshold = u32_at 12 bytes;
+  timestamp = u32_at 16 bytes;
+  flags = u32_at 20 bytes;
 })
 
--- seven such words, in an attribute of that kind
-abbrev pub packet_ring : ℕ → List ℕ → Result PacketRing DecodeError
-packet_ring kind = fields 17 kind 28 (row number 0 4 7) (λ words. record {
-  block_size = slice_index words 0;
-  blocks = slice_index words 1;
-  frame_size = slice_index words 2;
-  frames = slice_index words 3;
-  retire_timeout = slice_index words 4;
-  private_size = slice_index words 5;
-  features = slice_index words 6;
+-- `struct packet_diag_ring` (linux/packet_diag.h), in an attribute of the kind
+abbrev pub packet_ring : (kind : ℕ) → List ℕ → Result PacketRing DecodeError
+packet_ring kind = fields 17 kind 28 (λ bytes. record {
+  block_size = u32_at 0 bytes;
+  blocks = u32_at 4 bytes;
+  frame_size = u32_at 8 bytes;
+  frames = u32_at 12 bytes;
+  retire_timeout = u32_at 16 bytes;
+  private_size = u32_at 20 bytes;
+  features = u32_at 24 bytes;
 })

@@ -1,15 +1,16 @@
 -- The layouts of the requests and headers are sound.
 use Rattle.std.proofs.Common.{◌<◌, ℕ, ◌%◌, IsTrue, lt-ltb, refl, arith}
+use Rattle.netlink_core.specs.Layout.{table}
 use Rattle.netlink_core.specs.SoundLaws.{IsSound, is_table}
 use Rattle.netlink_core.proofs.LayoutLaws.{plain_sound}
 use Rattle.sock_diag_families.specs.NetlinkResponseHeader.{netlink_header}
 use Rattle.sock_diag_families.specs.PacketResponseHeader.{packet_header}
-use Rattle.sock_diag_families.specs.ShowRequest.{show_request, show_rows}
+use Rattle.sock_diag_families.specs.ShowRequest.{show_request}
 use Rattle.sock_diag_families.specs.VsockRequest.{vsock_request}
 use Rattle.sock_diag_families.specs.VsockResponseHeader.{vsock_header}
 use Rattle.sock_diag_families.specs.XdpResponseHeader.{xdp_header}
 
-rows_stand : (family : ℕ) → IsTrue (is_table 0 (show_rows family) 20)
+rows_stand : (family : ℕ) → IsTrue (is_table 0 (table (show_request family) tt) 20)
 rows_stand family =
     let byte : family % 256 < 256 = omega arith in
     rw (lt-ltb (family % 256) 256 byte) refl

@@ -1,53 +1,48 @@
--- The tables of what the attributes of a reply about an XDP socket tell, all low byte first.
-use Rattle.std.specs.Prelude.{ℕ, List, ◌∷◌, slice_index, Result}
-use Rattle.netlink_core.specs.Table.{Field}
+-- The values of attributes of a reply about an XDP socket. More bytes may follow each: newer
+-- kernels append members.
+use Rattle.std.specs.Prelude.{ℕ, List, Result}
 use Rattle.netlink_core.specs.declared.fault.DecodeError.{DecodeError}
-use Rattle.sock_diag_families.specs.Found.{fields}
+use Rattle.sock_diag_families.specs.Found.{fields, u32_at, u64_at}
 use Rattle.sock_diag_families.specs.declared.xdp.attributes.XdpInfo.{XdpInfo}
 use Rattle.sock_diag_families.specs.declared.xdp.attributes.XdpStatistics.{XdpStatistics}
 use Rattle.sock_diag_families.specs.declared.xdp.attributes.XdpUmem.{XdpUmem}
-use Rattle.netlink_core.specs.Table.{number, row}
 
--- two words of 32 bits
+-- `struct xdp_diag_info` (linux/xdp_diag.h)
 abbrev pub xdp_info : List ℕ → Result XdpInfo DecodeError
-xdp_info = fields 44 1 8 (row number 0 4 2) (λ words. record {
-  interface = slice_index words 0;
-  queue = slice_index words 1;
+xdp_info = fields 44 1 8 (λ bytes. record {
+  interface = u32_at 0 bytes;
+  queue = u32_at 4 bytes;
 })
 
--- a word of 64 bits, and eight of 32
-abbrev pub xdp_umem_rows : List Field
-xdp_umem_rows = number 0 8 ∷ row number 8 4 8
-
-abbrev pub xdp_umem_of : List ℕ → XdpUmem
-xdp_umem_of words = record {
-  size = slice_index words 0;
-  id = slice_index words 1;
-  pages = slice_index words 2;
-  chunk_size = slice_index words 3;
-  headroom = slice_index words 4;
-  interface = slice_index words 5;
-  queue = slice_index words 6;
-  flags = slice_index words 7;
-  references = slice_index words 8;
+-- `struct xdp_diag_umem` (linux/xdp_diag.h)
+abbrev pub xdp_umem_in : List ℕ → XdpUmem
+xdp_umem_in bytes = record {
+  size = u64_at 0 bytes;
+  id = u32_at 8 bytes;
+  pages = u32_at 12 bytes;
+  chunk_size = u32_at 16 bytes;
+  headroom = u32_at 20 bytes;
+  interface = u32_at 24 bytes;
+  queue = u32_at 28 bytes;
+  flags = u32_at 32 bytes;
+  references = u32_at 36 bytes;
 }
 
+-- the value of `XDP_DIAG_UMEM`
 abbrev pub xdp_umem : List ℕ → Result XdpUmem DecodeError
-xdp_umem = fields 44 5 40 xdp_umem_rows xdp_umem_of
+xdp_umem = fields 44 5 40 xdp_umem_in
 
--- six words of 64 bits
-abbrev pub xdp_statistics_rows : List Field
-xdp_statistics_rows = row number 0 8 6
-
-abbrev pub xdp_statistics_of : List ℕ → XdpStatistics
-xdp_statistics_of words = record {
-  received_dropped = slice_index words 0;
-  received_invalid = slice_index words 1;
-  received_full = slice_index words 2;
-  fill_ring_empty = slice_index words 3;
-  sent_invalid = slice_index words 4;
-  send_ring_empty = slice_index words 5;
+-- `struct xdp_diag_stats` (linux/xdp_diag.h)
+abbrev pub xdp_statistics_in : List ℕ → XdpStatistics
+xdp_statistics_in bytes = record {
+  received_dropped = u64_at 0 bytes;
+  received_invalid = u64_at 8 bytes;
+  received_full = u64_at 16 bytes;
+  fill_ring_empty = u64_at 24 bytes;
+  sent_invalid = u64_at 32 bytes;
+  send_ring_empty = u64_at 40 bytes;
 }
 
+-- the value of `XDP_DIAG_STATS`
 abbrev pub xdp_statistics : List ℕ → Result XdpStatistics DecodeError
-xdp_statistics = fields 44 9 48 xdp_statistics_rows xdp_statistics_of
+xdp_statistics = fields 44 9 48 xdp_statistics_in

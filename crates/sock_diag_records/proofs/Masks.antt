@@ -1,6 +1,7 @@
 -- The masks of the tables of `SocketId`, `InetRequest` and `InetResponseHeader` are those of the
 -- family and the timer byte.
 use Rattle.std.proofs.Common.{◌≡◌, ◌⊎◌, inl, inr, ◌<◌, ℕ, Result, Ok, refl, ◌∙◌, arith}
+use Rattle.netlink_core.specs.Layout.{table}
 use Rattle.netlink_core.proofs.TableLaws.{live_bits}
 use Rattle.netlink_core.specs.declared.fault.DecodeError.{DecodeError}
 use Rattle.sock_diag_records.specs.SignificantBits.{IsInetFamily, SameTimerClass}
@@ -31,7 +32,7 @@ has_versions family (inr e) = ((ipv6, ipv6), rw e)
 
 pub masks_of_socket_id : (family : ℕ) (versions : IpVersions)
     → versions_of_family family ≡ Ok versions
-    → live_bits (socket_id.table versions) ≡ socket_id_masks family
+    → live_bits (table socket_id versions) ≡ socket_id_masks family
 unfolding socket_id
 masks_of_socket_id family versions e = elim (inet_or_inet6 family versions e) [
   | inl (f, v) ↦ rw (f, v)
@@ -40,7 +41,7 @@ masks_of_socket_id family versions e = elim (inet_or_inet6 family versions e) [
 
 pub masks_of_request : (family : ℕ) (versions : IpVersions)
     → versions_of_family family ≡ Ok versions
-    → live_bits (inet_request.table versions) ≡ inet_request_masks family
+    → live_bits (table inet_request versions) ≡ inet_request_masks family
 unfolding inet_request
 masks_of_request family versions e = elim (inet_or_inet6 family versions e) [
   | inl (f, v) ↦ rw (f, v)
@@ -74,20 +75,20 @@ masks_of_class : (family timer : ℕ) → inet_response_header_masks family (cla
 masks_of_class family timer = grind arith
 
 masks_ipv4 : (class : ℕ) → class < 5
-    → live_bits (inet_response_header.table ((ipv4, ipv4), class))
+    → live_bits (table inet_response_header ((ipv4, ipv4), class))
     ≡ inet_response_header_masks 2 class
 unfolding inet_response_header
 masks_ipv4 = each _ refl refl refl refl refl
 
 masks_ipv6 : (class : ℕ) → class < 5
-    → live_bits (inet_response_header.table ((ipv6, ipv6), class))
+    → live_bits (table inet_response_header ((ipv6, ipv6), class))
     ≡ inet_response_header_masks 10 class
 unfolding inet_response_header
 masks_ipv6 = each _ refl refl refl refl refl
 
 pub masks_of_header : (family timer : ℕ) (tag : IpVersions × ℕ)
     → versions_of_family family ≡ Ok tag.0 → class_of_byte timer ≡ tag.1
-    → live_bits (inet_response_header.table tag) ≡ inet_response_header_masks family timer
+    → live_bits (table inet_response_header tag) ≡ inet_response_header_masks family timer
 masks_of_header family timer (versions, class) e f = elim (inet_or_inet6 family versions e) [
   | inl (is, v) ↦ rw (is, v, ← f) (masks_ipv4 (class_of_byte timer) (class_lt timer)
       ∙ masks_of_class 2 timer)

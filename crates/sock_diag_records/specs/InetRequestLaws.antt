@@ -1,6 +1,6 @@
 -- The request for IPv4 or IPv6 sockets keeps the laws.
 use Rattle.std.proofs.Common.{◌≡◌, [], ◌∷◌, ◌++◌, length}
-use Rattle.std.proofs.Common.{refl, arith, append-nil}
+use Rattle.std.proofs.Common.{refl, arith}
 use Rattle.netlink_core.specs.SoundLaws.{IsSound, IsFixed}
 use Rattle.netlink_core.specs.Layout.{bytes}
 use Rattle.byteorder.specs.Endian.{little_bytes}
@@ -34,7 +34,7 @@ inet_request_sound = record {
   tagged = λ param versions left e. grind arith;
   shaped = λ param versions left h e. grind arith;
   owned = λ param versions left h e. grind arith;
-  back = λ param value t n. rw (simp append-nil at (socket_id_back value.socket_id [] t.0));
+  back = λ param value t n. rw (socket_id_back value.socket_id [] t.0);
   tag_written = λ param value t n. n.1;
 }
 

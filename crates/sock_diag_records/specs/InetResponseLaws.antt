@@ -1,11 +1,8 @@
 -- The layout of the header of a reply is sound.
-use Rattle.std.proofs.Common.{IsTrue, ◌≡◌, ℕ, ◌*◌, ◌^◌, ◌<◌}
+use Rattle.std.proofs.Common.{IsTrue, ◌≡◌, ℕ, ◌^◌, ◌<◌}
 use Rattle.std.proofs.Common.{List, ◌++◌, drop, length}
-use Rattle.std.proofs.Common.{slice_index, Option, Some, Result, Ok, refl}
+use Rattle.std.proofs.Common.{slice_index, Option, Some, None, Result, Ok, refl}
 use Rattle.std.proofs.Common.{arith}
-use Rattle.std.specs.Prelude.{map}
-use Rattle.std.specs.List.{AllByRecursion}
-use Rattle.std.specs.Duration.{as_nanos}
 use Rattle.netlink_core.specs.Table.{values_of}
 use Rattle.netlink_core.specs.SoundLaws.{is_table, IsSound, IsFixed}
 use Rattle.netlink_core.specs.Bytes.{IsBytes}
@@ -14,25 +11,24 @@ use Rattle.netlink_core.proofs.Numbers.{number-fits, little_endian}
 use Rattle.netlink_core.specs.Layout.{bytes}
 use Rattle.netlink_core.proofs.TableLaws.{AreBytes-drop}
 use Rattle.sock_diag_records.specs.declared.inet.response.Timer.{Timer}
-use Rattle.sock_diag_records.specs.declared.inet.response.Timer.TheVariants.{KeepAlive}
+use Rattle.sock_diag_records.specs.declared.inet.response.Timer.TheVariants.{Retransmit, KeepAlive}
+use Rattle.sock_diag_records.specs.declared.inet.response.Timer.TheVariants.{TimeWait, Probe}
+use Rattle.std.specs.declared.time.Duration.{Duration}
 use Rattle.sock_diag_records.specs.declared.inet.response.InetResponseHeader.{InetResponseHeader}
 use Rattle.sock_diag_records.specs.declared.inet.socket_id.SocketId.{SocketId}
 use Rattle.netlink_core.specs.declared.fault.DecodeError.{DecodeError}
-use Rattle.sock_diag_records.specs.SocketId.{socket_id_fields, socket_id_values}
+use Rattle.sock_diag_records.specs.SocketIdLaws.{socket_id_fields, socket_id_values}
+use Rattle.netlink_core.specs.Layout.{table, values}
+use Rattle.sock_diag_records.specs.SocketId.{IsShaped}
 use Rattle.sock_diag_records.specs.SocketIdInverse.{socket_id_of}
 use Rattle.sock_diag_records.specs.IpVersions.{IpVersions, versions_of}
 use Rattle.sock_diag_records.specs.InetResponse.{inet_response_header}
-use Rattle.sock_diag_records.specs.InetResponseInverse.{duration, retransmits_count, expires_count}
+use Rattle.sock_diag_records.specs.InetResponseInverse.{duration}
 use Rattle.sock_diag_records.specs.InetResponseInverse.{timer_of, header_of, socket_id_count}
 use Rattle.sock_diag_records.specs.Timer.{milliseconds, class_of_byte}
-use Rattle.sock_diag_records.specs.Timer.{timer_data}
+use Rattle.sock_diag_records.specs.Timer.{timer_data, IsWholeMilliseconds}
 use Rattle.sock_diag_records.specs.SocketIdLaws.{by_versions, socket_id_back}
-use Rattle.netlink_core.specs.Table.{number, row}
-
--- a timer's time is whole milliseconds
-abbrev IsWholeTimer : Option Timer → Type 0
-IsWholeTimer timer =
-    AllByRecursion (λ time. as_nanos time ≡ milliseconds time * 1_000_000) (timer_data timer).2
+use Rattle.netlink_core.specs.Table.{number, array}
 
 -- the class beside what the family tells, or the family's fault
 abbrev pub with_class : ℕ → Result IpVersions DecodeError → Result (IpVersions × ℕ) DecodeError
@@ -46,14 +42,14 @@ each P none retransmits keeps_alive waits probes class h = grind arith
 
 -- the number of the word at 52
 abbrev expires_at : List ℕ → ℕ
-expires_at left = slice_index (values_of (row number 52 4 1) left) 0
+expires_at left = slice_index (values_of (array number 52 4 1) left) 0
 
 pub class_lt : (timer : ℕ) → class_of_byte timer < 5
 class_lt timer = grind arith
 
 -- the fields of each tag stand in a row
 tables_are : (versions : IpVersions) (class : ℕ) → class < 5
-    → IsTrue (is_table 0 (inet_response_header.table (versions, class)) 72)
+    → IsTrue (is_table 0 (table inet_response_header (versions, class)) 72)
 unfolding inet_response_header
 tables_are = by_versions _ (each _ refl refl refl refl refl) (each _ refl refl refl refl refl)
     (each _ refl refl refl refl refl) (each _ refl refl refl refl refl)
@@ -63,20 +59,20 @@ class_of_lt timer = grind arith
 
 -- what is read has the values that were read, and a timer of whole milliseconds
 kept_are : (left : List ℕ) → IsBytes left → (versions : IpVersions) (class : ℕ) → class < 5
-    → let values = values_of (inet_response_header.table (versions, class)) left in
-    let value = header_of (versions, class) values in
-    (inet_response_header.values value ≡ values) × IsWholeTimer value.timer
+    → let numbers = values_of (table inet_response_header (versions, class)) left in
+    let value = header_of (versions, class) numbers in
+    (values inet_response_header value ≡ numbers) × IsWholeMilliseconds (timer_data value.timer).2
 unfolding inet_response_header
 kept_are left h =
     let below : expires_at left < 2 ^ 32 = number-fits little_endian 4 (drop 52 left)
     (AreBytes-drop 52 left h) in
     let same : milliseconds (duration (expires_at left)) ≡ expires_at left = omega arith in
-    let whole : IsWholeTimer (Some (KeepAlive (duration (expires_at left)))) = (omega arith, tt) in
+    let whole : IsWholeMilliseconds (duration (expires_at left)) = omega arith in
     by_versions _
-    (each _ (refl, tt) (rw same, whole) (rw same, whole) (refl, tt) (rw same, whole))
-    (each _ (refl, tt) (rw same, whole) (rw same, whole) (refl, tt) (rw same, whole))
-    (each _ (refl, tt) (rw same, whole) (rw same, whole) (refl, tt) (rw same, whole))
-    (each _ (refl, tt) (rw same, whole) (rw same, whole) (refl, tt) (rw same, whole))
+    (each _ (refl, refl) (rw same, whole) (rw same, whole) (refl, refl) (rw same, whole))
+    (each _ (refl, refl) (rw same, whole) (rw same, whole) (refl, refl) (rw same, whole))
+    (each _ (refl, refl) (rw same, whole) (rw same, whole) (refl, refl) (rw same, whole))
+    (each _ (refl, refl) (rw same, whole) (rw same, whole) (refl, refl) (rw same, whole))
 
 -- a header of its fields, the last five in a list
 abbrev pub header_found : ℕ → ℕ → ℕ → ℕ → SocketId → List ℕ → Result InetResponseHeader DecodeError
@@ -92,38 +88,49 @@ header_found class family state count socket words = Ok record {
 }
 
 pub header_is : (left : List ℕ) (versions : IpVersions) (class : ℕ) → class < 5
-    → let values = values_of (inet_response_header.table (versions, class)) left in
-    Ok (header_of (versions, class) values)
+    → let numbers = values_of (table inet_response_header (versions, class)) left in
+    Ok (header_of (versions, class) numbers)
     ≡ header_found class (slice_index left 0) (slice_index left 1) (slice_index left 3)
     (socket_id_of versions (values_of (socket_id_fields 4 versions) left))
-    (values_of (row number 52 4 5) left)
+    (values_of (array number 52 4 5) left)
 unfolding inet_response_header
 header_is left = by_versions _ (each _ refl refl refl refl refl) (each _ refl refl refl refl refl)
     (each _ refl refl refl refl refl) (each _ refl refl refl refl refl)
 
 -- ---- a header is that of its values
 
-timer_back : (timer : Option Timer) (before after : List ℕ) → IsWholeTimer timer
-    → timer_of (timer_data timer).0 (slice_index ((timer_data timer).1 ++ before) 0)
-    (slice_index (map milliseconds (timer_data timer).2 ++ after) 0) ≡ timer
-timer_back timer before after h =
-    grind arith
-
-behind_retransmits : (timer : Option Timer) (rest : List ℕ)
-    → drop (retransmits_count (timer_data timer).0) ((timer_data timer).1 ++ rest) ≡ rest
-behind_retransmits timer rest = grind arith
-
-behind_expires : (timer : Option Timer) (rest : List ℕ)
-    → drop (expires_count (timer_data timer).0) (map milliseconds (timer_data timer).2 ++ rest)
-    ≡ rest
-behind_expires timer rest = grind arith
+-- whole milliseconds make their duration
+duration_back : (time : Duration) → IsWholeMilliseconds time → duration (milliseconds time) ≡ time
+duration_back time whole = grind arith
 
 behind_socket : (value : SocketId) (rest : List ℕ)
     → drop (socket_id_count (versions_of value)) (socket_id_values value ++ rest) ≡ rest
 behind_socket value rest = grind arith
 
-ruleset header_back =
-    (behind_retransmits, behind_expires, behind_socket, timer_back, socket_id_back)
+header_back : (timer : Option Timer) (family state : ℕ) (socket : SocketId)
+    (recv send uid inode : ℕ) → IsShaped socket → IsWholeMilliseconds (timer_data timer).2
+    → let header : InetResponseHeader = record {
+      family = family;
+      state = state;
+      timer = timer;
+      socket_id = socket;
+      recv_queue = recv;
+      send_queue = send;
+      uid = uid;
+      inode = inode;
+    } in
+    header_of (inet_response_header.tag_of header) (values inet_response_header header) ≡ header
+unfolding inet_response_header
+header_back None family state socket recv send uid inode shaped whole =
+    simp (behind_socket, socket_id_back, shaped)
+header_back (Some (Retransmit time count)) family state socket recv send uid inode shaped whole =
+    simp (behind_socket, socket_id_back, shaped, duration_back time whole)
+header_back (Some (KeepAlive time)) family state socket recv send uid inode shaped whole =
+    simp (behind_socket, socket_id_back, shaped, duration_back time whole)
+header_back (Some TimeWait) family state socket recv send uid inode shaped whole =
+    simp (behind_socket, socket_id_back, shaped)
+header_back (Some (Probe time)) family state socket recv send uid inode shaped whole =
+    simp (behind_socket, socket_id_back, shaped, duration_back time whole)
 
 -- ---- the layout is sound
 
@@ -147,7 +154,8 @@ header_sound = record {
   tagged = λ param t left e. grind arith;
   shaped = λ param t left h e. grind arith;
   owned = λ param t left h e. (grind arith, (kept_are left h t.0 t.1 (grind arith)).1);
-  back = λ param value t n. simp (header_back, t.0, n.1.1);
+  back = λ param v t n. header_back v.timer v.family v.state v.socket_id v.recv_queue v.send_queue
+      v.uid v.inode t.0 n.1.1;
   tag_written = λ param value t n. rw n.1.0 (grind arith);
 }
 

@@ -1,6 +1,6 @@
 -- The layout of a socket's identity is sound.
 use Rattle.std.proofs.Common.{◌≡◌, ℕ, List, [], ◌∷◌, ◌++◌, drop, length}
-use Rattle.std.proofs.Common.{refl}
+use Rattle.std.proofs.Common.{refl, sym, ap, ◌∙◌}
 use Rattle.std.proofs.Common.{arith}
 use Rattle.std.proofs.lemmas.List.{append_assoc}
 use Rattle.std.specs.List.{flat_map}
@@ -15,7 +15,9 @@ use Rattle.netlink_core.specs.Layout.{IsInRange, bytes}
 use Rattle.sock_diag_records.specs.declared.inet.socket_id.SocketId.{SocketId}
 use Rattle.sock_diag_records.specs.SocketId.{address_values}
 use Rattle.sock_diag_records.specs.SocketIdSteps.{address_bytes}
-use Rattle.sock_diag_records.specs.SocketId.{socket_id_fields, socket_id_values, socket_id}
+use Rattle.sock_diag_records.specs.SocketId.{socket_id_rows, socket_id}
+use Rattle.netlink_core.specs.Table.{Field}
+use Rattle.netlink_core.specs.Rows.{fields_of}
 use Rattle.sock_diag_records.specs.SocketId.{IsAddress}
 use Rattle.sock_diag_records.specs.SocketId.{IsShaped}
 use Rattle.sock_diag_records.specs.SocketIdInverse.{count_of, address_of}
@@ -25,6 +27,14 @@ use Rattle.sock_diag_records.specs.IpVersions.{address_data}
 use Rattle.sock_diag_records.specs.IpVersions.{versions_of}
 use Rattle.std.proofs.lemmas.List.{get_or-drop, drop-drop}
 use Rattle.std.proofs.Math.Nat.{add_assoc}
+
+-- the fields, where the record begins at that offset, and the values in the fields
+abbrev pub socket_id_fields : ℕ → IpVersions → List Field
+socket_id_fields offset versions = fields_of (socket_id_rows offset versions)
+
+abbrev pub socket_id_values : SocketId → List ℕ
+socket_id_values v = v.source_port ∷ v.destination_port ∷ (address_values v.source_address
+    ++ (address_values v.destination_address ++ v.interface_id ∷ first 8 v.cookie))
 
 -- what holds of each pair of versions
 pub by_versions : (P : IpVersions → Type 0) → P (ipv4, ipv4) → P (ipv4, ipv6) → P (ipv6, ipv4)
@@ -97,6 +107,14 @@ pub values-inside : (by : ℕ) (left : List ℕ) (versions : IpVersions)
 values-inside by left = by_versions _ (simp (get_or-drop, drop-drop, add_assoc))
     (simp (get_or-drop, drop-drop, add_assoc)) (simp (get_or-drop, drop-drop, add_assoc))
     (simp (get_or-drop, drop-drop, add_assoc))
+
+-- and at the end of a table
+pub values-at_end : (by : ℕ) (left : List ℕ) (versions : IpVersions)
+    → values_of (socket_id_fields 0 versions) (drop by left)
+    ≡ values_of (socket_id_fields by versions ++ []) left
+values-at_end by left versions = values-inside by left versions
+    ∙ ap (λ (fields : List Field). values_of fields left)
+    (sym (append-nil (socket_id_fields by versions)))
 
 -- an identity in hand is in range there too
 pub fit_inside : (by : ℕ) (value : SocketId) → IsInRange socket_id value

@@ -1,8 +1,7 @@
--- The timer of an IPv4 or IPv6 socket. Its class is the kernel's `idiag_timer`, the byte at 2: 0 no
--- timer, 1 retransmit, 2 keep-alive, 3 time-wait, 4 probe. By it the byte at 3 and the word at 52
--- are read or not.
-use Rattle.std.specs.Prelude.{ℕ, ◌/◌, ◌%◌, ◌^◌, nat_lt, if◌then◌else◌}
-use Rattle.std.specs.Prelude.{List, [], ◌∷◌, Option, Some, None}
+-- The timer of an IPv4 or IPv6 socket. Its class is the kernel's `idiag_timer`: 0 no timer, 1
+-- retransmit, 2 keepalive, 3 time-wait, 4 zero-window probe.
+use Rattle.std.specs.Prelude.{◌≡◌, ℕ, ◌*◌, ◌/◌, ◌%◌, ◌^◌, nat_lt, if◌then◌else◌}
+use Rattle.std.specs.Prelude.{Option, Some, None}
 use Rattle.std.specs.Duration.{as_nanos}
 use Rattle.std.specs.declared.time.Duration.{Duration}
 use Rattle.sock_diag_records.specs.declared.inet.response.Timer.{Timer}
@@ -13,14 +12,18 @@ use Rattle.sock_diag_records.specs.declared.inet.response.Timer.TheVariants.{Tim
 abbrev pub milliseconds : Duration → ℕ
 milliseconds time = as_nanos time / 1_000_000 % 2 ^ 32
 
--- the class that the byte at 2 tells: each number below 5 itself, and every other 0
+-- the class of a byte `idiag_timer`: a number below 5 is its own class, and all others are 0
 abbrev pub class_of_byte : ℕ → ℕ
 class_of_byte timer = if nat_lt timer 5 then timer else 0
 
--- of each timer its class, its count for the byte at 3, and its time for the word at 52
-abbrev pub timer_data : Option Timer → ℕ × List ℕ × List Duration
-timer_data (Some (Retransmit expires count)) = (1, count ∷ [], expires ∷ [])
-timer_data (Some (KeepAlive expires)) = (2, [], expires ∷ [])
-timer_data (Some TimeWait) = (3, [], [])
-timer_data (Some (Probe expires)) = (4, [], expires ∷ [])
-timer_data None = (0, [], [])
+-- the duration is a whole number of milliseconds below 2^32
+abbrev pub IsWholeMilliseconds : Duration → Type 0
+IsWholeMilliseconds time = as_nanos time ≡ milliseconds time * 1_000_000
+
+-- the class, the number of retransmits and the duration of a timer; 0 for each that it lacks
+abbrev pub timer_data : Option Timer → ℕ × ℕ × Duration
+timer_data (Some (Retransmit expires count)) = (1, count, expires)
+timer_data (Some (KeepAlive expires)) = (2, 0, expires)
+timer_data (Some TimeWait) = (3, 0, record { secs = 0; nanos = 0 })
+timer_data (Some (Probe expires)) = (4, 0, expires)
+timer_data None = (0, 0, record { secs = 0; nanos = 0 })

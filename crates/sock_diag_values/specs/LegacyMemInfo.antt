@@ -5,10 +5,12 @@ use Rattle.netlink_core.specs.Layout.{Layout, plain}
 use Rattle.netlink_core.specs.declared.fault.RecordName.TheVariants as name
 use Rattle.sock_diag_values.specs.declared.inet.legacy_mem_info.LegacyMemInfo.{LegacyMemInfo}
 use Rattle.sock_diag_values.specs.LegacyMemInfoInverse.{legacy_mem_info_of}
-use Rattle.netlink_core.specs.Table.{number, row}
+use Rattle.netlink_core.specs.Rows.{u32}
 
--- the words at 0, 4, 8 and 12
+-- `struct inet_diag_meminfo` (linux/inet_diag.h)
 abbrev pub legacy_mem_info : Layout (Unit {0}) (Unit {0}) LegacyMemInfo
-legacy_mem_info = plain name.LegacyMemInfo 16 (row number 0 4 4)
-    (λ value. value.receive_queue ∷ value.bottom_send_queue ∷ value.cache ∷ value.send_queue ∷ [])
-    legacy_mem_info_of (λ value. ⊤)
+legacy_mem_info = plain name.LegacyMemInfo 16 (
+    u32 0 LegacyMemInfo.receive_queue ∷
+    u32 4 LegacyMemInfo.bottom_send_queue ∷
+    u32 8 LegacyMemInfo.cache ∷
+    u32 12 LegacyMemInfo.send_queue ∷ []) legacy_mem_info_of (λ value. ⊤)

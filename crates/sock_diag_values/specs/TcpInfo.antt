@@ -1,40 +1,69 @@
--- The record of a TCP connection: 232 bytes, in groups of numbers, low byte first.
-use Rattle.std.specs.Prelude.{⊤, ℕ, List, [], ◌∷◌, ◌++◌}
-use Rattle.netlink_core.specs.Table.{bytes_at}
+-- The state of a TCP connection, 232 bytes.
+use Rattle.std.specs.Prelude.{⊤, List, [], ◌∷◌}
+use Rattle.netlink_core.specs.Rows.{Row, u8, u32, u64}
 use Rattle.netlink_core.specs.Layout.{Layout, plain}
 use Rattle.sock_diag_values.specs.declared.inet.tcp_info.TcpInfo.{TcpInfo}
 use Rattle.sock_diag_values.specs.TcpInfoInverse.{tcp_info_of}
 use Rattle.netlink_core.specs.declared.fault.RecordName.TheVariants as name
-use Rattle.netlink_core.specs.Table.{number, row}
 
--- the numbers, group by group, in the order of the table: first the bytes at 0
-abbrev pub tcp_info_values : TcpInfo → List ℕ
-tcp_info_values t = t.state ∷ t.ca_state ∷ t.retransmits ∷ t.probes ∷ t.backoff ∷ t.options ∷
-    t.wscale ∷ t.delivery_rate_app_limited ∷
-    -- the words at 8
-    t.rto ∷ t.ato ∷ t.snd_mss ∷ t.rcv_mss ∷ t.unacked ∷ t.sacked ∷ t.lost ∷ t.retrans ∷ t.fackets ∷
-    -- the words at 44
-    t.last_data_sent ∷ t.last_ack_sent ∷ t.last_data_recv ∷ t.last_ack_recv ∷
-    -- the words at 60
-    t.pmtu ∷ t.rcv_ssthresh ∷ t.rtt ∷ t.rttvar ∷ t.snd_ssthresh ∷ t.snd_cwnd ∷
-    -- the words at 84
-    t.advmss ∷ t.reordering ∷ t.rcv_rtt ∷ t.rcv_space ∷ t.total_retrans ∷
-    -- the long words at 104
-    t.pacing_rate ∷ t.max_pacing_rate ∷ t.bytes_acked ∷ t.bytes_received ∷
-    -- the words at 136
-    t.segs_out ∷ t.segs_in ∷ t.notsent_bytes ∷ t.min_rtt ∷ t.data_segs_in ∷ t.data_segs_out ∷
-    -- the long words at 160
-    t.delivery_rate ∷ t.busy_time ∷ t.rwnd_limited ∷ t.sndbuf_limited ∷
-    -- the words at 192
-    t.delivered ∷ t.delivered_ce ∷
-    -- the long words at 200
-    t.bytes_sent ∷ t.bytes_retrans ∷
-    -- the words at 216
-    t.dsack_dups ∷ t.reord_seen ∷ t.rcv_ooopack ∷ t.snd_wnd ∷ []
+-- `struct tcp_info` (linux/tcp.h); newer kernels append members
+abbrev pub tcp_info_rows : List (Row TcpInfo)
+tcp_info_rows =
+    u8 0 TcpInfo.state ∷
+    u8 1 TcpInfo.ca_state ∷
+    u8 2 TcpInfo.retransmits ∷
+    u8 3 TcpInfo.probes ∷
+    u8 4 TcpInfo.backoff ∷
+    u8 5 TcpInfo.options ∷
+    u8 6 TcpInfo.wscale ∷
+    u8 7 TcpInfo.delivery_rate_app_limited ∷
+    u32 8 TcpInfo.rto ∷
+    u32 12 TcpInfo.ato ∷
+    u32 16 TcpInfo.snd_mss ∷
+    u32 20 TcpInfo.rcv_mss ∷
+    u32 24 TcpInfo.unacked ∷
+    u32 28 TcpInfo.sacked ∷
+    u32 32 TcpInfo.lost ∷
+    u32 36 TcpInfo.retrans ∷
+    u32 40 TcpInfo.fackets ∷
+    u32 44 TcpInfo.last_data_sent ∷
+    u32 48 TcpInfo.last_ack_sent ∷
+    u32 52 TcpInfo.last_data_recv ∷
+    u32 56 TcpInfo.last_ack_recv ∷
+    u32 60 TcpInfo.pmtu ∷
+    u32 64 TcpInfo.rcv_ssthresh ∷
+    u32 68 TcpInfo.rtt ∷
+    u32 72 TcpInfo.rttvar ∷
+    u32 76 TcpInfo.snd_ssthresh ∷
+    u32 80 TcpInfo.snd_cwnd ∷
+    u32 84 TcpInfo.advmss ∷
+    u32 88 TcpInfo.reordering ∷
+    u32 92 TcpInfo.rcv_rtt ∷
+    u32 96 TcpInfo.rcv_space ∷
+    u32 100 TcpInfo.total_retrans ∷
+    u64 104 TcpInfo.pacing_rate ∷
+    u64 112 TcpInfo.max_pacing_rate ∷
+    u64 120 TcpInfo.bytes_acked ∷
+    u64 128 TcpInfo.bytes_received ∷
+    u32 136 TcpInfo.segs_out ∷
+    u32 140 TcpInfo.segs_in ∷
+    u32 144 TcpInfo.notsent_bytes ∷
+    u32 148 TcpInfo.min_rtt ∷
+    u32 152 TcpInfo.data_segs_in ∷
+    u32 156 TcpInfo.data_segs_out ∷
+    u64 160 TcpInfo.delivery_rate ∷
+    u64 168 TcpInfo.busy_time ∷
+    u64 176 TcpInfo.rwnd_limited ∷
+    u64 184 TcpInfo.sndbuf_limited ∷
+    u32 192 TcpInfo.delivered ∷
+    u32 196 TcpInfo.delivered_ce ∷
+    u64 200 TcpInfo.bytes_sent ∷
+    u64 208 TcpInfo.bytes_retrans ∷
+    u32 216 TcpInfo.dsack_dups ∷
+    u32 220 TcpInfo.reord_seen ∷
+    u32 224 TcpInfo.rcv_ooopack ∷
+    u32 228 TcpInfo.snd_wnd ∷ []
 
--- 232 bytes: eight at 0, then of each group the offset, the width, and how many numbers
+-- the rows as a layout
 unfoldable pub tcp_info : Layout (Unit {0}) (Unit {0}) TcpInfo
-tcp_info = plain name.TcpInfo 232 (bytes_at 0 8 ++ row number 8 4 24 ++
-    row number 104 8 4 ++ row number 136 4 6 ++ row number 160 8 4
-    ++ row number 192 4 2 ++ row number 200 8 2
-    ++ row number 216 4 4) tcp_info_values tcp_info_of (λ value. ⊤)
+tcp_info = plain name.TcpInfo 232 tcp_info_rows tcp_info_of (λ value. ⊤)

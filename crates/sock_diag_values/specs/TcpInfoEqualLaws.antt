@@ -3,7 +3,8 @@ use Rattle.std.proofs.Common.{arith}
 use Rattle.std.proofs.Common.{◌≡◌, ◌↔◌, ◌&&◌, ℕ, List, [], ◌∷◌, Bool, false, eqb, IsTrue, drop}
 use Rattle.std.proofs.Common.{rules}
 use Rattle.sock_diag_values.specs.declared.inet.tcp_info.TcpInfo.{TcpInfo}
-use Rattle.sock_diag_values.specs.TcpInfo.{tcp_info_values}
+use Rattle.sock_diag_values.specs.TcpInfo.{tcp_info_rows}
+use Rattle.netlink_core.specs.Rows.{numbers_of}
 
 -- the first numbers are equal, and those behind them
 abbrev equal_from : ℕ → ℕ → List ℕ → List ℕ → Bool
@@ -24,12 +25,13 @@ itself_from x (a ∷ xs) =
     grind (arith, itself_from a xs)
 
 pub tcp_info_equal : (v w : TcpInfo)
-    → IsTrue (equal_from v.state w.state (drop 1 (tcp_info_values v)) (drop 1 (tcp_info_values w)))
+    → IsTrue (equal_from v.state w.state (drop 1 (numbers_of tcp_info_rows v))
+    (drop 1 (numbers_of tcp_info_rows w)))
     ↔ (v ≡ w)
 tcp_info_equal v w =
     grind (
       arith,
-      same_from v.state w.state (drop 1 (tcp_info_values v)) (drop 1
-          (tcp_info_values w)),
-      itself_from w.state (drop 1 (tcp_info_values w)),
+      same_from v.state w.state (drop 1 (numbers_of tcp_info_rows v)) (drop 1
+          (numbers_of tcp_info_rows w)),
+      itself_from w.state (drop 1 (numbers_of tcp_info_rows w)),
     )

@@ -1,16 +1,18 @@
--- The memory of a UNIX socket: 36 bytes, nine words of 32 bits, low byte first, of which three are
--- read.
+-- The memory of a UNIX socket, 36 bytes.
 use Rattle.std.specs.Prelude.{⊤, [], ◌∷◌, replicate}
-use Rattle.netlink_core.specs.Table.{unread}
 use Rattle.netlink_core.specs.Layout.{Layout, plain}
 use Rattle.netlink_core.specs.declared.fault.RecordName.TheVariants as name
 use Rattle.sock_diag_values.specs.declared.unix.mem_info.MemInfo.{MemInfo}
 use Rattle.sock_diag_values.specs.UnixMemInfoInverse.{unix_mem_info_of}
-use Rattle.netlink_core.specs.Table.{number}
+use Rattle.netlink_core.specs.Rows.{skip, u32}
 
--- the words at 4, 12 and 20; the others are written 0
+-- an array of `u32`, indexed by `SK_MEMINFO_*` (linux/sock_diag.h); six of them are ignored
 abbrev pub unix_mem_info : Layout (Unit {0}) (Unit {0}) MemInfo
-unix_mem_info = plain name.UnixMemInfo 36 (unread 0 (replicate 4 0) ∷ number 4 4
-    ∷ unread 8 (replicate 4 0) ∷ number 12 4 ∷ unread 16 (replicate 4 0)
-    ∷ number 20 4 ∷ unread 24 (replicate 12 0) ∷ [])
-    (λ v. v.so_rcvbuf ∷ v.max_datagram_size ∷ v.alloc ∷ []) unix_mem_info_of (λ value. ⊤)
+unix_mem_info = plain name.UnixMemInfo 36 (
+    skip 0 (replicate 4 0) ∷
+    u32 4 MemInfo.so_rcvbuf ∷
+    skip 8 (replicate 4 0) ∷
+    u32 12 MemInfo.max_datagram_size ∷
+    skip 16 (replicate 4 0) ∷
+    u32 20 MemInfo.alloc ∷
+    skip 24 (replicate 12 0) ∷ []) unix_mem_info_of (λ value. ⊤)

@@ -4,9 +4,10 @@ use Rattle.netlink_core.specs.Layout.{Layout, plain}
 use Rattle.netlink_core.specs.declared.fault.RecordName.TheVariants as name
 use Rattle.sock_diag_values.specs.declared.unix.vfs.Vfs.{Vfs}
 use Rattle.sock_diag_values.specs.VfsInverse.{vfs_of}
-use Rattle.netlink_core.specs.Table.{number, row}
+use Rattle.netlink_core.specs.Rows.{u32}
 
--- the inode at 0 and the device at 4
+-- `struct unix_diag_vfs` (linux/unix_diag.h)
 abbrev pub vfs : Layout (Unit {0}) (Unit {0}) Vfs
-vfs = plain name.Vfs 8 (row number 0 4 2)
-    (λ value. value.inode ∷ value.device ∷ []) vfs_of (λ value. ⊤)
+vfs = plain name.Vfs 8 (
+    u32 0 Vfs.inode ∷
+    u32 4 Vfs.device ∷ []) vfs_of (λ value. ⊤)

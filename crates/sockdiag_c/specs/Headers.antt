@@ -1,5 +1,5 @@
 -- What C is told of the headers of replies.
-use Rattle.std.specs.Prelude.{ℕ, List, map, slice_index}
+use Rattle.std.specs.Prelude.{ℕ, List}
 use Rattle.std.specs.declared.net.ip_addr.IpAddr.{IpAddr}
 use Rattle.netlink_core.specs.Table.{bytes_of}
 use Rattle.sock_diag_records.specs.declared.inet.response.InetResponseHeader.{InetResponseHeader}
@@ -29,8 +29,8 @@ inet_header_of h = record {
   family = h.family;
   state = h.state;
   timer = (timer_data h.timer).0;
-  retransmits = slice_index (timer_data h.timer).1 0;
-  expires = slice_index (map milliseconds (timer_data h.timer).2) 0;
+  retransmits = (timer_data h.timer).1;
+  expires = milliseconds (timer_data h.timer).2;
   source_port = h.socket_id.source_port;
   destination_port = h.socket_id.destination_port;
   source_address = address_bytes h.socket_id.source_address;

@@ -1,6 +1,6 @@
 //! The headers of replies, as C sees them.
 
-ghost use Rattle.std.specs.Prelude.{◌≡◌, map, slice_index};
+ghost use Rattle.std.specs.Prelude.{◌≡◌};
 ghost use Rattle.sock_diag_records.specs.Timer.{timer_data, milliseconds};
 ghost use Rattle.sockdiag_c.specs.Headers.{address_bytes, inet_header_of, unix_header_of};
 
@@ -138,8 +138,8 @@ impl From<InetResponseHeader> for InetHeader {
 // The byte of a timer, and its count and its milliseconds or else zeros.
 fn timer_numbers(timer: &Option<Timer>) -> (u8, u8, u32)
     ensures byte { result.0 ≡ (timer_data timer.now).0 }
-    ensures retransmits { result.1 ≡ slice_index (timer_data timer.now).1 0 }
-    ensures expires { result.2 ≡ slice_index (map milliseconds (timer_data timer.now).2) 0 }
+    ensures retransmits { result.1 ≡ (timer_data timer.now).1 }
+    ensures expires { result.2 ≡ milliseconds (timer_data timer.now).2 }
 {
     match timer {
         Some(Timer::Retransmit(expires, count)) => (1, *count, whole_milliseconds(*expires)),

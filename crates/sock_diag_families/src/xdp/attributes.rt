@@ -2,10 +2,8 @@
 
 ghost use Rattle.std.proofs.Common.{rules};
 ghost use Rattle.std.specs.Prelude.{◌≡◌, ◌≤◌, length};
-ghost use Rattle.netlink_core.specs.Table.{values_of};
-ghost use Rattle.sock_diag_families.specs.XdpAttributes.{xdp_info, xdp_umem, xdp_umem_of};
-ghost use Rattle.sock_diag_families.specs.XdpAttributes.{xdp_umem_rows, xdp_statistics};
-ghost use Rattle.sock_diag_families.specs.XdpAttributes.{xdp_statistics_of, xdp_statistics_rows};
+ghost use Rattle.sock_diag_families.specs.XdpAttributes.{xdp_info, xdp_umem, xdp_umem_in};
+ghost use Rattle.sock_diag_families.specs.XdpAttributes.{xdp_statistics, xdp_statistics_in};
 
 use super::{AF_XDP, XDP_DIAG_INFO, XDP_DIAG_STATS, XDP_DIAG_UMEM};
 use crate::values::enough_in;
@@ -115,7 +113,7 @@ impl XdpStatistics {
 // The memory that so many bytes tell.
 fn umem_in(value: &[u8]) -> XdpUmem
     requires { 40 ≤ length value.now }
-    ensures { result ≡ xdp_umem_of (values_of xdp_umem_rows value.now) }
+    ensures { result ≡ xdp_umem_in value.now }
 {
     let [size] = long_words_at::<1>(value, 0);
     let [
@@ -144,7 +142,7 @@ fn umem_in(value: &[u8]) -> XdpUmem
 // The counts that so many bytes tell.
 fn statistics_in(value: &[u8]) -> XdpStatistics
     requires { 48 ≤ length value.now }
-    ensures { result ≡ xdp_statistics_of (values_of xdp_statistics_rows value.now) }
+    ensures { result ≡ xdp_statistics_in value.now }
 {
     let [
         received_dropped,

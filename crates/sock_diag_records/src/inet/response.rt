@@ -1,8 +1,7 @@
 //! The header of a reply about an IPv4 or IPv6 socket.
 
 ghost use Rattle.std.proofs.Common.{rules};
-ghost use Rattle.std.specs.Prelude.{ℕ, ◌≡◌, ◌≢◌, ◌<◌, map, slice_index, IfErr};
-ghost use Rattle.std.specs.List.{AllByRecursion};
+ghost use Rattle.std.specs.Prelude.{ℕ, ◌≡◌, ◌≢◌, ◌<◌, IfErr};
 ghost use Rattle.netlink_core.specs.declared.fault.DecodeError.TheVariants.{Memory};
 ghost use Rattle.netlink_core.specs.Layout.{read};
 ghost use Rattle.netlink_core.proofs.LayoutLaws.{record_laws};
@@ -166,8 +165,8 @@ fn wrapped_milliseconds(time: Duration) -> u32
 // The byte of a timer, and its count and its milliseconds or else zeros.
 fn timer_words(timer: &Option<Timer>) -> (u8, u8, u32)
     ensures byte { result.0 ≡ (timer_data timer.now).0 }
-    ensures retransmits { result.1 ≡ slice_index (timer_data timer.now).1 0 }
-    ensures expires { result.2 ≡ slice_index (map milliseconds (timer_data timer.now).2) 0 }
+    ensures retransmits { result.1 ≡ (timer_data timer.now).1 }
+    ensures expires { result.2 ≡ milliseconds (timer_data timer.now).2 }
 {
     match timer {
         Some(Timer::Retransmit(expires, retransmits)) => {
@@ -196,7 +195,7 @@ fn timer_from(timer: u8, retransmits: u8, milliseconds: u32) -> Option<Timer>
 
 // The number of retransmits is within its type.
 fn timer_in_range(timer: &Option<Timer>)
-    ensures { AllByRecursion (λ (count : ℕ). count < 256) (timer_data timer.now).1 }
+    ensures { (timer_data timer.now).1 < 256 }
 {
     if let Some(Timer::Retransmit(_, retransmits)) = timer {
         let _retransmits = *retransmits;

@@ -15,7 +15,7 @@ ghost use Rattle.sock_diag_records.specs.SocketId.{socket_id};
 ghost use Rattle.sock_diag_records.specs.SocketIdSteps.{address_bytes};
 ghost use Rattle.sock_diag_records.specs.IpVersions.{address_data, IpVersions};
 ghost use Rattle.sock_diag_records.specs.SocketIdLaws.{socket_id_sound, socket_id_size};
-ghost use Rattle.netlink_core.specs.Table.{network, row};
+ghost use Rattle.netlink_core.specs.Table.{network, array};
 
 use crate::constants::{AF_INET, AF_INET6};
 use byteorder::{BigEndian, ByteOrder, LittleEndian};
@@ -111,7 +111,7 @@ fn ipv4_at(bytes: &[u8], offset: usize) -> Ipv4Addr
 // The IPv6 address at an offset.
 fn ipv6_at(bytes: &[u8], offset: usize) -> Ipv6Addr
     requires { offset + 16 ≤ length bytes.now }
-    ensures { ipv6_segments result ≡ values_of (row network offset 2 8) bytes.now }
+    ensures { ipv6_segments result ≡ values_of (array network offset 2 8) bytes.now }
 {
     Ipv6Addr::from_segments(big_shorts_at(bytes, offset))
 }

@@ -3,7 +3,7 @@
 ghost use Rattle.std.specs.Prelude.{ℕ, ◌≡◌, ◌≤◌, ◌+◌, ◌*◌, ◌↔◌, ◌<◌, ◌^◌, length, take, drop};
 ghost use Rattle.std.specs.Prelude.{SomeIff, IfSome, IsSome};
 ghost use Rattle.std.proofs.Common.{rules};
-ghost use Rattle.netlink_core.specs.Layout.{read, bytes};
+ghost use Rattle.netlink_core.specs.Layout.{read, bytes, values};
 ghost use Rattle.netlink_core.proofs.LayoutLaws.{record_laws};
 ghost use Rattle.netlink_core.specs.Table.{Fit};
 ghost use Rattle.sock_diag_values.specs.MemInfo.{words_in, mem_info, held_bytes};
@@ -11,7 +11,7 @@ ghost use Rattle.sock_diag_values.specs.MemInfoLaws.{mem_info_sound};
 ghost use Rattle.sock_diag_values.specs.MemInfoEqualLaws.{buffer_equal, bytes_equal};
 ghost use Rattle.sock_diag_values.specs.MemInfoEqualLaws.{mem_info_equal};
 ghost use Rattle.byteorder.specs.Endian.{little_number};
-ghost use Rattle.netlink_core.specs.Table.{number, row};
+ghost use Rattle.netlink_core.specs.Table.{number, array};
 
 use byteorder::{ByteOrder, LittleEndian};
 use netlink_core::fields::words_at;
@@ -159,7 +159,7 @@ impl Record for MemInfo {
 impl MemInfo {
     // The first seven words are within their types.
     fn words_are_in_range(&self)
-        ensures { Fit (row number 0 4 7) (take 7 (mem_info.values self.now)) }
+        ensures { Fit (array number 0 4 7) (take 7 (values mem_info self.now)) }
     {
         let _receive_queue = self.receive_queue;
         let _receive_queue_max = self.receive_queue_max;

@@ -1,5 +1,6 @@
 use Rattle.std.proofs.Common.{◌≡◌, ◌⊎◌, ◌≤◌, ℕ, List, length, Result, Ok, sym, ap, ◌∙◌, arith}
 use Rattle.netlink_core.specs.declared.fault.DecodeError.{DecodeError}
+use Rattle.netlink_core.specs.Layout.{table}
 use Rattle.netlink_core.proofs.TableLaws.{live_bits}
 use Rattle.netlink_core.proofs.SignificantBits.{equivalent_by_condition}
 use Rattle.sock_diag_values.specs.MemInfo.{mem_info, words_in}
@@ -24,7 +25,7 @@ seven_to_nine b h = grind arith
 
 -- in each of the three tables all bits are significant
 masks_of_mem_info : (words : ℕ) → (words ≡ 7) ⊎ ((words ≡ 8) ⊎ (words ≡ 9))
-    → live_bits (mem_info.table words) ≡ mem_info_masks words
+    → live_bits (table mem_info words) ≡ mem_info_masks words
 masks_of_mem_info words h = grind arith
 
 pub returns : goal.returns
@@ -35,7 +36,7 @@ returns c = λ x y hx hy.
     (λ lx ly tag here there.
     let is = same_count x tag lx here in (
       is ∙ sym (same_count y tag ly there),
-      ap (λ (n : ℕ). live_bits (mem_info.table n)) (sym is)
+      ap (λ (n : ℕ). live_bits (table mem_info n)) (sym is)
           ∙ masks_of_mem_info words (seven_to_nine x lx),
     ))
     (λ lx ly same equal. (

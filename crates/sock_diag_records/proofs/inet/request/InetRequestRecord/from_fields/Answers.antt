@@ -8,7 +8,7 @@ use Rattle.netlink_core.proofs.LayoutLaws.{accepts, accepted_fields}
 use Rattle.netlink_core.proofs.Congruence.{◌⊛◌}
 use Rattle.netlink_core.specs.declared.fault.DecodeError.{DecodeError}
 use Rattle.sock_diag_records.specs.SocketId.{socket_id}
-use Rattle.sock_diag_records.specs.SocketIdLaws.{values-inside}
+use Rattle.sock_diag_records.specs.SocketIdLaws.{values-at_end}
 use Rattle.sock_diag_records.specs.SocketIdInverse.{socket_id_of}
 use Rattle.sock_diag_records.specs.InetRequest.{inet_request}
 use Rattle.sock_diag_records.specs.declared.inet.request.InetRequest.{InetRequest}
@@ -36,5 +36,5 @@ returns c =
     (ap (found (slice_index payload 0) (slice_index payload 1)) (c.from_bits_truncate.ensures tt
     ∙ and_mask (slice_index payload 2) 8 ∙ mod-eq_of_lt below)
     ⊛ rw c.words_at.ensures at (c.from_bits_truncate-2.ensures tt)
-    ⊛ (h.2 ∙ ap (socket_id_of h.0) (values-inside 8 payload h.0)))
+    ⊛ (h.2 ∙ ap (socket_id_of h.0) (values-at_end 8 payload h.0)))
     ∙ sym (accepts inet_request tt payload h.0 h.1)

@@ -1,0 +1,6 @@
+use Rattle.std.proofs.Common.{arith}
+use Rattle.sock_diag_values.proofs.inet.mem_info.MemInfoRecord.from_fields.Goals as goal
+
+pub returns : goal.returns
+returns c =
+    grind (arith, c.words_at.ensures, c.word_at.ensures, c.word_at-2.ensures)
