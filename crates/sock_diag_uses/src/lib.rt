@@ -1,6 +1,7 @@
 //! Callers of the crates of sock_diag(7), each with its contract, and the examples of the README.
 #![tactic(auto)]
 
+pub mod laws;
 pub mod link;
 pub mod listening_tcp;
 pub mod lister;

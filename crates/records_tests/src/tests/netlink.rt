@@ -126,7 +126,25 @@ fn faults_tell_numbers_and_texts(rt: HostRuntime) {
     }
     let reasons = [CanonError::Unwritable, CanonError::Memory];
     shows(&rt, rt.alloc(), &reasons, "[Unwritable, Memory]");
+    for (name, text) in RECORDS {
+        let shown = format!(in rt.alloc(); "{name}").expect(&rt, "memory");
+        assert!(&rt; shown.as_str() == text, "{shown}");
+    }
 }
+
+/// The names of the records of the port, and their texts.
+const RECORDS: [(RecordName, &str); 10] = [
+    (RecordName::SocketId, "SocketId"),
+    (RecordName::InetRequest, "InetRequest"),
+    (RecordName::InetResponseHeader, "InetResponseHeader"),
+    (RecordName::UnixRequest, "UnixRequest"),
+    (RecordName::UnixResponseHeader, "UnixResponseHeader"),
+    (RecordName::LegacyMemInfo, "LegacyMemInfo"),
+    (RecordName::MemInfo, "MemInfo"),
+    (RecordName::TcpInfo, "TcpInfo"),
+    (RecordName::Vfs, "Vfs"),
+    (RecordName::UnixMemInfo, "UnixMemInfo"),
+];
 
 // A text is read, bytes are copied, and an attribute is copied, written and rewritten.
 fn has_room(rt: &impl Abort, alloc: Global, size: usize) {

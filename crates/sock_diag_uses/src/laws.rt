@@ -1,0 +1,14 @@
+//! Properties of constants. Proof only: the contract of the function states the property.
+
+ghost use Rattle.std.specs.Prelude.{[], ◌∷◌};
+ghost use Rattle.sock_diag_records.specs.Constants.{AreEqual};
+
+use crate::link::{IFLA_IFNAME, IFLA_MTU};
+use crate::listening_tcp::REQUEST_LENGTH;
+use crate::test_kernel::NLM_F_MULTI;
+
+/// States the number of each constant.
+pub fn use_constants_have_their_numbers()
+    ensures { AreEqual ((REQUEST_LENGTH, 72) ∷ (NLM_F_MULTI, 2) ∷ (IFLA_IFNAME, 3) ∷
+        (IFLA_MTU, 4) ∷ []) }
+{}
