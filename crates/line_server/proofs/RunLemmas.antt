@@ -2,9 +2,9 @@
 use Rattle.std.proofs.lemmas.Grind.{common_steps}
 use Rattle.std.proofs.Common.{arith}
 use Rattle.std.proofs.Common.{◌≡◌, ℕ, List, [], ◌++◌, length, take, Option, None, Some, Result}
-use Rattle.std.proofs.Common.{map, Ok, Err, Bool, ◌&&◌, ◌∙◌}
+use Rattle.std.proofs.Common.{map, Ok, Err, Bool, ◌&&◌, ◌∙◌, inl, inr, refl, sym}
 use Rattle.std.proofs.Common.{append_assoc, append-nil}
-use Rattle.std.specs.Prelude.{IfSome, OnOk}
+use Rattle.std.specs.Prelude.{IfErr, IfSome, OnOk}
 use Rattle.std.specs.List.{list_all}
 use Rattle.std.specs.Io.KnownBytes.{Appends, Consumes, IsAtEnd}
 use Rattle.std.proofs.KnownBytes.{Appends-kept, Appends-nil}
@@ -13,11 +13,22 @@ use Rattle.std.proofs.lemmas.List.Concat.{flat_map-append}
 use Rattle.std.proofs.lemmas.List.Folds.{list_all-append, list_all-map}
 use Rattle.std.proofs.Math.Seq.{take-append_seam}
 use Rattle.line_server.specs.Lines.{Splits, with_rest}
-use Rattle.line_server.specs.Run.{Answers, answer_lines}
-use Rattle.line_server.specs.RunSteps.{WritesPart, all_good}
+use Rattle.line_server.specs.Run.{Answers, SendsOrFails, answer_lines}
+use Rattle.line_server.specs.RunSteps.{Writes, WritesPart, all_good}
 use Rattle.line_server.proofs.LinesLemmas.{Splits-append, Splits-one_way}
 use Rattle.line_server.specs.declared.stream.RunError.{RunError}
 use Rattle.line_server.specs.declared.stream.RunError.TheVariants.{Read, Write, Memory}
+
+-- bytes are written, unless a write failed
+pub sent_or_failed : (held held' : Option (List ℕ)) (failed : Type 0) (text : List ℕ)
+    (result : Result (Unit {0}) RunError) → Writes held held' text result
+    → IfErr result (λ e. (e ≡ Write) × failed) → SendsOrFails held held' failed text
+sent_or_failed held held' failed text (Ok done) wrote cause =
+    (text, [], sym (append-nil text), wrote, inl refl)
+sent_or_failed held held' failed text (Err Read) wrote cause = absurd wrote
+sent_or_failed held held' failed text (Err Memory) wrote cause = absurd (let is = cause.0 in cc)
+sent_or_failed held held' failed text (Err Write) (front, more, split, sent) cause =
+    (front, more, split, sent, inr cause.1)
 
 -- the last line stands behind the whole ones
 with_rest-append : (whole : List (List ℕ)) (rest : List ℕ) → with_rest whole rest

@@ -1,5 +1,5 @@
 -- What a run has read and written when it ends.
-use Rattle.std.specs.Prelude.{◌≡◌, ℕ, Bool, List, [], ◌∷◌, ◌++◌, map, take, Option, Result, Ok}
+use Rattle.std.specs.Prelude.{◌≡◌, ◌⊎◌, ℕ, Bool, List, [], ◌∷◌, ◌++◌, map, take, Option, Result, Ok}
 use Rattle.std.specs.Prelude.{Err, IfOk}
 use Rattle.std.specs.List.{flat_map, list_all}
 use Rattle.std.specs.Io.KnownBytes.{Appends, Consumes}
@@ -10,6 +10,12 @@ use Rattle.line_server.specs.declared.stream.RunError.TheVariants.{Read, Write, 
 -- the answer lines of some lines, in order
 abbrev pub answer_lines : (List ℕ → List ℕ) → List (List ℕ) → List ℕ
 answer_lines answer lines = flat_map (λ line. answer line ++ 10 ∷ []) lines
+
+-- The text was written, or a prefix of it and a write failed. The bytes held before and after, if
+-- they are known.
+abbrev pub SendsOrFails : Option (List ℕ) → Option (List ℕ) → Type 0 → List ℕ → Type 0
+SendsOrFails held held' failed text = (sent more : List ℕ) × (text ≡ sent ++ more)
+    × Appends held held' sent × ((more ≡ []) ⊎ failed)
 
 -- Of a run: what answers each line, and the bytes that are left to read and held as written, before
 -- and after it, where they are known.

@@ -1,7 +1,7 @@
 //! The one way in which a run reads, and the one in which it writes.
 
 ghost use Rattle.std.specs.Prelude.{◌≡◌, ◌==◌, ◌<◌, ◌≤◌, ◌+◌, if◌then◌else◌, ℕ, List, Option};
-ghost use Rattle.std.specs.Prelude.{length, IfOk, IfErr, MatchResult, ⊤};
+ghost use Rattle.std.specs.Prelude.{length, IfOk, IfErr, MatchResult, OnOk, ⊤};
 ghost use Rattle.std.specs.Io.KnownBytes.{Appends, Consumes, Keeps, ReadConsumes, WriteAppends};
 ghost use Rattle.std.specs.Io.{ReadsAtMost};
 ghost use Rattle.line_server.specs.Lines.{Splits};
@@ -68,14 +68,17 @@ fn read_outcome(outcome: io::Result<usize>) -> Result<usize, RunError>
     }
 }
 
-/// What answers are written on. Who has no other bound than this one on a writer can't say that a
-/// write failed where none did.
+/// A writer of answers. Generic code that has no other bound on a writer can claim neither that a
+/// write failed if none did, nor that the last call flushed it if none did.
 pub trait AnswerWrite {
     // The bytes that it holds, where they are known.
     ghost held: { Self → Option (List ℕ) };
 
     // A write failed or took no bytes, or a flush failed.
     ghost failed: { Self → Type 0 };
+
+    // The last call flushed it.
+    ghost flushed: { Self → Type 0 };
 
     /// Writes once. To take no bytes is to fail.
     fn write_some(&mut self, bytes: &[u8]) -> Result<usize, RunError>
@@ -86,6 +89,7 @@ pub trait AnswerWrite {
     /// Flushes once.
     fn flush_answers(&mut self) -> Result<(), RunError>
         ensures bytes { Keeps (held self.old) (held self.new) }
+        ensures done { OnOk result (flushed self.new) }
         ensures cause { IfErr result (λ e. (e ≡ RunError.Write) × failed self.new) };
 }
 
@@ -93,6 +97,8 @@ impl<W: Write> AnswerWrite for W {
     ghost held = { λ w. W.contents w };
 
     ghost failed = { λ _. ⊤ };
+
+    ghost flushed = { λ _. ⊤ };
 
     fn write_some(&mut self, bytes: &[u8]) -> Result<usize, RunError> {
         write_outcome(self.write(bytes))

@@ -1,9 +1,9 @@
 //! Answers the lines of a reader on a writer.
 ghost use Rattle.std.specs.Prelude.{◌≡◌, ◌⊎◌, ◌-◌, ◌^◌, ◌≤◌, ℕ, Bool, true, List, [], ◌++◌, OnOk};
 ghost use Rattle.std.specs.Prelude.{IfOk, IfErr, Option, None, vec_capacity};
-ghost use Rattle.std.specs.Io.KnownBytes.{Appends, IsAtEnd};
+ghost use Rattle.std.specs.Io.KnownBytes.{IsAtEnd};
 ghost use Rattle.line_server.specs.Lines.{with_rest};
-ghost use Rattle.line_server.specs.Run.{Answers, answer_lines};
+ghost use Rattle.line_server.specs.Run.{Answers, SendsOrFails, answer_lines};
 ghost use Rattle.line_server.specs.RunSteps.{AnswersPiece, IsLine, Writes, all_good, fed};
 ghost use Rattle.line_server.specs.declared.stream.RunError.TheVariants.{Memory};
 
@@ -130,6 +130,7 @@ pub fn serve<S: Start, A: LineAnswers, R: PromptRead, W: AnswerWrite>(
         × R.reads input.old 0 }
     requires right { (line : List ℕ) → A.answers line (S.answer line) }
     ensures ended { OnOk result (IsAtEnd (R.left input.new)) }
+    ensures flushed { OnOk result (W.flushed output.new) }
     ensures answered { Answers S.answer S.remaining (R.left input.new) S.contents
         (W.held output.new) A.good result }
     ensures read_cause { IfErr result (λ e. e ≡ RunError.Read
@@ -169,6 +170,7 @@ fn finish<S: Start, A: LineAnswers, W: AnswerWrite>(
         (answer_lines S.answer (with_rest [] kept.old.line.items)) result }
     ensures judged { IfOk result (λ is_good.
         is_good ≡ all_good A.good S.answer (with_rest [] kept.old.line.items)) }
+    ensures flushed { OnOk result (W.flushed output.new) }
     ensures cause { IfErr result (λ e. e ≡ RunError.Write → W.failed output.new) }
 {
     let is_good = end_last_line::<S, A>(alloc, kept)?;
@@ -291,7 +293,7 @@ fn empty(alloc: Global, room: &mut Vec<u8>)
 /// Writes all the bytes.
 fn send<W: AnswerWrite>(output: &mut W, bytes: &[u8]) -> Result<(), RunError>
     ensures written { Writes (W.held output.old) (W.held output.new) bytes.now result }
-    ensures cause { IfErr result (λ e. e ≡ RunError.Write → W.failed output.new) }
+    ensures cause { IfErr result (λ e. (e ≡ RunError.Write) × W.failed output.new) }
 {
     let mut rest = bytes;
     'writes: while !rest.is_empty() {
@@ -301,10 +303,9 @@ fn send<W: AnswerWrite>(output: &mut W, bytes: &[u8]) -> Result<(), RunError>
     Ok(())
 }
 
-/// Writes the text, or a beginning of it where a write fails.
+/// Writes the text. If a write fails, a prefix of the text has been written.
 pub fn try_send<W: AnswerWrite>(output: &mut W, text: &[u8])
-    ensures { (sent : List ℕ) × ((more : List ℕ) × (text.now ≡ sent ++ more))
-        × Appends (W.held output.old) (W.held output.new) sent }
+    ensures { SendsOrFails (W.held output.old) (W.held output.new) (W.failed output.new) text.now }
 {
     let _ = send(output, text);
 }
