@@ -5,7 +5,8 @@ use Rattle.std.specs.Result.{result_map_both}
 use Rattle.netlink_core.specs.declared.fault.DecodeError.{DecodeError}
 use Rattle.netlink_core.specs.Attribute.{Attribute, Cut, CutOff, IsFramingFault, StartsWith}
 use Rattle.netlink_core.specs.AttributeSet.{AttributeSet, AttributeValue, decodes}
-use Rattle.netlink_core.specs.Walk.{attribute_of, bytes_left}
+use Rattle.netlink_core.specs.Walk.{attribute_of}
+use Rattle.sock_diag_extras.specs.Models.{lenient_left}
 use Rattle.sock_diag_extras.specs.declared.lenient.LenientNlas.{LenientNlas}
 use Rattle.sock_diag_extras.specs.declared.lenient.Refused.{Refused}
 use Rattle.sock_diag_extras.specs.declared.lenient.Refused.TheVariants as refused
@@ -43,8 +44,8 @@ FrontIs F left item later =
 abbrev pub GivesLeniently : {V : Type 0} (F : AttributeSet) → (V → AttributeValue F) → LenientNlas V
     → Option (Result V Refused) → LenientNlas V → Type 0
 GivesLeniently F view_model old given new =
-    MatchOption given ((bytes_left old.walk ≡ []) × (bytes_left new.walk ≡ []))
-    (λ item. FrontIs F (bytes_left old.walk) (model F view_model item) (bytes_left new.walk))
+    MatchOption given ((lenient_left old ≡ []) × (lenient_left new ≡ []))
+    (λ item. FrontIs F (lenient_left old) (model F view_model item) (lenient_left new))
 
 -- The items of bytes: of each attribute that the bytes are cut into what it says or why it is
 -- refused, in order, and last the fault of the framing, where there is one.

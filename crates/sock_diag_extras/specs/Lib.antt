@@ -1,4 +1,5 @@
 pub mod Lenient
+pub mod Models
 pub mod TcpFields
 pub mod RecordTable
 pub mod Congestion

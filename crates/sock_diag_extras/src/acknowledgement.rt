@@ -14,6 +14,8 @@ ghost use Rattle.sock_diag_families.specs.Found.{within};
 ghost use Rattle.sock_diag_extras.specs.Acknowledgement.{HoldsRequest, attributes_behind};
 ghost use Rattle.sock_diag_extras.specs.Acknowledgement.{error_attributes, request_in};
 ghost use Rattle.sock_diag_extras.specs.Acknowledgement.{request_length};
+ghost use Rattle.sock_diag_extras.specs.Models.{ack_attributes, ack_number, ack_request};
+ghost use Rattle.sock_diag_extras.specs.Models.{nested_bytes};
 ghost use Rattle.sock_diag_extras.specs.Nested.{first_in};
 
 use crate::bytes::bytes_behind;
@@ -46,11 +48,11 @@ impl<'a> AckView<'a> {
     pub fn of_error(flags: u16, payload: &'a [u8]) -> Option<AckView<'a>>
         ensures held { IsSome result ↔ HoldsRequest flags payload.entry.now }
         ensures number { IfSome result (λ ack.
-            leading_number payload.entry.now ≡ Some ack.number) }
+            leading_number payload.entry.now ≡ Some (ack_number ack)) }
         ensures request { IfSome result (λ ack.
-            ack.request.now ≡ request_in flags payload.entry.now) }
+            ack_request ack ≡ request_in flags payload.entry.now) }
         ensures attributes { IfSome result (λ ack.
-            ack.attributes.now ≡ error_attributes flags payload.entry.now) }
+            ack_attributes ack ≡ error_attributes flags payload.entry.now) }
     {
         if payload.len() < 4 + NETLINK_HEADER_LEN {
             return None;
@@ -70,10 +72,10 @@ impl<'a> AckView<'a> {
     /// What a message of the type `NLMSG_DONE` tells: four bytes of the number, and attributes,
     /// where the flags have `NLM_F_ACK_TLVS`. `None` where there are fewer than four bytes.
     pub fn of_done(flags: u16, payload: &'a [u8]) -> Option<AckView<'a>>
-        ensures number { option_map (λ ack. ack.number) result ≡ leading_number payload.entry.now }
-        ensures request { IfSome result (λ ack. ack.request.now ≡ []) }
+        ensures number { option_map ack_number result ≡ leading_number payload.entry.now }
+        ensures request { IfSome result (λ ack. ack_request ack ≡ []) }
         ensures attributes { IfSome result (λ ack.
-            ack.attributes.now ≡ attributes_behind flags 4 payload.entry.now) }
+            ack_attributes ack ≡ attributes_behind flags 4 payload.entry.now) }
     {
         Some(AckView {
             number: error_number(payload)?,
@@ -84,7 +86,7 @@ impl<'a> AckView<'a> {
 
     /// 0 where all went well, else `-errno` (errno(3)).
     pub fn number(&self) -> i32
-        ensures { result ≡ self.now.number }
+        ensures { result ≡ ack_number self.now }
     {
         self.number
     }
@@ -92,15 +94,15 @@ impl<'a> AckView<'a> {
     /// The bytes of the request, from its header on, as far as they were sent back. An offset
     /// counts from the first of them. The end of a dump has none.
     pub fn request(&self) -> &'a [u8]
-        ensures { result.now ≡ self.now.request.now }
+        ensures { result.now ≡ ack_request self.now }
     {
         self.request
     }
 
     /// The header of the request. The end of a dump has none.
     pub fn request_header(&self) -> Option<NetlinkHeader>
-        ensures { SomeIff (option_map header_values result) (16 ≤ length self.now.request.now)
-            (values_of header_fields self.now.request.now) }
+        ensures { SomeIff (option_map header_values result) (16 ≤ length (ack_request self.now))
+            (values_of header_fields (ack_request self.now)) }
     {
         if self.request.len() < NETLINK_HEADER_LEN {
             return None;
@@ -116,8 +118,8 @@ impl<'a> AckView<'a> {
 
     /// What the attributes `NLMSGERR_ATTR_..` tell. The first fault of their framing refuses them.
     pub fn attributes(&self) -> Result<AckAttributes<'a>, DecodeError>
-        ensures kept { IfOk result (λ told. told.0.bytes.now ≡ self.now.attributes.now) }
-        ensures fault { IfErr result (AttributeFault (decodes []) self.now.attributes.now) }
+        ensures kept { IfOk result (λ told. nested_bytes told.0 ≡ ack_attributes self.now) }
+        ensures fault { IfErr result (AttributeFault (decodes []) (ack_attributes self.now)) }
     {
         Ok(AckAttributes(NestedNlas::parse(self.attributes)?))
     }
@@ -132,7 +134,7 @@ impl<'a> AckAttributes<'a> {
     /// What went wrong, or a warning, `NLMSGERR_ATTR_MSG`. What is not UTF-8 is `NotUtf8`.
     pub fn message(&self) -> Result<Option<&'a str>, DecodeError>
         ensures { map_ok (option_map (λ text. text.now)) result
-            ≡ within text_in (first_in NLMSGERR_ATTR_MSG self.now.0.bytes.now) }
+            ≡ within text_in (first_in NLMSGERR_ATTR_MSG (nested_bytes self.now.0)) }
     {
         self.0.text_of(NLMSGERR_ATTR_MSG)
     }
@@ -141,7 +143,7 @@ impl<'a> AckAttributes<'a> {
     /// `NLMSGERR_ATTR_OFFS`. Other than four bytes are `WrongLength`.
     pub fn offset(&self) -> Result<Option<u32>, DecodeError>
         ensures { result
-            ≡ within (exact_number None 4) (first_in NLMSGERR_ATTR_OFFS self.now.0.bytes.now) }
+            ≡ within (exact_number None 4) (first_in NLMSGERR_ATTR_OFFS (nested_bytes self.now.0)) }
     {
         self.0.word_of(NLMSGERR_ATTR_OFFS)
     }
@@ -149,7 +151,7 @@ impl<'a> AckAttributes<'a> {
     /// What the part of the kernel has to say, `NLMSGERR_ATTR_COOKIE`.
     pub fn cookie(&self) -> Option<&'a [u8]>
         ensures { option_map (λ value. value.now) result
-            ≡ first_in NLMSGERR_ATTR_COOKIE self.now.0.bytes.now }
+            ≡ first_in NLMSGERR_ATTR_COOKIE (nested_bytes self.now.0) }
     {
         self.0.value_of(NLMSGERR_ATTR_COOKIE)
     }
@@ -157,7 +159,7 @@ impl<'a> AckAttributes<'a> {
     /// What the attribute at fault may be, as attributes, `NLMSGERR_ATTR_POLICY`.
     pub fn policy(&self) -> Option<&'a [u8]>
         ensures { option_map (λ value. value.now) result
-            ≡ first_in NLMSGERR_ATTR_POLICY self.now.0.bytes.now }
+            ≡ first_in NLMSGERR_ATTR_POLICY (nested_bytes self.now.0) }
     {
         self.0.value_of(NLMSGERR_ATTR_POLICY)
     }
@@ -166,7 +168,8 @@ impl<'a> AckAttributes<'a> {
     /// are `WrongLength`.
     pub fn missing_kind(&self) -> Result<Option<u32>, DecodeError>
         ensures { result
-            ≡ within (exact_number None 4) (first_in NLMSGERR_ATTR_MISS_TYPE self.now.0.bytes.now) }
+            ≡ within (exact_number None 4)
+            (first_in NLMSGERR_ATTR_MISS_TYPE (nested_bytes self.now.0)) }
     {
         self.0.word_of(NLMSGERR_ATTR_MISS_TYPE)
     }
@@ -176,7 +179,8 @@ impl<'a> AckAttributes<'a> {
     /// than four bytes are `WrongLength`.
     pub fn missing_nest(&self) -> Result<Option<u32>, DecodeError>
         ensures { result
-            ≡ within (exact_number None 4) (first_in NLMSGERR_ATTR_MISS_NEST self.now.0.bytes.now) }
+            ≡ within (exact_number None 4)
+            (first_in NLMSGERR_ATTR_MISS_NEST (nested_bytes self.now.0)) }
     {
         self.0.word_of(NLMSGERR_ATTR_MISS_NEST)
     }

@@ -9,7 +9,6 @@ ghost use Rattle.netlink_core.specs.Attribute.{AttributesMean};
 ghost use Rattle.netlink_core.specs.AttributeSet.{decodes};
 ghost use Rattle.netlink_core.specs.Layout.{read};
 ghost use Rattle.netlink_core.specs.Layout.{table};
-ghost use Rattle.netlink_core.specs.Walk.{bytes_left};
 ghost use Rattle.attribute_lists.specs.AttributesIn.{HasNoFault, values_in};
 ghost use Rattle.sock_diag_values.specs.TcpInfo.{tcp_info};
 ghost use Rattle.sock_diag_records.specs.InetResponse.{inet_response_header};
@@ -20,6 +19,9 @@ ghost use Rattle.sock_diag_attributes.specs.UnixAttributes.{unix};
 ghost use Rattle.sock_diag_attributes.specs.UnixModel.{nla_view_model as unix_view_model};
 ghost use Rattle.sock_diag_extras.specs.Lenient.{FrontIs, GivesLeniently, ItemsAre, model};
 ghost use Rattle.sock_diag_extras.specs.Lenient.{refusal_of};
+ghost use Rattle.sock_diag_extras.specs.Models.{ack_attributes, ack_number, ack_request};
+ghost use Rattle.sock_diag_extras.specs.Models.{lenient_bytes, lenient_header, lenient_left};
+ghost use Rattle.sock_diag_extras.specs.Models.{nested_bytes, tcp_info_bytes};
 ghost use Rattle.sock_diag_extras.specs.TcpFields.{first_fields, later_fields};
 ghost use Rattle.sock_diag_extras.specs.TcpFields.{end_of, row_of, span_of};
 ghost use Rattle.sock_diag_extras.specs.declared.lenient.LenientNlas.{LenientNlas};
@@ -41,7 +43,7 @@ use std::alloc::AllocError;
 pub fn whole_lenient_walk<'a, V: FamilyView<'a>>()
     ensures items { (walk : LenientNlas V) (given : List (Result V Refused))
         → Drains (GivesLeniently V.attribute_set V.model) walk given
-        → ItemsAre V.attribute_set (bytes_left walk.walk)
+        → ItemsAre V.attribute_set (lenient_left walk)
         (map (model V.attribute_set V.model) given) }
 {}
 
@@ -49,13 +51,13 @@ pub fn whole_lenient_walk<'a, V: FamilyView<'a>>()
 /// refuses nothing, neither does the strict view.
 pub fn lenient_walk_of_good_bytes<'a, V: FamilyView<'a>>()
     ensures strict { (walk : LenientNlas V) (given : List (Result V Refused))
-        → HasNoFault (decodes V.attribute_set) (bytes_left walk.walk)
+        → HasNoFault (decodes V.attribute_set) (lenient_left walk)
         → Drains (GivesLeniently V.attribute_set V.model) walk given
         → map (model V.attribute_set V.model) given
-        ≡ map Ok (values_in (decodes V.attribute_set) (bytes_left walk.walk)) }
+        ≡ map Ok (values_in (decodes V.attribute_set) (lenient_left walk)) }
     ensures accepted { (walk : LenientNlas V) (views : List V)
         → Drains (GivesLeniently V.attribute_set V.model) walk (map Ok views)
-        → AttributesMean (decodes V.attribute_set) (bytes_left walk.walk) (map V.model views) }
+        → AttributesMean (decodes V.attribute_set) (lenient_left walk) (map V.model views) }
 {}
 
 /// The first fields are those of the port's `TcpInfo`, and the later ones stand behind them, one
@@ -71,8 +73,8 @@ pub fn tcp_fields_are_rows()
 #[tactic(auto, unfolding(sock_diag_records::specs::InetResponse::inet_response_header))]
 pub fn lenient_inet_header<'a>(bytes: &'a [u8]) -> Result<LenientInetReply<'a>, DecodeError>
     ensures header { IfOk result (λ lenient.
-        read inet_response_header tt bytes.entry.now ≡ Ok lenient.header) }
-    ensures attributes { IfOk result (λ lenient. lenient.bytes.now ≡ drop 72 bytes.entry.now) }
+        read inet_response_header tt bytes.entry.now ≡ Ok (lenient_header lenient)) }
+    ensures attributes { IfOk result (λ lenient. lenient_bytes lenient ≡ drop 72 bytes.entry.now) }
     ensures fault { IfErr result (λ e. read inet_response_header tt bytes.entry.now ≡ Err e) }
 {
     LenientReply::parse(bytes)
@@ -83,8 +85,8 @@ pub fn lenient_inet_header<'a>(bytes: &'a [u8]) -> Result<LenientInetReply<'a>, 
 pub fn lenient_inet_attribute<'a>(
     reply: &LenientInetReply<'a>,
 ) -> Option<Result<InetNlaView<'a>, Refused<'a>>>
-    ensures { MatchOption result (reply.now.bytes.now ≡ []) (λ item. (later : List ℕ)
-        × FrontIs inet reply.now.bytes.now (model inet inet_view_model item) later) }
+    ensures { MatchOption result (lenient_bytes reply.now ≡ []) (λ item. (later : List ℕ)
+        × FrontIs inet (lenient_bytes reply.now) (model inet inet_view_model item) later) }
 {
     reply.attributes().next()
 }
@@ -93,8 +95,8 @@ pub fn lenient_inet_attribute<'a>(
 /// and that its attributes follow the 16 bytes of the header.
 pub fn lenient_unix_header<'a>(bytes: &'a [u8]) -> Result<LenientUnixReply<'a>, DecodeError>
     ensures header { IfOk result (λ lenient.
-        read unix_response_header tt bytes.entry.now ≡ Ok lenient.header) }
-    ensures attributes { IfOk result (λ lenient. lenient.bytes.now ≡ drop 16 bytes.entry.now) }
+        read unix_response_header tt bytes.entry.now ≡ Ok (lenient_header lenient)) }
+    ensures attributes { IfOk result (λ lenient. lenient_bytes lenient ≡ drop 16 bytes.entry.now) }
     ensures fault { IfErr result (λ e. read unix_response_header tt bytes.entry.now ≡ Err e) }
 {
     LenientReply::parse(bytes)
@@ -105,8 +107,8 @@ pub fn lenient_unix_header<'a>(bytes: &'a [u8]) -> Result<LenientUnixReply<'a>, 
 pub fn lenient_unix_attribute<'a>(
     reply: &LenientUnixReply<'a>,
 ) -> Option<Result<UnixNlaView<'a>, Refused<'a>>>
-    ensures { MatchOption result (reply.now.bytes.now ≡ []) (λ item. (later : List ℕ)
-        × FrontIs unix reply.now.bytes.now (model unix unix_view_model item) later) }
+    ensures { MatchOption result (lenient_bytes reply.now ≡ []) (λ item. (later : List ℕ)
+        × FrontIs unix (lenient_bytes reply.now) (model unix unix_view_model item) later) }
 {
     reply.attributes().next()
 }
@@ -125,9 +127,9 @@ pub fn compared_tcp_info_bytes<'a>(
     v: &TcpInfoBytes<'a>,
     w: &TcpInfoBytes<'_>,
 ) -> (bool, Result<TcpInfoBytes<'a>, AllocError>)
-    ensures equal { IsTrue result.0 ↔ (v.now.bytes.now ≡ w.now.bytes.now) }
+    ensures equal { IsTrue result.0 ↔ (tcp_info_bytes v.now ≡ tcp_info_bytes w.now) }
     ensures ok { IsOk result.1 }
-    ensures same { IfOk result.1 (λ copy. copy.bytes.now ≡ v.now.bytes.now) }
+    ensures same { IfOk result.1 (λ copy. tcp_info_bytes copy ≡ tcp_info_bytes v.now) }
 {
     (v == w, v.clone())
 }
@@ -138,9 +140,9 @@ pub fn compared_nested_nlas<'a>(
     v: &NestedNlas<'a>,
     w: &NestedNlas<'_>,
 ) -> (bool, Result<NestedNlas<'a>, AllocError>)
-    ensures equal { IsTrue result.0 ↔ (v.now.bytes.now ≡ w.now.bytes.now) }
+    ensures equal { IsTrue result.0 ↔ (nested_bytes v.now ≡ nested_bytes w.now) }
     ensures ok { IsOk result.1 }
-    ensures same { IfOk result.1 (λ copy. copy.bytes.now ≡ v.now.bytes.now) }
+    ensures same { IfOk result.1 (λ copy. nested_bytes copy ≡ nested_bytes v.now) }
 {
     (v == w, v.clone())
 }
@@ -151,9 +153,9 @@ pub fn compared_ack_attributes<'a>(
     v: &AckAttributes<'a>,
     w: &AckAttributes<'_>,
 ) -> (bool, Result<AckAttributes<'a>, AllocError>)
-    ensures equal { IsTrue result.0 ↔ (v.now.0.bytes.now ≡ w.now.0.bytes.now) }
+    ensures equal { IsTrue result.0 ↔ (nested_bytes v.now.0 ≡ nested_bytes w.now.0) }
     ensures ok { IsOk result.1 }
-    ensures same { IfOk result.1 (λ copy. copy.0.bytes.now ≡ v.now.0.bytes.now) }
+    ensures same { IfOk result.1 (λ copy. nested_bytes copy.0 ≡ nested_bytes v.now.0) }
 {
     (v == w, v.clone())
 }
@@ -164,9 +166,9 @@ pub fn compared_bpf_storages<'a>(
     v: &BpfStorage<'a>,
     w: &BpfStorage<'_>,
 ) -> (bool, Result<BpfStorage<'a>, AllocError>)
-    ensures equal { IsTrue result.0 ↔ (v.now.0.bytes.now ≡ w.now.0.bytes.now) }
+    ensures equal { IsTrue result.0 ↔ (nested_bytes v.now.0 ≡ nested_bytes w.now.0) }
     ensures ok { IsOk result.1 }
-    ensures same { IfOk result.1 (λ copy. copy.0.bytes.now ≡ v.now.0.bytes.now) }
+    ensures same { IfOk result.1 (λ copy. nested_bytes copy.0 ≡ nested_bytes v.now.0) }
 {
     (v == w, v.clone())
 }
@@ -177,9 +179,9 @@ pub fn compared_ulp_infos<'a>(
     v: &UlpInfo<'a>,
     w: &UlpInfo<'_>,
 ) -> (bool, Result<UlpInfo<'a>, AllocError>)
-    ensures equal { IsTrue result.0 ↔ (v.now.0.bytes.now ≡ w.now.0.bytes.now) }
+    ensures equal { IsTrue result.0 ↔ (nested_bytes v.now.0 ≡ nested_bytes w.now.0) }
     ensures ok { IsOk result.1 }
-    ensures same { IfOk result.1 (λ copy. copy.0.bytes.now ≡ v.now.0.bytes.now) }
+    ensures same { IfOk result.1 (λ copy. nested_bytes copy.0 ≡ nested_bytes v.now.0) }
 {
     (v == w, v.clone())
 }
@@ -190,9 +192,9 @@ pub fn compared_tls_infos<'a>(
     v: &TlsInfo<'a>,
     w: &TlsInfo<'_>,
 ) -> (bool, Result<TlsInfo<'a>, AllocError>)
-    ensures equal { IsTrue result.0 ↔ (v.now.0.bytes.now ≡ w.now.0.bytes.now) }
+    ensures equal { IsTrue result.0 ↔ (nested_bytes v.now.0 ≡ nested_bytes w.now.0) }
     ensures ok { IsOk result.1 }
-    ensures same { IfOk result.1 (λ copy. copy.0.bytes.now ≡ v.now.0.bytes.now) }
+    ensures same { IfOk result.1 (λ copy. nested_bytes copy.0 ≡ nested_bytes v.now.0) }
 {
     (v == w, v.clone())
 }
@@ -203,9 +205,9 @@ pub fn compared_subflow_infos<'a>(
     v: &SubflowInfo<'a>,
     w: &SubflowInfo<'_>,
 ) -> (bool, Result<SubflowInfo<'a>, AllocError>)
-    ensures equal { IsTrue result.0 ↔ (v.now.0.bytes.now ≡ w.now.0.bytes.now) }
+    ensures equal { IsTrue result.0 ↔ (nested_bytes v.now.0 ≡ nested_bytes w.now.0) }
     ensures ok { IsOk result.1 }
-    ensures same { IfOk result.1 (λ copy. copy.0.bytes.now ≡ v.now.0.bytes.now) }
+    ensures same { IfOk result.1 (λ copy. nested_bytes copy.0 ≡ nested_bytes v.now.0) }
 {
     (v == w, v.clone())
 }
@@ -213,9 +215,9 @@ pub fn compared_subflow_infos<'a>(
 /// States that `==` holds if and only if two acknowledgements have the same number, request and
 /// bytes of attributes.
 pub fn equal_ack_views(v: &AckView<'_>, w: &AckView<'_>) -> bool
-    ensures { IsTrue result ↔ ((v.now.number ≡ w.now.number)
-        × (v.now.request.now ≡ w.now.request.now)
-        × (v.now.attributes.now ≡ w.now.attributes.now)) }
+    ensures { IsTrue result ↔ ((ack_number v.now ≡ ack_number w.now)
+        × (ack_request v.now ≡ ack_request w.now)
+        × (ack_attributes v.now ≡ ack_attributes w.now)) }
 {
     v == w
 }
@@ -224,9 +226,9 @@ pub fn equal_ack_views(v: &AckView<'_>, w: &AckView<'_>) -> bool
 /// fails.
 pub fn copied_ack_view<'a>(view: &AckView<'a>) -> Result<AckView<'a>, AllocError>
     ensures ok { IsOk result }
-    ensures number { IfOk result (λ copy. copy.number ≡ view.now.number) }
-    ensures request { IfOk result (λ copy. copy.request.now ≡ view.now.request.now) }
-    ensures attributes { IfOk result (λ copy. copy.attributes.now ≡ view.now.attributes.now) }
+    ensures number { IfOk result (λ copy. ack_number copy ≡ ack_number view.now) }
+    ensures request { IfOk result (λ copy. ack_request copy ≡ ack_request view.now) }
+    ensures attributes { IfOk result (λ copy. ack_attributes copy ≡ ack_attributes view.now) }
 {
     view.clone()
 }

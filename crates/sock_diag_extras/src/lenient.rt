@@ -6,7 +6,8 @@ ghost use Rattle.std.specs.Iterator.{UpTo, at_most};
 ghost use Rattle.std.specs.Iterator.SizeHint.{IsWithinCount};
 ghost use Rattle.netlink_core.specs.Attribute.{attribute_type};
 ghost use Rattle.netlink_core.specs.Layout.{read};
-ghost use Rattle.netlink_core.specs.Walk.{attribute_of, bytes_left};
+ghost use Rattle.netlink_core.specs.Walk.{attribute_of};
+ghost use Rattle.sock_diag_extras.specs.Models.{lenient_bytes, lenient_header, lenient_left};
 
 use netlink_core::{DecodeError, FamilyView, NlaBuffer, NlasIterator, Record, read_record};
 use sock_diag_attributes::inet::nlas::NlaView as InetNlaView;
@@ -71,7 +72,7 @@ pub struct LenientNlas<'a, V> {
 impl<'a, V> LenientNlas<'a, V> {
     /// The walk over these bytes.
     pub fn new(bytes: &'a [u8]) -> LenientNlas<'a, V>
-        ensures { bytes_left result.walk ≡ bytes.entry.now }
+        ensures { lenient_left result ≡ bytes.entry.now }
     {
         LenientNlas {
             walk: NlasIterator::new(bytes),
@@ -90,7 +91,7 @@ impl<'a, V: FamilyView<'a>> Iterator for LenientNlas<'a, V> {
     ghost next_gives = { GivesLeniently V.attribute_set V.model };
 
     // At most one item for each four bytes, rounded up.
-    ghost remaining = { λ nlas. at_most ((length (bytes_left nlas.walk) + 3) / 4) };
+    ghost remaining = { λ nlas. at_most ((length (lenient_left nlas) + 3) / 4) };
 
     #[inline(always)]
     fn next(&mut self) -> Option<Result<V, Refused<'a>>> {
@@ -107,9 +108,9 @@ impl<'a, V: FamilyView<'a>> Iterator for LenientNlas<'a, V> {
     /// How many are left is told by the walk alone.
     fn size_hint(&self) -> (usize, Option<usize>)
         ensures lower { IsWithinCount result.0
-            (at_most ((length (bytes_left self.now.walk) + 3) / 4)) }
+            (at_most ((length (lenient_left self.now) + 3) / 4)) }
         ensures upper { IfSome result.1
-            (UpTo (at_most ((length (bytes_left self.now.walk) + 3) / 4))) }
+            (UpTo (at_most ((length (lenient_left self.now) + 3) / 4))) }
         ensures unknown { result ≡ (0, None) }
     {
         (0, None)
@@ -154,9 +155,9 @@ impl<'a, H: LenientHeader<'a>> LenientReply<'a, H> {
     #[tactic(auto, using(netlink_core::proofs::LayoutLaws::accepted))]
     pub fn parse(bytes: &'a [u8]) -> Result<LenientReply<'a, H>, DecodeError>
         ensures header { IfOk result (λ lenient.
-            read H.layout tt bytes.entry.now ≡ Ok lenient.header) }
+            read H.layout tt bytes.entry.now ≡ Ok (lenient_header lenient)) }
         ensures behind { IfOk result (λ lenient.
-            lenient.bytes.now ≡ drop H.layout.least bytes.entry.now) }
+            lenient_bytes lenient ≡ drop H.layout.least bytes.entry.now) }
         ensures fault { IfErr result (λ fault. read H.layout tt bytes.entry.now ≡ Err fault) }
     {
         let header = read_record::<H>(bytes, ())?;
@@ -167,14 +168,14 @@ impl<'a, H: LenientHeader<'a>> LenientReply<'a, H> {
 
     /// The header, which tells the socket.
     pub fn header(&self) -> &H
-        ensures { result.now ≡ self.now.header }
+        ensures { result.now ≡ lenient_header self.now }
     {
         &self.header
     }
 
     /// The attributes in the order that they came, each what it says or why it is refused.
     pub fn attributes(&self) -> LenientNlas<'a, H::View>
-        ensures { bytes_left result.walk ≡ self.now.bytes.now }
+        ensures { lenient_left result ≡ lenient_bytes self.now }
     {
         LenientNlas::new(self.bytes)
     }

@@ -8,6 +8,7 @@ ghost use Rattle.netlink_core.specs.Parse.{exact_number, text_in};
 ghost use Rattle.netlink_core.specs.Walk.{bytes_left};
 ghost use Rattle.attribute_lists.specs.AttributesIn.{HasNoFault};
 ghost use Rattle.sock_diag_families.specs.Found.{within};
+ghost use Rattle.sock_diag_extras.specs.Models.{nested_bytes};
 ghost use Rattle.sock_diag_extras.specs.Nested.{first_in, number_in};
 
 use attribute_lists::{check_nlas, next_view};
@@ -27,7 +28,7 @@ impl<'a> NestedNlas<'a> {
     /// The attributes in the bytes. The first fault of the framing refuses them; no value is looked
     /// at.
     pub fn parse(bytes: &'a [u8]) -> Result<NestedNlas<'a>, DecodeError>
-        ensures kept { IfOk result (λ nested. nested.bytes.now ≡ bytes.entry.now) }
+        ensures kept { IfOk result (λ nested. nested_bytes nested ≡ bytes.entry.now) }
         ensures fault { IfErr result (AttributeFault (decodes []) bytes.entry.now) }
     {
         let _count = check_nlas::<WholeNla>(bytes)?;
@@ -36,14 +37,14 @@ impl<'a> NestedNlas<'a> {
 
     /// The walk over all of them, in the order that they came.
     pub fn walk(&self) -> NlasIterator<'a>
-        ensures { bytes_left result ≡ self.now.bytes.now }
+        ensures { bytes_left result ≡ nested_bytes self.now }
     {
         NlasIterator::new(self.bytes)
     }
 
     /// The value of the first attribute of the kind.
     pub fn value_of(&self, kind: u16) -> Option<&'a [u8]>
-        ensures { option_map (λ value. value.now) result ≡ first_in kind self.now.bytes.now }
+        ensures { option_map (λ value. value.now) result ≡ first_in kind (nested_bytes self.now) }
     {
         let mut walk = self.walk();
         while let Some(nla) = next_view::<WholeNla>(&mut walk) {
@@ -58,7 +59,7 @@ impl<'a> NestedNlas<'a> {
     /// UTF-8 is `NotUtf8`: `value_of` gives its bytes.
     pub fn text_of(&self, kind: u16) -> Result<Option<&'a str>, DecodeError>
         ensures { map_ok (option_map (λ text. text.now)) result
-            ≡ within text_in (first_in kind self.now.bytes.now) }
+            ≡ within text_in (first_in kind (nested_bytes self.now)) }
     {
         match self.value_of(kind) {
             Some(value) => Ok(Some(parse_str(value)?)),
@@ -69,7 +70,7 @@ impl<'a> NestedNlas<'a> {
     /// The number of 32 bits that is all of the value, low byte first. Another length is
     /// `WrongLength`.
     pub fn word_of(&self, kind: u16) -> Result<Option<u32>, DecodeError>
-        ensures { result ≡ within (exact_number None 4) (first_in kind self.now.bytes.now) }
+        ensures { result ≡ within (exact_number None 4) (first_in kind (nested_bytes self.now)) }
     {
         match self.value_of(kind) {
             Some(value) => Ok(Some(parse_u32(value)?)),
@@ -82,7 +83,7 @@ impl<'a> NestedNlas<'a> {
     pub fn number_of(&self, kind: u16, width: usize) -> Result<Option<u64>, DecodeError>
         requires one { 1 ≤ width }
         requires eight { width ≤ 8 }
-        ensures { result ≡ number_in (kind, width) self.now.bytes.now }
+        ensures { result ≡ number_in (kind, width) (nested_bytes self.now) }
     {
         match self.value_of(kind) {
             Some(value) if value.len() == width => Ok(Some(LittleEndian::read_uint(value, width))),
@@ -98,9 +99,9 @@ impl<'a> NestedNlas<'a> {
     /// The attributes nested in the value of the first attribute of the kind. The first fault of
     /// their framing refuses them.
     pub fn nested_of(&self, kind: u16) -> Result<Option<NestedNlas<'a>>, DecodeError>
-        ensures kept { IfOk result (λ found. option_map (λ nested. nested.bytes.now) found
-            ≡ first_in kind self.now.bytes.now) }
-        ensures fault { IfErr result (λ e. IfSome (first_in kind self.now.bytes.now)
+        ensures kept { IfOk result (λ found. option_map (λ nested. nested_bytes nested) found
+            ≡ first_in kind (nested_bytes self.now)) }
+        ensures fault { IfErr result (λ e. IfSome (first_in kind (nested_bytes self.now))
             (λ value. AttributeFault (decodes []) value e)) }
     {
         match self.value_of(kind) {

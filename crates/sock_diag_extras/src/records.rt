@@ -4,6 +4,7 @@ ghost use Rattle.std.specs.Prelude.{◌≡◌, ◌<◌, None, IfSome, length};
 ghost use Rattle.std.specs.Iterator.{UpTo, at_most};
 ghost use Rattle.std.specs.Iterator.SizeHint.{IsWithinCount};
 ghost use Rattle.sock_diag_extras.specs.Records.{GivesRecord};
+ghost use Rattle.sock_diag_extras.specs.Models.{records_left};
 
 use crate::record::{AttributeRecord, read_attribute_record};
 use std::marker::PhantomData;
@@ -19,7 +20,7 @@ pub struct AttributeRecords<'a, T> {
 impl<'a, T> AttributeRecords<'a, T> {
     /// The records in the value.
     pub fn new(value: &'a [u8]) -> AttributeRecords<'a, T>
-        ensures { result.bytes.now ≡ value.entry.now }
+        ensures { records_left result ≡ value.entry.now }
     {
         AttributeRecords {
             bytes: value,
@@ -30,7 +31,7 @@ impl<'a, T> AttributeRecords<'a, T> {
     /// What was not given yet: behind the last record fewer bytes than one has, and none where the
     /// value is a multiple of it.
     pub fn rest(&self) -> &'a [u8]
-        ensures { result.now ≡ self.now.bytes.now }
+        ensures { result.now ≡ records_left self.now }
     {
         self.bytes
     }
@@ -39,13 +40,14 @@ impl<'a, T> AttributeRecords<'a, T> {
 impl<'a, T: AttributeRecord> Iterator for AttributeRecords<'a, T> {
     type Item = T;
 
-    ghost next_gives = { λ old given new. GivesRecord T.layout old.bytes.now given new.bytes.now };
+    ghost next_gives = { λ old given new. GivesRecord T.layout (records_left old) given
+        (records_left new) };
 
     // A record has some bytes.
     ghost can_next = { λ _. 0 < T.layout.size };
 
     // At most one for each byte.
-    ghost remaining = { λ records. at_most (length records.bytes.now) };
+    ghost remaining = { λ records. at_most (length (records_left records)) };
 
     #[inline(always)]
     fn next(&mut self) -> Option<T> {
@@ -56,8 +58,8 @@ impl<'a, T: AttributeRecord> Iterator for AttributeRecords<'a, T> {
 
     /// How many are left is told by the walk alone.
     fn size_hint(&self) -> (usize, Option<usize>)
-        ensures lower { IsWithinCount result.0 (at_most (length self.now.bytes.now)) }
-        ensures upper { IfSome result.1 (UpTo (at_most (length self.now.bytes.now))) }
+        ensures lower { IsWithinCount result.0 (at_most (length (records_left self.now))) }
+        ensures upper { IfSome result.1 (UpTo (at_most (length (records_left self.now)))) }
         ensures unknown { result ≡ (0, None) }
     {
         (0, None)

@@ -6,6 +6,7 @@ ghost use Rattle.netlink_core.specs.AttributeSet.{decodes};
 ghost use Rattle.netlink_core.specs.Parse.{exact_number};
 ghost use Rattle.netlink_core.specs.Walk.{attribute_of};
 ghost use Rattle.sock_diag_families.specs.Found.{within};
+ghost use Rattle.sock_diag_extras.specs.Models.{nested_bytes};
 ghost use Rattle.sock_diag_extras.specs.Nested.{first_in};
 
 use crate::constants::{
@@ -27,7 +28,7 @@ impl<'a> BpfStorage<'a> {
         ensures kept { IfOk result (λ found. MatchOption found
             (attribute_type (attribute_of nla.now) ≢ 1)
             (λ storage. (attribute_type (attribute_of nla.now) ≡ SK_DIAG_BPF_STORAGE)
-            × (storage.0.bytes.now ≡ (attribute_of nla.now).value))) }
+            × (nested_bytes storage.0 ≡ (attribute_of nla.now).value))) }
         ensures fault { IfErr result (λ e.
             (attribute_type (attribute_of nla.now) ≡ SK_DIAG_BPF_STORAGE)
             × AttributeFault (decodes []) (attribute_of nla.now).value e) }
@@ -43,7 +44,7 @@ impl<'a> BpfStorage<'a> {
     pub fn map_id(&self) -> Result<Option<u32>, DecodeError>
         ensures { result
             ≡ within (exact_number None 4)
-            (first_in SK_DIAG_BPF_STORAGE_MAP_ID self.now.0.bytes.now) }
+            (first_in SK_DIAG_BPF_STORAGE_MAP_ID (nested_bytes self.now.0)) }
     {
         self.0.word_of(SK_DIAG_BPF_STORAGE_MAP_ID)
     }
@@ -51,7 +52,7 @@ impl<'a> BpfStorage<'a> {
     /// The value in the map, `SK_DIAG_BPF_STORAGE_MAP_VALUE`.
     pub fn map_value(&self) -> Option<&'a [u8]>
         ensures { option_map (λ value. value.now) result
-            ≡ first_in SK_DIAG_BPF_STORAGE_MAP_VALUE self.now.0.bytes.now }
+            ≡ first_in SK_DIAG_BPF_STORAGE_MAP_VALUE (nested_bytes self.now.0) }
     {
         self.0.value_of(SK_DIAG_BPF_STORAGE_MAP_VALUE)
     }

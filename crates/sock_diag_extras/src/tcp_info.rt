@@ -5,6 +5,7 @@ ghost use Rattle.std.specs.Result.{result_ok};
 ghost use Rattle.byteorder.specs.Endian.{little_number};
 ghost use Rattle.netlink_core.specs.Layout.{read};
 ghost use Rattle.sock_diag_values.specs.TcpInfo.{tcp_info};
+ghost use Rattle.sock_diag_extras.specs.Models.{tcp_info_bytes};
 
 use crate::bytes::bytes_behind;
 use byteorder::{ByteOrder, LittleEndian};
@@ -248,22 +249,22 @@ impl<'a> TcpInfoBytes<'a> {
 
     /// The bytes of the value, however many there are.
     pub fn new(value: &'a [u8]) -> TcpInfoBytes<'a>
-        ensures { result.bytes.now ≡ value.entry.now }
+        ensures { tcp_info_bytes result ≡ value.entry.now }
     {
         TcpInfoBytes { bytes: value }
     }
 
     /// How many bytes were told.
     pub fn len(&self) -> usize
-        ensures { result ≡ length self.now.bytes.now }
+        ensures { result ≡ length (tcp_info_bytes self.now) }
     {
         self.bytes.len()
     }
 
     /// The field, where all of its bytes were told.
     pub fn get(&self, field: TcpField) -> Option<u64>
-        ensures { SomeIff result (end_of field ≤ length self.now.bytes.now)
-            (value_of field self.now.bytes.now) }
+        ensures { SomeIff result (end_of field ≤ length (tcp_info_bytes self.now))
+            (value_of field (tcp_info_bytes self.now)) }
     {
         let (place, width) = field.span();
         number_at(self.bytes, place, width)
@@ -271,14 +272,14 @@ impl<'a> TcpInfoBytes<'a> {
 
     /// All that the port reads, where its 232 bytes were told.
     pub fn whole(&self) -> Option<TcpInfo>
-        ensures { result ≡ result_ok (read tcp_info tt self.now.bytes.now) }
+        ensures { result ≡ result_ok (read tcp_info tt (tcp_info_bytes self.now)) }
     {
         TcpInfo::parse(self.bytes).ok()
     }
 
     /// What follows the fields that are known here.
     pub fn rest(&self) -> &'a [u8]
-        ensures { result.now ≡ drop 280 self.now.bytes.now }
+        ensures { result.now ≡ drop 280 (tcp_info_bytes self.now) }
     {
         bytes_behind(self.bytes, WHOLE)
     }

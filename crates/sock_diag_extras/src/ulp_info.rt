@@ -6,6 +6,7 @@ ghost use Rattle.netlink_core.specs.AttributeSet.{decodes};
 ghost use Rattle.netlink_core.specs.Faults.{map_ok};
 ghost use Rattle.netlink_core.specs.Parse.{text_in};
 ghost use Rattle.sock_diag_families.specs.Found.{within};
+ghost use Rattle.sock_diag_extras.specs.Models.{nested_bytes};
 ghost use Rattle.sock_diag_extras.specs.Nested.{first_in, number_in};
 
 use crate::constants::{
@@ -27,7 +28,7 @@ pub struct UlpInfo<'a>(pub NestedNlas<'a>);
 impl<'a> UlpInfo<'a> {
     /// The attributes in the value. The first fault of the framing refuses them.
     pub fn parse(value: &'a [u8]) -> Result<UlpInfo<'a>, DecodeError>
-        ensures kept { IfOk result (λ info. info.0.bytes.now ≡ value.entry.now) }
+        ensures kept { IfOk result (λ info. nested_bytes info.0 ≡ value.entry.now) }
         ensures fault { IfErr result (AttributeFault (decodes []) value.entry.now) }
     {
         Ok(UlpInfo(NestedNlas::parse(value)?))
@@ -36,7 +37,7 @@ impl<'a> UlpInfo<'a> {
     /// The name, as `tls` or `mptcp`, `INET_ULP_INFO_NAME`. What is not UTF-8 is `NotUtf8`.
     pub fn name(&self) -> Result<Option<&'a str>, DecodeError>
         ensures { map_ok (option_map (λ text. text.now)) result
-            ≡ within text_in (first_in INET_ULP_INFO_NAME self.now.0.bytes.now) }
+            ≡ within text_in (first_in INET_ULP_INFO_NAME (nested_bytes self.now.0)) }
     {
         self.0.text_of(INET_ULP_INFO_NAME)
     }
@@ -44,9 +45,10 @@ impl<'a> UlpInfo<'a> {
     /// What TLS in the kernel tells, `INET_ULP_INFO_TLS`. The first fault of the framing refuses
     /// it.
     pub fn tls(&self) -> Result<Option<TlsInfo<'a>>, DecodeError>
-        ensures kept { IfOk result (λ found. option_map (λ tls. tls.0.bytes.now) found
-            ≡ first_in INET_ULP_INFO_TLS self.now.0.bytes.now) }
-        ensures fault { IfErr result (λ e. IfSome (first_in INET_ULP_INFO_TLS self.now.0.bytes.now)
+        ensures kept { IfOk result (λ found. option_map (λ tls. nested_bytes tls.0) found
+            ≡ first_in INET_ULP_INFO_TLS (nested_bytes self.now.0)) }
+        ensures fault { IfErr result (λ e.
+            IfSome (first_in INET_ULP_INFO_TLS (nested_bytes self.now.0))
             (λ value. AttributeFault (decodes []) value e)) }
     {
         match self.0.nested_of(INET_ULP_INFO_TLS)? {
@@ -58,10 +60,10 @@ impl<'a> UlpInfo<'a> {
     /// What the subflow of an MPTCP connection tells, `INET_ULP_INFO_MPTCP`. The first fault of the
     /// framing refuses it.
     pub fn mptcp(&self) -> Result<Option<SubflowInfo<'a>>, DecodeError>
-        ensures kept { IfOk result (λ found. option_map (λ subflow. subflow.0.bytes.now) found
-            ≡ first_in INET_ULP_INFO_MPTCP self.now.0.bytes.now) }
+        ensures kept { IfOk result (λ found. option_map (λ subflow. nested_bytes subflow.0) found
+            ≡ first_in INET_ULP_INFO_MPTCP (nested_bytes self.now.0)) }
         ensures fault { IfErr result (λ e.
-            IfSome (first_in INET_ULP_INFO_MPTCP self.now.0.bytes.now)
+            IfSome (first_in INET_ULP_INFO_MPTCP (nested_bytes self.now.0))
             (λ value. AttributeFault (decodes []) value e)) }
     {
         match self.0.nested_of(INET_ULP_INFO_MPTCP)? {
@@ -110,7 +112,7 @@ impl TlsInfo<'_> {
 
     /// The number, where it is told. Another length than its own is `WrongLength`.
     pub fn get(&self, field: TlsField) -> Result<Option<u64>, DecodeError>
-        ensures { result ≡ number_in (tls_row field) self.now.0.bytes.now }
+        ensures { result ≡ number_in (tls_row field) (nested_bytes self.now.0) }
     {
         let (kind, width) = field.row();
         self.0.number_of(kind, width)
@@ -118,14 +120,14 @@ impl TlsInfo<'_> {
 
     /// Whether files are sent without a copy, `TLS_INFO_ZC_RO_TX`.
     pub fn sends_without_copy(&self) -> bool
-        ensures { IsTrue result ↔ IsSome (first_in TLS_INFO_ZC_RO_TX self.now.0.bytes.now) }
+        ensures { IsTrue result ↔ IsSome (first_in TLS_INFO_ZC_RO_TX (nested_bytes self.now.0)) }
     {
         self.0.value_of(TLS_INFO_ZC_RO_TX).is_some()
     }
 
     /// Whether records are taken to come without padding, `TLS_INFO_RX_NO_PAD`.
     pub fn expects_no_padding(&self) -> bool
-        ensures { IsTrue result ↔ IsSome (first_in TLS_INFO_RX_NO_PAD self.now.0.bytes.now) }
+        ensures { IsTrue result ↔ IsSome (first_in TLS_INFO_RX_NO_PAD (nested_bytes self.now.0)) }
     {
         self.0.value_of(TLS_INFO_RX_NO_PAD).is_some()
     }
@@ -189,7 +191,7 @@ impl SubflowInfo<'_> {
 
     /// The number, where it is told. Another length than its own is `WrongLength`.
     pub fn get(&self, field: SubflowField) -> Result<Option<u64>, DecodeError>
-        ensures { result ≡ number_in (subflow_row field) self.now.0.bytes.now }
+        ensures { result ≡ number_in (subflow_row field) (nested_bytes self.now.0) }
     {
         let (kind, width) = field.row();
         self.0.number_of(kind, width)
