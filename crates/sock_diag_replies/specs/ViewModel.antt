@@ -1,10 +1,24 @@
--- The model of a reply of any family that is read in place: what contracts see of it.
-use Rattle.std.specs.Prelude.{drop}
+-- The model of a borrowed reply of any family and of its iterator: what contracts see of them.
+use Rattle.std.specs.Prelude.{ℕ, List, drop}
 use Rattle.netlink_core.specs.Response.{ValueOf}
+use Rattle.netlink_core.specs.Walk.{bytes_left}
+use Rattle.sock_diag_replies.specs.declared.view.AttributeViews.{AttributeViews}
 use Rattle.sock_diag_replies.specs.declared.view.ReplyHeader.{Ghosts}
 use Rattle.sock_diag_replies.specs.declared.view.ReplyView.{ReplyView}
 use Rattle.attribute_lists.specs.AttributesIn.{response_behind}
 
--- the reply in its bytes: the model of the header, and what each attribute behind it decodes to
+-- all bytes of the reply
+abbrev pub view_bytes : {H : Type 0} {of : Ghosts H} → ReplyView H of → List ℕ
+view_bytes view = view.bytes.now
+
+-- the bytes after the header
+abbrev pub bytes_after_header : {H : Type 0} {of : Ghosts H} → ReplyView H of → List ℕ
+bytes_after_header {of = of} view = drop of.reply.size (view_bytes view)
+
+-- the reply in its bytes: the model of the header, and what each attribute after it decodes to
 abbrev pub view_model : {H : Type 0} {of : Ghosts H} → ReplyView H of → ValueOf of.reply
-view_model {of = of} view = response_behind of.reply view.head.0 (drop of.reply.size view.bytes.now)
+view_model {of = of} view = response_behind of.reply view.head.0 (bytes_after_header view)
+
+-- the bytes that the iterator over attributes has not read yet
+abbrev pub attributes_left : {H : Type 0} {of : Ghosts H} → AttributeViews H of → List ℕ
+attributes_left views = bytes_left views.walk

@@ -123,7 +123,7 @@ impl<'a, H: ReplyOwned> Parseable<&'a [u8]> for Reply<H, H::Nla> {
 
 impl<H: ReplyOwned> ReplyView<'_, H> {
     ghost use Rattle.sock_diag_replies.specs.ResponseModel.{response_model};
-    ghost use Rattle.sock_diag_replies.specs.ViewModel.{view_model};
+    ghost use Rattle.sock_diag_replies.specs.ViewModel.{bytes_after_header, view_model};
 
     // Puts the attributes, with memory of their own, into the empty list. They are not moved again
     // where the list is already in its place.
@@ -131,9 +131,9 @@ impl<H: ReplyOwned> ReplyView<'_, H> {
         requires { nlas.old.items ≡ [] }
         ensures equal { OnOk result (map H.Nla.FamilyNla.model nlas.new.items
             ≡ values_in (decodes H.Nla.FamilyNla.attribute_set)
-            (drop H.reply.size self.now.bytes.now)) }
+            (bytes_after_header self.now)) }
         ensures spare { let set = H.Nla.FamilyNla.attribute_set in
-            let values = values_in (decodes set) (drop H.reply.size self.now.bytes.now) in
+            let values = values_in (decodes set) (bytes_after_header self.now) in
             nlas.old.capacity ≡ 8
             → (length values ≤ 8) × AllByRecursion (IsSpareBy set) values
             → IsOk result }
@@ -150,12 +150,12 @@ impl<H: ReplyOwned> ReplyView<'_, H> {
             response_model H.header_model H.Nla.FamilyNla.model reply
             ≡ response_behind (record (H.reply) { attribute_set = H.Nla.FamilyNla.attribute_set })
             (view_model self.now).header
-            (drop H.reply.size self.now.bytes.now)) }
+            (bytes_after_header self.now)) }
         ensures spare { (response_codec
             (record (H.reply) { attribute_set = H.Nla.FamilyNla.attribute_set })).is_spare
             (response_behind (record (H.reply) { attribute_set = H.Nla.FamilyNla.attribute_set })
             (view_model self.now).header
-            (drop H.reply.size self.now.bytes.now)) → IsOk result }
+            (bytes_after_header self.now)) → IsOk result }
     {
         let mut nlas = SmallVec::new(alloc);
         self.own_into(alloc, &mut nlas)?;
@@ -172,7 +172,7 @@ impl<H: ReplyOwned> ReplyView<'_, H> {
             reply.value
             ≡ response_behind (record (H.reply) { attribute_set = H.Nla.FamilyNla.attribute_set })
             (view_model self.now).header
-            (drop H.reply.size self.now.bytes.now)) }
+            (bytes_after_header self.now)) }
     {
         let empty = Reply {
             header: self.header(),

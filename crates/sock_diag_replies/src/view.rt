@@ -140,7 +140,8 @@ impl<H: ReplyHeader> Debug for ReplyView<'_, H> {
 }
 
 impl<'a, H: ReplyHeader> ReplyView<'a, H> {
-    ghost use Rattle.sock_diag_replies.specs.ViewModel.{view_model};
+    ghost use Rattle.sock_diag_replies.specs.ViewModel.{bytes_after_header};
+    ghost use Rattle.sock_diag_replies.specs.ViewModel.{view_bytes, view_model};
 
     /// Checks the whole of the bytes, and takes no memory. A fault of the header is returned, or
     /// else the first fault of an attribute. Fewer bytes than the header has are `BufferTooSmall`.
@@ -149,7 +150,7 @@ impl<'a, H: ReplyHeader> ReplyView<'a, H> {
     pub fn parse(bytes: &'a [u8]) -> Result<ReplyView<'a, H>, DecodeError>
         ensures value { IfOk result (λ view.
             (response_codec H.reply).reads bytes.entry.now tt (view_model view)) }
-        ensures kept { IfOk result (λ view. view.bytes.now ≡ bytes.entry.now) }
+        ensures kept { IfOk result (λ view. view_bytes view ≡ bytes.entry.now) }
         ensures fault { IfErr result ((response_codec H.reply).refuses bytes.entry.now tt) }
         ensures named { IfErr result (λ fault. fault ≢ Memory) }
     {
@@ -183,7 +184,7 @@ impl<'a, H: ReplyHeader> ReplyView<'a, H> {
 
     // The bytes behind the header.
     pub(crate) fn attribute_bytes(&self) -> &'a [u8]
-        ensures part { result.now ≡ drop H.reply.size self.now.bytes.now }
+        ensures part { result.now ≡ bytes_after_header self.now }
         ensures clean { HasNoFault (decodes H.reply.attribute_set) result.now }
     {
         &self.bytes[H::length()..]
@@ -191,6 +192,8 @@ impl<'a, H: ReplyHeader> ReplyView<'a, H> {
 }
 
 impl<'a, H: ReplyViews<'a>> ReplyView<'a, H> {
+    ghost use Rattle.sock_diag_replies.specs.ViewModel.{attributes_left, bytes_after_header};
+    ghost use Rattle.attribute_lists.specs.CheckedModel.{checked_left};
     ghost use Rattle.attribute_lists.specs.declared.checked.CheckedNlas.{CheckedNlas};
 
     /// The header, and the attributes, each of which is checked as it is given: for who wants each
@@ -204,7 +207,7 @@ impl<'a, H: ReplyViews<'a>> ReplyView<'a, H> {
         ensures header { IfOk result (λ parts.
             H.reply.header.reads tt bytes.entry.now ≡ Ok (H.header_model parts.0)) }
         ensures left { IfOk result (λ parts.
-            bytes_left parts.1.walk ≡ drop H.reply.size bytes.entry.now) }
+            checked_left parts.1 ≡ drop H.reply.size bytes.entry.now) }
         ensures value { let reply = response_codec
             (record (H.reply) { attribute_set = H.View.FamilyView.attribute_set }) in
             let gives = ⟦<CheckedNlas<'a, H::View> as Iterator>⟧.next_gives in
@@ -230,8 +233,8 @@ impl<'a, H: ReplyViews<'a>> ReplyView<'a, H> {
     /// The attributes, in the order that they came.
     pub fn attributes(&self) -> AttributeViews<'a, H>
         ensures { let reads = decodes H.View.FamilyView.attribute_set in
-            values_in reads (bytes_left result.walk)
-            ≡ values_in reads (drop H.reply.size self.now.bytes.now) }
+            values_in reads (attributes_left result)
+            ≡ values_in reads (bytes_after_header self.now) }
     {
         AttributeViews {
             walk: NlasIterator::new(self.attribute_bytes()),
@@ -305,9 +308,11 @@ pub struct AttributeViews<'a, H: ReplyHeader> {
 }
 
 impl<H: ReplyHeader> Clone for AttributeViews<'_, H> {
+    ghost use Rattle.sock_diag_replies.specs.ViewModel.{attributes_left};
+
     ghost is_clone = { λ views copy. values_in (decodes H.reply.attribute_set)
-        (bytes_left copy.walk)
-        ≡ values_in (decodes H.reply.attribute_set) (bytes_left views.walk) };
+        (attributes_left copy)
+        ≡ values_in (decodes H.reply.attribute_set) (attributes_left views) };
 
     ghost is_infallible = { λ _. ⊤ };
 
@@ -321,6 +326,8 @@ impl<H: ReplyHeader> Clone for AttributeViews<'_, H> {
 }
 
 impl<'a, H: ReplyViews<'a>> Iterator for AttributeViews<'a, H> {
+    ghost use Rattle.sock_diag_replies.specs.ViewModel.{attributes_left};
+
     type Item = H::View;
 
     ghost next_gives = { λ old given new. YieldsFirstBy H.View.FamilyView.model (λ walk.
@@ -328,7 +335,7 @@ impl<'a, H: ReplyViews<'a>> Iterator for AttributeViews<'a, H> {
         new.walk };
 
     ghost remaining = { λ views. at_most (length
-        (values_in (decodes H.View.FamilyView.attribute_set) (bytes_left views.walk))) };
+        (values_in (decodes H.View.FamilyView.attribute_set) (attributes_left views))) };
 
     #[inline(always)]
     fn next(&mut self) -> Option<H::View> {
@@ -340,13 +347,13 @@ impl<'a, H: ReplyViews<'a>> Iterator for AttributeViews<'a, H> {
     /// How many attributes are left, exactly.
     fn size_hint(&self) -> (usize, Option<usize>)
         ensures lower { let left = values_in (decodes H.View.FamilyView.attribute_set)
-            (bytes_left self.now.walk) in
+            (attributes_left self.now) in
             IsWithinCount result.0 (at_most (length left)) }
         ensures upper { let left = values_in (decodes H.View.FamilyView.attribute_set)
-            (bytes_left self.now.walk) in
+            (attributes_left self.now) in
             IfSome result.1 (UpTo (at_most (length left))) }
         ensures exact { let left = values_in (decodes H.View.FamilyView.attribute_set)
-            (bytes_left self.now.walk) in
+            (attributes_left self.now) in
             result ≡ (length left, Some (length left)) }
     {
         (self.count, Some(self.count))
