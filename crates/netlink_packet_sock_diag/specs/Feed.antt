@@ -38,11 +38,16 @@ module _ {A : Type 0} (is : List ℕ → Item A → Type 0) where
   Takes p b q end = (items : List (Item A)) × ItemsAre is b items × Dump p.0 items q.0 end
       × (IsTrue q.2 ↔ (IsTrue p.2 ⊎ Interrupt b items))
 
-  -- up to a message for which there was no memory: over the items in front of it it is still read
-  abbrev pub Stops : Stage A → List ℕ → Stage A → Type 0
-  Stops p b q = (front later : List (Item A)) × (m : A) × ItemsAre is b
+  -- The dump stops before the message with this entry. Over the items before it the dump is still
+  -- read, and it is interrupted if it was, or if these items or the message interrupt it.
+  abbrev pub StopsAt : A → Stage A → List ℕ → Stage A → Type 0
+  StopsAt m p b q = (front later : List (Item A)) × ItemsAre is b
       (front ++ Ok (InnerMessage m) ∷ later) × Dump p.0 front q.0 (Ok (Reading, None))
       × (IsTrue q.2 ↔ (IsTrue p.2 ⊎ Interrupt b (front ++ Ok (InnerMessage m) ∷ [])))
+
+  -- it stops before some message
+  abbrev pub Stops : Stage A → List ℕ → Stage A → Type 0
+  Stops p b q = (m : A) × StopsAt m p b q
 
   -- Of a dump that was read: its end in the datagram, or its fault, or that memory ran out. One
   -- that had ended is as it was.

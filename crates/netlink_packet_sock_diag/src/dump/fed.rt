@@ -1,9 +1,10 @@
 //! A dump that is fed datagrams, whatever it keeps of their messages.
 
 ghost use Rattle.std.specs.Prelude.{◌≡◌, ◌≢◌, ◌⊎◌, ◌↔◌, ℕ, List, [], map, Result, Ok as ok};
-ghost use Rattle.std.specs.Prelude.{Err as err, MatchResult, IsBitSet, IsTrue, None, false};
+ghost use Rattle.std.specs.Prelude.{Err as err, MatchResult, IsBitSet, IsTrue, None, false, ◌≤◌};
+ghost use Rattle.std.specs.Prelude.{vec_capacity, vec_len};
 ghost use Rattle.netlink_core.specs.declared.fault.DecodeError.TheVariants.{Memory};
-ghost use Rattle.netlink_packet_sock_diag.specs.Feed.{FeedLeaves, FeedsLeave, Stage, Stops};
+ghost use Rattle.netlink_packet_sock_diag.specs.Feed.{FeedLeaves, FeedsLeave, Stage, StopsAt};
 ghost use Rattle.netlink_packet_sock_diag.specs.Feed.{Takes, untouched};
 ghost use Rattle.netlink_packet_sock_diag.specs.declared.dump.DumpError.{DumpError as Refusal};
 ghost use Rattle.netlink_packet_sock_diag.specs.declared.dump.DumpState.TheVariants.{Reading};
@@ -28,9 +29,9 @@ fn interrupted_by(was: bool, header: &NetlinkHeader) -> bool
     was || header.flags & NLM_F_DUMP_INTR != 0
 }
 
-// Takes the messages of a datagram up to the end of the dump, and tells how the dump then stands:
-// its state, and the number that its end tells. The type and the flags of each are looked at before
-// memory is taken.
+// Takes the messages of a datagram up to the end of the dump, and returns the state of the dump and
+// the number of its end. If it fails with `Memory`, the first message that was not taken may need
+// memory, or the list is full.
 fn take_messages<I: Kept>(
     alloc: Global,
     messages: &mut Vec<I>,
@@ -44,9 +45,10 @@ fn take_messages<I: Kept>(
         (λ e. (e ≢ Memory → Takes I.item_is
         (map I.model messages.old.items, (Reading, None), interrupted.old) datagram.now
         (map I.model messages.new.items, (Failed, None), interrupted.new) (err e))
-        × (e ≡ Memory → Stops I.item_is
+        × (e ≡ Memory → (m : I.Entry) × StopsAt I.item_is m
         (map I.model messages.old.items, (Reading, None), interrupted.old) datagram.now
-        (map I.model messages.new.items, (Failed, None), interrupted.new))) }
+        (map I.model messages.new.items, (Failed, None), interrupted.new)
+        × (I.needs_memory m ⊎ (vec_capacity messages.new ≤ vec_len messages.new)))) }
 {
     for item in MessageStrings::new(datagram) {
         let message = item?;
@@ -58,7 +60,11 @@ fn take_messages<I: Kept>(
             NLMSG_ERROR => return Ok((DumpState::Error, error_number(payload))),
             NLMSG_DONE => return Ok((DumpState::Done, error_number(payload))),
             NLMSG_OVERRUN => return Ok((DumpState::Overrun, None)),
-            _ => messages.push(I::take(alloc, &header, payload)?)?,
+            _ => {
+                let entry = I::take(alloc, &header, payload)?;
+                messages.reserve(1)?;
+                messages.push_reserved(entry);
+            }
         }
     }
     Ok((DumpState::Reading, None))
@@ -86,7 +92,8 @@ pub(crate) struct FedDump<I: Kept> {
 }
 
 impl<I: Kept> FedDump<I> {
-    ghost use Rattle.netlink_packet_sock_diag.specs.DumpModel.{progress};
+    ghost use Rattle.netlink_packet_sock_diag.specs.DumpModel.{IsFull, progress};
+    ghost use Rattle.netlink_packet_sock_diag.specs.declared.dump.DumpError.TheVariants.{Fault};
 
     /// A dump of which nothing has come. The allocator is kept.
     pub(crate) fn new(alloc: Global) -> Self
@@ -104,8 +111,12 @@ impl<I: Kept> FedDump<I> {
 
     /// Takes the messages of a datagram, as [`DumpReader::feed`](crate::DumpReader::feed) says.
     pub(crate) fn feed(&mut self, datagram: &[u8]) -> Result<(), DumpError>
-        ensures { FeedLeaves I.item_is (progress I.model self.old) datagram.now
+        ensures leaves { FeedLeaves I.item_is (progress I.model self.old) datagram.now
             (progress I.model self.new) result }
+        // Memory runs out at an entry that may need some, or because the list has to grow.
+        ensures memory { result ≡ err (Fault Memory) → (m : I.Entry) × StopsAt I.item_is m
+            (progress I.model self.old) datagram.now (progress I.model self.new)
+            × (I.needs_memory m ⊎ IsFull self.new) }
     {
         if self.standing.0 != DumpState::Reading {
             return Err(DumpError::Ended);

@@ -1,10 +1,11 @@
 //! Dumps that go past refused replies.
 
-ghost use Rattle.std.specs.Prelude.{◌≡◌, [], None, false};
+ghost use Rattle.std.specs.Prelude.{◌≡◌, ◌⊎◌, [], Err, None, Ok as ok, false};
 ghost use Rattle.netlink_core.specs.Faults.{map_ok};
-ghost use Rattle.netlink_packet_sock_diag.specs.Feed.{FeedLeaves};
+ghost use Rattle.netlink_core.specs.declared.fault.DecodeError.TheVariants.{Memory};
+ghost use Rattle.netlink_packet_sock_diag.specs.Feed.{FeedLeaves, StopsAt};
 ghost use Rattle.netlink_packet_sock_diag.specs.Lossy.{EntryIs};
-ghost use Rattle.netlink_packet_sock_diag.specs.Message.{message_codec};
+ghost use Rattle.netlink_packet_sock_diag.specs.Message.{Message, message_codec};
 ghost use Rattle.netlink_packet_sock_diag.specs.MessageModel.{message_model};
 
 use super::fed::FedDump;
@@ -23,7 +24,8 @@ pub struct LossyDump {
 }
 
 impl LossyDump {
-    ghost use Rattle.netlink_packet_sock_diag.specs.DumpModel.{progress};
+    ghost use Rattle.netlink_packet_sock_diag.specs.DumpModel.{IsFull, progress};
+    ghost use Rattle.netlink_packet_sock_diag.specs.declared.dump.DumpError.TheVariants.{Fault};
     ghost use Rattle.netlink_packet_sock_diag.specs.declared.dump.DumpState.TheVariants.{Reading};
 
     /// A dump of which nothing has come. The allocator is kept.
@@ -41,10 +43,17 @@ impl LossyDump {
     /// refused ones their faults. At what is no message, `EnvelopeCut`, `EnvelopeLengthUnder16` or
     /// `EnvelopeLengthPast`, and where memory runs out, the entries in front are kept and the dump
     /// has failed. Once the dump has ended nothing changes.
+    ///
+    /// Memory runs out only at an accepted message, or if the list of entries has to grow: an entry
+    /// for a refused message needs a slot in the list too.
     pub fn feed(&mut self, datagram: &[u8]) -> Result<(), DumpError>
         ensures leaves { FeedLeaves (EntryIs message_codec)
             (progress (map_ok message_model) self.old.dump) datagram.now
             (progress (map_ok message_model) self.new.dump) result }
+        ensures memory { result ≡ Err (Fault Memory) → ((m : Message)
+            × StopsAt (EntryIs message_codec) (ok m)
+            (progress (map_ok message_model) self.old.dump) datagram.now
+            (progress (map_ok message_model) self.new.dump)) ⊎ IsFull self.new.dump }
     {
         self.dump.feed(datagram)
     }
