@@ -31,10 +31,10 @@ pub fn copy_nlas<T: FamilyNla>(alloc: Global, nlas: &[T]) -> Result<SmallVec<T, 
     Ok(copy)
 }
 
-/// Puts the attributes, with memory of their own and in the same order, into the empty list. At
-/// most one request for memory is made for the list, and none where there is room for so many. It
-/// is never inlined: a list that lends itself to a call costs its owner less than one that is
-/// filled on the spot.
+/// Puts the owned attributes, in the same order, into the empty list. It does not fail if the list
+/// has capacity for `count` attributes and no attribute needs memory.
+// It is never inlined: a list that is borrowed by a call costs its owner less than one that is
+// filled on the spot.
 #[tactic(auto, using(crate::proofs::Finding::finding))]
 #[inline(never)]
 pub fn own_nlas<T: FamilyNla>(

@@ -1,14 +1,14 @@
 -- When what was read isn't written.
 use Rattle.std.proofs.Common.{arith}
-use Rattle.std.proofs.Common.{◌≡◌}
+use Rattle.std.proofs.Common.{◌≡◌, ◌↔◌}
 use Rattle.netlink_core.specs.declared.fault.DecodeError.{DecodeError}
 use Rattle.netlink_core.specs.declared.canon.CanonError.{CanonError}
 use Rattle.netlink_core.specs.Canonical.{GivesUp}
 
--- a value in hand that isn't written, where it is what a string is read as
+-- a value that is not written, if it is what a string is read as
 pub gives_up : {W V : Type 0} (model : W → V) (reads : V → Type 0) (refuses : DecodeError → Type 0)
     (fits : V → Type 0) (writable : W → Type 0) (w : W) → reads (model w)
-    → ((x : W) → fits (model x) → writable x) → (e : CanonError)
+    → (writable w ↔ fits (model w)) → (e : CanonError)
     → GivesUp (λ x. x ≡ w) (λ _. ⊥) writable e → GivesUp reads refuses fits e
 gives_up model reads refuses fits writable w r f e h =
     grind arith

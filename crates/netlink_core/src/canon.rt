@@ -41,11 +41,11 @@ impl From<AllocError> for CanonError {
     }
 }
 
-/// The written bytes of the value that is read from the bytes: one string for all strings that
-/// differ from these in idle details alone.
+/// Returns the bytes that the value in the bytes is written as: one string for all strings that
+/// differ from these in ignored details only.
 ///
-/// It is refused with the reader's first fault, and `Unwritable` where a length of the value that
-/// was read has no room.
+/// It fails with `Refused` and the reader's first error, with `Unwritable` if a length of the value
+/// does not fit its field, and with `Memory` only if the value can be written.
 pub fn canonical<T: Wire + Drop>(
     alloc: Global,
     bytes: &[u8],
@@ -63,8 +63,8 @@ pub fn canonical<T: Wire + Drop>(
     ensures again { IfOk result (λ c.
         IsBytes c.items × ((w : T.codec.Value) × T.codec.reads c.items param w × T.codec.fits w
         × (T.codec.written w ≡ c.items))) }
-    // The first fault, which is named; or the string is accepted and its value can't be written; or
-    // memory ran out.
+    // The first error, other than `Memory`; or the string is accepted and its value can't be
+    // written; or the value can be written and an allocation failed.
     ensures err { IfErr result
         (GivesUp (T.codec.reads bytes.now param) (T.codec.refuses bytes.now param) T.codec.fits) }
 {

@@ -9,9 +9,10 @@ ghost use Rattle.netlink_core.specs.FirstAttribute.{first_attribute_codec};
 ghost use Rattle.netlink_core.specs.FirstAttributeLaws.{first_attribute_keeps_laws};
 
 use crate::attribute::{MAX_VALUE, NLA_HEADER_SIZE, NlaBuffer, padded};
+use crate::canon::CanonError;
 use crate::codec::{Emitable, Parseable, Readable};
 use crate::fault::DecodeError;
-use crate::wire::{Coded, Wire, bytes_in_range};
+use crate::wire::{Coded, Wire, bytes_in_range, write_new};
 use byteorder::{ByteOrder, LittleEndian};
 use std::alloc::{AllocError, Global};
 
@@ -296,6 +297,14 @@ impl Coded for DefaultNla {
 impl Wire for DefaultNla {
     fn read(alloc: Global, bytes: &[u8], _param: ()) -> Result<Self, DecodeError> {
         Ok(DefaultNla::keep(alloc, &NlaBuffer::new_checked(bytes)?)?)
+    }
+
+    // The value of an attribute in bytes always fits, so `Memory` may also be that of the copy.
+    fn rewrite(alloc: Global, bytes: &[u8], _param: ()) -> Result<Vec<u8>, CanonError> {
+        write_new(
+            alloc,
+            &DefaultNla::keep(alloc, &NlaBuffer::new_checked(bytes)?)?,
+        )
     }
 
     ghost written_is = { λ v. refl };

@@ -43,9 +43,9 @@ fn wrong_length(payload: &[u8], need: usize) -> DecodeError
     }
 }
 
-/// The text in the bytes, without the one zero that may stand at their end.
+/// Returns the text in the bytes, without the one zero that may be at their end.
 ///
-/// What is not UTF-8 is `NotUtf8`, before any memory is taken.
+/// Bytes that are not UTF-8 are `NotUtf8`. `Memory` is returned only for bytes that are a text.
 pub fn parse_string(alloc: Global, payload: &[u8]) -> Result<String, DecodeError>
     ensures value { IfOk result (λ text. text_in payload.now ≡ Ok (string_bytes text)) }
     ensures fault { IfErr result (λ e. e ≢ Memory → text_in payload.now ≡ Err e) }

@@ -7,8 +7,8 @@ ghost use Rattle.netlink_core.specs.declared.fault.DecodeError.TheVariants.{Memo
 ghost use Rattle.netlink_core.specs.Codec.{record_codec, RecordLaws};
 
 use crate::{
-    Coded, DecodeError, Emitable, Exact, Parseable, ParseableParametrized, ReadParam, Readable,
-    RecordName, Wire,
+    CanonError, Coded, DecodeError, Emitable, Exact, Parseable, ParseableParametrized, ReadParam,
+    Readable, RecordName, Wire, write_new,
 };
 use std::alloc::{AllocError, Global};
 use std::marker::{Model, PhantomData};
@@ -127,6 +127,15 @@ impl<T: Record> Wire for T {
     fn read(_alloc: Global, bytes: &[u8], param: T::Param) -> Result<Self, DecodeError> {
         param.prove_in_range();
         read_record(bytes, param)
+    }
+
+    fn rewrite(alloc: Global, bytes: &[u8], param: T::Param) -> Result<Vec<u8>, CanonError> {
+        param.prove_in_range();
+        // The value is not moved: a move of a large one takes longer than to write it.
+        match &read_record::<T>(bytes, param) {
+            Ok(value) => write_new(alloc, value),
+            Err(fault) => Err(CanonError::Refused(*fault)),
+        }
     }
 }
 

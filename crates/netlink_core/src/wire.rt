@@ -122,8 +122,10 @@ pub trait Wire: Coded + Readable + Emitable {
             → (v : Self.codec.Value) × Self.codec.reads bytes.now param v
             × ¬ Self.codec.is_spare v) };
 
-    /// The bytes that the value in the bytes is written as: what [`canonical`](crate::canonical)
-    /// answers. It makes a value, and a type that has a view writes from that instead.
+    /// Returns the bytes that the value in the bytes is written as: what
+    /// [`canonical`](crate::canonical) returns.
+    // A type that has a view writes the view: to make an owned value could run out of memory for a
+    // value that can't be written.
     fn rewrite(alloc: Global, bytes: &[u8], param: Self::Param) -> Result<Vec<u8>, CanonError>
     where
         Self: Drop,
@@ -132,18 +134,7 @@ pub trait Wire: Coded + Readable + Emitable {
             (v : Self.codec.Value) × Self.codec.reads bytes.now param v × Self.codec.fits v
             × (c.items ≡ Self.codec.written v)) }
         ensures err { IfErr result (GivesUp (Self.codec.reads bytes.now param)
-            (Self.codec.refuses bytes.now param) Self.codec.fits) }
-    {
-        // The value stays where it was read to: a large one takes longer to move than to write.
-        let read = Self::read(alloc, bytes, param);
-        if let Ok(value) = &read {
-            return write_new(alloc, value);
-        }
-        match read {
-            Ok(_) => unreachable!(),
-            Err(fault) => Err(CanonError::from(fault)),
-        }
-    }
+            (Self.codec.refuses bytes.now param) Self.codec.fits) };
 
     // The writer is that of `Emitable`.
     ghost written_is: { (v : Self) → Self.bytes v ≡ Self.codec.written (Self.model v) };
@@ -151,13 +142,11 @@ pub trait Wire: Coded + Readable + Emitable {
     ghost fits_is: { (v : Self) → (Self.writable v ↔ Self.codec.fits (Self.model v)) };
 }
 
-/// The bytes of a value that can be written, in a list of their own.
-///
-/// It fails with `Unwritable` where the value can't be written, and with `Memory`.
+/// Writes a value into a new list. It fails with `Unwritable` if the value can't be written, and
+/// with `Memory` only if it can.
 pub fn write_new<T: Emitable>(alloc: Global, value: &T) -> Result<Vec<u8>, CanonError>
     ensures written { IfOk result (λ c. T.writable value.now × (c.items ≡ T.bytes value.now)) }
     ensures err { IfErr result (GivesUp (λ v. v ≡ value.now) (λ fault. ⊥) T.writable) }
-    ensures memory { IfErr result (λ e. e ≡ CanonError.Memory → T.writable value.now) }
 {
     let Some(len) = value.writable_len() else {
         return Err(CanonError::Unwritable);

@@ -17,8 +17,7 @@ use Rattle.netlink_core.proofs.Items.{items_by, leading_item, rest_in_range}
 use Rattle.netlink_core.proofs.Items.{fault_alone}
 use Rattle.netlink_packet_sock_diag.specs.Dump.{end_of, kept}
 use Rattle.netlink_core.proofs.Datagrams.{IsOfOwnLength}
-use Rattle.netlink_packet_sock_diag.specs.Feed.{Interrupt, ReadsDatagram, ReadsUpToMemory}
-use Rattle.netlink_packet_sock_diag.specs.Feed.{dump_with}
+use Rattle.netlink_packet_sock_diag.specs.Feed.{Interrupt, ReadsDatagram, ReadsUpTo, dump_with}
 use Rattle.netlink_packet_sock_diag.proofs.DumpRows.{End, dump_is, first_or_later, reach}
 use Rattle.netlink_packet_sock_diag.proofs.DumpRows.{unended}
 
@@ -86,11 +85,10 @@ module _ {A : Type 0} {item_is : List ℕ → Item A → Type 0} {datagram rest 
     grind (arith, p.flags later, none),
   )
 
-  pub cut_off : {e : DecodeError} → rest ≢ [] → IsEnvelopeFault rest e
+  pub cut_off : {e : DecodeError} {T : Type 0} → rest ≢ [] → IsEnvelopeFault rest e
       → (e ≢ Memory → ReadsDatagram item_is (dump_with before unended was) datagram
       (dump_with after unended is) (Err e))
-      × (e ≡ Memory → ReadsUpToMemory item_is (dump_with before unended was) datagram
-      (dump_with after unended is))
+      × (e ≡ Memory → T)
   cut_off {e} some fault = (
     λ named. closes (Err e ∷ []) (Err e) (fault_alone item_is rest e some fault) refl
         (λ (m, next, s, _). no_fault_at_message rest m next e s fault),
@@ -125,12 +123,11 @@ module _ {A : Type 0} {item_is : List ℕ → Item A → Type 0} {datagram next 
 pub stops_at : {A : Type 0} {item_is : List ℕ → Item A → Type 0} {datagram next : List ℕ}
     {before after : List A} {was now : Bool} {value : A} → SomeItem item_is
     → Here item_is datagram next before after was now (Ok (InnerMessage value))
-    → ReadsUpToMemory item_is (dump_with before unended was) datagram (dump_with after unended now)
+    → ReadsUpTo item_is value (dump_with before unended was) datagram (dump_with after unended now)
 stops_at {A} {item_is} {datagram} {next} {before} {after} {was} {now} {value} some p =
     let later = items_by item_is some next p.in_range in (
       p.passed,
       later.0,
-      value,
       p.items later.0 later.1,
       (dump_is before after p.passed (Ok unended)).1 (rw append-nil at (p.leads [])),
       grind (arith, p.flags []),

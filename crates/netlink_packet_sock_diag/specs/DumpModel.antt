@@ -1,5 +1,5 @@
 -- The model of the readers of dumps: what contracts see of them.
-use Rattle.std.specs.Prelude.{List, Result, map}
+use Rattle.std.specs.Prelude.{◌≤◌, List, Result, map, vec_capacity, vec_len}
 use Rattle.netlink_core.specs.Faults.{map_ok}
 use Rattle.netlink_core.specs.declared.fault.DecodeError.{DecodeError}
 use Rattle.netlink_packet_sock_diag.specs.declared.dump.DumpReader.{DumpReader}
@@ -15,6 +15,10 @@ use Rattle.netlink_packet_sock_diag.specs.MessageModel.{message_model}
 abbrev pub progress : {I A : Type 0} {G : Ghosts I} → (I → A) → FedDump I G → DumpProgress A
 progress model dump = dump_with (map model dump.kept.items) dump.standing dump.interrupted
 
+-- the list of what it keeps has no free slot, so that another entry needs memory
+abbrev pub IsFull : {I : Type 0} {G : Ghosts I} → FedDump I G → Type 0
+IsFull dump = vec_capacity dump.kept ≤ vec_len dump.kept
+
 -- the dump that a `DumpReader` reads
 abbrev pub reader_progress : DumpReader → DumpProgress Message
 reader_progress reader = progress message_model reader.dump
@@ -26,3 +30,7 @@ lossy_entries lossy = lossy.dump.kept.items
 -- the dump that a `LossyDump` reads
 abbrev pub lossy_progress : LossyDump → DumpProgress (Result Message DecodeError)
 lossy_progress lossy = progress (map_ok message_model) lossy.dump
+
+-- the list of entries of a `LossyDump` has no free slot
+abbrev pub EntriesAreFull : LossyDump → Type 0
+EntriesAreFull lossy = IsFull lossy.dump

@@ -63,25 +63,25 @@ module _ {A : Type 0} (is : List ℕ → Item A → Type 0) where
       × Dump old.messages items new.messages end
       × (IsTrue new.is_interrupted ↔ (IsTrue old.is_interrupted ⊎ Interrupt datagram items))
 
-  -- The datagram is read up to an inner message for which there was no memory. No item before that
-  -- message ends the dump; its own flag counts.
-  abbrev pub ReadsUpToMemory : DumpProgress A → List ℕ → DumpProgress A → Type 0
-  ReadsUpToMemory old datagram new = (front later : List (Item A)) × (m : A)
-      × ItemsAre is datagram (front ++ Ok (InnerMessage m) ∷ later)
+  -- The datagram is read up to the message with this entry, where memory ran out. No item before
+  -- that message ends the dump; the flag of the message counts.
+  abbrev pub ReadsUpTo : A → DumpProgress A → List ℕ → DumpProgress A → Type 0
+  ReadsUpTo entry old datagram new = (front later : List (Item A))
+      × ItemsAre is datagram (front ++ Ok (InnerMessage entry) ∷ later)
       × Dump old.messages front new.messages (Ok (Reading, None))
       × (IsTrue new.is_interrupted ↔ (IsTrue old.is_interrupted
-      ⊎ Interrupt datagram (front ++ Ok (InnerMessage m) ∷ [])))
+      ⊎ Interrupt datagram (front ++ Ok (InnerMessage entry) ∷ [])))
 
   -- By the result of `feed`: the dump was being read, and the datagram leads to its new end; or it
   -- had ended, and is unchanged; or it was being read and has failed, because the datagram leads to
-  -- this error, or because memory ran out.
+  -- this error, or because memory ran out at a message.
   abbrev pub FeedLeaves : DumpProgress A → List ℕ → DumpProgress A → Result Unit DumpError → Type 0
   FeedLeaves old datagram new (Ok _) =
       IsReading old × ReadsDatagram old datagram new (Ok (end_so_far new))
   FeedLeaves old datagram new (Err Ended) = ¬ IsReading old × (new ≡ old)
   FeedLeaves old datagram new (Err (Fault e)) = IsReading old × (end_so_far new ≡ (Failed, None))
       × (e ≢ Memory → ReadsDatagram old datagram new (Err e))
-      × (e ≡ Memory → ReadsUpToMemory old datagram new)
+      × (e ≡ Memory → (entry : A) × ReadsUpTo entry old datagram new)
 
   -- datagrams are fed in order, and memory does not run out
   abbrev pub FeedsLeave : DumpProgress A → List (List ℕ) → DumpProgress A → Type 0

@@ -188,7 +188,7 @@ impl Wire for SockDiagMessage {
         SockDiagMessage::read_under(alloc, bytes, param)
     }
 
-    // Written from the view: no value with memory of its own is made.
+    // The view is written: an owned message could run out of memory though it can't be written.
     fn rewrite(alloc: Global, bytes: &[u8], param: u16) -> Result<Vec<u8>, CanonError> {
         match SockDiagView::parse(bytes, param) {
             Ok(view) => write_new(alloc, &view),

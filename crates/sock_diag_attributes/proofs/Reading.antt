@@ -1,9 +1,13 @@
--- An attribute that is read in place and then kept, of any family: when its readers want memory.
-use Rattle.std.proofs.Common.{arith}
-use Rattle.std.proofs.Common.{◌≡◌, List, ℕ, Result, Ok, Err, IsOk, IfErr, IsErrAnd}
+-- An attribute of any family: when a reader that makes an owned value returns `Memory`, and when an
+-- attribute has no canonical form.
+use Rattle.std.proofs.Common.{arith, inr}
+use Rattle.std.proofs.Common.{◌≡◌, ◌≢◌, List, ℕ, Result, Ok, Err, IsOk, IfErr, IsErrAnd}
 use Rattle.std.proofs.lemmas.Result.{err_from_is_err_and}
 use Rattle.netlink_core.specs.declared.fault.DecodeError.{DecodeError}
 use Rattle.netlink_core.specs.declared.fault.DecodeError.TheVariants.{Memory}
+use Rattle.netlink_core.specs.declared.canon.CanonError.{CanonError}
+use Rattle.netlink_core.specs.declared.canon.CanonError.TheVariants as canon
+use Rattle.netlink_core.specs.Canonical.{GivesUp}
 use Rattle.netlink_core.specs.Attribute.{Attribute, HasPrefix}
 use Rattle.netlink_core.specs.AttributeSet.{AttributeSet, AttributeValue, decodes}
 use Rattle.netlink_core.specs.AttributeSet.{IsSpareBy}
@@ -33,3 +37,14 @@ pub unkept_wants : (F : AttributeSet) {b : List ℕ} {T N E : Type 0} (a : Attri
     → Wanted F b r
 unkept_wants F a v head said kept e was keeps r given =
     grind (arith, err_from_is_err_and r given)
+
+-- a value that is rejected has no canonical form
+pub refused_has_no_form : (F : AttributeSet) → AttributeSetLaws F
+    → (b : List ℕ) {T : Type 0} (a : Attribute) (e : DecodeError) → HasPrefix b a
+    → decodes F a ≡ Err e → (r : Result T CanonError)
+    → IsErrAnd r (λ f. (e ≡ Memory → f ≡ canon.Memory) × (e ≢ Memory → f ≡ canon.Refused e))
+    → let C = first_attribute_codec F in IfErr r (GivesUp (C.reads b tt) (C.refuses b tt) C.fits)
+refused_has_no_form F laws b a e head refused r given =
+    let named : e ≢ Memory = λ memory. set_faults_named F laws a (rw memory at refused) in
+    let p = err_from_is_err_and r given in
+    rw (p.1, p.2.1 named) (inr (a, head, refused), named)

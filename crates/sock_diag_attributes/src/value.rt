@@ -63,7 +63,7 @@ impl Value<'_> {
             Value::Pair(first, second) => emit_u32_pair(*first, *second, buffer),
             Value::Numbers(numbers) => emit_numbers(numbers, buffer),
             Value::Text(text) => emit_text(text, buffer),
-            Value::Name(name) => name.emit(buffer),
+            Value::Name(name) => name.emit_name(buffer),
             Value::LegacyMemInfo(info) => info.emit(buffer),
             Value::TcpInfo(info) => info.emit(buffer),
             Value::MemInfo(info) => info.emit(buffer),

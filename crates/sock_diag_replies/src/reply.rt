@@ -13,8 +13,8 @@ use attribute_lists::{
 };
 use netlink_core::{DecodeError, Emitable, FamilyNla, FamilyView, NlasIterator};
 
-/// Want of memory, in the place of what was begun. It stands apart, so that what drops a list takes
-/// no time where there is memory.
+/// Returns `Memory` after dropping the partial list. Out of line, to keep the drop off the hot
+/// path.
 #[cold]
 #[inline(never)]
 pub(crate) fn without_memory<T: Drop>(_begun: T) -> DecodeError

@@ -252,7 +252,7 @@ impl<H: ReplyOwned> Wire for Reply<H, H::Nla> {
         })
     }
 
-    // Written from the view: no value with memory of its own is made.
+    // The view is written: an owned reply could run out of memory though it can't be written.
     fn rewrite(alloc: Global, bytes: &[u8], _param: ()) -> Result<Vec<u8>, CanonError> {
         match ReplyView::<H>::parse(bytes) {
             Ok(view) => write_new(alloc, &view),

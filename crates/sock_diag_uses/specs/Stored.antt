@@ -18,7 +18,7 @@ abbrev pub HasKey : List ℕ → Type 0
 HasKey reply = (key : List ℕ) × IsKey reply key
 
 -- why no key is returned: the reply is rejected with this error, or parses as a message that can't
--- be serialized, or parses and memory ran out
+-- be serialized, or parses as one that can be serialized, and memory ran out
 abbrev pub KeyFails : List ℕ → CanonError → Type 0
 KeyFails reply = GivesUp (message_codec.reads reply 20) (message_codec.refuses reply 20)
     message_codec.fits

@@ -1,10 +1,11 @@
 //! The reader of a dump, generic over what it keeps of each message.
 
 ghost use Rattle.std.specs.Prelude.{◌≡◌, ◌≢◌, ◌⊎◌, ◌↔◌, ℕ, List, [], map, Result, Ok as ok};
-ghost use Rattle.std.specs.Prelude.{Err as err, MatchResult, IsBitSet, IsTrue, None, false};
+ghost use Rattle.std.specs.Prelude.{Err as err, MatchResult, IsBitSet, IsTrue, None, false, ◌≤◌};
+ghost use Rattle.std.specs.Prelude.{vec_capacity, vec_len};
 ghost use Rattle.netlink_core.specs.declared.fault.DecodeError.TheVariants.{Memory};
 ghost use Rattle.netlink_packet_sock_diag.specs.Feed.{DumpProgress, FeedLeaves, FeedsLeave};
-ghost use Rattle.netlink_packet_sock_diag.specs.Feed.{ReadsDatagram, ReadsUpToMemory, dump_with};
+ghost use Rattle.netlink_packet_sock_diag.specs.Feed.{ReadsDatagram, ReadsUpTo, dump_with};
 ghost use Rattle.netlink_packet_sock_diag.specs.Feed.{new_dump};
 ghost use Rattle.netlink_packet_sock_diag.specs.declared.dump.DumpError.{DumpError as Refusal};
 ghost use Rattle.netlink_packet_sock_diag.specs.declared.dump.DumpState.TheVariants.{Reading};
@@ -30,8 +31,9 @@ fn interrupted_by(was: bool, header: &NetlinkHeader) -> bool
 }
 
 // Reads the messages of a datagram up to the end of the dump, and returns the new state of the dump
-// and the error number of its end. The type and the flags of a message are read before its payload,
-// which may need memory.
+// and the error number of its end. The type and the flags of a message are read before its payload.
+// If it fails with `Memory`, the first message that was not kept may need memory, or the list is
+// full.
 fn take_messages<I: Kept>(
     alloc: Global,
     messages: &mut Vec<I>,
@@ -45,9 +47,10 @@ fn take_messages<I: Kept>(
         (λ e. (e ≢ Memory → ReadsDatagram I.item_is
         (dump_with (map I.model messages.old.items) (Reading, None) interrupted.old) datagram.now
         (dump_with (map I.model messages.new.items) (Failed, None) interrupted.new) (err e))
-        × (e ≡ Memory → ReadsUpToMemory I.item_is
+        × (e ≡ Memory → (entry : I.Entry) × ReadsUpTo I.item_is entry
         (dump_with (map I.model messages.old.items) (Reading, None) interrupted.old) datagram.now
-        (dump_with (map I.model messages.new.items) (Failed, None) interrupted.new))) }
+        (dump_with (map I.model messages.new.items) (Failed, None) interrupted.new)
+        × (I.needs_memory entry ⊎ (vec_capacity messages.new ≤ vec_len messages.new)))) }
 {
     for item in MessageStrings::new(datagram) {
         let message = item?;
@@ -59,7 +62,11 @@ fn take_messages<I: Kept>(
             NLMSG_ERROR => return Ok((DumpState::Error, error_number(payload))),
             NLMSG_DONE => return Ok((DumpState::Done, error_number(payload))),
             NLMSG_OVERRUN => return Ok((DumpState::Overrun, None)),
-            _ => messages.push(I::take(alloc, &header, payload)?)?,
+            _ => {
+                let entry = I::take(alloc, &header, payload)?;
+                messages.reserve(1)?;
+                messages.push_reserved(entry);
+            }
         }
     }
     Ok((DumpState::Reading, None))
@@ -87,7 +94,8 @@ pub(crate) struct FedDump<I: Kept> {
 }
 
 impl<I: Kept> FedDump<I> {
-    ghost use Rattle.netlink_packet_sock_diag.specs.DumpModel.{progress};
+    ghost use Rattle.netlink_packet_sock_diag.specs.DumpModel.{IsFull, progress};
+    ghost use Rattle.netlink_packet_sock_diag.specs.declared.dump.DumpError.TheVariants.{Fault};
 
     /// Returns a reader that nothing was fed to. It keeps the allocator.
     pub(crate) fn new(alloc: Global) -> Self
@@ -105,8 +113,12 @@ impl<I: Kept> FedDump<I> {
 
     /// Reads the messages of a datagram; see [`DumpReader::feed`](crate::DumpReader::feed).
     pub(crate) fn feed(&mut self, datagram: &[u8]) -> Result<(), DumpError>
-        ensures { FeedLeaves I.item_is (progress I.model self.old) datagram.now
+        ensures leaves { FeedLeaves I.item_is (progress I.model self.old) datagram.now
             (progress I.model self.new) result }
+        // Memory runs out at an entry that may need some, or because the list has to grow.
+        ensures memory { result ≡ err (Fault Memory) → (entry : I.Entry)
+            × ReadsUpTo I.item_is entry (progress I.model self.old) datagram.now
+            (progress I.model self.new) × (I.needs_memory entry ⊎ IsFull self.new) }
     {
         if self.standing.0 != DumpState::Reading {
             return Err(DumpError::Ended);

@@ -1,6 +1,7 @@
 //! What a dump keeps of the messages of the protocol.
 
 ghost use Rattle.std.specs.Prelude.{◌≡◌, ◌≢◌, ℕ, List, Result as result, MatchResult, IfOk, IfErr};
+ghost use Rattle.std.specs.Prelude.{IsOk, ⊤};
 ghost use Rattle.netlink_core.specs.Faults.{map_ok};
 ghost use Rattle.netlink_core.specs.Items.{Item, ItemIs};
 ghost use Rattle.netlink_core.specs.declared.fault.DecodeError.{DecodeError as Fault};
@@ -19,7 +20,7 @@ use std::alloc::Global;
 /// What a dump keeps of a message of the protocol.
 pub(crate) trait Kept: Drop + Sized {
     // By the header's type, what is kept of a payload, and with which fault one is refused; which
-    // item of a dump a message is; and the model of what is kept.
+    // item of a dump a message is; the entries that may need memory; and the model of what is kept.
     ghost Entry: { Type 0 };
 
     ghost reads: { List ℕ → ℕ → Entry → Type 0 };
@@ -27,6 +28,8 @@ pub(crate) trait Kept: Drop + Sized {
     ghost refuses: { List ℕ → ℕ → Fault → Type 0 };
 
     ghost item_is: { List ℕ → Item Entry → Type 0 };
+
+    ghost needs_memory: { Entry → Type 0 };
 
     ghost model: { Self → Entry };
 
@@ -37,9 +40,9 @@ pub(crate) trait Kept: Drop + Sized {
             (λ m. Self.reads payload.now header.now.message_type (Self.model m)) }
         ensures fault { IfErr result (λ e. e ≢ Memory
             → Self.refuses payload.now header.now.message_type e) }
-        // Memory runs out only over a payload of which something would be kept.
+        // Memory runs out only at a payload whose entry may need some.
         ensures wanted { IfErr result (λ e. e ≡ Memory → (m : Self.Entry)
-            × Self.reads payload.now header.now.message_type m) };
+            × Self.reads payload.now header.now.message_type m × Self.needs_memory m) };
 
     // Which item a message is follows from what its payload is read as, or from its fault.
     ghost laws: { KeepsItems reads refuses item_is };
@@ -55,6 +58,8 @@ impl Kept for SockDiagMessage {
 
     ghost item_is = { ItemIs message_codec };
 
+    ghost needs_memory = { λ message. ⊤ };
+
     ghost model = { message_model };
 
     fn take(alloc: Global, header: &NetlinkHeader, payload: &[u8]) -> Result<Self, DecodeError> {
@@ -64,7 +69,7 @@ impl Kept for SockDiagMessage {
     ghost laws = { keeps_messages message_codec message_laws };
 }
 
-/// The message, or its fault: `take` fails only where memory runs out.
+/// The message, or its error: `take` fails only if an accepted message is out of memory.
 impl Kept for Result<SockDiagMessage, DecodeError> {
     ghost Entry = { result Message Fault };
 
@@ -74,6 +79,8 @@ impl Kept for Result<SockDiagMessage, DecodeError> {
     ghost refuses = { λ b t e. ⊥ };
 
     ghost item_is = { EntryIs message_codec };
+
+    ghost needs_memory = { λ entry. IsOk entry };
 
     ghost model = { map_ok message_model };
 

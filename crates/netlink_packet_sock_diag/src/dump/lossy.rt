@@ -1,9 +1,10 @@
 //! Dumps that continue after invalid replies.
 
-ghost use Rattle.std.specs.Prelude.{◌≡◌};
-ghost use Rattle.netlink_packet_sock_diag.specs.Feed.{FeedLeaves, new_dump};
+ghost use Rattle.std.specs.Prelude.{◌≡◌, ◌⊎◌, Err, Ok as ok};
+ghost use Rattle.netlink_core.specs.declared.fault.DecodeError.TheVariants.{Memory};
+ghost use Rattle.netlink_packet_sock_diag.specs.Feed.{FeedLeaves, ReadsUpTo, new_dump};
 ghost use Rattle.netlink_packet_sock_diag.specs.Lossy.{EntryIs};
-ghost use Rattle.netlink_packet_sock_diag.specs.Message.{message_codec};
+ghost use Rattle.netlink_packet_sock_diag.specs.Message.{Message, message_codec};
 
 use super::fed::FedDump;
 use super::{DumpError, DumpState};
@@ -21,7 +22,9 @@ pub struct LossyDump {
 }
 
 impl LossyDump {
-    ghost use Rattle.netlink_packet_sock_diag.specs.DumpModel.{lossy_entries, lossy_progress};
+    ghost use Rattle.netlink_packet_sock_diag.specs.DumpModel.{EntriesAreFull, lossy_entries};
+    ghost use Rattle.netlink_packet_sock_diag.specs.DumpModel.{lossy_progress};
+    ghost use Rattle.netlink_packet_sock_diag.specs.declared.dump.DumpError.TheVariants.{Fault};
 
     /// Returns a reader that nothing was fed to. It keeps the allocator.
     pub fn new(alloc: Global) -> Self
@@ -36,9 +39,15 @@ impl LossyDump {
     /// payload becomes an entry with its error. If bytes are not a message (`EnvelopeCut`,
     /// `EnvelopeLengthUnder16` or `EnvelopeLengthPast`), or if memory runs out, the entries before
     /// are kept, and the dump has failed. Feeding a dump that has ended changes nothing.
+    ///
+    /// Memory runs out only at an accepted message, or if the list of entries has to grow: the
+    /// entry of an invalid message needs a slot in the list too.
     pub fn feed(&mut self, datagram: &[u8]) -> Result<(), DumpError>
         ensures leaves { FeedLeaves (EntryIs message_codec) (lossy_progress self.old) datagram.now
             (lossy_progress self.new) result }
+        ensures memory { result ≡ Err (Fault Memory) → ((m : Message)
+            × ReadsUpTo (EntryIs message_codec) (ok m) (lossy_progress self.old) datagram.now
+            (lossy_progress self.new)) ⊎ EntriesAreFull self.new }
     {
         self.dump.feed(datagram)
     }

@@ -11,7 +11,7 @@ ghost use Rattle.sock_diag_attributes.specs.EqualInetLaws.{equal};
 ghost use Rattle.sock_diag_attributes.specs.LentLaws.{kept_row, text_row};
 
 use super::nlas::{Nla, NlaView};
-use netlink_core::{Coded, DecodeError, NlaBuffer, Wire, WireNla};
+use netlink_core::{CanonError, Coded, DecodeError, NlaBuffer, Wire, WireNla, write_new};
 use std::alloc::Global;
 
 impl Coded for Nla {
@@ -36,6 +36,10 @@ impl Coded for Nla {
 impl Wire for Nla {
     fn read(alloc: Global, bytes: &[u8], _param: ()) -> Result<Self, DecodeError> {
         Ok(NlaView::parse(&NlaBuffer::new_checked(bytes)?)?.to_owned(alloc)?)
+    }
+
+    fn rewrite(alloc: Global, bytes: &[u8], _param: ()) -> Result<Vec<u8>, CanonError> {
+        write_new(alloc, &NlaView::parse(&NlaBuffer::new_checked(bytes)?)?)
     }
 
     ghost written_is = { λ _. refl };

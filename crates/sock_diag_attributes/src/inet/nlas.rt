@@ -67,13 +67,14 @@ impl Readable for Nla {
     ghost TAKES_MEMORY = { true };
 }
 
-impl Emitable for Nla {
+impl<T: AsStr, O: OtherNla> Emitable for InetNla<T, O> {
     ghost use Rattle.sock_diag_attributes.specs.InetAttributes.{inet};
-    ghost use Rattle.sock_diag_attributes.specs.InetModel.{nla_model};
+    ghost use Rattle.sock_diag_attributes.specs.InetModel.{model};
 
-    ghost bytes = { λ v. written (encodes inet (nla_model v)) };
+    ghost bytes = { λ v. written (encodes inet (model T.text O.attribute v)) };
 
-    ghost writable = { λ v. HasFittingValue (encodes inet (nla_model v)) };
+    ghost writable = { λ v. HasFittingValue
+        (encodes inet (model T.text O.attribute v)) };
 
     fn is_writable(&self) -> bool {
         self.value_fits()

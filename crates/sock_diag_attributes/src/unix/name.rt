@@ -8,7 +8,8 @@ ghost use Rattle.sock_diag_attributes.specs.Name.{read_name, name_bytes, name_co
 ghost use Rattle.sock_diag_attributes.specs.NameLaws.{HasNoZero, name_keeps_laws};
 
 use netlink_core::{
-    Coded, DecodeError, Emitable, Parseable, Readable, Wire, bytes_in_range, copy_list,
+    CanonError, Coded, DecodeError, Emitable, Parseable, Readable, Wire, bytes_in_range, copy_list,
+    write_new,
 };
 use std::alloc::{AllocError, Global};
 
@@ -118,7 +119,7 @@ impl<'a> NameView<'a> {
     }
 
     // Writes the name with its zero at the start of the buffer, and leaves the rest.
-    pub(crate) fn emit(&self, buffer: &mut [u8])
+    pub(crate) fn emit_name(&self, buffer: &mut [u8])
         requires { length (name_bytes (name_of (λ b. b.now) self.now)) ≤ length buffer.old }
         ensures { buffer.new ≡ name_bytes (name_of (λ b. b.now) self.now)
             ++ drop (length (name_bytes (name_of (λ b. b.now) self.now))) buffer.old }
@@ -190,7 +191,27 @@ impl Emitable for UnixDiagName {
     }
 
     fn emit(&self, buffer: &mut [u8]) {
-        self.view().emit(buffer);
+        self.view().emit_name(buffer);
+    }
+}
+
+impl Emitable for NameView<'_> {
+    ghost use Rattle.sock_diag_attributes.specs.NameModel.{name_of};
+
+    ghost bytes = { λ v. name_bytes (name_of (λ b. b.now) v) };
+
+    ghost writable = { λ v. length (name_bytes (name_of (λ b. b.now) v)) ≤ 4294967295 };
+
+    fn is_writable(&self) -> bool {
+        self.len() <= u32::MAX as usize
+    }
+
+    fn buffer_len(&self) -> usize {
+        self.len()
+    }
+
+    fn emit(&self, buffer: &mut [u8]) {
+        self.emit_name(buffer);
     }
 }
 
@@ -219,6 +240,10 @@ impl Coded for UnixDiagName {
 impl Wire for UnixDiagName {
     fn read(alloc: Global, bytes: &[u8], _param: ()) -> Result<Self, DecodeError> {
         UnixDiagName::parse(alloc, bytes)
+    }
+
+    fn rewrite(alloc: Global, bytes: &[u8], _param: ()) -> Result<Vec<u8>, CanonError> {
+        write_new(alloc, &NameView::parse(bytes)?)
     }
 
     ghost written_is = { λ _. refl };

@@ -59,13 +59,14 @@ impl Readable for Nla {
     ghost TAKES_MEMORY = { true };
 }
 
-impl Emitable for Nla {
+impl<N: LendsName, L: LendsNumbers, O: OtherNla> Emitable for UnixNla<N, L, O> {
     ghost use Rattle.sock_diag_attributes.specs.UnixAttributes.{unix};
-    ghost use Rattle.sock_diag_attributes.specs.UnixModel.{nla_model};
+    ghost use Rattle.sock_diag_attributes.specs.UnixModel.{model};
 
-    ghost bytes = { λ v. written (encodes unix (nla_model v)) };
+    ghost bytes = { λ v. written (encodes unix (model N.name L.numbers O.attribute v)) };
 
-    ghost writable = { λ v. HasFittingValue (encodes unix (nla_model v)) };
+    ghost writable = { λ v. HasFittingValue
+        (encodes unix (model N.name L.numbers O.attribute v)) };
 
     fn is_writable(&self) -> bool {
         self.value_fits()

@@ -1,4 +1,4 @@
-use Rattle.std.proofs.Common.{Ok, Err, [], arith, refl, rules}
+use Rattle.std.proofs.Common.{Ok, Err, [], inl, inr, arith, refl, rules}
 use Rattle.std.proofs.lemmas.Result.{err_from_is_err_and}
 use Rattle.std.proofs.lemmas.List.{append-nil, map_push}
 use Rattle.netlink_core.specs.Envelope.{IsInnerType}
@@ -66,10 +66,10 @@ returns-in-4 g c =
     (told (Overrun _) head (c.in-4.is, refl)) c.interrupted_by.ensures)
     g.met.I.Kept.laws.some_item refl
 
-pub returns-in_err-take-in_default : goal.returns-in_err-take-in_default
-returns-in_err-take-in_default g c =
-    let p = err_from_is_err_and c.from_residual-in_err-take-in_default.result
-    c.from_residual-in_err-take-in_default.ensures.1 in
+pub returns-in_err-entry-in_default : goal.returns-in_err-entry-in_default
+returns-in_err-entry-in_default g c =
+    let p = err_from_is_err_and c.from_residual-in_err-entry-in_default.result
+    c.from_residual-in_err-entry-in_default.ensures.1 in
     let start = rw c.in_ok-message.was at c.in-Some.ensures.steps in
     let head = c.in_ok-header.ensures in
     let other : IsInnerType c.in_ok-header.header.message_type = search rules in
@@ -78,11 +78,15 @@ returns-in_err-take-in_default g c =
     let h = c.in_ok-header.header in
     rw (p.1, p.2) (
       λ named. ends_at (here c.loop-item.invariant (Err _) start head
-          (laws.refused message h _ head other (c.in_err-take-in_default.ensures.fault named))
+          (laws.refused message h _ head other (c.in_err-entry-in_default.ensures.fault named))
           c.interrupted_by.ensures) laws.some_item refl,
-      λ none. let m = c.in_err-take-in_default.ensures.wanted none in
-          stops_at laws.some_item (here c.loop-item.invariant (Ok (InnerMessage m.0)) start head
-          (laws.carries message h (InnerMessage m.0) head (other, m.1)) c.interrupted_by.ensures),
+      λ none. let m = c.in_err-entry-in_default.ensures.wanted none in (
+        m.0,
+        stops_at laws.some_item (here c.loop-item.invariant (Ok (InnerMessage m.0)) start head
+            (laws.carries message h (InnerMessage m.0) head (other, m.1))
+            c.interrupted_by.ensures),
+        inl m.2,
+      ),
     )
 
 pub loop-item-preserved : goal.loop-item-preserved
@@ -91,26 +95,31 @@ loop-item-preserved g c =
     let head = c.in_ok-header.ensures in
     let other : IsInnerType c.in_ok-header.header.message_type = search rules in
     let told = g.met.I.Kept.laws.carries c.in_ok-message.message.now c.in_ok-header.header in
-    rw (c.in_ok-push-in_default.ensures.items, map_push)
+    rw (c.push_reserved.ensures.items, c.in_ok-reserve-in_default.ensures.items, map_push)
     (passes (here c.loop-item.invariant (Ok (InnerMessage _)) start head
-    (told (InnerMessage _) head (other, c.in_ok-take-in_default.ensures.value))
+    (told (InnerMessage _) head (other, c.in_ok-entry-in_default.ensures.value))
     c.interrupted_by.ensures)
     refl)
 
-pub returns-in_err-push-in_default : goal.returns-in_err-push-in_default
-returns-in_err-push-in_default g c =
-    let p = err_from_is_err_and c.from_residual-in_err-push-in_default.result
-    c.from_residual-in_err-push-in_default.ensures.1 in
+pub returns-in_err-reserve-in_default : goal.returns-in_err-reserve-in_default
+returns-in_err-reserve-in_default g c =
+    let p = err_from_is_err_and c.from_residual-in_err-reserve-in_default.result
+    c.from_residual-in_err-reserve-in_default.ensures.1 in
+    let reserved = c.in_err-reserve-in_default.ensures in
     let start = rw c.in_ok-message.was at c.in-Some.ensures.steps in
     let head = c.in_ok-header.ensures in
     let other : IsInnerType c.in_ok-header.header.message_type = search rules in
     let laws = g.met.I.Kept.laws in
     let told = laws.carries c.in_ok-message.message.now c.in_ok-header.header in
-    rw (p.1, p.2, c.in_err-push-in_default.ensures.items) (
+    rw (p.1, p.2, reserved.items) (
       λ named. absurd (named refl),
-      λ _. stops_at laws.some_item (here c.loop-item.invariant (Ok (InnerMessage _)) start head
-          (told (InnerMessage _) head (other, c.in_ok-take-in_default.ensures.value))
-          c.interrupted_by.ensures),
+      λ _. (
+        _,
+        stops_at laws.some_item (here c.loop-item.invariant (Ok (InnerMessage _)) start head
+            (told (InnerMessage _) head (other, c.in_ok-entry-in_default.ensures.value))
+            c.interrupted_by.ensures),
+        inr (omega (arith, reserved.full, reserved.err, reserved.len)),
+      ),
     )
 
 pub returns : goal.returns

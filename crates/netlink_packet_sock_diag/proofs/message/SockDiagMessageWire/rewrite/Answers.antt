@@ -18,7 +18,7 @@ returns-in-Ok-clause-err g c =
     IfErr-weaker c.write_new.result _ _
     (gives_up message_view_model (message_codec.reads bytes param)
     (message_codec.refuses bytes param)
-    message_codec.fits _ c.in-Ok.view c.in-Ok.ensures.value (λ _ h. h))
+    message_codec.fits _ c.in-Ok.view c.in-Ok.ensures.value (λ h. h, λ h. h))
     c.write_new.ensures.err
 
 pub returns-in-Err-clause-err : goal.returns-in-Err-clause-err

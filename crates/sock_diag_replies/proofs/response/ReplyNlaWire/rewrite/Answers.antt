@@ -36,7 +36,7 @@ returns-in-Ok-clause-err g c =
     (gives_up (λ view. response_behind (record R { attribute_set = F }) (view_model view).header
     (drop R.size view.bytes.now))
     (codec.reads bytes tt) (codec.refuses bytes tt) codec.fits _ c.in-Ok.view reads
-    (λ view h. (kept_fits R F same.3 (view_model view).header (drop R.size view.bytes.now)).1 h))
+    (kept_fits R F same.3 (view_model c.in-Ok.view).header (drop R.size c.in-Ok.view.bytes.now)))
     c.write_new.ensures.err
 
 pub returns-in-Err-clause-err : goal.returns-in-Err-clause-err

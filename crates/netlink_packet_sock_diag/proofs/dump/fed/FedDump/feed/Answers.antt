@@ -1,5 +1,7 @@
-use Rattle.std.proofs.Common.{◌≡◌, Bool, false, not, Ok, Err, refl, arith}
+use Rattle.std.proofs.Common.{◌≡◌, Bool, false, not, Result, Ok, Err, refl, arith}
 use Rattle.std.proofs.Math.Logic.{∥∥₁_map}
+use Rattle.netlink_core.specs.declared.fault.DecodeError.{DecodeError}
+use Rattle.netlink_packet_sock_diag.specs.declared.dump.DumpError.{DumpError}
 use Rattle.netlink_packet_sock_diag.specs.declared.dump.DumpError.TheVariants.{Fault}
 use Rattle.netlink_packet_sock_diag.specs.contracts.dump.DumpState.{the_type}
 use Rattle.netlink_packet_sock_diag.specs.declared.dump.DumpState.TheVariants.{Reading}
@@ -15,6 +17,11 @@ still_reading : (standing : Standing) (differs : Bool)
     → differs ≡ not (sameb the_type standing.0 Reading) → differs ≡ false → standing ≡ unended
 still_reading standing differs first is equal =
     grind (arith, first)
+
+-- the fault of a feed that failed
+same_fault : (e f : DecodeError) → ◌≡◌ {A = Result Unit DumpError} (Err (Fault e)) (Err (Fault f))
+    → e ≡ f
+same_fault e f same = grind arith
 
 pub invariant_of-self : goal.invariant_of-self
 invariant_of-self g c =
@@ -35,17 +42,22 @@ invariant_of-self-in-Err g c =
     record {
       unnumbered = λ is. cc;
       fed = ∥∥₁_map dump.fed (λ some. fed_on g.I.Kept.item_is _ _ c.args.datagram.now
-          (Err (Fault c.in-Err.fault)) some (read, refl, took.0, took.1));
+          (Err (Fault c.in-Err.fault)) some
+          (read, refl, took.0, λ memory. let stops = took.1 memory in (stops.0, stops.1)));
     }
 
-pub returns-in-Ok : goal.returns-in-Ok
-returns-in-Ok g c =
+pub returns-in-Ok-clause-leaves : goal.returns-in-Ok-clause-leaves
+returns-in-Ok-clause-leaves g c =
     let dump = c.args.self.now in
     let read = still_reading dump.standing _ dump.unnumbered c.ne.ensures c.if-ne.false in
     (read, c.in-Ok.ensures)
 
-pub returns-in-Err : goal.returns-in-Err
-returns-in-Err g c =
+pub returns-in-Err-clause-leaves : goal.returns-in-Err-clause-leaves
+returns-in-Err-clause-leaves g c =
     let dump = c.args.self.now in
     let read = still_reading dump.standing _ dump.unnumbered c.ne.ensures c.if-ne.false in
-    (read, refl, c.in-Err.ensures.0, c.in-Err.ensures.1)
+    let took = c.in-Err.ensures in
+    (read, refl, took.0, λ memory. let stops = took.1 memory in (stops.0, stops.1))
+
+pub returns-in-Err-clause-memory : goal.returns-in-Err-clause-memory
+returns-in-Err-clause-memory g c = λ memory. c.in-Err.ensures.1 (same_fault _ _ memory)

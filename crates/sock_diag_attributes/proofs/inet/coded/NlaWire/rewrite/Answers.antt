@@ -1,0 +1,38 @@
+use Rattle.std.proofs.lemmas.Result.{IfOk-weaker, IfErr-weaker}
+use Rattle.netlink_core.specs.FirstAttribute.{first_attribute_codec}
+use Rattle.netlink_core.specs.Walk.{attribute_of}
+use Rattle.netlink_core.proofs.Rewriting.{gives_up}
+use Rattle.sock_diag_attributes.specs.InetAttributes.{inet}
+use Rattle.sock_diag_attributes.specs.InetAttributeLaws.{inet_laws}
+use Rattle.sock_diag_attributes.specs.InetModel.{nla_view_model}
+use Rattle.sock_diag_attributes.proofs.Reading.{refused_has_no_form}
+use Rattle.sock_diag_attributes.proofs.inet.coded.NlaWire.rewrite.Goals as goal
+
+pub returns-in_err-parse-clause-err : goal.returns-in_err-parse-clause-err
+returns-in_err-parse-clause-err g c =
+    refused_has_no_form inet inet_laws _ (attribute_of c.in_ok-new_checked.field-0) _
+    c.in_ok-new_checked.ensures c.in_err-parse.ensures _ c.from_residual-in_err-parse.ensures.1
+
+pub returns-clause-written : goal.returns-clause-written
+returns-clause-written g c =
+    let nla = attribute_of c.in_ok-new_checked.field-0 in
+    let view = nla_view_model c.in_ok-parse.field-0 in
+    IfOk-weaker c.write_new.result _ _
+    (λ w (fits, written). (
+      view,
+      (nla, c.in_ok-new_checked.ensures, c.in_ok-parse.ensures),
+      fits,
+      written,
+    ))
+    c.write_new.ensures.written
+
+pub returns-clause-err : goal.returns-clause-err
+returns-clause-err g c =
+    let codec = first_attribute_codec inet in
+    let bytes = c.args.bytes.now in
+    let nla = attribute_of c.in_ok-new_checked.field-0 in
+    IfErr-weaker c.write_new.result _ _
+    (gives_up nla_view_model (codec.reads bytes tt) (codec.refuses bytes tt) codec.fits _
+    c.in_ok-parse.field-0 (nla, c.in_ok-new_checked.ensures, c.in_ok-parse.ensures)
+    (λ h. h, λ h. h))
+    c.write_new.ensures.err
