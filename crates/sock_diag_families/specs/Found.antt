@@ -1,7 +1,6 @@
 -- What the getters of attributes that are kept whole answer.
-use Rattle.std.specs.Prelude.{ℕ, ◌==◌, nat_lt, if◌then◌else◌, List}
-use Rattle.std.specs.Prelude.{[], ◌∷◌, drop, length, Option, Some}
-use Rattle.std.specs.Prelude.{None, Result, Ok, Err}
+use Rattle.std.specs.Prelude.{ℕ, ◌==◌, nat_lt, if◌then◌else◌, List, [], ◌∷◌, drop, length, Option}
+use Rattle.std.specs.Prelude.{Some, None, Result, Ok, Err}
 use Rattle.byteorder.specs.Endian.{little_number}
 use Rattle.netlink_core.specs.Attribute.{Attribute, attribute_type}
 use Rattle.netlink_core.specs.Faults.{map_ok}
@@ -21,7 +20,7 @@ abbrev pub within : {A : Type 0} → (List ℕ → Result A DecodeError) → Opt
 within reads None = Ok None
 within reads (Some value) = map_ok Some (reads value)
 
--- the value of an attribute of the family and the kind, if it has at least so many bytes
+-- the value of an attribute of the family and the kind, if it has at least `least` bytes
 abbrev pub enough : (family kind least : ℕ) → List ℕ → Result (List ℕ) DecodeError
 enough family kind least value =
     if nat_lt (length value) least
