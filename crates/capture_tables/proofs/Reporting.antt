@@ -62,9 +62,9 @@ reports_none a f text = λ start before (sent, more, split, appended, failed). (
 )
 
 -- from the start, before any write failed
-pub reports_from_start : (a b : Option (List ℕ)) (g : Type 0) (p : Bool) (text : List ℕ)
-    → ReportsMore a ⊤ true b g p text → Reports a b g text p
-reports_from_start a b g p text more = more a [] (Appends-nil a)
+pub reports_from_start : (a b : Option (List ℕ)) (f g : Type 0) (p : Bool) (text : List ℕ)
+    → ReportsMore a f true b g p text → Reports a b g text p
+reports_from_start a b f g p text more = more a [] (Appends-nil a)
 
 -- what is reported is a prefix of the text
 pub reports_prefix : (a b : Option (List ℕ)) (g : Type 0) (p : Bool) (text : List ℕ)
