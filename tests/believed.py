@@ -29,7 +29,7 @@ BESIDE = ["sock_diag_families", "sock_diag_any", "sock_diag_extras", "sock_diag_
 MEANING = set("""codec model type_written bytes writable held input TAKES_MEMORY attribute layout Tag Value view inverse is_clone
     is_made_with
     is_infallible from_gives bitor_gives can_next next_gives remaining table set_of attribute_set contents answer left reads failed is_in_range
-    reply header_model name numbers flushed describes listed attributes Entry refuses item_is needs_memory answers good""".split())
+    reply header_model name numbers flushed describes listed attributes Entry refuses item_is needs_memory answers good output""".split())
 # Ghost members that are laws: the type that a trait declares is read, and their bodies are proofs. `eq`, `test` and `tests`
 # are among them: what `==` answers is computed there, and said in the words of contracts by `eq_is_model`, `compared` and in
 # laws.rt; and `asks`, what a private struct keeps of a line until it is answered.

@@ -10,19 +10,14 @@ from pathlib import Path
 CRATES = Path(__file__).resolve().parent.parent / "crates"
 VERSION = (CRATES.parent / "VERSION").read_bytes()
 CAPTURE = CRATES / "sslist/stdin"
+# What each program prints with --help.
+HELP = CRATES.parent / "tests/help"
 # The names in the first column of the sockets that an option selects.
 KINDS = {"-t": "tcp inet inet6", "-u": "udp inet inet6", "-M": "mptcp inet inet6", "-x": "unix u_str u_dgr u_seq"}
 KINDS |= {"-0": "p_raw p_dgr", "--family=netlink": "nl", "--vsock": "vsock v_str v_dgr v_seq", "--xdp": "xdp"}
 # A detail that one option shows and the others do not.
 DETAILS = {"-o": b" timer:", "-e": b" sk:", "-m": b" skmem:", "-i": b" cwnd:"}
 failures = []
-
-
-def help_text(crate):
-    """Returns the text HELP in the sources of a crate."""
-    sources = "".join(path.read_text() for path in (CRATES / crate / "src").glob("*.rt"))
-    text = re.search(r'(?s)pub const HELP: &str = "((?:[^"\\]|\\.)*)";', sources)[1]
-    return re.sub(r"\\\n\s*", "", text).encode() + b"\n"
 
 
 def run(program, arguments, given, to=subprocess.PIPE):
@@ -53,7 +48,7 @@ def test_sockdiag(program):
     line, answer = lines.splitlines(True)[0], answers.splitlines(True)[0]
     for arguments in ([], ["-h"], [""], ["file"], [b"\xff"], ["--strict=1"], ["--strict"] * 2, ["--help", "x"]):
         check(program, arguments, lines, 0, answers)
-    check(program, ["--help"], lines, 0, help_text("sock_diag_lines"))
+    check(program, ["--help"], lines, 0, (HELP / "sockdiag").read_bytes())
     check(program, ["--version"], lines, 0, b"sockdiag " + VERSION)
     for text, printed, strict in [
         (b"", b"", 0), (line, answer, 0), (lines, answers, 3), (line + b"unix 00", answer + b"refused 2\n", 3),
@@ -76,7 +71,7 @@ def test_sslist(program):
         ([CAPTURE, "/nowhere"], 1, table, note + missing), (["/nowhere", CAPTURE], 1, table, missing + note),
         (["-q", CAPTURE], 2, b"", unknown % b"-q"), (["-t", "--no", "--help"], 2, b"", unknown % b"--no"),
         (["-"], 2, b"", unknown % b"-"), ([CAPTURE, "--version"], 0, b"sslist " + VERSION, b""),
-        (["-t", "--help", "-q"], 0, help_text("sock_diag_captures"), b""),
+        (["-t", "--help", "-q"], 0, (HELP / "sslist").read_bytes(), b""),
     ]:
         check(program, arguments, b"", status, printed, errors)
     check(program, [], capture, 0, table, note)
@@ -84,11 +79,37 @@ def test_sslist(program):
     check_failed_writes(program, ["--help"], b"", b"", b"")
 
 
-def packet(body, flags=0):
-    """Returns a packet of a capture: a message of type 20 with the sequence number 77."""
-    message = bytes([16 + len(body), 0, 0, 0, 20, 0, *flags.to_bytes(2, "little"), 77, *bytes(7), *body])
-    length = (16 + len(message)).to_bytes(4, "little")
-    return bytes(8) + length + length + bytes.fromhex("00040338") + bytes(11) + b"\4" + message
+def message(body, flags=0, kind=20):
+    """Returns a message of this type with the sequence number 77."""
+    return bytes([16 + len(body), 0, 0, 0, kind, 0, *flags.to_bytes(2, "little"), 77, *bytes(7), *body])
+
+
+def packet(body, flags=0, kind=20, more=b""):
+    """Returns a packet of a capture: a message of this type, followed by more messages."""
+    messages = message(body, flags, kind) + more
+    length = (16 + len(messages)).to_bytes(4, "little")
+    return bytes(8) + length + length + bytes.fromhex("00040338") + bytes(11) + b"\4" + messages
+
+
+def test_diagnostics(program):
+    """Compares whole texts on standard error: of errors that a kernel answers, and of inputs that are no capture."""
+    file_header, heading = CAPTURE.read_bytes()[:24], run(program, [], CAPTURE.read_bytes()[:24])[1]
+    errno = {n: (-n).to_bytes(4, "little", signed=True) for n in (2, 13, 22)}
+    packets = packet(errno[13], 0, 2, message(errno[22], 0, 2)) + packet(bytes(4), 16, 3) + packet(errno[2], 0, 3)
+    lines = ["packet 1, message 1: the kernel answers error 13", "packet 1, message 2: note: the kernel answers EINVAL",
+        "packet 2, message 1: the dump changed while it was taken", "packet 3, message 1: note: the kernel answers ENOENT",
+        "packet 4, message 1: UnixResponseHeader: buffer of 4 bytes, at least 16 needed",
+        "packet 4, message 2: message length 3 is under 16"]
+    packets += packet([1, 1, 10, 0], 0, 20, b"\3" + bytes(19))
+    expected = "".join(f"sslist: {line}\n" for line in lines).encode()
+    assert run(program, [], file_header + packets) == (1, heading, expected), run(program, [], file_header + packets)
+    notes = [packet(errno[n], 0, kind) for n in (2, 22) for kind in (2, 3)]
+    check(program, [], file_header + b"".join(notes), 0, heading, b"(sslist: packet [1-4], message 1: note: .*\n){4}")
+    for given, text in [
+        (b"\1\2\x0a\xff" + bytes(20), b"no pcap capture: it begins with 01020aff"), (b"", b"the input is empty"),
+        (b"\x0a\x0d\x0d\x0a" + bytes(20), b"a pcapng capture, convert it: editcap -F pcap CAPTURE OTHER"),
+    ]:
+        check(program, [], given, 1, b"", re.escape(b"sslist: " + text + b"\n"))
 
 
 def test_options(program):
@@ -117,4 +138,5 @@ if __name__ == "__main__":
     test_sockdiag(os.path.abspath(sys.argv[1]))
     test_sslist(os.path.abspath(sys.argv[2]))
     test_options(os.path.abspath(sys.argv[2]))
+    test_diagnostics(os.path.abspath(sys.argv[2]))
     sys.exit("\n".join(failures) or 0)

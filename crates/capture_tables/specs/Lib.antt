@@ -10,3 +10,5 @@ pub mod Parts
 pub mod Times
 pub mod Choice
 pub mod Files
+pub mod Reports
+pub mod ReportSteps

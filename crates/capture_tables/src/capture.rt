@@ -7,12 +7,16 @@ ghost use Rattle.std.specs.Io.KnownBytes.{Consumes, IsAtEnd, Keeps};
 ghost use Rattle.capture_tables.specs.Capture.{IsFileHeader, IsFileHeaderFault, IsHeaderStop};
 ghost use Rattle.capture_tables.specs.Capture.{IsMagic, IsOtherFile, IsPacketStop, IsRecord};
 ghost use Rattle.capture_tables.specs.Capture.{IsStop, number_at, packet_header, recorded, unit_of};
+ghost use Rattle.capture_tables.specs.Reports.{capture_error_text};
+ghost use Rattle.capture_tables.specs.ReportSteps.{joined};
 ghost use Rattle.capture_tables.specs.declared.capture.CaptureError.TheVariants.{Memory};
 
+use crate::reports::ErrorText;
 use crate::streams::Source;
 use byteorder::{BigEndian, ByteOrder as _, LittleEndian};
 use std::alloc::AllocError;
-use thiserror::Error;
+use std::error::Error;
+use std::fmt;
 
 /// The first number of a capture whose times are in microseconds.
 const MICROSECONDS: u32 = 0xa1b2_c3d4;
@@ -55,42 +59,71 @@ const HARDWARE_TYPE: u16 = 824;
 const SOCK_DIAG: u16 = 4;
 
 /// Why no packet could be read.
-#[derive(Clone, Copy, Debug, PartialEq, Eq, Error)]
+#[derive(Clone, Copy, Debug, PartialEq, Eq)]
 pub enum CaptureError {
     /// A read failed.
-    #[error("reading failed")]
     Read,
     /// A read failed, since the input is a directory.
-    #[error("the input is a directory")]
     Directory,
     /// Memory ran out.
-    #[error("out of memory")]
     Memory,
     /// The capture ends within a header or a packet.
-    #[error("the capture is cut off")]
     Cut,
     /// There is not a byte.
-    #[error("the input is empty")]
     Empty,
     /// The capture is one of the newer format.
-    #[error("a pcapng capture, convert it: editcap -F pcap CAPTURE OTHER")]
     NewFormat,
     /// The input is packed by gzip(1).
-    #[error("a gzip file, unpack it: gzip -dc CAPTURE")]
     Packed,
-    /// The first four bytes are those of no pcap file. They are told high byte first.
-    #[error("no pcap capture: it begins with {0:08x}")]
+    /// The first four bytes are those of no pcap file, here as a big-endian number.
     NoCapture(u32),
     /// The format is of another version than 2.
-    #[error("pcap of version {0}, not 2")]
     OtherVersion(u16),
     /// The packets are not those of a netlink device.
-    #[error("packets of link type {0}, not 253 (netlink)")]
     OtherLinkType(u32),
     /// A packet says to have so many bytes, which are more than 262144.
-    #[error("a packet of {0} bytes, at most 262144 expected")]
     PacketTooLong(u32),
 }
+
+impl CaptureError {
+    /// Returns the error's text.
+    pub(crate) fn text(&self) -> ErrorText
+        ensures { joined result ≡ capture_error_text self.now }
+    {
+        match self {
+            CaptureError::Read => ErrorText::Plain("reading failed"),
+            CaptureError::Directory => ErrorText::Plain("the input is a directory"),
+            CaptureError::Memory => ErrorText::Plain("out of memory"),
+            CaptureError::Cut => ErrorText::Plain("the capture is cut off"),
+            CaptureError::Empty => ErrorText::Plain("the input is empty"),
+            CaptureError::NewFormat => {
+                ErrorText::Plain("a pcapng capture, convert it: editcap -F pcap CAPTURE OTHER")
+            }
+            CaptureError::Packed => ErrorText::Plain("a gzip file, unpack it: gzip -dc CAPTURE"),
+            CaptureError::NoCapture(magic) => {
+                ErrorText::Hex("no pcap capture: it begins with ", *magic)
+            }
+            CaptureError::OtherVersion(version) => {
+                ErrorText::Decimal("pcap of version ", u32::from(*version), ", not 2")
+            }
+            CaptureError::OtherLinkType(link_type) => {
+                ErrorText::Decimal("packets of link type ", *link_type, ", not 253 (netlink)")
+            }
+            CaptureError::PacketTooLong(count) => {
+                ErrorText::Decimal("a packet of ", *count, " bytes, at most 262144 expected")
+            }
+        }
+    }
+}
+
+impl fmt::Display for CaptureError {
+    fn fmt<W: fmt::Write>(&self, f: &mut fmt::Formatter<W>) -> fmt::Result {
+        let text = self.text();
+        write!(f, "{text}")
+    }
+}
+
+impl Error for CaptureError {}
 
 impl From<AllocError> for CaptureError {
     ghost from_gives = { λ _ e. e ≡ Memory };

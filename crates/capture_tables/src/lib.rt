@@ -11,6 +11,7 @@ mod names;
 mod notes;
 mod options;
 mod parts;
+mod reports;
 mod run;
 mod streams;
 mod times;
@@ -32,6 +33,7 @@ pub use parts::{
     push_packet_flags, push_pair, push_part, push_shown_cookie, push_shown_timer, push_some,
     separator,
 };
+pub use reports::{report, report_failure};
 pub use run::{RunError, read_header, read_packet, send};
 pub use streams::{Sink, Source};
 pub use times::push_time;

@@ -4,22 +4,24 @@ ghost use Rattle.std.specs.Prelude.{◌≡◌, ◌++◌, List, ℕ, length, IfEr
 ghost use Rattle.std.specs.Io.KnownBytes.{Appends, Consumes, IsAtEnd, Keeps};
 ghost use Rattle.capture_tables.specs.Capture.{IsFileHeader, IsHeaderStop, IsPacketStop, IsRecord};
 ghost use Rattle.capture_tables.specs.Capture.{recorded};
+ghost use Rattle.capture_tables.specs.Reports.{run_error_text};
+ghost use Rattle.capture_tables.specs.ReportSteps.{failure_place, joined};
 ghost use Rattle.capture_tables.specs.Streams.{IsWriteFailure};
 ghost use Rattle.capture_tables.specs.declared.run.RunError.TheVariants.{Memory};
 
 use crate::capture::{CaptureError, FileHeader, PacketHeader};
+use crate::reports::ErrorText;
 use crate::streams::{Sink, Source};
 use std::alloc::AllocError;
-use thiserror::Error;
+use std::error::Error;
+use std::fmt;
 
 /// Why a run ended before the end of its input.
-#[derive(Clone, Copy, Debug, PartialEq, Eq, Error)]
+#[derive(Clone, Copy, Debug, PartialEq, Eq)]
 pub enum RunError {
     /// The header of the capture could not be read.
-    #[error("{0}")]
     Header(CaptureError),
     /// The packet of this number could not be read. The first one is 1.
-    #[error("packet {packet}: {fault}")]
     Packet {
         /// The number of the packet.
         packet: u64,
@@ -27,15 +29,38 @@ pub enum RunError {
         fault: CaptureError,
     },
     /// A write or the last flush failed.
-    #[error("writing failed")]
     Write,
     /// A write failed, since the output is a pipe that nobody reads any more.
-    #[error("nobody reads the output")]
     Closed,
     /// Memory ran out.
-    #[error("out of memory")]
     Memory,
 }
+
+impl RunError {
+    /// Returns the error's text, except for the number of the packet that it is about.
+    pub(crate) fn text(&self) -> ErrorText
+        ensures { failure_place self.now ++ joined result ≡ run_error_text self.now }
+    {
+        match self {
+            RunError::Header(fault) | RunError::Packet { fault, .. } => fault.text(),
+            RunError::Write => ErrorText::Plain("writing failed"),
+            RunError::Closed => ErrorText::Plain("nobody reads the output"),
+            RunError::Memory => ErrorText::Plain("out of memory"),
+        }
+    }
+}
+
+impl fmt::Display for RunError {
+    fn fmt<W: fmt::Write>(&self, f: &mut fmt::Formatter<W>) -> fmt::Result {
+        if let RunError::Packet { packet, .. } = self {
+            write!(f, "packet {packet}: ")?;
+        }
+        let text = self.text();
+        write!(f, "{text}")
+    }
+}
+
+impl Error for RunError {}
 
 impl From<AllocError> for RunError {
     ghost from_gives = { λ _ e. e ≡ Memory };

@@ -25,8 +25,8 @@ pub use line_server::RunError;
 use std::alloc::Global;
 use std::io::{Read, Write};
 use std::process::ExitCode;
+use stream::answer_and_report;
 pub use stream::run;
-use stream::{answer_all, report};
 
 /// The version, that of the repository's file `VERSION`.
 pub const VERSION: &str = "0.11.0";
@@ -65,8 +65,7 @@ pub fn run_to_status<R: Read, W: Write, E: Write>(
         × (e ≡ RunError.Write → reported ++ more ≡ codes "sockdiag: writing failed" ++ 10 ∷ [])
         × (e ≡ RunError.Memory → reported ++ more ≡ codes "sockdiag: out of memory" ++ 10 ∷ [])) }
 {
-    let outcome = answer_all(alloc, input, output);
-    report(errors, &outcome);
+    let outcome = answer_and_report(alloc, input, output, errors);
     exit_code(&outcome, is_strict)
 }
 

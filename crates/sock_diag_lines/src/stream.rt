@@ -1,9 +1,9 @@
 //! Answers the lines of a reader on a writer, by the line protocol.
 ghost use Rattle.std.specs.Prelude.{◌≡◌, ℕ, Bool, List, ◌++◌, Result, Ok, Err, OnOk, IfErr, IfSome};
-ghost use Rattle.std.specs.Prelude.{IsOk, MatchResult};
+ghost use Rattle.std.specs.Prelude.{MatchResult};
 ghost use Rattle.std.specs.Io.KnownBytes.{Appends, IsAtEnd, Keeps};
 ghost use Rattle.line_server.specs.Lines.{Splits, with_rest};
-ghost use Rattle.line_server.specs.Run.{Answers, answer_lines};
+ghost use Rattle.line_server.specs.Run.{Answers, SendsOrFails, answer_lines};
 ghost use Rattle.line_server.specs.declared.stream.RunError.{RunError};
 ghost use Rattle.sock_diag_lines.specs.Answer.{IsAnswerOf, is_good};
 ghost use Rattle.sock_diag_lines.specs.AskedSteps.{IsReadAs};
@@ -11,7 +11,7 @@ ghost use Rattle.sock_diag_lines.specs.RunSteps.{failure_line};
 
 use crate::answers::{Asked, push_answer_text, read_request};
 use crate::words::OK;
-use line_server::{LineAnswers, RunError, serve, try_send};
+use line_server::{AnswerWrite, LineAnswers, RunError, serve, try_send};
 use std::alloc::{AllocError, Global};
 use std::io::{Read, Write};
 use std::marker::Brand;
@@ -77,7 +77,7 @@ pub fn run<R: Read, W: Write>(alloc: Global, input: &mut R, output: &mut W) -> R
 /// Writes the answer line of each line of `input`, flushes, and returns whether each answer is a
 /// good one: `ok`, and not a dump that failed. Before each read, the answers to all whole lines
 /// that were read stand on `output`. No call that failed is made again.
-pub(crate) fn answer_all<R: Read, W: Write>(
+fn answer_all<R: Read, W: Write>(
     alloc: Global,
     input: &mut R,
     output: &mut W,
@@ -99,12 +99,38 @@ pub(crate) fn answer_all<R: Read, W: Write>(
     serve::<Brand, Protocol, R, W>(alloc, input, output)
 }
 
-/// Writes the line that names the failure, if the run failed, or a prefix of it if a write fails.
-pub(crate) fn report<E: Write>(errors: &mut E, outcome: &Result<bool, RunError>)
-    ensures silent { IsOk outcome.now → Keeps (E.contents errors.old) (E.contents errors.new) }
-    ensures reported { IfErr outcome.now (λ e. (reported : List ℕ)
-        × ((more : List ℕ) × (failure_line e ≡ reported ++ more))
-        × Appends (E.contents errors.old) (E.contents errors.new) reported) }
+/// Does what `answer_all` does, and writes the line that names the failure, if there is one.
+pub(crate) fn answer_and_report<R: Read, W: Write, E: AnswerWrite>(
+    alloc: Global,
+    input: &mut R,
+    output: &mut W,
+    errors: &mut E,
+) -> Result<bool, RunError>
+    ensures ended { OnOk result (IsAtEnd (R.remaining input.new)) }
+    ensures complete { OnOk result (IfSome (R.remaining input.old) (λ text.
+        (answer : List ℕ → List ℕ) (whole : List (List ℕ)) (rest : List ℕ)
+        → ((line : List ℕ) → IsAnswerOf line (answer line)) → Splits text whole rest
+        → Appends (W.contents output.old) (W.contents output.new)
+        (answer_lines answer (with_rest whole rest)))) }
+    ensures answered { (answer : List ℕ → List ℕ)
+        → ((line : List ℕ) → IsAnswerOf line (answer line))
+        → Answers answer (R.remaining input.old) (R.remaining input.new)
+        (W.contents output.old) (W.contents output.new) is_good result }
+    ensures silent { OnOk result (Keeps (E.held errors.old) (E.held errors.new)) }
+    ensures reported { IfErr result (λ e. SendsOrFails (E.held errors.old) (E.held errors.new)
+        (E.failed errors.new) (failure_line e)) }
+{
+    let outcome = answer_all(alloc, input, output);
+    report(errors, &outcome);
+    outcome
+}
+
+/// Writes the line that names the failure, if the run failed. If a write fails, a prefix of it has
+/// been written.
+fn report<E: AnswerWrite>(errors: &mut E, outcome: &Result<bool, RunError>)
+    ensures silent { OnOk outcome.now (Keeps (E.held errors.old) (E.held errors.new)) }
+    ensures reported { IfErr outcome.now (λ e. SendsOrFails (E.held errors.old) (E.held errors.new)
+        (E.failed errors.new) (failure_line e)) }
 {
     if let Err(error) = outcome {
         try_send(errors, failure_line(*error));

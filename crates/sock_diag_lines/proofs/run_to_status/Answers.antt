@@ -2,29 +2,30 @@ use Rattle.std.proofs.Common.{◌≡◌, ℕ, Bool, List, [], ◌∷◌, ◌++�
 use Rattle.std.proofs.Common.{Ok, Err, sym}
 use Rattle.std.specs.Prelude.{IfErr, codes}
 use Rattle.std.specs.Io.KnownBytes.{Appends}
+use Rattle.line_server.specs.Run.{SendsOrFails}
 use Rattle.sock_diag_lines.specs.RunSteps.{failure_line}
 use Rattle.line_server.specs.declared.stream.RunError.{RunError}
 use Rattle.line_server.specs.declared.stream.RunError.TheVariants.{Read, Write, Memory}
 use Rattle.sock_diag_lines.proofs.run_to_status.Goals as goal
 
 -- the line is that of the failure
-reported_as : (contents contents' : Option (List ℕ)) (outcome : Result Bool RunError)
-    → IfErr outcome (λ e. (reported : List ℕ)
-    × ((more : List ℕ) × (failure_line e ≡ reported ++ more))
-    × Appends contents contents' reported)
+reported_as : (contents contents' : Option (List ℕ)) (failed : Type 0)
+    (outcome : Result Bool RunError)
+    → IfErr outcome (λ e. SendsOrFails contents contents' failed (failure_line e))
     → IfErr outcome (λ e. (reported more : List ℕ) × Appends contents contents' reported
     × (e ≡ Read → reported ++ more ≡ codes "sockdiag: reading failed" ++ 10 ∷ [])
     × (e ≡ Write → reported ++ more ≡ codes "sockdiag: writing failed" ++ 10 ∷ [])
     × (e ≡ Memory → reported ++ more ≡ codes "sockdiag: out of memory" ++ 10 ∷ []))
-reported_as c d (Ok good) h = h
-reported_as c d (Err e) (r, (m, line), sent) =
+reported_as c d failed (Ok good) h = h
+reported_as c d failed (Err e) (r, m, line, sent, all) =
     let is_line_of = λ (x : RunError) (is : e ≡ x). rw is at (sym line) in
     (r, m, sent, is_line_of Read, is_line_of Write, is_line_of Memory)
 
 pub returns-clause-answered : goal.returns-clause-answered
 returns-clause-answered g c = λ f right. (
-  c.answer_all-outcome.result,
+  c.answer_and_report-outcome.result,
   c.exit_code.ensures,
-  c.answer_all-outcome.ensures.answered f right,
-  reported_as _ _ c.answer_all-outcome.result c.report.ensures.reported,
+  c.answer_and_report-outcome.ensures.answered f right,
+  reported_as _ _ _ c.answer_and_report-outcome.result
+      c.answer_and_report-outcome.ensures.reported,
 )

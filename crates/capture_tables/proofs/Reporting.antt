@@ -1,0 +1,88 @@
+-- What is reported on a writer, text by text.
+use Rattle.std.proofs.Common.{◌≡◌, ℕ, Bool, true, false, List, [], ◌++◌, refl, sym, ap, subst, ◌∙◌}
+use Rattle.std.proofs.Common.{append_assoc, append-nil}
+use Rattle.std.proofs.Common.{◌∷◌, Ok, Err, Result}
+use Rattle.std.specs.Prelude.{IsOk, OnOk, Option, ⊤}
+use Rattle.std.specs.Io.KnownBytes.{Appends}
+use Rattle.std.proofs.KnownBytes.{Appends-nil, Appends-trans}
+use Rattle.capture_tables.specs.Reports.{Reports, ReportsMore, WritesPrefix, closing_line}
+use Rattle.capture_tables.specs.Reports.{run_error_text}
+use Rattle.capture_tables.specs.declared.run.RunError.{RunError}
+use Rattle.capture_tables.specs.declared.run.RunError.TheVariants.{Header, Packet, Memory}
+use Rattle.capture_tables.specs.declared.run.RunError.TheVariants.{Write, Closed}
+
+-- one text after the other
+pub reports_then : (a b c : Option (List ℕ)) (f g h : Type 0) (o p q : Bool) (x y : List ℕ)
+    → ReportsMore a f o b g p x → ReportsMore b g p c h q y → ReportsMore a f o c h q (x ++ y)
+reports_then a b c f g h o p q x y first second = λ start before so_far.
+    subst (λ (t : List ℕ). Reports start c h t q) (append_assoc before x y)
+    (second start (before ++ x) (first start before so_far))
+
+-- nothing
+pub reports_nothing : (a : Option (List ℕ)) (f : Type 0) (o : Bool)
+    → ReportsMore a f o a f o []
+reports_nothing a f o = λ start before so_far.
+    subst (λ (t : List ℕ). Reports start a f t o) (sym (append-nil before)) so_far
+
+-- three texts
+pub reports_three : (a b c d : Option (List ℕ)) (f g h k : Type 0) (o p q r : Bool)
+    (x y z : List ℕ)
+    → ReportsMore a f o b g p x → ReportsMore b g p c h q y → ReportsMore c h q d k r z
+    → ReportsMore a f o d k r (x ++ y ++ z)
+reports_three a b c d f g h k o p q r x y z first second third =
+    reports_then a c d f h k o q r (x ++ y) z
+    (reports_then a b c f g h o p q x y first second) third
+
+-- an equal text
+pub reports_same : (a b : Option (List ℕ)) (f g : Type 0) (o p : Bool) (x y : List ℕ) → x ≡ y
+    → ReportsMore a f o b g p x → ReportsMore a f o b g p y
+reports_same a b f g o p x y same more =
+    subst (λ (t : List ℕ). ReportsMore a f o b g p t) same more
+
+-- the first write that fails
+pub reports_part : (a b : Option (List ℕ)) (g : Type 0) (text sent rest : List ℕ)
+    → text ≡ sent ++ rest → Appends a b sent → g → ReportsMore a ⊤ true b g false text
+reports_part a b g text sent rest split appended failed = λ start before so_far. (
+  before ++ sent,
+  rest,
+  ap (λ (t : List ℕ). before ++ t) split ∙ sym (append_assoc before sent rest),
+  Appends-trans start a b before sent so_far appended,
+  failed,
+)
+
+-- after a write failed
+pub reports_none : (a : Option (List ℕ)) (f : Type 0) (text : List ℕ)
+    → ReportsMore a f false a f false text
+reports_none a f text = λ start before (sent, more, split, appended, failed). (
+  sent,
+  more ++ text,
+  ap (λ (t : List ℕ). t ++ text) split ∙ append_assoc sent more text,
+  appended,
+  failed,
+)
+
+-- from the start, before any write failed
+pub reports_from_start : (a b : Option (List ℕ)) (f g : Type 0) (p : Bool) (text : List ℕ)
+    → ReportsMore a f true b g p text → Reports a b g text p
+reports_from_start a b f g p text more = more a [] (Appends-nil a)
+
+-- what is reported is a prefix of the text
+pub reports_prefix : (a b : Option (List ℕ)) (g : Type 0) (p : Bool) (text : List ℕ)
+    → Reports a b g text p → WritesPrefix a b text
+reports_prefix a b g true text appended = (text, [], sym (append-nil text), appended)
+reports_prefix a b g false text (sent, more, split, appended, failed) =
+    (sent, more, split, appended)
+
+-- the line of a failure that is no closed pipe
+pub closing_other : (front : List ℕ) (e : RunError) → (e ≡ Closed → ⊥)
+    → closing_line front e ≡ front ++ run_error_text e ++ 10 ∷ []
+closing_other front Closed other = absurd (other refl)
+closing_other front (Header fault) other = refl
+closing_other front (Packet packet fault) other = refl
+closing_other front Write other = refl
+closing_other front Memory other = refl
+
+-- what holds of a success
+pub written_if_ok : {A E : Type 0} (r : Result A E) (P : Type 0) → IsOk r → OnOk r P → P
+written_if_ok (Ok x) P is h = h
+written_if_ok (Err e) P is h = absurd cc

@@ -1,0 +1,147 @@
+//! What is written to standard error: diagnostics, and the line that names a failure.
+
+ghost use Rattle.std.specs.Prelude.{◌≡◌, ◌++◌, ◌∷◌, [], codes, decimal};
+ghost use Rattle.byteorder.specs.Endian.{big_bytes};
+ghost use Rattle.hex.specs.Hex.{encode_lower};
+ghost use Rattle.capture_tables.specs.Reports.{ReportsMore, closing_line, run_error_text};
+ghost use Rattle.capture_tables.specs.ReportSteps.{failure_place, joined};
+ghost use Rattle.capture_tables.specs.declared.run.RunError.{RunError};
+
+use crate::run::{RunError, send};
+use crate::streams::Sink;
+use byteorder::{BigEndian, ByteOrder};
+use itoa::Buffer;
+use std::fmt;
+
+/// An error's text, in parts that need no allocation.
+#[derive(Clone, Copy)]
+pub(crate) enum ErrorText {
+    /// A text without a number.
+    Plain(&'static str),
+    /// A number in decimal, between two texts.
+    Decimal(&'static str, u32, &'static str),
+    /// A number in eight hex digits, after a text.
+    Hex(&'static str, u32),
+}
+
+impl fmt::Display for ErrorText {
+    fn fmt<W: fmt::Write>(&self, f: &mut fmt::Formatter<W>) -> fmt::Result {
+        match self {
+            ErrorText::Plain(text) => write!(f, "{text}"),
+            ErrorText::Decimal(before, number, after) => write!(f, "{before}{number}{after}"),
+            ErrorText::Hex(before, number) => write!(f, "{before}{number:08x}"),
+        }
+    }
+}
+
+/// Writes a text on `errors` if `is_open`. If a write fails, clears `is_open`, so that nothing more
+/// is written there.
+pub fn report<E: Sink>(errors: &mut E, is_open: &mut bool, text: &[u8])
+    ensures { ReportsMore (E.held errors.old) ((e : RunError) × E.failed errors.old e) is_open.old
+        (E.held errors.new) ((e : RunError) × E.failed errors.new e) is_open.new text.now }
+{
+    if *is_open {
+        match send(errors, text) {
+            Ok(()) => {}
+            Err(_) => *is_open = false,
+        }
+    }
+}
+
+/// Writes the line that names a failure, in the same way. Writes nothing if nobody reads the
+/// output. Does not allocate.
+pub fn report_failure<E: Sink>(errors: &mut E, is_open: &mut bool, front: &str, failure: &RunError)
+    ensures { ReportsMore (E.held errors.old) ((e : RunError) × E.failed errors.old e) is_open.old
+        (E.held errors.new) ((e : RunError) × E.failed errors.new e) is_open.new
+        (closing_line front.now failure.now) }
+{
+    match failure {
+        RunError::Closed => {}
+        _ => report_line(errors, is_open, front, failure),
+    }
+}
+
+/// Writes a line with the text of a failure, in the same way.
+fn report_line<E: Sink>(errors: &mut E, is_open: &mut bool, front: &str, failure: &RunError)
+    ensures { ReportsMore (E.held errors.old) ((e : RunError) × E.failed errors.old e) is_open.old
+        (E.held errors.new) ((e : RunError) × E.failed errors.new e) is_open.new
+        (front.now ++ run_error_text failure.now ++ 10 ∷ []) }
+{
+    report(errors, is_open, front.as_bytes());
+    report_place(errors, is_open, failure);
+    report_text(errors, is_open, failure.text());
+    report(errors, is_open, b"\n");
+}
+
+/// Writes which packet a failure is about, in the same way, if it is about one.
+fn report_place<E: Sink>(errors: &mut E, is_open: &mut bool, failure: &RunError)
+    ensures { ReportsMore (E.held errors.old) ((e : RunError) × E.failed errors.old e) is_open.old
+        (E.held errors.new) ((e : RunError) × E.failed errors.new e) is_open.new
+        (failure_place failure.now) }
+{
+    match failure {
+        RunError::Packet { packet, .. } => report_packet(errors, is_open, *packet),
+        _ => {}
+    }
+}
+
+/// Writes the number of a packet before what is reported of it, in the same way.
+fn report_packet<E: Sink>(errors: &mut E, is_open: &mut bool, packet: u64)
+    ensures { ReportsMore (E.held errors.old) ((e : RunError) × E.failed errors.old e) is_open.old
+        (E.held errors.new) ((e : RunError) × E.failed errors.new e) is_open.new
+        (codes "packet " ++ decimal packet ++ codes ": ") }
+{
+    report(errors, is_open, b"packet ");
+    report_number(errors, is_open, packet);
+    report(errors, is_open, b": ");
+}
+
+/// Writes an error's text, in the same way.
+fn report_text<E: Sink>(errors: &mut E, is_open: &mut bool, text: ErrorText)
+    ensures { ReportsMore (E.held errors.old) ((e : RunError) × E.failed errors.old e) is_open.old
+        (E.held errors.new) ((e : RunError) × E.failed errors.new e) is_open.new (joined text) }
+{
+    match text {
+        ErrorText::Plain(text) => report(errors, is_open, text.as_bytes()),
+        ErrorText::Decimal(before, number, after) => {
+            report(errors, is_open, before.as_bytes());
+            report_number(errors, is_open, number.into());
+            report(errors, is_open, after.as_bytes());
+        }
+        ErrorText::Hex(before, number) => {
+            report(errors, is_open, before.as_bytes());
+            report_hex(errors, is_open, number);
+        }
+    }
+}
+
+/// Writes a number in decimal, in the same way.
+fn report_number<E: Sink>(errors: &mut E, is_open: &mut bool, number: u64)
+    ensures { ReportsMore (E.held errors.old) ((e : RunError) × E.failed errors.old e) is_open.old
+        (E.held errors.new) ((e : RunError) × E.failed errors.new e) is_open.new
+        (decimal number) }
+{
+    let mut buffer = Buffer::new();
+    report(errors, is_open, buffer.format(number).as_bytes());
+}
+
+/// Writes a number in eight hex digits, in the same way.
+fn report_hex<E: Sink>(errors: &mut E, is_open: &mut bool, number: u32)
+    ensures { ReportsMore (E.held errors.old) ((e : RunError) × E.failed errors.old e) is_open.old
+        (E.held errors.new) ((e : RunError) × E.failed errors.new e) is_open.new
+        (encode_lower (big_bytes 4 number)) }
+{
+    report(errors, is_open, &hex_digits(number));
+}
+
+/// Returns a number in eight hex digits.
+fn hex_digits(number: u32) -> [u8; 8]
+    ensures { result ≡ encode_lower (big_bytes 4 number) }
+{
+    let mut bytes = [0u8; 4];
+    BigEndian::write_u32(&mut bytes, number);
+    let mut digits = [0u8; 8];
+    // Four bytes have eight digits, so this never fails.
+    let _ = hex::encode_to_slice(bytes.as_slice(), &mut digits);
+    digits
+}
