@@ -9,8 +9,8 @@ use Rattle.sock_diag_families.specs.declared.vsock.request.VsockRequest.{VsockRe
 abbrev pub vsock_request_of : List ℕ → VsockRequest
 vsock_request_of values = record { states = slice_index values 0; cookie = slice_index values 1 }
 
--- `struct vsock_diag_req` (linux/vm_sockets_diag.h): family, protocol, padding and the inode are
--- ignored
+-- `struct vsock_diag_req` (linux/vm_sockets_diag.h): family, protocol, padding, `vdiag_ino` and
+-- `vdiag_show` are ignored
 abbrev pub vsock_request : Layout (Unit {0}) (Unit {0}) VsockRequest
 vsock_request = plain (name.FamilyRequest 40) 24 (
     skip 0 (40 ∷ 0 ∷ 0 ∷ 0 ∷ []) ∷
