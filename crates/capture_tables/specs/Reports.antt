@@ -1,10 +1,9 @@
 -- What is written to standard error: lines about packets, and the line that names a failure.
 use Rattle.std.specs.Prelude.{◌≡◌, ℕ, nat_lt, if◌then◌else◌, Bool, true, false, List, [], ◌∷◌, ◌++◌}
-use Rattle.std.specs.Prelude.{length, codes, decimal, Option}
+use Rattle.std.specs.Prelude.{codes, decimal, Option}
 use Rattle.std.specs.Io.KnownBytes.{Appends}
 use Rattle.byteorder.specs.Endian.{big_bytes}
 use Rattle.hex.specs.Hex.{encode_lower}
-use Rattle.capture_tables.specs.Capture.{Recorded}
 use Rattle.capture_tables.specs.declared.capture.CaptureError.{CaptureError}
 use Rattle.capture_tables.specs.declared.capture.CaptureError.TheVariants.{Read, Directory, Memory}
 use Rattle.capture_tables.specs.declared.capture.CaptureError.TheVariants.{Cut, Empty, NewFormat}

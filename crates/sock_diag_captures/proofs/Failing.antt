@@ -2,7 +2,8 @@
 use Rattle.std.proofs.Common.{◌≡◌, ◌⊎◌, inl, inr, ℕ, ◌+◌, ◌-◌, ◌^◌, List, [], ◌∷◌, ◌++◌, length}
 use Rattle.std.proofs.Common.{Bool, true, false, refl, sym, ap, subst, ◌∙◌, append_assoc}
 use Rattle.std.proofs.Common.{append-nil, arith}
-use Rattle.std.specs.Prelude.{Option, None, Some, flat_map}
+use Rattle.std.specs.Prelude.{Option, None, Some, flat_map, Result, Ok, Err, IfOk, IfErr}
+use Rattle.std.specs.Prelude.{MatchResult}
 use Rattle.std.specs.Io.KnownBytes.{Appends, Consumes, Keeps, append_known}
 use Rattle.std.proofs.KnownBytes.{Appends-kept, Appends-trans, Consumes-nil, Consumes-trans}
 use Rattle.std.proofs.KnownBytes.{Keeps-refl}
@@ -15,11 +16,16 @@ use Rattle.capture_tables.specs.declared.capture.CaptureError.TheVariants.{Memor
 use Rattle.capture_tables.specs.declared.capture.FileHeader.{FileHeader}
 use Rattle.capture_tables.specs.declared.run.RunError.{RunError}
 use Rattle.capture_tables.specs.declared.run.RunError.TheVariants.{Header, Packet, Memory}
+use Rattle.capture_tables.specs.declared.run.RunError.TheVariants.{Write, Closed}
 use Rattle.capture_tables.specs.declared.options.Options.{Options}
+use Rattle.capture_tables.specs.Reports.{closing_line}
 use Rattle.capture_tables.specs.Streams.{IsWriteFailure}
+use Rattle.sock_diag_captures.specs.Diagnostics.{DiagnosesPacket}
 use Rattle.sock_diag_captures.specs.Listing.{asked_after}
 use Rattle.sock_diag_captures.specs.declared.requests.Asked.{Asked}
-use Rattle.sock_diag_captures.specs.Run.{Breaks, Fails, IsListed, IsTable, Stands, ListedPacket}
+use Rattle.sock_diag_captures.specs.Run.{Breaks, Fails, Finishes, IsListed, IsTable, Stands}
+use Rattle.sock_diag_captures.specs.Run.{ListedPacket}
+use Rattle.sock_diag_captures.specs.RunSteps.{closing_text}
 use Rattle.sock_diag_captures.specs.Run.{lines_of_packet}
 use Rattle.sock_diag_captures.proofs.Progress.{Progress, goes_on_part, goes_on_whole, lines_push}
 use Rattle.sock_diag_captures.proofs.Progress.{progress_begins}
@@ -50,36 +56,49 @@ pub no_write : (number : ℕ) (fault : CaptureError) (e : RunError) (P : Type 0)
 no_write number fault e P is (inl write) = absurd cc
 no_write number fault e P is (inr closed) = absurd cc
 
+-- nor is that memory ran out
+pub no_memory : (e : RunError) (P : Type 0) → e ≡ Memory → IsWriteFailure e → P
+no_memory e P is (inl write) = absurd cc
+no_memory e P is (inr closed) = absurd cc
+
 -- the header could not be read
-pub fails_at_header : (o : Options) (a d x : Option (List ℕ)) (heading : List ℕ) (unread : Type 0)
-    (e : RunError)
+pub fails_at_header : (o : Options) (a d x : Option (List ℕ)) (heading front : List ℕ)
+    (Reported : List ℕ → Type 0) (unread : Type 0) (e : RunError) → Reported []
     → ((fault : CaptureError) × (e ≡ Header fault) × (part : List ℕ) × Consumes a d part
     × IsHeaderStop d unread part fault)
-    → Fails o a d x x heading unread e
-fails_at_header o a d x heading unread e (fault, is, part, read, stop) =
-    subst (λ (e : RunError). Fails o a d x x heading unread e) (sym is)
-    (part, read, stop, Keeps-refl x)
+    → Fails o a d x x heading front Reported unread e
+fails_at_header o a d x heading front Reported unread e none (fault, is, part, read, stop) =
+    subst (λ (e : RunError). Fails o a d x x heading front Reported unread e) (sym is)
+    (part, read, stop, Keeps-refl x, none)
 
 -- the heading could not be written, or the table of what was read
-pub fails_at_write : (o : Options) (a d x z : Option (List ℕ)) (heading bytes lines : List ℕ)
+pub fails_at_write : (o : Options) (a d x z : Option (List ℕ))
+    (heading front bytes lines diagnostics : List ℕ) (Reported : List ℕ → Type 0)
     (whole : Bool) (unread : Type 0) (e : RunError)
-    → IsWriteFailure e → IsTable o bytes lines whole → Consumes a d bytes
-    → (front rest : List ℕ) → heading ++ lines ≡ front ++ rest → Appends x z front
-    → Fails o a d x z heading unread e
-fails_at_write o a d x z heading bytes lines whole unread e is table read front rest split
-    appended =
-    let breaks : Breaks o a d x z heading =
-    (bytes, lines, whole, table, read, front, rest, split, appended) in elim is [
-      | inl write ↦ subst (λ (e : RunError). Fails o a d x z heading unread e) (sym write) breaks
-      | inr closed ↦ subst (λ (e : RunError). Fails o a d x z heading unread e) (sym closed) breaks
+    → IsWriteFailure e → IsTable o front bytes lines diagnostics whole → Reported diagnostics
+    → Consumes a d bytes
+    → (sent rest : List ℕ) → heading ++ lines ≡ sent ++ rest → Appends x z sent
+    → Fails o a d x z heading front Reported unread e
+fails_at_write o a d x z heading front bytes lines diagnostics Reported whole unread e is table
+    reported read sent rest split appended =
+    let breaks : Breaks o a d x z heading front Reported =
+    (bytes, lines, diagnostics, whole, table, read, sent, rest, split, appended, reported) in
+    elim is [
+      | inl write ↦
+          subst (λ (e : RunError). Fails o a d x z heading front Reported unread e) (sym write)
+          breaks
+      | inr closed ↦
+          subst (λ (e : RunError). Fails o a d x z heading front Reported unread e) (sym closed)
+          breaks
     ]
 
-module _ (o : Options) (file : FileHeader) (header : List ℕ) (long : length header ≡ 24)
-    (is : IsFileHeader header file) where
+module _ (o : Options) (front : List ℕ) (file : FileHeader) (header : List ℕ)
+    (long : length header ≡ 24) (is : IsFileHeader header file) where
   -- the table of the packets so far
   abbrev pub table_of : (b c y z : Option (List ℕ)) (asked : List Asked) (whole : Bool) (number : ℕ)
-      (p : Progress o (IsRecord file) b c y z asked whole number)
-      → IsTable o (header ++ p.records) (flat_map lines_of_packet p.listings) whole
+      (p : Progress o front (IsRecord file) b c y z asked whole number)
+      → IsTable o front (header ++ p.records) (flat_map lines_of_packet p.listings) p.diagnostics
+      whole
   table_of b c y z asked whole number p = record {
     file = file;
     header = header;
@@ -92,138 +111,245 @@ module _ (o : Options) (file : FileHeader) (header : List ℕ) (long : length he
     are_packets = p.are_packets;
     listed = p.listed;
     written = refl;
+    diagnosed = p.diagnosed;
     whole = (p.flagged, p.whole_only);
   }
 
   -- the packets so far stand, and more was read
-  stands : (a b c d x y z : Option (List ℕ)) (heading more : List ℕ) (asked : List Asked)
-      (whole : Bool) (number : ℕ)
-      (p : Progress o (IsRecord file) b c y z asked whole number)
+  stands : (a b c d x y z : Option (List ℕ)) (heading more : List ℕ) (Reported : List ℕ → Type 0)
+      (asked : List Asked) (whole : Bool) (number : ℕ)
+      (p : Progress o front (IsRecord file) b c y z asked whole number) → Reported p.diagnostics
       → Consumes a b header → Consumes c d more → Appends x y heading
-      → Stands o a d x z heading file (length p.packets) more
-  stands a b c d x y z heading more asked whole number p first last begun = record {
-    bytes = header ++ p.records;
-    lines = flat_map lines_of_packet p.listings;
-    is_whole = whole;
-    table = table_of b c y z asked whole number p;
-    of_file = refl;
-    counted = refl;
-    read = Consumes-trans a c d (header ++ p.records) more
-        (Consumes-trans a b c header p.records first p.read) last;
-    appended = Appends-trans x y z heading (flat_map lines_of_packet p.listings) begun p.appended;
-  }
+      → Stands o a d x z heading front Reported file (length p.packets) more
+  stands a b c d x y z heading more Reported asked whole number p reported first last begun =
+      record {
+        bytes = header ++ p.records;
+        lines = flat_map lines_of_packet p.listings;
+        diagnostics = p.diagnostics;
+        is_whole = whole;
+        table = table_of b c y z asked whole number p;
+        of_file = refl;
+        counted = refl;
+        read = Consumes-trans a c d (header ++ p.records) more
+            (Consumes-trans a b c header p.records first p.read) last;
+        appended = Appends-trans x y z heading (flat_map lines_of_packet p.listings) begun
+            p.appended;
+        reported = reported;
+      }
 
   -- the heading could not be written
-  pub fails_at_heading : (a b x z : Option (List ℕ)) (heading : List ℕ) (unread : Type 0)
-      (e : RunError) → IsWriteFailure e
-      → Consumes a b header → (front rest : List ℕ) → heading ≡ front ++ rest → Appends x z front
-      → Fails o a b x z heading unread e
-  fails_at_heading a b x z heading unread e write first front rest split appended =
-      fails_at_write o a b x z heading (header ++ []) [] true unread e write
-      (table_of b b x x [] true 1 (progress_begins o (IsRecord file) b x))
-      (Consumes-trans a b b header [] first (Consumes-nil b)) front rest (append-nil heading
+  pub fails_at_heading : (a b x z : Option (List ℕ)) (heading : List ℕ)
+      (Reported : List ℕ → Type 0) (unread : Type 0) (e : RunError) → Reported []
+      → IsWriteFailure e
+      → Consumes a b header → (sent rest : List ℕ) → heading ≡ sent ++ rest → Appends x z sent
+      → Fails o a b x z heading front Reported unread e
+  fails_at_heading a b x z heading Reported unread e none write first sent rest split appended =
+      fails_at_write o a b x z heading front (header ++ []) [] [] Reported true unread e write
+      (table_of b b x x [] true 1 (progress_begins o front (IsRecord file) b x)) none
+      (Consumes-trans a b b header [] first (Consumes-nil b)) sent rest (append-nil heading
       ∙ split) appended
 
   module _ (a b c x y z : Option (List ℕ)) (heading : List ℕ) (asked : List Asked) (whole : Bool)
       (number : ℕ)
-      (p : Progress o (IsRecord file) b c y z asked whole number)
+      (p : Progress o front (IsRecord file) b c y z asked whole number)
       (first : Consumes a b header) (begun : Appends x y heading) where
-    -- a packet could not be read
-    pub fails_at_packet : (d : Option (List ℕ)) (unread : Type 0) (e : RunError)
-        → ((fault : CaptureError) × (e ≡ Packet number fault) × (part : List ℕ) × Consumes c d part
-        × IsPacketStop file d unread part fault)
-        → Fails o a d x z heading unread e
-    fails_at_packet d unread e (fault, same, part, read, stop) =
-        subst (λ (e : RunError). Fails o a d x z heading unread e) (sym same) (
-          file,
-          length p.packets,
-          part,
-          stands a b c d x y z heading part asked whole number p first read begun,
-          p.next,
-          stop_weaker file d unread (number ≡ 2 ^ 64 - 1) part fault stop,
-        )
+    module _ (Reported : List ℕ → Type 0) (reported : Reported p.diagnostics) where
+      -- a packet could not be read
+      pub fails_at_packet : (d : Option (List ℕ)) (unread : Type 0) (e : RunError)
+          → ((fault : CaptureError) × (e ≡ Packet number fault) × (part : List ℕ)
+          × Consumes c d part × IsPacketStop file d unread part fault)
+          → Fails o a d x z heading front Reported unread e
+      fails_at_packet d unread e (fault, same, part, read, stop) =
+          subst (λ (e : RunError). Fails o a d x z heading front Reported unread e) (sym same) (
+            file,
+            length p.packets,
+            part,
+            stands a b c d x y z heading part Reported asked whole number p reported first read
+                begun,
+            p.next,
+            stop_weaker file d unread (number ≡ 2 ^ 64 - 1) part fault stop,
+          )
 
-    -- no number is left for the next packet
-    pub fails_past_numbers : (unread : Type 0) → number ≡ 2 ^ 64 - 1
-        → Fails o a c x z heading unread (Packet (2 ^ 64 - 1) Read)
-    fails_past_numbers unread last = (
-      file,
-      length p.packets,
-      [],
-      stands a b c c x y z heading [] asked whole number p first (Consumes-nil c) begun,
-      sym last ∙ p.next,
-      (inl (omega arith), inr refl),
-    )
+      -- no number is left for the next packet
+      pub fails_past_numbers : (unread : Type 0) → number ≡ 2 ^ 64 - 1
+          → Fails o a c x z heading front Reported unread (Packet (2 ^ 64 - 1) Read)
+      fails_past_numbers unread last = (
+        file,
+        length p.packets,
+        [],
+        stands a b c c x y z heading [] Reported asked whole number p reported first
+            (Consumes-nil c) begun,
+        sym last ∙ p.next,
+        (inl (omega arith), inr refl),
+      )
 
-    -- memory ran out for the lines of a packet
-    pub fails_at_memory : (d : Option (List ℕ)) (unread : Type 0) (e : RunError)
-        (head : List ℕ) (packet : Recorded) → e ≡ Memory
-        → IsRecord file head packet → Consumes c d (head ++ packet.bytes)
-        → Fails o a d x z heading unread e
-    fails_at_memory d unread e head packet memory record_of read =
-        subst (λ (e : RunError). Fails o a d x z heading unread e) (sym memory) (
-          file,
-          length p.packets,
-          head,
-          packet,
-          record_of,
-          stands a b c d x y z heading (head ++ packet.bytes) asked whole number p first read begun,
-        )
+      -- memory ran out for the lines of a packet
+      pub fails_at_memory : (d : Option (List ℕ)) (unread : Type 0) (e : RunError)
+          (head : List ℕ) (packet : Recorded) → e ≡ Memory
+          → IsRecord file head packet → Consumes c d (head ++ packet.bytes)
+          → Fails o a d x z heading front Reported unread e
+      fails_at_memory d unread e head packet memory record_of read =
+          subst (λ (e : RunError). Fails o a d x z heading front Reported unread e) (sym memory) (
+            file,
+            length p.packets,
+            head,
+            packet,
+            record_of,
+            stands a b c d x y z heading (head ++ packet.bytes) Reported asked whole number p
+                reported first read begun,
+          )
 
-    -- the last flush failed
-    pub fails_at_flush : (d z' : Option (List ℕ)) (unread : Type 0) (e : RunError)
-        → IsWriteFailure e
-        → Consumes c d [] → Keeps z z'
-        → Fails o a d x z' heading unread e
-    fails_at_flush d z' unread e write last kept =
-        let lines = flat_map lines_of_packet p.listings in
-        let read : Consumes a d (header ++ p.records) =
-        subst (Consumes a d) (append-nil (header ++ p.records))
-        (Consumes-trans a c d (header ++ p.records) []
-        (Consumes-trans a b c header p.records first p.read) last) in
-        fails_at_write o a d x z' heading (header ++ p.records) lines whole unread e write
-        (table_of b c y z asked whole number p)
-        read (heading ++ lines) [] (sym (append-nil (heading ++ lines)))
-        (Appends-kept x z z' (heading ++ lines)
-        (Appends-trans x y z heading lines begun p.appended) kept)
+      -- the last flush failed
+      pub fails_at_flush : (d z' : Option (List ℕ)) (unread : Type 0) (e : RunError)
+          → IsWriteFailure e
+          → Consumes c d [] → Keeps z z'
+          → Fails o a d x z' heading front Reported unread e
+      fails_at_flush d z' unread e write last kept =
+          let lines = flat_map lines_of_packet p.listings in
+          let read : Consumes a d (header ++ p.records) =
+          subst (Consumes a d) (append-nil (header ++ p.records))
+          (Consumes-trans a c d (header ++ p.records) []
+          (Consumes-trans a b c header p.records first p.read) last) in
+          fails_at_write o a d x z' heading front (header ++ p.records) lines p.diagnostics
+          Reported whole unread e write
+          (table_of b c y z asked whole number p) reported
+          read (heading ++ lines) [] (sym (append-nil (heading ++ lines)))
+          (Appends-kept x z z' (heading ++ lines)
+          (Appends-trans x y z heading lines begun p.appended) kept)
 
     -- the lines of a packet could not be written
-    pub fails_at_lines : (d z' : Option (List ℕ)) (unread : Type 0) (e : RunError)
-        (head lines : List ℕ) (packet : Recorded) (asked' : List Asked) (one : Bool)
-        → IsWriteFailure e
+    pub fails_at_lines : (Reported : List ℕ → Type 0) (d z' : Option (List ℕ)) (unread : Type 0)
+        (e : RunError)
+        (head lines issues : List ℕ) (packet : Recorded) (asked' : List Asked) (one : Bool)
+        → Reported (p.diagnostics ++ issues) → IsWriteFailure e
         → IsRecord file head packet → asked' ≡ asked_after asked packet.bytes
         → IsListed o asked' packet (record { lines = lines; whole = one })
+        → DiagnosesPacket front number packet [] issues
         → Consumes c d (head ++ packet.bytes)
-        → (front rest : List ℕ) → lines ≡ front ++ rest → Appends z z' front
-        → Fails o a d x z' heading unread e
-    fails_at_lines d z' unread e head lines packet asked' one write record_of next listed read
-        front rest split appended =
+        → (sent rest : List ℕ) → lines ≡ sent ++ rest → Appends z z' sent
+        → Fails o a d x z' heading front Reported unread e
+    fails_at_lines Reported d z' unread e head lines issues packet asked' one reported write
+        record_of next listed diagnosed read sent rest split appended =
         let before = flat_map lines_of_packet p.listings in
         let new : ListedPacket = record { lines = lines; whole = one } in
         let w = append_known z lines in
         let wrote = appended_known z lines in
         let joined : heading ++ flat_map lines_of_packet (p.listings ++ new ∷ [])
         ≡ ((heading ++ before)
-        ++ front) ++ rest =
+        ++ sent) ++ rest =
         ap (λ (t : List ℕ). heading ++ t) (lines_push p.listings new)
         ∙ sym (append_assoc heading before lines)
         ∙ ap (λ (t : List ℕ). (heading ++ before) ++ t) split
-        ∙ sym (append_assoc (heading ++ before) front rest) in
-        let all : Appends x z' ((heading ++ before) ++ front) =
-        Appends-trans x z z' (heading ++ before) front
+        ∙ sym (append_assoc (heading ++ before) sent rest) in
+        let all : Appends x z' ((heading ++ before) ++ sent) =
+        Appends-trans x z z' (heading ++ before) sent
         (Appends-trans x y z heading before begun p.appended) appended in
         let bytes : Consumes a d (header ++ (p.records ++ (head ++ packet.bytes))) =
         Consumes-trans a b d header (p.records ++ (head ++ packet.bytes)) first
         (Consumes-trans b c d p.records (head ++ packet.bytes) p.read read) in
         elim (bool_cases whole) [
-          | inl t ↦ fails_at_write o a d x z' heading _ _ one unread e write
+          | inl t ↦ fails_at_write o a d x z' heading front _ _ _ Reported one unread e write
               (table_of b d y w asked' one (number + 1)
-              (goes_on_whole o (IsRecord file) b c d y z w head lines packet asked asked' one whole
-              number t p record_of next listed read wrote))
-              bytes ((heading ++ before) ++ front) rest joined all
-          | inr f ↦ fails_at_write o a d x z' heading _ _ whole unread e write
+              (goes_on_whole o front (IsRecord file) b c d y z w head lines issues packet asked
+              asked' one whole number t p record_of next listed diagnosed read wrote))
+              reported bytes ((heading ++ before) ++ sent) rest joined all
+          | inr f ↦ fails_at_write o a d x z' heading front _ _ _ Reported whole unread e write
               (table_of b d y w asked' whole (number + 1)
-              (goes_on_part o (IsRecord file) b c d y z w head lines packet asked asked' one whole
-              number f p record_of next listed read wrote))
-              bytes ((heading ++ before) ++ front) rest joined all
+              (goes_on_part o front (IsRecord file) b c d y z w head lines issues packet asked
+              asked' one whole number f p record_of next listed diagnosed read wrote))
+              reported bytes ((heading ++ before) ++ sent) rest joined all
         ]
+
+-- what is known of the diagnostics implies something else
+module _ (o : Options) (left left' held held' : Option (List ℕ)) (heading front : List ℕ)
+    (P Q : List ℕ → Type 0) (implies : (diagnostics : List ℕ) → P diagnostics → Q diagnostics) where
+  abbrev pub stands_implies : (file : FileHeader) (packets : ℕ) (more : List ℕ)
+      → Stands o left left' held held' heading front P file packets more
+      → Stands o left left' held held' heading front Q file packets more
+  stands_implies file packets more h = record {
+    bytes = h.bytes;
+    lines = h.lines;
+    diagnostics = h.diagnostics;
+    is_whole = h.is_whole;
+    table = h.table;
+    of_file = h.of_file;
+    counted = h.counted;
+    read = h.read;
+    appended = h.appended;
+    reported = implies h.diagnostics h.reported;
+  }
+
+  breaks_implies : Breaks o left left' held held' heading front P
+      → Breaks o left left' held held' heading front Q
+  breaks_implies (
+    bytes,
+    lines,
+    diagnostics,
+    whole,
+    table,
+    read,
+    sent,
+    rest,
+    split,
+    appended,
+    reported,
+  ) = (
+    bytes,
+    lines,
+    diagnostics,
+    whole,
+    table,
+    read,
+    sent,
+    rest,
+    split,
+    appended,
+    implies diagnostics reported,
+  )
+
+  pub fails_implies : (unread : Type 0) (e : RunError)
+      → Fails o left left' held held' heading front P unread e
+      → Fails o left left' held held' heading front Q unread e
+  fails_implies unread (Header fault) (part, read, stop, kept, reported) =
+      (part, read, stop, kept, implies [] reported)
+  fails_implies unread (Packet number fault) (file, packets, part, h, is, stop) =
+      (file, packets, part, stands_implies file packets part h, is, stop)
+  fails_implies unread Memory (file, packets, header, packet, is, h) =
+      (file, packets, header, packet, is, stands_implies file packets (header ++ packet.bytes) h)
+  fails_implies unread Write h = breaks_implies h
+  fails_implies unread Closed h = breaks_implies h
+
+  pub finishes_implies : (whole : Bool)
+      → Finishes o left left' held held' heading front P whole
+      → Finishes o left left' held held' heading front Q whole
+  finishes_implies whole h = record {
+    bytes = h.bytes;
+    lines = h.lines;
+    diagnostics = h.diagnostics;
+    table = h.table;
+    read = h.read;
+    ended = h.ended;
+    appended = h.appended;
+    reported = implies h.diagnostics h.reported;
+  }
+
+-- what a run ended as, where the line that names a failure was reported behind its diagnostics
+pub outcome_of : (o : Options) (left left' held held' : Option (List ℕ)) (heading front : List ℕ)
+    (P Q : List ℕ → Type 0) (unread : Type 0) (r : Result Bool RunError)
+    → ((diagnostics : List ℕ) → P diagnostics → Q (diagnostics ++ closing_text front r))
+    → IfOk r (Finishes o left left' held held' heading front P)
+    → IfErr r (Fails o left left' held held' heading front P unread)
+    → MatchResult r (Finishes o left left' held held' heading front Q)
+    (λ e. Fails o left left' held held' heading front
+    (λ diagnostics. Q (diagnostics ++ closing_line front e)) unread e)
+outcome_of o left left' held held' heading front P Q unread (Ok whole) implies finishes fails =
+    finishes_implies o left left' held held' heading front P Q
+    (λ d h. subst Q (append-nil d) (implies d h)) whole finishes
+outcome_of o left left' held held' heading front P Q unread (Err e) implies finishes fails =
+    fails_implies o left left' held held' heading front P
+    (λ diagnostics. Q (diagnostics ++ closing_line front e)) implies unread e fails
+
+-- a run that listed a whole capture whole
+pub whole_outcome : (P : Bool → Type 0) (Q : RunError → Type 0) (r : Result Bool RunError)
+    → r ≡ Ok true → MatchResult r P Q → P true
+whole_outcome P Q r is h = subst (λ (r : Result Bool RunError). MatchResult r P Q) is h

@@ -1,5 +1,6 @@
 -- How far a capture is listed.
-use Rattle.std.proofs.Common.{◌≡◌, ℕ, ◌+◌, List, [], ◌∷◌, ◌++◌, length, Bool, true, false, refl}
+use Rattle.std.proofs.Common.{◌≡◌, ℕ, ◌+◌, List, [], ◌∷◌, ◌++◌, length, Bool, true, false}
+use Rattle.std.proofs.Common.{refl}
 use Rattle.std.proofs.Common.{sym, ap, subst, ◌∙◌, append_assoc, append-nil, arith}
 use Rattle.std.proofs.lemmas.List.{length-append}
 use Rattle.std.specs.Prelude.{IsTrue, Option, flat_map}
@@ -9,6 +10,7 @@ use Rattle.std.proofs.KnownBytes.{Appends-nil, Appends-trans, Consumes-nil, Cons
 use Rattle.std.proofs.lemmas.Grind.{flat_map-append}
 use Rattle.capture_tables.specs.Capture.{Recorded}
 use Rattle.capture_tables.specs.declared.options.Options.{Options}
+use Rattle.sock_diag_captures.specs.Diagnostics.{AreDiagnosed, DiagnosesPacket}
 use Rattle.sock_diag_captures.specs.Listing.{asked_after}
 use Rattle.sock_diag_captures.specs.Run.{AreListed, ArePackets, IsListed, IsWhole, ListedPacket}
 use Rattle.sock_diag_captures.specs.Run.{lines_of_packet}
@@ -67,7 +69,30 @@ pub none_asked : asked_from [] [] ≡ []
 unfolding asked_from
 none_asked = refl
 
-module _ (o : Options) (R : List ℕ → Recorded → Type 0) where
+-- one more packet is diagnosed
+pub diagnosed_push : (front : List ℕ) (n : ℕ) (ps : List Recorded) (p : Recorded)
+    (lines one : List ℕ) → AreDiagnosed front n ps lines
+    → DiagnosesPacket front (length ps + n) p [] one
+    → AreDiagnosed front n (ps ++ p ∷ []) (lines ++ one)
+diagnosed_push front n [] p lines one h is =
+    let same : 0 + n ≡ n = omega arith in (
+      one,
+      [],
+      subst (λ (k : ℕ). DiagnosesPacket front k p [] one) same is,
+      refl,
+      ap (λ (t : List ℕ). t ++ one) h ∙ sym (append-nil one),
+    )
+diagnosed_push front n (q ∷ ps) p lines one (first, rest, of_first, of_rest, split) is =
+    let same : length (q ∷ ps) + n ≡ length ps + (n + 1) = omega arith in (
+      first,
+      rest ++ one,
+      of_first,
+      diagnosed_push front (n + 1) ps p rest one of_rest
+          (subst (λ (k : ℕ). DiagnosesPacket front k p [] one) same is),
+      ap (λ (t : List ℕ). t ++ one) split ∙ append_assoc first rest one,
+    )
+
+module _ (o : Options) (front : List ℕ) (R : List ℕ → Recorded → Type 0) where
   pub packets_push : (bytes : List ℕ) (ps : List Recorded) (header : List ℕ) (p : Recorded)
       → ArePackets R bytes ps → R header p
       → ArePackets R (bytes ++ (header ++ p.bytes)) (ps ++ p ∷ [])
@@ -95,9 +120,11 @@ module _ (o : Options) (R : List ℕ → Recorded → Type 0) where
     pub records : List ℕ
     pub packets : List Recorded
     pub listings : List ListedPacket
+    pub diagnostics : List ℕ
     pub read : Consumes remaining remaining' records
     pub are_packets : ArePackets R records packets
     pub listed : AreListed o [] packets listings
+    pub diagnosed : AreDiagnosed front 1 packets diagnostics
     pub seen : asked ≡ asked_from [] packets
     pub appended : Appends contents contents' (flat_map lines_of_packet listings)
     pub flagged : IsTrue is_whole → AllByRecursion IsWhole listings
@@ -110,9 +137,11 @@ module _ (o : Options) (R : List ℕ → Recorded → Type 0) where
     records = [];
     packets = [];
     listings = [];
+    diagnostics = [];
     read = Consumes-nil remaining;
     are_packets = refl;
     listed = tt;
+    diagnosed = refl;
     seen = sym none_asked;
     appended = Appends-nil contents;
     flagged = λ _. tt;
@@ -121,62 +150,71 @@ module _ (o : Options) (R : List ℕ → Recorded → Type 0) where
   }
 
   -- one more packet is read and listed
-  abbrev pub progress_goes_on : (a b c x y z : Option (List ℕ)) (header lines : List ℕ)
+  abbrev pub progress_goes_on : (a b c x y z : Option (List ℕ)) (header lines issues : List ℕ)
       (p : Recorded)
       (asked asked' : List Asked) (one whole whole' : Bool) (number : ℕ)
       → Progress a b x y asked whole number
       → R header p → asked' ≡ asked_after asked p.bytes
       → IsListed o asked' p (record { lines = lines; whole = one })
+      → DiagnosesPacket front number p [] issues
       → Consumes b c (header ++ p.bytes)
       → Appends y z lines
       → (IsTrue whole' → IsTrue whole) → (IsTrue whole' → IsTrue one)
       → (IsTrue whole → IsTrue one → IsTrue whole')
       → Progress a c x z asked' whole' (number + 1)
-  progress_goes_on a b c x y z header lines p asked asked' one whole whole' number so_far is next
-      listed read appended front last both =
+  progress_goes_on a b c x y z header lines issues p asked asked' one whole whole' number so_far is
+      next listed diagnosed read appended flagged last both =
       let new : ListedPacket = record { lines = lines; whole = one } in
       let after : asked' ≡ asked_after (asked_from [] so_far.packets) p.bytes =
       next ∙ ap (λ (q : List Asked). asked_after q p.bytes) so_far.seen in record {
         records = so_far.records ++ (header ++ p.bytes);
         packets = so_far.packets ++ p ∷ [];
         listings = so_far.listings ++ new ∷ [];
+        diagnostics = so_far.diagnostics ++ issues;
         read = Consumes-trans a b c so_far.records (header ++ p.bytes) so_far.read read;
         are_packets = packets_push so_far.records so_far.packets header p so_far.are_packets is;
         listed = listed_push o [] so_far.packets so_far.listings p new so_far.listed
             (subst (λ (q : List Asked). IsListed o q p new) after listed);
+        diagnosed = diagnosed_push front 1 so_far.packets p so_far.diagnostics issues
+            so_far.diagnosed
+            (subst (λ (k : ℕ). DiagnosesPacket front k p [] issues) so_far.next diagnosed);
         seen = after ∙ sym (asked_push [] so_far.packets p);
         appended = subst (λ (t : List ℕ). Appends x z t) (sym (lines_push so_far.listings new))
             (Appends-trans x y z (flat_map lines_of_packet so_far.listings) lines so_far.appended
             appended);
-        flagged = λ h. whole_push so_far.listings new (so_far.flagged (front h)) (last h);
+        flagged = λ h. whole_push so_far.listings new (so_far.flagged (flagged h)) (last h);
         whole_only = λ h. both (so_far.whole_only (whole_front so_far.listings new h))
             (whole_last so_far.listings new h);
         next = omega (arith, so_far.next, length-append so_far.packets (p ∷ []));
       }
 
   -- all packets before were listed whole
-  abbrev pub goes_on_whole : (a b c x y z : Option (List ℕ)) (header lines : List ℕ) (p : Recorded)
+  abbrev pub goes_on_whole : (a b c x y z : Option (List ℕ)) (header lines issues : List ℕ)
+      (p : Recorded)
       (asked asked' : List Asked) (one whole : Bool) (number : ℕ) → whole ≡ true
       → Progress a b x y asked whole number
       → R header p → asked' ≡ asked_after asked p.bytes
       → IsListed o asked' p (record { lines = lines; whole = one })
+      → DiagnosesPacket front number p [] issues
       → Consumes b c (header ++ p.bytes)
       → Appends y z lines → Progress a c x z asked' one (number + 1)
-  goes_on_whole a b c x y z header lines p asked asked' one whole number is_whole so_far is next
-      listed read appended =
-      progress_goes_on a b c x y z header lines p asked asked' one whole one number so_far is next
-      listed read appended (λ _. is_whole) (λ h. h) (λ _ h. h)
+  goes_on_whole a b c x y z header lines issues p asked asked' one whole number is_whole so_far is
+      next listed diagnosed read appended =
+      progress_goes_on a b c x y z header lines issues p asked asked' one whole one number so_far is
+      next listed diagnosed read appended (λ _. is_whole) (λ h. h) (λ _ h. h)
 
   -- one of those before was not
-  abbrev pub goes_on_part : (a b c x y z : Option (List ℕ)) (header lines : List ℕ) (p : Recorded)
+  abbrev pub goes_on_part : (a b c x y z : Option (List ℕ)) (header lines issues : List ℕ)
+      (p : Recorded)
       (asked asked' : List Asked) (one whole : Bool) (number : ℕ) → whole ≡ false
       → Progress a b x y asked whole number
       → R header p → asked' ≡ asked_after asked p.bytes
       → IsListed o asked' p (record { lines = lines; whole = one })
+      → DiagnosesPacket front number p [] issues
       → Consumes b c (header ++ p.bytes)
       → Appends y z lines → Progress a c x z asked' whole (number + 1)
-  goes_on_part a b c x y z header lines p asked asked' one whole number is_part so_far is next
-      listed read appended =
-      progress_goes_on a b c x y z header lines p asked asked' one whole whole number so_far is
-      next listed read appended
+  goes_on_part a b c x y z header lines issues p asked asked' one whole number is_part so_far is
+      next listed diagnosed read appended =
+      progress_goes_on a b c x y z header lines issues p asked asked' one whole whole number so_far
+      is next listed diagnosed read appended
       (λ h. h) (λ h. absurd (not_both whole is_part h)) (λ h _. h)

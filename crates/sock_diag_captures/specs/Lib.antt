@@ -5,4 +5,6 @@ pub mod Details
 pub mod RequestLine
 pub mod Others
 pub mod Listing
+pub mod Diagnostics
 pub mod Run
+pub mod RunSteps

@@ -10,6 +10,7 @@ use Rattle.capture_tables.specs.declared.run.RunError.TheVariants.{Memory}
 use Rattle.capture_tables.specs.Capture.{IsFileHeader, IsHeaderStop, IsPacketStop, IsRecord}
 use Rattle.capture_tables.specs.Capture.{Recorded}
 use Rattle.capture_tables.specs.declared.options.Options.{Options}
+use Rattle.sock_diag_captures.specs.Diagnostics.{AreDiagnosed}
 use Rattle.sock_diag_captures.specs.Listing.{ListsRecorded, asked_after}
 use Rattle.sock_diag_captures.specs.declared.requests.Asked.{Asked}
 
@@ -48,8 +49,10 @@ ArePackets R bytes (packet ∷ later) =
     × ArePackets R rest later
 
 -- The bytes are a capture: its header, and packets. The lines are those of each packet in order,
--- and the capture counts as listed whole exactly where each packet does.
-pub record IsTable (o : Options) (bytes lines : List ℕ) (is_whole : Bool) : Type 0 where
+-- and so are the diagnostics, whose lines begin with `front`. The capture counts as listed whole if
+-- and only if each packet does.
+pub record IsTable (o : Options) (front bytes lines diagnostics : List ℕ) (is_whole : Bool)
+    : Type 0 where
   pub file : FileHeader
   pub header : List ℕ
   pub records : List ℕ
@@ -61,37 +64,44 @@ pub record IsTable (o : Options) (bytes lines : List ℕ) (is_whole : Bool) : Ty
   pub are_packets : ArePackets (IsRecord file) records packets
   pub listed : AreListed o [] packets listings
   pub written : lines ≡ flat_map lines_of_packet listings
+  pub diagnosed : AreDiagnosed front 1 packets diagnostics
   pub whole : IsTrue is_whole ↔ AllByRecursion IsWhole listings
 
 -- Of a run: the bytes that are left to read and held as written, before and after it, where they
--- are known, and the heading.
-module _ (o : Options) (left left' held held' : Option (List ℕ)) (heading : List ℕ) where
-  -- A capture of so many packets was read, and `more` behind it. The heading and the lines of these
-  -- packets were written.
+-- are known, the heading, the text that begins each diagnostic, and what is known of the
+-- diagnostics on standard error.
+module _ (o : Options) (left left' held held' : Option (List ℕ)) (heading front : List ℕ)
+    (Reported : List ℕ → Type 0) where
+  -- A capture of so many packets was read, and then `more`. The heading and the lines of these
+  -- packets were written, and their diagnostics reported.
   pub record Stands (file : FileHeader) (packets : ℕ) (more : List ℕ) : Type 0 where
     pub bytes : List ℕ
     pub lines : List ℕ
+    pub diagnostics : List ℕ
     pub is_whole : Bool
-    pub table : IsTable o bytes lines is_whole
+    pub table : IsTable o front bytes lines diagnostics is_whole
     pub of_file : table.file ≡ file
     pub counted : length table.packets ≡ packets
     pub read : Consumes left left' (bytes ++ more)
     pub appended : Appends held held' (heading ++ lines)
+    pub reported : Reported diagnostics
 
-  -- where a write fails, a beginning of the table of what was read is written
+  -- if a write fails, a prefix of the table of what was read is written; its diagnostics are
+  -- reported
   abbrev pub Breaks : Type 0
   Breaks =
-      (bytes : List ℕ) × (lines : List ℕ) × (is_whole : Bool) × IsTable o bytes lines is_whole
-      × Consumes left left' bytes × (front : List ℕ) × (rest : List ℕ)
-      × (heading ++ lines ≡ front ++ rest) × Appends held held' front
+      (bytes lines diagnostics : List ℕ) × (is_whole : Bool)
+      × IsTable o front bytes lines diagnostics is_whole
+      × Consumes left left' bytes × (sent : List ℕ) × (rest : List ℕ)
+      × (heading ++ lines ≡ sent ++ rest) × Appends held held' sent × Reported diagnostics
 
   -- What a run that fails so has read and written. At a header that can't be read nothing is
-  -- written; at a packet, of which the number is told, and where memory runs out, the lines of all
-  -- packets before; where a write fails, a beginning. `unread`: a read failed.
+  -- written; at a packet, of which the number is told, and when memory runs out, the lines and
+  -- diagnostics of all packets before; if a write fails, a prefix. `unread`: a read failed.
   abbrev pub Fails : Type 0 → RunError → Type 0
   Fails unread (Header fault) =
       (part : List ℕ) × Consumes left left' part × IsHeaderStop left' unread part fault
-      × Keeps held held'
+      × Keeps held held' × Reported []
   Fails unread (Packet number fault) =
       (file : FileHeader) × (packets : ℕ) × (part : List ℕ) × Stands file packets part
       × (number ≡ packets + 1) × IsPacketStop file left' (unread ⊎ (number ≡ 2 ^ 64 - 1)) part fault
@@ -101,11 +111,14 @@ module _ (o : Options) (left left' held held' : Option (List ℕ)) (heading : Li
   Fails unread Write = Breaks
   Fails unread Closed = Breaks
 
-  -- a whole capture was read to the end of the input, and all of its table written
+  -- a whole capture was read to the end of the input, all of its table written, and its diagnostics
+  -- reported
   pub record Finishes (is_whole : Bool) : Type 0 where
     pub bytes : List ℕ
     pub lines : List ℕ
-    pub table : IsTable o bytes lines is_whole
+    pub diagnostics : List ℕ
+    pub table : IsTable o front bytes lines diagnostics is_whole
     pub read : Consumes left left' bytes
     pub ended : IsAtEnd left'
     pub appended : Appends held held' (heading ++ lines)
+    pub reported : Reported diagnostics

@@ -1,14 +1,17 @@
 //! Lists the sockets that a capture of netlink traffic tells, as ss(8) does of a running system.
 #![tactic(auto)]
 
-ghost use Rattle.std.specs.Prelude.{◌≡◌, ◌↔◌, ◌⊎◌, ◌++◌, ℕ, Bool, true, List};
-ghost use Rattle.std.specs.Prelude.{IsOk, MatchResult, Result, ⊤};
+ghost use Rattle.std.specs.Prelude.{◌≡◌, ◌↔◌, ◌++◌, Bool, true};
+ghost use Rattle.std.specs.Prelude.{MatchResult, Result, ⊤};
 ghost use Rattle.std.specs.Process.{exit_status};
-ghost use Rattle.std.specs.Io.KnownBytes.{Appends, Consumes, IsAtEnd, Keeps};
+ghost use Rattle.std.specs.Io.KnownBytes.{IsAtEnd};
+ghost use Rattle.capture_tables.specs.Reports.{Reports, ReportsMore, WritesPrefix, closing_line};
 ghost use Rattle.capture_tables.specs.declared.run.RunError.{RunError};
-ghost use Rattle.sock_diag_captures.specs.Run.{Fails, Finishes, IsTable};
+ghost use Rattle.sock_diag_captures.specs.Run.{Fails, Finishes};
+ghost use Rattle.sock_diag_captures.specs.RunSteps.{closing_text};
 
 mod details;
+mod fault_text;
 pub mod laws;
 mod line;
 mod list;
@@ -19,6 +22,7 @@ mod request_line;
 mod requests;
 mod stream;
 
+use capture_tables::{Sink, Source, report_failure};
 pub use capture_tables::{
     ByteOrder, CaptureError, Choice, FileHeader, ListCapture, Options, Packet, PacketHeader,
     RunError, TimeUnit, Written, choose, list_captures,
@@ -30,6 +34,7 @@ use std::alloc::Global;
 use std::io::{Read, Write};
 use std::process::ExitCode;
 pub use stream::run;
+use stream::write_table;
 
 /// The version, that of the repository's file `VERSION`.
 pub const VERSION: &str = "0.11.0";
@@ -67,36 +72,72 @@ pub fn run_to_status<R: Read, W: Write, E: Write>(
     errors: &mut E,
 ) -> ExitCode
     ensures ended { exit_status result ≡ 0 → IsAtEnd (R.remaining input.new) }
-    ensures whole { exit_status result ≡ 0 → (bytes lines : List ℕ)
-        × IsTable options bytes lines true
-        × Consumes (R.remaining input.old) (R.remaining input.new) bytes
-        × Appends (W.contents output.old) (W.contents output.new) (HEADING.now ++ lines) }
-    // The status is 0 if and only if the whole capture was listed whole; otherwise it is 1.
+    ensures whole { exit_status result ≡ 0 → Finishes options (R.remaining input.old)
+        (R.remaining input.new) (W.contents output.old) (W.contents output.new) HEADING.now
+        front.now (WritesPrefix (E.contents errors.old) (E.contents errors.new)) true }
+    // The status is 0 if and only if the whole capture was listed whole; otherwise it is 1. On
+    // `errors` are the diagnostics and the line that names the failure, or a prefix of this text.
     ensures outcome { (outcome : Result Bool RunError)
         × ((exit_status result ≡ 0) ↔ (outcome ≡ Ok true))
         × ((exit_status result ≡ 1) ↔ ¬ (outcome ≡ Ok true))
         × MatchResult outcome
         (Finishes options (R.remaining input.old) (R.remaining input.new) (W.contents output.old)
-        (W.contents output.new) HEADING.now)
-        (Fails options (R.remaining input.old) (R.remaining input.new) (W.contents output.old)
-        (W.contents output.new) HEADING.now ⊤) }
+        (W.contents output.new) HEADING.now front.now
+        (WritesPrefix (E.contents errors.old) (E.contents errors.new)))
+        (λ e. Fails options (R.remaining input.old) (R.remaining input.new)
+        (W.contents output.old) (W.contents output.new) HEADING.now front.now
+        (λ diagnostics. WritesPrefix (E.contents errors.old) (E.contents errors.new)
+        (diagnostics ++ closing_line front.now e)) ⊤ e) }
 {
-    let outcome = run(alloc, options, front, input, output, errors);
-    report(errors, front, &outcome);
+    list_to_status(alloc, options, front, input, output, errors)
+}
+
+/// Does what `run_to_status` does, for streams that say which calls failed.
+fn list_to_status<R: Source, W: Sink, E: Sink>(
+    alloc: Global,
+    options: Options,
+    front: &str,
+    input: &mut R,
+    output: &mut W,
+    errors: &mut E,
+) -> ExitCode
+    ensures ended { exit_status result ≡ 0 → IsAtEnd (R.left input.new) }
+    ensures outcome { (outcome : Result Bool RunError) × (is_open : Bool)
+        × ((exit_status result ≡ 0) ↔ (outcome ≡ Ok true))
+        × ((exit_status result ≡ 1) ↔ ¬ (outcome ≡ Ok true))
+        × MatchResult outcome
+        (Finishes options (R.left input.old) (R.left input.new) (W.held output.old)
+        (W.held output.new) HEADING.now front.now
+        (λ diagnostics. Reports (E.held errors.old) (E.held errors.new)
+        ((e : RunError) × E.failed errors.new e) diagnostics is_open))
+        (λ e. Fails options (R.left input.old) (R.left input.new) (W.held output.old)
+        (W.held output.new) HEADING.now front.now
+        (λ diagnostics. Reports (E.held errors.old) (E.held errors.new)
+        ((e : RunError) × E.failed errors.new e)
+        (diagnostics ++ closing_line front.now e) is_open) (R.failed input.new) e) }
+{
+    let mut is_open = true;
+    let outcome = write_table(alloc, options, front, input, output, errors, &mut is_open);
+    report_outcome(errors, &mut is_open, front, &outcome);
     exit_code(&outcome)
 }
 
-/// Writes one line that names the failure, unless the run did not fail or nobody reads the output
-/// any more. If this can't be written either, the exit status alone reports the failure.
-fn report<E: Write>(errors: &mut E, front: &str, outcome: &Result<bool, RunError>)
-    ensures silent { IsOk outcome.now ⊎ (outcome.now ≡ Err RunError.Closed)
-        → Keeps (E.contents errors.old) (E.contents errors.new) }
+/// Writes one line that names the failure if `is_open`, unless the run did not fail or nobody reads
+/// the output any more. If the line can't be written either, the exit status alone reports the
+/// failure.
+fn report_outcome<E: Sink>(
+    errors: &mut E,
+    is_open: &mut bool,
+    front: &str,
+    outcome: &Result<bool, RunError>,
+)
+    ensures { ReportsMore (E.held errors.old) ((e : RunError) × E.failed errors.old e) is_open.old
+        (E.held errors.new) ((e : RunError) × E.failed errors.new e) is_open.new
+        (closing_text front.now outcome.now) }
 {
     match outcome {
-        Ok(_) | Err(RunError::Closed) => {}
-        Err(error) => {
-            let _ = writeln!(errors, "{front}{error}");
-        }
+        Ok(_) => {}
+        Err(failure) => report_failure(errors, is_open, front, failure),
     }
 }
 

@@ -1,10 +1,13 @@
 //! The sockets that the packets of a capture tell, line by line, and what is told of a packet that
 //! can't be listed whole.
 
-ghost use Rattle.std.specs.Prelude.{◌≡◌, ◌↔◌, ◌≤◌, ◌++◌, IfOk, OnOk, IsTrue, bit_and, drop, length};
-ghost use Rattle.std.specs.Prelude.{option_map};
-ghost use Rattle.byteorder.specs.Endian.{little_number};
+ghost use Rattle.std.specs.Prelude.{◌≡◌, ◌↔◌, ◌≤◌, ◌++◌, IfOk, OnOk, IsTrue, length};
+ghost use Rattle.std.specs.Prelude.{option_map, Some};
 ghost use Rattle.capture_tables.specs.Capture.{recorded};
+ghost use Rattle.sock_diag_captures.specs.Diagnostics.{DiagnosesContent, DiagnosesDatagram};
+ghost use Rattle.sock_diag_captures.specs.Diagnostics.{DiagnosesMessages, DiagnosesPacket};
+ghost use Rattle.sock_diag_captures.specs.Diagnostics.{interrupted_issue, issue_line, issue_text};
+ghost use Rattle.sock_diag_captures.specs.Diagnostics.{lines_about_message, message_line};
 ghost use Rattle.sock_diag_captures.specs.Listing.{IsPlain, IsRequest, Lists, ListsDatagram};
 ghost use Rattle.sock_diag_captures.specs.Listing.{ListsPacket, ListsRecorded, asked_after};
 ghost use Rattle.sock_diag_captures.specs.Listing.{issue_under, control_issue, errno_in};
@@ -13,6 +16,7 @@ ghost use Rattle.sock_diag_captures.specs.Listing.{message_issue, protocol_for, 
 ghost use Rattle.sock_diag_captures.specs.Requests.{noted};
 ghost use Rattle.sock_diag_captures.specs.declared.list.Issue.TheVariants.{Refused};
 
+use crate::fault_text::FaultText;
 use crate::line::push_reply;
 use crate::request_line::push_shown_request;
 use crate::requests::Requests;
@@ -23,8 +27,9 @@ use netlink_core::{
     NetlinkHeader, error_number,
 };
 use std::alloc::AllocError;
+use std::error::Error;
+use std::fmt;
 use std::io::Write;
-use thiserror::Error;
 
 /// `NLM_F_DUMP_INTR` of netlink(7).
 const DUMP_INTERRUPTED: u16 = 0x10;
@@ -35,33 +40,47 @@ const ENOENT: u32 = 2;
 /// EINVAL of errno(3).
 const EINVAL: u32 = 22;
 
-/// What is told of a message on standard error.
-#[derive(Debug, Drop, PartialEq, Eq, Error)]
+/// What is reported of a message on standard error.
+#[derive(Debug, Drop, PartialEq, Eq)]
 pub enum Issue {
-    /// A message was refused.
-    #[error("{0}")]
+    /// A message was rejected.
     Refused(DecodeError),
     /// The kernel answered an error, whose number is one of errno(3), or ended a dump with it.
-    #[error("the kernel answers error {0}")]
     Answered(u32),
     /// The kernel answered ENOENT. It has nothing of the kind that was asked for, so nothing is
     /// missing.
-    #[error("note: the kernel answers ENOENT")]
     NoEntry,
     /// The kernel answered EINVAL. It doesn't know what was asked for, so nothing is missing.
-    #[error("note: the kernel answers EINVAL")]
     Invalid,
     /// A message has the flag `NLM_F_DUMP_INTR`: what is dumped changed meanwhile, and sockets may
     /// be missing or told twice.
-    #[error("the dump changed while it was taken")]
     Interrupted,
     /// The kernel told that data was lost.
-    #[error("the kernel lost data")]
     Lost,
 }
 
-/// Where something is told of: the place of the packet in the capture and of the message in the
-/// packet, from 1 on.
+impl fmt::Display for Issue {
+    ghost output = { λ issue. Some (issue_text issue) };
+
+    fn fmt<W: fmt::Write>(&self, f: &mut fmt::Formatter<W>) -> fmt::Result {
+        match self {
+            Issue::Refused(fault) => {
+                let text = FaultText(fault);
+                write!(f, "{text}")
+            }
+            Issue::Answered(errno) => write!(f, "the kernel answers error {errno}"),
+            Issue::NoEntry => write!(f, "note: the kernel answers ENOENT"),
+            Issue::Invalid => write!(f, "note: the kernel answers EINVAL"),
+            Issue::Interrupted => write!(f, "the dump changed while it was taken"),
+            Issue::Lost => write!(f, "the kernel lost data"),
+        }
+    }
+}
+
+impl Error for Issue {}
+
+/// Where an issue is: the number of the packet in the capture and of the message in the packet,
+/// from 1 on.
 #[derive(Clone, Copy, Debug, PartialEq, Eq)]
 struct Place {
     packet: u64,
@@ -87,6 +106,9 @@ pub fn list_packet(
         (recorded packet.now header.now) written.old.lines.items written.new.lines.items) }
     ensures asked { OnOk result (requests.new.asked.items
         ≡ asked_after requests.old.asked.items packet.now) }
+    ensures diagnosed { OnOk result (DiagnosesPacket written.old.front.now number
+        (recorded packet.now header.now) written.old.issues.items written.new.issues.items) }
+    ensures front { written.new.front ≡ written.old.front }
 {
     let is_whole = push_cut_note(written, number, packet, header.whole_length)?;
     let is_listed = list_content(written, requests, options, number, packet, header)?;
@@ -107,6 +129,9 @@ fn list_content(
         (recorded packet.now header.now) written.old.lines.items written.new.lines.items) }
     ensures asked { OnOk result (requests.new.asked.items
         ≡ asked_after requests.old.asked.items packet.now) }
+    ensures diagnosed { OnOk result (DiagnosesContent written.old.front.now number packet.now
+        written.old.issues.items written.new.issues.items) }
+    ensures front { written.new.front ≡ written.old.front }
 {
     match Packet::parse(packet) {
         Packet::SockDiag(datagram) => {
@@ -133,6 +158,9 @@ fn list_sock_diag(
         datagram.now written.old.lines.items written.new.lines.items) }
     ensures asked { OnOk result (requests.new.asked.items
         ≡ noted requests.old.asked.items datagram.now) }
+    ensures diagnosed { OnOk result (DiagnosesDatagram written.old.front.now number datagram.now
+        written.old.issues.items written.new.issues.items) }
+    ensures front { written.new.front ≡ written.old.front }
 {
     requests.note(datagram)?;
     if is_request(datagram) {
@@ -161,16 +189,22 @@ fn list_datagram(
     number: u64,
     datagram: &[u8],
 ) -> Result<bool, AllocError>
-    ensures { IfOk result (Lists options requests.now.asked.items datagram.now
+    ensures lists { IfOk result (Lists options requests.now.asked.items datagram.now
         written.old.lines.items written.new.lines.items) }
+    ensures diagnosed { OnOk result (DiagnosesMessages written.old.front.now number datagram.now
+        written.old.issues.items written.new.issues.items) }
+    ensures front { written.new.front ≡ written.old.front }
 {
+    // Proof only: there are at most as many messages as bytes, so that their numbers fit.
+    let _most = datagram.len();
     let mut is_clean = true;
-    let mut place = Place {
-        packet: number,
-        message: 0,
-    };
+    let mut count = 0u64;
     for item in MessageStrings::new(datagram) {
-        place.message = place.message.saturating_add(1);
+        count = count.saturating_add(1);
+        let place = Place {
+            packet: number,
+            message: count,
+        };
         match item {
             Ok(message) => {
                 let is_plain = list_message(written, requests, options, place, message)?;
@@ -198,24 +232,27 @@ fn list_message(
     ensures lines { OnOk result (written.new.lines.items ≡ written.old.lines.items
         ++ message_lines options requests.now.asked.items message.now) }
     ensures plain { IfOk result (λ is_plain. IsTrue is_plain ↔ IsPlain message.now) }
+    ensures diagnosed { OnOk result (written.new.issues.items ≡ written.old.issues.items
+        ++ lines_about_message written.old.front.now place.packet place.message message.now) }
+    ensures front { written.new.front ≡ written.old.front }
 {
-    let is_steady = is_steady(message);
-    if !is_steady {
-        push_issue(written, place, &Issue::Interrupted)?;
-    }
+    let interrupted = interrupted_issue(message);
+    push_some_issue(written, place, &interrupted)?;
     let issue = push_message(&mut written.lines, requests, options, message)?;
-    if let Some(issue) = &issue {
-        push_issue(written, place, issue)?;
-    }
-    Ok(is_steady && is_note(&issue))
+    push_some_issue(written, place, &issue)?;
+    Ok(interrupted.is_none() && is_note(&issue))
 }
 
-/// Whether a message doesn't say that what is dumped changed meanwhile.
-fn is_steady(message: &[u8]) -> bool
+/// Returns `Interrupted` if a message says that what is dumped changed meanwhile.
+fn interrupted_issue(message: &[u8]) -> Option<Issue>
     requires { 16 ≤ length message.now }
-    ensures { IsTrue result ↔ (bit_and (little_number 2 (drop 6 message.now)) 16 ≡ 0) }
+    ensures { result ≡ interrupted_issue message.now }
 {
-    LittleEndian::read_u16(&message[6..]) & DUMP_INTERRUPTED == 0
+    if LittleEndian::read_u16(&message[6..]) & DUMP_INTERRUPTED == 0 {
+        None
+    } else {
+        Some(Issue::Interrupted)
+    }
 }
 
 /// Whether nothing is told, or a note, by which no socket is missing from the lines.
@@ -323,9 +360,29 @@ fn error_of(payload: &[u8]) -> u32
     }
 }
 
+/// Adds a line about a message, if there is an issue.
+fn push_some_issue(
+    written: &mut Written<'_>,
+    place: Place,
+    issue: &Option<Issue>,
+) -> Result<(), AllocError>
+    ensures lines { OnOk result (written.new.lines.items ≡ written.old.lines.items) }
+    ensures issues { OnOk result (written.new.issues.items ≡ written.old.issues.items
+        ++ issue_line written.old.front.now place.packet place.message issue.now) }
+    ensures front { written.new.front ≡ written.old.front }
+{
+    match issue {
+        None => Ok(()),
+        Some(issue) => push_issue(written, place, issue),
+    }
+}
+
 /// Adds a line about a message.
 fn push_issue(written: &mut Written<'_>, place: Place, issue: &Issue) -> Result<(), AllocError>
-    ensures { OnOk result (written.new.lines.items ≡ written.old.lines.items) }
+    ensures lines { OnOk result (written.new.lines.items ≡ written.old.lines.items) }
+    ensures issues { OnOk result (written.new.issues.items ≡ written.old.issues.items
+        ++ message_line written.old.front.now place.packet place.message issue.now) }
+    ensures front { written.new.front ≡ written.old.front }
 {
     let front = written.front;
     let Place { packet, message } = place;

@@ -1,23 +1,24 @@
 //! The table of a capture, read as it comes.
 
-ghost use Rattle.std.specs.Prelude.{◌++◌, ℕ, List, OnOk, IfErr, IfOk, ⊤};
-ghost use Rattle.std.specs.Io.KnownBytes.{Appends, Consumes, IsAtEnd};
-ghost use Rattle.capture_tables.specs.declared.capture.CaptureError.{CaptureError};
+ghost use Rattle.std.specs.Prelude.{OnOk, IfErr, IfOk, ⊤};
+ghost use Rattle.std.specs.Io.KnownBytes.{IsAtEnd};
+ghost use Rattle.capture_tables.specs.declared.run.RunError.{RunError};
+ghost use Rattle.capture_tables.specs.Reports.{ReportsMore, WritesPrefix};
 ghost use Rattle.capture_tables.specs.Streams.{IsWriteFailure};
-ghost use Rattle.sock_diag_captures.specs.Run.{Fails, IsTable};
+ghost use Rattle.sock_diag_captures.specs.Run.{Fails, Finishes};
 
 use crate::line::HEADING;
 use crate::list::list_packet;
 use crate::requests::Requests;
 use capture_tables::{
-    CaptureError, Options, RunError, Sink, Source, Written, read_header, read_packet, send,
+    CaptureError, Options, RunError, Sink, Source, Written, read_header, read_packet, report, send,
 };
 use std::alloc::Global;
 use std::io::{Read, Write};
 
 /// Writes the table of a capture: a heading, and the lines of each packet before the next one is
-/// read. What is told of packets goes to `errors`, where each line begins with `front`; what can't
-/// be written there is dropped. It answers whether each packet was listed whole.
+/// read. Diagnostics go to `errors`, where each line begins with `front`. If a write fails there,
+/// nothing more is written there. Returns whether each packet was listed whole.
 pub fn run<R: Read, W: Write, E: Write>(
     alloc: Global,
     options: Options,
@@ -27,33 +28,39 @@ pub fn run<R: Read, W: Write, E: Write>(
     errors: &mut E,
 ) -> Result<bool, RunError>
     ensures ended { OnOk result (IsAtEnd (R.remaining input.new)) }
-    ensures table { IfOk result (λ is_whole. (bytes lines : List ℕ)
-        × IsTable options bytes lines is_whole
-        × Consumes (R.remaining input.old) (R.remaining input.new) bytes
-        × Appends (W.contents output.old) (W.contents output.new) (HEADING.now ++ lines)) }
+    ensures table { IfOk result (Finishes options (R.remaining input.old) (R.remaining input.new)
+        (W.contents output.old) (W.contents output.new) HEADING.now front.now
+        (WritesPrefix (E.contents errors.old) (E.contents errors.new))) }
     ensures failed { IfErr result (Fails options (R.remaining input.old) (R.remaining input.new)
-        (W.contents output.old) (W.contents output.new) HEADING.now ⊤) }
+        (W.contents output.old) (W.contents output.new) HEADING.now front.now
+        (WritesPrefix (E.contents errors.old) (E.contents errors.new)) ⊤) }
 {
-    write_table(alloc, options, front, input, output, errors)
+    let mut is_open = true;
+    write_table(alloc, options, front, input, output, errors, &mut is_open)
 }
 
-/// What `run` does, for a reader and a writer that say which calls failed.
-fn write_table<R: Source, W: Sink, E: Write>(
+/// Does what `run` does, for streams that say which calls failed, and writes diagnostics if
+/// `is_open`. If a write on `errors` fails, clears `is_open`.
+pub(crate) fn write_table<R: Source, W: Sink, E: Sink>(
     alloc: Global,
     options: Options,
     front: &str,
     input: &mut R,
     output: &mut W,
     errors: &mut E,
+    is_open: &mut bool,
 ) -> Result<bool, RunError>
     ensures ended { OnOk result (IsAtEnd (R.left input.new)) }
     ensures flushed { OnOk result (W.flushed output.new) }
-    ensures table { IfOk result (λ is_whole. (bytes lines : List ℕ)
-        × IsTable options bytes lines is_whole
-        × Consumes (R.left input.old) (R.left input.new) bytes
-        × Appends (W.held output.old) (W.held output.new) (HEADING.now ++ lines)) }
+    ensures table { IfOk result (Finishes options (R.left input.old) (R.left input.new)
+        (W.held output.old) (W.held output.new) HEADING.now front.now
+        (ReportsMore (E.held errors.old) ((e : RunError) × E.failed errors.old e) is_open.old
+        (E.held errors.new) ((e : RunError) × E.failed errors.new e) is_open.new)) }
     ensures failed { IfErr result (Fails options (R.left input.old) (R.left input.new)
-        (W.held output.old) (W.held output.new) HEADING.now (R.failed input.new)) }
+        (W.held output.old) (W.held output.new) HEADING.now front.now
+        (ReportsMore (E.held errors.old) ((e : RunError) × E.failed errors.old e) is_open.old
+        (E.held errors.new) ((e : RunError) × E.failed errors.new e) is_open.new)
+        (R.failed input.new)) }
     ensures cause { IfErr result (λ e. IsWriteFailure e → W.failed output.new e) }
 {
     let file = read_header(input)?;
@@ -76,8 +83,8 @@ fn write_table<R: Source, W: Sink, E: Write>(
         let bytes = packet.as_slice();
         let is_listed = list_packet(&mut written, &mut requests, options, number, bytes, &header)?;
         is_whole = is_whole && is_listed;
+        report(errors, is_open, written.issues.as_slice());
         send(output, written.lines.as_slice())?;
-        let _ = errors.write_all(written.issues.as_slice());
     }
     Err(RunError::Packet {
         packet: u64::MAX,

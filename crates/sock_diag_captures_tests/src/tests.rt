@@ -1,4 +1,7 @@
-use sock_diag_captures::{ByteOrder, CaptureError, HEADING, Options, RunError, run, run_to_status};
+use netlink_core::{DecodeError, RecordName};
+use sock_diag_captures::{
+    ByteOrder, CaptureError, HEADING, Issue, Options, RunError, run, run_to_status,
+};
 use std::alloc::Global;
 use std::io::{self, ErrorKind, Write};
 use std::process::Abort;
@@ -384,6 +387,74 @@ fn errors_of_a_run_have_words(rt: HostRuntime) {
     let text = format!(in rt.alloc(); "{cut}, {memory}, {lack}, {folder}").expect(&rt, "memory");
     let want = "packet 2: reading failed, out of memory, out of memory, the input is a directory";
     assert!(rt; text.as_str() == want);
+    let (full, closed) = (RunError::Write, RunError::Closed);
+    let (other, old) = (
+        CaptureError::NoCapture(0xa0b),
+        CaptureError::OtherVersion(1),
+    );
+    let text = format!(in rt.alloc(); "{full}, {closed}, {other}, {old}").expect(&rt, "memory");
+    let want = "writing failed, nobody reads the output, no pcap capture: it begins with 00000a0b, \
+pcap of version 1, not 2";
+    assert!(rt; text.as_str() == want);
+}
+
+/// A diagnostic of a fault has the fault's own text.
+fn has_the_text_of(rt: &impl Abort, alloc: Global, fault: DecodeError) {
+    let text = format!(in alloc; "{fault}").expect(rt, "memory");
+    let issue = Issue::Refused(fault);
+    let shown = format!(in alloc; "{issue}").expect(rt, "memory");
+    assert!(rt; shown.as_str() == text.as_str(), "{shown}");
+}
+
+/// Each fault, and each record that a fault names.
+#[test]
+fn faults_have_their_own_texts(rt: HostRuntime) {
+    let (family, message_type, kind) = (3, 21, Some(6));
+    let (got, need, left, index) = (5, 72, 2, 9);
+    let faults = [
+        DecodeError::Memory,
+        DecodeError::UnsupportedFamily { family },
+        DecodeError::MessageTooShort { got },
+        DecodeError::UnknownFamily { family },
+        DecodeError::UnknownMessageType { message_type },
+        DecodeError::AttributeHeaderCut { left },
+        DecodeError::AttributeLengthUnder4 { length: 3 },
+        DecodeError::AttributeLengthPast { length: 8, left },
+        DecodeError::WrongLength { kind, got, need },
+        DecodeError::NotMultipleOfFour { got },
+        DecodeError::NotUtf8,
+        DecodeError::NameEmpty,
+        DecodeError::NameInnerZero { index },
+        DecodeError::NameWithoutEnd,
+        DecodeError::EnvelopeCut { got },
+        DecodeError::EnvelopeLengthUnder16 { length: 7 },
+        DecodeError::EnvelopeLengthPast { length: 40, got },
+    ];
+    for fault in faults {
+        has_the_text_of(&rt, rt.alloc(), fault);
+    }
+    let records = [
+        RecordName::SocketId,
+        RecordName::InetRequest,
+        RecordName::InetResponseHeader,
+        RecordName::UnixRequest,
+        RecordName::UnixResponseHeader,
+        RecordName::LegacyMemInfo,
+        RecordName::MemInfo,
+        RecordName::TcpInfo,
+        RecordName::Vfs,
+        RecordName::UnixMemInfo,
+        RecordName::FamilyRequest { family },
+        RecordName::FamilyResponseHeader { family },
+        RecordName::FamilyAttribute { family, kind: 6 },
+    ];
+    for which in records {
+        has_the_text_of(
+            &rt,
+            rt.alloc(),
+            DecodeError::BufferTooSmall { which, got, need },
+        );
+    }
 }
 
 /// A packet of the most bytes, of another protocol, is passed over; and a flush fails, for two

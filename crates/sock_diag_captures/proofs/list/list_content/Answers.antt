@@ -1,7 +1,9 @@
 use Rattle.std.proofs.Common.{inl, List, ℕ, subst, ◌∙◌}
 use Rattle.std.proofs.lemmas.Result.{IfOk-weaker, on_ok_weaker}
+use Rattle.sock_diag_captures.specs.Diagnostics.{DiagnosesDatagram}
 use Rattle.sock_diag_captures.specs.Listing.{ListsDatagram}
 use Rattle.sock_diag_captures.proofs.Asking.{asked_of}
+use Rattle.sock_diag_captures.proofs.Diagnosing.{diagnosed_other, diagnosed_short}
 use Rattle.sock_diag_captures.proofs.list.list_content.Goals as goal
 
 pub returns-in-SockDiag-clause-lists : goal.returns-in-SockDiag-clause-lists
@@ -23,3 +25,24 @@ returns-in-SockDiag-clause-asked c =
     (λ noted. noted ∙ asked_of c.args.requests.now.asked.items c.args.packet.now
     c.in-SockDiag.datagram.now found.0 found.1 found.2)
     c.list_sock_diag.ensures.asked
+
+pub returns-in-SockDiag-clause-diagnosed : goal.returns-in-SockDiag-clause-diagnosed
+returns-in-SockDiag-clause-diagnosed c =
+    let found = c.in-SockDiag.ensures in
+    on_ok_weaker c.list_sock_diag.result
+    (λ diagnosed. inl (
+      (found.0, found.1),
+      subst (λ (d : List ℕ). DiagnosesDatagram c.args.written.now.front.now c.args.number d
+          c.args.written.now.issues.items c.list_sock_diag.new.written.issues.items) found.2
+          diagnosed,
+    ))
+    c.list_sock_diag.ensures.diagnosed
+
+pub returns-in-Other-clause-diagnosed : goal.returns-in-Other-clause-diagnosed
+returns-in-Other-clause-diagnosed c =
+    diagnosed_other _ _ _ _ c.in-Other.ensures.0 c.in-Other.ensures.1
+
+pub returns-in_ok-push_short-in-Short-clause-diagnosed :
+    goal.returns-in_ok-push_short-in-Short-clause-diagnosed
+returns-in_ok-push_short-in-Short-clause-diagnosed c =
+    diagnosed_short _ _ _ _ _ c.in-Short.ensures c.in_ok-push_short-in-Short.ensures.issues

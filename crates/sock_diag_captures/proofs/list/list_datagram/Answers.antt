@@ -1,51 +1,89 @@
-use Rattle.std.proofs.Common.{None, Some, refl, ◌∙◌}
+use Rattle.std.proofs.Common.{None, Some, refl, ◌∙◌, arith, rules}
+use Rattle.netlink_core.proofs.Datagrams.{shorter-rest}
 use Rattle.sock_diag_captures.specs.Listing.{IsPlain, message_lines}
+use Rattle.sock_diag_captures.proofs.Diagnosing.{bounded, counted_on, diagnosed_begins}
+use Rattle.sock_diag_captures.proofs.Diagnosing.{diagnosed_ends, diagnosed_goes_on}
+use Rattle.sock_diag_captures.proofs.Diagnosing.{diagnosed_stops, has_bytes}
 use Rattle.sock_diag_captures.proofs.Listings.{goes_on_clean, goes_on_unclean, listing_begins}
 use Rattle.sock_diag_captures.proofs.Listings.{listing_ends, listing_stops}
 use Rattle.sock_diag_captures.proofs.list.list_datagram.Goals as goal
 
 pub loop-item-init : goal.loop-item-init
 loop-item-init c = rw (c.into_iter-item-iterator.ensures.into_iter_gives, c.new-item-items.ensures)
-    (listing_begins (message_lines c.args.options c.args.requests.now.asked.items) IsPlain
-    c.args.datagram.now _)
+    record {
+      listing = listing_begins (message_lines c.args.options c.args.requests.now.asked.items)
+          IsPlain c.args.datagram.now _;
+      diagnosed = diagnosed_begins _ _ c.args.datagram.now _;
+      front = refl;
+    }
 
 pub loop-item-preserved : goal.loop-item-preserved
 loop-item-preserved c =
     let starts = rw c.in-Ok.is at c.in-Some.ensures.steps in
-    goes_on_unclean (message_lines c.args.options c.args.requests.now.asked.items) IsPlain
-    _ _ _ _ _ _ _ c.in-Ok.message.now c.if-is_clean.false
-    c.loop-item.invariant starts c.in_ok-is_plain-in-Ok.ensures.lines
+    let inv = c.loop-item.invariant in
+    let list = c.in_ok-is_plain-in-Ok.ensures in record {
+      listing = goes_on_unclean (message_lines c.args.options c.args.requests.now.asked.items)
+          IsPlain _ _ _ _ _ _ _ c.in-Ok.message.now c.if-is_clean.false
+          inv.listing starts list.lines;
+      diagnosed = diagnosed_goes_on _ _ _ _ _ _ _ _ _ _ c.in-Ok.message.now inv.diagnosed starts
+          (counted_on _ _ _ _ _ _ _ _ inv.diagnosed
+          (omega (arith, shorter-rest _ _ _ starts))
+          (bounded _ _ c.len-_most.ensures (search rules)) c.saturating_add-count.ensures)
+          (rw inv.front at list.diagnosed);
+      front = list.front ∙ inv.front;
+    }
 
 pub loop-item-preserved-then-is_clean : goal.loop-item-preserved-then-is_clean
 loop-item-preserved-then-is_clean c =
     let starts = rw c.in-Ok.is at c.in-Some.ensures.steps in
-    goes_on_clean (message_lines c.args.options c.args.requests.now.asked.items) IsPlain
-    _ _ _ _ _ _ _ _ c.in-Ok.message.now c.if-is_clean.true
-    c.loop-item.invariant starts c.in_ok-is_plain-in-Ok.ensures.lines
-    c.in_ok-is_plain-in-Ok.ensures.plain
+    let inv = c.loop-item.invariant in
+    let list = c.in_ok-is_plain-in-Ok.ensures in record {
+      listing = goes_on_clean (message_lines c.args.options c.args.requests.now.asked.items) IsPlain
+          _ _ _ _ _ _ _ _ c.in-Ok.message.now c.if-is_clean.true
+          inv.listing starts list.lines list.plain;
+      diagnosed = diagnosed_goes_on _ _ _ _ _ _ _ _ _ _ c.in-Ok.message.now inv.diagnosed starts
+          (counted_on _ _ _ _ _ _ _ _ inv.diagnosed
+          (omega (arith, shorter-rest _ _ _ starts))
+          (bounded _ _ c.len-_most.ensures (search rules)) c.saturating_add-count.ensures)
+          (rw inv.front at list.diagnosed);
+      front = list.front ∙ inv.front;
+    }
 
-pub returns-in-Err : goal.returns-in-Err
-returns-in-Err c =
-    let stop = rw c.in-Err.is at c.in-Some.ensures.steps in record {
-      messages = c.loop-item.invariant.passed;
+pub returns-in-Err-clause-lists : goal.returns-in-Err-clause-lists
+returns-in-Err-clause-lists c =
+    let stop = rw c.in-Err.is at c.in-Some.ensures.steps in
+    let inv = c.loop-item.invariant.listing in record {
+      messages = inv.passed;
       end = Some c.in-Err.fault;
       cut = listing_stops (message_lines c.args.options c.args.requests.now.asked.items) IsPlain
-          _ _ _ _ _ c.in-Err.fault c.loop-item.invariant
-          stop.0 stop.1;
-      lines = c.in_ok-push_issue-in-Err.ensures ∙ c.loop-item.invariant.lines;
+          _ _ _ _ _ c.in-Err.fault inv stop.0 stop.1;
+      lines = c.in_ok-push_issue-in-Err.ensures.lines ∙ inv.lines;
       clean = (λ wrong. absurd cc, λ both. absurd (let none = both.1 in cc));
     }
 
-pub returns : goal.returns
-returns c = record {
-  messages = c.loop-item.invariant.passed;
-  end = None;
-  cut = listing_ends (message_lines c.args.options c.args.requests.now.asked.items) IsPlain
-      _ _ _ _ _ c.loop-item.invariant
-      c.in-None.ensures.steps.0;
-  lines = c.loop-item.invariant.lines;
-  clean = (
-    λ is. (c.loop-item.invariant.flagged is, refl),
-    λ both. c.loop-item.invariant.clean_only both.0,
-  );
-}
+pub returns-in-Err-clause-diagnosed : goal.returns-in-Err-clause-diagnosed
+returns-in-Err-clause-diagnosed c =
+    let stop = rw c.in-Err.is at c.in-Some.ensures.steps in
+    let inv = c.loop-item.invariant in
+    let more = counted_on _ _ _ _ _ _ _ _ inv.diagnosed (has_bytes _ stop.0)
+    (bounded _ _ c.len-_most.ensures (search rules)) c.saturating_add-count.ensures in
+    diagnosed_stops _ _ _ _ _ _ _ _ c.in-Err.fault inv.diagnosed stop.0 stop.1
+    (rw (more, inv.front) at c.in_ok-push_issue-in-Err.ensures.issues)
+
+pub returns-clause-lists : goal.returns-clause-lists
+returns-clause-lists c =
+    let inv = c.loop-item.invariant.listing in record {
+      messages = inv.passed;
+      end = None;
+      cut = listing_ends (message_lines c.args.options c.args.requests.now.asked.items) IsPlain
+          _ _ _ _ _ inv c.in-None.ensures.steps.0;
+      lines = inv.lines;
+      clean = (
+        λ is. (inv.flagged is, refl),
+        λ both. inv.clean_only both.0,
+      );
+    }
+
+pub returns-clause-diagnosed : goal.returns-clause-diagnosed
+returns-clause-diagnosed c =
+    diagnosed_ends _ _ _ _ _ _ _ c.loop-item.invariant.diagnosed c.in-None.ensures.steps.0

@@ -5,3 +5,8 @@ pub returns-clause-lists : goal.returns-clause-lists
 returns-clause-lists c =
     listed_whole _ _ _ _ _ _ _ c.in_ok-is_whole.ensures.whole
     (rw c.in_ok-is_whole.ensures.lines at c.in_ok-is_listed.ensures.lists)
+
+pub returns-clause-diagnosed : goal.returns-clause-diagnosed
+returns-clause-diagnosed c =
+    rw (c.in_ok-is_whole.ensures.issues, c.in_ok-is_whole.ensures.front) at
+    c.in_ok-is_listed.ensures.diagnosed

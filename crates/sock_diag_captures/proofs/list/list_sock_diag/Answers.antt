@@ -1,5 +1,5 @@
 use Rattle.std.proofs.Common.{inl, inr, refl}
-use Rattle.std.proofs.lemmas.Result.{IfOk-weaker}
+use Rattle.std.proofs.lemmas.Result.{IfOk-weaker, on_ok_weaker}
 use Rattle.sock_diag_captures.proofs.list.list_sock_diag.Goals as goal
 
 pub returns-clause-lists : goal.returns-clause-lists
@@ -10,7 +10,7 @@ returns-clause-lists c =
           c.if-is_request.false in cc,
       lists,
     ))
-    c.list_datagram.ensures
+    c.list_datagram.ensures.lists
 
 pub returns-then-is_request-clause-lists : goal.returns-then-is_request-clause-lists
 returns-then-is_request-clause-lists c =
@@ -19,3 +19,17 @@ returns-then-is_request-clause-lists c =
       c.in_ok-push_shown_request.ensures,
       refl,
     )
+
+pub returns-clause-diagnosed : goal.returns-clause-diagnosed
+returns-clause-diagnosed c =
+    on_ok_weaker c.list_datagram.result
+    (λ diagnosed. inl (
+      λ request. let asked = c.is_request.ensures.1 request in let none =
+          c.if-is_request.false in cc,
+      diagnosed,
+    ))
+    c.list_datagram.ensures.diagnosed
+
+pub returns-then-is_request-clause-diagnosed : goal.returns-then-is_request-clause-diagnosed
+returns-then-is_request-clause-diagnosed c =
+    inr (c.is_request.ensures.0 c.if-is_request.true, refl)

@@ -1,10 +1,19 @@
+use Rattle.std.proofs.Common.{◌≡◌}
 use Rattle.capture_tables.specs.Capture.{IsRecord}
+use Rattle.capture_tables.specs.Reports.{ReportsMore}
+use Rattle.capture_tables.specs.declared.run.RunError.{RunError}
 use Rattle.sock_diag_captures.proofs.Progress.{Progress}
 use Rattle.sock_diag_captures.proofs.stream.write_table.Given as goal
 
--- the packets so far were read and listed
+-- the packets so far were read and listed, and their diagnostics reported
 abbrev pub invariant-packets : goal.invariant-packets
-invariant-packets g l =
-    Progress l.options (IsRecord l.file) (g.R.Source.left l.initial.input) (g.R.Source.left l.input)
-    (g.W.Sink.held l.initial.output) (g.W.Sink.held l.output) l.requests.asked.items l.is_whole
-    l.number
+invariant-packets g l = record {
+  listed : Progress l.options l.front (IsRecord l.file) (g.R.Source.left l.initial.input)
+      (g.R.Source.left l.input) (g.W.Sink.held l.initial.output) (g.W.Sink.held l.output)
+      l.requests.asked.items l.is_whole l.number;
+  reported : ReportsMore (g.E.Sink.held l.initial.errors)
+      ((e : RunError) × g.E.Sink.failed l.initial.errors e) l.initial.is_open
+      (g.E.Sink.held l.errors) ((e : RunError) × g.E.Sink.failed l.errors e) l.is_open
+      listed.diagnostics;
+  front : l.written.front.now ≡ l.front;
+}

@@ -1,0 +1,146 @@
+-- The diagnostics of a datagram, message by message.
+use Rattle.std.proofs.Common.{◌≡◌, ◌≢◌, ℕ, ◌+◌, ◌≤◌, List, [], ◌∷◌, ◌++◌, length, refl, sym}
+use Rattle.std.proofs.Common.{ap, subst, ◌∙◌, append_assoc, arith, inr, ◌<◌, ◌-◌, ◌^◌, min}
+use Rattle.std.proofs.lemmas.Bool.{le-ltb, lt-ltb}
+use Rattle.capture_tables.specs.Cooked.{IsOfSockDiag}
+use Rattle.capture_tables.specs.Reports.{short_line}
+use Rattle.std.specs.Prelude.{Option, None, Some}
+use Rattle.std.proofs.lemmas.List.{append-nil, length-append}
+use Rattle.netlink_core.proofs.Datagrams.{shorter-rest}
+use Rattle.netlink_core.specs.Datagram.{CutIntoMessages, StartsWithMessage}
+use Rattle.netlink_core.specs.Header.{IsEnvelopeFault}
+use Rattle.netlink_core.specs.declared.fault.DecodeError.{DecodeError}
+use Rattle.sock_diag_captures.specs.Diagnostics.{DiagnosesContent, DiagnosesMessages, end_line}
+use Rattle.sock_diag_captures.specs.Diagnostics.{lines_about}
+use Rattle.sock_diag_captures.specs.Diagnostics.{lines_about_message}
+
+-- a length that was measured is that of a word
+pub bounded : (bytes : List ℕ) (n : ℕ) → n ≡ length bytes → n < 2 ^ 64 → length bytes < 2 ^ 64
+bounded bytes n is fits = omega (arith, is, fits)
+
+-- what is not empty has bytes
+pub has_bytes : (bytes : List ℕ) → bytes ≢ [] → 0 < length bytes
+has_bytes [] some = absurd (some refl)
+has_bytes (b ∷ bytes) some = omega arith
+
+module _ (front : List ℕ) (packet : ℕ) where
+  about_push : (n : ℕ) (xs : List (List ℕ)) (m : List ℕ)
+      → lines_about front packet n (xs ++ m ∷ [])
+      ≡ lines_about front packet n xs ++ lines_about_message front packet (length xs + n) m
+  about_push n [] m =
+      let same : n ≡ 0 + n = omega arith in
+      append-nil (lines_about_message front packet n m)
+      ∙ ap (λ (k : ℕ). lines_about_message front packet k m) same
+  about_push n (x ∷ xs) m =
+      let same : length xs + (n + 1) ≡ length (x ∷ xs) + n = omega arith in
+      let first = lines_about_message front packet n x in
+      let later = lines_about front packet (n + 1) xs in
+      ap (λ (t : List ℕ). first ++ t) (about_push (n + 1) xs m)
+      ∙ sym (append_assoc first later (lines_about_message front packet (length xs + (n + 1)) m))
+      ∙ ap (λ (k : ℕ). (first ++ later) ++ lines_about_message front packet k m) same
+
+  -- so many messages were diagnosed, and what is left goes on from there
+  pub record Diagnosed (datagram rest before after : List ℕ) (count : ℕ) : Type 0 where
+    pub passed : List (List ℕ)
+    pub walk : (later : List (List ℕ)) (end : Option DecodeError) → CutIntoMessages rest later end
+        → CutIntoMessages datagram (passed ++ later) end
+    pub lines : after ≡ before ++ lines_about front packet 1 passed
+    pub counted : count ≡ length passed
+    pub short : length passed + length rest ≤ length datagram
+
+  -- no message is diagnosed yet
+  pub diagnosed_begins : (datagram before : List ℕ) → Diagnosed datagram datagram before before 0
+  diagnosed_begins datagram before = record {
+    passed = [];
+    walk = λ later end cut. cut;
+    lines = sym (append-nil before);
+    counted = refl;
+    short = omega arith;
+  }
+
+  -- one more message is diagnosed
+  pub diagnosed_goes_on : (datagram rest next before after after' : List ℕ) (count count' : ℕ)
+      (m : List ℕ)
+      → Diagnosed datagram rest before after count → StartsWithMessage rest m next
+      → count' ≡ count + 1 → after' ≡ after ++ lines_about_message front packet count' m
+      → Diagnosed datagram next before after' count'
+  diagnosed_goes_on datagram rest next before after after' count count' m so_far starts more added =
+      let passed = so_far.passed in
+      let same : count' ≡ length passed + 1 = more ∙ ap (λ (k : ℕ). k + 1) so_far.counted in
+      let size = length-append passed (m ∷ []) in record {
+        passed = passed ++ m ∷ [];
+        walk = λ later end cut. subst
+            (λ (all : List (List ℕ)). CutIntoMessages datagram all end)
+            (sym (append_assoc passed (m ∷ []) later))
+            (so_far.walk (m ∷ later) end (next, starts, cut));
+        lines =
+            added ∙ ap (λ (t : List ℕ). t ++ lines_about_message front packet count' m) so_far.lines
+            ∙ ap (λ (k : ℕ). (before ++ lines_about front packet 1 passed)
+            ++ lines_about_message front packet k m) same
+            ∙ append_assoc before (lines_about front packet 1 passed)
+            (lines_about_message front packet (length passed + 1) m)
+            ∙ ap (λ (t : List ℕ). before ++ t) (sym (about_push 1 passed m));
+        counted = omega (arith, same, size);
+        short = omega (arith, so_far.short, size, shorter-rest rest m next starts);
+      }
+
+  -- the number of the next message fits, since each message has bytes
+  pub counted_on : (datagram rest before after : List ℕ) (count count' : ℕ)
+      → Diagnosed datagram rest before after count → 0 < length rest
+      → length datagram < 2 ^ 64 → count' ≡ min (count + 1) (2 ^ 64 - 1) → count' ≡ count + 1
+  counted_on datagram rest before after count count' so_far some short next =
+      let fits : count + 1 ≤ 2 ^ 64 - 1 =
+      omega (arith, so_far.counted, so_far.short, some, short) in
+      grind arith
+
+  all_of : (datagram rest before after : List ℕ) (count : ℕ) (end : Option DecodeError)
+      (so_far : Diagnosed datagram rest before after count) → CutIntoMessages rest [] end
+      → CutIntoMessages datagram so_far.passed end
+  all_of datagram rest before after count end so_far cut =
+      subst (λ (all : List (List ℕ)). CutIntoMessages datagram all end)
+      (append-nil so_far.passed) (so_far.walk [] end cut)
+
+  -- if nothing is left, the messages that were diagnosed are all
+  pub diagnosed_ends : (datagram rest before after : List ℕ) (count : ℕ)
+      → Diagnosed datagram rest before after count → rest ≡ []
+      → DiagnosesMessages front packet datagram before after
+  diagnosed_ends datagram rest before after count so_far none = record {
+    messages = so_far.passed;
+    end = None;
+    cut = all_of datagram rest before after count None so_far none;
+    lines = so_far.lines ∙ ap (λ (t : List ℕ). before ++ t)
+        (sym (append-nil (lines_about front packet 1 so_far.passed)));
+  }
+
+  -- if no message is there, those that were diagnosed are followed by its line
+  pub diagnosed_stops : (datagram rest before after after' : List ℕ) (count : ℕ) (e : DecodeError)
+      → Diagnosed datagram rest before after count → rest ≢ [] → IsEnvelopeFault rest e
+      → after' ≡ after ++ end_line front packet (count + 1) (Some e)
+      → DiagnosesMessages front packet datagram before after'
+  diagnosed_stops datagram rest before after after' count e so_far some fault added = record {
+    messages = so_far.passed;
+    end = Some e;
+    cut = all_of datagram rest before after count (Some e) so_far (some, fault);
+    lines =
+        added ∙ ap (λ (t : List ℕ). t ++ end_line front packet (count + 1) (Some e)) so_far.lines
+        ∙ append_assoc before (lines_about front packet 1 so_far.passed)
+        (end_line front packet (count + 1) (Some e))
+        ∙ ap (λ (k : ℕ). before ++ (lines_about front packet 1 so_far.passed
+        ++ end_line front packet (k + 1) (Some e))) so_far.counted;
+  }
+
+-- a packet of another protocol
+pub diagnosed_other : (front : List ℕ) (packet : ℕ) (bytes before : List ℕ) → 16 ≤ length bytes
+    → ¬ IsOfSockDiag bytes → DiagnosesContent front packet bytes before before
+diagnosed_other front packet bytes before long wrong =
+    inr (λ is. wrong is.1, sym (rw (le-ltb (length bytes) 16 long) (append-nil before)))
+
+-- a packet that is too short
+pub diagnosed_short : (front : List ℕ) (packet : ℕ) (bytes before after : List ℕ)
+    → length bytes < 16 → after ≡ before ++ short_line front packet
+    → DiagnosesContent front packet bytes before after
+diagnosed_short front packet bytes before after short added =
+    inr (
+      λ is. absurd (omega (arith, is.0, short)),
+      added ∙ sym (rw (lt-ltb (length bytes) 16 short) refl),
+    )

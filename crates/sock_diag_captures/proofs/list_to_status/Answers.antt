@@ -1,0 +1,31 @@
+use Rattle.std.proofs.Common.{true, ◌++◌}
+use Rattle.capture_tables.proofs.Reporting.{reports_from_start, reports_then}
+use Rattle.capture_tables.specs.Reports.{Reports, ReportsMore}
+use Rattle.capture_tables.specs.declared.run.RunError.{RunError}
+use Rattle.sock_diag_captures.proofs.Failing.{outcome_of}
+use Rattle.sock_diag_captures.specs.RunSteps.{closing_text}
+use Rattle.sock_diag_captures.proofs.list_to_status.Goals as goal
+
+pub returns-clause-outcome : goal.returns-clause-outcome
+returns-clause-outcome g c =
+    let outcome = c.write_table-outcome.result in
+    let start = g.E.Sink.held c.args.errors.now in
+    let before = g.E.Sink.held c.write_table-outcome.new.errors in
+    let end = g.E.Sink.held c.report_outcome.new.errors in
+    let none : Type 0 = (e : RunError) × g.E.Sink.failed c.args.errors.now e in
+    let some : Type 0 = (e : RunError) × g.E.Sink.failed c.write_table-outcome.new.errors e in
+    let last : Type 0 = (e : RunError) × g.E.Sink.failed c.report_outcome.new.errors e in
+    let opened = c.write_table-outcome.new.is_open in
+    let is_open = c.report_outcome.new.is_open in
+    let closing = closing_text c.args.front.now outcome in (
+      outcome,
+      is_open,
+      c.exit_code.ensures.success,
+      c.exit_code.ensures.failure,
+      outcome_of _ _ _ _ _ _ _ (ReportsMore start none true before some opened)
+          (λ d. Reports start end last d is_open) _ outcome
+          (λ d first. reports_from_start start end none last is_open (d ++ closing)
+          (reports_then start before end none some last true opened is_open d closing first
+          c.report_outcome.ensures))
+          c.write_table-outcome.ensures.table c.write_table-outcome.ensures.failed,
+    )

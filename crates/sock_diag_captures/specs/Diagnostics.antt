@@ -1,0 +1,178 @@
+-- The lines about packets on standard error.
+use Rattle.std.specs.Prelude.{◌≡◌, ℕ, ◌+◌, ◌==◌, if◌then◌else◌, nat_lt, List, [], ◌∷◌, ◌++◌, ◌⊎◌}
+use Rattle.std.specs.Prelude.{bit_and, codes, decimal, drop, length, Option, None, Some}
+use Rattle.byteorder.specs.Endian.{little_number}
+use Rattle.capture_tables.specs.Capture.{Recorded}
+use Rattle.capture_tables.specs.Reports.{cut_line, short_line}
+use Rattle.netlink_core.specs.Datagram.{CutIntoMessages}
+use Rattle.netlink_core.specs.declared.fault.DecodeError.{DecodeError}
+use Rattle.netlink_core.specs.declared.fault.DecodeError.TheVariants.{Memory, BufferTooSmall}
+use Rattle.netlink_core.specs.declared.fault.DecodeError.TheVariants.{UnsupportedFamily}
+use Rattle.netlink_core.specs.declared.fault.DecodeError.TheVariants.{MessageTooShort}
+use Rattle.netlink_core.specs.declared.fault.DecodeError.TheVariants.{UnknownFamily}
+use Rattle.netlink_core.specs.declared.fault.DecodeError.TheVariants.{UnknownMessageType}
+use Rattle.netlink_core.specs.declared.fault.DecodeError.TheVariants.{AttributeHeaderCut}
+use Rattle.netlink_core.specs.declared.fault.DecodeError.TheVariants.{AttributeLengthUnder4}
+use Rattle.netlink_core.specs.declared.fault.DecodeError.TheVariants.{AttributeLengthPast}
+use Rattle.netlink_core.specs.declared.fault.DecodeError.TheVariants.{WrongLength}
+use Rattle.netlink_core.specs.declared.fault.DecodeError.TheVariants.{NotMultipleOfFour, NotUtf8}
+use Rattle.netlink_core.specs.declared.fault.DecodeError.TheVariants.{NameEmpty, NameInnerZero}
+use Rattle.netlink_core.specs.declared.fault.DecodeError.TheVariants.{NameWithoutEnd, EnvelopeCut}
+use Rattle.netlink_core.specs.declared.fault.DecodeError.TheVariants.{EnvelopeLengthUnder16}
+use Rattle.netlink_core.specs.declared.fault.DecodeError.TheVariants.{EnvelopeLengthPast}
+use Rattle.netlink_core.specs.declared.fault.RecordName.{RecordName}
+use Rattle.netlink_core.specs.declared.fault.RecordName.TheVariants.{SocketId, InetRequest}
+use Rattle.netlink_core.specs.declared.fault.RecordName.TheVariants.{InetResponseHeader}
+use Rattle.netlink_core.specs.declared.fault.RecordName.TheVariants.{UnixRequest}
+use Rattle.netlink_core.specs.declared.fault.RecordName.TheVariants.{UnixResponseHeader}
+use Rattle.netlink_core.specs.declared.fault.RecordName.TheVariants.{LegacyMemInfo, MemInfo}
+use Rattle.netlink_core.specs.declared.fault.RecordName.TheVariants.{TcpInfo, Vfs, UnixMemInfo}
+use Rattle.netlink_core.specs.declared.fault.RecordName.TheVariants.{FamilyRequest}
+use Rattle.netlink_core.specs.declared.fault.RecordName.TheVariants.{FamilyResponseHeader}
+use Rattle.netlink_core.specs.declared.fault.RecordName.TheVariants.{FamilyAttribute}
+use Rattle.sock_diag_captures.specs.Listing.{IsRequest, IsSockDiag, message_issue}
+use Rattle.sock_diag_captures.specs.declared.list.Issue.{Issue}
+use Rattle.sock_diag_captures.specs.declared.list.Issue.TheVariants.{Refused, Answered, NoEntry}
+use Rattle.sock_diag_captures.specs.declared.list.Issue.TheVariants.{Invalid, Interrupted, Lost}
+
+-- ---- texts
+
+-- the name of a record, with its family and kind
+abbrev pub record_text : RecordName → List ℕ
+record_text SocketId = codes "SocketId"
+record_text InetRequest = codes "InetRequest"
+record_text InetResponseHeader = codes "InetResponseHeader"
+record_text UnixRequest = codes "UnixRequest"
+record_text UnixResponseHeader = codes "UnixResponseHeader"
+record_text LegacyMemInfo = codes "LegacyMemInfo"
+record_text MemInfo = codes "MemInfo"
+record_text TcpInfo = codes "TcpInfo"
+record_text Vfs = codes "Vfs"
+record_text UnixMemInfo = codes "UnixMemInfo"
+record_text (FamilyRequest family) =
+    codes "FamilyRequest { family: " ++ decimal family ++ codes " }"
+record_text (FamilyResponseHeader family) =
+    codes "FamilyResponseHeader { family: " ++ decimal family ++ codes " }"
+record_text (FamilyAttribute family kind) =
+    codes "FamilyAttribute { family: " ++ decimal family ++ codes ", kind: " ++ decimal kind
+    ++ codes " }"
+
+-- why bytes are rejected
+abbrev pub fault_text : DecodeError → List ℕ
+fault_text Memory = codes "out of memory"
+fault_text (BufferTooSmall which got need) =
+    record_text which ++ codes ": buffer of " ++ decimal got ++ codes " bytes, at least "
+    ++ decimal need ++ codes " needed"
+fault_text (UnsupportedFamily family) =
+    codes "unsupported address family " ++ decimal family
+    ++ codes ": expected AF_INET (2) or AF_INET6 (10)"
+fault_text (MessageTooShort got) =
+    codes "invalid buffer: length is " ++ decimal got ++ codes " but packets are at least 2 bytes"
+fault_text (UnknownFamily family) = codes "unknown address family " ++ decimal family
+fault_text (UnknownMessageType message_type) =
+    codes "unknown message type " ++ decimal message_type
+fault_text (AttributeHeaderCut left) =
+    codes "attribute header cut: " ++ decimal left ++ codes " bytes left"
+fault_text (AttributeLengthUnder4 len) =
+    codes "attribute length " ++ decimal len ++ codes " is under 4"
+fault_text (AttributeLengthPast len left) =
+    codes "attribute length " ++ decimal len ++ codes " is past the " ++ decimal left
+    ++ codes " bytes left"
+fault_text (WrongLength kind got need) =
+    codes "value of " ++ decimal got ++ codes " bytes, " ++ decimal need ++ codes " needed"
+fault_text (NotMultipleOfFour got) =
+    codes "value of " ++ decimal got ++ codes " bytes is no multiple of 4"
+fault_text NotUtf8 = codes "text is not UTF-8"
+fault_text NameEmpty = codes "name is empty"
+fault_text (NameInnerZero index) = codes "pathname holds a zero at " ++ decimal index
+fault_text NameWithoutEnd = codes "pathname is not null-terminated"
+fault_text (EnvelopeCut got) = codes "message header cut: " ++ decimal got ++ codes " bytes"
+fault_text (EnvelopeLengthUnder16 len) =
+    codes "message length " ++ decimal len ++ codes " is under 16"
+fault_text (EnvelopeLengthPast len got) =
+    codes "message length " ++ decimal len ++ codes " is past the " ++ decimal got
+    ++ codes " bytes given"
+
+-- what is reported of a message
+abbrev pub issue_text : Issue → List ℕ
+issue_text (Refused fault) = fault_text fault
+issue_text (Answered errno) = codes "the kernel answers error " ++ decimal errno
+issue_text NoEntry = codes "note: the kernel answers ENOENT"
+issue_text Invalid = codes "note: the kernel answers EINVAL"
+issue_text Interrupted = codes "the dump changed while it was taken"
+issue_text Lost = codes "the kernel lost data"
+
+-- ---- lines; `front` begins each line, and packets and messages have numbers from 1 on
+
+-- the line about an issue of the message of this number in the packet of that number
+abbrev pub message_line : List ℕ → ℕ → ℕ → Issue → List ℕ
+message_line front packet message issue =
+    front ++ codes "packet " ++ decimal packet ++ codes ", message " ++ decimal message
+    ++ codes ": " ++ issue_text issue ++ 10 ∷ []
+
+-- such a line, if there is an issue
+abbrev pub issue_line : List ℕ → ℕ → ℕ → Option Issue → List ℕ
+issue_line front packet message None = []
+issue_line front packet message (Some issue) = message_line front packet message issue
+
+-- a message with NLM_F_DUMP_INTR, 16, among its flags is reported
+abbrev pub interrupted_issue : List ℕ → Option Issue
+interrupted_issue m =
+    if bit_and (little_number 2 (drop 6 m)) 16 == 0 then None else Some Interrupted
+
+-- the lines about the message of this number: that the dump changed, then what the message says
+abbrev pub lines_about_message : List ℕ → ℕ → ℕ → List ℕ → List ℕ
+lines_about_message front packet message m =
+    issue_line front packet message (interrupted_issue m)
+    ++ issue_line front packet message (message_issue m)
+
+-- the lines about consecutive messages, of which the first has this number
+abbrev pub lines_about : List ℕ → ℕ → ℕ → List (List ℕ) → List ℕ
+lines_about front packet message [] = []
+lines_about front packet message (m ∷ later) =
+    lines_about_message front packet message m ++ lines_about front packet (message + 1) later
+
+-- the line about what follows the last message, if that is no message
+abbrev pub end_line : List ℕ → ℕ → ℕ → Option DecodeError → List ℕ
+end_line front packet message None = []
+end_line front packet message (Some fault) = message_line front packet message (Refused fault)
+
+-- ---- datagrams and packets
+
+-- The lines about the messages of a datagram follow those before, in order, and then the line about
+-- what is no message.
+pub record DiagnosesMessages (front : List ℕ) (packet : ℕ) (datagram before after : List ℕ)
+    : Type 0 where
+  pub messages : List (List ℕ)
+  pub end : Option DecodeError
+  pub cut : CutIntoMessages datagram messages end
+  pub lines : after ≡ before ++ (lines_about front packet 1 messages
+      ++ end_line front packet (length messages + 1) end)
+
+-- the lines about a datagram that is no request; none about a request
+abbrev pub DiagnosesDatagram : List ℕ → ℕ → List ℕ → List ℕ → List ℕ → Type 0
+DiagnosesDatagram front packet datagram before after =
+    ((IsRequest datagram → ⊥) × DiagnosesMessages front packet datagram before after)
+    ⊎ (IsRequest datagram × (after ≡ before))
+
+-- the lines about the bytes of a packet: those about its datagram if it is one of sock_diag(7), the
+-- line about one with fewer than 16 bytes, and none about another
+abbrev pub DiagnosesContent : List ℕ → ℕ → List ℕ → List ℕ → List ℕ → Type 0
+DiagnosesContent front packet bytes before after =
+    (IsSockDiag bytes × DiagnosesDatagram front packet (drop 16 bytes) before after)
+    ⊎ ((¬ IsSockDiag bytes)
+    × (after ≡ before ++ (if nat_lt (length bytes) 16 then short_line front packet else [])))
+
+-- the lines about the packet of this number follow those before: the one that it is cut, then those
+-- about its bytes
+abbrev pub DiagnosesPacket : List ℕ → ℕ → Recorded → List ℕ → List ℕ → Type 0
+DiagnosesPacket front number packet before after =
+    DiagnosesContent front number packet.bytes
+    (before ++ cut_line front number (length packet.bytes) packet.header.whole_length) after
+
+-- the lines about consecutive packets, of which the first has this number
+abbrev pub AreDiagnosed : List ℕ → ℕ → List Recorded → List ℕ → Type 0
+AreDiagnosed front number [] lines = lines ≡ []
+AreDiagnosed front number (packet ∷ packets) lines =
+    (first rest : List ℕ) × DiagnosesPacket front number packet [] first
+    × AreDiagnosed front (number + 1) packets rest × (lines ≡ first ++ rest)
