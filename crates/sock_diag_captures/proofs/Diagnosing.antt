@@ -1,6 +1,6 @@
 -- The diagnostics of a datagram, message by message.
 use Rattle.std.proofs.Common.{◌≡◌, ◌≢◌, ℕ, ◌+◌, ◌≤◌, List, [], ◌∷◌, ◌++◌, length, refl, sym}
-use Rattle.std.proofs.Common.{ap, subst, ◌∙◌, append_assoc, arith, inr, ◌<◌, ◌-◌, ◌^◌, min}
+use Rattle.std.proofs.Common.{ap, subst, ◌∙◌, append_assoc, arith, inr, ◌<◌}
 use Rattle.std.proofs.lemmas.Bool.{le-ltb, lt-ltb}
 use Rattle.capture_tables.specs.Cooked.{IsOfSockDiag}
 use Rattle.capture_tables.specs.Reports.{short_line}
@@ -13,10 +13,6 @@ use Rattle.netlink_core.specs.declared.fault.DecodeError.{DecodeError}
 use Rattle.sock_diag_captures.specs.Diagnostics.{DiagnosesContent, DiagnosesMessages, end_line}
 use Rattle.sock_diag_captures.specs.Diagnostics.{lines_about}
 use Rattle.sock_diag_captures.specs.Diagnostics.{lines_about_message}
-
--- a length that was measured is that of a word
-pub bounded : (bytes : List ℕ) (n : ℕ) → n ≡ length bytes → n < 2 ^ 64 → length bytes < 2 ^ 64
-bounded bytes n is fits = omega (arith, is, fits)
 
 -- what is not empty has bytes
 pub has_bytes : (bytes : List ℕ) → bytes ≢ [] → 0 < length bytes
@@ -84,14 +80,12 @@ module _ (front : List ℕ) (packet : ℕ) where
         short = omega (arith, so_far.short, size, shorter-rest rest m next starts);
       }
 
-  -- the number of the next message fits, since each message has bytes
+  -- the number of the next message is at most the length, since each message has bytes
   pub counted_on : (datagram rest before after : List ℕ) (count count' : ℕ)
       → Diagnosed datagram rest before after count → 0 < length rest
-      → length datagram < 2 ^ 64 → count' ≡ min (count + 1) (2 ^ 64 - 1) → count' ≡ count + 1
-  counted_on datagram rest before after count count' so_far some short next =
-      let fits : count + 1 ≤ 2 ^ 64 - 1 =
-      omega (arith, so_far.counted, so_far.short, some, short) in
-      grind arith
+      → (count < length datagram → count' ≡ count + 1) → count' ≡ count + 1
+  counted_on datagram rest before after count count' so_far some next =
+      next (omega (arith, so_far.counted, so_far.short, some))
 
   all_of : (datagram rest before after : List ℕ) (count : ℕ) (end : Option DecodeError)
       (so_far : Diagnosed datagram rest before after count) → CutIntoMessages rest [] end

@@ -1,7 +1,7 @@
 //! The sockets that the packets of a capture tell, line by line, and what is told of a packet that
 //! can't be listed whole.
 
-ghost use Rattle.std.specs.Prelude.{◌≡◌, ◌↔◌, ◌≤◌, ◌++◌, IfOk, OnOk, IsTrue, length};
+ghost use Rattle.std.specs.Prelude.{◌≡◌, ◌↔◌, ◌≤◌, ◌<◌, ◌+◌, ◌++◌, IfOk, OnOk, IsTrue, length};
 ghost use Rattle.std.specs.Prelude.{option_map, Some};
 ghost use Rattle.capture_tables.specs.Capture.{recorded};
 ghost use Rattle.sock_diag_captures.specs.Diagnostics.{DiagnosesContent, DiagnosesDatagram};
@@ -195,12 +195,10 @@ fn list_datagram(
         written.old.issues.items written.new.issues.items) }
     ensures front { written.new.front ≡ written.old.front }
 {
-    // Proof only: there are at most as many messages as bytes, so that their numbers fit.
-    let _most = datagram.len();
     let mut is_clean = true;
     let mut count = 0u64;
     for item in MessageStrings::new(datagram) {
-        count = count.saturating_add(1);
+        count = next_number(count, datagram.len());
         let place = Place {
             packet: number,
             message: count,
@@ -217,6 +215,14 @@ fn list_datagram(
         }
     }
     Ok(is_clean)
+}
+
+/// Returns the number of the next message of a datagram, at most the datagram's length.
+fn next_number(count: u64, most: usize) -> u64
+    ensures { count < most → result ≡ count + 1 }
+{
+    let most = most as u64;
+    if count < most { count + 1 } else { most }
 }
 
 /// Adds the lines of a message and what is told of it, and answers whether that is nothing, or a

@@ -1,7 +1,7 @@
-use Rattle.std.proofs.Common.{None, Some, refl, ◌∙◌, arith, rules}
+use Rattle.std.proofs.Common.{None, Some, refl, ◌∙◌, arith}
 use Rattle.netlink_core.proofs.Datagrams.{shorter-rest}
 use Rattle.sock_diag_captures.specs.Listing.{IsPlain, message_lines}
-use Rattle.sock_diag_captures.proofs.Diagnosing.{bounded, counted_on, diagnosed_begins}
+use Rattle.sock_diag_captures.proofs.Diagnosing.{counted_on, diagnosed_begins}
 use Rattle.sock_diag_captures.proofs.Diagnosing.{diagnosed_ends, diagnosed_goes_on}
 use Rattle.sock_diag_captures.proofs.Diagnosing.{diagnosed_stops, has_bytes}
 use Rattle.sock_diag_captures.proofs.Listings.{goes_on_clean, goes_on_unclean, listing_begins}
@@ -27,8 +27,7 @@ loop-item-preserved c =
           inv.listing starts list.lines;
       diagnosed = diagnosed_goes_on _ _ _ _ _ _ _ _ _ _ c.in-Ok.message.now inv.diagnosed starts
           (counted_on _ _ _ _ _ _ _ _ inv.diagnosed
-          (omega (arith, shorter-rest _ _ _ starts))
-          (bounded _ _ c.len-_most.ensures (search rules)) c.saturating_add-count.ensures)
+          (omega (arith, shorter-rest _ _ _ starts)) c.next_number-count.ensures)
           (rw inv.front at list.diagnosed);
       front = list.front ∙ inv.front;
     }
@@ -43,8 +42,7 @@ loop-item-preserved-then-is_clean c =
           inv.listing starts list.lines list.plain;
       diagnosed = diagnosed_goes_on _ _ _ _ _ _ _ _ _ _ c.in-Ok.message.now inv.diagnosed starts
           (counted_on _ _ _ _ _ _ _ _ inv.diagnosed
-          (omega (arith, shorter-rest _ _ _ starts))
-          (bounded _ _ c.len-_most.ensures (search rules)) c.saturating_add-count.ensures)
+          (omega (arith, shorter-rest _ _ _ starts)) c.next_number-count.ensures)
           (rw inv.front at list.diagnosed);
       front = list.front ∙ inv.front;
     }
@@ -66,7 +64,7 @@ returns-in-Err-clause-diagnosed c =
     let stop = rw c.in-Err.is at c.in-Some.ensures.steps in
     let inv = c.loop-item.invariant in
     let more = counted_on _ _ _ _ _ _ _ _ inv.diagnosed (has_bytes _ stop.0)
-    (bounded _ _ c.len-_most.ensures (search rules)) c.saturating_add-count.ensures in
+    c.next_number-count.ensures in
     diagnosed_stops _ _ _ _ _ _ _ _ c.in-Err.fault inv.diagnosed stop.0 stop.1
     (rw (more, inv.front) at c.in_ok-push_issue-in-Err.ensures.issues)
 
