@@ -148,7 +148,7 @@ fn lossy_dumps(rt: HostRuntime) {
     }
 }
 
-/// What keeps no message takes no memory.
+/// A dump that retains no message never fails, whichever allocations fail.
 #[test]
 fn spare_dumps(rt: HostRuntime) {
     let mut reader = DumpReader::new(rt.alloc());

@@ -2,7 +2,7 @@
 //! follow those in front of it, and behind a space that part.
 
 use super::read_twice::{ReadTwice, read_twice};
-use super::{INET, PATH, PEER, SHUTDOWN, bytes, cells, shows};
+use super::{CONNECTED, INET, PATH, PEER, SHUTDOWN, bytes, cells, shows};
 use netlink_core::{NetlinkDeserializable, NetlinkMessage};
 use netlink_packet_sock_diag::inet::InetResponse;
 use netlink_packet_sock_diag::unix::UnixResponse;
@@ -36,6 +36,11 @@ source_address: 192.168.178.60, destination_address: 172.217.23.131, interface_i
 cookie: [82, 3, 0, 0, 0, 0, 0, 0] }, recv_queue: 0, send_queue: 0, uid: 1000, inode: 2742952 }, \
 nlas: [Shutdown(0)] })";
 
+/// The same as a message.
+const INET_MESSAGE: &str =
+    " Ok(InetResponse(InetResponse { header: InetResponseHeader { family: 2, \
+state: 1, timer: Some(KeepAlive(24.704s)), socket_id: SocketId { source_port: 60180, ";
+
 /// A request of UNIX sockets, read as a reply.
 const MESSAGE: &str = "010000000204000034120000040000000800020001000000 \
 Ok(UnixResponse(UnixResponse { header: UnixResponseHeader { kind: 0, state: 0, inode: 1026, \
@@ -48,7 +53,33 @@ fn replies_and_a_message(rt: HostRuntime) {
     tell::<UnixResponse>(&rt, alloc, PEER, WITH_PEER);
     let inet = [INET, SHUTDOWN].concat(alloc).expect(&rt, "memory");
     tell::<InetResponse>(&rt, alloc, &inet, WITH_SHUTDOWN);
+    tell::<SockDiagMessage>(&rt, alloc, &inet, INET_MESSAGE);
     tell::<SockDiagMessage>(&rt, alloc, "", MESSAGE);
+}
+
+/// Asserts that `Debug` prints one more than a number of equal attributes of a reply.
+fn tell_many<T: ReadTwice>(
+    rt: &impl Abort,
+    alloc: Global,
+    header: &str,
+    attribute: &str,
+    count: usize,
+) {
+    let many = attribute.repeat(alloc, count).expect(rt, "memory");
+    let reply = bytes(rt, alloc, &[header, attribute, &many]);
+    let many = "Shutdown(2), ".repeat(alloc, count).expect(rt, "memory");
+    let text = ["nlas: [", &many, "Shutdown(2)] })"]
+        .concat(alloc)
+        .expect(rt, "memory");
+    shows(rt, alloc, &read_twice::<T>(rt, alloc, &reply), &text);
+}
+
+#[test]
+fn replies_with_many_attributes(rt: HostRuntime) {
+    for count in [0, 1, 7, 8, 9, 300, 10_000] {
+        tell_many::<UnixResponse>(&rt, rt.alloc(), CONNECTED, "0500060002000000", count);
+        tell_many::<InetResponse>(&rt, rt.alloc(), INET, "0500080002000000", count);
+    }
 }
 
 /// What is told of each message in its envelope.

@@ -2,7 +2,7 @@
 
 use super::read_twice::{ReadTwice, read_twice};
 use super::{CONNECTED, INET, LISTENING, bytes, shows};
-use netlink_core::{CanonError, NetlinkMessage, canonical};
+use netlink_core::{CanonError, NetlinkMessage, NetlinkPayload, canonical};
 use netlink_packet_sock_diag::inet::InetResponse;
 use netlink_packet_sock_diag::unix::UnixResponse;
 use netlink_packet_sock_diag::{DumpReader, LossyDump, SockDiagDestroy, SockDiagMessage};
@@ -117,6 +117,28 @@ fn dumps_of_one_datagram(rt: HostRuntime) {
     for count in (0..301).chain(COUNTS) {
         let datagram = message.repeat(rt.alloc(), count).expect(&rt, "memory");
         keeps(&rt, rt.alloc(), &datagram, count);
+    }
+}
+
+/// Asserts that the request to close the socket of a message is copied.
+fn is_copied(rt: &impl Abort, alloc: Global, message: &[u8]) {
+    let closing = NetlinkMessage::<SockDiagDestroy>::deserialize(alloc, message);
+    match &closing.expect(rt, "refused").payload {
+        NetlinkPayload::InnerMessage(destroy) => assert!(rt; destroy.clone(alloc).is_ok()),
+        _ => panic!(rt; "no reply"),
+    }
+}
+
+/// Checks a dump of one reply with each number of attributes, and a copy of it.
+#[test]
+fn dumps_of_one_message(rt: HostRuntime) {
+    for count in (0..301).chain(COUNTS) {
+        for (header, attribute) in [(CONNECTED, "0500060002000000"), (INET, "0500080002000000")] {
+            let reply = repeated(&rt, rt.alloc(), header, attribute, count);
+            let message = envelope(&rt, rt.alloc(), 20, &reply);
+            keeps(&rt, rt.alloc(), &message, 1);
+            is_copied(&rt, rt.alloc(), &message);
+        }
     }
 }
 
