@@ -84,7 +84,7 @@ abbrev pub WritesPrefix : Option (List ℕ) → Option (List ℕ) → List ℕ �
 WritesPrefix held held' text =
     (sent more : List ℕ) × (text ≡ sent ++ more) × Appends held held' sent
 
--- one writer's state before and after: if the text before was reported, it is with this one behind
+-- one writer's state before and after: if some text was reported, it is now followed by this one
 abbrev pub ReportsMore : Option (List ℕ) → Type 0 → Bool → Option (List ℕ) → Type 0 → Bool
     → List ℕ → Type 0
 ReportsMore held failed is_open held' failed' is_open' text =

@@ -333,7 +333,7 @@ module _ (o : Options) (left left' held held' : Option (List ℕ)) (heading fron
     reported = implies h.diagnostics h.reported;
   }
 
--- what a run ended as, where the line that names a failure was reported behind its diagnostics
+-- what a run ended as, if the line that names a failure was reported after its diagnostics
 pub outcome_of : (o : Options) (left left' held held' : Option (List ℕ)) (heading front : List ℕ)
     (P Q : List ℕ → Type 0) (unread : Type 0) (r : Result Bool RunError)
     → ((diagnostics : List ℕ) → P diagnostics → Q (diagnostics ++ closing_text front r))

@@ -96,7 +96,7 @@ module _ (o : Options) (left left' held held' : Option (List ℕ)) (heading fron
       × (heading ++ lines ≡ sent ++ rest) × Appends held held' sent × Reported diagnostics
 
   -- What a run that fails so has read and written. At a header that can't be read nothing is
-  -- written; at a packet, of which the number is told, and when memory runs out, the lines and
+  -- written; at a packet, which is named by its number, and when memory runs out, the lines and
   -- diagnostics of all packets before; if a write fails, a prefix. `unread`: a read failed.
   abbrev pub Fails : Type 0 → RunError → Type 0
   Fails unread (Header fault) =
