@@ -39,6 +39,13 @@ const XDP: &str = "2c0300000b00000006000000000000000c000100030000000100000008000
 /// A listening UNIX socket.
 const UNIX: &str = "01010a000e4f0000a002000000000000";
 
+/// A TCP connection over IPv4.
+const INET: &str = "02010200eb1401bbc0a8b23c000000000000000000000000acd9178300000000000000000000000\
+0000000005203000000000000806000000000000000000000e8030000a8da2900";
+
+/// An attribute of a kind that no family has.
+const OTHER: &str = "0800630007000000";
+
 /// The value is written as these digits say.
 fn writes<T: Emitable>(rt: &impl Abort, alloc: Global, value: &T, row: &str) -> Result<(), Fail> {
     let written = write_new(alloc, value).ok().ok_or("unwritable")?;
@@ -53,21 +60,22 @@ fn shows<T: Debug>(rt: &impl Abort, alloc: Global, value: &T, part: &str) -> Res
     Ok(())
 }
 
-/// `Debug` shows the reply by the names of its variant and its type, with its bytes and the count
-/// of its attributes.
+/// Asserts that `Debug` prints a reply with a number of further attributes by the names of its
+/// variant and its type, with its bytes and the count of its attributes.
 fn shows_reply(
     rt: &impl Abort,
     alloc: Global,
     row: &str,
-    before: &str,
-    after: &str,
+    more: usize,
+    (before, count, after): (&str, usize, &str),
 ) -> Result<(), Fail> {
-    let bytes = hex::decode(alloc, row)?;
+    let mut bytes = hex::decode(alloc, row)?;
+    let others = OTHER.repeat(alloc, more)?;
+    bytes.extend_from_slice(&hex::decode(alloc, others.as_str())?)?;
+    let count = count.saturating_add(more);
     let shown = format!(in alloc; "{:?}", AnySockDiagView::parse(&bytes, 20)?)?;
-    assert!(rt;
-        shown == format!(in alloc; "{before}{bytes:?}{after}")?,
-        "{shown}"
-    );
+    let text = format!(in alloc; "{before} {{ bytes: {bytes:?}, count: {count} }}{after}")?;
+    assert!(rt; shown == text, "{shown}");
     Ok(())
 }
 
@@ -93,15 +101,19 @@ fn what_linux_sent(rt: HostRuntime) -> Result<(), Fail> {
     let told = (netlink::groups(&reply), netlink::flags(&reply)?);
     let text = "(Some([17, 0, 0, 0, 0, 0, 0, 0]), Some(32))";
     shows(&rt, alloc, &told, text)?;
+    let text = "Some(WholeNla(NlaBuffer { type_word: 1, value: [17, 0, 0, 0, 0, 0, 0, 0] }))";
+    shows(&rt, alloc, &reply.attributes().next(), text)?;
     shows(&rt, alloc, &dropped_packets(&bytes)?, "Some(0)")?;
     let bytes = hex::decode(alloc, PACKET)?;
     let reply = PacketResponseView::parse(&bytes)?;
     let text = "Whole(PacketResponseHeader { kind: 3, protocol: 2048, inode: 87040, \
         cookie: 4099 })";
     shows(&rt, alloc, &reply.header(), text)?;
-    let text = "interface: 1, version: 0, reserve: 0, copy_threshold: 0, timestamp: 0, flags: 1";
+    let text = "Some(PacketInfo { interface: 1, version: 0, reserve: 0, copy_threshold: 0, \
+        timestamp: 0, flags: 1 })";
     shows(&rt, alloc, &packet::info(&reply)?, text)?;
-    let text = "block_size: 4096, blocks: 2, frame_size: 2048, frames: 4, retire_timeout: 0";
+    let text = "Some(PacketRing { block_size: 4096, blocks: 2, frame_size: 2048, frames: 4, \
+        retire_timeout: 0, private_size: 0, features: 0 })";
     shows(&rt, alloc, &packet::receive_ring(&reply)?, text)?;
     let told = (packet::fanout(&reply)?, packet::filter(&reply));
     let text = "(Some(7), Some([6, 0, 0, 0, 255, 255, 0, 0]))";
@@ -121,9 +133,14 @@ fn what_the_headers_say(rt: HostRuntime) -> Result<(), Fail> {
     let reply = XdpResponseView::parse(&bytes)?;
     let text = "Whole(XdpResponseHeader { kind: 3, inode: 11, cookie: 6 })";
     shows(&rt, alloc, &reply.header(), text)?;
-    let text = "size: 4194304, id: 2, pages: 1024, chunk_size: 4096, headroom: 0, interface: 3, \
-        queue: 1, flags: 1, references: 1";
+    let text = "Some(XdpUmem { size: 4194304, id: 2, pages: 1024, chunk_size: 4096, headroom: 0, \
+        interface: 3, queue: 1, flags: 1, references: 1 })";
     shows(&rt, alloc, &xdp::shared_memory(&reply)?, text)?;
+    let text = "(Some(XdpInfo { interface: 3, queue: 1 }), Some(XdpStatistics { \
+        received_dropped: 1, received_invalid: 2, received_full: 3, fill_ring_empty: 4, \
+        sent_invalid: 5, send_ring_empty: 6 }))";
+    let told = (xdp::info(&reply)?, xdp::statistics(&reply)?);
+    shows(&rt, alloc, &told, text)?;
     let vsock = VsockRequest {
         states: 0x400,
         cookie: 0,
@@ -142,26 +159,17 @@ fn what_the_headers_say(rt: HostRuntime) -> Result<(), Fail> {
 
 #[test]
 fn debug_texts(rt: HostRuntime) -> Result<(), Fail> {
-    for (row, before, after) in [
-        (
-            NETLINK,
-            "Netlink(NetlinkResponseView { bytes: ",
-            ", count: 3 })",
-        ),
-        (
-            PACKET,
-            "Packet(PacketResponseView { bytes: ",
-            ", count: 7 })",
-        ),
-        (VSOCK, "Vsock(VsockResponseView { bytes: ", ", count: 0 })"),
-        (XDP, "Xdp(XdpResponseView { bytes: ", ", count: 6 })"),
-        (
-            UNIX,
-            "Port(UnixResponse(UnixResponseView { bytes: ",
-            ", count: 0 }))",
-        ),
+    for (row, parts) in [
+        (NETLINK, ("Netlink(NetlinkResponseView", 3, ")")),
+        (PACKET, ("Packet(PacketResponseView", 7, ")")),
+        (VSOCK, ("Vsock(VsockResponseView", 0, ")")),
+        (XDP, ("Xdp(XdpResponseView", 6, ")")),
+        (UNIX, ("Port(UnixResponse(UnixResponseView", 0, "))")),
+        (INET, ("Port(InetResponse(InetResponseView", 0, "))")),
     ] {
-        shows_reply(&rt, rt.alloc(), row, before, after)?;
+        for more in [0, 1, 300, 10_000] {
+            shows_reply(&rt, rt.alloc(), row, more, parts)?;
+        }
     }
     Ok(())
 }

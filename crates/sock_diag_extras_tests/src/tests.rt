@@ -3,9 +3,9 @@
 use netlink_core::{DecodeError, FamilyView, NlasIterator};
 use sock_diag_extras::{
     AckAttributes, AckView, AttributeRecord, AttributeRecords, BbrInfo, BpfStorage, DctcpInfo,
-    LenientInetReply, LenientNlas, LenientUnixReply, Md5Signature, NestedNlas, Refused,
-    SocketOption, SocketOptions, StoredAddress, SubflowField, SubflowInfo, TcpField, TcpInfoBytes,
-    TlsField, TlsInfo, UlpInfo, VegasInfo, read_attribute_record, write_attribute_record,
+    LenientInetReply, LenientNlas, LenientUnixReply, Md5Signature, NestedNlas, SocketOption,
+    SocketOptions, StoredAddress, SubflowField, SubflowInfo, TcpField, TcpInfoBytes, TlsField,
+    TlsInfo, UlpInfo, VegasInfo, read_attribute_record, write_attribute_record,
 };
 use std::alloc::Global;
 use std::fmt::Debug;
@@ -229,7 +229,7 @@ fn signatures(rt: HostRuntime) -> Result<(), Fail> {
     Ok(())
 }
 
-/// A value is printed by `Debug` as a text that begins like this.
+/// Asserts that `Debug` prints a value as this text.
 fn is_text(
     rt: &impl Abort,
     alloc: Global,
@@ -237,57 +237,205 @@ fn is_text(
     text: &str,
 ) -> Result<(), Fail> {
     let shown = format!(in alloc; "{value:?}")?;
-    assert!(rt; shown.starts_with(text), "{shown}");
+    assert!(rt; shown.as_str() == text, "{shown}");
     Ok(())
+}
+
+/// Returns what `Debug` prints of each item of a walk.
+fn debug_items<'a, V>(alloc: Global, attributes: LenientNlas<'a, V>) -> Result<String, Fail>
+where
+    V: FamilyView<'a> + Debug + Drop,
+{
+    let mut text = String::new(alloc);
+    for item in attributes {
+        text.push_str(format!(in alloc; "{item:?};")?.as_str())?;
+    }
+    Ok(text)
+}
+
+/// Asserts that `Debug` prints all that borrows an attribute with this value by its bytes.
+fn values_have_texts_of(rt: &impl Abort, alloc: Global, value: &[u8]) -> Result<(), Fail> {
+    let [low, high] = u16::try_from(value.len().saturating_add(4))?.to_le_bytes();
+    let mut bytes = Vec::from_slice(alloc, &[low, high, 1, 0])?;
+    bytes.extend_from_slice(value)?;
+    let nested = NestedNlas::parse(&bytes)?;
+    let nested_text = format!(in alloc; "NestedNlas {{ bytes: {bytes:?} }}")?;
+    is_text(rt, alloc, nested, &nested_text)?;
+    let all = (
+        UlpInfo(nested),
+        TlsInfo(nested),
+        SubflowInfo(nested),
+        BpfStorage(nested),
+        AckAttributes(nested),
+    );
+    let text = format!(in alloc;
+        "(UlpInfo({nested_text}), TlsInfo({nested_text}), SubflowInfo({nested_text}), \
+        BpfStorage({nested_text}), AckAttributes({nested_text}))"
+    )?;
+    is_text(rt, alloc, all, &text)?;
+    let text = format!(in alloc; "TcpInfoBytes {{ bytes: {value:?} }}")?;
+    is_text(rt, alloc, TcpInfoBytes::new(value), &text)
 }
 
 #[test]
 fn values_have_texts(rt: HostRuntime) -> Result<(), Fail> {
     let alloc = rt.alloc();
-    let nested = NestedNlas::parse(&[4, 0, 1, 0])?;
-    let bytes = "NestedNlas { bytes: [4, 0, 1, 0] }";
-    is_text(&rt, alloc, nested, bytes)?;
-    let text = format!(in alloc; "UlpInfo({bytes})")?;
-    is_text(&rt, alloc, UlpInfo(nested), text.as_str())?;
-    let text = format!(in alloc; "TlsInfo({bytes})")?;
-    is_text(&rt, alloc, TlsInfo(nested), text.as_str())?;
-    let text = format!(in alloc; "SubflowInfo({bytes})")?;
-    is_text(&rt, alloc, SubflowInfo(nested), text.as_str())?;
-    let text = format!(in alloc; "BpfStorage({bytes})")?;
-    is_text(&rt, alloc, BpfStorage(nested), text.as_str())?;
-    let text = format!(in alloc; "AckAttributes({bytes})")?;
-    is_text(&rt, alloc, AckAttributes(nested), text.as_str())?;
-    let told = TcpInfoBytes::new(&[7]);
-    is_text(&rt, alloc, told, "TcpInfoBytes { bytes: [7] }")?;
+    for size in [0, 1, 2, 232, 280, 300, 65_531] {
+        values_have_texts_of(&rt, alloc, &vec![in alloc; 7; size]?)?;
+    }
     let text = "AckView { number: 1, request: [], attributes: [9] }";
     let ack = AckView::of_done(512, &[1, 0, 0, 0, 9]).ok_or("too short")?;
     is_text(&rt, alloc, ack, text)?;
-    let cut = DecodeError::AttributeHeaderCut { left: 2 };
-    let text = "Framing(AttributeHeaderCut { left: 2 })";
-    is_text(&rt, alloc, Refused::Framing(cut), text)
+    let bytes = reply(alloc, 1, 16, &[5, 0, 2, 128, 7, 0, 0, 0, 0, 0])?;
+    let shown = debug_items(alloc, LenientUnixReply::parse(&bytes)?.attributes())?;
+    let text = "Err(Attribute(NlaBuffer { type_word: 32770, value: [7] }, WrongLength { kind: \
+        Some(2), got: 1, need: 4 }));Err(Framing(AttributeHeaderCut { left: 2 }));";
+    assert!(&rt; shown.as_str() == text, "{shown}");
+    Ok(())
 }
+
+/// All fields of `struct tcp_info`.
+const TCP_FIELDS: [TcpField; 68] = [
+    TcpField::State,
+    TcpField::CaState,
+    TcpField::Retransmits,
+    TcpField::Probes,
+    TcpField::Backoff,
+    TcpField::Options,
+    TcpField::Wscale,
+    TcpField::DeliveryRateAppLimited,
+    TcpField::Rto,
+    TcpField::Ato,
+    TcpField::SndMss,
+    TcpField::RcvMss,
+    TcpField::Unacked,
+    TcpField::Sacked,
+    TcpField::Lost,
+    TcpField::Retrans,
+    TcpField::Fackets,
+    TcpField::LastDataSent,
+    TcpField::LastAckSent,
+    TcpField::LastDataRecv,
+    TcpField::LastAckRecv,
+    TcpField::Pmtu,
+    TcpField::RcvSsthresh,
+    TcpField::Rtt,
+    TcpField::Rttvar,
+    TcpField::SndSsthresh,
+    TcpField::SndCwnd,
+    TcpField::Advmss,
+    TcpField::Reordering,
+    TcpField::RcvRtt,
+    TcpField::RcvSpace,
+    TcpField::TotalRetrans,
+    TcpField::PacingRate,
+    TcpField::MaxPacingRate,
+    TcpField::BytesAcked,
+    TcpField::BytesReceived,
+    TcpField::SegsOut,
+    TcpField::SegsIn,
+    TcpField::NotsentBytes,
+    TcpField::MinRtt,
+    TcpField::DataSegsIn,
+    TcpField::DataSegsOut,
+    TcpField::DeliveryRate,
+    TcpField::BusyTime,
+    TcpField::RwndLimited,
+    TcpField::SndbufLimited,
+    TcpField::Delivered,
+    TcpField::DeliveredCe,
+    TcpField::BytesSent,
+    TcpField::BytesRetrans,
+    TcpField::DsackDups,
+    TcpField::ReordSeen,
+    TcpField::RcvOoopack,
+    TcpField::SndWnd,
+    TcpField::RcvWnd,
+    TcpField::Rehash,
+    TcpField::TotalRto,
+    TcpField::TotalRtoRecoveries,
+    TcpField::TotalRtoTime,
+    TcpField::ReceivedCe,
+    TcpField::DeliveredE1Bytes,
+    TcpField::DeliveredE0Bytes,
+    TcpField::DeliveredCeBytes,
+    TcpField::ReceivedE1Bytes,
+    TcpField::ReceivedE0Bytes,
+    TcpField::ReceivedCeBytes,
+    TcpField::AccecnFailMode,
+    TcpField::AccecnOptSeen,
+];
+
+/// What `Debug` prints of them.
+const TCP_TEXT: &str = "\
+[State, CaState, Retransmits, Probes, Backoff, Options, Wscale, DeliveryRateAppLimited, Rto, \
+Ato, SndMss, RcvMss, Unacked, Sacked, Lost, Retrans, Fackets, LastDataSent, LastAckSent, \
+LastDataRecv, LastAckRecv, Pmtu, RcvSsthresh, Rtt, Rttvar, SndSsthresh, SndCwnd, Advmss, \
+Reordering, RcvRtt, RcvSpace, TotalRetrans, PacingRate, MaxPacingRate, BytesAcked, \
+BytesReceived, SegsOut, SegsIn, NotsentBytes, MinRtt, DataSegsIn, DataSegsOut, DeliveryRate, \
+BusyTime, RwndLimited, SndbufLimited, Delivered, DeliveredCe, BytesSent, BytesRetrans, \
+DsackDups, ReordSeen, RcvOoopack, SndWnd, RcvWnd, Rehash, TotalRto, TotalRtoRecoveries, \
+TotalRtoTime, ReceivedCe, DeliveredE1Bytes, DeliveredE0Bytes, DeliveredCeBytes, \
+ReceivedE1Bytes, ReceivedE0Bytes, ReceivedCeBytes, AccecnFailMode, AccecnOptSeen]";
+
+/// All options of a socket.
+const OPTIONS: [SocketOption; 11] = [
+    SocketOption::RecvErr,
+    SocketOption::IsIcsk,
+    SocketOption::FreeBind,
+    SocketOption::HdrIncl,
+    SocketOption::McLoop,
+    SocketOption::Transparent,
+    SocketOption::McAll,
+    SocketOption::NoDefrag,
+    SocketOption::BindAddressNoPort,
+    SocketOption::RecvErrRfc4884,
+    SocketOption::DeferConnect,
+];
 
 #[test]
 fn fields_and_records_have_texts(rt: HostRuntime) -> Result<(), Fail> {
     let alloc = rt.alloc();
-    is_text(&rt, alloc, SocketOption::RecvErrRfc4884, "RecvErrRfc4884")?;
-    is_text(&rt, alloc, TcpField::AccecnOptSeen, "AccecnOptSeen")?;
-    is_text(&rt, alloc, TlsField::Receiving, "Receiving")?;
-    is_text(&rt, alloc, SubflowField::SequenceOffset, "SequenceOffset")?;
+    is_text(&rt, alloc, TCP_FIELDS, TCP_TEXT)?;
+    let text = "[RecvErr, IsIcsk, FreeBind, HdrIncl, McLoop, Transparent, McAll, NoDefrag, \
+        BindAddressNoPort, RecvErrRfc4884, DeferConnect]";
+    is_text(&rt, alloc, OPTIONS, text)?;
+    let fields = [
+        TlsField::Version,
+        TlsField::Cipher,
+        TlsField::Sending,
+        TlsField::Receiving,
+    ];
+    is_text(&rt, alloc, fields, "[Version, Cipher, Sending, Receiving]")?;
+    let fields = [
+        SubflowField::RemoteToken,
+        SubflowField::LocalToken,
+        SubflowField::RelativeWriteSequence,
+        SubflowField::MapSequence,
+        SubflowField::MapSubflowSequence,
+        SubflowField::SequenceOffset,
+        SubflowField::MapLength,
+        SubflowField::Flags,
+        SubflowField::RemoteId,
+        SubflowField::LocalId,
+    ];
+    let text = "[RemoteToken, LocalToken, RelativeWriteSequence, MapSequence, MapSubflowSequence, \
+        SequenceOffset, MapLength, Flags, RemoteId, LocalId]";
+    is_text(&rt, alloc, fields, text)?;
     let zeros = [0; 128];
-    let text = "StoredAddress { family: 0, port: 0, front: [0, 0, 0, 0], segments: [0, 0, 0, 0, \
-                0, 0, 0, 0], scope_id: 0, rest: [0, 0, ";
-    is_text(
-        &rt,
-        alloc,
-        read_attribute_record::<StoredAddress>(&zeros).ok_or("too short")?,
-        text,
+    let text = format!(in alloc;
+        "StoredAddress {{ family: 0, port: 0, front: [0, 0, 0, 0], segments: {:?}, scope_id: 0, \
+        rest: {:?} }}",
+        &zeros[..8],
+        &zeros[..100]
     )?;
-    let text = "Md5Signature { family: 0, prefix_length: 0, key_length: 0, address: [0, 0, ";
-    is_text(
-        &rt,
-        alloc,
-        read_attribute_record::<Md5Signature>(&zeros).ok_or("too short")?,
-        text,
-    )
+    let record = read_attribute_record::<StoredAddress>(&zeros).ok_or("too short")?;
+    is_text(&rt, alloc, record, &text)?;
+    let text = format!(in alloc;
+        "Md5Signature {{ family: 0, prefix_length: 0, key_length: 0, address: {:?}, key: {:?} }}",
+        &zeros[..16],
+        &zeros[..80]
+    )?;
+    let record = read_attribute_record::<Md5Signature>(&zeros).ok_or("too short")?;
+    is_text(&rt, alloc, record, &text)
 }

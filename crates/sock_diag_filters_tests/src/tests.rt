@@ -82,33 +82,53 @@ fn requests_are_written(rt: HostRuntime) -> Result<(), Fail> {
     Ok(())
 }
 
-// Requests worked out by hand from the kernel's headers, and what is shown of them: to close the
-// UNIX socket of inode 0x1234, with an attribute behind it; for netlink sockets of all protocols
-// and their memory; for packet sockets; for vsock sockets that listen; and for XDP sockets.
+/// Requests worked out by hand from the kernel's headers, and the text of each: to close the UNIX
+/// socket of inode 0x1234, followed by an attribute; for netlink sockets of all protocols and their
+/// memory; for packet sockets; for listening vsock sockets; for XDP sockets; and for IPv6 sockets.
 const BY_FAMILY: &str = "\
 2c0000001500050009000000000000000100000002040000341200000100000000000000000000ff04000900|\
-Ok(Unix(RecordRequestView { header: NetlinkHeader { length: 44, message_type: 21, flags: 5,|\
-request: UnixRequest { state_flags: StateFlags(1026), inode: 4660, show_flags: ShowFlags(1), \
-cookie: [0, 0, 0, 0, 0, 0, 0, 255] }, attributes: [4, 0, 9, 0] }))
-2400000014000103090000000000000010ff00000000000001000000ffffffffffffffff|Ok(Netlink(|\
-ShowRequest { protocol: 255, inode: 0, show: 1, cookie: 18446744073709551615 }
-2400000014000103090000000000000011000000070000003f0000000000000000000000|Ok(Packet(|\
-ShowRequest { protocol: 0, inode: 7, show: 63, cookie: 0 }, attributes: [] }))
-28000000140001030900000000000000280000000004000000000000000000000500000000000000|Ok(Vsock(|\
-VsockRequest { states: 1024, cookie: 5 }, attributes: [] }))
-240000001400010309000000000000002c00000000000000070000000000000000000000|Ok(Xdp(|\
-ShowRequest { protocol: 0, inode: 0, show: 7, cookie: 0 }";
+Ok(Unix(RecordRequestView { header: NetlinkHeader { length: 44, message_type: 21, flags: 5, \
+sequence_number: 9, port_number: 0 }, request: UnixRequest { state_flags: StateFlags(1026), \
+inode: 4660, show_flags: ShowFlags(1), cookie: [0, 0, 0, 0, 0, 0, 0, 255] }, \
+attributes: [4, 0, 9, 0] }))
+2400000014000103090000000000000010ff00000000000001000000ffffffffffffffff|\
+Ok(Netlink(RecordRequestView { header: NetlinkHeader { length: 36, message_type: 20, flags: 769, \
+sequence_number: 9, port_number: 0 }, request: ShowRequest { protocol: 255, inode: 0, show: 1, \
+cookie: 18446744073709551615 }, attributes: [] }))
+2400000014000103090000000000000011000000070000003f0000000000000000000000|\
+Ok(Packet(RecordRequestView { header: NetlinkHeader { length: 36, message_type: 20, flags: 769, \
+sequence_number: 9, port_number: 0 }, request: ShowRequest { protocol: 0, inode: 7, show: 63, \
+cookie: 0 }, attributes: [] }))
+28000000140001030900000000000000280000000004000000000000000000000500000000000000|\
+Ok(Vsock(RecordRequestView { header: NetlinkHeader { length: 40, message_type: 20, flags: 769, \
+sequence_number: 9, port_number: 0 }, request: VsockRequest { states: 1024, cookie: 5 }, \
+attributes: [] }))
+240000001400010309000000000000002c00000000000000070000000000000000000000|\
+Ok(Xdp(RecordRequestView { header: NetlinkHeader { length: 36, message_type: 20, flags: 769, \
+sequence_number: 9, port_number: 0 }, request: ShowRequest { protocol: 0, inode: 0, show: 7, \
+cookie: 0 }, attributes: [] }))
+480000001400010309000000000000000a060000020000000035d4310000000000000000000000000000000100000000\
+0000000000000000000000010300000000000000000000ff|\
+Ok(Inet(RequestView { header: NetlinkHeader { length: 72, message_type: 20, flags: 769, \
+sequence_number: 9, port_number: 0 }, request: InetRequest { family: 10, protocol: 6, \
+extensions: ExtensionFlags(0), states: StateFlags(2), socket_id: SocketId { source_port: 53, \
+destination_port: 54321, source_address: ::1, destination_address: ::1, interface_id: 3, \
+cookie: [0, 0, 0, 0, 0, 0, 0, 255] } }, protocol: 6, program: None }))";
 
-// A request is shown by a text that begins and goes on like this.
+/// The text of the request above.
+const ASKED_TEXT: &str = "|\
+Ok(Inet(RequestView { header: NetlinkHeader { length: 88, message_type: 20, flags: 769, \
+sequence_number: 9, port_number: 0 }, request: InetRequest { family: 2, protocol: 6, \
+extensions: ExtensionFlags(0), states: StateFlags(1024), socket_id: SocketId { source_port: 0, \
+destination_port: 0, source_address: 0.0.0.0, destination_address: 0.0.0.0, interface_id: 0, \
+cookie: [0, 0, 0, 0, 0, 0, 0, 0] } }, protocol: 262, program: Some([6, 4, 8, 0]) }))";
+
+/// Asserts that a request is read, and printed by `Debug` as this text.
 fn is_shown(rt: &impl Abort, alloc: Global, row: &str) -> Result<(), Fail> {
-    let (digits, texts) = row.split_once('|').ok_or("no text")?;
-    let (family, asked) = texts.split_once('|').ok_or("no request")?;
+    let (digits, text) = row.split_once('|').ok_or("no text")?;
     let bytes = hex::decode(alloc, digits)?;
     let shown = format!(in alloc; "{:?}", AnyRequestView::parse(&bytes))?;
-    assert!(rt;
-        shown.starts_with(family) && shown.contains(asked),
-        "{shown}"
-    );
+    is_text(rt, shown.as_str(), text);
     Ok(())
 }
 
@@ -117,10 +137,7 @@ fn requests_are_read(rt: HostRuntime) -> Result<(), Fail> {
     for row in BY_FAMILY.lines() {
         is_shown(&rt, rt.alloc(), row)?;
     }
-    let asked = [
-        ASKED,
-        "|Ok(Inet(|protocol: 262, program: Some([6, 4, 8, 0])",
-    ];
+    let asked = [ASKED, ASKED_TEXT];
     is_shown(&rt, rt.alloc(), asked.concat(rt.alloc())?.as_str())
 }
 
@@ -175,6 +192,10 @@ fn conditions_have_texts(rt: HostRuntime) -> Result<(), Fail> {
         prefix: None,
         port: Some(53),
     };
+    let far = Host {
+        prefix: Prefix::new(IpAddr::V6(Ipv6Addr::LOCALHOST), 128),
+        port: Some(53),
+    };
     for (condition, text) in [
         (
             Condition::SourcePort(Comparison::AtLeast, 1),
@@ -196,6 +217,10 @@ fn conditions_have_texts(rt: HostRuntime) -> Result<(), Fail> {
             Condition::Destination(any),
             "Destination(Host { prefix: None, port: Some(53) })",
         ),
+        (
+            Condition::Destination(far),
+            "Destination(Host { prefix: Some(Prefix { address: ::1, bits: 128 }), port: Some(53) })",
+        ),
         (Condition::Interface(4), "Interface(4)"),
         (
             Condition::Mark { mark: 5, mask: 6 },
@@ -213,4 +238,53 @@ fn conditions_have_texts(rt: HostRuntime) -> Result<(), Fail> {
         is_text(&rt, format!(in alloc; "{attribute:?}")?.as_str(), text);
     }
     Ok(())
+}
+
+/// Asserts that an allocation for the program of a filter does not fail.
+fn has_room(rt: &impl Abort, alloc: Global, filter: &Filter) {
+    assert!(rt; assemble(alloc, filter).err() != Some(AssembleError::Memory));
+}
+
+/// Checks filters of 1 to 9 operations of 4 bytes, of multiples of 9 up to 72 and of powers of two
+/// up to 8,192, and each two of them: so also each number of operations up to 81.
+#[test]
+fn programs_of_each_size(rt: HostRuntime) {
+    let one = Filter::Condition(Condition::AutoBound);
+    let two = Filter::And(&one, &one);
+    let three = Filter::And(&two, &one);
+    let four = Filter::And(&two, &two);
+    let five = Filter::And(&four, &one);
+    let six = Filter::And(&four, &two);
+    let seven = Filter::And(&four, &three);
+    let eight = Filter::And(&four, &four);
+    let nine = Filter::And(&eight, &one);
+    let nines_2 = Filter::And(&nine, &nine);
+    let nines_3 = Filter::And(&nines_2, &nine);
+    let nines_4 = Filter::And(&nines_2, &nines_2);
+    let nines_5 = Filter::And(&nines_4, &nine);
+    let nines_6 = Filter::And(&nines_4, &nines_2);
+    let nines_7 = Filter::And(&nines_4, &nines_3);
+    let nines_8 = Filter::And(&nines_4, &nines_4);
+    let of_16 = Filter::And(&eight, &eight);
+    let of_32 = Filter::And(&of_16, &of_16);
+    let of_64 = Filter::And(&of_32, &of_32);
+    let of_128 = Filter::And(&of_64, &of_64);
+    let of_256 = Filter::And(&of_128, &of_128);
+    let of_512 = Filter::And(&of_256, &of_256);
+    let of_1024 = Filter::And(&of_512, &of_512);
+    let of_2048 = Filter::And(&of_1024, &of_1024);
+    let of_4096 = Filter::And(&of_2048, &of_2048);
+    let of_8192 = Filter::And(&of_4096, &of_4096);
+    let all = [
+        &one, &two, &three, &four, &five, &six, &seven, &eight, &nine, &nines_2, &nines_3,
+        &nines_4, &nines_5, &nines_6, &nines_7, &nines_8, &of_16, &of_32, &of_64, &of_128, &of_256,
+        &of_512, &of_1024, &of_2048, &of_4096, &of_8192,
+    ];
+    for first in all {
+        has_room(&rt, rt.alloc(), first);
+        for second in all {
+            has_room(&rt, rt.alloc(), &Filter::And(first, second));
+            has_room(&rt, rt.alloc(), &Filter::Or(first, second));
+        }
+    }
 }

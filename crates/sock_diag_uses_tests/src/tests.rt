@@ -1,5 +1,5 @@
 use crate::ported::add_paths;
-use netlink_core::{DecodeError, Parseable};
+use netlink_core::{DecodeError, DefaultNla, Emitable, Parseable};
 use netlink_packet_sock_diag::unix::UnixResponse;
 use sock_diag_calls::reading_back::copy_by_bytes;
 use sock_diag_uses::link::{LinkError, attribute_key, parse_link};
@@ -88,8 +88,6 @@ fn datagrams_are_listed_and_counted(rt: HostRuntime) -> Result<(), Fail> {
         shows(&rt, alloc, &list(alloc, datagram)?, lines)?;
         shows(&rt, alloc, &listening(datagram), count)?;
     }
-    let many = MESSAGE.repeat(alloc, 10_000)?;
-    assert!(rt; list(alloc, &many)?.len() == 10_000);
     Ok(())
 }
 
@@ -125,7 +123,7 @@ fn links_have_their_name_and_their_mtu(rt: HostRuntime) -> Result<(), Fail> {
     Ok(())
 }
 
-// So many replies are answered in as many messages, and then the dump ends.
+/// Asserts that replies are answered in as many messages, followed by the end of the dump.
 fn answers(rt: &impl Abort, alloc: Global, count: usize) -> Result<(), Fail> {
     let mut replies = Vec::new(alloc);
     for _ in 0..count {
@@ -140,9 +138,6 @@ fn answers(rt: &impl Abort, alloc: Global, count: usize) -> Result<(), Fail> {
 
 #[test]
 fn requests_are_answered(rt: HostRuntime) -> Result<(), Fail> {
-    for count in [0, 1, 9, 1_000] {
-        answers(&rt, rt.alloc(), count)?;
-    }
     let path = vec![in rt.alloc(); 97; 65_531]?;
     let long = [listener(rt.alloc(), 7, &path)?];
     let why = answer(rt.alloc(), &REQUEST, &long).err();
@@ -178,5 +173,95 @@ fn values_are_made_and_copied(rt: HostRuntime) -> Result<(), Fail> {
     }
     let vfs = Vfs::parse(&[4, 3, 2, 1, 7, 0, 0, 0])?;
     assert!(rt; copy_by_bytes(alloc, &vfs, ())? == vfs);
+    Ok(())
+}
+
+/// Numbers of attributes and of messages over 300. Tests also have each up to 300.
+const COUNTS: [usize; 7] = [512, 1_000, 1_024, 2_048, 4_096, 8_192, 10_000];
+
+/// Asserts that a number of equal attributes or messages is read, listed and answered.
+fn has_room_for_many(rt: &impl Abort, alloc: Global, count: usize) -> Result<(), Fail> {
+    answers(rt, alloc, count)?;
+    assert!(rt; list(alloc, &MESSAGE.repeat(alloc, count)?)?.len() == count);
+    let mut link = Vec::from_slice(alloc, &ETH0[..16])?;
+    link.extend_from_slice(&b"\x09\0\x03\0eth0\0\0\0\0".repeat(alloc, count)?)?;
+    assert!(rt; parse_link(alloc, &link).is_ok());
+    let mut reply = Vec::from_slice(alloc, &LISTENING)?;
+    reply.extend_from_slice(&b"\x09\0\0\0/run\0\0\0\0".repeat(alloc, count)?)?;
+    assert!(rt; same_reply(alloc, &reply, &reply)?);
+    Ok(())
+}
+
+#[test]
+fn many_replies_and_attributes(rt: HostRuntime) -> Result<(), Fail> {
+    for count in (0..301).chain(COUNTS) {
+        has_room_for_many(&rt, rt.alloc(), count)?;
+    }
+    Ok(())
+}
+
+/// Lengths of names over 300. Tests also have each up to 300. With its NUL the last one is the
+/// longest value of an attribute.
+const SIZES: [u16; 10] = [
+    512, 1_000, 1_024, 2_048, 4_096, 8_192, 10_000, 16_384, 32_768, 65_530,
+];
+
+/// Returns bytes followed by an attribute whose value is a name of this length and a NUL.
+fn with_name(alloc: Global, bytes: &[u8], kind: u8, size: u16) -> Result<Vec<u8>, Fail> {
+    let [low, high] = size.saturating_add(5).to_le_bytes();
+    let mut named = Vec::from_slice(alloc, bytes)?;
+    named.extend_from_slice(&[low, high, kind, 0])?;
+    named.resize(named.len().saturating_add(usize::from(size)), b'a')?;
+    named.push(0)?;
+    Ok(named)
+}
+
+/// Asserts that a name of this length is read, stored and listed.
+fn has_room(rt: &impl Abort, alloc: Global, size: u16) -> Result<(), Fail> {
+    let named = with_name(alloc, &[], 3, size)?;
+    let length = attribute_key(alloc, &named).ok().ok_or("no key")?.len();
+    assert!(rt; length == usize::from(size.saturating_add(5)).next_multiple_of(4));
+    let payload = with_name(alloc, &ETH0[..16], 3, size)?;
+    let link = parse_link(alloc, &payload).ok().ok_or("no link")?;
+    assert!(rt;
+        link.name
+            .is_some_and(|name| name.len() == usize::from(size))
+    );
+    let reply = with_name(alloc, &LISTENING, 0, size)?;
+    assert!(rt; same_reply(alloc, &reply, &reply)?);
+    Ok(())
+}
+
+/// Asserts that a reply with a path of this length is made and answered.
+fn has_room_for_path(rt: &impl Abort, alloc: Global, size: u16) -> Result<(), Fail> {
+    let path = vec![in alloc; b'a'; usize::from(size)]?;
+    let answered = answer(alloc, &REQUEST, &[listener(alloc, 7, &path)?]);
+    let datagram = answered.ok().ok_or("no answer")?;
+    assert!(rt; list(alloc, &datagram)?.len() == 2);
+    Ok(())
+}
+
+/// Asserts that an attribute with a value of this length is copied.
+fn has_room_for_copy(rt: &impl Abort, alloc: Global, size: u16) -> Result<(), Fail> {
+    let nla = DefaultNla::new(7, vec![in alloc; 1; usize::from(size)]?);
+    if nla.is_writable() {
+        assert!(rt; copy_by_bytes(alloc, &nla, ())? == nla);
+    }
+    Ok(())
+}
+
+#[test]
+fn names_of_each_length(rt: HostRuntime) -> Result<(), Fail> {
+    for size in (0..301).chain(SIZES) {
+        has_room(&rt, rt.alloc(), size)?;
+        has_room_for_path(&rt, rt.alloc(), size)?;
+        has_room_for_copy(&rt, rt.alloc(), size)?;
+    }
+    for size in [
+        65_531, 65_536, 100_000, 131_072, 262_144, 524_288, 1_000_000,
+    ] {
+        let path = vec![in rt.alloc(); b'a'; size]?;
+        listener(rt.alloc(), 7, &path)?;
+    }
     Ok(())
 }
