@@ -6,8 +6,8 @@
 
 The libraries are the crates of crates.txt, except programs and crates of tests. A line of the list
 is an item, after the path of its declaration. Listed are functions, methods and the items of
-traits, by their signatures without the clauses; types with their fields or variants and their
-attributes; impls with their associated types and constants, except those of private traits or for
+traits, by their signatures without the clauses; types with their fields, or their variants in order, and
+their attributes; impls with their associated types and constants, except those of private traits or for
 private types; constants with their values; public modules; each name of a `pub use`; functions that
 are exported under a C name, public or not; macros and their calls outside of functions, whole; and
 each `cfg` with the item that it applies to.
@@ -168,7 +168,7 @@ class Surface:
             facts |= {f"derives {name}" for name in derived} | {it} - set(QUIET.findall(it))
         inner = [" ".join([text_of(it), *of]) for of, it in parts(body) if kind != "trait"]
         if kind == "enum":
-            self.lines += [f"{path}::{it}" for it in inner]
+            self.lines += [f"{path}::{it}, variant {place}" for place, it in enumerate(inner)]
         elif kind in ("struct", "union"):
             self.lines += [f"{path}.{it[4:]}" for it in inner if it.startswith("pub ")]
             hidden = [it for it in inner if not it.startswith(("pub ", "ghost "))]

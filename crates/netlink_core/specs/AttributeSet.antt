@@ -76,7 +76,7 @@ abbrev pub ValueAt : AttributeSet → ℕ → Type 0
 ValueAt [] k = Attribute
 ValueAt (spec ∷ others) k = cond (spec.number == k) spec.value.Value (ValueAt others k)
 
--- a value of one of two, at its side
+-- injects into the left or the right of a sum
 abbrev pub put : {A B C : Type 0} → (t : Bool) → (B → C) → cond t A B → A ⊎ C
 put true later x = inl x
 put false later x = inr (later x)
@@ -87,13 +87,13 @@ abbrev pub of_type : (F : AttributeSet) → (k : ℕ) → ValueAt F k → Attrib
 of_type [] k a = a
 of_type (spec ∷ others) k x = put (spec.number == k) (of_type others k) x
 
--- what stands at that side, where it is there that something stands
+-- projects from the left or the right of a sum; `None` if the value is on the other side
 abbrev pub got : {A B C : Type 0} → (t : Bool) → (C → Option B) → A ⊎ C → Option (cond t A B)
 got true later (inl x) = Some x
 got false later (inr v) = later v
 got t later v = None
 
--- the value of the type with that number, where that is decoded
+-- the value of the type with that number, if the decoded value is of this type
 abbrev pub content : (F : AttributeSet) → (k : ℕ) → AttributeValue F → Option (ValueAt F k)
 content [] k a = None
 content (spec ∷ others) k v = got (spec.number == k) (content others k) v

@@ -1,4 +1,4 @@
--- What the walk over the messages of a datagram holds and gives.
+-- The iterator over the messages of a datagram: its state and its steps.
 use Rattle.std.specs.Prelude.{ℕ, List, drop, Option, Result}
 use Rattle.std.specs.Borrow.{Bor}
 use Rattle.netlink_core.specs.declared.fault.DecodeError.{DecodeError}
@@ -7,12 +7,13 @@ use Rattle.netlink_core.specs.Header.{IsEnvelopeFault}
 use Rattle.netlink_core.specs.Datagram.{StartsWithMessage}
 use Rattle.netlink_core.specs.Gives.{Gives}
 
--- what the walk has not passed yet
+-- the bytes that the iterator has not read yet
 abbrev pub datagram_left : MessageStrings → List ℕ
 datagram_left walk = drop walk.at walk.bytes.now
 
--- A step gives the first message of what was left, and what follows its padding is left then. Or it
--- gives the fault there.
+-- A step yields the first message of the bytes that are left, and the bytes after its padding are
+-- left then; or it yields the error of these bytes, and no bytes are left. It yields `None` only if
+-- no bytes were left.
 abbrev pub GivesMessage : MessageStrings → Option (Result (Bor (List ℕ)) DecodeError)
     → MessageStrings → Type 0
 GivesMessage old given new =

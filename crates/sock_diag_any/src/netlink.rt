@@ -31,7 +31,8 @@ impl FamilyHeader for NetlinkResponseHeader {
 
 /// Returns the memory of the socket, `NETLINK_DIAG_MEMINFO`.
 pub fn memory(reply: &NetlinkResponseView<'_>) -> Result<Option<MemInfo>, DecodeError>
-    ensures { result ≡ within (read mem_info tt) (first_value 0 (view_model reply.now).nlas) }
+    ensures { result ≡ within (read mem_info tt)
+        (first_value NETLINK_DIAG_MEMINFO (view_model reply.now).nlas) }
 {
     reply.record_of(NETLINK_DIAG_MEMINFO)
 }
@@ -40,14 +41,15 @@ pub fn memory(reply: &NetlinkResponseView<'_>) -> Result<Option<MemInfo>, Decode
 /// lowest bit of the first byte is group 1.
 pub fn groups<'a>(reply: &NetlinkResponseView<'a>) -> Option<&'a [u8]>
     ensures { option_map (λ groups. groups.now) result
-        ≡ first_value 1 (view_model reply.now).nlas }
+        ≡ first_value NETLINK_DIAG_GROUPS (view_model reply.now).nlas }
 {
     value_in(reply, NETLINK_DIAG_GROUPS)
 }
 
 /// Returns the flags `NDIAG_FLAG_..` of the socket, `NETLINK_DIAG_FLAGS`.
 pub fn flags(reply: &NetlinkResponseView<'_>) -> Result<Option<u32>, DecodeError>
-    ensures { result ≡ within (exact_number None 4) (first_value 4 (view_model reply.now).nlas) }
+    ensures { result ≡ within (exact_number None 4)
+        (first_value NETLINK_DIAG_FLAGS (view_model reply.now).nlas) }
 {
     reply.number_of(NETLINK_DIAG_FLAGS)
 }

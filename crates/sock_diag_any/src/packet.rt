@@ -45,7 +45,8 @@ fn ring(reply: &PacketResponseView<'_>, kind: u16) -> Result<Option<PacketRing>,
 /// Returns the settings of the socket, `PACKET_DIAG_INFO`. Fewer than 24 bytes are
 /// `BufferTooSmall`.
 pub fn info(reply: &PacketResponseView<'_>) -> Result<Option<PacketInfo>, DecodeError>
-    ensures { result ≡ within packet_info (first_value 0 (view_model reply.now).nlas) }
+    ensures { result ≡ within packet_info
+        (first_value PACKET_DIAG_INFO (view_model reply.now).nlas) }
 {
     match reply.value_of(PACKET_DIAG_INFO) {
         Some(value) => Ok(Some(PacketInfo::parse(value)?)),
@@ -57,42 +58,47 @@ pub fn info(reply: &PacketResponseView<'_>) -> Result<Option<PacketInfo>, Decode
 /// `PACKET_DIAG_MCLIST`: 44 bytes each, `struct packet_diag_mclist`.
 pub fn addresses<'a>(reply: &PacketResponseView<'a>) -> Option<&'a [u8]>
     ensures { option_map (λ value. value.now) result
-        ≡ first_value 1 (view_model reply.now).nlas }
+        ≡ first_value PACKET_DIAG_MCLIST (view_model reply.now).nlas }
 {
     value_in(reply, PACKET_DIAG_MCLIST)
 }
 
 /// Returns the receive ring, `PACKET_DIAG_RX_RING`. Fewer than 28 bytes are `BufferTooSmall`.
 pub fn receive_ring(reply: &PacketResponseView<'_>) -> Result<Option<PacketRing>, DecodeError>
-    ensures { result ≡ within (packet_ring 2) (first_value 2 (view_model reply.now).nlas) }
+    ensures { result ≡ within (packet_ring PACKET_DIAG_RX_RING)
+        (first_value PACKET_DIAG_RX_RING (view_model reply.now).nlas) }
 {
     ring(reply, PACKET_DIAG_RX_RING)
 }
 
 /// Returns the transmit ring, `PACKET_DIAG_TX_RING`. Fewer than 28 bytes are `BufferTooSmall`.
 pub fn send_ring(reply: &PacketResponseView<'_>) -> Result<Option<PacketRing>, DecodeError>
-    ensures { result ≡ within (packet_ring 3) (first_value 3 (view_model reply.now).nlas) }
+    ensures { result ≡ within (packet_ring PACKET_DIAG_TX_RING)
+        (first_value PACKET_DIAG_TX_RING (view_model reply.now).nlas) }
 {
     ring(reply, PACKET_DIAG_TX_RING)
 }
 
 /// Returns the id of the fanout group, with its mode in the high 16 bits, `PACKET_DIAG_FANOUT`.
 pub fn fanout(reply: &PacketResponseView<'_>) -> Result<Option<u32>, DecodeError>
-    ensures { result ≡ within (exact_number None 4) (first_value 4 (view_model reply.now).nlas) }
+    ensures { result ≡ within (exact_number None 4)
+        (first_value PACKET_DIAG_FANOUT (view_model reply.now).nlas) }
 {
     reply.number_of(PACKET_DIAG_FANOUT)
 }
 
 /// Returns the user id of the socket's owner, `PACKET_DIAG_UID`.
 pub fn owner(reply: &PacketResponseView<'_>) -> Result<Option<u32>, DecodeError>
-    ensures { result ≡ within (exact_number None 4) (first_value 5 (view_model reply.now).nlas) }
+    ensures { result ≡ within (exact_number None 4)
+        (first_value PACKET_DIAG_UID (view_model reply.now).nlas) }
 {
     reply.number_of(PACKET_DIAG_UID)
 }
 
 /// Returns the memory of the socket, `PACKET_DIAG_MEMINFO`.
 pub fn memory(reply: &PacketResponseView<'_>) -> Result<Option<MemInfo>, DecodeError>
-    ensures { result ≡ within (read mem_info tt) (first_value 6 (view_model reply.now).nlas) }
+    ensures { result ≡ within (read mem_info tt)
+        (first_value PACKET_DIAG_MEMINFO (view_model reply.now).nlas) }
 {
     reply.record_of(PACKET_DIAG_MEMINFO)
 }
@@ -101,7 +107,7 @@ pub fn memory(reply: &PacketResponseView<'_>) -> Result<Option<MemInfo>, DecodeE
 /// `struct sock_filter`.
 pub fn filter<'a>(reply: &PacketResponseView<'a>) -> Option<&'a [u8]>
     ensures { option_map (λ value. value.now) result
-        ≡ first_value 7 (view_model reply.now).nlas }
+        ≡ first_value PACKET_DIAG_FILTER (view_model reply.now).nlas }
 {
     value_in(reply, PACKET_DIAG_FILTER)
 }

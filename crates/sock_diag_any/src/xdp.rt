@@ -33,7 +33,7 @@ impl FamilyHeader for XdpResponseHeader {
 /// Returns the interface and the queue that the socket is bound to, `XDP_DIAG_INFO`. Fewer than 8
 /// bytes are `BufferTooSmall`.
 pub fn info(reply: &XdpResponseView<'_>) -> Result<Option<XdpInfo>, DecodeError>
-    ensures { result ≡ within xdp_info (first_value 1 (view_model reply.now).nlas) }
+    ensures { result ≡ within xdp_info (first_value XDP_DIAG_INFO (view_model reply.now).nlas) }
 {
     match reply.value_of(XDP_DIAG_INFO) {
         Some(value) => Ok(Some(XdpInfo::parse(value)?)),
@@ -43,21 +43,24 @@ pub fn info(reply: &XdpResponseView<'_>) -> Result<Option<XdpInfo>, DecodeError>
 
 /// Returns the user id of the socket's owner, `XDP_DIAG_UID`.
 pub fn owner(reply: &XdpResponseView<'_>) -> Result<Option<u32>, DecodeError>
-    ensures { result ≡ within (exact_number None 4) (first_value 2 (view_model reply.now).nlas) }
+    ensures { result ≡ within (exact_number None 4)
+        (first_value XDP_DIAG_UID (view_model reply.now).nlas) }
 {
     reply.number_of(XDP_DIAG_UID)
 }
 
 /// Returns the number of entries of the receive ring, `XDP_DIAG_RX_RING`.
 pub fn receive_ring(reply: &XdpResponseView<'_>) -> Result<Option<u32>, DecodeError>
-    ensures { result ≡ within (exact_number None 4) (first_value 3 (view_model reply.now).nlas) }
+    ensures { result ≡ within (exact_number None 4)
+        (first_value XDP_DIAG_RX_RING (view_model reply.now).nlas) }
 {
     reply.number_of(XDP_DIAG_RX_RING)
 }
 
 /// Returns the number of entries of the transmit ring, `XDP_DIAG_TX_RING`.
 pub fn send_ring(reply: &XdpResponseView<'_>) -> Result<Option<u32>, DecodeError>
-    ensures { result ≡ within (exact_number None 4) (first_value 4 (view_model reply.now).nlas) }
+    ensures { result ≡ within (exact_number None 4)
+        (first_value XDP_DIAG_TX_RING (view_model reply.now).nlas) }
 {
     reply.number_of(XDP_DIAG_TX_RING)
 }
@@ -65,7 +68,7 @@ pub fn send_ring(reply: &XdpResponseView<'_>) -> Result<Option<u32>, DecodeError
 /// Returns the shared memory area of the socket, `XDP_DIAG_UMEM`. Fewer than 40 bytes are
 /// `BufferTooSmall`.
 pub fn shared_memory(reply: &XdpResponseView<'_>) -> Result<Option<XdpUmem>, DecodeError>
-    ensures { result ≡ within xdp_umem (first_value 5 (view_model reply.now).nlas) }
+    ensures { result ≡ within xdp_umem (first_value XDP_DIAG_UMEM (view_model reply.now).nlas) }
 {
     match reply.value_of(XDP_DIAG_UMEM) {
         Some(value) => Ok(Some(XdpUmem::parse(value)?)),
@@ -75,14 +78,16 @@ pub fn shared_memory(reply: &XdpResponseView<'_>) -> Result<Option<XdpUmem>, Dec
 
 /// Returns the memory of the socket, `XDP_DIAG_MEMINFO`.
 pub fn memory(reply: &XdpResponseView<'_>) -> Result<Option<MemInfo>, DecodeError>
-    ensures { result ≡ within (read mem_info tt) (first_value 8 (view_model reply.now).nlas) }
+    ensures { result ≡ within (read mem_info tt)
+        (first_value XDP_DIAG_MEMINFO (view_model reply.now).nlas) }
 {
     reply.record_of(XDP_DIAG_MEMINFO)
 }
 
 /// Returns the counters of the socket, `XDP_DIAG_STATS`. Fewer than 48 bytes are `BufferTooSmall`.
 pub fn statistics(reply: &XdpResponseView<'_>) -> Result<Option<XdpStatistics>, DecodeError>
-    ensures { result ≡ within xdp_statistics (first_value 9 (view_model reply.now).nlas) }
+    ensures { result ≡ within xdp_statistics
+        (first_value XDP_DIAG_STATS (view_model reply.now).nlas) }
 {
     match reply.value_of(XDP_DIAG_STATS) {
         Some(value) => Ok(Some(XdpStatistics::parse(value)?)),

@@ -24,10 +24,10 @@ use Rattle.sock_diag_records.specs.declared.constants.TheConstants.{INET_DIAG_SK
 use Rattle.sock_diag_records.specs.declared.constants.TheConstants.{INET_DIAG_MARK}
 use Rattle.sock_diag_records.specs.declared.constants.TheConstants.{INET_DIAG_CLASS_ID}
 
--- over what a text and an attribute of another type lend
+-- Owned and borrowed attributes differ in the types of texts and undecoded attributes: these
+-- functions turn each into its value.
 module _ {T O : Type 0} (text : T → List ℕ) (other : O → Attribute) where
-  -- the same value; texts by their bytes, records as they are; 0xffff is the number of no type in
-  -- the set
+  -- the decoded value of an attribute; `Other` is of no type in the set, here under 0xffff
   abbrev pub model : InetNla T O → AttributeValue inet
   model (nla.LegacyMemInfo m) = of_type inet INET_DIAG_MEMINFO m
   model (nla.TcpInfo t) = of_type inet INET_DIAG_INFO t
@@ -59,10 +59,10 @@ inet_variant (inr (inr (inr (inr (inr (inr (inr (inr (inr (inr (inl class)))))))
 inet_variant (inr (inr (inr (inr (inr (inr (inr (inr (inr (inr (inr other))))))))))) =
     nla.Other other
 
--- that of one with memory of its own
+-- the model of an owned attribute
 abbrev pub nla_model : InetNla (String Global) DefaultNla → AttributeValue inet
 nla_model a = model string_bytes kept_attribute a
 
--- that of one that is read in place
+-- the model of a borrowed attribute
 abbrev pub nla_view_model : InetNla (Bor (List ℕ)) NlaBuffer → AttributeValue inet
 nla_view_model a = model (λ (t : Bor (List ℕ)). t.now) attribute_of a

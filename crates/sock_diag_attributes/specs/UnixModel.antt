@@ -24,11 +24,11 @@ use Rattle.sock_diag_records.specs.declared.constants.TheConstants.{UNIX_DIAG_RQ
 use Rattle.sock_diag_records.specs.declared.constants.TheConstants.{UNIX_DIAG_MEMINFO}
 use Rattle.sock_diag_records.specs.declared.constants.TheConstants.{UNIX_DIAG_SHUTDOWN}
 
--- over what a name, a list and an attribute of another type lend
+-- Owned and borrowed attributes differ in the types of names, lists and undecoded attributes: these
+-- functions turn each into its value.
 module _ {N L O : Type 0} (name : N → SocketName (List ℕ)) (list : L → List ℕ)
     (other : O → Attribute) where
-  -- the same value; lists by their elements, records as they are; 0xffff is the number of no type
-  -- in the set
+  -- the decoded value of an attribute; `Other` is of no type in the set, here under 0xffff
   abbrev pub model : UnixNla N L O → AttributeValue unix
   model (nla.Name n) = of_type unix UNIX_DIAG_NAME (name n)
   model (nla.Vfs v) = of_type unix UNIX_DIAG_VFS v
@@ -50,12 +50,12 @@ unix_variant (inr (inr (inr (inr (inr (inl memory)))))) = nla.MemInfo memory
 unix_variant (inr (inr (inr (inr (inr (inr (inl state))))))) = nla.Shutdown state
 unix_variant (inr (inr (inr (inr (inr (inr (inr other))))))) = nla.Other other
 
--- that of one with memory of its own
+-- the model of an owned attribute
 abbrev pub nla_model : UnixNla (SocketName (Vec ℕ Global)) (Vec ℕ Global) DefaultNla
     → AttributeValue unix
 nla_model a = model (name_of vec_items) vec_items kept_attribute a
 
--- that of one that is read in place
+-- the model of a borrowed attribute
 abbrev pub nla_view_model : UnixNla (SocketName (Bor (List ℕ))) NumbersView NlaBuffer
     → AttributeValue unix
 nla_view_model a = model (name_of (λ (b : Bor (List ℕ)). b.now)) numbers_view_model attribute_of a

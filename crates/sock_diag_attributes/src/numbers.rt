@@ -121,7 +121,8 @@ impl<'a> NumbersView<'a> {
         self.bytes
     }
 
-    /// The numbers in a list. It fails only for want of memory, which no numbers need.
+    /// Returns the numbers in an owned list. Fails only if an allocation fails; an empty list needs
+    /// none.
     pub fn to_owned(&self, alloc: Global) -> Result<Vec<u32>, AllocError>
         ensures equal { IfOk result (λ numbers. numbers.items ≡ numbers_view_model self.now) }
         ensures spare { numbers_view_model self.now ≡ [] → IsOk result }

@@ -1,5 +1,6 @@
--- The fields of the upper-layer protocols of a TCP socket, by linux/tls.h and linux/mptcp.h: for
--- each its attribute type, and its width in bytes.
+-- The fields of the upper-layer protocols of a TCP socket: for each its attribute type, by
+-- linux/tls.h and linux/mptcp.h, and its width in bytes, as the kernel's `tls_get_info` and
+-- `subflow_get_info` put them.
 use Rattle.std.specs.Prelude.{ℕ}
 use Rattle.sock_diag_extras.specs.declared.constants.TheConstants.{TLS_INFO_VERSION}
 use Rattle.sock_diag_extras.specs.declared.constants.TheConstants.{TLS_INFO_CIPHER}

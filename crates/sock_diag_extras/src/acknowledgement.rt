@@ -39,12 +39,13 @@ pub struct AckView<'a> {
 }
 
 impl<'a> AckView<'a> {
-    /// What a message of the type `NLMSG_ERROR` tells: four bytes of the number; the request, which
-    /// is its header of 16 bytes alone where the number is 0 or the flags have `NLM_F_CAPPED`; its
-    /// padding to a multiple of 4; and attributes, where the flags have `NLM_F_ACK_TLVS`.
+    /// Returns the parts of an `NLMSG_ERROR` payload (netlink(7)): four bytes of the error number;
+    /// the request, of which only the 16 bytes of the header are sent if the number is 0 or the flags
+    /// have `NLM_F_CAPPED`; its padding to a multiple of 4; and attributes, if the flags have
+    /// `NLM_F_ACK_TLVS`.
     ///
-    /// `None` where there are fewer than 20 bytes, and where the request's length word is under 16
-    /// or past the bytes.
+    /// Returns `None` if there are fewer than 20 bytes, or if the whole request is sent and its
+    /// length field is below 16 or past the end of the bytes.
     pub fn of_error(flags: u16, payload: &'a [u8]) -> Option<AckView<'a>>
         ensures held { IsSome result ↔ HoldsRequest flags payload.entry.now }
         ensures number { IfSome result (λ ack.

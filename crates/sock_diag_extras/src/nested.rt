@@ -1,6 +1,6 @@
 //! Attributes that stand in the value of another, or behind a header, each found by its kind.
 
-ghost use Rattle.std.specs.Prelude.{◌≡◌, ◌≤◌, [], IfErr, IfOk, IfSome, None, option_map};
+ghost use Rattle.std.specs.Prelude.{◌≡◌, ◌≤◌, ℕ, List, [], IfErr, IfOk, None, Some, option_map};
 ghost use Rattle.netlink_core.specs.Attribute.{AttributeFault};
 ghost use Rattle.netlink_core.specs.AttributeSet.{decodes};
 ghost use Rattle.netlink_core.specs.Faults.{map_ok};
@@ -8,7 +8,6 @@ ghost use Rattle.netlink_core.specs.Parse.{exact_number, text_in};
 ghost use Rattle.netlink_core.specs.Walk.{bytes_left};
 ghost use Rattle.attribute_lists.specs.AttributesIn.{HasNoFault};
 ghost use Rattle.sock_diag_families.specs.Found.{within};
-ghost use Rattle.sock_diag_extras.specs.Models.{nested_bytes};
 ghost use Rattle.sock_diag_extras.specs.Nested.{first_in, number_in};
 
 use attribute_lists::{check_nlas, next_view};
@@ -25,6 +24,8 @@ pub struct NestedNlas<'a> {
 }
 
 impl<'a> NestedNlas<'a> {
+    ghost use Rattle.sock_diag_extras.specs.Models.{nested_bytes};
+
     /// The attributes in the bytes. The first fault of the framing refuses them; no value is looked
     /// at.
     pub fn parse(bytes: &'a [u8]) -> Result<NestedNlas<'a>, DecodeError>
@@ -101,8 +102,9 @@ impl<'a> NestedNlas<'a> {
     pub fn nested_of(&self, kind: u16) -> Result<Option<NestedNlas<'a>>, DecodeError>
         ensures kept { IfOk result (λ found. option_map (λ nested. nested_bytes nested) found
             ≡ first_in kind (nested_bytes self.now)) }
-        ensures fault { IfErr result (λ e. IfSome (first_in kind (nested_bytes self.now))
-            (λ value. AttributeFault (decodes []) value e)) }
+        ensures fault { IfErr result (λ e. (value : List ℕ)
+            × (first_in kind (nested_bytes self.now) ≡ Some value)
+            × AttributeFault (decodes []) value e) }
     {
         match self.value_of(kind) {
             Some(value) => Ok(Some(NestedNlas::parse(value)?)),

@@ -1,6 +1,7 @@
 //! What stands on a TCP connection: INET_DIAG_ULP_INFO.
 
-ghost use Rattle.std.specs.Prelude.{◌≡◌, ◌↔◌, [], IfErr, IfOk, IfSome, IsSome, IsTrue, option_map};
+ghost use Rattle.std.specs.Prelude.{◌≡◌, ◌↔◌, ℕ, List, [], IfErr, IfOk, IsSome, IsTrue, Some};
+ghost use Rattle.std.specs.Prelude.{option_map};
 ghost use Rattle.netlink_core.specs.Attribute.{AttributeFault};
 ghost use Rattle.netlink_core.specs.AttributeSet.{decodes};
 ghost use Rattle.netlink_core.specs.Faults.{map_ok};
@@ -47,9 +48,9 @@ impl<'a> UlpInfo<'a> {
     pub fn tls(&self) -> Result<Option<TlsInfo<'a>>, DecodeError>
         ensures kept { IfOk result (λ found. option_map (λ tls. nested_bytes tls.0) found
             ≡ first_in INET_ULP_INFO_TLS (nested_bytes self.now.0)) }
-        ensures fault { IfErr result (λ e.
-            IfSome (first_in INET_ULP_INFO_TLS (nested_bytes self.now.0))
-            (λ value. AttributeFault (decodes []) value e)) }
+        ensures fault { IfErr result (λ e. (value : List ℕ)
+            × (first_in INET_ULP_INFO_TLS (nested_bytes self.now.0) ≡ Some value)
+            × AttributeFault (decodes []) value e) }
     {
         match self.0.nested_of(INET_ULP_INFO_TLS)? {
             Some(nested) => Ok(Some(TlsInfo(nested))),
@@ -62,9 +63,9 @@ impl<'a> UlpInfo<'a> {
     pub fn mptcp(&self) -> Result<Option<SubflowInfo<'a>>, DecodeError>
         ensures kept { IfOk result (λ found. option_map (λ subflow. nested_bytes subflow.0) found
             ≡ first_in INET_ULP_INFO_MPTCP (nested_bytes self.now.0)) }
-        ensures fault { IfErr result (λ e.
-            IfSome (first_in INET_ULP_INFO_MPTCP (nested_bytes self.now.0))
-            (λ value. AttributeFault (decodes []) value e)) }
+        ensures fault { IfErr result (λ e. (value : List ℕ)
+            × (first_in INET_ULP_INFO_MPTCP (nested_bytes self.now.0) ≡ Some value)
+            × AttributeFault (decodes []) value e) }
     {
         match self.0.nested_of(INET_ULP_INFO_MPTCP)? {
             Some(nested) => Ok(Some(SubflowInfo(nested))),

@@ -32,12 +32,12 @@ abbrev pub path_bytes : Option (Bor (List ℕ)) → Option (List ℕ)
 path_bytes None = None
 path_bytes (Some path) = Some path.now
 
--- the path that a name is
+-- the path, if the name is a pathname
 abbrev pub path_in : SocketName (List ℕ) → Option (List ℕ)
 path_in (Pathname path) = Some path
 path_in (Abstract address) = None
 
--- the path that the message's first name is
+-- the path in the first name of a message, if it is a reply about a UNIX socket
 abbrev pub path_of : Message → Option (List ℕ)
 path_of (message_of inet_request v) = None
 path_of (message_of inet_response v) = None
