@@ -40,8 +40,8 @@ pub struct AckView<'a> {
 
 impl<'a> AckView<'a> {
     /// Returns the parts of an `NLMSG_ERROR` payload (netlink(7)): four bytes of the error number;
-    /// the request, of which only the 16 bytes of the header are sent if the number is 0 or the flags
-    /// have `NLM_F_CAPPED`; its padding to a multiple of 4; and attributes, if the flags have
+    /// the request, of which only the 16 bytes of the header are sent if the number is 0 or the
+    /// flags have `NLM_F_CAPPED`; its padding to a multiple of 4; and attributes, if the flags have
     /// `NLM_F_ACK_TLVS`.
     ///
     /// Returns `None` if there are fewer than 20 bytes, or if the whole request is sent and its
