@@ -3,8 +3,11 @@
 compares standard output, standard error and exit status. Prints each difference, and then the status is 1."""
 import os
 import re
+import select
+import shutil
 import subprocess
 import sys
+import tempfile
 from pathlib import Path
 
 CRATES = Path(__file__).resolve().parent.parent / "crates"
@@ -17,13 +20,15 @@ KINDS = {"-t": "tcp inet inet6", "-u": "udp inet inet6", "-M": "mptcp inet inet6
 KINDS |= {"-0": "p_raw p_dgr", "--family=netlink": "nl", "--vsock": "vsock v_str v_dgr v_seq", "--xdp": "xdp"}
 # A detail that one option shows and the others do not.
 DETAILS = {"-o": b" timer:", "-e": b" sk:", "-m": b" skmem:", "-i": b" cwnd:"}
+# An attribute of a type that no reader decodes, with the longest value of whole words.
+LONG_ATTRIBUTE = (65_532).to_bytes(2, "little") + bytes([200, 0]) + bytes(65_528)
 failures = []
 
 
-def run(program, arguments, given, to=subprocess.PIPE):
+def run(program, arguments, given, to=subprocess.PIPE, **more):
     """Returns status, standard output and standard error of a run. Its input is bytes or a descriptor."""
-    source = {"input": given} if isinstance(given, bytes) else {"stdin": given}
-    ended = subprocess.run([program, *arguments], stdout=to, stderr=subprocess.PIPE, timeout=60, **source)
+    more |= {"input": given} if isinstance(given, bytes) else {"stdin": given}
+    ended = subprocess.run([program, *arguments], stdout=to, stderr=subprocess.PIPE, timeout=60, **more)
     return ended.returncode, ended.stdout or b"", ended.stderr
 
 
@@ -59,6 +64,24 @@ def test_sockdiag(program):
     for arguments in ([], ["--strict"], ["--help"], ["--version"]):
         check_failed_writes(program, arguments, line, *[b"sockdiag: writing failed\n"] * 2)
     check(program, [], os.open("/", os.O_RDONLY), 1, b"", b"sockdiag: reading failed\n")
+    reply = bytes([1, 1, 10, *bytes(13)]) + LONG_ATTRIBUTE * 520
+    assert len(reply.hex()) > 64 << 20
+    check(program, [], b"unix %s\n" % reply.hex().encode(), 0, b"ok %s\n" % reply.hex().encode())
+    check_prompt_answers(program, lines.splitlines(True)[:40], answers.splitlines(True))
+
+
+def check_prompt_answers(program, lines, answers):
+    """Writes each line only after the answer to the line before has been read."""
+    with subprocess.Popen([program], stdin=subprocess.PIPE, stdout=subprocess.PIPE, bufsize=0) as started:
+        for line, answer in zip(lines, answers):
+            started.stdin.write(line)
+            read = b""
+            while not read.endswith(b"\n") and select.select([started.stdout], [], [], 10)[0]:
+                read += started.stdout.read(1 << 16) or b"\n"
+            if read != answer:
+                failures.append(f"{program}: {read[:60]} before the next line, expected {answer[:60]}")
+                break
+        started.stdin.close()
 
 
 def test_sslist(program):
@@ -67,7 +90,8 @@ def test_sslist(program):
     unknown, no_text = b"sslist: unknown option %s; try sslist --help\n", b"sslist: an argument is not valid UTF-8\n"
     for arguments, status, printed, errors in [
         ([], 1, b"", b"sslist: .*\n"), ([b"\xff"], 2, b"", no_text), ([""], 1, b"", b"sslist: : .*\n"),
-        ([CAPTURE], 0, table, note), ([CAPTURE, CAPTURE], 0, table * 2, note * 2), (["/"], 1, b"", b"sslist: /: .*\n"),
+        ([CAPTURE], 0, table, note), ([CAPTURE, CAPTURE], 0, table * 2, note * 2),
+        (["/"], 1, b"", b"sslist: /: the input is a directory\n"),
         ([CAPTURE, "/nowhere"], 1, table, note + missing), (["/nowhere", CAPTURE], 1, table, missing + note),
         (["-q", CAPTURE], 2, b"", unknown % b"-q"), (["-t", "--no", "--help"], 2, b"", unknown % b"--no"),
         (["-"], 2, b"", unknown % b"-"), ([CAPTURE, "--version"], 0, b"sslist " + VERSION, b""),
@@ -79,9 +103,25 @@ def test_sslist(program):
     check_failed_writes(program, ["--help"], b"", b"", b"")
 
 
+def test_unreadable_file(program):
+    """Lists a file that may not be read, as a user who is not root."""
+    with tempfile.TemporaryDirectory() as folder:
+        os.chmod(folder, 0o755)
+        file, copy = os.path.join(folder, "capture"), os.path.join(folder, "sslist")
+        shutil.copy(CAPTURE, file)
+        shutil.copy(program, copy)
+        os.chmod(copy, 0o755)
+        os.chmod(file, 0)
+        user = {} if os.geteuid() else {"user": 65534}
+        got = run(copy, [file], b"", **user)
+        if got[:2] != (1, b"") or not re.fullmatch(rb"sslist: .*/capture: .*\n", got[2]):
+            failures.append(f"{program}: a file that may not be read: {got}")
+
+
 def message(body, flags=0, kind=20):
     """Returns a message of this type with the sequence number 77."""
-    return bytes([16 + len(body), 0, 0, 0, kind, 0, *flags.to_bytes(2, "little"), 77, *bytes(7), *body])
+    length = (16 + len(body)).to_bytes(4, "little")
+    return bytes([*length, kind, 0, *flags.to_bytes(2, "little"), 77, *bytes(7), *body])
 
 
 def packet(body, flags=0, kind=20, more=b""):
@@ -112,12 +152,31 @@ def test_diagnostics(program):
         check(program, [], given, 1, b"", re.escape(b"sslist: " + text + b"\n"))
 
 
+def test_long_inputs(program):
+    """Lists a reply with long attributes, and a capture with more requests than the program keeps."""
+    file_header, reply = CAPTURE.read_bytes()[:24], bytes([1, 1, 10, 0, 7, *bytes(11)])
+    status, table, errors = run(program, [], file_header + packet(reply))
+    assert status == 0 and len(table.splitlines()) == 2, (status, table)
+    check(program, [], file_header + packet(reply + LONG_ATTRIBUTE * 3 + bytes([5, 0, 6, 0, 1, 0, 0, 0])), 0, table, errors)
+    request = packet([2, 6, 0, 0, 0xFE, *bytes(51)], 0x301)
+    check(program, [], file_header + request * 300 + packet(reply), 0, table, errors)
+
+
 def test_options(program):
     """Lists the stored capture, followed by a UDP request, its answer, and a socket of each other family."""
     bodies = [[2, 7, *bytes(70)], [16, *bytes(27)], [17, 3, *bytes(14)], [40, *bytes(31)], [44, *bytes(15)]]
     capture = CAPTURE.read_bytes() + packet([2, 17, 0, 0, 0xFE, *bytes(51)], 0x301) + b"".join(map(packet, bodies))
     status, table, errors = run(program, [], capture)
     heading, *rows = table.replace(b"\n\t", b"").splitlines(True)
+    with tempfile.NamedTemporaryFile() as file:
+        file.write(capture)
+        file.flush()
+        choices = [[it] for it in [*KINDS, *DETAILS, "-n", "-a", "-O", "--requests", "--utf8"]] + [["-t", "-x", "-oemi"]]
+        for arguments in choices:
+            ended, listed, _ = run(program, arguments, capture)
+            told = b"(sslist: .*packet 12, message 1: .*\n)?"
+            check(program, [*arguments, file.name], b"", ended, listed, told)
+            check(program, [file.name, *arguments, file.name], b"", ended, listed * 2, told * 2)
     for one, other in [(one, other) for one in KINDS for other in KINDS]:
         chosen = [row for row in rows if row.split()[0].decode() in f"{KINDS[one]} {KINDS[other]}".split()]
         assert 0 < len(chosen) < len(rows), (one, other)
@@ -134,9 +193,31 @@ def test_options(program):
     assert run(program, [], named)[1].split() == printed.replace("ö".encode(), b"\\xc3\\xb6").split(), "without --utf8"
 
 
+def test_refused_memory(program, arguments, given, status, output):
+    """Refuses each request for memory in turn: the run fails and says so, and its output is a prefix of the whole."""
+    with tempfile.TemporaryDirectory() as folder:
+        library = os.path.join(folder, "refuse.so")
+        source = Path(__file__).with_name("refuse.c")
+        subprocess.run(["gcc", "-shared", "-fPIC", "-O1", "-o", library, source], check=True)
+        for first in range(1, 10_000):
+            refused = {"LD_PRELOAD": library, "REFUSE_FIRST": str(first), "REFUSE_LAST": str(first)}
+            ended, printed, errors = run(program, arguments, given, env=os.environ | refused)
+            if b"refused\n" not in errors:
+                assert (ended, printed) == (status, output), (program, arguments, first, ended)
+                return
+            if ended != 1 or b"out of memory\n" not in errors or not output.startswith(printed):
+                failures.append(f"{program} {arguments}: request {first} refused: {ended} {errors}")
+
+
 if __name__ == "__main__":
     test_sockdiag(os.path.abspath(sys.argv[1]))
     test_sslist(os.path.abspath(sys.argv[2]))
     test_options(os.path.abspath(sys.argv[2]))
     test_diagnostics(os.path.abspath(sys.argv[2]))
+    test_long_inputs(os.path.abspath(sys.argv[2]))
+    test_unreadable_file(os.path.abspath(sys.argv[2]))
+    if shutil.which("gcc"):
+        sockdiag, sslist, capture = os.path.abspath(sys.argv[1]), os.path.abspath(sys.argv[2]), CAPTURE.read_bytes()
+        test_refused_memory(sockdiag, ["--strict"], b"unix 00\n", 3, b"refused 2\n")
+        test_refused_memory(sslist, ["-t", CAPTURE], b"", *run(sslist, ["-t"], capture)[:2])
     sys.exit("\n".join(failures) or 0)

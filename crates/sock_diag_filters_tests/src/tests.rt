@@ -66,6 +66,7 @@ const ASKED: &str = "\
 #[test]
 fn requests_are_written(rt: HostRuntime) -> Result<(), Fail> {
     let alloc = rt.alloc();
+    assert!(rt; listening_on(alloc, 443, 80, 9).is_ok());
     let message = listening_on(alloc, 80, 443, 9)?;
     let view = RequestView::parse(&message).expect(&rt, "a request");
     assert!(rt; view.protocol == 6);

@@ -197,6 +197,8 @@ fn many_replies_and_attributes(rt: HostRuntime) -> Result<(), Fail> {
     for count in (0..301).chain(COUNTS) {
         has_room_for_many(&rt, rt.alloc(), count)?;
     }
+    let lines = list(rt.alloc(), &MESSAGE.repeat(rt.alloc(), 100_000)?)?;
+    assert!(rt; lines.len() == 100_000);
     Ok(())
 }
 

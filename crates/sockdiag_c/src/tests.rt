@@ -3,6 +3,7 @@
 //! `tests/c_face.c` makes the same calls and all others from C.
 
 use crate::check::sockdiag_check_message;
+use crate::details::Text;
 use crate::headers::{InetHeader, Reply, UnixHeader};
 use crate::requests::{
     InetRequest, RequestHeader, UnixRequest, sockdiag_write_inet_request,
@@ -71,6 +72,7 @@ fn replies_in_messages(rt: HostRuntime) {
         assert!(rt; sockdiag_check_message(payload, message_type, &mut reply) == answer);
         assert!(rt; reply.kind == kind);
     }
+    assert!(rt; Text::none().bytes.is_empty());
     let (unix, inet) = (&reply.unix_header, &reply.inet_header);
     assert!(rt; (unix.kind, unix.inode) == (1, 0x11223344));
     assert!(rt; unix.cookie == [1, 2, 3, 4, 5, 6, 7, 8]);
