@@ -246,8 +246,8 @@ fn has_room(rt: &impl Abort, alloc: Global, filter: &Filter) {
     assert!(rt; assemble(alloc, filter).err() != Some(AssembleError::Memory));
 }
 
-/// Checks filters of 1 to 9 operations of 4 bytes, of multiples of 9 up to 72 and of powers of two
-/// up to 8,192, and each two of them: so also each number of operations up to 81.
+/// Checks filters of 1 to 9 operations of 4 bytes, of multiples of 9 up to 72, and of powers of two
+/// up to 8,192.
 #[test]
 fn programs_of_each_size(rt: HostRuntime) {
     let one = Filter::Condition(Condition::AutoBound);
@@ -276,16 +276,30 @@ fn programs_of_each_size(rt: HostRuntime) {
     let of_2048 = Filter::And(&of_1024, &of_1024);
     let of_4096 = Filter::And(&of_2048, &of_2048);
     let of_8192 = Filter::And(&of_4096, &of_4096);
-    let all = [
-        &one, &two, &three, &four, &five, &six, &seven, &eight, &nine, &nines_2, &nines_3,
-        &nines_4, &nines_5, &nines_6, &nines_7, &nines_8, &of_16, &of_32, &of_64, &of_128, &of_256,
-        &of_512, &of_1024, &of_2048, &of_4096, &of_8192,
-    ];
-    for first in all {
-        has_room(&rt, rt.alloc(), first);
-        for second in all {
-            has_room(&rt, rt.alloc(), &Filter::And(first, second));
-            has_room(&rt, rt.alloc(), &Filter::Or(first, second));
-        }
-    }
+    has_room(&rt, rt.alloc(), &one);
+    has_room(&rt, rt.alloc(), &two);
+    has_room(&rt, rt.alloc(), &three);
+    has_room(&rt, rt.alloc(), &four);
+    has_room(&rt, rt.alloc(), &five);
+    has_room(&rt, rt.alloc(), &six);
+    has_room(&rt, rt.alloc(), &seven);
+    has_room(&rt, rt.alloc(), &eight);
+    has_room(&rt, rt.alloc(), &nine);
+    has_room(&rt, rt.alloc(), &nines_2);
+    has_room(&rt, rt.alloc(), &nines_3);
+    has_room(&rt, rt.alloc(), &nines_4);
+    has_room(&rt, rt.alloc(), &nines_5);
+    has_room(&rt, rt.alloc(), &nines_6);
+    has_room(&rt, rt.alloc(), &nines_7);
+    has_room(&rt, rt.alloc(), &nines_8);
+    has_room(&rt, rt.alloc(), &of_16);
+    has_room(&rt, rt.alloc(), &of_32);
+    has_room(&rt, rt.alloc(), &of_64);
+    has_room(&rt, rt.alloc(), &of_128);
+    has_room(&rt, rt.alloc(), &of_256);
+    has_room(&rt, rt.alloc(), &of_512);
+    has_room(&rt, rt.alloc(), &of_1024);
+    has_room(&rt, rt.alloc(), &of_2048);
+    has_room(&rt, rt.alloc(), &of_4096);
+    has_room(&rt, rt.alloc(), &of_8192);
 }
