@@ -160,6 +160,11 @@ def test_long_inputs(program):
     long = run(program, [], file_header + packet(reply + LONG_ATTRIBUTE * 3 + bytes([5, 0, 6, 0, 1, 0, 0, 0])))
     assert long[0] == 0 and long[1].startswith(table.partition(b"\t")[0]), long
     assert long[1].count(b"unknown:(200,65528)") == 3 and long[1].endswith(b" -->\n"), long[1][-200:]
+    for size in [*range(1, 300), 4_096, 65_000]:
+        path = b"/" + b"a" * size
+        name = (5 + len(path)).to_bytes(2, "little") + bytes(2) + path + bytes(1 + -(5 + len(path)) % 4)
+        shown = run(program, [], file_header + packet(reply + name))
+        assert shown[0] == 0 and b" %s " % path in shown[1], (size, shown[0], shown[2])
     request = packet([2, 6, 0, 0, 0xFE, *bytes(51)], 0x301)
     check(program, [], file_header + request * 300 + packet(reply), 0, table, errors)
 
