@@ -1,19 +1,19 @@
 #!/bin/sh
 # Times this port and the Rust crate netlink-packet-sock-diag 0.5.0 on the same replies, and prints
-# the table of docs/SPEED.md: the time of the port where that of the crate is 1.
+# the table of docs/SPEED.md: the time of the port divided by the time of the crate.
 #
 #     bench/beside.sh
 #     BENCH_ORIGINAL=FOLDER bench/beside.sh     without crates.io: FOLDER/sockdiag is the crate,
 #                                               FOLDER/core is netlink-packet-core 0.8
 #
-# It needs the kit's rt, cargo of Rust 1.85 or later, cc, and crates.io. It takes two minutes where
-# the repository's crates are proved, and some 15 more where they are not.
+# Needs the kit's rt, cargo of Rust 1.85 or later, cc, and crates.io. Takes two minutes if the
+# repository's crates are proved, and about 15 more if they are not.
 set -eu
 original=${BENCH_ORIGINAL:+$(cd "$BENCH_ORIGINAL" && pwd)}
 cd "$(dirname "$0")/.."
 . bench/library.sh
 
-# Cargo works on a copy: its lock and what it builds stand there too.
+# Cargo builds a copy, so that its lock file and its target folder are there too.
 rm -rf "$made/beside"
 cp -R bench/beside "$made/beside"
 cd "$made/beside"

@@ -1,21 +1,23 @@
-# Proves and builds bench/replies/lib.rt.in, the port's static library of the measurements. The
-# scripts of bench/ source this at the top of the repository. Then $library and $kit_library are
-# what a program is linked with, and $made is the folder for what is made. It needs the kit's rt.
-# The repository's crates are proved and built first where they are not yet.
+# Proves and builds bench/replies/lib.rt.in, a static library over the port for the measurements.
+# The scripts of bench/ source this file at the top of the repository. It sets $library and
+# $kit_library, the libraries that a program is linked with, and $made, the folder for all output.
+# Needs the kit's rt. Crates of the repository that are not built yet are proved and built first.
 made=$PWD/out/bench
 crate=$made/reply_bench
 library=$crate/out/libreply_bench.a
 kit_library=$(dirname "$(rt doc)")/c/liblibc_c.a
 
-# Runs a command. What it says goes to a file, and is shown where the command fails.
+# quietly LOG COMMAND..: runs the command with its output in the file LOG, and prints LOG if the
+# command fails.
 quietly() {
     log=$1
     shift
     "$@" > "$log" 2>&1 || { cat "$log" >&2; exit 1; }
 }
 
-# The library is no crate of the repository, and rt ci suffers no other crate: it has a folder only
-# until the script ends, below the repository, where rt finds the crates that it stands on.
+# The library is not listed in crates.txt, and rt ci fails if there is an unlisted crate. So its
+# folder exists only until the script ends. It is inside the repository because rt looks there for
+# the crates that the library depends on.
 trap 'rm -rf "$crate"' EXIT
 trap 'exit 1' HUP INT TERM
 rm -rf "$crate"

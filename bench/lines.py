@@ -15,7 +15,7 @@ def requests(count):
 
 
 def inputs(stored):
-    """The inputs by name: many lines, twice as long lines of one name, and one long line."""
+    """Yields the name and the bytes of each input: many lines, or one line of 100 million characters."""
     lines = [line + b"\n" for line in open(stored, "rb").read().split(b"\n") if line]
     yield "unixreq, 10^4", requests(10**4)
     yield "unixreq, 10^5", requests(10**5)
@@ -32,7 +32,7 @@ def inputs(stored):
 
 
 def seconds(program, given, output, work):
-    """The CPU time of one run."""
+    """Returns the CPU time of one run, user and system, in seconds."""
     target = {"null": os.devnull, "file": os.path.join(work, "out")}.get(output)
     with open(given, "rb") as stdin:
         if target:
@@ -50,7 +50,7 @@ def seconds(program, given, output, work):
 
 
 def peak(program, given):
-    """The peak memory in KiB, which is read while the program waits for more."""
+    """Returns the peak memory in KiB (`VmHWM`), which is read after all input was written and before it ends."""
     run = subprocess.Popen([program], stdin=subprocess.PIPE, stdout=subprocess.DEVNULL)
     with open(given, "rb") as text:
         while piece := text.read(1 << 20):

@@ -1,9 +1,8 @@
 #!/bin/sh
-# CPU time of the program on lines, for each of /dev/null, a file and a pipe as its output, and its peak
-# memory. Another program that answers the same lines is measured beside it where its path is given, and
-# lines of one's own where a folder is: each file in it is an input.
-#   bench/lines.sh [OTHER [FOLDER]]
+# bench/lines.sh [OTHER [FOLDER]]: measures the CPU time of the program sockdiag, with its output to /dev/null, to a
+# file and to a pipe, and its peak memory. OTHER is the path of another program that answers the same lines, and is
+# measured too. Each file in FOLDER is a further input.
 set -eu
 top=$(CDPATH='' cd -- "$(dirname -- "$0")/.." && pwd)
-printf '' | "$top/sockdiag" # builds it where it isn't built
+printf '' | "$top/sockdiag" # builds it if necessary
 exec python3 "$top/bench/lines.py" "$top/crates/sockdiag/out/sockdiag" "$top/crates/sockdiag/stdin" "$@"

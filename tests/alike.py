@@ -1,8 +1,8 @@
 #!/usr/bin/env python3
-"""Fails, with status 1, where two files have more than MOST lines in a row that are the same.
+"""Fails, with status 1, if two files have more than MOST consecutive lines in common.
 
-Code, specs, proofs, edits and scripts of the repository are compared. Blank lines don't count, nor how far a line is
-indented. Lines that differ in a name are not the same: docs/DECISIONS.md says which blocks do.
+Compares the code, specs, proofs, edits and scripts of the repository. Ignores blank lines and indentation. Lines that
+differ in a name are different lines. docs/DECISIONS.md lists the blocks that differ only in names.
 """
 
 import sys
@@ -10,14 +10,14 @@ from pathlib import Path
 
 ROOT = Path(__file__).resolve().parent.parent
 ENDINGS = {".rt", ".antt", ".edit", ".py", ".sh", ".c", ".h"}
-# What the kit builds stands in folders of this name.
+# Name of the folders with the kit's build output.
 BUILT = "out"
-# So many lines in a row may be the same.
+# Allowed number of consecutive equal lines.
 MOST = 20
 
 
 def lines_of(path):
-    """The lines of a file that aren't blank, each with its number."""
+    """Returns the lines of a file that are not blank, without indentation, each with its number."""
     lines = [(number, line.strip()) for number, line in enumerate(path.read_text().splitlines(), 1)]
     return [(number, line) for number, line in lines if line]
 
@@ -34,8 +34,8 @@ def main():
             other, number = seen.setdefault(run, (name, lines[at][0]))
             if other != name and (other, name) not in found:
                 found.add((other, name))
-                print(f"{other}:{number} and {name}:{lines[at][0]}: more than {MOST} lines are the same")
-    print(f"{len(found)} pairs of files")
+                print(f"{other}:{number} and {name}:{lines[at][0]}: more than {MOST} equal lines")
+    print(f"{len(found)} pairs of files have more than {MOST} equal lines")
     sys.exit(1 if found else 0)
 
 

@@ -1,18 +1,19 @@
 #!/usr/bin/env python3
-"""Prints what has to be believed: the definitions of the port's crates that the contracts of all crates reach.
+"""Prints what must be believed: the definitions of the port's crates that the contracts of all crates depend on.
 
 The roots are the clauses of public functions and of the methods of public traits, the invariants of public structs, and
-the ghost members of public traits and of their impls. From these the way goes on by the names that they hold, through the
-imports, to definitions in specs/, and from each of them likewise. A lemma is not followed. What Rust types declare is
-code, and what the kit defines is the kit's: the way ends there.
+the ghost members of public traits and of their impls. From each root the script follows the names that it contains,
+through the imports, to definitions in specs/, and from each definition in the same way. The definitions that it finds
+are called reached. It does not follow lemmas, declarations of Rust types, which are code, or definitions of the kit.
 
-    tests/believed.py             prints each definition of the port that is reached (module: name, lines, comment), then
-                                  the definitions, lines and tokens of each crate, the port's first
-    tests/believed.py --lines     prints the lines that are reached in each module, most first
-    tests/believed.py --private   takes the clauses and members of private functions and traits as roots too
+    tests/believed.py             prints each reached definition of the port (module: name, lines, comment), and then
+                                  the number of definitions, lines and tokens of each crate, the port's crates first
+    tests/believed.py --lines     prints the number of reached lines of each module, largest number first
+    tests/believed.py --private   also uses the clauses and members of private functions and traits as roots
 
-It fails, with status 1, if a name does not resolve, a ghost member is in neither of the two lists below, or something is
-in the wrong place (what has to be believed, lemmas, and the words of private functions are in separate modules).
+It fails, with status 1, if a name does not resolve, if a ghost member is in neither of the lists MEANING and LAWS, if a
+law that determines a definition is not a public function, or if a definition or a lemma is in the wrong module.
+Definitions that must be believed, lemmas, and definitions of private functions are in separate modules.
 """
 
 import re
@@ -22,42 +23,44 @@ from pathlib import Path
 CRATES = ["netlink_core", "attribute_lists", "sock_diag_values", "sock_diag_records", "sock_diag_attributes",
     "sock_diag_replies", "netlink_packet_sock_diag", "line_server", "sock_diag_lines"]
 ROOT = Path(__file__).resolve().parent.parent / "crates"
-# The crates beside the port, by figures of their own.
-BESIDE = ["sock_diag_families", "sock_diag_any", "sock_diag_extras", "sock_diag_filters", "sock_diag_calls", "sock_diag_uses",
-    "capture_tables", "sock_diag_captures", "sockdiag_c", "sockdiag", "sslist"]
-# Ghost members that say something: their types and their bodies are read.
+# The extension crates and the programs, which are counted separately.
+OTHERS = ["sock_diag_families", "sock_diag_any", "sock_diag_extras", "sock_diag_filters", "sock_diag_calls",
+    "sock_diag_uses", "capture_tables", "sock_diag_captures", "sockdiag_c", "sockdiag", "sslist"]
+# Ghost members that define the meaning of a type. Their types and their bodies are roots.
 MEANING = set("""codec model type_written bytes writable held input TAKES_MEMORY attribute layout Tag Value view inverse is_clone
     is_made_with
     is_infallible from_gives bitor_gives can_next next_gives remaining table set_of attribute_set contents answer left reads failed is_in_range
     reply header_model name numbers flushed describes listed attributes Entry refuses item_is needs_memory answers good output""".split())
-# Ghost members that are laws: the type that a trait declares is read, and their bodies are proofs. `eq`, `test` and `tests`
-# are among them: what `==` answers is computed there, and said in the words of contracts by `eq_is_model`, `compared` and in
-# laws.rt; and `asks`, what a private struct keeps of a line until it is answered.
+# Ghost members whose bodies need not be read. The types that traits declare for them are roots. Most are laws, and
+# their bodies are proofs. `eq`, `test` and `tests` compute the result of `==`, which `eq_is_model`, `compared` and the
+# functions of laws.rt state without them. `asks` relates a line to what a private struct retains of it until it is
+# answered.
 LAWS = set("""laws fills exact eq_is_model written_is fits_is emitted_is writable_is written_as
     compared idle_reflexive idle_symmetric idle_transitive one_value equal_by_bytes idle_with_written reads_back_exactly
     written_alike eq tests test enough keeps same written fits asks""".split())
-# Private functions whose clauses docs/PROMISES.md cites, a private struct whose invariant it cites, and the private trait whose
-# impls say what that one names.
+# Private items that count as promises: functions whose clauses docs/PROMISES.md cites, a struct whose invariant
+# docs/DECISIONS.md cites, and the trait whose impls define what the invariant names.
 CITED = {"serve", "read_prompt", "FedDump", "Kept"}
-# A module of specs/ with this ending holds lemmas and what they stand on, and one with that the words of private functions.
+# Endings of the names of modules in specs/: one for modules of lemmas and of what lemmas need, and one for modules with
+# definitions of private functions.
 LEMMAS, STEPS = "Laws", "Steps"
-# One with this ending holds the inverse of a layout's `values`. A layout alone may lead there, and the way ends: the law
-# `read_where_it_stands` says what is read without it.
+# Ending of the names of modules with the inverse of a layout's `values`. Only a layout may refer to them. The script
+# does not follow this reference: the law `read_where_it_stands` states what is parsed without the inverse.
 INVERSE = "Inverse"
-# Definitions that a law determines, and the function whose contract is that law: whoever believes the law need not read
-# what they compute. Their types are read, and the way ends.
+# Definitions that a law determines, and the function whose contract is the law. Whoever believes the law need not read
+# how they are computed. Their types are followed, their equations are not.
 DETERMINED = {
     "attribute_lists.specs.AttributesIn: values_in": "attribute_lists::laws::found_values_are_the_attributes",
     "netlink_core.specs.AttributeSet: content": "netlink_core::laws::content_is_of_its_type",
     "sock_diag_attributes.specs.InetModel: inet_variant": "sock_diag_attributes::laws::inet_values_are_variants",
     "sock_diag_attributes.specs.UnixModel: unix_variant": "sock_diag_attributes::laws::unix_values_are_variants",
 }
-# Definitions of the tests.
+# Modules of specs/ that belong to tests, and are not checked.
 OF_TESTS = set()
-# Words of the language, and what needs no import.
+# Keywords of the specification language, and names that need no import.
 BUILT_IN = set("record data module let in if then else Type Unit tt absurd abbrev unfoldable pub where _".split())
 RUST = set("Ok Err Some None self Self result".split())
-# A function without a keyword that ends in one of these computes. One that ends in anything else is a lemma.
+# A function without a keyword is a definition if its result has one of these types, and otherwise a lemma.
 COMPUTES = re.compile(r"ℕ|(List|Bool|Option|Result|Type|Codec|Layout|AttributeSet|AttributeSpec|ValueCodec|IpVersion)\b")
 WORD = r"[A-Za-z_](?:[A-Za-z0-9_']|-(?=[A-Za-z]))*"
 TOKEN = re.compile(rf"⟦[^⟧]*⟧|(?<=[)\]}}⟧])\.[\w.]+|(?P<path>{WORD}(?:\.(?:{WORD}|\d+))*)|\d\w*|\"[^\"]*\"|==|\S")
@@ -65,12 +68,12 @@ USE = re.compile(r"\buse\s+([\w.]+?)(?:\.\{([^}]*)\}|\s+as\s+(\w+))\s*(?:;|$)", 
 
 
 def tokens_of(text):
-    """The tokens, each with whether it is a path: names with points between."""
+    """Returns each token, and whether it is a path: names separated by points."""
     return [(m.group(), bool(m.group("path"))) for m in TOKEN.finditer(text)]
 
 
 def names_in(text, bound):
-    """The paths in the text, but for the names that are bound, by its own binders too, and the labels of records."""
+    """Returns the paths in the text, except labels of records and names that `bound` or a binder of the text binds."""
     found, bound, tokens, at = [], bound | BUILT_IN, tokens_of(text) + [("", False)], 0
     while at < len(tokens):
         token, is_path = tokens[at]
@@ -95,7 +98,7 @@ def names_in(text, bound):
 
 
 def at_depth_zero(text, sign):
-    """The places of a sign that stand outside all brackets, and in no `==`."""
+    """Yields the index of each occurrence of a sign that is outside of all brackets and not part of `==`."""
     depth = 0
     for place, c in enumerate(text):
         depth += (c in "({[") - (c in ")}]")
@@ -104,12 +107,12 @@ def at_depth_zero(text, sign):
 
 
 def closing(text, at):
-    """The place of the brace that closes the one at that place."""
+    """Returns the index of the brace that closes the one at `at`."""
     return at + next(at_depth_zero(text[at:], "}"))
 
 
 def imports(text):
-    """What names stand for: a module and a name in it, or a module alone and None."""
+    """Returns what each imported name refers to: a module and a name in it, or a module and None."""
     names = {}
     for path, listed, alias in USE.findall(text):
         names |= {alias: (path, None)} if alias else {}
@@ -119,14 +122,14 @@ def imports(text):
 
 
 class Item:
-    """A definition, a lemma, or the head of a `module _`. `heads` are those of the modules that it stands in."""
+    """A definition, a lemma, or the head of a `module _`. `heads` are the heads of the modules that enclose it."""
 
     def __init__(self, kind, name, line, comment, heads):
         self.kind, self.name, self.lines, self.comment, self.heads = kind, name, [line], comment, heads
         self.indent, self.reached = len(line) - len(line.lstrip()), None
 
     def close(self):
-        """Takes the item apart: its head, its equations, and its fields or constructors. Tells what it is."""
+        """Splits the item into its head, its equations, and its fields or constructors, and determines its kind."""
         text = "\n".join(self.lines)
         self.head, *self.equations = re.split(rf"^ {{{self.indent}}}{re.escape(self.name)}(?=\s)", text, flags=re.M)
         labels = re.findall(rf"^\s+(?:pub )?({WORD}(?: {WORD})*) :", text, re.M) if self.kind in ("record", "data") else []
@@ -139,7 +142,7 @@ class Item:
         self.is_definition = self.kind != "module" and not self.is_lemma
 
     def names(self, is_constructor, equations=True):
-        """The names that its head, its fields and, unless they are left out, its equations hold."""
+        """Returns the names in its head, in its fields and, if `equations` is set, in its equations."""
         outer = {name for head in self.heads for name in head.bound} | {self.name}
         found = names_in(self.head, outer if self.equations else outer | self.bound | set(self.parts))
         for equation in self.equations if equations else []:
@@ -151,7 +154,7 @@ class Item:
 
 
 class Module:
-    """A module of specs/ or proofs/: its items, and what names stand for in it."""
+    """A module of specs/ or proofs/: its items, and what names refer to in it."""
     START = re.compile(rf"(?:(abbrev|unfoldable) )?(?:pub )?({WORD})(?: \{{\w+\}})? :|(?:pub )?(record|data|module) ({WORD})")
 
     def __init__(self, path, full_name):
@@ -183,7 +186,8 @@ class Module:
         self.names = imports(text) | {thing: (full_name, thing) for thing in self.things}
 
     def size(self, counted):
-        """Returns the number of definitions that are reached by one of `counted`, and of their lines and tokens."""
+        """Returns the number of definitions that a root of a kind in `counted` reaches, of their lines and of their
+        tokens."""
         reached = [item for item in self.items.values() if item.reached in counted]
         lines = [line for item in reached for line in item.lines]
         definitions = sum(item.kind != "module" for item in reached)
@@ -191,41 +195,42 @@ class Module:
 
 
 class Specs:
-    """All modules of specs/ and proofs/, and the way from a name to what it stands for."""
+    """All modules of specs/ and proofs/, with the resolution of names."""
 
     def __init__(self):
         self.modules, self.faults = {}, []
-        folders = [ROOT / crate / folder for crate in CRATES + BESIDE for folder in ("specs", "proofs")]
+        folders = [ROOT / crate / folder for crate in CRATES + OTHERS for folder in ("specs", "proofs")]
         for path in (path for folder in folders for path in sorted(folder.glob("*.antt"))):
             name = f"Rattle.{path.parent.parent.name}.{path.parent.name}.{path.stem}"
             self.modules[name] = Module(path, name)
 
     def find(self, path, names):
-        """The module and the item that a path stands for; None for the kit's and for code; False for nothing."""
+        """Returns the module and the item that a path refers to, None for code or an item of the kit, or False if it
+        does not resolve."""
         head, *rest = path.split(".")
         target, name = names.get(head, ("", ""))
         if target in self.modules:
             item = self.modules[target].things.get(name or "".join(rest[:1]))
             return (self.modules[target], item) if item else False
-        ours = re.match(rf"Rattle\.({'|'.join(CRATES + BESIDE)})\.(specs\.(?!declared|contracts)|proofs\.\w+$)", target)
+        ours = re.match(rf"Rattle\.({'|'.join(CRATES + OTHERS)})\.(specs\.(?!declared|contracts)|proofs\.\w+$)", target)
         return None if target and not ours else False
 
     def is_constructor(self, path, module):
-        """Whether a name in a pattern is no variable."""
+        """Returns whether a name in a pattern is a constructor, not a variable."""
         found = self.find(path, module.names)
         is_kits = found is None and (path[0].isupper() or "." in path or path in "zero suc true false inl inr".split())
         return path.split(".")[-1] in found[1].parts if found else is_kits
 
     def is_inverse(self, path, module):
-        """Whether a name stands for something that inverts a layout's `values`."""
+        """Returns whether a name refers to an item of a module with the inverse of a layout's `values`."""
         found = self.find(path, module.names)
         return bool(found) and found[0].name.endswith(INVERSE)
 
     def reach(self, path, names, where, by):
-        """Marks what a path of a root or of a definition stands for, and what that holds in turn."""
+        """Marks the definition that a path refers to, and all definitions that it depends on, as reached by `by`."""
         found = self.find(path, names)
         if found is False:
-            self.faults.append(f"{where}: {path} resolves to nothing.")
+            self.faults.append(f"{where}: {path} does not resolve.")
         if not found or not found[1].is_definition:
             return
         module, item = found
@@ -238,20 +243,20 @@ class Specs:
                         self.reach(name, module.names, f"{module.name}: {one.name}", by)
 
     def reach_determined(self):
-        """Marks what the equations of the determined definitions hold, and no promise reaches otherwise. The laws have to
-        be public functions."""
+        """Marks definitions that only the equations of the definitions in DETERMINED depend on. Checks that the laws
+        are public functions."""
         for full_name, law in DETERMINED.items():
             crate, *inner, name = law.split("::")
             source = ROOT / crate / "src" / f"{'/'.join(inner)}.rt"
             if not re.search(rf"^pub fn {name}\b", source.read_text(encoding="utf-8"), re.M):
-                self.faults.append(f"{law} is no public function.")
+                self.faults.append(f"{law} is not a public function.")
             module, item = (self.modules[f"Rattle.{full_name.split(':')[0]}"], full_name.split(": ")[1])
             for name in module.items[item].names(lambda name: self.is_constructor(name, module)):
                 self.reach(name, module.names, full_name, "law")
 
 
 class Source:
-    """A file of src/, with its comments, strings and characters blanked out, and its roots."""
+    """A file of src/ and its roots. Comments, strings and characters are replaced by blanks."""
     UNREAD = re.compile(r"//[^\n]*|\"(?:\\.|[^\"\\])*\"|(?<![\w'])b?'(?:\\[^']*|[^'\\\n])'", re.S)
     BLOCK = re.compile(r"^[ ]*(pub |pub\(\w+\) )?(trait|impl|struct)\b([^{;]*)\{", re.M)
     FN = re.compile(r"(pub |pub\(\w+\) )?(?:const )?(?:extern\s+)?\bfn (\w+)((?:\[[^]]*\]|[^;{\[])*)")
@@ -267,40 +272,41 @@ class Source:
         self.code = RUST | set(re.findall(r"\w+", code)) | set(re.findall(r"\b(?:struct|enum|trait|type|const|fn)\s+(\w+)", self.text))
 
     def block(self, place):
-        """The trait, impl or struct that a place stands in, or None."""
+        """Returns the trait, impl or struct that contains an index of the text, or None."""
         return next((m for start, end, m in self.blocks if start <= place < end), None)
 
     def is_promised(self, block):
-        """Whether the members and methods of a trait or of its impl, or the invariants of a struct, are promised."""
+        """Returns whether the members and methods of a trait or impl, or the invariants of a struct, are promises."""
         of = re.search(r"(\w+)(<[^{]*?>)? for ", block.group(3))
         trait = re.search(r"\w+", block.group(3)).group() if block.group(2) == "trait" else of and of.group(1)
         return trait not in self.private_traits if trait else block.group(2) == "struct" and block.group(1) == "pub "
 
     def own_names(self, block):
-        """The names that the members of a trait and the fields of a struct have inside of it."""
+        """Returns the names of a trait's ghost members, or of a struct's fields, which are bound inside of it."""
         label = {"trait": r"\bghost (\w+): ", "struct": r"(\w+): "}.get(block and block.group(2))
         return set(re.findall(label, self.text[block.end():closing(self.text, block.end() - 1)])) if label else set()
 
     def clauses(self):
-        """Of each clause of a function its place, the head of the function, and whether it is promised."""
+        """Yields the index of each clause of a function, the function's head, and whether the clause is a promise."""
         for m in self.CLAUSE.finditer(self.text):
             fn = [one for one in self.FN.finditer(self.text, 0, m.start())][-1]
             block = self.block(fn.start())
             yield m.start(1), fn.group(3), fn.group(1) == "pub " or fn.group(2) in CITED or bool(block and self.is_promised(block))
 
     def ghosts(self, faults):
-        """Of each type and body of a ghost member, and of each invariant, the same. A body may follow a type."""
+        """Yields for the type and the body of each ghost member, and for each invariant, what `clauses` yields, with an
+        empty head. A body may follow a type."""
         name = None
         for m in self.GHOST.finditer(self.text):
             block, name = self.block(m.start()), m.group(1) or name
             if name not in MEANING | LAWS and block.group(2) != "struct":
-                faults.append(f"{self.name}: the ghost member {name} is in no list of tests/believed.py.")
+                faults.append(f"{self.name}: the ghost member {name} is in neither list of tests/believed.py.")
             cited = block.group(2) != "trait" and not CITED.isdisjoint(re.findall(r"\w+", block.group(3)))
             if m.group(2) == ":" or name in MEANING:
                 yield m.start(3), "", cited or self.is_promised(block)
 
     def roots(self, faults):
-        """Of each root its paths one by one, what names stand for there, where it stands, and whether it is promised."""
+        """Yields each path of each root, what names refer to there, the file and line, and whether it is a promise."""
         for place, head, promised in [*self.clauses(), *self.ghosts(faults)]:
             block, names = self.block(place), {}
             for use, listed in self.uses:
@@ -313,9 +319,9 @@ class Source:
 
 
 def odd_things(specs, counted):
-    """Sentences on what stands in the wrong place: a definition that no promise reaches, one that a promise reaches among
-    lemmas or steps, and a lemma among definitions. In the crates beside the port words of private functions may stand among
-    others."""
+    """Yields a message for each item in a wrong module: a definition that no promise reaches, a reached definition in a
+    module of lemmas, steps or inverses, and a lemma outside of modules of lemmas. In extension crates and programs the
+    definitions of private functions may be in any module."""
     for full_name, module in specs.modules.items():
         if ".specs." not in full_name or full_name in OF_TESTS:
             continue
@@ -323,15 +329,15 @@ def odd_things(specs, counted):
         read = counted if module.crate in CRATES else {"promise", "private"}
         for name, item in module.items.items():
             if item.is_lemma and not full_name.endswith(LEMMAS):
-                yield f"{module.name}: {name} is a lemma among definitions."
+                yield f"{module.name}: {name} is a lemma in a module of definitions."
             if item.is_definition and apart and item.reached == "promise":
-                yield f"{module.name}: {name} is reached by a promise, and stands among what need not be believed."
+                yield f"{module.name}: a promise reaches {name}, in a module that need not be believed."
             if item.is_definition and not apart and item.reached not in read | {"law"}:
-                yield f"{module.name}: {name} is reached by no promise."
+                yield f"{module.name}: no promise reaches {name}."
 
 
 def print_sums(title, crates, sizes):
-    """Prints the definitions, lines and tokens that are reached in the specs/ of each crate, and their sums."""
+    """Prints the number of reached definitions, lines and tokens in the specs/ of each crate, and their sums."""
     of_crates = {crate: [size for name, size in sizes.items() if name.split(".")[0] == crate] for crate in crates}
     of_crates[title] = [size for listed in list(of_crates.values()) for size in listed]
     for crate, listed in of_crates.items():
@@ -340,18 +346,18 @@ def print_sums(title, crates, sizes):
 
 
 def print_all(specs, counted, sizes):
-    """Prints the definitions that are reached in the port's crates, and the sums of all crates."""
+    """Prints the reached definitions of the port's crates, and the numbers of all crates."""
     for module in (module for module in specs.modules.values() if module.crate in CRATES):
         for item in (item for item in module.items.values() if item.reached in counted):
             print(f"{module.name}: {item.kind == 'module' and 'module ' or ''}{item.name}, {len(item.lines)}, {item.comment}")
     print_sums("the port", CRATES, sizes)
-    print_sums("extension crates and programs", BESIDE, sizes)
+    print_sums("extension crates and programs", OTHERS, sizes)
 
 
 def reached_specs():
-    """The specs of all crates, with what the roots in their sources reach."""
+    """Returns the specs of all crates, with all definitions marked that the roots of the sources reach."""
     specs = Specs()
-    paths = [path for crate in CRATES + BESIDE for path in sorted((ROOT / crate / "src").rglob("*.rt")) if "/tests" not in path.relative_to(ROOT).as_posix()]
+    paths = [path for crate in CRATES + OTHERS for path in sorted((ROOT / crate / "src").rglob("*.rt")) if "/tests" not in path.relative_to(ROOT).as_posix()]
     private = {name for path in paths for name in re.findall(r"^\s*(?:pub\(\w+\) )?trait (\w+)", path.read_text(), re.M)}
     roots = [root for path in paths for root in Source(path, private).roots(specs.faults)]
     for path, names, where, promised in sorted(roots, key=lambda root: not root[3]):

@@ -1,12 +1,14 @@
 #!/usr/bin/env python3
-"""Compares sslist with ss(8) over the same bytes.
+"""Compares the output of sslist with the output of ss(8) for the same netlink messages.
 
-    tests/beside_ss.py            makes sockets of many kinds, and compares for each list of options below
-    tests/beside_ss.py -tan ..    compares for these options; several of one run are one word, as "-an --vsock"
+    tests/beside_ss.py                compares for each list of options in OPTIONS
+    tests/beside_ss.py OPTIONS ..     compares for these lists. A list is one argument, as in "-an --vsock"
 
-It runs by hand, where gcc and iproute2 are; as root in a network namespace of its own. A library that is preloaded into
-ss records what it sends and receives on AF_NETLINK as a capture. Of each socket that ss shows, sslist has to show one, and
-of each value that both show, the same, and it has to end with status 0. What differs is printed, and then the status is 1.
+The script creates sockets of many kinds. A library that is preloaded into ss records what ss sends and receives on
+AF_NETLINK as a capture, which sslist lists. sslist has to list each socket that ss shows, print the same value wherever
+both print one, and end with status 0. Differences are printed, and the exit status is 1 if there is one.
+
+It is not part of the gate. It needs gcc, iproute2 and the built sslist. As root it uses a new network namespace.
 """
 
 import ctypes
@@ -89,9 +91,9 @@ STREAM, DATAGRAM, PACKETS = socket.SOCK_STREAM, socket.SOCK_DGRAM, socket.SOCK_S
 MPTCP = 262
 NETLINK, PACKET = socket.AF_NETLINK, socket.AF_PACKET
 NETIDS = ["tcp", "udp", "mptcp", "u_str", "u_dgr", "u_seq", "nl", "p_raw", "p_dgr", "v_str", "v_dgr", "v_seq", "xdp"]
-# Names of sslist for what ss calls otherwise.
+# Names of values in sslist, if ss uses another name.
 OTHERWISE = {"bytes_sent": "sent", "bytes_received": "received"}
-# What ss prints in milliseconds with a fraction.
+# Values that ss prints in milliseconds with a fraction, and sslist in microseconds.
 MILLISECONDS = {"rto", "minrtt", "rcv_rtt", "ato"}
 RATES = {"pacing_rate", "delivery_rate"}
 FLAGS = {"ts", "sack", "ecn", "ecnseen", "fastopen", "app_limited", "<->", "-->", "<--", "---"}
@@ -99,7 +101,7 @@ FLAGS |= {"running", "auxdata", "origdev", "vnethdr", "loss"}
 
 
 def bound(family, kind, address, backlog=None, protocol=0, options=()):
-    """A socket with this address, which listens where a backlog is given."""
+    """Returns a socket bound to the address, if there is one. It listens if a backlog is given."""
     made = socket.socket(family, kind, protocol)
     for option in options:
         made.setsockopt(*option)
@@ -111,15 +113,15 @@ def bound(family, kind, address, backlog=None, protocol=0, options=()):
 
 
 def pair(family, listener, protocol=0):
-    """A client of the listener and what it accepts."""
+    """Returns a client that is connected to the listener, and the accepted socket."""
     client = socket.socket(family, listener.type, protocol)
     client.connect(listener.getsockname())
     return [client, listener.accept()[0]]
 
 
 def make_others():
-    """Packet and netlink sockets, which root may make: one with an interface and PACKET_AUXDATA of packet(7), one that is
-    connected, one in a group."""
+    """Returns packet and netlink sockets, which need root: among them one bound to an interface with PACKET_AUXDATA of
+    packet(7), one that is connected, and one in a multicast group."""
     auxdata = [(263, 8, 1)]
     packets = [socket.socket(PACKET, socket.SOCK_RAW, socket.htons(3))]
     packets += [bound(PACKET, DATAGRAM, ("lo", 0x806), options=auxdata)]
@@ -129,7 +131,7 @@ def make_others():
 
 
 def make_sockets(folder):
-    """Sockets of many kinds and states, which stay while they are kept."""
+    """Returns sockets of many kinds and states. They stay open as long as they are referenced."""
     others = make_others() if os.geteuid() == 0 else []
     four = bound(INET, STREAM, ("127.0.0.1", 7001), 5)
     six = bound(INET6, STREAM, ("::1", 7004), 9, options=[(socket.IPPROTO_IPV6, socket.IPV6_V6ONLY, 1)])
@@ -165,7 +167,7 @@ def make_sockets(folder):
 
 
 def timer(milliseconds):
-    """A time as ss prints it."""
+    """Returns the time of a timer as ss prints it."""
     minutes, rest = divmod(milliseconds, 60000)
     seconds, rest = divmod(rest, 1000)
     if minutes:
@@ -178,7 +180,7 @@ def timer(milliseconds):
 
 
 def listed(capture):
-    """The sockets that sslist shows, each by its key and place, and what it says on standard error."""
+    """Returns the sockets that sslist lists, by key and in order, its standard error and its exit status."""
     run = subprocess.run([LISTER, capture], capture_output=True, check=False)
     sockets, last = {}, None
     for line in run.stdout.decode("ascii").splitlines()[1:]:
@@ -197,7 +199,7 @@ def listed(capture):
 
 
 def end(text, netid):
-    """An end of a socket as sslist writes it."""
+    """Returns an address of ss as sslist prints it."""
     if netid.startswith("p_"):
         protocol, _, interface = text.rpartition(":")
         number = interface if interface == "*" else socket.if_nametoindex(interface)
@@ -206,7 +208,7 @@ def end(text, netid):
 
 
 def shown(line):
-    """Key, columns and words of a line of ss."""
+    """Returns the key of the socket in a line of ss, its columns, and the remaining words."""
     unix = re.match(r"(u_...) (\S+)\s+(\d+)\s+(\d+)\s+(.*?) (\d+)\s+(.*?) (\d+)(?:\s+(.*))?$", line)
     if unix:
         columns = {"netid": unix[1], "state": unix[2], "recv": unix[3], "send": unix[4]}
@@ -221,7 +223,7 @@ def shown(line):
 
 
 def values(words):
-    """Name and value of what ss shows of a socket, as sslist writes it; None is a flag."""
+    """Yields the name of each value that ss shows for a socket, and the value as sslist prints it. A flag has None."""
     for word, following in zip(words, [*words[1:], ""]):
         name, colon, value = word.partition(":")
         if word in FLAGS:
@@ -250,7 +252,7 @@ def values(words):
 
 
 def differs(socket_, name, value):
-    """Whether sslist shows another value of this name, or None where it shows none."""
+    """Returns whether sslist prints another value of this name, or None if it prints none."""
     if value is None:
         return name not in socket_["words"] if socket_["words"] else None
     if name == "groups":
@@ -269,18 +271,21 @@ def differs(socket_, name, value):
 
 
 def compare(option, folder, recorder):
+    """Compares both programs for a list of options, and prints the differences. Returns 0 if there is none and sslist
+    ended with status 0."""
     capture = f"{folder}/capture{option.replace(' ', '')}"
     environment = os.environ | {"LD_PRELOAD": recorder, "CAPTURE": capture}
-    told = subprocess.run(["ss", *option.split(), "-OH"], env=environment, capture_output=True, check=True).stdout.decode()
+    ss = ["ss", *option.split(), "-OH"]
+    theirs = subprocess.run(ss, env=environment, capture_output=True, check=True).stdout.decode()
     sockets, errors, status = listed(capture) if Path(capture).exists() else ({}, "no capture", 0)
     found = compared = wrong = missing = 0
     uncompared = set()
-    for line in told.splitlines() if option != "-s" else []:
+    for line in theirs.splitlines() if option != "-s" else []:
         key, columns, words = shown(line)
         ours = sockets.get(key)
         if not ours:
             missing += 1
-            print(f"{option}: sslist has not: {line}")
+            print(f"{option}: sslist does not list: {line}")
             continue
         found += 1
         ours = ours.pop(0)
@@ -290,7 +295,7 @@ def compare(option, folder, recorder):
             uncompared |= {name} if result is None else set()
             if result:
                 wrong += 1
-                print(f"{option}: {name} of {key} is {value}, sslist has {ours.get(name)}")
+                print(f"{option}: {name} of {key} is {value}, sslist prints {ours.get(name)}")
     print(f"{option}: {found} sockets, {compared} values compared, {wrong} differ, {missing} sockets missing,"
           f" status {status}, not compared: {' '.join(sorted(uncompared)) or 'nothing'}", *errors.splitlines(), sep="\n  ")
     return wrong + missing + status
@@ -298,7 +303,7 @@ def compare(option, folder, recorder):
 
 def main():
     if not LISTER.exists():
-        sys.exit("first ./sslist </dev/null")
+        sys.exit("sslist is not built; run ./sslist </dev/null first")
     if os.geteuid() == 0 and ctypes.CDLL(None).unshare(0x40000000) == 0:
         subprocess.run(["ip", "link", "set", "lo", "up"], check=True)
     with tempfile.TemporaryDirectory() as folder:

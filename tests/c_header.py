@@ -1,12 +1,15 @@
 #!/usr/bin/env python3
-"""Fails, with status 1, where include/sockdiag.h doesn't declare what crates/sockdiag_c exports.
+"""Fails, with status 1, if include/sockdiag.h does not declare what crates/sockdiag_c exports.
 
-From the Rattle source follow the header's structs, field by field in order, its prototypes and its
-numbers. Where there is a C compiler, `$CC` or `cc`, each field has to stand at its place there, and
-the header has to fit the calls in C too: what calls it is compiled. Where the library takes seconds
-to build, since those below it are built here and its own proof is kept, tests/c_face.sh builds it
-and runs the calls, and tests/rust_face.sh those of rust/sockdiag, which else is compiled alone. Each
-part that is left out is told.
+- The script derives the structs, prototypes and constants of the header from the Rattle source, and
+  compares them. The fields of a struct are compared in order.
+- With a C compiler, `$CC` or `cc`, it compiles the header with assertions on the offset of each
+  field and the size of each struct, and compiles tests/c_face.c and examples/list_sockets.c.
+- If the library takes only seconds to build, because its dependencies are built and its own proof
+  results are present, tests/c_face.sh builds it and runs the calls from C, and tests/rust_face.sh
+  runs the tests of rust/sockdiag. Otherwise rust/sockdiag is only compiled.
+
+It prints which of these parts it skips.
 """
 
 import difflib
@@ -22,8 +25,8 @@ TOP = Path(__file__).resolve().parent.parent
 HEADER = TOP / "include" / "sockdiag.h"
 RUST = TOP / "rust" / "sockdiag"
 FAMILIES = "sock_diag_families/src"
-# The header's numbers, but those of the faults, by the file and the name of the constant, or words
-# of a doc comment in front of the number.
+# The constants of the header, except the error codes. Each has a file, and there the name of a
+# constant, or the words that precede the number in a doc comment.
 NUMBERS = {
     "SOCKDIAG_OK": ("sockdiag_c/src/check.rt", "OK"),
     "SOCKDIAG_END": ("sockdiag_c/src/walks.rt", "END"),
@@ -49,16 +52,17 @@ NUMBERS = {
         "vsock sockets, a netlink message of ",
     ),
 }
-# Those faults of `DecodeError` that no call tells.
-UNTOLD = {"MEMORY"}
+# Variants of `DecodeError` that no call returns.
+NOT_RETURNED = {"MEMORY"}
 PLAIN = {"usize": "size_t", "i32": "int32_t"}
 PLAIN.update({f"u{bits}": f"uint{bits}_t" for bits in (8, 16, 32, 64)})
-# By the type of a parameter, bytes that are told as the fields of a record of another crate.
-TOLD_AS = {
+# Byte arrays that the header declares as a struct: by the type of the parameter, the struct, and the
+# record of another crate that has its fields.
+DECLARED_AS = {
     "&mut [u8; 232]": ("sockdiag_tcp_info", "TcpInfo", "sock_diag_values/src/inet/tcp_info.rt"),
     "&mut [u8; 36]": ("sockdiag_inet_memory", "MemInfo", "sock_diag_values/src/inet/mem_info.rt"),
 }
-# Records of FAMILIES that C shares, by their names there.
+# Records of FAMILIES that the C API uses, by their names in Rattle.
 SHARED = {
     "NetlinkResponseHeader": ("sockdiag_netlink_header", "netlink/response.rt"),
     "PacketResponseHeader": ("sockdiag_packet_header", "packet/response.rt"),
@@ -86,9 +90,9 @@ def text_of(path):
 
 
 def in_c(kind, name, structs):
-    """A field or parameter of that type in C."""
-    if kind in TOLD_AS:
-        return f"struct {TOLD_AS[kind][0]} *{name}"
+    """Returns the C declaration of a field or parameter of this type."""
+    if kind in DECLARED_AS:
+        return f"struct {DECLARED_AS[kind][0]} *{name}"
     array = re.fullmatch(r"\[(\w+); (\d+)\]", kind)
     if array:
         return f"{in_c(array[1], name, structs)}[{array[2]}]"
@@ -100,17 +104,18 @@ def in_c(kind, name, structs):
 
 
 def parameters(text, structs):
-    """The parameters in C. The length of the first slice is `length`, of another `NAME_length`."""
-    told, slices = [], 0
+    """Returns the parameters in C. The length of the first slice is `length`, that of a later slice
+    is `NAME_length`."""
+    found, slices = [], 0
     for name, kind in re.findall(r"(\w+): ([^,]+?)(?:,|\s*$)", without_lifetimes(text)):
         part = re.fullmatch(r"&(mut )?\[(\w+)\]", kind)
         if part:
-            told += [in_c(f"&{part[1] or ''}{part[2]}", name, structs)]
-            told += [f"size_t {name}_length" if slices else "size_t length"]
+            found += [in_c(f"&{part[1] or ''}{part[2]}", name, structs)]
+            found += [f"size_t {name}_length" if slices else "size_t length"]
             slices += 1
         else:
-            told.append(in_c(kind, name, structs))
-    return ", ".join(told) or "void"
+            found.append(in_c(kind, name, structs))
+    return ", ".join(found) or "void"
 
 
 def without_lifetimes(text):
@@ -118,15 +123,15 @@ def without_lifetimes(text):
 
 
 def source():
-    """The Rattle source of the library, but its tests."""
+    """Returns the Rattle source of the library without its tests."""
     files = sorted((TOP / "crates/sockdiag_c/src").rglob("*.rt"))
     return "".join(path.read_text(encoding="utf-8") for path in files if path.name != "tests.rt")
 
 
 def structs_of(text):
-    """By their names in Rattle the structs: the name in C, and the fields with their types."""
+    """Returns by its Rattle name each struct: its name in C, and its fields with their types."""
     found = [(name, other, body) for other, name, body in STRUCT.findall(text)]
-    for other, name, path in TOLD_AS.values():
+    for other, name, path in DECLARED_AS.values():
         body = re.search(rf"pub struct {name} {{(.*?)\n}}", text_of(path), re.S)[1]
         found.append((name, other, re.sub(r"Option<(\w+)>", r"\1", body)))
     for name, (other, path) in SHARED.items():
@@ -137,7 +142,7 @@ def structs_of(text):
 
 
 def fields(body):
-    """The fields of a struct, a slice as its pointer and its length."""
+    """Yields the name and the type of each field of a struct. A slice is a pointer and a length."""
     for name, kind in FIELD.findall(without_lifetimes(body)):
         if kind == "&[u8]":
             yield name, "&u8"
@@ -147,7 +152,7 @@ def fields(body):
 
 
 def size_and_align(kind, structs):
-    """The bytes of a type by the rules of C on x86-64, and what its place is a multiple of."""
+    """Returns the size and the alignment of a type in bytes, by the C ABI of x86-64."""
     array = re.fullmatch(r"\[(\w+); (\d+)\]", kind)
     if array:
         size, align = size_and_align(array[1], structs)
@@ -160,7 +165,7 @@ def size_and_align(kind, structs):
 
 
 def layout(fields, structs):
-    """The place of each field and of the end, and what the struct's place is a multiple of."""
+    """Returns the offset of each field and of the end of a struct, and the struct's alignment."""
     places, at, most = {}, 0, 1
     for name, kind in fields:
         size, align = size_and_align(kind, structs)
@@ -171,7 +176,8 @@ def layout(fields, structs):
 
 
 def places():
-    """Sentences of C that hold where each field stands at its place."""
+    """Yields C assertions: the offset of each field and the size of each struct. One of them fails
+    if no constant of the source states the size of a struct."""
     text = source()
     structs = structs_of(text)
     for name, (other, its_fields) in structs.items():
@@ -181,13 +187,13 @@ def places():
             yield f'_Static_assert(offsetof(struct {other}, {field}) == {place}, "{field}");'
         yield f'_Static_assert(sizeof(struct {other}) == {size}, "{other}");'
         proved = re.search(rf"size_of::<{name}(?:<'static>)?>\(\) == (\d+)", text)
-        is_told = any(name == record for _, record, _ in TOLD_AS.values())
-        if not is_told and (not proved or int(proved[1]) != size):
+        is_array = any(name == record for _, record, _ in DECLARED_AS.values())
+        if not is_array and (not proved or int(proved[1]) != size):
             yield f'_Static_assert(0, "no constant proves that {name} has {size} bytes");'
 
 
 def declared():
-    """What the Rattle source asks of the header, a declaration or a number each."""
+    """Yields each declaration and each constant that the header should have, from the Rattle source."""
     text = source()
     found = structs_of(text)
     structs = {name: other for name, (other, _) in found.items()}
@@ -199,17 +205,17 @@ def declared():
         answer = in_c(answer, "", structs).strip() if answer else "void"
         yield f"{exported}{answer} {name}({parameters(inside, structs)})"
     for name, (path, words) in NUMBERS.items():
-        told_by = words if " " in words else rf"const {words}: [a-z0-9]+ = "
-        yield f"{name} {re.search(told_by + '([0-9]+)', text_of(path))[1]}"
+        before = words if " " in words else rf"const {words}: [a-z0-9]+ = "
+        yield f"{name} {re.search(before + '([0-9]+)', text_of(path))[1]}"
     numbered = r"DecodeError::(\w+)(?: \{ \.\. \})? => (\d+),"
     for fault, number in re.findall(numbered, text_of("netlink_core/src/fault.rt")):
         name = re.sub(r"(?<=[a-z])(?=[A-Z])|(?<=Under)(?=\d)", "_", fault).upper()
-        if name not in UNTOLD:
+        if name not in NOT_RETURNED:
             yield f"SOCKDIAG_{name} {number}"
 
 
-def told():
-    """The declarations and numbers of the header."""
+def found_in_header():
+    """Yields each declaration and each constant of the header."""
     text = re.sub(r"/\*.*?\*/", "", HEADER.read_text(encoding="utf-8"), flags=re.S)
     yield from (" ".join(it) for it in re.findall(r"^#define (\w+) (\d+)$", text, re.M))
     yield from (" ".join(it) for it in re.findall(r"^ +(SOCKDIAG_\w+) = (\d+),?", text, re.M))
@@ -218,13 +224,13 @@ def told():
     known = r"struct \w+ \{[^}]*\}(?=;)|[\w *]+\([^)]*\)(?=;)"
     text = " ".join(text.split())
     yield from (it.strip() for it in re.findall(known, text))
-    # What is neither of these is shown, and stands in no source.
+    # Any other text is yielded too. It is not in the source, so it is reported.
     yield from (it.strip() for it in re.sub(known, "", text).split(";") if it.strip(" }"))
 
 
 def is_soon_built():
-    """Whether the library takes seconds to build here."""
-    # Nothing is written beside the scripts.
+    """Returns whether the library takes only seconds to build here."""
+    # Do not create tests/__pycache__.
     sys.dont_write_bytecode = True
     from edits import rt
 
@@ -233,14 +239,15 @@ def is_soon_built():
 
 
 def call():
-    """Compiles the calls from C, and runs them where the library is soon built."""
+    """Compiles the calls from C, and runs them if the library takes only seconds to build. Returns
+    an exit status."""
     compiler = os.environ.get("CC", "cc")
     if not shutil.which(compiler):
-        print(f"no C compiler {compiler}: the calls from C are neither compiled nor run")
+        print(f"skipped: no C compiler {compiler} to compile and run the calls from C")
         return 0
     strict = [*"-Wall -Wextra -Wpedantic -Werror -fsyntax-only -Iinclude -x".split()]
     header = '#include "sockdiag.h"\n'
-    # A compiler of C alone says so.
+    # This fails if the compiler does not support C++.
     plus = [compiler, "-fsyntax-only", "-x", "c++", os.devnull]
     has_plus = subprocess.run(plus, stderr=subprocess.DEVNULL).returncode == 0
     for language, flags, files, text in [
@@ -250,14 +257,14 @@ def call():
         ("c++", ["-std=c++11"], ["examples/list_sockets.c"], ""),
     ]:
         if language == "c++" and not has_plus:
-            print(f"{compiler} compiles no C++: that the header is C++ too isn't seen")
+            print(f"skipped: {compiler} cannot compile the header as C++")
             continue
         words = [compiler, *flags, *strict, language, *files]
         status = subprocess.run(words, cwd=TOP, input=text, text=True).returncode
         if status != 0:
             return status
     if not is_soon_built():
-        print("the calls from C are compiled and not run: tests/c_face.sh runs them")
+        print("skipped: the calls from C are only compiled, tests/c_face.sh runs them")
         return compile_rust() if has_cargo() else 0
     status = subprocess.run([TOP / "tests" / "c_face.sh"]).returncode
     if status == 0 and has_cargo():
@@ -266,32 +273,32 @@ def call():
 
 
 def compile_rust():
-    """Compiles rust/sockdiag with its tests and examples, over a library without a call in it."""
-    with tempfile.TemporaryDirectory() as room:
-        Path(room, "libsockdiag.a").write_bytes(b"!<arch>\n")
-        places = {"SOCKDIAG_LIB_DIR": room, "CARGO_TARGET_DIR": f"{room}/target"}
+    """Compiles rust/sockdiag with its tests and examples, over an empty library."""
+    with tempfile.TemporaryDirectory() as folder:
+        Path(folder, "libsockdiag.a").write_bytes(b"!<arch>\n")
+        folders = {"SOCKDIAG_LIB_DIR": folder, "CARGO_TARGET_DIR": f"{folder}/target"}
         words = ["cargo", "check", "--offline", "--quiet", "--examples", "--tests"]
-        return subprocess.run(words, cwd=RUST, env=os.environ | places).returncode
+        return subprocess.run(words, cwd=RUST, env=os.environ | folders).returncode
 
 
 def has_cargo():
-    """Whether there is a cargo that takes rust/sockdiag, and a linker `cc`."""
-    asked = re.search(r'rust-version = "(\d+)\.(\d+)"', (RUST / "Cargo.toml").read_text())
-    told = ""
+    """Returns whether there is a cargo that is new enough for rust/sockdiag, and a linker `cc`."""
+    least = re.search(r'rust-version = "(\d+)\.(\d+)"', (RUST / "Cargo.toml").read_text())
+    printed = ""
     if shutil.which("cargo") and shutil.which("cc"):
-        told = subprocess.run(["cargo", "--version"], stdout=subprocess.PIPE, text=True).stdout
-    version = re.match(r"cargo (\d+)\.(\d+)", told)
-    if not version or tuple(map(int, version.groups())) < tuple(map(int, asked.groups())):
-        print("no cargo that takes rust/sockdiag: it isn't compiled")
+        printed = subprocess.run(["cargo", "--version"], stdout=subprocess.PIPE, text=True).stdout
+    version = re.match(r"cargo (\d+)\.(\d+)", printed)
+    if not version or tuple(map(int, version.groups())) < tuple(map(int, least.groups())):
+        print("skipped: no cargo for rust/sockdiag, or no cc")
         return False
     return True
 
 
 def main():
-    wanted, header = sorted(declared()), sorted(told())
-    for line in difflib.unified_diff(header, wanted, "header", "source", n=0, lineterm=""):
+    expected, header = sorted(declared()), sorted(found_in_header())
+    for line in difflib.unified_diff(header, expected, "header", "source", n=0, lineterm=""):
         print(line)
-    return int(wanted != header or call() != 0)
+    return int(expected != header or call() != 0)
 
 
 if __name__ == "__main__":

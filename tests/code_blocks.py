@@ -1,13 +1,14 @@
 #!/usr/bin/env python3
-"""Looks for the code of the documents in the files that are proved.
+"""Checks that the code blocks of the pages are copies of code in the repository.
 
-A block that is marked `rust` or `antt` has to stand, as whole lines in a row, in some file under crates/*/src,
-crates/*/proofs or crates/*/specs; how far its lines are set in, and blank lines, don't count. In a README.md the
-contracts may be left out. One that is marked `c` has to stand in an example, and so may one that is marked `rust`:
-tests/c_header.py and tests/rust_face.sh compile them.
-A block that is marked `text` in a CALLING.md quotes contracts, below a line that names the file; each quoted line has
-to stand there, written as the page shortens it.
-Each block or line that stands nowhere is told with its file and line, and then the status is 1.
+- A `rust` or `antt` block has to occur, as consecutive whole lines, in a file under crates/*/src, crates/*/proofs or
+  crates/*/specs. Indentation and blank lines are ignored.
+- In a README.md a block may omit the contracts. There a `rust` block may also occur in an example, and a `c` block has
+  to. tests/c_header.py and tests/rust_face.sh compile the examples.
+- A `text` block in a CALLING.md quotes contracts below a line that names the file. Each quoted line has to occur in
+  that file, in the notation of these pages.
+
+Prints the file and the line of each block or quoted line that was not found. The exit status is 1 if there is one.
 """
 
 import re
@@ -26,12 +27,12 @@ def files(patterns):
 
 
 def bare_lines(text):
-    """The lines that aren't blank, without what stands in front of and behind their text."""
+    """Returns the lines that are not blank, without leading and trailing blanks."""
     return [line.strip() for line in text.splitlines() if line.strip()]
 
 
 def without_contracts(text):
-    """The code without clauses, hints to the prover and imports of definitions."""
+    """Returns the code without clauses, tactic attributes and imports of definitions."""
     kept, depth = [], 0
     for line in text.splitlines():
         bare = line.strip()
@@ -43,7 +44,7 @@ def without_contracts(text):
 
 
 def blocks(document):
-    """Of each block the number of the line that opens it, its language, and its lines."""
+    """Yields the line number, the language and the lines of each code block."""
     opened = None
     for number, line in enumerate(document.read_text(encoding="utf-8").splitlines(), 1):
         mark = line.strip()
@@ -56,23 +57,24 @@ def blocks(document):
         else:
             opened = (number, mark.removeprefix(FENCE).strip(), [])
     if opened:
-        sys.exit(f"{document}: the block that begins at line {opened[0]} has no end")
+        sys.exit(f"{document}:{opened[0]}: this code block is not closed")
 
 
-def stands_in(block, source):
-    """Whether the lines of the block stand in the source, one after the other."""
+def occurs_in(block, source):
+    """Returns whether the lines of the block occur in the source as consecutive lines."""
     return any(source[at : at + len(block)] == block for at in range(len(source) - len(block) + 1))
 
 
 def shortened(source):
-    """The source on one line, without comments, as the pages write it: S for *self, and S' for *self at the return."""
+    """Returns the source as one line without comments, in the notation of the pages: S for *self, and S' for *self at
+    the return."""
     code = re.sub(r"(^|\s)//.*", " ", source, flags=re.MULTILINE)
     code = re.sub(r"\s+", " ", code).replace("( ", "(").replace(" )", ")").replace(",)", ")")
     return re.sub(r"\bself\.(now|old)\b", "S", re.sub(r"\bself\.new\b", "S'", code))
 
 
 def written_out(line):
-    """A quoted line as it stands in the shortened source, or what has to stand there of it."""
+    """Returns a quoted line in the form of the shortened source, or the part of it that has to occur there."""
     clause = re.fullmatch(r"(requires|ensures)( \w+)?: (.*)", line)
     if clause:
         return f"{clause[1]}{clause[2] or ''} {{ {clause[3]} }}"
@@ -83,7 +85,7 @@ def written_out(line):
 
 
 def missing_quotes(document, number, lines):
-    """The lines of a block of contracts that don't stand in the file which the line above them names."""
+    """Yields the number of each quoted line that does not occur in the file named above it."""
     source = ""
     for at, line in enumerate(lines, number + 1):
         quoted = line.strip()
@@ -108,16 +110,16 @@ def main():
             if language == "text" and document.name == "CALLING.md":
                 gone = list(missing_quotes(document, number, lines))
                 found += not gone
-                missing += [(document, at, "quoted line stands not in its file") for at in gone]
+                missing += [(document, at, "quoted line is not in the file named above it") for at in gone]
             elif language in ("rust", "antt", "c"):
                 likely = sources + shown + examples if document.name == "README.md" else sources
-                if block and any(stands_in(block, source) for source in likely):
+                if block and any(occurs_in(block, source) for source in likely):
                     found += 1
                 else:
-                    missing.append((document, number, f"{language} block stands in no file"))
-    for document, number, told in missing:
-        print(f"{document.relative_to(TOP)}:{number}: this {told}")
-    print(f"{found} blocks stand in files, {len(missing)} blocks or lines don't")
+                    missing.append((document, number, f"{language} block is not in any file"))
+    for document, number, text in missing:
+        print(f"{document.relative_to(TOP)}:{number}: this {text}")
+    print(f"{found} code blocks found in files, {len(missing)} blocks or lines not found")
     return 1 if missing else 0
 
 

@@ -10,7 +10,7 @@ COLUMNS = 100
 
 
 def is_unbreakable(line):
-    """Returns whether a line cannot be broken: an import of one name, an attribute, or a printed text."""
+    """Returns whether a line cannot be broken: an import of one name, an attribute, or a string literal."""
     line = line.strip()
     imported = re.match(r"(pub )?(ghost )?use ([^{]*\{[^,]*\}|[\w.-]+ as \w+);?$", line)
     return imported or line.startswith("#[tactic") or line.startswith('"')
@@ -26,7 +26,7 @@ def main():
             if len(line) > COLUMNS and not is_unbreakable(line):
                 wide += 1
                 print(f"{name}:{number}: {len(line)} columns")
-    print(f"{wide} lines of more than {COLUMNS} columns")
+    print(f"{wide} lines have more than {COLUMNS} columns")
     sys.exit(1 if wide else 0)
 
 

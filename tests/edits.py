@@ -1,14 +1,17 @@
 #!/usr/bin/env python3
-"""edits.py [--list] [--jobs N] [NAME..]: tries the edits crates/CRATE/must-fail/*.edit and
-tests/edits/CRATE/*.edit. Each makes a function wrong, and the prover has to refuse it. A NAME is
-CRATE, EDIT or CRATE/EDIT; with none, all are tried.
+"""edits.py [--list] [--jobs N] [NAME..]: tries the edits in crates/CRATE/must-fail/*.edit and
+tests/edits/CRATE/*.edit. Each edit makes a function wrong, and the prover has to reject it. A NAME
+is CRATE, EDIT or CRATE/EDIT. Without a NAME all edits are tried.
 
-Edits of functions that don't call each other make a group. One check of a copy tries a group, over
-what the crate's own proof kept in out/. An edit is refused where the prover refuses the function
-that it changes, and not since that one calls another. What no group can hold or tell is tried
-alone, as rt ci tries it. --list prints the groups and tries nothing; it names the edits that can't
-be applied. The exit status is 1 if there is one, if an edit isn't refused or if nothing is known of
-it."""
+Edits of functions that do not call each other form a group. A group is applied to one copy of the
+crate, and checked by one run that reuses the results in the crate's out/. An edit counts as
+rejected if the prover rejects the function that it changes, for a reason other than a callee that
+is not proved. An edit that fits into no group, or whose result in a group is not clear, is tried
+alone, as rt ci does.
+
+With --list it prints the groups and the edits that cannot be applied, and tries nothing. The exit
+status is 1 if an edit cannot be applied or is not rejected, if a crate cannot be proved without
+edits, or if no edit has one of the names."""
 import argparse
 import glob
 import importlib.machinery
@@ -25,15 +28,15 @@ from collections import namedtuple
 
 TOP = os.path.dirname(os.path.dirname(os.path.realpath(__file__)))
 HEAD = re.compile(r'( *)(?:pub(?:\([^)]*\))? )?(?:const )?(?:unsafe )?(?:extern "C" )?fn (\w+)')
-# A function: its file in the crate, its name, the numbers of its lines, its text.
+# A function: its path in the crate, its name, the range of its line numbers, and its text.
 Function = namedtuple("Function", "path name lines text")
-# An edit: its file, its name, the texts that it makes and the lines that differ, both by their
-# paths, and the functions that hold those lines: none where a line stands outside of each.
+# An edit: its file, its name, the edited texts by path, the changed lines by path and line number,
+# and the functions that contain these lines: none if a changed line is outside of all functions.
 Edit = namedtuple("Edit", "file name texts lines functions")
 
 
 def kit_command():
-    """Returns the kit's rt as a module: it reads edits and checks copies, as rt ci does."""
+    """Returns the kit's rt as a module, for its functions that read edits and check copies."""
     page = subprocess.run(["rt", "doc"], stdout=subprocess.PIPE, text=True, check=True).stdout
     sys.dont_write_bytecode = True
     file = f"{os.path.dirname(page.strip())}/bin/rt"
@@ -44,7 +47,7 @@ def kit_command():
 
 
 rt = kit_command()
-# What rt tells of an edit that is refused: by its kind, or, as older kits do, that it is.
+# The results of rt for an edit that is rejected. Older kits return True instead of a result.
 REFUSED = {getattr(rt, name, True) for name in ("REFUSED", "AT_LIMIT")}
 
 
@@ -54,7 +57,7 @@ def rows_of(file):
 
 
 def functions_of(crate):
-    """Returns the functions of the crate's files, which stand in the layout of rt fmt."""
+    """Returns the functions of the crate's files, which are formatted by rt fmt."""
     found = []
     for file in sorted(glob.glob(f"{crate.folder}/src/**/*.rt", recursive=True)):
         rows, path = rows_of(file), os.path.relpath(file, crate.folder)
@@ -62,9 +65,10 @@ def functions_of(crate):
             head = HEAD.match(row)
             if not head:
                 continue
-            # The next row that is no deeper ends it, unless that goes on with its head.
-            goes_on = re.compile(rf"{head[1]}( |where\b|[){{])|$")
-            end = next((n for n in range(at + 1, len(rows)) if not goes_on.match(rows[n])), at)
+            # The function ends at the next line that is not indented more, unless that line is part
+            # of its head.
+            head_continues = re.compile(rf"{head[1]}( |where\b|[){{])|$")
+            end = next((n for n in range(at + 1, len(rows)) if not head_continues.match(rows[n])), at)
             end = at if row.endswith(("}", ";")) else end
             text = "\n".join(rows[at : end + 1])
             found.append(Function(path, head[2], range(at + 1, end + 2), text))
@@ -86,8 +90,8 @@ def edit_of(file, crate, functions):
 
 
 def groups_of(edits, functions):
-    """Returns the edits in groups, of which none has two of one function, nor one of a function
-    that calls the other's, and those that stay alone."""
+    """Returns the groups of edits, and the edits that are tried alone. No two edits of a group
+    change the same function, or functions of which one calls the other."""
     call = re.compile(r"\b(\w+)(?:::<[^(]*>)?\(")
     calls = {it: {*call.findall(it.text.partition("(")[2])} for it in functions}
     meet = lambda a, b: a == b or b.name in calls[a] or a.name in calls[b]
@@ -103,8 +107,9 @@ def groups_of(edits, functions):
     return groups, [it for it in edits if not it.functions]
 
 
-def is_told(said, crate, edit, functions):
-    """Returns whether a check's output refuses each function of the edit for its own sake."""
+def is_rejected(said, crate, edit, functions):
+    """Returns whether the output of a check says that each function of the edit is not proved, for
+    a reason other than a callee that is not proved."""
     for it in edit.functions:
         module = re.sub(r"^src/|(/mod)?\.rt$", "", it.path).replace("/", "::")
         inner = "" if module in ("lib", "main") else f"{module}::"
@@ -119,7 +124,7 @@ def is_told(said, crate, edit, functions):
 
 
 def try_group(crate, group, functions, flags, kept):
-    """Checks a copy with all edits of the group, and returns those that it refuses."""
+    """Checks a copy with all edits of the group, and returns the edits that are rejected."""
     rows = {path: rows_of(f"{crate.folder}/{path}") for it in group for path in it.texts}
     for edit in group:
         for (path, number), row in edit.lines.items():
@@ -131,11 +136,11 @@ def try_group(crate, group, functions, flags, kept):
         return []
     if any(rt.unread(it, texts) for it in lines):
         return []
-    return [it for it in group if is_told(ran.stdout, crate, it, functions)]
+    return [it for it in group if is_rejected(ran.stdout, crate, it, functions)]
 
 
 def is_proved(crate):
-    """Proves the crate as it stands, unless that is done."""
+    """Proves the unchanged crate, unless that is done, and returns whether it is proved."""
     with open(f"{crate.folder}/stdin" if crate.is_program else os.devnull, "rb") as stdin:
         how = {"stdin": stdin, "stdout": subprocess.PIPE, "stderr": subprocess.STDOUT}
         words = ["rt", "run" if crate.is_program else "lib"]
@@ -145,7 +150,7 @@ def is_proved(crate):
 
 
 def try_crate(crate, edits, functions, flags):
-    """Tries the edits of a crate, and returns how many aren't refused."""
+    """Tries the edits of a crate, and returns the number of edits that are not rejected."""
     began, failed = time.time(), 0
     if not is_proved(crate):
         return len(edits)
@@ -154,11 +159,11 @@ def try_crate(crate, edits, functions, flags):
         kept, own = f"{room}/kept", f"{crate.folder}/out/incremental"
         shutil.copytree(own, kept) if os.path.isdir(own) else os.mkdir(kept)
         for group in groups:
-            told = try_group(crate, group, functions, flags, kept)
-            for it in told:
-                by = " and ".join(f"{held.name} of {held.path}" for held in it.functions)
-                print(f"{it.name}: refused, by {by}", flush=True)
-            alone += [it for it in group if it not in told]
+            rejected = try_group(crate, group, functions, flags, kept)
+            for it in rejected:
+                where = " and ".join(f"{one.name} in {one.path}" for one in it.functions)
+                print(f"{it.name}: rejected at {where}", flush=True)
+            alone += [it for it in group if it not in rejected]
         for it in alone:
             kind, text = rt.must_fail(crate, it.file, flags, kept)
             failed += kind not in REFUSED
@@ -175,7 +180,7 @@ def main():
     words.add_argument("names", nargs="*")
     given = words.parse_args()
     began, tried, failed = time.time(), 0, 0
-    # A run that is told to end removes its copies.
+    # On SIGTERM the script exits normally, so that its copies are removed.
     signal.signal(signal.SIGTERM, lambda number, _: sys.exit(128 + number))
     rt.rtlib.guarded()
     for crate in rt.rtlib.crates_below(TOP):
@@ -196,7 +201,7 @@ def main():
         elif edits:
             failed += try_crate(crate, edits, functions, ["--jobs", given.jobs])
     if not given.list:
-        result = f"{failed} NOT REFUSED" if failed else "all refused"
+        result = f"{failed} NOT REJECTED" if failed else "all rejected"
         print(f"{tried} edits: {result}, {time.time() - began:.0f} s")
     return 1 if failed or not tried else 0
 

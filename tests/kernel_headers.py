@@ -3,9 +3,9 @@
 
 For each record of RECORDS the script parses its rows in specs/: an offset, a width and the member of
 the Rust struct. A C program prints the size of the kernel's struct, and the offset and the end of
-each of its members. The fields of `tcp_info`, the bits of
-`inet_diag_sockopt` and the public constants are compared in the same way. The headers of an older
-kernel have fewer of these: the last line but one lists what the installed headers lack.
+each of its members. The fields of `tcp_info`, the bits of `inet_diag_sockopt` and the public
+constants are compared in the same way. The headers of an older kernel may lack some of these: the
+last line but one of the output lists them.
 
 The exit status is 1 if anything differs, if the headers lack a struct or a member that they must
 have, if a layout of specs/ is missing from RECORDS, or if a row has a form that the script does not
@@ -40,7 +40,8 @@ SOCKET_ID = """source_port=id.idiag_sport destination_port=id.idiag_dport
     source_address=id.idiag_src destination_address=id.idiag_dst interface_id=id.idiag_if
     cookie=id.idiag_cookie"""
 # The layout of each record, its C struct, and for each member of the Rust struct its C members:
-# several after `+`, none if it is not compared. `tcpi_` alone is the prefix of all C members.
+# several separated by `+`, none if it is not compared. If the text is only `tcpi_`, then this is the
+# prefix of all C members.
 RECORDS = [
     ("header_rows", "nlmsghdr", """length=nlmsg_len message_type=nlmsg_type flags=nlmsg_flags
         sequence_number=nlmsg_seq port_number=nlmsg_pid"""),
@@ -108,7 +109,7 @@ RECORDS = [
 ]
 # Structs that are longer in newer kernels, or are the start of a longer record.
 OTHER_SIZE = {"tcp_info", "sockaddr_in", "sockaddr_in6"}
-# A question that all headers answer: these two structs gain members in newer kernels.
+# A question that all headers answer. Only these two structs gain members in newer kernels.
 ANSWERED = re.compile(r"(?:SIZE|START|END|BIT)\((?!tcp_info,|inet_diag_sockopt,)")
 # Members of `tcp_info` that are bytes of bit fields, and the first C member of each.
 BIT_FIELDS = {"wscale": "tcpi_snd_wscale"}

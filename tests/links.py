@@ -1,6 +1,6 @@
 #!/usr/bin/env python3
-"""Looks for links and paths in the pages that lead nowhere: a file that isn't there, or a heading that its page
-doesn't have."""
+"""Fails, with status 1, if a page has a broken link: to a file that does not exist, or to a heading that is not in
+its page. Also checks the paths in code marks."""
 
 import re
 import sys
@@ -9,19 +9,19 @@ from pathlib import Path
 TOP = Path(__file__).resolve().parent.parent
 PAGES = ["*.md", "docs/*.md", "crates/*/*.md"]
 LINK = re.compile(r"\[[^\]]*\]\(([^)\s]+)\)")
-# A path from the top, in code marks. NAME and CRATE stand for any name, and try_it for a new one.
+# A path from the top of the repository, in code marks. NAME, CRATE and try_it are placeholders.
 PATH = re.compile(r"`((?:bench|crates|docs|examples|include|tests|tools)/[\w./]+)`")
 ANY = re.compile(r"NAME|CRATE|try_it")
 
 
 def anchors(page):
-    """The anchors of the page's headings: lower case, a hyphen for a space, without punctuation."""
+    """Returns the anchors of the page's headings: lower case, hyphens for spaces, without punctuation."""
     heads = re.findall(r"^#+ (.*)$", page.read_text(encoding="utf-8"), re.MULTILINE)
     return {re.sub(r"[^\w\- ]", "", head.lower()).replace(" ", "-") for head in heads}
 
 
 def is_dead(page, link):
-    """Whether a link from the page leads to no file, or to no heading of it. Those of the web aren't followed."""
+    """Returns whether the target of a link is missing, a file or a heading. Links to the web are not checked."""
     if re.match(r"\w+:", link):
         return False
     path, _, anchor = link.partition("#")
@@ -36,8 +36,8 @@ def main():
         text = page.read_text(encoding="utf-8")
         gone = [it for it in LINK.findall(text) if is_dead(page, it)]
         gone += [it for it in PATH.findall(text) if not ANY.search(it) and not (TOP / it).exists()]
-        dead += [f"{page.relative_to(TOP)}: {it} leads nowhere" for it in gone]
-    print("\n".join([*dead, f"{len(dead)} dead links in {len(pages)} pages"]))
+        dead += [f"{page.relative_to(TOP)}: {it} does not exist" for it in gone]
+    print("\n".join([*dead, f"{len(dead)} broken links in {len(pages)} pages"]))
     return 1 if dead else 0
 
 

@@ -1,11 +1,14 @@
 #!/usr/bin/env python3
-"""Writes a pcap capture of netlink datagrams on standard output, as tcpdump takes it of an nlmon device.
+"""Writes a pcap capture of netlink datagrams to standard output, in the format that tcpdump writes for an nlmon device.
 
     make_capture.py [--big] [--nanoseconds] FILE..
 
-Each file is one datagram, as a socket of sock_diag(7) received it. FILE:N takes its first N messages alone.
-With --big the numbers of the headers have their high byte first. Before the datagrams stand a packet of
-another netlink protocol and a request for UNIX sockets, which a listing passes over.
+Each file is one datagram that a sock_diag(7) socket received. FILE:N selects its first N messages.
+
+  --big           writes the pcap headers in big-endian byte order
+  --nanoseconds   writes the magic number of a capture with nanosecond timestamps
+
+The capture begins with a packet of another netlink protocol and a request for UNIX sockets. sslist skips both.
 """
 import struct
 import sys

@@ -1,6 +1,7 @@
 #!/bin/sh
-# A name that a view lends can't be used once the bytes have ended: a test that does so must not compile. Such a program
-# never reaches the prover, so it is no must-fail edit, and is tried here in a copy of the crates.
+# Checks that a name borrowed from a view cannot outlive the bytes: a function that uses such a name must not compile.
+# The compiler rejects it before the prover runs, so it cannot be a must-fail edit. The script adds it to a copy of the
+# crates.
 set -eu
 top=$(CDPATH='' cd -- "$(dirname -- "$0")/.." && pwd)
 work=$(mktemp -d)
@@ -10,7 +11,7 @@ cd "$work/crates/sock_diag_replies"
 
 cat >>src/unix/reply.rt <<'END'
 
-/// A name behind the bytes that lent it.
+/// Uses a name after its bytes were dropped.
 pub fn outlived(alloc: std::alloc::Global, header: &[u8]) -> Result<usize, DecodeError> {
     let name = {
         let ended = Vec::from_slice(alloc, header)?;
@@ -26,7 +27,7 @@ END
 rt check >"$work/log" 2>&1 || true
 if ! grep -q 'src/unix/reply.rt:.*`ended` does not live long enough' "$work/log"; then
     tail -n 20 "$work/log" >&2
-    echo "a name outlives its bytes" >&2
+    echo "a name that outlives its bytes was not rejected" >&2
     exit 1
 fi
-echo "a name can't outlive its bytes: refused, as it must be"
+echo "a name that outlives its bytes was rejected, as expected"

@@ -1,6 +1,7 @@
 #!/usr/bin/env python3
 """tests/programs.py SOCKDIAG SSLIST: runs the two built programs at these paths with each form of arguments, and
-compares standard output, standard error and exit status. Prints each difference, and then the status is 1."""
+compares standard output, standard error and exit status. Prints the differences. The exit status is 1 if there is one.
+"""
 import os
 import re
 import select
@@ -13,20 +14,20 @@ from pathlib import Path
 CRATES = Path(__file__).resolve().parent.parent / "crates"
 VERSION = (CRATES.parent / "VERSION").read_bytes()
 CAPTURE = CRATES / "sslist/stdin"
-# What each program prints with --help.
+# The expected output of each program with --help.
 HELP = CRATES.parent / "tests/help"
-# The names in the first column of the sockets that an option selects.
+# The values of the first column for the sockets that an option selects.
 KINDS = {"-t": "tcp inet inet6", "-u": "udp inet inet6", "-M": "mptcp inet inet6", "-x": "unix u_str u_dgr u_seq"}
 KINDS |= {"-0": "p_raw p_dgr", "--family=netlink": "nl", "--vsock": "vsock v_str v_dgr v_seq", "--xdp": "xdp"}
 # A detail that one option shows and the others do not.
 DETAILS = {"-o": b" timer:", "-e": b" sk:", "-m": b" skmem:", "-i": b" cwnd:"}
-# An attribute of a type that no reader decodes, with the longest value of whole words.
+# An attribute of an unknown type, with the longest value whose length is a multiple of 4.
 LONG_ATTRIBUTE = (65_532).to_bytes(2, "little") + bytes([200, 0]) + bytes(65_528)
 failures = []
 
 
 def run(program, arguments, given, to=subprocess.PIPE, **more):
-    """Returns status, standard output and standard error of a run. Its input is bytes or a descriptor."""
+    """Returns the exit status, standard output and standard error of a run. Its input is bytes or a file descriptor."""
     more |= {"input": given} if isinstance(given, bytes) else {"stdin": given}
     ended = subprocess.run([program, *arguments], stdout=to, stderr=subprocess.PIPE, timeout=60, **more)
     return ended.returncode, ended.stdout or b"", ended.stderr
@@ -41,7 +42,7 @@ def check(program, arguments, given, status, output, errors=b"", to=subprocess.P
 
 
 def check_failed_writes(program, arguments, given, closed, full):
-    """Checks runs whose output is a pipe without a reader, or a full device: status 1 and these errors."""
+    """Checks that runs with a pipe without a reader or a full device as output end with status 1 and these errors."""
     read, pipe = os.pipe()
     os.close(read)
     for output, errors in [(pipe, closed), (os.open("/dev/full", os.O_WRONLY), full)]:
@@ -119,20 +120,20 @@ def test_unreadable_file(program):
 
 
 def message(body, flags=0, kind=20):
-    """Returns a message of this type with the sequence number 77."""
+    """Returns a netlink message of type `kind` with the sequence number 77."""
     length = (16 + len(body)).to_bytes(4, "little")
     return bytes([*length, kind, 0, *flags.to_bytes(2, "little"), 77, *bytes(7), *body])
 
 
 def packet(body, flags=0, kind=20, more=b""):
-    """Returns a packet of a capture: a message of this type, followed by more messages."""
+    """Returns a packet of a capture: a netlink message of type `kind`, followed by the messages `more`."""
     messages = message(body, flags, kind) + more
     length = (16 + len(messages)).to_bytes(4, "little")
     return bytes(8) + length + length + bytes.fromhex("00040338") + bytes(11) + b"\4" + messages
 
 
 def test_diagnostics(program):
-    """Compares whole texts on standard error: of errors that a kernel answers, and of inputs that are no capture."""
+    """Compares the full standard error for errors that a kernel answers, and for inputs that are not captures."""
     file_header, heading = CAPTURE.read_bytes()[:24], run(program, [], CAPTURE.read_bytes()[:24])[1]
     errno = {n: (-n).to_bytes(4, "little", signed=True) for n in (2, 13, 22)}
     packets = packet(errno[13], 0, 2, message(errno[22], 0, 2)) + packet(bytes(4), 16, 3) + packet(errno[2], 0, 3)
@@ -153,7 +154,7 @@ def test_diagnostics(program):
 
 
 def test_long_inputs(program):
-    """Lists a reply with long attributes, and a capture with more requests than the program keeps."""
+    """Lists a reply with long attributes, and a capture with more requests than the program retains."""
     file_header, reply = CAPTURE.read_bytes()[:24], bytes([1, 1, 10, 0, 7, *bytes(11)])
     status, table, errors = run(program, [], file_header + packet(reply))
     assert status == 0 and b"u_str LISTEN" in table, (status, table)
@@ -170,7 +171,7 @@ def test_long_inputs(program):
 
 
 def test_options(program):
-    """Lists the stored capture, followed by a UDP request, its answer, and a socket of each other family."""
+    """Lists the stored capture, followed by a UDP request, its reply, and a reply for each other family."""
     bodies = [[2, 7, *bytes(70)], [16, *bytes(27)], [17, 3, *bytes(14)], [40, *bytes(31)], [44, *bytes(15)]]
     capture = CAPTURE.read_bytes() + packet([2, 17, 0, 0, 0xFE, *bytes(51)], 0x301) + b"".join(map(packet, bodies))
     status, table, errors = run(program, [], capture)
@@ -181,9 +182,9 @@ def test_options(program):
         choices = [[it] for it in [*KINDS, *DETAILS, "-n", "-a", "-O", "--requests", "--utf8"]] + [["-t", "-x", "-oemi"]]
         for arguments in choices:
             ended, listed, _ = run(program, arguments, capture)
-            told = b"(sslist: .*packet 12, message 1: .*\n)?"
-            check(program, [*arguments, file.name], b"", ended, listed, told)
-            check(program, [file.name, *arguments, file.name], b"", ended, listed * 2, told * 2)
+            diagnostics = b"(sslist: .*packet 12, message 1: .*\n)?"
+            check(program, [*arguments, file.name], b"", ended, listed, diagnostics)
+            check(program, [file.name, *arguments, file.name], b"", ended, listed * 2, diagnostics * 2)
     for one, other in [(one, other) for one in KINDS for other in KINDS]:
         chosen = [row for row in rows if row.split()[0].decode() in f"{KINDS[one]} {KINDS[other]}".split()]
         assert 0 < len(chosen) < len(rows), (one, other)
@@ -201,8 +202,8 @@ def test_options(program):
 
 
 def test_refused_memory(program, arguments, given, status, output):
-    """Refuses each request for memory in turn: the run fails and says so, and its output is a prefix of the whole; or
-    the program did without, as for a buffer, and its output and status are those of a run with memory."""
+    """Makes each allocation fail in turn. Either the run reports out of memory with status 1, and its output is a prefix
+    of the full output; or it can do without the memory, as for a buffer, and status and output are as always."""
     with tempfile.TemporaryDirectory() as folder:
         library = os.path.join(folder, "refuse.so")
         source = Path(__file__).with_name("refuse.c")
@@ -215,7 +216,7 @@ def test_refused_memory(program, arguments, given, status, output):
                     continue
                 return
             if ended != 1 or b"out of memory\n" not in errors or not output.startswith(printed):
-                failures.append(f"{program} {arguments}: request {first} refused: {ended} {errors}")
+                failures.append(f"{program} {arguments}: allocation {first} fails: {ended} {errors}")
 
 
 if __name__ == "__main__":

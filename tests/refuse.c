@@ -1,5 +1,6 @@
-/* A library to preload: it refuses the requests for memory from number REFUSE_FIRST to number REFUSE_LAST, writes a
-   line on standard error for each, and writes the number of requests to the file REQUEST_COUNT. */
+/* A library to preload. It counts the calls of malloc and realloc from 1, and makes those from REFUSE_FIRST to
+   REFUSE_LAST fail, with a line on standard error for each. If REQUEST_COUNT is set, it writes the number of calls to
+   that file when the program ends. */
 #include <stddef.h>
 #include <stdio.h>
 #include <stdlib.h>
@@ -8,13 +9,16 @@
 extern void *__libc_malloc(size_t);
 extern void *__libc_realloc(void *, size_t);
 
+/* Returns the number in an environment variable, or 0 if it is not set. */
 static long number(const char *name) {
     const char *word = getenv(name);
     return word ? atol(word) : 0;
 }
 
+/* Number of calls so far. */
 static long met;
 
+/* Counts a call, and returns whether it has to fail. */
 static int is_refused(void) {
     static long first, last;
     if (met++ == 0) {
@@ -27,7 +31,7 @@ static int is_refused(void) {
 void *malloc(size_t size) { return is_refused() ? NULL : __libc_malloc(size); }
 void *realloc(void *old, size_t size) { return is_refused() ? NULL : __libc_realloc(old, size); }
 
-__attribute__((destructor)) static void tell(void) {
+__attribute__((destructor)) static void write_count(void) {
     const char *path = getenv("REQUEST_COUNT");
     long count = met;
     FILE *file = path ? fopen(path, "w") : NULL;

@@ -1,11 +1,14 @@
 #!/bin/sh
-# Refuses requests for memory: the first one, the second one and so on, until a run meets none that is refused, and
-# then the same with all requests from that one on.
-# The tests `refused_memory` of netlink_packet_sock_diag say what holds in each run of the readers, of `canonical`, of
-# `deserialize` and of each `clone`. What the program writes for the stored lines has to be a beginning, in whole lines,
-# of the stored answers, with status 1 and the words for want of memory.
-# `rt try --fail-alloc` refuses one request too, but builds anew for each. Here a library that is loaded before malloc
-# refuses them, so this needs a C compiler and a loader that knows LD_PRELOAD.
+# Makes allocations fail: in the first run the first allocation, in the second run the second, and so on, until a run
+# ends before its failing allocation. Then it repeats all runs, each with all later allocations failing too.
+#
+# The tests `refused_memory` of netlink_packet_sock_diag_tests check each run of the readers, of `canonical`, of
+# `deserialize` and of each `clone`. If an allocation fails while sockdiag answers its stored lines, its output has to
+# be a prefix of the stored answers that consists of whole lines, its exit status 1, and its error message "out of
+# memory".
+#
+# `rt try --fail-alloc` makes one allocation fail too, but builds the tests again for each. This script preloads a
+# library that replaces malloc, so it needs a C compiler and a loader that supports LD_PRELOAD.
 set -eu
 top=$(CDPATH='' cd -- "$(dirname -- "$0")/.." && pwd)
 work=$(mktemp -d)
@@ -14,19 +17,19 @@ trap 'rm -rf "$work"' EXIT
 ${CC:-cc} -shared -fPIC -O1 -o "$work/refuse.so" "$top/tests/refuse.c"
 
 fail() {
-    echo "$what: request $first refused, up to $last: $1" >&2
-    cat "$work/told" >&2
+    echo "$what: allocations $first to $last fail: $1" >&2
+    cat "$work/errors" >&2
     exit 1
 }
 
-# Runs a command whose requests from the first to the last are refused.
+# Runs a command in which the allocations from $first to $last fail.
 run_refused() {
     status=0
     LD_PRELOAD=$work/refuse.so REFUSE_FIRST=$first REFUSE_LAST=$last "$@" \
-        <"$work/in" >"$work/out" 2>"$work/told" || status=$?
+        <"$work/in" >"$work/out" 2>"$work/errors" || status=$?
 }
 
-# Runs a command once for each request, and looks at each run by the function `look`.
+# Runs a command once for each of its allocations, and checks each run by the function `look`.
 sweep() {
     for rest in 0 1000000; do
         first=0
@@ -35,10 +38,10 @@ sweep() {
             last=$((first + rest))
             run_refused "$@"
             look
-            grep -q '^refused$' "$work/told" || break
+            grep -q '^refused$' "$work/errors" || break
         done
     done
-    echo "$what: refused each of $((first - 1)) requests, by itself and with all behind it"
+    echo "$what: each of $((first - 1)) allocations failed, alone and with all later ones"
 }
 
 crate=$top/crates/netlink_packet_sock_diag_tests
@@ -54,20 +57,20 @@ crate=$top/crates/sockdiag
 (cd "$crate" && rt run <stdin >"$work/build" 2>&1) || { cat "$work/build" >&2; exit 1; }
 cp "$crate/stdin" "$work/in"
 look() {
-    if ! grep -q '^refused$' "$work/told"; then
-        [ "$status" -eq 0 ] || fail "another status"
-        cmp -s "$crate/stdout" "$work/out" || fail "another output"
+    if ! grep -q '^refused$' "$work/errors"; then
+        [ "$status" -eq 0 ] || fail "exit status $status, expected 0"
+        cmp -s "$crate/stdout" "$work/out" || fail "the output differs from the stored answers"
         return
     fi
-    [ "$status" -eq 1 ] || fail "another status"
-    grep -q '^sockdiag: out of memory$' "$work/told" || fail "not told as want of memory"
-    head -c "$(wc -c <"$work/out")" "$crate/stdout" | cmp -s - "$work/out" || fail "no beginning of the answers"
-    [ ! -s "$work/out" ] || [ "$(tail -c 1 "$work/out" | wc -l)" -eq 1 ] || fail "no whole lines"
+    [ "$status" -eq 1 ] || fail "exit status $status, expected 1"
+    grep -q '^sockdiag: out of memory$' "$work/errors" || fail "standard error does not report out of memory"
+    head -c "$(wc -c <"$work/out")" "$crate/stdout" | cmp -s - "$work/out" || fail "the output is not a prefix"
+    [ ! -s "$work/out" ] || [ "$(tail -c 1 "$work/out" | wc -l)" -eq 1 ] || fail "the last line is incomplete"
 }
 what=sockdiag
 sweep "$crate/out/sockdiag"
 
-# How many requests each of many lines costs, once the first ones have made room.
+# Counts the allocations for 10,000 further lines, after the buffers have grown. At most two for each line are allowed.
 lines() {
     awk -v n="$1" 'BEGIN { for (i = 0; i < n; i++) printf "unixreq 010000000204000034120000%02x000000ffffffffffffffff\n", i % 64 }'
 }
@@ -80,7 +83,7 @@ requests() {
 few=$(requests 1000)
 many=$(requests 11000)
 if [ $((many - few)) -gt 20000 ]; then
-    echo "$((many - few)) requests for memory for 10000 lines" >&2
+    echo "$((many - few)) allocations for 10000 lines, at most 20000 allowed" >&2
     exit 1
 fi
-echo "$((many - few)) requests for memory for 10000 lines"
+echo "$((many - few)) allocations for 10000 lines"

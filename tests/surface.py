@@ -2,15 +2,19 @@
 """Compares the public items of the libraries with the list tests/surface.txt.
 
     tests/surface.py             prints the differences, and exits with status 1 if there are any
-    tests/surface.py --write     writes the list anew
+    tests/surface.py --write     writes a new list
 
 The libraries are the crates of crates.txt, except programs and crates of tests. A line of the list
-is an item, after the path of its declaration. Listed are functions, methods and the items of
-traits, by their signatures without the clauses; types with their fields, or their variants in order, and
-their attributes; impls with their associated types and constants, except those of private traits or for
-private types; constants with their values; public modules; each name of a `pub use`; functions that
-are exported under a C name, public or not; macros and their calls outside of functions, whole; and
-each `cfg` with the item that it applies to.
+has the path of a declaration and an item. The list has
+
+- functions, methods and the items of traits, by their signatures without the clauses;
+- types with their public fields, or their variants in order, and their attributes;
+- impls with their associated types and constants, except impls of private traits or for private
+  types;
+- constants with their values, public modules, and each name of a `pub use`;
+- functions that are exported under a C name, public or not;
+- macros, and macro calls outside of functions, with their full text;
+- each `cfg` with the item that it applies to.
 """
 
 import difflib
@@ -21,9 +25,9 @@ from pathlib import Path
 
 TOP = Path(__file__).resolve().parent.parent
 LIST = TOP / "tests" / "surface.txt"
-# Comments, texts, characters, words, blanks, and single other characters.
+# Comments, string literals, character literals, words, blanks, and other single characters.
 TOKEN = r"""//[^\n]*|/\*.*?\*/|b?"(?:\\.|[^"\\])*"|b?'(?:\\[^']+|[^\\'\s])'|[\w']+|\s+|."""
-# A blank inside a text, which is kept.
+# Placeholder for a blank inside a string literal, so that `text_of` keeps it.
 BLANK = "\0"
 # The start of an item: its visibility, its kind, its name.
 ITEM = re.compile(
@@ -78,7 +82,7 @@ def closing(tokens, at):
 
 
 def without_attributes(tokens):
-    """Returns the leading attributes, as texts, and the tokens after them."""
+    """Returns the leading attributes, as strings, and the tokens after them."""
     attributes, at = [], 0
     while at < len(tokens) and tokens[at] in " #":
         if tokens[at] == "#":

@@ -9,7 +9,7 @@ import sys
 
 TOP = os.path.dirname(os.path.dirname(os.path.realpath(__file__)))
 # The line with the version in each file; the first match counts.
-TOLD = {
+PATTERNS = {
     "CHANGELOG.md": r"(?m)^## (?!\[Unreleased\])\[?([^\]\s]+)",
     "crates/sock_diag_captures/src/lib.rt": r'(?m)^pub const VERSION: &str = "([^"]*)";$',
     "crates/sock_diag_lines/src/lib.rt": r'(?m)^pub const VERSION: &str = "([^"]*)";$',
@@ -25,11 +25,11 @@ def text_of(name):
 
 def main():
     version, status = text_of("VERSION").strip(), 0
-    for name, pattern in TOLD.items():
-        found = re.search(pattern, text_of(name))
-        told = found[1] if found else "no version"
-        if told != version:
-            print(f"{name} tells {told}, and VERSION {version}")
+    for name, pattern in PATTERNS.items():
+        match = re.search(pattern, text_of(name))
+        found = match[1] if match else "no version"
+        if found != version:
+            print(f"{name} has {found}, VERSION has {version}")
             status = 1
     return status
 

@@ -17,7 +17,7 @@ size_t rewrite_unix_reply(const uint8_t *bytes, size_t length, uint8_t *buffer, 
 size_t rewrite_inet_reply(const uint8_t *bytes, size_t length, uint8_t *buffer, size_t room,
                           uint64_t again);
 
-/* The linker puts these in the place of the C library's functions (-Wl,--wrap), to count the memory requests. */
+/* With -Wl,--wrap the linker calls these instead of the C library's functions, so that allocations are counted. */
 void *__real_malloc(size_t size);
 void *__real_calloc(size_t count, size_t size);
 void *__real_realloc(void *block, size_t size);
@@ -42,7 +42,7 @@ void *__wrap_realloc(void *block, size_t size)
     return __real_realloc(block, size);
 }
 
-/* An attribute. A value without text of its own is numbered bytes. */
+/* An attribute: its type, the length of its value, and its value, or NULL for the bytes 1, 2, 3, .. */
 struct attribute {
     uint16_t kind;
     uint16_t length;
@@ -65,12 +65,12 @@ static const struct family families[] = {
         "unix", read_unix_reply, rewrite_unix_reply,
         {1, 1, 1, 0, 0xb7, 0x7c, 0, 0, 0x22, 0, 0, 0, 0, 0, 0, 0}, 16,
         {
-            {0, 19, "/run/user/1000/bus"}, /* UNIX_DIAG_NAME, with its end zero */
+            {0, 19, "/run/user/1000/bus"}, /* UNIX_DIAG_NAME, with its terminating NUL */
             {1, 8, NULL},                  /* UNIX_DIAG_VFS */
             {2, 4, NULL},                  /* UNIX_DIAG_PEER */
             {3, 8, NULL},                  /* UNIX_DIAG_ICONS */
             {4, 8, NULL},                  /* UNIX_DIAG_RQLEN */
-            {5, 36, zeros},                /* UNIX_DIAG_MEMINFO: the words that are not read are written as zeros */
+            {5, 36, zeros},                /* UNIX_DIAG_MEMINFO: fields that are not parsed are serialized as zeros */
             {6, 1, NULL},                  /* UNIX_DIAG_SHUTDOWN */
             {1, 8, NULL}, {2, 4, NULL}, {4, 8, NULL}, {6, 1, NULL},
         },
@@ -87,7 +87,7 @@ static const struct family families[] = {
             {6, 1, NULL},    /* INET_DIAG_TCLASS */
             {8, 1, NULL},    /* INET_DIAG_SHUTDOWN */
             {7, 36, NULL},   /* INET_DIAG_SKMEMINFO */
-            {4, 6, "cubic"}, /* INET_DIAG_CONG, with its end zero */
+            {4, 6, "cubic"}, /* INET_DIAG_CONG, with its terminating NUL */
             {2, 232, NULL},  /* INET_DIAG_INFO */
             {1, 16, NULL},   /* INET_DIAG_MEMINFO */
             {15, 4, NULL},   /* INET_DIAG_MARK */
@@ -98,7 +98,7 @@ static const struct family families[] = {
     },
 };
 
-/* Writes a reply of so many attributes, and tells its length. */
+/* Writes a reply with the first `attributes` attributes of the family, and returns its length in bytes. */
 static size_t build(const struct family *family, size_t attributes, uint8_t *bytes)
 {
     size_t at = family->header_length;
@@ -123,7 +123,8 @@ static double now(void)
     return 1e9 * time.tv_sec + time.tv_nsec;
 }
 
-/* The fewest nanoseconds that a reply took: read alone, or written too where there is a buffer. */
+/* Returns the least time of ROUNDS rounds in nanoseconds for one reply: to parse it, or to parse and serialize it if
+   there is a buffer. */
 static double measure(const struct family *family, const uint8_t *bytes, size_t length, uint8_t *buffer, size_t room)
 {
     double best = 1e18;

@@ -1,5 +1,5 @@
-//! Times this port and the crate `netlink-packet-sock-diag` on the same replies, and prints as a
-//! table of Markdown the time of the port where that of the crate is 1.
+//! Times this port and the crate `netlink-packet-sock-diag` on the same replies. Prints the time of
+//! the port divided by the time of the crate, as a Markdown table.
 
 use std::hint::black_box;
 use std::time::{Duration, Instant};
@@ -8,13 +8,14 @@ use netlink_packet_core::{Emitable, Parseable};
 use netlink_packet_sock_diag::inet::InetResponse;
 use netlink_packet_sock_diag::unix::UnixResponse;
 
-/// A sample takes at least this long.
+/// Least duration of a sample.
 const SAMPLE: Duration = Duration::from_micros(500);
-/// So many samples are taken of each subject in a round, and a table has the least of all rounds.
+/// Number of samples of each subject in a round. The table is computed from the least sample of
+/// all rounds.
 const SAMPLES: usize = 15;
 const ROUNDS: usize = 3;
 
-// The functions of bench/replies/lib.rt.in. A slice crosses as a pointer and a length.
+// The functions of bench/replies. A slice is passed as a pointer and a length.
 type Read = unsafe extern "C" fn(*const u8, usize) -> usize;
 type Rewrite = unsafe extern "C" fn(*const u8, usize, *mut u8, usize, u64) -> usize;
 
@@ -27,32 +28,33 @@ unsafe extern "C" {
     fn canonical_inet_reply(_: *const u8, _: usize) -> usize;
 }
 
-/// The port's functions for a family: the reader, the writer, and that of canonical bytes.
+/// The port's functions for a family: to parse a reply, to serialize it, and to make its canonical
+/// bytes.
 #[derive(Clone, Copy)]
 struct Port(Read, Rewrite, Read);
 
 const UNIX: Port = Port(read_unix_reply, rewrite_unix_reply, canonical_unix_reply);
 const INET: Port = Port(read_inet_reply, rewrite_inet_reply, canonical_inet_reply);
 
-/// Reads the reply, or makes its canonical bytes: how many attributes or bytes there are.
+/// Parses the reply or makes its canonical bytes, and returns the number of attributes or bytes.
 fn call(function: Read, bytes: &[u8]) -> usize {
-    // SAFETY: pointer and length are those of a slice that is borrowed during the call.
+    // SAFETY: pointer and length belong to a slice that is borrowed during the call.
     unsafe { function(bytes.as_ptr(), bytes.len()) }
 }
 
-/// Reads the reply, and writes it once and so many times again: how many bytes it has.
+/// Parses the reply, serializes it `again + 1` times, and returns its length in bytes.
 fn rewrite(function: Rewrite, bytes: &[u8], buffer: &mut [u8], again: u64) -> usize {
     let (out, room) = (buffer.as_mut_ptr(), buffer.len());
-    // SAFETY: as above. The slices lie apart, since one is borrowed mutably.
+    // SAFETY: as above. The slices do not overlap, since one is borrowed mutably.
     unsafe { function(bytes.as_ptr(), bytes.len(), out, room, again) }
 }
 
-/// A reply's name in the table, or nothing where it counts for the means alone; and its bytes.
+/// Name of a reply in the table and its bytes. A reply without a name only counts for the means.
 type Row = (&'static str, Vec<u8>);
-/// An attribute's kind and value.
+/// Type and value of an attribute.
 type Attribute<'a> = (u16, &'a [u8]);
 
-/// The bytes of a reply: a header, and attributes that zeros fill up to four bytes.
+/// Returns the bytes of a reply: a header, and attributes padded with zeros to a multiple of four.
 fn reply(header: &[u8], attributes: &[Attribute]) -> Vec<u8> {
     let mut bytes = header.to_vec();
     for (kind, value) in attributes {
@@ -64,7 +66,7 @@ fn reply(header: &[u8], attributes: &[Attribute]) -> Vec<u8> {
     bytes
 }
 
-/// Replies of none of the attributes, of the first, of the first two and so on.
+/// Returns one reply for each number of attributes: none, the first, the first two and so on.
 fn of_each_count(header: &[u8], attributes: &[Attribute]) -> Vec<Row> {
     let name = |count| match count {
         0 => "no attributes",
@@ -80,7 +82,7 @@ fn of_each_count(header: &[u8], attributes: &[Attribute]) -> Vec<Row> {
 fn unix_replies() -> Vec<Row> {
     // Family, type, state, padding, inode, cookie.
     let header = [1, 1, 10, 0, 1, 2, 0, 0, 3, 4, 0, 0, 0, 0, 0, 0];
-    // Each kind up to the owner's, and three that have no type of their own.
+    // Each type from UNIX_DIAG_NAME to UNIX_DIAG_UID, and three that the kernel does not define.
     let all: [Attribute; 11] = [
         (0, b"/run/user/1000/bus\0"),
         (1, &[1, 2, 3, 4, 5, 6, 7, 8]),
@@ -113,14 +115,15 @@ fn unix_replies() -> Vec<Row> {
 }
 
 fn inet_replies() -> Vec<Row> {
-    // Family, state, timer, retransmissions, ports; at 8 and 24 the addresses; at 40 interface,
-    // cookie, expiry, queues, owner, inode.
+    // Family, state, timer, retransmits, ports; at 8 and 24 the addresses; at 40 interface, cookie,
+    // expiry, queues, user id, inode.
     let mut header = [0; 72];
     header[..12].copy_from_slice(&[2, 1, 2, 0, 0xeb, 0x14, 1, 0xbb, 192, 0, 2, 60]);
     header[24..28].copy_from_slice(&[198, 51, 100, 131]);
     header[40..].copy_from_slice(&[3; 32]);
     let tcp_info: Vec<u8> = (0..232).collect();
-    // What a kernel sends about a connection, `TcpInfo` and the congestion control's name among it.
+    // Attributes that a kernel sends for a connection, with `TcpInfo` and the name of the
+    // congestion control algorithm.
     let all: [Attribute; 11] = [
         (8, &[0]),
         (5, &[0x10]),
@@ -146,10 +149,11 @@ fn inet_replies() -> Vec<Row> {
     replies
 }
 
-/// The least nanoseconds: the crate reads, the port reads, the crate writes, and so on.
+/// Least times in nanoseconds: the crate parses, the port parses, the crate serializes, the port
+/// serializes, the crate makes canonical bytes, the port makes them.
 type Times = [f64; 6];
 
-/// What is timed. It is told how many times to do its work.
+/// A closure to time. Its argument is the number of repetitions.
 type Subject<'a> = Box<dyn FnMut(u64) + 'a>;
 
 fn repeated<'a>(mut work: impl FnMut() + 'a) -> Subject<'a> {
@@ -162,7 +166,7 @@ fn took(subject: &mut Subject, times: u64) -> Duration {
     start.elapsed()
 }
 
-/// Takes samples of the subjects in turn, so that what else is at work disturbs all of them.
+/// Takes samples of the subjects in turn, so that other load disturbs all of them alike.
 fn sample(mut subjects: [Subject; 6], least: &mut Times) {
     let times = subjects.each_mut().map(|subject| {
         let mut times = 1;
@@ -179,7 +183,7 @@ fn sample(mut subjects: [Subject; 6], least: &mut Times) {
     }
 }
 
-/// Times one reply, after a look whether the crate and the port write the same bytes.
+/// Times one reply, after checking that the crate and the port serialize it to the same bytes.
 fn time<T: Parseable<[u8]> + Emitable>(port: Port, bytes: &[u8], least: &mut Times) {
     let Port(reader, writer, canonical) = port;
     let parse = |bytes| T::parse(bytes).expect("the crate reads each reply");
@@ -210,7 +214,7 @@ fn time<T: Parseable<[u8]> + Emitable>(port: Port, bytes: &[u8], least: &mut Tim
     sample(subjects, least);
 }
 
-/// Prints the rows of a family, and its means.
+/// Prints the rows of the named replies of a family, and the row of its geometric means.
 fn print_rows<T: Parseable<[u8]> + Emitable>(family: &str, port: Port, replies: &[Row]) {
     let mut least = vec![[f64::INFINITY; 6]; replies.len()];
     for _ in 0..ROUNDS {
