@@ -3,13 +3,14 @@
  *
  * The library is crates/sockdiag_c. tools/install builds it and installs it under a prefix. What this header says of a
  * call is proved there, by the contract of the function of the same name and by the two theorem functions about
- * iteration in src/laws.rt. The only function that is defined here is sockdiag_fault_text. The library does not
- * allocate, opens no files or sockets, and has no state between calls. So any thread may call it at any time, with
- * memory of its own. From the C library it needs memcpy, memmove and memset.
+ * iteration in src/laws.rt. The only function that is defined here is sockdiag_fault_text.
+ *
+ * The library does not allocate, opens no files or sockets, and has no state between calls. So any thread may call it
+ * at any time, with memory that meets the requirements below. It needs memcpy, memmove and memset of the C library.
  *
  * The caller has to ensure the following, and nothing checks it:
- * - A pointer to bytes is valid for as many bytes as the length parameter next to it says, at most PTRDIFF_MAX. It may
- *   be null if the length is 0.
+ * - A pointer to bytes is valid for the length in bytes that the parameter next to it gives. The length is at most
+ *   PTRDIFF_MAX. The pointer may be null if the length is 0.
  * - A pointer to a struct is aligned for it, and all fields of the struct are initialized.
  * - Memory that a call writes, which is a buffer or a struct that is not const, overlaps no other memory that the call
  *   is given. No other thread reads or writes it during the call. Memory that a call only reads is not written during
@@ -54,7 +55,7 @@ enum sockdiag_fault {
     SOCKDIAG_ATTRIBUTE_HEADER_CUT = 7,      /* fewer than the 4 bytes of an attribute's header */
     SOCKDIAG_ATTRIBUTE_LENGTH_UNDER_4 = 8,  /* an attribute's length field is less than the 4 bytes of its header */
     SOCKDIAG_ATTRIBUTE_LENGTH_PAST = 9,     /* an attribute's length field points past the end */
-    SOCKDIAG_WRONG_LENGTH = 10,             /* a value whose length is not that of its kind */
+    SOCKDIAG_WRONG_LENGTH = 10,             /* a value of the wrong length for its kind */
     SOCKDIAG_NOT_MULTIPLE_OF_FOUR = 11,     /* a list of numbers whose length is not a multiple of 4 */
     SOCKDIAG_NOT_UTF8 = 12,                 /* a text that is not valid UTF-8 */
     SOCKDIAG_NAME_EMPTY = 13,               /* a socket's name of zero bytes */
@@ -118,8 +119,7 @@ static inline const char *sockdiag_fault_text(uint32_t fault)
 /* Header of a reply about a UNIX socket, struct unix_diag_msg of sock_diag(7). */
 struct sockdiag_unix_header {
     uint8_t kind;      /* udiag_type, at 1: type of the socket, one of SOCK_.. */
-    uint8_t state;     /* udiag_state, at 2: TCP_ESTABLISHED, TCP_LISTEN, or TCP_CLOSE (7) for a socket without a
-                          peer */
+    uint8_t state;     /* udiag_state, at 2: TCP_ESTABLISHED, TCP_LISTEN, or TCP_CLOSE (7) if it is not connected */
     uint32_t inode;    /* udiag_ino, at 4: inode of the socket */
     uint8_t cookie[8]; /* udiag_cookie, at 8: distinguishes sockets with the same inode */
 };
@@ -542,7 +542,7 @@ struct sockdiag_message {
                                  SOCK_DIAG_BY_FAMILY for a reply; sockdiag_next_message rejects the payload of any other
                                  type */
     uint16_t flags;           /* flags NLM_F_.. */
-    uint32_t sequence_number; /* sequence number of the sender; a reply has that of its request */
+    uint32_t sequence_number; /* sequence number; a reply repeats the number of its request */
     uint32_t port_number;     /* port id of the sender, 0 for the kernel */
 };
 

@@ -1,7 +1,7 @@
 /*
- * Calls each function of include/sockdiag.h at least once with input that it accepts and with input that it rejects.
- * The bytes are worked out by hand from the layouts of sock_diag(7), netlink(7) and the kernel's headers, or were sent
- * by Linux. tests/c_face.sh builds and runs this program.
+ * Calls the functions of include/sockdiag.h, except sockdiag_next_envelope, with input that they accept, and most of
+ * them also with input that they reject. The bytes are worked out by hand from the layouts of sock_diag(7), netlink(7)
+ * and the kernel's headers, or were sent by Linux. tests/c_face.sh builds and runs this program.
  */
 #include "sockdiag.h"
 
