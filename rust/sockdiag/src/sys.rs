@@ -440,7 +440,7 @@ pub(crate) fn unix_details(payload: &[u8]) -> Told<'_, UnixHeader, UnixNumbers> 
         name: NO_TEXT,
         numbers: UnixNumbers::default(),
     };
-    // SAFETY: the pointer and the length are those of a slice, and the struct is an initialized
+    // SAFETY: the pointer and the length are from one slice, and the struct is an initialized
     // local. The contract of `sockdiag_unix_get_details` requires nothing else. The call writes
     // only the struct.
     let fault = unsafe { sockdiag_unix_get_details(payload.as_ptr(), payload.len(), &mut details) };
@@ -460,7 +460,7 @@ pub(crate) fn inet_details(payload: &[u8]) -> Told<'_, InetHeader, InetNumbers> 
         congestion: NO_TEXT,
         numbers: InetNumbers::default(),
     };
-    // SAFETY: the pointer and the length are those of a slice, and the struct is an initialized
+    // SAFETY: the pointer and the length are from one slice, and the struct is an initialized
     // local. The contract of `sockdiag_inet_get_details` requires nothing else. The call writes
     // only the struct.
     let fault = unsafe { sockdiag_inet_get_details(payload.as_ptr(), payload.len(), &mut details) };
@@ -482,7 +482,7 @@ unsafe fn ask<D: Default>(
     call: unsafe extern "C" fn(*const u8, usize, *mut D) -> u32,
 ) -> Result<D, u32> {
     let mut details = D::default();
-    // SAFETY: the pointer and the length are those of a slice, and the struct is an initialized
+    // SAFETY: the pointer and the length are from one slice, and the struct is an initialized
     // local. The contract of a details call requires nothing else. The call writes only the struct.
     match unsafe { call(payload.as_ptr(), payload.len(), &mut details) } {
         0 => Ok(details),
@@ -517,7 +517,7 @@ pub(crate) fn xdp_details(payload: &[u8]) -> Result<XdpDetails, u32> {
 /// Returns the inode at this index among the connections that wait to be accepted.
 pub(crate) fn pending(payload: &[u8], index: usize) -> Option<u32> {
     let mut inode = 0;
-    // SAFETY: the pointer and the length are those of a slice, and the number is a local. The
+    // SAFETY: the pointer and the length are from one slice, and the number is a local. The
     // contract of `sockdiag_unix_get_pending` requires nothing else, for any index.
     let answer =
         unsafe { sockdiag_unix_get_pending(payload.as_ptr(), payload.len(), index, &mut inode) };
@@ -526,7 +526,7 @@ pub(crate) fn pending(payload: &[u8], index: usize) -> Option<u32> {
 
 /// Fills the struct, and returns the length of the value in bytes.
 pub(crate) fn tcp_info(payload: &[u8], info: &mut crate::inet::TcpInfo) -> usize {
-    // SAFETY: the pointer and the length are those of a slice. The struct has the 232 bytes that
+    // SAFETY: the pointer and the length are from one slice. The struct has the 232 bytes that
     // `sockdiag_inet_get_tcp_info` writes by its contract, and is valid for all bytes.
     unsafe { sockdiag_inet_get_tcp_info(payload.as_ptr(), payload.len(), info) }
 }
@@ -542,7 +542,7 @@ pub(crate) fn tcp_info_in(bytes: &[u8; 232]) -> crate::inet::TcpInfo {
 /// error: 0 at the end, else the code of the error.
 pub(crate) fn next_attribute(bytes: &[u8], place: &mut usize) -> Result<AttributePart, u32> {
     let mut attribute = AttributePart::default();
-    // SAFETY: the pointer and the length are those of a slice. Neither the offset, which is
+    // SAFETY: the pointer and the length are from one slice. Neither the offset, which is
     // borrowed mutably, nor the struct, which is a local, overlaps anything else. The contract of
     // `sockdiag_next_attribute` allows any offset.
     let answer =
@@ -558,7 +558,7 @@ pub(crate) fn next_attribute(bytes: &[u8], place: &mut usize) -> Result<Attribut
 /// error: 0 at the end, else the code of the error.
 pub(crate) fn next_envelope(datagram: &[u8], place: &mut usize) -> Result<Message, u32> {
     let mut message = Message::default();
-    // SAFETY: the pointer and the length are those of a slice. Neither the offset, which is
+    // SAFETY: the pointer and the length are from one slice. Neither the offset, which is
     // borrowed mutably, nor the struct, which is a local, overlaps anything else. The contract of
     // `sockdiag_next_envelope` allows any offset.
     let answer =
@@ -573,7 +573,7 @@ pub(crate) fn next_envelope(datagram: &[u8], place: &mut usize) -> Result<Messag
 /// Returns the number that the payload of an error or of the end of a dump begins with.
 pub(crate) fn error_number(payload: &[u8]) -> Option<i32> {
     let mut number = 0;
-    // SAFETY: the pointer and the length are those of a slice, and the number is a local. The
+    // SAFETY: the pointer and the length are from one slice, and the number is a local. The
     // contract of `sockdiag_get_error_number` requires nothing else.
     let answer = unsafe { sockdiag_get_error_number(payload.as_ptr(), payload.len(), &mut number) };
     (answer == 1).then_some(number)
@@ -586,7 +586,7 @@ pub(crate) fn write_unix(request: &UnixRequest, destroy: bool, buffer: &mut [u8]
     } else {
         sockdiag_write_unix_request
     };
-    // SAFETY: the pointer and the length are those of a slice that is borrowed mutably. The
+    // SAFETY: the pointer and the length are from one slice that is borrowed mutably. The
     // contracts of `sockdiag_write_unix_request` and `sockdiag_write_unix_destroy` require nothing
     // else.
     unsafe { call(request, buffer.as_mut_ptr(), buffer.len()) }
@@ -599,7 +599,7 @@ pub(crate) fn write_inet(request: &InetRequest, destroy: bool, buffer: &mut [u8]
     } else {
         sockdiag_write_inet_request
     };
-    // SAFETY: the pointer and the length are those of a slice that is borrowed mutably. The
+    // SAFETY: the pointer and the length are from one slice that is borrowed mutably. The
     // contracts of `sockdiag_write_inet_request` and `sockdiag_write_inet_destroy` require nothing
     // else.
     unsafe { call(request, buffer.as_mut_ptr(), buffer.len()) }
@@ -607,14 +607,14 @@ pub(crate) fn write_inet(request: &InetRequest, destroy: bool, buffer: &mut [u8]
 
 /// Writes a request for netlink, packet or XDP sockets, and returns its length in bytes.
 pub(crate) fn write_show(request: &ShowRequest, buffer: &mut [u8]) -> usize {
-    // SAFETY: the pointer and the length are those of a slice that is borrowed mutably. The
+    // SAFETY: the pointer and the length are from one slice that is borrowed mutably. The
     // contract of `sockdiag_write_show_request` requires nothing else.
     unsafe { sockdiag_write_show_request(request, buffer.as_mut_ptr(), buffer.len()) }
 }
 
 /// Writes a request for vsock sockets, and returns its length in bytes.
 pub(crate) fn write_vsock(request: &VsockRequest, buffer: &mut [u8]) -> usize {
-    // SAFETY: the pointer and the length are those of a slice that is borrowed mutably. The
+    // SAFETY: the pointer and the length are from one slice that is borrowed mutably. The
     // contract of `sockdiag_write_vsock_request` requires nothing else.
     unsafe { sockdiag_write_vsock_request(request, buffer.as_mut_ptr(), buffer.len()) }
 }
@@ -627,7 +627,7 @@ pub(crate) fn write_inet_with_attributes(
     buffer: &mut [u8],
 ) -> (usize, Outcome) {
     let mut outcome = Outcome::default();
-    // SAFETY: the pointers and the lengths are those of two slices, and the buffer is borrowed
+    // SAFETY: the pointers and the lengths are from two slices, and the buffer is borrowed
     // mutably. The contract of `sockdiag_write_inet_request_with_attributes` requires nothing else.
     let written = unsafe {
         sockdiag_write_inet_request_with_attributes(
@@ -650,7 +650,7 @@ pub(crate) fn rewrite(payload: &[u8], is_unix: bool, buffer: &mut [u8]) -> (usiz
     } else {
         sockdiag_rewrite_inet_reply
     };
-    // SAFETY: the pointers and the lengths are those of two slices, and the buffer is borrowed
+    // SAFETY: the pointers and the lengths are from two slices, and the buffer is borrowed
     // mutably. The contracts of `sockdiag_rewrite_unix_reply` and `sockdiag_rewrite_inet_reply`
     // require nothing else.
     let written = unsafe {
