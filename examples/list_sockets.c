@@ -1,9 +1,9 @@
 /*
- * Lists the sockets that the kernel tells: one line for each UNIX socket, and for each TCP, UDP and MPTCP socket over IPv4
- * and IPv6. With an argument, a port, those alone that have it at this end.
+ * Lists the sockets of this machine: one line for each UNIX socket, and for each TCP, UDP and MPTCP socket over IPv4
+ * and IPv6. If a port is given as the argument, lists only the TCP, UDP and MPTCP sockets with this local port.
  *
- * Each kind is asked for by one request to NETLINK_SOCK_DIAG, as sock_diag(7) shows. Replies are read in the buffer that
- * recv(2) filled. It is C99, and C++ too.
+ * Each kind is requested from NETLINK_SOCK_DIAG by a dump request, as sock_diag(7) shows. Replies are parsed in the
+ * buffer that recv(2) filled. The program is valid C99 and C++.
  */
 #include "sockdiag.h"
 
@@ -20,12 +20,12 @@
 #include <sys/socket.h>
 #include <unistd.h>
 
-/* Older headers of the C library and the kernel don't have these. */
+/* Missing in older headers of the C library and the kernel. */
 #define PROTOCOL_MPTCP 262
 #define WITH_INFO (1 << (2 - 1))
 #define WITH_CONGESTION (1 << (4 - 1))
 
-/* A dump ends with NLMSG_DONE; one that was interrupted or refused with another of the NLMSG_ types. */
+/* State of a dump. A dump ends with NLMSG_DONE. If it was interrupted or rejected, it ends with another NLMSG_ type. */
 enum progress { GOES_ON, COMPLETE, FAILED };
 
 static int fail(const char *what) {
@@ -33,7 +33,7 @@ static int fail(const char *what) {
     return -1;
 }
 
-/* Prints a text with dots for what isn't printable, an abstract name behind @. */
+/* Prints a text. Bytes that are not printable are printed as dots, and an abstract name is printed after an @. */
 static void print_text(const struct sockdiag_text *text) {
     size_t place;
     if (text->kind == SOCKDIAG_ABSTRACT)
@@ -88,7 +88,8 @@ static uint32_t print_inet(const char *protocol, const uint8_t *payload, size_t 
     return SOCKDIAG_OK;
 }
 
-/* What an NLMSG_ERROR or an NLMSG_DONE tells. A kernel without the protocol says ENOENT or EINVAL. */
+/* Returns the state that an NLMSG_ERROR or an NLMSG_DONE leads to, and prints its error. A kernel that lacks the
+ * protocol sends ENOENT or EINVAL. */
 static enum progress end(const char *protocol, const uint8_t *payload, size_t length) {
     int32_t number = 0;
     if (sockdiag_get_error_number(payload, length, &number) != SOCKDIAG_ITEM)
@@ -159,13 +160,14 @@ static int list_unix(int fd) {
     return list(fd, "unix", bytes, sockdiag_write_unix_request(&request, bytes, sizeof bytes));
 }
 
-/* A filter, INET_DIAG_REQ_BYTECODE: two steps, each with a number behind it. */
+/* A filter, INET_DIAG_REQ_BYTECODE: two operations, each followed by its operand. */
 struct port_filter {
     struct nlattr head;
     struct inet_diag_bc_op steps[4];
 };
 
-/* The filter for a port of this end. A step tells how far the next is where it holds, and else, which is past the end. */
+/* Returns the filter for a local port. An operation has the offset of the next operation if its test holds, and the
+ * offset if not, which is past the end. */
 static struct port_filter filter_of(uint16_t port) {
     const struct port_filter filter = {
         {sizeof(struct port_filter), INET_DIAG_REQ_BYTECODE},
@@ -174,7 +176,7 @@ static struct port_filter filter_of(uint16_t port) {
     return filter;
 }
 
-/* Lists the sockets of a protocol, or of those with a port that isn't 0. */
+/* Lists the sockets of a protocol. If the port is not 0, lists only those with this local port. */
 static int list_inet(int fd, const char *name, uint32_t protocol, uint8_t extensions, uint16_t port) {
     static const uint8_t families[2] = {AF_INET, AF_INET6};
     const struct port_filter filter = filter_of(port);
@@ -199,7 +201,7 @@ static int list_inet(int fd, const char *name, uint32_t protocol, uint8_t extens
     return failed;
 }
 
-/* The port that an argument names, or 0. */
+/* Returns the port that the argument contains, or 0 if it is not a port. */
 static uint16_t port_of(const char *argument) {
     char *end;
     const unsigned long port = strtoul(argument, &end, 10);

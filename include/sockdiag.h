@@ -1,21 +1,24 @@
 /*
- * Messages of sock_diag(7) behind headers of netlink(7), read and written in the caller's memory.
+ * Parses and serializes messages of sock_diag(7) with the headers of netlink(7), in the caller's memory.
  *
- * The library is crates/sockdiag_c, and tools/install builds it and puts it under a prefix. What is said here of a call is
- * proved there, by the contract of the function of the same name and the two laws of the walks in src/laws.rt; only
- * sockdiag_fault_text is written here. The library takes no memory, opens nothing and keeps nothing between calls, so any
- * thread may call it at any time, with memory that is its own. Of the C library it needs memcpy, memmove and memset.
+ * The library is crates/sockdiag_c. tools/install builds it and installs it under a prefix. What this header says of a
+ * call is proved there, by the contract of the function of the same name and by the two theorem functions about
+ * iteration in src/laws.rt. The only function that is defined here is sockdiag_fault_text.
  *
- * What the caller upholds, and nothing checks:
- * - A pointer to bytes points to as many as the length beside it says, at most PTRDIFF_MAX. It may be null where the
- *   length is 0.
- * - A pointer to a struct points to one whose fields are all set, at its alignment.
- * - What a call writes, a buffer or a struct that is no const, overlaps nothing else that the call is given, and no
- *   other thread reads or writes it meanwhile. What a call only reads isn't written meanwhile.
+ * The library does not allocate, opens no files or sockets, and has no state between calls. So any thread may call it
+ * at any time, with memory that meets the requirements below. It needs memcpy, memmove and memset of the C library.
  *
- * Numbers in structs are in the order of bytes of the machine; ports too. Addresses stand high octet first, as inet_ntop
- * takes them. A cookie is eight bytes as they stand in the message; that of a netlink, packet, vsock or XDP socket is a
- * number, whose low byte stands first there.
+ * The caller has to ensure the following, and nothing checks it:
+ * - A pointer to bytes is valid for the length in bytes that the parameter next to it gives. The length is at most
+ *   PTRDIFF_MAX. The pointer may be null if the length is 0.
+ * - A pointer to a struct is aligned for it, and all fields of the struct are initialized.
+ * - Memory that a call writes, which is a buffer or a struct that is not const, overlaps no other memory that the call
+ *   is given. No other thread reads or writes it during the call. Memory that a call only reads is not written during
+ *   the call.
+ *
+ * Numbers in structs are in the byte order of the host, ports included. Addresses are in network byte order, as
+ * inet_ntop expects them. A cookie of eight bytes is a copy of the bytes in the message. The cookie of a netlink,
+ * packet, vsock or XDP socket is a number, which is little-endian in the message.
  */
 #ifndef SOCKDIAG_H
 #define SOCKDIAG_H
@@ -30,40 +33,40 @@
 extern "C" {
 #endif
 
-/* What a check answers where the bytes are accepted. */
+/* Return value of a check that accepts the bytes. */
 #define SOCKDIAG_OK 0
 
-/* What a walk answers at its end, and a getter where there is nothing to tell. */
+/* Return value of an iteration (sockdiag_next_..) at its end, and of a getter that finds no value. */
 #define SOCKDIAG_END 0
 
-/* What a walk answers for an item that it tells, and a getter likewise. */
+/* Return value of an iteration that returns an item, and of a getter that returns a value. */
 #define SOCKDIAG_ITEM 1
 
 /*
- * Why bytes are refused. Of several faults a call tells the first. The number 1 stands for want of memory, which doesn't
- * occur here, so that SOCKDIAG_ITEM is no fault.
+ * Decode errors: why bytes are rejected. If the bytes have several errors, a call returns the first. Code 1 means that
+ * an allocation failed, which cannot happen here. So SOCKDIAG_ITEM is not the code of an error.
  */
 enum sockdiag_fault {
     SOCKDIAG_BUFFER_TOO_SMALL = 2,          /* fewer bytes than a record has */
-    SOCKDIAG_UNSUPPORTED_FAMILY = 3,        /* an internet socket of another family than AF_INET and AF_INET6 */
+    SOCKDIAG_UNSUPPORTED_FAMILY = 3,        /* an internet socket's family is neither AF_INET nor AF_INET6 */
     SOCKDIAG_MESSAGE_TOO_SHORT = 4,         /* a payload of fewer than 2 bytes */
-    SOCKDIAG_UNKNOWN_FAMILY = 5,            /* a payload that begins with none of AF_UNIX, AF_INET and AF_INET6 */
-    SOCKDIAG_UNKNOWN_MESSAGE_TYPE = 6,      /* a message of another type than SOCK_DIAG_BY_FAMILY */
-    SOCKDIAG_ATTRIBUTE_HEADER_CUT = 7,      /* fewer than the 4 bytes in front of an attribute's value */
-    SOCKDIAG_ATTRIBUTE_LENGTH_UNDER_4 = 8,  /* an attribute's length word that doesn't count those */
-    SOCKDIAG_ATTRIBUTE_LENGTH_PAST = 9,     /* an attribute's length word past the end */
-    SOCKDIAG_WRONG_LENGTH = 10,             /* a value of another length than its kind has */
-    SOCKDIAG_NOT_MULTIPLE_OF_FOUR = 11,     /* a list of numbers with a part of one at its end */
-    SOCKDIAG_NOT_UTF8 = 12,                 /* a text that isn't UTF-8 */
-    SOCKDIAG_NAME_EMPTY = 13,               /* a socket's name without bytes */
-    SOCKDIAG_NAME_INNER_ZERO = 14,          /* a pathname with a zero before its last byte */
-    SOCKDIAG_NAME_WITHOUT_END = 15,         /* a pathname without a zero at its end */
+    SOCKDIAG_UNKNOWN_FAMILY = 5,            /* a payload's first byte is none of AF_UNIX, AF_INET and AF_INET6 */
+    SOCKDIAG_UNKNOWN_MESSAGE_TYPE = 6,      /* a message type other than SOCK_DIAG_BY_FAMILY */
+    SOCKDIAG_ATTRIBUTE_HEADER_CUT = 7,      /* fewer than the 4 bytes of an attribute's header */
+    SOCKDIAG_ATTRIBUTE_LENGTH_UNDER_4 = 8,  /* an attribute's length field is less than the 4 bytes of its header */
+    SOCKDIAG_ATTRIBUTE_LENGTH_PAST = 9,     /* an attribute's length field points past the end */
+    SOCKDIAG_WRONG_LENGTH = 10,             /* a value of the wrong length for its kind */
+    SOCKDIAG_NOT_MULTIPLE_OF_FOUR = 11,     /* a list of numbers whose length is not a multiple of 4 */
+    SOCKDIAG_NOT_UTF8 = 12,                 /* a text that is not valid UTF-8 */
+    SOCKDIAG_NAME_EMPTY = 13,               /* a socket's name of zero bytes */
+    SOCKDIAG_NAME_INNER_ZERO = 14,          /* a pathname with a NUL before its last byte */
+    SOCKDIAG_NAME_WITHOUT_END = 15,         /* a pathname without a terminating NUL */
     SOCKDIAG_ENVELOPE_CUT = 16,             /* fewer than the 16 bytes of a netlink header */
-    SOCKDIAG_ENVELOPE_LENGTH_UNDER_16 = 17, /* a message's length word that doesn't count those */
-    SOCKDIAG_ENVELOPE_LENGTH_PAST = 18      /* a message's length word past the end */
+    SOCKDIAG_ENVELOPE_LENGTH_UNDER_16 = 17, /* a message's length field is less than the 16 bytes of its header */
+    SOCKDIAG_ENVELOPE_LENGTH_PAST = 18      /* a message's length field points past the end */
 };
 
-/* A fault in words, for people: a constant text in English, for any number. */
+/* Returns a text that describes a decode error to people: a constant string in English, for any number. */
 static inline const char *sockdiag_fault_text(uint32_t fault)
 {
     switch (fault) {
@@ -108,67 +111,71 @@ static inline const char *sockdiag_fault_text(uint32_t fault)
 
 /* ---- replies */
 
-/* Where the attributes of a reply begin, the first place of a walk over them: behind struct unix_diag_msg, or struct
- * inet_diag_msg. */
+/* Offsets of the attributes in a reply, where an iteration over them starts: the sizes of struct unix_diag_msg and
+ * of struct inet_diag_msg. */
 #define SOCKDIAG_UNIX_ATTRIBUTES 16
 #define SOCKDIAG_INET_ATTRIBUTES 72
 
-/* The header of a reply about a UNIX socket, struct unix_diag_msg of sock_diag(7). */
+/* Header of a reply about a UNIX socket, struct unix_diag_msg of sock_diag(7). */
 struct sockdiag_unix_header {
-    uint8_t kind;      /* the type of the socket, one of SOCK_.. */
-    uint8_t state;     /* TCP_ESTABLISHED or TCP_LISTEN */
-    uint32_t inode;    /* the inode of the socket */
-    uint8_t cookie[8]; /* tells the socket from others of its inode */
+    uint8_t kind;      /* udiag_type, at 1: type of the socket, one of SOCK_.. */
+    uint8_t state;     /* udiag_state, at 2: TCP_ESTABLISHED, TCP_LISTEN, or TCP_CLOSE (7) if it is not connected */
+    uint32_t inode;    /* udiag_ino, at 4: inode of the socket */
+    uint8_t cookie[8]; /* udiag_cookie, at 8: distinguishes sockets with the same inode */
 };
 
-/* The header of a reply about an IPv4 or IPv6 socket, struct inet_diag_msg of sock_diag(7). */
+/* Header of a reply about an IPv4 or IPv6 socket, struct inet_diag_msg of sock_diag(7). */
 struct sockdiag_inet_header {
-    uint8_t family;                  /* AF_INET or AF_INET6 */
-    uint8_t state;                   /* one of TCP_ESTABLISHED to TCP_CLOSING */
-    uint8_t timer;                   /* 1 a segment is sent again, 2 a silent peer is asked, 3 the end of TIME_WAIT, 4 a
-                                        closed window is probed, 0 none; any other number in the message is told as 0 */
-    uint8_t retransmits;             /* under the timer 1 how often the segment was sent again, else 0 */
-    uint32_t expires;                /* under the timers 1, 2 and 4 the milliseconds until it ends, else 0 */
-    uint16_t source_port;            /* the port of this end */
-    uint16_t destination_port;       /* the port of the other end */
-    uint8_t source_address[16];      /* the address of this end: under AF_INET four octets, and then zeros */
-    uint8_t destination_address[16]; /* the address of the other end, likewise */
-    uint32_t interface_id;           /* the interface that the socket is bound to, or 0 */
-    uint8_t cookie[8];               /* tells the socket from others with its addresses and ports */
-    uint32_t recv_queue;             /* pending connections of a listening socket, or bytes that wait to be read */
-    uint32_t send_queue;             /* the limit of pending connections, or the room for what is sent, in bytes */
-    uint32_t uid;                    /* the user that the socket belongs to */
-    uint32_t inode;                  /* the inode of the socket */
+    uint8_t family;                  /* idiag_family, at 0: AF_INET or AF_INET6 */
+    uint8_t state;                   /* idiag_state, at 1: one of TCP_ESTABLISHED to TCP_CLOSING */
+    uint8_t timer;                   /* idiag_timer, at 2: 1 retransmission, 2 keepalive, 3 TIME_WAIT, 4 zero-window
+                                        probe, 0 none; any other value in the message is returned as 0 */
+    uint8_t retransmits;             /* idiag_retrans, at 3: number of retransmissions if timer is 1, else 0 */
+    uint32_t expires;                /* idiag_expires, at 52: milliseconds until the timer expires if timer is 1, 2 or
+                                        4, else 0 */
+    uint16_t source_port;            /* idiag_sport, at 4: local port */
+    uint16_t destination_port;       /* idiag_dport, at 6: remote port */
+    uint8_t source_address[16];      /* idiag_src, at 8: local address; for AF_INET four bytes, followed by zeros */
+    uint8_t destination_address[16]; /* idiag_dst, at 24: remote address, in the same format */
+    uint32_t interface_id;           /* idiag_if, at 40: index of the interface that the socket is bound to, or 0 */
+    uint8_t cookie[8];               /* idiag_cookie, at 44: distinguishes sockets with the same addresses and ports */
+    uint32_t recv_queue;             /* idiag_rqueue, at 56: pending connections of a listening socket, else bytes that
+                                        have not been read */
+    uint32_t send_queue;             /* idiag_wqueue, at 60: limit of pending connections of a listening socket, else
+                                        bytes in the send queue */
+    uint32_t uid;                    /* idiag_uid, at 64: user id of the owner */
+    uint32_t inode;                  /* idiag_inode, at 68: inode of the socket */
 };
 
 #define SOCKDIAG_UNIX 1
 #define SOCKDIAG_INET 2
 
-/* A reply of either kind. */
+/* A reply about a UNIX, IPv4 or IPv6 socket. */
 struct sockdiag_reply {
-    uint32_t kind;                    /* SOCKDIAG_UNIX or SOCKDIAG_INET: which of the two headers is told */
+    uint32_t kind;                    /* SOCKDIAG_UNIX or SOCKDIAG_INET: which of the two headers is set */
     struct sockdiag_unix_header unix_header;
     struct sockdiag_inet_header inet_header;
 };
 
 /*
- * Check the whole of a reply, its attributes too, and tell its header. The bytes are the payload of a message, behind the
- * netlink header. The answer is 0, or the first fault's number, and then *header is as it was.
+ * Checks a whole reply, with its attributes, and returns its header. The bytes are the payload of a message, after the
+ * netlink header. Returns 0, or the code of the first error; then *header is unchanged.
  */
 uint32_t sockdiag_check_unix_reply(const uint8_t *payload, size_t length, struct sockdiag_unix_header *header);
 uint32_t sockdiag_check_inet_reply(const uint8_t *payload, size_t length, struct sockdiag_inet_header *header);
 
 /*
- * The same of a payload under its message's type. The first byte tells the family: it is a reply about a UNIX socket
- * under AF_UNIX, and about an internet socket under AF_INET and AF_INET6. The header of the other kind is as it was.
+ * Checks the payload of a message whose type is message_type, in the same way. The first byte is the family: AF_UNIX
+ * for a reply about a UNIX socket, AF_INET or AF_INET6 for one about an internet socket. The header of the other kind
+ * is unchanged.
  */
 uint32_t sockdiag_check_message(const uint8_t *payload, size_t length, uint16_t message_type, struct sockdiag_reply *reply);
 
-/* ---- what a reply tells */
+/* ---- the contents of a reply */
 
-/* A number that a reply may tell. */
+/* A number that a reply may contain. */
 struct sockdiag_number {
-    uint32_t is_told; /* 1 where it is told, else 0 */
+    uint32_t is_told; /* 1 if the reply contains the number, else 0 */
     uint32_t value;   /* the number, or 0 */
 };
 
@@ -176,475 +183,504 @@ struct sockdiag_number {
 #define SOCKDIAG_ABSTRACT 2
 #define SOCKDIAG_BYTES 3
 
-/* A text that a reply may tell, where it stands in the reply's bytes. */
+/* A text that a reply may contain, as a pointer into the bytes of the reply. */
 struct sockdiag_text {
-    uint32_t kind;        /* SOCKDIAG_TEXT, of a name a pathname; SOCKDIAG_ABSTRACT an abstract name; SOCKDIAG_BYTES bytes
-                             that are no text; 0 none is told */
-    const uint8_t *bytes; /* the text, without the zero at its end, or in front of an abstract name; that of a pathname
-                             follows it there, and behind other texts there may be none */
-    size_t length;        /* how many bytes it has */
+    uint32_t kind;        /* SOCKDIAG_TEXT: a text; of a name, a pathname. SOCKDIAG_ABSTRACT: an abstract name.
+                             SOCKDIAG_BYTES: bytes that are not text. 0: the reply contains no such text */
+    const uint8_t *bytes; /* the text, without the NUL that ends a text or begins an abstract name; the NUL of a
+                             pathname follows it in the reply, other texts may have none */
+    size_t length;        /* length in bytes */
 };
 
-/* All that a reply tells about a UNIX socket, but the connections that wait to be accepted. */
+/* Everything that a reply says of a UNIX socket, except the connections that wait to be accepted. */
 struct sockdiag_unix_details {
     struct sockdiag_unix_header header;
-    struct sockdiag_text name;             /* the name that the socket is bound to, UNIX_DIAG_NAME */
-    struct sockdiag_number file_inode;     /* the inode of the file that it is bound to, UNIX_DIAG_VFS */
-    struct sockdiag_number file_device;    /* the device of that file, a major and a minor number put together */
-    struct sockdiag_number peer;           /* the inode of the peer, UNIX_DIAG_PEER */
-    struct sockdiag_number recv_queue;     /* UNIX_DIAG_RQLEN: how many connections wait to be accepted, in the state
-                                              TCP_LISTEN; else how many bytes wait to be read */
-    struct sockdiag_number send_queue;     /* the limit of those connections; else how many bytes of memory are taken by
-                                              what was sent and is not yet read */
-    struct sockdiag_number receive_buffer; /* the size of the receive buffer in bytes, UNIX_DIAG_MEMINFO */
-    struct sockdiag_number send_buffer;    /* the size of the send buffer in bytes, which bounds a datagram */
-    struct sockdiag_number queued;         /* the memory of what is queued to be sent; Linux tells 0 */
-    struct sockdiag_number shutdown;       /* which directions are shut down, UNIX_DIAG_SHUTDOWN: 1 for receiving, 2 for
-                                              sending, or both */
+    struct sockdiag_text name;             /* UNIX_DIAG_NAME: name that the socket is bound to */
+    struct sockdiag_number file_inode;     /* UNIX_DIAG_VFS: inode of the file that the socket is bound to */
+    struct sockdiag_number file_device;    /* device of that file, the major and minor number combined */
+    struct sockdiag_number peer;           /* UNIX_DIAG_PEER: inode of the peer */
+    struct sockdiag_number recv_queue;     /* UNIX_DIAG_RQLEN: number of connections that wait to be accepted, in state
+                                              TCP_LISTEN; else number of bytes that have not been read */
+    struct sockdiag_number send_queue;     /* limit of these connections, in state TCP_LISTEN; else bytes of memory in
+                                              use by data that was sent and has not been read */
+    struct sockdiag_number receive_buffer; /* UNIX_DIAG_MEMINFO: size of the receive buffer in bytes */
+    struct sockdiag_number send_buffer;    /* size of the send buffer in bytes, the limit of a datagram */
+    struct sockdiag_number queued;         /* memory of data queued for sending, in bytes; Linux sends 0 */
+    struct sockdiag_number shutdown;       /* UNIX_DIAG_SHUTDOWN: directions that are shut down, 1 for receiving, 2 for
+                                              sending, 3 for both */
 };
 
-/* What a reply tells about an IPv4 or IPv6 socket, but its TCP connection and its memory, which have calls of their own. */
+/* What a reply says of an IPv4 or IPv6 socket, except its TCP connection and its memory, which have separate calls. */
 struct sockdiag_inet_details {
     struct sockdiag_inet_header header;
-    struct sockdiag_text congestion; /* the name of the algorithm of congestion control, INET_DIAG_CONG */
-    struct sockdiag_number tos;      /* the type of service, INET_DIAG_TOS */
-    struct sockdiag_number tclass;   /* the traffic class of an IPv6 socket, INET_DIAG_TCLASS */
-    struct sockdiag_number shutdown; /* which directions are shut down, INET_DIAG_SHUTDOWN */
-    struct sockdiag_number protocol; /* one of IPPROTO_.., INET_DIAG_PROTOCOL */
-    struct sockdiag_number v6only;   /* 1 where the socket is for IPv6 alone, else 0, INET_DIAG_SKV6ONLY */
-    struct sockdiag_number mark;     /* the mark of the socket, INET_DIAG_MARK */
-    struct sockdiag_number class_id; /* the class of its packets for traffic control, INET_DIAG_CLASS_ID */
+    struct sockdiag_text congestion; /* INET_DIAG_CONG: name of the congestion control algorithm */
+    struct sockdiag_number tos;      /* INET_DIAG_TOS: type of service */
+    struct sockdiag_number tclass;   /* INET_DIAG_TCLASS: traffic class of an IPv6 socket */
+    struct sockdiag_number shutdown; /* INET_DIAG_SHUTDOWN: directions that are shut down */
+    struct sockdiag_number protocol; /* INET_DIAG_PROTOCOL: one of IPPROTO_.. */
+    struct sockdiag_number v6only;   /* INET_DIAG_SKV6ONLY: 1 if the socket is for IPv6 only, else 0 */
+    struct sockdiag_number mark;     /* INET_DIAG_MARK: mark of the socket */
+    struct sockdiag_number class_id; /* INET_DIAG_CLASS_ID: traffic control class of its packets */
 };
 
 /*
- * Check the whole of a reply, as sockdiag_check_unix_reply and sockdiag_check_inet_reply do, and tell what it says, in one
- * walk. The answer is 0, or the first fault's number, and then *details is as it was; what it held isn't read. Of several
- * attributes of a kind the first counts. The texts stand in the payload, and are there as long as it is.
+ * Checks a whole reply, as sockdiag_check_unix_reply and sockdiag_check_inet_reply do, and returns its contents, in one
+ * pass over the attributes. Returns 0, or the code of the first error; then *details is unchanged. The previous
+ * contents of *details are not read. If the reply has several attributes of a kind, the first one counts. Texts point
+ * into the payload, and are valid as long as it is.
  */
 uint32_t sockdiag_unix_get_details(const uint8_t *payload, size_t length, struct sockdiag_unix_details *details);
 uint32_t sockdiag_inet_get_details(const uint8_t *payload, size_t length, struct sockdiag_inet_details *details);
 
 /*
- * Tells the inode of a connection that waits to be accepted on a UNIX socket, UNIX_DIAG_ICONS, by its index, the first one
- * at 0. The answer is 1; or 0 where there is none, or the reply is refused, and then *inode is as it was.
+ * Stores in *inode the inode of a connection that waits to be accepted on a UNIX socket, UNIX_DIAG_ICONS. The first
+ * connection has index 0. Returns 1; or 0 if there is no such connection or the reply is rejected, and then *inode is
+ * unchanged.
  */
 uint32_t sockdiag_unix_get_pending(const uint8_t *payload, size_t length, size_t index, uint32_t *inode);
 
-/* A TCP connection, by the fields of struct tcp_info of linux/tcp.h, without their tcpi_. */
+/* A TCP connection: the fields of struct tcp_info of linux/tcp.h, without the prefix tcpi_. */
 struct sockdiag_tcp_info {
     uint8_t state;                     /* one of TCP_ESTABLISHED to TCP_CLOSING */
-    uint8_t ca_state;                  /* one of TCP_CA_OPEN to TCP_CA_LOSS */
-    uint8_t retransmits;               /* how often the timer has made the oldest segment be sent again */
-    uint8_t probes;                    /* how many probes of a closed window or of a silent peer were not answered */
-    uint8_t backoff;                   /* how often the timer was doubled */
-    uint8_t options;                   /* the options that both ends agreed on, bits TCPI_OPT_.. */
-    uint8_t wscale;                    /* the shifts of both windows: the sender's in the lower four bits */
-    uint8_t delivery_rate_app_limited; /* bit 0 is set where the program limits delivery_rate */
-    uint32_t rto;                      /* the time until a segment is sent again, in microseconds */
-    uint32_t ato;                      /* the time until an answer is sent late, in microseconds */
-    uint32_t snd_mss;                  /* the largest segment that is sent, in bytes */
-    uint32_t rcv_mss;                  /* the largest segment that is taken to come, in bytes */
-    uint32_t unacked;                  /* segments sent and not acknowledged; in TCP_LISTEN pending connections */
-    uint32_t sacked;                   /* segments acknowledged out of order; in TCP_LISTEN their limit */
-    uint32_t lost;                     /* how many segments are held to be lost */
-    uint32_t retrans;                  /* how many segments that were sent again are on their way */
-    uint32_t fackets;                  /* how far the acknowledged segments reach; newer kernels write 0 */
-    uint32_t last_data_sent;           /* the time since data was sent, in milliseconds */
-    uint32_t last_ack_sent;            /* the time since an acknowledgement was sent; the kernel writes 0 */
-    uint32_t last_data_recv;           /* the time since data came, in milliseconds */
-    uint32_t last_ack_recv;            /* the time since an acknowledgement came, in milliseconds */
-    uint32_t pmtu;                     /* the largest packet that the path takes, in bytes */
-    uint32_t rcv_ssthresh;             /* the most that the receive window may grow to for now, in bytes */
-    uint32_t rtt;                      /* the round trip's time, smoothed, in microseconds */
-    uint32_t rttvar;                   /* how far round trips differ from it, in microseconds */
-    uint32_t snd_ssthresh;             /* the window from which on slow start ends, in segments */
-    uint32_t snd_cwnd;                 /* the congestion window, in segments */
-    uint32_t advmss;                   /* the largest segment that was offered to the peer, in bytes */
-    uint32_t reordering;               /* how many segments may pass one before it is held to be lost */
-    uint32_t rcv_rtt;                  /* the round trip's time as the receiver measures it, in microseconds */
-    uint32_t rcv_space;                /* the size that the receive buffer is fitted to, in bytes */
-    uint32_t total_retrans;            /* how many segments were sent again in all */
-    uint64_t pacing_rate;              /* the rate at which segments are let go, in bytes a second */
-    uint64_t max_pacing_rate;          /* the most that this rate may be, in bytes a second */
-    uint64_t bytes_acked;              /* how many bytes were acknowledged */
-    uint64_t bytes_received;           /* how many bytes came in order */
-    uint32_t segs_out;                 /* how many segments were sent */
-    uint32_t segs_in;                  /* how many segments came */
-    uint32_t notsent_bytes;            /* how many queued bytes were not sent yet */
-    uint32_t min_rtt;                  /* the shortest round trip's time, in microseconds */
-    uint32_t data_segs_in;             /* how many segments with data came */
-    uint32_t data_segs_out;            /* how many segments with data were sent */
-    uint64_t delivery_rate;            /* the rate at which data last reached the peer, in bytes a second */
-    uint64_t busy_time;                /* the time in which there was data to send, in microseconds */
-    uint64_t rwnd_limited;             /* the part of it in which the peer's window was too small, in microseconds */
-    uint64_t sndbuf_limited;           /* the part of it in which the send buffer was too small, in microseconds */
-    uint32_t delivered;                /* how many segments reached the peer, those sent again too */
-    uint32_t delivered_ce;             /* how many of them the peer told to be marked for congestion */
-    uint64_t bytes_sent;               /* how many bytes of data were sent, those sent again too */
-    uint64_t bytes_retrans;            /* how many bytes of data were sent again */
-    uint32_t dsack_dups;               /* how many segments the peer told to have come twice */
-    uint32_t reord_seen;               /* how often segments were seen to be out of order */
-    uint32_t rcv_ooopack;              /* how many segments came out of order */
-    uint32_t snd_wnd;                  /* the peer's window after its shift, in bytes */
+    uint8_t ca_state;                  /* state of congestion control, one of TCP_CA_OPEN to TCP_CA_LOSS */
+    uint8_t retransmits;               /* number of times that the timer has retransmitted the oldest segment */
+    uint8_t probes;                    /* number of unanswered zero-window and keepalive probes */
+    uint8_t backoff;                   /* number of times that the timer was doubled (exponential backoff) */
+    uint8_t options;                   /* options that both ends agreed on, bits TCPI_OPT_.. */
+    uint8_t wscale;                    /* window scales: tcpi_snd_wscale in the lower four bits, tcpi_rcv_wscale in the
+                                          upper four */
+    uint8_t delivery_rate_app_limited; /* bit 0 is set if the application limits delivery_rate */
+    uint32_t rto;                      /* retransmission timeout, in microseconds */
+    uint32_t ato;                      /* timeout of delayed acknowledgements, in microseconds */
+    uint32_t snd_mss;                  /* maximum segment size for sending, in bytes */
+    uint32_t rcv_mss;                  /* estimated maximum segment size of the peer, in bytes */
+    uint32_t unacked;                  /* segments sent and not acknowledged; in TCP_LISTEN, pending connections */
+    uint32_t sacked;                   /* segments acknowledged out of order; in TCP_LISTEN, limit of pending
+                                          connections */
+    uint32_t lost;                     /* segments that are considered lost */
+    uint32_t retrans;                  /* retransmitted segments in flight */
+    uint32_t fackets;                  /* segments up to the highest acknowledged one; newer kernels write 0 */
+    uint32_t last_data_sent;           /* time since data was last sent, in milliseconds */
+    uint32_t last_ack_sent;            /* time since an acknowledgement was last sent; the kernel writes 0 */
+    uint32_t last_data_recv;           /* time since data was last received, in milliseconds */
+    uint32_t last_ack_recv;            /* time since an acknowledgement was last received, in milliseconds */
+    uint32_t pmtu;                     /* path MTU, in bytes */
+    uint32_t rcv_ssthresh;             /* current limit of the receive window, in bytes */
+    uint32_t rtt;                      /* smoothed round-trip time, in microseconds */
+    uint32_t rttvar;                   /* variation of the round-trip time, in microseconds */
+    uint32_t snd_ssthresh;             /* slow start threshold, in segments */
+    uint32_t snd_cwnd;                 /* congestion window, in segments */
+    uint32_t advmss;                   /* maximum segment size that was advertised to the peer, in bytes */
+    uint32_t reordering;               /* reordering distance beyond which a segment is considered lost, in segments */
+    uint32_t rcv_rtt;                  /* round-trip time that the receiver measures, in microseconds */
+    uint32_t rcv_space;                /* size that the receive buffer is tuned for, in bytes */
+    uint32_t total_retrans;            /* retransmitted segments in total */
+    uint64_t pacing_rate;              /* pacing rate, in bytes per second */
+    uint64_t max_pacing_rate;          /* maximum pacing rate, in bytes per second */
+    uint64_t bytes_acked;              /* bytes that were acknowledged */
+    uint64_t bytes_received;           /* bytes that were received in order */
+    uint32_t segs_out;                 /* segments sent */
+    uint32_t segs_in;                  /* segments received */
+    uint32_t notsent_bytes;            /* queued bytes that have not been sent */
+    uint32_t min_rtt;                  /* minimum round-trip time, in microseconds */
+    uint32_t data_segs_in;             /* segments received with data */
+    uint32_t data_segs_out;            /* segments sent with data */
+    uint64_t delivery_rate;            /* most recent rate of delivery to the peer, in bytes per second */
+    uint64_t busy_time;                /* time with data to send, in microseconds */
+    uint64_t rwnd_limited;             /* part of busy_time that was limited by the peer's receive window, in
+                                          microseconds */
+    uint64_t sndbuf_limited;           /* part of busy_time that was limited by the send buffer, in microseconds */
+    uint32_t delivered;                /* segments delivered to the peer, including retransmitted ones */
+    uint32_t delivered_ce;             /* delivered segments that the peer reported as marked for congestion */
+    uint64_t bytes_sent;               /* bytes of data sent, including retransmitted ones */
+    uint64_t bytes_retrans;            /* bytes of data retransmitted */
+    uint32_t dsack_dups;               /* segments that the peer reported as received twice (DSACK) */
+    uint32_t reord_seen;               /* reordering events that were seen */
+    uint32_t rcv_ooopack;              /* segments received out of order */
+    uint32_t snd_wnd;                  /* the peer's receive window after scaling, in bytes */
 };
 
 /*
- * Tells what is known of a TCP connection, the value of the first INET_DIAG_INFO behind the header of a reply about an
- * IPv4 or IPv6 socket: as many bytes of it as *info has, and zeros behind them. The answer is how many bytes the value has,
- * and 0 where there is none. Older kernels tell fewer than *info has, and newer ones more.
+ * Copies the value of the first INET_DIAG_INFO after the header of a reply about an IPv4 or IPv6 socket to *info: at
+ * most as many bytes as *info has. The remaining bytes of *info are set to 0. Returns the length of the value in bytes,
+ * or 0 if there is none. Older kernels send fewer bytes than *info has, and newer kernels more.
  *
- * Values aren't checked, so that this can be read from a reply that is refused since a value is short. Behind a fault of
- * the framing nothing is told.
+ * The values of attributes are not checked. So this call also works for a reply that is rejected because a value is too
+ * short. Attributes after a framing error are not found.
  */
 size_t sockdiag_inet_get_tcp_info(const uint8_t *payload, size_t length, struct sockdiag_tcp_info *info);
 
-/* The memory of an IPv4 or IPv6 socket, by the words SK_MEMINFO_.. of linux/sock_diag.h, in bytes but for the last. */
+/* Memory of an IPv4 or IPv6 socket: the fields SK_MEMINFO_.. of linux/sock_diag.h, in bytes except for the last. */
 struct sockdiag_inet_memory {
-    uint32_t receive_queue;        /* what the receive queue takes now */
-    uint32_t receive_queue_max;    /* the most that it may take */
-    uint32_t bottom_send_queues;   /* packets that were handed down the network stack */
-    uint32_t send_queue_max;       /* the most that the send queue may take */
-    uint32_t cache;                /* what the socket holds and doesn't use */
-    uint32_t send_queue;           /* what the send queue takes now */
-    uint32_t options;              /* the socket's options */
-    uint32_t backlog_queue_length; /* packets that wait while the socket is locked; older kernels don't tell it */
-    uint32_t drops;                /* how many packets were dropped; older kernels don't tell it */
+    uint32_t receive_queue;        /* SK_MEMINFO_RMEM_ALLOC: memory in use by the receive queue */
+    uint32_t receive_queue_max;    /* SK_MEMINFO_RCVBUF: receive buffer limit */
+    uint32_t bottom_send_queues;   /* SK_MEMINFO_WMEM_ALLOC: packets committed to the device queue */
+    uint32_t send_queue_max;       /* SK_MEMINFO_SNDBUF: send buffer limit */
+    uint32_t cache;                /* SK_MEMINFO_FWD_ALLOC: memory that is allocated to the socket and not in use */
+    uint32_t send_queue;           /* SK_MEMINFO_WMEM_QUEUED: memory in use by the send queue */
+    uint32_t options;              /* SK_MEMINFO_OPTMEM: socket options */
+    uint32_t backlog_queue_length; /* SK_MEMINFO_BACKLOG: packets that wait while the socket is locked; not sent by
+                                      older kernels */
+    uint32_t drops;                /* SK_MEMINFO_DROPS: number of dropped packets; not sent by older kernels */
 };
 
-/* The same of the memory, the value of the first INET_DIAG_SKMEMINFO. */
+/* Copies the value of the first INET_DIAG_SKMEMINFO to *memory in the same way. */
 size_t sockdiag_inet_get_memory(const uint8_t *payload, size_t length, struct sockdiag_inet_memory *memory);
 
 /* ---- netlink, packet, vsock and XDP sockets */
 
-/* Where their attributes begin: behind struct netlink_diag_msg, packet_diag_msg and xdp_diag_msg. */
+/* Offsets of the attributes: the sizes of struct netlink_diag_msg, packet_diag_msg and xdp_diag_msg. */
 #define SOCKDIAG_NETLINK_ATTRIBUTES 28
 #define SOCKDIAG_PACKET_ATTRIBUTES 16
 #define SOCKDIAG_XDP_ATTRIBUTES 16
 
-/* The memory of such a socket, by the words SK_MEMINFO_.. of linux/sock_diag.h, in bytes but for the last. All but the last
- * two are told together. */
+/* Memory of such a socket: the fields SK_MEMINFO_.. of linux/sock_diag.h, in bytes except for the last. A reply
+ * contains the first seven fields together, or none of them. */
 struct sockdiag_memory {
-    struct sockdiag_number receive_queue;        /* SK_MEMINFO_RMEM_ALLOC, at 0: what the receive queue takes now */
-    struct sockdiag_number receive_queue_max;    /* SK_MEMINFO_RCVBUF, at 4: the most that it may take */
-    struct sockdiag_number bottom_send_queues;   /* SK_MEMINFO_WMEM_ALLOC, at 8: packets handed down the network stack */
-    struct sockdiag_number send_queue_max;       /* SK_MEMINFO_SNDBUF, at 12: the most that the send queue may take */
-    struct sockdiag_number cache;                /* SK_MEMINFO_FWD_ALLOC, at 16: what the socket holds and doesn't use */
-    struct sockdiag_number send_queue;           /* SK_MEMINFO_WMEM_QUEUED, at 20: what the send queue takes now */
-    struct sockdiag_number options;              /* SK_MEMINFO_OPTMEM, at 24: the socket's options */
+    struct sockdiag_number receive_queue;        /* SK_MEMINFO_RMEM_ALLOC, at 0: memory in use by the receive queue */
+    struct sockdiag_number receive_queue_max;    /* SK_MEMINFO_RCVBUF, at 4: receive buffer limit */
+    struct sockdiag_number bottom_send_queues;   /* SK_MEMINFO_WMEM_ALLOC, at 8: packets committed to the device
+                                                    queue */
+    struct sockdiag_number send_queue_max;       /* SK_MEMINFO_SNDBUF, at 12: send buffer limit */
+    struct sockdiag_number cache;                /* SK_MEMINFO_FWD_ALLOC, at 16: allocated to the socket and not in
+                                                    use */
+    struct sockdiag_number send_queue;           /* SK_MEMINFO_WMEM_QUEUED, at 20: memory in use by the send queue */
+    struct sockdiag_number options;              /* SK_MEMINFO_OPTMEM, at 24: socket options */
     struct sockdiag_number backlog_queue_length; /* SK_MEMINFO_BACKLOG, at 28: packets that wait while it is locked */
-    struct sockdiag_number drops;                /* SK_MEMINFO_DROPS, at 32: how many packets were dropped */
+    struct sockdiag_number drops;                /* SK_MEMINFO_DROPS, at 32: number of dropped packets */
 };
 
-/* The header of a reply about a netlink socket, struct netlink_diag_msg of linux/netlink_diag.h. */
+/* Header of a reply about a netlink socket, struct netlink_diag_msg of linux/netlink_diag.h. */
 struct sockdiag_netlink_header {
     uint8_t kind;               /* ndiag_type, at 1: SOCK_RAW or SOCK_DGRAM */
     uint8_t protocol;           /* ndiag_protocol, at 2: one of NETLINK_.. of linux/netlink.h */
-    uint8_t state;              /* ndiag_state, at 3: 1 of a socket that is connected to another */
-    uint32_t port;              /* ndiag_portid, at 4: the port number of the socket, 0 for the kernel's */
-    uint32_t destination_port;  /* ndiag_dst_portid, at 8: that of the socket that it is connected to */
-    uint32_t destination_group; /* ndiag_dst_group, at 12: the groups that it sends to */
-    uint32_t inode;             /* ndiag_ino, at 16: the inode of the socket */
-    uint64_t cookie;            /* ndiag_cookie, at 20: tells the socket from others of its inode */
+    uint8_t state;              /* ndiag_state, at 3: 1 if the socket is connected to another */
+    uint32_t port;              /* ndiag_portid, at 4: port id of the socket, 0 for the kernel */
+    uint32_t destination_port;  /* ndiag_dst_portid, at 8: port id of the socket that it is connected to */
+    uint32_t destination_group; /* ndiag_dst_group, at 12: number of the multicast group that it sends to */
+    uint32_t inode;             /* ndiag_ino, at 16: inode of the socket */
+    uint64_t cookie;            /* ndiag_cookie, at 20: distinguishes sockets with the same inode */
 };
 
-/* All that a reply tells about a netlink socket, by the attributes of linux/netlink_diag.h. */
+/* Everything that a reply says of a netlink socket, by the attributes of linux/netlink_diag.h. */
 struct sockdiag_netlink_details {
     struct sockdiag_netlink_header header;
     struct sockdiag_memory memory; /* NETLINK_DIAG_MEMINFO */
-    struct sockdiag_text groups;   /* NETLINK_DIAG_GROUPS, SOCKDIAG_BYTES: a bit for each group that the socket is a member
-                                      of, that of group 1 the lowest of the first byte */
-    struct sockdiag_number flags;  /* NETLINK_DIAG_FLAGS: the bits NDIAG_FLAG_.. */
+    struct sockdiag_text groups;   /* NETLINK_DIAG_GROUPS, SOCKDIAG_BYTES: groups that the socket is a member of, one
+                                      bit each; group 1 is the lowest bit of the first byte */
+    struct sockdiag_number flags;  /* NETLINK_DIAG_FLAGS: bits NDIAG_FLAG_.. */
 };
 
-/* The header of a reply about a packet socket, struct packet_diag_msg of linux/packet_diag.h. */
+/* Header of a reply about a packet socket, struct packet_diag_msg of linux/packet_diag.h. */
 struct sockdiag_packet_header {
     uint8_t kind;      /* pdiag_type, at 1: SOCK_RAW or SOCK_DGRAM */
     uint16_t protocol; /* pdiag_num, at 2: one of ETH_P_.. of linux/if_ether.h */
-    uint32_t inode;    /* pdiag_ino, at 4: the inode of the socket */
-    uint64_t cookie;   /* pdiag_cookie, at 8: tells the socket from others of its inode */
+    uint32_t inode;    /* pdiag_ino, at 4: inode of the socket */
+    uint64_t cookie;   /* pdiag_cookie, at 8: distinguishes sockets with the same inode */
 };
 
-/* What a packet socket is set to, struct packet_diag_info of linux/packet_diag.h. */
+/* Settings of a packet socket, struct packet_diag_info of linux/packet_diag.h. */
 struct sockdiag_packet_info {
-    uint32_t interface;      /* pdi_index, at 0: the interface that the socket is bound to, or 0 */
-    uint32_t version;        /* pdi_version, at 4: the layout of a ring's frames, one of TPACKET_V.. */
-    uint32_t reserve;        /* pdi_reserve, at 8: the bytes that a frame keeps free for the program */
-    uint32_t copy_threshold; /* pdi_copy_thresh, at 12: from how many bytes on a packet is also copied to the queue */
-    uint32_t timestamp;      /* pdi_tstamp, at 16: which clocks tell the time of a packet */
-    uint32_t flags;          /* pdi_flags, at 20: the bits PDI_.. */
+    uint32_t interface;      /* pdi_index, at 0: index of the interface that the socket is bound to, or 0 */
+    uint32_t version;        /* pdi_version, at 4: frame format of the rings, one of TPACKET_V.. */
+    uint32_t reserve;        /* pdi_reserve, at 8: bytes of each frame that are reserved for the application */
+    uint32_t copy_threshold; /* pdi_copy_thresh, at 12: length from which a packet is also copied to the queue, in
+                                bytes */
+    uint32_t timestamp;      /* pdi_tstamp, at 16: clocks that packets are timestamped with */
+    uint32_t flags;          /* pdi_flags, at 20: bits PDI_.. */
 };
 
-/* A ring that a packet socket shares with its program, struct packet_diag_ring of linux/packet_diag.h. */
+/* A ring that a packet socket shares with the application, struct packet_diag_ring of linux/packet_diag.h. */
 struct sockdiag_packet_ring {
-    uint32_t block_size;     /* pdr_block_size, at 0: the bytes of a block */
-    uint32_t blocks;         /* pdr_block_nr, at 4: how many blocks there are */
-    uint32_t frame_size;     /* pdr_frame_size, at 8: the bytes of a frame */
-    uint32_t frames;         /* pdr_frame_nr, at 12: how many frames there are */
-    uint32_t retire_timeout; /* pdr_retire_tmo, at 16: after how many milliseconds a block is handed over that isn't full */
-    uint32_t private_size;   /* pdr_sizeof_priv, at 20: the bytes of a block that are the program's */
-    uint32_t features;       /* pdr_features, at 24: the bits TP_FT_.. */
+    uint32_t block_size;     /* pdr_block_size, at 0: size of a block in bytes */
+    uint32_t blocks;         /* pdr_block_nr, at 4: number of blocks */
+    uint32_t frame_size;     /* pdr_frame_size, at 8: size of a frame in bytes */
+    uint32_t frames;         /* pdr_frame_nr, at 12: number of frames */
+    uint32_t retire_timeout; /* pdr_retire_tmo, at 16: milliseconds after which a block that is not full is handed
+                                over */
+    uint32_t private_size;   /* pdr_sizeof_priv, at 20: bytes of each block that belong to the application */
+    uint32_t features;       /* pdr_features, at 24: bits TP_FT_.. */
 };
 
-/* All that a reply tells about a packet socket, by the attributes of linux/packet_diag.h. */
+/* Everything that a reply says of a packet socket, by the attributes of linux/packet_diag.h. */
 struct sockdiag_packet_details {
     struct sockdiag_packet_header header;
-    uint32_t has_info;                        /* 1 where info is told, else 0 */
+    uint32_t has_info;                        /* 1 if info is set, else 0 */
     struct sockdiag_packet_info info;         /* PACKET_DIAG_INFO */
-    struct sockdiag_text addresses;           /* PACKET_DIAG_MCLIST, SOCKDIAG_BYTES: the addresses that it receives beside
-                                                 its interface's, 44 bytes each, struct packet_diag_mclist */
-    uint32_t has_receive_ring;                /* 1 where receive_ring is told, else 0 */
+    struct sockdiag_text addresses;           /* PACKET_DIAG_MCLIST, SOCKDIAG_BYTES: addresses that the socket receives
+                                                 in addition to its interface's, 44 bytes each, struct
+                                                 packet_diag_mclist */
+    uint32_t has_receive_ring;                /* 1 if receive_ring is set, else 0 */
     struct sockdiag_packet_ring receive_ring; /* PACKET_DIAG_RX_RING */
-    uint32_t has_send_ring;                   /* 1 where send_ring is told, else 0 */
+    uint32_t has_send_ring;                   /* 1 if send_ring is set, else 0 */
     struct sockdiag_packet_ring send_ring;    /* PACKET_DIAG_TX_RING */
-    struct sockdiag_number fanout;            /* PACKET_DIAG_FANOUT: its number, and its way in the high 16 bits */
-    struct sockdiag_number owner;             /* PACKET_DIAG_UID: the user that the socket belongs to */
+    struct sockdiag_number fanout;            /* PACKET_DIAG_FANOUT: id of the fanout group in the low 16 bits, mode in
+                                                 the high 16 bits */
+    struct sockdiag_number owner;             /* PACKET_DIAG_UID: user id of the owner */
     struct sockdiag_memory memory;            /* PACKET_DIAG_MEMINFO */
-    struct sockdiag_text filter;              /* PACKET_DIAG_FILTER, SOCKDIAG_BYTES: the steps of its filter, 8 bytes each,
-                                                 struct sock_filter */
+    struct sockdiag_text filter;              /* PACKET_DIAG_FILTER, SOCKDIAG_BYTES: instructions of the socket filter,
+                                                 8 bytes each, struct sock_filter */
 };
 
-/* The header of a reply about a vsock socket, struct vsock_diag_msg of linux/vm_sockets_diag.h. No attributes follow. */
+/* Header of a reply about a vsock socket, struct vsock_diag_msg of linux/vm_sockets_diag.h. No attributes follow. */
 struct sockdiag_vsock_header {
     uint8_t kind;                 /* vdiag_type, at 1: one of SOCK_.. */
     uint8_t state;                /* vdiag_state, at 2: one of TCP_.. */
-    uint8_t shutdown;             /* vdiag_shutdown, at 3: which directions are shut down, 1 for receiving, 2 for sending */
-    uint32_t source_context;      /* vdiag_src_cid, at 4: the context of the socket, 2 of the host */
-    uint32_t source_port;         /* vdiag_src_port, at 8: the port of the socket */
-    uint32_t destination_context; /* vdiag_dst_cid, at 12: the context of the peer */
-    uint32_t destination_port;    /* vdiag_dst_port, at 16: the port of the peer */
-    uint32_t inode;               /* vdiag_ino, at 20: the inode of the socket */
-    uint64_t cookie;              /* vdiag_cookie, at 24: tells the socket from others of its inode */
+    uint8_t shutdown;             /* vdiag_shutdown, at 3: directions that are shut down, 1 for receiving, 2 for
+                                     sending, 3 for both */
+    uint32_t source_context;      /* vdiag_src_cid, at 4: context id of the socket, 2 for the host */
+    uint32_t source_port;         /* vdiag_src_port, at 8: port of the socket */
+    uint32_t destination_context; /* vdiag_dst_cid, at 12: context id of the peer */
+    uint32_t destination_port;    /* vdiag_dst_port, at 16: port of the peer */
+    uint32_t inode;               /* vdiag_ino, at 20: inode of the socket */
+    uint64_t cookie;              /* vdiag_cookie, at 24: distinguishes sockets with the same inode */
 };
 
-/* The header of a reply about an XDP socket, struct xdp_diag_msg of linux/xdp_diag.h. */
+/* Header of a reply about an XDP socket, struct xdp_diag_msg of linux/xdp_diag.h. */
 struct sockdiag_xdp_header {
     uint8_t kind;    /* xdiag_type, at 1: SOCK_RAW */
-    uint32_t inode;  /* xdiag_ino, at 4: the inode of the socket */
-    uint64_t cookie; /* xdiag_cookie, at 8: tells the socket from others of its inode */
+    uint32_t inode;  /* xdiag_ino, at 4: inode of the socket */
+    uint64_t cookie; /* xdiag_cookie, at 8: distinguishes sockets with the same inode */
 };
 
-/* Where an XDP socket is bound, struct xdp_diag_info of linux/xdp_diag.h. */
+/* What an XDP socket is bound to, struct xdp_diag_info of linux/xdp_diag.h. */
 struct sockdiag_xdp_info {
-    uint32_t interface; /* ifindex, at 0: the interface */
-    uint32_t queue;     /* queue_id, at 4: its queue */
+    uint32_t interface; /* ifindex, at 0: index of the interface */
+    uint32_t queue;     /* queue_id, at 4: queue of the interface */
 };
 
-/* The memory that an XDP socket shares with its program, struct xdp_diag_umem of linux/xdp_diag.h. */
+/* Memory that an XDP socket shares with the application (UMEM), struct xdp_diag_umem of linux/xdp_diag.h. */
 struct sockdiag_xdp_umem {
-    uint64_t size;       /* size, at 0: its bytes */
-    uint32_t id;         /* id, at 8: its number */
-    uint32_t pages;      /* num_pages, at 12: how many pages it has */
-    uint32_t chunk_size; /* chunk_size, at 16: the bytes of a chunk */
-    uint32_t headroom;   /* headroom, at 20: the bytes of a chunk that are the program's */
-    uint32_t interface;  /* ifindex, at 24: the interface that it is bound to */
-    uint32_t queue;      /* queue_id, at 28: the queue of the interface */
-    uint32_t flags;      /* flags, at 32: the bit XDP_DU_F_ZEROCOPY */
-    uint32_t references; /* refs, at 36: how many sockets share it */
+    uint64_t size;       /* size, at 0: size in bytes */
+    uint32_t id;         /* id, at 8: id of the memory */
+    uint32_t pages;      /* num_pages, at 12: number of pages */
+    uint32_t chunk_size; /* chunk_size, at 16: size of a chunk in bytes */
+    uint32_t headroom;   /* headroom, at 20: bytes of each chunk that belong to the application */
+    uint32_t interface;  /* ifindex, at 24: index of the interface that it is bound to */
+    uint32_t queue;      /* queue_id, at 28: queue of the interface */
+    uint32_t flags;      /* flags, at 32: bit XDP_DU_F_ZEROCOPY */
+    uint32_t references; /* refs, at 36: number of sockets that share it */
 };
 
-/* What an XDP socket counted, struct xdp_diag_stats of linux/xdp_diag.h. */
+/* Counters of an XDP socket, struct xdp_diag_stats of linux/xdp_diag.h. */
 struct sockdiag_xdp_statistics {
-    uint64_t received_dropped; /* n_rx_dropped, at 0: packets dropped for another reason than the next two */
-    uint64_t received_invalid; /* n_rx_invalid, at 8: packets with a bad address of a frame */
-    uint64_t received_full;    /* n_rx_full, at 16: packets dropped since the ring was full */
-    uint64_t fill_ring_empty;  /* n_fill_ring_empty, at 24: packets without a frame to fill */
-    uint64_t sent_invalid;     /* n_tx_invalid, at 32: bad addresses of frames to send */
-    uint64_t send_ring_empty;  /* n_tx_ring_empty, at 40: how often nothing was there to send */
+    uint64_t received_dropped; /* n_rx_dropped, at 0: packets dropped for reasons other than the next two */
+    uint64_t received_invalid; /* n_rx_invalid, at 8: packets with an invalid frame address */
+    uint64_t received_full;    /* n_rx_full, at 16: packets dropped because the ring was full */
+    uint64_t fill_ring_empty;  /* n_fill_ring_empty, at 24: packets for which the fill ring had no frame */
+    uint64_t sent_invalid;     /* n_tx_invalid, at 32: invalid addresses of frames to send */
+    uint64_t send_ring_empty;  /* n_tx_ring_empty, at 40: number of times that the ring had nothing to send */
 };
 
-/* All that a reply tells about an XDP socket, by the attributes of linux/xdp_diag.h. Of a ring it is told how many entries
- * it has. */
+/* Everything that a reply says of an XDP socket, by the attributes of linux/xdp_diag.h. The value of a ring is its
+ * number of entries. */
 struct sockdiag_xdp_details {
     struct sockdiag_xdp_header header;
-    uint32_t has_info;                         /* 1 where info is told, else 0 */
+    uint32_t has_info;                         /* 1 if info is set, else 0 */
     struct sockdiag_xdp_info info;             /* XDP_DIAG_INFO */
-    struct sockdiag_number owner;              /* XDP_DIAG_UID: the user that the socket belongs to */
-    struct sockdiag_number receive_ring;       /* XDP_DIAG_RX_RING: the ring for what is received */
-    struct sockdiag_number send_ring;          /* XDP_DIAG_TX_RING: the ring for what is sent */
-    uint32_t has_umem;                         /* 1 where umem is told, else 0 */
+    struct sockdiag_number owner;              /* XDP_DIAG_UID: user id of the owner */
+    struct sockdiag_number receive_ring;       /* XDP_DIAG_RX_RING: receive ring */
+    struct sockdiag_number send_ring;          /* XDP_DIAG_TX_RING: transmit ring */
+    uint32_t has_umem;                         /* 1 if umem is set, else 0 */
     struct sockdiag_xdp_umem umem;             /* XDP_DIAG_UMEM */
-    struct sockdiag_number fill_ring;          /* XDP_DIAG_UMEM_FILL_RING: the ring that gives frames to the kernel */
-    struct sockdiag_number completion_ring;    /* XDP_DIAG_UMEM_COMPLETION_RING: the ring that gives them back */
+    struct sockdiag_number fill_ring;          /* XDP_DIAG_UMEM_FILL_RING: ring that passes frames to the kernel */
+    struct sockdiag_number completion_ring;    /* XDP_DIAG_UMEM_COMPLETION_RING: ring that returns them */
     struct sockdiag_memory memory;             /* XDP_DIAG_MEMINFO */
-    uint32_t has_statistics;                   /* 1 where statistics is told, else 0 */
+    uint32_t has_statistics;                   /* 1 if statistics is set, else 0 */
     struct sockdiag_xdp_statistics statistics; /* XDP_DIAG_STATS */
 };
 
 /*
- * Check the whole of a reply, and tell all that it says. The family, the payload's first byte, is not looked at: a caller
- * chooses the call by it. The answer is 0, or the first fault's number, and then *details is as it was. Of several
- * attributes of a kind the first counts; an attribute of another kind is no fault, and a walk tells it. Of a record,
- * bytes behind its last field are passed over: later kernels tell more. A record that isn't told is as it was. Texts
- * stand in the payload. Walk over a dump by sockdiag_next_envelope: sockdiag_next_message refuses these replies.
+ * Checks a whole reply, and returns everything that it says. The family, which is the first byte of the payload, is not
+ * checked: use it to choose the call. Returns 0, or the code of the first error; then *details is unchanged. If the
+ * reply has several attributes of a kind, the first one counts. An attribute of another kind is not an error;
+ * sockdiag_next_attribute returns it. Bytes after the last field of a record are ignored, since newer kernels send
+ * more. A record that the reply does not contain is left unchanged. Texts point into the payload. Iterate over a dump
+ * by sockdiag_next_envelope: sockdiag_next_message rejects these replies.
  *
- * Fewer bytes than the header has are SOCKDIAG_BUFFER_TOO_SMALL. Behind the framing of all attributes, 7 to 9, values are
- * looked at in the order of their kinds: one that is shorter than its record is SOCKDIAG_BUFFER_TOO_SMALL, and a number
- * that isn't in 4 bytes SOCKDIAG_WRONG_LENGTH.
+ * A payload that is shorter than the header is rejected with SOCKDIAG_BUFFER_TOO_SMALL. Then the framing of all
+ * attributes is checked, with errors 7 to 9. Then values are checked in the order of their kinds. A value that is
+ * shorter than its record is SOCKDIAG_BUFFER_TOO_SMALL, and a number that does not have 4 bytes is
+ * SOCKDIAG_WRONG_LENGTH.
  */
 uint32_t sockdiag_netlink_get_details(const uint8_t *payload, size_t length, struct sockdiag_netlink_details *details);
 uint32_t sockdiag_packet_get_details(const uint8_t *payload, size_t length, struct sockdiag_packet_details *details);
 uint32_t sockdiag_vsock_get_details(const uint8_t *payload, size_t length, struct sockdiag_vsock_header *details);
 uint32_t sockdiag_xdp_get_details(const uint8_t *payload, size_t length, struct sockdiag_xdp_details *details);
 
-/* ---- walks */
+/* ---- iteration */
 
-/* How far a walk is. A walk over a whole string begins at place 0. */
+/* State of an iteration. An iteration over all of the bytes starts with place 0. */
 struct sockdiag_cursor {
-    size_t place; /* where the next item stands; at the end of the bytes or behind it none is left */
+    size_t place; /* offset of the next item; no items are left if it is at or after the end of the bytes */
 };
 
-/* An attribute, struct nlattr, by where its value stands in the bytes of the walk. */
+/* An attribute, struct nlattr, with the offset of its value in the bytes of the iteration. */
 struct sockdiag_attribute {
-    size_t offset;      /* where the value begins */
-    size_t length;      /* how many bytes it has, without padding */
-    uint16_t type_word; /* the kind, such as UNIX_DIAG_NAME; its two upper bits are flags, NLA_F_NESTED and
-                           NLA_F_NET_BYTEORDER */
+    size_t offset;      /* offset of the value */
+    size_t length;      /* length of the value in bytes, without padding */
+    uint16_t type_word; /* type field (nla_type): the kind, such as UNIX_DIAG_NAME; the two upper bits are the flags
+                           NLA_F_NESTED and NLA_F_NET_BYTEORDER */
 };
 
 /*
- * Tells the attribute at the cursor's place and moves the cursor behind it and its padding. In a checked reply that is
- * walked from the end of its header the answer is 1 for each attribute, in order, and then 0.
+ * Stores the attribute at the cursor in *attribute, and advances the cursor past it and its padding. In a checked
+ * reply, starting at the end of its header, the return value is 1 for each attribute, in order, and then 0.
  *
- * The answer is 1; or 0 where no bytes are left, and then nothing is written; or the number of the fault of the framing
- * there, 7 to 9, and then *attribute is as it was, and nothing is left. The value isn't looked at.
+ * Returns 1; or 0 if no bytes are left, and then nothing is written; or the code of the framing error there, 7 to 9,
+ * and then *attribute is unchanged, and nothing is left. The value is not checked.
  */
 uint32_t sockdiag_next_attribute(const uint8_t *bytes, size_t length, struct sockdiag_cursor *cursor,
                                  struct sockdiag_attribute *attribute);
 
-/* A message of a datagram, by where its payload stands in the datagram, with what its header tells. */
+/* A message of a datagram, with the offset of its payload in the datagram, and the fields of its header. */
 struct sockdiag_message {
-    size_t offset;            /* where the payload begins */
-    size_t length;            /* how many bytes it has, without padding: the length word less 16 */
+    size_t offset;            /* offset of the payload */
+    size_t length;            /* length of the payload in bytes, without padding: the length field (nlmsg_len) minus
+                                 16 */
     uint16_t message_type;    /* NLMSG_NOOP, NLMSG_ERROR, NLMSG_DONE or NLMSG_OVERRUN of netlink(7), or
-                                 SOCK_DIAG_BY_FAMILY for a reply; any other where the payload is refused */
-    uint16_t flags;           /* the NLM_F_ flags */
-    uint32_t sequence_number; /* the sender's number, that of the request in its replies */
-    uint32_t port_number;     /* the port of the sender, 0 for the kernel */
+                                 SOCK_DIAG_BY_FAMILY for a reply; sockdiag_next_message rejects the payload of any other
+                                 type */
+    uint16_t flags;           /* flags NLM_F_.. */
+    uint32_t sequence_number; /* sequence number; a reply repeats the number of its request */
+    uint32_t port_number;     /* port id of the sender, 0 for the kernel */
 };
 
 /*
- * Tells the message at the cursor's place and moves the cursor behind it and its padding.
+ * Stores the message at the cursor in *message, and advances the cursor past it and its padding.
  *
- * The answer is 1 where it is of one of the four NLMSG_ types, or a reply that sockdiag_check_message accepts; or 0 where
- * no bytes are left, and then nothing is written; or the number of the first fault of the payload of a message of any
- * other type, and then the message is told nevertheless and the walk may go on; or the number of the fault of the framing
- * there, 16 to 18, and then *message is as it was, and nothing is left. The end of a dump doesn't end the walk.
+ * Returns one of:
+ * - 1 if the message has one of the four NLMSG_ types, or is a reply that sockdiag_check_message accepts;
+ * - 0 if no bytes are left, and then nothing is written;
+ * - the code of the first error of the payload of a message of any other type; *message is set nevertheless, and the
+ *   iteration may continue;
+ * - the code of the framing error there, 16 to 18, and then *message is unchanged, and nothing is left.
+ *
+ * The end of a dump, NLMSG_DONE, does not end the iteration.
  */
 uint32_t sockdiag_next_message(const uint8_t *datagram, size_t length, struct sockdiag_cursor *cursor,
                                struct sockdiag_message *message);
 
 /*
- * The same without a look at the payload: the answer is 1 for a message of any type. A dump whose replies are told by
- * sockdiag_unix_get_details and the like is checked once so.
+ * Does the same without a check of the payload: returns 1 for a message of any type. If the replies of a dump are
+ * passed to sockdiag_unix_get_details and similar calls, each is checked only once in this way.
  */
 uint32_t sockdiag_next_envelope(const uint8_t *datagram, size_t length, struct sockdiag_cursor *cursor,
                                 struct sockdiag_message *message);
 
 /*
- * Tells the number that the payload of NLMSG_ERROR or NLMSG_DONE begins with: 0 where all went well, else -errno. The answer
- * is 1; or 0 where the payload has fewer than four bytes, and then *number is as it was.
+ * Stores in *number the number that the payload of NLMSG_ERROR or NLMSG_DONE begins with: 0 for success, else -errno.
+ * Returns 1; or 0 if the payload has fewer than four bytes, and then *number is unchanged.
  */
 uint32_t sockdiag_get_error_number(const uint8_t *payload, size_t length, int32_t *number);
 
 /* ---- requests */
 
-/* What the netlink header of a request tells. Its length and its type, SOCK_DIAG_BY_FAMILY, follow from the request. */
+/* Fields of the netlink header of a request. The length and the type, SOCK_DIAG_BY_FAMILY, are set by the call that
+ * writes the request. */
 struct sockdiag_request_header {
-    uint16_t flags;           /* NLM_F_REQUEST, and NLM_F_DUMP where all sockets are asked for */
-    uint32_t sequence_number; /* the sender's number, which the replies repeat */
-    uint32_t port_number;     /* the port of the sender, or 0 */
+    uint16_t flags;           /* NLM_F_REQUEST, and NLM_F_DUMP to request all sockets */
+    uint32_t sequence_number; /* sequence number of the sender, which the replies repeat */
+    uint32_t port_number;     /* port id of the sender, or 0 */
 };
 
-/* The request for UNIX sockets, struct unix_diag_req of sock_diag(7). */
+/* Request for UNIX sockets, struct unix_diag_req of sock_diag(7). */
 struct sockdiag_unix_request {
     struct sockdiag_request_header header;
-    uint32_t states;   /* a set of states, the bit of each that of its number: 1 << TCP_LISTEN */
-    uint32_t inode;    /* the inode of a single socket */
-    uint32_t show;     /* which attributes the replies shall have, UDIAG_SHOW_.. */
-    uint8_t cookie[8]; /* tells a single socket from others of its inode */
+    uint32_t states;   /* udiag_states: states to include, bit 1 << TCP_LISTEN for TCP_LISTEN */
+    uint32_t inode;    /* udiag_ino: inode, to request a single socket */
+    uint32_t show;     /* udiag_show: attributes that the replies shall have, UDIAG_SHOW_.. */
+    uint8_t cookie[8]; /* udiag_cookie: to request a single socket, distinguishes sockets with the same inode */
 };
 
-/* The request for IPv4 or IPv6 sockets, struct inet_diag_req_v2 of sock_diag(7). */
+/* Request for IPv4 or IPv6 sockets, struct inet_diag_req_v2 of sock_diag(7). */
 struct sockdiag_inet_request {
     struct sockdiag_request_header header;
     uint8_t family;                  /* AF_INET or AF_INET6 */
-    uint8_t extensions;              /* which attributes the replies shall have, the bit of each that of its kind less 1 */
-    uint32_t protocol;               /* one of IPPROTO_..; one above 255, such as IPPROTO_MPTCP, is told by the attribute
-                                        INET_DIAG_REQ_PROTOCOL, and its low byte in the record: that of IPPROTO_MPTCP is
-                                        IPPROTO_TCP, which a kernel without MPTCP goes by */
-    uint32_t states;                 /* a set of states, the bit of each that of its number */
-    uint16_t source_port;            /* the port of this end */
-    uint16_t destination_port;       /* the port of the other end */
-    uint8_t source_address[16];      /* the address of this end: under AF_INET the first four octets */
-    uint8_t destination_address[16]; /* the address of the other end, likewise */
-    uint32_t interface_id;           /* the interface that the socket is bound to, or 0 */
-    uint8_t cookie[8];               /* tells the socket from others; eight times 0xff is INET_DIAG_NOCOOKIE */
+    uint8_t extensions;              /* idiag_ext: attributes that the replies shall have, bit 1 << (kind - 1) for each
+                                        kind */
+    uint32_t protocol;               /* one of IPPROTO_... A protocol above 255, such as IPPROTO_MPTCP, is written as an
+                                        attribute INET_DIAG_REQ_PROTOCOL, and its low byte in the record. For
+                                        IPPROTO_MPTCP the low byte is IPPROTO_TCP, which a kernel without MPTCP uses */
+    uint32_t states;                 /* idiag_states: states to include, bit 1 << TCP_LISTEN for TCP_LISTEN */
+    uint16_t source_port;            /* local port */
+    uint16_t destination_port;       /* remote port */
+    uint8_t source_address[16];      /* local address; for AF_INET the first four bytes */
+    uint8_t destination_address[16]; /* remote address, in the same format */
+    uint32_t interface_id;           /* index of the interface that the socket is bound to, or 0 */
+    uint8_t cookie[8];               /* distinguishes sockets with the same addresses and ports; eight bytes 0xff are
+                                        INET_DIAG_NOCOOKIE */
 };
 
-/* How many bytes a request has, and the most that one for internet sockets has without attributes of yours: 72 where its
- * protocol is below 256. */
+/* Length of a UNIX request, and maximum length of an internet request without attributes of the caller, in bytes.
+ * The latter has 72 bytes if its protocol is below 256. */
 #define SOCKDIAG_UNIX_REQUEST_LENGTH 40
 #define SOCKDIAG_INET_REQUEST_LENGTH 80
 
 /*
- * Write a request at the front of the buffer, a whole netlink message, and leave what stands behind it. All bits of flags
- * and sets are written as they are. The answer is how many bytes were written; or 0 where the buffer has fewer, or the
- * family is neither AF_INET nor AF_INET6, and then nothing is written.
+ * Writes a request, a whole netlink message, at the start of the buffer. The rest of the buffer is unchanged. All bits
+ * of flags and of bit sets are written unchanged. Returns the number of bytes that were written; or 0 if the buffer is
+ * shorter than the request, or if the family is neither AF_INET nor AF_INET6, and then nothing is written.
  */
 size_t sockdiag_write_unix_request(const struct sockdiag_unix_request *request, uint8_t *buffer, size_t length);
 size_t sockdiag_write_inet_request(const struct sockdiag_inet_request *request, uint8_t *buffer, size_t length);
 
 /*
- * The same, of a request under the type SOCK_DESTROY: that the kernel close the socket, or the sockets, that the request
- * tells. Its flags are NLM_F_REQUEST, and NLM_F_ACK where success shall be told too. The kernel closes TCP, UDP and raw
- * sockets of a caller that may (CAP_NET_ADMIN), and answers EOPNOTSUPP for UNIX sockets.
+ * Writes the same request with the type SOCK_DESTROY, which requests the kernel to close the selected socket or
+ * sockets. The flags are NLM_F_REQUEST, and NLM_F_ACK to have success acknowledged. The kernel closes TCP, UDP and raw
+ * sockets if the caller has CAP_NET_ADMIN. For UNIX sockets it returns EOPNOTSUPP.
  */
 size_t sockdiag_write_unix_destroy(const struct sockdiag_unix_request *request, uint8_t *buffer, size_t length);
 size_t sockdiag_write_inet_destroy(const struct sockdiag_inet_request *request, uint8_t *buffer, size_t length);
 
-/* The request for netlink, packet or XDP sockets: struct netlink_diag_req, packet_diag_req or xdp_diag_req of their
- * headers. The kernel lists such sockets alone: it looks at neither the inode nor the cookie. */
+/* Request for netlink, packet or XDP sockets: struct netlink_diag_req, packet_diag_req or xdp_diag_req of
+ * linux/netlink_diag.h, linux/packet_diag.h or linux/xdp_diag.h. The kernel can only list these sockets: it ignores
+ * the inode and the cookie. */
 struct sockdiag_show_request {
     struct sockdiag_request_header header;
     uint8_t family;   /* sdiag_family, at 0: AF_NETLINK, AF_PACKET or AF_XDP */
-    uint8_t protocol; /* sdiag_protocol, at 1: one of NETLINK_.. or NDIAG_PROTO_ALL, else 0 */
-    uint32_t inode;   /* .._ino, at 4: the inode of a single socket */
-    uint32_t show;    /* .._show, at 8: which attributes the replies shall have, NDIAG_SHOW_.., PACKET_SHOW_.. or
+    uint8_t protocol; /* sdiag_protocol, at 1: for AF_NETLINK one of NETLINK_.. or NDIAG_PROTO_ALL, else 0 */
+    uint32_t inode;   /* .._ino, at 4: inode, to request a single socket */
+    uint32_t show;    /* .._show, at 8: attributes that the replies shall have, NDIAG_SHOW_.., PACKET_SHOW_.. or
                          XDP_SHOW_.. */
-    uint64_t cookie;  /* .._cookie, at 12: tells a single socket from others of its inode */
+    uint64_t cookie;  /* .._cookie, at 12: to request a single socket, distinguishes sockets with the same inode */
 };
 
-/* The request for vsock sockets, struct vsock_diag_req of linux/vm_sockets_diag.h. The kernel doesn't look at the cookie. */
+/* Request for vsock sockets, struct vsock_diag_req of linux/vm_sockets_diag.h. The kernel ignores the cookie. */
 struct sockdiag_vsock_request {
     struct sockdiag_request_header header;
-    uint32_t states; /* vdiag_states, at 4: a set of states, the bit of each that of its number */
-    uint64_t cookie; /* vdiag_cookie, at 16: tells a socket from others */
+    uint32_t states; /* vdiag_states, at 4: states to include, bit 1 << TCP_LISTEN for TCP_LISTEN */
+    uint64_t cookie; /* vdiag_cookie, at 16: distinguishes sockets */
 };
 
 #define SOCKDIAG_SHOW_REQUEST_LENGTH 36
 #define SOCKDIAG_VSOCK_REQUEST_LENGTH 40
 
 /*
- * Write such a request, as sockdiag_write_unix_request does. The answer is how many bytes were written; or 0 where the
- * buffer has fewer, or the family is none of AF_NETLINK, AF_PACKET and AF_XDP, and then nothing is written.
+ * Writes such a request, as sockdiag_write_unix_request does. Returns the number of bytes that were written; or 0 if
+ * the buffer is shorter than the request, or if the family is none of AF_NETLINK, AF_PACKET and AF_XDP, and then
+ * nothing is written.
  */
 size_t sockdiag_write_show_request(const struct sockdiag_show_request *request, uint8_t *buffer, size_t length);
 size_t sockdiag_write_vsock_request(const struct sockdiag_vsock_request *request, uint8_t *buffer, size_t length);
 
-/* What became of bytes that were given to be written. */
+/* Outcome of a call that writes bytes derived from the caller's bytes. */
 struct sockdiag_outcome {
-    uint32_t fault; /* the first fault's number where they are refused, else 0 */
-    size_t needed;  /* how many bytes are to be written; 0 where the given ones are refused, or can't be written */
+    uint32_t fault; /* code of the first error if the caller's bytes are rejected, else 0 */
+    size_t needed;  /* number of bytes to write; 0 if the caller's bytes are rejected, or cannot be serialized */
 };
 
 /*
- * Write the request for internet sockets, and behind it attributes that the caller gives, with zeros up to a multiple of 4:
- * the bytecode of a filter, INET_DIAG_REQ_BYTECODE of linux/inet_diag.h, which the kernel runs over each socket. The bytes
- * have to be whole attributes one after the other; what they say isn't looked at.
+ * Writes the request for internet sockets, followed by attributes of the caller, and zeros up to a multiple of 4. Such
+ * an attribute is the bytecode of a filter, INET_DIAG_REQ_BYTECODE of linux/inet_diag.h, which the kernel runs on each
+ * socket. The bytes have to be a sequence of complete attributes. Their values are not checked.
  *
- * The answer is how many bytes were written. It is 0 where nothing was: the attributes are refused, and fault tells why, 7
- * to 9; or the family is neither AF_INET nor AF_INET6, or all together is longer than a length word counts, and fault and
- * needed are 0; or the buffer is shorter than needed, which tells how many bytes it has to have. *outcome is set in any case.
+ * Returns the number of bytes that were written. Returns 0 if nothing was written, for one of three reasons:
+ * - The attributes are rejected. fault is the code of the error, 7 to 9.
+ * - The family is neither AF_INET nor AF_INET6, or the whole is too long for a length field. fault and needed are 0.
+ * - The buffer is shorter than needed, which is the number of bytes that it has to have.
+ *
+ * *outcome is set in any case.
  */
 size_t sockdiag_write_inet_request_with_attributes(const struct sockdiag_inet_request *request, const uint8_t *attributes,
                                                    size_t length, uint8_t *buffer, size_t buffer_length,
@@ -653,12 +689,17 @@ size_t sockdiag_write_inet_request_with_attributes(const struct sockdiag_inet_re
 /* ---- the canonical form */
 
 /*
- * Write the canonical form of a reply at the front of the buffer, and leave what stands behind it: one string for all
- * strings that differ in idle details alone, as undefined flags, pads, padding and bytes that no reader looks at.
+ * Writes the canonical form of a reply at the start of the buffer. The rest of the buffer is unchanged. All replies
+ * that differ only in ignored bits have the same canonical form. Ignored bits are undefined flags, pad fields, padding,
+ * and bytes that no parser reads, for example.
  *
- * The answer is how many bytes were written. It is 0 where nothing was: the reply is refused, fault tells why; or it can't
- * be written, since a length has no room for a value that is longer than it came, fault and needed are 0; or the buffer is
- * shorter than needed, which tells how many bytes it has to have. *outcome is set in any case.
+ * Returns the number of bytes that were written. Returns 0 if nothing was written, for one of three reasons:
+ * - The reply is rejected. fault is the code of the error.
+ * - The reply cannot be serialized, because a value is longer than it was in the reply, and too long for its length
+ *   field. fault and needed are 0.
+ * - The buffer is shorter than needed, which is the number of bytes that it has to have.
+ *
+ * *outcome is set in any case.
  */
 size_t sockdiag_rewrite_unix_reply(const uint8_t *payload, size_t length, uint8_t *buffer, size_t buffer_length,
                                    struct sockdiag_outcome *outcome);

@@ -1,7 +1,7 @@
 /*
- * Calls each function of include/sockdiag.h once with what it accepts and with what it refuses. The bytes are worked out
- * by hand from the layouts of sock_diag(7), netlink(7) and the kernel's headers, or are what Linux sent.
- * tests/c_face.sh builds and runs it.
+ * Calls the functions of include/sockdiag.h, except sockdiag_next_envelope, with input that they accept, and most of
+ * them also with input that they reject. The bytes are worked out by hand from the layouts of sock_diag(7), netlink(7)
+ * and the kernel's headers, or were sent by Linux. tests/c_face.sh builds and runs this program.
  */
 #include "sockdiag.h"
 
@@ -17,8 +17,9 @@ static void check(int holds, const char *what) {
     }
 }
 
-/* A reply about a UNIX socket: type 1, state 10, inode 0x11223344, a pathname "/a" with its zero and one byte of padding,
- * and a peer. The byte at 3, which no reader looks at, and the padding are not zero. */
+/* A reply about a UNIX socket: type 1, state 10, inode 0x11223344, a pathname "/a" with its NUL and one byte of
+ * padding, a peer, and an attribute of type 0x63 without a value. The padding and the byte at offset 3, which no
+ * parser reads, are not zero. */
 static const uint8_t unix_reply[36] = {
     1, 1, 10, 0xee, 0x44, 0x33, 0x22, 0x11, 1, 2, 3, 4, 5, 6, 7, 8,
     7, 0, 0, 0, '/', 'a', 0, 0xff,
@@ -26,8 +27,8 @@ static const uint8_t unix_reply[36] = {
     4, 0, 0x63, 0,
 };
 
-/* The header of a reply about an IPv4 socket: state 1, the timer 1 with 3 retransmits and 200 milliseconds, from
- * 127.0.0.1 port 80 to 10.0.0.2 port 49152. Behind the addresses stand bytes that no reader looks at. */
+/* The header of a reply about an IPv4 socket: state 1, timer 1 with 3 retransmissions and 200 milliseconds, from
+ * 127.0.0.1 port 80 to 10.0.0.2 port 49152. Each address is followed by bytes that no parser reads. */
 static const uint8_t inet_reply[72] = {
     2, 1, 1, 3, 0, 80, 0xc0, 0,
     127, 0, 0, 1, 9, 9, 9, 9, 9, 9, 9, 9, 9, 9, 9, 9,
@@ -85,7 +86,7 @@ static void checks_messages(void) {
     check(reply.unix_header.inode == 0x11223344, "the other header changes");
 }
 
-/* Puts an attribute at a place, and returns the place behind its padding. */
+/* Writes an attribute at an offset, and returns the offset after its padding. */
 static size_t put(uint8_t *bytes, size_t at, uint8_t kind, const char *value, size_t length) {
     memset(bytes + at, 0, length + 7);
     bytes[at] = (uint8_t)(4 + length);
@@ -174,7 +175,7 @@ static void tells_inet_details(void) {
     check(sockdiag_inet_get_tcp_info(NULL, 0, &info) == 0 && info.backoff == 0, "nothing at a null pointer");
 }
 
-/* The bytes that hexadecimal digits tell. */
+/* Converts hexadecimal digits to bytes, and returns how many bytes there are. */
 static size_t unhex(const char *digits, uint8_t *bytes) {
     size_t length = strlen(digits) / 2, at;
     unsigned byte = 0;
@@ -185,7 +186,7 @@ static size_t unhex(const char *digits, uint8_t *bytes) {
     return length;
 }
 
-/* What Linux 6.18 sent about a socket of the route protocol that listens to the groups 1 and 5. */
+/* A reply that Linux 6.18 sent about a NETLINK_ROUTE socket that listens to the groups 1 and 5. */
 static void tells_netlink_details(void) {
     uint8_t bytes[256];
     struct sockdiag_netlink_details details, before;
@@ -209,7 +210,8 @@ static void tells_netlink_details(void) {
     check(details.groups.kind == 0 && details.memory.options.is_told == 0, "neither groups nor memory");
 }
 
-/* What it sent about a socket for IPv4 packets of the loopback interface, with a ring, a filter and a fanout. */
+/* A reply that it sent about a socket for IPv4 packets of the loopback interface, with a ring, a filter and a
+ * fanout. */
 static void tells_packet_details(void) {
     uint8_t bytes[256];
     struct sockdiag_packet_details details;
@@ -236,7 +238,8 @@ static void tells_packet_details(void) {
     check(sockdiag_packet_get_details(bytes, 40, &details) == SOCKDIAG_BUFFER_TOO_SMALL, "a record of 19 bytes");
 }
 
-/* A listening socket of the host at port 22, and a socket at queue 1 of interface 3, with rings, memory and counts. */
+/* A reply about a listening socket of the host at port 22, and one about a socket at queue 1 of interface 3, with
+ * rings, memory and counters. */
 static void tells_vsock_and_xdp_details(void) {
     uint8_t bytes[256];
     struct sockdiag_vsock_header vsock;
@@ -294,7 +297,8 @@ static void walks_attributes(void) {
     check(sockdiag_next_attribute(unix_reply, 31, &cursor, &attribute) == 0, "a walk goes on behind a fault");
 }
 
-/* Four messages: a reply, one of nothing, a payload that is refused, and the end of a dump. Two bytes are left. */
+/* Writes four messages and two more bytes: a reply, an NLMSG_NOOP, a message whose payload is rejected, and the end
+ * of a dump. */
 static size_t make_datagram(uint8_t *bytes) {
     static const uint8_t headers[4][16] = {
         {52, 0, 0, 0, 20, 0, 2, 0, 7, 0, 0, 0, 9, 0, 0, 0},

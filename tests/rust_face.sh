@@ -1,13 +1,13 @@
 #!/bin/sh
-# Tests rust/sockdiag over the library for C, offline, and under valgrind too where it is installed, and lists this
-# machine's sockets by its example. It builds the library first where that isn't done, and needs cargo. tools/release runs
-# it, and tests/c_header.py, of the gate, where the library takes seconds to build.
+# Tests rust/sockdiag with the C library, offline, and also under valgrind if it is installed. Then lists the sockets of
+# this machine by its example. Builds the C library first if it is missing. Needs cargo. tools/release runs this script.
+# So does tests/c_header.py, which the gate runs, if the library takes only seconds to build.
 set -eu
 top=$(CDPATH='' cd -- "$(dirname -- "$0")/.." && pwd)
 work=$(mktemp -d)
 trap 'rm -rf "$work"' EXIT
 
-# What a command prints is told where it fails.
+# Runs a command, and prints its output only if it fails.
 quiet() {
     "$@" >"$work/log" 2>&1 || { cat "$work/log" >&2; exit 1; }
 }
@@ -19,11 +19,11 @@ if command -v valgrind >/dev/null; then
     quiet env CARGO_TARGET_X86_64_UNKNOWN_LINUX_GNU_RUNNER='valgrind -q --error-exitcode=1' \
         cargo test --offline --test replies
 fi
-echo "rust_face: each test passes"
+echo "rust_face: all tests pass"
 quiet cargo build --offline --example list_sockets
-if cargo run --offline --quiet --example list_sockets >"$work/sockets" 2>"$work/told"; then
-    echo "list_sockets: $(wc -l <"$work/sockets") sockets, the first of them:"
+if cargo run --offline --quiet --example list_sockets >"$work/sockets" 2>"$work/errors"; then
+    echo "list_sockets: $(wc -l <"$work/sockets") sockets, beginning with:"
     head -n 5 "$work/sockets"
 else
-    echo "list_sockets: the kernel doesn't let it ask: $(cat "$work/told")"
+    echo "list_sockets: the request failed: $(cat "$work/errors")"
 fi

@@ -1,5 +1,6 @@
-//! Links the library for C: `libsockdiag.a` of the folder that `SOCKDIAG_LIB_DIR` names, where
-//! `tools/install` puts it, or else what `rt lib` builds in `crates/sockdiag_c` of the sources.
+//! Links the C library. If `SOCKDIAG_LIB_DIR` is set, links `libsockdiag.a` in this folder, where
+//! `tools/install` installs it. Else links the library that `rt lib` builds in `crates/sockdiag_c`
+//! of the sources.
 
 use std::env;
 use std::path::PathBuf;

@@ -1,7 +1,7 @@
-//! Lists the sockets that the kernel tells: one line for each UNIX socket, and for each TCP, UDP
-//! and MPTCP socket over IPv4 and IPv6.
+//! Lists the sockets of this machine: one line for each UNIX socket, and for each TCP, UDP and
+//! MPTCP socket over IPv4 and IPv6.
 //!
-//! The library opens no socket: this example does, by the calls of the C library.
+//! The crate opens no socket. This example does, by calls of the C library.
 
 use sockdiag::constants::{AF_INET, AF_INET6, IPPROTO_MPTCP, IPPROTO_TCP, IPPROTO_UDP};
 use sockdiag::constants::{NLM_F_DUMP, NLM_F_REQUEST};
@@ -25,13 +25,14 @@ extern "C" {
 }
 
 fn open() -> io::Result<File> {
-    // SAFETY: socket(2) takes three numbers and touches no memory.
+    // SAFETY: socket(2) takes three numbers and accesses no memory.
     let fd = unsafe { socket(AF_NETLINK, SOCK_RAW | SOCK_CLOEXEC, NETLINK_SOCK_DIAG) };
     if fd < 0 {
         return Err(io::Error::last_os_error());
     }
-    // SAFETY: the descriptor is open, and nothing else owns it. Reads and writes of a file are
-    // read(2) and write(2), which a netlink socket takes as datagrams to and from the kernel.
+    // SAFETY: the descriptor is open, and nothing else owns it. Reads and writes of a `File` are
+    // read(2) and write(2). On a netlink socket they receive and send datagrams from and to the
+    // kernel.
     Ok(unsafe { File::from_raw_fd(fd) })
 }
 
@@ -77,7 +78,8 @@ fn print_inet(protocol: &str, reply: &InetReply<'_>) {
     println!();
 }
 
-/// Sends a request and prints its replies. A kernel without the protocol says `ENOENT` or `EINVAL`.
+/// Sends a request and prints its replies. A kernel that lacks the protocol sends `ENOENT` or
+/// `EINVAL`.
 fn list(kernel: &mut File, protocol: &str, request: &[u8]) -> io::Result<()> {
     let mut buffer = vec![0; 1 << 16];
     kernel.write_all(request)?;
@@ -91,7 +93,7 @@ fn list(kernel: &mut File, protocol: &str, request: &[u8]) -> io::Result<()> {
                 Ok(NetlinkPayload::InnerMessage(SockDiagMessage::InetResponse(reply))) => {
                     print_inet(protocol, &reply)
                 }
-                // A datagram of the kernel holds no request.
+                // The kernel sends no requests.
                 Ok(NetlinkPayload::InnerMessage(_)) => {}
                 Ok(NetlinkPayload::Done(Some(0))) => return Ok(()),
                 Ok(NetlinkPayload::Done(Some(errno)) | NetlinkPayload::Error(Some(errno))) => {

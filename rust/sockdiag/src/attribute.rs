@@ -1,28 +1,28 @@
-//! The attributes of a reply.
+//! Attributes of a reply.
 
 use crate::sys;
 use crate::DecodeError;
 use core::marker::PhantomData;
 
-/// An attribute, by its kind and its bytes: `struct nlattr` of the kernel.
+/// An attribute, as its kind and its bytes: `struct nlattr` of the kernel.
 #[derive(Clone, Copy, Debug, PartialEq, Eq)]
 pub struct Attribute<'a> {
-    /// The type word: the kind, such as `UNIX_DIAG_NAME`, under two flag bits.
+    /// The type field (`nla_type`): the kind, such as `UNIX_DIAG_NAME`, and two flag bits above it.
     pub type_word: u16,
     /// The value, without padding.
     pub value: &'a [u8],
 }
 
 impl Attribute<'_> {
-    /// The kind: the type word without its two flag bits.
+    /// Returns the kind: the type field without its two flag bits.
     pub fn kind(&self) -> u16 {
         self.type_word & 0x3fff
     }
 }
 
-/// A walk over attributes that stand one after the other, in the order that they came.
+/// An iterator over consecutive attributes, in order.
 ///
-/// Of a reply that is read there is no fault. Behind a fault nothing is given.
+/// It yields no error for the attributes of a parsed reply. After an error it yields nothing.
 ///
 /// ```
 /// let bytes = [8, 0, 2, 0, 0x4e, 0, 0, 0, 5, 0, 6, 0, 3];
@@ -39,12 +39,12 @@ pub struct Attributes<'a> {
 }
 
 impl<'a> Attributes<'a> {
-    /// The walk over these bytes.
+    /// Returns an iterator over the attributes in these bytes.
     pub fn new(bytes: &'a [u8]) -> Self {
         Attributes::behind(bytes, 0)
     }
 
-    /// The walk behind a header of so many bytes.
+    /// Returns an iterator over the attributes after a header of `place` bytes.
     pub(crate) fn behind(bytes: &'a [u8], place: usize) -> Self {
         Attributes { bytes, place }
     }
@@ -67,7 +67,7 @@ impl<'a> Iterator for Attributes<'a> {
 
 impl core::iter::FusedIterator for Attributes<'_> {}
 
-/// What the attributes of a reply say, each an `N`, in the order that they came.
+/// The decoded attributes of a reply, each an `N`, in order.
 #[derive(Clone, Copy, Debug, PartialEq, Eq)]
 pub struct Nlas<'a, N> {
     bytes: &'a [u8],
@@ -76,7 +76,7 @@ pub struct Nlas<'a, N> {
 }
 
 impl<'a, N: From<Attribute<'a>>> Nlas<'a, N> {
-    /// Those behind a header of so many bytes, of a reply that was checked.
+    /// Returns the attributes after a header of `place` bytes of a checked reply.
     pub(crate) fn behind(bytes: &'a [u8], place: usize) -> Self {
         Nlas {
             bytes,
@@ -85,7 +85,7 @@ impl<'a, N: From<Attribute<'a>>> Nlas<'a, N> {
         }
     }
 
-    /// A walk over them.
+    /// Returns an iterator over the decoded attributes.
     pub fn iter(&self) -> NlaWalk<'a, N> {
         NlaWalk {
             attributes: Attributes::behind(self.bytes, self.place),
@@ -93,12 +93,12 @@ impl<'a, N: From<Attribute<'a>>> Nlas<'a, N> {
         }
     }
 
-    /// How many there are. Each is passed.
+    /// Returns the number of attributes. Takes time linear in that number.
     pub fn len(&self) -> usize {
         self.iter().count()
     }
 
-    /// Whether there is none.
+    /// Returns whether there are no attributes.
     pub fn is_empty(&self) -> bool {
         self.iter().next().is_none()
     }
@@ -122,7 +122,7 @@ impl<'a, N: From<Attribute<'a>>> IntoIterator for &Nlas<'a, N> {
     }
 }
 
-/// A walk over what the attributes of a reply say.
+/// An iterator over the decoded attributes of a reply.
 #[derive(Clone, Debug)]
 pub struct NlaWalk<'a, N> {
     attributes: Attributes<'a>,
@@ -137,13 +137,13 @@ impl<'a, N: From<Attribute<'a>>> Iterator for NlaWalk<'a, N> {
     }
 }
 
-/// The number at a place in a row of words, the low byte first.
+/// Returns the little-endian `u32` at index `place` of an array of `u32`s, or `None` past its end.
 pub(crate) fn word(bytes: &[u8], place: usize) -> Option<u32> {
     let bytes = bytes.get(4 * place..)?.first_chunk()?;
     Some(u32::from_le_bytes(*bytes))
 }
 
-/// A walk over numbers that stand one after the other, each in four bytes.
+/// An iterator over consecutive numbers of four bytes each.
 #[derive(Clone, Copy, Debug, PartialEq, Eq)]
 pub struct Numbers<'a> {
     bytes: &'a [u8],

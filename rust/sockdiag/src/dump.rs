@@ -1,4 +1,4 @@
-//! Netlink messages, one after the other.
+//! Netlink messages, and iterators over the messages of a datagram.
 
 use crate::constants::{AF_NETLINK, AF_PACKET, AF_VSOCK, AF_XDP};
 use crate::constants::{NLMSG_DONE, NLMSG_ERROR, NLMSG_NOOP, NLMSG_OVERRUN, SOCK_DIAG_BY_FAMILY};
@@ -13,50 +13,52 @@ use crate::DecodeError;
 
 /// The header of a netlink message: `struct nlmsghdr` of netlink(7).
 ///
-/// A request is written under its own length and type, so that these two are read alone.
+/// A request is serialized with its own length and type. So these two fields have an effect only in
+/// parsed messages.
 #[derive(Clone, Copy, Debug, Default, PartialEq, Eq, Hash)]
 pub struct NetlinkHeader {
-    /// How many bytes the message has, those of its header among them.
+    /// Length of the message in bytes, including the header (`nlmsg_len`).
     pub length: u32,
-    /// What the payload is: one of the `NLMSG_` types, or `SOCK_DIAG_BY_FAMILY` for a reply.
+    /// Type of the payload (`nlmsg_type`): one of the `NLMSG_` types, or `SOCK_DIAG_BY_FAMILY` for
+    /// a reply.
     pub message_type: u16,
-    /// The `NLM_F_` flags.
+    /// The `NLM_F_` flags (`nlmsg_flags`).
     pub flags: u16,
-    /// The sender's number for the message, which a reply repeats.
+    /// Sequence number of the sender (`nlmsg_seq`), which a reply repeats.
     pub sequence_number: u32,
-    /// The port of the sender, 0 for the kernel.
+    /// Port id of the sender (`nlmsg_pid`), 0 for the kernel.
     pub port_number: u32,
 }
 
-/// A netlink message, whose payload is an `I` where it is of no control type.
+/// A netlink message. Its payload is an `I`, unless its type is a control type.
 #[derive(Clone, Copy, Debug)]
 pub struct NetlinkMessage<I> {
-    /// What the header tells.
+    /// The header.
     pub header: NetlinkHeader,
-    /// What the message carries.
+    /// The payload.
     pub payload: NetlinkPayload<I>,
 }
 
-/// A message of sock_diag(7), read in place.
+/// A message of sock_diag(7), borrowed from the bytes that were parsed.
 pub type Message<'a> = NetlinkMessage<SockDiagMessage<'a>>;
 
 impl<I> NetlinkMessage<I> {
-    /// A message with this header and payload.
+    /// Returns a message with this header and payload.
     pub fn new(header: NetlinkHeader, payload: NetlinkPayload<I>) -> Self {
         NetlinkMessage { header, payload }
     }
 }
 
 impl<'a> NetlinkMessage<SockDiagMessage<'a>> {
-    /// The message in front of the bytes. The next one stands behind `header.length` bytes, at a
-    /// multiple of 4; [`Dump`] gives each.
+    /// Parses the message at the start of the bytes. The next message is at offset `header.length`,
+    /// rounded up to a multiple of 4; [`Dump`] yields each message.
     pub fn deserialize(bytes: &'a [u8]) -> Result<Self, DecodeError> {
         Dump::new(bytes)
             .next()
             .unwrap_or(Err(DecodeError::EnvelopeCut))
     }
 
-    /// Sets the length and the type of a request in its header. Another message stays as it is.
+    /// Sets the length and the type of a request in its header. Leaves another message unchanged.
     pub fn finalize(&mut self) {
         if let Some(bytes) = self.request_bytes() {
             self.header.length = bytes.len() as u32;
@@ -64,13 +66,14 @@ impl<'a> NetlinkMessage<SockDiagMessage<'a>> {
         }
     }
 
-    /// How many bytes a request has. 0 for another message, which isn't written here.
+    /// Returns the length of a request in bytes. Returns 0 for another message, which this crate
+    /// does not serialize.
     pub fn buffer_len(&self) -> usize {
         self.request_bytes().map_or(0, |bytes| bytes.len())
     }
 
-    /// Writes a request at the front of the buffer, and tells how many bytes it has. `None`, and
-    /// nothing is written, where the buffer has fewer, or for another message.
+    /// Serializes a request to the start of the buffer, and returns its length in bytes. Returns
+    /// `None`, and writes nothing, if the buffer is shorter, or for another message.
     pub fn serialize(&self, buffer: &mut [u8]) -> Option<usize> {
         let bytes = self.request_bytes()?;
         buffer.get_mut(..bytes.len())?.copy_from_slice(&bytes);
@@ -90,17 +93,17 @@ impl<'a> NetlinkMessage<SockDiagMessage<'a>> {
     }
 }
 
-/// What a message carries, by its type.
+/// The payload of a message, by the type of the message.
 #[derive(Clone, Copy, Debug)]
 pub enum NetlinkPayload<I> {
-    /// Nothing.
+    /// `NLMSG_NOOP`: no content.
     Noop,
-    /// A request failed, with an errno under a minus sign, or is acknowledged, with 0. `None` where
-    /// the payload has fewer than four bytes.
+    /// `NLMSG_ERROR`: a request failed, with `-errno`, or is acknowledged, with 0. `None` if the
+    /// payload has fewer than four bytes.
     Error(Option<i32>),
-    /// A dump ends, with a number likewise.
+    /// `NLMSG_DONE`: the end of a dump, with a number as in `Error`.
     Done(Option<i32>),
-    /// Data was lost.
+    /// `NLMSG_OVERRUN`: data was lost.
     Overrun,
     /// A message of another type.
     InnerMessage(I),
@@ -112,48 +115,49 @@ impl<'a> From<SockDiagMessage<'a>> for NetlinkPayload<SockDiagMessage<'a>> {
     }
 }
 
-/// What a message of sock_diag(7) carries. Replies are read, in place, and requests are written.
+/// The payload of a message of sock_diag(7). Replies are parsed and borrowed, and requests are
+/// serialized.
 #[derive(Clone, Copy, Debug)]
-// A reply is read where it is needed, and no memory is taken for a box.
+// The variants are not boxed, since this crate does not allocate.
 #[allow(clippy::large_enum_variant)]
 pub enum SockDiagMessage<'a> {
-    /// Tells one UNIX socket.
+    /// A reply describing one UNIX socket.
     UnixResponse(UnixReply<'a>),
-    /// Tells one IPv4 or IPv6 socket.
+    /// A reply describing one IPv4 or IPv6 socket.
     InetResponse(InetReply<'a>),
-    /// Asks for UNIX sockets.
+    /// A request for UNIX sockets.
     UnixRequest(UnixRequest),
-    /// Asks for IPv4 or IPv6 sockets.
+    /// A request for IPv4 or IPv6 sockets.
     InetRequest(InetRequest),
 }
 
 impl<'a> SockDiagMessage<'a> {
-    /// Whether it asks for IPv4 or IPv6 sockets.
+    /// Returns whether this is a request for IPv4 or IPv6 sockets.
     pub fn is_inet_request(&self) -> bool {
         matches!(self, SockDiagMessage::InetRequest(_))
     }
 
-    /// Whether it tells an IPv4 or IPv6 socket.
+    /// Returns whether this is a reply describing an IPv4 or IPv6 socket.
     pub fn is_inet_response(&self) -> bool {
         matches!(self, SockDiagMessage::InetResponse(_))
     }
 
-    /// Whether it asks for UNIX sockets.
+    /// Returns whether this is a request for UNIX sockets.
     pub fn is_unix_request(&self) -> bool {
         matches!(self, SockDiagMessage::UnixRequest(_))
     }
 
-    /// Whether it tells a UNIX socket.
+    /// Returns whether this is a reply describing a UNIX socket.
     pub fn is_unix_response(&self) -> bool {
         matches!(self, SockDiagMessage::UnixResponse(_))
     }
 
-    /// `SOCK_DIAG_BY_FAMILY`.
+    /// Returns `SOCK_DIAG_BY_FAMILY`.
     pub fn message_type(&self) -> u16 {
         SOCK_DIAG_BY_FAMILY
     }
 
-    /// Checks the whole of a payload under its message's type, and reads it.
+    /// Checks the whole payload of a message of the given type, and parses it.
     pub fn parse(payload: &'a [u8], message_type: u16) -> Result<Self, DecodeError> {
         let [family, _, ..] = *payload else {
             return Err(DecodeError::MessageTooShort);
@@ -169,27 +173,28 @@ impl<'a> SockDiagMessage<'a> {
     }
 }
 
-/// A reply about a socket of any family, read in place.
+/// A reply about a socket of any family, borrowed from the bytes that were parsed.
 #[derive(Clone, Copy, Debug)]
-// A reply is read where it is needed, and no memory is taken for a box.
+// The variants are not boxed, since this crate does not allocate.
 #[allow(clippy::large_enum_variant)]
 pub enum AnySockDiagMessage<'a> {
-    /// Tells an IPv4, IPv6 or UNIX socket.
+    /// A reply describing an IPv4, IPv6 or UNIX socket.
     Port(SockDiagMessage<'a>),
-    /// Tells a netlink socket.
+    /// A reply describing a netlink socket.
     Netlink(NetlinkReply<'a>),
-    /// Tells a packet socket.
+    /// A reply describing a packet socket.
     Packet(PacketReply<'a>),
-    /// Tells a vsock socket.
+    /// A reply describing a vsock socket.
     Vsock(VsockReply<'a>),
-    /// Tells an XDP socket.
+    /// A reply describing an XDP socket.
     Xdp(XdpReply<'a>),
 }
 
 impl<'a> AnySockDiagMessage<'a> {
-    /// Checks the whole of a payload under its message's type, and reads it. Under the type
-    /// `SOCK_DIAG_BY_FAMILY` the first of two or more bytes chooses the family; all else
-    /// [`SockDiagMessage::parse`] decides.
+    /// Checks the whole payload of a message of the given type, and parses it. If the type is
+    /// `SOCK_DIAG_BY_FAMILY` and the payload has two or more bytes, the first byte selects the
+    /// family: `AF_NETLINK`, `AF_PACKET`, `AF_VSOCK` or `AF_XDP`. In all other cases returns the
+    /// result of [`SockDiagMessage::parse`].
     pub fn parse(payload: &'a [u8], message_type: u16) -> Result<Self, DecodeError> {
         match (message_type, payload) {
             (SOCK_DIAG_BY_FAMILY, [AF_NETLINK, _, ..]) => {
@@ -209,10 +214,10 @@ impl<'a> AnySockDiagMessage<'a> {
     }
 }
 
-/// The messages of a datagram, in order: a walk that checks each reply once.
+/// An iterator over the messages of a datagram, in order. It checks each reply once.
 ///
-/// Where a payload is refused its fault is given, and the walk goes on; behind a fault of the
-/// framing nothing is given. A message of type `NLMSG_DONE` doesn't end the walk.
+/// If a payload is rejected, it yields the error, and continues. After a framing error it yields
+/// nothing. A message of type `NLMSG_DONE` does not end the iteration.
 #[derive(Clone, Debug)]
 pub struct Dump<'a> {
     datagram: &'a [u8],
@@ -220,7 +225,7 @@ pub struct Dump<'a> {
 }
 
 impl<'a> Dump<'a> {
-    /// The walk over the messages of a datagram.
+    /// Returns an iterator over the messages of a datagram.
     pub fn new(datagram: &'a [u8]) -> Self {
         Dump { datagram, place: 0 }
     }
@@ -236,7 +241,7 @@ impl<'a> Iterator for Dump<'a> {
 
 impl core::iter::FusedIterator for Dump<'_> {}
 
-/// The same with replies of any family.
+/// An iterator over the messages of a datagram, like [`Dump`], with replies of any family.
 ///
 /// ```
 /// use sockdiag::{AnyDump, AnySockDiagMessage, NetlinkPayload};
@@ -259,7 +264,7 @@ pub struct AnyDump<'a> {
 }
 
 impl<'a> AnyDump<'a> {
-    /// The walk over the messages of a datagram.
+    /// Returns an iterator over the messages of a datagram.
     pub fn new(datagram: &'a [u8]) -> Self {
         AnyDump { datagram, place: 0 }
     }
@@ -275,7 +280,8 @@ impl<'a> Iterator for AnyDump<'a> {
 
 impl core::iter::FusedIterator for AnyDump<'_> {}
 
-/// The message at the place, whose payload is read so where it is of no control type.
+/// Returns the message at offset `place`, and advances `place`. Parses the payload by `parse`,
+/// unless the type is a control type.
 fn next_message<'a, I>(
     datagram: &'a [u8],
     place: &mut usize,

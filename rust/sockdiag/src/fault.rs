@@ -1,52 +1,52 @@
-//! Why bytes are refused.
+//! Decode errors.
 
 use core::fmt;
 
-/// Why bytes are refused: `enum sockdiag_fault` of `sockdiag.h`. Of several faults the first is
-/// told.
+/// The reason why bytes were rejected: `enum sockdiag_fault` of `sockdiag.h`. If the bytes have
+/// several errors, this is the first one.
 #[derive(Clone, Copy, Debug, PartialEq, Eq, Hash)]
 #[non_exhaustive]
 pub enum DecodeError {
     /// Fewer bytes than a record has.
     BufferTooSmall,
-    /// An internet socket of another family than `AF_INET` and `AF_INET6`.
+    /// An internet socket whose family is neither `AF_INET` nor `AF_INET6`.
     UnsupportedFamily,
     /// A payload of fewer than 2 bytes.
     MessageTooShort,
-    /// A payload that begins with none of `AF_UNIX`, `AF_INET` and `AF_INET6`.
+    /// A payload whose first byte is none of `AF_UNIX`, `AF_INET` and `AF_INET6`.
     UnknownFamily,
-    /// A message of another type than `SOCK_DIAG_BY_FAMILY`.
+    /// A message whose type is not `SOCK_DIAG_BY_FAMILY`.
     UnknownMessageType,
-    /// Fewer than the 4 bytes in front of an attribute's value.
+    /// Fewer than the 4 bytes of an attribute's header.
     AttributeHeaderCut,
-    /// An attribute's length word that doesn't count those.
+    /// A length field of an attribute that is less than the 4 bytes of its header.
     AttributeLengthUnder4,
-    /// An attribute's length word past the end.
+    /// A length field of an attribute that points past the end.
     AttributeLengthPast,
-    /// A value of another length than its kind has.
+    /// A value of the wrong length for its kind.
     WrongLength,
-    /// A list of numbers with a part of one at its end.
+    /// A list of numbers whose length is not a multiple of 4.
     NotMultipleOfFour,
-    /// A text that isn't UTF-8.
+    /// A text that is not valid UTF-8.
     NotUtf8,
-    /// A socket's name without bytes.
+    /// A socket's name of zero bytes.
     NameEmpty,
-    /// A pathname with a zero before its last byte.
+    /// A pathname with a NUL before its last byte.
     NameInnerZero,
-    /// A pathname without a zero at its end.
+    /// A pathname without a terminating NUL.
     NameWithoutEnd,
     /// Fewer than the 16 bytes of a netlink header.
     EnvelopeCut,
-    /// A message's length word that doesn't count those.
+    /// A length field of a message that is less than the 16 bytes of its header.
     EnvelopeLengthUnder16,
-    /// A message's length word past the end.
+    /// A length field of a message that points past the end.
     EnvelopeLengthPast,
-    /// A fault of a later version of the library.
+    /// An error of a later version of the library, by its code.
     Other(u32),
 }
 
 impl DecodeError {
-    /// The fault of that number.
+    /// Returns the error with this code.
     pub(crate) fn from_number(number: u32) -> Self {
         match number {
             2 => DecodeError::BufferTooSmall,

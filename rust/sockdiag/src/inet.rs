@@ -11,7 +11,7 @@ use core::time::Duration;
 pub mod nlas;
 
 crate::flags! {
-    /// A set of states, the bit of each that of its number.
+    /// A set of states, with the bit `1 << state` for each state.
     StateFlags: u32 {
         /// `TCP_ESTABLISHED`.
         ESTABLISHED = 1 << TCP_ESTABLISHED;
@@ -39,7 +39,7 @@ crate::flags! {
 }
 
 crate::flags! {
-    /// Which attributes the replies shall have, the bit of each that of its kind less one.
+    /// The attributes that the replies shall have, with the bit `1 << (kind - 1)` for each kind.
     ExtensionFlags: u8 {
         /// `INET_DIAG_MEMINFO`.
         MEMINFO = 1 << (INET_DIAG_MEMINFO - 1);
@@ -60,30 +60,31 @@ crate::flags! {
     }
 }
 
-/// What tells a socket: `struct inet_diag_sockid` of sock_diag(7).
+/// The identity of a socket: `struct inet_diag_sockid` of sock_diag(7).
 #[derive(Clone, Copy, Debug, PartialEq, Eq, Hash)]
 pub struct SocketId {
-    /// The port of this end.
+    /// Local port (`idiag_sport`).
     pub source_port: u16,
-    /// The port of the other end.
+    /// Remote port (`idiag_dport`).
     pub destination_port: u16,
-    /// The address of this end.
+    /// Local address (`idiag_src`).
     pub source_address: IpAddr,
-    /// The address of the other end.
+    /// Remote address (`idiag_dst`).
     pub destination_address: IpAddr,
-    /// The number of the interface that the socket is bound to, or 0.
+    /// Index of the interface that the socket is bound to, or 0 (`idiag_if`).
     pub interface_id: u32,
-    /// What tells the socket from others with its addresses and ports; `[0xff; 8]` is any.
+    /// Cookie that distinguishes sockets with the same addresses and ports (`idiag_cookie`);
+    /// `[0xff; 8]` matches any.
     pub cookie: [u8; 8],
 }
 
 impl SocketId {
-    /// Any IPv4 socket.
+    /// Returns an identity that matches any IPv4 socket.
     pub fn new_v4() -> Self {
         SocketId::any(IpAddr::V4(Ipv4Addr::UNSPECIFIED))
     }
 
-    /// Any IPv6 socket.
+    /// Returns an identity that matches any IPv6 socket.
     pub fn new_v6() -> Self {
         SocketId::any(IpAddr::V6(Ipv6Addr::UNSPECIFIED))
     }
@@ -102,25 +103,25 @@ impl SocketId {
 
 /// The request for IPv4 or IPv6 sockets: `struct inet_diag_req_v2` of sock_diag(7).
 ///
-/// An address of another family than `family` is taken as it stands: the octets of an IPv4 address
-/// in front of zeros.
+/// The octets of an address are not converted if it is of another family than `family`. An IPv4
+/// address is padded with zeros.
 #[derive(Clone, Copy, Debug, PartialEq, Eq)]
 pub struct InetRequest {
-    /// `AF_INET` or `AF_INET6`. The message of a request with another one has no byte.
+    /// `AF_INET` or `AF_INET6`. With another family, the message of the request has zero bytes.
     pub family: u8,
-    /// The protocol, one of `IPPROTO_..`. One above 255, such as [`IPPROTO_MPTCP`], is told by an
-    /// attribute.
+    /// The protocol, one of `IPPROTO_..`. A protocol above 255, such as [`IPPROTO_MPTCP`], is
+    /// serialized as an attribute.
     pub protocol: u32,
-    /// Which attributes the replies shall have.
+    /// The attributes that the replies shall have.
     pub extensions: ExtensionFlags,
-    /// Which states are asked for.
+    /// The requested states.
     pub states: StateFlags,
-    /// The sockets that are asked for.
+    /// The requested sockets.
     pub socket_id: SocketId,
 }
 
-/// The bytes of a request: 40 about UNIX sockets, 72 about others, or 80 where its protocol is above
-/// 255.
+/// The bytes of a request: 40 for UNIX sockets; 72 for internet sockets, or 80 if the protocol is
+/// above 255.
 #[derive(Clone, Copy, Debug, PartialEq, Eq)]
 pub struct RequestBytes {
     bytes: [u8; 80],
@@ -128,7 +129,7 @@ pub struct RequestBytes {
 }
 
 impl RequestBytes {
-    /// Those of a request about UNIX sockets.
+    /// Returns the bytes of a request for UNIX sockets.
     pub(crate) fn of_unix(message: [u8; 40]) -> Self {
         let mut bytes = [0; 80];
         bytes[..40].copy_from_slice(&message);
@@ -151,7 +152,7 @@ impl core::ops::Deref for RequestBytes {
 }
 
 impl InetRequest {
-    /// The netlink message that asks for the sockets.
+    /// Returns the netlink message that requests the sockets.
     ///
     /// ```
     /// use sockdiag::constants::{AF_INET, IPPROTO_MPTCP, NLM_F_DUMP, NLM_F_REQUEST};
@@ -175,17 +176,19 @@ impl InetRequest {
         self.message(header, false)
     }
 
-    /// The netlink message that asks to close the sockets.
+    /// Returns the netlink message that requests to close the sockets.
     pub fn to_destroy(&self, header: &NetlinkHeader) -> RequestBytes {
         self.message(header, true)
     }
 
-    /// Writes at the front of the buffer the netlink message that asks for the sockets, and behind
-    /// it attributes as they are given, with zeros up to a multiple of 4. `None` where the buffer
-    /// has no room: `80 + attributes.len().next_multiple_of(4)` bytes are enough.
+    /// Writes the netlink message that requests the sockets to the start of the buffer, followed by
+    /// the given attributes, and zeros up to a multiple of 4. Returns `Ok(None)` if the buffer is
+    /// too short: `80 + attributes.len().next_multiple_of(4)` bytes are enough. Also returns
+    /// `Ok(None)` if the family is neither `AF_INET` nor `AF_INET6`.
     ///
-    /// Attributes that aren't whole are refused. The bytecode of a filter is one, by which the
-    /// kernel chooses among the sockets: here those of a port from 8000 to 8999.
+    /// Attributes with a framing error are rejected. The bytecode of a filter is such an attribute.
+    /// The kernel uses it to select sockets, in this example those with a local port from 8000 to
+    /// 8999.
     ///
     /// ```
     /// use sockdiag::constants::{AF_INET, INET_DIAG_REQ_BYTECODE, IPPROTO_TCP};
@@ -193,8 +196,8 @@ impl InetRequest {
     /// use sockdiag::inet::{ExtensionFlags, InetRequest, SocketId, StateFlags};
     /// use sockdiag::NetlinkHeader;
     ///
-    /// // Two steps of `struct inet_diag_bc_op`, each with a port behind it: its code, how far the
-    /// // next step is where the test holds, and where it doesn't, which is past the end.
+    /// // Two operations of `struct inet_diag_bc_op`, each followed by a port: its code, the offset
+    /// // of the next operation if its test holds, and the offset if not, which is past the end.
     /// const SOURCE_AT_LEAST: u8 = 2;
     /// const SOURCE_AT_MOST: u8 = 3;
     /// let mut filter = [20, 0, INET_DIAG_REQ_BYTECODE as u8, 0].to_vec();
@@ -238,7 +241,7 @@ impl InetRequest {
         RequestBytes { bytes, len }
     }
 
-    /// What C is told of the request.
+    /// Converts the request to the struct of the C library.
     fn told(&self, header: &NetlinkHeader) -> sys::InetRequest {
         let id = &self.socket_id;
         sys::InetRequest {
@@ -257,7 +260,7 @@ impl InetRequest {
     }
 }
 
-/// The octets of an address, and zeros behind four of them.
+/// Returns the octets of an address, padded with zeros if it is an IPv4 address.
 fn octets(address: IpAddr) -> [u8; 16] {
     match address {
         IpAddr::V4(ip) => {
@@ -268,7 +271,7 @@ fn octets(address: IpAddr) -> [u8; 16] {
     }
 }
 
-/// The address in the octets, of the family's kind.
+/// Returns the address in the octets, of the IP version of the family.
 fn address(family: u8, octets: [u8; 16]) -> IpAddr {
     let [a, b, c, d, ..] = octets;
     if family == AF_INET {
@@ -281,35 +284,36 @@ fn address(family: u8, octets: [u8; 16]) -> IpAddr {
 /// The timer of a TCP socket.
 #[derive(Clone, Copy, Debug, PartialEq, Eq)]
 pub enum Timer {
-    /// A segment is sent again after this time, and was so many times.
+    /// Retransmission timer: the time until it expires, and the number of retransmissions.
     Retransmit(Duration, u8),
-    /// A silent peer is asked after this time.
+    /// Keepalive timer: the time until it expires.
     KeepAlive(Duration),
-    /// The end of `TIME_WAIT` is awaited.
+    /// Timer of the state `TIME_WAIT`.
     TimeWait,
-    /// A closed window is probed after this time.
+    /// Zero-window probe timer: the time until it expires.
     Probe(Duration),
 }
 
 /// The header of a reply about an IPv4 or IPv6 socket: `struct inet_diag_msg` of sock_diag(7).
 #[derive(Clone, Copy, Debug, PartialEq, Eq)]
 pub struct InetResponseHeader {
-    /// `AF_INET` or `AF_INET6`.
+    /// `AF_INET` or `AF_INET6` (`idiag_family`).
     pub family: u8,
-    /// One of `TCP_ESTABLISHED` to `TCP_CLOSING`.
+    /// State (`idiag_state`), one of `TCP_ESTABLISHED` to `TCP_CLOSING`.
     pub state: u8,
-    /// The timer that runs.
+    /// The running timer (`idiag_timer`, `idiag_retrans`, `idiag_expires`).
     pub timer: Option<Timer>,
-    /// What tells the socket.
+    /// The identity of the socket (`id`).
     pub socket_id: SocketId,
-    /// How many connections are pending on a listening socket, or how many bytes wait to be read.
+    /// Number of pending connections of a listening socket, else of bytes that have not been read
+    /// (`idiag_rqueue`).
     pub recv_queue: u32,
-    /// The limit of pending connections of a listening socket, or the room for what is sent, in
-    /// bytes.
+    /// Limit of pending connections of a listening socket, else number of bytes in the send queue
+    /// (`idiag_wqueue`).
     pub send_queue: u32,
-    /// The user that the socket belongs to.
+    /// User id of the owner (`idiag_uid`).
     pub uid: u32,
-    /// The inode of the socket.
+    /// Inode of the socket (`idiag_inode`).
     pub inode: u32,
 }
 
@@ -342,127 +346,127 @@ impl InetResponseHeader {
     }
 }
 
-/// A TCP connection, by the fields of `struct tcp_info` of `linux/tcp.h` without their `tcpi_`.
+/// A TCP connection: the fields of `struct tcp_info` of `linux/tcp.h`, without the prefix `tcpi_`.
 #[repr(C)]
 #[derive(Clone, Copy, Debug, Default, PartialEq, Eq)]
 pub struct TcpInfo {
-    /// The state of the connection, one of TCP_ESTABLISHED to TCP_CLOSING.
+    /// State of the connection, one of `TCP_ESTABLISHED` to `TCP_CLOSING`.
     pub state: u8,
-    /// The state of congestion control, one of TCP_CA_OPEN to TCP_CA_LOSS.
+    /// State of congestion control, one of `TCP_CA_OPEN` to `TCP_CA_LOSS`.
     pub ca_state: u8,
-    /// How often the timer has made the oldest segment be sent again.
+    /// Number of times that the timer has retransmitted the oldest segment.
     pub retransmits: u8,
-    /// How many probes of a closed window or of a silent peer were not answered.
+    /// Number of unanswered zero-window and keepalive probes.
     pub probes: u8,
-    /// How often the timer was doubled.
+    /// Number of times that the timer was doubled (exponential backoff).
     pub backoff: u8,
-    /// The options that both ends agreed on, bits TCPI_OPT_...
+    /// Options that both ends agreed on, bits `TCPI_OPT_..`.
     pub options: u8,
-    /// The shifts of both windows, four bits each.
+    /// Window scales, four bits each: `tcpi_snd_wscale` in the lower bits, `tcpi_rcv_wscale` in the
+    /// upper.
     pub wscale: u8,
-    /// Bit 0 is set where the sender's program limits `delivery_rate`.
+    /// Bit 0 is set if the sending application limits `delivery_rate`.
     pub delivery_rate_app_limited: u8,
-    /// The time until a segment is sent again, in microseconds.
+    /// Retransmission timeout, in microseconds.
     pub rto: u32,
-    /// The time until an answer is sent late, in microseconds.
+    /// Timeout of delayed acknowledgements, in microseconds.
     pub ato: u32,
-    /// The largest segment that is sent, in bytes.
+    /// Maximum segment size for sending, in bytes.
     pub snd_mss: u32,
-    /// The largest segment that is taken to come, in bytes.
+    /// Estimated maximum segment size of the peer, in bytes.
     pub rcv_mss: u32,
-    /// How many segments are sent and not acknowledged. A listening socket tells its pending
-    /// connections.
+    /// Segments sent and not acknowledged. For a listening socket, pending connections.
     pub unacked: u32,
-    /// How many segments were acknowledged out of order. A listening socket tells the limit of its
-    /// pending connections.
+    /// Segments acknowledged out of order. For a listening socket, the limit of pending
+    /// connections.
     pub sacked: u32,
-    /// How many segments are held to be lost.
+    /// Segments that are considered lost.
     pub lost: u32,
-    /// How many segments that were sent again are on their way.
+    /// Retransmitted segments in flight.
     pub retrans: u32,
-    /// How far the acknowledged segments reach. Newer kernels write 0.
+    /// Segments up to the highest acknowledged one. Newer kernels write 0.
     pub fackets: u32,
-    /// The time since data was sent, in milliseconds.
+    /// Time since data was last sent, in milliseconds.
     pub last_data_sent: u32,
-    /// The time since an acknowledgement was sent. The kernel writes 0.
+    /// Time since an acknowledgement was last sent. The kernel writes 0.
     pub last_ack_sent: u32,
-    /// The time since data came, in milliseconds.
+    /// Time since data was last received, in milliseconds.
     pub last_data_recv: u32,
-    /// The time since an acknowledgement came, in milliseconds.
+    /// Time since an acknowledgement was last received, in milliseconds.
     pub last_ack_recv: u32,
-    /// The largest packet that the path takes, in bytes.
+    /// Path MTU, in bytes.
     pub pmtu: u32,
-    /// The most that the receive window may grow to for now, in bytes.
+    /// Current limit of the receive window, in bytes.
     pub rcv_ssthresh: u32,
-    /// The round trip's time, smoothed, in microseconds.
+    /// Smoothed round-trip time, in microseconds.
     pub rtt: u32,
-    /// How far round trips differ from it, in microseconds.
+    /// Variation of the round-trip time, in microseconds.
     pub rttvar: u32,
-    /// The window from which on slow start ends, in segments.
+    /// Slow start threshold, in segments.
     pub snd_ssthresh: u32,
-    /// The congestion window, in segments.
+    /// Congestion window, in segments.
     pub snd_cwnd: u32,
-    /// The largest segment that was offered to the peer, in bytes.
+    /// Maximum segment size that was advertised to the peer, in bytes.
     pub advmss: u32,
-    /// How far segments may come out of order before one is held to be lost, in segments.
+    /// Reordering distance beyond which a segment is considered lost, in segments.
     pub reordering: u32,
-    /// The round trip's time as the receiver measures it, in microseconds.
+    /// Round-trip time that the receiver measures, in microseconds.
     pub rcv_rtt: u32,
-    /// The size that the receive buffer is fitted to, in bytes.
+    /// Size that the receive buffer is tuned for, in bytes.
     pub rcv_space: u32,
-    /// How many segments were sent again in all.
+    /// Retransmitted segments in total.
     pub total_retrans: u32,
-    /// The rate at which segments are let go, in bytes a second.
+    /// Pacing rate, in bytes per second.
     pub pacing_rate: u64,
-    /// The most that this rate may be, in bytes a second.
+    /// Maximum pacing rate, in bytes per second.
     pub max_pacing_rate: u64,
-    /// How many bytes were acknowledged.
+    /// Bytes that were acknowledged.
     pub bytes_acked: u64,
-    /// How many bytes came in order.
+    /// Bytes that were received in order.
     pub bytes_received: u64,
-    /// How many segments were sent.
+    /// Segments sent.
     pub segs_out: u32,
-    /// How many segments came.
+    /// Segments received.
     pub segs_in: u32,
-    /// How many queued bytes were not sent yet.
+    /// Queued bytes that have not been sent.
     pub notsent_bytes: u32,
-    /// The shortest round trip's time, in microseconds.
+    /// Minimum round-trip time, in microseconds.
     pub min_rtt: u32,
-    /// How many segments with data came.
+    /// Segments received with data.
     pub data_segs_in: u32,
-    /// How many segments with data were sent.
+    /// Segments sent with data.
     pub data_segs_out: u32,
-    /// The rate at which data last reached the peer, in bytes a second.
+    /// Most recent rate of delivery to the peer, in bytes per second.
     pub delivery_rate: u64,
-    /// The time in which there was data to send, in microseconds.
+    /// Time with data to send, in microseconds.
     pub busy_time: u64,
-    /// The part of it in which the peer's window was too small, in microseconds.
+    /// Part of `busy_time` that was limited by the peer's receive window, in microseconds.
     pub rwnd_limited: u64,
-    /// The part of it in which the send buffer was too small, in microseconds.
+    /// Part of `busy_time` that was limited by the send buffer, in microseconds.
     pub sndbuf_limited: u64,
-    /// How many segments reached the peer, those sent again too.
+    /// Segments delivered to the peer, including retransmitted ones.
     pub delivered: u32,
-    /// How many of them the peer told to be marked for congestion.
+    /// Delivered segments that the peer reported as marked for congestion.
     pub delivered_ce: u32,
-    /// How many bytes of data were sent, those sent again too.
+    /// Bytes of data sent, including retransmitted ones.
     pub bytes_sent: u64,
-    /// How many bytes of data were sent again.
+    /// Bytes of data retransmitted.
     pub bytes_retrans: u64,
-    /// How many segments the peer told to have come twice.
+    /// Segments that the peer reported as received twice (DSACK).
     pub dsack_dups: u32,
-    /// How often segments were seen to be out of order.
+    /// Reordering events that were seen.
     pub reord_seen: u32,
-    /// How many segments came out of order.
+    /// Segments received out of order.
     pub rcv_ooopack: u32,
-    /// The peer's window after its shift, in bytes.
+    /// The peer's receive window after scaling, in bytes.
     pub snd_wnd: u32,
 }
 
-/// What is told of a TCP connection, by how many bytes it came in.
+/// Returns the TCP connection that a reply describes, and the length of its value in bytes.
 ///
-/// Of a payload that is refused since its value is short, as older kernels and MPTCP tell one, it
-/// is told too: fields behind the bytes that came are 0. Newer kernels tell more bytes than
-/// [`TcpInfo`] has. `None` where none came.
+/// This also works for a payload that is rejected because the value is too short, as older kernels
+/// and MPTCP send it. Fields after the end of the value are then 0. Newer kernels send more bytes
+/// than [`TcpInfo`] has. Returns `None` if the payload contains no such value, or an empty one.
 ///
 /// ```
 /// let mut payload = [0; 84];
@@ -478,23 +482,24 @@ pub fn tcp_info(payload: &[u8]) -> Option<(TcpInfo, usize)> {
     (told != 0).then_some((info, told))
 }
 
-/// The reply about one IPv4 or IPv6 socket, read in place.
+/// The reply about one IPv4 or IPv6 socket, borrowed from the bytes that were parsed.
 #[derive(Clone, Copy, Debug, PartialEq, Eq)]
 pub struct InetReply<'a> {
-    /// The header, which tells the socket.
+    /// The header, which identifies the socket.
     pub header: InetResponseHeader,
-    /// What all attributes say, in the order that they came.
+    /// All decoded attributes, in order.
     pub nlas: Nlas<'a, nlas::Nla<'a>>,
     congestion: Option<&'a [u8]>,
     numbers: sys::InetNumbers,
     payload: &'a [u8],
 }
 
-/// The name of [`InetReply`] in `netlink-packet-sock-diag`.
+/// Alias of [`InetReply`] with the name in `netlink-packet-sock-diag`.
 pub type InetResponse<'a> = InetReply<'a>;
 
 impl<'a> InetReply<'a> {
-    /// Checks the whole of the reply, the payload of its message, and reads it. It takes no memory.
+    /// Checks the whole reply, which is the payload of its message, and parses it. Does not
+    /// allocate.
     pub fn parse(payload: &'a [u8]) -> Result<Self, DecodeError> {
         let (header, congestion, numbers) =
             sys::inet_details(payload).map_err(DecodeError::from_number)?;
@@ -507,12 +512,13 @@ impl<'a> InetReply<'a> {
         })
     }
 
-    /// All attributes, in the order that they came.
+    /// Returns an iterator over all attributes, in order.
     pub fn attributes(&self) -> Attributes<'a> {
         Attributes::behind(self.payload, 72)
     }
 
-    /// What all attributes say, the memory too, which no getter tells: a walk over `nlas`.
+    /// Returns an iterator over all decoded attributes, as `nlas.iter()` does. These include the
+    /// memory, which no getter returns.
     ///
     /// ```
     /// use sockdiag::inet::nlas::Nla;
@@ -533,54 +539,54 @@ impl<'a> InetReply<'a> {
         self.nlas.iter()
     }
 
-    /// What is known of the TCP connection.
+    /// Returns the TCP connection (`INET_DIAG_INFO`).
     pub fn tcp_info(&self) -> Option<TcpInfo> {
         tcp_info(self.payload).map(|(info, _)| info)
     }
 
-    /// The name of the algorithm of congestion control.
+    /// Returns the name of the congestion control algorithm.
     pub fn congestion(&self) -> Option<&'a str> {
         core::str::from_utf8(self.congestion?).ok()
     }
 
-    /// The type of service.
+    /// Returns the type of service.
     pub fn tos(&self) -> Option<u8> {
         self.numbers.tos.get().map(|number| number as u8)
     }
 
-    /// The traffic class of an IPv6 socket.
+    /// Returns the traffic class of an IPv6 socket.
     pub fn tc(&self) -> Option<u8> {
         self.numbers.tclass.get().map(|number| number as u8)
     }
 
-    /// Which directions are shut down: 1 for receiving, 2 for sending, 3 for both.
+    /// Returns the directions that are shut down: 1 for receiving, 2 for sending, 3 for both.
     pub fn shutdown_state(&self) -> Option<u8> {
         self.numbers.shutdown.get().map(|number| number as u8)
     }
 
-    /// The protocol, one of `IPPROTO_..`.
+    /// Returns the protocol, one of `IPPROTO_..`.
     pub fn protocol(&self) -> Option<u8> {
         self.numbers.protocol.get().map(|number| number as u8)
     }
 
-    /// Whether the socket is for IPv6 alone.
+    /// Returns whether the socket is for IPv6 only.
     pub fn v6only(&self) -> Option<bool> {
         self.numbers.v6only.get().map(|number| number != 0)
     }
 
-    /// The mark of the socket.
+    /// Returns the mark of the socket.
     pub fn mark(&self) -> Option<u32> {
         self.numbers.mark.get()
     }
 
-    /// The class of the socket's packets for traffic control.
+    /// Returns the traffic control class of the socket's packets.
     pub fn class_id(&self) -> Option<u32> {
         self.numbers.class_id.get()
     }
 
-    /// Writes the reply's canonical form at the front of the buffer: one string for all that differ
-    /// in idle details alone. The answer is how many bytes it has, and nothing is written where the
-    /// buffer has fewer. `None` where it can't be written.
+    /// Writes the canonical form of the reply to the start of the buffer, and returns its length in
+    /// bytes. If the buffer is shorter, nothing is written. All replies that differ only in ignored
+    /// bits have the same canonical form. Returns `None` if the reply cannot be serialized.
     pub fn canonical(&self, buffer: &mut [u8]) -> Option<usize> {
         let (_, outcome) = sys::rewrite(self.payload, false, buffer);
         (outcome.needed != 0).then_some(outcome.needed)

@@ -1,8 +1,9 @@
 //! Messages of sock_diag(7), by which a Linux program asks the kernel about its sockets.
 //!
-//! This is a safe face of `libsockdiag`, whose every function is proved to answer what its contract
-//! says (`crates/sockdiag_c` of its sources). It takes no memory, opens no socket, and has no
-//! dependency and no feature. Replies are read in place.
+//! This crate has safe bindings of `libsockdiag`. Each function of that library is proved to return
+//! what its contract says (`crates/sockdiag_c` of its sources). This crate does not allocate and
+//! opens no socket. It has no dependencies and no features. Replies are borrowed from the bytes
+//! that were parsed.
 //!
 //! # A request
 //!
@@ -51,58 +52,59 @@
 //!
 //! # From `netlink-packet-sock-diag`
 //!
-//! A lister that sends requests and reads replies changes its imports and its `match` arms alone:
-//! `tests/ported.rs` is one. What stands in both crates has one name: the constants, also at the
-//! root, the flags, the requests, `SocketId`, the headers, `nlas`, [`NetlinkMessage`] with `new`,
-//! `finalize`, `buffer_len`, `serialize` and `deserialize`, `InetResponse` and `UnixResponse`, which
-//! are other names of [`inet::InetReply`] and [`unix::UnixReply`], and their getters.
+//! A lister that sends requests and parses replies only has to change its imports and its `match`
+//! arms: `tests/ported.rs` is an example. Items that both crates have, have the same names. These
+//! are the constants (also exported at the root), the flags, the requests, `SocketId`, the headers,
+//! `nlas`, [`NetlinkMessage`] with `new`, `finalize`, `buffer_len`, `serialize` and `deserialize`,
+//! and `InetResponse` and `UnixResponse` with their getters. The last two are aliases of
+//! [`inet::InetReply`] and [`unix::UnixReply`].
 //!
-//! What differs, in imports:
+//! Differences in imports:
 //!
-//! | there | here |
+//! | `netlink-packet-sock-diag` | this crate |
 //! |---|---|
-//! | `netlink_packet_core::{NetlinkHeader, NetlinkMessage, NetlinkPayload, NLM_F_..}` | of this crate |
-//! | `Emitable`, `Parseable`, `ParseableParametrized`, `NetlinkSerializable`, the `..Buffer` types, `DefaultNla` | none. `parse` of a reply or a message, and what is above, need no import |
+//! | `netlink_packet_core::{NetlinkHeader, NetlinkMessage, NetlinkPayload, NLM_F_..}` | the same names, from this crate |
+//! | `Emitable`, `Parseable`, `ParseableParametrized`, `NetlinkSerializable`, the `..Buffer` types, `DefaultNla` | none. `parse` of a reply or a message, and the methods above, need no import |
 //!
-//! In `match` arms and patterns:
+//! Differences in `match` arms and patterns:
 //!
-//! | there | here |
+//! | `netlink-packet-sock-diag` | this crate |
 //! |---|---|
-//! | `NetlinkPayload::Error(ErrorMessage)`, `Done(DoneMessage)` | `Option<i32>`: 0, or `-errno`, `None` where none is told |
+//! | `NetlinkPayload::Error(ErrorMessage)`, `Done(DoneMessage)` | `Option<i32>`: 0 or `-errno`; `None` if the payload has fewer than four bytes |
 //! | `NetlinkPayload::Overrun(bytes)` | `Overrun` |
-//! | `UnixDiagName::Pathname(OsString)`, `Abstract(Vec<u8>)` | `&[u8]` both |
+//! | `UnixDiagName::Pathname(OsString)`, `Abstract(Vec<u8>)` | `&[u8]` in both |
 //! | `Nla::Congestion(String)` | `&str` |
 //! | `Nla::TcpInfo(Vec<u8>)` without the feature `rich_nlas` | `TcpInfo`, always |
-//! | `Nla::PendingConnections(Vec<u32>)` | [`Numbers`], a walk |
-//! | `Nla::Other(DefaultNla)` | [`Attribute`], by kind and bytes |
-//! | `MemInfo::backlog_queue_length`, `drops`: `u32` | `Option<u32>`: older kernels don't tell them |
+//! | `Nla::PendingConnections(Vec<u32>)` | [`Numbers`], an iterator |
+//! | `Nla::Other(DefaultNla)` | [`Attribute`], with its kind and bytes |
+//! | `MemInfo::backlog_queue_length`, `drops`: `u32` | `Option<u32>`: older kernels do not send them |
 //!
-//! And elsewhere:
+//! Other differences:
 //!
-//! | there | here |
+//! | `netlink-packet-sock-diag` | this crate |
 //! |---|---|
-//! | replies own what they tell, in a `Box` | they are `Copy` and borrow the bytes that they were read from |
-//! | `nlas`, a `SmallVec` | [`Nlas`]: `iter`, `len`, `is_empty`, and `for` over it or a reference, which give values; no index |
+//! | replies own their contents, in a `Box` | replies are `Copy` and borrow the bytes that they were parsed from |
+//! | `nlas`, a `SmallVec` | [`Nlas`]: `iter`, `len`, `is_empty`, and `for` over it or over a reference, which yield values; no indexing |
 //! | `name()`, `Option<&UnixDiagName>` | `Option<UnixDiagName>` |
-//! | `pending_connections()`, `Option<&[u32]>` | a walk over the inodes, also empty where none are told |
-//! | `serialize` of each message, which panics where the buffer is short | of requests, and `None` there and for other messages |
-//! | `emit`, and `parse` of one attribute or of a value | none |
-//! | `InetRequest::protocol` of 8 bits | 32 bits, as the constants `IPPROTO_..` have here |
-//! | a family but `AF_INET` and `AF_INET6` in an `InetRequest` is written | such a request has no byte |
-//! | `SocketId::new_v4()` has a cookie of zeros | of any: `[0xff; 8]`. The kernel looks at it where one socket is asked for |
-//! | flags by `bitflags` | `empty`, `all`, `from_bits`, `from_bits_retain`, `from_bits_truncate`, `bits`, `is_empty`, `contains`, `insert`, `remove`, `\|` and `\|=` |
-//! | `DecodeError` with words | [`DecodeError`] by kind; both have `Display` |
-//! | some input panics | none does |
+//! | `pending_connections()`, `Option<&[u32]>` | an iterator over the inodes, which is also empty if the reply does not contain the attribute |
+//! | `serialize` of every message, which panics if the buffer is too short | `serialize` of requests; returns `None` if the buffer is too short, and for other messages |
+//! | `emit`, and `parse` of a single attribute or of a value | none |
+//! | `InetRequest::protocol` has 8 bits | it has 32 bits, as have the constants `IPPROTO_..` |
+//! | an `InetRequest` with a family other than `AF_INET` and `AF_INET6` is serialized | such a request has a message of zero bytes |
+//! | `SocketId::new_v4()` has a cookie of zeros | its cookie is `[0xff; 8]`, which matches any. The kernel compares it if a single socket is requested |
+//! | flags have the methods of `bitflags` | flags have `empty`, `all`, `from_bits`, `from_bits_retain`, `from_bits_truncate`, `bits`, `is_empty`, `contains`, `insert`, `remove`, `\|` and `\|=` |
+//! | `DecodeError` contains texts | [`DecodeError`] is an enum of the errors; both implement `Display` |
+//! | panics on some input | does not panic |
 //!
-//! [`Dump`] walks over a whole datagram, [`Attributes`] over attributes by kind and bytes, and
-//! `to_message` and `to_destroy` write a request at once.
+//! In addition, [`Dump`] iterates over a whole datagram, and [`Attributes`] over attributes as
+//! kinds and bytes. `to_message` and `to_destroy` serialize a request in one call.
 //!
-//! # Sockets of four families more
+//! # Sockets of four more families
 //!
-//! Beside what stands in that crate, [`netlink`], [`packet`], [`vsock`] and [`xdp`] have requests
-//! and replies of these sockets, and [`AnyDump`] and [`AnySockDiagMessage`] replies of any family.
-//! What a reply tells stands in its fields, of several attributes of a kind the first;
-//! `attributes` gives all.
+//! In addition to the items of that crate, [`netlink`], [`packet`], [`vsock`] and [`xdp`] have
+//! requests and replies about these sockets. [`AnyDump`] and [`AnySockDiagMessage`] have replies of
+//! any family. The contents of a reply are in its fields. If it has several attributes of a kind,
+//! the field has the first one; `attributes` returns all of them.
 //!
 //! | family | request | reply | its header |
 //! |---|---|---|---|
@@ -132,7 +134,7 @@ pub use dump::{Dump, Message, NetlinkHeader, NetlinkMessage, NetlinkPayload, Soc
 pub use fault::DecodeError;
 pub use show::ShowRequest;
 
-/// A set of flags with their numbers, as the kernel takes them.
+/// A set of flags, with the bits that the kernel uses.
 macro_rules! flags {
     ($(#[$doc:meta])* $name:ident: $bits:ty {
         $($(#[$of:meta])* $flag:ident = $number:expr;)*
@@ -144,27 +146,27 @@ macro_rules! flags {
         impl $name {
             $($(#[$of])* pub const $flag: Self = Self($number);)*
 
-            /// No flag.
+            /// Returns the empty set.
             pub const fn empty() -> Self {
                 Self(0)
             }
 
-            /// All flags that have a name here.
+            /// Returns the set of all flags that have a name here.
             pub const fn all() -> Self {
                 Self(0 $(| $number)*)
             }
 
-            /// The flags of these bits, with those too that have no name.
+            /// Returns the flags of these bits, including bits without a name.
             pub const fn from_bits_retain(bits: $bits) -> Self {
                 Self(bits)
             }
 
-            /// The bits.
+            /// Returns the bits of the set.
             pub const fn bits(self) -> $bits {
                 self.0
             }
 
-            /// The flags of these bits, where each bit has a name.
+            /// Returns the flags of these bits, or `None` if a bit has no name.
             pub const fn from_bits(bits: $bits) -> Option<Self> {
                 if bits & !Self::all().0 == 0 {
                     Some(Self(bits))
@@ -173,12 +175,12 @@ macro_rules! flags {
                 }
             }
 
-            /// The flags of these bits that have a name.
+            /// Returns those flags of these bits that have a name.
             pub const fn from_bits_truncate(bits: $bits) -> Self {
                 Self(bits & Self::all().0)
             }
 
-            /// Whether no flag is set.
+            /// Returns whether no flag is set.
             pub const fn is_empty(self) -> bool {
                 self.0 == 0
             }
@@ -193,7 +195,7 @@ macro_rules! flags {
                 self.0 &= !other.0;
             }
 
-            /// Whether all of these flags are set.
+            /// Returns whether all of these flags are set.
             pub const fn contains(self, other: Self) -> bool {
                 self.0 & other.0 == other.0
             }

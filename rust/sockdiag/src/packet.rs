@@ -1,4 +1,4 @@
-//! Requests and replies about packet sockets, after `linux/packet_diag.h`.
+//! Requests and replies about packet sockets, by `linux/packet_diag.h`.
 
 use crate::constants::AF_PACKET;
 use crate::inet::nlas::MemInfo;
@@ -6,105 +6,107 @@ use crate::show::ShowRequest;
 use crate::sys;
 use crate::{Attributes, DecodeError};
 
-/// The request for packet sockets: `struct packet_diag_req`. Its protocol is 0, and what it shows
-/// are bits `PACKET_SHOW_..`.
+/// The request for packet sockets: `struct packet_diag_req`. `protocol` is 0. `show` has the bits
+/// `PACKET_SHOW_..`.
 pub type PacketRequest = ShowRequest<AF_PACKET>;
 
-/// Asks for `PACKET_DIAG_INFO` and `PACKET_DIAG_UID`.
+/// Requests `PACKET_DIAG_INFO` and `PACKET_DIAG_UID`.
 pub const PACKET_SHOW_INFO: u32 = 0x1;
-/// Asks for `PACKET_DIAG_MCLIST`.
+/// Requests `PACKET_DIAG_MCLIST`.
 pub const PACKET_SHOW_MCLIST: u32 = 0x2;
-/// Asks for `PACKET_DIAG_RX_RING` and `PACKET_DIAG_TX_RING`.
+/// Requests `PACKET_DIAG_RX_RING` and `PACKET_DIAG_TX_RING`.
 pub const PACKET_SHOW_RING_CFG: u32 = 0x4;
-/// Asks for `PACKET_DIAG_FANOUT`.
+/// Requests `PACKET_DIAG_FANOUT`.
 pub const PACKET_SHOW_FANOUT: u32 = 0x8;
-/// Asks for `PACKET_DIAG_MEMINFO`.
+/// Requests `PACKET_DIAG_MEMINFO`.
 pub const PACKET_SHOW_MEMINFO: u32 = 0x10;
-/// Asks for `PACKET_DIAG_FILTER`.
+/// Requests `PACKET_DIAG_FILTER`.
 pub const PACKET_SHOW_FILTER: u32 = 0x20;
 
 /// The header of a reply about a packet socket: `struct packet_diag_msg`.
 #[repr(C)]
 #[derive(Clone, Copy, Debug, Default, PartialEq, Eq)]
 pub struct PacketResponseHeader {
-    /// The type of the socket, SOCK_RAW (3) or SOCK_DGRAM (2), `pdiag_type`.
+    /// Type of the socket (`pdiag_type`): `SOCK_RAW` (3) or `SOCK_DGRAM` (2).
     pub kind: u8,
-    /// The protocol, one of `ETH_P_..`, `pdiag_num`.
+    /// Protocol (`pdiag_num`), one of `ETH_P_..`.
     pub protocol: u16,
-    /// The inode of the socket, `pdiag_ino`.
+    /// Inode of the socket (`pdiag_ino`).
     pub inode: u32,
-    /// What tells the socket from others of its inode, `pdiag_cookie`.
+    /// Cookie that distinguishes sockets with the same inode (`pdiag_cookie`).
     pub cookie: u64,
 }
 
-/// What a packet socket is set to: `struct packet_diag_info`.
+/// Settings of a packet socket: `struct packet_diag_info`.
 #[repr(C)]
 #[derive(Clone, Copy, Debug, Default, PartialEq, Eq)]
 pub struct PacketInfo {
-    /// The interface that the socket is bound to, 0 for all.
+    /// Index of the interface that the socket is bound to (`pdi_index`), 0 for all.
     pub interface: u32,
-    /// The layout of a ring's frames, one of `TPACKET_V..`.
+    /// Frame format of the rings (`pdi_version`), one of `TPACKET_V..`.
     pub version: u32,
-    /// The bytes that a frame keeps free for the program.
+    /// Bytes of each frame that are reserved for the application (`pdi_reserve`).
     pub reserve: u32,
-    /// From how many bytes on a packet is also copied to the queue.
+    /// Length from which a packet is also copied to the queue, in bytes (`pdi_copy_thresh`).
     pub copy_threshold: u32,
-    /// Which clocks tell the time of a packet.
+    /// Clocks that packets are timestamped with (`pdi_tstamp`).
     pub timestamp: u32,
-    /// The bits `PDI_..`.
+    /// The bits `PDI_..` (`pdi_flags`).
     pub flags: u32,
 }
 
-/// A ring that a packet socket shares with its program: `struct packet_diag_ring`.
+/// A ring that a packet socket shares with the application: `struct packet_diag_ring`.
 #[repr(C)]
 #[derive(Clone, Copy, Debug, Default, PartialEq, Eq)]
 pub struct PacketRing {
-    /// The bytes of a block.
+    /// Size of a block in bytes (`pdr_block_size`).
     pub block_size: u32,
-    /// The number of blocks.
+    /// Number of blocks (`pdr_block_nr`).
     pub blocks: u32,
-    /// The bytes of a frame.
+    /// Size of a frame in bytes (`pdr_frame_size`).
     pub frame_size: u32,
-    /// The number of frames.
+    /// Number of frames (`pdr_frame_nr`).
     pub frames: u32,
-    /// After how many milliseconds a block is handed over that isn't full.
+    /// Milliseconds after which a block that is not full is handed over (`pdr_retire_tmo`).
     pub retire_timeout: u32,
-    /// The bytes of a block that are the program's.
+    /// Bytes of each block that belong to the application (`pdr_sizeof_priv`).
     pub private_size: u32,
-    /// The bits `TP_FT_..`.
+    /// The bits `TP_FT_..` (`pdr_features`).
     pub features: u32,
 }
 
-/// The reply about one packet socket, read in place.
+/// The reply about one packet socket, borrowed from the bytes that were parsed.
 #[derive(Clone, Copy, Debug, PartialEq, Eq)]
 pub struct PacketReply<'a> {
-    /// The header, which tells the socket.
+    /// The header, which identifies the socket.
     pub header: PacketResponseHeader,
-    /// What the socket is set to, `PACKET_DIAG_INFO`.
+    /// Settings of the socket (`PACKET_DIAG_INFO`).
     pub info: Option<PacketInfo>,
-    /// The addresses that the socket receives beside its interface's, `PACKET_DIAG_MCLIST`: 44
+    /// Addresses that the socket receives in addition to its interface's (`PACKET_DIAG_MCLIST`): 44
     /// bytes each, `struct packet_diag_mclist`.
     pub addresses: Option<&'a [u8]>,
-    /// The ring for what is received, `PACKET_DIAG_RX_RING`.
+    /// Receive ring (`PACKET_DIAG_RX_RING`).
     pub receive_ring: Option<PacketRing>,
-    /// The ring for what is sent, `PACKET_DIAG_TX_RING`.
+    /// Transmit ring (`PACKET_DIAG_TX_RING`).
     pub send_ring: Option<PacketRing>,
-    /// The number of the fanout, and its way in the high 16 bits, `PACKET_DIAG_FANOUT`.
+    /// Fanout (`PACKET_DIAG_FANOUT`): id of the group in the low 16 bits, mode in the high 16 bits.
     pub fanout: Option<u32>,
-    /// The user who owns the socket, `PACKET_DIAG_UID`.
+    /// User id of the owner (`PACKET_DIAG_UID`).
     pub owner: Option<u32>,
-    /// The memory, `PACKET_DIAG_MEMINFO`.
+    /// Socket memory (`PACKET_DIAG_MEMINFO`).
     pub memory: Option<MemInfo>,
-    /// The steps of the filter, `PACKET_DIAG_FILTER`: 8 bytes each, `struct sock_filter`.
+    /// Instructions of the socket filter (`PACKET_DIAG_FILTER`): 8 bytes each, `struct
+    /// sock_filter`.
     pub filter: Option<&'a [u8]>,
     payload: &'a [u8],
 }
 
-/// The name of [`PacketReply`] in the style of `netlink-packet-sock-diag`.
+/// Alias of [`PacketReply`] in the naming style of `netlink-packet-sock-diag`.
 pub type PacketResponse<'a> = PacketReply<'a>;
 
 impl<'a> PacketReply<'a> {
-    /// Checks the whole of the reply, the payload of its message, and reads it. It takes no memory.
+    /// Checks the whole reply, which is the payload of its message, and parses it. Does not
+    /// allocate.
     pub fn parse(payload: &'a [u8]) -> Result<Self, DecodeError> {
         let told = sys::packet_details(payload).map_err(DecodeError::from_number)?;
         Ok(PacketReply {
@@ -121,7 +123,7 @@ impl<'a> PacketReply<'a> {
         })
     }
 
-    /// All attributes, in the order that they came.
+    /// Returns an iterator over all attributes, in order.
     pub fn attributes(&self) -> Attributes<'a> {
         Attributes::behind(self.payload, 16)
     }

@@ -1,12 +1,12 @@
-//! The request for sockets that three families share.
+//! The format of requests that netlink, packet and XDP sockets share.
 
 use crate::constants::{AF_NETLINK, AF_PACKET, AF_XDP};
 use crate::dump::NetlinkHeader;
 use crate::sys;
 use crate::unix::request_header;
 
-/// A request for the sockets of the family, `AF_NETLINK`, `AF_PACKET` or `AF_XDP`: of another one
-/// `to_message` isn't compiled.
+/// A request for the sockets of a family: `AF_NETLINK`, `AF_PACKET` or `AF_XDP`. With another
+/// family, a call of `to_message` does not compile.
 ///
 /// ```
 /// use sockdiag::constants::{NLM_F_DUMP, NLM_F_REQUEST};
@@ -25,18 +25,18 @@ use crate::unix::request_header;
 /// ```
 #[derive(Clone, Copy, Debug, Default, PartialEq, Eq)]
 pub struct ShowRequest<const FAMILY: u8> {
-    /// The protocol of netlink sockets, else 0.
+    /// The protocol for netlink sockets, else 0.
     pub protocol: u8,
-    /// The inode of a single socket. Linux lists sockets alone, and doesn't look at it.
+    /// The inode, to request a single socket. Linux can only list these sockets, and ignores it.
     pub inode: u32,
-    /// Which attributes the replies shall have: the family's bits `.._SHOW_..`.
+    /// The attributes that the replies shall have: the bits `.._SHOW_..` of the family.
     pub show: u32,
-    /// What tells a single socket from others of its inode. Linux doesn't look at it.
+    /// Cookie that distinguishes sockets with the same inode. Linux ignores it.
     pub cookie: u64,
 }
 
 impl<const FAMILY: u8> ShowRequest<FAMILY> {
-    /// The netlink message that asks for the sockets.
+    /// Returns the netlink message that requests the sockets.
     pub fn to_message(&self, header: &NetlinkHeader) -> [u8; 36] {
         const { assert!(matches!(FAMILY, AF_NETLINK | AF_PACKET | AF_XDP)) };
         let request = sys::ShowRequest {

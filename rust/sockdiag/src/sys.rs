@@ -1,9 +1,10 @@
-//! The calls of `sockdiag.h`.
+//! Safe wrappers of the functions of `sockdiag.h`.
 //!
-//! Each function here is safe: it makes one call, and says why what `sockdiag.h` asks of a caller
-//! holds. That is: a pointer to bytes points to as many as the length beside it says, a pointer to
-//! a struct points to one whose fields are all set, and what a call writes overlaps nothing else
-//! that it is given. A contract is that of the function of the same name in `crates/sockdiag_c`.
+//! Most functions here are safe: they make one call, and a comment says why the requirements of
+//! `sockdiag.h` on the caller hold. The requirements are: a pointer to bytes is valid for the
+//! length next to it; a pointer to a struct points to an initialized struct; memory that a call
+//! writes overlaps nothing else that the call is given. A contract named here is that of the
+//! function of the same name in `crates/sockdiag_c`.
 
 use crate::inet::nlas::MemInfo;
 use crate::netlink::NetlinkResponseHeader;
@@ -50,7 +51,7 @@ pub(crate) struct Number {
 }
 
 impl Number {
-    /// The number, where one is told.
+    /// Returns the number, or `None` if the reply does not contain it.
     pub(crate) fn get(self) -> Option<u32> {
         (self.is_told != 0).then_some(self.value)
     }
@@ -70,7 +71,7 @@ const NO_TEXT: Text = Text {
     length: 0,
 };
 
-/// The numbers of `struct sockdiag_unix_details`, which stand at its end.
+/// The numbers at the end of `struct sockdiag_unix_details`.
 #[repr(C)]
 #[derive(Clone, Copy, Debug, Default, PartialEq, Eq)]
 pub(crate) struct UnixNumbers {
@@ -92,7 +93,7 @@ struct UnixDetails {
     numbers: UnixNumbers,
 }
 
-/// The numbers of `struct sockdiag_inet_details`, which stand at its end.
+/// The numbers at the end of `struct sockdiag_inet_details`.
 #[repr(C)]
 #[derive(Clone, Copy, Debug, Default, PartialEq, Eq)]
 pub(crate) struct InetNumbers {
@@ -112,7 +113,7 @@ struct InetDetails {
     numbers: InetNumbers,
 }
 
-/// A text of a reply that is borrowed for `'a`, or none.
+/// A text of a reply that is borrowed for `'a`, or no text.
 #[repr(C)]
 #[derive(Clone, Copy)]
 pub(crate) struct Bytes<'a> {
@@ -130,10 +131,10 @@ impl Default for Bytes<'_> {
 }
 
 impl<'a> Bytes<'a> {
-    /// The bytes, where they are told.
+    /// Returns the bytes, or `None` if the reply does not contain them.
     pub(crate) fn get(self) -> Option<&'a [u8]> {
-        // SAFETY: it is none, or in what `ask` answers over a payload that is borrowed for 'a: no
-        // one else writes a text.
+        // SAFETY: there is no text, or it is in a result of `ask` for a payload that is
+        // borrowed for 'a. Nothing else writes a text.
         unsafe { lent(self.text) }.map(|(_, bytes)| bytes)
     }
 }
@@ -153,7 +154,7 @@ pub(crate) struct Memory {
 }
 
 impl Memory {
-    /// The memory, where it is told.
+    /// Returns the memory, or `None` if the reply does not contain it.
     pub(crate) fn get(self) -> Option<MemInfo> {
         Some(MemInfo {
             receive_queue: self.receive_queue.get()?,
@@ -411,132 +412,139 @@ pub(crate) struct Outcome {
     pub(crate) needed: usize,
 }
 
-/// The text in the bytes that a details call was given, with its kind, where one is told.
+/// Returns a text and its kind, or `None` if there is no text. The text is part of the payload of a
+/// details call.
 ///
 /// # Safety
 ///
-/// A details call that answered 0 told the text, of bytes that are borrowed for `'a`.
+/// There is no text, or it was set by a details call that returned 0, for a payload that is
+/// borrowed for `'a`.
 unsafe fn lent<'a>(text: Text) -> Option<(u32, &'a [u8])> {
     if text.kind == 0 {
         return None;
     }
-    // SAFETY: by the type of `Text<'a>` in the contract the bytes are a part of the payload, which
-    // the caller borrows for 'a, and there are as many as `length`.
+    // SAFETY: by the type `Text<'a>` in the contract, the bytes are a part of the payload, and
+    // their number is `length`. The caller borrows the payload for 'a.
     Some((text.kind, unsafe {
         core::slice::from_raw_parts(text.bytes, text.length)
     }))
 }
 
-/// The header, the text with its kind, and the numbers of a reply, or the fault.
+/// The header, the text with its kind, and the numbers of a reply; or the code of the error.
 type Told<'a, H, N> = Result<(H, Option<(u32, &'a [u8])>, N), u32>;
 
-/// What a reply about a UNIX socket tells: the text is its name.
+/// Returns the contents of a reply about a UNIX socket. The text is its name.
 pub(crate) fn unix_details(payload: &[u8]) -> Told<'_, UnixHeader, UnixNumbers> {
     let mut details = UnixDetails {
         header: UnixHeader::default(),
         name: NO_TEXT,
         numbers: UnixNumbers::default(),
     };
-    // SAFETY: the slice has its length, the struct is a whole local; the contract
-    // `sockdiag_unix_get_details` asks nothing else, and writes the struct alone.
+    // SAFETY: the pointer and the length are from one slice, and the struct is an initialized
+    // local. The contract of `sockdiag_unix_get_details` requires nothing else. The call writes
+    // only the struct.
     let fault = unsafe { sockdiag_unix_get_details(payload.as_ptr(), payload.len(), &mut details) };
     if fault != 0 {
         return Err(fault);
     }
-    // SAFETY: `sockdiag_unix_get_details` answered 0 over `payload`.
+    // SAFETY: `sockdiag_unix_get_details` returned 0 for `payload`.
     let name = unsafe { lent(details.name) };
     Ok((details.header, name, details.numbers))
 }
 
-/// What a reply about an internet socket tells: the text is the algorithm of congestion control.
+/// Returns the contents of a reply about an internet socket. The text is its congestion control
+/// algorithm.
 pub(crate) fn inet_details(payload: &[u8]) -> Told<'_, InetHeader, InetNumbers> {
     let mut details = InetDetails {
         header: InetHeader::default(),
         congestion: NO_TEXT,
         numbers: InetNumbers::default(),
     };
-    // SAFETY: the slice has its length, the struct is a whole local; the contract
-    // `sockdiag_inet_get_details` asks nothing else, and writes the struct alone.
+    // SAFETY: the pointer and the length are from one slice, and the struct is an initialized
+    // local. The contract of `sockdiag_inet_get_details` requires nothing else. The call writes
+    // only the struct.
     let fault = unsafe { sockdiag_inet_get_details(payload.as_ptr(), payload.len(), &mut details) };
     if fault != 0 {
         return Err(fault);
     }
-    // SAFETY: `sockdiag_inet_get_details` answered 0 over `payload`.
+    // SAFETY: `sockdiag_inet_get_details` returned 0 for `payload`.
     let congestion = unsafe { lent(details.congestion) };
     Ok((details.header, congestion, details.numbers))
 }
 
-/// What a details call tells of a reply, or the fault.
+/// Returns the contents of a reply by a details call, or the code of the error.
 ///
 /// # Safety
 ///
-/// `call` is a details call of `sockdiag.h`, and texts of `D` are borrowed as the payload is.
+/// `call` is a details call of `sockdiag.h`, and texts in `D` are borrowed as long as the payload.
 unsafe fn ask<D: Default>(
     payload: &[u8],
     call: unsafe extern "C" fn(*const u8, usize, *mut D) -> u32,
 ) -> Result<D, u32> {
     let mut details = D::default();
-    // SAFETY: the slice has its length, the struct is a whole local; the contract of a details call
-    // asks nothing else, and writes the struct alone.
+    // SAFETY: the pointer and the length are from one slice, and the struct is an initialized
+    // local. The contract of a details call requires nothing else. The call writes only the struct.
     match unsafe { call(payload.as_ptr(), payload.len(), &mut details) } {
         0 => Ok(details),
         fault => Err(fault),
     }
 }
 
-/// What a reply about a netlink socket tells.
+/// Returns the contents of a reply about a netlink socket.
 pub(crate) fn netlink_details(payload: &[u8]) -> Result<NetlinkDetails<'_>, u32> {
-    // SAFETY: `sockdiag_netlink_get_details` is one.
+    // SAFETY: `sockdiag_netlink_get_details` is a details call.
     unsafe { ask(payload, sockdiag_netlink_get_details) }
 }
 
-/// What a reply about a packet socket tells.
+/// Returns the contents of a reply about a packet socket.
 pub(crate) fn packet_details(payload: &[u8]) -> Result<PacketDetails<'_>, u32> {
-    // SAFETY: `sockdiag_packet_get_details` is one.
+    // SAFETY: `sockdiag_packet_get_details` is a details call.
     unsafe { ask(payload, sockdiag_packet_get_details) }
 }
 
-/// What a reply about a vsock socket tells.
+/// Returns the contents of a reply about a vsock socket.
 pub(crate) fn vsock_details(payload: &[u8]) -> Result<VsockResponseHeader, u32> {
-    // SAFETY: `sockdiag_vsock_get_details` is one.
+    // SAFETY: `sockdiag_vsock_get_details` is a details call.
     unsafe { ask(payload, sockdiag_vsock_get_details) }
 }
 
-/// What a reply about an XDP socket tells.
+/// Returns the contents of a reply about an XDP socket.
 pub(crate) fn xdp_details(payload: &[u8]) -> Result<XdpDetails, u32> {
-    // SAFETY: `sockdiag_xdp_get_details` is one.
+    // SAFETY: `sockdiag_xdp_get_details` is a details call.
     unsafe { ask(payload, sockdiag_xdp_get_details) }
 }
 
-/// The inode at that index among the connections that wait.
+/// Returns the inode at this index among the connections that wait to be accepted.
 pub(crate) fn pending(payload: &[u8], index: usize) -> Option<u32> {
     let mut inode = 0;
-    // SAFETY: the slice has its length, the number is a local; the contract
-    // `sockdiag_unix_get_pending` asks nothing else, for any index.
+    // SAFETY: the pointer and the length are from one slice, and the number is a local. The
+    // contract of `sockdiag_unix_get_pending` requires nothing else, for any index.
     let answer =
         unsafe { sockdiag_unix_get_pending(payload.as_ptr(), payload.len(), index, &mut inode) };
     (answer == 1).then_some(inode)
 }
 
-/// Fills the struct, and answers how many bytes are told.
+/// Fills the struct, and returns the length of the value in bytes.
 pub(crate) fn tcp_info(payload: &[u8], info: &mut crate::inet::TcpInfo) -> usize {
-    // SAFETY: the slice has its length, the struct has the 232 bytes that the contract
-    // `sockdiag_inet_get_tcp_info` writes, and any bytes are numbers of it.
+    // SAFETY: the pointer and the length are from one slice. The struct has the 232 bytes that
+    // `sockdiag_inet_get_tcp_info` writes by its contract, and is valid for all bytes.
     unsafe { sockdiag_inet_get_tcp_info(payload.as_ptr(), payload.len(), info) }
 }
 
-/// The struct in its bytes.
+/// Returns the struct that these bytes represent.
 pub(crate) fn tcp_info_in(bytes: &[u8; 232]) -> crate::inet::TcpInfo {
-    // SAFETY: the struct has 232 bytes, all of them numbers' and none a pad, and any bytes are
-    // numbers of it. They are read at any place.
+    // SAFETY: the struct has 232 bytes. It consists of integers without padding, so it is valid for
+    // all bytes. The read needs no alignment.
     unsafe { core::ptr::read_unaligned(bytes.as_ptr().cast()) }
 }
 
-/// One step of the walk over attributes: what is told, or the answer.
+/// Returns the next attribute and advances `place`, or returns the return value of the call as an
+/// error: 0 at the end, else the code of the error.
 pub(crate) fn next_attribute(bytes: &[u8], place: &mut usize) -> Result<AttributePart, u32> {
     let mut attribute = AttributePart::default();
-    // SAFETY: the slice has its length, place and struct are locals of their own; the contract
-    // `sockdiag_next_attribute` takes any place.
+    // SAFETY: the pointer and the length are from one slice. Neither the offset, which is
+    // borrowed mutably, nor the struct, which is a local, overlaps anything else. The contract of
+    // `sockdiag_next_attribute` allows any offset.
     let answer =
         unsafe { sockdiag_next_attribute(bytes.as_ptr(), bytes.len(), place, &mut attribute) };
     if answer == 1 {
@@ -546,11 +554,13 @@ pub(crate) fn next_attribute(bytes: &[u8], place: &mut usize) -> Result<Attribut
     }
 }
 
-/// One step of the walk over messages: what is told, or the answer.
+/// Returns the next message and advances `place`, or returns the return value of the call as an
+/// error: 0 at the end, else the code of the error.
 pub(crate) fn next_envelope(datagram: &[u8], place: &mut usize) -> Result<Message, u32> {
     let mut message = Message::default();
-    // SAFETY: the slice has its length, place and struct are locals of their own; the contract
-    // `sockdiag_next_envelope` takes any place.
+    // SAFETY: the pointer and the length are from one slice. Neither the offset, which is
+    // borrowed mutably, nor the struct, which is a local, overlaps anything else. The contract of
+    // `sockdiag_next_envelope` allows any offset.
     let answer =
         unsafe { sockdiag_next_envelope(datagram.as_ptr(), datagram.len(), place, &mut message) };
     if answer == 1 {
@@ -560,63 +570,65 @@ pub(crate) fn next_envelope(datagram: &[u8], place: &mut usize) -> Result<Messag
     }
 }
 
-/// The number that an error or an end begins with.
+/// Returns the number that the payload of an error or of the end of a dump begins with.
 pub(crate) fn error_number(payload: &[u8]) -> Option<i32> {
     let mut number = 0;
-    // SAFETY: the slice has its length, the number is a local; the contract
-    // `sockdiag_get_error_number` asks nothing else.
+    // SAFETY: the pointer and the length are from one slice, and the number is a local. The
+    // contract of `sockdiag_get_error_number` requires nothing else.
     let answer = unsafe { sockdiag_get_error_number(payload.as_ptr(), payload.len(), &mut number) };
     (answer == 1).then_some(number)
 }
 
-/// Writes a request for UNIX sockets, or to close one, and answers how many bytes it has.
+/// Writes a request for UNIX sockets, or to close one, and returns its length in bytes.
 pub(crate) fn write_unix(request: &UnixRequest, destroy: bool, buffer: &mut [u8]) -> usize {
     let call = if destroy {
         sockdiag_write_unix_destroy
     } else {
         sockdiag_write_unix_request
     };
-    // SAFETY: the buffer has its length and is borrowed alone; the contracts
-    // `sockdiag_write_unix_request` and `sockdiag_write_unix_destroy` ask nothing else.
+    // SAFETY: the pointer and the length are from one slice that is borrowed mutably. The
+    // contracts of `sockdiag_write_unix_request` and `sockdiag_write_unix_destroy` require nothing
+    // else.
     unsafe { call(request, buffer.as_mut_ptr(), buffer.len()) }
 }
 
-/// The same of internet sockets.
+/// Writes a request for internet sockets, or to close them, and returns its length in bytes.
 pub(crate) fn write_inet(request: &InetRequest, destroy: bool, buffer: &mut [u8]) -> usize {
     let call = if destroy {
         sockdiag_write_inet_destroy
     } else {
         sockdiag_write_inet_request
     };
-    // SAFETY: the buffer has its length and is borrowed alone; the contracts
-    // `sockdiag_write_inet_request` and `sockdiag_write_inet_destroy` ask nothing else.
+    // SAFETY: the pointer and the length are from one slice that is borrowed mutably. The
+    // contracts of `sockdiag_write_inet_request` and `sockdiag_write_inet_destroy` require nothing
+    // else.
     unsafe { call(request, buffer.as_mut_ptr(), buffer.len()) }
 }
 
-/// The same of netlink, packet or XDP sockets.
+/// Writes a request for netlink, packet or XDP sockets, and returns its length in bytes.
 pub(crate) fn write_show(request: &ShowRequest, buffer: &mut [u8]) -> usize {
-    // SAFETY: the buffer has its length and is borrowed alone; the contract
-    // `sockdiag_write_show_request` asks nothing else.
+    // SAFETY: the pointer and the length are from one slice that is borrowed mutably. The
+    // contract of `sockdiag_write_show_request` requires nothing else.
     unsafe { sockdiag_write_show_request(request, buffer.as_mut_ptr(), buffer.len()) }
 }
 
-/// The same of vsock sockets.
+/// Writes a request for vsock sockets, and returns its length in bytes.
 pub(crate) fn write_vsock(request: &VsockRequest, buffer: &mut [u8]) -> usize {
-    // SAFETY: the buffer has its length and is borrowed alone; the contract
-    // `sockdiag_write_vsock_request` asks nothing else.
+    // SAFETY: the pointer and the length are from one slice that is borrowed mutably. The
+    // contract of `sockdiag_write_vsock_request` requires nothing else.
     unsafe { sockdiag_write_vsock_request(request, buffer.as_mut_ptr(), buffer.len()) }
 }
 
-/// Writes a request for internet sockets with attributes behind it, and answers how many bytes were
-/// written.
+/// Writes a request for internet sockets, followed by attributes, and returns the number of bytes
+/// that were written.
 pub(crate) fn write_inet_with_attributes(
     request: &InetRequest,
     attributes: &[u8],
     buffer: &mut [u8],
 ) -> (usize, Outcome) {
     let mut outcome = Outcome::default();
-    // SAFETY: both slices have their lengths, and the buffer is borrowed alone; the contract
-    // `sockdiag_write_inet_request_with_attributes` asks nothing else.
+    // SAFETY: the pointers and the lengths are from two slices, and the buffer is borrowed
+    // mutably. The contract of `sockdiag_write_inet_request_with_attributes` requires nothing else.
     let written = unsafe {
         sockdiag_write_inet_request_with_attributes(
             request,
@@ -630,7 +642,7 @@ pub(crate) fn write_inet_with_attributes(
     (written, outcome)
 }
 
-/// Writes the canonical form of a reply, and answers how many bytes were written.
+/// Writes the canonical form of a reply, and returns the number of bytes that were written.
 pub(crate) fn rewrite(payload: &[u8], is_unix: bool, buffer: &mut [u8]) -> (usize, Outcome) {
     let mut outcome = Outcome::default();
     let call = if is_unix {
@@ -638,8 +650,9 @@ pub(crate) fn rewrite(payload: &[u8], is_unix: bool, buffer: &mut [u8]) -> (usiz
     } else {
         sockdiag_rewrite_inet_reply
     };
-    // SAFETY: both slices have their lengths, and the buffer is borrowed alone; the contracts
-    // `sockdiag_rewrite_unix_reply` and `sockdiag_rewrite_inet_reply` ask nothing else.
+    // SAFETY: the pointers and the lengths are from two slices, and the buffer is borrowed
+    // mutably. The contracts of `sockdiag_rewrite_unix_reply` and `sockdiag_rewrite_inet_reply`
+    // require nothing else.
     let written = unsafe {
         call(
             payload.as_ptr(),

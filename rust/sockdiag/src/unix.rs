@@ -8,17 +8,18 @@ use crate::{Attributes, DecodeError, Nlas};
 pub mod nlas;
 
 crate::flags! {
-    /// A set of states, the bit of each that of its number.
+    /// A set of states, with the bit `1 << state` for each state.
     StateFlags: u32 {
-        /// Connected sockets, and those without a connection.
+        /// Connected sockets. Sockets that are neither connected nor listening have the state
+        /// `TCP_CLOSE` (7), which has no name here.
         ESTABLISHED = 1 << TCP_ESTABLISHED;
-        /// Sockets that listen.
+        /// Listening sockets.
         LISTEN = 1 << TCP_LISTEN;
     }
 }
 
 crate::flags! {
-    /// Which attributes the replies shall have.
+    /// The attributes that the replies shall have.
     ShowFlags: u32 {
         /// `UDIAG_SHOW_NAME`.
         NAME = UDIAG_SHOW_NAME;
@@ -37,26 +38,26 @@ crate::flags! {
 
 /// The request for UNIX sockets: `struct unix_diag_req` of sock_diag(7).
 ///
-/// A default request is for no socket.
+/// The default request selects no socket.
 #[derive(Clone, Copy, Debug, Default, PartialEq, Eq)]
 pub struct UnixRequest {
-    /// Which states are asked for.
+    /// The requested states.
     pub state_flags: StateFlags,
-    /// The inode of a single socket.
+    /// The inode, to request a single socket.
     pub inode: u32,
-    /// Which attributes the replies shall have.
+    /// The attributes that the replies shall have.
     pub show_flags: ShowFlags,
-    /// What tells a single socket from others of its inode; `[0xff; 8]` is any.
+    /// Cookie that distinguishes sockets with the same inode; `[0xff; 8]` matches any.
     pub cookie: [u8; 8],
 }
 
 impl UnixRequest {
-    /// The netlink message that asks for the sockets.
+    /// Returns the netlink message that requests the sockets.
     pub fn to_message(&self, header: &NetlinkHeader) -> [u8; 40] {
         self.message(header, false)
     }
 
-    /// The netlink message that asks to close the socket.
+    /// Returns the netlink message that requests to close the socket.
     pub fn to_destroy(&self, header: &NetlinkHeader) -> [u8; 40] {
         self.message(header, true)
     }
@@ -76,7 +77,7 @@ impl UnixRequest {
     }
 }
 
-/// What C is told of the header of a request.
+/// Converts the header of a request to the struct of the C library.
 pub(crate) fn request_header(header: &NetlinkHeader) -> sys::RequestHeader {
     sys::RequestHeader {
         flags: header.flags,
@@ -88,27 +89,28 @@ pub(crate) fn request_header(header: &NetlinkHeader) -> sys::RequestHeader {
 /// The header of a reply about a UNIX socket: `struct unix_diag_msg` of sock_diag(7).
 #[derive(Clone, Copy, Debug, PartialEq, Eq)]
 pub struct UnixResponseHeader {
-    /// The type of the socket, one of `SOCK_..`.
+    /// Type of the socket (`udiag_type`), one of `SOCK_..`.
     pub kind: u8,
-    /// `TCP_ESTABLISHED`, `TCP_LISTEN`, or 7 of a socket without a peer.
+    /// State (`udiag_state`): `TCP_ESTABLISHED`, `TCP_LISTEN`, or `TCP_CLOSE` (7) if it is not
+    /// connected.
     pub state: u8,
-    /// The inode of the socket.
+    /// Inode of the socket.
     pub inode: u32,
-    /// What tells the socket from others of its inode.
+    /// Cookie that distinguishes sockets with the same inode.
     pub cookie: [u8; 8],
 }
 
 /// The name that a UNIX socket is bound to.
 #[derive(Clone, Copy, Debug, PartialEq, Eq)]
 pub enum UnixDiagName<'a> {
-    /// The path of a file, without the zero at its end.
+    /// The path of a file, without the terminating NUL.
     Pathname(&'a [u8]),
-    /// The bytes behind the zero that tells an abstract name; zeros may be among them.
+    /// An abstract name: the bytes after its leading NUL, which may contain more NULs.
     Abstract(&'a [u8]),
 }
 
 impl<'a> UnixDiagName<'a> {
-    /// The name in the value of an attribute that was checked.
+    /// Returns the name in the value of a checked attribute.
     fn read(value: &'a [u8]) -> Option<Self> {
         match value {
             [0, address @ ..] => Some(UnixDiagName::Abstract(address)),
@@ -121,13 +123,13 @@ impl<'a> UnixDiagName<'a> {
 /// The file that a UNIX socket is bound to.
 #[derive(Clone, Copy, Debug, PartialEq, Eq)]
 pub struct Vfs {
-    /// The inode.
+    /// Inode of the file.
     pub inode: u32,
-    /// The device, as the kernel puts a major and a minor number together.
+    /// Device of the file: the major and minor number, combined by the kernel.
     pub device: u32,
 }
 
-/// The reply about one UNIX socket, read in place.
+/// The reply about one UNIX socket, borrowed from the bytes that were parsed.
 ///
 /// ```
 /// use sockdiag::unix::{UnixDiagName, UnixReply};
@@ -145,20 +147,21 @@ pub struct Vfs {
 /// ```
 #[derive(Clone, Copy, Debug, PartialEq, Eq)]
 pub struct UnixReply<'a> {
-    /// The header, which tells the socket.
+    /// The header, which identifies the socket.
     pub header: UnixResponseHeader,
-    /// What all attributes say, in the order that they came.
+    /// All decoded attributes, in order.
     pub nlas: Nlas<'a, nlas::Nla<'a>>,
     name: Option<UnixDiagName<'a>>,
     numbers: sys::UnixNumbers,
     payload: &'a [u8],
 }
 
-/// The name of [`UnixReply`] in `netlink-packet-sock-diag`.
+/// Alias of [`UnixReply`] with the name in `netlink-packet-sock-diag`.
 pub type UnixResponse<'a> = UnixReply<'a>;
 
 impl<'a> UnixReply<'a> {
-    /// Checks the whole of the reply, the payload of its message, and reads it. It takes no memory.
+    /// Checks the whole reply, which is the payload of its message, and parses it. Does not
+    /// allocate.
     pub fn parse(payload: &'a [u8]) -> Result<Self, DecodeError> {
         let (header, name, numbers) =
             sys::unix_details(payload).map_err(DecodeError::from_number)?;
@@ -179,22 +182,22 @@ impl<'a> UnixReply<'a> {
         })
     }
 
-    /// All attributes, in the order that they came.
+    /// Returns an iterator over all attributes, in order.
     pub fn attributes(&self) -> Attributes<'a> {
         Attributes::behind(self.payload, 16)
     }
 
-    /// What all attributes say: a walk over `nlas`.
+    /// Returns an iterator over all decoded attributes, as `nlas.iter()` does.
     pub fn nlas(&self) -> impl Iterator<Item = nlas::Nla<'a>> + 'a {
         self.nlas.iter()
     }
 
-    /// The name that the socket is bound to.
+    /// Returns the name that the socket is bound to.
     pub fn name(&self) -> Option<UnixDiagName<'a>> {
         self.name
     }
 
-    /// The file that the socket is bound to.
+    /// Returns the file that the socket is bound to.
     pub fn file(&self) -> Option<Vfs> {
         Some(Vfs {
             inode: self.numbers.file_inode.get()?,
@@ -202,61 +205,61 @@ impl<'a> UnixReply<'a> {
         })
     }
 
-    /// The inode of the socket's peer.
+    /// Returns the inode of the peer.
     pub fn peer(&self) -> Option<u32> {
         self.numbers.peer.get()
     }
 
-    /// The inodes of the connections that wait to be accepted.
+    /// Returns an iterator over the inodes of the connections that wait to be accepted.
     pub fn pending_connections(&self) -> impl Iterator<Item = u32> + 'a {
         let payload = self.payload;
         (0..).map_while(move |index| sys::pending(payload, index))
     }
 
-    /// Which directions are shut down: 1 for receiving, 2 for sending, 3 for both.
+    /// Returns the directions that are shut down: 1 for receiving, 2 for sending, 3 for both.
     pub fn shutdown_state(&self) -> Option<u8> {
         self.numbers.shutdown.get().map(|state| state as u8)
     }
 
-    /// How many connections wait to be accepted, of a listening socket.
+    /// Returns the number of connections that wait to be accepted on a listening socket.
     pub fn number_of_pending_connection(&self) -> Option<u32> {
         self.numbers.recv_queue.get().filter(|_| self.listens())
     }
 
-    /// How many connections may wait to be accepted, of a listening socket.
+    /// Returns the maximum number of connections that wait to be accepted on a listening socket.
     pub fn max_number_of_pending_connection(&self) -> Option<u32> {
         self.numbers.send_queue.get().filter(|_| self.listens())
     }
 
-    /// How many bytes wait to be read, of a socket that does not listen.
+    /// Returns the number of bytes that have not been read, of a socket that does not listen.
     pub fn receive_queue_size(&self) -> Option<u32> {
         self.numbers.recv_queue.get().filter(|_| !self.listens())
     }
 
-    /// How many bytes of memory are taken by what was sent and is not yet read, of a socket that
-    /// does not listen.
+    /// Returns the memory in use by data that was sent and has not been read, in bytes, of a socket
+    /// that does not listen.
     pub fn send_queue_size(&self) -> Option<u32> {
         self.numbers.send_queue.get().filter(|_| !self.listens())
     }
 
-    /// The size of the receive buffer in bytes.
+    /// Returns the size of the receive buffer in bytes.
     pub fn receive_buffer_size(&self) -> Option<u32> {
         self.numbers.receive_buffer.get()
     }
 
-    /// The size of the send buffer in bytes, which bounds a datagram.
+    /// Returns the size of the send buffer in bytes, which is the limit of a datagram.
     pub fn max_datagram_size(&self) -> Option<u32> {
         self.numbers.send_buffer.get()
     }
 
-    /// The memory of what is queued to be sent, in bytes. Linux tells 0.
+    /// Returns the memory of data queued for sending, in bytes. Linux sends 0.
     pub fn memory_used_for_outgoing_data(&self) -> Option<u32> {
         self.numbers.queued.get()
     }
 
-    /// Writes the reply's canonical form at the front of the buffer: one string for all that differ
-    /// in idle details alone. The answer is how many bytes it has, and nothing is written where the
-    /// buffer has fewer. `None` where it can't be written.
+    /// Writes the canonical form of the reply to the start of the buffer, and returns its length in
+    /// bytes. If the buffer is shorter, nothing is written. All replies that differ only in ignored
+    /// bits have the same canonical form. Returns `None` if the reply cannot be serialized.
     pub fn canonical(&self, buffer: &mut [u8]) -> Option<usize> {
         let (_, outcome) = sys::rewrite(self.payload, true, buffer);
         (outcome.needed != 0).then_some(outcome.needed)

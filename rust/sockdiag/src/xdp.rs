@@ -1,4 +1,4 @@
-//! Requests and replies about XDP sockets, after `linux/xdp_diag.h`.
+//! Requests and replies about XDP sockets, by `linux/xdp_diag.h`.
 
 use crate::constants::AF_XDP;
 use crate::inet::nlas::MemInfo;
@@ -6,116 +6,118 @@ use crate::show::ShowRequest;
 use crate::sys;
 use crate::{Attributes, DecodeError};
 
-/// The request for XDP sockets: `struct xdp_diag_req`. Its protocol is 0, and what it shows are
-/// bits `XDP_SHOW_..`.
+/// The request for XDP sockets: `struct xdp_diag_req`. `protocol` is 0. `show` has the bits
+/// `XDP_SHOW_..`.
 pub type XdpRequest = ShowRequest<AF_XDP>;
 
-/// Asks for `XDP_DIAG_INFO` and `XDP_DIAG_UID`.
+/// Requests `XDP_DIAG_INFO` and `XDP_DIAG_UID`.
 pub const XDP_SHOW_INFO: u32 = 0x1;
-/// Asks for `XDP_DIAG_RX_RING` and `XDP_DIAG_TX_RING`.
+/// Requests `XDP_DIAG_RX_RING` and `XDP_DIAG_TX_RING`.
 pub const XDP_SHOW_RING_CFG: u32 = 0x2;
-/// Asks for `XDP_DIAG_UMEM` and the two rings behind it.
+/// Requests `XDP_DIAG_UMEM`, `XDP_DIAG_UMEM_FILL_RING` and `XDP_DIAG_UMEM_COMPLETION_RING`.
 pub const XDP_SHOW_UMEM: u32 = 0x4;
-/// Asks for `XDP_DIAG_MEMINFO`.
+/// Requests `XDP_DIAG_MEMINFO`.
 pub const XDP_SHOW_MEMINFO: u32 = 0x8;
-/// Asks for `XDP_DIAG_STATS`.
+/// Requests `XDP_DIAG_STATS`.
 pub const XDP_SHOW_STATS: u32 = 0x10;
 
 /// The header of a reply about an XDP socket: `struct xdp_diag_msg`.
 #[repr(C)]
 #[derive(Clone, Copy, Debug, Default, PartialEq, Eq)]
 pub struct XdpResponseHeader {
-    /// The type of the socket, SOCK_RAW (3), `xdiag_type`.
+    /// Type of the socket (`xdiag_type`): `SOCK_RAW` (3).
     pub kind: u8,
-    /// The inode of the socket, `xdiag_ino`.
+    /// Inode of the socket (`xdiag_ino`).
     pub inode: u32,
-    /// What tells the socket from others of its inode, `xdiag_cookie`.
+    /// Cookie that distinguishes sockets with the same inode (`xdiag_cookie`).
     pub cookie: u64,
 }
 
-/// Where an XDP socket is bound: `struct xdp_diag_info`.
+/// What an XDP socket is bound to: `struct xdp_diag_info`.
 #[repr(C)]
 #[derive(Clone, Copy, Debug, Default, PartialEq, Eq)]
 pub struct XdpInfo {
-    /// The interface.
+    /// Index of the interface (`ifindex`).
     pub interface: u32,
-    /// Its queue.
+    /// Queue of the interface (`queue_id`).
     pub queue: u32,
 }
 
-/// The memory that an XDP socket shares with its program: `struct xdp_diag_umem`.
+/// Memory that an XDP socket shares with the application (UMEM): `struct xdp_diag_umem`.
 #[repr(C)]
 #[derive(Clone, Copy, Debug, Default, PartialEq, Eq)]
 pub struct XdpUmem {
-    /// Its bytes.
+    /// Size in bytes (`size`).
     pub size: u64,
-    /// Its number.
+    /// Id of the memory (`id`).
     pub id: u32,
-    /// Its pages.
+    /// Number of pages (`num_pages`).
     pub pages: u32,
-    /// The bytes of a chunk.
+    /// Size of a chunk in bytes (`chunk_size`).
     pub chunk_size: u32,
-    /// The bytes of a chunk that are the program's.
+    /// Bytes of each chunk that belong to the application (`headroom`).
     pub headroom: u32,
-    /// The interface that it is bound to.
+    /// Index of the interface that it is bound to (`ifindex`).
     pub interface: u32,
-    /// The queue of the interface.
+    /// Queue of the interface (`queue_id`).
     pub queue: u32,
-    /// The bit `XDP_DU_F_ZEROCOPY`, 1.
+    /// The bit `XDP_DU_F_ZEROCOPY`, 1 (`flags`).
     pub flags: u32,
-    /// How many sockets share it.
+    /// Number of sockets that share it (`refs`).
     pub references: u32,
 }
 
-/// What an XDP socket counted: `struct xdp_diag_stats`.
+/// Counters of an XDP socket: `struct xdp_diag_stats`.
 #[repr(C)]
 #[derive(Clone, Copy, Debug, Default, PartialEq, Eq)]
 pub struct XdpStatistics {
-    /// Packets dropped for another reason than those below.
+    /// Packets dropped for reasons other than the next two (`n_rx_dropped`).
     pub received_dropped: u64,
-    /// Packets with a bad address of a frame.
+    /// Packets with an invalid frame address (`n_rx_invalid`).
     pub received_invalid: u64,
-    /// Packets dropped since the ring was full.
+    /// Packets dropped because the ring was full (`n_rx_full`).
     pub received_full: u64,
-    /// Packets without a frame to fill.
+    /// Packets for which the fill ring had no frame (`n_fill_ring_empty`).
     pub fill_ring_empty: u64,
-    /// Bad addresses of frames to send.
+    /// Invalid addresses of frames to send (`n_tx_invalid`).
     pub sent_invalid: u64,
-    /// How often nothing was there to send.
+    /// Number of times that the ring had nothing to send (`n_tx_ring_empty`).
     pub send_ring_empty: u64,
 }
 
-/// The reply about one XDP socket, read in place. Of a ring it is told how many entries it has.
+/// The reply about one XDP socket, borrowed from the bytes that were parsed. The value of a ring is
+/// its number of entries.
 #[derive(Clone, Copy, Debug, PartialEq, Eq)]
 pub struct XdpReply<'a> {
-    /// The header, which tells the socket.
+    /// The header, which identifies the socket.
     pub header: XdpResponseHeader,
-    /// Where the socket is bound, `XDP_DIAG_INFO`.
+    /// What the socket is bound to (`XDP_DIAG_INFO`).
     pub info: Option<XdpInfo>,
-    /// The user who owns the socket, `XDP_DIAG_UID`.
+    /// User id of the owner (`XDP_DIAG_UID`).
     pub owner: Option<u32>,
-    /// The ring for what is received, `XDP_DIAG_RX_RING`.
+    /// Receive ring (`XDP_DIAG_RX_RING`).
     pub receive_ring: Option<u32>,
-    /// The ring for what is sent, `XDP_DIAG_TX_RING`.
+    /// Transmit ring (`XDP_DIAG_TX_RING`).
     pub send_ring: Option<u32>,
-    /// The memory that the socket shares, `XDP_DIAG_UMEM`.
+    /// Memory that the socket shares with the application (`XDP_DIAG_UMEM`).
     pub umem: Option<XdpUmem>,
-    /// The ring that gives frames to the kernel, `XDP_DIAG_UMEM_FILL_RING`.
+    /// Ring that passes frames to the kernel (`XDP_DIAG_UMEM_FILL_RING`).
     pub fill_ring: Option<u32>,
-    /// The ring that gives them back, `XDP_DIAG_UMEM_COMPLETION_RING`.
+    /// Ring that returns them (`XDP_DIAG_UMEM_COMPLETION_RING`).
     pub completion_ring: Option<u32>,
-    /// The memory, `XDP_DIAG_MEMINFO`.
+    /// Socket memory (`XDP_DIAG_MEMINFO`).
     pub memory: Option<MemInfo>,
-    /// What the socket counted, `XDP_DIAG_STATS`.
+    /// Counters of the socket (`XDP_DIAG_STATS`).
     pub statistics: Option<XdpStatistics>,
     payload: &'a [u8],
 }
 
-/// The name of [`XdpReply`] in the style of `netlink-packet-sock-diag`.
+/// Alias of [`XdpReply`] in the naming style of `netlink-packet-sock-diag`.
 pub type XdpResponse<'a> = XdpReply<'a>;
 
 impl<'a> XdpReply<'a> {
-    /// Checks the whole of the reply, the payload of its message, and reads it. It takes no memory.
+    /// Checks the whole reply, which is the payload of its message, and parses it. Does not
+    /// allocate.
     pub fn parse(payload: &'a [u8]) -> Result<Self, DecodeError> {
         let told = sys::xdp_details(payload).map_err(DecodeError::from_number)?;
         Ok(XdpReply {
@@ -133,7 +135,7 @@ impl<'a> XdpReply<'a> {
         })
     }
 
-    /// All attributes, in the order that they came.
+    /// Returns an iterator over all attributes, in order.
     pub fn attributes(&self) -> Attributes<'a> {
         Attributes::behind(self.payload, 16)
     }

@@ -1,79 +1,82 @@
-//! The attributes of a reply about an IPv4 or IPv6 socket, by what they say.
+//! Decoded attributes of a reply about an IPv4 or IPv6 socket.
 
 pub use super::TcpInfo;
 use crate::attribute::{word, Attribute};
 use crate::constants::*;
 use crate::sys;
 
-/// The memory of a socket as older kernels tell it, `INET_DIAG_MEMINFO`, in bytes.
+/// Socket memory in the format of older kernels (`INET_DIAG_MEMINFO`), in bytes.
 #[derive(Clone, Copy, Debug, PartialEq, Eq)]
 pub struct LegacyMemInfo {
-    /// The data in the receive queue.
+    /// Data in the receive queue (`idiag_rmem`).
     pub receive_queue: u32,
-    /// The data that TCP has queued and not yet sent.
+    /// Data that TCP has queued and not yet sent (`idiag_wmem`).
     pub bottom_send_queue: u32,
-    /// The memory that is set aside for later use. TCP alone has it.
+    /// Memory that is reserved for later use (`idiag_fmem`). Only TCP has it.
     pub cache: u32,
-    /// The data in the send queue.
+    /// Data in the send queue (`idiag_tmem`).
     pub send_queue: u32,
 }
 
-/// The memory of a socket, the words of `INET_DIAG_SKMEMINFO`, in bytes but for the last.
+/// Socket memory: the fields of `INET_DIAG_SKMEMINFO`, in bytes except for the last.
 #[derive(Clone, Copy, Debug, PartialEq, Eq)]
 pub struct MemInfo {
-    /// The memory that the receive queue takes now.
+    /// Memory in use by the receive queue (`SK_MEMINFO_RMEM_ALLOC`).
     pub receive_queue: u32,
-    /// The most that the receive queue may take.
+    /// Receive buffer limit (`SK_MEMINFO_RCVBUF`).
     pub receive_queue_max: u32,
-    /// The memory of packets that were handed down the network stack.
+    /// Memory of packets committed to the device queue (`SK_MEMINFO_WMEM_ALLOC`).
     pub bottom_send_queues: u32,
-    /// The most that the send queue may take.
+    /// Send buffer limit (`SK_MEMINFO_SNDBUF`).
     pub send_queue_max: u32,
-    /// The memory that the socket holds and does not use.
+    /// Memory that is allocated to the socket and not in use (`SK_MEMINFO_FWD_ALLOC`).
     pub cache: u32,
-    /// The memory that the send queue takes now.
+    /// Memory in use by the send queue (`SK_MEMINFO_WMEM_QUEUED`).
     pub send_queue: u32,
-    /// The memory of the socket's options.
+    /// Memory of the socket options (`SK_MEMINFO_OPTMEM`).
     pub options: u32,
-    /// The memory of packets that wait while the socket is locked. Older kernels don't tell it.
+    /// Memory of packets that wait while the socket is locked (`SK_MEMINFO_BACKLOG`). Older kernels
+    /// do not send it.
     pub backlog_queue_length: Option<u32>,
-    /// How many packets were dropped. Older kernels don't tell it.
+    /// Number of dropped packets (`SK_MEMINFO_DROPS`). Older kernels do not send it.
     pub drops: Option<u32>,
 }
 
-/// What an attribute of a reply about an IPv4 or IPv6 socket says.
+/// A decoded attribute of a reply about an IPv4 or IPv6 socket.
 #[derive(Clone, Copy, Debug, PartialEq, Eq)]
-// It is borrowed from the reply, and no memory is taken for a box.
+// The variants are not boxed, since this crate does not allocate.
 #[allow(clippy::large_enum_variant)]
 pub enum Nla<'a> {
-    /// The memory as older kernels tell it.
+    /// Socket memory in the format of older kernels (`INET_DIAG_MEMINFO`).
     LegacyMemInfo(LegacyMemInfo),
-    /// What is known of the TCP connection.
+    /// TCP connection (`INET_DIAG_INFO`).
     TcpInfo(TcpInfo),
-    /// The name of the algorithm of congestion control.
+    /// Name of the congestion control algorithm (`INET_DIAG_CONG`).
     Congestion(&'a str),
-    /// The type of service.
+    /// Type of service (`INET_DIAG_TOS`).
     Tos(u8),
-    /// The traffic class of an IPv6 socket.
+    /// Traffic class of an IPv6 socket (`INET_DIAG_TCLASS`).
     Tc(u8),
-    /// The memory.
+    /// Socket memory (`INET_DIAG_SKMEMINFO`).
     MemInfo(MemInfo),
-    /// Which directions are shut down: 1 for receiving, 2 for sending, 3 for both.
+    /// Directions that are shut down (`INET_DIAG_SHUTDOWN`): 1 for receiving, 2 for sending, 3 for
+    /// both.
     Shutdown(u8),
-    /// The protocol, one of `IPPROTO_..`.
+    /// Protocol (`INET_DIAG_PROTOCOL`), one of `IPPROTO_..`.
     Protocol(u8),
-    /// Whether the socket is for IPv6 alone.
+    /// Whether the socket is for IPv6 only (`INET_DIAG_SKV6ONLY`).
     SkV6Only(bool),
-    /// The mark of the socket.
+    /// Mark of the socket (`INET_DIAG_MARK`).
     Mark(u32),
-    /// The class of the socket's packets for traffic control.
+    /// Traffic control class of the socket's packets (`INET_DIAG_CLASS_ID`).
     ClassId(u32),
     /// An attribute of another kind.
     Other(Attribute<'a>),
 }
 
 impl<'a> From<Attribute<'a>> for Nla<'a> {
-    /// What an attribute says. One whose value is no such is `Other`; a checked reply has none.
+    /// Decodes an attribute. If its value is invalid, the result is `Other`. A checked reply has no
+    /// such attribute.
     fn from(attribute: Attribute<'a>) -> Self {
         Nla::known(attribute).unwrap_or(Nla::Other(attribute))
     }
@@ -107,7 +110,7 @@ impl<'a> Nla<'a> {
     }
 }
 
-/// The memory in seven words or more.
+/// Parses socket memory of seven or more fields.
 fn memory(value: &[u8]) -> Option<MemInfo> {
     Some(MemInfo {
         receive_queue: word(value, 0)?,

@@ -1,45 +1,47 @@
-//! The attributes of a reply about a UNIX socket, by what they say.
+//! Decoded attributes of a reply about a UNIX socket.
 
 pub use super::{UnixDiagName, Vfs};
 use crate::attribute::{word, Attribute, Numbers};
 use crate::constants::*;
 
-/// The memory of a UNIX socket: three words of `UNIX_DIAG_MEMINFO`, in bytes.
+/// Memory of a UNIX socket: three fields of `UNIX_DIAG_MEMINFO`, in bytes.
 #[derive(Clone, Copy, Debug, PartialEq, Eq)]
 pub struct MemInfo {
-    /// The size of the receive buffer.
+    /// Size of the receive buffer (`SK_MEMINFO_RCVBUF`).
     pub so_rcvbuf: u32,
-    /// The size of the send buffer, which bounds a datagram.
+    /// Size of the send buffer (`SK_MEMINFO_SNDBUF`), which is the limit of a datagram.
     pub max_datagram_size: u32,
-    /// The memory of what is queued to be sent. Linux tells 0.
+    /// Memory of data queued for sending (`SK_MEMINFO_WMEM_QUEUED`). Linux sends 0.
     pub alloc: u32,
 }
 
-/// What an attribute of a reply about a UNIX socket says.
+/// A decoded attribute of a reply about a UNIX socket.
 #[derive(Clone, Copy, Debug, PartialEq, Eq)]
 pub enum Nla<'a> {
-    /// The name that the socket is bound to.
+    /// Name that the socket is bound to (`UNIX_DIAG_NAME`).
     Name(UnixDiagName<'a>),
-    /// The file that the socket is bound to.
+    /// File that the socket is bound to (`UNIX_DIAG_VFS`).
     Vfs(Vfs),
-    /// The inode of the socket's peer.
+    /// Inode of the peer (`UNIX_DIAG_PEER`).
     Peer(u32),
-    /// The inodes of the connections that wait to be accepted.
+    /// Inodes of the connections that wait to be accepted (`UNIX_DIAG_ICONS`).
     PendingConnections(Numbers<'a>),
-    /// Of a listening socket how many connections wait to be accepted, and how many may; else how
-    /// many bytes wait to be read, and how many bytes of memory are taken by what was sent and is
-    /// not yet read.
+    /// Lengths of the queues (`UNIX_DIAG_RQLEN`). For a listening socket: the number of connections
+    /// that wait to be accepted, and the limit of this number. Else: the number of bytes that have
+    /// not been read, and the memory in use by data that was sent and has not been read, in bytes.
     ReceiveQueueLength(u32, u32),
-    /// The memory of the socket.
+    /// Socket memory (`UNIX_DIAG_MEMINFO`).
     MemInfo(MemInfo),
-    /// Which directions are shut down: 1 for receiving, 2 for sending, 3 for both.
+    /// Directions that are shut down (`UNIX_DIAG_SHUTDOWN`): 1 for receiving, 2 for sending, 3 for
+    /// both.
     Shutdown(u8),
     /// An attribute of another kind.
     Other(Attribute<'a>),
 }
 
 impl<'a> From<Attribute<'a>> for Nla<'a> {
-    /// What an attribute says. One whose value is no such is `Other`; a checked reply has none.
+    /// Decodes an attribute. If its value is invalid, the result is `Other`. A checked reply has no
+    /// such attribute.
     fn from(attribute: Attribute<'a>) -> Self {
         Nla::known(attribute).unwrap_or(Nla::Other(attribute))
     }
