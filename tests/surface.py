@@ -14,7 +14,8 @@ has the path of a declaration and an item. The list has
 - constants with their values, public modules, and each name of a `pub use`;
 - functions that are exported under a C name, public or not;
 - macros, and macro calls outside of functions, with their full text;
-- each `cfg` with the item that it applies to.
+- each `cfg` with the item that it applies to;
+- how often each file names a failed allocation: a body that reports one without need differs.
 """
 
 import difflib
@@ -47,6 +48,9 @@ OVER = rf"(?: ?#\[.*?\])* (?:{PUB}use [^;]*|[^{{;,=]*)"
 CFG = re.compile(rf"\bcfg!\([^{{;]*|#!?\[cfg(?:_attr)?\b.*?\]{OVER}")
 # Attributes that do not concern a caller, or are listed in another way.
 QUIET = re.compile(r"#!?\[(?:tactic|inline|cold|doc|allow|expect|cfg|derive)\b.*")
+# The names of a failed allocation, and a line of a `use`. No clause can say that an allocation did fail.
+FAILED = re.compile(r"\b(?:AllocError|Memory)\b")
+USED = re.compile(r"\s*(?:pub )?(?:ghost )?use ")
 # Attributes that export a function under a C name.
 EXPORTED = re.compile(r"#\[.*\b(?:no_mangle|export_name)\b")
 
@@ -138,6 +142,11 @@ class Surface:
     def __init__(self, crate):
         folder, self.lines = TOP / "crates" / crate / "src", []
         texts = [path.read_text(encoding="utf-8") for path in folder.rglob("*.rt")]
+        for path in folder.rglob("*.rt"):
+            lines = [line.partition("//")[0] for line in path.read_text(encoding="utf-8").splitlines()]
+            named = sum(len(FAILED.findall(line)) for line in lines if not USED.match(line))
+            where = path.relative_to(folder).as_posix()
+            self.lines += [f"{crate}/{where}: names a failed allocation {named} times"] * bool(named)
         declared = {found for text in texts for found in DECLARED.findall(text)}
         self.private = {name for public, name in declared if ("pub ", name) not in declared}
         self.read(list(tokens_of(folder / "lib.rt")), folder, crate)
